@@ -1,0 +1,17 @@
+//! The words, values and small types that every part of the compiler shares.
+//!
+//! A word is a `u64`. Its signed reading is two's complement. Arithmetic on words wraps, as the
+//! RV64I and M instructions do (RISC-V Unprivileged ISA manual, "RV64I" and "M").
+#![tactic(auto)]
+
+pub mod list;
+pub mod name;
+pub mod operators;
+pub mod types;
+pub mod values;
+
+pub use list::List;
+pub use name::Name;
+pub use operators::{CmpOp, IntOp};
+pub use types::{Chunk, Comp, Loc, Ret, Ty};
+pub use values::{Call, Kind, Obs, Value};

@@ -1,0 +1,42 @@
+//! The integer operators and comparisons of Cmm.
+
+/// A comparison. Signed or unsigned is said by the operator that holds it.
+#[derive(Clone, Copy, PartialEq, Eq, Debug)]
+pub enum CmpOp {
+    Eq,
+    Ne,
+    Lt,
+    Le,
+    Gt,
+    Ge,
+}
+
+/// An operator on two operands.
+#[derive(Clone, Copy, PartialEq, Eq, Debug)]
+pub enum IntOp {
+    Add,
+    Sub,
+    Mul,
+    /// The high half of the signed product.
+    Mulh,
+    /// The signed quotient, toward zero.
+    Div,
+    /// The signed remainder, with the sign of the dividend.
+    Mod,
+    And,
+    Or,
+    Xor,
+    Shl,
+    /// The shift to the right that brings in zeros.
+    Shr,
+    /// The shift to the right that brings in the sign.
+    Sar,
+    /// A signed comparison: 1 where it holds, else 0.
+    Cmp(CmpOp),
+    /// An unsigned comparison: 1 where it holds, else 0.
+    CmpU(CmpOp),
+    /// A sum that is an OCaml value.
+    AddV,
+    /// A sum that is an address inside a block.
+    AddA,
+}
