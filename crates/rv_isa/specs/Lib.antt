@@ -1,0 +1,5 @@
+pub mod Word
+pub mod Immediate
+pub mod Rows
+pub mod Encoding
+pub mod Decoding
