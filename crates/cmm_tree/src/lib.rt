@@ -1,0 +1,8 @@
+//! The trees of Cmm texts.
+#![tactic(auto)]
+
+pub mod expr;
+pub mod file;
+
+pub use expr::{Expr, Form};
+pub use file::{File, Function, Item, Param};
