@@ -12,8 +12,7 @@ use Rattle.bs_words.specs.declared.values.Kind.{Kind}
 use Rattle.bs_words.specs.declared.values.Kind.TheVariants.{BadValue}
 use Rattle.bs_words.specs.declared.values.Value.{Value}
 use Rattle.bs_words.specs.declared.values.Value.TheVariants.{Word}
-use Rattle.cmm_tree.specs.declared.expr.Form.{Form}
-use Rattle.cmm_tree.specs.declared.expr.Form.TheVariants.{Integer, Name, Operator'}
+use Rattle.cmm_tree.specs.Tree.{Expression, Integer, Name, Operator}
 use Rattle.cmm_meaning.specs.State.{World, Here, value_of}
 
 -- Why a run stops before its end.
@@ -65,10 +64,10 @@ looked_up None h w = Stops (NotProper BadValue) w
 
 -- the evaluation of an expression, `end` being the end of the data; `tail` says whether it stands in
 -- tail position, where a call replaces its caller
-abbrev pub evaluated : ℕ → Callees → Form → Bool → Here → World → Evaluation
-evaluated end calls (Integer n) tail h w = begins w (λ w. Gives (Some (Word n)) h w)
-evaluated end calls (Name x) tail h w = begins w (λ w. looked_up (value_of h.names x) h w)
-evaluated end calls (Operator' op p left_at left q right_at right) tail h w =
+abbrev pub evaluated : ℕ → Callees → Expression → Bool → Here → World → Evaluation
+evaluated end calls (Integer at n) tail h w = begins w (λ w. Gives (Some (Word n)) h w)
+evaluated end calls (Name at x) tail h w = begins w (λ w. looked_up (value_of h.names x) h w)
+evaluated end calls (Operator at op left right) tail h w =
     begins w (λ w.
     with_value (evaluated end calls right false h w) (λ b h w.
     with_value (evaluated end calls left false h w) (λ a h w.

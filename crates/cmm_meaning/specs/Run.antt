@@ -7,9 +7,7 @@ use Rattle.bs_words.specs.declared.values.Kind.TheVariants.{BadCall}
 use Rattle.bs_words.specs.declared.values.Obs.{Obs}
 use Rattle.bs_words.specs.declared.values.Value.{Value}
 use Rattle.bs_words.specs.declared.values.Value.TheVariants.{Word}
-use Rattle.cmm_tree.specs.declared.file.File.{File}
-use Rattle.cmm_tree.specs.declared.file.Function.{Function}
-use Rattle.cmm_tree.specs.Functions.{functions, names_of, data_end}
+use Rattle.cmm_tree.specs.Tree.{FunctionTree, FileTree, functions, names_of, data_end}
 use Rattle.cmm_meaning.specs.Layout.{Layout, observed}
 use Rattle.cmm_meaning.specs.State.{World, Here, bound, deepened}
 use Rattle.cmm_meaning.specs.Evaluation.{Stop, OutOfFuel, NotProper, Evaluation, Gives, Stops, Callees, evaluated}
@@ -34,15 +32,15 @@ pub record Run : Type 0 where
 
 -- an activation of a function: its arguments are bound, its frame counts, and its body is evaluated in
 -- tail position
-abbrev pub activated : ℕ → ℕ → Callees → Option Function → List Value → ℕ → World → Evaluation
+abbrev pub activated : ℕ → ℕ → Callees → Option FunctionTree → List Value → ℕ → World → Evaluation
 activated end frame calls None args below w = Stops (NotProper BadCall) w
 activated end frame calls (Some f) args below w =
     let here : Here = record { names = bound (names_of f) args []; below = below; taken = below + frame } in
-    evaluated end calls f.body.form true here (deepened (below + frame) w)
+    evaluated end calls f.body true here (deepened (below + frame) w)
 
 -- what calls do where activations nest at most so deep; each costs units, so a depth past the units
 -- of the run is as good as any
-abbrev pub callees : File → Layout → ℕ → Callees
+abbrev pub callees : FileTree → Layout → ℕ → Callees
 callees file layout zero f args below w = Stops OutOfFuel w
 callees file layout (suc depth) f args below w =
     activated (data_end file) (slice_index layout.frames f) (callees file layout depth) (slice_get (functions file) f) args below w
@@ -61,6 +59,6 @@ finished layout (Stops (NotProper kind) w) = told (Improper kind) w
 
 -- the run of function `entry` of a file, on argument words, with these answers to external calls and n
 -- units of fuel
-abbrev pub cmm_run : File → Layout → ℕ → List ℕ → List ℕ → ℕ → Run
+abbrev pub cmm_run : FileTree → Layout → ℕ → List ℕ → List ℕ → ℕ → Run
 cmm_run file layout entry args answers n =
     finished layout (callees file layout (suc n) entry (map Word args) 0 (first_world answers n))
