@@ -5,12 +5,14 @@
 //! `encode` and `decode` are inverse to each other on the table.
 #![tactic(auto)]
 
+pub mod decoding;
 pub mod encoding;
 pub mod instr;
 pub mod opcodes;
 pub mod rows;
 pub mod word;
 
+pub use decoding::decode;
 pub use encoding::encode;
 pub use instr::{
     AluImmOp, AluOp, AluWordOp, Condition, Instr, LoadWidth, ShiftOp, ShiftWordOp, StoreWidth,
