@@ -1,6 +1,6 @@
 //! The word of an instruction.
 
-ghost use Rattle.std.specs.Prelude.{◌≡◌, Some, ◌<◌};
+ghost use Rattle.std.specs.Prelude.{◌≡◌, ◌<◌};
 ghost use Rattle.rv_isa.specs.Word.{FieldsFit};
 ghost use Rattle.rv_isa.specs.Encoding.{
   InstrFits,

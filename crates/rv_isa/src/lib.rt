@@ -17,3 +17,6 @@ pub use encoding::encode;
 pub use instr::{
     AluImmOp, AluOp, AluWordOp, Condition, Instr, LoadWidth, ShiftOp, ShiftWordOp, StoreWidth,
 };
+
+#[cfg(test)]
+mod tests;
