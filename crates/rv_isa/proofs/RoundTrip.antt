@@ -171,8 +171,10 @@ FieldsFit-fields_of Ecall fits = (lit< tt, lit< tt, lit< tt, lit< tt, lit< tt, l
 
 -- the word of an instruction decodes to it
 pub decoded-encoded : (i : Instr) → InstrFits i → decoded (encoded i) ≡ Some i
+unfolding decoded encoded
 decoded-encoded i fits = ap row (split-joined (fields_of i) (FieldsFit-fields_of i fits)) ∙ row-fields_of i fits
 
 -- and is a word of 32 bits
 pub encoded-below : (i : Instr) → InstrFits i → encoded i < 2 ^ 32
+unfolding encoded
 encoded-below i fits = joined-below (fields_of i) (FieldsFit-fields_of i fits)

@@ -7,7 +7,11 @@ use Rattle.rv_isa.proofs.decoding.decode.Goals as goal
 use Rattle.rv_isa.proofs.decoding.decode.Goals.{After-row}
 
 result_is : (c : After-row) → c.row.result ≡ decoded c.args.word
+unfolding decoded
 result_is c = c.row.ensures ∙ ap row c.split.ensures.exact
+
+pub returns-clause-exact : goal.returns-clause-exact
+returns-clause-exact c = result_is c
 
 pub returns-clause-fits : goal.returns-clause-fits
 returns-clause-fits c =
