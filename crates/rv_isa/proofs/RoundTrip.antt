@@ -18,7 +18,7 @@ use Rattle.rv_isa.specs.declared.instr.StoreWidth.{StoreWidth}
 use Rattle.rv_isa.specs.declared.instr.StoreWidth.TheVariants.{Sb}
 use Rattle.rv_isa.specs.declared.instr.Condition.{Condition}
 use Rattle.rv_isa.specs.declared.instr.Condition.TheVariants.{Beq}
-use Rattle.rv_isa.specs.Rows.{alu_bits, alu_rows, alu_word_bits, alu_word_rows, alu_imm_bits, alu_imm_rows, shift_bits, shift_rows, shift_word_bits, shift_word_rows, load_bits, load_rows, store_bits, store_rows, condition_bits, condition_rows}
+use Rattle.rv_isa.specs.Rows.{BRANCH, JAL, opcode_bits, alu_bits, alu_rows, alu_word_bits, alu_word_rows, alu_imm_bits, alu_imm_rows, shift_bits, shift_rows, shift_word_bits, shift_word_rows, load_bits, load_rows, store_bits, store_rows, condition_bits, condition_rows}
 use Rattle.rv_isa.specs.Decoding.{decoded, row, row_with, row_with2}
 use Rattle.rv_isa.specs.Encoding.{InstrFits, encoded, fields_of, b_type, j_type}
 use Rattle.rv_isa.specs.Word.{FieldsFit}
@@ -90,11 +90,11 @@ j_raw-j_type opcode rd offset small even = omega arith
 pub row-fields_of : (i : Instr) → InstrFits i → row (fields_of i) ≡ Some i
 row-fields_of (Lui rd imm) fits = ap (λ x. Some (Lui rd x)) (upper_parts imm)
 row-fields_of (Auipc rd imm) fits = ap (λ x. Some (Auipc rd x)) (upper_parts imm)
-row-fields_of (Jal rd offset) fits = ap (λ x. Some (Jal rd x)) (j_raw-j_type 111 rd offset fits.1 fits.2)
+row-fields_of (Jal rd offset) fits = ap (λ x. Some (Jal rd x)) (j_raw-j_type (opcode_bits JAL) rd offset fits.1 fits.2)
 row-fields_of (Jalr rd rs1 imm) fits = ap (λ x. Some (Jalr rd rs1 x)) (low_high imm)
 row-fields_of (Branch condition rs1 rs2 offset) fits =
     rw (condition_found condition)
-    (ap (λ x. Some (Branch condition rs1 rs2 x)) (b_raw-b_type 99 (condition_bits condition) rs1 rs2 offset fits.2 fits.3))
+    (ap (λ x. Some (Branch condition rs1 rs2 x)) (b_raw-b_type (opcode_bits BRANCH) (condition_bits condition) rs1 rs2 offset fits.2 fits.3))
 row-fields_of (Load width rd rs1 imm) fits = rw (load_found width) (ap (λ x. Some (Load width rd rs1 x)) (low_high imm))
 row-fields_of (Store width rs1 rs2 imm) fits =
     rw (store_found width) (ap (λ x. Some (Store width rs1 rs2 x)) (low_high imm))
