@@ -52,5 +52,5 @@ abbrev pub row : Fields → Option Instr
 row f = option_and_then (λ o. row_of o f) (opcode_of f.opcode)
 
 -- the instruction of a word: its row of the table, or none
-abbrev pub decoded : ℕ → Option Instr
+unfoldable pub decoded : ℕ → Option Instr
 decoded w = row (split w)

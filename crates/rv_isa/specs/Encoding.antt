@@ -66,5 +66,5 @@ InstrFits (OpWord _ rd rs1 rs2) = (rd < 32) × (rs1 < 32) × (rs2 < 32)
 InstrFits Ecall = Unit {0}
 
 -- the word of an instruction
-abbrev pub encoded : Instr → ℕ
+unfoldable pub encoded : Instr → ℕ
 encoded i = joined (fields_of i)

@@ -1,6 +1,6 @@
 //! The word of an instruction.
 
-ghost use Rattle.std.specs.Prelude.{◌≡◌, Some, ◌<◌};
+ghost use Rattle.std.specs.Prelude.{◌≡◌, ◌<◌};
 ghost use Rattle.rv_isa.specs.Word.{FieldsFit};
 ghost use Rattle.rv_isa.specs.Encoding.{
   InstrFits,
@@ -12,6 +12,7 @@ ghost use Rattle.rv_isa.specs.Encoding.{
   u_type,
   j_type,
 };
+ghost use Rattle.rv_isa.specs.Decoding.{decoded};
 
 use crate::instr::Instr;
 use crate::opcodes::{
@@ -23,6 +24,7 @@ use crate::word::Fields;
 pub fn encode(instr: Instr) -> u32
     requires { InstrFits instr }
     ensures exact { result ≡ encoded instr }
+    ensures decodes { decoded result ≡ Some instr }
 {
     fields(instr).join()
 }
