@@ -1,5 +1,5 @@
 -- What a list of the code holds, as a list.
-use Rattle.std.specs.Prelude.{ℕ, List}
+use Rattle.std.specs.Prelude.{List}
 use Rattle.bs_words.specs.declared.list.List as declared
 
 -- the items, first to last

@@ -4,14 +4,19 @@
 //! RV64I and M instructions do (RISC-V Unprivileged ISA manual, "RV64I" and "M").
 #![tactic(auto)]
 
+pub mod arithmetic;
 pub mod list;
 pub mod name;
 pub mod operators;
 pub mod types;
 pub mod values;
 
+pub use arithmetic::{add, div, mul, mulh, rem, sar, sext, shl, shr, signed, sub};
 pub use list::List;
 pub use name::Name;
 pub use operators::{CmpOp, IntOp};
 pub use types::{Chunk, Comp, Loc, Ret, Ty};
 pub use values::{Call, Kind, Obs, Value};
+
+#[cfg(test)]
+mod tests;
