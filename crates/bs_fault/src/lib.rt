@@ -2,5 +2,12 @@
 #![tactic(auto)]
 
 mod image;
+mod large;
+mod usage;
 
-pub use image::{ImageFault, ImageRefusal};
+pub use image::{ImageFault, ImageRefusal, image_text};
+pub use large::{Large, Section, large_text};
+pub use usage::{Usage, usage_text};
+
+#[cfg(test)]
+mod tests;
