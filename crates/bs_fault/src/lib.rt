@@ -1,0 +1,13 @@
+//! The faults that the program tells, and the line that it writes for each.
+#![tactic(auto)]
+
+mod image;
+mod large;
+mod usage;
+
+pub use image::{ImageFault, ImageRefusal, image_text};
+pub use large::{Large, Section, large_text};
+pub use usage::{Usage, usage_text};
+
+#[cfg(test)]
+mod tests;

@@ -1,0 +1,63 @@
+//! The tables of an image.
+
+use bs_words::{Comp, List, Name, Ret};
+
+/// A compiled program.
+#[derive(Debug, Drop)]
+pub struct Image {
+    /// The functions, in the order of their code.
+    pub funcs: List<FuncRow>,
+    /// The words of the code region.
+    pub code: List<u32>,
+    /// The bytes of the data.
+    pub bytes: List<u8>,
+    /// The symbols of the data, in the order of their places.
+    pub syms: List<SymRow>,
+    /// The offsets into the data of the cells that hold OCaml values.
+    pub roots: List<u32>,
+    /// The external calls, by their numbers.
+    pub extcs: List<ExtRow>,
+    /// The frame descriptors, in the order of their return addresses.
+    pub descs: List<DescRow>,
+}
+
+/// A function.
+#[derive(Debug, Drop)]
+pub struct FuncRow {
+    pub name: Name,
+    /// The bytes of code before the first word of the function.
+    pub offset: u32,
+    /// The number of words of its code.
+    pub words: u32,
+    /// The bytes of its frame on the stack.
+    pub frame: u32,
+    pub params: List<Comp>,
+    pub result: Ret,
+}
+
+/// A symbol of the data.
+#[derive(Debug, Drop)]
+pub struct SymRow {
+    pub name: Name,
+    /// The bytes of data before its place.
+    pub offset: u32,
+}
+
+/// An external call.
+#[derive(Debug, Drop)]
+pub struct ExtRow {
+    pub name: Name,
+    pub params: List<Comp>,
+    pub result: Ret,
+}
+
+/// Which places of a frame hold OCaml values at a return address.
+#[derive(Debug, Drop)]
+pub struct DescRow {
+    /// The bytes of code before the return address.
+    pub after: u32,
+    /// The bytes of the frame.
+    pub size: u32,
+    /// A register `r` as `2 * r + 1`, and a place of the frame as its offset from the stack pointer.
+    pub entries: List<u32>,
+}

@@ -1,0 +1,12 @@
+//! Images: compiled programs as bytes.
+//!
+//! An image holds seven tables: functions, code, data, symbols of the data, root cells of the data,
+//! external calls, and descriptors of the frames at return addresses. It has one spelling in bytes,
+//! with numbers little-endian.
+#![tactic(auto)]
+
+mod image;
+mod writing;
+
+pub use image::{DescRow, ExtRow, FuncRow, Image, SymRow};
+pub use writing::write_image;
