@@ -1,5 +1,5 @@
 -- The tree that a value of the code stands for.
-use Rattle.std.specs.Prelude.{ℕ, map}
+use Rattle.std.specs.Prelude.{ℕ, List, [], ◌∷◌, map}
 use Rattle.bs_words.specs.Contents.{contents}
 use Rattle.cmm_tree.specs.Tree.{Expression, Integer, Name, Operator, Parameter, FunctionTree, ItemTree, AFunction, FileTree}
 use Rattle.cmm_tree.specs.declared.expr.Expr.{Expr}
