@@ -3,6 +3,8 @@
 
 pub mod expr;
 pub mod file;
+pub mod token;
 
 pub use expr::{Expr, Form};
 pub use file::{File, Function, Item, Param};
+pub use token::TokenKind;
