@@ -5,3 +5,4 @@ pub mod Tokens
 pub mod Keywords
 pub mod Grammar
 pub mod Small
+pub mod Types

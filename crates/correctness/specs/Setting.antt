@@ -1,0 +1,56 @@
+-- The setting of two runs: a function of the file, and what both runs are given.
+use Rattle.std.specs.Prelude.{◌≡◌, ⊤, ℕ, ◌+◌, ◌*◌, ◌%◌, ◌^◌, ◌<◌, ◌≤◌, List, [], ◌∷◌, Some, slice_get, map, IsTrue}
+use Rattle.std.specs.List.{AllByRecursion}
+use Rattle.bs_words.specs.Fits.{fits, type_of_comp}
+use Rattle.bs_words.specs.declared.types.Comp.{Comp}
+use Rattle.bs_words.specs.declared.values.Value.TheVariants.{Word}
+use Rattle.cmm_meaning.specs.Layout.{Layout}
+use Rattle.cmm_tree.specs.Tree.{FunctionTree, FileTree, functions, comps_of, data_end}
+use Rattle.cmm_tree.specs.Types.{body_type, result_of}
+use Rattle.image_form.specs.Tables.{Tables, Func}
+use Rattle.rv_machine.specs.Memory.{code_start}
+
+-- what a run of the text takes from an image: frame bytes and addresses, function by function
+abbrev pub layout_of : Tables → Layout
+layout_of image = record {
+  frames = map (λ (row : Func). row.frame) image.funcs;
+  addresses = map (λ (row : Func). code_start + row.offset) image.funcs;
+}
+
+-- A row of the image is that of a function of the file: the same name and types.
+pub record IsRowOf (f : FunctionTree) (row : Func) : Type 0 where
+  pub name : row.name ≡ f.name
+  pub params : row.params ≡ comps_of f
+  pub result : row.result ≡ result_of (body_type f)
+
+-- the rows are those of the functions, one by one and in order
+abbrev pub AreRowsOf : List FunctionTree → List Func → Type 0
+AreRowsOf [] [] = ⊤
+AreRowsOf (f ∷ fs) (row ∷ rows) = IsRowOf f row × AreRowsOf fs rows
+AreRowsOf [] (row ∷ rows) = ⊥
+AreRowsOf (f ∷ fs) [] = ⊥
+
+abbrev pub IsWord : ℕ → Type 0
+IsWord w = w < 2 ^ 64
+
+abbrev pub AreWords : List ℕ → Type 0
+AreWords words = AllByRecursion IsWord words
+
+-- words that fit parameters of these components in number and type, `end` being the end of the data
+abbrev pub FitParameters : ℕ → List Comp → List ℕ → Type 0
+FitParameters end [] [] = ⊤
+FitParameters end (c ∷ cs) (a ∷ args) = IsWord a × IsTrue (fits end (type_of_comp c) (Word a)) × FitParameters end cs args
+FitParameters end [] (a ∷ args) = ⊥
+FitParameters end (c ∷ cs) [] = ⊥
+
+-- the bytes of stack, and of each half of the heap, that a run may have
+pub record IsRoom (bytes : ℕ) : Type 0 where
+  pub aligned : bytes % 16 ≡ 0
+  pub most : bytes ≤ 67108864
+
+-- Function `entry` of the file, its row in the image, and the words that are handed to it.
+pub record Entered (file : FileTree) (image : Tables) (entry : ℕ) (f : FunctionTree) (row : Func) (args answers : List ℕ) : Type 0 where
+  pub of_file : slice_get (functions file) entry ≡ Some f
+  pub of_image : slice_get image.funcs entry ≡ Some row
+  pub arguments : FitParameters (data_end file) (comps_of f) args
+  pub answers_are_words : AreWords answers

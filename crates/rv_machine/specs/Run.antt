@@ -1,0 +1,67 @@
+-- A run of the machine under a schedule of the mover.
+use Rattle.std.specs.Prelude.{ℕ, zero, suc, Bool, true, false, cond, ◌||◌, ◌==◌, List, [], ◌∷◌, Option, Some, None}
+use Rattle.bs_words.specs.Observed.{Made}
+use Rattle.image_form.specs.Tables.{Tables, Func}
+use Rattle.rv_machine.specs.Hart.{Hart, Next, Retired, Service, hart}
+use Rattle.rv_machine.specs.Hart as next
+use Rattle.rv_machine.specs.Memory.{Region, written}
+use Rattle.rv_machine.specs.Services.{End, Running, StackOut, Stopped, Machine, Now, Going, Over, service}
+use Rattle.rv_machine.specs.Start.{start, domain_start, limit_asked}
+
+-- The numbers of the instructions before which the mover asks, and where it puts the blocks at each
+-- service that moves them.
+pub record Schedule : Type 0 where
+  pub asks : List ℕ
+  pub plans : List (List ℕ)
+
+abbrev pub is_among : List ℕ → ℕ → Bool
+is_among [] k = false
+is_among (a ∷ rest) k = (a == k) || is_among rest k
+
+abbrev pub memory_or : List Region → Option (List Region) → List Region
+memory_or old None = old
+memory_or old (Some new) = new
+
+-- an ask sets the limit word and nothing else
+abbrev pub asked : Hart → Hart
+asked h = record h { memory = memory_or h.memory (written h.memory domain_start 8 limit_asked) }
+
+-- the mover asks before the instruction of this number, or does not
+abbrev pub perhaps_asked : Schedule → Hart → Hart
+perhaps_asked schedule h = cond (is_among schedule.asks h.retired) (asked h) h
+
+-- an ECALL and its service count as one instruction
+abbrev pub after_next : Next → Machine → Now
+after_next (Retired h) m = Going (record m { hart = h })
+after_next (Service h) m = service (record m { hart = h })
+after_next next.StackOut m = Over m.calls StackOut
+after_next (next.Stopped cause) m = Over m.calls (Stopped cause)
+
+-- one instruction, and the ask before it
+abbrev pub one : Schedule → Machine → Now
+one schedule m = after_next (hart (perhaps_asked schedule m.hart)) m
+
+-- so many instructions more; a run that is over stays over
+abbrev pub after : Schedule → ℕ → Now → Now
+after schedule zero now = now
+after schedule (suc n) (Going m) = after schedule n (one schedule m)
+after schedule (suc n) (Over calls end) = Over calls end
+
+-- What is told of a run: the external calls so far, first to last, and how it stands.
+pub record Seen : Type 0 where
+  pub calls : List Made
+  pub end : End
+
+abbrev pub seen : Now → Seen
+seen (Going m) = record { calls = m.calls; end = Running }
+seen (Over calls end) = record { calls = calls; end = end }
+
+-- a run from the entry of a function
+abbrev pub begun : Tables → Func → List ℕ → List ℕ → ℕ → ℕ → Now
+begun image entry args answers stack heap =
+    Going (record { hart = start image entry args stack heap; result = entry.result; answers = answers; calls = [] })
+
+-- the run after m instructions
+abbrev pub machine_run : Tables → Func → List ℕ → List ℕ → ℕ → ℕ → Schedule → ℕ → Seen
+machine_run image entry args answers stack heap schedule m =
+    seen (after schedule m (begun image entry args answers stack heap))

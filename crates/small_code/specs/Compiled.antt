@@ -1,0 +1,45 @@
+-- The image of a file of small functions.
+use Rattle.std.specs.Prelude.{ℕ, ◌+◌, ◌*◌, List, [], ◌∷◌, ◌++◌, length, map, codes, replicate}
+use Rattle.std.specs.List.{flat_map}
+use Rattle.cmm_tree.specs.Tree.{FunctionTree, FileTree, functions, comps_of}
+use Rattle.cmm_tree.specs.Types.{body_type, result_of}
+use Rattle.image_form.specs.Tables.{Tables, Func}
+use Rattle.rv_isa.specs.Encoding.{encoded}
+use Rattle.small_code.specs.Code.{function_code, frame_bytes}
+
+-- the stub, with which the code of every image begins: a return to it asks for the service that ends
+-- the run, and 8 bytes behind it is the service of an uncaught raise
+abbrev pub stub : List ℕ
+stub = 0x00000393 ∷ 0x00000073 ∷ 0x00100393 ∷ 0x00000073 ∷ []
+
+-- the words of a function
+abbrev pub function_words : FunctionTree → List ℕ
+function_words f = map encoded (function_code f)
+
+-- the row of a function whose words begin at this offset into the code
+abbrev pub row_at : ℕ → FunctionTree → Func
+row_at offset f = record {
+  name = f.name;
+  offset = offset;
+  words = length (function_words f);
+  frame = frame_bytes f;
+  params = comps_of f;
+  result = result_of (body_type f);
+}
+
+-- the rows of functions that lie one behind the other
+abbrev pub rows_from : ℕ → List FunctionTree → List Func
+rows_from offset [] = []
+rows_from offset (f ∷ fs) = row_at offset f ∷ rows_from (offset + 4 * length (function_words f)) fs
+
+-- the image: the stub and the functions in the order of the text, and the built-in data
+abbrev pub compiled : FileTree → Tables
+compiled file = record {
+  funcs = rows_from 16 (functions file);
+  code = stub ++ flat_map function_words (functions file);
+  bytes = replicate 8 0;
+  syms = record { name = codes "caml_bound_error"; offset = 0 } ∷ [];
+  roots = [];
+  extcs = [];
+  descs = [];
+}

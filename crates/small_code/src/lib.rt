@@ -1,0 +1,2 @@
+//! The image of a file of small functions.
+#![tactic(auto)]
