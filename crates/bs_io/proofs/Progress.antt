@@ -1,9 +1,9 @@
 -- What stands on the way of a whole read and a whole write.
-use Rattle.std.proofs.Common.{◌≡◌, ℕ, ◌+◌, ◌-◌, ◌<◌, ◌≤◌, List, [], ◌∷◌, ◌++◌, length, take, drop, Option, None, Some, refl, sym, ap, subst, ◌∙◌, arith, rules, append-nil, length-drop, length-take, take_all, drop_of_length-le}
-use Rattle.std.specs.Io.KnownBytes.{Appends, Consumes, Keeps, IsAtEnd}
-use Rattle.std.proofs.KnownBytes.{Appends-trans, Appends-kept, Consumes-trans, Consumes-kept}
-use Rattle.bs_io.specs.Whole.{AppendsPart, TakesAtMost}
-use Rattle.std.proofs.lemmas.List.{drop-drop}
+use Rattle.std.proofs.Common.{◌≡◌, ℕ, ◌+◌, ◌-◌, ◌<◌, ◌≤◌, List, [], ◌++◌, length, take, drop, Option, None, Some, refl, sym, ap, subst, ◌∙◌, arith, append-nil, length-drop, take_all, drop_of_length-le, take-append-drop}
+use Rattle.std.specs.Io.KnownBytes.{Appends, Consumes, Keeps}
+use Rattle.std.proofs.KnownBytes.{Appends-trans, Appends-kept, Consumes-trans}
+use Rattle.bs_io.specs.Whole.{AppendsPart}
+use Rattle.std.proofs.lemmas.List.{drop-drop, take_rest}
 use Rattle.std.proofs.Math.Seq.{take-add}
 
 -- the front of the piece was appended, and the rest is left
@@ -53,9 +53,22 @@ pub Consumes-more : (a b c : Option (List ℕ)) (old new : List ℕ) (filled n :
 Consumes-more a b c old new filled n front before read =
     subst (Consumes a c) (ap (λ l. l ++ take n (drop filled new)) (sym front) ∙ sym (take-add filled n new)) (Consumes-trans a b c _ _ before read)
 
--- the same, where the slice of a vector of that size was read into
-pub Consumes-over : (a b c : Option (List ℕ)) (before room after : List ℕ) (size filled n : ℕ) → length after ≡ size → length room ≡ size
-    → take filled after ≡ take filled before → Consumes a b (take filled before) → Consumes b c (take n (drop filled after))
+-- the same, where the slice of a vector of that size was lent and read into
+pub Consumes-over : (a b c : Option (List ℕ)) (before room lent after : List ℕ) (size filled n : ℕ) → length after ≡ size → length room ≡ size
+    → take filled after ≡ take filled lent → lent ≡ room → take filled room ≡ take filled before
+    → Consumes a b (take filled before) → Consumes b c (take n (drop filled after))
     → Consumes a c (take (filled + n) (take size (after ++ drop (length after) room)))
-Consumes-over a b c before room after size filled n long was front taken read =
-    subst (λ l. Consumes a c (take (filled + n) l)) (sym (written_over size after room long was)) (Consumes-more a b c before after filled n front taken read)
+Consumes-over a b c before room lent after size filled n long was front same kept taken read =
+    let whole : take filled after ≡ take filled before = front ∙ ap (take filled) same ∙ kept in
+    subst (λ l. Consumes a c (take (filled + n) l)) (sym (written_over size after room long was)) (Consumes-more a b c before after filled n whole taken read)
+
+-- ---- a source over memory
+
+-- the bytes that were copied are the front of what was left, and the rest stands after them
+pub Consumes-copied : (left bytes slice front : List ℕ) (taken n : ℕ) → left ≡ drop taken bytes → slice ≡ bytes
+    → front ≡ take n (take (length slice - taken) (drop taken slice)) → left ≡ front ++ drop (taken + n) bytes
+Consumes-copied left bytes slice front taken n was same copied =
+    was ∙ sym (take-append-drop n (drop taken bytes))
+    ∙ ap (λ l. take n (drop taken l) ++ drop n (drop taken bytes)) (sym same)
+    ∙ ap (λ l. l ++ drop n (drop taken bytes)) (sym (copied ∙ ap (take n) (take_rest slice taken)))
+    ∙ ap (λ l. front ++ l) (drop-drop n taken bytes)

@@ -1,4 +1,4 @@
-use Rattle.std.proofs.Common.{rules, ◌≡◌, ◌∙◌, ap, arith, length, take}
+use Rattle.std.proofs.Common.{rules, ◌≡◌, arith, length, take}
 use Rattle.bs_io.proofs.Progress.{Consumes-over}
 use Rattle.bs_io.proofs.whole.read_all.Goals as goal
 
@@ -10,7 +10,7 @@ loop-filled-preserved g c =
     record {
       filled_within = omega (arith, c.in-Ok.ensures.fits, long);
       buffer_within = c.make_room.ensures.length;
-      taken = Consumes-over _ _ _ c.loop-filled.buffer.items _ _ _ c.loop-filled.filled _ long was
-          (c.in-Ok.ensures.front ∙ ap (take c.loop-filled.filled) c.as_mut_slice.ensures.value ∙ kept) c.loop-filled.invariant.taken c.in-Ok.ensures.taken;
+      taken = Consumes-over _ _ _ c.loop-filled.buffer.items _ c.as_mut_slice.result.now _ _ c.loop-filled.filled _ long was
+          c.in-Ok.ensures.front c.as_mut_slice.ensures.value kept c.loop-filled.invariant.taken c.in-Ok.ensures.taken;
       never_falls = omega (arith, c.loop-filled.invariant.never_falls, c.in-Ok.ensures.never_falls);
     }

@@ -1,4 +1,4 @@
-use Rattle.std.proofs.Common.{◌-◌, ◌≤◌, ◌≡◌, ◌+◌, take, vec_len}
+use Rattle.std.proofs.Common.{◌-◌, ◌≤◌, take, vec_len}
 use Rattle.std.specs.Io.KnownBytes.{Consumes}
 use Rattle.bs_io.proofs.whole.read_all.Given as goal
 

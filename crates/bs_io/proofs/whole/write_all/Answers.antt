@@ -1,4 +1,4 @@
-use Rattle.std.proofs.Common.{rules, arith, subst, sym, take, length, ◌-◌}
+use Rattle.std.proofs.Common.{arith, subst, sym}
 use Rattle.std.proofs.lemmas.List.{take_rest}
 use Rattle.bs_io.proofs.Progress.{Written, Written-more}
 use Rattle.bs_io.proofs.whole.write_all.Goals as goal
