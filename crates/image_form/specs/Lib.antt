@@ -1,2 +1,4 @@
 pub mod Tables
 pub mod Image
+pub mod Reading
+pub mod Seen

@@ -6,6 +6,7 @@
 #![tactic(auto)]
 
 mod image;
+mod seen;
 mod writing;
 
 pub use image::{DescRow, ExtRow, FuncRow, Image, SymRow};
