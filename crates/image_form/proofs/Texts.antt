@@ -22,9 +22,9 @@ pub list_any-append : {A : Type 0} (p : A → Bool) (xs ys : List A) → list_an
 list_any-append p [] ys = refl
 list_any-append p (x ∷ xs) ys = ap (λ (b : Bool). p x || b) (list_any-append p xs ys) ∙ or_assoc (p x) (list_any p xs) (list_any p ys)
   where
-  or_assoc : (a b c : Bool) → (a || (b || c)) ≡ ((a || b) || c)
-  or_assoc true b c = refl
-  or_assoc false b c = refl
+    or_assoc : (a b c : Bool) → (a || (b || c)) ≡ ((a || b) || c)
+    or_assoc true b c = refl
+    or_assoc false b c = refl
 
 module _ {K : Type 0} (items : K → List ℕ) (cmp : K → K → Ordering) (same : (x y : K) → is_eq (cmp x y) ≡ bytes_eq (items x) (items y)) where
   pub among : (k : K) (ks : List K) → list_any (λ y. is_eq (cmp k y)) ks ≡ has (map items ks) (items k)

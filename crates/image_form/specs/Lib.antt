@@ -1,4 +1,5 @@
 pub mod Tables
 pub mod Image
-pub mod Reading
 pub mod Seen
+pub mod Fields
+pub mod Reading
