@@ -41,6 +41,7 @@ const CHUNK: usize = 64 * 1024;
 pub fn read_all<S: Source>(alloc: Global, source: &mut S, limit: u64) -> Result<List<u8>, InFault>
     requires { limit < 2 ^ 64 - 1 }
     ensures all { IfOk result (λ bytes. IfSome (S.left source.old) (λ left. contents bytes ≡ left)) }
+    ensures taken { IfOk result (λ bytes. Consumes (S.left source.old) (S.left source.new) (contents bytes)) }
     ensures ended { OnOk result (IsAtEnd (S.left source.new)) }
     ensures within { IfOk result (λ bytes. length (contents bytes) ≤ limit) }
     ensures short { IfErr result (StopsShort (S.left source.old) (S.left source.new) limit) }
