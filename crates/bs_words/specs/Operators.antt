@@ -2,7 +2,7 @@
 --
 -- A pointer is the address `offset` bytes after the start of a block; offsets are words that wrap.
 -- `sizes` has the number of cells of each block, by its serial.
-use Rattle.std.specs.Prelude.{ℕ, zero, ◌*◌, ◌-◌, ◌%◌, ◌^◌, Bool, true, false, not, cond, ◌&&◌, ◌||◌, ◌==◌, nat_lt, nat_le, List, Result, Ok, Err, slice_index, int_lt, int_le, bit_and, bit_or, bit_xor}
+use Rattle.std.specs.Prelude.{ℕ, zero, ◌*◌, ◌+◌, ◌-◌, ◌%◌, ◌^◌, Bool, true, false, not, cond, ◌&&◌, ◌||◌, ◌==◌, nat_lt, nat_le, List, Result, Ok, Err, slice_index, int_lt, int_le, bit_and, bit_or, bit_xor}
 use Rattle.bs_words.specs.Word.{signed_of, add_word, sub_word, mul_word, mulh_word, div_word, rem_word, shl_word, shr_word, sar_word}
 use Rattle.bs_words.specs.declared.operators.CmpOp.{CmpOp}
 use Rattle.bs_words.specs.declared.operators.CmpOp.TheVariants.{Eq, Ne, Lt, Le, Gt, Ge}
