@@ -1,3 +1,4 @@
 pub mod Lengths
 pub mod Texts
 pub mod Loops
+mod KnownImages
