@@ -1,0 +1,3 @@
+pub mod Memory
+pub mod Steps
+pub mod Instructions
