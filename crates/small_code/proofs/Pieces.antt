@@ -13,7 +13,8 @@ use Rattle.rv_isa.specs.declared.instr.StoreWidth.TheVariants.{Sd}
 use Rattle.bs_words.proofs.Below.{add_word-below}
 use Rattle.rv_machine.specs.Hart.{with_register}
 use Rattle.small_code.specs.Code.{eleven_more, constant, near_slot, load_slot, store_slot, move_sp}
-use Rattle.small_code.proofs.Steps.{Setting, View, Leads, LeadsOut, Instruction, AllWords, held, with_set, set_step, out_step, then_leads, then_out}
+use Rattle.rv_machine.specs.Arithmetic.{alu}
+use Rattle.small_code.proofs.Steps.{Setting, View, Leads, LeadsOut, Instruction, SetsRegister, AllWords, held, with_set, set_step, out_step, then_leads, then_out}
 use Rattle.small_code.proofs.Instructions.{add_small, shl_small, addi_step, slli_step, op_step, load_step, store_step, with_stored, sets_op}
 
 abbrev pub Has : Setting → ℕ → List Instr → Type 0
@@ -177,3 +178,56 @@ store_leads s v rs k i sp low other within has small e below same fits =
     subst (λ value. Leads s 4 v (record { place = v.place + 4; registers = slice_set v.registers 6 (near_address k sp); stack = slice_set v.stack i value }))
     (held_other v.registers rs 5 (near_address k sp) other)
     (ends_at s 4 4 (v.place + 4) _ _ (then_leads s 3 1 _ _ _ near store) refl (omega arith))
+
+-- ---- the stack pointer
+
+-- t1 becomes the number of bytes
+bytes_lead : (s : Setting) (v : View) (op : AluOp) (bytes : ℕ) → 6 < length v.registers → HasAt s v.place (move_sp op bytes) → bytes < 2 ^ 22 → Leads s 3 v (holding (v.place + 3) 6 bytes v)
+unfolding move_sp
+bytes_lead s v op bytes within has small =
+    let e : bytes / 2048 * 2 ^ 11 + bytes % 2048 ≡ bytes = omega arith in
+    let start = starts s 5 (omega arith) (omega arith) v (bytes / 2048) (record { parts = (has.parts.0, tt) }) (omega arith) in
+    let more = eleven s 5 (omega arith) (omega arith) v (v.place + 1) (bytes / 2048) (bytes % 2048) bytes within (record { parts = (has.parts.1.0, (has.parts.1.1.0, tt)) }) e (omega arith) (omega arith) in
+    ends_at s 3 3 (v.place + 3) _ _ (then_leads s 1 2 _ _ _ start more) refl (omega arith)
+
+moves : (s : Setting) (v : View) (op : AluOp) (bytes : ℕ) → HasAt s v.place (move_sp op bytes) → Instruction s (v.place + 3) (Op op 2 2 6)
+unfolding move_sp
+moves s v op bytes has =
+    let e : v.place + 1 + 1 + 1 ≡ v.place + 3 = omega arith in
+    record { there = subst (λ p. slice_get s.image.code p ≡ Some (encoded (Op op 2 2 6))) e has.parts.1.1.1.0; fits = (omega arith, omega arith, omega arith) }
+
+moved_sets : (s : Setting) (v : View) (op : AluOp) (bytes value : ℕ) → 6 < length v.registers → alu op (held v.registers 2) bytes ≡ value → value < 2 ^ 64 → SetsRegister s (holding (v.place + 3) 6 bytes v) (Op op 2 2 6) 2 value
+moved_sets s v op bytes value within e small =
+    let u = holding (v.place + 3) 6 bytes v in
+    let same : alu op (held u.registers 2) (held u.registers 6) ≡ value =
+        ap₂ (alu op) (held_other v.registers 2 5 bytes (omega arith)) (holds v.registers 5 bytes within) ∙ e in
+    subst (SetsRegister s u (Op op 2 2 6) 2) same (sets_op s u op 2 2 6 (λ words. subst (λ n. n < 2 ^ 64) (sym same) small))
+
+pub move_leads : (s : Setting) (v : View) (op : AluOp) (bytes value : ℕ) → 6 < length v.registers → HasAt s v.place (move_sp op bytes) → bytes < 2 ^ 22 → alu op (held v.registers 2) bytes ≡ value → value < 2 ^ 64 → s.base ≤ value → Leads s 4 v (record { place = v.place + 4; registers = slice_set (slice_set v.registers 6 bytes) 2 value; stack = v.stack })
+move_leads s v op bytes value within has few e small above =
+    let u = holding (v.place + 3) 6 bytes v in
+    let move = set_step s u (Op op 2 2 6) 2 value (moves s v op bytes has) (inr above) (moved_sets s v op bytes value within e small) in
+    ends_at s 4 4 (v.place + 4) _ _ (then_leads s 3 1 _ _ _ (bytes_lead s v op bytes within has few) move) refl (omega arith)
+
+pub move_out : (s : Setting) (v : View) (op : AluOp) (bytes value : ℕ) → 6 < length v.registers → HasAt s v.place (move_sp op bytes) → bytes < 2 ^ 22 → alu op (held v.registers 2) bytes ≡ value → value < s.base → value < 2 ^ 64 → LeadsOut s 4 v
+move_out s v op bytes value within has few e low small =
+    then_out s 3 1 _ _ (bytes_lead s v op bytes within has few)
+    (out_step s (holding (v.place + 3) 6 bytes v) (Op op 2 2 6) value (moves s v op bytes has) low (moved_sets s v op bytes value within e small))
+
+-- ---- how long the pieces are
+
+pub length-constant : (rd word : ℕ) → length (constant rd word) ≡ 11
+unfolding constant
+length-constant rd word = refl
+
+pub length-load : (rd k : ℕ) → length (load_slot rd k) ≡ 4
+unfolding load_slot near_slot
+length-load rd k = refl
+
+pub length-store : (rs k : ℕ) → length (store_slot rs k) ≡ 4
+unfolding store_slot near_slot
+length-store rs k = refl
+
+pub length-move : (op : AluOp) (bytes : ℕ) → length (move_sp op bytes) ≡ 4
+unfolding move_sp
+length-move op bytes = refl
