@@ -2,3 +2,5 @@ pub mod Memory
 pub mod Steps
 pub mod Instructions
 pub mod Pieces
+pub mod Values
+pub mod Expressions
