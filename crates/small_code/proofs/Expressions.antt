@@ -202,18 +202,19 @@ module _ (s : Setting) (sp origin total : ℕ) (frame : Frame s sp origin total)
       let w1 = first.0 in
       let ready1 = still_ready s (length cr) (origin + next) sp v w1 first.1 ready in
       let known1 = still_in names holds (length cr) next v w1 first.1 known in
-      let has1 = has_back s v.place (length cr) cr _ refl has in
+      let has1 = has_back s v.place (length cr) cr (cl ++ (load_slot t0 a ++ (load_slot t2 b ++ (Op (row_of op) t0 t0 t2 ∷ store_slot t0 k)))) refl has in
       let second = then_left w1 ready1 (later names holds next (next + nodes right) w1 (omega arith) known1)
           (at_place (v.place + length cr) w1.place cl first.1.place (has_front s (v.place + length cr) cl _ has1)) in
       let w2 = second.0 in
       let ready2 = still_ready s (length cl) (origin + (next + nodes right)) sp w1 w2 second.1 ready1 in
-      let has2 = at_place (v.place + length cr + length cl) w2.place _ (omega (arith, first.1.place, second.1.place)) (has_back s (v.place + length cr) (length cl) cl _ refl has1) in
+      let rest = load_slot t0 a ++ (load_slot t2 b ++ (Op (row_of op) t0 t0 t2 ∷ store_slot t0 k)) in
+      let has2 = at_place (v.place + length cr + length cl) w2.place rest (omega (arith, first.1.place, second.1.place)) (has_back s (v.place + length cr) (length cl) cl rest refl has1) in
       let third = put_operation w2 op a b k ready2 has2 (omega (arith, some_nodes left)) (omega (arith, some_nodes right)) (omega arith) in
       let left_word : slice_index w2.stack (origin + a) ≡ word_in holds left = second.2 in
       let right_word : slice_index w2.stack (origin + b) ≡ word_in holds right = second.1.below (origin + b) (omega (arith, some_nodes right)) ∙ first.2 in
       let word : InSlot third.0 k (word_in holds (Operator at op left right)) = third.2 ∙ ap₂ (alu (row_of op)) left_word right_word in
       let count : length cr + (length cl + 13) ≡ length (expression_code names next (Operator at op left right)) =
-          omega (arith, length-append cr (cl ++ (load_slot t0 a ++ (load_slot t2 b ++ (Op (row_of op) t0 t0 t2 ∷ store_slot t0 k)))), length-append cl (load_slot t0 a ++ (load_slot t2 b ++ (Op (row_of op) t0 t0 t2 ∷ store_slot t0 k))), length-append (load_slot t0 a) (load_slot t2 b ++ (Op (row_of op) t0 t0 t2 ∷ store_slot t0 k)), length-append (load_slot t2 b) (Op (row_of op) t0 t0 t2 ∷ store_slot t0 k), length-load t0 a, length-load t2 b, length-store t0 k) in
+          omega (arith, length-append cr (cl ++ rest), length-append cl rest, length-append (load_slot t0 a) (load_slot t2 b ++ (Op (row_of op) t0 t0 t2 ∷ store_slot t0 k)), length-append (load_slot t2 b) (Op (row_of op) t0 t0 t2 ∷ store_slot t0 k), length-load t0 a, length-load t2 b, length-store t0 k) in
       let same : k ≡ next + nodes (Operator at op left right) - 1 = omega arith in
       (third.0,
       subst (λ n. Reaches s n (origin + next) v third.0) count

@@ -4,3 +4,5 @@ pub mod Instructions
 pub mod Pieces
 pub mod Values
 pub mod Expressions
+pub mod Ends
+pub mod Functions

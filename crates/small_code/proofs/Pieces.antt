@@ -14,7 +14,8 @@ use Rattle.bs_words.proofs.Below.{add_word-below}
 use Rattle.rv_machine.specs.Hart.{with_register}
 use Rattle.small_code.specs.Code.{eleven_more, constant, near_slot, load_slot, store_slot, move_sp}
 use Rattle.rv_machine.specs.Arithmetic.{alu}
-use Rattle.small_code.proofs.Steps.{Setting, View, Leads, LeadsOut, Instruction, SetsRegister, AllWords, held, with_set, set_step, out_step, then_leads, then_out}
+use Rattle.rv_machine.specs.Services.{StackOut}
+use Rattle.small_code.proofs.Steps.{Setting, View, Leads, Ends, Instruction, SetsRegister, AllWords, held, with_set, set_step, out_step, then_leads, then_ends}
 use Rattle.small_code.proofs.Instructions.{add_small, shl_small, addi_step, slli_step, op_step, load_step, store_step, with_stored, sets_op}
 
 abbrev pub Has : Setting → ℕ → List Instr → Type 0
@@ -209,9 +210,9 @@ move_leads s v op bytes value within has few e small above =
     let move = set_step s u (Op op 2 2 6) 2 value (moves s v op bytes has) (inr above) (moved_sets s v op bytes value within e small) in
     ends_at s 4 4 (v.place + 4) _ _ (then_leads s 3 1 _ _ _ (bytes_lead s v op bytes within has few) move) refl (omega arith)
 
-pub move_out : (s : Setting) (v : View) (op : AluOp) (bytes value : ℕ) → 6 < length v.registers → HasAt s v.place (move_sp op bytes) → bytes < 2 ^ 22 → alu op (held v.registers 2) bytes ≡ value → value < s.base → value < 2 ^ 64 → LeadsOut s 4 v
+pub move_out : (s : Setting) (v : View) (op : AluOp) (bytes value : ℕ) → 6 < length v.registers → HasAt s v.place (move_sp op bytes) → bytes < 2 ^ 22 → alu op (held v.registers 2) bytes ≡ value → value < s.base → value < 2 ^ 64 → Ends s 4 v StackOut
 move_out s v op bytes value within has few e low small =
-    then_out s 3 1 _ _ (bytes_lead s v op bytes within has few)
+    then_ends s 3 1 _ _ StackOut (bytes_lead s v op bytes within has few)
     (out_step s (holding (v.place + 3) 6 bytes v) (Op op 2 2 6) value (moves s v op bytes has) low (moved_sets s v op bytes value within e small))
 
 -- ---- how long the pieces are

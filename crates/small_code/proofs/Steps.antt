@@ -12,7 +12,7 @@ use Rattle.rv_machine.specs.Hart.{Hart, Next, Retired, Service, register, with_r
 use Rattle.rv_machine.specs.Hart as next
 use Rattle.rv_machine.specs.Memory.{code_region, code_start}
 use Rattle.rv_machine.specs.Run.{Schedule, is_among, asked, perhaps_asked, after_next, one, after}
-use Rattle.rv_machine.specs.Services.{Machine, Now, Going, Over, StackOut}
+use Rattle.rv_machine.specs.Services.{End, Machine, Now, Going, Over, StackOut}
 use Rattle.rv_machine.specs.Start.{domain_start, limit_asked}
 use Rattle.small_code.proofs.Memory.{HasStack, past, memory_asked}
 
@@ -58,9 +58,9 @@ at s h = record { hart = h; result = s.result; answers = s.answers; calls = [] }
 pub record Leads (s : Setting) (n : ℕ) (v w : View) : Type 0 where
   pub by : (h : Hart) → Stands s h v → (g : Hart) × Stands s g w × ((j k : ℕ) → j ≡ n + k → after s.schedule j (Going (at s h)) ≡ after s.schedule k (Going (at s g)))
 
--- So many instructions lead out of stack.
-pub record LeadsOut (s : Setting) (n : ℕ) (v : View) : Type 0 where
-  pub by : (h : Hart) → Stands s h v → (j k : ℕ) → j ≡ n + k → after s.schedule j (Going (at s h)) ≡ after s.schedule k (Over [] StackOut)
+-- So many instructions end the run, with no external call.
+pub record Ends (s : Setting) (n : ℕ) (v : View) (end : End) : Type 0 where
+  pub by : (h : Hart) → Stands s h v → (j k : ℕ) → j ≡ n + k → after s.schedule j (Going (at s h)) ≡ after s.schedule k (Over [] end)
 
 pub stays : (s : Setting) (v : View) → Leads s 0 v v
 stays s v = record { by = λ h stands. (h, stands, λ j k e. let same : j ≡ k = omega arith in ap (λ n. after s.schedule n (Going (at s h))) same) }
@@ -71,8 +71,8 @@ then_leads s n m u v w a b = record { by = λ h stands.
   let second = b.by first.0 first.1 in
   (second.0, second.1, λ j k e. first.2 j (m + k) (omega arith) ∙ second.2 (m + k) k refl) }
 
-pub then_out : (s : Setting) (n m : ℕ) (u v : View) → Leads s n u v → LeadsOut s m v → LeadsOut s (n + m) u
-then_out s n m u v a b = record { by = λ h stands j k e.
+pub then_ends : (s : Setting) (n m : ℕ) (u v : View) (end : End) → Leads s n u v → Ends s m v end → Ends s (n + m) u end
+then_ends s n m u v end a b = record { by = λ h stands j k e.
   let first = a.by h stands in
   first.2 j (m + k) (omega arith) ∙ b.by first.0 first.1 (m + k) k refl }
 
@@ -174,7 +174,7 @@ set_step s v i rd value instruction passes known = record { by = λ h stands.
     next_pc pc place e = omega arith
 
 -- an instruction that would bring sp below the stack's base
-pub out_step : (s : Setting) (v : View) (i : Instr) (value : ℕ) → Instruction s v.place i → value < s.base → SetsRegister s v i 2 value → LeadsOut s 1 v
+pub out_step : (s : Setting) (v : View) (i : Instr) (value : ℕ) → Instruction s v.place i → value < s.base → SetsRegister s v i 2 value → Ends s 1 v StackOut
 out_step s v i value instruction low known = record { by = λ h stands j k e.
   let before = perhaps_asked s.schedule h in
   let ready = perhaps_stands s h v stands in

@@ -1,0 +1,2 @@
+-- What the code of a function leads to.
+use Rattle.std.proofs.Common.{◌≡◌}
