@@ -204,7 +204,7 @@ module _ (s : Setting) (sp origin total : ℕ) (frame : Frame s sp origin total)
       let known1 = still_in names holds (length cr) next v w1 first.1 known in
       let has1 = has_back s v.place (length cr) cr (cl ++ (load_slot t0 a ++ (load_slot t2 b ++ (Op (row_of op) t0 t0 t2 ∷ store_slot t0 k)))) refl has in
       let second = then_left w1 ready1 (later names holds next (next + nodes right) w1 (omega arith) known1)
-          (at_place (v.place + length cr) w1.place cl first.1.place (has_front s (v.place + length cr) cl _ has1)) in
+          (at_place (v.place + length cr) w1.place cl first.1.place (has_front s (v.place + length cr) cl (load_slot t0 a ++ (load_slot t2 b ++ (Op (row_of op) t0 t0 t2 ∷ store_slot t0 k))) has1)) in
       let w2 = second.0 in
       let ready2 = still_ready s (length cl) (origin + (next + nodes right)) sp w1 w2 second.1 ready1 in
       let rest = load_slot t0 a ++ (load_slot t2 b ++ (Op (row_of op) t0 t0 t2 ∷ store_slot t0 k)) in
