@@ -17,7 +17,7 @@ use Rattle.small_code.specs.Code.{load_slot, store_slot, move_sp, expression_cod
 use Rattle.small_code.proofs.Values.{word_in, some_nodes}
 use Rattle.small_code.proofs.Steps.{Setting, View, Leads, Ends, held, then_leads, then_ends, with_set, stays}
 use Rattle.small_code.proofs.Instructions.{add_small, addi_step}
-use Rattle.small_code.proofs.Pieces.{HasAt, has_front, has_back, move_leads, move_out, length-load, length-move, length-store}
+use Rattle.small_code.proofs.Pieces.{HasAt, has_front, has_back, near_address, move_leads, move_out, length-load, length-move, length-store}
 use Rattle.small_code.proofs.Expressions.{Keeps, keeps_all, Reaches, then_reaches, Frame, Ready, still_ready, InSlot, NamesIn, loaded_view, stored_view, load_leads_to, store_reaches, stored_is, loaded_is, expression_leads}
 use Rattle.small_code.proofs.Ends.{return_step, end_step}
 
@@ -126,3 +126,121 @@ function_out s room f args v entry few has much =
     let below : alu Sub (held v.registers 2) (frame_bytes f) ≡ s.base + room - frame_bytes f =
         ap (λ a. sub_word a (frame_bytes f)) entry.bottom ∙ sub_small (s.base + room) (frame_bytes f) (omega (arith, s.domain_below, few.few_slots)) (omega (arith, s.short, entry.bytes)) in
     move_out s v Sub (frame_bytes f) (s.base + room - frame_bytes f) (omega (arith, entry.count)) code.takes (omega (arith, few.few_slots)) below (omega (arith, s.domain_below)) (omega (arith, s.short, entry.bytes))
+
+module _ (s : Setting) (room : ℕ) (f : FunctionTree) (args : List ℕ) (v : View) (entry : Entry s room args v) (few : FewSlots f) (fits : frame_bytes f ≤ room) where
+  sp_in : ℕ
+  sp_in = s.base + (room - frame_bytes f)
+
+  origin_in : ℕ
+  origin_in = (room - frame_bytes f) / 8
+
+  frame_in : Frame s sp_in origin_in (slots f)
+  unfolding sp_in origin_in
+  frame_in = record {
+    sp_is = omega (arith, entry.aligned);
+    fits = omega (arith, entry.bytes);
+    few = omega (arith, few.few_slots) }
+
+  -- with its frame taken
+  taken : View
+  unfolding sp_in
+  taken = record { place = v.place + 4; registers = slice_set (slice_set v.registers 6 (frame_bytes f)) 2 sp_in; stack = v.stack }
+
+  takes_frame : HasAt s v.place (move_sp Sub (frame_bytes f)) → Leads s 4 v taken
+  unfolding sp_in taken
+  takes_frame has =
+      let below : alu Sub (held v.registers 2) (frame_bytes f) ≡ s.base + (room - frame_bytes f) =
+          ap (λ a. sub_word a (frame_bytes f)) entry.bottom ∙ sub_small (s.base + room) (frame_bytes f) (omega (arith, fits)) (omega (arith, s.short, entry.bytes)) ∙ omega (arith, fits) in
+      move_leads s v Sub (frame_bytes f) (s.base + (room - frame_bytes f)) (omega (arith, entry.count)) has (omega (arith, few.few_slots)) below (omega (arith, s.short, entry.bytes)) (omega arith)
+
+  taken_ready : Ready s sp_in taken
+  unfolding sp_in taken
+  taken_ready = record {
+    count = length-set _ 2 _ ∙ length-set v.registers 6 (frame_bytes f) ∙ entry.count;
+    sp_held = get_or-set_same (slice_set v.registers 6 (frame_bytes f)) 2 _ 0 (omega (arith, length-set v.registers 6 (frame_bytes f), entry.count));
+    long = entry.long }
+
+  taken_other : (r : ℕ) → r ≢ 2 → r ≢ 6 → slice_index taken.registers r ≡ slice_index v.registers r
+  unfolding taken
+  taken_other r p q = get_or-set_other (slice_set v.registers 6 (frame_bytes f)) 2 r _ 0 p ∙ get_or-set_other v.registers 6 r (frame_bytes f) 0 q
+
+  -- what a name of a parameter holds
+  abbrev pub argument : List ℕ → ℕ
+  argument name = slice_index args (index_of (names_of f) name)
+
+  names_in : (w : View) → Stored s sp_in origin_in (slots f) frame_in (parameters f) 10 0 taken w → NamesIn s sp_in origin_in (slots f) frame_in (names_of f) argument (parameters f) w
+  names_in w stored = record {
+    in_slot = λ name among.
+      let k = index_of (names_of f) name in
+      let lt : k < parameters f = few.named name among in
+      let e : origin_in + k ≡ origin_in + (0 + k) = omega arith in
+      ap (slice_index w.stack) e ∙ stored k lt ∙ taken_other (10 + k) (omega arith) (omega arith) ∙ entry.arguments k (omega (arith, few.few_params));
+    before = few.named }
+
+  -- behind the body: the value goes to a0, the frame is given back, and the stub ends the run
+  after_body : (w : View) (word : ℕ) → Ready s sp_in w → slice_index w.registers 1 ≡ code_start → InSlot s sp_in origin_in (slots f) frame_in w (slots f - 1) word → HasAt s w.place (load_slot 10 (slots f - 1)) → HasAt s (w.place + 4) (move_sp Add (frame_bytes f)) → HasAt s (w.place + 4 + 4) (Jalr 0 1 0 ∷ []) → HasAt s 0 (OpImm Addi 7 0 0 ∷ Ecall ∷ []) → s.result ≡ returns.Comp comp.Int → Ends s 11 w (Returned (Some (Word word)))
+  unfolding sp_in
+  after_body w word ready back there loads gives returns stub int =
+      let k = slots f - 1 in
+      let lt : k < slots f = omega (arith, some_nodes f.body) in
+      let u4 : View = loaded_view s sp_in origin_in (slots f) frame_in w 10 k in
+      let load = load_leads_to s sp_in origin_in (slots f) frame_in w 9 k ready loads lt (omega arith) (omega arith) in
+      let base4 = slice_set w.registers 6 (near_address k sp_in) in
+      let count4 : length u4.registers ≡ 32 = length-set base4 10 _ ∙ length-set w.registers 6 (near_address k sp_in) ∙ ready.count in
+      let kept4 : (r : ℕ) → r ≢ 6 → r ≢ 10 → slice_index u4.registers r ≡ slice_index w.registers r =
+          λ r p q. get_or-set_other base4 10 r _ 0 q ∙ get_or-set_other w.registers 6 r (near_address k sp_in) 0 p in
+      let value4 : slice_index u4.registers 10 ≡ word = loaded_is s sp_in origin_in (slots f) frame_in w 10 k (omega (arith, ready.count)) ∙ there in
+      let sum : alu Add (held u4.registers 2) (frame_bytes f) ≡ s.base + room =
+          ap (λ a. add_word a (frame_bytes f)) (kept4 2 (omega arith) (omega arith) ∙ ready.sp_held)
+          ∙ add_small (s.base + (room - frame_bytes f)) (frame_bytes f) (omega (arith, s.short, entry.bytes, fits)) ∙ omega (arith, fits) in
+      let base5 = slice_set u4.registers 6 (frame_bytes f) in
+      let u5 : View = record { place = w.place + 4 + 4; registers = slice_set base5 2 (s.base + room); stack = w.stack } in
+      let give = move_leads s u4 Add (frame_bytes f) (s.base + room) (omega (arith, count4)) gives (omega (arith, few.few_slots)) sum (omega (arith, s.short, entry.bytes)) (omega arith) in
+      let count5 : length u5.registers ≡ 32 = length-set base5 2 (s.base + room) ∙ length-set u4.registers 6 (frame_bytes f) ∙ count4 in
+      let kept5 : (r : ℕ) → r ≢ 2 → r ≢ 6 → slice_index u5.registers r ≡ slice_index u4.registers r =
+          λ r p q. get_or-set_other base5 2 r (s.base + room) 0 p ∙ get_or-set_other u4.registers 6 r (frame_bytes f) 0 q in
+      let u6 : View = record { place = 0; registers = u5.registers; stack = w.stack } in
+      let back5 : held u5.registers 1 ≡ code_start = kept5 1 (omega arith) (omega arith) ∙ kept4 1 (omega arith) (omega arith) ∙ back in
+      let return = return_step s u5 (record { there = returns.parts.0; fits = (omega arith, omega arith, omega arith) }) back5 in
+      let u7 : View = with_set 7 (add_word 0 0) u6 in
+      let clear = addi_step s u6 7 0 0 (record { there = stub.parts.0; fits = (omega arith, omega arith, omega arith) }) (omega arith) (omega arith) in
+      let zero7 : held u7.registers 7 ≡ 0 = get_or-set_same u5.registers 7 (add_word 0 0) 0 (omega (arith, count5)) ∙ add_small 0 0 (omega arith) in
+      let value7 : held u7.registers 10 ≡ word = get_or-set_other u5.registers 7 10 (add_word 0 0) 0 (omega arith) ∙ kept5 10 (omega arith) (omega arith) ∙ value4 in
+      let ends = end_step s u7 word (record { there = stub.parts.1.0; fits = tt }) zero7 value7 int in
+      then_ends s 4 7 w u4 _ load (then_ends s 4 3 u4 u5 _ give (then_ends s 1 2 u5 u6 _ return (then_ends s 1 1 u6 u7 _ clear ends)))
+
+  taken_place : taken.place ≡ v.place + 4
+  unfolding taken
+  taken_place = refl
+
+  at_place : (p q : ℕ) (is : List Instr) → q ≡ p → HasAt s p is → HasAt s q is
+  at_place p q is e has = subst (λ n. HasAt s n is) (sym e) has
+
+  -- a function that fits the stack returns the word of its body
+  pub function_ends : HasAt s v.place (function_code f) → HasAt s 0 (OpImm Addi 7 0 0 ∷ Ecall ∷ []) → s.result ≡ returns.Comp comp.Int → NamesAmong (names_of f) f.body → WordsFit f.body → Ends s (length (function_code f) + 2) v (Returned (Some (Word (word_in argument f.body))))
+  function_ends has stub int among fit =
+      let code = function_at s v.place f has in
+      let p = parameters f in
+      let c2 = argument_code p 10 0 in
+      let c3 = expression_code (names_of f) p f.body in
+      let second = arguments_lead s sp_in origin_in (slots f) frame_in p 9 0 taken taken_ready (at_place (v.place + 4) taken.place c2 taken_place code.arguments) (omega arith) (omega arith) (omega (arith, few.few_params)) in
+      let w2 = second.0 in
+      let ready2 = still_ready s (length c2) (origin_in + 0) sp_in taken w2 second.1 taken_ready in
+      let third = expression_leads s sp_in origin_in (slots f) frame_in (names_of f) argument f.body p w2 ready2 (names_in w2 second.2) among fit (omega arith)
+          (at_place (v.place + 4 + length c2) w2.place c3 (omega (arith, second.1.place, taken_place)) code.body) in
+      let w3 = third.0 in
+      let ready3 = still_ready s (length c3) (origin_in + p) sp_in w2 w3 third.1 ready2 in
+      let place3 : w3.place ≡ v.place + 4 + length c2 + length c3 = omega (arith, second.1.place, third.1.place, taken_place) in
+      let back3 : slice_index w3.registers 1 ≡ code_start =
+          third.1.keeps.others 1 (inl (omega arith)) ∙ second.1.keeps.others 1 (inl (omega arith)) ∙ taken_other 1 (omega arith) (omega arith) ∙ entry.back in
+      let ends = after_body w3 (word_in argument f.body) ready3 back3 third.2
+          (at_place _ w3.place (load_slot 10 (slots f - 1)) place3 code.loads)
+          (at_place _ (w3.place + 4) (move_sp Add (frame_bytes f)) (ap (λ n. n + 4) place3) code.gives)
+          (at_place _ (w3.place + 4 + 4) (Jalr 0 1 0 ∷ []) (ap (λ n. n + 4 + 4) place3) code.returns)
+          stub int in
+      let count : 4 + (length c2 + (length c3 + 11)) ≡ length (function_code f) + 2 = omega (arith, length-function f) in
+      let end = Returned (Some (Word (word_in argument f.body))) in
+      subst (λ n. Ends s n v end) count
+      (then_ends s 4 (length c2 + (length c3 + 11)) v taken end (takes_frame code.takes)
+      (then_ends s (length c2) (length c3 + 11) taken w2 end second.1.leads
+      (then_ends s (length c3) 11 w2 w3 end third.1.leads ends)))
