@@ -6,3 +6,5 @@ pub mod Values
 pub mod Expressions
 pub mod Ends
 pub mod Functions
+pub mod Names
+pub mod Source

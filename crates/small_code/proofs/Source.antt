@@ -1,0 +1,2 @@
+-- The text's run.
+use Rattle.std.proofs.Common.{◌≡◌}
