@@ -8,3 +8,5 @@ pub mod Ends
 pub mod Functions
 pub mod Names
 pub mod Source
+pub mod Rows
+pub mod Whole

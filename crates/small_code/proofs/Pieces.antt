@@ -18,29 +18,29 @@ use Rattle.rv_machine.specs.Services.{StackOut}
 use Rattle.small_code.proofs.Steps.{Setting, View, Leads, Ends, Instruction, SetsRegister, AllWords, held, with_set, set_step, out_step, then_leads, then_ends}
 use Rattle.small_code.proofs.Instructions.{add_small, shl_small, addi_step, slli_step, op_step, load_step, store_step, with_stored, sets_op}
 
-abbrev pub Has : Setting → ℕ → List Instr → Type 0
-Has s place [] = Unit {0}
-Has s place (i ∷ is) = (slice_get s.image.code place ≡ Some (encoded i)) × Has s (place + 1) is
+abbrev pub Has : List ℕ → ℕ → List Instr → Type 0
+Has code place [] = Unit {0}
+Has code place (i ∷ is) = (slice_get code place ≡ Some (encoded i)) × Has code (place + 1) is
 
 -- The instructions stand at this place of the code.
 pub record HasAt (s : Setting) (place : ℕ) (is : List Instr) : Type 0 where
-  pub parts : Has s place is
+  pub parts : Has s.image.code place is
 
-front : (s : Setting) (place : ℕ) (a b : List Instr) → Has s place (a ++ b) → Has s place a
-front s place [] b h = tt
-front s place (i ∷ a) b h = (h.0, front s (place + 1) a b h.1)
+front : (code : List ℕ) (place : ℕ) (a b : List Instr) → Has code place (a ++ b) → Has code place a
+front code place [] b h = tt
+front code place (i ∷ a) b h = (h.0, front code (place + 1) a b h.1)
 
-back : (s : Setting) (place : ℕ) (a b : List Instr) → Has s place (a ++ b) → Has s (place + length a) b
-back s place [] b h = let e : place ≡ place + 0 = omega arith in subst (λ n. Has s n b) e h
-back s place (i ∷ a) b h =
+back : (code : List ℕ) (place : ℕ) (a b : List Instr) → Has code place (a ++ b) → Has code (place + length a) b
+back code place [] b h = let e : place ≡ place + 0 = omega arith in subst (λ n. Has code n b) e h
+back code place (i ∷ a) b h =
     let e : place + 1 + length a ≡ place + length (i ∷ a) = omega arith in
-    subst (λ n. Has s n b) e (back s (place + 1) a b h.1)
+    subst (λ n. Has code n b) e (back code (place + 1) a b h.1)
 
 pub has_front : (s : Setting) (place : ℕ) (a b : List Instr) → HasAt s place (a ++ b) → HasAt s place a
-has_front s place a b h = record { parts = front s place a b h.parts }
+has_front s place a b h = record { parts = front s.image.code place a b h.parts }
 
 pub has_back : (s : Setting) (place n : ℕ) (a b : List Instr) → length a ≡ n → HasAt s place (a ++ b) → HasAt s (place + n) b
-has_back s place n a b e h = record { parts = subst (λ n. Has s (place + n) b) e (back s place a b h.parts) }
+has_back s place n a b e h = record { parts = subst (λ n. Has s.image.code (place + n) b) e (back s.image.code place a b h.parts) }
 
 pub has_rest : (s : Setting) (place : ℕ) (i : Instr) (is : List Instr) → HasAt s place (i ∷ is) → HasAt s (place + 1) is
 has_rest s place i is h = record { parts = h.parts.1 }
