@@ -10,3 +10,5 @@ pub mod Names
 pub mod Source
 pub mod Rows
 pub mod Whole
+pub mod Start
+pub mod Correct

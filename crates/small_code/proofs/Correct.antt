@@ -1,0 +1,2 @@
+-- The image of a small file is correct.
+use Rattle.std.proofs.Common.{◌≡◌}
