@@ -1,33 +1,32 @@
 -- The image of a small file is correct.
-use Rattle.std.proofs.Common.{◌≡◌, ◌≢◌, ◌⊎◌, ℕ, zero, suc, ◌+◌, ◌-◌, ◌*◌, ◌^◌, ◌<◌, ◌≤◌, List, [], ◌∷◌, ◌++◌, length, map, slice_get, slice_index, slice_index_or, Option, Some, option_map, refl, sym, ap, ◌∙◌, subst, arith, inl, inr, ⊎_elim, Contains}
+use Rattle.std.proofs.Common.{◌≡◌, ◌⊎◌, ℕ, ◌+◌, ◌*◌, ◌<◌, ◌≤◌, List, [], ◌∷◌, ◌++◌, length, slice_index, Some, option_map, refl, sym, ap, ◌∙◌, subst, arith, inl, inr, ⊎_elim}
 use Rattle.std.proofs.lemmas.Bool.{cases_lt}
 use Rattle.std.proofs.lemmas.List.{length-map}
 use Rattle.std.proofs.lemmas.Option.{slice_get_within, slice_get-map, get_or_from_slice_get}
-use Rattle.bs_words.specs.declared.types.Comp.TheVariants as comp
-use Rattle.bs_words.specs.declared.types.Ret.TheVariants as returns
 use Rattle.bs_words.specs.declared.values.Obs.TheVariants as obs
 use Rattle.cmm_meaning.specs.Run.{Outcome, More, Run, cmm_run}
 use Rattle.cmm_meaning.specs.Run as text
 use Rattle.cmm_tree.specs.Small.{IsSmall, IsSmallFunction, nodes}
 use Rattle.cmm_tree.specs.Tree.{FunctionTree, FileTree, Parameter, functions, names_of, comps_of, data_end}
-use Rattle.correctness.specs.Correct.{EndsAlike, Alike, IsGiven, Forwards, Backwards, Accounted, IsPrefix, Correct, IsCorrect}
+use Rattle.correctness.specs.Correct.{EndsAlike, Alike, Forwards, Backwards, Accounted, IsPrefix, IsCorrect}
 use Rattle.correctness.specs.Setting.{layout_of, IsRoom, Entered}
 use Rattle.image_form.specs.Image.{AreTables}
-use Rattle.image_form.specs.Tables.{Tables, Func}
+use Rattle.image_form.specs.Tables.{Func}
 use Rattle.rv_isa.specs.Encoding.{encoded}
 use Rattle.rv_isa.specs.declared.instr.AluImmOp.TheVariants.{Addi}
 use Rattle.rv_isa.specs.declared.instr.Instr.TheVariants.{OpImm, Ecall}
-use Rattle.rv_machine.specs.Run.{Schedule, Seen, after, begun, machine_run}
+use Rattle.rv_machine.specs.Start.{start}
+use Rattle.rv_machine.specs.Run.{Schedule, Seen, seen, after, begun, machine_run}
 use Rattle.rv_machine.specs.Services.{End, Running, Returned, StackOut, Over}
-use Rattle.small_code.specs.Code.{function_code, frame_bytes, index_of, parameters, slots}
-use Rattle.small_code.specs.Compiled.{stub, function_words, compiled}
-use Rattle.small_code.proofs.Functions.{FewSlots, function_ends, function_out}
+use Rattle.small_code.specs.Code.{function_code, frame_bytes, index_of}
+use Rattle.small_code.specs.Compiled.{stub, compiled}
+use Rattle.small_code.proofs.Functions.{Entry, FewSlots, function_ends, function_out}
 use Rattle.small_code.proofs.Names.{index_among}
 use Rattle.small_code.proofs.Pieces.{HasAt}
 use Rattle.small_code.proofs.Rows.{AtRow, at_row, are_rows}
 use Rattle.small_code.proofs.Source.{Tells, run_returns, run_goes_on, int_result}
 use Rattle.small_code.proofs.Start.{fit_words, fit_length, setting, first_view, first_stands, first_entry}
-use Rattle.small_code.proofs.Steps.{Setting, Ends}
+use Rattle.small_code.proofs.Steps.{Setting, View, Stands, Ends}
 use Rattle.small_code.proofs.Values.{word_in}
 use Rattle.small_code.proofs.Whole.{Comes, comes_at}
 
@@ -133,5 +132,62 @@ module _ (file : FileTree) (small : IsSmall file) (tables : AreTables (compiled 
     ends = λ n enough. run_returns file (layout_of (compiled file)) entry args answers f entered.of_file count is_small.params_differ is_small.operators is_small.bound n enough;
     goes_on = λ n few. run_goes_on file (layout_of (compiled file)) entry args answers f entered.of_file count is_small.params_differ is_small.operators is_small.bound n few })
 
-  during : Setting
+  abbrev during : Setting
   during = setting (compiled file) tables row args answers schedule room heap is_room is_heap
+
+  abbrev view : View
+  view = first_view (compiled file) tables row args answers schedule room heap is_room is_heap code_at.place
+
+  abbrev machine : ℕ → Seen
+  machine m = machine_run (compiled file) row args answers room heap schedule m
+
+  begins_so : Stands during (start (compiled file) row args room heap) view
+  begins_so = first_stands (compiled file) tables row args answers schedule room heap is_room is_heap code_at.place code_at.offset (fit_words (data_end file) (comps_of f) args entered.arguments)
+
+  entry_so : Entry during room args view
+  entry_so = first_entry (compiled file) tables row args answers schedule room heap is_room is_heap code_at.place
+
+  machine_ends : (total : ℕ) (end : End) → total ≤ length (compiled file).code → Ends during total view end → MachineRun machine (length (compiled file).code) end
+  machine_ends total end within ends =
+      let over : after schedule total (begun (compiled file) row args answers room heap) ≡ Over [] end = ends.by (start (compiled file) row args room heap) begins_so total 0 (omega arith) in
+      record {
+        total = total; within = within; there = ap seen over; begins = refl;
+        comes = λ m. comes_at schedule total m (begun (compiled file) row args answers room heap) end over }
+
+  stub_at : HasAt during 0 (OpImm Addi 7 0 0 ∷ Ecall ∷ [])
+  stub_at = record { parts = (ap Some (sym clear_word), (ap Some (sym service_word), tt)) }
+
+  function_here : HasAt during code_at.place (function_code f)
+  function_here = record { parts = code_at.has }
+
+  runs_fit : frame_bytes f ≤ room → MachineRun machine (length (compiled file).code) (Returned (Some (obs.Word word)))
+  unfolding word
+  runs_fit fits =
+      machine_ends (length (function_code f) + 2) _ (omega (arith, code_at.within, code_at.behind))
+      (function_ends during room f args view entry_so few fits function_here stub_at
+        (code_at.result ∙ int_result f is_small.components is_small.operators is_small.bound) is_small.bound is_small.words_fit)
+
+  runs_out : room < frame_bytes f → MachineRun machine (length (compiled file).code) StackOut
+  runs_out much =
+      machine_ends 4 StackOut (omega (arith, code_at.within, code_at.behind)) (function_out during room f args view entry_so few function_here much)
+
+  forwards_so : Forwards (cmm_run file (layout_of (compiled file)) entry args answers) machine room heap (length (compiled file).code)
+  forwards_so =
+      ⊎_elim (λ much. forwards_out _ machine room heap (length (compiled file).code) (nodes f.body) word (frame_bytes f) text_run much)
+      (λ fits. forwards_fits _ machine room heap (length (compiled file).code) (nodes f.body) word (frame_bytes f) text_run (runs_fit fits))
+      (cases_lt room (frame_bytes f))
+
+  backwards_so : Backwards (cmm_run file (layout_of (compiled file)) entry args answers) machine room heap
+  backwards_so =
+      ⊎_elim (λ much. backwards_out _ machine room heap (length (compiled file).code) (nodes f.body) word (frame_bytes f) text_run much (runs_out much))
+      (λ fits. backwards_fits _ machine room heap (length (compiled file).code) (nodes f.body) word (frame_bytes f) text_run (runs_fit fits))
+      (cases_lt room (frame_bytes f))
+
+-- ---- the whole
+
+-- The image of a small file is correct, wherever it is an image.
+pub compiled-correct : (file : FileTree) → IsSmall file → AreTables (compiled file) → IsCorrect file (compiled file)
+compiled-correct file small tables = λ room heap is_room is_heap. record {
+  rows = are_rows 16 (functions file);
+  forwards = λ entry f row args answers schedule entered. forwards_so file small tables room heap is_room is_heap entry f row args answers schedule entered;
+  backwards = λ entry f row args answers schedule entered. backwards_so file small tables room heap is_room is_heap entry f row args answers schedule entered }

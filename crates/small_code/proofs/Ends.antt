@@ -1,18 +1,17 @@
 -- How a function returns to the stub, and how the run ends there.
-use Rattle.std.proofs.Common.{◌≡◌, ◌≢◌, ℕ, zero, suc, ◌+◌, ◌-◌, ◌*◌, ◌/◌, ◌%◌, ◌^◌, ◌<◌, ◌≤◌, List, [], ◌∷◌, slice_index, slice_set, Option, Some, refl, sym, ap, ap₂, ◌∙◌, subst, arith}
+use Rattle.std.proofs.Common.{◌≡◌, ℕ, suc, ◌+◌, ◌-◌, ◌%◌, [], Some, refl, ap, ◌∙◌, arith}
 use Rattle.bs_words.specs.Word.{add_word}
 use Rattle.bs_words.specs.declared.types.Comp.TheVariants as comp
-use Rattle.bs_words.specs.declared.types.Ret.{Ret}
 use Rattle.bs_words.specs.declared.types.Ret.TheVariants as returns
 use Rattle.bs_words.specs.declared.values.Obs.TheVariants.{Word}
 use Rattle.rv_isa.specs.Immediate.{imm_i}
 use Rattle.rv_isa.specs.declared.instr.Instr.TheVariants.{Jalr, Ecall}
-use Rattle.rv_machine.specs.Hart.{Hart, register, sets, jumps, goes_to, executed}
+use Rattle.rv_machine.specs.Hart.{register, sets, jumps, goes_to, executed}
 use Rattle.rv_machine.specs.Memory.{code_start}
 use Rattle.rv_machine.specs.Run.{perhaps_asked, after_next, after}
-use Rattle.rv_machine.specs.Services.{End, Over, Returned, Machine, served, value_returned}
+use Rattle.rv_machine.specs.Services.{Over, Returned, Machine, served, value_returned}
 use Rattle.small_code.proofs.Instructions.{add_small}
-use Rattle.small_code.proofs.Steps.{Setting, View, Stands, Leads, Ends, Instruction, held, register_held, one_step, perhaps_stands, at}
+use Rattle.small_code.proofs.Steps.{Setting, View, Leads, Ends, Instruction, held, register_held, one_step, perhaps_stands, at}
 
 -- a return to the stub
 pub return_step : (s : Setting) (v : View) → Instruction s v.place (Jalr 0 1 0) → held v.registers 1 ≡ code_start → Leads s 1 v (record v { place = 0 })

@@ -1,19 +1,17 @@
 -- What the code of an expression leads to: its word stands in its last slot, and the slots before its
 -- own are kept.
-use Rattle.std.proofs.Common.{◌≡◌, ◌≢◌, ◌⊎◌, ℕ, zero, suc, ◌+◌, ◌-◌, ◌*◌, ◌/◌, ◌%◌, ◌^◌, ◌<◌, ◌≤◌, List, [], ◌∷◌, ◌++◌, length, slice_get, slice_index, slice_set, Some, refl, sym, ap, ap₂, ◌∙◌, subst, arith, inl, inr, get_or-set_same, get_or-set_other, length-set, length-append, Contains}
+use Rattle.std.proofs.Common.{◌≡◌, ◌≢◌, ◌⊎◌, ℕ, suc, ◌+◌, ◌-◌, ◌*◌, ◌^◌, ◌<◌, ◌≤◌, List, ◌∷◌, ◌++◌, length, slice_index, slice_set, refl, sym, ap, ap₂, ◌∙◌, subst, arith, inl, get_or-set_same, get_or-set_other, length-set, length-append, Contains}
 use Rattle.bs_words.specs.declared.operators.IntOp.{IntOp}
 use Rattle.cmm_tree.specs.Small.{NamesAmong, WordsFit, nodes}
 use Rattle.cmm_tree.specs.Tree.{Expression, Integer, Name, Operator}
-use Rattle.rv_isa.specs.Encoding.{encoded}
-use Rattle.rv_isa.specs.declared.instr.AluOp.{AluOp}
 use Rattle.rv_isa.specs.declared.instr.Instr.{Instr}
 use Rattle.rv_isa.specs.declared.instr.Instr.TheVariants.{Op}
 use Rattle.rv_machine.specs.Arithmetic.{alu}
 use Rattle.small_code.specs.Code.{constant, load_slot, store_slot, expression_code, index_of, row_of, t0, t2}
 use Rattle.small_code.proofs.Values.{word_in, row-word, some_nodes}
-use Rattle.small_code.proofs.Steps.{Setting, View, Leads, AllWords, held, then_leads}
+use Rattle.small_code.proofs.Steps.{Setting, View, Leads, then_leads}
 use Rattle.small_code.proofs.Instructions.{op_step}
-use Rattle.small_code.proofs.Pieces.{HasAt, has_front, has_back, has_rest, ends_at, holding, constant_leads, load_leads, store_leads, near_address, length-constant, length-load, length-store}
+use Rattle.small_code.proofs.Pieces.{HasAt, has_front, has_back, has_rest, holding, constant_leads, load_leads, store_leads, near_address, length-constant, length-load, length-store}
 
 -- The registers but for t0, t1 and t2 are kept.
 pub record Keeps (before now : List ℕ) : Type 0 where

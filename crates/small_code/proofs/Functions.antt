@@ -1,11 +1,11 @@
 -- What the code of a function leads to.
-use Rattle.std.proofs.Common.{◌≡◌, ◌≢◌, ℕ, zero, suc, ◌+◌, ◌-◌, ◌*◌, ◌/◌, ◌%◌, ◌^◌, ◌<◌, ◌≤◌, List, [], ◌∷◌, ◌++◌, length, slice_index, slice_set, Option, Some, refl, sym, ap, ap₂, ◌∙◌, subst, arith, inl, inr, get_or-set_same, get_or-set_other, length-set, length-append, Contains}
+use Rattle.std.proofs.Common.{◌≡◌, ◌≢◌, ℕ, zero, suc, ◌+◌, ◌-◌, ◌*◌, ◌/◌, ◌%◌, ◌^◌, ◌<◌, ◌≤◌, List, [], ◌∷◌, ◌++◌, length, slice_index, slice_set, Some, refl, sym, ap, ◌∙◌, subst, arith, inl, inr, get_or-set_same, get_or-set_other, length-set, length-append, Contains}
 use Rattle.bs_words.specs.Word.{add_word, sub_word}
 use Rattle.bs_words.specs.declared.types.Comp.TheVariants as comp
 use Rattle.bs_words.specs.declared.types.Ret.TheVariants as returns
 use Rattle.bs_words.specs.declared.values.Obs.TheVariants.{Word}
-use Rattle.cmm_tree.specs.Small.{NamesAmong, WordsFit, nodes}
-use Rattle.cmm_tree.specs.Tree.{FunctionTree, Expression, names_of}
+use Rattle.cmm_tree.specs.Small.{NamesAmong, WordsFit}
+use Rattle.cmm_tree.specs.Tree.{FunctionTree, names_of}
 use Rattle.rv_isa.specs.declared.instr.AluImmOp.TheVariants.{Addi}
 use Rattle.rv_isa.specs.declared.instr.AluOp.TheVariants.{Add, Sub}
 use Rattle.rv_isa.specs.declared.instr.Instr.{Instr}
@@ -15,10 +15,10 @@ use Rattle.rv_machine.specs.Memory.{code_start}
 use Rattle.rv_machine.specs.Services.{StackOut, Returned}
 use Rattle.small_code.specs.Code.{load_slot, store_slot, move_sp, expression_code, argument_code, function_code, parameters, slots, frame_bytes, index_of}
 use Rattle.small_code.proofs.Values.{word_in, some_nodes}
-use Rattle.small_code.proofs.Steps.{Setting, View, Leads, Ends, held, then_leads, then_ends, with_set, stays}
+use Rattle.small_code.proofs.Steps.{Setting, View, Leads, Ends, held, then_ends, with_set, stays}
 use Rattle.small_code.proofs.Instructions.{add_small, addi_step}
 use Rattle.small_code.proofs.Pieces.{HasAt, has_front, has_back, near_address, move_leads, move_out, length-load, length-move, length-store}
-use Rattle.small_code.proofs.Expressions.{Keeps, keeps_all, Reaches, then_reaches, Frame, Ready, still_ready, InSlot, NamesIn, loaded_view, stored_view, load_leads_to, store_reaches, stored_is, loaded_is, expression_leads}
+use Rattle.small_code.proofs.Expressions.{keeps_all, Reaches, then_reaches, Frame, Ready, still_ready, InSlot, NamesIn, loaded_view, stored_view, load_leads_to, store_reaches, stored_is, loaded_is, expression_leads}
 use Rattle.small_code.proofs.Ends.{return_step, end_step}
 
 -- a difference that does not wrap

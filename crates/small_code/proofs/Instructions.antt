@@ -1,22 +1,21 @@
 -- What each instruction of the code of small functions leads to.
-use Rattle.std.proofs.Common.{◌≡◌, ◌≢◌, ℕ, zero, suc, ◌+◌, ◌-◌, ◌*◌, ◌/◌, ◌%◌, ◌^◌, ◌<◌, ◌≤◌, List, [], ◌∷◌, slice_index, slice_set, Option, Some, refl, sym, ap, ap₂, ◌∙◌, arith, mod-eq_of_lt, inl}
+use Rattle.std.proofs.Common.{◌≡◌, ◌≢◌, ℕ, suc, ◌+◌, ◌*◌, ◌^◌, ◌<◌, ◌≤◌, ◌∷◌, slice_index, slice_set, Some, ap, ap₂, ◌∙◌, arith, mod-eq_of_lt, inl}
 use Rattle.std.proofs.lemmas.Bool.{lt-ltb, cond-true}
 use Rattle.bs_words.specs.Word.{add_word, shl_word}
 use Rattle.bs_words.proofs.Below.{add_word-below, shl_word-below}
 use Rattle.rv_isa.specs.Immediate.{imm_i}
 use Rattle.rv_isa.specs.declared.instr.AluOp.{AluOp}
 use Rattle.rv_isa.specs.declared.instr.AluImmOp.TheVariants.{Addi}
-use Rattle.rv_isa.specs.declared.instr.Instr.{Instr}
 use Rattle.rv_isa.specs.declared.instr.Instr.TheVariants.{Load, Store, OpImm, Shift, Op}
 use Rattle.rv_isa.specs.declared.instr.LoadWidth.TheVariants.{Ld}
 use Rattle.rv_isa.specs.declared.instr.ShiftOp.TheVariants.{Slli}
 use Rattle.rv_isa.specs.declared.instr.StoreWidth.TheVariants.{Sd}
 use Rattle.rv_machine.specs.Arithmetic.{alu}
-use Rattle.rv_machine.specs.Hart.{Hart, Next, Retired, register, sets, executed, loads, stores}
-use Rattle.rv_machine.specs.Memory.{Region, code_region, code_start, loaded, stored}
+use Rattle.rv_machine.specs.Hart.{register, sets, executed, loads, stores}
+use Rattle.rv_machine.specs.Memory.{code_region, code_start, loaded, stored}
 use Rattle.rv_machine.specs.Run.{perhaps_asked, after_next, after}
-use Rattle.small_code.proofs.Memory.{HasStack, loaded_slot, stored_slot}
-use Rattle.small_code.proofs.Steps.{Setting, View, Stands, Leads, Instruction, AllWords, SetsRegister, Passes, held, register_held, held_word, set_words, with_set, set_step, out_step, one_step, perhaps_stands, at}
+use Rattle.small_code.proofs.Memory.{loaded_slot, stored_slot}
+use Rattle.small_code.proofs.Steps.{Setting, View, Leads, Instruction, AllWords, SetsRegister, held, register_held, held_word, set_words, with_set, set_step, one_step, perhaps_stands, at}
 
 -- an immediate whose top bit is clear is itself
 pub imm_small : (imm : ℕ) → imm < 2048 → imm_i imm ≡ imm

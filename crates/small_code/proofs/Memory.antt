@@ -1,9 +1,9 @@
 -- The machine's memory as the code of small functions uses it: the stack is the last region, and every
 -- other one ends below it.
-use Rattle.std.proofs.Common.{◌≡◌, ℕ, zero, suc, ◌+◌, ◌-◌, ◌*◌, ◌/◌, ◌%◌, ◌^◌, ◌<◌, ◌≤◌, Bool, true, false, cond, List, [], ◌∷◌, ◌++◌, length, slice_index, slice_set, Option, Some, None, option_map, refl, sym, ap, ◌∙◌, subst, arith}
+use Rattle.std.proofs.Common.{◌≡◌, ℕ, ◌+◌, ◌-◌, ◌*◌, ◌/◌, ◌%◌, ◌^◌, ◌<◌, ◌≤◌, Bool, true, false, cond, List, [], ◌∷◌, ◌++◌, slice_index, slice_set, Option, Some, None, option_map, refl, sym, ap, ◌∙◌, subst, arith}
 use Rattle.std.specs.List.{AllByRecursion}
 use Rattle.std.proofs.lemmas.Bool.{le-leb, lt-leb, eq-eqb, and_from, and_left, and_right, cond-true, cond-false}
-use Rattle.rv_machine.specs.Memory.{Region, is_inside, index_in, byte_in, part, replaced, with_written, read, written, loaded, stored}
+use Rattle.rv_machine.specs.Memory.{Region, is_inside, byte_in, part, replaced, with_written, read, written, loaded, stored}
 use Rattle.rv_machine.specs.Run.{memory_or}
 
 -- the first address behind a region

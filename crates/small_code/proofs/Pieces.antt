@@ -1,22 +1,20 @@
 -- What the pieces of the code of small functions lead to.
-use Rattle.std.proofs.Common.{◌≡◌, ◌≢◌, ℕ, zero, suc, ◌+◌, ◌-◌, ◌*◌, ◌/◌, ◌%◌, ◌^◌, ◌<◌, ◌≤◌, List, [], ◌∷◌, ◌++◌, length, slice_get, slice_index, slice_set, Some, refl, sym, ap, ap₂, ◌∙◌, subst, arith, inl, inr, get_or-set_same, get_or-set_other, length-set, set-set}
+use Rattle.std.proofs.Common.{◌≡◌, ◌≢◌, ℕ, zero, suc, ◌+◌, ◌*◌, ◌/◌, ◌%◌, ◌^◌, ◌<◌, ◌≤◌, List, [], ◌∷◌, ◌++◌, length, slice_get, slice_index, slice_set, Some, refl, sym, ap, ap₂, ◌∙◌, subst, arith, inr, get_or-set_same, get_or-set_other, set-set}
 use Rattle.bs_words.specs.Word.{add_word, shl_word}
-use Rattle.rv_isa.specs.Encoding.{InstrFits, encoded}
+use Rattle.rv_isa.specs.Encoding.{encoded}
 use Rattle.rv_isa.specs.declared.instr.AluOp.{AluOp}
-use Rattle.rv_isa.specs.declared.instr.AluOp.TheVariants.{Add, Sub}
+use Rattle.rv_isa.specs.declared.instr.AluOp.TheVariants.{Add}
 use Rattle.rv_isa.specs.declared.instr.AluImmOp.TheVariants.{Addi}
 use Rattle.rv_isa.specs.declared.instr.Instr.{Instr}
-use Rattle.rv_isa.specs.declared.instr.Instr.TheVariants.{Load, Store, OpImm, Shift, Op}
-use Rattle.rv_isa.specs.declared.instr.LoadWidth.TheVariants.{Ld}
+use Rattle.rv_isa.specs.declared.instr.Instr.TheVariants.{OpImm, Shift, Op}
 use Rattle.rv_isa.specs.declared.instr.ShiftOp.TheVariants.{Slli}
-use Rattle.rv_isa.specs.declared.instr.StoreWidth.TheVariants.{Sd}
 use Rattle.bs_words.proofs.Below.{add_word-below}
 use Rattle.rv_machine.specs.Hart.{with_register}
 use Rattle.small_code.specs.Code.{eleven_more, constant, near_slot, load_slot, store_slot, move_sp}
 use Rattle.rv_machine.specs.Arithmetic.{alu}
 use Rattle.rv_machine.specs.Services.{StackOut}
-use Rattle.small_code.proofs.Steps.{Setting, View, Leads, Ends, Instruction, SetsRegister, AllWords, held, with_set, set_step, out_step, then_leads, then_ends}
-use Rattle.small_code.proofs.Instructions.{add_small, shl_small, addi_step, slli_step, op_step, load_step, store_step, with_stored, sets_op}
+use Rattle.small_code.proofs.Steps.{Setting, View, Leads, Ends, Instruction, SetsRegister, held, with_set, set_step, out_step, then_leads, then_ends}
+use Rattle.small_code.proofs.Instructions.{add_small, shl_small, addi_step, slli_step, op_step, load_step, store_step, sets_op}
 
 abbrev pub Has : List ℕ → ℕ → List Instr → Type 0
 Has code place [] = Unit {0}

@@ -1,11 +1,11 @@
 -- The rows of an image of small functions, and the code at them.
-use Rattle.std.proofs.Common.{◌≡◌, ◌≢◌, ℕ, zero, suc, ◌+◌, ◌*◌, ◌≤◌, List, [], ◌∷◌, ◌++◌, length, map, slice_get, Option, Some, None, refl, sym, ap, ◌∙◌, subst, arith, length-append, append_assoc}
+use Rattle.std.proofs.Common.{◌≡◌, ℕ, zero, suc, ◌+◌, ◌*◌, ◌≤◌, List, [], ◌∷◌, ◌++◌, length, map, slice_get, Some, refl, ap, ◌∙◌, subst, arith, length-append, append_assoc}
 use Rattle.std.specs.List.{flat_map}
 use Rattle.std.proofs.lemmas.List.{length-map, get_or_at}
 use Rattle.std.proofs.lemmas.Option.{slice_get-get_or}
 use Rattle.cmm_tree.specs.Tree.{FunctionTree}
 use Rattle.cmm_tree.specs.Types.{body_type, result_of}
-use Rattle.correctness.specs.Setting.{IsRowOf, AreRowsOf}
+use Rattle.correctness.specs.Setting.{AreRowsOf}
 use Rattle.image_form.specs.Tables.{Func}
 use Rattle.rv_isa.specs.Encoding.{encoded}
 use Rattle.rv_isa.specs.declared.instr.Instr.{Instr}

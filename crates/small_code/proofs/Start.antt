@@ -1,14 +1,12 @@
 -- The state in which a run of a small file's image begins.
-use Rattle.std.proofs.Common.{◌≡◌, ◌≢◌, ℕ, zero, suc, ◌+◌, ◌-◌, ◌*◌, ◌/◌, ◌%◌, ◌^◌, ◌<◌, ◌≤◌, List, [], ◌∷◌, ◌++◌, length, replicate, map, slice_index, Option, Some, refl, sym, ap, ◌∙◌, subst, arith, length-append}
+use Rattle.std.proofs.Common.{◌≡◌, ℕ, zero, suc, ◌+◌, ◌-◌, ◌*◌, ◌/◌, ◌%◌, ◌^◌, ◌<◌, ◌≤◌, List, [], ◌∷◌, ◌++◌, length, replicate, slice_index, refl, ap, ◌∙◌, arith, length-append}
 use Rattle.std.specs.List.{AllByRecursion}
 use Rattle.std.proofs.lemmas.List.{length-replicate, get_or_append_left}
 use Rattle.bs_words.specs.declared.types.Comp.{Comp}
-use Rattle.bs_words.specs.declared.types.Comp.TheVariants as comp
-use Rattle.correctness.specs.Setting.{IsRoom, AreWords, FitParameters}
+use Rattle.correctness.specs.Setting.{IsRoom, FitParameters}
 use Rattle.image_form.specs.Tables.{Tables, Func}
 use Rattle.image_form.specs.Image.{AreTables}
-use Rattle.rv_machine.specs.Hart.{Hart}
-use Rattle.rv_machine.specs.Memory.{Region, words_of_bytes, code_region, code_start}
+use Rattle.rv_machine.specs.Memory.{code_region, code_start}
 use Rattle.rv_machine.specs.Observation.{young_start, young_top}
 use Rattle.rv_machine.specs.Run.{Schedule}
 use Rattle.rv_machine.specs.Services.{filler}

@@ -1,18 +1,16 @@
 -- How the machine goes on from an instruction that stands at its place, under every schedule.
-use Rattle.std.proofs.Common.{◌≡◌, ◌≢◌, ℕ, zero, suc, ◌+◌, ◌-◌, ◌*◌, ◌/◌, ◌%◌, ◌^◌, ◌<◌, ◌≤◌, Bool, true, false, cond, ◌&&◌, List, [], ◌∷◌, ◌++◌, length, slice_get, slice_index, slice_set, Option, Some, None, refl, sym, ap, ◌∙◌, subst, arith, get_or-set_same, get_or-set_other, length-set, nat_lt, ◌==◌, length-append}
-use Rattle.std.proofs.lemmas.Bool.{le-leb, lt-leb, le-ltb, lt-ltb, eq-eqb, ne_eqb, and_from, and_left, and_right, cond-true, cond-false, cases_eq, cases_lt}
-use Rattle.std.proofs.Common.{⊎_elim, ◌⊎◌, inl, inr}
+use Rattle.std.proofs.Common.{◌≡◌, ◌≢◌, ℕ, zero, suc, ◌+◌, ◌-◌, ◌*◌, ◌/◌, ◌%◌, ◌^◌, ◌<◌, ◌≤◌, Bool, true, false, cond, ◌&&◌, List, [], ◌∷◌, slice_get, slice_index, slice_set, Some, refl, sym, ap, ◌∙◌, subst, arith, nat_lt, ◌==◌}
+use Rattle.std.proofs.lemmas.Bool.{le-leb, le-ltb, lt-ltb, eq-eqb, ne_eqb, and_from, and_left, and_right, cond-true, cond-false}
+use Rattle.std.proofs.Common.{◌⊎◌, inl, inr}
 use Rattle.bs_words.specs.declared.types.Ret.{Ret}
 use Rattle.image_form.specs.Tables.{Tables}
 use Rattle.rv_isa.specs.Encoding.{InstrFits, encoded}
-use Rattle.rv_isa.specs.Decoding.{decoded}
 use Rattle.rv_isa.specs.declared.instr.Instr.{Instr}
 use Rattle.rv_isa.proofs.RoundTrip.{decoded-encoded}
-use Rattle.rv_machine.specs.Hart.{Hart, Next, Retired, Service, register, with_register, goes_to, sets, executed, decoded_next, fetched, fetch, hart}
-use Rattle.rv_machine.specs.Hart as next
+use Rattle.rv_machine.specs.Hart.{Hart, register, with_register, sets, executed, decoded_next, fetched, fetch, hart}
 use Rattle.rv_machine.specs.Memory.{code_region, code_start}
-use Rattle.rv_machine.specs.Run.{Schedule, is_among, asked, perhaps_asked, after_next, one, after}
-use Rattle.rv_machine.specs.Services.{End, Machine, Now, Going, Over, StackOut}
+use Rattle.rv_machine.specs.Run.{Schedule, is_among, asked, perhaps_asked, after_next, after}
+use Rattle.rv_machine.specs.Services.{End, Machine, Going, Over, StackOut}
 use Rattle.rv_machine.specs.Start.{domain_start, limit_asked}
 use Rattle.small_code.proofs.Memory.{HasStack, past, memory_asked}
 

@@ -1,5 +1,5 @@
 -- The word that an expression of words has.
-use Rattle.std.proofs.Common.{◌≡◌, ◌≢◌, ℕ, zero, suc, ◌+◌, ◌-◌, ◌*◌, ◌^◌, ◌<◌, ◌≤◌, List, [], ◌∷◌, refl, arith, bit_and}
+use Rattle.std.proofs.Common.{ℕ, ◌^◌, ◌<◌, List, arith}
 use Rattle.std.proofs.lemmas.Nat.{and_le_l}
 use Rattle.bs_words.proofs.Below.{add_word-below, sub_word-below}
 use Rattle.bs_words.specs.declared.operators.IntOp.{IntOp}

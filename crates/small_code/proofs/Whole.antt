@@ -1,5 +1,5 @@
 -- Whole runs: a run that is over stays over, and its external calls only grow.
-use Rattle.std.proofs.Common.{◌≡◌, ◌≢◌, ◌⊎◌, ℕ, zero, suc, ◌+◌, ◌-◌, ◌<◌, ◌≤◌, Bool, true, false, cond, List, [], ◌∷◌, ◌++◌, length, Option, Some, None, slice_get, refl, sym, ap, ◌∙◌, subst, arith, inl, inr, append_assoc, append-nil, length-append}
+use Rattle.std.proofs.Common.{◌≡◌, ◌⊎◌, ℕ, zero, suc, ◌+◌, ◌-◌, ◌<◌, ◌≤◌, List, [], ◌∷◌, ◌++◌, Option, Some, None, slice_get, refl, sym, ap, ◌∙◌, arith, inl, inr, append_assoc, append-nil}
 use Rattle.std.proofs.lemmas.Bool.{cases_lt}
 use Rattle.bs_words.specs.Observed.{Made}
 use Rattle.bs_words.specs.declared.types.Ret.{Ret}
@@ -9,7 +9,7 @@ use Rattle.image_form.specs.Tables.{Ext}
 use Rattle.rv_machine.specs.Hart.{Hart, Next, Retired, Service, hart, register}
 use Rattle.rv_machine.specs.Hart as next
 use Rattle.rv_machine.specs.Run.{Schedule, Seen, perhaps_asked, after_next, one, after, seen}
-use Rattle.rv_machine.specs.Services.{End, Running, Machine, Now, Going, Over, called, answered, call_made, external, served, service}
+use Rattle.rv_machine.specs.Services.{End, Running, Machine, Now, Going, Over, answered, call_made, external, served}
 
 pub over_stays : (schedule : Schedule) (k : ℕ) (calls : List Made) (end : End) → after schedule k (Over calls end) ≡ Over calls end
 over_stays schedule zero calls end = refl
