@@ -189,6 +189,34 @@ module _ (s : Setting) (sp origin total : ℕ) (frame : Frame s sp origin total)
   at_place : (p q : ℕ) (is : List Instr) → q ≡ p → HasAt s p is → HasAt s q is
   at_place p q is e has = subst (λ n. HasAt s n is) (sym e) has
 
+  -- an operator's code is those of its operands, and 13 instructions
+  length-operator : (names : List (List ℕ)) (at : ℕ) (op : IntOp) (left right : Expression) (next : ℕ) → length (expression_code names next right) + (length (expression_code names (next + nodes right) left) + 13) ≡ length (expression_code names next (Operator at op left right))
+  length-operator names at op left right next =
+      let cr = expression_code names next right in
+      let cl = expression_code names (next + nodes right) left in
+      let a = next + nodes right + nodes left - 1 in
+      let b = next + nodes right - 1 in
+      let k = next + nodes right + nodes left in
+      let last : List Instr = Op (row_of op) t0 t0 t2 ∷ store_slot t0 k in
+      omega (arith, length-append cr (cl ++ (load_slot t0 a ++ (load_slot t2 b ++ last))), length-append cl (load_slot t0 a ++ (load_slot t2 b ++ last)), length-append (load_slot t0 a) (load_slot t2 b ++ last), length-append (load_slot t2 b) last, length-load t0 a, length-load t2 b, length-store t0 k)
+
+  -- the views behind the two operands and behind the whole
+  operator_ends : (names : List (List ℕ)) (holds : List ℕ → ℕ) (at : ℕ) (op : IntOp) (left right : Expression) (next : ℕ) (v w1 w2 w3 : View) → Reaches s (length (expression_code names next right)) (origin + next) v w1 → Reaches s (length (expression_code names (next + nodes right) left)) (origin + (next + nodes right)) w1 w2 → Reaches s 13 (origin + (next + nodes right + nodes left)) w2 w3 → InSlot w1 (next + nodes right - 1) (word_in holds right) → InSlot w2 (next + nodes right + nodes left - 1) (word_in holds left) → InSlot w3 (next + nodes right + nodes left) (alu (row_of op) (slice_index w2.stack (origin + (next + nodes right + nodes left - 1))) (slice_index w2.stack (origin + (next + nodes right - 1)))) → Evaluates names holds (Operator at op left right) next v
+  operator_ends names holds at op left right next v w1 w2 w3 first second third right_word left_word word =
+      let n1 = length (expression_code names next right) in
+      let n2 = length (expression_code names (next + nodes right) left) in
+      let middle = origin + (next + nodes right) in
+      let k = next + nodes right + nodes left in
+      let right_kept : InSlot w2 (next + nodes right - 1) (word_in holds right) =
+          second.below (origin + (next + nodes right - 1)) (omega (arith, some_nodes right)) ∙ right_word in
+      let value : InSlot w3 k (word_in holds (Operator at op left right)) = word ∙ ap₂ (alu (row_of op)) left_word right_kept in
+      let whole = then_reaches s n1 (n2 + 13) (origin + next) middle v w1 w3 first
+          (then_reaches s n2 13 middle (origin + k) w1 w2 w3 second third (omega arith)) (omega arith) in
+      let same : k ≡ next + nodes (Operator at op left right) - 1 = omega arith in
+      (w3,
+      subst (λ n. Reaches s n (origin + next) v w3) (length-operator names at op left right next) whole,
+      subst (λ n. InSlot w3 n (word_in holds (Operator at op left right))) same value)
+
   -- an operator, where it is known what the codes of its operands lead to
   operator_leads : (names : List (List ℕ)) (holds : List ℕ → ℕ) (at : ℕ) (op : IntOp) (left right : Expression) (next : ℕ) (v : View) → Ready s sp v → NamesIn names holds next v → next + nodes (Operator at op left right) ≤ total → HasAt s v.place (expression_code names next (Operator at op left right)) → Evaluates names holds right next v → ((w : View) → Ready s sp w → NamesIn names holds (next + nodes right) w → HasAt s w.place (expression_code names (next + nodes right) left) → Evaluates names holds left (next + nodes right) w) → Evaluates names holds (Operator at op left right) next v
   operator_leads names holds at op left right next v ready known room has first then_left =
@@ -197,27 +225,18 @@ module _ (s : Setting) (sp origin total : ℕ) (frame : Frame s sp origin total)
       let a = next + nodes right + nodes left - 1 in
       let b = next + nodes right - 1 in
       let k = next + nodes right + nodes left in
+      let last = load_slot t0 a ++ (load_slot t2 b ++ (Op (row_of op) t0 t0 t2 ∷ store_slot t0 k)) in
       let w1 = first.0 in
       let ready1 = still_ready s (length cr) (origin + next) sp v w1 first.1 ready in
       let known1 = still_in names holds (length cr) next v w1 first.1 known in
-      let has1 = has_back s v.place (length cr) cr (cl ++ (load_slot t0 a ++ (load_slot t2 b ++ (Op (row_of op) t0 t0 t2 ∷ store_slot t0 k)))) refl has in
+      let has1 = has_back s v.place (length cr) cr (cl ++ last) refl has in
       let second = then_left w1 ready1 (later names holds next (next + nodes right) w1 (omega arith) known1)
-          (at_place (v.place + length cr) w1.place cl first.1.place (has_front s (v.place + length cr) cl (load_slot t0 a ++ (load_slot t2 b ++ (Op (row_of op) t0 t0 t2 ∷ store_slot t0 k))) has1)) in
+          (at_place (v.place + length cr) w1.place cl first.1.place (has_front s (v.place + length cr) cl last has1)) in
       let w2 = second.0 in
       let ready2 = still_ready s (length cl) (origin + (next + nodes right)) sp w1 w2 second.1 ready1 in
-      let rest = load_slot t0 a ++ (load_slot t2 b ++ (Op (row_of op) t0 t0 t2 ∷ store_slot t0 k)) in
-      let has2 = at_place (v.place + length cr + length cl) w2.place rest (omega (arith, first.1.place, second.1.place)) (has_back s (v.place + length cr) (length cl) cl rest refl has1) in
+      let has2 = at_place (v.place + length cr + length cl) w2.place last (omega (arith, first.1.place, second.1.place)) (has_back s (v.place + length cr) (length cl) cl last refl has1) in
       let third = put_operation w2 op a b k ready2 has2 (omega (arith, some_nodes left)) (omega (arith, some_nodes right)) (omega arith) in
-      let left_word : slice_index w2.stack (origin + a) ≡ word_in holds left = second.2 in
-      let right_word : slice_index w2.stack (origin + b) ≡ word_in holds right = second.1.below (origin + b) (omega (arith, some_nodes right)) ∙ first.2 in
-      let word : InSlot third.0 k (word_in holds (Operator at op left right)) = third.2 ∙ ap₂ (alu (row_of op)) left_word right_word in
-      let count : length cr + (length cl + 13) ≡ length (expression_code names next (Operator at op left right)) =
-          omega (arith, length-append cr (cl ++ rest), length-append cl rest, length-append (load_slot t0 a) (load_slot t2 b ++ (Op (row_of op) t0 t0 t2 ∷ store_slot t0 k)), length-append (load_slot t2 b) (Op (row_of op) t0 t0 t2 ∷ store_slot t0 k), length-load t0 a, length-load t2 b, length-store t0 k) in
-      let same : k ≡ next + nodes (Operator at op left right) - 1 = omega arith in
-      (third.0,
-      subst (λ n. Reaches s n (origin + next) v third.0) count
-        (then_reaches s (length cr) (length cl + 13) _ _ _ _ _ first.1 (then_reaches s (length cl) 13 _ _ _ _ _ second.1 third.1 (omega arith)) (omega arith)),
-      subst (λ n. InSlot third.0 n (word_in holds (Operator at op left right))) same word)
+      operator_ends names holds at op left right next v w1 w2 third.0 first.1 second.1 third.1 first.2 second.2 third.2
 
   pub expression_leads : (names : List (List ℕ)) (holds : List ℕ → ℕ) (e : Expression) (next : ℕ) (v : View) → Ready s sp v → NamesIn names holds next v → NamesAmong names e → WordsFit e → next + nodes e ≤ total → HasAt s v.place (expression_code names next e) → Evaluates names holds e next v
   expression_leads names holds (Integer at word) next v ready known among fit room has =
