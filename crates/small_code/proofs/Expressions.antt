@@ -1,6 +1,6 @@
 -- What the code of an expression leads to: its word stands in its last slot, and the slots before its
 -- own are kept.
-use Rattle.std.proofs.Common.{◌≡◌, ◌≢◌, ◌⊎◌, ℕ, suc, ◌+◌, ◌-◌, ◌*◌, ◌^◌, ◌<◌, ◌≤◌, List, ◌∷◌, ◌++◌, length, slice_index, slice_set, refl, sym, ap, ap₂, ◌∙◌, subst, arith, inl, get_or-set_same, get_or-set_other, length-set, length-append, Contains}
+use Rattle.std.proofs.Common.{◌≡◌, ◌≢◌, ◌⊎◌, ℕ, suc, ◌+◌, ◌-◌, ◌*◌, ◌^◌, ◌<◌, ◌≤◌, List, ◌∷◌, ◌++◌, length, slice_index, slice_set, refl, ap, ap₂, ◌∙◌, subst, arith, inl, get_or-set_same, get_or-set_other, length-set, length-append, Contains}
 use Rattle.bs_words.specs.declared.operators.IntOp.{IntOp}
 use Rattle.cmm_tree.specs.Small.{NamesAmong, WordsFit, nodes}
 use Rattle.cmm_tree.specs.Tree.{Expression, Integer, Name, Operator}
@@ -11,7 +11,7 @@ use Rattle.small_code.specs.Code.{constant, load_slot, store_slot, expression_co
 use Rattle.small_code.proofs.Values.{word_in, row-word, some_nodes}
 use Rattle.small_code.proofs.Steps.{Setting, View, Leads, then_leads}
 use Rattle.small_code.proofs.Instructions.{op_step}
-use Rattle.small_code.proofs.Pieces.{HasAt, has_front, has_back, has_rest, holding, constant_leads, load_leads, store_leads, near_address, length-constant, length-load, length-store}
+use Rattle.small_code.proofs.Pieces.{HasAt, at_place, has_front, has_back, has_rest, holding, constant_leads, load_leads, store_leads, near_address, length-constant, length-load, length-store}
 
 -- The registers but for t0, t1 and t2 are kept.
 pub record Keeps (before now : List ℕ) : Type 0 where
@@ -186,9 +186,6 @@ module _ (s : Setting) (sp origin total : ℕ) (frame : Frame s sp origin total)
   Evaluates names holds e next v =
       (w : View) × Reaches s (length (expression_code names next e)) (origin + next) v w × InSlot w (next + nodes e - 1) (word_in holds e)
 
-  at_place : (p q : ℕ) (is : List Instr) → q ≡ p → HasAt s p is → HasAt s q is
-  at_place p q is e has = subst (λ n. HasAt s n is) (sym e) has
-
   -- an operator's code is those of its operands, and 13 instructions
   length-operator : (names : List (List ℕ)) (at : ℕ) (op : IntOp) (left right : Expression) (next : ℕ) → length (expression_code names next right) + (length (expression_code names (next + nodes right) left) + 13) ≡ length (expression_code names next (Operator at op left right))
   length-operator names at op left right next =
@@ -231,10 +228,10 @@ module _ (s : Setting) (sp origin total : ℕ) (frame : Frame s sp origin total)
       let known1 = still_in names holds (length cr) next v w1 first.1 known in
       let has1 = has_back s v.place (length cr) cr (cl ++ last) refl has in
       let second = then_left w1 ready1 (later names holds next (next + nodes right) w1 (omega arith) known1)
-          (at_place (v.place + length cr) w1.place cl first.1.place (has_front s (v.place + length cr) cl last has1)) in
+          (at_place s (v.place + length cr) w1.place cl first.1.place (has_front s (v.place + length cr) cl last has1)) in
       let w2 = second.0 in
       let ready2 = still_ready s (length cl) (origin + (next + nodes right)) sp w1 w2 second.1 ready1 in
-      let has2 = at_place (v.place + length cr + length cl) w2.place last (omega (arith, first.1.place, second.1.place)) (has_back s (v.place + length cr) (length cl) cl last refl has1) in
+      let has2 = at_place s (v.place + length cr + length cl) w2.place last (omega (arith, first.1.place, second.1.place)) (has_back s (v.place + length cr) (length cl) cl last refl has1) in
       let third = put_operation w2 op a b k ready2 has2 (omega (arith, some_nodes left)) (omega (arith, some_nodes right)) (omega arith) in
       operator_ends names holds at op left right next v w1 w2 third.0 first.1 second.1 third.1 first.2 second.2 third.2
 

@@ -1,5 +1,5 @@
 -- What the code of a function leads to.
-use Rattle.std.proofs.Common.{◌≡◌, ◌≢◌, ℕ, zero, suc, ◌+◌, ◌-◌, ◌*◌, ◌/◌, ◌%◌, ◌^◌, ◌<◌, ◌≤◌, List, [], ◌∷◌, ◌++◌, length, slice_index, slice_set, Some, refl, sym, ap, ◌∙◌, subst, arith, inl, inr, get_or-set_same, get_or-set_other, length-set, length-append, Contains}
+use Rattle.std.proofs.Common.{◌≡◌, ◌≢◌, ℕ, zero, suc, ◌+◌, ◌-◌, ◌*◌, ◌/◌, ◌%◌, ◌^◌, ◌<◌, ◌≤◌, List, [], ◌∷◌, ◌++◌, length, slice_index, slice_set, Some, refl, ap, ◌∙◌, subst, arith, inl, inr, get_or-set_same, get_or-set_other, length-set, length-append, Contains}
 use Rattle.bs_words.specs.Word.{add_word, sub_word}
 use Rattle.bs_words.specs.declared.types.Comp.TheVariants as comp
 use Rattle.bs_words.specs.declared.types.Ret.TheVariants as returns
@@ -17,7 +17,7 @@ use Rattle.small_code.specs.Code.{load_slot, store_slot, move_sp, expression_cod
 use Rattle.small_code.proofs.Values.{word_in, some_nodes}
 use Rattle.small_code.proofs.Steps.{Setting, View, Leads, Ends, held, then_ends, with_set, stays}
 use Rattle.small_code.proofs.Instructions.{add_small, addi_step}
-use Rattle.small_code.proofs.Pieces.{HasAt, has_front, has_back, near_address, move_leads, move_out, length-load, length-move, length-store}
+use Rattle.small_code.proofs.Pieces.{HasAt, at_place, has_front, has_back, near_address, move_leads, move_out, length-load, length-move, length-store}
 use Rattle.small_code.proofs.Expressions.{keeps_all, Reaches, then_reaches, Frame, Ready, still_ready, InSlot, NamesIn, loaded_view, stored_view, load_leads_to, store_reaches, stored_is, loaded_is, expression_leads}
 use Rattle.small_code.proofs.Ends.{return_step, end_step}
 
@@ -209,12 +209,23 @@ module _ (s : Setting) (room : ℕ) (f : FunctionTree) (args : List ℕ) (v : Vi
       let ends = end_step s u7 word (record { there = stub.parts.1.0; fits = tt }) zero7 value7 int in
       then_ends s 4 7 w u4 _ load (then_ends s 4 3 u4 u5 _ give (then_ends s 1 2 u5 u6 _ return (then_ends s 1 1 u6 u7 _ clear ends)))
 
+  -- the same at a place that is written otherwise
+  after_body_at : (w : View) (place word : ℕ) → w.place ≡ place → Ready s sp_in w → slice_index w.registers 1 ≡ code_start → InSlot s sp_in origin_in (slots f) frame_in w (slots f - 1) word → HasAt s place (load_slot 10 (slots f - 1)) → HasAt s (place + 4) (move_sp Add (frame_bytes f)) → HasAt s (place + 4 + 4) (Jalr 0 1 0 ∷ []) → HasAt s 0 (OpImm Addi 7 0 0 ∷ Ecall ∷ []) → s.result ≡ returns.Comp comp.Int → Ends s 11 w (Returned (Some (Word word)))
+  after_body_at w place word e ready back there loads gives returns stub int =
+      after_body w word ready back there
+      (at_place s place w.place (load_slot 10 (slots f - 1)) e loads)
+      (at_place s (place + 4) (w.place + 4) (move_sp Add (frame_bytes f)) (ap (λ n. n + 4) e) gives)
+      (at_place s (place + 4 + 4) (w.place + 4 + 4) (Jalr 0 1 0 ∷ []) (ap (λ n. n + 4 + 4) e) returns)
+      stub int
+
   taken_place : taken.place ≡ v.place + 4
   unfolding taken
   taken_place = refl
 
-  at_place : (p q : ℕ) (is : List Instr) → q ≡ p → HasAt s p is → HasAt s q is
-  at_place p q is e has = subst (λ n. HasAt s n is) (sym e) has
+  -- the stub's address stays in ra
+  back_kept : (n m low high : ℕ) (w2 w3 : View) → Reaches s n low taken w2 → Reaches s m high w2 w3 → slice_index w3.registers 1 ≡ code_start
+  back_kept n m low high w2 w3 second third =
+      third.keeps.others 1 (inl (omega arith)) ∙ second.keeps.others 1 (inl (omega arith)) ∙ taken_other 1 (omega arith) (omega arith) ∙ entry.back
 
   -- a function that fits the stack returns the word of its body
   pub function_ends : HasAt s v.place (function_code f) → HasAt s 0 (OpImm Addi 7 0 0 ∷ Ecall ∷ []) → s.result ≡ returns.Comp comp.Int → NamesAmong (names_of f) f.body → WordsFit f.body → Ends s (length (function_code f) + 2) v (Returned (Some (Word (word_in argument f.body))))
@@ -223,21 +234,17 @@ module _ (s : Setting) (room : ℕ) (f : FunctionTree) (args : List ℕ) (v : Vi
       let p = parameters f in
       let c2 = argument_code p 10 0 in
       let c3 = expression_code (names_of f) p f.body in
-      let second = arguments_lead s sp_in origin_in (slots f) frame_in p 9 0 taken taken_ready (at_place (v.place + 4) taken.place c2 taken_place code.arguments) (omega arith) (omega arith) (omega (arith, few.few_params)) in
+      let second = arguments_lead s sp_in origin_in (slots f) frame_in p 9 0 taken taken_ready (at_place s (v.place + 4) taken.place c2 taken_place code.arguments) (omega arith) (omega arith) (omega (arith, few.few_params)) in
       let w2 = second.0 in
       let ready2 = still_ready s (length c2) (origin_in + 0) sp_in taken w2 second.1 taken_ready in
       let third = expression_leads s sp_in origin_in (slots f) frame_in (names_of f) argument f.body p w2 ready2 (names_in w2 second.2) among fit (omega arith)
-          (at_place (v.place + 4 + length c2) w2.place c3 (omega (arith, second.1.place, taken_place)) code.body) in
+          (at_place s (v.place + 4 + length c2) w2.place c3 (omega (arith, second.1.place, taken_place)) code.body) in
       let w3 = third.0 in
       let ready3 = still_ready s (length c3) (origin_in + p) sp_in w2 w3 third.1 ready2 in
       let place3 : w3.place ≡ v.place + 4 + length c2 + length c3 = omega (arith, second.1.place, third.1.place, taken_place) in
-      let back3 : slice_index w3.registers 1 ≡ code_start =
-          third.1.keeps.others 1 (inl (omega arith)) ∙ second.1.keeps.others 1 (inl (omega arith)) ∙ taken_other 1 (omega arith) (omega arith) ∙ entry.back in
-      let ends = after_body w3 (word_in argument f.body) ready3 back3 third.2
-          (at_place _ w3.place (load_slot 10 (slots f - 1)) place3 code.loads)
-          (at_place _ (w3.place + 4) (move_sp Add (frame_bytes f)) (ap (λ n. n + 4) place3) code.gives)
-          (at_place _ (w3.place + 4 + 4) (Jalr 0 1 0 ∷ []) (ap (λ n. n + 4 + 4) place3) code.returns)
-          stub int in
+      let ends = after_body_at w3 (v.place + 4 + length c2 + length c3) (word_in argument f.body) place3 ready3
+          (back_kept (length c2) (length c3) (origin_in + 0) (origin_in + p) w2 w3 second.1 third.1) third.2
+          code.loads code.gives code.returns stub int in
       let count : 4 + (length c2 + (length c3 + 11)) ≡ length (function_code f) + 2 = omega (arith, length-function f) in
       let end = Returned (Some (Word (word_in argument f.body))) in
       subst (λ n. Ends s n v end) count

@@ -43,6 +43,10 @@ has_back s place n a b e h = record { parts = subst (λ n. Has s.image.code (pla
 pub has_rest : (s : Setting) (place : ℕ) (i : Instr) (is : List Instr) → HasAt s place (i ∷ is) → HasAt s (place + 1) is
 has_rest s place i is h = record { parts = h.parts.1 }
 
+-- the same place, written otherwise
+pub at_place : (s : Setting) (p q : ℕ) (is : List Instr) → q ≡ p → HasAt s p is → HasAt s q is
+at_place s p q is e has = subst (λ n. HasAt s n is) (sym e) has
+
 -- the same view at a place that is written otherwise
 pub ends_at : (s : Setting) (n m place : ℕ) (v w : View) → Leads s n v w → n ≡ m → w.place ≡ place → Leads s m v (record w { place = place })
 ends_at s n m place v w leads e f = subst (λ k. Leads s k v (record w { place = place })) e (subst (λ p. Leads s n v (record w { place = p })) f leads)
