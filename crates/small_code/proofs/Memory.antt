@@ -80,12 +80,13 @@ module _ (base bytes : ℕ) where
       ∙ read_stack (code ∷ has.low) words i (first, has.under) fits small
 
   pub stored_slot : (memory : List Region) (words : List ℕ) (i value : ℕ) → HasStack memory words → base % 8 ≡ 0 → 8 * i + 8 ≤ bytes → slice_index words i < 2 ^ 64 → value < 2 ^ 64 → (new : List Region) × HasStack new (slice_set words i value) × (stored memory (base + 8 * i) 8 value ≡ Some new)
-  stored_slot memory words i value has aligned fits small fine =
-      (has.low ++ stack_of (slice_set words i value) ∷ [],
-      record { low = has.low; under = has.under; is = refl },
-      cond-true _ _ _ (eq-eqb ((base + 8 * i) % 8) 0 (omega arith))
-      ∙ ap (λ m. written m (base + 8 * i) 8 value) has.is
-      ∙ written_stack has.low words i value has.under fits small fine)
+  stored_slot memory words i value has aligned fits small fine = (
+    has.low ++ stack_of (slice_set words i value) ∷ [],
+    record { low = has.low; under = has.under; is = refl },
+    cond-true _ _ _ (eq-eqb ((base + 8 * i) % 8) 0 (omega arith))
+        ∙ ap (λ m. written m (base + 8 * i) 8 value) has.is
+        ∙ written_stack has.low words i value has.under fits small fine,
+  )
 
   -- ---- a write below the stack keeps it
 

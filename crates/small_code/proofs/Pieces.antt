@@ -102,8 +102,8 @@ module _ (s : Setting) (r : ℕ) (other : suc r ≢ 2) (low : suc r < 32) where
   eleven v place x bits y within has e small few =
       let shifts = shifted v place x within (record { parts = (has.parts.0, tt) }) (omega arith) in
       let adds = again v (place + 1) (x * 2 ^ 11) _ y
-          (addi_step s (holding (place + 1) (suc r) (x * 2 ^ 11) v) (suc r) (suc r) bits (record { there = has.parts.1.0; fits = (low, low, omega arith) }) other few)
-          (ap (λ a. add_word a bits) (holds v.registers r (x * 2 ^ 11) within) ∙ add_small (x * 2 ^ 11) bits (omega arith) ∙ e) in
+      (addi_step s (holding (place + 1) (suc r) (x * 2 ^ 11) v) (suc r) (suc r) bits (record { there = has.parts.1.0; fits = (low, low, omega arith) }) other few)
+      (ap (λ a. add_word a bits) (holds v.registers r (x * 2 ^ 11) within) ∙ add_small (x * 2 ^ 11) bits (omega arith) ∙ e) in
       ends_at s 2 2 (place + 2) _ _ (then_leads s 1 1 _ _ _ shifts adds) refl (omega arith)
 
   pub constant_leads : (v : View) (word : ℕ) → suc r < length v.registers → HasAt s v.place (constant (suc r) word) → word < 2 ^ 64 → Leads s 11 v (holding (v.place + 11) (suc r) word v)
@@ -146,11 +146,11 @@ near_leads s v k sp within has small e below =
     let shift = shifted s 5 (omega arith) (omega arith) v (v.place + 1) (8 * k / 2048) within (record { parts = (has.parts.1.0, tt) }) (omega arith) in
     let u : View = holding (v.place + 1 + 1) 6 (8 * k / 2048 * 2 ^ 11) v in
     let sum : add_word (held u.registers 6) (held u.registers 2) ≡ near_address k sp =
-        ap₂ add_word (holds v.registers 5 (8 * k / 2048 * 2 ^ 11) within) (held_other v.registers 2 5 (8 * k / 2048 * 2 ^ 11) (omega arith) ∙ e)
-        ∙ add_small (8 * k / 2048 * 2 ^ 11) sp (omega arith) in
+    ap₂ add_word (holds v.registers 5 (8 * k / 2048 * 2 ^ 11) within) (held_other v.registers 2 5 (8 * k / 2048 * 2 ^ 11) (omega arith) ∙ e)
+    ∙ add_small (8 * k / 2048 * 2 ^ 11) sp (omega arith) in
     let add = again s 5 (omega arith) (omega arith) v (v.place + 1 + 1) (8 * k / 2048 * 2 ^ 11) _ (near_address k sp)
-        (op_step s u Add 6 6 2 (record { there = has.parts.1.1.0; fits = (omega arith, omega arith, omega arith) }) (omega arith) (λ words. add_word-below (held u.registers 6) (held u.registers 2)))
-        sum in
+    (op_step s u Add 6 6 2 (record { there = has.parts.1.1.0; fits = (omega arith, omega arith, omega arith) }) (omega arith) (λ words. add_word-below (held u.registers 6) (held u.registers 2)))
+    sum in
     ends_at s 3 3 (v.place + 3) _ _ (then_leads s 1 2 _ _ _ start (then_leads s 1 1 _ _ _ shift add)) refl (omega arith)
 
 -- the address of slot k, which is the stack's word i
@@ -166,8 +166,8 @@ load_leads s v rd k i sp low other within has small e below same fits =
     let u = holding (v.place + 3) 6 (near_address k sp) v in
     let near = near_leads s v k sp within (has_front s v.place (near_slot k) _ has) small e below in
     let load = load_step s u rd 6 (8 * k % 2048) i
-        (record { there = (has_back s v.place 3 (near_slot k) _ (length-near k) has).parts.0; fits = (low, omega arith, omega arith) })
-        other (omega arith) (slot_address s v.registers k i sp within below small same) fits in
+    (record { there = (has_back s v.place 3 (near_slot k) _ (length-near k) has).parts.0; fits = (low, omega arith, omega arith) })
+    other (omega arith) (slot_address s v.registers k i sp within below small same) fits in
     ends_at s 4 4 (v.place + 4) _ _ (then_leads s 3 1 _ _ _ near load) refl (omega arith)
 
 pub store_leads : (s : Setting) (v : View) (rs k i sp : ℕ) → rs < 32 → rs ≢ 6 → 6 < length v.registers → HasAt s v.place (store_slot rs k) → k < 2 ^ 19 → held v.registers 2 ≡ sp → sp < 2 ^ 30 → sp + 8 * k ≡ s.base + 8 * i → 8 * i + 8 ≤ s.bytes → Leads s 4 v (record { place = v.place + 4; registers = slice_set v.registers 6 (near_address k sp); stack = slice_set v.stack i (held v.registers rs) })
@@ -176,8 +176,8 @@ store_leads s v rs k i sp low other within has small e below same fits =
     let u = holding (v.place + 3) 6 (near_address k sp) v in
     let near = near_leads s v k sp within (has_front s v.place (near_slot k) _ has) small e below in
     let store = store_step s u 6 rs (8 * k % 2048) i
-        (record { there = (has_back s v.place 3 (near_slot k) _ (length-near k) has).parts.0; fits = (omega arith, low, omega arith) })
-        (omega arith) (slot_address s v.registers k i sp within below small same) fits in
+    (record { there = (has_back s v.place 3 (near_slot k) _ (length-near k) has).parts.0; fits = (omega arith, low, omega arith) })
+    (omega arith) (slot_address s v.registers k i sp within below small same) fits in
     subst (λ value. Leads s 4 v (record { place = v.place + 4; registers = slice_set v.registers 6 (near_address k sp); stack = slice_set v.stack i value }))
     (held_other v.registers rs 5 (near_address k sp) other)
     (ends_at s 4 4 (v.place + 4) _ _ (then_leads s 3 1 _ _ _ near store) refl (omega arith))
@@ -203,7 +203,7 @@ moved_sets : (s : Setting) (v : View) (op : AluOp) (bytes value : ℕ) → 6 < l
 moved_sets s v op bytes value within e small =
     let u = holding (v.place + 3) 6 bytes v in
     let same : alu op (held u.registers 2) (held u.registers 6) ≡ value =
-        ap₂ (alu op) (held_other v.registers 2 5 bytes (omega arith)) (holds v.registers 5 bytes within) ∙ e in
+    ap₂ (alu op) (held_other v.registers 2 5 bytes (omega arith)) (holds v.registers 5 bytes within) ∙ e in
     subst (SetsRegister s u (Op op 2 2 6) 2) same (sets_op s u op 2 2 6 (λ words. subst (λ n. n < 2 ^ 64) (sym same) small))
 
 pub move_leads : (s : Setting) (v : View) (op : AluOp) (bytes value : ℕ) → 6 < length v.registers → HasAt s v.place (move_sp op bytes) → bytes < 2 ^ 22 → alu op (held v.registers 2) bytes ≡ value → value < 2 ^ 64 → s.base ≤ value → Leads s 4 v (record { place = v.place + 4; registers = slice_set (slice_set v.registers 6 bytes) 2 value; stack = v.stack })

@@ -95,8 +95,11 @@ tells : (run : Run) (outcome : Outcome) (frame k : ℕ) (answers : List ℕ) →
 tells run outcome frame k answers e =
     let deep : max 0 (0 + frame) ≡ frame = omega arith in
     record {
-      outcome_is = ap (λ (r : Run). r.outcome) e; no_calls = ap (λ (r : Run). r.calls) e;
-      stack = ap (λ (r : Run). r.stack_need) e ∙ deep; heap = ap (λ (r : Run). r.heap_need) e }
+      outcome_is = ap (λ (r : Run). r.outcome) e;
+      no_calls = ap (λ (r : Run). r.calls) e;
+      stack = ap (λ (r : Run). r.stack_need) e ∙ deep;
+      heap = ap (λ (r : Run). r.heap_need) e;
+    }
 
 module _ (file : FileTree) (layout : Layout) (entry : ℕ) (args answers : List ℕ) (f : FunctionTree) (of_file : slice_get (functions file) entry ≡ Some f) (count : length args ≡ length (names_of f)) (differ : AllDiffer (names_of f)) (small : SmallOperators f.body) (among : NamesAmong (names_of f) f.body) where
   frame : ℕ

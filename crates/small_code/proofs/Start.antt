@@ -150,21 +150,37 @@ sum_of_base room is_room = omega (arith, is_room.most)
 has_stack : (image : Tables) (room heap : ℕ) → AreTables image → IsRoom room → IsRoom heap → HasStack (stack_bottom - room) (room + 16) (start_memory image room heap) (first_stack room)
 has_stack image room heap tables is_room is_heap = record {
   low = data_region image.bytes ∷ domain_region ∷ uniform (half_start 0) (heap / 8) filler ∷ uniform (half_start 1) (heap / 8) filler ∷ uniform young_start 8192 filler ∷ [];
-  under =
-    (omega (arith, past_data image.bytes, tables.bytes.short, is_room.most),
-    (omega (arith, past_domain, is_room.most),
-    (omega (arith, past_uniform (half_start 0) (heap / 8) filler, is_room.most, is_heap.most),
-    (omega (arith, past_uniform (half_start 1) (heap / 8) filler, is_room.most, is_heap.most),
-    (omega (arith, past_uniform young_start 8192 filler, is_room.most), tt)))));
-  is = ap (λ r. data_region image.bytes ∷ domain_region ∷ uniform (half_start 0) (heap / 8) filler ∷ uniform (half_start 1) (heap / 8) filler ∷ uniform young_start 8192 filler ∷ r ∷ []) (stack_is room) }
+  under = (
+    omega (arith, past_data image.bytes, tables.bytes.short, is_room.most),
+    (
+      omega (arith, past_domain, is_room.most),
+      (
+        omega (arith, past_uniform (half_start 0) (heap / 8) filler, is_room.most, is_heap.most),
+        (
+          omega (arith, past_uniform (half_start 1) (heap / 8) filler, is_room.most, is_heap.most),
+          (omega (arith, past_uniform young_start 8192 filler, is_room.most), tt),
+        ),
+      ),
+    ),
+  );
+  is = ap (λ r. data_region image.bytes ∷ domain_region ∷ uniform (half_start 0) (heap / 8) filler ∷ uniform (half_start 1) (heap / 8) filler ∷ uniform young_start 8192 filler ∷ r ∷ []) (stack_is room);
+}
 
 module _ (image : Tables) (tables : AreTables image) (row : Func) (args answers : List ℕ) (schedule : Schedule) (room heap : ℕ) (is_room : IsRoom room) (is_heap : IsRoom heap) where
   -- what stays during the run
   abbrev pub setting : Setting
   setting = record {
-    image = image; schedule = schedule; result = row.result; answers = answers; base = stack_bottom - room; bytes = room + 16;
-    code_below = code_fits image room tables is_room; aligned = base_aligned room is_room;
-    domain_below = base_high room is_room; short = base_short room is_room }
+    image = image;
+    schedule = schedule;
+    result = row.result;
+    answers = answers;
+    base = stack_bottom - room;
+    bytes = room + 16;
+    code_below = code_fits image room tables is_room;
+    aligned = base_aligned room is_room;
+    domain_below = base_high room is_room;
+    short = base_short room is_room;
+  }
 
   -- the first view
   abbrev pub first_view : ℕ → View
@@ -172,11 +188,22 @@ module _ (image : Tables) (tables : AreTables image) (row : Func) (args answers 
 
   pub first_stands : (place : ℕ) → row.offset ≡ 4 * place → AllWords args → Stands setting (start image row args room heap) (first_view place)
   first_stands place e all = record {
-    image = refl; pc = ap (λ n. code_start + n) e; registers = refl;
-    memory = has_stack image room heap tables is_room is_heap; stack_base = refl;
-    register_words = words_registers args all; stack_words = words_stack room }
+    image = refl;
+    pc = ap (λ n. code_start + n) e;
+    registers = refl;
+    memory = has_stack image room heap tables is_room is_heap;
+    stack_base = refl;
+    register_words = words_registers args all;
+    stack_words = words_stack room;
+  }
 
   pub first_entry : (place : ℕ) → Entry setting room args (first_view place)
   first_entry place = record {
-    bytes = refl; aligned = is_room.aligned; count = count_registers args; back = refl; bottom = sum_of_base room is_room;
-    arguments = argument_at args; long = long_stack room is_room.aligned }
+    bytes = refl;
+    aligned = is_room.aligned;
+    count = count_registers args;
+    back = refl;
+    bottom = sum_of_base room is_room;
+    arguments = argument_at args;
+    long = long_stack room is_room.aligned;
+  }
