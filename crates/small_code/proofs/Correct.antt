@@ -52,7 +52,9 @@ record MachineRun (machine : ℕ → Seen) (words : ℕ) (end : End) : Type 0 wh
   begins : machine 0 ≡ record { calls = []; end = Running }
   comes : (m : ℕ) → Comes end (machine m)
 
-alike : (run : Run) (outcome : Outcome) (frame : ℕ) (now : Seen) (end : End) → Tells run outcome frame → now ≡ record { calls = []; end = end } → EndsAlike outcome end → Alike run now
+alike :
+    (run : Run) (outcome : Outcome) (frame : ℕ) (now : Seen) (end : End) → Tells run outcome frame →
+    now ≡ record { calls = []; end = end } → EndsAlike outcome end → Alike run now
 alike run outcome frame now end tells e same =
     subst (Alike run) (sym e)
     (record { calls = sym tells.no_calls; end = subst (λ o. EndsAlike o end) (sym tells.outcome_is) same })
@@ -68,7 +70,8 @@ module _ (run : ℕ → Run) (machine : ℕ → Seen) (stack heap words enough w
   forwards_fits : MachineRun machine words (Returned (Some (obs.Word word))) → Forwards run machine stack heap words
   forwards_fits ends = record { does = λ n given. by_order n (cases_lt n enough) }
     where
-      by_order : (n : ℕ) → (n < enough) ⊎ (enough ≤ n) → (m : ℕ) × (m ≤ 2 * (n + 1) * words) × Alike (run n) (machine m)
+      by_order :
+          (n : ℕ) → (n < enough) ⊎ (enough ≤ n) → (m : ℕ) × (m ≤ 2 * (n + 1) * words) × Alike (run n) (machine m)
       by_order n (inl few) = (0, omega arith, alike (run n) More frame (machine 0) Running (runs.goes_on n few) ends.begins refl)
       by_order n (inr more) = (
         ends.total,
@@ -153,7 +156,9 @@ module _ (file : FileTree) (small : IsSmall file) (tables : AreTables (compiled 
   entry_so : Entry during room args view
   entry_so = first_entry (compiled file) tables row args answers schedule room heap is_room is_heap code_at.place
 
-  machine_ends : (total : ℕ) (end : End) → total ≤ length (compiled file).code → Ends during total view end → MachineRun machine (length (compiled file).code) end
+  machine_ends :
+      (total : ℕ) (end : End) → total ≤ length (compiled file).code → Ends during total view end →
+      MachineRun machine (length (compiled file).code) end
   machine_ends total end within ends =
       let over : after schedule total (begun (compiled file) row args answers room heap) ≡ Over [] end = ends.by (start (compiled file) row args room heap) begins_so total 0 (omega arith) in
       record {

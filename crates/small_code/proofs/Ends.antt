@@ -14,7 +14,9 @@ use Rattle.small_code.proofs.Instructions.{add_small}
 use Rattle.small_code.proofs.Steps.{Setting, View, Leads, Ends, Instruction, held, register_held, one_step, perhaps_stands, at}
 
 -- a return to the stub
-pub return_step : (s : Setting) (v : View) → Instruction s v.place (Jalr 0 1 0) → held v.registers 1 ≡ code_start → Leads s 1 v (record v { place = 0 })
+pub return_step :
+    (s : Setting) (v : View) → Instruction s v.place (Jalr 0 1 0) → held v.registers 1 ≡ code_start →
+    Leads s 1 v (record v { place = 0 })
 return_step s v instruction held_there = record {
   by = λ h stands.
       let before = perhaps_asked s.schedule h in
@@ -38,7 +40,9 @@ return_step s v instruction held_there = record {
 }
 
 -- the service that ends a run with a result of type int
-pub end_step : (s : Setting) (v : View) (word : ℕ) → Instruction s v.place Ecall → held v.registers 7 ≡ 0 → held v.registers 10 ≡ word → s.result ≡ returns.Comp comp.Int → Ends s 1 v (Returned (Some (Word word)))
+pub end_step :
+    (s : Setting) (v : View) (word : ℕ) → Instruction s v.place Ecall → held v.registers 7 ≡ 0 →
+    held v.registers 10 ≡ word → s.result ≡ returns.Comp comp.Int → Ends s 1 v (Returned (Some (Word word)))
 end_step s v word instruction zero_there word_there int = record {
   by = λ h stands j k e.
       let before = perhaps_asked s.schedule h in

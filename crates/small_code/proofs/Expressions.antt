@@ -38,7 +38,9 @@ pub record Reaches (s : Setting) (n low : ℕ) (v w : View) : Type 0 where
   pub long : length w.stack ≡ length v.stack
   pub below : (i : ℕ) → i < low → slice_index w.stack i ≡ slice_index v.stack i
 
-pub then_reaches : (s : Setting) (n m low high : ℕ) (u v w : View) → Reaches s n low u v → Reaches s m high v w → low ≤ high → Reaches s (n + m) low u w
+pub then_reaches :
+    (s : Setting) (n m low high : ℕ) (u v w : View) → Reaches s n low u v → Reaches s m high v w → low ≤ high →
+    Reaches s (n + m) low u w
 then_reaches s n m low high u v w a b le = record {
   leads = then_leads s n m u v w a.leads b.leads;
   place = omega (arith, a.place, b.place);
@@ -87,12 +89,16 @@ module _ (s : Setting) (sp origin total : ℕ) (frame : Frame s sp origin total)
     stack = slice_set v.stack (origin + k) (slice_index v.registers rs);
   }
 
-  pub load_leads_to : (v : View) (r j : ℕ) → Ready s sp v → HasAt s v.place (load_slot (suc r) j) → j < total → suc r < 32 → suc r ≢ 2 → Leads s 4 v (loaded_view v (suc r) j)
+  pub load_leads_to :
+      (v : View) (r j : ℕ) → Ready s sp v → HasAt s v.place (load_slot (suc r) j) → j < total → suc r < 32 →
+      suc r ≢ 2 → Leads s 4 v (loaded_view v (suc r) j)
   load_leads_to v r j ready has lt low other =
       load_leads s v (suc r) j (origin + j) sp low other (omega (arith, ready.count)) has (omega (arith, frame.few)) ready.sp_held
       (omega (arith, frame.sp_is, frame.fits, s.short)) (omega (arith, frame.sp_is)) (omega (arith, frame.fits))
 
-  load_reaches : (v : View) (r j high : ℕ) → Ready s sp v → HasAt s v.place (load_slot (suc r) j) → j < total → 5 ≤ suc r → suc r ≤ 7 → Reaches s 4 high v (loaded_view v (suc r) j)
+  load_reaches :
+      (v : View) (r j high : ℕ) → Ready s sp v → HasAt s v.place (load_slot (suc r) j) → j < total → 5 ≤ suc r →
+      suc r ≤ 7 → Reaches s 4 high v (loaded_view v (suc r) j)
   load_reaches v r j high ready has lt low top = record {
     leads = load_leads_to v r j ready has lt (omega arith) (omega arith);
     place = refl;
@@ -101,7 +107,9 @@ module _ (s : Setting) (sp origin total : ℕ) (frame : Frame s sp origin total)
     below = λ i lt. refl;
   }
 
-  pub store_reaches : (v : View) (r k : ℕ) → Ready s sp v → HasAt s v.place (store_slot (suc r) k) → k < total → suc r < 32 → suc r ≢ 6 → Reaches s 4 (origin + k) v (stored_view v (suc r) k)
+  pub store_reaches :
+      (v : View) (r k : ℕ) → Ready s sp v → HasAt s v.place (store_slot (suc r) k) → k < total → suc r < 32 →
+      suc r ≢ 6 → Reaches s 4 (origin + k) v (stored_view v (suc r) k)
   store_reaches v r k ready has lt low other = record {
     leads = store_leads s v (suc r) k (origin + k) sp low other (omega (arith, ready.count)) has (omega (arith, frame.few)) ready.sp_held
         (omega (arith, frame.sp_is, frame.fits, s.short)) (omega (arith, frame.sp_is)) (omega (arith, frame.fits));
@@ -112,16 +120,21 @@ module _ (s : Setting) (sp origin total : ℕ) (frame : Frame s sp origin total)
   }
 
   -- what is stored can be read
-  pub stored_is : (v : View) (rs k : ℕ) → Ready s sp v → k < total → InSlot (stored_view v rs k) k (slice_index v.registers rs)
+  pub stored_is :
+      (v : View) (rs k : ℕ) → Ready s sp v → k < total → InSlot (stored_view v rs k) k (slice_index v.registers rs)
   stored_is v rs k ready lt = get_or-set_same v.stack (origin + k) (slice_index v.registers rs) 0 (omega (arith, ready.long, frame.fits))
 
-  pub loaded_is : (v : View) (rd j : ℕ) → rd < length v.registers → slice_index (loaded_view v rd j).registers rd ≡ slice_index v.stack (origin + j)
+  pub loaded_is :
+      (v : View) (rd j : ℕ) → rd < length v.registers →
+      slice_index (loaded_view v rd j).registers rd ≡ slice_index v.stack (origin + j)
   loaded_is v rd j within = get_or-set_same (slice_set v.registers 6 (near_address j sp)) rd _ 0 (omega (arith, length-set v.registers 6 (near_address j sp)))
 
   -- ---- the code of one node
 
   -- an integer
-  put_constant : (v : View) (word k : ℕ) → Ready s sp v → HasAt s v.place (constant t0 word ++ store_slot t0 k) → word < 2 ^ 64 → k < total → (w : View) × Reaches s 15 (origin + k) v w × InSlot w k word
+  put_constant :
+      (v : View) (word k : ℕ) → Ready s sp v → HasAt s v.place (constant t0 word ++ store_slot t0 k) → word < 2 ^ 64 →
+      k < total → (w : View) × Reaches s 15 (origin + k) v w × InSlot w k word
   put_constant v word k ready has small lt =
       let u : View = holding (v.place + 11) 5 word v in
       let within : 5 < length v.registers = omega (arith, ready.count) in
@@ -140,7 +153,9 @@ module _ (s : Setting) (sp origin total : ℕ) (frame : Frame s sp origin total)
       )
 
   -- the word of another slot
-  put_slot : (v : View) (j k : ℕ) → Ready s sp v → HasAt s v.place (load_slot t0 j ++ store_slot t0 k) → j < total → k < total → (w : View) × Reaches s 8 (origin + k) v w × InSlot w k (slice_index v.stack (origin + j))
+  put_slot :
+      (v : View) (j k : ℕ) → Ready s sp v → HasAt s v.place (load_slot t0 j ++ store_slot t0 k) → j < total →
+      k < total → (w : View) × Reaches s 8 (origin + k) v w × InSlot w k (slice_index v.stack (origin + j))
   put_slot v j k ready has small lt =
       let u : View = loaded_view v 5 j in
       let first = load_reaches v 4 j (origin + k) ready (has_front s v.place (load_slot 5 j) _ has) small (omega arith) (omega arith) in
@@ -152,7 +167,11 @@ module _ (s : Setting) (sp origin total : ℕ) (frame : Frame s sp origin total)
       )
 
   -- an operation on the words of two slots
-  put_operation : (v : View) (op : IntOp) (a b k : ℕ) → Ready s sp v → HasAt s v.place (load_slot t0 a ++ (load_slot t2 b ++ (Op (row_of op) t0 t0 t2 ∷ store_slot t0 k))) → a < total → b < total → k < total → (w : View) × Reaches s 13 (origin + k) v w × InSlot w k (alu (row_of op) (slice_index v.stack (origin + a)) (slice_index v.stack (origin + b)))
+  put_operation :
+      (v : View) (op : IntOp) (a b k : ℕ) → Ready s sp v →
+      HasAt s v.place (load_slot t0 a ++ (load_slot t2 b ++ (Op (row_of op) t0 t0 t2 ∷ store_slot t0 k))) →
+      a < total → b < total → k < total →
+      (w : View) × Reaches s 13 (origin + k) v w × InSlot w k (alu (row_of op) (slice_index v.stack (origin + a)) (slice_index v.stack (origin + b)))
   put_operation v op a b k ready has small_a small_b lt =
       let u1 : View = loaded_view v 5 a in
       let first = load_reaches v 4 a (origin + k) ready (has_front s v.place (load_slot 5 a) _ has) small_a (omega arith) (omega arith) in
@@ -193,13 +212,17 @@ module _ (s : Setting) (sp origin total : ℕ) (frame : Frame s sp origin total)
     pub in_slot : (name : List ℕ) → Contains names name → InSlot v (index_of names name) (holds name)
     pub before : (name : List ℕ) → Contains names name → index_of names name < next
 
-  still_in : (names : List (List ℕ)) (holds : List ℕ → ℕ) (n next : ℕ) (v w : View) → Reaches s n (origin + next) v w → NamesIn names holds next v → NamesIn names holds next w
+  still_in :
+      (names : List (List ℕ)) (holds : List ℕ → ℕ) (n next : ℕ) (v w : View) → Reaches s n (origin + next) v w →
+      NamesIn names holds next v → NamesIn names holds next w
   still_in names holds n next v w reaches known = record {
     in_slot = λ name among. reaches.below (origin + index_of names name) (omega (arith, known.before name among)) ∙ known.in_slot name among;
     before = known.before;
   }
 
-  later : (names : List (List ℕ)) (holds : List ℕ → ℕ) (next more : ℕ) (v : View) → next ≤ more → NamesIn names holds next v → NamesIn names holds more v
+  later :
+      (names : List (List ℕ)) (holds : List ℕ → ℕ) (next more : ℕ) (v : View) → next ≤ more →
+      NamesIn names holds next v → NamesIn names holds more v
   later names holds next more v le known = record { in_slot = known.in_slot; before = λ name among. omega (arith, known.before name among) }
 
   -- what the code of an expression leads to
@@ -208,7 +231,9 @@ module _ (s : Setting) (sp origin total : ℕ) (frame : Frame s sp origin total)
       (w : View) × Reaches s (length (expression_code names next e)) (origin + next) v w × InSlot w (next + nodes e - 1) (word_in holds e)
 
   -- an operator's code is those of its operands, and 13 instructions
-  length-operator : (names : List (List ℕ)) (at : ℕ) (op : IntOp) (left right : Expression) (next : ℕ) → length (expression_code names next right) + (length (expression_code names (next + nodes right) left) + 13) ≡ length (expression_code names next (Operator at op left right))
+  length-operator :
+      (names : List (List ℕ)) (at : ℕ) (op : IntOp) (left right : Expression) (next : ℕ) →
+      length (expression_code names next right) + (length (expression_code names (next + nodes right) left) + 13) ≡ length (expression_code names next (Operator at op left right))
   length-operator names at op left right next =
       let cr = expression_code names next right in
       let cl = expression_code names (next + nodes right) left in
@@ -219,7 +244,15 @@ module _ (s : Setting) (sp origin total : ℕ) (frame : Frame s sp origin total)
       omega (arith, length-append cr (cl ++ (load_slot t0 a ++ (load_slot t2 b ++ last))), length-append cl (load_slot t0 a ++ (load_slot t2 b ++ last)), length-append (load_slot t0 a) (load_slot t2 b ++ last), length-append (load_slot t2 b) last, length-load t0 a, length-load t2 b, length-store t0 k)
 
   -- the views behind the two operands and behind the whole
-  operator_ends : (names : List (List ℕ)) (holds : List ℕ → ℕ) (at : ℕ) (op : IntOp) (left right : Expression) (next : ℕ) (v w1 w2 w3 : View) → Reaches s (length (expression_code names next right)) (origin + next) v w1 → Reaches s (length (expression_code names (next + nodes right) left)) (origin + (next + nodes right)) w1 w2 → Reaches s 13 (origin + (next + nodes right + nodes left)) w2 w3 → InSlot w1 (next + nodes right - 1) (word_in holds right) → InSlot w2 (next + nodes right + nodes left - 1) (word_in holds left) → InSlot w3 (next + nodes right + nodes left) (alu (row_of op) (slice_index w2.stack (origin + (next + nodes right + nodes left - 1))) (slice_index w2.stack (origin + (next + nodes right - 1)))) → Evaluates names holds (Operator at op left right) next v
+  operator_ends :
+      (names : List (List ℕ)) (holds : List ℕ → ℕ) (at : ℕ) (op : IntOp) (left right : Expression) (next : ℕ) (v w1 w2 w3 : View) →
+      Reaches s (length (expression_code names next right)) (origin + next) v w1 →
+      Reaches s (length (expression_code names (next + nodes right) left)) (origin + (next + nodes right)) w1 w2 →
+      Reaches s 13 (origin + (next + nodes right + nodes left)) w2 w3 →
+      InSlot w1 (next + nodes right - 1) (word_in holds right) →
+      InSlot w2 (next + nodes right + nodes left - 1) (word_in holds left) →
+      InSlot w3 (next + nodes right + nodes left) (alu (row_of op) (slice_index w2.stack (origin + (next + nodes right + nodes left - 1))) (slice_index w2.stack (origin + (next + nodes right - 1)))) →
+      Evaluates names holds (Operator at op left right) next v
   operator_ends names holds at op left right next v w1 w2 w3 first second third right_word left_word word =
       let n1 = length (expression_code names next right) in
       let n2 = length (expression_code names (next + nodes right) left) in
@@ -237,7 +270,12 @@ module _ (s : Setting) (sp origin total : ℕ) (frame : Frame s sp origin total)
       )
 
   -- an operator, where it is known what the codes of its operands lead to
-  operator_leads : (names : List (List ℕ)) (holds : List ℕ → ℕ) (at : ℕ) (op : IntOp) (left right : Expression) (next : ℕ) (v : View) → Ready s sp v → NamesIn names holds next v → next + nodes (Operator at op left right) ≤ total → HasAt s v.place (expression_code names next (Operator at op left right)) → Evaluates names holds right next v → ((w : View) → Ready s sp w → NamesIn names holds (next + nodes right) w → HasAt s w.place (expression_code names (next + nodes right) left) → Evaluates names holds left (next + nodes right) w) → Evaluates names holds (Operator at op left right) next v
+  operator_leads :
+      (names : List (List ℕ)) (holds : List ℕ → ℕ) (at : ℕ) (op : IntOp) (left right : Expression) (next : ℕ) (v : View) →
+      Ready s sp v → NamesIn names holds next v → next + nodes (Operator at op left right) ≤ total →
+      HasAt s v.place (expression_code names next (Operator at op left right)) → Evaluates names holds right next v →
+      ((w : View) → Ready s sp w → NamesIn names holds (next + nodes right) w → HasAt s w.place (expression_code names (next + nodes right) left) → Evaluates names holds left (next + nodes right) w) →
+      Evaluates names holds (Operator at op left right) next v
   operator_leads names holds at op left right next v ready known room has first then_left =
       let cr = expression_code names next right in
       let cl = expression_code names (next + nodes right) left in
@@ -257,7 +295,10 @@ module _ (s : Setting) (sp origin total : ℕ) (frame : Frame s sp origin total)
       let third = put_operation w2 op a b k ready2 has2 (omega (arith, some_nodes left)) (omega (arith, some_nodes right)) (omega arith) in
       operator_ends names holds at op left right next v w1 w2 third.0 first.1 second.1 third.1 first.2 second.2 third.2
 
-  pub expression_leads : (names : List (List ℕ)) (holds : List ℕ → ℕ) (e : Expression) (next : ℕ) (v : View) → Ready s sp v → NamesIn names holds next v → NamesAmong names e → WordsFit e → next + nodes e ≤ total → HasAt s v.place (expression_code names next e) → Evaluates names holds e next v
+  pub expression_leads :
+      (names : List (List ℕ)) (holds : List ℕ → ℕ) (e : Expression) (next : ℕ) (v : View) → Ready s sp v →
+      NamesIn names holds next v → NamesAmong names e → WordsFit e → next + nodes e ≤ total →
+      HasAt s v.place (expression_code names next e) → Evaluates names holds e next v
   expression_leads names holds (Integer at word) next v ready known among fit room has =
       let put = put_constant v word next ready has fit (omega arith) in
       let count : 15 ≡ length (constant t0 word ++ store_slot t0 next) = omega (arith, length-append (constant t0 word) (store_slot t0 next), length-constant t0 word, length-store t0 next) in

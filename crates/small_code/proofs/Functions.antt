@@ -36,7 +36,10 @@ module _ (s : Setting) (sp origin total : ℕ) (frame : Frame s sp origin total)
   abbrev Stored : ℕ → ℕ → ℕ → View → View → Type 0
   Stored count r next v w = (j : ℕ) → j < count → InSlot s sp origin total frame w (next + j) (slice_index v.registers (r + j))
 
-  arguments_lead : (count r next : ℕ) (v : View) → Ready s sp v → HasAt s v.place (argument_code count (suc r) next) → next + count ≤ total → 7 ≤ r → suc r + count ≤ 32 → (w : View) × Reaches s (length (argument_code count (suc r) next)) (origin + next) v w × Stored count (suc r) next v w
+  arguments_lead :
+      (count r next : ℕ) (v : View) → Ready s sp v → HasAt s v.place (argument_code count (suc r) next) →
+      next + count ≤ total → 7 ≤ r → suc r + count ≤ 32 →
+      (w : View) × Reaches s (length (argument_code count (suc r) next)) (origin + next) v w × Stored count (suc r) next v w
   arguments_lead zero r next v ready has room low top = (v, reaches_none s (origin + next) v, λ j lt. absurd (omega arith))
   arguments_lead (suc count) r next v ready has room low top =
       let c = store_slot (suc r) next in
@@ -51,7 +54,11 @@ module _ (s : Setting) (sp origin total : ℕ) (frame : Frame s sp origin total)
         stored u others.0 first others.1 (stored_is s sp origin total frame v (suc r) next ready (omega arith)) others.2,
       )
     where
-      stored : (u w : View) → Reaches s 4 (origin + next) v u → Reaches s (length (argument_code count (suc (suc r)) (suc next))) (origin + suc next) u w → InSlot s sp origin total frame u next (slice_index v.registers (suc r)) → Stored count (suc (suc r)) (suc next) u w → Stored (suc count) (suc r) next v w
+      stored :
+          (u w : View) → Reaches s 4 (origin + next) v u →
+          Reaches s (length (argument_code count (suc (suc r)) (suc next))) (origin + suc next) u w →
+          InSlot s sp origin total frame u next (slice_index v.registers (suc r)) →
+          Stored count (suc (suc r)) (suc next) u w → Stored (suc count) (suc r) next v w
       stored u w first rest here others zero lt =
           let e : origin + (next + 0) ≡ origin + next = omega arith in
           let f : suc r ≡ suc r + 0 = omega arith in
@@ -95,7 +102,9 @@ function_at s place f has =
       returns = h6;
     }
 
-length-function : (f : FunctionTree) → length (function_code f) ≡ 4 + (length (argument_code (parameters f) 10 0) + (length (expression_code (names_of f) (parameters f) f.body) + 9))
+length-function :
+    (f : FunctionTree) →
+    length (function_code f) ≡ 4 + (length (argument_code (parameters f) 10 0) + (length (expression_code (names_of f) (parameters f) f.body) + 9))
 unfolding function_code
 length-function f =
     let c1 = move_sp Sub (frame_bytes f) in
@@ -122,7 +131,9 @@ pub record FewSlots (f : FunctionTree) : Type 0 where
   pub few_slots : slots f ≤ 4000
   pub named : (name : List ℕ) → Contains (names_of f) name → index_of (names_of f) name < parameters f
 
-pub function_out : (s : Setting) (room : ℕ) (f : FunctionTree) (args : List ℕ) (v : View) → Entry s room args v → FewSlots f → HasAt s v.place (function_code f) → room < frame_bytes f → Ends s 4 v StackOut
+pub function_out :
+    (s : Setting) (room : ℕ) (f : FunctionTree) (args : List ℕ) (v : View) → Entry s room args v → FewSlots f →
+    HasAt s v.place (function_code f) → room < frame_bytes f → Ends s 4 v StackOut
 function_out s room f args v entry few has much =
     let code = function_at s v.place f has in
     let below : alu Sub (held v.registers 2) (frame_bytes f) ≡ s.base + room - frame_bytes f =
@@ -172,7 +183,9 @@ module _ (s : Setting) (room : ℕ) (f : FunctionTree) (args : List ℕ) (v : Vi
   abbrev pub argument : List ℕ → ℕ
   argument name = slice_index args (index_of (names_of f) name)
 
-  names_in : (w : View) → Stored s sp_in origin_in (slots f) frame_in (parameters f) 10 0 taken w → NamesIn s sp_in origin_in (slots f) frame_in (names_of f) argument (parameters f) w
+  names_in :
+      (w : View) → Stored s sp_in origin_in (slots f) frame_in (parameters f) 10 0 taken w →
+      NamesIn s sp_in origin_in (slots f) frame_in (names_of f) argument (parameters f) w
   names_in w stored = record {
     in_slot = λ name among.
         let k = index_of (names_of f) name in
@@ -183,7 +196,12 @@ module _ (s : Setting) (room : ℕ) (f : FunctionTree) (args : List ℕ) (v : Vi
   }
 
   -- behind the body: the value goes to a0, the frame is given back, and the stub ends the run
-  after_body : (w : View) (word : ℕ) → Ready s sp_in w → slice_index w.registers 1 ≡ code_start → InSlot s sp_in origin_in (slots f) frame_in w (slots f - 1) word → HasAt s w.place (load_slot 10 (slots f - 1)) → HasAt s (w.place + 4) (move_sp Add (frame_bytes f)) → HasAt s (w.place + 4 + 4) (Jalr 0 1 0 ∷ []) → HasAt s 0 (OpImm Addi 7 0 0 ∷ Ecall ∷ []) → s.result ≡ returns.Comp comp.Int → Ends s 11 w (Returned (Some (Word word)))
+  after_body :
+      (w : View) (word : ℕ) → Ready s sp_in w → slice_index w.registers 1 ≡ code_start →
+      InSlot s sp_in origin_in (slots f) frame_in w (slots f - 1) word →
+      HasAt s w.place (load_slot 10 (slots f - 1)) → HasAt s (w.place + 4) (move_sp Add (frame_bytes f)) →
+      HasAt s (w.place + 4 + 4) (Jalr 0 1 0 ∷ []) → HasAt s 0 (OpImm Addi 7 0 0 ∷ Ecall ∷ []) →
+      s.result ≡ returns.Comp comp.Int → Ends s 11 w (Returned (Some (Word word)))
   unfolding sp_in
   after_body w word ready back there loads gives returns stub int =
       let k = slots f - 1 in
@@ -215,7 +233,12 @@ module _ (s : Setting) (room : ℕ) (f : FunctionTree) (args : List ℕ) (v : Vi
       then_ends s 4 7 w u4 _ load (then_ends s 4 3 u4 u5 _ give (then_ends s 1 2 u5 u6 _ return (then_ends s 1 1 u6 u7 _ clear ends)))
 
   -- the same at a place that is written otherwise
-  after_body_at : (w : View) (place word : ℕ) → w.place ≡ place → Ready s sp_in w → slice_index w.registers 1 ≡ code_start → InSlot s sp_in origin_in (slots f) frame_in w (slots f - 1) word → HasAt s place (load_slot 10 (slots f - 1)) → HasAt s (place + 4) (move_sp Add (frame_bytes f)) → HasAt s (place + 4 + 4) (Jalr 0 1 0 ∷ []) → HasAt s 0 (OpImm Addi 7 0 0 ∷ Ecall ∷ []) → s.result ≡ returns.Comp comp.Int → Ends s 11 w (Returned (Some (Word word)))
+  after_body_at :
+      (w : View) (place word : ℕ) → w.place ≡ place → Ready s sp_in w → slice_index w.registers 1 ≡ code_start →
+      InSlot s sp_in origin_in (slots f) frame_in w (slots f - 1) word → HasAt s place (load_slot 10 (slots f - 1)) →
+      HasAt s (place + 4) (move_sp Add (frame_bytes f)) → HasAt s (place + 4 + 4) (Jalr 0 1 0 ∷ []) →
+      HasAt s 0 (OpImm Addi 7 0 0 ∷ Ecall ∷ []) → s.result ≡ returns.Comp comp.Int →
+      Ends s 11 w (Returned (Some (Word word)))
   after_body_at w place word e ready back there loads gives returns stub int =
       after_body w word ready back there
       (at_place s place w.place (load_slot 10 (slots f - 1)) e loads)
@@ -228,12 +251,17 @@ module _ (s : Setting) (room : ℕ) (f : FunctionTree) (args : List ℕ) (v : Vi
   taken_place = refl
 
   -- the stub's address stays in ra
-  back_kept : (n m low high : ℕ) (w2 w3 : View) → Reaches s n low taken w2 → Reaches s m high w2 w3 → slice_index w3.registers 1 ≡ code_start
+  back_kept :
+      (n m low high : ℕ) (w2 w3 : View) → Reaches s n low taken w2 → Reaches s m high w2 w3 →
+      slice_index w3.registers 1 ≡ code_start
   back_kept n m low high w2 w3 second third =
       third.keeps.others 1 (inl (omega arith)) ∙ second.keeps.others 1 (inl (omega arith)) ∙ taken_other 1 (omega arith) (omega arith) ∙ entry.back
 
   -- a function that fits the stack returns the word of its body
-  pub function_ends : HasAt s v.place (function_code f) → HasAt s 0 (OpImm Addi 7 0 0 ∷ Ecall ∷ []) → s.result ≡ returns.Comp comp.Int → NamesAmong (names_of f) f.body → WordsFit f.body → Ends s (length (function_code f) + 2) v (Returned (Some (Word (word_in argument f.body))))
+  pub function_ends :
+      HasAt s v.place (function_code f) → HasAt s 0 (OpImm Addi 7 0 0 ∷ Ecall ∷ []) →
+      s.result ≡ returns.Comp comp.Int → NamesAmong (names_of f) f.body → WordsFit f.body →
+      Ends s (length (function_code f) + 2) v (Returned (Some (Word (word_in argument f.body))))
   function_ends has stub int among fit =
       let code = function_at s v.place f has in
       let p = parameters f in

@@ -30,25 +30,34 @@ pub shl_small : (a k : ℕ) → a * 2 ^ k < 2 ^ 64 → shl_word a k ≡ a * 2 ^ 
 unfolding shl_word
 shl_small a k small = mod-eq_of_lt small
 
-sets_addi : (s : Setting) (v : View) (rd rs imm : ℕ) → imm < 2048 → SetsRegister s v (OpImm Addi rd rs imm) rd (add_word (held v.registers rs) imm)
+sets_addi :
+    (s : Setting) (v : View) (rd rs imm : ℕ) → imm < 2048 →
+    SetsRegister s v (OpImm Addi rd rs imm) rd (add_word (held v.registers rs) imm)
 sets_addi s v rd rs imm small = record {
   effect = λ h stands. ap₂ (λ a b. sets rd (add_word a b) (h.pc + 4) h) (register_held s h v rs stands) (imm_small imm small);
   word = λ h stands. add_word-below (held v.registers rs) imm;
 }
 
-sets_slli : (s : Setting) (v : View) (rd rs amount : ℕ) → SetsRegister s v (Shift Slli rd rs amount) rd (shl_word (held v.registers rs) amount)
+sets_slli :
+    (s : Setting) (v : View) (rd rs amount : ℕ) →
+    SetsRegister s v (Shift Slli rd rs amount) rd (shl_word (held v.registers rs) amount)
 sets_slli s v rd rs amount = record {
   effect = λ h stands. ap (λ a. sets rd (shl_word a amount) (h.pc + 4) h) (register_held s h v rs stands);
   word = λ h stands. shl_word-below (held v.registers rs) amount;
 }
 
-pub sets_op : (s : Setting) (v : View) (op : AluOp) (rd ra rb : ℕ) → (AllWords v.registers → alu op (held v.registers ra) (held v.registers rb) < 2 ^ 64) → SetsRegister s v (Op op rd ra rb) rd (alu op (held v.registers ra) (held v.registers rb))
+pub sets_op :
+    (s : Setting) (v : View) (op : AluOp) (rd ra rb : ℕ) →
+    (AllWords v.registers → alu op (held v.registers ra) (held v.registers rb) < 2 ^ 64) →
+    SetsRegister s v (Op op rd ra rb) rd (alu op (held v.registers ra) (held v.registers rb))
 sets_op s v op rd ra rb small = record {
   effect = λ h stands. ap₂ (λ a b. sets rd (alu op a b) (h.pc + 4) h) (register_held s h v ra stands) (register_held s h v rb stands);
   word = λ h stands. small stands.register_words;
 }
 
-sets_load : (s : Setting) (v : View) (rd rs imm k : ℕ) → imm < 2048 → add_word (held v.registers rs) imm ≡ s.base + 8 * k → 8 * k + 8 ≤ s.bytes → SetsRegister s v (Load Ld rd rs imm) rd (slice_index v.stack k)
+sets_load :
+    (s : Setting) (v : View) (rd rs imm k : ℕ) → imm < 2048 → add_word (held v.registers rs) imm ≡ s.base + 8 * k →
+    8 * k + 8 ≤ s.bytes → SetsRegister s v (Load Ld rd rs imm) rd (slice_index v.stack k)
 sets_load s v rd rs imm k small address within = record {
   effect = λ h stands.
       ap₂ (λ a b. loads (loaded (code_region h.image.code ∷ h.memory) (add_word a b) 8) Ld rd h) (register_held s h v rs stands) (imm_small imm small)
@@ -57,17 +66,27 @@ sets_load s v rd rs imm k small address within = record {
   word = λ h stands. stands.stack_words k;
 }
 
-pub addi_step : (s : Setting) (v : View) (rd rs imm : ℕ) → Instruction s v.place (OpImm Addi rd rs imm) → rd ≢ 2 → imm < 2048 → Leads s 1 v (with_set rd (add_word (held v.registers rs) imm) v)
+pub addi_step :
+    (s : Setting) (v : View) (rd rs imm : ℕ) → Instruction s v.place (OpImm Addi rd rs imm) → rd ≢ 2 → imm < 2048 →
+    Leads s 1 v (with_set rd (add_word (held v.registers rs) imm) v)
 addi_step s v rd rs imm instruction other small = set_step s v _ rd _ instruction (inl other) (sets_addi s v rd rs imm small)
 
-pub slli_step : (s : Setting) (v : View) (rd rs amount : ℕ) → Instruction s v.place (Shift Slli rd rs amount) → rd ≢ 2 → Leads s 1 v (with_set rd (shl_word (held v.registers rs) amount) v)
+pub slli_step :
+    (s : Setting) (v : View) (rd rs amount : ℕ) → Instruction s v.place (Shift Slli rd rs amount) → rd ≢ 2 →
+    Leads s 1 v (with_set rd (shl_word (held v.registers rs) amount) v)
 slli_step s v rd rs amount instruction other = set_step s v _ rd _ instruction (inl other) (sets_slli s v rd rs amount)
 
-pub op_step : (s : Setting) (v : View) (op : AluOp) (rd ra rb : ℕ) → Instruction s v.place (Op op rd ra rb) → rd ≢ 2 → (AllWords v.registers → alu op (held v.registers ra) (held v.registers rb) < 2 ^ 64) → Leads s 1 v (with_set rd (alu op (held v.registers ra) (held v.registers rb)) v)
+pub op_step :
+    (s : Setting) (v : View) (op : AluOp) (rd ra rb : ℕ) → Instruction s v.place (Op op rd ra rb) → rd ≢ 2 →
+    (AllWords v.registers → alu op (held v.registers ra) (held v.registers rb) < 2 ^ 64) →
+    Leads s 1 v (with_set rd (alu op (held v.registers ra) (held v.registers rb)) v)
 op_step s v op rd ra rb instruction other small = set_step s v _ rd _ instruction (inl other) (sets_op s v op rd ra rb small)
 
 -- a load of the stack's word k
-pub load_step : (s : Setting) (v : View) (rd rs imm k : ℕ) → Instruction s v.place (Load Ld rd rs imm) → rd ≢ 2 → imm < 2048 → add_word (held v.registers rs) imm ≡ s.base + 8 * k → 8 * k + 8 ≤ s.bytes → Leads s 1 v (with_set rd (slice_index v.stack k) v)
+pub load_step :
+    (s : Setting) (v : View) (rd rs imm k : ℕ) → Instruction s v.place (Load Ld rd rs imm) → rd ≢ 2 → imm < 2048 →
+    add_word (held v.registers rs) imm ≡ s.base + 8 * k → 8 * k + 8 ≤ s.bytes →
+    Leads s 1 v (with_set rd (slice_index v.stack k) v)
 load_step s v rd rs imm k instruction other small address within = set_step s v _ rd _ instruction (inl other) (sets_load s v rd rs imm k small address within)
 
 -- the next view, with a word of the stack written
@@ -75,7 +94,10 @@ abbrev pub with_stored : ℕ → ℕ → View → View
 with_stored k value v = record { place = v.place + 1; registers = v.registers; stack = slice_set v.stack k value }
 
 -- a store to the stack's word k
-pub store_step : (s : Setting) (v : View) (ra rs imm k : ℕ) → Instruction s v.place (Store Sd ra rs imm) → imm < 2048 → add_word (held v.registers ra) imm ≡ s.base + 8 * k → 8 * k + 8 ≤ s.bytes → Leads s 1 v (with_stored k (held v.registers rs) v)
+pub store_step :
+    (s : Setting) (v : View) (ra rs imm k : ℕ) → Instruction s v.place (Store Sd ra rs imm) → imm < 2048 →
+    add_word (held v.registers ra) imm ≡ s.base + 8 * k → 8 * k + 8 ≤ s.bytes →
+    Leads s 1 v (with_stored k (held v.registers rs) v)
 store_step s v ra rs imm k instruction small address within = record {
   by = λ h stands.
       let before = perhaps_asked s.schedule h in

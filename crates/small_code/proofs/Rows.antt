@@ -45,7 +45,10 @@ pub record AtRow (code : List ℕ) (start : ℕ) (f : FunctionTree) (row : Func)
 same_some : {A : Type 0} {x y : A} → Some x ≡ Some y → x ≡ y
 same_some e = cc
 
-pub at_row : (fs : List FunctionTree) (pre : List ℕ) (k : ℕ) (f : FunctionTree) (row : Func) → slice_get fs k ≡ Some f → slice_get (rows_from (4 * length pre) fs) k ≡ Some row → AtRow (pre ++ flat_map function_words fs) (length pre) f row
+pub at_row :
+    (fs : List FunctionTree) (pre : List ℕ) (k : ℕ) (f : FunctionTree) (row : Func) → slice_get fs k ≡ Some f →
+    slice_get (rows_from (4 * length pre) fs) k ≡ Some row →
+    AtRow (pre ++ flat_map function_words fs) (length pre) f row
 at_row [] pre k f row e h = absurd (cc)
 at_row (g ∷ fs) pre zero f row e h =
     let same : g ≡ f = same_some e in

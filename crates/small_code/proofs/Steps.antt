@@ -54,11 +54,15 @@ at s h = record { hart = h; result = s.result; answers = s.answers; calls = [] }
 
 -- So many instructions lead from one view to another.
 pub record Leads (s : Setting) (n : ℕ) (v w : View) : Type 0 where
-  pub by : (h : Hart) → Stands s h v → (g : Hart) × Stands s g w × ((j k : ℕ) → j ≡ n + k → after s.schedule j (Going (at s h)) ≡ after s.schedule k (Going (at s g)))
+  pub by :
+      (h : Hart) → Stands s h v →
+      (g : Hart) × Stands s g w × ((j k : ℕ) → j ≡ n + k → after s.schedule j (Going (at s h)) ≡ after s.schedule k (Going (at s g)))
 
 -- So many instructions end the run, with no external call.
 pub record Ends (s : Setting) (n : ℕ) (v : View) (end : End) : Type 0 where
-  pub by : (h : Hart) → Stands s h v → (j k : ℕ) → j ≡ n + k → after s.schedule j (Going (at s h)) ≡ after s.schedule k (Over [] end)
+  pub by :
+      (h : Hart) → Stands s h v → (j k : ℕ) → j ≡ n + k →
+      after s.schedule j (Going (at s h)) ≡ after s.schedule k (Over [] end)
 
 pub stays : (s : Setting) (v : View) → Leads s 0 v v
 stays s v = record { by = λ h stands. (h, stands, λ j k e. let same : j ≡ k = omega arith in ap (λ n. after s.schedule n (Going (at s h))) same) }
@@ -71,7 +75,8 @@ then_leads s n m u v w a b = record {
       (second.0, second.1, λ j k e. first.2 j (m + k) (omega arith) ∙ second.2 (m + k) k refl);
 }
 
-pub then_ends : (s : Setting) (n m : ℕ) (u v : View) (end : End) → Leads s n u v → Ends s m v end → Ends s (n + m) u end
+pub then_ends :
+    (s : Setting) (n m : ℕ) (u v : View) (end : End) → Leads s n u v → Ends s m v end → Ends s (n + m) u end
 then_ends s n m u v end a b = record {
   by = λ h stands j k e.
       let first = a.by h stands in
@@ -97,7 +102,9 @@ perhaps_stands s h v stands = asked_stands s (is_among s.schedule.asks h.retired
 
 -- ---- one instruction
 
-fetch_at : (code : List ℕ) (pc place word : ℕ) → pc ≡ code_start + 4 * place → slice_get code place ≡ Some word → fetch code pc ≡ Some word
+fetch_at :
+    (code : List ℕ) (pc place word : ℕ) → pc ≡ code_start + 4 * place → slice_get code place ≡ Some word →
+    fetch code pc ≡ Some word
 fetch_at code pc place word e h =
     let index : (pc - code_start) / 4 ≡ place = omega arith in
     cond-true _ _ _ (and_from _ _ (le-leb code_start pc (omega arith)) (eq-eqb (pc % 4) 0 (omega arith)))
@@ -108,14 +115,17 @@ pub record Instruction (s : Setting) (place : ℕ) (i : Instr) : Type 0 where
   pub there : slice_get s.image.code place ≡ Some (encoded i)
   pub fits : InstrFits i
 
-hart_executes : (s : Setting) (h : Hart) (v : View) (i : Instr) → Stands s h v → Instruction s v.place i → hart h ≡ executed i h
+hart_executes :
+    (s : Setting) (h : Hart) (v : View) (i : Instr) → Stands s h v → Instruction s v.place i → hart h ≡ executed i h
 hart_executes s h v i stands instruction =
     ap (λ o. fetched o h)
     (ap (λ (image : Tables). fetch image.code h.pc) stands.image ∙ fetch_at s.image.code h.pc v.place (encoded i) stands.pc instruction.there)
     ∙ ap (λ o. decoded_next o h) (decoded-encoded i instruction.fits)
 
 -- what comes of one instruction, where its effect on every hart that stands so is known
-pub one_step : (s : Setting) (h : Hart) (v : View) (i : Instr) → Stands s h v → Instruction s v.place i → (j k : ℕ) → j ≡ 1 + k → after s.schedule j (Going (at s h)) ≡ after s.schedule k (after_next (executed i (perhaps_asked s.schedule h)) (at s h))
+pub one_step :
+    (s : Setting) (h : Hart) (v : View) (i : Instr) → Stands s h v → Instruction s v.place i → (j k : ℕ) → j ≡ 1 + k →
+    after s.schedule j (Going (at s h)) ≡ after s.schedule k (after_next (executed i (perhaps_asked s.schedule h)) (at s h))
 one_step s h v i stands instruction j k e =
     let more : j ≡ suc k = omega arith in
     ap (λ n. after s.schedule n (Going (at s h))) more
@@ -143,7 +153,9 @@ set_words (x ∷ xs) zero value all small (suc i) = all (suc i)
 set_words (x ∷ xs) (suc j) value all small zero = all zero
 set_words (x ∷ xs) (suc j) value all small (suc i) = set_words xs j value (λ k. all (suc k)) small i
 
-with_words : (registers : List ℕ) (rd value : ℕ) → AllWords registers → value < 2 ^ 64 → AllWords (with_register rd value registers)
+with_words :
+    (registers : List ℕ) (rd value : ℕ) → AllWords registers → value < 2 ^ 64 →
+    AllWords (with_register rd value registers)
 with_words registers zero value all small = all
 with_words registers (suc rd) value all small = set_words registers (suc rd) value all small
 
@@ -155,7 +167,8 @@ with_set rd value v = record { place = v.place + 1; registers = with_register rd
 abbrev pub Passes : Setting → ℕ → ℕ → Type 0
 Passes s rd value = (rd ≢ 2) ⊎ (s.base ≤ value)
 
-passes_test : (s : Setting) (rd value base : ℕ) → base ≡ s.base → Passes s rd value → ((rd == 2) && nat_lt value base) ≡ false
+passes_test :
+    (s : Setting) (rd value base : ℕ) → base ≡ s.base → Passes s rd value → ((rd == 2) && nat_lt value base) ≡ false
 passes_test s rd value base e (inl other) = and_left _ _ (ne_eqb rd 2 other)
 passes_test s rd value base e (inr above) = and_right _ _ (le-ltb value base (omega arith))
 
@@ -164,7 +177,9 @@ pub record SetsRegister (s : Setting) (v : View) (i : Instr) (rd value : ℕ) : 
   pub effect : (h : Hart) → Stands s h v → executed i h ≡ sets rd value (h.pc + 4) h
   pub word : (h : Hart) → Stands s h v → value < 2 ^ 64
 
-pub set_step : (s : Setting) (v : View) (i : Instr) (rd value : ℕ) → Instruction s v.place i → Passes s rd value → SetsRegister s v i rd value → Leads s 1 v (with_set rd value v)
+pub set_step :
+    (s : Setting) (v : View) (i : Instr) (rd value : ℕ) → Instruction s v.place i → Passes s rd value →
+    SetsRegister s v i rd value → Leads s 1 v (with_set rd value v)
 set_step s v i rd value instruction passes known = record {
   by = λ h stands.
       let before = perhaps_asked s.schedule h in
@@ -189,7 +204,9 @@ set_step s v i rd value instruction passes known = record {
     next_pc pc place e = omega arith
 
 -- an instruction that would bring sp below the stack's base
-pub out_step : (s : Setting) (v : View) (i : Instr) (value : ℕ) → Instruction s v.place i → value < s.base → SetsRegister s v i 2 value → Ends s 1 v StackOut
+pub out_step :
+    (s : Setting) (v : View) (i : Instr) (value : ℕ) → Instruction s v.place i → value < s.base →
+    SetsRegister s v i 2 value → Ends s 1 v StackOut
 out_step s v i value instruction low known = record {
   by = λ h stands j k e.
       let before = perhaps_asked s.schedule h in
