@@ -1,0 +1,3 @@
+pub mod Emitted
+pub mod Files
+pub mod Sizes

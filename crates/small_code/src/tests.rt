@@ -1,0 +1,1 @@
+//! Images of small files.
