@@ -9,7 +9,7 @@ ghost use Rattle.small_code.specs.Compiled.{function_words};
 use crate::emit::Code;
 use crate::registers::{A0, RA, ZERO};
 use crate::size::frame_bytes;
-use cmm_tree::Function;
+use cmm_tree::{Function, Item};
 use rv_isa::{AluOp, Instr};
 use std::alloc::AllocError;
 
@@ -44,5 +44,14 @@ impl Code {
             self.store_slot(A0 + argument, u16::from(argument))?;
         }
         Ok(())
+    }
+}
+
+/// The function that an item is.
+pub fn function_of(item: &Item) -> &Function
+    ensures { item.now ≡ Item.Function result.now }
+{
+    match item {
+        Item::Function(function) => function,
     }
 }

@@ -14,10 +14,11 @@ ghost use Rattle.small_code.specs.TooLarge.{first_too_large};
 ghost use Rattle.bs_fault.specs.declared.large.Large.{Large};
 
 use crate::emit::Code;
+use crate::function::function_of;
 use crate::size::{frame_bytes, function_words, too_large};
 use bs_fault::BuildError;
 use bs_words::{Comp, List, Name, Ret};
-use cmm_tree::{File, Function, Item, Param};
+use cmm_tree::{File, Function, Param};
 use image_form::{FuncRow, Image, SymRow};
 use std::alloc::{AllocError, Global};
 
@@ -52,7 +53,7 @@ fn image(alloc: Global, file: &File) -> Result<Image, AllocError>
     let mut code = Code::of_stub(alloc)?;
     let mut funcs = Vec::new(alloc);
     for item in file.items.as_slice() {
-        let Item::Function(function) = item;
+        let function = function_of(item);
         funcs.push(row(alloc, function, code.len())?)?;
         code.function(function)?;
     }
@@ -76,13 +77,20 @@ fn row(alloc: Global, function: &Function, words_before: usize) -> Result<FuncRo
     ensures { IfOk result (λ row. func row ≡ row_at (4 * words_before) (function_view function.now)) }
 {
     Ok(FuncRow {
-        name: function.name.clone()?,
+        name: copied(alloc, &function.name)?,
         offset: 4 * words_before as u32,
         words: function_words(function),
         frame: frame_bytes(function),
         params: components(alloc, function.params.as_slice())?,
         result: Ret::Comp(Comp::Int),
     })
+}
+
+fn copied(alloc: Global, name: &Name) -> Result<Name, AllocError>
+    ensures { IfOk result (λ copy. copy ≡ name.now) }
+{
+    let bytes = name.as_bytes().to_vec(alloc)?;
+    Ok(Name::from_vec(bytes))
 }
 
 fn components(alloc: Global, params: &[Param]) -> Result<List<Comp>, AllocError>

@@ -8,8 +8,9 @@ ghost use Rattle.small_code.specs.Compiled.{function_words, row_at, compiled};
 ghost use Rattle.small_code.specs.TooLarge.{section_bytes_of, first_too_large};
 ghost use Rattle.bs_fault.specs.declared.large.Section.TheVariants as section;
 
+use crate::function::function_of;
 use bs_fault::{Large, Section};
-use cmm_tree::{Expr, File, Form, Function, Item};
+use cmm_tree::{Expr, File, Form, Function};
 
 /// The most bytes of the body of FUNC.
 const TABLE_LIMIT: u64 = 67_108_864;
@@ -91,7 +92,7 @@ impl Sizes {
     {
         let mut sizes = Sizes { funcs: 4, code: 16 };
         for item in file.items.as_slice() {
-            let Item::Function(function) = item;
+            let function = function_of(item);
             sizes.funcs += row_bytes(function);
             sizes.code += 4 * u64::from(function_words(function));
         }
