@@ -6,3 +6,17 @@ pub mod Numbers
 pub mod Rules
 pub mod Sizes
 pub mod Types
+pub mod Memory
+pub mod Steps
+pub mod Instructions
+pub mod Pieces
+pub mod Values
+pub mod Expressions
+pub mod Ends
+pub mod Functions
+pub mod Names
+pub mod Source
+pub mod Rows
+pub mod Whole
+pub mod Start
+pub mod Correct
