@@ -1,5 +1,5 @@
 -- The image of a small file keeps the rules of images, where its sections keep their limits.
-use Rattle.std.proofs.Common.{◌≡◌, ◌≢◌, ℕ, zero, suc, ◌+◌, ◌*◌, ◌/◌, ◌%◌, ◌^◌, ◌<◌, ◌≤◌, Bool, true, false, ◌&&◌, leb, leb-true, List, [], ◌∷◌, ◌++◌, length, get_or, map, codes, All, AllPairs, flat_map, refl, sym, ap, ◌∙◌, length-append, lit<, lit≤, arith}
+use Rattle.std.proofs.Common.{◌≡◌, ◌≢◌, ℕ, zero, suc, ◌+◌, ◌*◌, ◌/◌, ◌%◌, ◌^◌, ◌<◌, ◌≤◌, Bool, true, false, ◌&&◌, leb, leb-true, List, [], ◌∷◌, ◌++◌, length, get_or, map, codes, All, AllPairs, flat_map, None, refl, sym, ap, ◌∙◌, length-append, lit<, lit≤, arith}
 use Rattle.std.proofs.lemmas.List.{length-map}
 use Rattle.std.specs.List.{AllByRecursion}
 use Rattle.bs_words.specs.declared.types.Comp.{Comp}
@@ -12,7 +12,8 @@ use Rattle.image_form.specs.Image.{First, EachNext, AllDiffer, IsName, IsParam, 
 use Rattle.image_form.specs.Tables.{Func, func_names}
 use Rattle.small_code.specs.Code.{frame_bytes, slots, parameters}
 use Rattle.small_code.specs.Compiled.{compiled, stub, function_words, row_at, rows_from}
-use Rattle.small_code.proofs.Limits.{bytes_of_syms, bytes_of_roots, bytes_of_extcs, bytes_of_descs}
+use Rattle.small_code.specs.TooLarge.{first_too_large}
+use Rattle.small_code.proofs.Limits.{bytes_of_syms, bytes_of_roots, bytes_of_extcs, bytes_of_descs, none_passed}
 use Rattle.small_code.proofs.Numbers.{all-append, words_below}
 use Rattle.small_code.proofs.Sizes.{length-function}
 use Rattle.small_code.proofs.Types.{body_type-int, by_recursion}
@@ -115,14 +116,15 @@ is_built_in = record {
   visible = seen (99 ∷ 97 ∷ 109 ∷ 108 ∷ 95 ∷ 98 ∷ 111 ∷ 117 ∷ 110 ∷ 100 ∷ 95 ∷ 101 ∷ 114 ∷ 114 ∷ 111 ∷ 114 ∷ []) refl;
 }
 
-pub are_tables : (file : FileTree) → IsSmall file → length (table_bytes func_bytes (rows_from 16 (functions file))) ≤ table_limit → 4 * length (stub ++ flat_map function_words (functions file)) ≤ code_limit → AreTables (compiled file)
-are_tables file small funcs_short code_short =
+pub are_tables : (file : FileTree) → IsSmall file → first_too_large (compiled file) ≡ None → AreTables (compiled file)
+are_tables file small none =
+    let limits = none_passed file none in
     let fs = functions file in
     let all = by_recursion IsSmallFunction fs small.functions_small in
     let len : length (stub ++ flat_map function_words fs) ≡ 4 + length (flat_map function_words fs) = length-append stub (flat_map function_words fs) in
     record {
-      funcs = record { each = each_func 16 fs refl all; in_order = in_order 16 fs; in_code = in_code (4 * length (stub ++ flat_map function_words fs)) 16 fs (omega (arith, len)); short = funcs_short };
-      code = record { words = all-append (λ w. w < 2 ^ 32) stub (flat_map function_words fs) stub_below (words_below fs all); stub = omega (arith, len); short = code_short };
+      funcs = record { each = each_func 16 fs refl all; in_order = in_order 16 fs; in_code = in_code (4 * length (stub ++ flat_map function_words fs)) 16 fs (omega (arith, len)); short = limits.0 };
+      code = record { words = all-append (λ w. w < 2 ^ 32) stub (flat_map function_words fs) stub_below (words_below fs all); stub = omega (arith, len); short = limits.1 };
       bytes = record { begins = lit≤ tt; short = lit≤ tt };
       syms = record { each = (record { name = is_built_in; in_data = lit≤ tt }, tt); in_order = (tt, tt); short = omega (arith, bytes_of_syms file) };
       names_differ = rw (names_of_rows 16 fs) (all_differ caml_bound_error (names_of_functions file) small.names_differ (none_built_in fs all));

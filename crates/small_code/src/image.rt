@@ -6,6 +6,7 @@ ghost use Rattle.cmm_tree.specs.Tree.{functions};
 ghost use Rattle.cmm_tree.specs.View.{function_view, file_view, param_view};
 ghost use Rattle.cmm_tree.specs.Small.{IsSmall, IsSmallFunction};
 ghost use Rattle.correctness.specs.Bounds.{IsBounded, IsRoomy};
+ghost use Rattle.correctness.specs.Correct.{IsCorrect};
 ghost use Rattle.image_form.specs.Image.{IsImage};
 ghost use Rattle.image_form.specs.Tables.{func, sym, tables};
 ghost use Rattle.small_code.specs.Compiled.{compiled, row_at};
@@ -25,17 +26,20 @@ use std::alloc::{AllocError, Global};
 /// The image of a file of a small text: the stub, the functions one behind the other in the order of the
 /// text, and the built-in data.
 ///
+/// The machine does with it what the text means, for every stack and heap that a run may have.
+///
 /// It is refused where a section would pass its limit, with the first such section and the bytes that
 /// its body would have; that is found before any code is made. `OutOfMemory` says that memory ran out.
 pub fn compile_small(alloc: Global, file: &File) -> Result<Image, BuildError>
     requires { IsSmall (file_view file.now) }
     ensures exact { IfOk result (λ image. tables image ≡ compiled (file_view file.now)) }
     ensures is_image { IfOk result IsImage }
-    ensures small { IfOk result (λ image. first_too_large (tables image) ≡ None) }
-    ensures large { (large : Large) → result ≡ Err (BuildError.TooLarge large) → first_too_large (compiled (file_view file.now)) ≡ Some large }
-    ensures roomy { IsRoomy (file_view file.now) → (large : Large) → result ≢ Err (BuildError.TooLarge large) }
+    ensures correct { IfOk result (λ image. IsCorrect (file_view file.now) (tables image)) }
     ensures bounded { IfOk result (λ image. IsBounded (file_view file.now) (tables image)) }
     ensures frames { IfOk result (λ image. AllZip HasLeastFrame (functions (file_view file.now)) (tables image).funcs) }
+    ensures keeps_limits { IfOk result (λ image. first_too_large (tables image) ≡ None) }
+    ensures large { (large : Large) → result ≡ Err (BuildError.TooLarge large) → first_too_large (compiled (file_view file.now)) ≡ Some large }
+    ensures roomy { IsRoomy (file_view file.now) → (large : Large) → result ≢ Err (BuildError.TooLarge large) }
 {
     if let Some(large) = too_large(file) {
         return Err(BuildError::TooLarge(large));
