@@ -1,3 +1,11 @@
+pub mod Bounded
+pub mod Emitted
+pub mod Files
+pub mod Limits
+pub mod Numbers
+pub mod Rules
+pub mod Sizes
+pub mod Types
 pub mod Memory
 pub mod Steps
 pub mod Instructions
