@@ -1,3 +1,6 @@
 pub mod Lengths
 pub mod Texts
 pub mod Loops
+pub mod Takes
+pub mod FieldLaws
+pub mod RowLaws
