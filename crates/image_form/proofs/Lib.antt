@@ -4,3 +4,5 @@ pub mod Loops
 pub mod Takes
 pub mod FieldLaws
 pub mod RowLaws
+pub mod Rules
+pub mod PartLaws
