@@ -6,3 +6,4 @@ pub mod FieldLaws
 pub mod RowLaws
 pub mod Rules
 pub mod PartLaws
+pub mod ImageLaws
