@@ -252,3 +252,32 @@ fn desc_part(
     let rows = placed(total, rest, desc_table(alloc, code_len, body))?;
     Ok((rows, rest))
 }
+
+#[tactic(auto, unfolding(crate::specs::Reading::reading))]
+fn image_from(alloc: Global, bytes: &[u8]) -> Result<Image, ImageError>
+    ensures { Reads tables result (reading bytes.now) }
+{
+    let total = bytes.len();
+    let rest = mark_from(total, ImageFault::Magic, b"CMMRV64\n", bytes)?;
+    let rest = mark_from(total, ImageFault::Version, &[1, 0, 0, 0], rest)?;
+    let mut seen = Seen::new(alloc);
+    let (funcs, rest) = func_part(alloc, total, &mut seen, rest)?;
+    let (code, rest) = code_part(alloc, total, &funcs, rest)?;
+    let (data, rest) = data_part(alloc, total, rest)?;
+    let (syms, rest) = sym_part(alloc, total, &mut seen, data.len(), rest)?;
+    let (roots, rest) = root_part(alloc, total, data.len(), rest)?;
+    let (extcs, rest) = ext_part(alloc, total, rest)?;
+    let (descs, rest) = desc_part(alloc, total, 4 * code.len(), rest)?;
+    if !rest.is_empty() {
+        return Err(refusal(ImageFault::Trailing, total, rest));
+    }
+    Ok(Image {
+        funcs: bs_words::List::from_vec(funcs),
+        code: bs_words::List::from_vec(code),
+        bytes: bs_words::List::from_vec(data),
+        syms: bs_words::List::from_vec(syms),
+        roots: bs_words::List::from_vec(roots),
+        extcs: bs_words::List::from_vec(extcs),
+        descs: bs_words::List::from_vec(descs),
+    })
+}
