@@ -159,3 +159,49 @@ reading_takes bytes t fits e =
         descs = z.fits; descs_within = z.within;
       } in
       subst (λ (u : Tables). AreRead u × (bytes ≡ tables_bytes u)) g.1 (read, whole))))))))))
+
+mark_goes : {Y : Type 0} (total : ℕ) (fault : ImageFault) (mark rest : List ℕ) (k : List ℕ → Result Y ImageRefusal) → (mark_at total fault mark (mark ++ rest) >>= k) ≡ k rest
+mark_goes total fault mark rest k = ap (λ r. r >>= k) (mark_again total fault mark rest)
+
+part_goes : {A Y : Type 0} (read : List ℕ → Result A ℕ) (spell : A → List ℕ) (limits : Limits) (Fits : A → Type 0) → IsBody read spell limits Fits → (total : ℕ) (name : List ℕ) (x : A) (rest : List ℕ)
+    (k : A × List ℕ → Result Y ImageRefusal) → Fits x → length (spell x) < 2 ^ 32 → IsWithin limits (length (spell x)) → (part_at total name limits read (section_bytes name (spell x) ++ rest) >>= k) ≡ k (x, rest)
+part_goes read spell limits Fits is total name x rest k fits lt within = ap (λ r. r >>= k) (part_again read spell limits Fits is total name x rest fits lt within)
+
+table_small : (n : ℕ) → IsWithin table_limits n → n < 2 ^ 32
+table_small n within = omega (arith, within.most)
+
+reading_again : (t : Tables) → AreRead t → reading (tables_bytes t) ≡ Ok t
+unfolding reading tables_bytes
+reading_again t r =
+    let total = length (tables_bytes t) in
+    let x7 = section_bytes (codes "DESC") (table_bytes desc_bytes t.descs) ++ [] in
+    let x6 = section_bytes (codes "EXTC") (table_bytes ext_bytes t.extcs) ++ x7 in
+    let x5 = section_bytes (codes "ROOT") (table_bytes le32 t.roots) ++ x6 in
+    let x4 = section_bytes (codes "SYMS") (table_bytes sym_bytes t.syms) ++ x5 in
+    let x3 = section_bytes (codes "DATA") t.bytes ++ x4 in
+    let x2 = section_bytes (codes "CODE") (flat_map le32 t.code) ++ x3 in
+    let x1 = section_bytes (codes "FUNC") (table_bytes func_bytes t.funcs) ++ x2 in
+    let x0 = version ++ x1 in
+    let whole : tables_bytes t ≡ magic ++ x0 = ap (λ (end : List ℕ).
+        magic ++ (version ++ (section_bytes (codes "FUNC") (table_bytes func_bytes t.funcs) ++ (section_bytes (codes "CODE") (flat_map le32 t.code) ++ (section_bytes (codes "DATA") t.bytes
+        ++ (section_bytes (codes "SYMS") (table_bytes sym_bytes t.syms) ++ (section_bytes (codes "ROOT") (table_bytes le32 t.roots) ++ (section_bytes (codes "EXTC") (table_bytes ext_bytes t.extcs) ++ end)))))))) (sym (append-nil (section_bytes (codes "DESC") (table_bytes desc_bytes t.descs)))) in
+    let code_small : length (flat_map le32 t.code) < 2 ^ 32 = omega (arith, r.code_within.most) in
+    let data_small : length t.bytes < 2 ^ 32 = omega (arith, r.bytes_within.most) in
+    ap reading whole
+    ∙ mark_goes _ faults.Magic magic x0 _
+    ∙ mark_goes _ faults.Version version x1 _
+    ∙ part_goes (table_at func_at) (table_bytes func_bytes) table_limits (AreRows FuncRule) func_body _ (codes "FUNC") t.funcs x2 _ r.funcs (table_small _ r.funcs_within) r.funcs_within
+    ∙ part_goes words_at (flat_map le32) (code_limits t.funcs) AreWords (words_body t.funcs) _ (codes "CODE") t.code x3 _ r.code code_small r.code_within
+    ∙ part_goes (λ body. Ok body) (λ b. b) data_limits (λ b. Unit {0}) (data_body data_limits) _ (codes "DATA") t.bytes x4 _ tt data_small r.bytes_within
+    ∙ part_goes (table_at (sym_at (func_names t.funcs) (length t.bytes))) (table_bytes sym_bytes) table_limits (AreRows (SymRule (func_names t.funcs) (length t.bytes))) (sym_body (func_names t.funcs) (length t.bytes)) _ (codes "SYMS") t.syms x5 _ r.syms (table_small _ r.syms_within) r.syms_within
+    ∙ part_goes (table_at (root_at (length t.bytes))) (table_bytes le32) table_limits (AreRows (RootRule (length t.bytes))) (root_body (length t.bytes)) _ (codes "ROOT") t.roots x6 _ r.roots (table_small _ r.roots_within) r.roots_within
+    ∙ part_goes (table_at ext_at) (table_bytes ext_bytes) table_limits (AreRows ExtRule) ext_body _ (codes "EXTC") t.extcs x7 _ r.extcs (table_small _ r.extcs_within) r.extcs_within
+    ∙ part_goes (table_at (desc_at (4 * length t.code))) (table_bytes desc_bytes) table_limits (AreRows (DescRule (4 * length t.code))) (desc_body (4 * length t.code)) _ (codes "DESC") t.descs [] _ r.descs (table_small _ r.descs_within) r.descs_within
+
+-- ---- the laws of the reading
+
+pub read_is : (bytes : List ℕ) (t : Tables) → IsBytes bytes → reading bytes ≡ Ok t → AreTables t × (bytes ≡ tables_bytes t)
+read_is bytes t fits e = let h = reading_takes bytes t fits e in (tables_from t h.0, h.1)
+
+pub is_read : (t : Tables) → AreTables t → reading (tables_bytes t) ≡ Ok t
+is_read t is = reading_again t (tables_to t is)
