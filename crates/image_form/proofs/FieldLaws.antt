@@ -123,10 +123,10 @@ name_decides : (text : List ℕ) → Decides (is_name text) (IsName text)
 unfolding is_name
 name_decides text = (
   λ e.
-    let p = and_parts (ltb 0 (length text)) _ e in
-    let q = and_parts (leb (length text) 255) _ p.1 in
-    record { nonempty = leb-true 1 (length text) p.0; short = leb-true (length text) 255 q.0; visible = visible_true text q.1 },
-  λ name. and_from _ _ (le-leb 1 (length text) name.nonempty) (and_from _ _ (le-leb (length text) 255 name.short) (visible_again text name.visible))
+      let p = and_parts (ltb 0 (length text)) _ e in
+      let q = and_parts (leb (length text) 255) _ p.1 in
+      record { nonempty = leb-true 1 (length text) p.0; short = leb-true (length text) 255 q.0; visible = visible_true text q.1 },
+  λ name. and_from _ _ (le-leb 1 (length text) name.nonempty) (and_from _ _ (le-leb (length text) 255 name.short) (visible_again text name.visible)),
 )
 
 pub name_field : IsField name_at name_bytes IsName

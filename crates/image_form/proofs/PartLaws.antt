@@ -46,7 +46,7 @@ module _ {A : Type 0} (row : List A → List ℕ → Result (A × List ℕ) ℕ)
       let nothing : b.0.1 ≡ [] = nil_from_length b.0.1 (eqb-true _ _ g.0) in
       let parts = (Takes-then bytes (le32 a.0.0) a.0.1 (flat_map spell r.rows) b.0.1 t.0 r.takes).parts in
       let whole : bytes ≡ le32 (length r.rows) ++ flat_map spell r.rows =
-        parts ∙ ap (λ (x : List ℕ). (le32 a.0.0 ++ flat_map spell r.rows) ++ x) nothing ∙ append-nil (le32 a.0.0 ++ flat_map spell r.rows) ∙ ap (λ (n : ℕ). le32 n ++ flat_map spell r.rows) (sym r.count) in
+      parts ∙ ap (λ (x : List ℕ). (le32 a.0.0 ++ flat_map spell r.rows) ++ x) nothing ∙ append-nil (le32 a.0.0 ++ flat_map spell r.rows) ∙ ap (λ (n : ℕ). le32 n ++ flat_map spell r.rows) (sym r.count) in
       subst (λ (xs : List A). (bytes ≡ le32 (length xs) ++ flat_map spell xs) × AreRows Rule xs) same (whole, record { count = omega (arith, r.count, t.1); rules = r.rules })
 
   table_again : (rows : List A) → AreRows Rule rows → table_at row (table_bytes spell rows) ≡ Ok rows
@@ -182,7 +182,7 @@ placed_ok : {A : Type 0} (total : ℕ) (behind : List ℕ) (r : Result A ℕ) (x
 placed_ok total behind (Ok y) x e = cc
 placed_ok total behind (Err n) x e = absurd cc
 
-abbrev kept_part : {X : Type 0} → X → Result X ImageRefusal
+abbrev pub kept_part : {X : Type 0} → X → Result X ImageRefusal
 kept_part x = Ok x
 
 pub part_is : {X : Type 0} (x y : X) → kept_part x ≡ kept_part y → x ≡ y
