@@ -1,5 +1,5 @@
 -- What is read is an image and its bytes, and the bytes of each image are read as it.
-use Rattle.std.proofs.Common.{◌≡◌, ℕ, ◌+◌, ◌-◌, ◌*◌, ◌%◌, ◌^◌, ◌<◌, ◌≤◌, Bool, true, false, cond, eqb, List, [], ◌∷◌, ◌++◌, length, Result, Ok, Err, refl, sym, ap, subst, ◌∙◌, append_assoc, arith}
+use Rattle.std.proofs.Common.{◌≡◌, ℕ, ◌*◌, ◌^◌, ◌<◌, ◌≤◌, Bool, true, cond, eqb, List, [], ◌++◌, length, Result, Ok, Err, sym, ap, subst, ◌∙◌, arith}
 use Rattle.std.specs.Prelude.{codes, IfOk, IfErr}
 use Rattle.std.specs.List.{flat_map, AllByRecursion}
 use Rattle.std.proofs.lemmas.Bool.{eqb-true}
@@ -11,15 +11,15 @@ use Rattle.image_form.specs.declared.reading.Limits.{Limits}
 use Rattle.image_form.specs.declared.image.Image as declared
 use Rattle.image_form.specs.declared.fault.ImageError.{ImageError}
 use Rattle.image_form.specs.declared.fault.ImageError.TheVariants as errors
-use Rattle.image_form.specs.Tables.{Func, Sym, Ext, Desc, Tables, tables, func_names, sym_names}
-use Rattle.image_form.specs.Image.{le32, func_bytes, sym_bytes, ext_bytes, desc_bytes, table_bytes, section_bytes, tables_bytes, magic, version, end_of, AllDiffer, AreFuncs, IsCode, IsData, AreSyms, AreRoots, AreExtcs, AreDescs, AreTables, IsImage, image_bytes}
+use Rattle.image_form.specs.Tables.{Tables, tables, func_names, sym_names}
+use Rattle.image_form.specs.Image.{le32, func_bytes, sym_bytes, ext_bytes, desc_bytes, table_bytes, section_bytes, tables_bytes, magic, version, AreTables, IsImage, image_bytes}
 use Rattle.image_form.specs.Fields.{◌>>=◌, func_at, sym_at, root_at, ext_at, desc_at, table_at, words_at}
 use Rattle.image_form.specs.Reading.{Reads, IsRefusalOf, refused, mark_at, part_at, table_limits, data_limits, code_limits, code_least, reading}
 use Rattle.image_form.proofs.Lengths.{length-words, few, func_nonempty, sym_nonempty, ext_nonempty, desc_nonempty, le32_nonempty}
 use Rattle.image_form.proofs.Takes.{IsBytes, bind_ok, passed_ok, Takes, Takes-then}
 use Rattle.image_form.proofs.RowLaws.{FuncRule, SymRule, RootRule, ExtRule, DescRule, func_field, sym_field, root_field, ext_field, desc_field}
 use Rattle.image_form.proofs.Rules.{new_append, new_parts, differ_from, differ_to, funcs_from, funcs_to, syms_from, syms_to, roots_from, roots_to, extcs_from, extcs_to, descs_from, descs_to}
-use Rattle.image_form.proofs.PartLaws.{IsBody, AreRows, table_body, words_body, data_body, IsWithin, mark_takes, mark_again, TakesPart, part_takes, part_again, kept_part, part_is, code_least_from, code_least_to}
+use Rattle.image_form.proofs.PartLaws.{IsBody, AreRows, table_body, words_body, data_body, IsWithin, mark_takes, mark_again, TakesPart, part_takes, part_again, kept_part, code_least_from, code_least_to}
 
 abbrev AreWords : List ℕ → Type 0
 AreWords = AllByRecursion (λ w. w < 2 ^ 32)

@@ -1,10 +1,10 @@
 -- Each body and each section reads what is spelled so, and nothing else.
-use Rattle.std.proofs.Common.{◌≡◌, ℕ, zero, suc, ◌+◌, ◌-◌, ◌*◌, ◌/◌, ◌%◌, ◌^◌, ◌<◌, ◌≤◌, Bool, true, false, cond, ltb, leb, eqb, ◌&&◌, List, [], ◌∷◌, ◌++◌, length, take, drop, map, max, fold, Result, Ok, Err, refl, sym, ap, subst, ◌∙◌, append_assoc, arith}
+use Rattle.std.proofs.Common.{◌≡◌, ℕ, ◌/◌, ◌%◌, ◌^◌, ◌<◌, ◌≤◌, true, false, ltb, eqb, List, [], ◌∷◌, ◌++◌, length, take, drop, max, fold, Result, Ok, Err, refl, sym, ap, subst, ◌∙◌, append_assoc, arith}
 use Rattle.std.specs.Bool.{Decides}
 use Rattle.std.specs.List.{flat_map, AllByRecursion}
 use Rattle.std.specs.Int.{w32, from_le_bytes}
 use Rattle.std.specs.Str.{bytes_eq}
-use Rattle.std.proofs.lemmas.Bool.{ltb-false, le-ltb, eqb-true, eq-eqb, leb-true, le-leb}
+use Rattle.std.proofs.lemmas.Bool.{ltb-false, le-ltb, eqb-true, leb-true, le-leb}
 use Rattle.std.proofs.lemmas.Bool.Decides.{Decides-and, Decides-eqb}
 use Rattle.std.proofs.lemmas.List.{take_at, drop_at, take-append-drop, length-append, length-take, append-nil, nil_from_length}
 use Rattle.std.proofs.lemmas.Nat.{le_bytes_4, from_le_bytes-to_le_bytes_4}
@@ -14,11 +14,11 @@ use Rattle.bs_fault.specs.declared.image.ImageFault.TheVariants as faults
 use Rattle.bs_fault.specs.declared.image.ImageRefusal.{ImageRefusal}
 use Rattle.image_form.specs.declared.reading.Limits.{Limits}
 use Rattle.image_form.specs.Tables.{Func}
-use Rattle.image_form.specs.Image.{le32, table_bytes, section_bytes, end_of, code_limit}
-use Rattle.image_form.specs.Fields.{◌>>=◌, number_at, rows_at, table_at, words_at}
+use Rattle.image_form.specs.Image.{le32, table_bytes, section_bytes, end_of}
+use Rattle.image_form.specs.Fields.{number_at, rows_at, table_at, words_at}
 use Rattle.image_form.specs.Reading.{refused, whole_at, mark_at, is_within, length_at, section_at, placed, part_at, code_least, code_limits}
 use Rattle.image_form.proofs.Lengths.{length-le32, length-words}
-use Rattle.image_form.proofs.Takes.{IsBytes, IsBytes-drop, IsBytes-take, bind_ok, guard_ok, passed_ok, ok_is, Takes, Takes-then, IsField, AllAfter, TakesRows, rows_take, rows_again}
+use Rattle.image_form.proofs.Takes.{IsBytes, IsBytes-drop, IsBytes-take, bind_ok, guard_ok, passed_ok, ok_is, Takes, Takes-then, IsField, AllAfter, rows_take, rows_again}
 use Rattle.image_form.proofs.FieldLaws.{u32_field, each_from, each_to}
 
 -- A body of a length within the limits reads what is spelled so and keeps a rule, and nothing else.

@@ -1,17 +1,17 @@
 -- Each row reads what is spelled so and keeps the rules in view of the rows before it, and nothing else.
-use Rattle.std.proofs.Common.{◌≡◌, ℕ, zero, suc, ◌+◌, ◌-◌, ◌*◌, ◌%◌, ◌^◌, ◌<◌, ◌≤◌, Bool, true, false, not, cond, ltb, leb, eqb, ◌&&◌, ◌||◌, List, [], ◌∷◌, ◌++◌, length, get_or, take, drop, map, Option, Some, None, Result, Ok, Err, refl, sym, ap, subst, ◌∙◌, append_assoc, arith, inl, inr, ◌⊎◌}
+use Rattle.std.proofs.Common.{◌≡◌, ℕ, ◌+◌, ◌-◌, ◌%◌, ◌^◌, ◌<◌, ◌≤◌, Bool, false, not, ltb, leb, eqb, ◌&&◌, List, [], ◌∷◌, ◌++◌, length, map, Option, Some, None, Result, Ok, refl, sym, ap, subst, ◌∙◌, append_assoc, arith}
 use Rattle.std.specs.Bool.{Decides}
-use Rattle.std.specs.List.{flat_map, AllByRecursion, slice_get}
+use Rattle.std.specs.List.{flat_map, slice_get}
 use Rattle.std.specs.Int.{w16, w32}
 use Rattle.std.proofs.lemmas.Bool.{leb-true, le-leb}
 use Rattle.std.proofs.lemmas.Bool.Decides.{Decides-and, Decides-or, Decides-eqb, Decides-ltb}
 use Rattle.bs_words.specs.declared.types.Comp.{Comp}
 use Rattle.bs_words.specs.declared.types.Ret.{Ret}
 use Rattle.image_form.specs.Tables.{Func, Sym, Ext, Desc, func_names, sym_names}
-use Rattle.image_form.specs.Image.{le16, le32, ret_byte, name_bytes, params_bytes, func_bytes, sym_bytes, ext_bytes, desc_bytes, IsName, IsParam, IsResult, IsArgument, IsExtResult, IsBehind, IsRoot, IsEntry, IsNextEntry, end_of}
+use Rattle.image_form.specs.Image.{le16, le32, ret_byte, name_bytes, params_bytes, func_bytes, sym_bytes, ext_bytes, desc_bytes, IsName, IsParam, IsResult, IsArgument, IsExtResult, IsRoot, IsEntry, IsNextEntry, end_of}
 use Rattle.image_form.specs.Seen.{has}
-use Rattle.image_form.specs.Fields.{◌>>=◌, number_at, kept, name_at, new_name_at, result_of, ext_result_of, type_at, rows_at, params_at, at_some, at_last, func_offset_at, frame_at, func_at, sym_offset_at, sym_at, root_at, ext_at, is_entry, is_next_entry, entry_at, is_return, after_at, size_at, desc_at}
-use Rattle.image_form.proofs.Takes.{IsBytes, bind_ok, ok_is, Takes, Takes-then, IsField, alike, kept_field, rows_take, rows_again, AllAfter, TakesRows}
+use Rattle.image_form.specs.Fields.{◌>>=◌, number_at, kept, name_at, new_name_at, result_of, ext_result_of, type_at, rows_at, params_at, at_some, at_last, func_offset_at, frame_at, func_at, sym_offset_at, sym_at, root_at, ext_at, is_entry, is_next_entry, entry_at, after_at, size_at, desc_at}
+use Rattle.image_form.proofs.Takes.{IsBytes, bind_ok, ok_is, Takes, Takes-then, IsField, alike, kept_field, rows_take, rows_again, AllAfter}
 use Rattle.image_form.proofs.FieldLaws.{some_is, u16_field, u32_field, IsNew, name_field, new_name_field, new_decides, result_field, ext_result_field, AreParams, func_params_field, ext_params_field}
 
 -- ---- the row before

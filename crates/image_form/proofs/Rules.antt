@@ -1,5 +1,5 @@
 -- The rules of a table, from those of each row in view of the rows before it, and back.
-use Rattle.std.proofs.Common.{◌≡◌, ◌≢◌, ℕ, zero, suc, ◌+◌, ◌-◌, ◌*◌, ◌%◌, ◌^◌, ◌<◌, ◌≤◌, Bool, true, false, not, cond, ◌&&◌, ◌||◌, List, [], ◌∷◌, ◌++◌, length, get_or, map, max, fold, Option, Some, None, Result, Ok, Err, refl, sym, ap, subst, ◌∙◌, append_assoc, arith, inl, inr, ◌⊎◌}
+use Rattle.std.proofs.Common.{◌≡◌, ◌≢◌, ℕ, suc, ◌-◌, ◌^◌, ◌<◌, ◌≤◌, Bool, true, false, List, [], ◌∷◌, ◌++◌, length, map, Some, refl, sym, ap, subst, ◌∙◌, append_assoc, arith, inl, inr}
 use Rattle.std.specs.List.{AllByRecursion, slice_get}
 use Rattle.std.specs.Str.{bytes_eq}
 use Rattle.std.proofs.lemmas.Bool.{or_parts, or_from, false_from_ne_true}
@@ -11,7 +11,7 @@ use Rattle.image_form.specs.Seen.{has}
 use Rattle.image_form.specs.Fields.{ext_at}
 use Rattle.image_form.proofs.Texts.{has_more}
 use Rattle.image_form.proofs.Takes.{AllAfter, ok_is}
-use Rattle.image_form.proofs.FieldLaws.{some_is, IsNew, each_from, each_to, AreParams}
+use Rattle.image_form.proofs.FieldLaws.{some_is, each_from, each_to}
 use Rattle.image_form.proofs.RowLaws.{Last, FuncRule, SymRule, RootRule, ExtRule, EntryRule, DescRule, ext_field}
 
 pub weaker : {A : Type 0} (R S : List A → A → Type 0) → ((before : List A) (x : A) → R before x → S before x) → (before xs : List A) → AllAfter R before xs → AllAfter S before xs

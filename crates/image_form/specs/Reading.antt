@@ -1,7 +1,7 @@
 -- Reading the bytes of an image from the first on: the image, or the first fault. Until the bytes of a
 -- field or of a body are all there, nothing else is asked of them. A section's length is tested once
 -- its four bytes are there, before its body is wanted.
-use Rattle.std.specs.Prelude.{◌≡◌, ℕ, ◌+◌, ◌-◌, ◌*◌, ◌%◌, Bool, ◌&&◌, max, fold, List, [], ◌∷◌, length, take, drop, Result, Ok, Err, nat_lt, nat_le, ◌==◌, if◌then◌else◌, codes}
+use Rattle.std.specs.Prelude.{◌≡◌, ℕ, ◌-◌, ◌*◌, ◌%◌, Bool, ◌&&◌, max, fold, List, length, take, drop, Result, Ok, Err, nat_lt, nat_le, ◌==◌, if◌then◌else◌, codes}
 use Rattle.std.specs.Int.{w32, from_le_bytes}
 use Rattle.std.specs.Str.{bytes_eq}
 use Rattle.bs_fault.specs.declared.image.ImageFault.{ImageFault}
