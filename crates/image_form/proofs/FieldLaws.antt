@@ -1,12 +1,11 @@
 -- Each field reads what is spelled so, and nothing else.
-use Rattle.std.proofs.Common.{◌≡◌, ℕ, zero, suc, ◌+◌, ◌-◌, ◌^◌, ◌<◌, ◌≤◌, Bool, true, false, not, cond, ltb, leb, eqb, ◌&&◌, List, [], ◌∷◌, ◌++◌, length, get_or, take, drop, map, Option, Some, None, Result, Ok, Err, refl, sym, ap, subst, ◌∙◌, append_assoc, arith, inl, inr, ◌⊎◌}
+use Rattle.std.proofs.Common.{◌≡◌, ℕ, ◌^◌, ◌<◌, ◌≤◌, Bool, true, false, not, cond, ltb, leb, eqb, ◌&&◌, List, [], ◌∷◌, ◌++◌, length, take, drop, map, Option, Some, None, Ok, Err, refl, sym, ap, subst, ◌∙◌, append_assoc, arith, inl, inr, ◌⊎◌}
 use Rattle.std.specs.Bool.{Decides}
 use Rattle.std.specs.Prelude.{nat_le}
 use Rattle.std.specs.List.{flat_map, AllByRecursion, list_all}
-use Rattle.std.specs.Int.{Width, w16, w32, byte_len, from_le_bytes, to_le_bytes}
-use Rattle.std.proofs.lemmas.Bool.{cases_lt, ltb-false, le-ltb, leb-true, le-leb, eqb-true, and_parts, and_from}
-use Rattle.std.proofs.lemmas.Bool.Decides.{nat_tests}
-use Rattle.std.proofs.lemmas.List.{take_at, drop_at, take-append-drop, length-append, length-take, append-nil}
+use Rattle.std.specs.Int.{Width, w16, w32, byte_len, from_le_bytes}
+use Rattle.std.proofs.lemmas.Bool.{ltb-false, le-ltb, leb-true, le-leb, eqb-true, and_parts, and_from}
+use Rattle.std.proofs.lemmas.List.{take_at, drop_at, take-append-drop, length-append, length-take}
 use Rattle.std.proofs.lemmas.Nat.{le_bytes_2, le_bytes_4, from_le_bytes-to_le_bytes_2, from_le_bytes-to_le_bytes_4}
 use Rattle.bs_words.specs.declared.types.Comp.{Comp}
 use Rattle.bs_words.specs.declared.types.Comp.TheVariants.{Int, Val, Addr, Float}
@@ -14,8 +13,8 @@ use Rattle.bs_words.specs.declared.types.Ret.{Ret}
 use Rattle.bs_words.specs.declared.types.Ret.TheVariants as returns
 use Rattle.image_form.specs.Image.{le16, le32, comp_byte, ret_byte, name_bytes, params_bytes, IsName, IsParam, IsResult, IsArgument, IsExtResult}
 use Rattle.image_form.specs.Seen.{has}
-use Rattle.image_form.specs.Fields.{◌>>=◌, byte_at, number_at, kept, text_at, is_name, name_at, new_name_at, decoded, comp_of, result_of, ext_result_of, type_at, rows_at, params_at}
-use Rattle.image_form.proofs.Takes.{IsBytes, IsBytes-drop, IsBytes-take, IsBytes-rest, bind_ok, guard_ok, passed_ok, ok_is, Takes, Takes-then, IsField, alike, kept_field, rows_take, rows_again, AllAfter, TakesRows}
+use Rattle.image_form.specs.Fields.{byte_at, number_at, kept, text_at, is_name, name_at, new_name_at, decoded, comp_of, result_of, ext_result_of, type_at, rows_at, params_at}
+use Rattle.image_form.proofs.Takes.{IsBytes, IsBytes-drop, IsBytes-take, IsBytes-rest, bind_ok, guard_ok, ok_is, Takes, Takes-then, IsField, alike, kept_field, rows_take, rows_again, AllAfter}
 
 -- ---- bytes and numbers
 
@@ -123,10 +122,10 @@ name_decides : (text : List ℕ) → Decides (is_name text) (IsName text)
 unfolding is_name
 name_decides text = (
   λ e.
-    let p = and_parts (ltb 0 (length text)) _ e in
-    let q = and_parts (leb (length text) 255) _ p.1 in
-    record { nonempty = leb-true 1 (length text) p.0; short = leb-true (length text) 255 q.0; visible = visible_true text q.1 },
-  λ name. and_from _ _ (le-leb 1 (length text) name.nonempty) (and_from _ _ (le-leb (length text) 255 name.short) (visible_again text name.visible))
+      let p = and_parts (ltb 0 (length text)) _ e in
+      let q = and_parts (leb (length text) 255) _ p.1 in
+      record { nonempty = leb-true 1 (length text) p.0; short = leb-true (length text) 255 q.0; visible = visible_true text q.1 },
+  λ name. and_from _ _ (le-leb 1 (length text) name.nonempty) (and_from _ _ (le-leb (length text) 255 name.short) (visible_again text name.visible)),
 )
 
 pub name_field : IsField name_at name_bytes IsName

@@ -1,6 +1,6 @@
 -- What is read is an image and its bytes, and the bytes of each image are read as it.
-use Rattle.std.proofs.Common.{◌≡◌, ℕ, ◌+◌, ◌-◌, ◌*◌, ◌%◌, ◌^◌, ◌<◌, ◌≤◌, Bool, true, false, cond, eqb, List, [], ◌∷◌, ◌++◌, length, Result, Ok, Err, refl, sym, ap, subst, ◌∙◌, append_assoc, arith}
-use Rattle.std.specs.Prelude.{codes}
+use Rattle.std.proofs.Common.{◌≡◌, ℕ, ◌*◌, ◌^◌, ◌<◌, ◌≤◌, Bool, true, cond, eqb, List, [], ◌++◌, length, Result, Ok, Err, sym, ap, subst, ◌∙◌, arith}
+use Rattle.std.specs.Prelude.{codes, IfOk, IfErr}
 use Rattle.std.specs.List.{flat_map, AllByRecursion}
 use Rattle.std.proofs.lemmas.Bool.{eqb-true}
 use Rattle.std.proofs.lemmas.List.{append-nil, nil_from_length}
@@ -8,15 +8,18 @@ use Rattle.bs_fault.specs.declared.image.ImageFault.{ImageFault}
 use Rattle.bs_fault.specs.declared.image.ImageFault.TheVariants as faults
 use Rattle.bs_fault.specs.declared.image.ImageRefusal.{ImageRefusal}
 use Rattle.image_form.specs.declared.reading.Limits.{Limits}
-use Rattle.image_form.specs.Tables.{Func, Sym, Ext, Desc, Tables, func_names, sym_names}
-use Rattle.image_form.specs.Image.{le32, func_bytes, sym_bytes, ext_bytes, desc_bytes, table_bytes, section_bytes, tables_bytes, magic, version, end_of, AllDiffer, AreFuncs, IsCode, IsData, AreSyms, AreRoots, AreExtcs, AreDescs, AreTables}
+use Rattle.image_form.specs.declared.image.Image as declared
+use Rattle.image_form.specs.declared.fault.ImageError.{ImageError}
+use Rattle.image_form.specs.declared.fault.ImageError.TheVariants as errors
+use Rattle.image_form.specs.Tables.{Tables, tables, func_names, sym_names}
+use Rattle.image_form.specs.Image.{le32, func_bytes, sym_bytes, ext_bytes, desc_bytes, table_bytes, section_bytes, tables_bytes, magic, version, AreTables, IsImage, image_bytes}
 use Rattle.image_form.specs.Fields.{◌>>=◌, func_at, sym_at, root_at, ext_at, desc_at, table_at, words_at}
-use Rattle.image_form.specs.Reading.{refused, mark_at, part_at, table_limits, data_limits, code_limits, code_least, reading}
+use Rattle.image_form.specs.Reading.{Reads, IsRefusalOf, refused, mark_at, part_at, table_limits, data_limits, code_limits, code_least, reading}
 use Rattle.image_form.proofs.Lengths.{length-words, few, func_nonempty, sym_nonempty, ext_nonempty, desc_nonempty, le32_nonempty}
 use Rattle.image_form.proofs.Takes.{IsBytes, bind_ok, passed_ok, Takes, Takes-then}
 use Rattle.image_form.proofs.RowLaws.{FuncRule, SymRule, RootRule, ExtRule, DescRule, func_field, sym_field, root_field, ext_field, desc_field}
 use Rattle.image_form.proofs.Rules.{new_append, new_parts, differ_from, differ_to, funcs_from, funcs_to, syms_from, syms_to, roots_from, roots_to, extcs_from, extcs_to, descs_from, descs_to}
-use Rattle.image_form.proofs.PartLaws.{IsBody, AreRows, table_body, words_body, data_body, IsWithin, mark_takes, mark_again, TakesPart, part_takes, part_again, part_is, code_least_from, code_least_to}
+use Rattle.image_form.proofs.PartLaws.{IsBody, AreRows, table_body, words_body, data_body, IsWithin, mark_takes, mark_again, TakesPart, part_takes, part_again, kept_part, code_least_from, code_least_to}
 
 abbrev AreWords : List ℕ → Type 0
 AreWords = AllByRecursion (λ w. w < 2 ^ 32)
@@ -149,13 +152,87 @@ reading_takes bytes t fits e =
     part_then G (table_at (root_at (length bytes'))) (table_bytes le32) table_limits (AreRows (RootRule (length bytes'))) (root_body (length bytes')) total (codes "ROOT") x5 _ t s.takes.rest_fits e5 (λ roots x6 r e6.
     part_then G (table_at ext_at) (table_bytes ext_bytes) table_limits (AreRows ExtRule) ext_body total (codes "EXTC") x6 _ t r.takes.rest_fits e6 (λ extcs x7 x e7.
     part_then G (table_at (desc_at (4 * length code))) (table_bytes desc_bytes) table_limits (AreRows (DescRule (4 * length code))) (desc_body (4 * length code)) total (codes "DESC") x7 _ t x.takes.rest_fits e7 (λ descs x8 z e8.
-      let made : Tables = record { funcs = funcs; code = code; bytes = bytes'; syms = syms; roots = roots; extcs = extcs; descs = descs } in
-      let g = ended (eqb (length x8) 0) (refused faults.Trailing total x8) made t e8 in
-      let nothing : x8 ≡ [] = nil_from_length x8 (eqb-true _ _ g.0) in
-      let whole : bytes ≡ tables_bytes made = chained bytes magic version _ _ _ _ _ _ _ x0 x1 x2 x3 x4 x5 x6 x7 x8 t0 t1 f.takes c.takes d.takes s.takes r.takes x.takes z.takes nothing in
-      let read : AreRead made = record {
-        funcs = f.fits; funcs_within = f.within; code = c.fits; code_within = c.within; bytes_within = d.within;
-        syms = s.fits; syms_within = s.within; roots = r.fits; roots_within = r.within; extcs = x.fits; extcs_within = x.within;
-        descs = z.fits; descs_within = z.within;
-      } in
-      subst (λ (u : Tables). AreRead u × (bytes ≡ tables_bytes u)) g.1 (read, whole))))))))))
+    let made : Tables = record { funcs = funcs; code = code; bytes = bytes'; syms = syms; roots = roots; extcs = extcs; descs = descs } in
+    let g = ended (eqb (length x8) 0) (refused faults.Trailing total x8) made t e8 in
+    let nothing : x8 ≡ [] = nil_from_length x8 (eqb-true _ _ g.0) in
+    let whole : bytes ≡ tables_bytes made = chained bytes magic version _ _ _ _ _ _ _ x0 x1 x2 x3 x4 x5 x6 x7 x8 t0 t1 f.takes c.takes d.takes s.takes r.takes x.takes z.takes nothing in
+    let read : AreRead made = record {
+      funcs = f.fits;
+      funcs_within = f.within;
+      code = c.fits;
+      code_within = c.within;
+      bytes_within = d.within;
+      syms = s.fits;
+      syms_within = s.within;
+      roots = r.fits;
+      roots_within = r.within;
+      extcs = x.fits;
+      extcs_within = x.within;
+      descs = z.fits;
+      descs_within = z.within;
+    } in
+    subst (λ (u : Tables). AreRead u × (bytes ≡ tables_bytes u)) g.1 (read, whole))))))))))
+
+mark_goes : {Y : Type 0} (total : ℕ) (fault : ImageFault) (mark rest : List ℕ) (k : List ℕ → Result Y ImageRefusal) → (mark_at total fault mark (mark ++ rest) >>= k) ≡ k rest
+mark_goes total fault mark rest k = ap (λ r. r >>= k) (mark_again total fault mark rest)
+
+part_goes : {A Y : Type 0} (read : List ℕ → Result A ℕ) (spell : A → List ℕ) (limits : Limits) (Fits : A → Type 0) → IsBody read spell limits Fits → (total : ℕ) (name : List ℕ) (x : A) (rest : List ℕ)
+    (k : A × List ℕ → Result Y ImageRefusal) → Fits x → length (spell x) < 2 ^ 32 → IsWithin limits (length (spell x)) → (part_at total name limits read (section_bytes name (spell x) ++ rest) >>= k) ≡ k (x, rest)
+part_goes read spell limits Fits is total name x rest k fits lt within = ap (λ r. r >>= k) (part_again read spell limits Fits is total name x rest fits lt within)
+
+table_small : (n : ℕ) → IsWithin table_limits n → n < 2 ^ 32
+table_small n within = omega (arith, within.most)
+
+reading_again : (t : Tables) → AreRead t → reading (tables_bytes t) ≡ Ok t
+unfolding reading tables_bytes
+reading_again t r =
+    let total = length (tables_bytes t) in
+    let x7 = section_bytes (codes "DESC") (table_bytes desc_bytes t.descs) ++ [] in
+    let x6 = section_bytes (codes "EXTC") (table_bytes ext_bytes t.extcs) ++ x7 in
+    let x5 = section_bytes (codes "ROOT") (table_bytes le32 t.roots) ++ x6 in
+    let x4 = section_bytes (codes "SYMS") (table_bytes sym_bytes t.syms) ++ x5 in
+    let x3 = section_bytes (codes "DATA") t.bytes ++ x4 in
+    let x2 = section_bytes (codes "CODE") (flat_map le32 t.code) ++ x3 in
+    let x1 = section_bytes (codes "FUNC") (table_bytes func_bytes t.funcs) ++ x2 in
+    let x0 = version ++ x1 in
+    let whole : tables_bytes t ≡ magic ++ x0 = ap (λ (end : List ℕ).
+    magic ++ (version ++ (section_bytes (codes "FUNC") (table_bytes func_bytes t.funcs) ++ (section_bytes (codes "CODE") (flat_map le32 t.code) ++ (section_bytes (codes "DATA") t.bytes
+    ++ (section_bytes (codes "SYMS") (table_bytes sym_bytes t.syms) ++ (section_bytes (codes "ROOT") (table_bytes le32 t.roots) ++ (section_bytes (codes "EXTC") (table_bytes ext_bytes t.extcs) ++ end)))))))) (sym (append-nil (section_bytes (codes "DESC") (table_bytes desc_bytes t.descs)))) in
+    let code_small : length (flat_map le32 t.code) < 2 ^ 32 = omega (arith, r.code_within.most) in
+    let data_small : length t.bytes < 2 ^ 32 = omega (arith, r.bytes_within.most) in
+    ap reading whole
+    ∙ mark_goes _ faults.Magic magic x0 _
+    ∙ mark_goes _ faults.Version version x1 _
+    ∙ part_goes (table_at func_at) (table_bytes func_bytes) table_limits (AreRows FuncRule) func_body _ (codes "FUNC") t.funcs x2 _ r.funcs (table_small _ r.funcs_within) r.funcs_within
+    ∙ part_goes words_at (flat_map le32) (code_limits t.funcs) AreWords (words_body t.funcs) _ (codes "CODE") t.code x3 _ r.code code_small r.code_within
+    ∙ part_goes (λ body. Ok body) (λ b. b) data_limits (λ b. Unit {0}) (data_body data_limits) _ (codes "DATA") t.bytes x4 _ tt data_small r.bytes_within
+    ∙ part_goes (table_at (sym_at (func_names t.funcs) (length t.bytes))) (table_bytes sym_bytes) table_limits (AreRows (SymRule (func_names t.funcs) (length t.bytes))) (sym_body (func_names t.funcs) (length t.bytes)) _ (codes "SYMS") t.syms x5 _ r.syms (table_small _ r.syms_within) r.syms_within
+    ∙ part_goes (table_at (root_at (length t.bytes))) (table_bytes le32) table_limits (AreRows (RootRule (length t.bytes))) (root_body (length t.bytes)) _ (codes "ROOT") t.roots x6 _ r.roots (table_small _ r.roots_within) r.roots_within
+    ∙ part_goes (table_at ext_at) (table_bytes ext_bytes) table_limits (AreRows ExtRule) ext_body _ (codes "EXTC") t.extcs x7 _ r.extcs (table_small _ r.extcs_within) r.extcs_within
+    ∙ part_goes (table_at (desc_at (4 * length t.code))) (table_bytes desc_bytes) table_limits (AreRows (DescRule (4 * length t.code))) (desc_body (4 * length t.code)) _ (codes "DESC") t.descs [] _ r.descs (table_small _ r.descs_within) r.descs_within
+
+-- ---- the laws of the reading
+
+pub read_is : (bytes : List ℕ) (t : Tables) → IsBytes bytes → reading bytes ≡ Ok t → AreTables t × (bytes ≡ tables_bytes t)
+read_is bytes t fits e = let h = reading_takes bytes t fits e in (tables_from t h.0, h.1)
+
+pub is_read : (t : Tables) → AreTables t → reading (tables_bytes t) ≡ Ok t
+is_read t is = reading_again t (tables_to t is)
+
+pub found_from : (bytes : List ℕ) → IsBytes bytes → (result : Result declared.Image ImageError) → Reads tables result (reading bytes) → IfOk result (λ image. IsImage image × (image_bytes image ≡ bytes))
+found_from bytes fits (Ok image) e = let h = read_is bytes (tables image) fits e in (h.0, sym h.1)
+found_from bytes fits (Err error) e = tt
+
+image_read : (bytes : List ℕ) (image : declared.Image) → IsImage image → image_bytes image ≡ bytes → reading bytes ≡ Ok (tables image)
+image_read bytes image is same = ap reading (sym same) ∙ is_read (tables image) is
+
+pub only_from : (bytes : List ℕ) (result : Result declared.Image ImageError) → Reads tables result (reading bytes) → (image : declared.Image) → IsImage image → image_bytes image ≡ bytes → Reads tables result (Ok (tables image))
+only_from bytes result e image is same = subst (λ (read : Result Tables ImageRefusal). Reads tables result read) (image_read bytes image is same) e
+
+pub refused_from : (bytes : List ℕ) (result : Result declared.Image ImageError) → Reads tables result (reading bytes) → IfErr result (IsRefusalOf bytes)
+refused_from bytes (Ok image) e = tt
+refused_from bytes (Err errors.OutOfMemory) e = tt
+refused_from bytes (Err (errors.Refused refusal)) e = (λ image is same. clash (tables image) refusal (sym (image_read bytes image is same) ∙ e), e)
+  where
+    clash : (t : Tables) (refusal : ImageRefusal) → kept_part t ≡ Err refusal → ⊥
+    clash t refusal e = cc

@@ -1,7 +1,7 @@
 -- How long the parts of an image are, and what holds of each row.
-use Rattle.std.proofs.Common.{◌≡◌, ℕ, zero, suc, ◌+◌, ◌*◌, ◌%◌, ◌^◌, ◌<◌, ◌≤◌, List, [], ◌∷◌, ◌++◌, length, get_or, map, refl, sym, ap, subst, ◌∙◌, arith, inl, inr, ◌⊎◌, length-append}
+use Rattle.std.proofs.Common.{◌≡◌, ℕ, zero, suc, ◌*◌, ◌^◌, ◌<◌, ◌≤◌, List, [], ◌∷◌, ◌++◌, length, get_or, map, refl, ap, subst, arith, inl, inr, length-append}
 use Rattle.std.specs.List.{flat_map, AllByRecursion}
-use Rattle.image_form.specs.Tables.{Func, Sym, Ext, Desc}
+use Rattle.image_form.specs.Tables.{Desc}
 use Rattle.image_form.specs.Image.{le16, le32, name_bytes, func_bytes, sym_bytes, ext_bytes, desc_bytes, table_bytes, table_limit, IsEntry, IsDesc}
 
 -- what holds of each row's view holds of the row at an index

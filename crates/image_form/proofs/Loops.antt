@@ -1,9 +1,9 @@
 -- Reading rows one after the other, as a loop does.
-use Rattle.std.proofs.Common.{◌≡◌, ℕ, zero, suc, ◌-◌, ◌+◌, ◌≤◌, ◌<◌, List, [], ◌∷◌, ◌++◌, length, map, Option, Some, None, Result, Ok, Err, Bool, true, refl, sym, ap, ◌∙◌, arith}
+use Rattle.std.proofs.Common.{◌≡◌, ℕ, zero, suc, ◌-◌, ◌+◌, ◌≤◌, ◌<◌, List, [], ◌∷◌, ◌++◌, length, map, Some, None, Result, Ok, Err, Bool, true, refl, sym, ap, ◌∙◌, arith}
 use Rattle.std.specs.List.{slice_get}
 use Rattle.image_form.specs.declared.fault.Stop.{Stop}
 use Rattle.image_form.specs.declared.fault.Stop.TheVariants as stops
-use Rattle.image_form.specs.Fields.{◌>>=◌, Stops, rows_at, at_some, at_last}
+use Rattle.image_form.specs.Fields.{Stops, rows_at, at_some, at_last}
 
 pub goes_on : {A : Type 0} (row : List A → List ℕ → Result (A × List ℕ) ℕ) (before : List A) (n i : ℕ) (bytes : List ℕ) (x : A) (after : List ℕ) (total : Result (List A × List ℕ) ℕ)
     → i < n → row before bytes ≡ Ok (x, after) → rows_at row before (n - i) bytes ≡ total → rows_at row (before ++ x ∷ []) (n - (i + 1)) after ≡ total

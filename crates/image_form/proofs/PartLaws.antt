@@ -1,10 +1,10 @@
 -- Each body and each section reads what is spelled so, and nothing else.
-use Rattle.std.proofs.Common.{◌≡◌, ℕ, zero, suc, ◌+◌, ◌-◌, ◌*◌, ◌/◌, ◌%◌, ◌^◌, ◌<◌, ◌≤◌, Bool, true, false, cond, ltb, leb, eqb, ◌&&◌, List, [], ◌∷◌, ◌++◌, length, take, drop, map, max, fold, Result, Ok, Err, refl, sym, ap, subst, ◌∙◌, append_assoc, arith}
+use Rattle.std.proofs.Common.{◌≡◌, ℕ, ◌/◌, ◌%◌, ◌^◌, ◌<◌, ◌≤◌, true, false, ltb, eqb, List, [], ◌∷◌, ◌++◌, length, take, drop, max, fold, Result, Ok, Err, refl, sym, ap, subst, ◌∙◌, append_assoc, arith}
 use Rattle.std.specs.Bool.{Decides}
 use Rattle.std.specs.List.{flat_map, AllByRecursion}
 use Rattle.std.specs.Int.{w32, from_le_bytes}
 use Rattle.std.specs.Str.{bytes_eq}
-use Rattle.std.proofs.lemmas.Bool.{ltb-false, le-ltb, eqb-true, eq-eqb, leb-true, le-leb}
+use Rattle.std.proofs.lemmas.Bool.{ltb-false, le-ltb, eqb-true, leb-true, le-leb}
 use Rattle.std.proofs.lemmas.Bool.Decides.{Decides-and, Decides-eqb}
 use Rattle.std.proofs.lemmas.List.{take_at, drop_at, take-append-drop, length-append, length-take, append-nil, nil_from_length}
 use Rattle.std.proofs.lemmas.Nat.{le_bytes_4, from_le_bytes-to_le_bytes_4}
@@ -14,11 +14,11 @@ use Rattle.bs_fault.specs.declared.image.ImageFault.TheVariants as faults
 use Rattle.bs_fault.specs.declared.image.ImageRefusal.{ImageRefusal}
 use Rattle.image_form.specs.declared.reading.Limits.{Limits}
 use Rattle.image_form.specs.Tables.{Func}
-use Rattle.image_form.specs.Image.{le32, table_bytes, section_bytes, end_of, code_limit}
-use Rattle.image_form.specs.Fields.{◌>>=◌, number_at, rows_at, table_at, words_at}
+use Rattle.image_form.specs.Image.{le32, table_bytes, section_bytes, end_of}
+use Rattle.image_form.specs.Fields.{number_at, rows_at, table_at, words_at}
 use Rattle.image_form.specs.Reading.{refused, whole_at, mark_at, is_within, length_at, section_at, placed, part_at, code_least, code_limits}
 use Rattle.image_form.proofs.Lengths.{length-le32, length-words}
-use Rattle.image_form.proofs.Takes.{IsBytes, IsBytes-drop, IsBytes-take, bind_ok, guard_ok, passed_ok, ok_is, Takes, Takes-then, IsField, AllAfter, TakesRows, rows_take, rows_again}
+use Rattle.image_form.proofs.Takes.{IsBytes, IsBytes-drop, IsBytes-take, bind_ok, guard_ok, passed_ok, ok_is, Takes, Takes-then, IsField, AllAfter, rows_take, rows_again}
 use Rattle.image_form.proofs.FieldLaws.{u32_field, each_from, each_to}
 
 -- A body of a length within the limits reads what is spelled so and keeps a rule, and nothing else.
@@ -46,7 +46,7 @@ module _ {A : Type 0} (row : List A → List ℕ → Result (A × List ℕ) ℕ)
       let nothing : b.0.1 ≡ [] = nil_from_length b.0.1 (eqb-true _ _ g.0) in
       let parts = (Takes-then bytes (le32 a.0.0) a.0.1 (flat_map spell r.rows) b.0.1 t.0 r.takes).parts in
       let whole : bytes ≡ le32 (length r.rows) ++ flat_map spell r.rows =
-        parts ∙ ap (λ (x : List ℕ). (le32 a.0.0 ++ flat_map spell r.rows) ++ x) nothing ∙ append-nil (le32 a.0.0 ++ flat_map spell r.rows) ∙ ap (λ (n : ℕ). le32 n ++ flat_map spell r.rows) (sym r.count) in
+      parts ∙ ap (λ (x : List ℕ). (le32 a.0.0 ++ flat_map spell r.rows) ++ x) nothing ∙ append-nil (le32 a.0.0 ++ flat_map spell r.rows) ∙ ap (λ (n : ℕ). le32 n ++ flat_map spell r.rows) (sym r.count) in
       subst (λ (xs : List A). (bytes ≡ le32 (length xs) ++ flat_map spell xs) × AreRows Rule xs) same (whole, record { count = omega (arith, r.count, t.1); rules = r.rules })
 
   table_again : (rows : List A) → AreRows Rule rows → table_at row (table_bytes spell rows) ≡ Ok rows
@@ -182,7 +182,7 @@ placed_ok : {A : Type 0} (total : ℕ) (behind : List ℕ) (r : Result A ℕ) (x
 placed_ok total behind (Ok y) x e = cc
 placed_ok total behind (Err n) x e = absurd cc
 
-abbrev kept_part : {X : Type 0} → X → Result X ImageRefusal
+abbrev pub kept_part : {X : Type 0} → X → Result X ImageRefusal
 kept_part x = Ok x
 
 pub part_is : {X : Type 0} (x y : X) → kept_part x ≡ kept_part y → x ≡ y

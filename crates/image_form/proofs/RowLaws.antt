@@ -1,17 +1,17 @@
 -- Each row reads what is spelled so and keeps the rules in view of the rows before it, and nothing else.
-use Rattle.std.proofs.Common.{◌≡◌, ℕ, zero, suc, ◌+◌, ◌-◌, ◌*◌, ◌%◌, ◌^◌, ◌<◌, ◌≤◌, Bool, true, false, not, cond, ltb, leb, eqb, ◌&&◌, ◌||◌, List, [], ◌∷◌, ◌++◌, length, get_or, take, drop, map, Option, Some, None, Result, Ok, Err, refl, sym, ap, subst, ◌∙◌, append_assoc, arith, inl, inr, ◌⊎◌}
+use Rattle.std.proofs.Common.{◌≡◌, ℕ, ◌+◌, ◌-◌, ◌%◌, ◌^◌, ◌<◌, ◌≤◌, Bool, false, not, ltb, leb, eqb, ◌&&◌, List, [], ◌∷◌, ◌++◌, length, map, Option, Some, None, Result, Ok, refl, sym, ap, subst, ◌∙◌, append_assoc, arith}
 use Rattle.std.specs.Bool.{Decides}
-use Rattle.std.specs.List.{flat_map, AllByRecursion, slice_get}
+use Rattle.std.specs.List.{flat_map, slice_get}
 use Rattle.std.specs.Int.{w16, w32}
 use Rattle.std.proofs.lemmas.Bool.{leb-true, le-leb}
 use Rattle.std.proofs.lemmas.Bool.Decides.{Decides-and, Decides-or, Decides-eqb, Decides-ltb}
 use Rattle.bs_words.specs.declared.types.Comp.{Comp}
 use Rattle.bs_words.specs.declared.types.Ret.{Ret}
 use Rattle.image_form.specs.Tables.{Func, Sym, Ext, Desc, func_names, sym_names}
-use Rattle.image_form.specs.Image.{le16, le32, ret_byte, name_bytes, params_bytes, func_bytes, sym_bytes, ext_bytes, desc_bytes, IsName, IsParam, IsResult, IsArgument, IsExtResult, IsBehind, IsRoot, IsEntry, IsNextEntry, end_of}
+use Rattle.image_form.specs.Image.{le16, le32, ret_byte, name_bytes, params_bytes, func_bytes, sym_bytes, ext_bytes, desc_bytes, IsName, IsParam, IsResult, IsArgument, IsExtResult, IsRoot, IsEntry, IsNextEntry, end_of}
 use Rattle.image_form.specs.Seen.{has}
-use Rattle.image_form.specs.Fields.{◌>>=◌, number_at, kept, name_at, new_name_at, result_of, ext_result_of, type_at, rows_at, params_at, at_some, at_last, func_offset_at, frame_at, func_at, sym_offset_at, sym_at, root_at, ext_at, is_entry, is_next_entry, entry_at, is_return, after_at, size_at, desc_at}
-use Rattle.image_form.proofs.Takes.{IsBytes, bind_ok, ok_is, Takes, Takes-then, IsField, alike, kept_field, rows_take, rows_again, AllAfter, TakesRows}
+use Rattle.image_form.specs.Fields.{◌>>=◌, number_at, kept, name_at, new_name_at, result_of, ext_result_of, type_at, rows_at, params_at, at_some, at_last, func_offset_at, frame_at, func_at, sym_offset_at, sym_at, root_at, ext_at, is_entry, is_next_entry, entry_at, after_at, size_at, desc_at}
+use Rattle.image_form.proofs.Takes.{IsBytes, bind_ok, ok_is, Takes, Takes-then, IsField, alike, kept_field, rows_take, rows_again, AllAfter}
 use Rattle.image_form.proofs.FieldLaws.{some_is, u16_field, u32_field, IsNew, name_field, new_name_field, new_decides, result_field, ext_result_field, AreParams, func_params_field, ext_params_field}
 
 -- ---- the row before
@@ -99,7 +99,7 @@ func_again : (before : List Func) (f : Func) (rest : List ℕ) → FuncRule befo
 unfolding func_at func_bytes
 func_again before f rest rule =
     let regrouped : (name_bytes f.name ++ (le32 f.offset ++ (le32 f.words ++ (le32 f.frame ++ (params_bytes f.params ++ ret_byte f.result ∷ []))))) ++ rest
-        ≡ name_bytes f.name ++ (le32 f.offset ++ (le32 f.words ++ (le32 f.frame ++ (params_bytes f.params ++ ((ret_byte f.result ∷ []) ++ rest))))) = simp append_assoc in
+    ≡ name_bytes f.name ++ (le32 f.offset ++ (le32 f.words ++ (le32 f.frame ++ (params_bytes f.params ++ ((ret_byte f.result ∷ []) ++ rest))))) = simp append_assoc in
     ap (func_at before) regrouped
     ∙ rw ((new_name_field (func_names before)).again f.name _ rule.name, (func_offset_field before).again f.offset _ rule.offset, u32_field.again f.words _ rule.words, frame_field.again f.frame _ rule.frame, func_params_field.again f.params _ rule.params, result_field.again f.result rest rule.result) refl
 
@@ -117,7 +117,7 @@ sym_offset_field : (data_len : ℕ) (before : List Sym) → IsField (sym_offset_
 unfolding sym_offset_at
 sym_offset_field data_len before =
     alike (sym_offset_at data_len before) le32 _ (kept_field (number_at w32) le32 _ u32_field _ ((λ n. (n ≤ data_len) × Last (λ (s : Sym). s.offset ≤ n) before))
-      (λ n. Decides-and _ _ (leb_decides n data_len) (last_decides (λ (s : Sym). leb s.offset n) (λ (s : Sym). s.offset ≤ n) (λ s. leb_decides s.offset n) before)))
+    (λ n. Decides-and _ _ (leb_decides n data_len) (last_decides (λ (s : Sym). leb s.offset n) (λ (s : Sym). s.offset ≤ n) (λ s. leb_decides s.offset n) before)))
     (SymOffset data_len before) (λ x h. record { fits = h.0; in_data = h.1.0; in_order = h.1.1 }) (λ x h. (h.fits, (h.in_data, h.in_order)))
 
 pub record SymRule (names : List (List ℕ)) (data_len : ℕ) (before : List Sym) (s : Sym) : Type 0 where
@@ -154,7 +154,7 @@ pub root_field : (data_len : ℕ) (before : List ℕ) → IsField (root_at data_
 unfolding root_at
 root_field data_len before =
     alike (root_at data_len before) le32 _ (kept_field (number_at w32) le32 _ u32_field _ (λ n. ((n % 8 ≡ 0) × (n + 8 ≤ data_len)) × Last (λ (p : ℕ). p < n) before)
-      (λ n. Decides-and _ _ (Decides-and _ _ (Decides-eqb (n % 8) 0) (leb_decides (n + 8) data_len)) (last_decides (λ (p : ℕ). ltb p n) (λ (p : ℕ). p < n) (λ p. Decides-ltb p n) before)))
+    (λ n. Decides-and _ _ (Decides-and _ _ (Decides-eqb (n % 8) 0) (leb_decides (n + 8) data_len)) (last_decides (λ (p : ℕ). ltb p n) (λ (p : ℕ). p < n) (λ p. Decides-ltb p n) before)))
     (RootRule data_len before) (λ x h. record { fits = h.0; cell = record { aligned = h.1.0.0; in_data = h.1.0.1 }; rises = h.1.1 }) (λ x h. (h.fits, ((h.cell.aligned, h.cell.in_data), h.rises)))
 
 -- ---- external calls
@@ -170,7 +170,7 @@ ext_of name params result = record { name = name; params = params; result = resu
 
 new_ext_field : (before : List Ext) (name : List ℕ) (params : List Comp)
     → IsField (kept (λ result. not (has (map ext_bytes before) (ext_bytes (ext_of name params result)))) (type_at ext_result_of)) (λ x. ret_byte x ∷ [])
-      (λ result. IsExtResult result × (has (map ext_bytes before) (ext_bytes (ext_of name params result)) ≡ false))
+    (λ result. IsExtResult result × (has (map ext_bytes before) (ext_bytes (ext_of name params result)) ≡ false))
 new_ext_field before name params =
     kept_field (type_at ext_result_of) (λ x. ret_byte x ∷ []) IsExtResult ext_result_field _ _ (λ result. new_decides (has (map ext_bytes before) (ext_bytes (ext_of name params result))))
 
@@ -224,7 +224,7 @@ entry_field : (size : ℕ) (before : List ℕ) → IsField (entry_at size before
 unfolding entry_at
 entry_field size before =
     alike (entry_at size before) le16 _ (kept_field (number_at w16) le16 _ u16_field _ (λ e. IsEntry size e × Last (λ (p : ℕ). IsNextEntry p e) before)
-      (λ e. Decides-and _ _ (entry_decides size e) (last_decides (λ (p : ℕ). is_next_entry p e) (λ (p : ℕ). IsNextEntry p e) (λ p. next_entry_decides p e) before)))
+    (λ e. Decides-and _ _ (entry_decides size e) (last_decides (λ (p : ℕ). is_next_entry p e) (λ (p : ℕ). IsNextEntry p e) (λ p. next_entry_decides p e) before)))
     (EntryRule size before) (λ x h. record { fits = h.0; is = h.1.0; in_order = h.1.1 }) (λ x h. (h.fits, (h.is, h.in_order)))
 
 pub record AfterRule (code_len : ℕ) (before : List Desc) (n : ℕ) : Type 0 where
@@ -238,7 +238,7 @@ after_field : (code_len : ℕ) (before : List Desc) → IsField (after_at code_l
 unfolding after_at
 after_field code_len before =
     alike (after_at code_len before) le32 _ (kept_field (number_at w32) le32 _ u32_field _ (λ n. ((n % 4 ≡ 0) × ((20 ≤ n) × (n ≤ code_len))) × Last (λ (d : Desc). d.after < n) before)
-      (λ n. Decides-and _ _ (Decides-and _ _ (Decides-eqb (n % 4) 0) (Decides-and _ _ (leb_decides 20 n) (leb_decides n code_len))) (last_decides (λ (d : Desc). ltb d.after n) (λ (d : Desc). d.after < n) (λ d. Decides-ltb d.after n) before)))
+    (λ n. Decides-and _ _ (Decides-and _ _ (Decides-eqb (n % 4) 0) (Decides-and _ _ (leb_decides 20 n) (leb_decides n code_len))) (last_decides (λ (d : Desc). ltb d.after n) (λ (d : Desc). d.after < n) (λ d. Decides-ltb d.after n) before)))
     (AfterRule code_len before) (λ x h. record { fits = h.0; aligned = h.1.0.0; behind_stub = h.1.0.1.0; in_code = h.1.0.1.1; rises = h.1.1 }) (λ x h. (h.fits, ((h.aligned, (h.behind_stub, h.in_code)), h.rises)))
 
 pub record SizeRule (n : ℕ) : Type 0 where

@@ -1,5 +1,5 @@
 -- The rules of a table, from those of each row in view of the rows before it, and back.
-use Rattle.std.proofs.Common.{◌≡◌, ◌≢◌, ℕ, zero, suc, ◌+◌, ◌-◌, ◌*◌, ◌%◌, ◌^◌, ◌<◌, ◌≤◌, Bool, true, false, not, cond, ◌&&◌, ◌||◌, List, [], ◌∷◌, ◌++◌, length, get_or, map, max, fold, Option, Some, None, Result, Ok, Err, refl, sym, ap, subst, ◌∙◌, append_assoc, arith, inl, inr, ◌⊎◌}
+use Rattle.std.proofs.Common.{◌≡◌, ◌≢◌, ℕ, suc, ◌-◌, ◌^◌, ◌<◌, ◌≤◌, Bool, true, false, List, [], ◌∷◌, ◌++◌, length, map, Some, refl, sym, ap, subst, ◌∙◌, append_assoc, arith, inl, inr}
 use Rattle.std.specs.List.{AllByRecursion, slice_get}
 use Rattle.std.specs.Str.{bytes_eq}
 use Rattle.std.proofs.lemmas.Bool.{or_parts, or_from, false_from_ne_true}
@@ -11,7 +11,7 @@ use Rattle.image_form.specs.Seen.{has}
 use Rattle.image_form.specs.Fields.{ext_at}
 use Rattle.image_form.proofs.Texts.{has_more}
 use Rattle.image_form.proofs.Takes.{AllAfter, ok_is}
-use Rattle.image_form.proofs.FieldLaws.{some_is, IsNew, each_from, each_to, AreParams}
+use Rattle.image_form.proofs.FieldLaws.{some_is, each_from, each_to}
 use Rattle.image_form.proofs.RowLaws.{Last, FuncRule, SymRule, RootRule, ExtRule, EntryRule, DescRule, ext_field}
 
 pub weaker : {A : Type 0} (R S : List A → A → Type 0) → ((before : List A) (x : A) → R before x → S before x) → (before xs : List A) → AllAfter R before xs → AllAfter S before xs
@@ -88,8 +88,8 @@ more_from names k (l ∷ ks) all =
     let ne : k ≢ l = λ e. clash (bytes_eq l k) p.0 ((bytes_eq-Decides l k).1 (sym e)) in
     ((ne, h.0), (p.1, h.1))
   where
-  clash : (b : Bool) → b ≡ false → b ≡ true → ⊥
-  clash b p q = absurd cc
+    clash : (b : Bool) → b ≡ false → b ≡ true → ⊥
+    clash b p q = absurd cc
 
 more_to : (names : List (List ℕ)) (k : List ℕ) (ks : List (List ℕ)) → AllByRecursion (λ l. k ≢ l) ks → AllByRecursion (λ l. has names l ≡ false) ks → AllByRecursion (λ l. has (names ++ k ∷ []) l ≡ false) ks
 more_to names k [] ne new = tt
@@ -197,8 +197,8 @@ roots_to data_len roots small read =
     let order = order_to (λ (a b : ℕ). a < b) [] roots (no_last _) read.rising in
     weaker _ (RootRule data_len) (root_rule data_len small) [] roots (both (λ _ n. IsRoot data_len n) (λ b n. Last (λ (p : ℕ). p < n) b) [] roots own order)
   where
-  root_rule : (data_len : ℕ) → data_len < 2 ^ 32 → (before : List ℕ) (n : ℕ) → IsRoot data_len n × Last (λ (p : ℕ). p < n) before → RootRule data_len before n
-  root_rule data_len small before n h = record { fits = omega (arith, h.0.in_data); cell = h.0; rises = h.1 }
+    root_rule : (data_len : ℕ) → data_len < 2 ^ 32 → (before : List ℕ) (n : ℕ) → IsRoot data_len n × Last (λ (p : ℕ). p < n) before → RootRule data_len before n
+    root_rule data_len small before n h = record { fits = omega (arith, h.0.in_data); cell = h.0; rises = h.1 }
 
 -- ---- external calls
 
@@ -248,7 +248,7 @@ extcs_to extcs read =
 entries_from : (size : ℕ) (es : List ℕ) → AllAfter (EntryRule size) [] es → AllByRecursion (IsEntry size) es × EachNext IsNextEntry es
 entries_from size es all = (
   each_from (IsEntry size) [] es (weaker (EntryRule size) (λ _ e. IsEntry size e) (λ b e r. r.is) [] es all),
-  (order_from IsNextEntry [] es (weaker (EntryRule size) (λ b e. Last (λ p. IsNextEntry p e) b) (λ b e r. r.in_order) [] es all)).1
+  (order_from IsNextEntry [] es (weaker (EntryRule size) (λ b e. Last (λ p. IsNextEntry p e) b) (λ b e r. r.in_order) [] es all)).1,
 )
 
 entry_fits : (size e : ℕ) → size < 2 ^ 16 → IsEntry size e → e < 2 ^ 16

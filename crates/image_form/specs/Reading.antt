@@ -1,7 +1,7 @@
 -- Reading the bytes of an image from the first on: the image, or the first fault. Until the bytes of a
 -- field or of a body are all there, nothing else is asked of them. A section's length is tested once
 -- its four bytes are there, before its body is wanted.
-use Rattle.std.specs.Prelude.{◌≡◌, ℕ, ◌+◌, ◌-◌, ◌*◌, ◌%◌, Bool, ◌&&◌, max, fold, List, [], ◌∷◌, length, take, drop, Result, Ok, Err, nat_lt, nat_le, ◌==◌, if◌then◌else◌, codes}
+use Rattle.std.specs.Prelude.{◌≡◌, ℕ, ◌-◌, ◌*◌, ◌%◌, Bool, ◌&&◌, max, fold, List, length, take, drop, Result, Ok, Err, nat_lt, nat_le, ◌==◌, if◌then◌else◌, codes}
 use Rattle.std.specs.Int.{w32, from_le_bytes}
 use Rattle.std.specs.Str.{bytes_eq}
 use Rattle.bs_fault.specs.declared.image.ImageFault.{ImageFault}
@@ -13,7 +13,8 @@ use Rattle.image_form.specs.declared.fault.ImageError.{ImageError}
 use Rattle.image_form.specs.declared.fault.ImageError.TheVariants as errors
 use Rattle.image_form.specs.declared.reading.Limits.{Limits}
 use Rattle.image_form.specs.Tables.{Func, Tables, func_names}
-use Rattle.image_form.specs.Image.{end_of, magic, version, table_limit, code_limit, data_limit}
+use Rattle.image_form.specs.declared.image.Image as declared
+use Rattle.image_form.specs.Image.{IsImage, image_bytes, end_of, magic, version, table_limit, code_limit, data_limit}
 use Rattle.image_form.specs.Fields.{◌>>=◌, func_at, sym_at, root_at, ext_at, desc_at, table_at, words_at}
 
 -- What a function of the code returned, seen by view, is what reading gives, unless memory ran out.
@@ -103,3 +104,12 @@ reading bytes = do
   extcs ← part_at (length bytes) (codes "EXTC") table_limits (table_at ext_at) roots.1
   descs ← part_at (length bytes) (codes "DESC") table_limits (table_at (desc_at (4 * length code.0))) extcs.1
   if length descs.1 == 0 then Ok (record { funcs = funcs.0; code = code.0; bytes = data_.0; syms = syms.0; roots = roots.0; extcs = extcs.0; descs = descs.0 }) else Err (refused faults.Trailing (length bytes) descs.1)
+
+-- no image has these bytes
+abbrev pub NoImage : List ℕ → Type 0
+NoImage bytes = (image : declared.Image) → IsImage image → image_bytes image ≡ bytes → ⊥
+
+-- What is refused is no image, and the fault told is the first.
+abbrev pub IsRefusalOf : List ℕ → ImageError → Type 0
+IsRefusalOf bytes errors.OutOfMemory = Unit {0}
+IsRefusalOf bytes (errors.Refused refusal) = NoImage bytes × (reading bytes ≡ Err refusal)

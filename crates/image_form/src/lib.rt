@@ -15,4 +15,8 @@ mod writing;
 
 pub use fault::ImageError;
 pub use image::{DescRow, ExtRow, FuncRow, Image, SymRow};
+pub use reading::read_image;
 pub use writing::write_image;
+
+#[cfg(test)]
+mod tests;

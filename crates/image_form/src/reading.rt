@@ -1,9 +1,11 @@
 //! An image from bytes.
-ghost use Rattle.std.specs.Prelude.{◌≡◌, List, ℕ, [], ◌*◌, ◌<◌, length, map, codes, IfOk};
+ghost use Rattle.std.specs.Prelude.{◌≡◌, List, ℕ, [], ◌*◌, ◌<◌, length, map, codes, IfOk, IfErr, Ok};
 ghost use Rattle.image_form.specs.Tables.{tables, func, sym, ext, desc, func_names};
+ghost use Rattle.image_form.specs.Image.{IsImage, image_bytes};
 ghost use Rattle.image_form.specs.Seen.{Holds};
 ghost use Rattle.image_form.specs.Fields.{func_at, sym_at, root_at, ext_at, desc_at, table_at, words_at};
 ghost use Rattle.image_form.specs.Reading.{
+  IsRefusalOf,
   Reads,
   refused,
   whole_at,
@@ -280,4 +282,20 @@ fn image_from(alloc: Global, bytes: &[u8]) -> Result<Image, ImageError>
         extcs: bs_words::List::from_vec(extcs),
         descs: bs_words::List::from_vec(descs),
     })
+}
+
+/// The image that the bytes spell.
+///
+/// It is refused exactly where no image has these bytes, with the first fault from the front. A
+/// fault in a field is told at the field's first byte, one of a name at its length, and bytes that
+/// end too early at their end. Otherwise it fails only if memory runs out.
+pub fn read_image(alloc: Global, bytes: &[u8]) -> Result<Image, ImageError>
+    // What is read is an image, and these are its bytes.
+    ensures found { IfOk result (λ image. IsImage image × (image_bytes image ≡ bytes.now)) }
+    // The bytes of an image are read as that image, unless memory runs out.
+    ensures only { (image : Image) → IsImage image → image_bytes image ≡ bytes.now → Reads tables result (Ok (tables image)) }
+    // What is refused is no image's bytes, and the fault is the first.
+    ensures refused { IfErr result (IsRefusalOf bytes.now) }
+{
+    image_from(alloc, bytes)
 }

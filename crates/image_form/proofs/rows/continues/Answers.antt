@@ -1,5 +1,3 @@
-use Rattle.std.proofs.Common.{◌&&◌, nat_lt, nat_le}
-use Rattle.image_form.specs.Image.{end_of}
 use Rattle.image_form.specs.Fields.{is_next_entry}
 use Rattle.image_form.proofs.Loops.{none_at_last', some_at_last'}
 use Rattle.image_form.proofs.rows.continues.Goals as goal

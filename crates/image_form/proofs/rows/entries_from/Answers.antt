@@ -1,8 +1,5 @@
-use Rattle.std.proofs.Common.{◌≡◌, ◌++◌, ◌∷◌, [], map}
 use Rattle.std.proofs.lemmas.Result.{err_from_is_err_and}
-use Rattle.std.proofs.lemmas.List.{map_push}
-use Rattle.image_form.specs.Tables.{func, sym, ext, desc}
-use Rattle.image_form.specs.Fields.{rows_at, func_at, sym_at, root_at, ext_at, entry_at, desc_at}
+use Rattle.image_form.specs.Fields.{entry_at}
 use Rattle.image_form.proofs.Loops.{goes_on, stops_at, is_done}
 use Rattle.image_form.proofs.rows.entries_from.Goals as goal
 

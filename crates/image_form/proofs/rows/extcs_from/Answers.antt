@@ -1,8 +1,8 @@
-use Rattle.std.proofs.Common.{◌≡◌, ◌++◌, ◌∷◌, [], map}
+use Rattle.std.proofs.Common.{map}
 use Rattle.std.proofs.lemmas.Result.{err_from_is_err_and}
 use Rattle.std.proofs.lemmas.List.{map_push}
 use Rattle.image_form.specs.Tables.{ext}
-use Rattle.image_form.specs.Fields.{rows_at, ext_at}
+use Rattle.image_form.specs.Fields.{ext_at}
 use Rattle.image_form.proofs.Loops.{goes_on, stops_at, is_done}
 use Rattle.image_form.proofs.rows.extcs_from.Goals as goal
 

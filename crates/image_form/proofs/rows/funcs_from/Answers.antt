@@ -1,8 +1,8 @@
-use Rattle.std.proofs.Common.{◌≡◌, ◌++◌, ◌∷◌, [], map, sym}
+use Rattle.std.proofs.Common.{map}
 use Rattle.std.proofs.lemmas.Result.{err_from_is_err_and}
 use Rattle.std.proofs.lemmas.List.{map_push}
-use Rattle.image_form.specs.Tables.{Func, func}
-use Rattle.image_form.specs.Fields.{rows_at, func_at}
+use Rattle.image_form.specs.Tables.{func}
+use Rattle.image_form.specs.Fields.{func_at}
 use Rattle.image_form.proofs.Loops.{goes_on, stops_at, is_done}
 use Rattle.image_form.proofs.rows.funcs_from.Goals as goal
 

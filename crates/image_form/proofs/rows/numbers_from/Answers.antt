@@ -1,7 +1,6 @@
-use Rattle.std.proofs.Common.{◌≡◌, ◌++◌, ◌∷◌, []}
 use Rattle.std.proofs.lemmas.Result.{err_from_is_err_and}
 use Rattle.std.specs.Int.{w32}
-use Rattle.image_form.specs.Fields.{rows_at, number_at, root_at, entry_at}
+use Rattle.image_form.specs.Fields.{number_at}
 use Rattle.image_form.proofs.Loops.{goes_on, stops_at, is_done}
 use Rattle.image_form.proofs.rows.numbers_from.Goals as goal
 

@@ -1,8 +1,8 @@
-use Rattle.std.proofs.Common.{◌≡◌, ◌++◌, ◌∷◌, [], map, sym, append_assoc}
+use Rattle.std.proofs.Common.{map, append_assoc}
 use Rattle.std.proofs.lemmas.Result.{err_from_is_err_and}
 use Rattle.std.proofs.lemmas.List.{map_push}
 use Rattle.image_form.specs.Tables as tables
-use Rattle.image_form.specs.Fields.{rows_at, sym_at}
+use Rattle.image_form.specs.Fields.{sym_at}
 use Rattle.image_form.proofs.Loops.{goes_on, stops_at, is_done}
 use Rattle.image_form.proofs.rows.syms_from.Goals as goal
 

@@ -1,7 +1,7 @@
-use Rattle.std.proofs.Common.{rules, arith, ◌≡◌, ℕ, Bool, true, false, ◌||◌, List, [], ◌∷◌, ◌++◌, not, map, sym, ap, ◌∙◌, Vec, Global}
+use Rattle.std.proofs.Common.{Bool, ◌||◌, not, sym, ap, ◌∙◌}
 use Rattle.std.proofs.lemmas.Map.Text.{is_eq-slice_cmp}
 use Rattle.std.specs.Str.{bytes_eq}
-use Rattle.image_form.specs.Seen.{has, Holds}
+use Rattle.image_form.specs.Seen.{Holds}
 use Rattle.image_form.proofs.Texts.{among, has_insert, has_more}
 use Rattle.image_form.proofs.seen.Seen.insert.Goals as goal
 

@@ -1,5 +1,5 @@
 use Rattle.image_form.specs.Seen.{has, Holds}
-use Rattle.std.proofs.Common.{refl, arith}
+use Rattle.std.proofs.Common.{arith}
 use Rattle.std.proofs.lemmas.Grind.{common_steps}
 use Rattle.image_form.proofs.seen.Seen.new.Goals as goal
 
