@@ -1,5 +1,6 @@
 pub mod Bounded
 pub mod Emitted
+pub mod Example
 pub mod Files
 pub mod Limits
 pub mod Numbers
