@@ -1,6 +1,7 @@
 mod KnownRun
 pub mod Bounded
 pub mod Emitted
+pub mod Example
 pub mod Files
 pub mod Limits
 pub mod Numbers

@@ -1,6 +1,7 @@
 //! Images of small files. The words of code are those of another assembler.
-ghost use Rattle.std.specs.Prelude.{IfOk};
-ghost use Rattle.cmm_tree.specs.View.{file_view};
+ghost use Rattle.std.specs.Prelude.{◌≡◌, [], ◌∷◌, codes, IfOk};
+ghost use Rattle.cmm_tree.specs.Tree as tree;
+ghost use Rattle.cmm_tree.specs.View.{expr_view, param_view, function_view, file_view};
 ghost use Rattle.cmm_tree.specs.Small.{IsSmall};
 
 use crate::compile_small;
@@ -27,5 +28,136 @@ fn image_of_no_function(rt: HostRuntime) -> Result<(), Fail> {
         EXTC\x04\0\0\0\0\0\0\0\
         DESC\x04\0\0\0\0\0\0\0";
     assert_eq!(rt; bytes.as_slice(), expected.as_slice());
+    Ok(())
+}
+
+/// A name at a place of the text.
+fn named(alloc: Global, at: u32, name: &[u8]) -> Result<Expr, AllocError>
+    ensures { IfOk result (λ e. expr_view e ≡ tree.Name at name.now) }
+{
+    let name = Name::from_vec(name.to_vec(alloc)?);
+    Ok(Expr {
+        at,
+        form: Form::Name(name),
+    })
+}
+
+/// A parameter of type int at a place of the text.
+fn param(alloc: Global, at: u32, name: &[u8]) -> Result<Param, AllocError>
+    ensures { IfOk result (λ p. param_view p ≡ record { at = at; name = name.now; comp = Comp.Int }) }
+{
+    let name = Name::from_vec(name.to_vec(alloc)?);
+    Ok(Param {
+        at,
+        name,
+        comp: Comp::Int,
+    })
+}
+
+/// The function of `(function "d" (a:int b:int) (- a b))`.
+fn difference(alloc: Global) -> Result<Function, AllocError>
+    ensures { IfOk result (λ f. function_view f ≡ record {
+      at = 0;
+      name = codes "d";
+      params = record { at = 15; name = codes "a"; comp = Comp.Int } ∷ record { at = 21; name = codes "b"; comp = Comp.Int } ∷ [];
+      body = tree.Operator 29 IntOp.Sub (tree.Name 32 (codes "a")) (tree.Name 34 (codes "b"));
+      tokens = 17;
+    }) }
+{
+    let left = Box::new(alloc, named(alloc, 32, b"a")?)?;
+    let right = Box::new(alloc, named(alloc, 34, b"b")?)?;
+    let body = Expr {
+        at: 29,
+        form: Form::Operator(IntOp::Sub, left, right),
+    };
+    let params = vec![in alloc; param(alloc, 15, b"a")?, param(alloc, 21, b"b")?]?;
+    Ok(Function {
+        at: 0,
+        name: Name::from_vec(b"d".to_vec(alloc)?),
+        params: List::from_vec(params),
+        body,
+        tokens: 17,
+    })
+}
+
+/// The file of that function.
+fn difference_file(alloc: Global) -> Result<File, AllocError>
+    ensures { IfOk result (λ file. IsSmall (file_view file)) }
+{
+    let items = vec![in alloc; Item::Function(difference(alloc)?)]?;
+    Ok(File {
+        items: List::from_vec(items),
+    })
+}
+
+#[test]
+fn image_of_a_difference(rt: HostRuntime) -> Result<(), Fail> {
+    let alloc = rt.alloc();
+    let image = compile_small(alloc, &difference_file(alloc)?)?;
+    let words: [u32; 54] = [
+        0x0000_0393,
+        0x0000_0073,
+        0x0010_0393,
+        0x0000_0073,
+        0x0000_0313,
+        0x00b3_1313,
+        0x0303_0313,
+        0x4061_0133,
+        0x0000_0313,
+        0x00b3_1313,
+        0x0023_0333,
+        0x00a3_3023,
+        0x0000_0313,
+        0x00b3_1313,
+        0x0023_0333,
+        0x00b3_3423,
+        0x0000_0313,
+        0x00b3_1313,
+        0x0023_0333,
+        0x0083_3283,
+        0x0000_0313,
+        0x00b3_1313,
+        0x0023_0333,
+        0x0053_3823,
+        0x0000_0313,
+        0x00b3_1313,
+        0x0023_0333,
+        0x0003_3283,
+        0x0000_0313,
+        0x00b3_1313,
+        0x0023_0333,
+        0x0053_3c23,
+        0x0000_0313,
+        0x00b3_1313,
+        0x0023_0333,
+        0x0183_3283,
+        0x0000_0313,
+        0x00b3_1313,
+        0x0023_0333,
+        0x0103_3383,
+        0x4072_82b3,
+        0x0000_0313,
+        0x00b3_1313,
+        0x0023_0333,
+        0x0253_3023,
+        0x0000_0313,
+        0x00b3_1313,
+        0x0023_0333,
+        0x0203_3503,
+        0x0000_0313,
+        0x00b3_1313,
+        0x0303_0313,
+        0x0061_0133,
+        0x0000_8067,
+    ];
+    assert_eq!(rt; image.code.as_slice(), words.as_slice());
+    for row in image.funcs.as_slice() {
+        assert_eq!(rt; row.name.as_bytes(), b"d".as_slice());
+        assert_eq!(rt; (row.offset, row.words, row.frame), (16, 50, 48));
+        assert_eq!(rt; row.params.as_slice(), [Comp::Int, Comp::Int].as_slice());
+        assert_eq!(rt; row.result, Ret::Comp(Comp::Int));
+    }
+    assert_eq!(rt; image.funcs.len(), 1);
+    assert_eq!(rt; image.bytes.as_slice(), [0; 8].as_slice());
     Ok(())
 }
