@@ -2,3 +2,4 @@ pub mod Behind
 pub mod Languages
 pub mod Scanning
 pub mod Cutting
+pub mod Magnitudes

@@ -5,5 +5,8 @@ mod error;
 mod lexer;
 mod state;
 mod token;
+mod words;
+mod numbers;
+mod expression;
 
 pub use error::SmallError;
