@@ -1,6 +1,7 @@
 -- Reading from left to right: what each function of the reader gives.
 use Rattle.std.specs.Prelude.{◌≡◌, ℕ, ◌+◌, ◌-◌, ◌*◌, ◌%◌, ◌^◌, zero, suc, Bool, true, false, not, ◌&&◌, ◌||◌, ◌==◌, nat_lt, nat_le, List, [], ◌∷◌, ◌++◌, length, take, drop, codes, Option, Some, None, Result, Ok, Err, bytes_eq, if◌then◌else◌}
 use Rattle.std.specs.List.{list_any, list_all}
+use denote.Ref.{Bor}
 use Rattle.std.specs.Char.{is_ascii_digit, is_ascii_graphic}
 use Rattle.bs_words.specs.declared.operators.IntOp.{IntOp}
 use Rattle.bs_words.specs.declared.operators.IntOp.TheVariants.{Add, Sub, And}
@@ -117,14 +118,19 @@ parameter_of name colon component =
     then Some (record { at = name.at; name = name.text; comp = comp.Int })
     else None
 
-unfoldable pub parameter_at : List Token → Option (Parameter × List Token)
+-- a parameter at the front
+unfoldable pub parameter_at : List Token → Option Parameter
 parameter_at [] = None
 parameter_at (a ∷ []) = None
 parameter_at (a ∷ b ∷ []) = None
-parameter_at (a ∷ b ∷ c ∷ ts) = parameter_of a b c >>= λ p. Some (p, ts)
+parameter_at (a ∷ b ∷ c ∷ ts) = parameter_of a b c
 
 abbrev pub closes : Token → Bool
 closes t = is_spelled kind.Sign (codes ")") t
+
+abbrev pub closes_at : List Token → Bool
+closes_at [] = false
+closes_at (t ∷ ts) = closes t
 
 -- parameters up to a closing parenthesis, and what follows that
 unfoldable pub parameters_at : List Token → Option (List Parameter × List Token)
@@ -134,6 +140,11 @@ parameters_at (a ∷ b ∷ []) = if closes a then Some ([], b ∷ []) else None
 parameters_at (a ∷ b ∷ c ∷ ts) =
     if closes a then Some ([], b ∷ c ∷ ts)
     else (parameter_of a b c >>= λ p. (parameters_at ts >>= λ r. Some (p ∷ r.0, r.1)))
+
+-- these parameters before those that are read
+abbrev pub with_front : List Parameter → Option (List Parameter × List Token) → Option (List Parameter × List Token)
+with_front front None = None
+with_front front (Some r) = Some (front ++ r.0, r.1)
 
 -- 1 to 255 bytes, each 0x21 to 0x7E
 unfoldable pub is_symbol : List ℕ → Bool
@@ -168,3 +179,15 @@ function_at ts = do
   body ← expression_at (nesting - 1) params.1
   closing ← token_at kind.Sign (codes ")") body.1
   Some (record { at = opening.0.at; name = symbol.0; params = params.0; body = body.0; tokens = length ts - length closing.1 }, closing.1)
+
+-- these bytes stand between two quotes
+abbrev pub IsQuoted : List ℕ → List ℕ → Type 0
+IsQuoted inner text = text ≡ 34 ∷ (inner ++ 34 ∷ [])
+
+abbrev pub IsNotQuoted : List ℕ → Type 0
+IsNotQuoted text = (inner : List ℕ) → IsQuoted inner text → ⊥
+
+-- bytes behind a reference
+abbrev pub borrowed : Option (Bor (List ℕ)) → Option (List ℕ)
+borrowed None = None
+borrowed (Some bytes) = Some bytes.now

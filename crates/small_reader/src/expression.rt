@@ -2,7 +2,7 @@
 ghost use Rattle.std.specs.Prelude.{◌≡◌, map, option_map};
 ghost use Rattle.cmm_tree.specs.View.{expr_view};
 ghost use Rattle.small_reader.specs.Lexing.{token_view};
-ghost use Rattle.small_reader.specs.Reading.{Gives, Fails, is_name, leaf_at, leaf_of, operator_of, operator_at, token_at, expression_at};
+ghost use Rattle.small_reader.specs.Reading.{Gives, Fails, is_name, leaf_at, leaf_of, operator_of, operator_at, token_at, opens, operation_at, expression_at};
 
 use crate::error::SmallError;
 use crate::numbers::decimal;
@@ -14,11 +14,11 @@ use std::alloc::Global;
 
 /// The token at the front, if it is of this kind and spelled so, and the rest.
 #[tactic(auto, unfolding(crate::specs::Reading::token_at))]
-pub fn token<'a>(
-    tokens: &'a [Token<'a>],
+pub fn token<'t, 'a>(
+    tokens: &'t [Token<'a>],
     kind: TokenKind,
     text: &[u8],
-) -> Result<(Token<'a>, &'a [Token<'a>]), SmallError>
+) -> Result<(Token<'a>, &'t [Token<'a>]), SmallError>
     ensures { Gives (λ x. (token_view x.0, map token_view x.1.now)) result (token_at kind text.now (map token_view tokens.now)) }
 {
     match tokens.split_first() {
@@ -101,4 +101,51 @@ fn leaf<'a>(
         return Err(SmallError::NotSmall);
     };
     Ok((leaf_of(alloc, first)?, rest))
+}
+
+/// Whether an opening parenthesis stands at the front.
+fn opens(tokens: &[Token]) -> bool
+    ensures { result ≡ opens (map token_view tokens.now) }
+{
+    match tokens.split_first() {
+        Some((first, _)) => first.is(TokenKind::Sign, b"("),
+        None => false,
+    }
+}
+
+/// The operator in parentheses at the front, in whose operands parentheses nest at most `depth` deep,
+/// and the rest.
+#[cycle(expression)]
+#[tactic(auto, unfolding(crate::specs::Reading::operation_at))]
+fn operation<'a>(
+    alloc: Global,
+    tokens: &'a [Token<'a>],
+    depth: u32,
+) -> Result<(Expr, &'a [Token<'a>]), SmallError>
+    ensures { Gives (λ x. (expr_view x.0, map token_view x.1.now)) result (operation_at (expression_at depth) (map token_view tokens.now)) }
+{
+    let (opening, rest) = token(tokens, TokenKind::Sign, b"(")?;
+    let (op, rest) = operator(rest)?;
+    let (left, rest) = expression(alloc, rest, depth)?;
+    let (right, rest) = expression(alloc, rest, depth)?;
+    let (_, rest) = token(rest, TokenKind::Sign, b")")?;
+    let form = Form::Operator(op, Box::new(alloc, left)?, Box::new(alloc, right)?);
+    let at = opening.at;
+    Ok((Expr { at, form }, rest))
+}
+
+/// The expression at the front, in which parentheses nest at most `depth` deep, and the rest.
+#[cycle(expression)]
+pub fn expression<'a>(
+    alloc: Global,
+    tokens: &'a [Token<'a>],
+    depth: u32,
+) -> Result<(Expr, &'a [Token<'a>]), SmallError>
+    ensures { Gives (λ x. (expr_view x.0, map token_view x.1.now)) result (expression_at depth (map token_view tokens.now)) }
+{
+    if depth > 0 && opens(tokens) {
+        operation(alloc, tokens, depth - 1)
+    } else {
+        leaf(alloc, tokens)
+    }
 }

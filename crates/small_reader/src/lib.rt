@@ -8,5 +8,6 @@ mod token;
 mod words;
 mod numbers;
 mod expression;
+mod function;
 
 pub use error::SmallError;
