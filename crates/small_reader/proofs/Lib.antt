@@ -5,3 +5,6 @@ pub mod Cutting
 pub mod Magnitudes
 pub mod Depth
 pub mod Steps
+pub mod Symbols
+pub mod Keyword
+pub mod Sound

@@ -1,10 +1,10 @@
 //! Functions.
-ghost use Rattle.std.specs.Prelude.{◌≡◌, ◌<◌, ◌≤◌, ◌^◌, drop, length, map, MatchOption};
+ghost use Rattle.std.specs.Prelude.{◌≡◌, ◌<◌, ◌≤◌, ◌^◌, drop, length, map};
 ghost use Rattle.std.specs.Char.{is_ascii_graphic};
 ghost use Rattle.std.specs.List.{list_all};
 ghost use Rattle.cmm_tree.specs.View.{expr_view, param_view, function_view};
 ghost use Rattle.small_reader.specs.Lexing.{token_view};
-ghost use Rattle.small_reader.specs.Reading.{Gives, Fails, parameter_of, parameter_at, parameters_at, is_symbol, symbol_at, function_at, closes_at, IsQuoted, IsNotQuoted, borrowed, symbol_of, token_at};
+ghost use Rattle.small_reader.specs.Reading.{Gives, Fails, parameter_of, parameter_at, parameters_at, is_symbol, symbol_at, function_at, closes_at, unquoted, borrowed, symbol_of, token_at};
 
 use crate::error::SmallError;
 use crate::expression::{expression, is_name, token};
@@ -78,7 +78,7 @@ fn parameters<'t, 'a>(
 
 /// The bytes between a quote at the front and a quote at the end.
 fn unquoted(text: &[u8]) -> Option<&[u8]>
-    ensures { MatchOption result (IsNotQuoted text.now) (λ inner. IsQuoted inner.now text.now) }
+    ensures { borrowed result ≡ unquoted text.now }
 {
     text.strip_prefix(b"\"")?.strip_suffix(b"\"")
 }
@@ -102,11 +102,15 @@ fn is_symbol(bytes: &[u8]) -> bool
 }
 
 /// The symbol that the token is a string of.
+#[tactic(auto, unfolding(crate::specs::Reading::symbol_of))]
 fn symbol_of<'a>(token: &Token<'a>) -> Option<&'a [u8]>
     ensures { borrowed result ≡ symbol_of (token_view token.now) }
 {
+    if !matches!(token.kind, TokenKind::String) {
+        return None;
+    }
     let symbol = unquoted(token.text)?;
-    if matches!(token.kind, TokenKind::String) && is_symbol(symbol) {
+    if is_symbol(symbol) {
         Some(symbol)
     } else {
         None
