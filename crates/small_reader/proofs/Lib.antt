@@ -8,3 +8,4 @@ pub mod Steps
 pub mod Symbols
 pub mod Keyword
 pub mod Sound
+pub mod Complete
