@@ -9,3 +9,4 @@ pub mod Symbols
 pub mod Keyword
 pub mod Sound
 pub mod Complete
+pub mod Lengths
