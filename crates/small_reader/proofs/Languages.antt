@@ -15,19 +15,10 @@ use Rattle.small_reader.specs.declared.state.OperatorPart.TheVariants.{Plus, Min
 use Rattle.small_reader.specs.declared.state.State.{State}
 use Rattle.small_reader.specs.declared.state.State.TheVariants.{Start, Name, Number, Operator, Text, Done, Dead}
 use Rattle.small_reader.specs.Automaton.{run, after, accepts, after_start, after_name, after_number, after_decimal, after_operator, after_text, accepts_name, accepts_number, accepts_operator}
+use Rattle.small_reader.specs.Reading.{same_kind}
 use Rattle.small_reader.proofs.Behind.{behind, has_empty, behind-from, behind-to, empty-from, empty-to}
 
-abbrev pub same_kind : TokenKind → TokenKind → Bool
-same_kind kind.Name kind.Name = true
-same_kind kind.Integer kind.Integer = true
-same_kind kind.Pointer kind.Pointer = true
-same_kind kind.Float kind.Float = true
-same_kind kind.String kind.String = true
-same_kind kind.Operator kind.Operator = true
-same_kind kind.Sign kind.Sign = true
-same_kind _ _ = false
-
-same_kind-is : (j k : TokenKind) → same_kind j k ≡ true → j ≡ k
+pub same_kind-is : (j k : TokenKind) → same_kind j k ≡ true → j ≡ k
 same_kind-is kind.Name kind.Name e = refl
 same_kind-is kind.Integer kind.Integer e = refl
 same_kind-is kind.Pointer kind.Pointer e = refl
@@ -37,7 +28,7 @@ same_kind-is kind.Operator kind.Operator e = refl
 same_kind-is kind.Sign kind.Sign e = refl
 same_kind-is _ _ e = absurd (false≢true e)
 
-same_kind-self : (k : TokenKind) → same_kind k k ≡ true
+pub same_kind-self : (k : TokenKind) → same_kind k k ≡ true
 same_kind-self kind.Name = refl
 same_kind-self kind.Integer = refl
 same_kind-self kind.Pointer = refl

@@ -2,3 +2,11 @@ pub mod Behind
 pub mod Languages
 pub mod Scanning
 pub mod Cutting
+pub mod Magnitudes
+pub mod Depth
+pub mod Steps
+pub mod Symbols
+pub mod Keyword
+pub mod Sound
+pub mod Complete
+pub mod Lengths

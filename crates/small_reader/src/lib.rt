@@ -5,5 +5,9 @@ mod error;
 mod lexer;
 mod state;
 mod token;
+mod words;
+mod numbers;
+mod expression;
+mod function;
 
 pub use error::SmallError;
