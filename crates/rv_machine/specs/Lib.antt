@@ -1,6 +1,8 @@
 pub mod Memory
+pub mod Width
 pub mod Arithmetic
 pub mod Hart
+pub mod Step
 pub mod Observation
 pub mod Services
 pub mod Start

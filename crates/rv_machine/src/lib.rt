@@ -4,6 +4,16 @@
 //! `Start` the state in which a run begins, and `Run` a whole run under a schedule of the mover.
 #![tactic(auto)]
 
-mod cause;
+pub mod arithmetic;
+pub mod blocks;
+pub mod cause;
+mod code;
+pub mod machine;
+pub mod memory;
+pub mod region;
+mod step;
+pub mod step_end;
 
 pub use cause::Cause;
+pub use machine::Machine;
+pub use step_end::StepEnd;
