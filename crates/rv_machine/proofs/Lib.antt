@@ -1,3 +1,4 @@
 pub mod Bytes
+pub mod Bytes64
 pub mod Halves
 pub mod LowHalf

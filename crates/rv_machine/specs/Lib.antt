@@ -6,4 +6,5 @@ pub mod Step
 pub mod Observation
 pub mod Services
 pub mod Start
+pub mod Loading
 pub mod Run

@@ -11,9 +11,12 @@ mod code;
 pub mod machine;
 pub mod memory;
 pub mod region;
+pub mod setup;
+pub mod start;
 mod step;
 pub mod step_end;
 
 pub use cause::Cause;
 pub use machine::Machine;
+pub use setup::{Arg, LoadError, Setup};
 pub use step_end::StepEnd;
