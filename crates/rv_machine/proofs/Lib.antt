@@ -1,4 +1,6 @@
+pub mod Arguments
 pub mod Bytes
 pub mod Bytes64
+pub mod Found
 pub mod Halves
 pub mod LowHalf

@@ -1,5 +1,5 @@
 -- What a setup makes of an image: the state in which its run begins, or why there is none.
-use Rattle.std.specs.Prelude.{ℕ, ◌+◌, Bool, cond, List, [], ◌∷◌, length, Option, Some, None, Result, Ok, Err, find, option_map, option_and_then}
+use Rattle.std.specs.Prelude.{◌≡◌, ◌≤◌, ◌%◌, ℕ, ◌+◌, Bool, cond, List, [], ◌∷◌, length, Option, Some, None, Result, Ok, Err, find, option_map, option_and_then}
 use Rattle.std.specs.Str.{bytes_eq}
 use Rattle.bs_words.specs.Contents.{contents}
 use Rattle.bs_words.specs.Fits.{fits, type_of_comp}
@@ -7,7 +7,7 @@ use Rattle.bs_words.specs.declared.types.Comp.{Comp}
 use Rattle.bs_words.specs.declared.values.Value.TheVariants as value
 use Rattle.image_form.specs.Tables.{Tables, Func, Sym}
 use Rattle.rv_machine.specs.Hart.{Hart}
-use Rattle.rv_machine.specs.Start.{start, data_start}
+use Rattle.rv_machine.specs.Start.{start, start_registers, padded, data_start}
 use Rattle.rv_machine.specs.declared.setup.Setup.{Setup}
 use Rattle.rv_machine.specs.declared.setup.Arg.{Arg}
 use Rattle.rv_machine.specs.declared.setup.Arg.TheVariants.{Word, Symbol}
@@ -21,10 +21,13 @@ func_named name funcs = find (λ (f : Func). bytes_eq f.name name) funcs
 abbrev pub sym_named : List ℕ → List Sym → Option Sym
 sym_named name syms = find (λ (s : Sym). bytes_eq s.name name) syms
 
+abbrev pub address_of : Option Sym → Option ℕ
+address_of found = option_map (λ (s : Sym). data_start + s.offset) found
+
 -- an argument's word: a symbol's is its address
 abbrev pub word_of_arg : Tables → Arg → Option ℕ
 word_of_arg image (Word word) = Some word
-word_of_arg image (Symbol name) = option_map (λ (s : Sym). data_start + s.offset) (sym_named name image.syms)
+word_of_arg image (Symbol name) = address_of (sym_named name image.syms)
 
 -- a parameter of this type takes the word
 abbrev pub takes : Tables → Comp → ℕ → Bool
@@ -63,3 +66,17 @@ begins_at image setup (Some entry) = begins_with image setup entry (words_of_arg
 -- where the run of a setup begins, or why it does not
 abbrev pub beginning : Tables → Setup → Result Hart LoadError
 beginning image setup = begins_at image setup (func_named setup.entry image.funcs)
+
+-- the bytes that a stack, and a half of the heap, may have
+pub record IsRoom (bytes : ℕ) : Type 0 where
+  pub aligned : bytes % 16 ≡ 0
+  pub most : bytes ≤ 67108864
+
+-- the start of a run at an offset in the code, where these are the words of the argument registers
+abbrev pub IsStart : Tables → ℕ → List ℕ → ℕ → ℕ → Hart → Type 0
+IsStart image offset words stack heap h =
+    (entry : Func) (args : List ℕ) → entry.offset ≡ offset → words ≡ padded 16 args → h ≡ start image entry args stack heap
+
+-- registers of the start, where these are the words of the argument registers
+abbrev pub AreStartRegisters : List ℕ → List ℕ → Type 0
+AreStartRegisters words registers = (args : List ℕ) → words ≡ padded 16 args → registers ≡ start_registers args

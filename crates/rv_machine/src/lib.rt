@@ -8,6 +8,7 @@ pub mod arithmetic;
 pub mod blocks;
 pub mod cause;
 mod code;
+pub mod loading;
 pub mod machine;
 pub mod memory;
 pub mod region;
@@ -17,6 +18,7 @@ mod step;
 pub mod step_end;
 
 pub use cause::Cause;
+pub use loading::load;
 pub use machine::Machine;
 pub use setup::{Arg, LoadError, Setup};
 pub use step_end::StepEnd;

@@ -1,5 +1,8 @@
 //! The state of the machine, and what reads and sets it.
-ghost use Rattle.std.specs.Prelude.{◌≡◌, ◌+◌, ◌-◌, ◌*◌, ◌^◌, ◌<◌, IfSome, suc};
+ghost use Rattle.std.specs.Prelude.{◌≡◌, ◌+◌, ◌-◌, ◌*◌, ◌^◌, ◌<◌, ◌≤◌, [], length, slice_index, IfSome};
+ghost use Rattle.bs_words.specs.Contents.{contents};
+ghost use Rattle.image_form.specs.Image.{code_limit};
+ghost use Rattle.image_form.specs.Tables.{tables};
 ghost use Rattle.rv_machine.specs.Hart.{Hart, register, fetch, readable, sets, goes_to, jumps};
 ghost use Rattle.rv_machine.specs.Memory.{loaded, stored};
 ghost use Rattle.rv_machine.specs.Width.{IsWidth};
@@ -42,6 +45,33 @@ impl<'a> Model for Machine<'a> {
 }
 
 impl<'a> Machine<'a> {
+    // A machine in which no instruction has retired and no block lies. `blocks` is empty, with room for the
+    // table.
+    pub(crate) fn new(
+        image: &'a Image,
+        registers: [u64; 32],
+        pc: u64,
+        memory: Memory,
+        stack_base: u64,
+        blocks: Vec<BlockPlace>,
+    ) -> Self
+        requires zero { slice_index registers 0 ≡ 0 }
+        requires code_fits { 4 * length (contents image.now.code) ≤ code_limit }
+        requires no_block { blocks.items ≡ [] }
+        ensures { result ≡ record { image = tables image.now; registers = registers; pc = pc; memory = memory; stack_base = stack_base; blocks = []; retired = 0; services = 0 } }
+    {
+        Machine {
+            image,
+            registers,
+            pc,
+            memory,
+            stack_base,
+            blocks,
+            retired: 0,
+            services: 0,
+        }
+    }
+
     /// How many instructions have retired.
     pub fn retired(&self) -> u64
         ensures { result ≡ self.now.retired }
