@@ -1,10 +1,12 @@
 //! The faults that the program tells, and the line that it writes for each.
 #![tactic(auto)]
 
+mod build;
 mod image;
 mod large;
 mod usage;
 
+pub use build::BuildError;
 pub use image::{ImageFault, ImageRefusal, image_text};
 pub use large::{Large, Section, large_text};
 pub use usage::{Usage, usage_text};

@@ -5,8 +5,14 @@
 //! with numbers little-endian.
 #![tactic(auto)]
 
+mod fault;
+mod fields;
 mod image;
+mod reading;
+mod rows;
+mod seen;
 mod writing;
 
+pub use fault::ImageError;
 pub use image::{DescRow, ExtRow, FuncRow, Image, SymRow};
 pub use writing::write_image;

@@ -1,2 +1,5 @@
 pub mod Code
 pub mod Compiled
+pub mod Frames
+pub mod TooLarge
+pub mod Names

@@ -1,0 +1,81 @@
+-- How large an image is at most, by the text of its file.
+use Rattle.std.specs.Prelude.{◌≡◌, ℕ, ◌+◌, ◌*◌, ◌≤◌, max, Bool, ◌&&◌, nat_lt, nat_le, List, [], ◌∷◌, length, take, sum_by, count_by}
+use Rattle.std.specs.List.{AllZip}
+use Rattle.cmm_tree.specs.Tree.{Expression, Integer, Name, Operator, FunctionTree, FileTree, functions}
+use Rattle.image_form.specs.Image.{end_of}
+use Rattle.image_form.specs.Tables.{Tables, Func, Desc}
+
+-- ---- measures of a text
+
+-- the frame points in an expression: its applications and allocations. No form that is read so far is one.
+abbrev pub frame_points_in : Expression → ℕ
+frame_points_in (Integer at word) = 0
+frame_points_in (Name at name) = 0
+frame_points_in (Operator at op left right) = frame_points_in left + frame_points_in right
+
+-- the sizes of the switches in an expression, all together. No form that is read so far is one.
+abbrev pub switch_indexes_in : Expression → ℕ
+switch_indexes_in (Integer at word) = 0
+switch_indexes_in (Name at name) = 0
+switch_indexes_in (Operator at op left right) = switch_indexes_in left + switch_indexes_in right
+
+-- the most tries that stand around one point in an expression. No form that is read so far is one.
+abbrev pub tries_in : Expression → ℕ
+tries_in (Integer at word) = 0
+tries_in (Name at name) = 0
+tries_in (Operator at op left right) = max (tries_in left) (tries_in right)
+
+-- the same of a function, whose body is all that has such forms
+abbrev pub frame_points : FunctionTree → ℕ
+frame_points f = frame_points_in f.body
+
+abbrev pub switch_indexes : FunctionTree → ℕ
+switch_indexes f = switch_indexes_in f.body
+
+abbrev pub tries : FunctionTree → ℕ
+tries f = tries_in f.body
+
+-- the most words of a function's code
+abbrev pub most_words : FunctionTree → ℕ
+most_words f = 2048 * f.tokens + 8 * switch_indexes f
+
+-- the most bytes of a function's descriptors
+abbrev pub most_desc_bytes : FunctionTree → ℕ
+most_desc_bytes f = frame_points f * (4 * f.tokens + 80)
+
+-- ---- an image and its file
+
+-- the word before a return address, which called, is one of the function's
+abbrev pub is_called_in : Func → Desc → Bool
+is_called_in row d = nat_lt row.offset d.after && nat_le d.after (end_of row)
+
+-- A function's row, and the descriptors of its calls, keep to the text.
+pub record IsWithinText (described : List Desc) (f : FunctionTree) (row : Func) : Type 0 where
+  -- bytes of the frame, and 16 for each try that may stand on top
+  pub frame : row.frame + 16 * tries f ≤ 16 * f.tokens + 32
+  pub words : row.words ≤ most_words f
+  pub descs : count_by (is_called_in row) described ≤ frame_points f
+
+-- the functions' words lie one behind the other, and fill the code from one byte to another
+abbrev pub FillCode : ℕ → ℕ → List Func → Type 0
+FillCode from to [] = from ≡ to
+FillCode from to (row ∷ rows) = (row.offset ≡ from) × FillCode (end_of row) to rows
+
+-- the words with which the code of every image begins: a return to the first asks for the service that
+-- ends the run, and 8 bytes on is the service of an uncaught raise
+abbrev pub stub : List ℕ
+stub = 0x00000393 ∷ 0x00000073 ∷ 0x00100393 ∷ 0x00000073 ∷ []
+
+-- An image is as small as the text of its file asks: each function keeps to its own text, and the code
+-- is the stub and the functions' words, with no other words.
+pub record IsBounded (file : FileTree) (image : Tables) : Type 0 where
+  pub each : AllZip (IsWithinText image.descs) (functions file) image.funcs
+  pub stub_first : take 4 image.code ≡ stub
+  pub filled : FillCode 16 (4 * length image.code) image.funcs
+
+-- A file whose image fits, whatever its code is within the bounds above.
+pub record IsRoomy (file : FileTree) : Type 0 where
+  -- words of code, with those of the stub
+  pub code : 4 + sum_by most_words (functions file) ≤ 67092480
+  -- bytes of descriptors, with those of their number
+  pub descs : 4 + sum_by most_desc_bytes (functions file) ≤ 67108864

@@ -1,0 +1,93 @@
+-- Whole runs: a run that is over stays over, and its external calls only grow.
+use Rattle.std.proofs.Common.{◌≡◌, ◌⊎◌, ℕ, zero, suc, ◌+◌, ◌-◌, ◌<◌, ◌≤◌, List, [], ◌∷◌, ◌++◌, Option, Some, None, slice_get, refl, sym, ap, ◌∙◌, arith, inl, inr, append_assoc, append-nil}
+use Rattle.std.proofs.lemmas.Bool.{cases_lt}
+use Rattle.bs_words.specs.Observed.{Made}
+use Rattle.bs_words.specs.declared.types.Ret.{Ret}
+use Rattle.bs_words.specs.declared.types.Ret.TheVariants as returns
+use Rattle.correctness.specs.Correct.{IsPrefix}
+use Rattle.image_form.specs.Tables.{Ext}
+use Rattle.rv_machine.specs.Hart.{Hart, Next, Retired, Service, hart, register}
+use Rattle.rv_machine.specs.Hart as next
+use Rattle.rv_machine.specs.Run.{Schedule, Seen, perhaps_asked, after_next, one, after, seen}
+use Rattle.rv_machine.specs.Services.{End, Running, Machine, Now, Going, Over, answered, call_made, external, served}
+
+pub over_stays :
+    (schedule : Schedule) (k : ℕ) (calls : List Made) (end : End) → after schedule k (Over calls end) ≡ Over calls end
+over_stays schedule zero calls end = refl
+over_stays schedule (suc k) calls end = refl
+
+pub after_more :
+    (schedule : Schedule) (m k j : ℕ) (now : Now) → j ≡ m + k →
+    after schedule j now ≡ after schedule k (after schedule m now)
+after_more schedule zero k j now e = let same : j ≡ k = omega arith in ap (λ n. after schedule n now) same
+after_more schedule (suc m) k j (Over calls end) e = over_stays schedule j calls end ∙ sym (over_stays schedule k calls end)
+after_more schedule (suc m) k j (Going machine) e =
+    let more : j ≡ suc (m + k) = omega arith in
+    ap (λ n. after schedule n (Going machine)) more ∙ after_more schedule m k (m + k) (one schedule machine) refl
+
+-- ---- the external calls only grow
+
+same_calls : (calls : List Made) → IsPrefix calls calls
+same_calls calls = ([], sym (append-nil calls))
+
+then_calls : (a b c : List Made) → IsPrefix a b → IsPrefix b c → IsPrefix a c
+then_calls a b c p q = (p.0 ++ q.0, q.1 ∙ ap (λ l. l ++ q.0) p.1 ∙ append_assoc a p.0 q.0)
+
+answered_grows :
+    (result : Ret) (call : Made) (answers : List ℕ) (m : Machine) →
+    IsPrefix m.calls (seen (answered result call answers m)).calls
+answered_grows returns.Unit call answers m = (call ∷ [], refl)
+answered_grows (returns.Comp c) call [] m = same_calls m.calls
+answered_grows (returns.Comp c) call (a ∷ answers) m = (call ∷ [], refl)
+
+external_grows : (e : Option Ext) (m : Machine) → IsPrefix m.calls (seen (external e m)).calls
+external_grows None m = same_calls m.calls
+external_grows (Some e) m = answered_grows e.result (call_made e m.hart) m.answers m
+
+served_grows : (number : ℕ) (m : Machine) → IsPrefix m.calls (seen (served number m)).calls
+served_grows zero m = same_calls m.calls
+served_grows (suc zero) m = same_calls m.calls
+served_grows (suc (suc zero)) m = external_grows (slice_get m.hart.image.extcs (register m.hart 5)) m
+served_grows (suc (suc (suc n))) m = same_calls m.calls
+
+next_grows : (next : Next) (m : Machine) → IsPrefix m.calls (seen (after_next next m)).calls
+next_grows (Retired h) m = same_calls m.calls
+next_grows (Service h) m = served_grows (register h 7) (record m { hart = h })
+next_grows next.StackOut m = same_calls m.calls
+next_grows (next.Stopped cause) m = same_calls m.calls
+
+pub calls_grow :
+    (schedule : Schedule) (k : ℕ) (now : Now) → IsPrefix (seen now).calls (seen (after schedule k now)).calls
+calls_grow schedule zero now = same_calls (seen now).calls
+calls_grow schedule (suc k) (Over calls end) = same_calls calls
+calls_grow schedule (suc k) (Going m) =
+    then_calls m.calls (seen (one schedule m)).calls (seen (after schedule k (one schedule m))).calls
+    (next_grows (hart (perhaps_asked schedule m.hart)) m) (calls_grow schedule k (one schedule m))
+
+no_part : (calls rest : List Made) → calls ++ rest ≡ [] → calls ≡ []
+no_part [] rest e = refl
+no_part (c ∷ calls) rest e = cc
+
+-- ---- a run that ends without an external call
+
+-- a run is on its way, or has come to this end
+abbrev pub Comes : End → Seen → Type 0
+Comes end now = (now ≡ record { calls = []; end = Running }) ⊎ (now ≡ record { calls = []; end = end })
+
+on_the_way :
+    (schedule : Schedule) (k : ℕ) (now : Now) (end : End) → after schedule k now ≡ Over [] end → Comes end (seen now)
+on_the_way schedule k (Over calls other) end e =
+    inr (ap seen (sym (over_stays schedule k calls other) ∙ e))
+on_the_way schedule k (Going m) end e =
+    let grow = calls_grow schedule k (Going m) in
+    let none : m.calls ≡ [] = no_part m.calls grow.0 (sym grow.1 ∙ ap (λ n. (seen n).calls) e) in
+    inl (ap (λ calls. record { calls = calls; end = Running }) none)
+
+pub comes_at :
+    (schedule : Schedule) (total m : ℕ) (now : Now) (end : End) → after schedule total now ≡ Over [] end →
+    Comes end (seen (after schedule m now))
+comes_at schedule total m now end e = by_order (cases_lt m total)
+  where
+    by_order : (m < total) ⊎ (total ≤ m) → Comes end (seen (after schedule m now))
+    by_order (inl early) = on_the_way schedule (total - m) (after schedule m now) end (sym (after_more schedule m (total - m) total now (omega arith)) ∙ e)
+    by_order (inr late) = inr (ap seen (after_more schedule total (m - total) m now (omega arith) ∙ ap (after schedule (m - total)) e ∙ over_stays schedule (m - total) [] end))

@@ -1,0 +1,13 @@
+use Rattle.std.proofs.Common.{◌≡◌, ◌++◌, map, flat_map}
+use Rattle.bs_words.specs.Contents.{contents}
+use Rattle.image_form.specs.Tables.{func}
+use Rattle.small_code.specs.Compiled.{function_words, rows_from, stub}
+use Rattle.small_code.proofs.Files.{functions_first}
+use Rattle.small_code.proofs.image.image.Given as goal
+
+abbrev pub invariant-loop-item : goal.invariant-loop-item
+invariant-loop-item l = record {
+  items : l.item-items ≡ contents l.file.items;
+  funcs : map func l.funcs.items ≡ rows_from 16 (functions_first l.item-index l.item-items);
+  code : l.code.words.items ≡ stub ++ flat_map function_words (functions_first l.item-index l.item-items);
+}

@@ -1,0 +1,39 @@
+use Rattle.std.proofs.Common.{◌≡◌, ℕ, ◌+◌, ◌*◌, ◌≤◌, length, map, flat_map, refl, ap, ◌∙◌, sym, arith}
+use Rattle.cmm_tree.specs.Small.{IsSmallFunction}
+use Rattle.cmm_tree.specs.Tree.{functions, functions_among}
+use Rattle.cmm_tree.specs.View.{file_view, item_view}
+use Rattle.image_form.specs.Image.{func_bytes}
+use Rattle.small_code.specs.Compiled.{rows_from}
+use Rattle.small_code.proofs.Files.{each_function, all_made, length-functions, row_sizes_step, code_sizes_step}
+use Rattle.small_code.proofs.Limits.{bytes_of_rows}
+use Rattle.small_code.proofs.size.Sizes.of.Goals as goal
+
+pub row_bytes-requires : goal.row_bytes-requires
+row_bytes-requires c =
+    each_function IsSmallFunction _ _ _ _ _ c.loop-item.invariant.items c.requires.functions_small c.loop-item-test.true c.item-item.is c.function_of-function.ensures
+
+pub function_words-requires : goal.function_words-requires
+function_words-requires c =
+    each_function IsSmallFunction _ _ _ _ _ c.loop-item.invariant.items c.requires.functions_small c.loop-item-test.true c.item-item.is c.function_of-function.ensures
+
+pub overflow_add-sizes : goal.overflow_add-sizes
+overflow_add-sizes c =
+    omega (arith, c.loop-item.invariant.funcs_most, c.row_bytes.ensures.most, c.requires.few_functions, ap length c.loop-item.invariant.items, length-functions c.args.file.now.items.items.items)
+
+pub overflow_add-sizes-in-loop-item : goal.overflow_add-sizes-in-loop-item
+overflow_add-sizes-in-loop-item c =
+    omega (arith, c.loop-item.invariant.code_most, c.from.ensures, c.function_words.ensures.most, c.requires.few_functions, ap length c.loop-item.invariant.items, length-functions c.args.file.now.items.items.items)
+
+pub loop-item-preserved : goal.loop-item-preserved
+loop-item-preserved c = record {
+  items = c.loop-item.invariant.items;
+  funcs = row_sizes_step _ _ _ _ c.loop-item-test.true c.item-item.is c.function_of-function.ensures _ _ (c.row_bytes.ensures.exact 16) c.loop-item.invariant.funcs;
+  code = code_sizes_step _ _ _ _ c.loop-item-test.true c.item-item.is c.function_of-function.ensures _ _ (c.from.ensures ∙ c.function_words.ensures.exact) c.loop-item.invariant.code;
+  funcs_most = omega (arith, c.loop-item.invariant.funcs_most, c.row_bytes.ensures.most);
+  code_most = omega (arith, c.loop-item.invariant.code_most, c.from.ensures, c.function_words.ensures.most);
+}
+
+pub returns-clause-funcs : goal.returns-clause-funcs
+returns-clause-funcs c =
+    let all = all_made _ _ _ c.loop-item.invariant.items c.loop-item-test.false in
+    c.loop-item.invariant.funcs ∙ ap (λ fs. 4 + length (flat_map func_bytes (rows_from 16 fs))) all ∙ sym (bytes_of_rows (rows_from 16 (functions (file_view c.args.file.now))))

@@ -1,0 +1,90 @@
+//! The code of expressions.
+ghost use Rattle.std.specs.Prelude.{◌≡◌, ◌+◌, ◌-◌, ◌<◌, ◌≤◌, ◌^◌, ◌∷◌, ◌++◌, length, map, IfOk, OnOk};
+ghost use Rattle.cmm_tree.specs.View.{expr_view};
+ghost use Rattle.cmm_tree.specs.Small.{nodes};
+ghost use Rattle.rv_isa.specs.Encoding.{encoded};
+ghost use Rattle.small_code.specs.Code.{expression_code, index_of, row_of, load_slot, store_slot, t0, t2};
+ghost use Rattle.small_code.specs.Names.{names_in};
+
+use crate::emit::Code;
+use crate::registers::{T0, T2};
+use bs_words::{IntOp, Name};
+use cmm_tree::{Expr, Form, Param};
+use rv_isa::{AluOp, Instr};
+use std::alloc::AllocError;
+
+impl Code {
+    /// The code of an expression whose nodes take the slots from `next` on. It answers the first slot
+    /// behind these; the expression's own value stands in the slot before.
+    pub fn expression(
+        &mut self,
+        params: &[Param],
+        next: u16,
+        expr: &Expr,
+    ) -> Result<u16, AllocError>
+        requires few { length params.now ≤ 16 }
+        requires room { next + nodes (expr_view expr.now) < 2 ^ 16 }
+        ensures slots { IfOk result (λ end. end ≡ next + nodes (expr_view expr.now)) }
+        ensures code { OnOk result (self.new.words.items ≡ self.old.words.items ++ map encoded (expression_code (names_in params.now) next (expr_view expr.now))) }
+    {
+        match &expr.form {
+            Form::Integer(word) => {
+                self.constant(T0, *word)?;
+                self.store_slot(T0, next)?;
+                Ok(next + 1)
+            }
+            Form::Name(name) => {
+                self.load_slot(T0, index_of(params, name) as u16)?;
+                self.store_slot(T0, next)?;
+                Ok(next + 1)
+            }
+            Form::Operator(op, left, right) => {
+                let right_end = self.expression(params, next, right)?;
+                let left_end = self.expression(params, right_end, left)?;
+                self.operator(row_of(*op), left_end, right_end)?;
+                Ok(left_end + 1)
+            }
+        }
+    }
+
+    /// The operation on two operands, whose values stand in the slots before these, and its store.
+    fn operator(&mut self, op: AluOp, left_end: u16, right_end: u16) -> Result<(), AllocError>
+        requires left { 0 < left_end }
+        requires right { 0 < right_end }
+        ensures { OnOk result (self.new.words.items ≡ self.old.words.items ++ map encoded (load_slot t0 (left_end - 1) ++ (load_slot t2 (right_end - 1) ++ (Instr.Op op t0 t0 t2 ∷ store_slot t0 left_end)))) }
+    {
+        self.load_slot(T0, left_end - 1)?;
+        self.load_slot(T2, right_end - 1)?;
+        self.push(Instr::Op {
+            op,
+            rd: T0,
+            rs1: T0,
+            rs2: T2,
+        })?;
+        self.store_slot(T0, left_end)
+    }
+}
+
+/// The number of a name among the parameters, or how many they are.
+fn index_of(params: &[Param], name: &Name) -> usize
+    ensures exact { result ≡ index_of (names_in params.now) name.now }
+    ensures within { result ≤ length params.now }
+{
+    for (index, param) in params.iter().enumerate() {
+        if param.name.same(name) {
+            return index;
+        }
+    }
+    params.len()
+}
+
+/// The row for an operator of a small text.
+fn row_of(op: IntOp) -> AluOp
+    ensures { result ≡ row_of op }
+{
+    match op {
+        IntOp::Sub => AluOp::Sub,
+        IntOp::And => AluOp::And,
+        _ => AluOp::Add,
+    }
+}

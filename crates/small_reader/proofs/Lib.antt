@@ -1,0 +1,4 @@
+pub mod Behind
+pub mod Languages
+pub mod Scanning
+pub mod Cutting
