@@ -1,0 +1,5 @@
+mod Cuts
+mod Gives
+mod Numbers
+mod Tested
+mod Unique
