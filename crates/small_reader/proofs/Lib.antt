@@ -10,3 +10,4 @@ pub mod Keyword
 pub mod Sound
 pub mod Complete
 pub mod Lengths
+pub mod Items

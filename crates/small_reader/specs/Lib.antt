@@ -1,3 +1,4 @@
 pub mod Automaton
 pub mod Lexing
 pub mod Reading
+pub mod Parsing

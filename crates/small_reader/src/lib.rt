@@ -3,6 +3,7 @@
 
 mod error;
 mod lexer;
+mod reader;
 mod state;
 mod token;
 mod words;
