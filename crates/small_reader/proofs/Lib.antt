@@ -1,4 +1,3 @@
-pub mod Behind
 pub mod Languages
 pub mod Scanning
 pub mod Cutting
@@ -11,3 +10,5 @@ pub mod Sound
 pub mod Complete
 pub mod Lengths
 pub mod Items
+pub mod RuleTests
+pub mod Texts

@@ -2,3 +2,4 @@ pub mod Automaton
 pub mod Lexing
 pub mod Reading
 pub mod Parsing
+pub mod Rules

@@ -4,6 +4,7 @@
 mod error;
 mod lexer;
 mod reader;
+mod rules;
 mod state;
 mod token;
 mod words;
@@ -12,3 +13,4 @@ mod expression;
 mod function;
 
 pub use error::SmallError;
+pub use reader::read_small;
