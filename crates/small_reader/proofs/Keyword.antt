@@ -6,7 +6,7 @@ use Rattle.std.specs.List.{list_any}
 use Rattle.cmm_tree.specs.Keywords.{keywords}
 use Rattle.small_reader.specs.Reading.{is_keyword}
 
-any-from : (text : List ℕ) (words : List (List ℕ)) → list_any (λ (w : List ℕ). bytes_eq w text) words ≡ true → Contains words text
+pub any-from : (text : List ℕ) (words : List (List ℕ)) → list_any (λ (w : List ℕ). bytes_eq w text) words ≡ true → Contains words text
 any-from text [] e = absurd (false≢true e)
 any-from text (w ∷ ws) e =
     elim (or_cases (bytes_eq w text) (list_any (λ (w : List ℕ). bytes_eq w text) ws) e) [
@@ -14,7 +14,7 @@ any-from text (w ∷ ws) e =
         | inr later ↦ let r = any-from text ws later in (suc r.0, omega (arith, r.1), r.2)
     ]
 
-any-to : (text : List ℕ) (words : List (List ℕ)) → Contains words text → list_any (λ (w : List ℕ). bytes_eq w text) words ≡ true
+pub any-to : (text : List ℕ) (words : List (List ℕ)) → Contains words text → list_any (λ (w : List ℕ). bytes_eq w text) words ≡ true
 any-to text [] (k, h, e) = absurd (omega arith)
 any-to text (w ∷ ws) (zero, h, e) = or_left _ _ ((bytes_eq-Decides w text).1 e)
 any-to text (w ∷ ws) (suc k, h, e) = or_right _ _ (any-to text ws (k, omega arith, e))

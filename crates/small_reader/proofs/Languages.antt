@@ -16,7 +16,7 @@ use Rattle.small_reader.specs.declared.state.State.{State}
 use Rattle.small_reader.specs.declared.state.State.TheVariants.{Start, Name, Number, Operator, Text, Done, Dead}
 use Rattle.small_reader.specs.Automaton.{run, after, accepts, after_start, after_name, after_number, after_decimal, after_operator, after_text, accepts_name, accepts_number, accepts_operator}
 use Rattle.small_reader.specs.Reading.{same_kind}
-use Rattle.small_reader.proofs.Behind.{behind, has_empty, behind-from, behind-to, empty-from, empty-to}
+use Rattle.cmm_tree.proofs.Behind.{behind, has_empty, behind-from, behind-to, empty-from, empty-to}
 
 pub same_kind-is : (j k : TokenKind) → same_kind j k ≡ true → j ≡ k
 same_kind-is kind.Name kind.Name e = refl

@@ -1,4 +1,3 @@
-pub mod Behind
 pub mod Languages
 pub mod Scanning
 pub mod Cutting
@@ -10,3 +9,6 @@ pub mod Keyword
 pub mod Sound
 pub mod Complete
 pub mod Lengths
+pub mod Items
+pub mod RuleTests
+pub mod Texts

@@ -3,6 +3,8 @@
 
 mod error;
 mod lexer;
+mod reader;
+mod rules;
 mod state;
 mod token;
 mod words;
@@ -11,3 +13,4 @@ mod expression;
 mod function;
 
 pub use error::SmallError;
+pub use reader::read_small;
