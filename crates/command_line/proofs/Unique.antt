@@ -1,13 +1,13 @@
 -- Words are at most one command.
-use Rattle.std.proofs.Common.{◌≡◌, ◌≢◌, ℕ, ◌≤◌, List, [], ◌∷◌, count_by, refl, sym, ap, ◌∙◌, subst, arith, lit<}
+use Rattle.std.proofs.Common.{◌≡◌, ◌≢◌, ℕ, ◌≤◌, ◌%◌, List, [], ◌∷◌, refl, sym, ap, ◌∙◌, subst, arith, lit<}
 use Rattle.command_line.specs.declared.arg.Arg.{Arg}
 use Rattle.command_line.specs.declared.form.CommandWord.{CommandWord}
 use Rattle.command_line.specs.declared.form.CommandWord.TheVariants as word
 use Rattle.command_line.specs.declared.form.Slot.{Slot}
 use Rattle.command_line.specs.declared.form.Slot.TheVariants.{Plain, Args, Answers, Steps, Stack, Heap}
-use Rattle.command_line.specs.Command.{CommandTree, CompileCommand, RunCommand, RunTree, IsRun, IsCommand, compile, run}
-use Rattle.command_line.specs.Values.{Nothing, IsSteps, IsSize, IsItems}
-use Rattle.command_line.specs.Words.{word_of, fills, IsForm, WellFormed}
+use Rattle.command_line.specs.Command.{CommandTree, CompileCommand, RunCommand, RunTree, IsRun, IsCommand, compile, run, default_steps, default_size, Sets, given, left_out, WithinLimits}
+use Rattle.command_line.specs.Values.{Nothing, IsSteps, IsSize, IsItems, most_steps, largest_size}
+use Rattle.command_line.specs.Words.{word_of, IsForm, WellFormed}
 use Rattle.command_line.proofs.Cuts.{list-unique, tail-same}
 use Rattle.command_line.proofs.Gives.{gives-unique, sets-unique}
 
@@ -30,11 +30,11 @@ run-unique others form r s a b =
     (gives-unique Plain others r.entry s.entry (form.once 0 Plain (lit< tt)) a.entry b.entry)
     (sets-unique others Args IsItems [] (form.once 1 Args (lit< tt)) list-unique r.args s.args a.args b.args)
     (sets-unique others Answers IsItems [] (form.once 2 Answers (lit< tt)) list-unique r.answers s.answers a.answers b.answers)
-    (sets-unique others Steps IsSteps 100000000 (form.once 3 Steps (lit< tt)) steps-unique r.steps s.steps a.steps b.steps)
-    (sets-unique others Stack IsSize 1048576 (form.once 4 Stack (lit< tt)) size-unique r.stack s.stack a.stack b.stack)
-    (sets-unique others Heap IsSize 1048576 (form.once 5 Heap (lit< tt)) size-unique r.heap s.heap a.heap b.heap)
+    (sets-unique others Steps IsSteps default_steps (form.once 3 Steps (lit< tt)) steps-unique r.steps s.steps a.steps b.steps)
+    (sets-unique others Stack IsSize default_size (form.once 4 Stack (lit< tt)) size-unique r.stack s.stack a.stack b.stack)
+    (sets-unique others Heap IsSize default_size (form.once 5 Heap (lit< tt)) size-unique r.heap s.heap a.heap b.heap)
 
-parts : (x y : List ℕ) (xs ys : List (List ℕ)) → x ∷ xs ≡ y ∷ ys → (x ≡ y) × (xs ≡ ys)
+pub parts : (x y : List ℕ) (xs ys : List (List ℕ)) → x ∷ xs ≡ y ∷ ys → (x ≡ y) × (xs ≡ ys)
 parts x y xs ys e = (cc, cc)
 
 -- a word names one command
@@ -102,3 +102,26 @@ pub no_run : (command : CommandWord) (words : List (List ℕ)) (first : List ℕ
     → first ≡ word_of command → command ≡ word.Run → Nothing (IsRun others) → Nothing (IsCommand words)
 no_run command words first others e named c none =
     no_run-at words others (e ∙ ap (λ w. w ∷ others) (named ∙ ap word_of c)) none
+
+-- ---- what is known of a run
+
+steps_within : (others : List (List ℕ)) (n : ℕ) → Sets others Steps IsSteps default_steps n → n ≤ most_steps
+steps_within others n (given value g is) = is.limit
+steps_within others n (left_out none e) = omega arith
+
+size_within : (others : List (List ℕ)) (slot : Slot) (n : ℕ) → Sets others slot IsSize default_size n → (n ≤ largest_size) × (n % 16 ≡ 0)
+size_within others slot n (given value g is) = (is.limit, is.aligned)
+size_within others slot n (left_out none e) = (omega arith, rw e refl)
+
+pub within : (others : List (List ℕ)) (r : RunTree) → IsRun others r → WithinLimits r
+within others r is =
+    let stack = size_within others Stack r.stack is.stack in
+    let heap = size_within others Heap r.heap is.heap in
+    record {
+      entry = is.entry_name;
+      steps = steps_within others r.steps is.steps;
+      stack = stack.0;
+      stack_aligned = stack.1;
+      heap = heap.0;
+      heap_aligned = heap.1;
+    }

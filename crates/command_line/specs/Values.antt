@@ -18,6 +18,13 @@ pub record IsName (bytes : List ℕ) : Type 0 where
 
 -- ---- numbers
 
+-- the most instructions that a run may be told to retire, and the most bytes of a stack or half of a heap
+abbrev pub most_steps : ℕ
+most_steps = 1000000000000
+
+abbrev pub largest_size : ℕ
+largest_size = 67108864
+
 -- the number that digits write
 abbrev pub number_of : List ℕ → ℕ
 number_of digits = fold (λ n digit. 10 * n + (digit - 48)) 0 digits
@@ -31,12 +38,12 @@ pub record IsNumber (bytes : List ℕ) (n : ℕ) : Type 0 where
 -- a number of instructions
 pub record IsSteps (bytes : List ℕ) (n : ℕ) : Type 0 where
   pub number : IsNumber bytes n
-  pub limit : n ≤ 1000000000000
+  pub limit : n ≤ most_steps
 
 -- the size of a stack or a half of a heap
 pub record IsSize (bytes : List ℕ) (n : ℕ) : Type 0 where
   pub number : IsNumber bytes n
-  pub limit : n ≤ 67108864
+  pub limit : n ≤ largest_size
   pub aligned : n % 16 ≡ 0
 
 -- ---- items

@@ -1,6 +1,6 @@
 -- The form of a command line, whatever its values are. A word is the list of its bytes; the program's
 -- own name is no word.
-use Rattle.std.specs.Prelude.{◌≡◌, ℕ, ◌≤◌, Bool, true, not, nat_eq, IsTrue, List, [], ◌∷◌, ◌++◌, codes, map, All, Contains, count_by}
+use Rattle.std.specs.Prelude.{◌≡◌, ℕ, ◌≤◌, Bool, true, not, nat_eq, IsTrue, List, [], ◌∷◌, ◌++◌, codes, All, Contains, count_by}
 use Rattle.std.specs.List.{list_any, starts_with}
 use Rattle.command_line.specs.declared.form.CommandWord.{CommandWord}
 use Rattle.command_line.specs.declared.form.CommandWord.TheVariants as word

@@ -1,7 +1,8 @@
 //! The form of a command line: which words may stand in it, whatever their values are.
-ghost use Rattle.std.specs.Prelude.{◌≡◌, ◌≢◌, ◌≤◌, ◌↔◌, ◌++◌, ℕ, Bool, true, false, List, MatchOption, IsTrue, count_by, nat_le, string_bytes};
+ghost use Rattle.std.specs.Prelude.{◌≡◌, ◌≢◌, ◌≤◌, ◌↔◌, ◌++◌, true, false, MatchOption, IsTrue, count_by, nat_le, string_bytes};
 ghost use Rattle.std.specs.List.{list_any, list_all};
 ghost use Rattle.command_line.specs.declared.form.CommandWord.{CommandWord};
+ghost use Rattle.command_line.specs.Values.{Nothing};
 ghost use Rattle.command_line.specs.View.{texts};
 ghost use Rattle.command_line.specs.Words.{word_of, slots_of, wanted_of, prefix_of, fills, IsForm, Gives};
 
@@ -119,7 +120,7 @@ impl Slot {
     /// The value of the first word that is for this slot.
     pub(crate) fn value_among(self, others: &[String]) -> Option<&[u8]>
         ensures { MatchOption result
-            ((value : List ℕ) → Gives (texts others.now) self value → ⊥)
+            (Nothing (Gives (texts others.now) self))
             (λ value. Gives (texts others.now) self value.now) }
     {
         for word in others {

@@ -9,6 +9,17 @@ use crate::command::WordsError;
 use bs_words::{List, Name, sub};
 use std::alloc::Global;
 
+/// The most instructions that a run may be told to retire.
+const MOST_STEPS: u64 = 1_000_000_000_000;
+
+/// The most bytes of a stack or of half of a heap.
+const LARGEST_SIZE: u64 = 67_108_864;
+
+/// The most that a number after `-` may be, and without one.
+const MOST_NEGATIVE: u64 = 9_223_372_036_854_775_808;
+
+const MOST_POSITIVE: u64 = 9_223_372_036_854_775_807;
+
 /// The number that the digits write, if they are digits and it is at most the limit.
 fn number(digits: &[u8], limit: u64) -> Option<u64>
     ensures { MatchOption result
@@ -38,7 +49,7 @@ pub(crate) fn steps(text: &[u8]) -> Option<u64>
         (Nothing (IsSteps text.now))
         (λ n. IsSteps text.now n) }
 {
-    number(text, 1_000_000_000_000)
+    number(text, MOST_STEPS)
 }
 
 /// The size of a stack or of half of a heap that the text writes.
@@ -47,7 +58,7 @@ pub(crate) fn size(text: &[u8]) -> Option<u32>
         (Nothing (IsSize text.now))
         (λ n. IsSize text.now n) }
 {
-    let bytes = number(text, 67_108_864)?;
+    let bytes = number(text, LARGEST_SIZE)?;
     if bytes % 16 == 0 {
         Some(bytes as u32)
     } else {
@@ -65,8 +76,8 @@ fn is_name(text: &[u8]) -> bool
 /// The name that the text is.
 pub(crate) fn name(alloc: Global, text: &[u8]) -> Result<Name, WordsError>
     ensures value { IfOk result (λ bytes. (bytes ≡ text.now) × IsName text.now) }
-    ensures bad { IsErrOf result WordsError.ValueText → IsName text.now → ⊥ }
-    ensures formed { IsErrOf result WordsError.Words → ⊥ }
+    ensures bad { IsErrOf result WordsError.ValueText → ¬ IsName text.now }
+    ensures formed { ¬ IsErrOf result WordsError.Words }
 {
     if !is_name(text) {
         return Err(WordsError::ValueText);
@@ -91,21 +102,18 @@ fn item(alloc: Global, text: &[u8]) -> Result<Arg, WordsError>
     requires { All (λ b. b ≢ 44) text.now }
     ensures value { IfOk result (λ item. IsItem text.now item) }
     ensures bad { IsErrOf result WordsError.ValueText → Nothing (IsItem text.now) }
-    ensures formed { IsErrOf result WordsError.Words → ⊥ }
+    ensures formed { ¬ IsErrOf result WordsError.Words }
 {
     if let Some(symbol) = after_sign(text, b'@') {
-        return match name(alloc, symbol) {
-            Ok(symbol) => Ok(Arg::Symbol(symbol)),
-            Err(error) => Err(error),
-        };
+        return Ok(Arg::Symbol(name(alloc, symbol)?));
     }
     if let Some(digits) = after_sign(text, b'-') {
-        return match number(digits, 9_223_372_036_854_775_808) {
+        return match number(digits, MOST_NEGATIVE) {
             Some(n) => Ok(Arg::Word(sub(0, n))),
             None => Err(WordsError::ValueText),
         };
     }
-    match number(text, 9_223_372_036_854_775_807) {
+    match number(text, MOST_POSITIVE) {
         Some(n) => Ok(Arg::Word(n)),
         None => Err(WordsError::ValueText),
     }
@@ -129,7 +137,7 @@ fn cut_at_comma(text: &[u8]) -> Option<(&[u8], &[u8])>
 pub(crate) fn items(alloc: Global, text: &[u8]) -> Result<List<Arg>, WordsError>
     ensures value { IfOk result (λ items. IsItems text.now (contents items)) }
     ensures bad { IsErrOf result WordsError.ValueText → Nothing (IsItems text.now) }
-    ensures formed { IsErrOf result WordsError.Words → ⊥ }
+    ensures formed { ¬ IsErrOf result WordsError.Words }
 {
     let mut items = Vec::new(alloc);
     if text.is_empty() {

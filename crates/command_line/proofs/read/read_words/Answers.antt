@@ -1,10 +1,10 @@
-use Rattle.std.proofs.Common.{◌≡◌, List, ℕ, Err, IsErrOf, string_bytes, sym, ap, ◌∙◌, rules}
+use Rattle.std.proofs.Common.{◌≡◌, Err, IsErrOf, string_bytes, sym, ap, ◌∙◌, rules}
 use Rattle.command_line.specs.declared.command.RunWords.{RunWords}
 use Rattle.command_line.specs.declared.command.WordsError.TheVariants.{ValueText}
 use Rattle.command_line.specs.View.{texts, run_view}
-use Rattle.command_line.specs.Command.{CompileCommand, RunCommand}
+use Rattle.command_line.specs.Command.{RunCommand}
 use Rattle.command_line.specs.Words.{word_of}
-use Rattle.command_line.proofs.Unique.{command-unique, no_words, not_named, form_of, well_formed, is_compile, is_run, no_run}
+use Rattle.command_line.proofs.Unique.{command-unique, is_compile, is_run, no_run, within}
 use Rattle.command_line.proofs.read.read_words.Goals as goal
 
 pub returns-in_err-run-in-Run-clause-bad : goal.returns-in_err-run-in-Run-clause-bad
@@ -35,3 +35,7 @@ returns-in_ok-run-in-Run-clause-only c = λ other is.
     let form = c.has_form.ensures.0 c.if-not-has_form.false in
     command-unique (texts c.args.words.now) other (RunCommand (run_view c.in_ok-run-in-Run.field-0)) is
     (is_run c.in-Some-named.command (texts c.args.words.now) (string_bytes c.in-Some.first.now) (texts c.in-Some.others.now) (run_view c.in_ok-run-in-Run.field-0) words named form c.in-Run.is c.in_ok-run-in-Run.ensures.value)
+
+pub returns-in_ok-run-in-Run-clause-limits : goal.returns-in_ok-run-in-Run-clause-limits
+returns-in_ok-run-in-Run-clause-limits c =
+    within (texts c.in-Some.others.now) (run_view c.in_ok-run-in-Run.field-0) c.in_ok-run-in-Run.ensures.value

@@ -1,9 +1,9 @@
-use Rattle.command_line.proofs.Cuts.{item_symbol, item_negative, item_number, no_symbol, no_negative, no_number}
+use Rattle.command_line.proofs.Cuts.{item_symbol, item_negative, item_number}
 use Rattle.command_line.proofs.values.item.Goals as goal
 
-pub returns-in-Ok-clause-value : goal.returns-in-Ok-clause-value
-returns-in-Ok-clause-value c =
-    item_symbol c.args.text.now c.in-Some.symbol.now c.in-Ok.symbol c.requires c.in-Some.ensures c.in-Ok.ensures.value
+pub returns-in-Some-clause-value : goal.returns-in-Some-clause-value
+returns-in-Some-clause-value c =
+    item_symbol c.args.text.now c.in-Some.symbol.now c.in_ok-name.field-0 c.requires c.in-Some.ensures c.in_ok-name.ensures.value
 
 pub returns-in-Some-number-clause-value : goal.returns-in-Some-number-clause-value
 returns-in-Some-number-clause-value c =

@@ -1,5 +1,4 @@
-use Rattle.std.proofs.Common.{◌≡◌, ◌++◌, ◌∷◌, [], List, Err, IsErrOf, sym, subst, ◌∙◌, rules}
-use Rattle.bs_words.specs.Contents.{contents}
+use Rattle.std.proofs.Common.{List, Err, IsErrOf, sym, subst, ◌∙◌, rules}
 use Rattle.command_line.specs.declared.arg.Arg.{Arg}
 use Rattle.command_line.specs.declared.command.WordsError.TheVariants.{ValueText}
 use Rattle.command_line.specs.Values.{IsItems}
@@ -15,7 +14,7 @@ returns-in_err-item-clause-bad c = λ e.
 pub loop-first-preserved : goal.loop-first-preserved
 loop-first-preserved c =
     let P : List Arg → Type 0 = λ done. GoesOn c.args.text.now done c.in-Some.others.now in
-    subst P (sym c.in_ok-push.ensures.items)
+    subst P (sym {A = List Arg} c.in_ok-push.ensures.items)
     (step c.args.text.now c.loop-first.items.items c.loop-first.rest.now c.in-Some.first.now c.in-Some.others.now c.in_ok-item.field-0
     c.loop-first.invariant c.in-Some.ensures.0 c.in_ok-item.ensures.value)
 

@@ -1,7 +1,5 @@
-use Rattle.std.proofs.Common.{◌≡◌, ◌<◌, ◌≤◌, ◌*◌, ◌+◌, ◌-◌, take, length, get_or, arith, All, rules}
-use Rattle.std.proofs.lemmas.Grind.{common_steps}
+use Rattle.std.proofs.Common.{◌≤◌, arith, rules}
 use Rattle.std.proofs.lemmas.List.Elements.{All-more}
-use Rattle.command_line.specs.Values.{number_of}
 use Rattle.command_line.proofs.Numbers.{past_limit, number_of-more}
 use Rattle.command_line.proofs.values.number.Goals as goal
 

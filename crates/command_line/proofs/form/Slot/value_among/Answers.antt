@@ -1,4 +1,4 @@
-use Rattle.std.proofs.Common.{◌≡◌, false, ap, sym, ◌∙◌, arith, rules, All, List, subst}
+use Rattle.std.proofs.Common.{◌≡◌, false, rules, All, List, subst}
 use Rattle.std.specs.declared.string.String.{String}
 use Rattle.std.specs.declared.alloc.Global.{Global}
 use Rattle.std.proofs.lemmas.List.{take_all}
