@@ -6,7 +6,8 @@ use Rattle.cmm_tree.specs.Small.{SmallText, longest_text}
 use Rattle.correctness.specs.Bounds.{IsRoomy}
 use Rattle.small_code.specs.Compiled.{compiled}
 use Rattle.small_code.specs.TooLarge.{first_too_large}
-use Rattle.cmmc_core.specs.Compile.{IsCompile, Compiles, ReadsNoText, IsNoText, IsFileOf, ReadsTooLarge, Cause, no_command, no_text, read_fault, too_large, no_memory, Ends, written, refused, out_fault, err_fault}
+use Rattle.small_reader.specs.Parsing.{IsTreeOf}
+use Rattle.cmmc_core.specs.Compile.{IsCompile, Compiles, ReadsNoText, IsNoText, ReadsTooLarge, Cause, no_command, no_text, read_fault, too_large, no_memory, Ends, written, refused, out_fault, err_fault}
 use Rattle.cmmc_core.specs.Complete.{NoneRose, Complete}
 use Rattle.cmmc_core.specs.Effects.{Effects, IsRead}
 use Rattle.cmmc_core.proofs.Reading.{ReadOf, all, too_long, IsRead-known}
@@ -59,7 +60,7 @@ module _ (words : List (List ℕ)) (e : Effects) where
 
   module _ (text : List ℕ) (file : FileTree) (known : e.source.before ≡ Some text) (small : SmallText text file) (is : IsCompile words) (none : NoneRose e) where
     -- the file of what was read is that of the text
-    same_file : (P : FileTree → Type 0) (read : List ℕ) (of_read : FileTree) → IsRead longest_text e.source read → IsFileOf read of_read → P file → P of_read
+    same_file : (P : FileTree → Type 0) (read : List ℕ) (of_read : FileTree) → IsRead longest_text e.source read → IsTreeOf read of_read → P file → P of_read
     same_file P read of_read r is_file p = subst P (is_file.only file (small_read text known read file r small)) p
 
     fits_end : (status : ℕ) (line : List ℕ) → Cause words e status line → first_too_large (compiled file) ≡ None → (status ≡ 0) ⊎ (status ≡ 9)
@@ -104,12 +105,12 @@ module _ (words : List (List ℕ)) (e : Effects) where
     other_end status line (no_text c t) = inl refl
     other_end status line (read_fault c r) = absurd (none.source r)
     other_end status line (too_large l c r) =
-        absurd (not r.too_large.file (small_before text known r.text r.too_large.file r.read r.too_large.is_file.is_text))
+        absurd (not r.too_large.file (small_before text known r.text r.too_large.file r.read r.too_large.is_file.small))
     other_end status line no_memory = inr refl
 
     other_refused : (status : ℕ) → Told status → (status ≡ 3) ⊎ (status ≡ 9)
     other_refused status (output z image c) =
-        absurd (not c.is_image.file (small_before text known c.text c.is_image.file c.read c.is_image.is_file.is_text))
+        absurd (not c.is_image.file (small_before text known c.text c.is_image.file c.read c.is_image.is_file.small))
     other_refused status (cause line why) = other_end status line why
 
 pub Ends-complete : (words : List (List ℕ)) (e : Effects) (status : ℕ) → Ends words e status → Complete words e status

@@ -13,6 +13,7 @@ use Rattle.image_form.specs.Tables.{Tables}
 use Rattle.small_code.specs.Compiled.{compiled}
 use Rattle.small_code.specs.Frames.{HasLeastFrame}
 use Rattle.small_code.specs.TooLarge.{first_too_large}
+use Rattle.small_reader.specs.Parsing.{IsTreeOf}
 use Rattle.cmmc_core.specs.Effects.{Side, Effects, Rose, IsKept, Got, GotPart, IsRead}
 use Rattle.cmmc_core.specs.Lines.{not_built_line, read_fault_line, no_memory_line}
 
@@ -20,15 +21,10 @@ use Rattle.cmmc_core.specs.Lines.{not_built_line, read_fault_line, no_memory_lin
 abbrev pub IsCompile : List (List ℕ) → Type 0
 IsCompile words = words ≡ codes "compile" ∷ []
 
--- These bytes are a text, and the file is its tree: the only one that they have.
-pub record IsFileOf (text : List ℕ) (file : FileTree) : Type 0 where
-  pub is_text : SmallText text file
-  pub only : (other : FileTree) → SmallText text other → other ≡ file
-
 -- These bytes are a text, and this is an image that is correct for its file.
 pub record IsImageOf (text : List ℕ) (image : Tables) : Type 0 where
   pub file : FileTree
-  pub is_file : IsFileOf text file
+  pub is_file : IsTreeOf text file
   pub is_image : AreTables image
   pub correct : IsCorrect file image
   pub bounded : IsBounded file image
@@ -57,7 +53,7 @@ pub record ReadsNoText (source : Side) : Type 0 where
 -- its limit. No roomy file has such an image.
 pub record IsTooLarge (text : List ℕ) (large : Large) : Type 0 where
   pub file : FileTree
-  pub is_file : IsFileOf text file
+  pub is_file : IsTreeOf text file
   pub passes : first_too_large (compiled file) ≡ Some large
   pub not_roomy : IsRoomy file → ⊥
 

@@ -1,20 +1,24 @@
 use Rattle.std.proofs.Common.{◌≡◌, refl, sym, ap, ◌∙◌, Some, None, Option, subst}
+use Rattle.cmm_tree.proofs.SmallFacts.{small-is}
 use Rattle.cmm_tree.specs.View.{file_view}
 use Rattle.image_form.specs.Tables.{Tables, tables}
 use Rattle.small_code.specs.Compiled.{compiled}
 use Rattle.small_code.specs.TooLarge.{first_too_large}
 use Rattle.cmmc_core.proofs.compile.compile_text.Goals as goal
 
+pub compile_small-requires : goal.compile_small-requires
+compile_small-requires c = small-is _ _ c.in-Ok.ensures.small
+
 pub returns-in-Err-NotSmall-clause-refused : goal.returns-in-Err-NotSmall-clause-refused
 returns-in-Err-NotSmall-clause-refused c =
-    c.read_small.ensures.not_small (rw c.in-Err-NotSmall.field-0-is at c.in-Err-NotSmall.is)
+    rw c.in-Err-NotSmall.field-0-is at c.in-Err-NotSmall.ensures
 
 pub returns-in-Err-TooLarge-clause-refused : goal.returns-in-Err-TooLarge-clause-refused
 returns-in-Err-TooLarge-clause-refused c =
     let told = rw c.in-Err-TooLarge.field-0-is at c.in-Err-TooLarge.is in
     rw c.in-Err-TooLarge.field-0-is (record {
       file = file_view c.in-Ok.file;
-      is_file = record { is_text = c.in-Ok.ensures.small; only = c.in-Ok.ensures.only };
+      is_file = c.in-Ok.ensures;
       passes = c.compile_small.ensures.large _ told;
       not_roomy = λ roomy. c.compile_small.ensures.roomy roomy _ told;
     })
@@ -24,7 +28,7 @@ returns-in-Ok-write_image-clause-image c = record {
   image = tables c.in-Ok-compile_small.image;
   is_image = record {
     file = file_view c.in-Ok.file;
-    is_file = record { is_text = c.in-Ok.ensures.small; only = c.in-Ok.ensures.only };
+    is_file = c.in-Ok.ensures;
     is_image = c.in-Ok-compile_small.ensures.is_image;
     correct = c.in-Ok-compile_small.ensures.correct;
     bounded = c.in-Ok-compile_small.ensures.bounded;
