@@ -14,3 +14,6 @@ mod function;
 
 pub use error::SmallError;
 pub use reader::read_small;
+
+#[cfg(test)]
+mod tests;
