@@ -1,10 +1,9 @@
 -- Names that are kept in an ordered map.
-use Rattle.std.proofs.Common.{◌≡◌, ◌≢◌, ℕ, ◌+◌, ◌<◌, ◌≤◌, Bool, true, false, cond, not, ◌||◌, List, [], ◌∷◌, ◌++◌, length, map, take, get_or, Option, Some, None, Bor, Contains, AllPairs, bytes_eq, is_some, zero, suc, inl, inr, refl, sym, ap, subst, ◌∙◌, arith}
+use Rattle.std.proofs.Common.{◌≡◌, ◌≢◌, ℕ, ◌+◌, ◌<◌, Bool, true, false, cond, not, ◌||◌, List, [], ◌∷◌, ◌++◌, length, take, get_or, Some, Bor, bytes_eq, is_some, zero, suc, inl, inr, refl, sym, ap, subst, ◌∙◌, arith}
 use Rattle.std.specs.BTreeMap as tree
 use Rattle.std.specs.BTreeMap.{BTreeMap}
 use Rattle.std.specs.Cmp.Lexicographic.{slice_cmp}
 use Rattle.std.specs.Ordering.{nat_cmp}
-use Rattle.std.specs.List.{list_any}
 use Rattle.std.specs.Map.{update, lookup}
 use Rattle.std.proofs.lemmas.Bool.{false≢true, both_ways, or_cases, or_left, or_right, and_left, and_right, not_from_true}
 use Rattle.std.proofs.lemmas.Slice.Eq.{bytes_eq-Decides}
@@ -43,10 +42,10 @@ twice-differs : (xs zs : List (List ℕ)) (y : List ℕ) → has xs y ≡ true �
 twice-differs [] zs y e = absurd (false≢true e)
 twice-differs (x ∷ xs) zs y e =
     elim (or_cases (bytes_eq x y) (has xs y) e) [
-        inl here ↦
-            let same : x ≡ y = (bytes_eq-Decides x y).0 here in
-            and_left _ _ (not_from_true _ (subst (λ (v : List ℕ). has (xs ++ y ∷ zs) v ≡ true) (sym same) (has-back xs zs y)))
-        | inr later ↦ and_right (not (has (xs ++ y ∷ zs) x)) _ (twice-differs xs zs y later)
+      | inl here ↦
+          let same : x ≡ y = (bytes_eq-Decides x y).0 here in
+          and_left _ _ (not_from_true _ (subst (λ (v : List ℕ). has (xs ++ y ∷ zs) v ≡ true) (sym same) (has-back xs zs y)))
+      | inr later ↦ and_right (not (has (xs ++ y ∷ zs) x)) _ (twice-differs xs zs y later)
     ]
 
 pub seen-empty : (seen : BTreeMap (Bor (List ℕ)) (Unit {0})) → tree.IsEmpty seen → (name : List ℕ) → is_seen seen name ≡ false
@@ -64,14 +63,12 @@ get_or_same (x ∷ xs) (suc k) a b h = get_or_same xs k a b (omega arith)
 module _ (items : List Item) (k : ℕ) (d : Item) (within : k < length items)
     (seen : BTreeMap (Bor (List ℕ)) (Unit {0}))
     (seen_is : (name : List ℕ) → is_seen seen name ≡ has (names_of_items (take k items)) name) where
-
   module _ (name : List ℕ) (named : name ≡ name_of_item (get_or items k d)) where
-
     pub names-twice : is_seen seen name ≡ true → false ≡ all_differ (names_of_items items)
     names-twice h =
         let r = names-at items k d within in
         let whole : names_of_items items ≡ names_of_items (take k items) ++ name ∷ r.0 =
-            r.1 ∙ ap (λ (v : List ℕ). names_of_items (take k items) ++ v ∷ r.0) (sym named)
+        r.1 ∙ ap (λ (v : List ℕ). names_of_items (take k items) ++ v ∷ r.0) (sym named)
         in
         sym (ap all_differ whole ∙ twice-differs (names_of_items (take k items)) r.0 name (sym (seen_is name) ∙ h))
 

@@ -4,9 +4,9 @@ ghost use Rattle.std.specs.List.{list_all, list_any};
 ghost use Rattle.cmm_tree.specs.View.{expr_view, function_view, file_view};
 ghost use Rattle.small_reader.specs.Rules.{has, all_differ, are_bound, keeps_rules, follows_rules, names_of_params, functions_of, names_of_items, name_of_item};
 
+use cmm_tree::{Expr, File, Form, Function, Item, Param};
 use std::alloc::{AllocError, Global};
 use std::collections::BTreeMap;
-use cmm_tree::{Expr, File, Form, Function, Item, Param};
 
 /// The most parameters that a function has.
 const MOST_PARAMETERS: usize = 16;

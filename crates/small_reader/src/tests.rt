@@ -1,6 +1,6 @@
-use crate::{read_small, SmallError};
-use cmm_tree::{Form, Item};
+use crate::{SmallError, read_small};
 use bs_words::{Comp, IntOp};
+use cmm_tree::{Form, Item};
 use std::alloc::Global;
 use std::test::Fail;
 

@@ -1,11 +1,10 @@
-use Rattle.std.proofs.Common.{◌≡◌, ◌∙◌, ℕ, ◌<◌, ◌≤◌, List, length, map, sym, ap, refl, arith, subst}
+use Rattle.std.proofs.Common.{◌≡◌, ◌∙◌, List, length, map, sym, ap, arith, subst}
 use Rattle.std.proofs.lemmas.List.{length-map}
 use Rattle.cmm_tree.specs.View.{item_view, file_view}
 use Rattle.cmm_tree.specs.declared.file.Item.{Item}
 use Rattle.small_reader.specs.declared.token.Token as declared
 use Rattle.small_reader.specs.Lexing.{token_view}
-use Rattle.small_reader.specs.Parsing.{Parsed, IsTreeOf}
-use Rattle.small_reader.specs.Rules.{follows_rules}
+use Rattle.small_reader.specs.Parsing.{Parsed}
 use Rattle.small_reader.proofs.Texts.{text-is, text-not, tokens-few}
 use Rattle.small_reader.proofs.reader.read_small.Goals as goal
 

@@ -1,4 +1,4 @@
-use Rattle.std.proofs.Common.{◌≡◌, ℕ, ◌∙◌, ◌<◌, List, Some, Bor, sym, ap, arith, subst, take, get_or, length, is_some, true, false}
+use Rattle.std.proofs.Common.{◌≡◌, ◌∙◌, List, sym, ap, arith, subst, get_or, is_some, true, false}
 use Rattle.std.proofs.lemmas.List.{take_all}
 use Rattle.std.proofs.lemmas.Map.Text.{btree_map_updates_str}
 use Rattle.cmm_tree.specs.Small.{AllDiffer}
@@ -11,8 +11,8 @@ use Rattle.small_reader.proofs.rules.functions_differ.Goals as goal
 pub loop-item-init : goal.loop-item-init
 loop-item-init c =
     record {
-        seen = λ name. seen-empty c.new-seen.result c.new-seen.ensures.empty name;
-        differ = λ i j d before within. absurd (omega arith);
+      seen = λ name. seen-empty c.new-seen.result c.new-seen.ensures.empty name;
+      differ = λ i j d before within. absurd (omega arith);
     }
 
 pub loop-item-preserved : goal.loop-item-preserved
@@ -24,10 +24,10 @@ loop-item-preserved c =
     let named : c.name_of.result.now ≡ name_of_item (get_or items k d) = c.name_of.ensures ∙ ap name_of_item c.item-item.is in
     let new : is_seen c.loop-item.seen c.name_of.result.now ≡ false = sym (ap is_some c.in_ok-insert.ensures.old) ∙ sym c.is_some.ensures ∙ c.if-is_some.false in
     record {
-        seen = λ q.
-            names-seen items k d c.loop-item-test.true c.loop-item.seen inv.seen c.name_of.result.now named c.insert.new.self _
-            (λ r. btree_map_updates_str c.name_of.result.now c.loop-item.seen c.insert.new.self _ c.in_ok-insert.ensures.updates r) q;
-        differ = names-differ items k d c.loop-item-test.true c.loop-item.seen inv.seen c.name_of.result.now named new inv.differ;
+      seen = λ q.
+          names-seen items k d c.loop-item-test.true c.loop-item.seen inv.seen c.name_of.result.now named c.insert.new.self _
+          (λ r. btree_map_updates_str c.name_of.result.now c.loop-item.seen c.insert.new.self _ c.in_ok-insert.ensures.updates r) q;
+      differ = names-differ items k d c.loop-item-test.true c.loop-item.seen inv.seen c.name_of.result.now named new inv.differ;
     }
 
 pub returns-then-is_some : goal.returns-then-is_some

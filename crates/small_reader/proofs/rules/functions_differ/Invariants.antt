@@ -8,6 +8,6 @@ use Rattle.small_reader.proofs.rules.functions_differ.Given as goal
 abbrev pub invariant-loop-item : goal.invariant-loop-item
 invariant-loop-item l =
     record {
-        seen : (name : List ℕ) → is_seen l.seen name ≡ has (names_of_items (take l.item-index l.items)) name;
-        differ : AllDiffer (names_of_items (take l.item-index l.items));
+      seen : (name : List ℕ) → is_seen l.seen name ≡ has (names_of_items (take l.item-index l.items)) name;
+      differ : AllDiffer (names_of_items (take l.item-index l.items));
     }
