@@ -1,15 +1,14 @@
 -- What is known of the file of a small text.
-use Rattle.std.proofs.Common.{◌≡◌, ◌≢◌, ℕ, ◌+◌, ◌-◌, ◌*◌, ◌%◌, ◌^◌, ◌<◌, ◌≤◌, suc, ◌⊎◌, List, [], ◌∷◌, ◌++◌, length, map, All, AllPairs, sum_by, refl, sym, ap, subst, ◌∙◌, inl, inr, arith, length-append, mod-lt}
+use Rattle.std.proofs.Common.{◌≡◌, ℕ, ◌+◌, ◌*◌, ◌^◌, ◌<◌, ◌≤◌, ◌⊎◌, List, [], ◌∷◌, ◌++◌, length, map, All, sum_by, refl, ap, inl, inr, arith, length-append}
 use Rattle.std.proofs.lemmas.List.Elements.{All-nil, All-cons, All-head, All-tail}
 use Rattle.std.proofs.lemmas.List.Sums.{sum_by-cons}
 use Rattle.bs_words.specs.declared.operators.IntOp.{IntOp}
 use Rattle.bs_words.specs.declared.operators.IntOp.TheVariants.{Add, Sub, And}
-use Rattle.bs_words.specs.declared.types.Comp.{Comp}
 use Rattle.bs_words.specs.declared.types.Comp.TheVariants as comp
-use Rattle.cmm_tree.specs.Grammar.{IsDecimal, positive, negative, IsOperator, plus, minus, and, IsExpression, integer, name, operator, IsParameter, int, AreParameters, none, more, IsFunction, function, AreItems, number, IsSymbol}
-use Rattle.cmm_tree.specs.Small.{NamesAmong, AllDiffer, KeepsRules, SmallText, SmallOperators, WordsFit, nodes, IsSmallFunction, IsSmall, most_tokens, longest_text, names_of_functions}
-use Rattle.cmm_tree.specs.Tokens.{Token, Splits}
-use Rattle.cmm_tree.specs.Tree.{Expression, Integer, Name, Operator, Parameter, FunctionTree, ItemTree, AFunction, FileTree, functions_among, functions, names_of, comps_of}
+use Rattle.cmm_tree.specs.Grammar.{IsDecimal, positive, negative, IsOperator, plus, minus, and, IsExpression, integer, name, operator, int, AreParameters, none, more, IsFunction, function, AreItems, IsSymbol}
+use Rattle.cmm_tree.specs.Small.{KeepsRules, SmallText, SmallOperators, WordsFit, nodes, IsSmallFunction, IsSmall}
+use Rattle.cmm_tree.specs.Tokens.{Token}
+use Rattle.cmm_tree.specs.Tree.{Expression, Integer, Name, Operator, Parameter, FunctionTree, ItemTree, FileTree, functions_among, functions, comps_of}
 use Rattle.cmm_tree.proofs.TokenLengths.{splits-length}
 
 decimal-fits : (text : List ℕ) (w : ℕ) → IsDecimal text w → w < 2 ^ 64
@@ -70,16 +69,16 @@ function-cover f xs (function a w n o c z symbol params body us vs tokens ha hw 
 function-small : (f : FunctionTree) (xs : List Token) → IsFunction f xs → KeepsRules f → IsSmallFunction f
 function-small f xs is keeps =
     record {
-        symbol = of_symbol f xs is;
-        not_built_in = keeps.not_built_in;
-        few_params = keeps.few_params;
-        params_differ = keeps.params_differ;
-        components = of_components f xs is;
-        operators = of_operators f xs is;
-        bound = keeps.bound;
-        words_fit = of_words f xs is;
-        few_tokens = keeps.few_tokens;
-        tokens_cover = function-cover f xs is;
+      symbol = of_symbol f xs is;
+      not_built_in = keeps.not_built_in;
+      few_params = keeps.few_params;
+      params_differ = keeps.params_differ;
+      components = of_components f xs is;
+      operators = of_operators f xs is;
+      bound = keeps.bound;
+      words_fit = of_words f xs is;
+      few_tokens = keeps.few_tokens;
+      tokens_cover = function-cover f xs is;
     }
   where
     of_symbol : (f : FunctionTree) (xs : List Token) → IsFunction f xs → IsSymbol f.name
@@ -133,8 +132,8 @@ small-tokens bytes file h =
 pub small-is : (bytes : List ℕ) (file : FileTree) → SmallText bytes file → IsSmall file
 small-is bytes file h =
     record {
-        functions_small = items-small file.items h.tokens h.parses h.keeps_rules;
-        names_differ = h.names_differ;
-        tokens_fit = let n = small-tokens bytes file h in let s = h.short in omega arith;
-        few_functions = let n = small-count bytes file h in let s = h.short in omega arith;
+      functions_small = items-small file.items h.tokens h.parses h.keeps_rules;
+      names_differ = h.names_differ;
+      tokens_fit = let n = small-tokens bytes file h in let s = h.short in omega arith;
+      few_functions = let n = small-count bytes file h in let s = h.short in omega arith;
     }

@@ -1,7 +1,6 @@
 -- Each token has a byte.
-use Rattle.std.proofs.Common.{◌≡◌, ℕ, ◌+◌, ◌≤◌, Bool, true, false, List, [], ◌∷◌, ◌++◌, length, refl, sym, arith, length-append, subst, ◌∙◌}
+use Rattle.std.proofs.Common.{◌≡◌, ℕ, ◌+◌, ◌≤◌, false, List, [], ◌∷◌, length, refl, sym, arith, length-append, ◌∙◌}
 use Rattle.std.proofs.lemmas.Bool.{false≢true}
-use Rattle.cmm_tree.specs.Form.{Matches}
 use Rattle.cmm_tree.specs.Tokens.{Token, form_of, IsToken, Splits, ended, separated, token}
 use Rattle.cmm_tree.specs.declared.token.TokenKind.{TokenKind}
 use Rattle.cmm_tree.specs.declared.token.TokenKind.TheVariants as kind

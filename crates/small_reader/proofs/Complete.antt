@@ -1,17 +1,15 @@
 -- What is in the grammar is read.
-use Rattle.std.proofs.Common.{◌≡◌, ℕ, ◌+◌, ◌-◌, ◌*◌, ◌%◌, ◌^◌, ◌<◌, ◌≤◌, zero, suc, Bool, true, false, cond, not, ◌&&◌, ◌==◌, nat_le, nat_lt, eqb, ltb, leb, List, [], ◌∷◌, ◌++◌, length, codes, Option, Some, None, Contains, bytes_eq, refl, sym, ap, subst, ◌∙◌, arith, le-leb, lt-ltb, ne_eqb, append_assoc, length-append}
-use Rattle.std.proofs.lemmas.Bool.{false≢true, and_from, cond-true, cond-false, not_from_false, false_from_ne_true}
+use Rattle.std.proofs.Common.{◌≡◌, ℕ, ◌-◌, ◌%◌, ◌^◌, ◌≤◌, suc, Bool, true, false, cond, ◌&&◌, ◌==◌, nat_lt, List, [], ◌∷◌, ◌++◌, length, codes, Option, Some, None, bytes_eq, refl, sym, ap, subst, ◌∙◌, arith, le-leb, lt-ltb, ne_eqb, append_assoc, length-append}
+use Rattle.std.proofs.lemmas.Bool.{and_from, cond-true, cond-false, not_from_false, false_from_ne_true}
 use Rattle.std.proofs.lemmas.Slice.Eq.{bytes_eq-Decides}
 use Rattle.std.proofs.lemmas.List.Elements.{All-head}
 use Rattle.bs_words.specs.declared.operators.IntOp.{IntOp}
-use Rattle.bs_words.specs.declared.operators.IntOp.TheVariants.{Add, Sub, And}
 use Rattle.cmm_tree.specs.declared.token.TokenKind.{TokenKind}
 use Rattle.cmm_tree.specs.declared.token.TokenKind.TheVariants as kind
-use Rattle.cmm_tree.specs.Keywords.{keywords}
 use Rattle.cmm_tree.specs.Tokens.{Token}
 use Rattle.cmm_tree.specs.Tree.{Expression, Integer, Name, Operator, Parameter, FunctionTree}
-use Rattle.cmm_tree.specs.Grammar.{AreDigits, Spelled, IsSign, IsName, IsSymbolToken, IsOperator, plus, minus, and, IsDecimal, positive, negative, number, IsExpression, integer, name, operator, IsParameter, int, AreParameters, none, more, IsFunction, function, nesting}
-use Rattle.small_reader.specs.Reading.{◌>>=◌, same_kind, is_spelled, is_keyword, magnitude_of, decimal_of, operator_of, is_name, leaf_of, token_at, operator_at, leaf_at, operation_at, opens, expression_at, parameter_of, closes, parameters_at, symbol_of, symbol_at, function_at, are_digits}
+use Rattle.cmm_tree.specs.Grammar.{AreDigits, Spelled, IsSign, IsName, IsSymbolToken, IsOperator, plus, minus, and, IsDecimal, positive, negative, number, IsExpression, integer, name, operator, int, AreParameters, none, more, IsFunction, function, nesting}
+use Rattle.small_reader.specs.Reading.{◌>>=◌, same_kind, is_spelled, magnitude_of, decimal_of, operator_of, is_name, leaf_of, token_at, operator_at, leaf_at, operation_at, expression_at, parameter_of, parameters_at, symbol_at, function_at}
 use Rattle.small_reader.proofs.Languages.{same_kind-self}
 use Rattle.small_reader.proofs.Symbols.{digits-to, symbol_of-to}
 use Rattle.small_reader.proofs.Keyword.{is_keyword-from}
@@ -109,7 +107,7 @@ expression_at-to depth e xs (name d t h) rest =
     expression_at-leaf d (t ∷ rest) (other-kind kind.Name kind.Sign (codes "(") t h.0 refl) ∙ leaf_at-to t _ rest (name-leaf t h)
 expression_at-to depth e xs (operator d o s z op left right us vs ho hs hl hr hz) rest =
     let same : (us ++ (vs ++ z ∷ [])) ++ rest ≡ us ++ (vs ++ z ∷ rest) =
-        append_assoc us (vs ++ z ∷ []) rest ∙ ap (λ (v : List Token). us ++ v) (append_assoc vs (z ∷ []) rest)
+    append_assoc us (vs ++ z ∷ []) rest ∙ ap (λ (v : List Token). us ++ v) (append_assoc vs (z ∷ []) rest)
     in
     ap (λ (v : List Token). expression_at (suc d) (o ∷ s ∷ v)) same
     ∙ cond-true _ _ _ (spelled-to kind.Sign (codes "(") o ho)
@@ -139,14 +137,14 @@ pub function_at-to : (f : FunctionTree) (xs : List Token) → IsFunction f xs �
 unfolding function_at
 function_at-to f all (function a w n o c z symbol params body xs ys tokens ha hw hn ho hp hc hb hz e) rest =
     let inside : (xs ++ c ∷ (ys ++ z ∷ [])) ++ rest ≡ xs ++ c ∷ (ys ++ z ∷ rest) =
-        append_assoc xs (c ∷ (ys ++ z ∷ [])) rest ∙ ap (λ (v : List Token). xs ++ c ∷ v) (append_assoc ys (z ∷ []) rest)
+    append_assoc xs (c ∷ (ys ++ z ∷ [])) rest ∙ ap (λ (v : List Token). xs ++ c ∷ v) (append_assoc ys (z ∷ []) rest)
     in
     let whole : tokens ++ rest ≡ a ∷ w ∷ n ∷ o ∷ (xs ++ c ∷ (ys ++ z ∷ rest)) =
-        ap (λ (v : List Token). v ++ rest) e ∙ ap (λ (v : List Token). a ∷ w ∷ n ∷ o ∷ v) inside
+    ap (λ (v : List Token). v ++ rest) e ∙ ap (λ (v : List Token). a ∷ w ∷ n ∷ o ∷ v) inside
     in
     let count : length (a ∷ w ∷ n ∷ o ∷ (xs ++ c ∷ (ys ++ z ∷ rest))) - length rest ≡ length tokens =
-        let long : length (tokens ++ rest) ≡ length (a ∷ w ∷ n ∷ o ∷ (xs ++ c ∷ (ys ++ z ∷ rest))) = ap length whole in
-        omega (arith, long, length-append tokens rest)
+    let long : length (tokens ++ rest) ≡ length (a ∷ w ∷ n ∷ o ∷ (xs ++ c ∷ (ys ++ z ∷ rest))) = ap length whole in
+    omega (arith, long, length-append tokens rest)
     in
     ap function_at whole
     ∙ bind_step _ _ _ (token_at-to kind.Sign (codes "(") a (w ∷ n ∷ o ∷ (xs ++ c ∷ (ys ++ z ∷ rest))) ha)

@@ -1,5 +1,5 @@
 -- How a text is cut at its front.
-use Rattle.std.proofs.Common.{◌≡◌, ℕ, ◌+◌, ◌<◌, ◌≤◌, zero, suc, ◌⊎◌, List, [], ◌∷◌, ◌++◌, length, map, slice_index_or, Option, Some, None, Contains, refl, sym, ap, subst, ◌∙◌, inl, inr, arith, le_antisymm}
+use Rattle.std.proofs.Common.{◌≡◌, ℕ, ◌+◌, ◌≤◌, zero, suc, ◌⊎◌, List, [], ◌∷◌, ◌++◌, length, map, None, Contains, refl, sym, ap, subst, ◌∙◌, inl, inr, arith, le_antisymm}
 use Rattle.cmm_tree.specs.declared.token.TokenKind.{TokenKind}
 use Rattle.cmm_tree.specs.Tokens.{Token, IsToken, Longest, Splits, ended, separated, token, separators}
 use Rattle.small_reader.specs.declared.state.State.{State}

@@ -1,5 +1,5 @@
 -- Expressions by the depth that is left.
-use Rattle.std.proofs.Common.{◌≡◌, ℕ, ◌-◌, ◌<◌, zero, suc, true, false, cond, refl, sym, ap, ◌∙◌, ◌≤◌, arith, List, Option}
+use Rattle.std.proofs.Common.{◌≡◌, ℕ, ◌-◌, ◌<◌, zero, suc, true, false, refl, ap, ◌∙◌, ◌≤◌, arith, List}
 use Rattle.std.proofs.lemmas.Bool.{cond-true, cond-false}
 use Rattle.cmm_tree.specs.Tokens.{Token}
 use Rattle.small_reader.specs.Reading.{leaf_at, opens, operation_at, expression_at}

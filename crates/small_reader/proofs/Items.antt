@@ -1,5 +1,5 @@
 -- Items, one after the other.
-use Rattle.std.proofs.Common.{◌≡◌, ℕ, ◌+◌, ◌-◌, ◌<◌, ◌≤◌, zero, suc, List, [], ◌∷◌, ◌++◌, length, map, drop, Option, Some, None, refl, sym, ap, subst, ◌∙◌, arith, length-append, length-drop, append_assoc, drop_of_length-le}
+use Rattle.std.proofs.Common.{◌≡◌, ℕ, ◌+◌, ◌-◌, ◌<◌, ◌≤◌, List, [], ◌∷◌, ◌++◌, length, map, drop, Option, Some, None, refl, sym, ap, subst, ◌∙◌, arith, length-append, length-drop, append_assoc, drop_of_length-le}
 use Rattle.std.proofs.lemmas.List.{length-map, drop-map, drop-drop, map-append}
 use Rattle.cmm_tree.specs.Grammar.{IsFunction, AreItems, none, function}
 use Rattle.cmm_tree.specs.Tokens.{Token}
@@ -11,7 +11,7 @@ use Rattle.small_reader.specs.Lexing.{token_view, Refused}
 use Rattle.small_reader.specs.declared.error.SmallError.{SmallError}
 use Rattle.small_reader.specs.declared.error.SmallError.TheVariants.{NotSmall, OutOfMemory}
 use Rattle.small_reader.specs.Reading.{Fails, function_at, token_at}
-use Rattle.small_reader.proofs.Sound.{some_pair, function_at-from, FunctionRead}
+use Rattle.small_reader.proofs.Sound.{some_pair, function_at-from}
 use Rattle.small_reader.proofs.Complete.{function_at-to}
 
 function_at-empty : function_at [] ≡ None
@@ -67,13 +67,15 @@ function-next tokens rest first f within e =
     let n = length-map rest token_view in
     let d = length-drop first tokens in
     let a = length-append r.0 (map token_view rest) in
-    let at : length tokens - length rest ≡ first + length r.0 = omega arith in
-    (omega arith, omega arith,
-     ap (λ (v : ℕ). map token_view (drop v tokens)) at
-     ∙ ap (map token_view) (sym (drop-drop (length r.0) first tokens))
-     ∙ sym (drop-map token_view (length r.0) (drop first tokens))
-     ∙ ap (drop (length r.0)) r.2
-     ∙ drop_front r.0 (map token_view rest))
+    let at : length tokens - length rest ≡ first + length r.0 = omega arith in (
+      omega arith,
+      omega arith,
+      ap (λ (v : ℕ). map token_view (drop v tokens)) at
+          ∙ ap (map token_view) (sym (drop-drop (length r.0) first tokens))
+          ∙ sym (drop-map token_view (length r.0) (drop first tokens))
+          ∙ ap (drop (length r.0)) r.2
+          ∙ drop_front r.0 (map token_view rest),
+    )
 
 pub item-push : (items more : List Item) (i : Item) (is : List ItemTree)
     → more ≡ items ++ i ∷ []

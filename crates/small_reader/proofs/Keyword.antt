@@ -1,5 +1,5 @@
 -- The test of a keyword.
-use Rattle.std.proofs.Common.{◌≡◌, ℕ, ◌<◌, zero, suc, Bool, true, false, ◌||◌, List, [], ◌∷◌, length, Contains, bytes_eq, Decides, inl, inr, refl, sym, ap, arith}
+use Rattle.std.proofs.Common.{◌≡◌, ℕ, zero, suc, true, List, [], ◌∷◌, Contains, bytes_eq, inl, inr, arith}
 use Rattle.std.proofs.lemmas.Bool.{false≢true, or_cases, or_left, or_right}
 use Rattle.std.proofs.lemmas.Slice.Eq.{bytes_eq-Decides}
 use Rattle.std.specs.List.{list_any}
@@ -10,8 +10,8 @@ pub any-from : (text : List ℕ) (words : List (List ℕ)) → list_any (λ (w :
 any-from text [] e = absurd (false≢true e)
 any-from text (w ∷ ws) e =
     elim (or_cases (bytes_eq w text) (list_any (λ (w : List ℕ). bytes_eq w text) ws) e) [
-        inl here ↦ (0, omega arith, (bytes_eq-Decides w text).0 here)
-        | inr later ↦ let r = any-from text ws later in (suc r.0, omega (arith, r.1), r.2)
+      | inl here ↦ (0, omega arith, (bytes_eq-Decides w text).0 here)
+      | inr later ↦ let r = any-from text ws later in (suc r.0, omega (arith, r.1), r.2)
     ]
 
 pub any-to : (text : List ℕ) (words : List (List ℕ)) → Contains words text → list_any (λ (w : List ℕ). bytes_eq w text) words ≡ true

@@ -1,6 +1,6 @@
 -- The automaton accepts the tokens: what stands behind the bytes that lead to a state is what the state
 -- goes on to.
-use Rattle.std.proofs.Common.{◌≡◌, ℕ, ◌<◌, suc, zero, Bool, true, false, cond, ◌&&◌, ◌↔◌, eqb, nat_eq, List, [], ◌∷◌, Option, Some, None, codes, Contains, length, lit<, ◌⊎◌, inl, inr, refl, sym, ap, subst, ◌∙◌, eqb-true, arith}
+use Rattle.std.proofs.Common.{◌≡◌, ℕ, ◌<◌, suc, zero, Bool, true, false, cond, ◌&&◌, eqb, List, [], ◌∷◌, Option, Some, None, codes, Contains, lit<, ◌⊎◌, inl, inr, refl, sym, ap, subst, ◌∙◌, eqb-true, arith}
 use Rattle.std.proofs.lemmas.Bool.{false≢true, and_parts, cases_eq}
 use Rattle.cmm_tree.specs.Form.{Form, Nothing, Empty, Between, Then, Either, Many, Matches}
 use Rattle.cmm_tree.specs.Tokens.{form_of, IsToken}
@@ -129,8 +129,8 @@ for_each-at [] p e k h = absurd (omega (arith, h.1))
 for_each-at (j ∷ ks) p e k h =
     let both = and_parts (p j) (for_each ks p) e in
     elim (Contains-cons j ks k h) [
-        inl same ↦ subst (λ (v : TokenKind). p v ≡ true) same both.0
-        | inr later ↦ for_each-at ks p both.1 k later
+      | inl same ↦ subst (λ (v : TokenKind). p v ≡ true) same both.0
+      | inr later ↦ for_each-at ks p both.1 k later
     ]
 
 abbrev kinds : List TokenKind
@@ -160,8 +160,8 @@ all_below-at zero p e b h = absurd (omega arith)
 all_below-at (suc n) p e b h =
     let both = and_parts (p n) (all_below n p) e in
     elim (cases_eq b n) [
-        inl same ↦ subst (λ (v : ℕ). p v ≡ true) (sym same) both.0
-        | inr other ↦ all_below-at n p both.1 b (omega arith)
+      | inl same ↦ subst (λ (v : ℕ). p v ≡ true) (sym same) both.0
+      | inr other ↦ all_below-at n p both.1 b (omega arith)
     ]
 
 abbrev goes : State → ℕ → Bool

@@ -1,6 +1,5 @@
 -- A function's tokens are no more than those that stand there.
-use Rattle.std.proofs.Common.{◌≡◌, ℕ, ◌+◌, ◌≤◌, List, [], ◌∷◌, ◌++◌, length, Some, refl, sym, ap, arith, length-append}
-use Rattle.bs_words.specs.declared.operators.IntOp.{IntOp}
+use Rattle.std.proofs.Common.{◌≡◌, ℕ, ◌≤◌, List, ◌∷◌, ◌++◌, length, Some, ap, arith, length-append}
 use Rattle.cmm_tree.specs.declared.token.TokenKind.{TokenKind}
 use Rattle.cmm_tree.specs.Tokens.{Token}
 use Rattle.cmm_tree.specs.Tree.{Expression, Parameter}

@@ -12,3 +12,4 @@ pub mod Lengths
 pub mod Items
 pub mod RuleTests
 pub mod Texts
+pub mod Names

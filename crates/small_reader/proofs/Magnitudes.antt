@@ -1,10 +1,10 @@
 -- Decimal numbers.
-use Rattle.std.proofs.Common.{◌≡◌, ℕ, ◌+◌, ◌-◌, ◌*◌, ◌%◌, ◌^◌, ◌<◌, ◌≤◌, suc, Bool, true, false, cond, ◌&&◌, ◌==◌, nat_le, nat_lt, eqb, leb, ltb, List, [], ◌∷◌, length, All, Option, Some, None, refl, sym, ap, subst, ◌∙◌, inl, inr, arith, le-leb, lt-ltb, leb-true, ltb-true, eqb-true, eq-eqb, le_trans, slice_index_or}
+use Rattle.std.proofs.Common.{◌≡◌, ℕ, ◌+◌, ◌-◌, ◌*◌, ◌^◌, ◌<◌, ◌≤◌, true, false, nat_le, List, [], ◌∷◌, length, Some, None, refl, sym, ap, ◌∙◌, arith, le-leb}
 use Rattle.std.specs.List.{list_all}
 use Rattle.std.specs.Char.{is_ascii_digit}
-use Rattle.std.proofs.lemmas.Bool.{false≢true, and_parts, and_from, and_left, and_right, cases_Bool, lt-leb, cond-true, cond-false}
-use Rattle.cmm_tree.specs.Grammar.{number, number_after, AreDigits, IsDecimal, positive, negative}
-use Rattle.small_reader.specs.Reading.{are_digits, magnitude_of, decimal_of}
+use Rattle.std.proofs.lemmas.Bool.{and_from, and_left, and_right, lt-leb, cond-true, cond-false}
+use Rattle.cmm_tree.specs.Grammar.{number, number_after}
+use Rattle.small_reader.specs.Reading.{are_digits, magnitude_of}
 
 -- more digits make no smaller number
 number_after-grows : (n : ℕ) (digits : List ℕ) → n ≤ number_after n digits
@@ -19,7 +19,7 @@ pub magnitude-other : (digits rest tail : List ℕ) (d : ℕ)
 unfolding magnitude_of are_digits
 magnitude-other digits rest tail d same e other =
     let all : list_all is_ascii_digit digits ≡ false =
-        sym same ∙ ap (list_all is_ascii_digit) e ∙ and_left (is_ascii_digit d) (list_all is_ascii_digit tail) other
+    sym same ∙ ap (list_all is_ascii_digit) e ∙ and_left (is_ascii_digit d) (list_all is_ascii_digit tail) other
     in
     rw (all) (sym (cond-false _ _ _ (and_left _ _ (and_right (nat_le 1 (length digits)) false refl))))
 

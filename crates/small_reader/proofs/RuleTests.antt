@@ -1,7 +1,7 @@
 -- The tests of the rules decide the rules.
-use Rattle.std.proofs.Common.{◌≡◌, ◌≢◌, ℕ, ◌+◌, ◌<◌, ◌≤◌, zero, suc, Bool, true, false, not, ◌&&◌, ◌||◌, nat_le, List, [], ◌∷◌, length, map, get_or, All, AllPairs, Contains, Decides, bytes_eq, refl, sym, ap, subst, ◌∙◌, inl, inr, arith, le-leb, leb-true}
-use Rattle.std.specs.List.{list_any, list_all}
-use Rattle.std.proofs.lemmas.Bool.{false≢true, and_parts, and_from, not-true, not_from_false, false_from_ne_true, both_ways}
+use Rattle.std.proofs.Common.{◌≡◌, ℕ, ◌<◌, zero, suc, true, not, nat_le, List, [], ◌∷◌, length, get_or, All, Contains, bytes_eq, refl, sym, ◌∙◌, arith, le-leb, leb-true}
+use Rattle.std.specs.List.{list_all}
+use Rattle.std.proofs.lemmas.Bool.{and_parts, and_from, not-true, not_from_false, false_from_ne_true, both_ways}
 use Rattle.std.proofs.lemmas.Slice.Eq.{bytes_eq-Decides}
 use Rattle.std.proofs.lemmas.List.Elements.{All-weaker}
 use Rattle.std.proofs.lemmas.List.Sums.{AllPass-from_list_all, list_all-from_AllPass}
@@ -66,11 +66,11 @@ keeps-from f e =
     let c = and_parts (not (bytes_eq f.name caml_bound_error)) _ b.1 in
     let d = and_parts (all_differ (names_of f)) (are_bound (names_of f) f.body) c.1 in
     record {
-        few_params = leb-true _ _ a.0;
-        few_tokens = leb-true _ _ b.0;
-        params_differ = differ-from (names_of f) d.0;
-        bound = bound-from (names_of f) f.body d.1;
-        not_built_in = λ h. both_ways _ (not-true _ c.0) ((bytes_eq-Decides f.name caml_bound_error).1 h);
+      few_params = leb-true _ _ a.0;
+      few_tokens = leb-true _ _ b.0;
+      params_differ = differ-from (names_of f) d.0;
+      bound = bound-from (names_of f) f.body d.1;
+      not_built_in = λ h. both_ways _ (not-true _ c.0) ((bytes_eq-Decides f.name caml_bound_error).1 h);
     }
 
 keeps-to : (f : FunctionTree) → KeepsRules f → keeps_rules f ≡ true
@@ -84,9 +84,10 @@ keeps-to f h =
 pub follows-from : (file : FileTree) → follows_rules file ≡ true → All KeepsRules (functions file) × AllDiffer (names_of_functions file)
 unfolding follows_rules
 follows-from file e =
-    let p = and_parts (list_all keeps_rules (functions file)) (all_differ (names_of_functions file)) e in
-    (All-weaker (λ f. keeps_rules f ≡ true) KeepsRules keeps-from (functions file) (AllPass-from_list_all keeps_rules (functions file) p.0),
-     differ-from (names_of_functions file) p.1)
+    let p = and_parts (list_all keeps_rules (functions file)) (all_differ (names_of_functions file)) e in (
+      All-weaker (λ f. keeps_rules f ≡ true) KeepsRules keeps-from (functions file) (AllPass-from_list_all keeps_rules (functions file) p.0),
+      differ-from (names_of_functions file) p.1,
+    )
 
 pub follows-to : (file : FileTree) → All KeepsRules (functions file) → AllDiffer (names_of_functions file) → follows_rules file ≡ true
 unfolding follows_rules

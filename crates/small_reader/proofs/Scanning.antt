@@ -120,12 +120,16 @@ scan-token bytes k n are e = of_scanned (scan-is Start 0 None bytes)
         let told : ◌≡◌ {A = Option (TokenKind × ℕ)} (Some (h.0, 0 + length h.1)) (Some (k, n)) = sym h.5 ∙ e in
         let same : h.0 ≡ k = (some_pair _ _ _ _ told).0 in
         let len : 0 + length h.1 ≡ n = (some_pair _ _ _ _ told).1 in
-        let accepted : accepts (run Start h.1) ≡ Some k = h.4 ∙ ap Some same in
-        (h.1, h.2, omega arith, record {
+        let accepted : accepts (run Start h.1) ≡ Some k = h.4 ∙ ap Some same in (
+          h.1,
+          h.2,
+          omega arith,
+          record {
             whole = h.3;
             is_token = token-accepts k h.1 (AreBytes-front h.1 h.2 (subst AreBytes h.3 are)) accepted;
             longest = λ j text rest is whole. h.6 text rest j whole (accepts-token j text (AreBytes-front text rest (subst AreBytes whole are)) is);
-        })
+          },
+        )
 
 -- where it tells none, they begin with none
 pub scan-none : (bytes : List ℕ) → AreBytes bytes → scan Start 0 None bytes ≡ None → BeginsWithNone bytes
@@ -184,7 +188,7 @@ pub begins-at : (bytes : List ℕ) (k : TokenKind) (text rest front back : List 
 begins-at bytes k text rest front back h cut len =
     let same = same_parts text rest front back (sym h.whole ∙ cut) len in
     record {
-        whole = cut;
-        is_token = subst (IsToken k) same.0 h.is_token;
-        longest = subst (λ (v : List ℕ). Longest (length v) bytes) same.0 h.longest;
+      whole = cut;
+      is_token = subst (IsToken k) same.0 h.is_token;
+      longest = subst (λ (v : List ℕ). Longest (length v) bytes) same.0 h.longest;
     }

@@ -1,19 +1,18 @@
 -- What is read is in the grammar.
-use Rattle.std.proofs.Common.{◌≡◌, ℕ, ◌+◌, ◌-◌, ◌*◌, ◌%◌, ◌^◌, ◌<◌, ◌≤◌, zero, suc, Bool, true, false, cond, not, ◌&&◌, ◌==◌, nat_le, nat_lt, eqb, ltb, leb, List, [], ◌∷◌, ◌++◌, length, codes, Option, Some, None, Contains, bytes_eq, refl, sym, ap, subst, ◌∙◌, arith, eqb-true, leb-true, ltb-true, append_assoc, length-append}
-use Rattle.std.proofs.lemmas.Bool.{false≢true, and_parts, cond-true, cond-false, not-true, both_ways}
+use Rattle.std.proofs.Common.{◌≡◌, ℕ, ◌-◌, ◌%◌, ◌^◌, ◌<◌, ◌≤◌, zero, suc, Bool, true, false, cond, not, ◌&&◌, ◌==◌, nat_le, nat_lt, List, [], ◌∷◌, ◌++◌, length, codes, Option, Some, None, bytes_eq, refl, sym, ap, subst, ◌∙◌, arith, eqb-true, leb-true, ltb-true, append_assoc, length-append}
+use Rattle.std.proofs.lemmas.Bool.{and_parts, not-true, both_ways}
 use Rattle.std.proofs.lemmas.Slice.Eq.{bytes_eq-Decides}
 use Rattle.bs_words.specs.declared.operators.IntOp.{IntOp}
 use Rattle.bs_words.specs.declared.operators.IntOp.TheVariants.{Add, Sub, And}
 use Rattle.cmm_tree.specs.declared.token.TokenKind.{TokenKind}
 use Rattle.cmm_tree.specs.declared.token.TokenKind.TheVariants as kind
-use Rattle.cmm_tree.specs.Keywords.{keywords}
 use Rattle.cmm_tree.specs.Tokens.{Token}
 use Rattle.cmm_tree.specs.Tree.{Expression, Integer, Name, Operator, Parameter, FunctionTree}
 use Rattle.cmm_tree.specs.Grammar.{AreDigits, Spelled, IsSign, IsName, IsSymbolToken, IsOperator, plus, minus, and, IsDecimal, positive, negative, number, IsExpression, integer, name, operator, IsParameter, int, AreParameters, none, more, IsFunction, function, nesting}
 use Rattle.small_reader.specs.Reading.{◌>>=◌, same_kind, is_spelled, is_keyword, magnitude_of, decimal_of, operator_of, is_name, leaf_of, token_at, operator_at, leaf_at, operation_at, opens, expression_at, parameter_of, closes, parameters_at, symbol_of, symbol_at, function_at, are_digits}
 use Rattle.small_reader.proofs.Languages.{same_kind-is}
 use Rattle.small_reader.proofs.Symbols.{digits-from, symbol_of-from}
-use Rattle.small_reader.proofs.Keyword.{is_keyword-from, is_keyword-to}
+use Rattle.small_reader.proofs.Keyword.{is_keyword-to}
 
 pub bind_some : {A B : Type 0} (o : Option A) (f : A → Option B) (y : B) → (o >>= f) ≡ Some y → (x : A) × (o ≡ Some x) × (f x ≡ Some y)
 bind_some None f y e = cc
@@ -178,11 +177,12 @@ operation_at-from depth inner reads ts e rest is =
     let same = some_pair (Operator a.0.0.at b.0.0 l.0.0 r.0.0) e z.0.1 rest z.2 in
     let xs = left.0 in
     let ys = right.0 in
-    let whole = operation_whole ts a.0.1 b.0.1 l.0.1 r.0.1 z.0.1 rest xs ys a.0.0 sign.0 z.0.0 opening.0 sign.1 left.2 right.2 closing.0 same.1 in
-    (a.0.0 ∷ sign.0 ∷ (xs ++ (ys ++ z.0.0 ∷ [])),
-     subst (λ v. IsExpression (suc depth) v (a.0.0 ∷ sign.0 ∷ (xs ++ (ys ++ z.0.0 ∷ [])))) same.0
-     (operator depth a.0.0 sign.0 z.0.0 b.0.0 l.0.0 r.0.0 xs ys opening.1 sign.2 left.1 right.1 closing.1),
-     whole)
+    let whole = operation_whole ts a.0.1 b.0.1 l.0.1 r.0.1 z.0.1 rest xs ys a.0.0 sign.0 z.0.0 opening.0 sign.1 left.2 right.2 closing.0 same.1 in (
+      a.0.0 ∷ sign.0 ∷ (xs ++ (ys ++ z.0.0 ∷ [])),
+      subst (λ v. IsExpression (suc depth) v (a.0.0 ∷ sign.0 ∷ (xs ++ (ys ++ z.0.0 ∷ [])))) same.0
+          (operator depth a.0.0 sign.0 z.0.0 b.0.0 l.0.0 r.0.0 xs ys opening.1 sign.2 left.1 right.1 closing.1),
+      whole,
+    )
 
 pub expression_at-from : (depth : ℕ) (ts : List Token) (e : Expression) (rest : List Token) → expression_at depth ts ≡ Some (e, rest) → ExpressionRead depth ts e rest
 unfolding expression_at
@@ -233,11 +233,13 @@ parameters_at-from (a ∷ b ∷ c ∷ ts) ps rest is = at_closed (closes a) refl
         let p = bind_some (parameter_of a b c) _ (ps, rest) is in
         let r = bind_some (parameters_at ts) _ (ps, rest) p.2 in
         let same = some_pair (p.0 ∷ r.0.0) ps r.0.1 rest r.2 in
-        let more' = reads r.0.0 r.0.1 r.1 in
-        (a ∷ b ∷ c ∷ more'.0, more'.1,
-         subst (λ v. AreParameters v (a ∷ b ∷ c ∷ more'.0)) same.0 (more p.0 r.0.0 (a ∷ b ∷ c ∷ []) more'.0 (parameter_of-from a b c p.0 p.1) more'.2),
-         more'.3,
-         ap (λ (v : List Token). a ∷ b ∷ c ∷ v) (more'.4 ∙ ap (λ (v : List Token). more'.0 ++ (more'.1 ∷ v)) same.1))
+        let more' = reads r.0.0 r.0.1 r.1 in (
+          a ∷ b ∷ c ∷ more'.0,
+          more'.1,
+          subst (λ v. AreParameters v (a ∷ b ∷ c ∷ more'.0)) same.0 (more p.0 r.0.0 (a ∷ b ∷ c ∷ []) more'.0 (parameter_of-from a b c p.0 p.1) more'.2),
+          more'.3,
+          ap (λ (v : List Token). a ∷ b ∷ c ∷ v) (more'.4 ∙ ap (λ (v : List Token). more'.0 ++ (more'.1 ∷ v)) same.1),
+        )
 
 pub symbol_at-from : (ts : List Token) (symbol : List ℕ) (rest : List Token) → symbol_at ts ≡ Some (symbol, rest)
     → (t : Token) × (ts ≡ t ∷ rest) × IsSymbolToken symbol t
@@ -264,7 +266,7 @@ function_whole : (ts as' ws ns os cs bs rest xs ys : List Token) (a w n o c z : 
 function_whole ts as' ws ns os cs bs rest xs ys a w n o c z e1 e2 e3 e4 e5 e6 e7 =
     let f6 : cs ≡ (ys ++ z ∷ []) ++ rest = e6 ∙ ap (λ (v : List Token). ys ++ v) e7 ∙ sym (append_assoc ys (z ∷ []) rest) in
     let f5 : os ≡ (xs ++ c ∷ (ys ++ z ∷ [])) ++ rest =
-        e5 ∙ ap (λ (v : List Token). xs ++ (c ∷ v)) f6 ∙ sym (append_assoc xs (c ∷ (ys ++ z ∷ [])) rest)
+    e5 ∙ ap (λ (v : List Token). xs ++ (c ∷ v)) f6 ∙ sym (append_assoc xs (c ∷ (ys ++ z ∷ [])) rest)
     in
     e1 ∙ ap (λ (v : List Token). a ∷ v) (e2 ∙ ap (λ (v : List Token). w ∷ v) (e3 ∙ ap (λ (v : List Token). n ∷ v) (e4 ∙ ap (λ (v : List Token). o ∷ v) f5)))
 
@@ -291,9 +293,10 @@ function_at-from ts f rest is =
     let all : List Token = a.0.0 ∷ w.0.0 ∷ name.0 ∷ o.0.0 ∷ (xs ++ params.1 ∷ (ys ++ z.0.0 ∷ [])) in
     let whole = function_whole ts a.0.1 w.0.1 s.0.1 o.0.1 p.0.1 b.0.1 z.0.1 xs ys a.0.0 w.0.0 name.0 o.0.0 params.1 z.0.0 opening.0 word.0 name.1 opens.0 params.4 body.2 closing.0 in
     let long : length ts ≡ length (all ++ z.0.1) = ap length whole in
-    let count : length ts - length z.0.1 ≡ length all = omega (arith, long, length-append all z.0.1) in
-    (all,
-     subst (λ v. IsFunction v all) same.0
-     (subst (λ (n : ℕ). IsFunction (record { at = a.0.0.at; name = s.0.0; params = p.0.0; body = b.0.0; tokens = n }) all) (sym count)
-     (function a.0.0 w.0.0 name.0 o.0.0 params.1 z.0.0 s.0.0 p.0.0 b.0.0 xs ys all opening.1 word.1 name.2 opens.1 params.2 params.3 body.1 closing.1 refl)),
-     whole ∙ ap (λ (v : List Token). all ++ v) same.1)
+    let count : length ts - length z.0.1 ≡ length all = omega (arith, long, length-append all z.0.1) in (
+      all,
+      subst (λ v. IsFunction v all) same.0
+          (subst (λ (n : ℕ). IsFunction (record { at = a.0.0.at; name = s.0.0; params = p.0.0; body = b.0.0; tokens = n }) all) (sym count)
+          (function a.0.0 w.0.0 name.0 o.0.0 params.1 z.0.0 s.0.0 p.0.0 b.0.0 xs ys all opening.1 word.1 name.2 opens.1 params.2 params.3 body.1 closing.1 refl)),
+      whole ∙ ap (λ (v : List Token). all ++ v) same.1,
+    )

@@ -1,5 +1,5 @@
 -- The steps of the reader's loops.
-use Rattle.std.proofs.Common.{◌≡◌, ℕ, ◌+◌, ◌-◌, ◌<◌, ◌≤◌, zero, suc, Bool, true, false, cond, List, [], ◌∷◌, ◌++◌, length, map, drop, Option, Some, None, refl, sym, ap, ◌∙◌, subst, arith, append_assoc, append-nil, length-drop}
+use Rattle.std.proofs.Common.{◌≡◌, ℕ, ◌+◌, ◌≤◌, true, false, List, [], ◌∷◌, ◌++◌, length, map, drop, Option, Some, None, refl, sym, ap, ◌∙◌, subst, arith, append_assoc, append-nil, length-drop}
 use Rattle.std.proofs.lemmas.List.{length-map, drop-map, drop-drop}
 use Rattle.std.proofs.lemmas.Bool.{false≢true, cond-true, cond-false}
 use Rattle.cmm_tree.specs.Tokens.{Token}
@@ -9,7 +9,7 @@ use Rattle.small_reader.specs.declared.error.SmallError.{SmallError}
 use Rattle.small_reader.specs.declared.error.SmallError.TheVariants.{NotSmall, OutOfMemory}
 use Rattle.small_reader.specs.declared.token.Token as declared
 use Rattle.small_reader.specs.Lexing.{token_view}
-use Rattle.small_reader.specs.Reading.{Fails, ◌>>=◌, closes_at, closes, parameter_of, parameter_at, parameters_at, with_front, token_at, is_spelled}
+use Rattle.small_reader.specs.Reading.{Fails, ◌>>=◌, closes_at, parameter_at, parameters_at, with_front, token_at}
 
 -- a parameter that stands before a closing parenthesis is read first
 pub parameters_at-more : (ts : List Token) (p : Parameter) → closes_at ts ≡ false → parameter_at ts ≡ Some p
@@ -53,7 +53,6 @@ fails-pass OutOfMemory a b h f = tt
 
 module _ (tokens : List declared.Token) (first : ℕ) (params : List Parameter) (all : List Token)
     (same : with_front params (parameters_at (map token_view (drop first tokens))) ≡ parameters_at all) where
-
   pub params-fail : (tests reads : List declared.Token) (e : SmallError)
       → tests ≡ drop first tokens
       → reads ≡ drop first tokens
@@ -64,8 +63,8 @@ module _ (tokens : List declared.Token) (first : ℕ) (params : List Parameter) 
       let o : closes_at (map token_view (drop first tokens)) ≡ false = subst (λ (v : List declared.Token). closes_at (map token_view v) ≡ false) is_test shut in
       fails-pass e _ _
       (λ none.
-          let n : parameter_at (map token_view (drop first tokens)) ≡ None = subst (λ (v : List declared.Token). parameter_at (map token_view v) ≡ None) is_read none in
-          sym same ∙ ap (with_front params) (parameters_at-none _ o n))
+      let n : parameter_at (map token_view (drop first tokens)) ≡ None = subst (λ (v : List declared.Token). parameter_at (map token_view v) ≡ None) is_read none in
+      sym same ∙ ap (with_front params) (parameters_at-none _ o n))
 
   pub params-more : (tests reads : List declared.Token) (p : Parameter)
       → first ≤ length tokens
@@ -81,10 +80,11 @@ module _ (tokens : List declared.Token) (first : ℕ) (params : List Parameter) 
       let step = parameters_at-more (map token_view (drop first tokens)) p o n in
       let len : length (map token_view (drop first tokens)) ≡ length (drop first tokens) = length-map _ _ in
       let on : drop 3 (map token_view (drop first tokens)) ≡ map token_view (drop (first + 3) tokens) =
-          drop-map token_view 3 (drop first tokens) ∙ ap (map token_view) (drop-drop 3 first tokens)
-      in
-      (omega (arith, step.0, len, length-drop first tokens),
-       sym (with_front-front params (p ∷ []) _) ∙ ap (λ v. with_front params (with_front (p ∷ []) (parameters_at v))) (sym on) ∙ ap (with_front params) (sym step.1) ∙ same)
+      drop-map token_view 3 (drop first tokens) ∙ ap (map token_view) (drop-drop 3 first tokens)
+      in (
+        omega (arith, step.0, len, length-drop first tokens),
+        sym (with_front-front params (p ∷ []) _) ∙ ap (λ v. with_front params (with_front (p ∷ []) (parameters_at v))) (sym on) ∙ ap (with_front params) (sym step.1) ∙ same,
+      )
 
   pub params-open : (tests reads : List declared.Token) (e : SmallError)
       → tests ≡ drop first tokens
@@ -96,8 +96,8 @@ module _ (tokens : List declared.Token) (first : ℕ) (params : List Parameter) 
       let o : closes_at (map token_view (drop first tokens)) ≡ true = subst (λ (v : List declared.Token). closes_at (map token_view v) ≡ true) is_test closed in
       fails-pass e _ _
       (λ none.
-          let n : token_at kind.Sign (41 ∷ []) (map token_view (drop first tokens)) ≡ None = subst (λ (v : List declared.Token). token_at kind.Sign (41 ∷ []) (map token_view v) ≡ None) is_read none in
-          sym same ∙ ap (with_front params) (parameters_at-end _ o ∙ ap (λ o. o >>= at_end) n))
+      let n : token_at kind.Sign (41 ∷ []) (map token_view (drop first tokens)) ≡ None = subst (λ (v : List declared.Token). token_at kind.Sign (41 ∷ []) (map token_view v) ≡ None) is_read none in
+      sym same ∙ ap (with_front params) (parameters_at-end _ o ∙ ap (λ o. o >>= at_end) n))
 
   pub params-close : (tests reads : List declared.Token) (t : Token) (rest : List Token)
       → tests ≡ drop first tokens

@@ -1,17 +1,16 @@
 -- Symbols between quotes.
-use Rattle.std.proofs.Common.{◌≡◌, ℕ, ◌+◌, ◌<◌, ◌≤◌, suc, Bool, true, false, cond, ◌&&◌, ◌==◌, nat_le, eqb, leb, List, [], ◌∷◌, ◌++◌, length, All, Option, Some, None, Bor, MatchOption, ◌≢◌, refl, sym, ap, subst, ◌∙◌, arith, le-leb, leb-true, eqb-true, eq-eqb}
+use Rattle.std.proofs.Common.{◌≡◌, ℕ, ◌≤◌, Bool, true, false, cond, ◌&&◌, ◌==◌, nat_le, leb, List, [], ◌∷◌, ◌++◌, length, All, Option, Some, None, Bor, MatchOption, ◌≢◌, refl, sym, ap, subst, ◌∙◌, le-leb, leb-true, eqb-true}
 use Rattle.std.specs.List.{list_all}
 use Rattle.std.specs.Int.{is_in_range}
 use Rattle.std.specs.Char.{is_ascii_digit, is_ascii_graphic}
-use Rattle.std.proofs.lemmas.Bool.{false≢true, and_parts, and_from, cases_Bool, cond-true, cond-false}
+use Rattle.std.proofs.lemmas.Bool.{and_parts, and_from, cond-true}
 use Rattle.std.proofs.lemmas.List.Elements.{All-weaker}
 use Rattle.std.proofs.lemmas.List.Sums.{AllPass-from_list_all, list_all-from_AllPass}
-use Rattle.cmm_tree.specs.declared.token.TokenKind.{TokenKind}
 use Rattle.cmm_tree.specs.declared.token.TokenKind.TheVariants as kind
 use Rattle.cmm_tree.specs.Grammar.{AreDigits, IsSymbol, IsSymbolToken}
 use Rattle.cmm_tree.specs.Tokens.{Token}
 use Rattle.small_reader.proofs.Languages.{same_kind-is}
-use Rattle.small_reader.specs.Reading.{◌>>=◌, same_kind, are_digits, is_symbol, without_last, unquoted, symbol_of, IsQuoted, IsNotQuoted, borrowed}
+use Rattle.small_reader.specs.Reading.{◌>>=◌, same_kind, are_digits, is_symbol, without_last, unquoted, symbol_of, IsQuoted, borrowed}
 
 abbrev only_symbol : List ℕ → Option (List ℕ)
 only_symbol symbol = cond (is_symbol symbol) (Some symbol) None

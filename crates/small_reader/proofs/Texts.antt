@@ -1,5 +1,5 @@
 -- Small texts, whole.
-use Rattle.std.proofs.Common.{◌≡◌, ℕ, ◌<◌, ◌≤◌, ◌^◌, true, false, List, length, refl, sym, ap, subst, ◌∙◌, arith}
+use Rattle.std.proofs.Common.{◌≡◌, ℕ, ◌<◌, ◌≤◌, ◌^◌, true, false, List, length, ap, subst, arith}
 use Rattle.std.proofs.lemmas.Bool.{both_ways}
 use Rattle.cmm_tree.specs.Grammar.{AreItems}
 use Rattle.cmm_tree.specs.Small.{SmallText, longest_text}
@@ -28,15 +28,15 @@ pub text-is : (text : List ℕ) (tokens : List Token) (items : List ItemTree)
 text-is text tokens items short cut parsed follows =
     let rules = follows-from (record { items = items }) follows in
     record {
-        small = record {
-            tokens = tokens;
-            short = short;
-            splits = cut.cut;
-            parses = parsed.parses;
-            keeps_rules = rules.0;
-            names_differ = rules.1;
-        };
-        only = text-only text tokens items cut parsed;
+      small = record {
+        tokens = tokens;
+        short = short;
+        splits = cut.cut;
+        parses = parsed.parses;
+        keeps_rules = rules.0;
+        names_differ = rules.1;
+      };
+      only = text-only text tokens items cut parsed;
     }
 
 pub text-not : (text : List ℕ) (tokens : List Token) (items : List ItemTree)

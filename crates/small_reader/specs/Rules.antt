@@ -1,10 +1,11 @@
 -- The rules of small texts, as tests.
-use Rattle.std.specs.Prelude.{ℕ, Bool, true, false, not, ◌&&◌, nat_le, List, [], ◌∷◌, length, map, bytes_eq}
+use Rattle.std.specs.Prelude.{ℕ, Bool, true, not, ◌&&◌, nat_le, List, [], ◌∷◌, length, map, bytes_eq}
 use Rattle.std.specs.List.{list_any, list_all}
 use Rattle.cmm_tree.specs.Small.{caml_bound_error, most_parameters, most_tokens, names_of_functions}
-use Rattle.cmm_tree.specs.Tree.{Expression, Integer, Name, Operator, Parameter, FunctionTree, ItemTree, FileTree, functions, functions_among, names_of}
+use Rattle.cmm_tree.specs.Tree.{Expression, Integer, Name, Operator, Parameter, FunctionTree, FileTree, functions, functions_among, names_of}
 use Rattle.cmm_tree.specs.View.{param_view, item_view}
 use Rattle.cmm_tree.specs.declared.file.Item.{Item}
+use Rattle.cmm_tree.specs.declared.file.Item.TheVariants as item
 use Rattle.cmm_tree.specs.declared.file.Param.{Param}
 
 -- one of these names is this one
@@ -40,3 +41,6 @@ functions_of items = functions_among (map item_view items)
 
 abbrev pub names_of_items : List Item → List (List ℕ)
 names_of_items items = map (λ (f : FunctionTree). f.name) (functions_of items)
+
+abbrev pub name_of_item : Item → List ℕ
+name_of_item (item.Function f) = f.name

@@ -91,10 +91,7 @@ fn leaf_of(alloc: Global, token: &Token) -> Result<Expr, SmallError>
 
 /// The name or the integer at the front, and the rest.
 #[tactic(auto, unfolding(crate::specs::Reading::leaf_at))]
-fn leaf<'a>(
-    alloc: Global,
-    tokens: &'a [Token<'a>],
-) -> Result<(Expr, &'a [Token<'a>]), SmallError>
+fn leaf<'a>(alloc: Global, tokens: &'a [Token<'a>]) -> Result<(Expr, &'a [Token<'a>]), SmallError>
     ensures { Gives (λ x. (expr_view x.0, map token_view x.1.now)) result (leaf_at (map token_view tokens.now)) }
 {
     let Some((first, rest)) = tokens.split_first() else {

@@ -119,10 +119,7 @@ fn symbol_of<'a>(token: &Token<'a>) -> Option<&'a [u8]>
 
 /// The symbol at the front, and the rest.
 #[tactic(auto, unfolding(crate::specs::Reading::symbol_at))]
-fn symbol<'a>(
-    alloc: Global,
-    tokens: &'a [Token<'a>],
-) -> Result<(Name, &'a [Token<'a>]), SmallError>
+fn symbol<'a>(alloc: Global, tokens: &'a [Token<'a>]) -> Result<(Name, &'a [Token<'a>]), SmallError>
     ensures { Gives (λ x. (x.0, map token_view x.1.now)) result (symbol_at (map token_view tokens.now)) }
 {
     let Some((first, rest)) = tokens.split_first() else {

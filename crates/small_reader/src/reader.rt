@@ -61,7 +61,8 @@ pub fn read_small(alloc: Global, text: &[u8]) -> Result<File, SmallError>
     let file = File {
         items: List::from_vec(items),
     };
-    if follows_rules(&file) {
+    let follows = follows_rules(alloc, &file)?;
+    if follows {
         Ok(file)
     } else {
         Err(SmallError::NotSmall)

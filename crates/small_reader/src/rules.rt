@@ -1,10 +1,12 @@
 //! What a small text asks of its functions, beside the grammar.
-ghost use Rattle.std.specs.Prelude.{◌≡◌, bytes_eq, drop};
+ghost use Rattle.std.specs.Prelude.{◌≡◌, bytes_eq, drop, IfOk};
 ghost use Rattle.std.specs.List.{list_all, list_any};
 ghost use Rattle.cmm_tree.specs.View.{expr_view, function_view, file_view};
-ghost use Rattle.small_reader.specs.Rules.{has, all_differ, are_bound, keeps_rules, follows_rules, names_of_params, functions_of, names_of_items};
+ghost use Rattle.small_reader.specs.Rules.{has, all_differ, are_bound, keeps_rules, follows_rules, names_of_params, functions_of, names_of_items, name_of_item};
 
 use cmm_tree::{Expr, File, Form, Function, Item, Param};
+use std::alloc::{AllocError, Global};
+use std::collections::BTreeMap;
 
 /// The most parameters that a function has.
 const MOST_PARAMETERS: usize = 16;
@@ -64,31 +66,25 @@ fn keeps_rules(function: &Function) -> bool
         && are_bound(&function.body, params)
 }
 
-/// Whether one of the functions has this name.
-fn has_function(items: &[Item], name: &[u8]) -> bool
-    ensures { result ≡ has (names_of_items items.now) name.now }
+/// The bytes of the function's name.
+fn name_of(item: &Item) -> &[u8]
+    ensures { result.now ≡ name_of_item item.now }
 {
-    for item in items {
-        let Item::Function(function) = item;
-        if function.name.as_bytes() == name {
-            return true;
-        }
-    }
-    false
+    let Item::Function(function) = item;
+    function.name.as_bytes()
 }
 
 /// Whether the functions' names differ.
-fn functions_differ(items: &[Item]) -> bool
-    ensures { result ≡ all_differ (names_of_items items.now) }
+fn functions_differ(alloc: Global, items: &[Item]) -> Result<bool, AllocError>
+    ensures { IfOk result (λ differ. differ ≡ all_differ (names_of_items items.now)) }
 {
-    for (index, item) in items.iter().enumerate() {
-        let Item::Function(function) = item;
-        let (_, later) = items.split_at(index + 1);
-        if has_function(later, function.name.as_bytes()) {
-            return false;
+    let mut seen = BTreeMap::new(alloc);
+    for item in items {
+        if seen.insert(name_of(item), ())?.is_some() {
+            return Ok(false);
         }
     }
-    true
+    Ok(true)
 }
 
 /// Whether each function keeps the rules.
@@ -106,9 +102,12 @@ fn functions_keep_rules(items: &[Item]) -> bool
 
 /// Whether the file keeps the rules.
 #[tactic(auto, unfolding(crate::specs::Rules::follows_rules))]
-pub fn follows_rules(file: &File) -> bool
-    ensures { result ≡ follows_rules (file_view file.now) }
+pub fn follows_rules(alloc: Global, file: &File) -> Result<bool, AllocError>
+    ensures { IfOk result (λ follows. follows ≡ follows_rules (file_view file.now)) }
 {
     let items = file.items.as_slice();
-    functions_keep_rules(items) && functions_differ(items)
+    if !functions_keep_rules(items) {
+        return Ok(false);
+    }
+    functions_differ(alloc, items)
 }

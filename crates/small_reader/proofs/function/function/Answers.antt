@@ -1,4 +1,4 @@
-use Rattle.std.proofs.Common.{◌≡◌, ◌≤◌, length, map, arith}
+use Rattle.std.proofs.Common.{arith}
 use Rattle.std.proofs.lemmas.List.{length-map}
 use Rattle.small_reader.specs.Lexing.{token_view}
 use Rattle.small_reader.proofs.Lengths.{token_at-length, symbol_at-length, parameters_at-length, expression_at-length}

@@ -8,10 +8,10 @@ use Rattle.small_reader.proofs.function.parameters.Given as goal
 abbrev pub invariant-loop-alloc : goal.invariant-loop-alloc
 invariant-loop-alloc l =
     record {
-        within : l.first ≤ length l.tokens;
-        same :
-            with_front (map param_view l.params.items) (parameters_at (map token_view (drop l.first l.tokens)))
-            ≡ parameters_at (map token_view l.fn.tokens);
+      within : l.first ≤ length l.tokens;
+      same :
+          with_front (map param_view l.params.items) (parameters_at (map token_view (drop l.first l.tokens)))
+          ≡ parameters_at (map token_view l.fn.tokens);
     }
 
 abbrev pub decreases-loop-alloc : goal.decreases-loop-alloc

@@ -1,4 +1,4 @@
-use Rattle.std.proofs.Common.{◌≡◌, ◌++◌, ◌≤◌, ◌<◌, ℕ, length, get_or, ap, sym, ◌∙◌, arith, length-append}
+use Rattle.std.proofs.Common.{◌≡◌, ◌++◌, length, ap, sym, ◌∙◌, arith, length-append}
 use Rattle.small_reader.proofs.Scanning.{AreBytes-from, scan-token, scan-none, begins-at}
 use Rattle.small_reader.proofs.lexer.first_token.Goals as goal
 

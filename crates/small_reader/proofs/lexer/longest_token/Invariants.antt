@@ -7,8 +7,8 @@ use Rattle.small_reader.proofs.lexer.longest_token.Given as goal
 abbrev pub invariant-loop-byte : goal.invariant-loop-byte
 invariant-loop-byte l =
     record {
-        same : scan l.state l.len l.found l.rest ≡ scan Start 0 None l.fn.bytes;
-        whole : l.len + length l.rest ≡ length l.fn.bytes;
+      same : scan l.state l.len l.found l.rest ≡ scan Start 0 None l.fn.bytes;
+      whole : l.len + length l.rest ≡ length l.fn.bytes;
     }
 
 abbrev pub decreases-loop-byte : goal.decreases-loop-byte

@@ -1,4 +1,4 @@
-use Rattle.std.proofs.Common.{◌≡◌, ℕ, ◌+◌, List, ◌∷◌, ◌++◌, length, map, sym, ap, subst, ◌∙◌, arith, Contains, length-append, append-nil, [], rules}
+use Rattle.std.proofs.Common.{◌≡◌, List, ◌++◌, length, map, sym, ap, subst, ◌∙◌, arith, Contains, length-append, append-nil, [], rules}
 use Rattle.std.proofs.lemmas.Bool.{both_ways}
 use Rattle.cmm_tree.specs.Tokens.{Token, Splits, separators}
 use Rattle.small_reader.specs.Lexing.{token_view}
@@ -11,10 +11,10 @@ use Rattle.small_reader.proofs.lexer.tokens_of.Goals as goal
 pub loop-byte-init : goal.loop-byte-init
 loop-byte-init c =
     record {
-        are = AreBytes-from _ (λ i. omega (arith, c.type_inv.text i));
-        place = search rules;
-        on = λ ts s. subst (λ (v : List declared.Token). Splits 0 c.args.text.now (map token_view v ++ ts)) (sym c.new-tokens.ensures.items) s;
-        back = λ all s. (all, ap (λ (v : List declared.Token). map token_view v ++ all) (sym c.new-tokens.ensures.items), s);
+      are = AreBytes-from _ (λ i. omega (arith, c.type_inv.text i));
+      place = search rules;
+      on = λ ts s. subst (λ (v : List declared.Token). Splits 0 c.args.text.now (map token_view v ++ ts)) (sym c.new-tokens.ensures.items) s;
+      back = λ all s. (all, ap (λ (v : List declared.Token). map token_view v ++ all) (sym c.new-tokens.ensures.items), s);
     }
 
 pub loop-byte-preserved-then-is_separator : goal.loop-byte-preserved-then-is_separator
@@ -23,10 +23,10 @@ loop-byte-preserved-then-is_separator c =
     let e = c.in-Some.ensures.cases.0 in
     let sep = c.is_separator.ensures.0 c.if-is_separator.true in
     record {
-        are = (subst AreBytes e inv.are).1;
-        place = omega (arith, inv.place, c.in-Some.ensures.cases.1);
-        on = λ ts s. inv.on ts (separator-on c.loop-byte.at _ _ _ ts e sep s);
-        back = λ all s. let r = inv.back all s in (r.0, r.1, separator-back c.loop-byte.at _ _ _ r.0 inv.are e sep r.2);
+      are = (subst AreBytes e inv.are).1;
+      place = omega (arith, inv.place, c.in-Some.ensures.cases.1);
+      on = λ ts s. inv.on ts (separator-on c.loop-byte.at _ _ _ ts e sep s);
+      back = λ all s. let r = inv.back all s in (r.0, r.1, separator-back c.loop-byte.at _ _ _ r.0 inv.are e sep r.2);
     }
 
 pub loop-byte-preserved : goal.loop-byte-preserved
@@ -39,15 +39,15 @@ loop-byte-preserved c =
     let tail = c.in-Some-first_token.tail.now in
     let len : length bytes ≡ length (text ++ tail) = ap length h.whole in
     record {
-        are = AreBytes-back text tail (subst AreBytes h.whole inv.are);
-        place = omega (arith, inv.place, len, length-append text tail);
-        on = λ ts s.
-            subst (λ (v : List Token). Splits 0 c.args.text.now v) (sym (push-view _ _ _ ts c.in_ok-push.ensures.items))
-            (inv.on _ (token-on c.loop-byte.at _ bytes text tail ts h s));
-        back = λ all s.
-            let r = inv.back all s in
-            let t = token-back c.loop-byte.at _ _ bytes _ text tail r.0 inv.are e h r.2 in
-            (t.0, r.1 ∙ ap (λ (v : List Token). map token_view c.loop-byte.tokens.items ++ v) t.1 ∙ sym (push-view _ _ _ t.0 c.in_ok-push.ensures.items), t.2);
+      are = AreBytes-back text tail (subst AreBytes h.whole inv.are);
+      place = omega (arith, inv.place, len, length-append text tail);
+      on = λ ts s.
+          subst (λ (v : List Token). Splits 0 c.args.text.now v) (sym (push-view _ _ _ ts c.in_ok-push.ensures.items))
+          (inv.on _ (token-on c.loop-byte.at _ bytes text tail ts h s));
+      back = λ all s.
+          let r = inv.back all s in
+          let t = token-back c.loop-byte.at _ _ bytes _ text tail r.0 inv.are e h r.2 in
+          (t.0, r.1 ∙ ap (λ (v : List Token). map token_view c.loop-byte.tokens.items ++ v) t.1 ∙ sym (push-view _ _ _ t.0 c.in_ok-push.ensures.items), t.2);
     }
 
 pub loop-byte-smaller : goal.loop-byte-smaller
@@ -72,8 +72,8 @@ returns c =
     let rest = c.loop-byte.rest.now in
     let empty = length-zero rest c.in_default.ensures.cases in
     record {
-        cut = subst (λ (v : List Token). Splits 0 c.args.text.now v) (append-nil _) (inv.on [] (empty-on c.loop-byte.at rest empty));
-        only = λ all s.
-            let r = inv.back all s in
-            r.1 ∙ ap (λ (v : List Token). map token_view c.loop-byte.tokens.items ++ v) (empty-back _ rest r.0 empty r.2) ∙ append-nil _;
+      cut = subst (λ (v : List Token). Splits 0 c.args.text.now v) (append-nil _) (inv.on [] (empty-on c.loop-byte.at rest empty));
+      only = λ all s.
+          let r = inv.back all s in
+          r.1 ∙ ap (λ (v : List Token). map token_view c.loop-byte.tokens.items ++ v) (empty-back _ rest r.0 empty r.2) ∙ append-nil _;
     }

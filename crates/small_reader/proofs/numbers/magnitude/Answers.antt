@@ -1,4 +1,4 @@
-use Rattle.std.proofs.Common.{◌≡◌, ℕ, ◌+◌, ◌-◌, ◌*◌, ◌<◌, ◌≤◌, ◌^◌, length, ◌∙◌, sym, refl, arith, subst, ap, eqb-true}
+use Rattle.std.proofs.Common.{◌+◌, ◌-◌, ◌*◌, ◌∙◌, sym, arith, ap, eqb-true}
 use Rattle.std.proofs.lemmas.Bool.{eqb-false}
 use Rattle.cmm_tree.specs.Grammar.{number_after}
 use Rattle.small_reader.proofs.Magnitudes.{magnitude-other, magnitude-larger, magnitude-large, magnitude-some, magnitude-empty, digits-end, number-end}

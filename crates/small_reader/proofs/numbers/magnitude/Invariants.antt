@@ -8,9 +8,9 @@ use Rattle.small_reader.proofs.numbers.magnitude.Given as goal
 abbrev pub invariant-loop-digit : goal.invariant-loop-digit
 invariant-loop-digit l =
     record {
-        same : number_after l.number l.rest ≡ number l.fn.digits;
-        small : l.number ≤ 2 ^ 63;
-        digits : list_all is_ascii_digit l.rest ≡ list_all is_ascii_digit l.fn.digits;
+      same : number_after l.number l.rest ≡ number l.fn.digits;
+      small : l.number ≤ 2 ^ 63;
+      digits : list_all is_ascii_digit l.rest ≡ list_all is_ascii_digit l.fn.digits;
     }
 
 abbrev pub decreases-loop-digit : goal.decreases-loop-digit

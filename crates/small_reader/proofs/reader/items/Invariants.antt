@@ -9,13 +9,13 @@ use Rattle.small_reader.proofs.reader.items.Given as goal
 abbrev pub invariant-loop-first : goal.invariant-loop-first
 invariant-loop-first l =
     record {
-        within : l.first ≤ length l.tokens;
-        on : (is : List ItemTree)
-            → AreItems is (map token_view (drop l.first l.tokens))
-            → AreItems (map item_view l.items.items ++ is) (map token_view l.fn.tokens);
-        back : (all : List ItemTree)
-            → AreItems all (map token_view l.fn.tokens)
-            → (is : List ItemTree) × (all ≡ map item_view l.items.items ++ is) × AreItems is (map token_view (drop l.first l.tokens));
+      within : l.first ≤ length l.tokens;
+      on : (is : List ItemTree)
+          → AreItems is (map token_view (drop l.first l.tokens))
+          → AreItems (map item_view l.items.items ++ is) (map token_view l.fn.tokens);
+      back : (all : List ItemTree)
+          → AreItems all (map token_view l.fn.tokens)
+          → (is : List ItemTree) × (all ≡ map item_view l.items.items ++ is) × AreItems is (map token_view (drop l.first l.tokens));
     }
 
 abbrev pub decreases-loop-first : goal.decreases-loop-first

@@ -1,11 +1,10 @@
-use Rattle.std.proofs.Common.{◌≡◌, ◌∙◌, ℕ, ◌<◌, ◌≤◌, List, length, map, sym, ap, refl, arith, subst}
+use Rattle.std.proofs.Common.{◌≡◌, ◌∙◌, List, length, map, sym, ap, arith, subst}
 use Rattle.std.proofs.lemmas.List.{length-map}
 use Rattle.cmm_tree.specs.View.{item_view, file_view}
 use Rattle.cmm_tree.specs.declared.file.Item.{Item}
 use Rattle.small_reader.specs.declared.token.Token as declared
 use Rattle.small_reader.specs.Lexing.{token_view}
-use Rattle.small_reader.specs.Parsing.{Parsed, IsTreeOf}
-use Rattle.small_reader.specs.Rules.{follows_rules}
+use Rattle.small_reader.specs.Parsing.{Parsed}
 use Rattle.small_reader.proofs.Texts.{text-is, text-not, tokens-few}
 use Rattle.small_reader.proofs.reader.read_small.Goals as goal
 
@@ -16,13 +15,13 @@ items-requires c =
     let same : length c.as_slice.result.now ≡ length tokens = ap length c.as_slice.ensures.value in
     omega (arith, few, length-map tokens token_view, same)
 
-pub returns-then-follows_rules : goal.returns-then-follows_rules
-returns-then-follows_rules c =
+pub returns-then-follows : goal.returns-then-follows
+returns-then-follows c =
     let file = file_view (record { items = c.from_vec.result }) in
     let tokens = map token_view c.in_ok-tokens.tokens.items in
     let read = subst (λ (v : List declared.Token). Parsed (map item_view c.in_ok-items.items.items) (map token_view v)) c.as_slice.ensures.value c.in_ok-items.ensures in
     let parsed = subst (λ (v : List Item). Parsed (map item_view v) tokens) (sym c.from_vec.ensures) read in
-    text-is c.args.text.now tokens file.items c.if-text-gt-LONGEST_TEXT.false c.in_ok-tokens.ensures parsed (sym c.follows_rules.ensures ∙ c.if-follows_rules.true)
+    text-is c.args.text.now tokens file.items c.if-text-gt-LONGEST_TEXT.false c.in_ok-tokens.ensures parsed (sym c.in_ok-follows.ensures ∙ c.if-follows.true)
 
 pub returns : goal.returns
 returns c =
@@ -30,4 +29,4 @@ returns c =
     let tokens = map token_view c.in_ok-tokens.tokens.items in
     let read = subst (λ (v : List declared.Token). Parsed (map item_view c.in_ok-items.items.items) (map token_view v)) c.as_slice.ensures.value c.in_ok-items.ensures in
     let parsed = subst (λ (v : List Item). Parsed (map item_view v) tokens) (sym c.from_vec.ensures) read in
-    text-not c.args.text.now tokens file.items c.in_ok-tokens.ensures parsed (sym c.follows_rules.ensures ∙ c.if-follows_rules.false)
+    text-not c.args.text.now tokens file.items c.in_ok-tokens.ensures parsed (sym c.in_ok-follows.ensures ∙ c.if-follows.false)
