@@ -52,7 +52,9 @@ record MachineRun (machine : ℕ → Seen) (words : ℕ) (end : End) : Type 0 wh
   begins : machine 0 ≡ record { calls = []; end = Running }
   comes : (m : ℕ) → Comes end (machine m)
 
-alike : (run : Run) (outcome : Outcome) (frame : ℕ) (now : Seen) (end : End) → Tells run outcome frame → now ≡ record { calls = []; end = end } → EndsAlike outcome end → Alike run now
+alike :
+    (run : Run) (outcome : Outcome) (frame : ℕ) (now : Seen) (end : End) → Tells run outcome frame →
+    now ≡ record { calls = []; end = end } → EndsAlike outcome end → Alike run now
 alike run outcome frame now end tells e same =
     subst (Alike run) (sym e)
     (record { calls = sym tells.no_calls; end = subst (λ o. EndsAlike o end) (sym tells.outcome_is) same })
@@ -68,16 +70,20 @@ module _ (run : ℕ → Run) (machine : ℕ → Seen) (stack heap words enough w
   forwards_fits : MachineRun machine words (Returned (Some (obs.Word word))) → Forwards run machine stack heap words
   forwards_fits ends = record { does = λ n given. by_order n (cases_lt n enough) }
     where
-      by_order : (n : ℕ) → (n < enough) ⊎ (enough ≤ n) → (m : ℕ) × (m ≤ 2 * (n + 1) * words) × Alike (run n) (machine m)
+      by_order :
+          (n : ℕ) → (n < enough) ⊎ (enough ≤ n) → (m : ℕ) × (m ≤ 2 * (n + 1) * words) × Alike (run n) (machine m)
       by_order n (inl few) = (0, omega arith, alike (run n) More frame (machine 0) Running (runs.goes_on n few) ends.begins refl)
-      by_order n (inr more) =
-          (ends.total, omega (arith, ends.within),
-          alike (run n) (text.Returned (Some (obs.Word word))) frame (machine ends.total) (Returned (Some (obs.Word word))) (runs.ends n more) ends.there refl)
+      by_order n (inr more) = (
+        ends.total,
+        omega (arith, ends.within),
+        alike (run n) (text.Returned (Some (obs.Word word))) frame (machine ends.total) (Returned (Some (obs.Word word))) (runs.ends n more) ends.there refl,
+      )
 
   backwards_fits : MachineRun machine words (Returned (Some (obs.Word word))) → Backwards run machine stack heap
   backwards_fits ends = record {
     calls = λ proper m. made (machine m) (Returned (Some (obs.Word word))) (ends.comes m);
-    end = λ proper m. accounted (machine m) (ends.comes m) }
+    end = λ proper m. accounted (machine m) (ends.comes m);
+  }
     where
       accounted : (now : Seen) → Comes (Returned (Some (obs.Word word))) now → Accounted run stack heap now now.end
       accounted now (inl e) = subst (λ now. Accounted run stack heap now now.end) (sym e) tt
@@ -91,7 +97,8 @@ module _ (run : ℕ → Run) (machine : ℕ → Seen) (stack heap words enough w
   backwards_out : stack < frame → MachineRun machine words StackOut → Backwards run machine stack heap
   backwards_out much ends = record {
     calls = λ proper m. made (machine m) StackOut (ends.comes m);
-    end = λ proper m. accounted (machine m) (ends.comes m) }
+    end = λ proper m. accounted (machine m) (ends.comes m);
+  }
     where
       accounted : (now : Seen) → Comes StackOut now → Accounted run stack heap now now.end
       accounted now (inl e) = subst (λ now. Accounted run stack heap now now.end) (sym e) tt
@@ -112,7 +119,8 @@ module _ (file : FileTree) (small : IsSmall file) (tables : AreTables (compiled 
   few = record {
     few_params = is_small.few_params;
     few_slots = omega (arith, is_small.tokens_cover, is_small.few_tokens);
-    named = λ name among. omega (arith, index_among (names_of f) name among, length-map f.params (λ (p : Parameter). p.name)) }
+    named = λ name among. omega (arith, index_among (names_of f) name among, length-map f.params (λ (p : Parameter). p.name));
+  }
 
   count : length args ≡ length (names_of f)
   count = fit_length (data_end file) (comps_of f) args entered.arguments ∙ length-map f.params (λ (p : Parameter). p.comp) ∙ sym (length-map f.params (λ (p : Parameter). p.name))
@@ -130,7 +138,8 @@ module _ (file : FileTree) (small : IsSmall file) (tables : AreTables (compiled 
   unfolding word
   text_run = subst (TextRun (cmm_run file (layout_of (compiled file)) entry args answers) (nodes f.body) word) row_frame (record {
     ends = λ n enough. run_returns file (layout_of (compiled file)) entry args answers f entered.of_file count is_small.params_differ is_small.operators is_small.bound n enough;
-    goes_on = λ n few. run_goes_on file (layout_of (compiled file)) entry args answers f entered.of_file count is_small.params_differ is_small.operators is_small.bound n few })
+    goes_on = λ n few. run_goes_on file (layout_of (compiled file)) entry args answers f entered.of_file count is_small.params_differ is_small.operators is_small.bound n few;
+  })
 
   abbrev during : Setting
   during = setting (compiled file) tables row args answers schedule room heap is_room is_heap
@@ -147,12 +156,18 @@ module _ (file : FileTree) (small : IsSmall file) (tables : AreTables (compiled 
   entry_so : Entry during room args view
   entry_so = first_entry (compiled file) tables row args answers schedule room heap is_room is_heap code_at.place
 
-  machine_ends : (total : ℕ) (end : End) → total ≤ length (compiled file).code → Ends during total view end → MachineRun machine (length (compiled file).code) end
+  machine_ends :
+      (total : ℕ) (end : End) → total ≤ length (compiled file).code → Ends during total view end →
+      MachineRun machine (length (compiled file).code) end
   machine_ends total end within ends =
       let over : after schedule total (begun (compiled file) row args answers room heap) ≡ Over [] end = ends.by (start (compiled file) row args room heap) begins_so total 0 (omega arith) in
       record {
-        total = total; within = within; there = ap seen over; begins = refl;
-        comes = λ m. comes_at schedule total m (begun (compiled file) row args answers room heap) end over }
+        total = total;
+        within = within;
+        there = ap seen over;
+        begins = refl;
+        comes = λ m. comes_at schedule total m (begun (compiled file) row args answers room heap) end over;
+      }
 
   stub_at : HasAt during 0 (OpImm Addi 7 0 0 ∷ Ecall ∷ [])
   stub_at = record { parts = (ap Some (sym clear_word), (ap Some (sym service_word), tt)) }
@@ -165,7 +180,7 @@ module _ (file : FileTree) (small : IsSmall file) (tables : AreTables (compiled 
   runs_fit fits =
       machine_ends (length (function_code f) + 2) _ (omega (arith, code_at.within, code_at.behind))
       (function_ends during room f args view entry_so few fits function_here stub_at
-        (code_at.result ∙ int_result f is_small.components is_small.operators is_small.bound) is_small.bound is_small.words_fit)
+      (code_at.result ∙ int_result f is_small.components is_small.operators is_small.bound) is_small.bound is_small.words_fit)
 
   runs_out : room < frame_bytes f → MachineRun machine (length (compiled file).code) StackOut
   runs_out much =
@@ -190,4 +205,5 @@ pub compiled-correct : (file : FileTree) → IsSmall file → AreTables (compile
 compiled-correct file small tables = λ room heap is_room is_heap. record {
   rows = are_rows 16 (functions file);
   forwards = λ entry f row args answers schedule entered. forwards_so file small tables room heap is_room is_heap entry f row args answers schedule entered;
-  backwards = λ entry f row args answers schedule entered. backwards_so file small tables room heap is_room is_heap entry f row args answers schedule entered }
+  backwards = λ entry f row args answers schedule entered. backwards_so file small tables room heap is_room is_heap entry f row args answers schedule entered;
+}

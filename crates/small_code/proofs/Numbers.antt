@@ -12,7 +12,7 @@ use Rattle.rv_isa.specs.declared.instr.Instr.TheVariants.{Jalr, Op}
 use Rattle.rv_isa.proofs.RoundTrip.{encoded-below}
 use Rattle.small_code.specs.Code.{constant, near_slot, load_slot, store_slot, move_sp, expression_code, index_of, row_of, argument_code, function_code, frame_bytes, parameters, slots, t0, t2, a0, ra}
 use Rattle.small_code.specs.Compiled.{function_words}
-use Rattle.small_code.proofs.Emitted.{some_nodes}
+use Rattle.small_code.proofs.Values.{some_nodes}
 
 abbrev AllFit : List Instr → Type 0
 AllFit code = AllByRecursion InstrFits code

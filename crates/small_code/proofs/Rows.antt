@@ -26,7 +26,7 @@ words_stand (i ∷ is) pre post =
     let rest = map encoded is ++ post in
     let within : length pre + 1 ≤ length (pre ++ encoded i ∷ rest) = omega (arith, length-append pre (encoded i ∷ rest)) in
     let here : slice_get (pre ++ encoded i ∷ rest) (length pre) ≡ Some (encoded i) =
-        slice_get-get_or (pre ++ encoded i ∷ rest) (length pre) 0 (omega arith) ∙ ap Some (get_or_at pre (encoded i) rest 0 (length pre) refl) in
+    slice_get-get_or (pre ++ encoded i ∷ rest) (length pre) 0 (omega arith) ∙ ap Some (get_or_at pre (encoded i) rest 0 (length pre) refl) in
     let n : length (pre ++ encoded i ∷ []) ≡ length pre + 1 = omega (arith, length-append pre (encoded i ∷ [])) in
     let later = words_stand is (pre ++ encoded i ∷ []) post in
     let later' = subst (λ code. Has code (length (pre ++ encoded i ∷ [])) is) (append_assoc pre (encoded i ∷ []) rest) later in
@@ -45,7 +45,10 @@ pub record AtRow (code : List ℕ) (start : ℕ) (f : FunctionTree) (row : Func)
 same_some : {A : Type 0} {x y : A} → Some x ≡ Some y → x ≡ y
 same_some e = cc
 
-pub at_row : (fs : List FunctionTree) (pre : List ℕ) (k : ℕ) (f : FunctionTree) (row : Func) → slice_get fs k ≡ Some f → slice_get (rows_from (4 * length pre) fs) k ≡ Some row → AtRow (pre ++ flat_map function_words fs) (length pre) f row
+pub at_row :
+    (fs : List FunctionTree) (pre : List ℕ) (k : ℕ) (f : FunctionTree) (row : Func) → slice_get fs k ≡ Some f →
+    slice_get (rows_from (4 * length pre) fs) k ≡ Some row →
+    AtRow (pre ++ flat_map function_words fs) (length pre) f row
 at_row [] pre k f row e h = absurd (cc)
 at_row (g ∷ fs) pre zero f row e h =
     let same : g ≡ f = same_some e in
@@ -53,10 +56,14 @@ at_row (g ∷ fs) pre zero f row e h =
     let rest = flat_map function_words fs in
     let code = pre ++ (function_words g ++ rest) in
     subst (λ f. AtRow code (length pre) f row) same (subst (AtRow code (length pre) g) row_is (record {
-      place = length pre; offset = refl; frame = refl; result = refl;
+      place = length pre;
+      offset = refl;
+      frame = refl;
+      result = refl;
       has = words_stand (function_code g) pre rest;
       behind = omega arith;
-      within = omega (arith, length-append pre (function_words g ++ rest), length-append (function_words g) rest, length-map (function_code g) encoded) }))
+      within = omega (arith, length-append pre (function_words g ++ rest), length-append (function_words g) rest, length-map (function_code g) encoded);
+    }))
 at_row (g ∷ fs) pre (suc k) f row e h =
     let words = function_words g in
     let rest = flat_map function_words fs in
@@ -64,5 +71,11 @@ at_row (g ∷ fs) pre (suc k) f row e h =
     let later = at_row fs (pre ++ words) k f row e (subst (λ m. slice_get (rows_from m fs) k ≡ Some row) n h) in
     let later' = subst (λ code. AtRow code (length (pre ++ words)) f row) (append_assoc pre words rest) later in
     record {
-      place = later'.place; offset = later'.offset; frame = later'.frame; result = later'.result; has = later'.has;
-      behind = omega (arith, later'.behind, length-append pre words); within = later'.within }
+      place = later'.place;
+      offset = later'.offset;
+      frame = later'.frame;
+      result = later'.result;
+      has = later'.has;
+      behind = omega (arith, later'.behind, length-append pre words);
+      within = later'.within;
+    }

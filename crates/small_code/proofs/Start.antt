@@ -122,7 +122,9 @@ past_domain = refl
 abbrev pub first_stack : ℕ → List ℕ
 first_stack room = replicate (room / 8) 0 ++ (code_start + 8) ∷ 0 ∷ []
 
-stack_is : (room : ℕ) → stack_region room ≡ record { start = stack_bottom - room; bytes = room + 16; words = first_stack room }
+stack_is :
+    (room : ℕ) →
+    stack_region room ≡ record { start = stack_bottom - room; bytes = room + 16; words = first_stack room }
 unfolding stack_region
 stack_is room = refl
 
@@ -132,7 +134,8 @@ words_stack room = words_both (replicate (room / 8) 0) ((code_start + 8) ∷ 0 �
 long_stack : (room : ℕ) → room % 16 ≡ 0 → 8 * length (first_stack room) ≡ room + 16
 long_stack room aligned = omega (arith, length-append (replicate (room / 8) 0) ((code_start + 8) ∷ 0 ∷ []), length-replicate {A = ℕ} (room / 8) 0)
 
-pub code_fits : (image : Tables) (room : ℕ) → AreTables image → IsRoom room → past (code_region image.code) ≤ stack_bottom - room
+pub code_fits :
+    (image : Tables) (room : ℕ) → AreTables image → IsRoom room → past (code_region image.code) ≤ stack_bottom - room
 code_fits image room tables is_room = omega (arith, tables.code.short, is_room.most)
 
 pub base_aligned : (room : ℕ) → IsRoom room → (stack_bottom - room) % 8 ≡ 0
@@ -147,36 +150,67 @@ base_short room is_room = omega (arith, is_room.most)
 sum_of_base : (room : ℕ) → IsRoom room → stack_bottom ≡ stack_bottom - room + room
 sum_of_base room is_room = omega (arith, is_room.most)
 
-has_stack : (image : Tables) (room heap : ℕ) → AreTables image → IsRoom room → IsRoom heap → HasStack (stack_bottom - room) (room + 16) (start_memory image room heap) (first_stack room)
+has_stack :
+    (image : Tables) (room heap : ℕ) → AreTables image → IsRoom room → IsRoom heap →
+    HasStack (stack_bottom - room) (room + 16) (start_memory image room heap) (first_stack room)
 has_stack image room heap tables is_room is_heap = record {
   low = data_region image.bytes ∷ domain_region ∷ uniform (half_start 0) (heap / 8) filler ∷ uniform (half_start 1) (heap / 8) filler ∷ uniform young_start 8192 filler ∷ [];
-  under =
-    (omega (arith, past_data image.bytes, tables.bytes.short, is_room.most),
-    (omega (arith, past_domain, is_room.most),
-    (omega (arith, past_uniform (half_start 0) (heap / 8) filler, is_room.most, is_heap.most),
-    (omega (arith, past_uniform (half_start 1) (heap / 8) filler, is_room.most, is_heap.most),
-    (omega (arith, past_uniform young_start 8192 filler, is_room.most), tt)))));
-  is = ap (λ r. data_region image.bytes ∷ domain_region ∷ uniform (half_start 0) (heap / 8) filler ∷ uniform (half_start 1) (heap / 8) filler ∷ uniform young_start 8192 filler ∷ r ∷ []) (stack_is room) }
+  under = (
+    omega (arith, past_data image.bytes, tables.bytes.short, is_room.most),
+    (
+      omega (arith, past_domain, is_room.most),
+      (
+        omega (arith, past_uniform (half_start 0) (heap / 8) filler, is_room.most, is_heap.most),
+        (
+          omega (arith, past_uniform (half_start 1) (heap / 8) filler, is_room.most, is_heap.most),
+          (omega (arith, past_uniform young_start 8192 filler, is_room.most), tt),
+        ),
+      ),
+    ),
+  );
+  is = ap (λ r. data_region image.bytes ∷ domain_region ∷ uniform (half_start 0) (heap / 8) filler ∷ uniform (half_start 1) (heap / 8) filler ∷ uniform young_start 8192 filler ∷ r ∷ []) (stack_is room);
+}
 
 module _ (image : Tables) (tables : AreTables image) (row : Func) (args answers : List ℕ) (schedule : Schedule) (room heap : ℕ) (is_room : IsRoom room) (is_heap : IsRoom heap) where
   -- what stays during the run
   abbrev pub setting : Setting
   setting = record {
-    image = image; schedule = schedule; result = row.result; answers = answers; base = stack_bottom - room; bytes = room + 16;
-    code_below = code_fits image room tables is_room; aligned = base_aligned room is_room;
-    domain_below = base_high room is_room; short = base_short room is_room }
+    image = image;
+    schedule = schedule;
+    result = row.result;
+    answers = answers;
+    base = stack_bottom - room;
+    bytes = room + 16;
+    code_below = code_fits image room tables is_room;
+    aligned = base_aligned room is_room;
+    domain_below = base_high room is_room;
+    short = base_short room is_room;
+  }
 
   -- the first view
   abbrev pub first_view : ℕ → View
   first_view place = record { place = place; registers = start_registers args; stack = first_stack room }
 
-  pub first_stands : (place : ℕ) → row.offset ≡ 4 * place → AllWords args → Stands setting (start image row args room heap) (first_view place)
+  pub first_stands :
+      (place : ℕ) → row.offset ≡ 4 * place → AllWords args →
+      Stands setting (start image row args room heap) (first_view place)
   first_stands place e all = record {
-    image = refl; pc = ap (λ n. code_start + n) e; registers = refl;
-    memory = has_stack image room heap tables is_room is_heap; stack_base = refl;
-    register_words = words_registers args all; stack_words = words_stack room }
+    image = refl;
+    pc = ap (λ n. code_start + n) e;
+    registers = refl;
+    memory = has_stack image room heap tables is_room is_heap;
+    stack_base = refl;
+    register_words = words_registers args all;
+    stack_words = words_stack room;
+  }
 
   pub first_entry : (place : ℕ) → Entry setting room args (first_view place)
   first_entry place = record {
-    bytes = refl; aligned = is_room.aligned; count = count_registers args; back = refl; bottom = sum_of_base room is_room;
-    arguments = argument_at args; long = long_stack room is_room.aligned }
+    bytes = refl;
+    aligned = is_room.aligned;
+    count = count_registers args;
+    back = refl;
+    bottom = sum_of_base room is_room;
+    arguments = argument_at args;
+    long = long_stack room is_room.aligned;
+  }

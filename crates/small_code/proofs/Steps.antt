@@ -54,41 +54,57 @@ at s h = record { hart = h; result = s.result; answers = s.answers; calls = [] }
 
 -- So many instructions lead from one view to another.
 pub record Leads (s : Setting) (n : ℕ) (v w : View) : Type 0 where
-  pub by : (h : Hart) → Stands s h v → (g : Hart) × Stands s g w × ((j k : ℕ) → j ≡ n + k → after s.schedule j (Going (at s h)) ≡ after s.schedule k (Going (at s g)))
+  pub by :
+      (h : Hart) → Stands s h v →
+      (g : Hart) × Stands s g w × ((j k : ℕ) → j ≡ n + k → after s.schedule j (Going (at s h)) ≡ after s.schedule k (Going (at s g)))
 
 -- So many instructions end the run, with no external call.
 pub record Ends (s : Setting) (n : ℕ) (v : View) (end : End) : Type 0 where
-  pub by : (h : Hart) → Stands s h v → (j k : ℕ) → j ≡ n + k → after s.schedule j (Going (at s h)) ≡ after s.schedule k (Over [] end)
+  pub by :
+      (h : Hart) → Stands s h v → (j k : ℕ) → j ≡ n + k →
+      after s.schedule j (Going (at s h)) ≡ after s.schedule k (Over [] end)
 
 pub stays : (s : Setting) (v : View) → Leads s 0 v v
 stays s v = record { by = λ h stands. (h, stands, λ j k e. let same : j ≡ k = omega arith in ap (λ n. after s.schedule n (Going (at s h))) same) }
 
 pub then_leads : (s : Setting) (n m : ℕ) (u v w : View) → Leads s n u v → Leads s m v w → Leads s (n + m) u w
-then_leads s n m u v w a b = record { by = λ h stands.
-  let first = a.by h stands in
-  let second = b.by first.0 first.1 in
-  (second.0, second.1, λ j k e. first.2 j (m + k) (omega arith) ∙ second.2 (m + k) k refl) }
+then_leads s n m u v w a b = record {
+  by = λ h stands.
+      let first = a.by h stands in
+      let second = b.by first.0 first.1 in
+      (second.0, second.1, λ j k e. first.2 j (m + k) (omega arith) ∙ second.2 (m + k) k refl);
+}
 
-pub then_ends : (s : Setting) (n m : ℕ) (u v : View) (end : End) → Leads s n u v → Ends s m v end → Ends s (n + m) u end
-then_ends s n m u v end a b = record { by = λ h stands j k e.
-  let first = a.by h stands in
-  first.2 j (m + k) (omega arith) ∙ b.by first.0 first.1 (m + k) k refl }
+pub then_ends :
+    (s : Setting) (n m : ℕ) (u v : View) (end : End) → Leads s n u v → Ends s m v end → Ends s (n + m) u end
+then_ends s n m u v end a b = record {
+  by = λ h stands j k e.
+      let first = a.by h stands in
+      first.2 j (m + k) (omega arith) ∙ b.by first.0 first.1 (m + k) k refl;
+}
 
 -- ---- the ask before an instruction
 
 asked_stands : (s : Setting) (b : Bool) (h : Hart) (v : View) → Stands s h v → Stands s (cond b (asked h) h) v
 asked_stands s false h v stands = stands
 asked_stands s true h v stands = record {
-  image = stands.image; pc = stands.pc; registers = stands.registers;
+  image = stands.image;
+  pc = stands.pc;
+  registers = stands.registers;
   memory = memory_asked s.base s.bytes h.memory v.stack domain_start limit_asked stands.memory s.domain_below;
-  stack_base = stands.stack_base; register_words = stands.register_words; stack_words = stands.stack_words }
+  stack_base = stands.stack_base;
+  register_words = stands.register_words;
+  stack_words = stands.stack_words;
+}
 
 pub perhaps_stands : (s : Setting) (h : Hart) (v : View) → Stands s h v → Stands s (perhaps_asked s.schedule h) v
 perhaps_stands s h v stands = asked_stands s (is_among s.schedule.asks h.retired) h v stands
 
 -- ---- one instruction
 
-fetch_at : (code : List ℕ) (pc place word : ℕ) → pc ≡ code_start + 4 * place → slice_get code place ≡ Some word → fetch code pc ≡ Some word
+fetch_at :
+    (code : List ℕ) (pc place word : ℕ) → pc ≡ code_start + 4 * place → slice_get code place ≡ Some word →
+    fetch code pc ≡ Some word
 fetch_at code pc place word e h =
     let index : (pc - code_start) / 4 ≡ place = omega arith in
     cond-true _ _ _ (and_from _ _ (le-leb code_start pc (omega arith)) (eq-eqb (pc % 4) 0 (omega arith)))
@@ -99,14 +115,17 @@ pub record Instruction (s : Setting) (place : ℕ) (i : Instr) : Type 0 where
   pub there : slice_get s.image.code place ≡ Some (encoded i)
   pub fits : InstrFits i
 
-hart_executes : (s : Setting) (h : Hart) (v : View) (i : Instr) → Stands s h v → Instruction s v.place i → hart h ≡ executed i h
+hart_executes :
+    (s : Setting) (h : Hart) (v : View) (i : Instr) → Stands s h v → Instruction s v.place i → hart h ≡ executed i h
 hart_executes s h v i stands instruction =
     ap (λ o. fetched o h)
     (ap (λ (image : Tables). fetch image.code h.pc) stands.image ∙ fetch_at s.image.code h.pc v.place (encoded i) stands.pc instruction.there)
     ∙ ap (λ o. decoded_next o h) (decoded-encoded i instruction.fits)
 
 -- what comes of one instruction, where its effect on every hart that stands so is known
-pub one_step : (s : Setting) (h : Hart) (v : View) (i : Instr) → Stands s h v → Instruction s v.place i → (j k : ℕ) → j ≡ 1 + k → after s.schedule j (Going (at s h)) ≡ after s.schedule k (after_next (executed i (perhaps_asked s.schedule h)) (at s h))
+pub one_step :
+    (s : Setting) (h : Hart) (v : View) (i : Instr) → Stands s h v → Instruction s v.place i → (j k : ℕ) → j ≡ 1 + k →
+    after s.schedule j (Going (at s h)) ≡ after s.schedule k (after_next (executed i (perhaps_asked s.schedule h)) (at s h))
 one_step s h v i stands instruction j k e =
     let more : j ≡ suc k = omega arith in
     ap (λ n. after s.schedule n (Going (at s h))) more
@@ -134,7 +153,9 @@ set_words (x ∷ xs) zero value all small (suc i) = all (suc i)
 set_words (x ∷ xs) (suc j) value all small zero = all zero
 set_words (x ∷ xs) (suc j) value all small (suc i) = set_words xs j value (λ k. all (suc k)) small i
 
-with_words : (registers : List ℕ) (rd value : ℕ) → AllWords registers → value < 2 ^ 64 → AllWords (with_register rd value registers)
+with_words :
+    (registers : List ℕ) (rd value : ℕ) → AllWords registers → value < 2 ^ 64 →
+    AllWords (with_register rd value registers)
 with_words registers zero value all small = all
 with_words registers (suc rd) value all small = set_words registers (suc rd) value all small
 
@@ -146,7 +167,8 @@ with_set rd value v = record { place = v.place + 1; registers = with_register rd
 abbrev pub Passes : Setting → ℕ → ℕ → Type 0
 Passes s rd value = (rd ≢ 2) ⊎ (s.base ≤ value)
 
-passes_test : (s : Setting) (rd value base : ℕ) → base ≡ s.base → Passes s rd value → ((rd == 2) && nat_lt value base) ≡ false
+passes_test :
+    (s : Setting) (rd value base : ℕ) → base ≡ s.base → Passes s rd value → ((rd == 2) && nat_lt value base) ≡ false
 passes_test s rd value base e (inl other) = and_left _ _ (ne_eqb rd 2 other)
 passes_test s rd value base e (inr above) = and_right _ _ (le-ltb value base (omega arith))
 
@@ -155,27 +177,41 @@ pub record SetsRegister (s : Setting) (v : View) (i : Instr) (rd value : ℕ) : 
   pub effect : (h : Hart) → Stands s h v → executed i h ≡ sets rd value (h.pc + 4) h
   pub word : (h : Hart) → Stands s h v → value < 2 ^ 64
 
-pub set_step : (s : Setting) (v : View) (i : Instr) (rd value : ℕ) → Instruction s v.place i → Passes s rd value → SetsRegister s v i rd value → Leads s 1 v (with_set rd value v)
-set_step s v i rd value instruction passes known = record { by = λ h stands.
-  let before = perhaps_asked s.schedule h in
-  let ready = perhaps_stands s h v stands in
-  (record before { registers = with_register rd value before.registers; pc = before.pc + 4; retired = suc before.retired },
-  record {
-    image = ready.image; pc = next_pc before.pc v.place ready.pc; registers = ap (with_register rd value) ready.registers;
-    memory = ready.memory; stack_base = ready.stack_base;
-    register_words = with_words v.registers rd value ready.register_words (known.word before ready); stack_words = ready.stack_words },
-  λ j k e. one_step s h v i stands instruction j k e
-    ∙ ap (λ next. after s.schedule k (after_next next (at s h)))
-      (known.effect before ready ∙ cond-false _ _ _ (passes_test s rd value before.stack_base ready.stack_base passes))) }
+pub set_step :
+    (s : Setting) (v : View) (i : Instr) (rd value : ℕ) → Instruction s v.place i → Passes s rd value →
+    SetsRegister s v i rd value → Leads s 1 v (with_set rd value v)
+set_step s v i rd value instruction passes known = record {
+  by = λ h stands.
+      let before = perhaps_asked s.schedule h in
+      let ready = perhaps_stands s h v stands in (
+        record before { registers = with_register rd value before.registers; pc = before.pc + 4; retired = suc before.retired },
+        record {
+          image = ready.image;
+          pc = next_pc before.pc v.place ready.pc;
+          registers = ap (with_register rd value) ready.registers;
+          memory = ready.memory;
+          stack_base = ready.stack_base;
+          register_words = with_words v.registers rd value ready.register_words (known.word before ready);
+          stack_words = ready.stack_words;
+        },
+        λ j k e. one_step s h v i stands instruction j k e
+            ∙ ap (λ next. after s.schedule k (after_next next (at s h)))
+            (known.effect before ready ∙ cond-false _ _ _ (passes_test s rd value before.stack_base ready.stack_base passes)),
+      );
+}
   where
     next_pc : (pc place : ℕ) → pc ≡ code_start + 4 * place → pc + 4 ≡ code_start + 4 * (place + 1)
     next_pc pc place e = omega arith
 
 -- an instruction that would bring sp below the stack's base
-pub out_step : (s : Setting) (v : View) (i : Instr) (value : ℕ) → Instruction s v.place i → value < s.base → SetsRegister s v i 2 value → Ends s 1 v StackOut
-out_step s v i value instruction low known = record { by = λ h stands j k e.
-  let before = perhaps_asked s.schedule h in
-  let ready = perhaps_stands s h v stands in
-  one_step s h v i stands instruction j k e
-  ∙ ap (λ next. after s.schedule k (after_next next (at s h)))
-    (known.effect before ready ∙ cond-true _ _ _ (lt-ltb value before.stack_base (subst (λ b. value < b) (sym ready.stack_base) low))) }
+pub out_step :
+    (s : Setting) (v : View) (i : Instr) (value : ℕ) → Instruction s v.place i → value < s.base →
+    SetsRegister s v i 2 value → Ends s 1 v StackOut
+out_step s v i value instruction low known = record {
+  by = λ h stands j k e.
+      let before = perhaps_asked s.schedule h in
+      let ready = perhaps_stands s h v stands in
+      one_step s h v i stands instruction j k e
+      ∙ ap (λ next. after s.schedule k (after_next next (at s h)))
+      (known.effect before ready ∙ cond-true _ _ _ (lt-ltb value before.stack_base (subst (λ b. value < b) (sym ready.stack_base) low)));
+}

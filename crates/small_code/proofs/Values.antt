@@ -20,7 +20,9 @@ row-word int.Sub a b small = sub_word-below a b
 row-word int.And a b small = omega (arith, and_le_l a b)
 row-word _ a b small = add_word-below a b
 
-pub word_in-word : (holds : List ℕ → ℕ) (e : Expression) → ((name : List ℕ) → holds name < 2 ^ 64) → WordsFit e → word_in holds e < 2 ^ 64
+pub word_in-word :
+    (holds : List ℕ → ℕ) (e : Expression) → ((name : List ℕ) → holds name < 2 ^ 64) → WordsFit e →
+    word_in holds e < 2 ^ 64
 word_in-word holds (Integer at word) small fit = fit
 word_in-word holds (Name at name) small fit = small name
 word_in-word holds (Operator at op left right) small fit =

@@ -11,11 +11,14 @@ use Rattle.rv_machine.specs.Hart as next
 use Rattle.rv_machine.specs.Run.{Schedule, Seen, perhaps_asked, after_next, one, after, seen}
 use Rattle.rv_machine.specs.Services.{End, Running, Machine, Now, Going, Over, answered, call_made, external, served}
 
-pub over_stays : (schedule : Schedule) (k : ℕ) (calls : List Made) (end : End) → after schedule k (Over calls end) ≡ Over calls end
+pub over_stays :
+    (schedule : Schedule) (k : ℕ) (calls : List Made) (end : End) → after schedule k (Over calls end) ≡ Over calls end
 over_stays schedule zero calls end = refl
 over_stays schedule (suc k) calls end = refl
 
-pub after_more : (schedule : Schedule) (m k j : ℕ) (now : Now) → j ≡ m + k → after schedule j now ≡ after schedule k (after schedule m now)
+pub after_more :
+    (schedule : Schedule) (m k j : ℕ) (now : Now) → j ≡ m + k →
+    after schedule j now ≡ after schedule k (after schedule m now)
 after_more schedule zero k j now e = let same : j ≡ k = omega arith in ap (λ n. after schedule n now) same
 after_more schedule (suc m) k j (Over calls end) e = over_stays schedule j calls end ∙ sym (over_stays schedule k calls end)
 after_more schedule (suc m) k j (Going machine) e =
@@ -30,7 +33,9 @@ same_calls calls = ([], sym (append-nil calls))
 then_calls : (a b c : List Made) → IsPrefix a b → IsPrefix b c → IsPrefix a c
 then_calls a b c p q = (p.0 ++ q.0, q.1 ∙ ap (λ l. l ++ q.0) p.1 ∙ append_assoc a p.0 q.0)
 
-answered_grows : (result : Ret) (call : Made) (answers : List ℕ) (m : Machine) → IsPrefix m.calls (seen (answered result call answers m)).calls
+answered_grows :
+    (result : Ret) (call : Made) (answers : List ℕ) (m : Machine) →
+    IsPrefix m.calls (seen (answered result call answers m)).calls
 answered_grows returns.Unit call answers m = (call ∷ [], refl)
 answered_grows (returns.Comp c) call [] m = same_calls m.calls
 answered_grows (returns.Comp c) call (a ∷ answers) m = (call ∷ [], refl)
@@ -51,7 +56,8 @@ next_grows (Service h) m = served_grows (register h 7) (record m { hart = h })
 next_grows next.StackOut m = same_calls m.calls
 next_grows (next.Stopped cause) m = same_calls m.calls
 
-pub calls_grow : (schedule : Schedule) (k : ℕ) (now : Now) → IsPrefix (seen now).calls (seen (after schedule k now)).calls
+pub calls_grow :
+    (schedule : Schedule) (k : ℕ) (now : Now) → IsPrefix (seen now).calls (seen (after schedule k now)).calls
 calls_grow schedule zero now = same_calls (seen now).calls
 calls_grow schedule (suc k) (Over calls end) = same_calls calls
 calls_grow schedule (suc k) (Going m) =
@@ -68,7 +74,8 @@ no_part (c ∷ calls) rest e = cc
 abbrev pub Comes : End → Seen → Type 0
 Comes end now = (now ≡ record { calls = []; end = Running }) ⊎ (now ≡ record { calls = []; end = end })
 
-on_the_way : (schedule : Schedule) (k : ℕ) (now : Now) (end : End) → after schedule k now ≡ Over [] end → Comes end (seen now)
+on_the_way :
+    (schedule : Schedule) (k : ℕ) (now : Now) (end : End) → after schedule k now ≡ Over [] end → Comes end (seen now)
 on_the_way schedule k (Over calls other) end e =
     inr (ap seen (sym (over_stays schedule k calls other) ∙ e))
 on_the_way schedule k (Going m) end e =
@@ -76,7 +83,9 @@ on_the_way schedule k (Going m) end e =
     let none : m.calls ≡ [] = no_part m.calls grow.0 (sym grow.1 ∙ ap (λ n. (seen n).calls) e) in
     inl (ap (λ calls. record { calls = calls; end = Running }) none)
 
-pub comes_at : (schedule : Schedule) (total m : ℕ) (now : Now) (end : End) → after schedule total now ≡ Over [] end → Comes end (seen (after schedule m now))
+pub comes_at :
+    (schedule : Schedule) (total m : ℕ) (now : Now) (end : End) → after schedule total now ≡ Over [] end →
+    Comes end (seen (after schedule m now))
 comes_at schedule total m now end e = by_order (cases_lt m total)
   where
     by_order : (m < total) ⊎ (total ≤ m) → Comes end (seen (after schedule m now))
