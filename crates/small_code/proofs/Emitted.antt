@@ -1,5 +1,5 @@
 -- What code that emits code, piece by piece, comes to.
-use Rattle.std.proofs.Common.{◌≡◌, ℕ, zero, suc, ◌+◌, ◌-◌, ◌*◌, ◌/◌, ◌%◌, ◌^◌, ◌<◌, ◌≤◌, Bool, true, false, cond, List, [], ◌∷◌, ◌++◌, length, get_or, map, drop, bytes_eq, refl, sym, ap, ◌∙◌, append_assoc, append-nil, add-zero, arith}
+use Rattle.std.proofs.Common.{◌≡◌, ℕ, zero, suc, ◌+◌, ◌-◌, ◌/◌, ◌%◌, ◌^◌, ◌<◌, Bool, true, false, cond, List, [], ◌∷◌, ◌++◌, length, get_or, map, drop, bytes_eq, refl, sym, ap, ◌∙◌, append_assoc, append-nil, add-zero, arith}
 use Rattle.std.proofs.lemmas.List.{drop_more, map-append}
 use Rattle.std.proofs.lemmas.Slice.Eq.{bytes_eq-Decides}
 use Rattle.cmm_tree.specs.declared.file.Param.{Param}
@@ -7,7 +7,6 @@ use Rattle.cmm_tree.specs.Tree.{FunctionTree, names_of}
 use Rattle.rv_isa.specs.Encoding.{encoded}
 use Rattle.rv_isa.specs.declared.instr.AluImmOp.TheVariants.{Addi}
 use Rattle.rv_isa.specs.declared.instr.AluOp.TheVariants.{Add, Sub}
-use Rattle.rv_isa.specs.declared.instr.Instr.{Instr}
 use Rattle.rv_isa.specs.declared.instr.Instr.TheVariants.{Jalr, OpImm}
 use Rattle.small_code.specs.Code.{argument_code, store_slot, index_of, constant, eleven_more, function_code, move_sp, load_slot, expression_code, frame_bytes, parameters, slots, a0, ra}
 use Rattle.small_code.specs.Compiled.{function_words}

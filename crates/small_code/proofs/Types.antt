@@ -8,7 +8,7 @@ use Rattle.bs_words.specs.declared.types.Comp.{Comp}
 use Rattle.bs_words.specs.declared.types.Comp.TheVariants as comp
 use Rattle.bs_words.specs.declared.types.Ty.TheVariants.{Int}
 use Rattle.cmm_tree.specs.Small.{IsSmallFunction, NamesAmong, SmallOperators}
-use Rattle.cmm_tree.specs.Tree.{Expression, Integer, Name, Operator, Parameter, FunctionTree, names_of, comps_of}
+use Rattle.cmm_tree.specs.Tree.{Expression, Integer, Name, Operator, Parameter, FunctionTree, comps_of}
 use Rattle.cmm_tree.specs.Types.{type_of, with_parameters, body_type}
 use Rattle.small_code.proofs.Names.{int_named}
 
