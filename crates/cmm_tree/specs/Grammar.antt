@@ -3,14 +3,22 @@ use Rattle.std.specs.Prelude.{◌≡◌, ℕ, ◌+◌, ◌-◌, ◌*◌, ◌%◌
 use Rattle.bs_words.specs.declared.operators.IntOp.{IntOp}
 use Rattle.bs_words.specs.declared.operators.IntOp.TheVariants.{Add, Sub, And}
 use Rattle.bs_words.specs.declared.types.Comp.TheVariants as comp
+use Rattle.cmm_tree.specs.declared.token.TokenKind.{TokenKind}
 use Rattle.cmm_tree.specs.declared.token.TokenKind.TheVariants as kind
 use Rattle.cmm_tree.specs.Keywords.{keywords}
 use Rattle.cmm_tree.specs.Tokens.{Token}
 use Rattle.cmm_tree.specs.Tree.{Expression, Integer, Name, Operator, Parameter, FunctionTree, ItemTree, AFunction}
 
--- the token is spelled so
-abbrev pub Spelled : List ℕ → Token → Type 0
-Spelled text t = t.text ≡ text
+-- the token is of this kind, and spelled so
+abbrev pub Spelled : TokenKind → List ℕ → Token → Type 0
+Spelled k text t = (t.kind ≡ k) × (t.text ≡ text)
+
+-- the sign, and the word
+abbrev pub IsSign : List ℕ → Token → Type 0
+IsSign text t = Spelled kind.Sign text t
+
+abbrev pub IsWord : List ℕ → Token → Type 0
+IsWord text t = Spelled kind.Name text t
 
 -- a name, which is no keyword
 abbrev pub IsName : Token → Type 0
@@ -46,9 +54,9 @@ pub data IsDecimal : List ℕ → ℕ → Type 0 where
 
 -- The operator that a token spells.
 pub data IsOperator : IntOp → Token → Type 0 where
-  plus : (t : Token) → Spelled (codes "+") t → IsOperator Add t
-  minus : (t : Token) → Spelled (codes "-") t → IsOperator Sub t
-  and : (t : Token) → Spelled (codes "and") t → IsOperator And t
+  plus : (t : Token) → Spelled kind.Operator (codes "+") t → IsOperator Add t
+  minus : (t : Token) → Spelled kind.Operator (codes "-") t → IsOperator Sub t
+  and : (t : Token) → IsWord (codes "and") t → IsOperator And t
 
 -- An expression, in which parentheses nest at most so deep.
 pub data IsExpression : ℕ → Expression → List Token → Type 0 where
@@ -58,19 +66,19 @@ pub data IsExpression : ℕ → Expression → List Token → Type 0 where
       → IsExpression depth (Integer t.at word) (t ∷ [])
   name : (depth : ℕ) (t : Token) → IsName t → IsExpression depth (Name t.at t.text) (t ∷ [])
   operator : (depth : ℕ) (opening sign closing : Token) (op : IntOp) (left right : Expression) (xs ys : List Token)
-      → Spelled (codes "(") opening
+      → IsSign (codes "(") opening
       → IsOperator op sign
       → IsExpression depth left xs
       → IsExpression depth right ys
-      → Spelled (codes ")") closing
+      → IsSign (codes ")") closing
       → IsExpression (suc depth) (Operator opening.at op left right) (opening ∷ sign ∷ (xs ++ (ys ++ closing ∷ [])))
 
 -- A parameter: its name, a colon and its component.
 pub data IsParameter : Parameter → List Token → Type 0 where
   int : (name colon component : Token)
       → IsName name
-      → Spelled (codes ":") colon
-      → Spelled (codes "int") component
+      → IsSign (codes ":") colon
+      → IsWord (codes "int") component
       → IsParameter (record { at = name.at; name = name.text; comp = comp.Int }) (name ∷ colon ∷ component ∷ [])
 
 -- Parameters, one after the other.
@@ -89,14 +97,14 @@ nesting = 250
 pub data IsFunction : FunctionTree → List Token → Type 0 where
   function : (opening word name opening_params closing_params closing : Token) (symbol : List ℕ)
       (params : List Parameter) (body : Expression) (xs ys tokens : List Token)
-      → Spelled (codes "(") opening
-      → Spelled (codes "function") word
+      → IsSign (codes "(") opening
+      → IsWord (codes "function") word
       → IsSymbolToken symbol name
-      → Spelled (codes "(") opening_params
+      → IsSign (codes "(") opening_params
       → AreParameters params xs
-      → Spelled (codes ")") closing_params
+      → IsSign (codes ")") closing_params
       → IsExpression (nesting - 1) body ys
-      → Spelled (codes ")") closing
+      → IsSign (codes ")") closing
       → tokens ≡ opening ∷ word ∷ name ∷ opening_params ∷ (xs ++ closing_params ∷ (ys ++ closing ∷ []))
       → IsFunction (record { at = opening.at; name = symbol; params = params; body = body; tokens = length tokens }) tokens
 

@@ -1,7 +1,7 @@
 -- How long the parts of an image are, and what holds of each row.
-use Rattle.std.proofs.Common.{◌≡◌, ℕ, zero, suc, ◌+◌, ◌*◌, ◌%◌, ◌^◌, ◌<◌, ◌≤◌, List, [], ◌∷◌, ◌++◌, length, get_or, map, refl, sym, ap, ◌∙◌, arith, inl, inr, ◌⊎◌, length-append}
+use Rattle.std.proofs.Common.{◌≡◌, ℕ, zero, suc, ◌*◌, ◌^◌, ◌<◌, ◌≤◌, List, [], ◌∷◌, ◌++◌, length, get_or, map, refl, ap, subst, arith, inl, inr, length-append}
 use Rattle.std.specs.List.{flat_map, AllByRecursion}
-use Rattle.image_form.specs.Tables.{Func, Sym, Ext, Desc}
+use Rattle.image_form.specs.Tables.{Desc}
 use Rattle.image_form.specs.Image.{le16, le32, name_bytes, func_bytes, sym_bytes, ext_bytes, desc_bytes, table_bytes, table_limit, IsEntry, IsDesc}
 
 -- what holds of each row's view holds of the row at an index
@@ -35,10 +35,12 @@ length-map' : {X Y : Type 0} (view : X → Y) (xs : List X) → length (map view
 length-map' view [] = refl
 length-map' view (x ∷ xs) = ap suc (length-map' view xs)
 
-pub few_rows : {X A : Type 0} (view : X → A) (row : A → List ℕ) (xs : List X) → Nonempty row → length (table_bytes row (map view xs)) ≤ table_limit → length xs < 2 ^ 32
+pub few : {A : Type 0} (row : A → List ℕ) (rows : List A) → Nonempty row → length (table_bytes row rows) ≤ table_limit → length rows < 2 ^ 32
 unfolding table_bytes
-few_rows view row xs some short =
-    omega (arith, length-append (le32 (length (map view xs))) (flat_map row (map view xs)), rows_long row (map view xs) some, length-map' view xs)
+few row rows some short = omega (arith, length-append (le32 (length rows)) (flat_map row rows), rows_long row rows some)
+
+pub few_rows : {X A : Type 0} (view : X → A) (row : A → List ℕ) (xs : List X) → Nonempty row → length (table_bytes row (map view xs)) ≤ table_limit → length xs < 2 ^ 32
+few_rows view row xs some short = subst (λ n. n < 2 ^ 32) (length-map' view xs) (few row (map view xs) some short)
 
 pub few_roots : (roots : List ℕ) → length (table_bytes le32 roots) ≤ table_limit → length roots < 2 ^ 32
 unfolding table_bytes
@@ -66,6 +68,9 @@ ext_nonempty e = first_nonempty (name_bytes e.name) _ (name_nonempty e.name)
 pub desc_nonempty : Nonempty desc_bytes
 unfolding desc_bytes
 desc_nonempty d = first_nonempty (le32 d.after) _ (omega (arith, length-le32 d.after))
+
+pub le32_nonempty : Nonempty le32
+le32_nonempty n = omega (arith, length-le32 n)
 
 -- ---- the entries of a descriptor fit 16 bits
 

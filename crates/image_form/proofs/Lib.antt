@@ -1,1 +1,10 @@
 pub mod Lengths
+pub mod Texts
+pub mod Loops
+mod KnownImages
+pub mod Takes
+pub mod FieldLaws
+pub mod RowLaws
+pub mod Rules
+pub mod PartLaws
+pub mod ImageLaws

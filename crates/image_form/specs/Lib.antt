@@ -1,2 +1,5 @@
 pub mod Tables
 pub mod Image
+pub mod Seen
+pub mod Fields
+pub mod Reading

@@ -5,8 +5,18 @@
 //! with numbers little-endian.
 #![tactic(auto)]
 
+mod fault;
+mod fields;
 mod image;
+mod reading;
+mod rows;
+mod seen;
 mod writing;
 
+pub use fault::ImageError;
 pub use image::{DescRow, ExtRow, FuncRow, Image, SymRow};
+pub use reading::read_image;
 pub use writing::write_image;
+
+#[cfg(test)]
+mod tests;

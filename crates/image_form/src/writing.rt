@@ -110,13 +110,25 @@ fn put_sym(out: &mut Vec<u8>, row: &SymRow) -> Result<(), AllocError>
 
 #[tactic(auto, unfolding(crate::specs::Image::ext_bytes))]
 fn put_ext(out: &mut Vec<u8>, row: &ExtRow) -> Result<(), AllocError>
-    requires { IsExt (ext row.now) }
+    requires name { length row.now.name ≤ 255 }
+    requires params { length (contents row.now.params) ≤ 16 }
     ensures { OnOk result (out.new.items ≡ out.old.items ++ ext_bytes (ext row.now)) }
 {
     put_name(out, &row.name)?;
     put_params(out, row.params.as_slice())?;
     out.push(ret_byte(row.result))?;
     Ok(())
+}
+
+/// The bytes of the row.
+pub(crate) fn ext_text(alloc: Global, row: &ExtRow) -> Result<Vec<u8>, AllocError>
+    requires name { length row.now.name ≤ 255 }
+    requires params { length (contents row.now.params) ≤ 16 }
+    ensures { IfOk result (λ text. text.items ≡ ext_bytes (ext row.now)) }
+{
+    let mut out = Vec::new(alloc);
+    put_ext(&mut out, row)?;
+    Ok(out)
 }
 
 fn put_entries(out: &mut Vec<u8>, entries: &[u32]) -> Result<(), AllocError>

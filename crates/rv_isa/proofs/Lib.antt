@@ -1,3 +1,4 @@
 pub mod WordLaws
 pub mod RoundTrip
 pub mod Converse
+mod KnownWords

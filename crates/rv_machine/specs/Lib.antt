@@ -1,7 +1,10 @@
 pub mod Memory
+pub mod Width
 pub mod Arithmetic
 pub mod Hart
+pub mod Step
 pub mod Observation
 pub mod Services
 pub mod Start
+pub mod Loading
 pub mod Run

@@ -4,6 +4,21 @@
 //! `Start` the state in which a run begins, and `Run` a whole run under a schedule of the mover.
 #![tactic(auto)]
 
-mod cause;
+pub mod arithmetic;
+pub mod blocks;
+pub mod cause;
+mod code;
+pub mod loading;
+pub mod machine;
+pub mod memory;
+pub mod region;
+pub mod setup;
+pub mod start;
+mod step;
+pub mod step_end;
 
 pub use cause::Cause;
+pub use loading::load;
+pub use machine::Machine;
+pub use setup::{Arg, LoadError, Setup};
+pub use step_end::StepEnd;

@@ -1,3 +1,4 @@
+mod KnownRun
 pub mod Bounded
 pub mod Emitted
 pub mod Example

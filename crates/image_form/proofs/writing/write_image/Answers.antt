@@ -1,4 +1,4 @@
-use Rattle.std.proofs.Common.{◌≡◌, arith, length, ◌<◌, ◌^◌, ◌*◌}
+use Rattle.std.proofs.Common.{arith, length, ◌*◌}
 use Rattle.image_form.specs.Tables.{func, sym, ext, desc}
 use Rattle.image_form.specs.Image.{func_bytes, sym_bytes, ext_bytes, desc_bytes}
 use Rattle.image_form.proofs.Lengths.{few_rows, few_roots, length-words, func_nonempty, sym_nonempty, ext_nonempty, desc_nonempty}

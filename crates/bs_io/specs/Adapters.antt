@@ -1,0 +1,10 @@
+-- What stands behind an adapter.
+use Rattle.bs_io.specs.declared.adapters.ReadSource.{ReadSource}
+use Rattle.bs_io.specs.declared.adapters.WriteSink.{WriteSink}
+
+-- the reader that a source reads from, and the writer that a sink writes to
+abbrev pub reader_of : {R : Type 0} → ReadSource R → R
+reader_of s = s.reader
+
+abbrev pub writer_of : {W : Type 0} → WriteSink W → W
+writer_of s = s.writer

@@ -1,0 +1,12 @@
+-- The lines on err that have no number.
+use Rattle.std.specs.Prelude.{ℕ, List, codes}
+
+-- the text is no small text, and nothing else is built
+abbrev pub not_built_line : List ℕ
+not_built_line = codes "cmmc: not built\n"
+
+abbrev pub read_fault_line : List ℕ
+read_fault_line = codes "cmmc: read fault\n"
+
+abbrev pub no_memory_line : List ℕ
+no_memory_line = codes "cmmc: no memory\n"

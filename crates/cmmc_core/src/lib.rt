@@ -1,0 +1,11 @@
+//! The program: a call over a source and two sinks, which `main` makes with the real ones.
+#![tactic(auto)]
+
+mod compile;
+mod line;
+mod top;
+
+pub use top::cmmc;
+
+#[cfg(test)]
+mod tests;

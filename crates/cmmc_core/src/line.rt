@@ -1,0 +1,49 @@
+//! The lines on err, and the statuses.
+ghost use Rattle.std.specs.Prelude.{◌≡◌};
+ghost use Rattle.cmmc_core.specs.Effects.{side, Tells};
+ghost use Rattle.cmmc_core.specs.Refusal.{TellsLarge};
+
+use bs_fault::{Large, large_text};
+use bs_io::{Sink, write_all};
+use std::alloc::Global;
+
+/// The output was written whole.
+pub const WRITTEN: u8 = 0;
+
+/// The words are refused.
+pub const USAGE: u8 = 2;
+
+/// The text is refused.
+pub const NOT_BUILT: u8 = 3;
+
+/// A read failed.
+pub const READ_FAULT: u8 = 5;
+
+/// A write failed.
+pub const WRITE_FAULT: u8 = 6;
+
+/// A section of the image passes its limit.
+pub const TOO_LARGE: u8 = 8;
+
+/// Memory was wanted and not there.
+pub const NO_MEMORY: u8 = 9;
+
+/// Writes a whole line to err and answers `status`, or 6 where the line cannot be written whole.
+pub fn tell<E: Sink>(err: &mut E, line: &[u8], status: u8) -> u8
+    ensures { let err_side = side (E.held err.old) (E.held err.new) (E.faults err.old) (E.faults err.new) in Tells err_side line.now status result }
+{
+    match write_all(err, line) {
+        Ok(()) => status,
+        Err(_) => WRITE_FAULT,
+    }
+}
+
+/// Writes the line of a section that is too large, for which there may be no memory.
+pub fn tell_large<E: Sink>(alloc: Global, err: &mut E, large: &Large) -> u8
+    ensures { let err_side = side (E.held err.old) (E.held err.new) (E.faults err.old) (E.faults err.new) in TellsLarge err_side large.now result }
+{
+    match large_text(alloc, large) {
+        Ok(line) => tell(err, line.as_slice(), TOO_LARGE),
+        Err(_) => tell(err, b"cmmc: no memory\n", NO_MEMORY),
+    }
+}

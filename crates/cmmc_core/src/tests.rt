@@ -1,0 +1,184 @@
+//! The top call over sources and sinks in memory: a table of words and texts, and each read and write
+//! failing in turn.
+ghost use Rattle.std.specs.Prelude.{◌≡◌, ◌≤◌};
+
+use crate::cmmc;
+use bs_io::{MemSink, MemSource};
+use bs_words::List;
+use std::alloc::{AllocError, Global};
+use std::test::Fail;
+
+/// The image of the empty text.
+const EMPTY_IMAGE: &[u8; 134] =
+    b"CMMRV64\n\x01\0\0\0FUNC\x04\0\0\0\0\0\0\0CODE\x10\0\0\0\x93\x03\0\0\x73\0\0\0\x93\x03\x10\0\x73\0\0\0DATA\x08\0\0\0\0\0\0\0\0\0\0\0SYMS\x1a\0\0\0\x01\0\0\0\x10\0caml_bound_error\0\0\0\0ROOT\x04\0\0\0\0\0\0\0EXTC\x04\0\0\0\0\0\0\0DESC\x04\0\0\0\0\0\0\0";
+
+/// Which calls of each fail, and the most bytes of a read or a write.
+#[derive(Clone, Copy)]
+struct Devices<'a> {
+    reads: &'a [u64],
+    writes: &'a [u64],
+    err_writes: &'a [u64],
+    most: usize,
+}
+
+/// Devices that never fail.
+const SOUND: Devices<'static> = Devices {
+    reads: &[],
+    writes: &[],
+    err_writes: &[],
+    most: 65536,
+};
+
+/// What a call answered and wrote.
+#[derive(Drop)]
+struct Ended {
+    status: u8,
+    out: MemSink,
+    err: MemSink,
+}
+
+fn list<T: Copy>(alloc: Global, items: &[T]) -> Result<List<T>, AllocError> {
+    Ok(List::from_vec(items.to_vec(alloc)?))
+}
+
+/// Calls the program on words that are separated by single spaces.
+fn call(alloc: Global, line: &str, input: &[u8], devices: Devices) -> Result<Ended, AllocError>
+    requires { 1 ≤ devices.most }
+{
+    let mut words = Vec::new(alloc);
+    for word in line.split(' ') {
+        words.push(String::from_str(alloc, word)?)?;
+    }
+    let mut source = MemSource::new(
+        list(alloc, input)?,
+        list(alloc, devices.reads)?,
+        devices.most,
+    );
+    let mut out = MemSink::new(alloc, 65536, list(alloc, devices.writes)?, devices.most)?;
+    let mut err = MemSink::new(alloc, 4096, list(alloc, devices.err_writes)?, devices.most)?;
+    let status = cmmc(alloc, words.as_slice(), &mut source, &mut out, &mut err);
+    Ok(Ended { status, out, err })
+}
+
+#[test]
+fn words_and_texts(rt: HostRuntime) -> Result<(), Fail> {
+    let cases: [(&str, &[u8], u8, &[u8]); 12] = [
+        ("compile", b"", 0, b""),
+        (
+            "compile",
+            b"(function \"add3\" (x:int y:int) (+ x (+ y 3)))",
+            0,
+            b"",
+        ),
+        (
+            "compile",
+            b"(function \"a\" () 1) (function \"b\" (x:int) (and x (- 0 x)))",
+            0,
+            b"",
+        ),
+        (
+            "compile",
+            b"(function \"a\" (x:int) (+a x))",
+            3,
+            b"cmmc: not built\n",
+        ),
+        (
+            "compile",
+            b"(function \"a\" (x:int) (* x x))",
+            3,
+            b"cmmc: not built\n",
+        ),
+        (
+            "compile",
+            b"(function \"a\" (x:int) y)",
+            3,
+            b"cmmc: not built\n",
+        ),
+        (
+            "compile",
+            b"(function \"a\" () 1) (function \"a\" () 2)",
+            3,
+            b"cmmc: not built\n",
+        ),
+        (
+            "compile",
+            b"(function \"caml_bound_error\" () 1)",
+            3,
+            b"cmmc: not built\n",
+        ),
+        (
+            "compile",
+            b"(function \"a\" () 9223372036854775808)",
+            3,
+            b"cmmc: not built\n",
+        ),
+        ("compiler", b"", 2, b"cmmc: U1 Words\n"),
+        ("compile compile", b"", 2, b"cmmc: U1 Words\n"),
+        ("", b"", 2, b"cmmc: U1 Words\n"),
+    ];
+    for (line, input, status, told) in cases {
+        let ended = call(rt.alloc(), line, input, SOUND)?;
+        assert_eq!(rt; ended.status, status);
+        assert_eq!(rt; ended.err.bytes(), told);
+        assert!(rt; ended.out.bytes().is_empty() == (status != 0));
+    }
+    Ok(())
+}
+
+#[test]
+fn the_empty_text(rt: HostRuntime) -> Result<(), Fail> {
+    let ended = call(rt.alloc(), "compile", b"", SOUND)?;
+    assert_eq!(rt; ended.out.bytes(), EMPTY_IMAGE.as_slice());
+    Ok(())
+}
+
+// Reads of at most 20 bytes: three give the text, and a fourth the end.
+#[test]
+fn each_read_fails_in_turn(rt: HostRuntime) -> Result<(), Fail> {
+    for read in 0u64..4 {
+        let devices = Devices {
+            reads: &[read],
+            most: 20,
+            ..SOUND
+        };
+        let ended = call(
+            rt.alloc(),
+            "compile",
+            b"(function \"add3\" (x:int y:int) (+ x (+ y 3)))",
+            devices,
+        )?;
+        assert_eq!(rt; ended.status, 5);
+        assert!(rt; ended.out.bytes().is_empty());
+        assert_eq!(rt; ended.err.bytes(), b"cmmc: read fault\n".as_slice());
+    }
+    Ok(())
+}
+
+// Writes of at most 100 bytes: two give the image, and two a line of at most 8 bytes each.
+#[test]
+fn each_write_fails_in_turn(rt: HostRuntime) -> Result<(), Fail> {
+    for write in 0u64..2 {
+        let devices = Devices {
+            writes: &[write],
+            most: 100,
+            ..SOUND
+        };
+        let ended = call(rt.alloc(), "compile", b"", devices)?;
+        assert_eq!(rt; ended.status, 6);
+        assert!(rt; EMPTY_IMAGE.starts_with(ended.out.bytes()));
+        assert_eq!(rt; ended.out.bytes().len() as u64, 100 * write);
+        assert!(rt; ended.err.bytes().is_empty());
+    }
+    for write in 0u64..2 {
+        let devices = Devices {
+            err_writes: &[write],
+            most: 8,
+            ..SOUND
+        };
+        let ended = call(rt.alloc(), "compile", b"x", devices)?;
+        assert_eq!(rt; ended.status, 6);
+        assert!(rt; ended.out.bytes().is_empty());
+        assert_eq!(rt; ended.err.bytes().len() as u64, 8 * write);
+    }
+    Ok(())
+}

@@ -1,0 +1,6 @@
+mod Cuts
+mod Gives
+mod Numbers
+pub mod Order
+mod Tested
+mod Unique

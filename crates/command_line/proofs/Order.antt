@@ -1,0 +1,53 @@
+-- The order of the words after the first one is free.
+use Rattle.std.proofs.Common.{ℕ, cond, IsTrue, List, [], ◌∷◌, sym, ap, subst, get_or, arith}
+use Rattle.std.specs.List.{list_any}
+use Rattle.std.specs.List.Sorted.{IsPermutation}
+use Rattle.std.proofs.lemmas.List.Sorted.{IsPermutation-sym, All-permutation, Contains-permutation, sum_by-IsPermutation}
+use Rattle.command_line.specs.declared.form.CommandWord.{CommandWord}
+use Rattle.command_line.specs.declared.form.CommandWord.TheVariants as word
+use Rattle.command_line.specs.declared.form.Slot.{Slot}
+use Rattle.command_line.specs.declared.form.Slot.TheVariants.{Plain, Args, Answers, Steps, Stack, Heap}
+use Rattle.command_line.specs.Command.{CommandTree, RunTree, Sets, given, left_out, IsRun, IsCommand, compile, run, default_steps, default_size}
+use Rattle.command_line.specs.Values.{IsSteps, IsSize, IsItems}
+use Rattle.command_line.specs.Words.{word_of, slots_of, wanted_of, fills, IsForm, Gives}
+use Rattle.command_line.proofs.Unique.{parts}
+
+form-order : (command : CommandWord) (xs ys : List (List ℕ)) → IsPermutation xs ys → IsForm command xs → IsForm command ys
+form-order command xs ys p form = record {
+  each = All-permutation (λ text. IsTrue (list_any (λ slot. fills slot text) (slots_of command))) xs ys p form.each;
+  once = λ k d h. omega (arith, sum_by-IsPermutation (λ x. cond (fills (get_or (slots_of command) k d) x) 1 0) xs ys p, form.once k d h);
+  there = λ k d h. omega (arith, sum_by-IsPermutation (λ x. cond (fills (get_or (wanted_of command) k d) x) 1 0) xs ys p, form.there k d h);
+}
+
+gives-order : (xs ys : List (List ℕ)) (slot : Slot) (value : List ℕ) → IsPermutation xs ys → Gives xs slot value → Gives ys slot value
+gives-order xs ys slot value p g = (Contains-permutation xs ys _ p g.0, g.1)
+
+sets-order : {X : Type 0} (xs ys : List (List ℕ)) (slot : Slot) (Reads : List ℕ → X → Type 0) (default x : X)
+    → IsPermutation xs ys → Sets xs slot Reads default x → Sets ys slot Reads default x
+sets-order xs ys slot Reads default x p (given value g reads) = given value (gives-order xs ys slot value p g) reads
+sets-order xs ys slot Reads default x p (left_out none e) =
+    left_out (λ value g. none value (gives-order ys xs slot value (IsPermutation-sym xs ys p) g)) e
+
+run-order : (xs ys : List (List ℕ)) (r : RunTree) → IsPermutation xs ys → IsRun xs r → IsRun ys r
+run-order xs ys r p is = record {
+  entry = gives-order xs ys Plain r.entry p is.entry;
+  entry_name = is.entry_name;
+  args = sets-order xs ys Args IsItems [] r.args p is.args;
+  answers = sets-order xs ys Answers IsItems [] r.answers p is.answers;
+  steps = sets-order xs ys Steps IsSteps default_steps r.steps p is.steps;
+  stack = sets-order xs ys Stack IsSize default_size r.stack p is.stack;
+  heap = sets-order xs ys Heap IsSize default_size r.heap p is.heap;
+}
+
+-- words that differ in the order of those after the first are the same command
+pub order_free : (first : List ℕ) (xs ys : List (List ℕ)) (command : CommandTree) → IsPermutation xs ys
+    → IsCommand (first ∷ xs) command → IsCommand (first ∷ ys) command
+order_free first xs ys _ p (compile others e form) =
+    let both = parts first (word_of word.Compile) xs others e in
+    let P : List (List ℕ) → Type 0 = λ o. IsForm word.Compile o in
+    compile ys (ap (λ w. w ∷ ys) both.0) (form-order word.Compile xs ys p (subst P (sym both.1) form))
+order_free first xs ys _ p (run others r e form is) =
+    let both = parts first (word_of word.Run) xs others e in
+    let P : List (List ℕ) → Type 0 = λ o. IsForm word.Run o in
+    let Q : List (List ℕ) → Type 0 = λ o. IsRun o r in
+    run ys r (ap (λ w. w ∷ ys) both.0) (form-order word.Run xs ys p (subst P (sym both.1) form)) (run-order xs ys r p (subst Q (sym both.1) is))

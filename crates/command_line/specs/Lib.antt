@@ -1,0 +1,4 @@
+pub mod Command
+pub mod Values
+pub mod View
+pub mod Words

@@ -1,0 +1,71 @@
+-- How the values of a command line are written.
+use Rattle.std.specs.Prelude.{◌≡◌, ◌≢◌, ℕ, ◌+◌, ◌-◌, ◌*◌, ◌%◌, ◌^◌, ◌<◌, ◌≤◌, List, [], ◌∷◌, ◌++◌, length, fold, All}
+use Rattle.bs_words.specs.Word.{sub_word}
+use Rattle.command_line.specs.declared.arg.Arg.{Arg}
+use Rattle.command_line.specs.declared.arg.Arg.TheVariants.{Word, Symbol}
+
+-- nothing has the property
+abbrev pub Nothing : {X : Type 0} → (X → Type 0) → Type 0
+Nothing {X} P = (x : X) → P x → ⊥
+
+-- ---- names
+
+-- a name of a function or a data symbol: 1 to 255 bytes, each 0x21 to 0x7E
+pub record IsName (bytes : List ℕ) : Type 0 where
+  pub some : 1 ≤ length bytes
+  pub short : length bytes ≤ 255
+  pub printed : All (λ b. (0x21 ≤ b) × (b ≤ 0x7E)) bytes
+
+-- ---- numbers
+
+-- the most instructions that a run may be told to retire, and the most bytes of a stack or half of a heap
+abbrev pub most_steps : ℕ
+most_steps = 1000000000000
+
+abbrev pub largest_size : ℕ
+largest_size = 67108864
+
+-- the number that digits write
+abbrev pub number_of : List ℕ → ℕ
+number_of digits = fold (λ n digit. 10 * n + (digit - 48)) 0 digits
+
+-- decimal digits that write this number; zeros may lead
+pub record IsNumber (bytes : List ℕ) (n : ℕ) : Type 0 where
+  pub some : 1 ≤ length bytes
+  pub digits : All (λ b. (48 ≤ b) × (b ≤ 57)) bytes
+  pub value : n ≡ number_of bytes
+
+-- a number of instructions
+pub record IsSteps (bytes : List ℕ) (n : ℕ) : Type 0 where
+  pub number : IsNumber bytes n
+  pub limit : n ≤ most_steps
+
+-- the size of a stack or a half of a heap
+pub record IsSize (bytes : List ℕ) (n : ℕ) : Type 0 where
+  pub number : IsNumber bytes n
+  pub limit : n ≤ largest_size
+  pub aligned : n % 16 ≡ 0
+
+-- ---- items
+
+-- one argument or answer
+pub data IsItem (text : List ℕ) (item : Arg) : Type 0 where
+  -- a number below 2 ^ 63
+  number : (n : ℕ) → IsNumber text n → n < 2 ^ 63 → item ≡ Word n → IsItem text item
+  -- `-` and a number of at most 2 ^ 63, as the word of 64 bits
+  negative : (digits : List ℕ) (n : ℕ)
+      → text ≡ 45 ∷ digits → IsNumber digits n → n ≤ 2 ^ 63 → item ≡ Word (sub_word 0 n) → IsItem text item
+  -- `@` and a name without a comma
+  symbol : (name : List ℕ)
+      → text ≡ 64 ∷ name → IsName name → All (λ b. b ≢ 44) name → item ≡ Symbol name → IsItem text item
+
+-- one item or more, with a comma between each two
+pub data AreItems : List ℕ → List Arg → Type 0 where
+  last : (text : List ℕ) (item : Arg) → IsItem text item → AreItems text (item ∷ [])
+  more : (text rest : List ℕ) (item : Arg) (items : List Arg)
+      → IsItem text item → AreItems rest items → AreItems (text ++ (44 ∷ rest)) (item ∷ items)
+
+-- items, or no byte for no item
+pub data IsItems (bytes : List ℕ) (items : List Arg) : Type 0 where
+  none : bytes ≡ [] → items ≡ [] → IsItems bytes items
+  some : AreItems bytes items → IsItems bytes items

@@ -1,0 +1,62 @@
+//! Commands, and what is wrong with words that are none.
+ghost use Rattle.std.specs.Prelude.{◌≡◌};
+ghost use Rattle.command_line.specs.declared.command.WordsError.TheVariants.{OutOfMemory};
+
+use crate::arg::Arg;
+use bs_words::{List, Name};
+use std::alloc::{AllocError, AllocFailed};
+use thiserror::Error;
+
+/// A command with the values that it was given or has by default.
+#[derive(Debug, Drop)]
+pub enum Command {
+    /// Reads a Cmm text and writes the image.
+    Compile,
+    /// Reads an image and writes the outcome of a run of it.
+    Run(RunWords),
+}
+
+/// What a run is to do.
+#[derive(Debug, Drop)]
+pub struct RunWords {
+    /// The name of the function that is called.
+    pub entry: Name,
+    pub args: List<Arg>,
+    /// What the external calls that are asked for give, in order.
+    pub answers: List<Arg>,
+    /// The most instructions that are retired.
+    pub steps: u64,
+    /// The bytes of the stack.
+    pub stack: u32,
+    /// The bytes of half of the heap.
+    pub heap: u32,
+}
+
+/// Why words are no command.
+#[derive(Clone, Copy, PartialEq, Eq, Debug, Drop, Error)]
+pub enum WordsError {
+    /// U1: they do not have the form of a command.
+    #[error("the words are no command")]
+    Words,
+    /// U2: they have, but a value is not in its grammar, or outside its limits.
+    #[error("the text of a value is wrong")]
+    ValueText,
+    #[error("out of memory")]
+    OutOfMemory,
+}
+
+impl From<AllocError> for WordsError {
+    ghost from_gives = { λ _ e. e ≡ OutOfMemory };
+
+    fn from(_error: AllocError) -> Self {
+        WordsError::OutOfMemory
+    }
+}
+
+impl<T: Drop> From<AllocFailed<T>> for WordsError {
+    ghost from_gives = { λ _ e. e ≡ OutOfMemory };
+
+    fn from(_error: AllocFailed<T>) -> Self {
+        WordsError::OutOfMemory
+    }
+}

@@ -1,0 +1,169 @@
+//! The form of a command line: which words may stand in it, whatever their values are.
+ghost use Rattle.std.specs.Prelude.{◌≡◌, ◌≢◌, ◌≤◌, ◌↔◌, ◌++◌, true, false, MatchOption, IsTrue, count_by, nat_le, string_bytes};
+ghost use Rattle.std.specs.List.{list_any, list_all};
+ghost use Rattle.command_line.specs.declared.form.CommandWord.{CommandWord};
+ghost use Rattle.command_line.specs.Values.{Nothing};
+ghost use Rattle.command_line.specs.View.{texts};
+ghost use Rattle.command_line.specs.Words.{word_of, slots_of, wanted_of, prefix_of, fills, IsForm, Gives};
+
+/// The command that a first word names.
+#[derive(Clone, Copy, PartialEq, Eq, Debug)]
+pub(crate) enum CommandWord {
+    Compile,
+    Run,
+}
+
+/// What a word after the first is for.
+#[derive(Clone, Copy, PartialEq, Eq, Debug)]
+pub(crate) enum Slot {
+    /// The one word that is no option.
+    Plain,
+    Args,
+    Answers,
+    Steps,
+    Stack,
+    Heap,
+}
+
+static NO_SLOTS: [Slot; 0] = [];
+
+static RUN_SLOTS: [Slot; 6] = [
+    Slot::Plain,
+    Slot::Args,
+    Slot::Answers,
+    Slot::Steps,
+    Slot::Stack,
+    Slot::Heap,
+];
+
+static RUN_WANTED: [Slot; 1] = [Slot::Plain];
+
+impl CommandWord {
+    pub(crate) fn named(word: &[u8]) -> Option<CommandWord>
+        ensures { MatchOption result
+            ((command : CommandWord) → word.now ≢ word_of command)
+            (λ command. word.now ≡ word_of command) }
+    {
+        if word == b"compile".as_slice() {
+            Some(CommandWord::Compile)
+        } else if word == b"run".as_slice() {
+            Some(CommandWord::Run)
+        } else {
+            None
+        }
+    }
+
+    /// What the other words may be for.
+    fn slots(self) -> &'static [Slot]
+        ensures { result.now ≡ slots_of self }
+    {
+        match self {
+            CommandWord::Compile => &NO_SLOTS,
+            CommandWord::Run => &RUN_SLOTS,
+        }
+    }
+
+    /// What a word has to be there for.
+    fn wanted(self) -> &'static [Slot]
+        ensures { result.now ≡ wanted_of self }
+    {
+        match self {
+            CommandWord::Compile => &NO_SLOTS,
+            CommandWord::Run => &RUN_WANTED,
+        }
+    }
+}
+
+impl Slot {
+    /// What stands before the value in a word of this slot.
+    fn prefix(self) -> &'static [u8]
+        ensures { result.now ≡ prefix_of self }
+    {
+        match self {
+            Slot::Plain => b"",
+            Slot::Args => b"--args=",
+            Slot::Answers => b"--answers=",
+            Slot::Steps => b"--steps=",
+            Slot::Stack => b"--stack=",
+            Slot::Heap => b"--heap=",
+        }
+    }
+
+    /// The value that the word gives this slot, if it is for it.
+    fn value_in(self, word: &[u8]) -> Option<&[u8]>
+        ensures { MatchOption result
+            (fills self word.now ≡ false)
+            (λ value. (fills self word.now ≡ true) × (word.now ≡ prefix_of self ++ value.now)) }
+    {
+        if self == Slot::Plain && word.starts_with(b"-") {
+            return None;
+        }
+        word.strip_prefix(self.prefix())
+    }
+
+    fn fills(self, word: &[u8]) -> bool
+        ensures { result ≡ fills self word.now }
+    {
+        self.value_in(word).is_some()
+    }
+
+    /// The number of words that are for this slot.
+    fn count(self, others: &[String]) -> usize
+        ensures { result ≡ count_by (fills self) (texts others.now) }
+    {
+        others
+            .iter()
+            .filter(|word| self.fills(word.as_bytes()))
+            .count()
+    }
+
+    /// The value of the first word that is for this slot.
+    pub(crate) fn value_among(self, others: &[String]) -> Option<&[u8]>
+        ensures { MatchOption result
+            (Nothing (Gives (texts others.now) self))
+            (λ value. Gives (texts others.now) self value.now) }
+    {
+        for word in others {
+            if let Some(value) = self.value_in(word.as_bytes()) {
+                return Some(value);
+            }
+        }
+        None
+    }
+}
+
+fn fills_some(slots: &[Slot], word: &[u8]) -> bool
+    ensures { result ≡ list_any (λ slot. fills slot word.now) slots.now }
+{
+    slots.iter().any(|slot| slot.fills(word))
+}
+
+fn each_fills(slots: &[Slot], others: &[String]) -> bool
+    ensures { result
+        ≡ list_all (λ word. list_any (λ slot. fills slot (string_bytes word)) slots.now) others.now }
+{
+    others.iter().all(|word| fills_some(slots, word.as_bytes()))
+}
+
+fn each_once(slots: &[Slot], others: &[String]) -> bool
+    ensures { result
+        ≡ list_all (λ slot. nat_le (count_by (fills slot) (texts others.now)) 1) slots.now }
+{
+    slots.iter().all(|slot| slot.count(others) <= 1)
+}
+
+fn each_there(slots: &[Slot], others: &[String]) -> bool
+    ensures { result
+        ≡ list_all (λ slot. nat_le 1 (count_by (fills slot) (texts others.now))) slots.now }
+{
+    slots.iter().all(|slot| slot.count(others) >= 1)
+}
+
+/// Whether the words after the first have the form that the command wants.
+pub(crate) fn has_form(command: CommandWord, others: &[String]) -> bool
+    ensures { IsTrue result ↔ IsForm command (texts others.now) }
+{
+    each_fills(command.slots(), others)
+        && each_once(command.slots(), others)
+        && each_there(command.wanted(), others)
+}

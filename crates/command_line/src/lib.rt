@@ -1,0 +1,20 @@
+//! The words that the program is called with: which command they are, and with which values.
+//!
+//! The first word is the command. The others come in any order: options, each one word
+//! `--name=value` and at most once, and where the command has one a plain word, which does not begin
+//! with `-`. The command line is stricter than usual: there is no help and no version, no `--`, and
+//! no option in two words.
+#![tactic(auto)]
+
+mod arg;
+mod command;
+mod form;
+mod read;
+mod values;
+
+pub use arg::Arg;
+pub use command::{Command, RunWords, WordsError};
+pub use read::read_words;
+
+#[cfg(test)]
+mod tests;

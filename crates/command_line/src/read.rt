@@ -1,0 +1,127 @@
+//! The command that words are.
+ghost use Rattle.std.specs.Prelude.{◌≡◌, ◌≤◌, [], IfOk, IsErrOf, count_by};
+ghost use Rattle.bs_words.specs.Contents.{contents};
+ghost use Rattle.command_line.specs.declared.command.WordsError.{WordsError};
+ghost use Rattle.command_line.specs.declared.form.CommandWord.{CommandWord};
+ghost use Rattle.command_line.specs.declared.form.Slot.{Slot};
+ghost use Rattle.command_line.specs.Values.{IsName, IsSteps, IsSize, IsItems, Nothing};
+ghost use Rattle.command_line.specs.Words.{fills, WellFormed, IsForm, Gives};
+ghost use Rattle.command_line.specs.Command.{CommandTree, Sets, IsRun, IsCommand, KeepsLimits, default_steps, default_size};
+ghost use Rattle.command_line.specs.View.{texts, view, run_view};
+
+use crate::arg::Arg;
+use crate::command::{Command, RunWords, WordsError};
+use crate::form::{CommandWord, Slot, has_form};
+use crate::values;
+use bs_words::{List, Name};
+use std::alloc::Global;
+
+/// The most instructions where no option says otherwise.
+const DEFAULT_STEPS: u64 = 100_000_000;
+
+/// The bytes of the stack and of half of the heap where no option says otherwise.
+const DEFAULT_SIZE: u32 = 1_048_576;
+
+/// The name of the function that is called.
+fn entry(alloc: Global, others: &[String]) -> Result<Name, WordsError>
+    requires some { 1 ≤ count_by (fills Slot.Plain) (texts others.now) }
+    requires once { count_by (fills Slot.Plain) (texts others.now) ≤ 1 }
+    ensures value { IfOk result (λ name. Gives (texts others.now) Slot.Plain name × IsName name) }
+    ensures bad { IsErrOf result WordsError.ValueText → Nothing (λ name. Gives (texts others.now) Slot.Plain name × IsName name) }
+    ensures formed { ¬ IsErrOf result WordsError.Words }
+{
+    match Slot::Plain.value_among(others) {
+        Some(text) => values::name(alloc, text),
+        None => unreachable!(),
+    }
+}
+
+/// The items that an option lists, or none.
+fn items(alloc: Global, others: &[String], slot: Slot) -> Result<List<Arg>, WordsError>
+    requires { count_by (fills slot) (texts others.now) ≤ 1 }
+    ensures value { IfOk result (λ items. Sets (texts others.now) slot IsItems [] (contents items)) }
+    ensures bad { IsErrOf result WordsError.ValueText
+        → Nothing (Sets (texts others.now) slot IsItems []) }
+    ensures formed { ¬ IsErrOf result WordsError.Words }
+{
+    match slot.value_among(others) {
+        Some(text) => values::items(alloc, text),
+        None => Ok(List::new(alloc)),
+    }
+}
+
+/// The most instructions.
+fn steps(others: &[String]) -> Result<u64, WordsError>
+    requires { count_by (fills Slot.Steps) (texts others.now) ≤ 1 }
+    ensures value { IfOk result (λ n. Sets (texts others.now) Slot.Steps IsSteps default_steps n) }
+    ensures bad { IsErrOf result WordsError.ValueText
+        → Nothing (Sets (texts others.now) Slot.Steps IsSteps default_steps) }
+    ensures formed { ¬ IsErrOf result WordsError.Words }
+{
+    match Slot::Steps.value_among(others) {
+        Some(text) => values::steps(text).ok_or(WordsError::ValueText),
+        None => Ok(DEFAULT_STEPS),
+    }
+}
+
+/// The bytes of the stack or of half of the heap.
+fn size(others: &[String], slot: Slot) -> Result<u32, WordsError>
+    requires { count_by (fills slot) (texts others.now) ≤ 1 }
+    ensures value { IfOk result (λ n. Sets (texts others.now) slot IsSize default_size n) }
+    ensures bad { IsErrOf result WordsError.ValueText
+        → Nothing (Sets (texts others.now) slot IsSize default_size) }
+    ensures formed { ¬ IsErrOf result WordsError.Words }
+{
+    match slot.value_among(others) {
+        Some(text) => values::size(text).ok_or(WordsError::ValueText),
+        None => Ok(DEFAULT_SIZE),
+    }
+}
+
+/// The run that the words after `run` are.
+fn run(alloc: Global, others: &[String]) -> Result<RunWords, WordsError>
+    requires { IsForm CommandWord.Run (texts others.now) }
+    ensures value { IfOk result (λ run. IsRun (texts others.now) (run_view run)) }
+    ensures bad { IsErrOf result WordsError.ValueText
+        → Nothing (IsRun (texts others.now)) }
+    ensures formed { ¬ IsErrOf result WordsError.Words }
+{
+    Ok(RunWords {
+        entry: entry(alloc, others)?,
+        args: items(alloc, others, Slot::Args)?,
+        answers: items(alloc, others, Slot::Answers)?,
+        steps: steps(others)?,
+        stack: size(others, Slot::Stack)?,
+        heap: size(others, Slot::Heap)?,
+    })
+}
+
+/// The command that the words are, the program's own name left out.
+///
+/// `Words` comes exactly where they have the form of no command, whatever memory there is. Where they
+/// have it, `ValueText` comes where a value is not in its grammar or outside its limits, so that the
+/// words are no command. `OutOfMemory` comes only if memory runs out.
+pub fn read_words(alloc: Global, words: &[String]) -> Result<Command, WordsError>
+    ensures command { IfOk result (λ command. IsCommand (texts words.now) (view command)) }
+    ensures only { IfOk result (λ command.
+        (other : CommandTree) → IsCommand (texts words.now) other → other ≡ view command) }
+    ensures limits { IfOk result (λ command. KeepsLimits (view command)) }
+    ensures misformed { IsErrOf result WordsError.Words → ¬ WellFormed (texts words.now) }
+    ensures formed { ¬ IsErrOf result WordsError.Words → WellFormed (texts words.now) }
+    ensures bad { IsErrOf result WordsError.ValueText
+        → Nothing (IsCommand (texts words.now)) }
+{
+    let Some((first, others)) = words.split_first() else {
+        return Err(WordsError::Words);
+    };
+    let Some(command) = CommandWord::named(first.as_bytes()) else {
+        return Err(WordsError::Words);
+    };
+    if !has_form(command, others) {
+        return Err(WordsError::Words);
+    }
+    match command {
+        CommandWord::Compile => Ok(Command::Compile),
+        CommandWord::Run => Ok(Command::Run(run(alloc, others)?)),
+    }
+}

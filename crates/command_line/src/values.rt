@@ -1,0 +1,153 @@
+//! Values: numbers, names and items.
+ghost use Rattle.std.specs.Prelude.{◌≡◌, ◌≢◌, ◌<◌, ◌≤◌, ◌↔◌, ◌∷◌, ◌++◌, ℕ, MatchOption, IfOk, IsTrue, IsErrOf, All};
+ghost use Rattle.bs_words.specs.Contents.{contents};
+ghost use Rattle.command_line.specs.declared.command.WordsError.{WordsError};
+ghost use Rattle.command_line.specs.Values.{IsName, IsNumber, IsSteps, IsSize, IsItem, IsItems, Nothing};
+
+use crate::arg::Arg;
+use crate::command::WordsError;
+use bs_words::{List, Name, sub};
+use std::alloc::Global;
+
+/// The most instructions that a run may be told to retire.
+const MOST_STEPS: u64 = 1_000_000_000_000;
+
+/// The most bytes of a stack or of half of a heap.
+const LARGEST_SIZE: u64 = 67_108_864;
+
+/// The most that a number after `-` may be, and without one.
+const MOST_NEGATIVE: u64 = 9_223_372_036_854_775_808;
+
+const MOST_POSITIVE: u64 = 9_223_372_036_854_775_807;
+
+/// The number that the digits write, if they are digits and it is at most the limit.
+fn number(digits: &[u8], limit: u64) -> Option<u64>
+    ensures { MatchOption result
+        ((n : ℕ) → IsNumber digits.now n → limit < n)
+        (λ n. IsNumber digits.now n × (n ≤ limit)) }
+{
+    if digits.is_empty() {
+        return None;
+    }
+    let mut number: u64 = 0;
+    for digit in digits {
+        if !digit.is_ascii_digit() {
+            return None;
+        }
+        let more = 10 * u128::from(number) + u128::from(*digit - b'0');
+        if more > u128::from(limit) {
+            return None;
+        }
+        number = more as u64;
+    }
+    Some(number)
+}
+
+/// The number of instructions that the text writes.
+pub(crate) fn steps(text: &[u8]) -> Option<u64>
+    ensures { MatchOption result
+        (Nothing (IsSteps text.now))
+        (λ n. IsSteps text.now n) }
+{
+    number(text, MOST_STEPS)
+}
+
+/// The size of a stack or of half of a heap that the text writes.
+pub(crate) fn size(text: &[u8]) -> Option<u32>
+    ensures { MatchOption result
+        (Nothing (IsSize text.now))
+        (λ n. IsSize text.now n) }
+{
+    let bytes = number(text, LARGEST_SIZE)?;
+    if bytes % 16 == 0 {
+        Some(bytes as u32)
+    } else {
+        None
+    }
+}
+
+/// Whether the text can be a name: 1 to 255 bytes, each 0x21 to 0x7E.
+fn is_name(text: &[u8]) -> bool
+    ensures { IsTrue result ↔ IsName text.now }
+{
+    !text.is_empty() && text.len() <= 255 && text.iter().all(|b| 0x21 <= *b && *b <= 0x7E)
+}
+
+/// The name that the text is.
+pub(crate) fn name(alloc: Global, text: &[u8]) -> Result<Name, WordsError>
+    ensures value { IfOk result (λ bytes. (bytes ≡ text.now) × IsName text.now) }
+    ensures bad { IsErrOf result WordsError.ValueText → ¬ IsName text.now }
+    ensures formed { ¬ IsErrOf result WordsError.Words }
+{
+    if !is_name(text) {
+        return Err(WordsError::ValueText);
+    }
+    Ok(Name::from_vec(Vec::from_slice(alloc, text)?))
+}
+
+/// What follows the sign, if the text begins with it.
+fn after_sign(text: &[u8], sign: u8) -> Option<&[u8]>
+    ensures { MatchOption result
+        (Nothing (λ rest. text.now ≡ sign ∷ rest))
+        (λ rest. text.now ≡ sign ∷ rest.now) }
+{
+    match text.split_first() {
+        Some((first, rest)) if *first == sign => Some(rest),
+        _ => None,
+    }
+}
+
+/// The one item that the text is.
+fn item(alloc: Global, text: &[u8]) -> Result<Arg, WordsError>
+    requires { All (λ b. b ≢ 44) text.now }
+    ensures value { IfOk result (λ item. IsItem text.now item) }
+    ensures bad { IsErrOf result WordsError.ValueText → Nothing (IsItem text.now) }
+    ensures formed { ¬ IsErrOf result WordsError.Words }
+{
+    if let Some(symbol) = after_sign(text, b'@') {
+        return Ok(Arg::Symbol(name(alloc, symbol)?));
+    }
+    if let Some(digits) = after_sign(text, b'-') {
+        return match number(digits, MOST_NEGATIVE) {
+            Some(n) => Ok(Arg::Word(sub(0, n))),
+            None => Err(WordsError::ValueText),
+        };
+    }
+    match number(text, MOST_POSITIVE) {
+        Some(n) => Ok(Arg::Word(n)),
+        None => Err(WordsError::ValueText),
+    }
+}
+
+/// What stands before and after the first comma.
+fn cut_at_comma(text: &[u8]) -> Option<(&[u8], &[u8])>
+    ensures { MatchOption result
+        (All (λ b. b ≢ 44) text.now)
+        (λ parts. (text.now ≡ parts.0.now ++ 44 ∷ parts.1.now) × All (λ b. b ≢ 44) parts.0.now) }
+{
+    for (at, byte) in text.iter().enumerate() {
+        if *byte == b',' {
+            return Some((&text[..at], &text[at + 1..]));
+        }
+    }
+    None
+}
+
+/// The items that the text lists, with a comma between each two. No byte is no item.
+pub(crate) fn items(alloc: Global, text: &[u8]) -> Result<List<Arg>, WordsError>
+    ensures value { IfOk result (λ items. IsItems text.now (contents items)) }
+    ensures bad { IsErrOf result WordsError.ValueText → Nothing (IsItems text.now) }
+    ensures formed { ¬ IsErrOf result WordsError.Words }
+{
+    let mut items = Vec::new(alloc);
+    if text.is_empty() {
+        return Ok(List::from_vec(items));
+    }
+    let mut rest = text;
+    while let Some((first, others)) = cut_at_comma(rest) {
+        items.push(item(alloc, first)?)?;
+        rest = others;
+    }
+    items.push(item(alloc, rest)?)?;
+    Ok(List::from_vec(items))
+}

@@ -1,0 +1,51 @@
+//! Why bytes are no image.
+ghost use Rattle.std.specs.Prelude.{◌≡◌};
+ghost use Rattle.image_form.specs.declared.fault.ImageError.TheVariants.{OutOfMemory};
+ghost use Rattle.image_form.specs.declared.fault.Stop.TheVariants.{Memory};
+
+use bs_fault::ImageRefusal;
+use std::alloc::{AllocError, AllocFailed};
+use thiserror::Error;
+
+/// Why no image was read.
+#[derive(Debug, Drop, Error)]
+pub enum ImageError {
+    /// No image has these bytes. It tells the first fault.
+    #[error("the bytes are no image")]
+    Refused(ImageRefusal),
+    #[error("out of memory")]
+    OutOfMemory,
+}
+
+impl From<AllocError> for ImageError {
+    ghost from_gives = { λ _ e. e ≡ OutOfMemory };
+
+    fn from(_e: AllocError) -> ImageError {
+        ImageError::OutOfMemory
+    }
+}
+
+/// Why the body of a section was not read.
+#[derive(Debug, Drop)]
+pub(crate) enum Stop {
+    Memory,
+    /// A field breaks a rule or passes the end of the body. It is told by the number of bytes of the
+    /// body from the field on.
+    Left(usize),
+}
+
+impl From<AllocError> for Stop {
+    ghost from_gives = { λ _ e. e ≡ Memory };
+
+    fn from(_e: AllocError) -> Stop {
+        Stop::Memory
+    }
+}
+
+impl<T: Drop> From<AllocFailed<T>> for Stop {
+    ghost from_gives = { λ _ e. e ≡ Memory };
+
+    fn from(_e: AllocFailed<T>) -> Stop {
+        Stop::Memory
+    }
+}

@@ -1,0 +1,220 @@
+//! The fields of the bodies, each read as a value and the bytes after it.
+ghost use Rattle.std.specs.Prelude.{◌≡◌, List, ℕ, [], ◌∷◌, ◌++◌, ◌&&◌, ◌≤◌, nat_le, length, IsTrue, IfOk};
+ghost use Rattle.std.specs.Int.{w16, w32};
+ghost use Rattle.std.specs.List.{list_all};
+ghost use Rattle.image_form.specs.Seen.{Holds};
+ghost use Rattle.image_form.specs.Fields.{
+  Gives,
+  byte_at,
+  number_at,
+  text_at,
+  is_name,
+  name_at,
+  new_name_at,
+  comp_of,
+  result_of,
+  ext_result_of,
+  type_at,
+  rows_at,
+  params_at,
+};
+
+use crate::fault::Stop;
+use crate::seen::Seen;
+use bs_words::{Comp, Ret};
+use std::alloc::Global;
+
+#[tactic(auto, unfolding(crate::specs::Fields::byte_at))]
+pub(crate) fn byte_from(bytes: &[u8]) -> Result<(u8, &[u8]), Stop>
+    ensures { Gives (λ x. (x.0, x.1.now)) result (byte_at bytes.now) }
+{
+    match bytes {
+        [] => Err(Stop::Left(0)),
+        [byte, rest @ ..] => Ok((*byte, rest)),
+    }
+}
+
+#[tactic(auto, unfolding(crate::specs::Fields::number_at))]
+pub(crate) fn u16_from(bytes: &[u8]) -> Result<(u16, &[u8]), Stop>
+    ensures { Gives (λ x. (x.0, x.1.now)) result (number_at w16 bytes.now) }
+{
+    if bytes.len() < 2 {
+        return Err(Stop::Left(bytes.len()));
+    }
+    let (front, rest) = bytes.split_at(2);
+    Ok((u16::from_le_bytes([front[0], front[1]]), rest))
+}
+
+#[tactic(auto, unfolding(crate::specs::Fields::number_at))]
+pub(crate) fn u32_from(bytes: &[u8]) -> Result<(u32, &[u8]), Stop>
+    ensures { Gives (λ x. (x.0, x.1.now)) result (number_at w32 bytes.now) }
+{
+    if bytes.len() < 4 {
+        return Err(Stop::Left(bytes.len()));
+    }
+    let (front, rest) = bytes.split_at(4);
+    let number = u32::from_le_bytes([front[0], front[1], front[2], front[3]]);
+    Ok((number, rest))
+}
+
+#[tactic(auto, unfolding(crate::specs::Fields::text_at))]
+fn text_from(bytes: &[u8]) -> Result<(&[u8], &[u8]), Stop>
+    ensures { Gives (λ x. (x.0.now, x.1.now)) result (text_at bytes.now) }
+{
+    let (len, rest) = u16_from(bytes)?;
+    let len = usize::from(len);
+    if rest.len() < len {
+        return Err(Stop::Left(bytes.len()));
+    }
+    Ok(rest.split_at(len))
+}
+
+/// Whether the byte is a visible character of ASCII.
+fn is_visible(byte: u8) -> bool
+    ensures { result ≡ (nat_le 0x21 byte && nat_le byte 0x7E) }
+{
+    byte >= 0x21 && byte <= 0x7E
+}
+
+fn are_visible(text: &[u8]) -> bool
+    ensures { result ≡ list_all (λ b. nat_le 0x21 b && nat_le b 0x7E) text.now }
+{
+    text.iter().all(|byte| is_visible(*byte))
+}
+
+/// Whether the text can be a name: 1 to 255 bytes, each a visible character of ASCII.
+#[tactic(auto, unfolding(crate::specs::Fields::is_name))]
+fn is_name(text: &[u8]) -> bool
+    ensures value { result ≡ is_name text.now }
+    ensures short { IsTrue result → length text.now ≤ 255 }
+{
+    !text.is_empty() && text.len() <= 255 && are_visible(text)
+}
+
+#[tactic(auto, unfolding(crate::specs::Fields::name_at, crate::specs::Fields::kept))]
+pub(crate) fn name_from(bytes: &[u8]) -> Result<(&[u8], &[u8]), Stop>
+    ensures gives { Gives (λ x. (x.0.now, x.1.now)) result (name_at bytes.now) }
+    ensures short { IfOk result (λ x. length x.0.now ≤ 255) }
+{
+    let (name, rest) = text_from(bytes)?;
+    if !is_name(name) {
+        return Err(Stop::Left(bytes.len()));
+    }
+    Ok((name, rest))
+}
+
+/// A name that did not stand before. It is then among those that did.
+#[tactic(auto, unfolding(crate::specs::Fields::new_name_at, crate::specs::Fields::kept))]
+pub(crate) fn new_name_from<'a>(
+    alloc: Global,
+    seen: &mut Seen,
+    bytes: &'a [u8],
+) -> Result<(Vec<u8>, &'a [u8]), Stop>
+    ensures gives { (names : List (List ℕ)) → Holds seen.old names → Gives (λ x. (x.0.items, x.1.now)) result (new_name_at names bytes.now) }
+    ensures seen { (names : List (List ℕ)) → Holds seen.old names → IfOk result (λ x. Holds seen.new (names ++ x.0.items ∷ [])) }
+{
+    let (name, rest) = name_from(bytes)?;
+    let is_new = seen.insert(Vec::from_slice(alloc, name)?)?;
+    if !is_new {
+        return Err(Stop::Left(bytes.len()));
+    }
+    Ok((Vec::from_slice(alloc, name)?, rest))
+}
+
+#[tactic(auto, unfolding(crate::specs::Fields::comp_of))]
+fn comp_of(most: u8, byte: u8) -> Option<Comp>
+    ensures { result ≡ comp_of most byte }
+{
+    if byte > most {
+        return None;
+    }
+    match byte {
+        0 => Some(Comp::Int),
+        1 => Some(Comp::Val),
+        2 => Some(Comp::Addr),
+        _ => None,
+    }
+}
+
+#[tactic(auto, unfolding(crate::specs::Fields::type_at))]
+fn comp_from(most: u8, bytes: &[u8]) -> Result<(Comp, &[u8]), Stop>
+    ensures { Gives (λ x. (x.0, x.1.now)) result (type_at (comp_of most) bytes.now) }
+{
+    let (byte, rest) = byte_from(bytes)?;
+    match comp_of(most, byte) {
+        Some(comp) => Ok((comp, rest)),
+        None => Err(Stop::Left(bytes.len())),
+    }
+}
+
+#[tactic(auto, unfolding(crate::specs::Fields::result_of))]
+fn result_of(byte: u8) -> Option<Ret>
+    ensures { result ≡ result_of byte }
+{
+    match byte {
+        0 => Some(Ret::Comp(Comp::Int)),
+        1 => Some(Ret::Comp(Comp::Val)),
+        3 => Some(Ret::Unit),
+        _ => None,
+    }
+}
+
+#[tactic(auto, unfolding(crate::specs::Fields::ext_result_of))]
+fn ext_result_of(byte: u8) -> Option<Ret>
+    ensures { result ≡ ext_result_of byte }
+{
+    match byte {
+        2 => Some(Ret::Comp(Comp::Addr)),
+        _ => result_of(byte),
+    }
+}
+
+/// The result of a function.
+#[tactic(auto, unfolding(crate::specs::Fields::type_at))]
+pub(crate) fn result_from(bytes: &[u8]) -> Result<(Ret, &[u8]), Stop>
+    ensures { Gives (λ x. (x.0, x.1.now)) result (type_at result_of bytes.now) }
+{
+    let (byte, rest) = byte_from(bytes)?;
+    match result_of(byte) {
+        Some(ret) => Ok((ret, rest)),
+        None => Err(Stop::Left(bytes.len())),
+    }
+}
+
+/// The result of an external call.
+#[tactic(auto, unfolding(crate::specs::Fields::type_at))]
+pub(crate) fn ext_result_from(bytes: &[u8]) -> Result<(Ret, &[u8]), Stop>
+    ensures { Gives (λ x. (x.0, x.1.now)) result (type_at ext_result_of bytes.now) }
+{
+    let (byte, rest) = byte_from(bytes)?;
+    match ext_result_of(byte) {
+        Some(ret) => Ok((ret, rest)),
+        None => Err(Stop::Left(bytes.len())),
+    }
+}
+
+fn comps_from(alloc: Global, most: u8, count: u8, bytes: &[u8]) -> Result<(Vec<Comp>, &[u8]), Stop>
+    ensures gives { Gives (λ x. (x.0.items, x.1.now)) result (rows_at (λ _. type_at (comp_of most)) [] count bytes.now) }
+    ensures few { IfOk result (λ x. length x.0.items ≤ count) }
+{
+    let mut comps = Vec::new(alloc);
+    let mut rest = bytes;
+    for _ in 0..count {
+        let (comp, after) = comp_from(most, rest)?;
+        comps.push(comp)?;
+        rest = after;
+    }
+    Ok((comps, rest))
+}
+
+#[tactic(auto, unfolding(crate::specs::Fields::params_at, crate::specs::Fields::kept))]
+pub(crate) fn params_from(alloc: Global, most: u8, bytes: &[u8]) -> Result<(Vec<Comp>, &[u8]), Stop>
+    ensures gives { Gives (λ x. (x.0.items, x.1.now)) result (params_at most bytes.now) }
+    ensures few { IfOk result (λ x. length x.0.items ≤ 16) }
+{
+    let (count, rest) = byte_from(bytes)?;
+    if count > 16 {
+        return Err(Stop::Left(bytes.len()));
+    }
+    comps_from(alloc, most, count, rest)
+}

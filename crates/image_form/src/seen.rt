@@ -1,0 +1,30 @@
+//! Which texts stood before, so that each is found to be new or not.
+ghost use Rattle.std.specs.Prelude.{◌≡◌, List, ℕ, [], ◌∷◌, ◌++◌, not, IfOk};
+ghost use Rattle.image_form.specs.Seen.{has, Holds};
+
+use std::alloc::{AllocError, Global};
+use std::collections::BTreeSet;
+
+/// Names, or rows by their bytes.
+#[derive(Drop)]
+pub(crate) struct Seen {
+    texts: BTreeSet<Vec<u8>>,
+}
+
+impl Seen {
+    pub(crate) fn new(alloc: Global) -> Self
+        ensures { Holds result [] }
+    {
+        Seen {
+            texts: BTreeSet::new(alloc),
+        }
+    }
+
+    /// Adds the text, and answers whether it was new.
+    pub(crate) fn insert(&mut self, text: Vec<u8>) -> Result<bool, AllocError>
+        ensures new { IfOk result (λ added. (texts : List (List ℕ)) → Holds self.old texts → added ≡ not (has texts text.items)) }
+        ensures holds { IfOk result (λ added. (texts : List (List ℕ)) → Holds self.old texts → Holds self.new (texts ++ text.items ∷ [])) }
+    {
+        Ok(self.texts.insert(text)?)
+    }
+}

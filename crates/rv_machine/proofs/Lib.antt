@@ -1,0 +1,7 @@
+mod Rows
+pub mod Arguments
+pub mod Bytes
+pub mod Bytes64
+pub mod Found
+pub mod Halves
+pub mod LowHalf

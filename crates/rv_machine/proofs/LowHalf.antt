@@ -1,0 +1,94 @@
+-- The signed reading of a low half, and what the rows on 32 bits leave.
+use Rattle.std.proofs.Common.{◌≡◌, ◌≢◌, ℕ, zero, suc, ◌+◌, ◌-◌, ◌*◌, ◌/◌, ◌%◌, ◌^◌, ◌<◌, ◌≤◌, refl, ap, arith, ◌∙◌, sym, subst, Bool, true, false, cond, nat_lt, ◌⊎◌, inl, inr}
+use Rattle.std.specs.Prelude.{ℤ, pos, negsuc, ◌*ℤ◌, int_div, int_rem, FitsSigned}
+use Rattle.std.specs.Int.{w64, w128, cast_unsigned, cast_signed, int_div_euclid}
+use Rattle.std.specs.Int.Signed.{mag, shr_z, nat_abs-le}
+use Rattle.std.proofs.lemmas.Int.{to_z-of_z, fits_signed_mul}
+use Rattle.std.proofs.Math.Pow.{mod-mod-pow}
+use Rattle.std.proofs.Math.Nat.{mod-lt}
+use Rattle.bs_words.specs.Word.{word_of, signed_of, signed_in, sar_word, shl_word, shr_word, mul_word, div_word, rem_word}
+use Rattle.bs_words.proofs.Word.{word_of-bits}
+use Rattle.rv_isa.specs.Immediate.{sext}
+use Rattle.rv_machine.specs.Arithmetic.{low, extended, low_signed, sar_low}
+
+-- 32 bits extended by their sign read as the number that they are with their sign
+signed_sext : (x : ℕ) → x < 2 ^ 32 → signed_of (sext 32 x) ≡ signed_in 32 x
+unfolding signed_of signed_in
+signed_sext x h = grind arith
+
+pub signed_low : (a : ℕ) → signed_of (extended a) ≡ low_signed a
+signed_low a = let some : 0 < 2 ^ 32 = omega arith in signed_sext (a % 2 ^ 32) (mod-lt a some)
+
+-- a low half is 0 where its extension is
+pub low_zero : (a : ℕ) → extended a ≡ 0 → low a ≡ 0
+low_zero a h = let some : 0 < 2 ^ 32 = omega arith in let small = mod-lt a some in grind arith
+
+pub low_nonzero : (a : ℕ) → extended a ≢ 0 → low a ≢ 0
+low_nonzero a h e = let some : 0 < 2 ^ 32 = omega arith in let small = mod-lt a some in h (ap (sext 32) e)
+
+pub shl_extended : (a k : ℕ) → extended (shl_word a k) ≡ extended (a * 2 ^ k)
+unfolding shl_word
+shl_extended a k = ap (sext 32) (mod-mod-pow (a * 2 ^ k) 32 32)
+
+pub mul_extended : (a b : ℕ) → extended (mul_word a b) ≡ extended (a * b)
+unfolding mul_word
+mul_extended a b = ap (sext 32) (mod-mod-pow (a * b) 32 32)
+
+pub shr_extended : (a k : ℕ) → extended (shr_word (low a) k) ≡ extended (low a / 2 ^ k)
+unfolding shr_word
+shr_extended a k = refl
+
+pub sar_extended : (a k : ℕ) → sar_word (extended a) k ≡ sar_low a k
+unfolding sar_word
+sar_extended a k = ap (λ z. word_of (int_div_euclid z (pos (2 ^ k)))) (signed_low a)
+
+pub div_extended : (a b : ℕ) → div_word (extended a) (extended b) ≡ word_of (int_div (low_signed a) (low_signed b))
+unfolding div_word
+div_extended a b =
+    ap (λ z. word_of (int_div z (signed_of (extended b)))) (signed_low a)
+    ∙ ap (λ z. word_of (int_div (low_signed a) z)) (signed_low b)
+
+pub rem_extended : (a b : ℕ) → rem_word (extended a) (extended b) ≡ word_of (int_rem (low_signed a) (low_signed b))
+unfolding rem_word
+rem_extended a b =
+    ap (λ z. word_of (int_rem z (signed_of (extended b)))) (signed_low a)
+    ∙ ap (λ z. word_of (int_rem (low_signed a) z)) (signed_low b)
+
+-- ---- the high half of a product of one signed word
+
+div_euclid-shr : (z : ℤ) (m : ℕ) → int_div_euclid z (pos m) ≡ shr_z z m
+div_euclid-shr (pos n) m = refl
+div_euclid-shr (negsuc n) m = refl
+
+quotient_below : (n : ℕ) → n < 2 ^ 127 → n / 2 ^ 64 < 2 ^ 63
+quotient_below n h = omega arith
+
+high_below : (z : ℤ) → mag z < 2 ^ 127 → mag (shr_z z (2 ^ 64)) < 2 ^ 63
+high_below (pos n) h = quotient_below n h
+high_below (negsuc n) h = quotient_below n h
+
+again128 : (z : ℤ) → FitsSigned w128 z → cast_signed w128 (cast_unsigned w128 z) ≡ z
+again128 z f = to_z-of_z w128 z f
+
+pub mulhsu-returns : (a b : ℕ) (x y : ℤ) (r : ℕ) → b < 2 ^ 64
+    → FitsSigned w64 x → x ≡ signed_of a → y ≡ pos b
+    → r ≡ cast_unsigned w64 (cast_signed w64 (cast_unsigned w64 (cast_signed w128 (cast_unsigned w128 (shr_z (cast_signed w128 (cast_unsigned w128 (cast_signed w128 (cast_unsigned w128 x) *ℤ cast_signed w128 (cast_unsigned w128 y)))) (2 ^ 64))))))
+    → r ≡ word_of (int_div_euclid (signed_of a *ℤ pos b) (pos (2 ^ 64)))
+mulhsu-returns a b x y r small f e k h =
+    let fx : FitsSigned w128 x = record { sfits = omega (arith, f.sfits) } in
+    let fb : FitsSigned w128 (pos b) = record { sfits = omega arith } in
+    let fy : FitsSigned w128 y = subst (FitsSigned w128) (sym k) fb in
+    let product : FitsSigned w128 (x *ℤ y) = subst (λ z. FitsSigned w128 (x *ℤ z)) (sym k) (fits_signed_mul w128 x (pos b) (2 ^ 63) (2 ^ 64 - 1) (nat_abs-le x f.sfits) (omega arith) (omega arith)) in
+    let high : mag (shr_z (x *ℤ y) (2 ^ 64)) < 2 ^ 63 = high_below (x *ℤ y) product.sfits in
+    let wide : FitsSigned w128 (shr_z (x *ℤ y) (2 ^ 64)) = record { sfits = omega arith } in
+    let fits : FitsSigned w64 (shr_z (x *ℤ y) (2 ^ 64)) = record { sfits = high } in
+    let after : ℤ → ℕ = λ z. cast_unsigned w64 (cast_signed w64 (cast_unsigned w64 (cast_signed w128 (cast_unsigned w128 (shr_z (cast_signed w128 (cast_unsigned w128 z)) (2 ^ 64)))))) in
+    h ∙ ap (λ z. after (z *ℤ cast_signed w128 (cast_unsigned w128 y))) (again128 x fx)
+    ∙ ap (λ z. after (x *ℤ z)) (again128 y fy)
+    ∙ ap (λ z. cast_unsigned w64 (cast_signed w64 (cast_unsigned w64 (cast_signed w128 (cast_unsigned w128 (shr_z z (2 ^ 64))))))) (again128 _ product)
+    ∙ ap (λ z. cast_unsigned w64 (cast_signed w64 (cast_unsigned w64 z))) (again128 _ wide)
+    ∙ ap (cast_unsigned w64) (to_z-of_z w64 _ fits)
+    ∙ sym (word_of-bits (shr_z (x *ℤ y) (2 ^ 64)) (omega arith))
+    ∙ ap word_of (sym (div_euclid-shr (x *ℤ y) (2 ^ 64)))
+    ∙ ap (λ z. word_of (int_div_euclid (z *ℤ y) (pos (2 ^ 64)))) e
+    ∙ ap (λ z. word_of (int_div_euclid (signed_of a *ℤ z) (pos (2 ^ 64)))) k

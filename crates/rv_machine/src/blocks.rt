@@ -1,0 +1,17 @@
+//! Where the blocks of the heap lie.
+use std::marker::Model;
+
+/// The place of a block: the address of its first cell, and the number of its cells.
+#[derive(Debug, Drop)]
+pub struct BlockPlace {
+    start: u64,
+    words: u64,
+}
+
+impl Model for BlockPlace {
+    ghost use Rattle.rv_machine.specs.Hart.{Placed};
+
+    ghost Value = { Placed };
+
+    ghost view = { λ b. record { start = b.start; words = b.words } };
+}

@@ -1,0 +1,161 @@
+//! The state of the machine, and what reads and sets it.
+ghost use Rattle.std.specs.Prelude.{◌≡◌, ◌+◌, ◌-◌, ◌*◌, ◌^◌, ◌<◌, ◌≤◌, [], length, slice_index, IfSome};
+ghost use Rattle.bs_words.specs.Contents.{contents};
+ghost use Rattle.image_form.specs.Image.{code_limit};
+ghost use Rattle.image_form.specs.Tables.{tables};
+ghost use Rattle.rv_machine.specs.Hart.{Hart, register, fetch, readable, sets, goes_to, jumps};
+ghost use Rattle.rv_machine.specs.Memory.{loaded, stored};
+ghost use Rattle.rv_machine.specs.Width.{IsWidth};
+ghost use Rattle.rv_machine.specs.Step.{next_of, Keeps, Stores};
+
+use crate::blocks::BlockPlace;
+use crate::code::{self, CODE_START};
+use crate::memory::{Memory, is_aligned};
+use crate::step_end::StepEnd;
+use image_form::Image;
+use std::marker::Model;
+
+/// The machine. Contracts see the state of its hart.
+#[derive(Drop)]
+pub struct Machine<'a> {
+    image: &'a Image,
+    registers: [u64; 32],
+    pc: u64,
+    memory: Memory,
+    stack_base: u64,
+    // The blocks by serial. `load` takes the memory of the whole table.
+    blocks: Vec<BlockPlace>,
+    retired: u64,
+    services: u64,
+}
+
+impl<'a> Model for Machine<'a> {
+    ghost use Rattle.std.specs.Prelude.{◌≡◌, ◌≤◌, ◌*◌, length, slice_index};
+    ghost use Rattle.bs_words.specs.Contents.{contents};
+    ghost use Rattle.image_form.specs.Tables.{tables};
+    ghost use Rattle.image_form.specs.Image.{code_limit};
+    ghost use Rattle.rv_machine.specs.Hart.{Hart};
+
+    ghost Value = { Hart };
+
+    ghost view = { λ m. record { image = tables m.image.now; registers = m.registers; pc = m.pc; memory = m.memory; stack_base = m.stack_base; blocks = m.blocks.items; retired = m.retired; services = m.services } };
+
+    // x0 holds 0, so that it is read as the others are.
+    ghost invariant = { λ m. (slice_index m.registers 0 ≡ 0) × (4 * length (contents m.image.now.code) ≤ code_limit) };
+}
+
+impl<'a> Machine<'a> {
+    // A machine in which no instruction has retired and no block lies. `blocks` is empty, with room for the
+    // table.
+    pub(crate) fn new(
+        image: &'a Image,
+        registers: [u64; 32],
+        pc: u64,
+        memory: Memory,
+        stack_base: u64,
+        blocks: Vec<BlockPlace>,
+    ) -> Self
+        requires zero { slice_index registers 0 ≡ 0 }
+        requires code_fits { 4 * length (contents image.now.code) ≤ code_limit }
+        requires no_block { blocks.items ≡ [] }
+        ensures { result ≡ record { image = tables image.now; registers = registers; pc = pc; memory = memory; stack_base = stack_base; blocks = []; retired = 0; services = 0 } }
+    {
+        Machine {
+            image,
+            registers,
+            pc,
+            memory,
+            stack_base,
+            blocks,
+            retired: 0,
+            services: 0,
+        }
+    }
+
+    /// How many instructions have retired.
+    pub fn retired(&self) -> u64
+        ensures { result ≡ self.now.retired }
+    {
+        self.retired
+    }
+
+    /// The register `r`.
+    pub fn register(&self, r: u8) -> u64
+        requires { r < 32 }
+        ensures { result ≡ register self.now r }
+    {
+        self.registers[r as usize]
+    }
+
+    /// The instruction word at the program counter, where the code has one there.
+    pub fn fetch(&self) -> Option<u32>
+        ensures exact { result ≡ fetch self.now.image.code self.now.pc }
+        ensures within { IfSome result (λ _. self.now.pc < 2 ^ 32) }
+    {
+        if self.pc < CODE_START || self.pc % 4 != 0 {
+            return None;
+        }
+        let index = (self.pc - CODE_START) / 4;
+        self.image.code.get(index as usize).copied()
+    }
+
+    /// The program counter.
+    pub fn pc(&self) -> u64
+        ensures { result ≡ self.now.pc }
+    {
+        self.pc
+    }
+
+    // The next instruction is at `address`, and nothing else changes.
+    pub(crate) fn go_to(&mut self, address: u64) -> StepEnd
+        requires { self.old.retired < 2 ^ 64 - 1 }
+        ensures exact { next_of result self.new ≡ goes_to address self.old }
+        ensures kept { Keeps result self.old self.new }
+    {
+        self.pc = address;
+        self.retired += 1;
+        StepEnd::Retired
+    }
+
+    // Register `rd` becomes `value`, and the next instruction is at `address`.
+    pub(crate) fn set(&mut self, rd: u8, value: u64, address: u64) -> StepEnd
+        requires number { rd < 32 }
+        requires room { self.old.retired < 2 ^ 64 - 1 }
+        ensures exact { next_of result self.new ≡ sets rd value address self.old }
+        ensures kept { Keeps result self.old self.new }
+    {
+        if rd == 2 && value < self.stack_base {
+            return StepEnd::StackOut;
+        }
+        if rd != 0 {
+            self.registers[rd as usize] = value;
+        }
+        self.pc = address;
+        self.retired += 1;
+        StepEnd::Retired
+    }
+
+    // The number in `width` bytes at an address, where that is aligned and may be read.
+    pub(crate) fn loaded(&self, address: u64, width: u64) -> Option<u64>
+        requires { IsWidth width }
+        ensures exact { result ≡ loaded (readable self.now) address width }
+        ensures below { IfSome result (λ n. n < 2 ^ (8 * width)) }
+    {
+        if !is_aligned(address, width) {
+            return None;
+        }
+        if code::has(&self.image.code, address, width) {
+            return Some(code::read(&self.image.code, address, width));
+        }
+        self.memory.read(address, width)
+    }
+
+    // Writes the lowest `width` bytes of `value` at an address, or tells that it is not aligned or may not
+    // be written.
+    pub(crate) fn stored(&mut self, address: u64, width: u64, value: u64) -> bool
+        requires { IsWidth width }
+        ensures { Stores result (stored self.old.memory address width value) self.old self.new }
+    {
+        self.memory.store(address, width, value)
+    }
+}

@@ -1,0 +1,37 @@
+//! What a run is given: its entry and arguments, and how much stack and heap it has.
+
+use bs_words::{List, Name};
+use std::alloc::AllocError;
+use thiserror::Error;
+
+/// What a run is given.
+#[derive(Debug, Drop)]
+pub struct Setup {
+    /// The function that is called.
+    pub entry: Name,
+    pub args: List<Arg>,
+    /// The bytes of the stack.
+    pub stack: u32,
+    /// The bytes of each half of the heap.
+    pub heap: u32,
+}
+
+/// An argument: a word, or the address of a symbol of the data.
+#[derive(Debug, Drop)]
+pub enum Arg {
+    Word(u64),
+    Symbol(Name),
+}
+
+/// Why there is no machine.
+#[derive(Clone, Copy, PartialEq, Eq, Debug, Error)]
+pub enum LoadError {
+    /// No function of the image has the entry's name.
+    #[error("the image has no such function")]
+    UnknownEntry,
+    /// The arguments do not suit the entry's parameters.
+    #[error("the arguments do not suit the function")]
+    ArgumentUnfit,
+    #[error("out of memory")]
+    OutOfMemory,
+}

@@ -1,0 +1,14 @@
+//! What comes of an instruction.
+use crate::cause::Cause;
+
+/// What a step tells.
+#[derive(Clone, Copy, PartialEq, Eq, Debug)]
+pub enum StepEnd {
+    /// The instruction has retired.
+    Retired,
+    /// The instruction is an ECALL, and the machine stands before its service.
+    Service,
+    /// The instruction would set the stack pointer below the stack's base.
+    StackOut,
+    Stopped(Cause),
+}
