@@ -162,8 +162,8 @@ of_cond false h xs a = absurd a
 behind-then-from : (b : ℕ) (f g : Form) (xs : List ℕ) → Matches (behind b (Then f g)) xs → BehindThen b f g xs
 behind-then-from b f g xs m =
     elim (either-from (joined (behind b f) g) (cond (has_empty f) (behind b g) Nothing) xs m) [
-        inl a ↦ inl (joined-from (behind b f) g xs a)
-        | inr a ↦ inr (of_cond (has_empty f) (behind b g) xs a)
+      | inl a ↦ inl (joined-from (behind b f) g xs a)
+      | inr a ↦ inr (of_cond (has_empty f) (behind b g) xs a)
     ]
 
 then-first : (b : ℕ) (f g : Form) (xs : List ℕ)
@@ -210,8 +210,8 @@ behind-to b Empty xs m = absurd m
 behind-to b (Between l h) xs m = between-to b l h xs (leb l b && leb b h) refl m
 behind-to b (Then f g) xs m =
     elim (behind-then-from b f g xs m) [
-        inl a ↦ (b ∷ a.0, a.1, ap (λ (v : List ℕ). b ∷ v) a.2, behind-to b f a.0 a.3, a.4)
-        | inr a ↦ ([], b ∷ xs, refl, has_empty-to f a.0, behind-to b g xs a.1)
+      | inl a ↦ (b ∷ a.0, a.1, ap (λ (v : List ℕ). b ∷ v) a.2, behind-to b f a.0 a.3, a.4)
+      | inr a ↦ ([], b ∷ xs, refl, has_empty-to f a.0, behind-to b g xs a.1)
     ]
 behind-to b (Either f g) xs m =
     elim (either-from (behind b f) (behind b g) xs m) [ inl a ↦ inl (behind-to b f xs a) | inr a ↦ inr (behind-to b g xs a) ]

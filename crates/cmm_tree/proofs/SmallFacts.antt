@@ -70,16 +70,16 @@ function-cover f xs (function a w n o c z symbol params body us vs tokens ha hw 
 function-small : (f : FunctionTree) (xs : List Token) → IsFunction f xs → KeepsRules f → IsSmallFunction f
 function-small f xs is keeps =
     record {
-        symbol = of_symbol f xs is;
-        not_built_in = keeps.not_built_in;
-        few_params = keeps.few_params;
-        params_differ = keeps.params_differ;
-        components = of_components f xs is;
-        operators = of_operators f xs is;
-        bound = keeps.bound;
-        words_fit = of_words f xs is;
-        few_tokens = keeps.few_tokens;
-        tokens_cover = function-cover f xs is;
+      symbol = of_symbol f xs is;
+      not_built_in = keeps.not_built_in;
+      few_params = keeps.few_params;
+      params_differ = keeps.params_differ;
+      components = of_components f xs is;
+      operators = of_operators f xs is;
+      bound = keeps.bound;
+      words_fit = of_words f xs is;
+      few_tokens = keeps.few_tokens;
+      tokens_cover = function-cover f xs is;
     }
   where
     of_symbol : (f : FunctionTree) (xs : List Token) → IsFunction f xs → IsSymbol f.name
@@ -133,8 +133,8 @@ small-tokens bytes file h =
 pub small-is : (bytes : List ℕ) (file : FileTree) → SmallText bytes file → IsSmall file
 small-is bytes file h =
     record {
-        functions_small = items-small file.items h.tokens h.parses h.keeps_rules;
-        names_differ = h.names_differ;
-        tokens_fit = let n = small-tokens bytes file h in let s = h.short in omega arith;
-        few_functions = let n = small-count bytes file h in let s = h.short in omega arith;
+      functions_small = items-small file.items h.tokens h.parses h.keeps_rules;
+      names_differ = h.names_differ;
+      tokens_fit = let n = small-tokens bytes file h in let s = h.short in omega arith;
+      few_functions = let n = small-count bytes file h in let s = h.short in omega arith;
     }
