@@ -1,7 +1,6 @@
 -- An image is correct for a file: the machine does what the text means.
-use Rattle.std.specs.Prelude.{◌≡◌, ◌≢◌, ⊤, ℕ, suc, ◌+◌, ◌*◌, ◌<◌, ◌≤◌, List, ◌++◌, length, Option}
+use Rattle.std.specs.Prelude.{◌≡◌, ⊤, ℕ, ◌+◌, ◌*◌, ◌<◌, ◌≤◌, List, ◌++◌, length}
 use Rattle.bs_words.specs.Observed.{Made}
-use Rattle.bs_words.specs.declared.values.Kind.{Kind}
 use Rattle.cmm_meaning.specs.Run.{Outcome, Returned, Raised, Asks, More, Improper, Run, cmm_run}
 use Rattle.cmm_tree.specs.Tree.{FunctionTree, FileTree, functions}
 use Rattle.correctness.specs.Setting.{layout_of, AreRowsOf, Entered, IsRoom}
@@ -9,7 +8,6 @@ use Rattle.image_form.specs.Tables.{Tables, Func}
 use Rattle.rv_machine.specs.Run.{Schedule, Seen, machine_run}
 use Rattle.rv_machine.specs.Services.{End, Running, StackOut, HeapOut, Stopped}
 use Rattle.rv_machine.specs.Services as machine
-use Rattle.rv_machine.specs.declared.cause.Cause.{Cause}
 
 -- ---- how two runs compare
 

@@ -1,14 +1,12 @@
 -- The image of a small file keeps to the text, and fits where the file is roomy.
-use Rattle.std.proofs.Common.{◌≡◌, ℕ, ◌+◌, ◌*◌, ◌/◌, ◌%◌, ◌<◌, ◌≤◌, max, List, [], ◌∷◌, ◌++◌, length, flat_map, take, All, sum_by, None, refl, sym, ap, ap₂, subst, ◌∙◌, length-append, arith}
+use Rattle.std.proofs.Common.{◌≡◌, ℕ, ◌+◌, ◌*◌, ◌≤◌, max, List, [], ◌∷◌, ◌++◌, length, flat_map, sum_by, None, refl, ap₂, subst, length-append, arith}
 use Rattle.std.proofs.lemmas.List.Sums.{sum_by_from}
 use Rattle.std.specs.List.{AllByRecursion, AllZip}
-use Rattle.cmm_tree.specs.Small.{IsSmall, IsSmallFunction, nodes}
+use Rattle.cmm_tree.specs.Small.{IsSmall, IsSmallFunction}
 use Rattle.cmm_tree.specs.Tree.{Expression, Integer, Name, Operator, FunctionTree, FileTree, functions}
-use Rattle.correctness.specs.Bounds.{tries_in, tries, most_words, switch_indexes, IsWithinText, FillCode, IsBounded, IsRoomy}
-use Rattle.image_form.specs.Image.{func_bytes, table_limit, code_limit}
-use Rattle.image_form.specs.Tables.{Tables}
-use Rattle.small_code.specs.Code.{frame_bytes, slots, parameters}
-use Rattle.small_code.specs.Compiled.{compiled, stub, function_words, row_at, rows_from}
+use Rattle.correctness.specs.Bounds.{tries_in, most_words, IsWithinText, FillCode, IsBounded, IsRoomy}
+use Rattle.image_form.specs.Image.{func_bytes}
+use Rattle.small_code.specs.Compiled.{compiled, function_words, row_at, rows_from}
 use Rattle.small_code.specs.Frames.{HasLeastFrame}
 use Rattle.small_code.specs.TooLarge.{first_too_large}
 use Rattle.small_code.proofs.Limits.{bytes_of_rows, length-compiled, none_passes}

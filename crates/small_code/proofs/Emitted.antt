@@ -1,14 +1,12 @@
 -- What code that emits code, piece by piece, comes to.
-use Rattle.std.proofs.Common.{◌≡◌, ℕ, zero, suc, ◌+◌, ◌-◌, ◌*◌, ◌/◌, ◌%◌, ◌^◌, ◌<◌, ◌≤◌, Bool, true, false, cond, List, [], ◌∷◌, ◌++◌, length, get_or, map, drop, bytes_eq, refl, sym, ap, ◌∙◌, append_assoc, append-nil, add-zero, arith}
+use Rattle.std.proofs.Common.{◌≡◌, ℕ, zero, suc, ◌+◌, ◌-◌, ◌/◌, ◌%◌, ◌^◌, ◌<◌, Bool, true, false, cond, List, [], ◌∷◌, ◌++◌, length, get_or, map, drop, bytes_eq, refl, sym, ap, ◌∙◌, append_assoc, append-nil, add-zero, arith}
 use Rattle.std.proofs.lemmas.List.{drop_more, map-append}
 use Rattle.std.proofs.lemmas.Slice.Eq.{bytes_eq-Decides}
 use Rattle.cmm_tree.specs.declared.file.Param.{Param}
-use Rattle.cmm_tree.specs.Small.{nodes}
-use Rattle.cmm_tree.specs.Tree.{Expression, Integer, Name, Operator, FunctionTree, names_of}
+use Rattle.cmm_tree.specs.Tree.{FunctionTree, names_of}
 use Rattle.rv_isa.specs.Encoding.{encoded}
 use Rattle.rv_isa.specs.declared.instr.AluImmOp.TheVariants.{Addi}
 use Rattle.rv_isa.specs.declared.instr.AluOp.TheVariants.{Add, Sub}
-use Rattle.rv_isa.specs.declared.instr.Instr.{Instr}
 use Rattle.rv_isa.specs.declared.instr.Instr.TheVariants.{Jalr, OpImm}
 use Rattle.small_code.specs.Code.{argument_code, store_slot, index_of, constant, eleven_more, function_code, move_sp, load_slot, expression_code, frame_bytes, parameters, slots, a0, ra}
 use Rattle.small_code.specs.Compiled.{function_words}
@@ -82,8 +80,3 @@ pub index_next : (params : List Param) (i : ℕ) (d : Param) (name : List ℕ) �
 index_next params i d name lt differ =
     index_at params i d name lt
     ∙ cond_false (bytes_eq (get_or params i d).name name) _ _ (λ e. differ ((bytes_eq-Decides (get_or params i d).name name).0 e))
-
-pub some_nodes : (e : Expression) → 0 < nodes e
-some_nodes (Integer at word) = omega arith
-some_nodes (Name at name) = omega arith
-some_nodes (Operator at op left right) = omega arith

@@ -1,10 +1,10 @@
 -- The function of a test is small.
-use Rattle.std.proofs.Common.{◌≡◌, ◌≢◌, ℕ, zero, suc, ◌+◌, ◌*◌, ◌<◌, ◌≤◌, List, [], ◌∷◌, length, get_or, codes, All, AllPairs, refl, sym, ap, subst, inl, inr, lit<, lit≤, arith}
+use Rattle.std.proofs.Common.{◌≡◌, ◌≢◌, ℕ, zero, suc, ◌≤◌, List, [], ◌∷◌, get_or, codes, All, AllPairs, refl, sym, ap, subst, inl, inr, lit<, lit≤, arith}
 use Rattle.bs_words.specs.declared.operators.IntOp.TheVariants.{Sub}
 use Rattle.bs_words.specs.declared.types.Comp.{Comp}
 use Rattle.bs_words.specs.declared.types.Comp.TheVariants.{Int}
 use Rattle.cmm_tree.specs.Small.{IsSmall, IsSmallFunction}
-use Rattle.cmm_tree.specs.Tree.{Name, Operator, FunctionTree, FileTree, AFunction}
+use Rattle.cmm_tree.specs.Tree.{Name, Operator, FunctionTree, AFunction}
 
 -- `(function "d" (a:int b:int) (- a b))`
 abbrev pub difference : FunctionTree

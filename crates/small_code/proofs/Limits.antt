@@ -1,13 +1,12 @@
 -- Which section of the image of a file passes its limit.
-use Rattle.std.proofs.Common.{◌≡◌, ℕ, ◌+◌, ◌*◌, ◌<◌, ◌≤◌, Bool, true, false, cond, List, [], ◌∷◌, ◌++◌, length, flat_map, Option, Some, None, refl, sym, ap, ◌∙◌, length-append, lt-ltb, le-ltb, lit≤, arith}
-use Rattle.bs_fault.specs.declared.large.Large.{Large}
+use Rattle.std.proofs.Common.{◌≡◌, ℕ, ◌+◌, ◌<◌, ◌≤◌, List, length, flat_map, Some, None, refl, sym, ap, ◌∙◌, length-append, lt-ltb, le-ltb, arith}
 use Rattle.bs_fault.specs.declared.large.Section.TheVariants as section
-use Rattle.cmm_tree.specs.Tree.{FunctionTree, FileTree, functions}
-use Rattle.image_form.specs.Image.{le16, le32, name_bytes, sym_bytes, ext_bytes, desc_bytes, func_bytes, table_bytes, table_limit, code_limit, data_limit}
-use Rattle.image_form.specs.Tables.{Func, Tables}
+use Rattle.cmm_tree.specs.Tree.{FileTree, functions}
+use Rattle.image_form.specs.Image.{le16, le32, name_bytes, sym_bytes, ext_bytes, desc_bytes, func_bytes, table_bytes, table_limit, code_limit}
+use Rattle.image_form.specs.Tables.{Func}
 use Rattle.image_form.proofs.Lengths.{length-le32}
-use Rattle.small_code.specs.Compiled.{compiled, stub, function_words, rows_from}
-use Rattle.small_code.specs.TooLarge.{section_bytes_of, limit_of, first_too_large}
+use Rattle.small_code.specs.Compiled.{compiled, stub, function_words}
+use Rattle.small_code.specs.TooLarge.{section_bytes_of, first_too_large}
 
 -- ---- the bytes of sections
 

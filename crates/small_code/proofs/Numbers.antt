@@ -1,5 +1,5 @@
 -- The numbers of each instruction fit its fields, so each word of the code has 32 bits.
-use Rattle.std.proofs.Common.{◌≡◌, ℕ, zero, suc, ◌+◌, ◌-◌, ◌*◌, ◌/◌, ◌%◌, ◌^◌, ◌<◌, ◌≤◌, Bool, true, false, cond, bytes_eq, List, [], ◌∷◌, ◌++◌, length, map, flat_map, refl, sym, ap, ◌∙◌, lit<, arith}
+use Rattle.std.proofs.Common.{ℕ, zero, suc, ◌+◌, ◌-◌, ◌^◌, ◌<◌, ◌≤◌, Bool, true, false, cond, bytes_eq, List, [], ◌∷◌, ◌++◌, length, map, flat_map, lit<, arith}
 use Rattle.std.proofs.lemmas.List.{length-map}
 use Rattle.std.specs.List.{AllByRecursion}
 use Rattle.cmm_tree.specs.Small.{IsSmallFunction, WordsFit, nodes}
@@ -12,7 +12,6 @@ use Rattle.rv_isa.specs.declared.instr.Instr.TheVariants.{Jalr, Op}
 use Rattle.rv_isa.proofs.RoundTrip.{encoded-below}
 use Rattle.small_code.specs.Code.{constant, near_slot, load_slot, store_slot, move_sp, expression_code, index_of, row_of, argument_code, function_code, frame_bytes, parameters, slots, t0, t2, a0, ra}
 use Rattle.small_code.specs.Compiled.{function_words}
-use Rattle.small_code.proofs.Emitted.{some_nodes}
 
 abbrev AllFit : List Instr → Type 0
 AllFit code = AllByRecursion InstrFits code

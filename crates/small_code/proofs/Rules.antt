@@ -1,5 +1,5 @@
 -- The image of a small file keeps the rules of images, where its sections keep their limits.
-use Rattle.std.proofs.Common.{◌≡◌, ◌≢◌, ℕ, zero, suc, ◌+◌, ◌*◌, ◌/◌, ◌%◌, ◌^◌, ◌<◌, ◌≤◌, Bool, true, false, ◌&&◌, leb, leb-true, List, [], ◌∷◌, ◌++◌, length, get_or, map, codes, All, AllPairs, flat_map, None, refl, sym, ap, ◌∙◌, length-append, lit<, lit≤, arith}
+use Rattle.std.proofs.Common.{◌≡◌, ◌≢◌, ℕ, suc, ◌+◌, ◌*◌, ◌%◌, ◌^◌, ◌<◌, ◌≤◌, Bool, true, false, ◌&&◌, leb, leb-true, List, [], ◌∷◌, ◌++◌, length, map, codes, All, AllPairs, flat_map, None, refl, ap, length-append, lit<, lit≤, arith}
 use Rattle.std.proofs.lemmas.List.{length-map}
 use Rattle.std.specs.List.{AllByRecursion}
 use Rattle.bs_words.specs.declared.types.Comp.{Comp}
@@ -7,10 +7,8 @@ use Rattle.bs_words.specs.declared.types.Comp.TheVariants as comp
 use Rattle.cmm_tree.specs.Grammar.{IsSymbol}
 use Rattle.cmm_tree.specs.Small.{IsSmall, IsSmallFunction, caml_bound_error, names_of_functions}
 use Rattle.cmm_tree.specs.Tree.{FunctionTree, FileTree, Parameter, functions, comps_of}
-use Rattle.cmm_tree.specs.Types.{body_type, result_of}
-use Rattle.image_form.specs.Image.{First, EachNext, AllDiffer, IsName, IsParam, IsResult, IsFunc, IsBehind, AreFuncs, IsCode, IsData, IsSym, AreSyms, AreRoots, AreExtcs, AreDescs, AreTables, end_of, le32, func_bytes, table_bytes, sym_bytes, ext_bytes, desc_bytes, name_bytes, table_limit, code_limit}
-use Rattle.image_form.specs.Tables.{Func, func_names}
-use Rattle.small_code.specs.Code.{frame_bytes, slots, parameters}
+use Rattle.image_form.specs.Image.{First, EachNext, AllDiffer, IsName, IsParam, IsFunc, IsBehind, AreTables, end_of}
+use Rattle.image_form.specs.Tables.{func_names}
 use Rattle.small_code.specs.Compiled.{compiled, stub, function_words, row_at, rows_from}
 use Rattle.small_code.specs.TooLarge.{first_too_large}
 use Rattle.small_code.proofs.Limits.{bytes_of_syms, bytes_of_roots, bytes_of_extcs, bytes_of_descs, none_passed}

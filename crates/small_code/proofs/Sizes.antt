@@ -1,8 +1,8 @@
 -- How long the pieces of code and the rows of tables are.
-use Rattle.std.proofs.Common.{◌≡◌, ℕ, zero, suc, ◌+◌, ◌-◌, ◌*◌, ◌<◌, ◌≤◌, List, [], ◌∷◌, ◌++◌, length, map, refl, sym, ap, ◌∙◌, length-append, arith}
+use Rattle.std.proofs.Common.{◌≡◌, ℕ, zero, suc, ◌+◌, ◌-◌, ◌*◌, ◌≤◌, List, [], ◌∷◌, ◌++◌, length, refl, ap, ◌∙◌, length-append, arith}
 use Rattle.std.proofs.lemmas.List.{length-map}
 use Rattle.bs_words.specs.declared.operators.IntOp.{IntOp}
-use Rattle.cmm_tree.specs.Tree.{Expression, Integer, Name, Operator, FunctionTree, Parameter, names_of, comps_of}
+use Rattle.cmm_tree.specs.Tree.{Expression, Integer, Name, Operator, FunctionTree, Parameter, names_of}
 use Rattle.cmm_tree.specs.Small.{nodes}
 use Rattle.bs_words.specs.declared.types.Comp.{Comp}
 use Rattle.image_form.specs.Tables.{Func}
@@ -11,7 +11,6 @@ use Rattle.image_form.proofs.Lengths.{length-le16, length-le32}
 use Rattle.rv_isa.specs.Encoding.{encoded}
 use Rattle.rv_isa.specs.declared.instr.AluOp.{AluOp}
 use Rattle.rv_isa.specs.declared.instr.AluOp.TheVariants.{Add, Sub}
-use Rattle.rv_isa.specs.declared.instr.Instr.{Instr}
 use Rattle.rv_isa.specs.declared.instr.Instr.TheVariants.{Jalr, Op}
 use Rattle.small_code.specs.Code.{constant, near_slot, load_slot, store_slot, move_sp, expression_code, index_of, row_of, argument_code, function_code, frame_bytes, parameters, slots, t0, t2, a0, ra}
 use Rattle.small_code.specs.Compiled.{function_words, row_at}

@@ -1,5 +1,5 @@
 -- How large the frame of a function is.
-use Rattle.std.specs.Prelude.{◌≡◌, ℕ, ◌+◌, ◌*◌, ◌%◌, ◌<◌, ◌≤◌}
+use Rattle.std.specs.Prelude.{◌≡◌, ◌+◌, ◌*◌, ◌%◌, ◌<◌, ◌≤◌}
 use Rattle.cmm_tree.specs.Tree.{FunctionTree}
 use Rattle.image_form.specs.Tables.{Func}
 use Rattle.small_code.specs.Code.{slots}

@@ -1,4 +1,4 @@
-use Rattle.std.proofs.Common.{◌≡◌, ℕ, ◌*◌, ◌<◌, length, ap, ◌∙◌, sym, arith}
+use Rattle.std.proofs.Common.{◌*◌, ap, ◌∙◌, arith}
 use Rattle.cmm_tree.specs.Small.{IsSmallFunction}
 use Rattle.cmm_tree.specs.View.{file_view, function_view}
 use Rattle.small_code.specs.Compiled.{row_at}

@@ -1,4 +1,4 @@
-use Rattle.std.proofs.Common.{[], length, ap, sym, arith}
+use Rattle.std.proofs.Common.{[], sym, arith}
 use Rattle.cmm_tree.specs.Tree.{Integer, Name}
 use Rattle.cmm_tree.specs.View.{expr_view}
 use Rattle.small_code.proofs.Sizes.{length-expression, length-operator}

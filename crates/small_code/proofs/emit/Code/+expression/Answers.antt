@@ -1,6 +1,6 @@
 use Rattle.std.proofs.Common.{arith}
 use Rattle.cmm_tree.specs.View.{expr_view}
-use Rattle.small_code.proofs.Emitted.{some_nodes}
+use Rattle.small_code.proofs.Values.{some_nodes}
 use Rattle.small_code.proofs.emit.Code.+expression.Goals as goal
 
 pub operator-requires-clause-left : goal.operator-requires-clause-left

@@ -4,7 +4,8 @@ use Rattle.std.proofs.lemmas.Result.{on_ok_weaker}
 use Rattle.cmm_tree.specs.View.{expr_view, function_view, param_view}
 use Rattle.small_code.specs.Code.{parameters, slots}
 use Rattle.small_code.specs.Names.{names_in}
-use Rattle.small_code.proofs.Emitted.{some_nodes, function_steps}
+use Rattle.small_code.proofs.Emitted.{function_steps}
+use Rattle.small_code.proofs.Values.{some_nodes}
 use Rattle.small_code.proofs.emit.Code.function.Goals as goal
 
 pub overflow_sub-end : goal.overflow_sub-end

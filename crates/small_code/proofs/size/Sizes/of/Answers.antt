@@ -1,7 +1,7 @@
-use Rattle.std.proofs.Common.{◌≡◌, ℕ, ◌+◌, ◌*◌, ◌≤◌, length, map, flat_map, refl, ap, ◌∙◌, sym, arith}
+use Rattle.std.proofs.Common.{◌+◌, length, flat_map, ap, ◌∙◌, sym, arith}
 use Rattle.cmm_tree.specs.Small.{IsSmallFunction}
-use Rattle.cmm_tree.specs.Tree.{functions, functions_among}
-use Rattle.cmm_tree.specs.View.{file_view, item_view}
+use Rattle.cmm_tree.specs.Tree.{functions}
+use Rattle.cmm_tree.specs.View.{file_view}
 use Rattle.image_form.specs.Image.{func_bytes}
 use Rattle.small_code.specs.Compiled.{rows_from}
 use Rattle.small_code.proofs.Files.{each_function, all_made, length-functions, row_sizes_step, code_sizes_step}
