@@ -98,6 +98,19 @@ fn run(alloc: Global, others: &[String]) -> Result<RunWords, WordsError>
 
 /// The command that the words are, the program's own name left out.
 ///
+/// - `compile` has no other word.
+/// - `run ENTRY` has the name of a function and these options. ENTRY is 1 to 255 bytes, each 0x21 to
+///   0x7E.
+///   - `--args=` and `--answers=` list items with single commas between them: a decimal number from
+///     -9223372036854775808 to 9223372036854775807, read as a word of 64 bits, or `@` and the name of
+///     a data symbol without a comma. By default there is none.
+///   - `--steps=` is a decimal number of instructions, at most 1,000,000,000,000, by default
+///     100,000,000.
+///   - `--stack=` and `--heap=` are decimal numbers of bytes, multiples of 16 and at most 67,108,864,
+///     by default 1,048,576.
+///
+/// Zeros may lead a number. The order of the words after the first is free.
+///
 /// `Words` comes exactly where they have the form of no command, whatever memory there is. Where they
 /// have it, `ValueText` comes where a value is not in its grammar or outside its limits, so that the
 /// words are no command. `OutOfMemory` comes only if memory runs out.
