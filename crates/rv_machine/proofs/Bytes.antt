@@ -1,5 +1,5 @@
 -- Powers of two up to a word, and a word cut into three runs of bytes.
-use Rattle.std.proofs.Common.{◌≡◌, ℕ, zero, ◌+◌, ◌-◌, ◌*◌, ◌/◌, ◌%◌, ◌^◌, ◌<◌, ◌≤◌, arith, refl, ap, sym, ◌∙◌, subst}
+use Rattle.std.proofs.Common.{◌≡◌, ℕ, ◌+◌, ◌-◌, ◌*◌, ◌/◌, ◌%◌, ◌^◌, ◌<◌, ◌≤◌, arith, ap, sym, ◌∙◌, subst}
 use Rattle.std.proofs.Math.Nat.{mod-lt, mod-eq_of_lt, mul-le-mul_right, div-mul-le_self, lt_of_mul-lt-mul_right}
 use Rattle.std.proofs.lemmas.Nat.{pow_below, pow_pos, pow-add}
 use Rattle.rv_machine.specs.Memory.{replaced}

@@ -5,3 +5,4 @@ pub mod Bytes64
 pub mod Found
 pub mod Halves
 pub mod LowHalf
+pub mod Young

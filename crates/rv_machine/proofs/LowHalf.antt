@@ -1,5 +1,5 @@
 -- The signed reading of a low half, and what the rows on 32 bits leave.
-use Rattle.std.proofs.Common.{◌≡◌, ◌≢◌, ℕ, zero, suc, ◌+◌, ◌-◌, ◌*◌, ◌/◌, ◌%◌, ◌^◌, ◌<◌, ◌≤◌, refl, ap, arith, ◌∙◌, sym, subst, Bool, true, false, cond, nat_lt, ◌⊎◌, inl, inr}
+use Rattle.std.proofs.Common.{◌≡◌, ◌≢◌, ℕ, ◌-◌, ◌*◌, ◌/◌, ◌%◌, ◌^◌, ◌<◌, refl, ap, arith, ◌∙◌, sym, subst}
 use Rattle.std.specs.Prelude.{ℤ, pos, negsuc, ◌*ℤ◌, int_div, int_rem, FitsSigned}
 use Rattle.std.specs.Int.{w64, w128, cast_unsigned, cast_signed, int_div_euclid}
 use Rattle.std.specs.Int.Signed.{mag, shr_z, nat_abs-le}

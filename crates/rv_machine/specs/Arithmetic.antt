@@ -1,5 +1,5 @@
 -- What the rows of the instruction table compute (RISC-V Unprivileged ISA manual, "RV64I" and "M").
-use Rattle.std.specs.Prelude.{ℕ, zero, suc, ◌+◌, ◌-◌, ◌*◌, ◌/◌, ◌%◌, ◌^◌, Bool, cond, not, ◌==◌, nat_lt, ℤ, pos, ◌*ℤ◌, int_div, int_rem, int_lt, bit_and, bit_or, bit_xor}
+use Rattle.std.specs.Prelude.{ℕ, ◌-◌, ◌*◌, ◌/◌, ◌%◌, ◌^◌, Bool, cond, not, ◌==◌, nat_lt, ℤ, pos, ◌*ℤ◌, int_div, int_rem, int_lt, bit_and, bit_or, bit_xor}
 use Rattle.std.specs.Int.{int_div_euclid}
 use Rattle.bs_words.specs.Word.{signed_of, signed_in, word_of, add_word, sub_word, mul_word, mulh_word, div_word, rem_word, shl_word, shr_word, sar_word}
 use Rattle.rv_isa.specs.Immediate.{sext, imm_i}

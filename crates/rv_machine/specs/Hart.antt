@@ -1,5 +1,5 @@
 -- One instruction of the hart.
-use Rattle.std.specs.Prelude.{ℕ, zero, suc, ◌+◌, ◌-◌, ◌*◌, ◌/◌, ◌%◌, ◌^◌, Bool, true, false, cond, ◌&&◌, ◌==◌, nat_lt, nat_le, List, [], ◌∷◌, Option, Some, None, slice_get, slice_index, slice_set, length}
+use Rattle.std.specs.Prelude.{ℕ, zero, suc, ◌+◌, ◌-◌, ◌/◌, ◌%◌, cond, ◌&&◌, ◌==◌, nat_lt, nat_le, List, ◌∷◌, Option, Some, None, slice_get, slice_index, slice_set}
 use Rattle.bs_words.specs.Word.{add_word}
 use Rattle.image_form.specs.Tables.{Tables}
 use Rattle.rv_isa.specs.Decoding.{decoded}

@@ -2,9 +2,10 @@ pub mod Memory
 pub mod Width
 pub mod Arithmetic
 pub mod Hart
-pub mod Step
 pub mod Observation
 pub mod Services
+pub mod Step
 pub mod Start
 pub mod Loading
 pub mod Run
+pub mod Text

@@ -1,5 +1,5 @@
 -- What a setup makes of an image: the state in which its run begins, or why there is none.
-use Rattle.std.specs.Prelude.{◌≡◌, ◌≤◌, ◌%◌, ℕ, ◌+◌, Bool, cond, List, [], ◌∷◌, length, Option, Some, None, Result, Ok, Err, find, option_map, option_and_then}
+use Rattle.std.specs.Prelude.{◌≡◌, ◌≤◌, ◌%◌, ℕ, ◌+◌, Bool, cond, List, [], ◌∷◌, length, Option, Some, None, Result, Ok, Err, find, option_map}
 use Rattle.std.specs.Str.{bytes_eq}
 use Rattle.bs_words.specs.Contents.{contents}
 use Rattle.bs_words.specs.Fits.{fits, type_of_comp}

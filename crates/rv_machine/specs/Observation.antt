@@ -1,5 +1,5 @@
 -- What an observer sees of a word of the machine.
-use Rattle.std.specs.Prelude.{ℕ, zero, suc, ◌+◌, ◌-◌, ◌*◌, ◌/◌, ◌%◌, ◌^◌, Bool, true, false, cond, ◌&&◌, ◌||◌, ◌==◌, nat_lt, nat_le, List, [], ◌∷◌, ◌++◌, reverse, Option, Some, None, option_map, option_and_then}
+use Rattle.std.specs.Prelude.{ℕ, zero, suc, ◌+◌, ◌-◌, ◌*◌, ◌/◌, ◌%◌, ◌^◌, cond, ◌&&◌, ◌==◌, nat_le, List, [], ◌∷◌, ◌++◌, reverse, Option, Some, None, option_map, option_and_then}
 use Rattle.bs_words.specs.declared.types.Comp.{Comp}
 use Rattle.bs_words.specs.declared.types.Comp.TheVariants.{Int, Val, Addr, Float}
 use Rattle.bs_words.specs.declared.values.Obs.{Obs}
@@ -62,3 +62,8 @@ observed h Val word = block_or_word (serial_from 0 (all_blocks h) word) word
 observed h Int word = Word word
 observed h Addr word = Word word
 observed h Float word = Word word
+
+-- the serial of the block at an address, among blocks that were passed from the lowest on: a block above
+-- them comes before them
+abbrev pub passed : ℕ → Option ℕ → ℕ → Option ℕ
+passed address found start = cond (start == address) (Some 0) (option_map (λ serial. suc serial) found)

@@ -1,5 +1,5 @@
 -- A run of the machine under a schedule of the mover.
-use Rattle.std.specs.Prelude.{ℕ, zero, suc, Bool, true, false, cond, ◌||◌, ◌==◌, List, [], ◌∷◌, Option, Some, None}
+use Rattle.std.specs.Prelude.{ℕ, zero, suc, Bool, false, cond, ◌||◌, ◌==◌, List, [], ◌∷◌, Option, Some, None}
 use Rattle.bs_words.specs.Observed.{Made}
 use Rattle.image_form.specs.Tables.{Tables, Func}
 use Rattle.rv_machine.specs.Hart.{Hart, Next, Retired, Service, hart}

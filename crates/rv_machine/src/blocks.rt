@@ -1,4 +1,6 @@
 //! Where the blocks of the heap lie.
+ghost use Rattle.std.specs.Prelude.{◌≡◌};
+
 use std::marker::Model;
 
 /// The place of a block: the address of its first cell, and the number of its cells.
@@ -14,4 +16,13 @@ impl Model for BlockPlace {
     ghost Value = { Placed };
 
     ghost view = { λ b. record { start = b.start; words = b.words } };
+}
+
+impl BlockPlace {
+    /// The address of the first cell.
+    pub fn start(&self) -> u64
+        ensures { result ≡ self.now.start }
+    {
+        self.start
+    }
 }

@@ -11,7 +11,9 @@ mod code;
 pub mod loading;
 pub mod machine;
 pub mod memory;
+pub mod observe;
 pub mod region;
+mod runtime;
 pub mod setup;
 pub mod start;
 mod step;
@@ -22,3 +24,6 @@ pub use loading::load;
 pub use machine::Machine;
 pub use setup::{Arg, LoadError, Setup};
 pub use step_end::StepEnd;
+
+#[cfg(test)]
+mod tests;

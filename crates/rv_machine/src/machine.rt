@@ -1,16 +1,20 @@
 //! The state of the machine, and what reads and sets it.
 ghost use Rattle.std.specs.Prelude.{◌≡◌, ◌+◌, ◌-◌, ◌*◌, ◌^◌, ◌<◌, ◌≤◌, [], length, slice_index, IfSome};
 ghost use Rattle.bs_words.specs.Contents.{contents};
-ghost use Rattle.image_form.specs.Image.{code_limit};
+ghost use Rattle.image_form.specs.Image.{IsImage};
 ghost use Rattle.image_form.specs.Tables.{tables};
 ghost use Rattle.rv_machine.specs.Hart.{Hart, register, fetch, readable, sets, goes_to, jumps};
 ghost use Rattle.rv_machine.specs.Memory.{loaded, stored};
 ghost use Rattle.rv_machine.specs.Width.{IsWidth};
-ghost use Rattle.rv_machine.specs.Step.{next_of, Keeps, Stores};
+ghost use Rattle.rv_machine.specs.Step.{next_of, Keeps, Stores, registers_after};
+ghost use Rattle.rv_machine.specs.Services.{past_ecall};
+ghost use Rattle.rv_machine.specs.Run.{asked};
 
 use crate::blocks::BlockPlace;
 use crate::code::{self, CODE_START};
 use crate::memory::{Memory, is_aligned};
+use crate::runtime::destroy;
+use crate::start::{DOMAIN_START, YOUNG_TOP};
 use crate::step_end::StepEnd;
 use image_form::Image;
 use std::marker::Model;
@@ -33,7 +37,7 @@ impl<'a> Model for Machine<'a> {
     ghost use Rattle.std.specs.Prelude.{◌≡◌, ◌≤◌, ◌*◌, length, slice_index};
     ghost use Rattle.bs_words.specs.Contents.{contents};
     ghost use Rattle.image_form.specs.Tables.{tables};
-    ghost use Rattle.image_form.specs.Image.{code_limit};
+    ghost use Rattle.image_form.specs.Image.{IsImage};
     ghost use Rattle.rv_machine.specs.Hart.{Hart};
 
     ghost Value = { Hart };
@@ -41,7 +45,7 @@ impl<'a> Model for Machine<'a> {
     ghost view = { λ m. record { image = tables m.image.now; registers = m.registers; pc = m.pc; memory = m.memory; stack_base = m.stack_base; blocks = m.blocks.items; retired = m.retired; services = m.services } };
 
     // x0 holds 0, so that it is read as the others are.
-    ghost invariant = { λ m. (slice_index m.registers 0 ≡ 0) × (4 * length (contents m.image.now.code) ≤ code_limit) };
+    ghost invariant = { λ m. (slice_index m.registers 0 ≡ 0) × IsImage m.image.now };
 }
 
 impl<'a> Machine<'a> {
@@ -56,7 +60,7 @@ impl<'a> Machine<'a> {
         blocks: Vec<BlockPlace>,
     ) -> Self
         requires zero { slice_index registers 0 ≡ 0 }
-        requires code_fits { 4 * length (contents image.now.code) ≤ code_limit }
+        requires rules { IsImage image.now }
         requires no_block { blocks.items ≡ [] }
         ensures { result ≡ record { image = tables image.now; registers = registers; pc = pc; memory = memory; stack_base = stack_base; blocks = []; retired = 0; services = 0 } }
     {
@@ -157,5 +161,46 @@ impl<'a> Machine<'a> {
         ensures { Stores result (stored self.old.memory address width value) self.old self.new }
     {
         self.memory.store(address, width, value)
+    }
+
+    /// The image that the machine runs.
+    pub fn image(&self) -> &'a Image
+        ensures same { tables result.now ≡ self.now.image }
+        ensures rules { IsImage result.now }
+    {
+        self.image
+    }
+
+    pub(crate) fn memory(&self) -> &Memory
+        ensures { result.now ≡ self.now.memory }
+    {
+        &self.memory
+    }
+
+    pub(crate) fn blocks(&self) -> &[BlockPlace]
+        ensures { result.now ≡ self.now.blocks }
+    {
+        self.blocks.as_slice()
+    }
+
+    /// The mover asks: the limit word is set.
+    pub fn ask(&mut self)
+        ensures { self.new ≡ asked self.old }
+    {
+        let _ = self.memory.write(DOMAIN_START, 8, YOUNG_TOP);
+    }
+
+    /// Goes on behind an external call with its answer, if it has one.
+    pub fn finish_call(&mut self, answer: Option<u64>)
+        requires near { self.old.pc < 2 ^ 32 }
+        requires room { self.old.retired < 2 ^ 64 - 1 }
+        ensures { self.new ≡ past_ecall (record self.old { registers = registers_after answer self.old.registers }) }
+    {
+        destroy(&mut self.registers);
+        if let Some(answer) = answer {
+            self.registers[10] = answer;
+        }
+        self.pc += 4;
+        self.retired += 1;
     }
 }

@@ -3,7 +3,7 @@ ghost use Rattle.std.specs.Prelude.{◌≡◌, ◌+◌, ◌-◌, ◌*◌, ◌^�
 ghost use Rattle.rv_isa.specs.Encoding.{InstrFits};
 ghost use Rattle.rv_machine.specs.Hart.{executed, hart, jumps, sets, goes_to, readable};
 ghost use Rattle.rv_machine.specs.Memory.{loaded, code_region, read};
-ghost use Rattle.rv_machine.specs.Step.{next_of, Keeps};
+ghost use Rattle.rv_machine.specs.Step.{next_of, Keeps, IsNear};
 ghost use Rattle.rv_machine.specs.Width.{IsWidth};
 
 use crate::arithmetic;
@@ -20,6 +20,7 @@ impl<'a> Machine<'a> {
         requires { self.old.retired < 2 ^ 64 - 1 }
         ensures exact { next_of result self.new ≡ hart self.old }
         ensures kept { Keeps result self.old self.new }
+        ensures near { IsNear result self.new }
     {
         let Some(word) = self.fetch() else {
             return StepEnd::Stopped(Cause::BadFetch);

@@ -1,4 +1,4 @@
-use Rattle.std.proofs.Common.{◌≡◌, ◌+◌, ℕ, ◌∙◌, sym, ap, Some, rules}
+use Rattle.std.proofs.Common.{◌+◌, ℕ, ◌∙◌, sym, ap, Some, rules}
 use Rattle.std.specs.Str.{bytes_eq}
 use Rattle.image_form.specs.Tables.{Sym}
 use Rattle.image_form.specs.Tables as tables

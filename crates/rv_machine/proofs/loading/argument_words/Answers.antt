@@ -1,4 +1,4 @@
-use Rattle.std.proofs.Common.{◌≡◌, ◌<◌, ◌≤◌, ℕ, List, ap, sym, ◌∙◌, length, get_or, option_map, arith, rules}
+use Rattle.std.proofs.Common.{◌≡◌, ◌<◌, ◌≤◌, List, ap, sym, ◌∙◌, length, get_or, option_map, arith}
 use Rattle.std.proofs.lemmas.List.{length-set}
 use Rattle.bs_words.specs.Contents.{contents}
 use Rattle.image_form.specs.Tables.{tables}

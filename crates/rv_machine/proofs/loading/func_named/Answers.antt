@@ -1,4 +1,4 @@
-use Rattle.std.proofs.Common.{◌≡◌, ◌∙◌, sym, rules}
+use Rattle.std.proofs.Common.{◌∙◌, sym, rules}
 use Rattle.std.specs.Str.{bytes_eq}
 use Rattle.image_form.specs.Tables.{Func, func}
 use Rattle.rv_machine.proofs.Found.{same_name, other_name, found_here, found_later}

@@ -1,5 +1,5 @@
 use Rattle.std.proofs.Common.{ℕ, length, List, ap, subst, sym, ◌∙◌, ◌*◌, ◌≤◌, arith}
-use Rattle.rv_machine.specs.Memory.{Region, words_of_bytes}
+use Rattle.rv_machine.specs.Memory.{Region}
 use Rattle.rv_machine.specs.Start.{data_region}
 use Rattle.rv_machine.proofs.Bytes64.{words_cover}
 use Rattle.rv_machine.proofs.start.data_region.Goals as goal

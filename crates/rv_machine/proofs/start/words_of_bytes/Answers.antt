@@ -1,4 +1,4 @@
-use Rattle.std.proofs.Common.{ℕ, List, [], ◌∷◌, ◌++◌, drop, ap, ◌∙◌, arith}
+use Rattle.std.proofs.Common.{ℕ, List, [], ◌∷◌, ◌++◌, drop, ap, ◌∙◌}
 use Rattle.rv_machine.specs.Memory.{number_of, words_of_bytes}
 use Rattle.rv_machine.proofs.Bytes64.{words_step}
 use Rattle.rv_machine.proofs.start.words_of_bytes.Goals as goal
