@@ -3,8 +3,8 @@ use Rattle.std.proofs.Common.{◌≡◌, ◌≢◌, ℕ, ◌+◌, ◌<◌, ◌�
 use Rattle.std.proofs.lemmas.List.{append_assoc, take-append-drop, drop_more}
 use Rattle.std.proofs.lemmas.List.Elements.{All-cons, All-head, All-tail, All-weaker, All-same}
 use Rattle.bs_words.specs.Word.{sub_word}
-use Rattle.command_line.specs.declared.arg.Arg.{Arg}
-use Rattle.command_line.specs.declared.arg.Arg.TheVariants.{Word, Symbol}
+use Rattle.rv_machine.specs.declared.setup.Arg.{Arg}
+use Rattle.rv_machine.specs.declared.setup.Arg.TheVariants.{Word, Symbol}
 use Rattle.command_line.specs.Values.{Nothing, IsName, number_of, IsNumber, IsItem, number, negative, symbol, AreItems, last, more, IsItems, none, some}
 
 abbrev NoComma : List ℕ → Type 0

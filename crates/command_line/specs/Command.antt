@@ -1,6 +1,6 @@
 -- Which words are which command.
 use Rattle.std.specs.Prelude.{◌≡◌, ℕ, ◌≤◌, ◌%◌, List, [], ◌∷◌}
-use Rattle.command_line.specs.declared.arg.Arg.{Arg}
+use Rattle.rv_machine.specs.declared.setup.Arg.{Arg}
 use Rattle.command_line.specs.declared.form.CommandWord.TheVariants as word
 use Rattle.command_line.specs.declared.form.Slot.{Slot}
 use Rattle.command_line.specs.declared.form.Slot.TheVariants.{Plain, Args, Answers, Steps, Stack, Heap}

@@ -1,8 +1,8 @@
 -- How the values of a command line are written.
 use Rattle.std.specs.Prelude.{◌≡◌, ◌≢◌, ℕ, ◌+◌, ◌-◌, ◌*◌, ◌%◌, ◌^◌, ◌<◌, ◌≤◌, List, [], ◌∷◌, ◌++◌, length, fold, All}
 use Rattle.bs_words.specs.Word.{sub_word}
-use Rattle.command_line.specs.declared.arg.Arg.{Arg}
-use Rattle.command_line.specs.declared.arg.Arg.TheVariants.{Word, Symbol}
+use Rattle.rv_machine.specs.declared.setup.Arg.{Arg}
+use Rattle.rv_machine.specs.declared.setup.Arg.TheVariants.{Word, Symbol}
 
 -- nothing has the property
 abbrev pub Nothing : {X : Type 0} → (X → Type 0) → Type 0

@@ -2,8 +2,8 @@
 ghost use Rattle.std.specs.Prelude.{◌≡◌};
 ghost use Rattle.command_line.specs.declared.command.WordsError.TheVariants.{OutOfMemory};
 
-use crate::arg::Arg;
 use bs_words::{List, Name};
+use rv_machine::Arg;
 use std::alloc::{AllocError, AllocFailed};
 use thiserror::Error;
 

@@ -6,15 +6,14 @@
 //! no option in two words.
 #![tactic(auto)]
 
-mod arg;
 mod command;
 mod form;
 mod read;
 mod values;
 
-pub use arg::Arg;
 pub use command::{Command, RunWords, WordsError};
 pub use read::read_words;
+pub use rv_machine::Arg;
 
 #[cfg(test)]
 mod tests;

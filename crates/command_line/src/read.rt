@@ -9,11 +9,11 @@ ghost use Rattle.command_line.specs.Words.{fills, WellFormed, IsForm, Gives};
 ghost use Rattle.command_line.specs.Command.{CommandTree, Sets, IsRun, IsCommand, KeepsLimits, default_steps, default_size};
 ghost use Rattle.command_line.specs.View.{texts, view, run_view};
 
-use crate::arg::Arg;
 use crate::command::{Command, RunWords, WordsError};
 use crate::form::{CommandWord, Slot, has_form};
 use crate::values;
 use bs_words::{List, Name};
+use rv_machine::Arg;
 use std::alloc::Global;
 
 /// The most instructions where no option says otherwise.

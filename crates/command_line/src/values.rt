@@ -4,9 +4,9 @@ ghost use Rattle.bs_words.specs.Contents.{contents};
 ghost use Rattle.command_line.specs.declared.command.WordsError.{WordsError};
 ghost use Rattle.command_line.specs.Values.{IsName, IsNumber, IsSteps, IsSize, IsItem, IsItems, Nothing};
 
-use crate::arg::Arg;
 use crate::command::WordsError;
 use bs_words::{List, Name, sub};
+use rv_machine::Arg;
 use std::alloc::Global;
 
 /// The most instructions that a run may be told to retire.

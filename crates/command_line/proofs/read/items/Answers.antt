@@ -1,7 +1,7 @@
 use Rattle.std.proofs.Common.{[]}
 use Rattle.bs_words.specs.Contents.{contents}
 use Rattle.bs_words.specs.declared.list.List.{List}
-use Rattle.command_line.specs.declared.arg.Arg.{Arg}
+use Rattle.rv_machine.specs.declared.setup.Arg.{Arg}
 use Rattle.command_line.specs.View.{texts}
 use Rattle.command_line.specs.Values.{IsItems}
 use Rattle.command_line.proofs.Gives.{sets_each, sets_nothing}

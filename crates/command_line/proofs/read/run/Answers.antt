@@ -1,6 +1,6 @@
 use Rattle.std.proofs.Common.{Err, IsErrOf, ℕ, rules, lit<}
 use Rattle.bs_words.specs.declared.list.List.{List}
-use Rattle.command_line.specs.declared.arg.Arg.{Arg}
+use Rattle.rv_machine.specs.declared.setup.Arg.{Arg}
 use Rattle.command_line.specs.declared.command.WordsError.TheVariants.{ValueText}
 use Rattle.command_line.specs.declared.form.Slot.TheVariants.{Heap}
 use Rattle.command_line.proofs.read.run.Goals as goal

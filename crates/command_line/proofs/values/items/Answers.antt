@@ -1,5 +1,5 @@
 use Rattle.std.proofs.Common.{List, Err, IsErrOf, sym, subst, ◌∙◌, rules}
-use Rattle.command_line.specs.declared.arg.Arg.{Arg}
+use Rattle.rv_machine.specs.declared.setup.Arg.{Arg}
 use Rattle.command_line.specs.declared.command.WordsError.TheVariants.{ValueText}
 use Rattle.command_line.specs.Values.{IsItems}
 use Rattle.command_line.proofs.Cuts.{GoesOn, step, end, full, fails, fails_last}
