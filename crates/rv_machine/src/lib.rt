@@ -20,7 +20,8 @@ mod step;
 pub mod step_end;
 
 pub use cause::Cause;
-pub use loading::load;
+pub use code::CODE_START;
+pub use loading::{load, word_of_arg};
 pub use machine::Machine;
 pub use setup::{Arg, LoadError, Setup};
 pub use step_end::StepEnd;

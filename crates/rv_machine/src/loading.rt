@@ -43,8 +43,8 @@ fn address_of(image: &Image, name: &Name) -> Option<u64>
     None
 }
 
-// The word of an argument.
-fn word_of_arg(image: &Image, arg: &Arg) -> Option<u64>
+/// The word of an argument: of a symbol its address, where the image has such a data symbol.
+pub fn word_of_arg(image: &Image, arg: &Arg) -> Option<u64>
     ensures { result ≡ word_of_arg (tables image.now) arg.now }
 {
     match arg {
