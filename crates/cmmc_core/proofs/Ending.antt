@@ -1,20 +1,27 @@
 -- How the parts of the top call put its end together.
 use Rattle.std.proofs.Common.{◌≡◌, ◌≢◌, ◌⊎◌, ℕ, ◌<◌, ◌≤◌, List, [], ◌++◌, length, take, drop, Option, Some, None, Result, Ok, Err, refl, sym, subst, inl, inr, arith, length-drop}
 use Rattle.std.specs.Io.KnownBytes.{Appends, Keeps, Consumes, IsAtEnd}
-use Rattle.std.specs.Prelude.{IfOk, IfErr}
+use Rattle.std.specs.Prelude.{IfOk, OnOk, IfErr}
 use Rattle.std.proofs.lemmas.List.{take-append-drop}
+use Rattle.bs_fault.specs.declared.image.ImageRefusal.{ImageRefusal}
+use Rattle.bs_fault.specs.declared.large.Large.{Large}
 use Rattle.bs_io.specs.Faults.{Risen}
 use Rattle.bs_io.specs.Whole.{AppendsPart}
 use Rattle.bs_words.specs.Contents.{contents}
 use Rattle.bs_words.specs.declared.list.List as code
-use Rattle.bs_fault.specs.declared.large.Large.{Large}
 use Rattle.cmm_tree.specs.Small.{longest_text}
+use Rattle.command_line.specs.Command.{IsCommand, CompileCommand, RunCommand, RunTree}
 use Rattle.image_form.specs.Image.{tables_bytes}
-use Rattle.cmmc_core.specs.Compile.{IsCompile, Compiles, ReadsNoText, ReadsTooLarge, IsNoText, Cause, too_large, no_memory, Ends, written, refused, out_fault, err_fault}
+use Rattle.image_form.specs.Tables.{Tables}
+use Rattle.cmmc_core.specs.Compile.{CompilesTo, ReadsNoText, ReadsTooLarge, IsNoText}
 use Rattle.cmmc_core.specs.Effects.{Side, side, Effects, IsKept, Got, GotPart, Tells, IsRead}
-use Rattle.cmmc_core.specs.Refusal.{SpellsImageOf, SpellsImageRead, IsRefusalOf, IsRefusalFrom, TellsLarge}
+use Rattle.cmmc_core.specs.Ends.{Output, spelling, outcome, Cause, no_memory, Ends, written, refused, out_fault, err_fault}
+use Rattle.cmmc_core.specs.Refusal.{SpellsImageOf, SpellsImageRead, IsRefusalOf, IsRefusalFrom, IsTextOf, IsUnfit, WritesRun, CutsRun, IsRunRefusal, WritesOutcome, CutsOutcome, IsRunRefusalFrom, TellsOr}
+use Rattle.cmmc_core.specs.Run.{IsSpelling, ReadsImage, IsOutcomeOf, longest_image}
 use Rattle.cmmc_core.specs.declared.compile.Refusal.{Refusal}
 use Rattle.cmmc_core.specs.declared.compile.Refusal.TheVariants.{ReadFault, NotBuilt, TooLarge, OutOfMemory}
+use Rattle.cmmc_core.specs.declared.run.RunRefusal.{RunRefusal}
+use Rattle.cmmc_core.specs.declared.run.RunRefusal.TheVariants as refusal
 
 -- what was not touched is kept
 pub Keeps-same : (known : Option (List ℕ)) → Keeps known known
@@ -34,7 +41,7 @@ GotPart-part s piece (count, short, appended) rose = record {
 
 -- a line was written, or could not be
 pub Ends-told : (words : List (List ℕ)) (e : Effects) (status result : ℕ) (line : List ℕ)
-    → Cause words e status line
+    → Cause words e.source status line
     → IsKept e.out
     → Tells e.err line status result
     → Ends words e result
@@ -43,31 +50,32 @@ Ends-told words e status result line cause kept (inl (same, got)) =
 Ends-told words e status result line cause kept (inr (same, part)) =
     subst (Ends words e) (sym same) (err_fault status line cause kept part)
 
--- the line of a section that is too large was told, or that there is no memory for it
-pub Ends-large : (words : List (List ℕ)) (e : Effects) (result : ℕ) (large : Large)
-    → IsCompile words
-    → ReadsTooLarge e.source large
+-- the same where there may be no memory for the line
+pub Ends-told-or : (words : List (List ℕ)) (e : Effects) (status result : ℕ) (line : List ℕ)
+    → Cause words e.source status line
     → IsKept e.out
-    → TellsLarge e.err large result
+    → TellsOr e.err line status result
     → Ends words e result
-Ends-large words e result large is read kept (inl told) = Ends-told words e 8 result _ (too_large large is read) kept told
-Ends-large words e result large is read kept (inr told) = Ends-told words e 9 result _ no_memory kept told
+Ends-told-or words e status result line cause kept (inl told) = Ends-told words e status result line cause kept told
+Ends-told-or words e status result line cause kept (inr told) = Ends-told words e 9 result _ no_memory kept told
+
+-- ---- compile
 
 -- the text that was read whole
 pub IsRead-whole : (limit : ℕ) (s : Side) (text : List ℕ) → Consumes s.before s.after text → IsAtEnd s.after → length text ≤ limit → IsRead limit s text
 IsRead-whole limit s text taken end short = record { taken = taken; whole = inl (short, end) }
 
--- the image of a text that was read is written, or in part
-pub Compiles-spelled : (words : List (List ℕ)) (s : Side) (bytes : List ℕ) → IsCompile words → (r : SpellsImageRead s bytes) → Compiles words s r.spells.image
-Compiles-spelled words s bytes is r = record { command = is; text = r.text; read = r.read; is_image = r.spells.is_image }
+-- what is written is the spelling of an image of the text that was read
+spells : (words : List (List ℕ)) (s : Side) (bytes : List ℕ) → IsCommand words CompileCommand → SpellsImageRead s bytes → Output words s bytes
+spells words s bytes is r =
+    subst (Output words s) (sym r.spells.spelled)
+    (spelling r.spells.image is (record { text = r.text; read = r.read; is_image = r.spells.is_image }))
 
-pub Ends-written : (words : List (List ℕ)) (e : Effects) (bytes : List ℕ) → IsCompile words → SpellsImageRead e.source bytes → Got e.out bytes → IsKept e.err → Ends words e 0
-Ends-written words e bytes is r got kept =
-    written r.spells.image (Compiles-spelled words e.source bytes is r) (subst (Got e.out) r.spells.spelled got) kept
+pub Ends-written : (words : List (List ℕ)) (e : Effects) (bytes : List ℕ) → IsCommand words CompileCommand → SpellsImageRead e.source bytes → Got e.out bytes → IsKept e.err → Ends words e 0
+Ends-written words e bytes is r got kept = written bytes (spells words e.source bytes is r) got kept
 
-pub Ends-cut : (words : List (List ℕ)) (e : Effects) (bytes : List ℕ) → IsCompile words → SpellsImageRead e.source bytes → GotPart e.out bytes → IsKept e.err → Ends words e 6
-Ends-cut words e bytes is r part kept =
-    out_fault r.spells.image (Compiles-spelled words e.source bytes is r) (subst (GotPart e.out) r.spells.spelled part) kept
+pub Ends-cut : (words : List (List ℕ)) (e : Effects) (bytes : List ℕ) → IsCommand words CompileCommand → SpellsImageRead e.source bytes → GotPart e.out bytes → IsKept e.err → Ends words e 6
+Ends-cut words e bytes is r part kept = out_fault bytes (spells words e.source bytes is r) part kept
 
 -- what a text that was read is refused for
 refusal_read : (s : Side) (text : List ℕ) (r : Refusal) → IsRead longest_text s text → IsRefusalOf text r → IsRefusalFrom s r
@@ -83,3 +91,43 @@ IfErr-read s text (Err w) read why = refusal_read s text w read why
 pub IfOk-read : (s : Side) (text : List ℕ) (r : Result (code.List ℕ) Refusal) → IsRead longest_text s text → IfOk r (λ b. SpellsImageOf text (contents b)) → IfOk r (λ b. SpellsImageRead s (contents b))
 IfOk-read s text (Ok bytes) read spells = record { text = text; read = read; spells = spells }
 IfOk-read s text (Err w) read spells = spells
+
+-- ---- run
+
+pub Ends-run : (words : List (List ℕ)) (e : Effects) (run : RunTree) → IsCommand words (RunCommand run) → WritesOutcome run e.source e.out → IsKept e.err → Ends words e 0
+Ends-run words e run is w kept = written w.text (outcome run w.text is w.is_outcome) w.got kept
+
+pub Ends-run-cut : (words : List (List ℕ)) (e : Effects) (run : RunTree) → IsCommand words (RunCommand run) → CutsOutcome run e.source e.out → IsKept e.err → Ends words e 6
+Ends-run-cut words e run is w kept = out_fault w.text (outcome run w.text is w.is_outcome) w.got kept
+
+-- the outcome of the image that was read
+of_read : (run : RunTree) (source : Side) (image : Tables) (text : List ℕ) → ReadsImage source image → IsTextOf run image text → IsOutcomeOf run source text
+of_read run source image text reads t = record {
+  image = image;
+  reads = reads;
+  entry = t.entry;
+  args = t.args;
+  answers = t.answers;
+  named = t.named;
+  suit = t.suit;
+  answered = t.answered;
+  told = t.told;
+}
+
+run_refused : (run : RunTree) (source out : Side) (image : Tables) (r : RunRefusal) → ReadsImage source image → IsRunRefusal run image out r → IsRunRefusalFrom run source out r
+run_refused run source out image refusal.ReadFault reads why = absurd why
+run_refused run source out image (refusal.Image w) reads why = absurd why
+run_refused run source out image refusal.UnknownEntry reads why = (why.0, record { image = image; reads = reads; unknown = why.1 })
+run_refused run source out image refusal.ArgumentUnfit reads why =
+    (why.0, record { image = image; reads = reads; entry = why.1.entry; named = why.1.named; unfit = why.1.unfit })
+run_refused run source out image refusal.WriteFault reads why =
+    record { text = why.text; is_outcome = of_read run source image why.text reads why.is_text; got = why.got }
+run_refused run source out image refusal.OutOfMemory reads why = why
+
+pub IfErr-run : (run : RunTree) (source out : Side) (image : Tables) (r : Result (Unit {0}) RunRefusal) → ReadsImage source image → IfErr r (λ w. IsRunRefusal run image out w) → IfErr r (λ w. IsRunRefusalFrom run source out w)
+IfErr-run run source out image (Ok u) reads why = why
+IfErr-run run source out image (Err w) reads why = run_refused run source out image w reads why
+
+pub OnOk-run : (run : RunTree) (source out : Side) (image : Tables) (r : Result (Unit {0}) RunRefusal) → ReadsImage source image → OnOk r (WritesRun run image out) → OnOk r (WritesOutcome run source out)
+OnOk-run run source out image (Ok u) reads w = record { text = w.text; is_outcome = of_read run source image w.text reads w.is_text; got = w.got }
+OnOk-run run source out image (Err e) reads w = w

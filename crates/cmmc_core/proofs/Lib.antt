@@ -1,3 +1,6 @@
 pub mod Reading
-pub mod Complete
+pub mod Answers
+pub mod Running
 pub mod Ending
+pub mod Spelled
+pub mod Complete

@@ -1,13 +1,19 @@
 -- That nothing but want of memory stands between good input and its output, where no count rose.
-use Rattle.std.specs.Prelude.{◌≡◌, ◌⊎◌, ℕ, List, Some, None}
+use Rattle.std.specs.Prelude.{◌≡◌, ◌⊎◌, ℕ, List, Some, None, Err}
 use Rattle.bs_fault.specs.declared.large.Large.{Large}
 use Rattle.cmm_tree.specs.Tree.{FileTree}
 use Rattle.cmm_tree.specs.Small.{SmallText}
+use Rattle.command_line.specs.Command.{IsCommand, CommandTree, CompileCommand, RunCommand, RunTree}
+use Rattle.command_line.specs.Words.{WellFormed}
 use Rattle.correctness.specs.Bounds.{IsRoomy}
+use Rattle.image_form.specs.Image.{AreTables, tables_bytes}
+use Rattle.image_form.specs.Tables.{Tables, Func}
+use Rattle.rv_machine.specs.Loading.{func_named, words_of_args}
 use Rattle.small_code.specs.Compiled.{compiled}
 use Rattle.small_code.specs.TooLarge.{first_too_large}
-use Rattle.cmmc_core.specs.Compile.{IsCompile}
+use Rattle.cmmc_core.specs.Compile.{IsNoText}
 use Rattle.cmmc_core.specs.Effects.{Effects, Rose}
+use Rattle.cmmc_core.specs.Run.{IsSpelling, words_of_answers}
 
 -- No count of faults rose in the call.
 pub record NoneRose (e : Effects) : Type 0 where
@@ -15,10 +21,29 @@ pub record NoneRose (e : Effects) : Type 0 where
   pub out : Rose e.out → ⊥
   pub err : Rose e.err → ⊥
 
-pub record Complete (words : List (List ℕ)) (e : Effects) (status : ℕ) : Type 0 where
-  pub words_refused : (IsCompile words → ⊥) → NoneRose e → (status ≡ 2) ⊎ (status ≡ 9)
+-- One status, but for want of memory.
+abbrev pub Is : ℕ → ℕ → Type 0
+Is wanted status = (status ≡ wanted) ⊎ (status ≡ 9)
+
+-- What `compile` comes to on a text that the source tells.
+pub record CompileComplete (text : List ℕ) (status : ℕ) : Type 0 where
   -- a text whose image fits is compiled
-  pub text_compiled : IsCompile words → NoneRose e → (text : List ℕ) (file : FileTree) → e.source.before ≡ Some text → SmallText text file → first_too_large (compiled file) ≡ None → (status ≡ 0) ⊎ (status ≡ 9)
-  pub roomy_compiled : IsCompile words → NoneRose e → (text : List ℕ) (file : FileTree) → e.source.before ≡ Some text → SmallText text file → IsRoomy file → (status ≡ 0) ⊎ (status ≡ 9)
-  pub large_refused : IsCompile words → NoneRose e → (text : List ℕ) (file : FileTree) (large : Large) → e.source.before ≡ Some text → SmallText text file → first_too_large (compiled file) ≡ Some large → (status ≡ 8) ⊎ (status ≡ 9)
-  pub other_refused : IsCompile words → NoneRose e → (text : List ℕ) → e.source.before ≡ Some text → ((file : FileTree) → SmallText text file → ⊥) → (status ≡ 3) ⊎ (status ≡ 9)
+  pub fits : (file : FileTree) → SmallText text file → first_too_large (compiled file) ≡ None → Is 0 status
+  pub roomy : (file : FileTree) → SmallText text file → IsRoomy file → Is 0 status
+  pub too_large : (file : FileTree) (large : Large) → SmallText text file → first_too_large (compiled file) ≡ Some large → Is 8 status
+  pub no_text : IsNoText text → Is 3 status
+
+-- What `run` comes to on bytes that the source tells.
+pub record RunComplete (run : RunTree) (bytes : List ℕ) (status : ℕ) : Type 0 where
+  -- an image whose entry, arguments and answers suit is run, whatever becomes of the run
+  pub outcome : (image : Tables) (entry : Func) (args answers : List ℕ) → IsSpelling bytes image → func_named run.entry image.funcs ≡ Some entry → words_of_args image entry.params run.args ≡ Some args → words_of_answers image run.answers ≡ Some answers → Is 0 status
+  pub no_entry : (image : Tables) → IsSpelling bytes image → func_named run.entry image.funcs ≡ None → Is 2 status
+  pub unfit_args : (image : Tables) (entry : Func) → IsSpelling bytes image → func_named run.entry image.funcs ≡ Some entry → words_of_args image entry.params run.args ≡ None → Is 2 status
+  pub unfit_answers : (image : Tables) (entry : Func) → IsSpelling bytes image → func_named run.entry image.funcs ≡ Some entry → words_of_answers image run.answers ≡ None → Is 2 status
+  pub no_image : ((image : Tables) → IsSpelling bytes image → ⊥) → Is 4 status
+
+pub record Complete (words : List (List ℕ)) (e : Effects) (status : ℕ) : Type 0 where
+  pub no_command : (WellFormed words → ⊥) → NoneRose e → Is 2 status
+  pub no_value : ((command : CommandTree) → IsCommand words command → ⊥) → NoneRose e → Is 2 status
+  pub compile : IsCommand words CompileCommand → NoneRose e → (text : List ℕ) → e.source.before ≡ Some text → CompileComplete text status
+  pub run : (run : RunTree) → IsCommand words (RunCommand run) → NoneRose e → (bytes : List ℕ) → e.source.before ≡ Some bytes → RunComplete run bytes status

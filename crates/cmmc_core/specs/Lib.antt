@@ -1,5 +1,7 @@
 pub mod Lines
 pub mod Effects
 pub mod Compile
+pub mod Run
+pub mod Ends
 pub mod Complete
 pub mod Refusal

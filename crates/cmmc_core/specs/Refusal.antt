@@ -1,15 +1,25 @@
--- What the parts of `compile` answer one another.
-use Rattle.std.specs.Prelude.{◌≡◌, ◌≢◌, ◌⊎◌, ⊤, ℕ, List}
-use Rattle.image_form.specs.Image.{tables_bytes}
-use Rattle.image_form.specs.Tables.{Tables}
-use Rattle.cmmc_core.specs.Compile.{IsImageOf, IsNoText, ReadsNoText, IsTooLarge, ReadsTooLarge}
-use Rattle.cmmc_core.specs.Effects.{Side, Rose, IsRead, Tells}
-use Rattle.cmmc_core.specs.Lines.{no_memory_line}
-use Rattle.bs_fault.specs.Lines.{large_line}
+-- What the parts of the program answer one another.
+use Rattle.std.specs.Prelude.{◌≡◌, ◌⊎◌, ⊤, ℕ, List, Option, Some, None}
+use Rattle.bs_fault.specs.Lines.{large_line, image_line}
+use Rattle.bs_fault.specs.declared.image.ImageRefusal.{ImageRefusal}
 use Rattle.bs_fault.specs.declared.large.Large.{Large}
 use Rattle.cmm_tree.specs.Small.{longest_text}
+use Rattle.command_line.specs.Command.{RunTree}
+use Rattle.image_form.specs.Image.{tables_bytes}
+use Rattle.image_form.specs.Tables.{Tables, Func}
+use Rattle.rv_machine.specs.Loading.{func_named, words_of_args}
+use Rattle.rv_machine.specs.Run.{machine_run}
+use Rattle.rv_machine.specs.Text.{outcome_text}
+use Rattle.cmmc_core.specs.Compile.{IsImageOf, IsNoText, ReadsNoText, IsTooLarge, ReadsTooLarge}
+use Rattle.cmmc_core.specs.Effects.{Side, Rose, IsRead, Tells, IsKept, Got, GotPart}
+use Rattle.cmmc_core.specs.Lines.{no_memory_line}
+use Rattle.cmmc_core.specs.Run.{IsOutcomeOf, IsNoImage, ReadsNoImage, NamesNoEntry, GivesUnfit, words_of_answers, no_moves}
 use Rattle.cmmc_core.specs.declared.compile.Refusal.{Refusal}
 use Rattle.cmmc_core.specs.declared.compile.Refusal.TheVariants.{ReadFault, NotBuilt, TooLarge, OutOfMemory}
+use Rattle.cmmc_core.specs.declared.run.RunRefusal.{RunRefusal}
+use Rattle.cmmc_core.specs.declared.run.RunRefusal.TheVariants as refusal
+
+-- ---- compile
 
 -- The bytes are the spelling of an image of the text.
 pub record SpellsImageOf (text bytes : List ℕ) : Type 0 where
@@ -37,6 +47,76 @@ IsRefusalFrom source NotBuilt = ReadsNoText source
 IsRefusalFrom source (TooLarge large) = ReadsTooLarge source large
 IsRefusalFrom source OutOfMemory = ⊤
 
--- the line of a section that is too large was told, or that there is no memory for it
-abbrev pub TellsLarge : Side → Large → ℕ → Type 0
-TellsLarge err large result = Tells err (large_line large) 8 result ⊎ Tells err no_memory_line 9 result
+-- ---- run
+
+-- The text is the outcome of this run of the image.
+pub record IsTextOf (run : RunTree) (image : Tables) (text : List ℕ) : Type 0 where
+  pub entry : Func
+  pub args : List ℕ
+  pub answers : List ℕ
+  pub named : func_named run.entry image.funcs ≡ Some entry
+  pub suit : words_of_args image entry.params run.args ≡ Some args
+  pub answered : words_of_answers image run.answers ≡ Some answers
+  pub told : text ≡ outcome_text (machine_run image entry args answers run.stack run.heap no_moves run.steps)
+
+-- The arguments or the answers do not suit the entry.
+pub record IsUnfit (run : RunTree) (image : Tables) : Type 0 where
+  pub entry : Func
+  pub named : func_named run.entry image.funcs ≡ Some entry
+  pub unfit : (words_of_args image entry.params run.args ≡ None) ⊎ (words_of_answers image run.answers ≡ None)
+
+-- out has the outcome
+pub record WritesRun (run : RunTree) (image : Tables) (out : Side) : Type 0 where
+  pub text : List ℕ
+  pub is_text : IsTextOf run image text
+  pub got : Got out text
+
+-- out has the front of the outcome
+pub record CutsRun (run : RunTree) (image : Tables) (out : Side) : Type 0 where
+  pub text : List ℕ
+  pub is_text : IsTextOf run image text
+  pub got : GotPart out text
+
+-- why an image has no outcome, or not the whole of it on out
+abbrev pub IsRunRefusal : RunTree → Tables → Side → RunRefusal → Type 0
+IsRunRefusal run image out refusal.ReadFault = ⊥
+IsRunRefusal run image out (refusal.Image why) = ⊥
+IsRunRefusal run image out refusal.UnknownEntry = IsKept out × (func_named run.entry image.funcs ≡ None)
+IsRunRefusal run image out refusal.ArgumentUnfit = IsKept out × IsUnfit run image
+IsRunRefusal run image out refusal.WriteFault = CutsRun run image out
+IsRunRefusal run image out refusal.OutOfMemory = IsKept out
+
+-- the outcome of the run of the image that was read is on out
+pub record WritesOutcome (run : RunTree) (source out : Side) : Type 0 where
+  pub text : List ℕ
+  pub is_outcome : IsOutcomeOf run source text
+  pub got : Got out text
+
+pub record CutsOutcome (run : RunTree) (source out : Side) : Type 0 where
+  pub text : List ℕ
+  pub is_outcome : IsOutcomeOf run source text
+  pub got : GotPart out text
+
+-- why a source has no outcome, or not the whole of it on out
+abbrev pub IsRunRefusalFrom : RunTree → Side → Side → RunRefusal → Type 0
+IsRunRefusalFrom run source out refusal.ReadFault = IsKept out × Rose source
+IsRunRefusalFrom run source out (refusal.Image why) = IsKept out × ReadsNoImage source why
+IsRunRefusalFrom run source out refusal.UnknownEntry = IsKept out × NamesNoEntry run source
+IsRunRefusalFrom run source out refusal.ArgumentUnfit = IsKept out × GivesUnfit run source
+IsRunRefusalFrom run source out refusal.WriteFault = CutsOutcome run source out
+IsRunRefusalFrom run source out refusal.OutOfMemory = IsKept out
+
+-- why nothing was read
+abbrev pub IsUnread : Side → RunRefusal → Type 0
+IsUnread source refusal.ReadFault = Rose source
+IsUnread source (refusal.Image why) = ⊥
+IsUnread source refusal.UnknownEntry = ⊥
+IsUnread source refusal.ArgumentUnfit = ⊥
+IsUnread source refusal.WriteFault = ⊥
+IsUnread source refusal.OutOfMemory = ⊤
+
+-- ---- lines for which there may be no memory
+
+-- the line was told, or that there is no memory for it
+abbrev pub TellsOr : Side → List ℕ → ℕ → ℕ → Type 0
+TellsOr err line status result = Tells err line status result ⊎ Tells err no_memory_line 9 result

@@ -3,6 +3,7 @@
 
 mod compile;
 mod line;
+mod run;
 mod top;
 
 pub use top::cmmc;

@@ -1,9 +1,10 @@
 //! The lines on err, and the statuses.
 ghost use Rattle.std.specs.Prelude.{◌≡◌};
 ghost use Rattle.cmmc_core.specs.Effects.{side, Tells};
-ghost use Rattle.cmmc_core.specs.Refusal.{TellsLarge};
+ghost use Rattle.bs_fault.specs.Lines.{large_line, image_line};
+ghost use Rattle.cmmc_core.specs.Refusal.{TellsOr};
 
-use bs_fault::{Large, large_text};
+use bs_fault::{ImageRefusal, Large, image_text, large_text};
 use bs_io::{Sink, write_all};
 use std::alloc::Global;
 
@@ -15,6 +16,9 @@ pub const USAGE: u8 = 2;
 
 /// The text is refused.
 pub const NOT_BUILT: u8 = 3;
+
+/// The bytes are no image.
+pub const NO_IMAGE: u8 = 4;
 
 /// A read failed.
 pub const READ_FAULT: u8 = 5;
@@ -40,10 +44,20 @@ pub fn tell<E: Sink>(err: &mut E, line: &[u8], status: u8) -> u8
 
 /// Writes the line of a section that is too large, for which there may be no memory.
 pub fn tell_large<E: Sink>(alloc: Global, err: &mut E, large: &Large) -> u8
-    ensures { let err_side = side (E.held err.old) (E.held err.new) (E.faults err.old) (E.faults err.new) in TellsLarge err_side large.now result }
+    ensures { let err_side = side (E.held err.old) (E.held err.new) (E.faults err.old) (E.faults err.new) in TellsOr err_side (large_line large.now) 8 result }
 {
     match large_text(alloc, large) {
         Ok(line) => tell(err, line.as_slice(), TOO_LARGE),
+        Err(_) => tell(err, b"cmmc: no memory\n", NO_MEMORY),
+    }
+}
+
+/// Writes the line of bytes that are no image, for which there may be no memory.
+pub fn tell_image<E: Sink>(alloc: Global, err: &mut E, refusal: &ImageRefusal) -> u8
+    ensures { let err_side = side (E.held err.old) (E.held err.new) (E.faults err.old) (E.faults err.new) in TellsOr err_side (image_line refusal.now) 4 result }
+{
+    match image_text(alloc, refusal) {
+        Ok(line) => tell(err, line.as_slice(), NO_IMAGE),
         Err(_) => tell(err, b"cmmc: no memory\n", NO_MEMORY),
     }
 }

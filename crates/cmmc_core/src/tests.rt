@@ -60,16 +60,13 @@ fn call(alloc: Global, line: &str, input: &[u8], devices: Devices) -> Result<End
     Ok(Ended { status, out, err })
 }
 
+const ADD3: &[u8] = b"(function \"add3\" (x:int y:int) (+ x (+ y 3)))";
+
 #[test]
 fn words_and_texts(rt: HostRuntime) -> Result<(), Fail> {
-    let cases: [(&str, &[u8], u8, &[u8]); 12] = [
+    let cases: [(&str, &[u8], u8, &[u8]); 14] = [
         ("compile", b"", 0, b""),
-        (
-            "compile",
-            b"(function \"add3\" (x:int y:int) (+ x (+ y 3)))",
-            0,
-            b"",
-        ),
+        ("compile", ADD3, 0, b""),
         (
             "compile",
             b"(function \"a\" () 1) (function \"b\" (x:int) (and x (- 0 x)))",
@@ -115,6 +112,8 @@ fn words_and_texts(rt: HostRuntime) -> Result<(), Fail> {
         ("compiler", b"", 2, b"cmmc: U1 Words\n"),
         ("compile compile", b"", 2, b"cmmc: U1 Words\n"),
         ("", b"", 2, b"cmmc: U1 Words\n"),
+        ("run", b"", 2, b"cmmc: U1 Words\n"),
+        ("run f --stack=8", b"", 2, b"cmmc: U2 ValueText\n"),
     ];
     for (line, input, status, told) in cases {
         let ended = call(rt.alloc(), line, input, SOUND)?;
@@ -122,6 +121,49 @@ fn words_and_texts(rt: HostRuntime) -> Result<(), Fail> {
         assert_eq!(rt; ended.err.bytes(), told);
         assert!(rt; ended.out.bytes().is_empty() == (status != 0));
     }
+    Ok(())
+}
+
+#[test]
+fn a_compiled_text_runs(rt: HostRuntime) -> Result<(), Fail> {
+    let image = call(rt.alloc(), "compile", ADD3, SOUND)?;
+    let cases: [(&str, u8, &[u8], &[u8]); 8] = [
+        ("run add3 --args=3,4", 0, b"returned 10\n", b""),
+        (
+            "run --args=9223372036854775807,1 add3",
+            0,
+            b"returned -9223372036854775805\n",
+            b"",
+        ),
+        ("run add3 --args=3,4 --steps=0", 0, b"more\n", b""),
+        ("run add3 --args=3,4 --stack=0", 0, b"stack out\n", b""),
+        ("run add3 --args=3", 2, b"", b"cmmc: U4 ArgumentUnfit\n"),
+        (
+            "run add3 --args=3,4 --answers=@none",
+            2,
+            b"",
+            b"cmmc: U4 ArgumentUnfit\n",
+        ),
+        ("run add3 --args=3,,4", 2, b"", b"cmmc: U2 ValueText\n"),
+        ("run add4 --args=3,4", 2, b"", b"cmmc: U3 UnknownEntry\n"),
+    ];
+    for (line, status, written, told) in cases {
+        let ended = call(rt.alloc(), line, image.out.bytes(), SOUND)?;
+        assert_eq!(rt; ended.status, status);
+        assert_eq!(rt; ended.out.bytes(), written);
+        assert_eq!(rt; ended.err.bytes(), told);
+    }
+    Ok(())
+}
+
+#[test]
+fn images_that_are_none(rt: HostRuntime) -> Result<(), Fail> {
+    let cut = call(rt.alloc(), "run f", &EMPTY_IMAGE[..133], SOUND)?;
+    assert_eq!(rt; cut.status, 4);
+    assert_eq!(rt; cut.err.bytes(), b"cmmc: G1 Truncated at 133\n".as_slice());
+    let whole = call(rt.alloc(), "run f", EMPTY_IMAGE.as_slice(), SOUND)?;
+    assert_eq!(rt; whole.status, 2);
+    assert_eq!(rt; whole.err.bytes(), b"cmmc: U3 UnknownEntry\n".as_slice());
     Ok(())
 }
 

@@ -1,21 +1,24 @@
 //! The top call.
-ghost use Rattle.std.specs.Prelude.{map, string_bytes, IsTrue, ◌↔◌};
-ghost use Rattle.cmmc_core.specs.Compile.{Ends, IsCompile};
+ghost use Rattle.command_line.specs.View.{texts};
 ghost use Rattle.cmmc_core.specs.Complete.{Complete};
 ghost use Rattle.cmmc_core.specs.Effects.{side, effects};
+ghost use Rattle.cmmc_core.specs.Ends.{Ends};
 
 use crate::compile::{Refusal, compile_source};
 use crate::line::{
-    NO_MEMORY, NOT_BUILT, READ_FAULT, USAGE, WRITE_FAULT, WRITTEN, tell, tell_large,
+    NO_MEMORY, NOT_BUILT, READ_FAULT, USAGE, WRITE_FAULT, WRITTEN, tell, tell_image, tell_large,
 };
+use crate::run::{RunRefusal, run_source};
 use bs_io::{Sink, Source, write_all};
+use command_line::{Command, WordsError, read_words};
 use std::alloc::Global;
 
 /// Does what the words say, and answers the status with which the program ends.
 ///
-/// `words` are those of the command line without the program's name. The one command is `compile`, which
-/// reads a Cmm text from `source` and writes its image to `out`. At status 0 nothing is written to `err`;
-/// at any other nothing but the front of the image is written to `out`.
+/// `words` are those of the command line without the program's name. `compile` reads a Cmm text from
+/// `source` and writes its image to `out`; `run ENTRY` reads an image and writes the outcome of a run of
+/// that function. At status 0 nothing is written to `err`; at any other nothing but the front of the
+/// output is written to `out`.
 pub fn cmmc<S: Source, K: Sink, E: Sink>(
     alloc: Global,
     words: &[String],
@@ -23,8 +26,8 @@ pub fn cmmc<S: Source, K: Sink, E: Sink>(
     out: &mut K,
     err: &mut E,
 ) -> u8
-    ensures ends { Ends (map string_bytes words.now) (effects (side (S.left source.old) (S.left source.new) (S.faults source.old) (S.faults source.new)) (side (K.held out.old) (K.held out.new) (K.faults out.old) (K.faults out.new)) (side (E.held err.old) (E.held err.new) (E.faults err.old) (E.faults err.new))) result }
-    ensures complete { Complete (map string_bytes words.now) (effects (side (S.left source.old) (S.left source.new) (S.faults source.old) (S.faults source.new)) (side (K.held out.old) (K.held out.new) (K.faults out.old) (K.faults out.new)) (side (E.held err.old) (E.held err.new) (E.faults err.old) (E.faults err.new))) result }
+    ensures ends { Ends (texts words.now) (effects (side (S.left source.old) (S.left source.new) (S.faults source.old) (S.faults source.new)) (side (K.held out.old) (K.held out.new) (K.faults out.old) (K.faults out.new)) (side (E.held err.old) (E.held err.new) (E.faults err.old) (E.faults err.new))) result }
+    ensures complete { Complete (texts words.now) (effects (side (S.left source.old) (S.left source.new) (S.faults source.old) (S.faults source.new)) (side (K.held out.old) (K.held out.new) (K.faults out.old) (K.faults out.new)) (side (E.held err.old) (E.held err.new) (E.faults err.old) (E.faults err.new))) result }
 {
     dispatch(alloc, words, source, out, err)
 }
@@ -37,29 +40,30 @@ fn dispatch<S: Source, K: Sink, E: Sink>(
     out: &mut K,
     err: &mut E,
 ) -> u8
-    ensures { Ends (map string_bytes words.now) (effects (side (S.left source.old) (S.left source.new) (S.faults source.old) (S.faults source.new)) (side (K.held out.old) (K.held out.new) (K.faults out.old) (K.faults out.new)) (side (E.held err.old) (E.held err.new) (E.faults err.old) (E.faults err.new))) result }
+    ensures { Ends (texts words.now) (effects (side (S.left source.old) (S.left source.new) (S.faults source.old) (S.faults source.new)) (side (K.held out.old) (K.held out.new) (K.faults out.old) (K.faults out.new)) (side (E.held err.old) (E.held err.new) (E.faults err.old) (E.faults err.new))) result }
 {
-    if !is_compile(words) {
-        return tell(err, b"cmmc: U1 Words\n", USAGE);
-    }
-    match compile_source(alloc, source) {
-        Ok(bytes) => match write_all(out, bytes.as_slice()) {
-            Ok(()) => WRITTEN,
-            Err(_) => WRITE_FAULT,
+    match read_words(alloc, words) {
+        Ok(Command::Compile) => match compile_source(alloc, source) {
+            Ok(bytes) => match write_all(out, bytes.as_slice()) {
+                Ok(()) => WRITTEN,
+                Err(_) => WRITE_FAULT,
+            },
+            Err(Refusal::NotBuilt) => tell(err, b"cmmc: not built\n", NOT_BUILT),
+            Err(Refusal::ReadFault) => tell(err, b"cmmc: read fault\n", READ_FAULT),
+            Err(Refusal::TooLarge(large)) => tell_large(alloc, err, &large),
+            Err(Refusal::OutOfMemory) => tell(err, b"cmmc: no memory\n", NO_MEMORY),
         },
-        Err(Refusal::NotBuilt) => tell(err, b"cmmc: not built\n", NOT_BUILT),
-        Err(Refusal::ReadFault) => tell(err, b"cmmc: read fault\n", READ_FAULT),
-        Err(Refusal::TooLarge(large)) => tell_large(alloc, err, &large),
-        Err(Refusal::OutOfMemory) => tell(err, b"cmmc: no memory\n", NO_MEMORY),
-    }
-}
-
-/// Whether the words are the command `compile`.
-fn is_compile(words: &[String]) -> bool
-    ensures { IsTrue result ↔ IsCompile (map string_bytes words.now) }
-{
-    match words {
-        [word] => word.as_str() == "compile",
-        _ => false,
+        Ok(Command::Run(run)) => match run_source(alloc, run, source, out) {
+            Ok(()) => WRITTEN,
+            Err(RunRefusal::WriteFault) => WRITE_FAULT,
+            Err(RunRefusal::ReadFault) => tell(err, b"cmmc: read fault\n", READ_FAULT),
+            Err(RunRefusal::Image(refusal)) => tell_image(alloc, err, &refusal),
+            Err(RunRefusal::UnknownEntry) => tell(err, b"cmmc: U3 UnknownEntry\n", USAGE),
+            Err(RunRefusal::ArgumentUnfit) => tell(err, b"cmmc: U4 ArgumentUnfit\n", USAGE),
+            Err(RunRefusal::OutOfMemory) => tell(err, b"cmmc: no memory\n", NO_MEMORY),
+        },
+        Err(WordsError::Words) => tell(err, b"cmmc: U1 Words\n", USAGE),
+        Err(WordsError::ValueText) => tell(err, b"cmmc: U2 ValueText\n", USAGE),
+        Err(WordsError::OutOfMemory) => tell(err, b"cmmc: no memory\n", NO_MEMORY),
     }
 }

@@ -3,4 +3,4 @@ mod Gives
 mod Numbers
 pub mod Order
 mod Tested
-mod Unique
+pub mod Unique

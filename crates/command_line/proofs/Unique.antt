@@ -125,3 +125,8 @@ within others r is =
       heap = heap.0;
       heap_aligned = heap.1;
     }
+
+-- the words of a command have the form of one
+pub command-formed : (words : List (List ℕ)) (command : CommandTree) → IsCommand words command → WellFormed words
+command-formed words command (compile others begins form) = record { command = word.Compile; others = others; begins = begins; form = form }
+command-formed words command (run others r begins form is) = record { command = word.Run; others = others; begins = begins; form = form }

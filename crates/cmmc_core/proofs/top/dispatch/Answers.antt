@@ -1,39 +1,84 @@
-use Rattle.std.proofs.Common.{refl, sym, ◌∙◌, subst}
-use Rattle.std.proofs.lemmas.Bool.{false≢true}
+use Rattle.std.proofs.Common.{Err, ap, refl, sym}
 use Rattle.bs_words.specs.Contents.{contents}
-use Rattle.cmmc_core.specs.Compile.{no_command, no_text, read_fault, no_memory}
-use Rattle.cmmc_core.specs.Effects.{Got, GotPart}
-use Rattle.cmmc_core.proofs.Ending.{Keeps-same, GotPart-part, Ends-told, Ends-large, Ends-written, Ends-cut}
+use Rattle.cmmc_core.specs.Ends.{no_command, no_value, read_fault, no_text, too_large, no_image, no_entry, unfit, no_memory}
+use Rattle.cmmc_core.proofs.Ending.{Keeps-same, GotPart-part, Ends-told, Ends-told-or, Ends-written, Ends-cut, Ends-run, Ends-run-cut}
 use Rattle.cmmc_core.proofs.top.dispatch.Goals as goal
 
-pub returns-then-not-is_compile : goal.returns-then-not-is_compile
-returns-then-not-is_compile g c =
-    Ends-told _ _ 2 _ _ (no_command (λ is. false≢true (sym c.if-not-is_compile.true ∙ c.is_compile.ensures.1 is))) (Keeps-same _) c.tell.ensures
+-- ---- compile
 
 pub returns-in-Ok-write_all : goal.returns-in-Ok-write_all
 returns-in-Ok-write_all g c =
-    Ends-written _ _ (contents c.in-Ok.bytes) (c.is_compile.ensures.0 c.if-not-is_compile.false) c.in-Ok.ensures.image
+    Ends-written _ _ (contents c.in-Ok.bytes) (rw c.in-Ok-Compile.field-0-is at c.in-Ok-Compile.ensures.command) c.in-Ok.ensures.image
     (rw c.as_slice.ensures at c.in-Ok-write_all.ensures.all) (Keeps-same _)
 
 pub returns-in-Ok : goal.returns-in-Ok
 returns-in-Ok g c =
-    Ends-cut _ _ (contents c.in-Ok.bytes) (c.is_compile.ensures.0 c.if-not-is_compile.false) c.in-Ok.ensures.image
+    Ends-cut _ _ (contents c.in-Ok.bytes) (rw c.in-Ok-Compile.field-0-is at c.in-Ok-Compile.ensures.command) c.in-Ok.ensures.image
     (rw c.as_slice.ensures at (GotPart-part _ _ c.in-Err.ensures.part c.in-Err.ensures.failed)) (Keeps-same _)
 
 pub returns-in-Err-NotBuilt : goal.returns-in-Err-NotBuilt
 returns-in-Err-NotBuilt g c =
-    Ends-told _ _ 3 _ _ (no_text (c.is_compile.ensures.0 c.if-not-is_compile.false)
-    (rw c.in-Err-NotBuilt.field-0-is at c.in-Err-NotBuilt.ensures.refused)) (Keeps-same _) c.tell-in-Err-NotBuilt.ensures
+    Ends-told _ _ 3 _ _ (no_text (rw c.in-Ok-Compile.field-0-is at c.in-Ok-Compile.ensures.command)
+    (rw c.in-Err-NotBuilt.field-0-is at c.in-Err-NotBuilt.ensures.refused)) (Keeps-same _) c.tell.ensures
 
 pub returns-in-Err-ReadFault : goal.returns-in-Err-ReadFault
 returns-in-Err-ReadFault g c =
-    Ends-told _ _ 5 _ _ (read_fault (c.is_compile.ensures.0 c.if-not-is_compile.false)
+    Ends-told _ _ 5 _ _ (read_fault _ c.in-Ok-Compile.ensures.command
     (rw c.in-Err-ReadFault.field-0-is at c.in-Err-ReadFault.ensures.refused)) (Keeps-same _) c.tell-in-Err-ReadFault.ensures
 
 pub returns-in-Err-TooLarge : goal.returns-in-Err-TooLarge
 returns-in-Err-TooLarge g c =
-    Ends-large _ _ _ _ (c.is_compile.ensures.0 c.if-not-is_compile.false)
-    (rw c.in-Err-TooLarge.field-0-is at c.in-Err-TooLarge.ensures.refused) (Keeps-same _) c.tell_large.ensures
+    Ends-told-or _ _ 8 _ _ (too_large _ (rw c.in-Ok-Compile.field-0-is at c.in-Ok-Compile.ensures.command)
+    (rw c.in-Err-TooLarge.field-0-is at c.in-Err-TooLarge.ensures.refused)) (Keeps-same _) c.tell_large.ensures
+
+pub returns-in-Ok-Compile : goal.returns-in-Ok-Compile
+returns-in-Ok-Compile g c = Ends-told _ _ 9 _ _ no_memory (Keeps-same _) c.tell-in-Err-OutOfMemory-compile_source.ensures
+
+-- ---- run
+
+pub returns-in-Ok-run_source : goal.returns-in-Ok-run_source
+returns-in-Ok-run_source g c = Ends-run _ _ _ (rw c.in-Ok-Run.field-0-is at c.in-Ok-Run.ensures.command) c.in-Ok-run_source.ensures.written (Keeps-same _)
+
+pub returns-in-Err-WriteFault : goal.returns-in-Err-WriteFault
+returns-in-Err-WriteFault g c =
+    Ends-run-cut _ _ _ (rw c.in-Ok-Run.field-0-is at c.in-Ok-Run.ensures.command)
+    (rw c.in-Err-WriteFault.field-0-is at c.in-Err-WriteFault.ensures.refused) (Keeps-same _)
+
+pub returns-in-Err-ReadFault-run_source : goal.returns-in-Err-ReadFault-run_source
+returns-in-Err-ReadFault-run_source g c =
+    let why = rw c.in-Err-ReadFault-run_source.field-0-is at c.in-Err-ReadFault-run_source.ensures.refused in
+    Ends-told _ _ 5 _ _ (read_fault _ c.in-Ok-Run.ensures.command why.1) why.0 c.tell-in-Err-ReadFault-run_source.ensures
+
+pub returns-in-Err-Image : goal.returns-in-Err-Image
+returns-in-Err-Image g c =
+    let why = rw c.in-Err-Image.field-0-is at c.in-Err-Image.ensures.refused in
+    Ends-told-or _ _ 4 _ _ (no_image _ _ (rw c.in-Ok-Run.field-0-is at c.in-Ok-Run.ensures.command) why.1) why.0 c.tell_image.ensures
+
+pub returns-in-Err-UnknownEntry : goal.returns-in-Err-UnknownEntry
+returns-in-Err-UnknownEntry g c =
+    let why = rw c.in-Err-UnknownEntry.field-0-is at c.in-Err-UnknownEntry.ensures.refused in
+    Ends-told _ _ 2 _ _ (no_entry _ (rw c.in-Ok-Run.field-0-is at c.in-Ok-Run.ensures.command) why.1) why.0 c.tell-in-Err-UnknownEntry.ensures
+
+pub returns-in-Err-ArgumentUnfit : goal.returns-in-Err-ArgumentUnfit
+returns-in-Err-ArgumentUnfit g c =
+    let why = rw c.in-Err-ArgumentUnfit.field-0-is at c.in-Err-ArgumentUnfit.ensures.refused in
+    Ends-told _ _ 2 _ _ (unfit _ (rw c.in-Ok-Run.field-0-is at c.in-Ok-Run.ensures.command) why.1) why.0 c.tell-in-Err-ArgumentUnfit.ensures
+
+pub returns-in-Ok-Run : goal.returns-in-Ok-Run
+returns-in-Ok-Run g c =
+    let why = rw c.in-Err-OutOfMemory-run_source.field-0-is at c.in-Err-OutOfMemory-run_source.ensures.refused in
+    Ends-told _ _ 9 _ _ no_memory why c.tell-in-Err-OutOfMemory-run_source.ensures
+
+-- ---- words
+
+pub returns-in-Err-Words : goal.returns-in-Err-Words
+returns-in-Err-Words g c =
+    Ends-told _ _ 2 _ _ (no_command (c.in-Err-Words.ensures.misformed (ap Err c.in-Err-Words.field-0-is))) (Keeps-same _) c.tell-in-Err-Words.ensures
+
+pub returns-in-Err-ValueText : goal.returns-in-Err-ValueText
+returns-in-Err-ValueText g c =
+    let is = c.in-Err-ValueText.field-0-is in
+    Ends-told _ _ 2 _ _ (no_value (c.in-Err-ValueText.ensures.formed (λ e. cc)) (c.in-Err-ValueText.ensures.bad (ap Err is))) (Keeps-same _) c.tell-in-Err-ValueText.ensures
 
 pub returns : goal.returns
 returns g c = Ends-told _ _ 9 _ _ no_memory (Keeps-same _) c.tell-in-Err-OutOfMemory.ensures

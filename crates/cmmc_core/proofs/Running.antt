@@ -1,0 +1,93 @@
+-- What a loaded machine, or none, says of the image and the words.
+use Rattle.std.proofs.Common.{◌≡◌, ◌⊎◌, ℕ, List, Option, Some, None, Result, Ok, Err, refl, sym, ap, ◌∙◌, subst, inl, inr}
+use Rattle.std.specs.Io.KnownBytes.{Appends}
+use Rattle.bs_io.specs.Faults.{Risen}
+use Rattle.bs_io.specs.Whole.{AppendsPart}
+use Rattle.bs_words.specs.Contents.{contents}
+use Rattle.command_line.specs.Command.{RunTree}
+use Rattle.image_form.specs.Image.{AreTables, tables_bytes}
+use Rattle.image_form.specs.Tables.{Tables, Func}
+use Rattle.mover_runtime.proofs.Loaded.{loaded_run}
+use Rattle.mover_runtime.specs.Outcome.{run_of}
+use Rattle.mover_runtime.specs.declared.outcome.Schedule.TheVariants.{Never}
+use Rattle.rv_machine.specs.Hart.{Hart}
+use Rattle.rv_machine.specs.Loading.{func_named, words_of_args, begins_with, begins_at, beginning}
+use Rattle.rv_machine.specs.Start.{start}
+use Rattle.rv_machine.specs.Text.{outcome_text}
+use Rattle.rv_machine.specs.declared.setup.Arg.{Arg}
+use Rattle.rv_machine.specs.declared.setup.LoadError.{LoadError}
+use Rattle.rv_machine.specs.declared.setup.LoadError.TheVariants.{UnknownEntry, ArgumentUnfit}
+use Rattle.rv_machine.specs.declared.setup.Setup.{Setup}
+use Rattle.cmmc_core.specs.Refusal.{IsTextOf, IsUnfit}
+use Rattle.cmmc_core.specs.Run.{words_of_answers}
+
+-- A machine stands where the run of a setup begins.
+pub record Begun (image : Tables) (setup : Setup) (h : Hart) : Type 0 where
+  pub entry : Func
+  pub args : List ℕ
+  pub named : func_named setup.entry image.funcs ≡ Some entry
+  pub suit : words_of_args image entry.params (contents setup.args) ≡ Some args
+  pub is_start : h ≡ start image entry args setup.stack setup.heap
+
+module _ (image : Tables) (setup : Setup) where
+  begun_with : (h : Hart) (entry : Func) (o : Option (List ℕ)) → func_named setup.entry image.funcs ≡ Some entry
+      → words_of_args image entry.params (contents setup.args) ≡ o → begins_with image setup entry o ≡ Ok h → Begun image setup h
+  begun_with h entry None named suit is = absurd (cc)
+  begun_with h entry (Some args) named suit is =
+      record { entry = entry; args = args; named = named; suit = suit; is_start = (let same : h ≡ start image entry args setup.stack setup.heap = cc in same) }
+
+  begun_at : (h : Hart) (o : Option Func) → func_named setup.entry image.funcs ≡ o → begins_at image setup o ≡ Ok h → Begun image setup h
+  begun_at h None named is = absurd (cc)
+  begun_at h (Some entry) named is = begun_with h entry (words_of_args image entry.params (contents setup.args)) named refl is
+
+  unknown_with : (entry : Func) (o : Option (List ℕ)) → begins_with image setup entry o ≡ Err UnknownEntry → ⊥
+  unknown_with entry None is = cc
+  unknown_with entry (Some args) is = cc
+
+  unknown_at : (o : Option Func) → begins_at image setup o ≡ Err UnknownEntry → o ≡ None
+  unknown_at None is = refl
+  unknown_at (Some entry) is = absurd (unknown_with entry (words_of_args image entry.params (contents setup.args)) is)
+
+  unfit_with : (entry : Func) (o : Option (List ℕ)) → begins_with image setup entry o ≡ Err ArgumentUnfit → o ≡ None
+  unfit_with entry None is = refl
+  unfit_with entry (Some args) is = absurd (cc)
+
+  unfit_at : (run : RunTree) (o : Option Func) → run.entry ≡ setup.entry → run.args ≡ contents setup.args
+      → func_named setup.entry image.funcs ≡ o → begins_at image setup o ≡ Err ArgumentUnfit → IsUnfit run image
+  unfit_at run None entry_is args_are named is = absurd (cc)
+  unfit_at run (Some entry) entry_is args_are named is = record {
+    entry = entry;
+    named = ap (λ n. func_named n image.funcs) entry_is ∙ named;
+    unfit = inl (ap (words_of_args image entry.params) args_are ∙ unfit_with entry (words_of_args image entry.params (contents setup.args)) is);
+  }
+
+  pub begun : (h : Hart) → beginning image setup ≡ Ok h → Begun image setup h
+  begun h is = begun_at h (func_named setup.entry image.funcs) refl is
+
+  pub unknown : beginning image setup ≡ Err UnknownEntry → func_named setup.entry image.funcs ≡ None
+  unknown is = unknown_at (func_named setup.entry image.funcs) is
+
+  pub unfit : (run : RunTree) → run.entry ≡ setup.entry → run.args ≡ contents setup.args → beginning image setup ≡ Err ArgumentUnfit → IsUnfit run image
+  unfit run entry_is args_are is = unfit_at run (func_named setup.entry image.funcs) entry_is args_are refl is
+
+-- answers of which one has no word
+pub unfit-answers : (image : Tables) (setup : Setup) (h : Hart) (run : RunTree) → run.entry ≡ setup.entry → Begun image setup h → words_of_answers image run.answers ≡ None → IsUnfit run image
+unfit-answers image setup h run entry_is b none =
+    record { entry = b.entry; named = ap (λ n. func_named n image.funcs) entry_is ∙ b.named; unfit = inr none }
+
+-- the text that a loaded machine's run writes
+pub text-of : (image : Tables) (setup : Setup) (h : Hart) (run : RunTree) (answers : List ℕ) → AreTables image → Begun image setup h
+    → run.entry ≡ setup.entry → run.args ≡ contents setup.args → run.stack ≡ setup.stack → run.heap ≡ setup.heap
+    → words_of_answers image run.answers ≡ Some answers → IsTextOf run image (outcome_text (run_of h answers Never run.steps))
+text-of image setup h run answers tables b entry_is args_are stack_is heap_is answered = record {
+  entry = b.entry;
+  args = b.args;
+  answers = answers;
+  named = ap (λ n. func_named n image.funcs) entry_is ∙ b.named;
+  suit = ap (words_of_args image b.entry.params) args_are ∙ b.suit;
+  answered = answered;
+  told = ap outcome_text
+      (ap (λ (m : Hart). run_of m answers Never run.steps)
+      (b.is_start ∙ ap (λ (s : ℕ). start image b.entry b.args s setup.heap) (sym stack_is) ∙ ap (λ (p : ℕ). start image b.entry b.args run.stack p) (sym heap_is))
+      ∙ loaded_run image setup.entry b.entry b.args answers run.stack run.heap Never run.steps tables b.named);
+}

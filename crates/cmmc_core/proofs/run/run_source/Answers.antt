@@ -1,0 +1,16 @@
+use Rattle.std.proofs.Common.{◌≡◌, sym, ◌∙◌, ap}
+use Rattle.bs_words.specs.Contents.{contents}
+use Rattle.cmmc_core.proofs.Ending.{Keeps-same}
+use Rattle.cmmc_core.proofs.Spelled.{no_spelling}
+use Rattle.cmmc_core.proofs.run.run_source.Goals as goal
+
+pub returns-in-Err-Refused-clause-refused : goal.returns-in-Err-Refused-clause-refused
+returns-in-Err-Refused-clause-refused g c =
+    rw c.in-Err-Refused.field-0-is (
+      Keeps-same _,
+      record {
+        bytes = contents c.in-Ok.bytes;
+        read = c.in-Ok.ensures.read;
+        no_image = no_spelling _ _ (rw (c.in-Err-Refused.field-0-is, c.as_slice.ensures) at c.in-Err-Refused.ensures.refused);
+      },
+    )

@@ -1,0 +1,86 @@
+-- How a call of the program ends, status by status.
+use Rattle.std.specs.Prelude.{◌≡◌, ℕ, List}
+use Rattle.bs_fault.specs.Lines.{usage_line, large_line, image_line}
+use Rattle.bs_fault.specs.declared.image.ImageRefusal.{ImageRefusal}
+use Rattle.bs_fault.specs.declared.large.Large.{Large}
+use Rattle.bs_fault.specs.declared.usage.Usage.TheVariants.{Words, ValueText, UnknownEntry, ArgumentUnfit}
+use Rattle.command_line.specs.Command.{IsCommand, CommandTree, CompileCommand, RunCommand, RunTree}
+use Rattle.command_line.specs.Words.{WellFormed}
+use Rattle.image_form.specs.Image.{tables_bytes}
+use Rattle.image_form.specs.Tables.{Tables}
+use Rattle.cmmc_core.specs.Compile.{CompilesTo, ReadsNoText, ReadsTooLarge}
+use Rattle.cmmc_core.specs.Effects.{Effects, Side, Rose, IsKept, Got, GotPart}
+use Rattle.cmmc_core.specs.Lines.{not_built_line, read_fault_line, no_memory_line}
+use Rattle.cmmc_core.specs.Run.{IsOutcomeOf, ReadsNoImage, NamesNoEntry, GivesUnfit}
+
+-- What goes to out.
+pub data Output (words : List (List ℕ)) (source : Side) : List ℕ → Type 0 where
+  -- `compile`: the one spelling of an image of the text
+  spelling : (image : Tables)
+      → IsCommand words CompileCommand
+      → CompilesTo source image
+      → Output words source (tables_bytes image)
+  -- `run`: the outcome of the run of the image
+  outcome : (run : RunTree) (text : List ℕ)
+      → IsCommand words (RunCommand run)
+      → IsOutcomeOf run source text
+      → Output words source text
+
+-- Why there is no output: the status that tells it, and the line.
+pub data Cause (words : List (List ℕ)) (source : Side) : ℕ → List ℕ → Type 0 where
+  -- the words do not have the form of a command, or have a value that no command has
+  no_command : (WellFormed words → ⊥) → Cause words source 2 (usage_line Words)
+  no_value : WellFormed words
+      → ((command : CommandTree) → IsCommand words command → ⊥)
+      → Cause words source 2 (usage_line ValueText)
+  read_fault : (command : CommandTree)
+      → IsCommand words command
+      → Rose source
+      → Cause words source 5 read_fault_line
+  -- `compile`
+  no_text : IsCommand words CompileCommand → ReadsNoText source → Cause words source 3 not_built_line
+  too_large : (large : Large)
+      → IsCommand words CompileCommand
+      → ReadsTooLarge source large
+      → Cause words source 8 (large_line large)
+  -- `run`
+  no_image : (run : RunTree) (refusal : ImageRefusal)
+      → IsCommand words (RunCommand run)
+      → ReadsNoImage source refusal
+      → Cause words source 4 (image_line refusal)
+  no_entry : (run : RunTree)
+      → IsCommand words (RunCommand run)
+      → NamesNoEntry run source
+      → Cause words source 2 (usage_line UnknownEntry)
+  unfit : (run : RunTree)
+      → IsCommand words (RunCommand run)
+      → GivesUnfit run source
+      → Cause words source 2 (usage_line ArgumentUnfit)
+  no_memory : Cause words source 9 no_memory_line
+
+-- How a call ends.
+pub data Ends (words : List (List ℕ)) (e : Effects) : ℕ → Type 0 where
+  -- out has the whole output, and err nothing
+  written : (bytes : List ℕ)
+      → Output words e.source bytes
+      → Got e.out bytes
+      → IsKept e.err
+      → Ends words e 0
+  -- err has the line, and out nothing
+  refused : (status : ℕ) (line : List ℕ)
+      → Cause words e.source status line
+      → IsKept e.out
+      → Got e.err line
+      → Ends words e status
+  -- a write failed: out has the front of the output, and err nothing
+  out_fault : (bytes : List ℕ)
+      → Output words e.source bytes
+      → GotPart e.out bytes
+      → IsKept e.err
+      → Ends words e 6
+  -- or err has the front of the line, and out nothing
+  err_fault : (status : ℕ) (line : List ℕ)
+      → Cause words e.source status line
+      → IsKept e.out
+      → GotPart e.err line
+      → Ends words e 6

@@ -1,0 +1,130 @@
+//! The command `run`: an image in, the outcome of a run of one of its functions out.
+ghost use Rattle.std.specs.Prelude.{◌≡◌, IfOk, OnOk, IfErr, option_map};
+ghost use Rattle.command_line.specs.Command.{WithinLimits};
+ghost use Rattle.command_line.specs.View.{run_view};
+ghost use Rattle.bs_words.specs.Contents.{contents};
+ghost use Rattle.image_form.specs.Image.{IsImage};
+ghost use Rattle.image_form.specs.Tables.{tables};
+ghost use Rattle.cmmc_core.specs.Effects.{side, IsRead};
+ghost use Rattle.cmmc_core.specs.Refusal.{WritesRun, WritesOutcome, IsRunRefusal, IsRunRefusalFrom, IsUnread};
+ghost use Rattle.cmmc_core.specs.Run.{words_of_answers, longest_image};
+
+use bs_fault::ImageRefusal;
+use bs_io::{InFault, Sink, Source, read_all};
+use bs_words::List;
+use command_line::{Arg, RunWords};
+use image_form::{Image, ImageError, read_image};
+use mover_runtime::{Schedule, run_image};
+use rv_machine::{LoadError, Setup, load, word_of_arg};
+use std::alloc::{AllocError, Global};
+
+/// The most bytes of an image.
+const LONGEST_IMAGE: u64 = 620_691_524;
+
+/// Why there is no outcome, or not the whole of it on out.
+#[derive(Debug, Drop)]
+pub enum RunRefusal {
+    ReadFault,
+    Image(ImageRefusal),
+    UnknownEntry,
+    ArgumentUnfit,
+    WriteFault,
+    OutOfMemory,
+}
+
+/// Writes the outcome of a run of the image that a source holds. At most one byte past the longest
+/// image is read.
+pub fn run_source<S: Source, K: Sink>(
+    alloc: Global,
+    run: RunWords,
+    source: &mut S,
+    out: &mut K,
+) -> Result<(), RunRefusal>
+    requires { WithinLimits (run_view run) }
+    ensures written { OnOk result (WritesOutcome (run_view run) (side (S.left source.old) (S.left source.new) (S.faults source.old) (S.faults source.new)) (side (K.held out.old) (K.held out.new) (K.faults out.old) (K.faults out.new))) }
+    ensures refused { IfErr result (λ r. IsRunRefusalFrom (run_view run) (side (S.left source.old) (S.left source.new) (S.faults source.old) (S.faults source.new)) (side (K.held out.old) (K.held out.new) (K.faults out.old) (K.faults out.new)) r) }
+{
+    let bytes = match read_whole(alloc, source) {
+        Ok(bytes) => bytes,
+        Err(refusal) => return Err(refusal),
+    };
+    match read_image(alloc, bytes.as_slice()) {
+        Ok(image) => run_on(alloc, run, &image, out),
+        Err(ImageError::Refused(refusal)) => Err(RunRefusal::Image(refusal)),
+        Err(ImageError::OutOfMemory) => Err(RunRefusal::OutOfMemory),
+    }
+}
+
+/// The bytes that a source holds, up to one past the longest image, which no image has.
+fn read_whole<S: Source>(alloc: Global, source: &mut S) -> Result<List<u8>, RunRefusal>
+    ensures read { IfOk result (λ bytes. IsRead longest_image (side (S.left source.old) (S.left source.new) (S.faults source.old) (S.faults source.new)) (contents bytes)) }
+    ensures refused { IfErr result (λ r. IsUnread (side (S.left source.old) (S.left source.new) (S.faults source.old) (S.faults source.new)) r) }
+{
+    match read_all(alloc, source, LONGEST_IMAGE) {
+        Ok(bytes) => Ok(bytes),
+        Err(InFault::Long(bytes)) => Ok(bytes),
+        Err(InFault::Read) => Err(RunRefusal::ReadFault),
+        Err(InFault::OutOfMemory) => Err(RunRefusal::OutOfMemory),
+    }
+}
+
+/// Writes the outcome of a run of an image.
+fn run_on<K: Sink>(
+    alloc: Global,
+    run: RunWords,
+    image: &Image,
+    out: &mut K,
+) -> Result<(), RunRefusal>
+    requires limits { WithinLimits (run_view run) }
+    requires rules { IsImage image.now }
+    ensures written { OnOk result (WritesRun (run_view run) (tables image.now) (side (K.held out.old) (K.held out.new) (K.faults out.old) (K.faults out.new))) }
+    ensures refused { IfErr result (λ r. IsRunRefusal (run_view run) (tables image.now) (side (K.held out.old) (K.held out.new) (K.faults out.old) (K.faults out.new)) r) }
+{
+    let RunWords {
+        entry,
+        args,
+        answers,
+        steps,
+        stack,
+        heap,
+    } = run;
+    let setup = Setup {
+        entry,
+        args,
+        stack,
+        heap,
+    };
+    let mut machine = match load(alloc, image, &setup) {
+        Ok(machine) => machine,
+        Err(LoadError::UnknownEntry) => return Err(RunRefusal::UnknownEntry),
+        Err(LoadError::ArgumentUnfit) => return Err(RunRefusal::ArgumentUnfit),
+        Err(LoadError::OutOfMemory) => return Err(RunRefusal::OutOfMemory),
+    };
+    let words = match answer_words(alloc, image, &answers) {
+        Ok(Some(words)) => words,
+        Ok(None) => return Err(RunRefusal::ArgumentUnfit),
+        Err(AllocError) => return Err(RunRefusal::OutOfMemory),
+    };
+    match run_image(&mut machine, words.as_slice(), &Schedule::Never, steps, out) {
+        Ok(_) => Ok(()),
+        Err(_) => Err(RunRefusal::WriteFault),
+    }
+}
+
+/// The words of the answers, where each symbol among them is a data symbol of the image.
+fn answer_words(
+    alloc: Global,
+    image: &Image,
+    answers: &List<Arg>,
+) -> Result<Option<Vec<u64>>, AllocError>
+    ensures { IfOk result (λ words. option_map (λ w. w.items) words ≡ words_of_answers (tables image.now) (contents answers.now)) }
+{
+    let mut words = Vec::new(alloc);
+    for answer in answers.as_slice() {
+        match word_of_arg(image, answer) {
+            Some(word) => words.push(word)?,
+            None => return Ok(None),
+        }
+    }
+    Ok(Some(words))
+}

@@ -1,0 +1,153 @@
+-- A run, instruction by instruction, and the text that it has told.
+use Rattle.std.proofs.Common.{◌≡◌, ℕ, zero, suc, ◌+◌, ◌-◌, ◌<◌, ◌≤◌, List, [], ◌∷◌, ◌++◌, Option, Some, None, refl, ap, arith, ◌∙◌, sym, append_assoc, append-nil}
+use Rattle.std.specs.Prelude.{codes, slice_get}
+use Rattle.bs_words.specs.Observed.{Made}
+use Rattle.bs_words.specs.declared.types.Ret.{Ret}
+use Rattle.bs_words.specs.declared.types.Ret.TheVariants as returns
+use Rattle.image_form.specs.Tables.{Ext}
+use Rattle.rv_machine.specs.Hart.{Hart, Next, hart, register}
+use Rattle.rv_machine.specs.Hart as next
+use Rattle.rv_machine.specs.Run.{after, after_next, one, seen, perhaps_asked}
+use Rattle.rv_machine.specs.Run as runs
+use Rattle.rv_machine.specs.Services.{End, Machine, Now, Going, Over, Running, Asks, StackOut, Stopped, service, served, external, answered, call_made}
+use Rattle.rv_machine.specs.Text.{calls_text, made_text, end_text, outcome_text}
+use Rattle.mover_runtime.specs.Outcome.{schedule_of, calling_none, progress_text, last_line}
+use Rattle.mover_runtime.specs.declared.outcome.Schedule.{Schedule}
+use Rattle.mover_runtime.specs.declared.outcome.Schedule.TheVariants.{Never}
+
+-- ---- calls that were made before
+
+abbrev pub behind : List Made → Now → Now
+behind cs (Going m) = Going (record m { calls = cs ++ m.calls })
+behind cs (Over calls end) = Over (cs ++ calls) end
+
+-- a run that has made those calls
+abbrev pub state : Hart → Ret → List ℕ → List Made → Machine
+state h result answers calls = record { hart = h; result = result; answers = answers; calls = calls }
+
+over_behind : (cs : List Made) (end : End) → Over cs end ≡ behind cs (Over [] end)
+over_behind cs end = ap (λ (calls : List Made). Over calls end) (sym (append-nil cs))
+
+answered_behind : (ret : Ret) (call : Made) (h : Hart) (result : Ret) (answers all : List ℕ) (cs : List Made)
+    → answered ret call answers (state h result all cs) ≡ behind cs (answered ret call answers (state h result all []))
+answered_behind returns.Unit call h result answers all cs = refl
+answered_behind (returns.Comp c) call h result [] all cs = over_behind cs (Asks call)
+answered_behind (returns.Comp c) call h result (a ∷ answers) all cs = refl
+
+external_behind : (e : Option Ext) (h : Hart) (result : Ret) (answers : List ℕ) (cs : List Made)
+    → external e (state h result answers cs) ≡ behind cs (external e (state h result answers []))
+external_behind None h result answers cs = over_behind cs _
+external_behind (Some e) h result answers cs = answered_behind e.result (call_made e h) h result answers answers cs
+
+served_behind : (n : ℕ) (h : Hart) (result : Ret) (answers : List ℕ) (cs : List Made)
+    → served n (state h result answers cs) ≡ behind cs (served n (state h result answers []))
+served_behind zero h result answers cs = over_behind cs _
+served_behind (suc zero) h result answers cs = over_behind cs _
+served_behind (suc (suc zero)) h result answers cs = external_behind (slice_get h.image.extcs (register h 5)) h result answers cs
+served_behind (suc (suc (suc n))) h result answers cs = over_behind cs _
+
+pub service_behind : (h : Hart) (result : Ret) (answers : List ℕ) (cs : List Made)
+    → service (state h result answers cs) ≡ behind cs (service (calling_none h result answers))
+service_behind h result answers cs = served_behind (register h 7) h result answers cs
+
+-- ---- texts
+
+pub calls_text-append : (cs ds : List Made) → calls_text (cs ++ ds) ≡ calls_text cs ++ calls_text ds
+calls_text-append [] ds = refl
+calls_text-append (c ∷ cs) ds =
+    ap (λ (t : List ℕ). codes "call " ++ made_text c ++ codes "\n" ++ t) (calls_text-append cs ds)
+    ∙ sym (append_assoc (codes "call " ++ made_text c ++ codes "\n") (calls_text cs) (calls_text ds))
+
+outcome_behind : (cs calls : List Made) (end : End) → outcome_text (record { calls = cs ++ calls; end = end }) ≡ calls_text cs ++ outcome_text (record { calls = calls; end = end })
+outcome_behind cs calls end =
+    ap (λ (t : List ℕ). t ++ end_text end ++ codes "\n") (calls_text-append cs calls)
+    ∙ ap (λ (t : List ℕ). t ++ codes "\n") (append_assoc (calls_text cs) (calls_text calls) (end_text end))
+    ∙ append_assoc (calls_text cs) (calls_text calls ++ end_text end) (codes "\n")
+
+pub progress_behind : (cs : List Made) (now : Now) → progress_text (behind cs now) ≡ calls_text cs ++ progress_text now
+progress_behind cs (Going m) = calls_text-append cs m.calls
+progress_behind cs (Over calls end) = outcome_behind cs calls end
+
+pub outcome_line : (cs : List Made) (end : End) → outcome_text (record { calls = cs; end = end }) ≡ calls_text cs ++ last_line end
+outcome_line cs end = append_assoc (calls_text cs) (end_text end) (codes "\n")
+
+-- what is told grows
+next_grows : (nx : Next) (m : Machine) → (rest : List ℕ) × (progress_text (after_next nx m) ≡ calls_text m.calls ++ rest)
+next_grows (next.Retired h) m = ([], sym (append-nil (calls_text m.calls)))
+next_grows (next.Service h) m = (
+  progress_text (service (calling_none h m.result m.answers)),
+  ap progress_text (service_behind h m.result m.answers m.calls) ∙ progress_behind m.calls (service (calling_none h m.result m.answers)),
+)
+next_grows next.StackOut m = (last_line StackOut, outcome_line m.calls StackOut)
+next_grows (next.Stopped cause) m = (last_line (Stopped cause), outcome_line m.calls (Stopped cause))
+
+pub grows : (schedule : runs.Schedule) (n : ℕ) (now : Now) → (rest : List ℕ) × (outcome_text (seen (after schedule n now)) ≡ progress_text now ++ rest)
+grows schedule zero (Going m) = (last_line Running, outcome_line m.calls Running)
+grows schedule zero (Over calls end) = ([], sym (append-nil (outcome_text (record { calls = calls; end = end }))))
+grows schedule (suc n) (Over calls end) = ([], sym (append-nil (outcome_text (record { calls = calls; end = end }))))
+grows schedule (suc n) (Going m) =
+    let later = grows schedule n (one schedule m) in
+    let here = next_grows (hart (perhaps_asked schedule m.hart)) m in (
+      here.0 ++ later.0,
+      later.1 ∙ ap (λ (t : List ℕ). t ++ later.0) here.1 ∙ append_assoc (calls_text m.calls) here.0 later.0,
+    )
+
+-- ---- one instruction
+
+one_more : (n k : ℕ) → k < n → n - k ≡ suc (n - (k + 1))
+one_more n k h = omega arith
+
+-- the mover asks for nothing
+quiet : (schedule : Schedule) (n : ℕ) (m : Machine) → after (schedule_of schedule) (suc n) (Going m) ≡ after (schedule_of schedule) n (after_next (hart m.hart) m)
+quiet Never n m = refl
+
+pub stepped : (schedule : Schedule) (limit k : ℕ) (nx : Next) (m : Machine) → k < limit → hart m.hart ≡ nx
+    → after (schedule_of schedule) (limit - k) (Going m) ≡ after (schedule_of schedule) (limit - (k + 1)) (after_next nx m)
+stepped schedule limit k nx m h e =
+    ap (λ (n : ℕ). after (schedule_of schedule) n (Going m)) (one_more limit k h)
+    ∙ quiet schedule (limit - (k + 1)) m ∙ ap (λ (x : Next). after (schedule_of schedule) (limit - (k + 1)) (after_next x m)) e
+
+pub over_stays : (schedule : runs.Schedule) (n : ℕ) (calls : List Made) (end : End) → after schedule n (Over calls end) ≡ Over calls end
+over_stays schedule zero calls end = refl
+over_stays schedule (suc n) calls end = refl
+
+next_behind : (nx : Next) (h : Hart) (result : Ret) (answers : List ℕ) (cs : List Made)
+    → after_next nx (state h result answers cs) ≡ behind cs (after_next nx (calling_none h result answers))
+next_behind (next.Retired h') h result answers cs = ap (λ (calls : List Made). Going (state h' result answers calls)) (sym (append-nil cs))
+next_behind (next.Service h') h result answers cs = service_behind h' result answers cs
+next_behind next.StackOut h result answers cs = over_behind cs StackOut
+next_behind (next.Stopped cause) h result answers cs = over_behind cs (Stopped cause)
+
+-- what one instruction comes to, behind the calls that were made before
+pub advances : (schedule : Schedule) (limit k : ℕ) (h : Hart) (result : Ret) (answers : List ℕ) (cs : List Made) → k < limit
+    → after (schedule_of schedule) (limit - k) (Going (state h result answers cs))
+    ≡ after (schedule_of schedule) (limit - (k + 1)) (behind cs (after_next (hart h) (calling_none h result answers)))
+advances schedule limit k h result answers cs l =
+    stepped schedule limit k (hart h) (state h result answers cs) l refl
+    ∙ ap (after (schedule_of schedule) (limit - (k + 1))) (next_behind (hart h) h result answers cs)
+
+pub goes_on : (schedule : Schedule) (n : ℕ) (cs calls : List Made) (now : Now) (h : Hart) (result : Ret) (answers : List ℕ) → now ≡ Going (state h result answers calls)
+    → after (schedule_of schedule) n (behind cs now) ≡ after (schedule_of schedule) n (Going (state h result answers (cs ++ calls)))
+goes_on schedule n cs calls now h result answers e = ap (λ (x : Now). after (schedule_of schedule) n (behind cs x)) e
+
+pub ends_so : (schedule : Schedule) (n : ℕ) (cs calls : List Made) (now : Now) (end : End) → now ≡ Over calls end
+    → after (schedule_of schedule) n (behind cs now) ≡ Over (cs ++ calls) end
+ends_so schedule n cs calls now end e = ap (λ (x : Now). after (schedule_of schedule) n (behind cs x)) e ∙ over_stays (schedule_of schedule) n (cs ++ calls) end
+
+pub text_so : (cs calls : List Made) (now : Now) (end : End) → now ≡ Over calls end
+    → calls_text cs ++ progress_text now ≡ outcome_text (record { calls = cs ++ calls; end = end })
+text_so cs calls now end e = sym (progress_behind cs now) ∙ ap (λ (x : Now). progress_text (behind cs x)) e
+
+pub text_on : (cs calls : List Made) (now : Now) (h : Hart) (result : Ret) (answers : List ℕ) → now ≡ Going (state h result answers calls)
+    → calls_text cs ++ progress_text now ≡ calls_text (cs ++ calls)
+text_on cs calls now h result answers e = sym (progress_behind cs now) ∙ ap (λ (x : Now). progress_text (behind cs x)) e
+
+-- the text of the whole run begins with what was told so far
+pub text_begins : (schedule : Schedule) (n : ℕ) (cs : List Made) (now : Now)
+    → (rest : List ℕ) × (outcome_text (seen (after (schedule_of schedule) n (behind cs now))) ≡ calls_text cs ++ (progress_text now ++ rest))
+text_begins schedule n cs now =
+    let all = grows (schedule_of schedule) n (behind cs now) in
+    (all.0, all.1 ∙ ap (λ (t : List ℕ). t ++ all.0) (progress_behind cs now) ∙ append_assoc (calls_text cs) (progress_text now) all.0)
+
+pub stands_so : (schedule : Schedule) (limit k : ℕ) (m : Machine) → limit ≤ k → after (schedule_of schedule) (limit - k) (Going m) ≡ Going m
+stands_so schedule limit k m h = let n : limit - k ≡ 0 = omega arith in ap (λ (j : ℕ). after (schedule_of schedule) j (Going m)) n

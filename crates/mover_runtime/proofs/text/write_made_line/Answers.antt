@@ -1,0 +1,11 @@
+use Rattle.std.proofs.Common.{◌∷◌, [], ◌++◌}
+use Rattle.image_form.specs.Tables.{ext}
+use Rattle.rv_machine.specs.Services.{call_made}
+use Rattle.rv_machine.specs.Text.{made_text}
+use Rattle.mover_runtime.proofs.Writing.{writes_then}
+use Rattle.mover_runtime.proofs.text.write_made_line.Goals as goal
+
+pub returns-clause-text : goal.returns-clause-text
+returns-clause-text g c =
+    writes_then c.put.result (g.K.Sink.held c.args.out.now) (g.K.Sink.held c.put_made.new.out) (g.K.Sink.held c.put.new.out)
+    (c.args.text.now ++ made_text (call_made (ext c.args.row.now) c.args.machine.now)) (10 ∷ []) c.in_ok-put_made.ensures.text c.put.ensures.text

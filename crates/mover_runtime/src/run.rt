@@ -1,0 +1,85 @@
+//! A run of a machine that was just loaded.
+ghost use Rattle.std.specs.Prelude.{◌≡◌, ◌≤◌, ◌<◌, ◌-◌, ◌^◌, suc, length, drop, IfOk};
+ghost use Rattle.mover_runtime.specs.Written.{Writes, Counts};
+ghost use Rattle.mover_runtime.specs.Outcome.{Serves, calling_none, end_told, entry_result, progress_text, run_of};
+ghost use Rattle.rv_machine.specs.Hart.{hart};
+ghost use Rattle.rv_machine.specs.Run.{after_next};
+ghost use Rattle.rv_machine.specs.Text.{outcome_text};
+
+use crate::outcome::{RunEnd, Schedule};
+use crate::serving::{end_more, end_stack_out, end_stopped, serve};
+use bs_io::{OutFault, Sink};
+use bs_words::Ret;
+use rv_machine::{CODE_START, Machine, StepEnd};
+
+/// Runs the machine to an end, or until `limit` instructions have retired, and writes the outcome text:
+/// a line for each external call when it is answered, and one line for the end. It takes no memory.
+///
+/// The machine was just loaded. A write fault ends the run; the sink then holds a part of the text, from
+/// its front.
+pub fn run_image<K: Sink>(
+    machine: &mut Machine<'_>,
+    answers: &[u64],
+    schedule: &Schedule,
+    limit: u64,
+    out: &mut K,
+) -> Result<RunEnd, OutFault>
+    requires { machine.old.retired ≡ 0 }
+    ensures told { IfOk result (λ told. told ≡ end_told (run_of machine.old answers.now schedule.now limit).end) }
+    ensures text { Writes result (K.held out.old) (K.held out.new) (outcome_text (run_of machine.old answers.now schedule.now limit)) }
+    ensures counts { Counts result (K.faults out.old) (K.faults out.new) }
+{
+    let returns = entry_result(machine);
+    let mut taken = 0;
+    let mut count = 0;
+    while count < limit {
+        if let Some(told) = one(machine, returns, answers, &mut taken, out)? {
+            return Ok(told);
+        }
+        count += 1;
+    }
+    end_more(out)
+}
+
+// One instruction, with its service where it is an ECALL. `taken` answers were taken before.
+#[inline]
+fn one<K: Sink>(
+    machine: &mut Machine<'_>,
+    returns: Ret,
+    answers: &[u64],
+    taken: &mut usize,
+    out: &mut K,
+) -> Result<Option<RunEnd>, OutFault>
+    requires room { machine.old.retired < 2 ^ 64 - 1 }
+    requires within { taken.old ≤ length answers.now }
+    ensures told { IfOk result (λ told. Serves told (after_next (hart machine.old) (calling_none machine.old returns (drop taken.old answers.now))) machine.new returns (drop taken.new answers.now)) }
+    ensures text { Writes result (K.held out.old) (K.held out.new) (progress_text (after_next (hart machine.old) (calling_none machine.old returns (drop taken.old answers.now)))) }
+    ensures counts { Counts result (K.faults out.old) (K.faults out.new) }
+    ensures left { taken.new ≤ length answers.now }
+    ensures once { machine.new.retired ≤ suc machine.old.retired }
+{
+    match machine.step() {
+        StepEnd::Retired => Ok(None),
+        StepEnd::Service => serve(machine, returns, answers, taken, out),
+        StepEnd::StackOut => {
+            let told = end_stack_out(out)?;
+            Ok(Some(told))
+        }
+        StepEnd::Stopped(cause) => {
+            let told = end_stopped(cause, out)?;
+            Ok(Some(told))
+        }
+    }
+}
+
+// The type of what the function returns at whose entry the machine stands.
+fn entry_result(machine: &Machine<'_>) -> Ret
+    ensures { result ≡ entry_result machine.now }
+{
+    for row in machine.image().funcs.as_slice() {
+        if CODE_START + u64::from(row.offset) == machine.pc() {
+            return row.result;
+        }
+    }
+    Ret::Unit
+}

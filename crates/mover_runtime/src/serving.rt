@@ -1,0 +1,123 @@
+//! The services of the runtime: return, uncaught raise and external calls.
+ghost use Rattle.std.specs.Prelude.{◌≡◌, ◌≤◌, ◌<◌, ◌-◌, ◌^◌, [], length, drop, suc, IfOk, slice_get};
+ghost use Rattle.image_form.specs.Tables.{tables, ext};
+ghost use Rattle.image_form.specs.Image.{IsImage, IsExt};
+ghost use Rattle.mover_runtime.specs.Written.{Writes, Counts};
+ghost use Rattle.mover_runtime.specs.Outcome.{Serves, calling_none, progress_text, last_line};
+ghost use Rattle.rv_machine.specs.Hart.{register};
+ghost use Rattle.rv_machine.specs.Services.{service, value_returned};
+ghost use Rattle.rv_machine.specs.Services as ends;
+ghost use Rattle.rv_machine.specs.Observation.{observed};
+
+use crate::calling::call;
+use crate::outcome::RunEnd;
+use crate::text::{write_line, write_made_line, write_obs_line, write_stopped};
+use bs_io::{OutFault, Sink};
+use bs_words::{Comp, Obs, Ret};
+use image_form::ExtRow;
+use rv_machine::{Cause, Machine};
+
+// t2 and a0.
+
+const SERVICE: u8 = 7;
+
+const VALUE: u8 = 10;
+
+/// Does the service before which the machine stands, and writes what is told of it: a line for an external
+/// call that is answered, or the last line of the run. `taken` answers were taken before.
+pub fn serve<K: Sink>(
+    machine: &mut Machine<'_>,
+    returns: Ret,
+    answers: &[u64],
+    taken: &mut usize,
+    out: &mut K,
+) -> Result<Option<RunEnd>, OutFault>
+    requires near { machine.old.pc < 2 ^ 32 }
+    requires room { machine.old.retired < 2 ^ 64 - 1 }
+    requires within { taken.old ≤ length answers.now }
+    ensures told { IfOk result (λ told. Serves told (service (calling_none machine.old returns (drop taken.old answers.now))) machine.new returns (drop taken.new answers.now)) }
+    ensures text { Writes result (K.held out.old) (K.held out.new) (progress_text (service (calling_none machine.old returns (drop taken.old answers.now)))) }
+    ensures counts { Counts result (K.faults out.old) (K.faults out.new) }
+    ensures left { taken.new ≤ length answers.now }
+    ensures one { machine.new.retired ≤ suc machine.old.retired }
+{
+    match machine.register(SERVICE) {
+        0 => {
+            let told = end_returned(machine, returns, out)?;
+            Ok(Some(told))
+        }
+        1 => {
+            let told = end_raised(machine, out)?;
+            Ok(Some(told))
+        }
+        2 => call(machine, returns, answers, taken, out),
+        _ => {
+            let told = end_stopped(Cause::BadService, out)?;
+            Ok(Some(told))
+        }
+    }
+}
+
+// The run has returned a0 by the type of what its entry returns.
+fn end_returned<K: Sink>(
+    machine: &Machine<'_>,
+    returns: Ret,
+    out: &mut K,
+) -> Result<RunEnd, OutFault>
+    ensures told { IfOk result (λ told. told ≡ RunEnd.Returned (value_returned returns machine.now)) }
+    ensures text { Writes result (K.held out.old) (K.held out.new) (last_line (ends.Returned (value_returned returns machine.now))) }
+    ensures counts { Counts result (K.faults out.old) (K.faults out.new) }
+{
+    match returns {
+        Ret::Unit => {
+            write_line(b"returned", out)?;
+            Ok(RunEnd::Returned(None))
+        }
+        Ret::Comp(comp) => {
+            let obs = machine.observe(comp, machine.register(VALUE));
+            write_obs_line(b"returned ", obs, out)?;
+            Ok(RunEnd::Returned(Some(obs)))
+        }
+    }
+}
+
+// The run has ended by a raise of a0 that nothing caught.
+fn end_raised<K: Sink>(machine: &Machine<'_>, out: &mut K) -> Result<RunEnd, OutFault>
+    ensures told { IfOk result (λ told. told ≡ RunEnd.Raised (observed machine.now Comp.Val (register machine.now 10))) }
+    ensures text { Writes result (K.held out.old) (K.held out.new) (last_line (ends.Raised (observed machine.now Comp.Val (register machine.now 10)))) }
+    ensures counts { Counts result (K.faults out.old) (K.faults out.new) }
+{
+    let obs = machine.observe(Comp::Val, machine.register(VALUE));
+    write_obs_line(b"raised ", obs, out)?;
+    Ok(RunEnd::Raised(obs))
+}
+
+/// The machine has stopped.
+pub fn end_stopped<K: Sink>(cause: Cause, out: &mut K) -> Result<RunEnd, OutFault>
+    ensures told { IfOk result (λ told. told ≡ RunEnd.Stopped cause) }
+    ensures text { Writes result (K.held out.old) (K.held out.new) (last_line (ends.Stopped cause)) }
+    ensures counts { Counts result (K.faults out.old) (K.faults out.new) }
+{
+    write_stopped(cause, out)?;
+    Ok(RunEnd::Stopped(cause))
+}
+
+/// The run has no stack left.
+pub fn end_stack_out<K: Sink>(out: &mut K) -> Result<RunEnd, OutFault>
+    ensures told { IfOk result (λ told. told ≡ RunEnd.StackOut) }
+    ensures text { Writes result (K.held out.old) (K.held out.new) (last_line ends.StackOut) }
+    ensures counts { Counts result (K.faults out.old) (K.faults out.new) }
+{
+    write_line(b"stack out", out)?;
+    Ok(RunEnd::StackOut)
+}
+
+/// The run goes on past what was allowed.
+pub fn end_more<K: Sink>(out: &mut K) -> Result<RunEnd, OutFault>
+    ensures told { IfOk result (λ told. told ≡ RunEnd.More) }
+    ensures text { Writes result (K.held out.old) (K.held out.new) (last_line ends.Running) }
+    ensures counts { Counts result (K.faults out.old) (K.faults out.new) }
+{
+    write_line(b"more", out)?;
+    Ok(RunEnd::More)
+}

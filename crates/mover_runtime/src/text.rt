@@ -1,0 +1,168 @@
+//! Writing the outcome text piece by piece, with no memory taken.
+ghost use Rattle.std.specs.Prelude.{◌≡◌, ◌≤◌, ◌<◌, ◌+◌, ◌++◌, codes, length, drop};
+ghost use Rattle.std.specs.Fmt.{decimal, signed_decimal};
+ghost use Rattle.bs_words.specs.Word.{signed_of};
+ghost use Rattle.bs_words.specs.Contents.{contents};
+ghost use Rattle.image_form.specs.Tables.{ext};
+ghost use Rattle.mover_runtime.specs.Written.{Writes, Counts};
+ghost use Rattle.rv_machine.specs.Services.{arguments_from, call_made};
+ghost use Rattle.rv_machine.specs.Text.{obs_text, shown_text, made_text, cause_text};
+
+use bs_io::{OutFault, Sink, write_all};
+use bs_words::{Comp, List, Obs};
+use image_form::ExtRow;
+use itoa::Buffer;
+use rv_machine::{Cause, Machine};
+
+// a0, the first argument register.
+const FIRST_ARGUMENT: u8 = 10;
+
+/// Writes bytes.
+pub fn put<K: Sink>(bytes: &[u8], out: &mut K) -> Result<(), OutFault>
+    ensures text { Writes result (K.held out.old) (K.held out.new) bytes.now }
+    ensures counts { Counts result (K.faults out.old) (K.faults out.new) }
+{
+    write_all(out, bytes)
+}
+
+/// Writes an observation: a word as a signed decimal, or a block as `block` and its serial.
+pub fn write_obs<K: Sink>(obs: Obs, out: &mut K) -> Result<(), OutFault>
+    ensures text { Writes result (K.held out.old) (K.held out.new) (obs_text obs) }
+    ensures counts { Counts result (K.faults out.old) (K.faults out.new) }
+{
+    match obs {
+        Obs::Word(word) => write_word(word, out),
+        Obs::Block(serial) => write_block(serial, out),
+    }
+}
+
+fn write_word<K: Sink>(word: u64, out: &mut K) -> Result<(), OutFault>
+    ensures text { Writes result (K.held out.old) (K.held out.new) (signed_decimal (signed_of word)) }
+    ensures counts { Counts result (K.faults out.old) (K.faults out.new) }
+{
+    let mut digits = Buffer::new();
+    put(digits.format(bs_words::signed(word)).as_bytes(), out)
+}
+
+fn write_block<K: Sink>(serial: u64, out: &mut K) -> Result<(), OutFault>
+    ensures text { Writes result (K.held out.old) (K.held out.new) (codes "block " ++ decimal serial) }
+    ensures counts { Counts result (K.faults out.old) (K.faults out.new) }
+{
+    put(b"block ", out)?;
+    write_number(serial, out)
+}
+
+fn write_number<K: Sink>(number: u64, out: &mut K) -> Result<(), OutFault>
+    ensures text { Writes result (K.held out.old) (K.held out.new) (decimal number) }
+    ensures counts { Counts result (K.faults out.old) (K.faults out.new) }
+{
+    let mut digits = Buffer::new();
+    put(digits.format(number).as_bytes(), out)
+}
+
+// Writes a text and an observation.
+fn put_obs<K: Sink>(text: &[u8], obs: Obs, out: &mut K) -> Result<(), OutFault>
+    ensures text { Writes result (K.held out.old) (K.held out.new) (text.now ++ obs_text obs) }
+    ensures counts { Counts result (K.faults out.old) (K.faults out.new) }
+{
+    put(text, out)?;
+    write_obs(obs, out)
+}
+
+// Writes what the arguments of an external call show, each after a space.
+fn write_shown<K: Sink>(
+    machine: &Machine<'_>,
+    comps: &List<Comp>,
+    out: &mut K,
+) -> Result<(), OutFault>
+    requires { length (contents comps.now) ≤ 16 }
+    ensures text { Writes result (K.held out.old) (K.held out.new) (shown_text (arguments_from 10 (contents comps.now) machine.now)) }
+    ensures counts { Counts result (K.faults out.old) (K.faults out.new) }
+{
+    for (k, comp) in comps.as_slice().iter().enumerate() {
+        let word = machine.register(FIRST_ARGUMENT + k as u8);
+        put_obs(b" ", machine.observe(*comp, word), out)?;
+    }
+    Ok(())
+}
+
+/// Writes an external call before which the machine stands: its name, and what its arguments show.
+pub fn write_made<K: Sink>(machine: &Machine<'_>, row: &ExtRow, out: &mut K) -> Result<(), OutFault>
+    requires { length (contents row.now.params) ≤ 16 }
+    ensures text { Writes result (K.held out.old) (K.held out.new) (made_text (call_made (ext row.now) machine.now)) }
+    ensures counts { Counts result (K.faults out.old) (K.faults out.new) }
+{
+    put(row.name.as_bytes(), out)?;
+    write_shown(machine, &row.params, out)
+}
+
+/// Writes a line of that text.
+pub fn write_line<K: Sink>(text: &[u8], out: &mut K) -> Result<(), OutFault>
+    ensures text { Writes result (K.held out.old) (K.held out.new) (text.now ++ codes "\n") }
+    ensures counts { Counts result (K.faults out.old) (K.faults out.new) }
+{
+    put(text, out)?;
+    put(b"\n", out)
+}
+
+/// Writes a line of a text and an observation.
+pub fn write_obs_line<K: Sink>(text: &[u8], obs: Obs, out: &mut K) -> Result<(), OutFault>
+    ensures text { Writes result (K.held out.old) (K.held out.new) (text.now ++ obs_text obs ++ codes "\n") }
+    ensures counts { Counts result (K.faults out.old) (K.faults out.new) }
+{
+    put_obs(text, obs, out)?;
+    put(b"\n", out)
+}
+
+// Writes a text and an external call.
+fn put_made<K: Sink>(
+    text: &[u8],
+    machine: &Machine<'_>,
+    row: &ExtRow,
+    out: &mut K,
+) -> Result<(), OutFault>
+    requires { length (contents row.now.params) ≤ 16 }
+    ensures text { Writes result (K.held out.old) (K.held out.new) (text.now ++ made_text (call_made (ext row.now) machine.now)) }
+    ensures counts { Counts result (K.faults out.old) (K.faults out.new) }
+{
+    put(text, out)?;
+    write_made(machine, row, out)
+}
+
+/// Writes a line of a text and the external call before which the machine stands.
+pub fn write_made_line<K: Sink>(
+    text: &[u8],
+    machine: &Machine<'_>,
+    row: &ExtRow,
+    out: &mut K,
+) -> Result<(), OutFault>
+    requires { length (contents row.now.params) ≤ 16 }
+    ensures text { Writes result (K.held out.old) (K.held out.new) (text.now ++ made_text (call_made (ext row.now) machine.now) ++ codes "\n") }
+    ensures counts { Counts result (K.faults out.old) (K.faults out.new) }
+{
+    put_made(text, machine, row, out)?;
+    put(b"\n", out)
+}
+
+// The text of a machine that has stopped.
+fn stopped_text(cause: Cause) -> &'static str
+    ensures { result.now ≡ codes "stopped " ++ cause_text cause }
+{
+    match cause {
+        Cause::BadFetch => "stopped BadFetch",
+        Cause::BadWord => "stopped BadWord",
+        Cause::BadAccess => "stopped BadAccess",
+        Cause::BadService => "stopped BadService",
+        Cause::BadRequest => "stopped BadRequest",
+        Cause::BadFrame => "stopped BadFrame",
+        Cause::BadRoot => "stopped BadRoot",
+    }
+}
+
+/// Writes the line of a machine that has stopped.
+pub fn write_stopped<K: Sink>(cause: Cause, out: &mut K) -> Result<(), OutFault>
+    ensures text { Writes result (K.held out.old) (K.held out.new) (codes "stopped " ++ cause_text cause ++ codes "\n") }
+    ensures counts { Counts result (K.faults out.old) (K.faults out.new) }
+{
+    write_line(stopped_text(cause).as_bytes(), out)
+}
