@@ -156,6 +156,60 @@ fn a_compiled_text_runs(rt: HostRuntime) -> Result<(), Fail> {
     Ok(())
 }
 
+// Images made by hand, of one function f of an int; the words are those of the manual's listing.
+
+// jr zero.
+const LEAVES_THE_CODE: &[u8] =
+    b"CMMRV64\n\x01\0\0\0FUNC\x16\0\0\0\x01\0\0\0\x01\0f\x10\0\0\0\x01\0\0\0\0\0\0\0\x01\0\0CODE\x14\0\0\0\x93\x03\0\0s\0\0\0\x93\x03\x10\0s\0\0\0g\0\0\0DATA\x08\0\0\0\0\0\0\0\0\0\0\0SYMS\x04\0\0\0\0\0\0\0ROOT\x04\0\0\0\0\0\0\0EXTC\x04\0\0\0\0\0\0\0DESC\x04\0\0\0\0\0\0\0";
+
+// no instruction.
+const IS_NO_WORD: &[u8] =
+    b"CMMRV64\n\x01\0\0\0FUNC\x16\0\0\0\x01\0\0\0\x01\0f\x10\0\0\0\x01\0\0\0\0\0\0\0\x01\0\0CODE\x14\0\0\0\x93\x03\0\0s\0\0\0\x93\x03\x10\0s\0\0\0\0\0\0\0DATA\x08\0\0\0\0\0\0\0\0\0\0\0SYMS\x04\0\0\0\0\0\0\0ROOT\x04\0\0\0\0\0\0\0EXTC\x04\0\0\0\0\0\0\0DESC\x04\0\0\0\0\0\0\0";
+
+// ld a0, 0(zero).
+const READS_NOTHING: &[u8] =
+    b"CMMRV64\n\x01\0\0\0FUNC\x16\0\0\0\x01\0\0\0\x01\0f\x10\0\0\0\x01\0\0\0\0\0\0\0\x01\0\0CODE\x14\0\0\0\x93\x03\0\0s\0\0\0\x93\x03\x10\0s\0\0\0\x035\0\0DATA\x08\0\0\0\0\0\0\0\0\0\0\0SYMS\x04\0\0\0\0\0\0\0ROOT\x04\0\0\0\0\0\0\0EXTC\x04\0\0\0\0\0\0\0DESC\x04\0\0\0\0\0\0\0";
+
+// li t2, 9; ecall.
+const ASKS_FOR_NOTHING: &[u8] =
+    b"CMMRV64\n\x01\0\0\0FUNC\x16\0\0\0\x01\0\0\0\x01\0f\x10\0\0\0\x02\0\0\0\0\0\0\0\x01\0\0CODE\x18\0\0\0\x93\x03\0\0s\0\0\0\x93\x03\x10\0s\0\0\0\x93\x03\x90\0s\0\0\0DATA\x08\0\0\0\0\0\0\0\0\0\0\0SYMS\x04\0\0\0\0\0\0\0ROOT\x04\0\0\0\0\0\0\0EXTC\x04\0\0\0\0\0\0\0DESC\x04\0\0\0\0\0\0\0";
+
+// li t2, 1; ecall.
+const RAISES: &[u8] =
+    b"CMMRV64\n\x01\0\0\0FUNC\x16\0\0\0\x01\0\0\0\x01\0f\x10\0\0\0\x02\0\0\0\0\0\0\0\x01\0\0CODE\x18\0\0\0\x93\x03\0\0s\0\0\0\x93\x03\x10\0s\0\0\0\x93\x03\x10\0s\0\0\0DATA\x08\0\0\0\0\0\0\0\0\0\0\0SYMS\x04\0\0\0\0\0\0\0ROOT\x04\0\0\0\0\0\0\0EXTC\x04\0\0\0\0\0\0\0DESC\x04\0\0\0\0\0\0\0";
+
+// addi sp, sp, -16; ret.
+const TAKES_STACK: &[u8] =
+    b"CMMRV64\n\x01\0\0\0FUNC\x16\0\0\0\x01\0\0\0\x01\0f\x10\0\0\0\x02\0\0\0\0\0\0\0\x01\0\0CODE\x18\0\0\0\x93\x03\0\0s\0\0\0\x93\x03\x10\0s\0\0\0\x13\x01\x01\xffg\x80\0\0DATA\x08\0\0\0\0\0\0\0\0\0\0\0SYMS\x04\0\0\0\0\0\0\0ROOT\x04\0\0\0\0\0\0\0EXTC\x04\0\0\0\0\0\0\0DESC\x04\0\0\0\0\0\0\0";
+
+// addi s10, s10, -16; li t0, 1024; sd t0, 0(s10); addi a0, s10, 8; li t2, 1; ecall.
+const SHOWS_A_BLOCK: &[u8] =
+    b"CMMRV64\n\x01\0\0\0FUNC\x16\0\0\0\x01\0\0\0\x01\0f\x10\0\0\0\x06\0\0\0\0\0\0\0\x01\0\0CODE(\0\0\0\x93\x03\0\0s\0\0\0\x93\x03\x10\0s\0\0\0\x13\x0d\x0d\xff\x93\x02\0@#0]\0\x13\x05\x8d\0\x93\x03\x10\0s\0\0\0DATA\x08\0\0\0\0\0\0\0\0\0\0\0SYMS\x04\0\0\0\0\0\0\0ROOT\x04\0\0\0\0\0\0\0EXTC\x04\0\0\0\0\0\0\0DESC\x04\0\0\0\0\0\0\0";
+
+#[test]
+fn images_made_by_hand(rt: HostRuntime) -> Result<(), Fail> {
+    let cases: [(&[u8], &str, &[u8]); 8] = [
+        (LEAVES_THE_CODE, "run f --args=5", b"stopped BadFetch\n"),
+        (IS_NO_WORD, "run f --args=5", b"stopped BadWord\n"),
+        (READS_NOTHING, "run f --args=5", b"stopped BadAccess\n"),
+        (ASKS_FOR_NOTHING, "run f --args=5", b"stopped BadService\n"),
+        (RAISES, "run f --args=5", b"raised 5\n"),
+        (TAKES_STACK, "run f --args=5 --stack=0", b"stack out\n"),
+        (TAKES_STACK, "run f --args=5 --stack=16", b"returned 5\n"),
+        (
+            SHOWS_A_BLOCK,
+            "run f --args=5 --heap=0",
+            b"raised block 0\n",
+        ),
+    ];
+    for (image, line, written) in cases {
+        let ended = call(rt.alloc(), line, image, SOUND)?;
+        assert_eq!(rt; ended.status, 0);
+        assert_eq!(rt; ended.out.bytes(), written);
+    }
+    Ok(())
+}
+
 #[test]
 fn images_that_are_none(rt: HostRuntime) -> Result<(), Fail> {
     let cut = call(rt.alloc(), "run f", &EMPTY_IMAGE[..133], SOUND)?;
