@@ -8,9 +8,8 @@
 use bs_io::{ReadSource, WriteSink};
 use cmmc_core::cmmc;
 use std::alloc::Global;
-use std::env;
-use std::io;
 use std::process::ExitCode;
+use std::{env, io};
 
 fn main(rt: HostRuntime) -> ExitCode {
     match words(&rt) {
@@ -18,7 +17,13 @@ fn main(rt: HostRuntime) -> ExitCode {
             let mut source = ReadSource::new(rt.stdin());
             let mut out = WriteSink::new(rt.stdout());
             let mut err = WriteSink::new(rt.stderr());
-            ExitCode::from(cmmc(rt.alloc(), words.as_slice(), &mut source, &mut out, &mut err))
+            ExitCode::from(cmmc(
+                rt.alloc(),
+                words.as_slice(),
+                &mut source,
+                &mut out,
+                &mut err,
+            ))
         }
         Err(_) => ExitCode::from(1),
     }
