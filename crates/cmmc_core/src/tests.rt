@@ -2,6 +2,8 @@
 //! failing in turn.
 ghost use Rattle.std.specs.Prelude.{◌≡◌, ◌≤◌};
 
+mod rows;
+
 use crate::cmmc;
 use bs_io::{MemSink, MemSource};
 use bs_words::List;
@@ -186,9 +188,20 @@ const TAKES_STACK: &[u8] =
 const SHOWS_A_BLOCK: &[u8] =
     b"CMMRV64\n\x01\0\0\0FUNC\x16\0\0\0\x01\0\0\0\x01\0f\x10\0\0\0\x06\0\0\0\0\0\0\0\x01\0\0CODE(\0\0\0\x93\x03\0\0s\0\0\0\x93\x03\x10\0s\0\0\0\x13\x0d\x0d\xff\x93\x02\0@#0]\0\x13\x05\x8d\0\x93\x03\x10\0s\0\0\0DATA\x08\0\0\0\0\0\0\0\0\0\0\0SYMS\x04\0\0\0\0\0\0\0ROOT\x04\0\0\0\0\0\0\0EXTC\x04\0\0\0\0\0\0\0DESC\x04\0\0\0\0\0\0\0";
 
+// li t0, 0; li t2, 2; ecall; ret: the external call `ask` of an int.
+const CALLS: &[u8] =
+    b"CMMRV64\n\x01\0\0\0FUNC\x16\0\0\0\x01\0\0\0\x01\0f\x10\0\0\0\x04\0\0\0\0\0\0\0\x01\0\0CODE \0\0\0\x93\x03\0\0s\0\0\0\x93\x03\x10\0s\0\0\0\x93\x02\0\0\x93\x03 \0s\0\0\0g\x80\0\0DATA\x08\0\0\0\0\0\0\0\0\0\0\0SYMS\x04\0\0\0\0\0\0\0ROOT\x04\0\0\0\0\0\0\0EXTC\x0c\0\0\0\x01\0\0\0\x03\0ask\x01\0\0DESC\x04\0\0\0\0\0\0\0";
+
 #[test]
 fn images_made_by_hand(rt: HostRuntime) -> Result<(), Fail> {
-    let cases: [(&[u8], &str, &[u8]); 8] = [
+    let cases: [(&[u8], &str, &[u8]); 11] = [
+        (
+            CALLS,
+            "run f --args=7 --answers=5",
+            b"call ask 7\nreturned 5\n",
+        ),
+        (CALLS, "run f --args=7", b"asks ask 7\n"),
+        (CALLS, "run f --args=7 --steps=2", b"more\n"),
         (LEAVES_THE_CODE, "run f --args=5", b"stopped BadFetch\n"),
         (IS_NO_WORD, "run f --args=5", b"stopped BadWord\n"),
         (READS_NOTHING, "run f --args=5", b"stopped BadAccess\n"),
