@@ -12,12 +12,12 @@ use Rattle.rv_machine.specs.Loading.{func_named, words_of_args}
 use Rattle.small_code.specs.Compiled.{compiled}
 use Rattle.small_code.specs.TooLarge.{first_too_large}
 use Rattle.small_reader.specs.Parsing.{IsTreeOf}
-use Rattle.cmmc_core.specs.Compile.{CompilesTo, ReadsNoText, IsNoText, ReadsTooLarge}
+use Rattle.cmmc_core.specs.Compile.{IsNoText}
 use Rattle.cmmc_core.specs.Complete.{NoneRose, Is, CompileComplete, RunComplete, Complete}
 use Rattle.cmmc_core.specs.Effects.{Effects, Side, Rose, IsRead}
 use Rattle.cmmc_core.specs.Ends.{Output, spelling, outcome, Cause, no_command, no_value, read_fault, no_text, too_large, no_image, no_entry, unfit, no_memory, Ends, written, refused, out_fault, err_fault}
-use Rattle.cmmc_core.specs.Run.{IsSpelling, IsOutcomeOf, ReadsImage, ReadsNoImage, NamesNoEntry, GivesUnfit, words_of_answers, longest_image}
-use Rattle.cmmc_core.proofs.Reading.{ReadOf, all, too_long, IsRead-known}
+use Rattle.cmmc_core.specs.Run.{IsSpelling, ReadsImage, words_of_answers, longest_image}
+use Rattle.cmmc_core.proofs.Reading.{all, too_long, IsRead-known}
 use Rattle.cmmc_core.proofs.Spelled.{one_image, spelling_short}
 
 abbrev Fits : FileTree → Type 0
@@ -62,8 +62,8 @@ module _ (words : List (List ℕ)) (source : Side) where
   no_command_end : (status : ℕ) → Told words source status → (WellFormed words → ⊥) → Is 2 status
   no_command_end status (output bytes z (spelling image is c)) not = absurd (not (command-formed words CompileCommand is))
   no_command_end status (output bytes z (outcome ran text is o)) not = absurd (not (command-formed words (RunCommand ran) is))
-  no_command_end status (cause line (no_command n)) not = inl refl
-  no_command_end status (cause line (no_value w n)) not = absurd (not w)
+  no_command_end status (cause line (no_command n k)) not = inl refl
+  no_command_end status (cause line (no_value w n k)) not = absurd (not w)
   no_command_end status (cause line (read_fault c is r)) not = absurd (not (command-formed words c is))
   no_command_end status (cause line (no_text is r)) not = absurd (not (command-formed words CompileCommand is))
   no_command_end status (cause line (too_large l is r)) not = absurd (not (command-formed words CompileCommand is))
@@ -75,8 +75,8 @@ module _ (words : List (List ℕ)) (source : Side) where
   no_value_end : (status : ℕ) → Told words source status → ((command : CommandTree) → IsCommand words command → ⊥) → Is 2 status
   no_value_end status (output bytes z (spelling image is c)) not = absurd (not CompileCommand is)
   no_value_end status (output bytes z (outcome ran text is o)) not = absurd (not (RunCommand ran) is)
-  no_value_end status (cause line (no_command n)) not = inl refl
-  no_value_end status (cause line (no_value w n)) not = inl refl
+  no_value_end status (cause line (no_command n k)) not = inl refl
+  no_value_end status (cause line (no_value w n k)) not = inl refl
   no_value_end status (cause line (read_fault c is r)) not = absurd (not c is)
   no_value_end status (cause line (no_text is r)) not = absurd (not CompileCommand is)
   no_value_end status (cause line (too_large l is r)) not = absurd (not CompileCommand is)
@@ -100,8 +100,8 @@ module _ (words : List (List ℕ)) (source : Side) where
 
     fits_end : (status : ℕ) → Told words source status → (file : FileTree) → SmallText text file → Fits file → Is 0 status
     fits_end status (output bytes z o) file small fits = inl z
-    fits_end status (cause line (no_command n)) file small fits = absurd (n (command-formed words CompileCommand is))
-    fits_end status (cause line (no_value w n)) file small fits = absurd (n CompileCommand is)
+    fits_end status (cause line (no_command n k)) file small fits = absurd (n (command-formed words CompileCommand is))
+    fits_end status (cause line (no_value w n k)) file small fits = absurd (n CompileCommand is)
     fits_end status (cause line (read_fault c i r)) file small fits = absurd (calm r)
     fits_end status (cause line (no_text i r)) file small fits = absurd (r.no_text file (small_read r.text file r.read small))
     fits_end status (cause line (too_large l i r)) file small fits =
@@ -113,8 +113,8 @@ module _ (words : List (List ℕ)) (source : Side) where
 
     roomy_end : (status : ℕ) → Told words source status → (file : FileTree) → SmallText text file → IsRoomy file → Is 0 status
     roomy_end status (output bytes z o) file small roomy = inl z
-    roomy_end status (cause line (no_command n)) file small roomy = absurd (n (command-formed words CompileCommand is))
-    roomy_end status (cause line (no_value w n)) file small roomy = absurd (n CompileCommand is)
+    roomy_end status (cause line (no_command n k)) file small roomy = absurd (n (command-formed words CompileCommand is))
+    roomy_end status (cause line (no_value w n k)) file small roomy = absurd (n CompileCommand is)
     roomy_end status (cause line (read_fault c i r)) file small roomy = absurd (calm r)
     roomy_end status (cause line (no_text i r)) file small roomy = absurd (r.no_text file (small_read r.text file r.read small))
     roomy_end status (cause line (too_large l i r)) file small roomy =
@@ -128,8 +128,8 @@ module _ (words : List (List ℕ)) (source : Side) where
     large_end status (output bytes z (spelling image i c)) file large small passes =
         absurd (some_none _ large (same_file (Passes large) file small c.text c.is_image.file c.read c.is_image.is_file passes) c.is_image.fits)
     large_end status (output bytes z (outcome ran text i o)) file large small passes = absurd (compile_is_no_run ran is i)
-    large_end status (cause line (no_command n)) file large small passes = absurd (n (command-formed words CompileCommand is))
-    large_end status (cause line (no_value w n)) file large small passes = absurd (n CompileCommand is)
+    large_end status (cause line (no_command n k)) file large small passes = absurd (n (command-formed words CompileCommand is))
+    large_end status (cause line (no_value w n k)) file large small passes = absurd (n CompileCommand is)
     large_end status (cause line (read_fault c i r)) file large small passes = absurd (calm r)
     large_end status (cause line (no_text i r)) file large small passes = absurd (r.no_text file (small_read r.text file r.read small))
     large_end status (cause line (too_large l i r)) file large small passes = inl refl
@@ -142,8 +142,8 @@ module _ (words : List (List ℕ)) (source : Side) where
     other_end status (output bytes z (spelling image i c)) none =
         absurd (none c.is_image.file (small_before c.text c.is_image.file c.read c.is_image.is_file.small))
     other_end status (output bytes z (outcome ran text i o)) none = absurd (compile_is_no_run ran is i)
-    other_end status (cause line (no_command n)) none = absurd (n (command-formed words CompileCommand is))
-    other_end status (cause line (no_value w n)) none = absurd (n CompileCommand is)
+    other_end status (cause line (no_command n k)) none = absurd (n (command-formed words CompileCommand is))
+    other_end status (cause line (no_value w n k)) none = absurd (n CompileCommand is)
     other_end status (cause line (read_fault c i r)) none = absurd (calm r)
     other_end status (cause line (no_text i r)) none = inl refl
     other_end status (cause line (too_large l i r)) none =
@@ -194,8 +194,8 @@ module _ (words : List (List ℕ)) (source : Side) (bytes : List ℕ) (known : s
   run_told status (output b z (outcome other text i o)) =
       let P : RunTree → Type 0 = λ r. RunTold r bytes status in
       subst P (one_run words source ran other is i) (ran_out z o.image o.entry o.args o.answers (of_image o.image o.reads) o.named o.suit o.answered)
-  run_told status (cause line (no_command n)) = absurd (n (command-formed words (RunCommand ran) is))
-  run_told status (cause line (no_value w n)) = absurd (n (RunCommand ran) is)
+  run_told status (cause line (no_command n k)) = absurd (n (command-formed words (RunCommand ran) is))
+  run_told status (cause line (no_value w n k)) = absurd (n (RunCommand ran) is)
   run_told status (cause line (read_fault c i r)) = absurd (calm r)
   run_told status (cause line (no_text i r)) = absurd (compile_is_no_run words source ran i is)
   run_told status (cause line (too_large l i r)) = absurd (compile_is_no_run words source ran i is)

@@ -1,23 +1,19 @@
 -- How the parts of the top call put its end together.
-use Rattle.std.proofs.Common.{◌≡◌, ◌≢◌, ◌⊎◌, ℕ, ◌<◌, ◌≤◌, List, [], ◌++◌, length, take, drop, Option, Some, None, Result, Ok, Err, refl, sym, subst, inl, inr, arith, length-drop}
-use Rattle.std.specs.Io.KnownBytes.{Appends, Keeps, Consumes, IsAtEnd}
+use Rattle.std.proofs.Common.{ℕ, ◌≤◌, List, length, take, drop, Option, Some, None, Result, Ok, Err, refl, sym, subst, inl, inr, arith, length-drop}
+use Rattle.std.specs.Io.KnownBytes.{Keeps, Consumes, IsAtEnd}
 use Rattle.std.specs.Prelude.{IfOk, OnOk, IfErr}
 use Rattle.std.proofs.lemmas.List.{take-append-drop}
-use Rattle.bs_fault.specs.declared.image.ImageRefusal.{ImageRefusal}
-use Rattle.bs_fault.specs.declared.large.Large.{Large}
 use Rattle.bs_io.specs.Faults.{Risen}
 use Rattle.bs_io.specs.Whole.{AppendsPart}
 use Rattle.bs_words.specs.Contents.{contents}
 use Rattle.bs_words.specs.declared.list.List as code
 use Rattle.cmm_tree.specs.Small.{longest_text}
 use Rattle.command_line.specs.Command.{IsCommand, CompileCommand, RunCommand, RunTree}
-use Rattle.image_form.specs.Image.{tables_bytes}
 use Rattle.image_form.specs.Tables.{Tables}
-use Rattle.cmmc_core.specs.Compile.{CompilesTo, ReadsNoText, ReadsTooLarge, IsNoText}
-use Rattle.cmmc_core.specs.Effects.{Side, side, Effects, IsKept, Got, GotPart, Tells, IsRead}
+use Rattle.cmmc_core.specs.Effects.{Side, Effects, IsKept, Got, GotPart, Tells, IsRead}
 use Rattle.cmmc_core.specs.Ends.{Output, spelling, outcome, Cause, no_memory, Ends, written, refused, out_fault, err_fault}
-use Rattle.cmmc_core.specs.Refusal.{SpellsImageOf, SpellsImageRead, IsRefusalOf, IsRefusalFrom, IsTextOf, IsUnfit, WritesRun, CutsRun, IsRunRefusal, WritesOutcome, CutsOutcome, IsRunRefusalFrom, TellsOr}
-use Rattle.cmmc_core.specs.Run.{IsSpelling, ReadsImage, IsOutcomeOf, longest_image}
+use Rattle.cmmc_core.specs.Refusal.{SpellsImageOf, SpellsImageRead, IsRefusalOf, IsRefusalFrom, IsTextOf, WritesRun, IsRunRefusal, WritesOutcome, CutsOutcome, IsRunRefusalFrom, TellsOr}
+use Rattle.cmmc_core.specs.Run.{ReadsImage, IsOutcomeOf}
 use Rattle.cmmc_core.specs.declared.compile.Refusal.{Refusal}
 use Rattle.cmmc_core.specs.declared.compile.Refusal.TheVariants.{ReadFault, NotBuilt, TooLarge, OutOfMemory}
 use Rattle.cmmc_core.specs.declared.run.RunRefusal.{RunRefusal}

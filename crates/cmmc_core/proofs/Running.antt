@@ -1,11 +1,8 @@
 -- What a loaded machine, or none, says of the image and the words.
-use Rattle.std.proofs.Common.{◌≡◌, ◌⊎◌, ℕ, List, Option, Some, None, Result, Ok, Err, refl, sym, ap, ◌∙◌, subst, inl, inr}
-use Rattle.std.specs.Io.KnownBytes.{Appends}
-use Rattle.bs_io.specs.Faults.{Risen}
-use Rattle.bs_io.specs.Whole.{AppendsPart}
+use Rattle.std.proofs.Common.{◌≡◌, ℕ, List, Option, Some, None, Ok, Err, refl, sym, ap, ◌∙◌, inl, inr}
 use Rattle.bs_words.specs.Contents.{contents}
 use Rattle.command_line.specs.Command.{RunTree}
-use Rattle.image_form.specs.Image.{AreTables, tables_bytes}
+use Rattle.image_form.specs.Image.{AreTables}
 use Rattle.image_form.specs.Tables.{Tables, Func}
 use Rattle.mover_runtime.proofs.Loaded.{loaded_run}
 use Rattle.mover_runtime.specs.Outcome.{run_of}
@@ -14,8 +11,6 @@ use Rattle.rv_machine.specs.Hart.{Hart}
 use Rattle.rv_machine.specs.Loading.{func_named, words_of_args, begins_with, begins_at, beginning}
 use Rattle.rv_machine.specs.Start.{start}
 use Rattle.rv_machine.specs.Text.{outcome_text}
-use Rattle.rv_machine.specs.declared.setup.Arg.{Arg}
-use Rattle.rv_machine.specs.declared.setup.LoadError.{LoadError}
 use Rattle.rv_machine.specs.declared.setup.LoadError.TheVariants.{UnknownEntry, ArgumentUnfit}
 use Rattle.rv_machine.specs.declared.setup.Setup.{Setup}
 use Rattle.cmmc_core.specs.Refusal.{IsTextOf, IsUnfit}

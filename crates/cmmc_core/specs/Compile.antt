@@ -1,9 +1,9 @@
 -- What the command `compile` does.
-use Rattle.std.specs.Prelude.{◌≡◌, ℕ, List, Some, None}
+use Rattle.std.specs.Prelude.{◌≡◌, ℕ, List, [], ◌∷◌, replicate, Some, None}
 use Rattle.std.specs.List.{AllZip}
 use Rattle.bs_fault.specs.declared.large.Large.{Large}
 use Rattle.cmm_tree.specs.Tree.{FileTree, functions}
-use Rattle.cmm_tree.specs.Small.{SmallText, longest_text}
+use Rattle.cmm_tree.specs.Small.{SmallText, longest_text, caml_bound_error}
 use Rattle.correctness.specs.Bounds.{IsBounded, IsRoomy}
 use Rattle.correctness.specs.Correct.{IsCorrect}
 use Rattle.image_form.specs.Image.{AreTables}
@@ -14,6 +14,14 @@ use Rattle.small_code.specs.TooLarge.{first_too_large}
 use Rattle.small_reader.specs.Parsing.{IsTreeOf}
 use Rattle.cmmc_core.specs.Effects.{Side, IsRead}
 
+-- The data of an image whose file has none of its own: the built-in list of 8 bytes with its symbol, no
+-- root cell and no external call.
+pub record HasBuiltInData (image : Tables) : Type 0 where
+  pub bytes : image.bytes ≡ replicate 8 0
+  pub syms : image.syms ≡ record { name = caml_bound_error; offset = 0 } ∷ []
+  pub roots : image.roots ≡ []
+  pub extcs : image.extcs ≡ []
+
 -- These bytes are a text, and this is an image that is correct for its file.
 pub record IsImageOf (text : List ℕ) (image : Tables) : Type 0 where
   pub file : FileTree
@@ -22,6 +30,7 @@ pub record IsImageOf (text : List ℕ) (image : Tables) : Type 0 where
   pub correct : IsCorrect file image
   pub bounded : IsBounded file image
   pub frames : AllZip HasLeastFrame (functions file) image.funcs
+  pub built_in_data : HasBuiltInData image
   -- no section of the image that is made for the file passes its limit
   pub fits : first_too_large (compiled file) ≡ None
 

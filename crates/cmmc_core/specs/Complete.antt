@@ -1,12 +1,11 @@
 -- That nothing but want of memory stands between good input and its output, where no count rose.
-use Rattle.std.specs.Prelude.{◌≡◌, ◌⊎◌, ℕ, List, Some, None, Err}
+use Rattle.std.specs.Prelude.{◌≡◌, ◌⊎◌, ℕ, List, Some, None}
 use Rattle.bs_fault.specs.declared.large.Large.{Large}
 use Rattle.cmm_tree.specs.Tree.{FileTree}
 use Rattle.cmm_tree.specs.Small.{SmallText}
 use Rattle.command_line.specs.Command.{IsCommand, CommandTree, CompileCommand, RunCommand, RunTree}
 use Rattle.command_line.specs.Words.{WellFormed}
 use Rattle.correctness.specs.Bounds.{IsRoomy}
-use Rattle.image_form.specs.Image.{AreTables, tables_bytes}
 use Rattle.image_form.specs.Tables.{Tables, Func}
 use Rattle.rv_machine.specs.Loading.{func_named, words_of_args}
 use Rattle.small_code.specs.Compiled.{compiled}

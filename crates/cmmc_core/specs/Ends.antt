@@ -1,5 +1,5 @@
 -- How a call of the program ends, status by status.
-use Rattle.std.specs.Prelude.{◌≡◌, ℕ, List}
+use Rattle.std.specs.Prelude.{ℕ, List}
 use Rattle.bs_fault.specs.Lines.{usage_line, large_line, image_line}
 use Rattle.bs_fault.specs.declared.image.ImageRefusal.{ImageRefusal}
 use Rattle.bs_fault.specs.declared.large.Large.{Large}
@@ -28,10 +28,11 @@ pub data Output (words : List (List ℕ)) (source : Side) : List ℕ → Type 0 
 
 -- Why there is no output: the status that tells it, and the line.
 pub data Cause (words : List (List ℕ)) (source : Side) : ℕ → List ℕ → Type 0 where
-  -- the words do not have the form of a command, or have a value that no command has
-  no_command : (WellFormed words → ⊥) → Cause words source 2 (usage_line Words)
+  -- the words do not have the form of a command, or have a value that no command has; nothing was read
+  no_command : (WellFormed words → ⊥) → IsKept source → Cause words source 2 (usage_line Words)
   no_value : WellFormed words
       → ((command : CommandTree) → IsCommand words command → ⊥)
+      → IsKept source
       → Cause words source 2 (usage_line ValueText)
   read_fault : (command : CommandTree)
       → IsCommand words command

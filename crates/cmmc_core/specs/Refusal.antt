@@ -1,8 +1,5 @@
 -- What the parts of the program answer one another.
-use Rattle.std.specs.Prelude.{◌≡◌, ◌⊎◌, ⊤, ℕ, List, Option, Some, None}
-use Rattle.bs_fault.specs.Lines.{large_line, image_line}
-use Rattle.bs_fault.specs.declared.image.ImageRefusal.{ImageRefusal}
-use Rattle.bs_fault.specs.declared.large.Large.{Large}
+use Rattle.std.specs.Prelude.{◌≡◌, ◌⊎◌, ⊤, ℕ, List, Some, None}
 use Rattle.cmm_tree.specs.Small.{longest_text}
 use Rattle.command_line.specs.Command.{RunTree}
 use Rattle.image_form.specs.Image.{tables_bytes}
@@ -13,7 +10,7 @@ use Rattle.rv_machine.specs.Text.{outcome_text}
 use Rattle.cmmc_core.specs.Compile.{IsImageOf, IsNoText, ReadsNoText, IsTooLarge, ReadsTooLarge}
 use Rattle.cmmc_core.specs.Effects.{Side, Rose, IsRead, Tells, IsKept, Got, GotPart}
 use Rattle.cmmc_core.specs.Lines.{no_memory_line}
-use Rattle.cmmc_core.specs.Run.{IsOutcomeOf, IsNoImage, ReadsNoImage, NamesNoEntry, GivesUnfit, words_of_answers, no_moves}
+use Rattle.cmmc_core.specs.Run.{IsOutcomeOf, ReadsNoImage, NamesNoEntry, GivesUnfit, words_of_answers, no_moves}
 use Rattle.cmmc_core.specs.declared.compile.Refusal.{Refusal}
 use Rattle.cmmc_core.specs.declared.compile.Refusal.TheVariants.{ReadFault, NotBuilt, TooLarge, OutOfMemory}
 use Rattle.cmmc_core.specs.declared.run.RunRefusal.{RunRefusal}

@@ -1,6 +1,5 @@
-use Rattle.std.proofs.Common.{sym, subst, length, ◌≤◌}
 use Rattle.bs_words.specs.Contents.{contents}
-use Rattle.cmmc_core.proofs.Ending.{IfErr-read, IfOk-read, IsRead-whole}
+use Rattle.cmmc_core.proofs.Ending.{IfErr-read, IsRead-whole}
 use Rattle.cmmc_core.proofs.compile.compile_source.Goals as goal
 
 pub returns-in-Ok-clause-refused : goal.returns-in-Ok-clause-refused

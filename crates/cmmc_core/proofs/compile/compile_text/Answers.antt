@@ -1,10 +1,15 @@
-use Rattle.std.proofs.Common.{◌≡◌, refl, sym, ap, ◌∙◌, Some, None, Option, subst}
+use Rattle.std.proofs.Common.{◌≡◌, refl, sym, None, subst}
 use Rattle.cmm_tree.proofs.SmallFacts.{small-is}
+use Rattle.cmm_tree.specs.Tree.{FileTree}
 use Rattle.cmm_tree.specs.View.{file_view}
 use Rattle.image_form.specs.Tables.{Tables, tables}
 use Rattle.small_code.specs.Compiled.{compiled}
 use Rattle.small_code.specs.TooLarge.{first_too_large}
+use Rattle.cmmc_core.specs.Compile.{HasBuiltInData}
 use Rattle.cmmc_core.proofs.compile.compile_text.Goals as goal
+
+built_in : (file : FileTree) → HasBuiltInData (compiled file)
+built_in file = record { bytes = refl; syms = refl; roots = refl; extcs = refl }
 
 pub compile_small-requires : goal.compile_small-requires
 compile_small-requires c = small-is _ _ c.in-Ok.ensures.small
@@ -33,6 +38,7 @@ returns-in-Ok-write_image-clause-image c = record {
     correct = c.in-Ok-compile_small.ensures.correct;
     bounded = c.in-Ok-compile_small.ensures.bounded;
     frames = c.in-Ok-compile_small.ensures.frames;
+    built_in_data = subst HasBuiltInData (sym c.in-Ok-compile_small.ensures.exact) (built_in (file_view c.in-Ok.file));
     fits =
         let Fits : Tables → Type 0 = λ t. first_too_large t ≡ None in
         subst Fits c.in-Ok-compile_small.ensures.exact c.in-Ok-compile_small.ensures.keeps_limits;

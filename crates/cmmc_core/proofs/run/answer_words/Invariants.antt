@@ -1,4 +1,3 @@
-use Rattle.bs_words.specs.Contents.{contents}
 use Rattle.image_form.specs.Tables.{tables}
 use Rattle.cmmc_core.proofs.Answers.{SoFar}
 use Rattle.cmmc_core.proofs.run.answer_words.Given as goal

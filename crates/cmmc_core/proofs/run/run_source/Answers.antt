@@ -1,4 +1,3 @@
-use Rattle.std.proofs.Common.{◌≡◌, sym, ◌∙◌, ap}
 use Rattle.bs_words.specs.Contents.{contents}
 use Rattle.cmmc_core.proofs.Ending.{Keeps-same}
 use Rattle.cmmc_core.proofs.Spelled.{no_spelling}

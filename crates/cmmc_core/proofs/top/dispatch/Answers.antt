@@ -1,4 +1,4 @@
-use Rattle.std.proofs.Common.{Err, ap, refl, sym}
+use Rattle.std.proofs.Common.{Err, ap}
 use Rattle.bs_words.specs.Contents.{contents}
 use Rattle.cmmc_core.specs.Ends.{no_command, no_value, read_fault, no_text, too_large, no_image, no_entry, unfit, no_memory}
 use Rattle.cmmc_core.proofs.Ending.{Keeps-same, GotPart-part, Ends-told, Ends-told-or, Ends-written, Ends-cut, Ends-run, Ends-run-cut}
@@ -73,12 +73,12 @@ returns-in-Ok-Run g c =
 
 pub returns-in-Err-Words : goal.returns-in-Err-Words
 returns-in-Err-Words g c =
-    Ends-told _ _ 2 _ _ (no_command (c.in-Err-Words.ensures.misformed (ap Err c.in-Err-Words.field-0-is))) (Keeps-same _) c.tell-in-Err-Words.ensures
+    Ends-told _ _ 2 _ _ (no_command (c.in-Err-Words.ensures.misformed (ap Err c.in-Err-Words.field-0-is)) (Keeps-same _)) (Keeps-same _) c.tell-in-Err-Words.ensures
 
 pub returns-in-Err-ValueText : goal.returns-in-Err-ValueText
 returns-in-Err-ValueText g c =
     let is = c.in-Err-ValueText.field-0-is in
-    Ends-told _ _ 2 _ _ (no_value (c.in-Err-ValueText.ensures.formed (λ e. cc)) (c.in-Err-ValueText.ensures.bad (ap Err is))) (Keeps-same _) c.tell-in-Err-ValueText.ensures
+    Ends-told _ _ 2 _ _ (no_value (c.in-Err-ValueText.ensures.formed (λ e. cc)) (c.in-Err-ValueText.ensures.bad (ap Err is)) (Keeps-same _)) (Keeps-same _) c.tell-in-Err-ValueText.ensures
 
 pub returns : goal.returns
 returns g c = Ends-told _ _ 9 _ _ no_memory (Keeps-same _) c.tell-in-Err-OutOfMemory.ensures
