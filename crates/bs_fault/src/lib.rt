@@ -2,11 +2,13 @@
 #![tactic(auto)]
 
 mod build;
+mod fault;
 mod image;
 mod large;
 mod usage;
 
 pub use build::BuildError;
+pub use fault::{Fault, FrontError, fault_text};
 pub use image::{ImageFault, ImageRefusal, image_text};
 pub use large::{Large, Section, large_text};
 pub use usage::{Usage, usage_text};

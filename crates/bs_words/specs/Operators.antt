@@ -2,7 +2,7 @@
 --
 -- A pointer is the address `offset` bytes after the start of a block; offsets are words that wrap.
 -- `sizes` has the number of cells of each block, by its serial.
-use Rattle.std.specs.Prelude.{ℕ, zero, ◌*◌, ◌+◌, ◌-◌, ◌%◌, ◌^◌, Bool, true, false, not, cond, ◌&&◌, ◌||◌, ◌==◌, nat_lt, nat_le, List, Result, Ok, Err, slice_index, int_lt, int_le, bit_and, bit_or, bit_xor}
+use Rattle.std.specs.Prelude.{ℕ, zero, ◌*◌, ◌-◌, ◌%◌, ◌^◌, Bool, true, false, not, cond, ◌&&◌, ◌||◌, ◌==◌, nat_lt, nat_le, List, Result, Ok, Err, slice_index, int_lt, int_le, bit_and, bit_or, bit_xor}
 use Rattle.bs_words.specs.Word.{signed_of, add_word, sub_word, mul_word, mulh_word, div_word, rem_word, shl_word, shr_word, sar_word}
 use Rattle.bs_words.specs.declared.operators.CmpOp.{CmpOp}
 use Rattle.bs_words.specs.declared.operators.CmpOp.TheVariants.{Eq, Ne, Lt, Le, Gt, Ge}
@@ -163,3 +163,16 @@ apply Shr sizes a b = shift_of shr_word a b
 apply Sar sizes a b = shift_of sar_word a b
 apply (Cmp op) sizes a b = comparison_of signed_holds op sizes a b
 apply (CmpU op) sizes a b = comparison_of unsigned_holds op sizes a b
+
+-- ---- conditions
+
+-- whether a condition holds: a word other than 0, a function, and a pointer near its block do
+abbrev pub condition_of : List ℕ → Value → Result Bool Kind
+condition_of sizes (Word w) = Ok (not (w == 0))
+condition_of sizes (Function f) = Ok true
+condition_of sizes (Block s o) = cond (is_near sizes s o) (Ok true) (Err PointerOrder)
+
+-- the number that chooses a case of a switch, and the operands of a bound test: words
+abbrev pub word_in : Value → Result ℕ Kind
+word_in (Word w) = Ok w
+word_in _ = Err PointerArithmetic

@@ -1,24 +1,161 @@
 //! Expressions, after the reader's rewriting.
-use bs_words::{IntOp, Name};
+use crate::file::Param;
+use bs_words::{Chunk, IntOp, Name, Ret, Ty};
 
-/// An expression and the place of its first byte, in bytes from the start of the text.
+/// An expression.
+///
+/// `at` is the place of its first byte, in bytes from the start of the text. `ty` is its type once types
+/// are checked, and says nothing before.
 #[derive(Drop)]
 #[cycle(expr)]
 pub struct Expr {
     pub at: u32,
+    pub ty: Ty,
     pub form: Form,
 }
 
-/// What an expression is.
-///
-/// One variant for each form of the grammar. The forms that are not read yet have none.
+/// What an expression is: one variant for each form of the grammar.
 #[derive(Drop)]
 #[cycle(expr)]
 pub enum Form {
     /// An integer, as the 64-bit word that it stands for.
     Integer(u64),
+    /// An integer that is written as a value of the heap, as `5a`.
+    Pointer(u64),
+    /// A string: the symbol of a function or of static data.
+    Symbol(Name),
     /// A name that a parameter or a binding binds.
     Name(Name),
+    /// `[]`: no value.
+    Nothing,
+    /// What computes with floats: a literal, an operator, or an access of memory. It is read, and refused
+    /// as a fault at its word.
+    Float {
+        word_at: u32,
+        operands: Vec<Expr>,
+    },
+    /// Bindings, one after the other, and what is evaluated in their scope.
+    Let(Vec<Binding>, Box<Expr>),
+    /// A new value for a mutable name.
+    Assign {
+        name_at: u32,
+        name: Name,
+        value: Box<Expr>,
+    },
     /// An operator on two operands, the left one first.
     Operator(IntOp, Box<Expr>, Box<Expr>),
+    /// A load from an address.
+    Load(Chunk, Box<Expr>),
+    /// A store: the address, then the value.
+    Store(Chunk, Box<Expr>, Box<Expr>),
+    /// A new block with this header and the values of its cells.
+    Alloc {
+        header_at: u32,
+        header: u64,
+        operands: Vec<Expr>,
+    },
+    /// A call of the function that the first expression gives.
+    App {
+        callee: Box<Expr>,
+        arguments: Vec<Expr>,
+        result: Ret,
+        result_at: u32,
+    },
+    /// A call of what lies outside the file, by its name.
+    Extcall {
+        name: Name,
+        arguments: Vec<Expr>,
+        result: Ret,
+        result_at: u32,
+    },
+    /// A test that raises where the index, the second, is not below the bound.
+    Checkbound(Box<Expr>, Box<Expr>),
+    /// A raise of a value.
+    Raise(Box<Expr>),
+    /// Two or more expressions, one after the other.
+    Seq(Vec<Expr>),
+    /// The condition, and what is evaluated where it is true and where it is false.
+    If(Box<Expr>, Box<Expr>, Box<Expr>),
+    /// A choice by a number below `size`.
+    Switch {
+        size_at: u32,
+        size: u64,
+        selector: Box<Expr>,
+        cases: Vec<Case>,
+    },
+    /// A body, and handlers to which an exit may leave.
+    Catch(Box<Expr>, Vec<Handler>),
+    /// An exit to the handler of that label.
+    Exit {
+        label_at: u32,
+        label: Label,
+        arguments: Vec<Expr>,
+    },
+    /// A body, and what handles a raise out of it.
+    Try {
+        body: Box<Expr>,
+        name_at: u32,
+        name: Name,
+        handler: Box<Expr>,
+    },
+}
+
+/// A binding of `let` or `letmut`.
+#[derive(Drop)]
+#[cycle(expr)]
+pub struct Binding {
+    /// The place of its name.
+    pub at: u32,
+    pub name: Name,
+    /// What `letmut` declares. A binding of `let` is not mutable, and declares nothing.
+    pub declared: Option<Declared>,
+    pub value: Expr,
+}
+
+/// The component of a mutable name.
+#[derive(Clone, Copy, PartialEq, Eq, Debug)]
+pub struct Declared {
+    /// The place of its word.
+    pub at: u32,
+    pub comp: bs_words::Comp,
+}
+
+/// A case of a switch: the numbers that choose it, and its body.
+#[derive(Drop)]
+#[cycle(expr)]
+pub struct Case {
+    pub indexes: Vec<CaseIndex>,
+    pub body: Expr,
+}
+
+/// A number that chooses a case.
+#[derive(Clone, Copy, PartialEq, Eq, Debug)]
+pub struct CaseIndex {
+    pub at: u32,
+    pub index: u64,
+}
+
+/// A handler of a catch.
+#[derive(Drop)]
+#[cycle(expr)]
+pub struct Handler {
+    /// The place of its label; of a handler without one, that of its body.
+    pub at: u32,
+    pub label: Label,
+    pub params: Vec<Param>,
+    pub body: Expr,
+}
+
+/// The label of a handler.
+#[derive(Drop)]
+pub enum Label {
+    /// A label that the text names. It is visible in the body of its catch and in all its handlers.
+    Named(Name),
+    /// The label of a handler without one, to which the bare `exit` leaves. It is visible in the body of
+    /// its catch.
+    Bare,
+    /// The end of a `while`, which no text names. It is visible as a named label is.
+    Done,
+    /// The next turn of a `while`, which no text names. It is visible as a named label is.
+    Again,
 }

@@ -1,4 +1,4 @@
-//! Files: the functions of a text, in its order.
+//! Files: the functions and the static data of a text, in its order.
 use crate::expr::Expr;
 use bs_words::{Comp, List, Name};
 
@@ -8,10 +8,11 @@ pub struct File {
     pub items: List<Item>,
 }
 
-/// One item of a file. Lists of data are not read yet.
+/// One item of a file.
 #[derive(Drop)]
 pub enum Item {
     Function(Function),
+    Data(DataList),
 }
 
 /// A function.
@@ -19,6 +20,8 @@ pub enum Item {
 pub struct Function {
     /// The place of its `(`, in bytes from the start of the text.
     pub at: u32,
+    /// The place of its symbol.
+    pub name_at: u32,
     pub name: Name,
     pub params: List<Param>,
     pub body: Expr,
@@ -26,11 +29,64 @@ pub struct Function {
     pub tokens: u32,
 }
 
-/// A parameter of a function.
+/// A parameter of a function or of a handler.
 #[derive(Drop)]
 pub struct Param {
     /// The place of its name, in bytes from the start of the text.
     pub at: u32,
     pub name: Name,
     pub comp: Comp,
+    /// The place of its component.
+    pub comp_at: u32,
+}
+
+/// A list of static data.
+#[derive(Drop)]
+pub struct DataList {
+    /// The place of its `(`, in bytes from the start of the text.
+    pub at: u32,
+    pub items: List<DataItem>,
+}
+
+/// An item of a list of static data.
+#[derive(Drop)]
+pub struct DataItem {
+    /// The place of its first token, in bytes from the start of the text.
+    pub at: u32,
+    pub datum: Datum,
+}
+
+/// What an item of static data is.
+///
+/// An integer has its word, or none where it is out of range, which no file that is read has.
+#[derive(Drop)]
+pub enum Datum {
+    /// A symbol that is defined at this place.
+    Define(Name),
+    Byte(Option<u64>),
+    /// Two bytes.
+    Half(Option<u64>),
+    /// Eight bytes.
+    Int(Option<u64>),
+    /// Eight bytes that are a value of the heap, and a root.
+    Val(Option<u64>),
+    /// The address of a symbol, whose string stands at `name_at`. It is a root where it is written as a `val`.
+    Address {
+        root: bool,
+        name_at: u32,
+        name: Name,
+    },
+    /// That many zero bytes.
+    Skip(Option<u64>),
+    /// Zero bytes to a multiple.
+    Align(Option<u64>),
+    /// The bytes of a string, its escapes replaced.
+    Text(List<u8>),
+    /// A symbol that must be defined. It changes nothing.
+    Global {
+        name_at: u32,
+        name: Name,
+    },
+    /// A float. It is read, and refused as a fault.
+    Float,
 }

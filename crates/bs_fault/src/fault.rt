@@ -1,0 +1,202 @@
+//! What is wrong with a Cmm text.
+ghost use Rattle.std.specs.Prelude.{◌≡◌, ◌++◌, codes, IfOk};
+ghost use Rattle.std.specs.Fmt.{decimal};
+ghost use Rattle.bs_words.specs.Contents.{contents};
+ghost use Rattle.bs_fault.specs.FaultLines.{fault_word, fault_place, fault_more, fault_line};
+
+use bs_words::List;
+use std::alloc::{AllocError, AllocFailed, Global};
+use thiserror::Error;
+
+/// A fault of a text. Places are in bytes from the start of the text.
+#[derive(Clone, Copy, PartialEq, Eq, Debug)]
+pub enum Fault {
+    /// F1: the text has more than 16,777,216 bytes.
+    TooLong { at: u32 },
+    /// F2: no token begins here, or a backslash begins no escape.
+    BadToken { at: u32 },
+    /// F3: a string, a comment or a brace is not closed.
+    Unclosed { at: u32 },
+    /// F4: the grammar allows no such token here, or the text ends inside a form.
+    Unexpected { at: u32 },
+    /// F5: parentheses nest deeper than 250.
+    TooDeep { at: u32 },
+    /// F6: an integer is out of range.
+    IntRange { at: u32 },
+    /// F7: more than 16 parameters or arguments. It stands at the seventeenth.
+    TooManyParams { at: u32 },
+    /// F8: a function has more than 4,000 tokens.
+    FunctionTooLong { at: u32 },
+    /// F9: the static data passes 16,777,216 bytes.
+    DataTooLarge { at: u32 },
+    /// F10: an item of static data breaks its rule.
+    DataItem { at: u32 },
+    /// F11: a name is not bound.
+    Unbound { at: u32 },
+    /// F12: a symbol is not defined.
+    UnknownSymbol { at: u32 },
+    /// F13: a symbol, or a label of one catch, is defined twice.
+    DuplicateSymbol { at: u32 },
+    /// F14: another number of arguments than parameters.
+    Arity { at: u32 },
+    /// F15: an expression without a value stands where a value is taken.
+    NoValue { at: u32 },
+    /// F16: an assignment to a name that is not mutable.
+    NotMutable { at: u32 },
+    /// F17: the header of an allocation does not fit its block.
+    AllocHeader { at: u32 },
+    /// F18: no visible handler has this label.
+    UnknownLabel { at: u32 },
+    /// F19: a float.
+    Float { at: u32 },
+    /// F20: an address that is used after a frame point it was bound before.
+    AddrLive { bound: u32, point: u32, used: u32 },
+    /// F21: an argument of an external call, or the body of a function, is an address.
+    AddrArgument { at: u32 },
+    /// F22: the number of indexes of a switch, or an index.
+    SwitchSize { at: u32 },
+}
+
+/// Why a text was not accepted.
+#[derive(Debug, Drop, Error)]
+pub enum FrontError {
+    #[error("the text has a fault")]
+    Fault(Fault),
+    #[error("out of memory")]
+    OutOfMemory,
+}
+
+impl From<AllocError> for FrontError {
+    ghost use Rattle.bs_fault.specs.declared.fault.FrontError.TheVariants.{OutOfMemory};
+
+    ghost from_gives = { λ _ e. e ≡ OutOfMemory };
+
+    fn from(_e: AllocError) -> FrontError {
+        FrontError::OutOfMemory
+    }
+}
+
+impl<T: Drop> From<AllocFailed<T>> for FrontError {
+    ghost use Rattle.bs_fault.specs.declared.fault.FrontError.TheVariants.{OutOfMemory};
+
+    ghost from_gives = { λ _ e. e ≡ OutOfMemory };
+
+    fn from(_e: AllocFailed<T>) -> FrontError {
+        FrontError::OutOfMemory
+    }
+}
+
+fn fault_word(fault: Fault) -> &'static str
+    ensures { result.now ≡ fault_word fault }
+{
+    match fault {
+        Fault::TooLong { at: _ } => "F1 TooLong",
+        Fault::BadToken { at: _ } => "F2 BadToken",
+        Fault::Unclosed { at: _ } => "F3 Unclosed",
+        Fault::Unexpected { at: _ } => "F4 Unexpected",
+        Fault::TooDeep { at: _ } => "F5 TooDeep",
+        Fault::IntRange { at: _ } => "F6 IntRange",
+        Fault::TooManyParams { at: _ } => "F7 TooManyParams",
+        Fault::FunctionTooLong { at: _ } => "F8 FunctionTooLong",
+        Fault::DataTooLarge { at: _ } => "F9 DataTooLarge",
+        Fault::DataItem { at: _ } => "F10 DataItem",
+        Fault::Unbound { at: _ } => "F11 Unbound",
+        Fault::UnknownSymbol { at: _ } => "F12 UnknownSymbol",
+        Fault::DuplicateSymbol { at: _ } => "F13 DuplicateSymbol",
+        Fault::Arity { at: _ } => "F14 Arity",
+        Fault::NoValue { at: _ } => "F15 NoValue",
+        Fault::NotMutable { at: _ } => "F16 NotMutable",
+        Fault::AllocHeader { at: _ } => "F17 AllocHeader",
+        Fault::UnknownLabel { at: _ } => "F18 UnknownLabel",
+        Fault::Float { at: _ } => "F19 Float",
+        Fault::AddrLive {
+            bound: _,
+            point: _,
+            used: _,
+        } => "F20 AddrLive",
+        Fault::AddrArgument { at: _ } => "F21 AddrArgument",
+        Fault::SwitchSize { at: _ } => "F22 SwitchSize",
+    }
+}
+
+fn fault_place(fault: Fault) -> u32
+    ensures { result ≡ fault_place fault }
+{
+    match fault {
+        Fault::TooLong { at } => at,
+        Fault::BadToken { at } => at,
+        Fault::Unclosed { at } => at,
+        Fault::Unexpected { at } => at,
+        Fault::TooDeep { at } => at,
+        Fault::IntRange { at } => at,
+        Fault::TooManyParams { at } => at,
+        Fault::FunctionTooLong { at } => at,
+        Fault::DataTooLarge { at } => at,
+        Fault::DataItem { at } => at,
+        Fault::Unbound { at } => at,
+        Fault::UnknownSymbol { at } => at,
+        Fault::DuplicateSymbol { at } => at,
+        Fault::Arity { at } => at,
+        Fault::NoValue { at } => at,
+        Fault::NotMutable { at } => at,
+        Fault::AllocHeader { at } => at,
+        Fault::UnknownLabel { at } => at,
+        Fault::Float { at } => at,
+        Fault::AddrLive {
+            bound: _,
+            point: _,
+            used,
+        } => used,
+        Fault::AddrArgument { at } => at,
+        Fault::SwitchSize { at } => at,
+    }
+}
+
+fn point_text(alloc: Global, point: u32) -> Result<String, AllocError>
+    ensures { IfOk result (λ text. text.bytes.items ≡ codes ", frame point at " ++ decimal point) }
+{
+    let text = format!(in alloc; ", frame point at {point}")?;
+    Ok(text)
+}
+
+fn bound_text(alloc: Global, bound: u32) -> Result<String, AllocError>
+    ensures { IfOk result (λ text. text.bytes.items ≡ codes ", bound at " ++ decimal bound) }
+{
+    let text = format!(in alloc; ", bound at {bound}")?;
+    Ok(text)
+}
+
+fn bound_and_point(alloc: Global, bound: u32, point: u32) -> Result<String, AllocError>
+    ensures { IfOk result (λ text. text.bytes.items ≡ (codes ", bound at " ++ decimal bound) ++ (codes ", frame point at " ++ decimal point)) }
+{
+    let mut text = bound_text(alloc, bound)?;
+    let passed = point_text(alloc, point)?;
+    text.push_str(passed.as_str())?;
+    Ok(text)
+}
+
+/// Where an address is bound, and the frame point that it passes; nothing of other faults.
+fn fault_more(alloc: Global, fault: Fault) -> Result<String, AllocError>
+    ensures { IfOk result (λ text. text.bytes.items ≡ fault_more fault) }
+{
+    match fault {
+        Fault::AddrLive {
+            bound,
+            point,
+            used: _,
+        } => bound_and_point(alloc, bound, point),
+        _ => Ok(String::new(alloc)),
+    }
+}
+
+/// The line of the fault, as `cmmc: F11 Unbound at 27` and a line feed; of an address at a frame point,
+/// as `cmmc: F20 AddrLive at 65, bound at 27, frame point at 38`. It fails only if memory runs out.
+pub fn fault_text(alloc: Global, fault: &Fault) -> Result<List<u8>, AllocError>
+    ensures { IfOk result (λ text. contents text ≡ fault_line fault.now) }
+{
+    let word = fault_word(*fault);
+    let at = fault_place(*fault);
+    let more = fault_more(alloc, *fault)?;
+    let line = format!(in alloc; "cmmc: {word} at {at}{more}\n")?;
+    Ok(List::from_vec(line.into_bytes()))
+}
