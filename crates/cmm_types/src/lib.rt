@@ -1,0 +1,2 @@
+//! The types and symbols of Cmm files.
+#![tactic(auto)]
