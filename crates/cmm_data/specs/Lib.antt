@@ -1,0 +1,3 @@
+pub mod Placement
+pub mod Faults
+pub mod Contents

@@ -1,0 +1,2 @@
+//! Where static data lies, what its cells hold, and what is wrong with it.
+#![tactic(auto)]
