@@ -1,11 +1,11 @@
 -- The evaluation of one function alone: what its callees and external calls do is handed in.
-use Rattle.std.specs.Prelude.{ℕ, List, [], ◌∷◌, ◌++◌, Option, Some, None}
+use Rattle.std.specs.Prelude.{ℕ, List, [], ◌∷◌, ◌++◌, Option, Some}
 use Rattle.bs_words.specs.Memory.{Memory}
 use Rattle.bs_words.specs.declared.types.Comp.{Comp}
 use Rattle.bs_words.specs.declared.types.Ret.{Ret}
 use Rattle.bs_words.specs.declared.values.Value.{Value}
 use Rattle.cmm_tree.specs.Tree.{FunctionTree}
-use Rattle.cmm_meaning.specs.State.{Doing, Gave, Threw, Callee, Inside, Outside, Asked, World}
+use Rattle.cmm_meaning.specs.State.{Doing, Gave, Threw, Inside, Outside, Asked, World}
 use Rattle.cmm_meaning.specs.Evaluation.{Asking, Evaluation, Gives, Raises, Stops, Surroundings}
 use Rattle.cmm_meaning.specs.Run.{nobody, activated}
 

@@ -6,7 +6,7 @@
 -- light addresses after all others.
 use Rattle.std.specs.Prelude.{ℕ, zero, suc, ◌+◌, Bool, true, false, not, cond, ◌&&◌, ◌==◌, nat_lt, List, [], ◌∷◌, Option, Some, None, Result, Ok, Err, length, map, slice_get, bytes_eq}
 use Rattle.bs_words.specs.Fits.{fits, misfit, type_of_comp, data_start}
-use Rattle.bs_words.specs.Memory.{Memory, sizes, loaded, stored, allocated, next_block}
+use Rattle.bs_words.specs.Memory.{sizes, loaded, stored, allocated, next_block}
 use Rattle.bs_words.specs.Operators.{apply, condition_of, word_in}
 use Rattle.bs_words.specs.declared.types.Comp.{Comp}
 use Rattle.bs_words.specs.declared.types.Ret.{Ret}
@@ -17,11 +17,11 @@ use Rattle.bs_words.specs.declared.values.Kind.{Kind}
 use Rattle.bs_words.specs.declared.values.Kind.TheVariants.{BadValue, BadCall, SwitchRange}
 use Rattle.bs_words.specs.declared.values.Value.{Value}
 use Rattle.bs_words.specs.declared.values.Value.TheVariants as value
-use Rattle.cmm_tree.specs.Tree.{LabelTree, Named, Bare, Done, Again, Parameter, Declaration, Index, Expression, Integer, Pointer, Symbol, Name, Nothing, Float, Let, Assign, Operator, Load, Store, Alloc, App, Extcall, Checkbound, Raise, Seq, If, Switch, Catch, Exit, Try, Expressions, NoMore, More, Bindings, NoBinding, Bind, Cases, NoCase, Choose, Handlers, NoHandler, Handle}
+use Rattle.cmm_tree.specs.Tree.{LabelTree, Named, Bare, Done, Again, Parameter, Index, Expression, Integer, Pointer, Symbol, Name, Nothing, Float, Let, Assign, Operator, Load, Store, Alloc, App, Extcall, Checkbound, Raise, Seq, If, Switch, Catch, Exit, Try, Expressions, NoMore, More, Bindings, NoBinding, Bind, Cases, NoCase, Choose, Handlers, NoHandler, Handle}
 use Rattle.cmm_types.specs.Light.{is_light_address}
 use Rattle.cmm_types.specs.Types.{Scoped, type_of, type_named, type_bound, is_mutable}
 use Rattle.bs_words.specs.Observed.{Made}
-use Rattle.cmm_meaning.specs.State.{Asked, World, Binding, Here, scope, value_of, assigned, bound, back_in, deepened}
+use Rattle.cmm_meaning.specs.State.{Asked, World, Here, scope, value_of, assigned, bound, back_in, deepened}
 
 -- Why a run stops before its end.
 pub data Stop : Type 0 where
@@ -346,8 +346,8 @@ abbrev mutual
       node s (Try at body name_at name handler) h w (λ w.
       tried
       (λ v h w.
-        let raised : Scoped = record { name = name; type = ty.Val; mutable = false } in
-        back (length h.names) h.taken (evaluated s handler tail (with_bound (raised ∷ []) (v ∷ []) h) w))
+      let raised : Scoped = record { name = name; type = ty.Val; mutable = false } in
+      back (length h.names) h.taken (evaluated s handler tail (with_bound (raised ∷ []) (v ∷ []) h) w))
       (length h.names) h.taken
       (evaluated s body false (record h { taken = h.taken + 16 }) (deepened (h.taken + 16) w)))
 

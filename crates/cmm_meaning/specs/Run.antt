@@ -1,6 +1,6 @@
 -- The run of a function of a file.
-use Rattle.std.specs.Prelude.{ℕ, zero, suc, ◌+◌, List, [], ◌∷◌, ◌++◌, Option, Some, None, slice_get, slice_index, option_map, map}
-use Rattle.bs_words.specs.Memory.{Memory, heap_need as need_of}
+use Rattle.std.specs.Prelude.{ℕ, zero, suc, ◌+◌, true, List, [], ◌∷◌, ◌++◌, Option, Some, None, slice_get, slice_index, option_map, map}
+use Rattle.bs_words.specs.Memory.{heap_need as need_of}
 use Rattle.bs_words.specs.Observed.{Made}
 use Rattle.bs_words.specs.declared.types.Ret.{Ret}
 use Rattle.bs_words.specs.declared.types.Ret.TheVariants as ret
@@ -9,8 +9,8 @@ use Rattle.bs_words.specs.declared.values.Kind.TheVariants.{BadCall}
 use Rattle.bs_words.specs.declared.values.Obs.{Obs}
 use Rattle.bs_words.specs.declared.values.Value.{Value}
 use Rattle.bs_words.specs.declared.values.Value.TheVariants.{Word}
-use Rattle.cmm_data.specs.Contents.{first_memory, value_of_symbol}
-use Rattle.cmm_data.specs.Placement.{data_end}
+use Rattle.cmm_data.specs.Contents.{first_memory}
+use Rattle.cmm_data.specs.Placement.{data_end, value_of_symbol}
 use Rattle.cmm_tree.specs.Tree.{FunctionTree, FileTree, functions, comps_of}
 use Rattle.cmm_meaning.specs.Layout.{Layout, observed}
 use Rattle.cmm_meaning.specs.State.{World, Here, bound, deepened}
@@ -64,12 +64,12 @@ abbrev pub callees : FileTree → Layout → ℕ → ℕ → List Value → ℕ 
 callees file layout zero f arguments below w = Stops OutOfFuel w
 callees file layout (suc depth) f arguments below w =
     let s : Surroundings = record {
-          end = data_end file;
-          symbol = value_of_symbol file;
-          parameters = map comps_of (functions file);
-          call = callees file layout depth;
-          external = outside layout;
-        } in
+      end = data_end file;
+      symbol = value_of_symbol file;
+      parameters = map comps_of (functions file);
+      call = callees file layout depth;
+      external = outside layout;
+    } in
     activated s (slice_index layout.frames f) (slice_get (functions file) f) arguments below w
 
 -- the world in which a run of n units begins
