@@ -1,8 +1,8 @@
 -- Where a set grew, and where it did not.
-use Rattle.std.proofs.Common.{◌≡◌, ◌≢◌, ◌⊎◌, ℕ, zero, suc, ◌+◌, ◌*◌, ◌/◌, ◌%◌, ◌^◌, ◌<◌, ◌≤◌, ◌-◌, Bool, true, false, ◌||◌, List, [], ◌∷◌, length, set, get_or, sym, subst, ◌∙◌, ap, inl, inr, arith, refl, bit_or, max}
+use Rattle.std.proofs.Common.{◌≡◌, ◌≢◌, ◌⊎◌, ℕ, zero, suc, ◌+◌, ◌*◌, ◌/◌, ◌%◌, ◌^◌, ◌<◌, ◌≤◌, ◌-◌, Bool, true, false, not, ◌||◌, ◌&&◌, replicate, List, [], ◌∷◌, length, set, get_or, sym, subst, ◌∙◌, ap, inl, inr, arith, refl, bit_or, max}
 use Rattle.std.specs.Prelude.{◌==◌}
 use Rattle.std.specs.Int.{bit_at}
-use Rattle.std.proofs.lemmas.List.{same_lists, get_or_past}
+use Rattle.std.proofs.lemmas.List.{get_or_past, get_or-set_same, get_or-set_other, get_or-replicate, length-replicate}
 use Rattle.std.proofs.lemmas.Bool.{cases_eq, cases_lt, cases_Bool, eqb-true, eqb-false, eq-eqb, ne_eqb}
 use Rattle.std.proofs.lemmas.Nat.Bits.{bit_at-lt, bit_at-zero, bit_at_or, same_from_bits_below}
 use Rattle.bs_bits.specs.Words.{bit, Ors, Changed, HasNoBitFrom, IsNextBit}
@@ -24,6 +24,47 @@ has-union [] (y ∷ ys) e k = absurd (omega (arith, e))
 has-union (x ∷ xs) [] e k = absurd (omega (arith, e))
 has-union (x ∷ xs) (y ∷ ys) e zero = refl
 has-union (x ∷ xs) (y ∷ ys) e (suc k) = has-union xs ys (omega (arith, e)) k
+
+or_false : (x : Bool) → x ≡ (x || false)
+or_false true = refl
+or_false false = refl
+
+or_true : (x : Bool) → (x || true) ≡ true
+or_true true = refl
+or_true false = refl
+
+and_true : (x : Bool) → x ≡ (x && true)
+and_true true = refl
+and_true false = refl
+
+and_false : (x : Bool) → (x && false) ≡ false
+and_false true = refl
+and_false false = refl
+
+-- the members behind an `insert`
+pub has-inserted : (xs : List Bool) (k j : ℕ) → k < length xs → has (set xs k true) j ≡ (has xs j || (k == j))
+has-inserted xs k j within =
+    elim (cases_eq j k) [
+      inl e ↦
+        ap (λ (n : ℕ). has (set xs k true) n) e ∙ (get_or-set_same xs k true false within ∙ sym (ap (λ (b : Bool). has xs j || b) (eq-eqb k j (sym e)) ∙ or_true (has xs j)))
+    | inr ne ↦
+        get_or-set_other xs k j true false ne ∙ (or_false (has xs j) ∙ ap (λ (b : Bool). has xs j || b) (sym (ne_eqb k j (λ e. ne (sym e))))) ]
+
+-- the members behind a `remove`
+pub has-removed : (xs : List Bool) (k j : ℕ) → k < length xs → has (set xs k false) j ≡ (has xs j && not (k == j))
+has-removed xs k j within =
+    elim (cases_eq j k) [
+      inl e ↦
+        ap (λ (n : ℕ). has (set xs k false) n) e ∙ (get_or-set_same xs k false false within ∙ sym (ap (λ (b : Bool). has xs j && not b) (eq-eqb k j (sym e)) ∙ and_false (has xs j)))
+    | inr ne ↦
+        get_or-set_other xs k j false false ne ∙ (and_true (has xs j) ∙ ap (λ (b : Bool). has xs j && not b) (sym (ne_eqb k j (λ e. ne (sym e))))) ]
+
+-- the empty set has none
+pub has-empty : (size j : ℕ) → has (replicate size false) j ≡ false
+has-empty size j =
+    elim (cases_lt j size) [
+      inl below ↦ get_or-replicate size j false false below
+    | inr past ↦ get_or_past (replicate size false) j false (omega (arith, length-replicate {A = Bool} size false)) ]
 
 grew_more : (x y : Bool) (xs ys : List Bool) → Grew xs ys → Grew (x ∷ xs) (y ∷ ys)
 grew_more x y xs ys g = record { member = suc g.member; before = g.before; now = g.now }
