@@ -1,4 +1,6 @@
 mod Loops
+mod Moves
+mod Pushes
 mod Steps
 mod Sweeps
 mod Visits

@@ -71,7 +71,7 @@ enters_live g rows p r sound e =
 
 -- ---- what is live enters
 
-not_from : (x : Bool) → (x ≡ true → ⊥) → not x ≡ true
+pub not_from : (x : Bool) → (x ≡ true → ⊥) → not x ≡ true
 not_from true h = absurd (h refl)
 not_from false h = refl
 

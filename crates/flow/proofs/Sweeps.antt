@@ -49,7 +49,7 @@ sweeping_more f old now now' set set' p grew here some unchanged s size v = reco
   fewer = λ e. let same : missing now ≡ missing old = ap missing (s.same unchanged).0 in omega (arith, same, v.fewer e);
 }
 
-table_past : (field : place.Place → List ℕ) (xs : List place.Place) (p : ℕ) → length xs ≤ p → get_or (map field xs) p [] ≡ []
+pub table_past : (field : place.Place → List ℕ) (xs : List place.Place) (p : ℕ) → length xs ≤ p → get_or (map field xs) p [] ≡ []
 table_past field [] p past = refl
 table_past field (x ∷ xs) zero past = absurd (omega (arith, past))
 table_past field (x ∷ xs) (suc p) past = table_past field xs p (omega (arith, past))

@@ -17,7 +17,7 @@ use Rattle.flow.specs.Sweep.{enters, enters_place, IsSound, IsClosedAt, absent, 
 use Rattle.flow.proofs.Steps.{enters_live, or_right}
 
 -- a table of the graph at a place that was read
-table_at : (field : place.Place → List ℕ) (xs : List place.Place) (p : ℕ) (x : place.Place) → p < length xs → x ≡ get_or xs p x → get_or (map field xs) p [] ≡ field x
+pub table_at : (field : place.Place → List ℕ) (xs : List place.Place) (p : ℕ) (x : place.Place) → p < length xs → x ≡ get_or xs p x → get_or (map field xs) p [] ≡ field x
 table_at field xs p x within read = get_or-map field xs p x [] within ∙ ap field (sym read)
 
 pub enters_at : (f : flow.Flow) (rows : List (List Bool)) (p : ℕ) (x : place.Place) (r : ℕ) → p < length (contents f.places) → x ≡ get_or (contents f.places) p x → enters ((graph f).next p) ((graph f).aside p) ((graph f).reads p) ((graph f).writes p) rows r ≡ enters_place x rows r
@@ -37,7 +37,7 @@ is_place f count bound p x formed e b within read =
 
 -- ---- fewer numbers are missing
 
-absent_less : (xs ys : List Bool) → (union xs ys ≡ xs) ⊎ (absent (union xs ys) < absent xs)
+pub absent_less : (xs ys : List Bool) → (union xs ys ≡ xs) ⊎ (absent (union xs ys) < absent xs)
 absent_less [] ys = inl refl
 absent_less (x ∷ xs) [] = inl refl
 absent_less (true ∷ xs) (y ∷ ys) =

@@ -24,7 +24,7 @@ fn add_rows(set: &mut Bits, rows: &[Bits], places: &[u32])
 }
 
 /// Takes the numbers out.
-fn take_out(set: &mut Bits, numbers: &[u32])
+pub(crate) fn take_out(set: &mut Bits, numbers: &[u32])
     requires { All (λ k. k < length set.old) numbers.now }
     ensures size { length set.new ≡ length set.old }
     ensures members { (r : ℕ) → has set.new r ≡ (has set.old r && not (list_any (λ k. k == r) numbers.now)) }
@@ -35,7 +35,7 @@ fn take_out(set: &mut Bits, numbers: &[u32])
 }
 
 /// Puts the numbers in.
-fn put_in(set: &mut Bits, numbers: &[u32])
+pub(crate) fn put_in(set: &mut Bits, numbers: &[u32])
     requires { All (λ k. k < length set.old) numbers.now }
     ensures size { length set.new ≡ length set.old }
     ensures members { (r : ℕ) → has set.new r ≡ (has set.old r || list_any (λ k. k == r) numbers.now) }

@@ -7,9 +7,8 @@ fn list(alloc: Global, numbers: &[u32]) -> Result<List<u32>, AllocError> {
     Ok(List::from_vec(numbers.to_vec(alloc)?))
 }
 
-#[test]
-fn live_before(rt: HostRuntime) -> Result<(), Fail> {
-    let alloc = rt.alloc();
+/// A loop of places 1 and 2 between 0 and 3. Place 1 may go aside to 4.
+fn small(alloc: Global) -> Result<Flow, AllocError> {
     // next, aside, reads, writes
     let table: [(&[u32], &[u32], &[u32], &[u32]); 5] = [
         (&[1], &[], &[], &[0]),
@@ -27,10 +26,16 @@ fn live_before(rt: HostRuntime) -> Result<(), Fail> {
             writes: list(alloc, writes)?,
         })?;
     }
-    let flow = Flow {
+    Ok(Flow {
         places: List::from_vec(places),
         bound: 3,
-    };
+    })
+}
+
+#[test]
+fn rows_of_both_ways(rt: HostRuntime) -> Result<(), Fail> {
+    let alloc = rt.alloc();
+    let flow = small(alloc)?;
     let rows = live(alloc, &flow)?;
     let wanted = [
         [false, true, false],
