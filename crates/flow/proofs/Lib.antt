@@ -1,3 +1,4 @@
+mod Forms
 mod Loops
 mod Moves
 mod Pushes

@@ -36,18 +36,30 @@ fn small(alloc: Global) -> Result<Flow, AllocError> {
 fn rows_of_both_ways(rt: HostRuntime) -> Result<(), Fail> {
     let alloc = rt.alloc();
     let flow = small(alloc)?;
-    let rows = live(alloc, &flow)?;
-    let wanted = [
-        [false, true, false],
-        [true, true, false],
-        [true, true, false],
-        [false, false, true],
-        [false, true, false],
-    ];
-    for (p, row) in wanted.iter().enumerate() {
-        for (r, is_live) in row.iter().enumerate() {
-            assert_eq!(rt; rows.at(p).contains(r as u32), *is_live, "{r} at {p}");
-        }
+    assert!(rt; flow.is_well_formed());
+    if !flow.is_well_formed() {
+        return Ok(());
+    }
+    let back = live(alloc, &flow)?;
+    let forth = reaching(alloc, &flow)?;
+    for (place, number, is_live, comes) in [
+        (0, 0, false, false),
+        (0, 1, true, false),
+        (1, 0, true, true),
+        (1, 1, true, true),
+        (1, 2, false, false),
+        (2, 0, true, true),
+        (2, 1, true, false),
+        (3, 1, false, true),
+        (3, 2, true, false),
+        (4, 0, false, true),
+        (4, 1, true, true),
+        (4, 2, false, false),
+        (5, 0, false, false),
+        (4, 3, false, false),
+    ] {
+        assert_eq!(rt; back.contains(place, number), is_live, "{number} live before {place}");
+        assert_eq!(rt; forth.contains(place, number), comes, "{number} comes to {place}");
     }
     Ok(())
 }
