@@ -1,5 +1,5 @@
 -- What sweeps forwards keep, and that their end is exactly what comes.
-use Rattle.std.proofs.Common.{◌≡◌, ◌≢◌, ◌⊎◌, ℕ, zero, suc, ◌+◌, ◌<◌, ◌≤◌, Bool, true, false, not, ◌||◌, ◌&&◌, List, [], ◌∷◌, length, map, replicate, get_or, sym, ◌∙◌, ap, inl, inr, arith, refl, subst}
+use Rattle.std.proofs.Common.{◌≡◌, ℕ, zero, suc, ◌+◌, ◌<◌, ◌≤◌, Bool, true, false, not, ◌||◌, ◌&&◌, List, [], ◌∷◌, length, map, replicate, get_or, sym, ◌∙◌, ap, inl, inr, arith, refl, subst}
 use Rattle.std.specs.Prelude.{◌==◌}
 use Rattle.std.specs.List.{Contains, list_any, All}
 use Rattle.std.proofs.lemmas.List.{get_or-map, get_or_past, get_or_default}
@@ -56,18 +56,19 @@ spread_is x bound old mid new p s0 s1 s2 g1 g2 g first aside out put next size f
       len = next.len ∙ aside.len;
       sizes = subst P size next.sizes;
       members = λ q r below.
-        let a : Bool = list_any (λ k. k == q) (contents x.aside) in
-        let n : Bool = list_any (λ k. k == q) (contents x.next) in
-        let w : Bool = not (list_any (λ k. k == r) (contents x.writes)) in
-        let d : Bool = list_any (λ k. k == r) (contents x.reads) in
-        let here : Bool = has (row old p) r in
-        let last : has s2 r ≡ ((here && w) || d) = put r ∙ (ap (λ (b : Bool). b || d) (out r) ∙ ap (λ (b : Bool). (b && w) || d) (first r)) in
-        let middle : has (row mid q) r ≡ (has (row old q) r || (a && here)) = aside.members q r below ∙ ap (λ (b : Bool). has (row old q) r || (a && b)) (first r) in
-        next.members q r (omega (arith, aside.len, below)) ∙ (ap (λ (b : Bool). b || (n && has s2 r)) middle ∙ (ap (λ (b : Bool). (has (row old q) r || (a && here)) || (n && b)) last ∙ or_assoc (has (row old q) r) (a && here) (n && ((here && w) || d))));
+          let a : Bool = list_any (λ k. k == q) (contents x.aside) in
+          let n : Bool = list_any (λ k. k == q) (contents x.next) in
+          let w : Bool = not (list_any (λ k. k == r) (contents x.writes)) in
+          let d : Bool = list_any (λ k. k == r) (contents x.reads) in
+          let here : Bool = has (row old p) r in
+          let last : has s2 r ≡ ((here && w) || d) = put r ∙ (ap (λ (b : Bool). b || d) (out r) ∙ ap (λ (b : Bool). (b && w) || d) (first r)) in
+          let middle : has (row mid q) r ≡ (has (row old q) r || (a && here)) = aside.members q r below ∙ ap (λ (b : Bool). has (row old q) r || (a && b)) (first r) in
+          next.members q r (omega (arith, aside.len, below)) ∙ (ap (λ (b : Bool). b || (n && has s2 r)) middle ∙ (ap (λ (b : Bool). (has (row old q) r || (a && here)) || (n && b)) last ∙ or_assoc (has (row old q) r) (a && here) (n && ((here && w) || d))));
       same = λ e. let parts = or_parts g1 g2 (sym flag ∙ e) in next.same parts.1 ∙ aside.same parts.0;
       fewer = λ e. elim (or_cases g1 g2 (sym flag ∙ e)) [
-        inl before ↦ omega (arith, aside.fewer before, next.most)
-      | inr after ↦ omega (arith, aside.most, next.fewer after) ];
+        | inl before ↦ omega (arith, aside.fewer before, next.most)
+        | inr after ↦ omega (arith, aside.most, next.fewer after)
+      ];
     }
 
 -- ---- a visit
@@ -88,31 +89,35 @@ arrives_comes g rows p q r coming e =
     let d : Bool = list_any (λ k. k == r) (g.reads p) in
     let here : Bool = has (row rows p) r in
     elim (or_cases (a && here) (n && ((here && not w) || d)) e) [
-      inl past ↦
-        let parts = and_parts a here past in
-        let comes = coming.comes p r parts.1 in
-        (suc comes.0, inr (p, contains_from (g.aside p) q parts.0, comes.1))
-    | inr onwards ↦
-        let parts = and_parts n ((here && not w) || d) onwards in
-        let step : Contains (g.next p) q = contains_from (g.next p) q parts.0 in
-        elim (or_cases (here && not w) d parts.1) [
-          inl kept ↦
-            let both = and_parts here (not w) kept in
-            let comes = coming.comes p r both.0 in
-            let unwritten : Contains (g.writes p) r → ⊥ = λ c. both_ways w (not-true w both.1) (from_contains (g.writes p) r c) in
-            (suc comes.0, inl (p, step, inr (unwritten, comes.1)))
-        | inr reads ↦ (suc zero, inl (p, step, inl (contains_from (g.reads p) r reads))) ] ]
+      | inl past ↦
+          let parts = and_parts a here past in
+          let comes = coming.comes p r parts.1 in
+          (suc comes.0, inr (p, contains_from (g.aside p) q parts.0, comes.1))
+      | inr onwards ↦
+          let parts = and_parts n ((here && not w) || d) onwards in
+          let step : Contains (g.next p) q = contains_from (g.next p) q parts.0 in
+          elim (or_cases (here && not w) d parts.1) [
+            | inl kept ↦
+                let both = and_parts here (not w) kept in
+                let comes = coming.comes p r both.0 in
+                let unwritten : Contains (g.writes p) r → ⊥ = λ c. both_ways w (not-true w both.1) (from_contains (g.writes p) r c) in
+                (suc comes.0, inl (p, step, inr (unwritten, comes.1)))
+            | inr reads ↦ (suc zero, inl (p, step, inl (contains_from (g.reads p) r reads)))
+          ]
+    ]
 
 moved_sound : (f : flow.Flow) (old new : List (List Bool)) (p : ℕ) (x : place.Place) (grew : Bool) → p < length (contents f.places) → x ≡ get_or (contents f.places) p x → Spread x f.bound old new p grew → IsComing (graph f) old → IsComing (graph f) new
 moved_sound f old new p x grew within read s coming = record {
   comes = λ q r is.
-    elim (cases_lt q (length old)) [
-      inl below ↦ elim (or_cases (has (row old q) r) (arrives (contents x.next) (contents x.aside) (contents x.reads) (contents x.writes) old p q r) (sym (s.members q r below) ∙ is)) [
-        inl before ↦ coming.comes q r before
-      | inr arrived ↦ arrives_comes (graph f) old p q r coming (arrives_at f old p x q r within read ∙ arrived) ]
-    | inr past ↦
-        let none : has (row new q) r ≡ false = ap (λ (m : List Bool). has m r) (get_or_past new q [] (omega (arith, s.len, past))) in
-        absurd (both_ways (has (row new q) r) none is) ];
+      elim (cases_lt q (length old)) [
+        | inl below ↦ elim (or_cases (has (row old q) r) (arrives (contents x.next) (contents x.aside) (contents x.reads) (contents x.writes) old p q r) (sym (s.members q r below) ∙ is)) [
+          | inl before ↦ coming.comes q r before
+          | inr arrived ↦ arrives_comes (graph f) old p q r coming (arrives_at f old p x q r within read ∙ arrived)
+        ]
+        | inr past ↦
+            let none : has (row new q) r ≡ false = ap (λ (m : List Bool). has m r) (get_or_past new q [] (omega (arith, s.len, past))) in
+            absurd (both_ways (has (row new q) r) none is)
+      ];
 }
 
 pub moved : (f : flow.Flow) (old new : List (List Bool)) (p : ℕ) (x : place.Place) (bound : ℕ) (grew : Bool) → p < length (contents f.places) → x ≡ get_or (contents f.places) p x → bound ≡ f.bound → Spread x bound old new p grew → Moved f old new p grew
@@ -123,10 +128,13 @@ moved f old new p x bound grew within read same_bound told =
       len = s.len;
       sizes = s.sizes;
       sound = moved_sound f old new p x grew within read s;
-      same = λ e. (s.same e, record {
-        member = λ q r below arrived.
-          ap (λ (rows : List (List Bool)). has (row rows q) r) (sym (s.same e)) ∙ (s.members q r below ∙ or_right (has (row old q) r) (arrives (contents x.next) (contents x.aside) (contents x.reads) (contents x.writes) old p q r) (sym (arrives_at f old p x q r within read) ∙ arrived));
-      });
+      same = λ e. (
+        s.same e,
+        record {
+          member = λ q r below arrived.
+              ap (λ (rows : List (List Bool)). has (row rows q) r) (sym (s.same e)) ∙ (s.members q r below ∙ or_right (has (row old q) r) (arrives (contents x.next) (contents x.aside) (contents x.reads) (contents x.writes) old p q r) (sym (arrives_at f old p x q r within read) ∙ arrived));
+        },
+      );
       fewer = s.fewer;
     }
 
@@ -164,19 +172,23 @@ on_more f old now now' marks marks' p grew here grew' s size m flag = record {
   sizes = m.sizes;
   sound = λ sound. m.sound (s.sound sound);
   same = λ e.
-    let parts = or_parts grew here (sym flag ∙ e) in
-    let before = s.same parts.0 in
-    let P : List (List Bool) → Type 0 = λ rows. IsSpreadFrom (graph f) rows p in
-    ((m.same parts.1).0 ∙ before.0, λ q below.
-      elim (cases_eq q p) [
-        inl at ↦
-          let Q : ℕ → Type 0 = λ n. IsSpreadFrom (graph f) old n in
-          subst Q (sym at) (subst P before.0 (m.same parts.1).1)
-      | inr other ↦ before.1 q (omega (arith, other, below)) ]);
+      let parts = or_parts grew here (sym flag ∙ e) in
+      let before = s.same parts.0 in
+      let P : List (List Bool) → Type 0 = λ rows. IsSpreadFrom (graph f) rows p in (
+        (m.same parts.1).0 ∙ before.0,
+        λ q below.
+            elim (cases_eq q p) [
+              | inl at ↦
+                  let Q : ℕ → Type 0 = λ n. IsSpreadFrom (graph f) old n in
+                  subst Q (sym at) (subst P before.0 (m.same parts.1).1)
+              | inr other ↦ before.1 q (omega (arith, other, below))
+            ],
+      );
   most = omega (arith, s.most, moved_most f now now' p here m);
   fewer = λ e. elim (or_cases grew here (sym flag ∙ e)) [
-    inl before ↦ omega (arith, s.fewer before, moved_most f now now' p here m)
-  | inr now_grew ↦ omega (arith, s.most, m.fewer now_grew) ];
+    | inl before ↦ omega (arith, s.fewer before, moved_most f now now' p here m)
+    | inr now_grew ↦ omega (arith, s.most, m.fewer now_grew)
+  ];
 }
 
 pub on_all : (f : flow.Flow) (old now : List (List Bool)) (marks : List Bool) (p : ℕ) (grew : Bool) → length old ≤ p → SweepingOn f old now marks p grew → SweptOn f old now grew
@@ -202,11 +214,12 @@ pub record SolvingOn (f : flow.Flow) (rows : List (List Bool)) (marks : List Boo
 from_within : (field : place.Place → List ℕ) (xs : List place.Place) (o q : ℕ) → Contains (get_or (map field xs) o []) q → o < length xs
 from_within field xs o q step =
     elim (cases_lt o (length xs)) [
-      inl below ↦ below
-    | inr past ↦
-        let P : List ℕ → Type 0 = λ l. Contains l q in
-        let none : Contains [] q = subst P (table_past field xs o past) step in
-        absurd (omega (arith, none.1)) ]
+      | inl below ↦ below
+      | inr past ↦
+          let P : List ℕ → Type 0 = λ l. Contains l q in
+          let none : Contains [] q = subst P (table_past field xs o past) step in
+          absurd (omega (arith, none.1))
+    ]
 
 to_within : (field : place.Place → List ℕ) (xs : List place.Place) (n o q : ℕ) → ((d : place.Place) → o < length xs → All (λ k. k < n) (field (get_or xs o d))) → Contains (get_or (map field xs) o []) q → q < n
 to_within field [] n o q all step = absurd (omega (arith, step.1))

@@ -3,11 +3,10 @@ ghost use Rattle.std.specs.Prelude.{◌≡◌, ℕ, ◌<◌, length, false, repl
 ghost use Rattle.flow.specs.Flow.{WellFormed};
 ghost use Rattle.flow.specs.Live.{IsLiveness};
 
-use bs_bits::Bits;
-use std::alloc::{AllocError, Global};
-
 use crate::sweep::sweep;
 use crate::{Flow, Rows};
+use bs_bits::Bits;
+use std::alloc::{AllocError, Global};
 
 /// An empty set of numbers below `bound` for each of `count` places.
 pub(crate) fn empty_rows(alloc: Global, count: usize, bound: u32) -> Result<Vec<Bits>, AllocError>

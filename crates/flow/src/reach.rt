@@ -3,12 +3,11 @@ ghost use Rattle.std.specs.Prelude.{IfOk};
 ghost use Rattle.flow.specs.Flow.{WellFormed};
 ghost use Rattle.flow.specs.Reach.{IsReaching};
 
-use bs_bits::Bits;
-use std::alloc::{AllocError, Global};
-
 use crate::liveness::empty_rows;
 use crate::spread::sweep_on;
 use crate::{Flow, Rows};
+use bs_bits::Bits;
+use std::alloc::{AllocError, Global};
 
 /// The numbers that come to each place, which is the question of `live` asked the other way: a number
 /// comes from a place that reads it, over places that do not write it.

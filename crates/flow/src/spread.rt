@@ -7,10 +7,9 @@ ghost use Rattle.flow.specs.Rows.{HasSizes};
 ghost use Rattle.flow.specs.Flow.{IsPlace, WellFormed};
 ghost use Rattle.flow.specs.Spread.{Pushed, Spread, Moved, SweptOn};
 
-use bs_bits::Bits;
-
 use crate::sweep::{put_in, take_out};
 use crate::{Flow, Place};
+use bs_bits::Bits;
 
 fn either(a: bool, b: bool) -> bool
     ensures { result ≡ (a || b) }

@@ -7,9 +7,8 @@ ghost use Rattle.flow.specs.Rows.{row, HasSizes};
 ghost use Rattle.flow.specs.Flow.{IsPlace, WellFormed};
 ghost use Rattle.flow.specs.Sweep.{enters_place, Visited, Swept};
 
-use bs_bits::Bits;
-
 use crate::{Flow, Place};
+use bs_bits::Bits;
 
 /// Adds the sets of the places.
 fn add_rows(set: &mut Bits, rows: &[Bits], places: &[u32])

@@ -58,8 +58,16 @@ fn rows_of_both_ways(rt: HostRuntime) -> Result<(), Fail> {
         (5, 0, false, false),
         (4, 3, false, false),
     ] {
-        assert_eq!(rt; back.contains(place, number), is_live, "{number} live before {place}");
-        assert_eq!(rt; forth.contains(place, number), comes, "{number} comes to {place}");
+        assert_eq!(rt;
+            back.contains(place, number),
+            is_live,
+            "{number} live before {place}"
+        );
+        assert_eq!(rt;
+            forth.contains(place, number),
+            comes,
+            "{number} comes to {place}"
+        );
     }
     Ok(())
 }

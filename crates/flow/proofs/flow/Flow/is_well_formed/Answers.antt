@@ -1,4 +1,4 @@
-use Rattle.std.proofs.Common.{arith, ap, length, ◌∙◌, refl}
+use Rattle.std.proofs.Common.{arith, ap, length, refl}
 use Rattle.std.proofs.lemmas.Bool.{iff_false}
 use Rattle.flow.specs.Flow.{IsPlace}
 use Rattle.flow.proofs.Forms.{one_unfit, one_more, all_fit}
