@@ -1,11 +1,11 @@
 -- The loops over words.
-use Rattle.std.proofs.Common.{◌≡◌, ◌≢◌, ◌⊎◌, ℕ, zero, suc, ◌+◌, ◌*◌, ◌/◌, ◌%◌, ◌^◌, ◌<◌, ◌≤◌, ◌-◌, Bool, true, false, not, eqb, List, [], ◌∷◌, length, set, get_or, sym, ◌∙◌, ap, inl, inr, arith, refl, bit_or, max, w64, Fits}
+use Rattle.std.proofs.Common.{◌≡◌, ◌≢◌, ◌⊎◌, ℕ, ◌+◌, ◌*◌, ◌/◌, ◌%◌, ◌^◌, ◌<◌, ◌≤◌, ◌-◌, Bool, true, false, not, eqb, List, length, set, get_or, sym, ◌∙◌, ap, inl, inr, arith, refl, bit_or, w64, Fits}
 use Rattle.std.specs.Int.{bit_at, trailing_zeros}
 use Rattle.std.proofs.lemmas.List.{same_lists, get_or_past, get_or_default, get_or-set_same, get_or-set_other, length-set}
 use Rattle.std.proofs.lemmas.Bool.{cases_eq, cases_lt, both_ways, eqb-true, eqb-false, not-false, not-true}
 use Rattle.std.proofs.lemmas.Nat.{pow-add}
 use Rattle.std.proofs.Math.Nat.{div-div-eq-div-mul, div-le_self}
-use Rattle.std.proofs.lemmas.Nat.Bits.{bit_at-lt, bit_at-zero, bit_at_above, bit_at-trailing_zeros}
+use Rattle.std.proofs.lemmas.Nat.Bits.{bit_at-zero, bit_at_above, bit_at-trailing_zeros}
 use Rattle.std.specs.Int.Bits.{or_lt}
 use Rattle.bs_bits.specs.Words.{bit, Ors, Changed, IsNextBit, HasNoBitFrom}
 
@@ -78,15 +78,18 @@ adding_more words others now i changed changed' w below lens a read fits fits' t
     record {
       len = length-set now i v ∙ a.len;
       done = λ j less. elim (cases_eq j i) [
-        inl e ↦ ap (λ (n : ℕ). get_or (set now i v) n 0) e ∙ (here ∙ (ap (λ (n : ℕ). bit_or n (get_or others i 0)) old ∙ ap (λ (n : ℕ). bit_or (get_or words n 0) (get_or others n 0)) (sym e)))
-      | inr ne ↦ there j ne ∙ a.done j (omega arith) ];
+        | inl e ↦ ap (λ (n : ℕ). get_or (set now i v) n 0) e ∙ (here ∙ (ap (λ (n : ℕ). bit_or n (get_or others i 0)) old ∙ ap (λ (n : ℕ). bit_or (get_or words n 0) (get_or others n 0)) (sym e)))
+        | inr ne ↦ there j ne ∙ a.done j (omega arith)
+      ];
       rest = λ j past. let ne : j ≢ i = omega arith in there j ne ∙ a.rest j (omega arith);
       same = λ e j less. elim (cases_eq j i) [
-        inl at ↦ ap (λ (n : ℕ). get_or (set now i v) n 0) at ∙ (here ∙ ((tells.same e).1 ∙ (old ∙ ap (λ (n : ℕ). get_or words n 0) (sym at))))
-      | inr ne ↦ there j ne ∙ a.same (tells.same e).0 j (omega arith) ];
+        | inl at ↦ ap (λ (n : ℕ). get_or (set now i v) n 0) at ∙ (here ∙ ((tells.same e).1 ∙ (old ∙ ap (λ (n : ℕ). get_or words n 0) (sym at))))
+        | inr ne ↦ there j ne ∙ a.same (tells.same e).0 j (omega arith)
+      ];
       differs = λ e. elim (tells.differs e) [
-        inl before ↦ changed_more words now i v (a.differs before)
-      | inr ne ↦ record { at = i; within = omega arith; differs = λ eq. ne (sym here ∙ (sym eq ∙ sym old)); old_fits = omega (arith, old, fits); new_fits = omega (arith, here, or_lt 64 w (get_or others i 0) fits fits') } ];
+        | inl before ↦ changed_more words now i v (a.differs before)
+        | inr ne ↦ record { at = i; within = omega arith; differs = λ eq. ne (sym here ∙ (sym eq ∙ sym old)); old_fits = omega (arith, old, fits); new_fits = omega (arith, here, or_lt 64 w (get_or others i 0) fits fits') }
+      ];
     }
 
 pub adding_ors : (words others now : List ℕ) (i : ℕ) (changed : Bool) → length words ≤ i → Adding words others now i changed → Ors words others now
@@ -132,8 +135,9 @@ next_in_first words from within fits some =
     let t : ℕ = trailing_zeros w64 w in
     let one : bit_at w t ≡ 1 = z.1 in
     let room : from % 64 + t < 64 = elim (cases_lt (from % 64 + t) 64) [
-      inl below ↦ below
-    | inr past ↦ absurd (omega (arith, one, shifted (get_or words (from / 64) 0) (from % 64) t, bit_at_above (get_or words (from / 64) 0) 64 (from % 64 + t) (fits (from / 64)).fits past)) ] in
+      | inl below ↦ below
+      | inr past ↦ absurd (omega (arith, one, shifted (get_or words (from / 64) 0) (from % 64) t, bit_at_above (get_or words (from / 64) 0) 64 (from % 64 + t) (fits (from / 64)).fits past))
+    ] in
     record {
       not_below = omega arith;
       within = omega arith;
@@ -156,18 +160,21 @@ next_in_word words from i after within fits before some =
       within = omega arith;
       is_set = bit_word words i (i * 64 + t) (omega arith) (omega arith) ∙ (let e : i * 64 + t - i * 64 ≡ t = omega arith in ap (λ (n : ℕ). bit_at w n) e ∙ z.1);
       least = λ j past below. elim (cases_lt j (i * 64)) [
-        inl less ↦ before j past less
-      | inr there ↦ bit_word words i j there (omega arith) ∙ z.2 (j - i * 64) (omega arith) ];
+        | inl less ↦ before j past less
+        | inr there ↦ bit_word words i j there (omega arith) ∙ z.2 (j - i * 64) (omega arith)
+      ];
     }
 
 pub none_in_word : (words : List ℕ) (from i : ℕ) → NoBitBetween words from (i * 64) → get_or words i 0 ≡ 0 → NoBitBetween words from ((i + 1) * 64)
 none_in_word words from i before none k past below =
     elim (cases_lt k (i * 64)) [
-      inl less ↦ before k past less
-    | inr there ↦ bit_word words i k there below ∙ (ap (λ (w : ℕ). bit_at w (k - i * 64)) none ∙ bit_at-zero (k - i * 64)) ]
+      | inl less ↦ before k past less
+      | inr there ↦ bit_word words i k there below ∙ (ap (λ (w : ℕ). bit_at w (k - i * 64)) none ∙ bit_at-zero (k - i * 64))
+    ]
 
 pub none_past : (words : List ℕ) (from i : ℕ) → length words ≤ i → NoBitBetween words from (i * 64) → HasNoBitFrom words from
 none_past words from i all before k past =
     elim (cases_lt k (i * 64)) [
-      inl less ↦ before k past less
-    | inr there ↦ ap (λ (w : ℕ). bit_at w (k % 64)) (get_or_past words (k / 64) 0 (omega arith)) ∙ bit_at-zero (k % 64) ]
+      | inl less ↦ before k past less
+      | inr there ↦ ap (λ (w : ℕ). bit_at w (k % 64)) (get_or_past words (k / 64) 0 (omega arith)) ∙ bit_at-zero (k % 64)
+    ]

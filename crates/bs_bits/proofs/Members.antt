@@ -1,11 +1,10 @@
 -- The members of a set and the bits of its words.
-use Rattle.std.proofs.Common.{◌≡◌, ◌≢◌, ℕ, zero, suc, ◌+◌, ◌*◌, ◌/◌, ◌%◌, ◌^◌, ◌<◌, ◌≤◌, ◌-◌, Bool, true, false, List, length, set, get_or, map, replicate, subst, sym, ◌∙◌, ap, inl, inr, arith, refl, bit_or, bit_and, w64}
+use Rattle.std.proofs.Common.{◌≡◌, ℕ, ◌+◌, ◌*◌, ◌/◌, ◌%◌, ◌^◌, ◌<◌, Bool, true, false, List, length, set, get_or, replicate, subst, sym, ◌∙◌, ap, inl, inr, arith, bit_or, bit_and, w64}
 use Rattle.std.specs.Prelude.{◌==◌}
-use Rattle.std.specs.List.{range_with_len}
 use Rattle.std.specs.Int.{bit_at, bit_not}
 use Rattle.std.proofs.lemmas.List.{get_or-set_same, get_or-set_other, length-set, get_or_past, get_or-replicate, length-replicate, get_or_default}
 use Rattle.std.proofs.lemmas.List.FromFn.{length-map-range_with_len, get_or-map-range_with_len, fill_by_all}
-use Rattle.std.proofs.lemmas.Bool.{cases_eq, cases_lt, eqb-true, eqb-false, eq-eqb}
+use Rattle.std.proofs.lemmas.Bool.{cases_eq, cases_lt}
 use Rattle.std.proofs.lemmas.Nat.Bits.{bit_at-zero, shr_and_one}
 use Rattle.bs_bits.specs.Words.{bit}
 use Rattle.bs_bits.specs.Set.{has}
@@ -29,9 +28,10 @@ has-members size words k below =
 pub has-members_all : (size : ℕ) (words : List ℕ) → IsBits size words → (k : ℕ) → has (members size words) k ≡ (bit words k == 1)
 has-members_all size words bits k =
     elim (cases_lt k size) [
-      inl below ↦ has-members size words k below
-    | inr past ↦
-        get_or_past (members size words) k false (omega (arith, length-members size words)) ∙ sym (ap (λ (n : ℕ). n == 1) (bits.rest k past)) ]
+      | inl below ↦ has-members size words k below
+      | inr past ↦
+          get_or_past (members size words) k false (omega (arith, length-members size words)) ∙ sym (ap (λ (n : ℕ). n == 1) (bits.rest k past))
+    ]
 
 -- a list that tells each number's bit is the set
 pub members_is : (marks : List Bool) (size : ℕ) (words : List ℕ) → length marks ≡ size → ((k : ℕ) → k < size → has marks k ≡ (bit words k == 1)) → marks ≡ members size words
@@ -41,9 +41,10 @@ members_is marks size words len each = fill_by_all (λ k. bit words k == 1) mark
 bit-zeros : (words : List ℕ) → (n : ℕ) → words ≡ replicate n 0 → (k : ℕ) → bit words k ≡ 0
 bit-zeros words n e k =
     let none : get_or words (k / 64) 0 ≡ 0 =
-      ap (λ (ws : List ℕ). get_or ws (k / 64) 0) e ∙ elim (cases_lt (k / 64) n) [
-        inl below ↦ get_or-replicate n (k / 64) 0 0 below
-      | inr past ↦ get_or_past (replicate n 0) (k / 64) 0 (omega (arith, length-replicate {A = ℕ} n 0)) ] in
+    ap (λ (ws : List ℕ). get_or ws (k / 64) 0) e ∙ elim (cases_lt (k / 64) n) [
+      | inl below ↦ get_or-replicate n (k / 64) 0 0 below
+      | inr past ↦ get_or_past (replicate n 0) (k / 64) 0 (omega (arith, length-replicate {A = ℕ} n 0))
+    ] in
     ap (λ (w : ℕ). bit_at w (k % 64)) none ∙ bit_at-zero (k % 64)
 
 pub members-empty : (size : ℕ) (words : List ℕ) (n : ℕ) → words ≡ replicate n 0 → members size words ≡ replicate size false
@@ -68,11 +69,12 @@ members-with size words k below within =
     (with_bit words k)
     (length-set (members size words) k true ∙ length-members size words)
     (λ j less.
-      elim (cases_eq j k) [
-        inl same ↦
+    elim (cases_eq j k) [
+      | inl same ↦
           ap (λ (n : ℕ). get_or (set (members size words) k true) n false) same ∙ (get_or-set_same (members size words) k true false (omega (arith, length-members size words)) ∙ sym (ap (λ (n : ℕ). bit (with_bit words k) n == 1) same ∙ ap (λ (n : ℕ). n == 1) (with_bit_same words k within)))
       | inr other ↦
-          get_or-set_other (members size words) k j true false other ∙ (has-members size words j less ∙ sym (ap (λ (n : ℕ). n == 1) (with_bit_other words k j within other))) ]))
+          get_or-set_other (members size words) k j true false other ∙ (has-members size words j less ∙ sym (ap (λ (n : ℕ). n == 1) (with_bit_other words k j within other)))
+    ]))
 
 members-without : (size : ℕ) (words : List ℕ) (k : ℕ) → k < size → k / 64 < length words → members size (without_bit words k) ≡ set (members size words) k false
 members-without size words k below within =
@@ -83,11 +85,12 @@ members-without size words k below within =
     (without_bit words k)
     (length-set (members size words) k false ∙ length-members size words)
     (λ j less.
-      elim (cases_eq j k) [
-        inl same ↦
+    elim (cases_eq j k) [
+      | inl same ↦
           ap (λ (n : ℕ). get_or (set (members size words) k false) n false) same ∙ (get_or-set_same (members size words) k false false (omega (arith, length-members size words)) ∙ sym (ap (λ (n : ℕ). bit (without_bit words k) n == 1) same ∙ ap (λ (n : ℕ). n == 1) (without_bit_same words k within)))
       | inr other ↦
-          get_or-set_other (members size words) k j false false other ∙ (has-members size words j less ∙ sym (ap (λ (n : ℕ). n == 1) (without_bit_other words k j within other))) ]))
+          get_or-set_other (members size words) k j false false other ∙ (has-members size words j less ∙ sym (ap (λ (n : ℕ). n == 1) (without_bit_other words k j within other)))
+    ]))
 
 -- ---- a call of `insert`, `remove` or `contains`, whose word `w` was read from the words
 

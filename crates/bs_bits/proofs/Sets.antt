@@ -1,14 +1,14 @@
 -- Where a set grew, and where it did not.
-use Rattle.std.proofs.Common.{◌≡◌, ◌≢◌, ◌⊎◌, ℕ, zero, suc, ◌+◌, ◌*◌, ◌/◌, ◌%◌, ◌^◌, ◌<◌, ◌≤◌, ◌-◌, Bool, true, false, ◌||◌, List, [], ◌∷◌, length, set, get_or, sym, subst, ◌∙◌, ap, inl, inr, arith, refl, bit_or, max}
+use Rattle.std.proofs.Common.{◌≡◌, ◌⊎◌, ℕ, zero, suc, ◌+◌, ◌*◌, ◌/◌, ◌%◌, ◌<◌, Bool, true, false, not, ◌||◌, ◌&&◌, replicate, List, [], ◌∷◌, length, set, get_or, sym, subst, ◌∙◌, ap, inl, inr, arith, refl, max}
 use Rattle.std.specs.Prelude.{◌==◌}
 use Rattle.std.specs.Int.{bit_at}
-use Rattle.std.proofs.lemmas.List.{same_lists, get_or_past}
-use Rattle.std.proofs.lemmas.Bool.{cases_eq, cases_lt, cases_Bool, eqb-true, eqb-false, eq-eqb, ne_eqb}
+use Rattle.std.proofs.lemmas.List.{get_or_past, get_or-set_same, get_or-set_other, get_or-replicate, length-replicate}
+use Rattle.std.proofs.lemmas.Bool.{cases_eq, cases_lt, eq-eqb, ne_eqb}
 use Rattle.std.proofs.lemmas.Nat.Bits.{bit_at-lt, bit_at-zero, bit_at_or, same_from_bits_below}
 use Rattle.bs_bits.specs.Words.{bit, Ors, Changed, HasNoBitFrom, IsNextBit}
 use Rattle.bs_bits.specs.Set.{has, union, Grew, HasNoneFrom, IsNext}
 use Rattle.bs_bits.specs.Bits.{members, IsBits}
-use Rattle.bs_bits.proofs.Members.{length-members, has-members, has-members_all, members_is, size_is}
+use Rattle.bs_bits.proofs.Members.{has-members, has-members_all, members_is, size_is}
 
 -- ---- unions of sets
 
@@ -24,6 +24,50 @@ has-union [] (y ∷ ys) e k = absurd (omega (arith, e))
 has-union (x ∷ xs) [] e k = absurd (omega (arith, e))
 has-union (x ∷ xs) (y ∷ ys) e zero = refl
 has-union (x ∷ xs) (y ∷ ys) e (suc k) = has-union xs ys (omega (arith, e)) k
+
+or_false : (x : Bool) → x ≡ (x || false)
+or_false true = refl
+or_false false = refl
+
+or_true : (x : Bool) → (x || true) ≡ true
+or_true true = refl
+or_true false = refl
+
+and_true : (x : Bool) → x ≡ (x && true)
+and_true true = refl
+and_true false = refl
+
+and_false : (x : Bool) → (x && false) ≡ false
+and_false true = refl
+and_false false = refl
+
+-- the members behind an `insert`
+pub has-inserted : (xs : List Bool) (k j : ℕ) → k < length xs → has (set xs k true) j ≡ (has xs j || (k == j))
+has-inserted xs k j within =
+    elim (cases_eq j k) [
+      | inl e ↦
+          ap (λ (n : ℕ). has (set xs k true) n) e ∙ (get_or-set_same xs k true false within ∙ sym (ap (λ (b : Bool). has xs j || b) (eq-eqb k j (sym e)) ∙ or_true (has xs j)))
+      | inr ne ↦
+          get_or-set_other xs k j true false ne ∙ (or_false (has xs j) ∙ ap (λ (b : Bool). has xs j || b) (sym (ne_eqb k j (λ e. ne (sym e)))))
+    ]
+
+-- the members behind a `remove`
+pub has-removed : (xs : List Bool) (k j : ℕ) → k < length xs → has (set xs k false) j ≡ (has xs j && not (k == j))
+has-removed xs k j within =
+    elim (cases_eq j k) [
+      | inl e ↦
+          ap (λ (n : ℕ). has (set xs k false) n) e ∙ (get_or-set_same xs k false false within ∙ sym (ap (λ (b : Bool). has xs j && not b) (eq-eqb k j (sym e)) ∙ and_false (has xs j)))
+      | inr ne ↦
+          get_or-set_other xs k j false false ne ∙ (and_true (has xs j) ∙ ap (λ (b : Bool). has xs j && not b) (sym (ne_eqb k j (λ e. ne (sym e)))))
+    ]
+
+-- the empty set has none
+pub has-empty : (size j : ℕ) → has (replicate size false) j ≡ false
+has-empty size j =
+    elim (cases_lt j size) [
+      | inl below ↦ get_or-replicate size j false false below
+      | inr past ↦ get_or_past (replicate size false) j false (omega (arith, length-replicate {A = Bool} size false))
+    ]
 
 grew_more : (x y : Bool) (xs ys : List Bool) → Grew xs ys → Grew (x ∷ xs) (y ∷ ys)
 grew_more x y xs ys g = record { member = suc g.member; before = g.before; now = g.now }
@@ -75,15 +119,16 @@ same_len size size' words words' others same e bits bits' =
 bit-ors : (size : ℕ) (words others ors : List ℕ) (xs ys : List Bool) → Union size words others ors xs ys → (k : ℕ) → bit ors k ≡ max (bit words k) (bit others k)
 bit-ors size words others ors xs ys u k =
     elim (cases_lt (k / 64) (length words)) [
-      inl within ↦
-        ap (λ (w : ℕ). bit_at w (k % 64)) (u.each.each (k / 64) within) ∙ bit_at_or (get_or words (k / 64) 0) (get_or others (k / 64) 0) (k % 64)
-    | inr past ↦
-        let a : bit words k ≡ 0 = ap (λ (w : ℕ). bit_at w (k % 64)) (get_or_past words (k / 64) 0 past) ∙ bit_at-zero (k % 64) in
-        let b : bit others k ≡ 0 =
+      | inl within ↦
+          ap (λ (w : ℕ). bit_at w (k % 64)) (u.each.each (k / 64) within) ∙ bit_at_or (get_or words (k / 64) 0) (get_or others (k / 64) 0) (k % 64)
+      | inr past ↦
+          let a : bit words k ≡ 0 = ap (λ (w : ℕ). bit_at w (k % 64)) (get_or_past words (k / 64) 0 past) ∙ bit_at-zero (k % 64) in
+          let b : bit others k ≡ 0 =
           ap (λ (w : ℕ). bit_at w (k % 64)) (get_or_past others (k / 64) 0 (omega (arith, u.bits.len, u.other_bits.len))) ∙ bit_at-zero (k % 64) in
-        let o : bit ors k ≡ 0 =
+          let o : bit ors k ≡ 0 =
           ap (λ (w : ℕ). bit_at w (k % 64)) (get_or_past ors (k / 64) 0 (omega (arith, u.each.len))) ∙ bit_at-zero (k % 64) in
-        omega (arith, a, b, o) ]
+          omega (arith, a, b, o)
+    ]
 
 pub united_is_bits : (size : ℕ) (words others ors : List ℕ) (xs ys : List Bool) → Union size words others ors xs ys → IsBits size ors
 united_is_bits size words others ors xs ys u = record {
@@ -105,7 +150,7 @@ united size words others ors xs ys u =
     ors
     (length-union xs ys ∙ lx)
     (λ k below.
-      has-union xs ys (lx ∙ sym ly) k ∙ (ap (λ (m : List Bool). has m k || has ys k) (sym p) ∙ (ap (λ (m : List Bool). has (members size words) k || has m k) (sym q) ∙ (ap (λ (b : Bool). b || has (members size others) k) (has-members size words k below) ∙ (ap (λ (b : Bool). (bit words k == 1) || b) (has-members size others k below) ∙ (sym (bit_or_is (bit words k) (bit others k) (bit_at-lt (get_or words (k / 64) 0) (k % 64)) (bit_at-lt (get_or others (k / 64) 0) (k % 64))) ∙ ap (λ (n : ℕ). n == 1) (sym (bit-ors size words others ors xs ys u k)))))))))
+    has-union xs ys (lx ∙ sym ly) k ∙ (ap (λ (m : List Bool). has m k || has ys k) (sym p) ∙ (ap (λ (m : List Bool). has (members size words) k || has m k) (sym q) ∙ (ap (λ (b : Bool). b || has (members size others) k) (has-members size words k below) ∙ (ap (λ (b : Bool). (bit words k == 1) || b) (has-members size others k below) ∙ (sym (bit_or_is (bit words k) (bit others k) (bit_at-lt (get_or words (k / 64) 0) (k % 64)) (bit_at-lt (get_or others (k / 64) 0) (k % 64))) ∙ ap (λ (n : ℕ). n == 1) (sym (bit-ors size words others ors xs ys u k)))))))))
 
 -- two lists of words with the same members have the same bits
 same_bit : (a b : ℕ) → a < 2 → b < 2 → (a == 1) ≡ (b == 1) → a ≡ b
@@ -133,7 +178,7 @@ changed_grew size words ors bits ors_bits e changed =
     changed.old_fits
     changed.new_fits
     (λ j below.
-      sym (bit_at_place words changed.at j below) ∙ (same_bit (bit words (changed.at * 64 + j)) (bit ors (changed.at * 64 + j)) (bit_at-lt _ _) (bit_at-lt _ _) (sym (has-members_all size words bits (changed.at * 64 + j)) ∙ (ap (λ (m : List Bool). has m (changed.at * 64 + j)) (sym e) ∙ has-members_all size ors ors_bits (changed.at * 64 + j))) ∙ bit_at_place ors changed.at j below)))
+    sym (bit_at_place words changed.at j below) ∙ (same_bit (bit words (changed.at * 64 + j)) (bit ors (changed.at * 64 + j)) (bit_at-lt _ _) (bit_at-lt _ _) (sym (has-members_all size words bits (changed.at * 64 + j)) ∙ (ap (λ (m : List Bool). has m (changed.at * 64 + j)) (sym e) ∙ has-members_all size ors ors_bits (changed.at * 64 + j))) ∙ bit_at_place ors changed.at j below)))
 
 -- a set does not grow to itself
 pub grew_not : (xs ys : List Bool) → ys ≡ xs → Grew xs ys → ⊥
@@ -145,8 +190,9 @@ united_grew size words others ors xs ys u changed =
     let e : members size ors ≡ union xs ys = united size words others ors xs ys u in
     let P : List Bool → Type 0 = λ m. Grew xs m in
     elim (union_cases xs ys) [
-      inl same ↦ absurd (changed_grew size words ors u.bits (united_is_bits size words others ors xs ys u) (e ∙ (same ∙ sym u.view)) changed)
-    | inr g ↦ subst P (sym e) g ]
+      | inl same ↦ absurd (changed_grew size words ors u.bits (united_is_bits size words others ors xs ys u) (e ∙ (same ∙ sym u.view)) changed)
+      | inr g ↦ subst P (sym e) g
+    ]
 
 -- and there alone
 pub united_not : (size : ℕ) (words ors : List ℕ) (xs : List Bool) → members size words ≡ xs → ors ≡ words → Grew xs (members size ors) → ⊥
@@ -168,13 +214,14 @@ next_none size words lent_words marks from view bits e none k past =
 pub next_below : (size : ℕ) (words lent_words : List ℕ) (from k : ℕ) → IsBits size words → lent_words ≡ words → IsNextBit lent_words from k → k < size
 next_below size words lent_words from k bits e next =
     elim (cases_lt k size) [
-      inl below ↦ below
-    | inr past ↦ absurd (omega (arith, bits.rest k past, ap (λ (ws : List ℕ). bit ws k) e, next.is_set)) ]
+      | inl below ↦ below
+      | inr past ↦ absurd (omega (arith, bits.rest k past, ap (λ (ws : List ℕ). bit ws k) e, next.is_set))
+    ]
 
 pub next_some : (size : ℕ) (words lent_words : List ℕ) (marks : List Bool) (from k : ℕ) → members size words ≡ marks → IsBits size words → lent_words ≡ words → IsNextBit lent_words from k → IsNext marks from k
 next_some size words lent_words marks from k view bits e next =
     let told : (j : ℕ) → has marks j ≡ (bit lent_words j == 1) = λ j.
-      ap (λ (m : List Bool). has m j) (sym view) ∙ (has-members_all size words bits j ∙ ap (λ (ws : List ℕ). bit ws j == 1) (sym e)) in
+    ap (λ (m : List Bool). has m j) (sym view) ∙ (has-members_all size words bits j ∙ ap (λ (ws : List ℕ). bit ws j == 1) (sym e)) in
     record {
       not_below = next.not_below;
       member = told k ∙ ap (λ (n : ℕ). n == 1) next.is_set;

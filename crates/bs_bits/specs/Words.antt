@@ -1,5 +1,5 @@
 -- The words of a set: bit k % 64 of word k / 64 is the bit of number k.
-use Rattle.std.specs.Prelude.{◌≡◌, ◌≢◌, ℕ, ◌+◌, ◌*◌, ◌/◌, ◌%◌, ◌^◌, ◌<◌, ◌≤◌, List, length, slice_index, bit_or}
+use Rattle.std.specs.Prelude.{◌≡◌, ◌≢◌, ℕ, ◌*◌, ◌/◌, ◌%◌, ◌^◌, ◌<◌, ◌≤◌, List, length, slice_index, bit_or}
 use Rattle.std.specs.Int.{bit_at}
 
 -- the bit of number k, 0 or 1

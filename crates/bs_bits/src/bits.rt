@@ -2,10 +2,9 @@
 ghost use Rattle.std.specs.Prelude.{◌≡◌, ◌<◌, ◌↔◌, Bool, true, false, length, slice_set, replicate, IfOk, IsTrue, MatchOption};
 ghost use Rattle.bs_bits.specs.Set.{has, union, Grew, IsNext, HasNoneFrom};
 
+use crate::words::{add_bits, next_bit};
 use std::alloc::{AllocError, Global};
 use std::marker::Model;
-
-use crate::words::{add_bits, next_bit};
 
 /// A set of numbers below its size. Contracts see a list with a truth value for each number below
 /// the size: whether it is a member.

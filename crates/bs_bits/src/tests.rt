@@ -7,9 +7,10 @@ fn sets(rt: HostRuntime) -> Result<(), Fail> {
     let mut b = Bits::new(rt.alloc(), 130)?;
     assert_eq!(rt; a.size(), 130);
     assert_eq!(rt; b.size(), 130);
-    for k in [3, 63, 64, 129] {
-        b.insert(k);
-    }
+    b.insert(3);
+    b.insert(63);
+    b.insert(64);
+    b.insert(129);
     assert!(rt; a.union_with(&b));
     assert!(rt; !a.union_with(&b));
     a.remove(63);

@@ -1,4 +1,7 @@
+mod Forms
 mod Loops
+mod Moves
+mod Pushes
 mod Steps
 mod Sweeps
 mod Visits

@@ -1,13 +1,12 @@
 -- The loops that change one set.
-use Rattle.std.proofs.Common.{◌≡◌, ◌≢◌, ℕ, zero, suc, ◌+◌, ◌<◌, ◌≤◌, Bool, true, false, not, cond, ◌||◌, ◌&&◌, eqb, List, [], ◌∷◌, length, take, set, get_or, subst, sym, ◌∙◌, ap, inl, inr, arith, refl}
+use Rattle.std.proofs.Common.{◌≡◌, ℕ, ◌+◌, ◌<◌, Bool, true, false, not, ◌||◌, ◌&&◌, List, [], length, take, set, get_or, subst, sym, ◌∙◌, ap, arith, refl}
 use Rattle.std.specs.Prelude.{◌==◌}
 use Rattle.std.specs.List.{list_any, All}
-use Rattle.std.proofs.lemmas.List.{get_or-set_same, get_or-set_other, length-set, get_or_default}
+use Rattle.std.proofs.lemmas.List.{length-set, get_or_default}
 use Rattle.std.proofs.lemmas.List.Elements.{All-get_or}
 use Rattle.std.proofs.lemmas.List.Folds.{list_any_more}
-use Rattle.std.proofs.lemmas.Bool.{cases_eq, eq-eqb, ne_eqb}
 use Rattle.bs_bits.specs.Set.{has, union}
-use Rattle.bs_bits.proofs.Sets.{length-union, has-union}
+use Rattle.bs_bits.proofs.Sets.{length-union, has-union, has-inserted, has-removed}
 use Rattle.flow.specs.Rows.{row, HasSizes}
 
 -- a set to which others were added
@@ -32,14 +31,6 @@ or_false false = refl
 and_true : (x : Bool) → x ≡ (x && true)
 and_true true = refl
 and_true false = refl
-
-or_true : (x : Bool) → (x || true) ≡ true
-or_true true = refl
-or_true false = refl
-
-and_false : (x : Bool) → (x && false) ≡ false
-and_false true = refl
-and_false false = refl
 
 or_assoc : (x y z : Bool) → ((x || y) || z) ≡ (x || (y || z))
 or_assoc true y z = refl
@@ -69,36 +60,20 @@ adds_more old now now' added rows places i within all sizes read a e =
     subst Q (sym e) record {
       size = length-union now added ∙ a.size;
       members = λ r.
-        let at : added ≡ row rows (get_or places i 0) = read ∙ get_or_default rows (get_or places i 0) added [] there in
-        has-union now added (a.size ∙ sym size) r ∙ (ap (λ (b : Bool). b || has added r) (a.members r) ∙ (or_assoc (has old r) (list_any (λ q. has (row rows q) r) (take i places)) (has added r) ∙ (ap (λ (m : List Bool). has old r || (list_any (λ q. has (row rows q) r) (take i places) || has m r)) at ∙ ap (λ (b : Bool). has old r || b) (sym (list_any_more (λ q. has (row rows q) r) places i 0 within)))));
+          let at : added ≡ row rows (get_or places i 0) = read ∙ get_or_default rows (get_or places i 0) added [] there in
+          has-union now added (a.size ∙ sym size) r ∙ (ap (λ (b : Bool). b || has added r) (a.members r) ∙ (or_assoc (has old r) (list_any (λ q. has (row rows q) r) (take i places)) (has added r) ∙ (ap (λ (m : List Bool). has old r || (list_any (λ q. has (row rows q) r) (take i places) || has m r)) at ∙ ap (λ (b : Bool). has old r || b) (sym (list_any_more (λ q. has (row rows q) r) places i 0 within)))));
     }
-
-has-put : (s : List Bool) (k r : ℕ) → k < length s → has (set s k true) r ≡ (has s r || (k == r))
-has-put s k r within =
-    elim (cases_eq r k) [
-      inl e ↦
-        ap (λ (n : ℕ). has (set s k true) n) e ∙ (get_or-set_same s k true false within ∙ sym (ap (λ (b : Bool). has s r || b) (eq-eqb k r (sym e)) ∙ or_true (has s r)))
-    | inr ne ↦
-        get_or-set_other s k r true false ne ∙ (or_false (has s r) ∙ ap (λ (b : Bool). has s r || b) (sym (ne_eqb k r (λ e. ne (sym e))))) ]
-
-has-taken : (s : List Bool) (k r : ℕ) → k < length s → has (set s k false) r ≡ (has s r && not (k == r))
-has-taken s k r within =
-    elim (cases_eq r k) [
-      inl e ↦
-        ap (λ (n : ℕ). has (set s k false) n) e ∙ (get_or-set_same s k false false within ∙ sym (ap (λ (b : Bool). has s r && not b) (eq-eqb k r (sym e)) ∙ and_false (has s r)))
-    | inr ne ↦
-        get_or-set_other s k r false false ne ∙ (and_true (has s r) ∙ ap (λ (b : Bool). has s r && not b) (sym (ne_eqb k r (λ e. ne (sym e))))) ]
 
 pub takes_more : (old now : List Bool) (numbers : List ℕ) (i : ℕ) → i < length numbers → get_or numbers i 0 < length old → TakesOut old now (take i numbers) → TakesOut old (set now (get_or numbers i 0) false) (take (i + 1) numbers)
 takes_more old now numbers i within below a = record {
   size = length-set now (get_or numbers i 0) false ∙ a.size;
   members = λ r.
-    has-taken now (get_or numbers i 0) r (omega (arith, a.size)) ∙ (ap (λ (b : Bool). b && not (get_or numbers i 0 == r)) (a.members r) ∙ (and_not (has old r) (list_any (λ k. k == r) (take i numbers)) (get_or numbers i 0 == r) ∙ ap (λ (b : Bool). has old r && not b) (sym (list_any_more (λ k. k == r) numbers i 0 within))));
+      has-removed now (get_or numbers i 0) r (omega (arith, a.size)) ∙ (ap (λ (b : Bool). b && not (get_or numbers i 0 == r)) (a.members r) ∙ (and_not (has old r) (list_any (λ k. k == r) (take i numbers)) (get_or numbers i 0 == r) ∙ ap (λ (b : Bool). has old r && not b) (sym (list_any_more (λ k. k == r) numbers i 0 within))));
 }
 
 pub puts_more : (old now : List Bool) (numbers : List ℕ) (i : ℕ) → i < length numbers → get_or numbers i 0 < length old → PutsIn old now (take i numbers) → PutsIn old (set now (get_or numbers i 0) true) (take (i + 1) numbers)
 puts_more old now numbers i within below a = record {
   size = length-set now (get_or numbers i 0) true ∙ a.size;
   members = λ r.
-    has-put now (get_or numbers i 0) r (omega (arith, a.size)) ∙ (ap (λ (b : Bool). b || (get_or numbers i 0 == r)) (a.members r) ∙ (or_assoc (has old r) (list_any (λ k. k == r) (take i numbers)) (get_or numbers i 0 == r) ∙ ap (λ (b : Bool). has old r || b) (sym (list_any_more (λ k. k == r) numbers i 0 within))));
+      has-inserted now (get_or numbers i 0) r (omega (arith, a.size)) ∙ (ap (λ (b : Bool). b || (get_or numbers i 0 == r)) (a.members r) ∙ (or_assoc (has old r) (list_any (λ k. k == r) (take i numbers)) (get_or numbers i 0 == r) ∙ ap (λ (b : Bool). has old r || b) (sym (list_any_more (λ k. k == r) numbers i 0 within))));
 }

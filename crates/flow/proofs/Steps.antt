@@ -1,8 +1,8 @@
 -- One place: what enters it is live, and what is live enters it.
-use Rattle.std.proofs.Common.{◌≡◌, ◌≢◌, ◌⊎◌, ℕ, zero, suc, ◌+◌, ◌<◌, ◌≤◌, Bool, true, false, not, cond, ◌||◌, ◌&&◌, eqb, List, [], ◌∷◌, length, map, take, set, get_or, sym, ◌∙◌, ap, inl, inr, arith, refl, subst}
+use Rattle.std.proofs.Common.{◌≡◌, ℕ, zero, suc, Bool, true, false, not, ◌||◌, ◌&&◌, List, [], ◌∷◌, ◌∙◌, ap, inl, inr, arith, refl, subst}
 use Rattle.std.specs.Prelude.{◌==◌}
 use Rattle.std.specs.List.{Contains, list_any}
-use Rattle.std.proofs.lemmas.Bool.{or_cases, and_parts, and_from, not-true, cases_Bool, eqb-true, eq-eqb}
+use Rattle.std.proofs.lemmas.Bool.{or_cases, and_parts, and_from, not-true, eqb-true, eq-eqb}
 use Rattle.bs_bits.specs.Set.{has}
 use Rattle.flow.specs.Flow.{Graph, ReadsIn, LiveBefore}
 use Rattle.flow.specs.Rows.{row}
@@ -21,10 +21,11 @@ pub passing : (p : ℕ → Bool) (xs : List ℕ) → list_any p xs ≡ true → 
 passing p [] e = cc
 passing p (x ∷ xs) e =
     elim (or_cases (p x) (list_any p xs) e) [
-      inl here ↦ record { element = x; within = (0, omega arith, refl); passes = here }
-    | inr there ↦
-        let q = passing p xs there in
-        record { element = q.element; within = contains_more x q.element xs q.within; passes = q.passes } ]
+      | inl here ↦ record { element = x; within = (0, omega arith, refl); passes = here }
+      | inr there ↦
+          let q = passing p xs there in
+          record { element = q.element; within = contains_more x q.element xs q.within; passes = q.passes }
+    ]
 
 pub or_left : (x y : Bool) → x ≡ true → (x || y) ≡ true
 or_left true y e = refl
@@ -56,22 +57,24 @@ from_contains xs r c = passed (λ k. k == r) xs r c (eq-eqb r r refl)
 pub enters_live : (g : Graph) (rows : List (List Bool)) (p r : ℕ) → IsSound g rows → enters (g.next p) (g.aside p) (g.reads p) (g.writes p) rows r ≡ true → LiveBefore g p r
 enters_live g rows p r sound e =
     elim (or_cases ((list_any (λ q. has (row rows q) r) (g.next p) && not (list_any (λ k. k == r) (g.writes p))) || list_any (λ q. has (row rows q) r) (g.aside p)) (list_any (λ k. k == r) (g.reads p)) e) [
-      inl walks ↦ elim (or_cases (list_any (λ q. has (row rows q) r) (g.next p) && not (list_any (λ k. k == r) (g.writes p))) (list_any (λ q. has (row rows q) r) (g.aside p)) walks) [
-        inl both ↦
-          let parts = and_parts (list_any (λ q. has (row rows q) r) (g.next p)) (not (list_any (λ k. k == r) (g.writes p))) both in
-          let to = passing (λ q. has (row rows q) r) (g.next p) parts.0 in
-          let live = sound.live to.element r to.passes in
-          let unwritten : Contains (g.writes p) r → ⊥ = λ c. absurd (let t : list_any (λ k. k == r) (g.writes p) ≡ true = from_contains (g.writes p) r c in let f : list_any (λ k. k == r) (g.writes p) ≡ false = not-true (list_any (λ k. k == r) (g.writes p)) parts.1 in cc) in
-          (suc live.0, inl (unwritten, (to.element, to.within, live.1)))
-      | inr past ↦
-          let to = passing (λ q. has (row rows q) r) (g.aside p) past in
-          let live = sound.live to.element r to.passes in
-          (suc live.0, inr (to.element, to.within, live.1)) ]
-    | inr reads ↦ (zero, contains_from (g.reads p) r reads) ]
+      | inl walks ↦ elim (or_cases (list_any (λ q. has (row rows q) r) (g.next p) && not (list_any (λ k. k == r) (g.writes p))) (list_any (λ q. has (row rows q) r) (g.aside p)) walks) [
+        | inl both ↦
+            let parts = and_parts (list_any (λ q. has (row rows q) r) (g.next p)) (not (list_any (λ k. k == r) (g.writes p))) both in
+            let to = passing (λ q. has (row rows q) r) (g.next p) parts.0 in
+            let live = sound.live to.element r to.passes in
+            let unwritten : Contains (g.writes p) r → ⊥ = λ c. absurd (let t : list_any (λ k. k == r) (g.writes p) ≡ true = from_contains (g.writes p) r c in let f : list_any (λ k. k == r) (g.writes p) ≡ false = not-true (list_any (λ k. k == r) (g.writes p)) parts.1 in cc) in
+            (suc live.0, inl (unwritten, (to.element, to.within, live.1)))
+        | inr past ↦
+            let to = passing (λ q. has (row rows q) r) (g.aside p) past in
+            let live = sound.live to.element r to.passes in
+            (suc live.0, inr (to.element, to.within, live.1))
+      ]
+      | inr reads ↦ (zero, contains_from (g.reads p) r reads)
+    ]
 
 -- ---- what is live enters
 
-not_from : (x : Bool) → (x ≡ true → ⊥) → not x ≡ true
+pub not_from : (x : Bool) → (x ≡ true → ⊥) → not x ≡ true
 not_from true h = absurd (h refl)
 not_from false h = refl
 

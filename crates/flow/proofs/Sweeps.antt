@@ -1,16 +1,14 @@
 -- What sweeps keep, and that their end is exactly what is live.
-use Rattle.std.proofs.Common.{◌≡◌, ◌≢◌, ◌⊎◌, ℕ, zero, suc, ◌+◌, ◌<◌, ◌≤◌, Bool, true, false, not, cond, ◌||◌, ◌&&◌, List, [], ◌∷◌, length, take, set, get_or, sym, ◌∙◌, ap, inl, inr, arith, refl, subst, map, ◌-◌}
+use Rattle.std.proofs.Common.{◌≡◌, ℕ, zero, suc, ◌<◌, ◌≤◌, Bool, true, false, List, [], ◌∷◌, length, set, get_or, sym, ◌∙◌, ap, inl, inr, arith, refl, subst, map, ◌-◌}
 use Rattle.bs_words.specs.Contents.{contents}
-use Rattle.bs_bits.specs.Set.{has, union}
 use Rattle.flow.specs.declared.flow.Flow as flow
 use Rattle.flow.specs.Flow.{graph}
-use Rattle.flow.specs.Rows.{row, HasSizes}
+use Rattle.flow.specs.Rows.{HasSizes}
 use Rattle.std.proofs.lemmas.Bool.{cases_eq, cases_lt, both_ways}
-use Rattle.std.proofs.lemmas.List.{get_or_past}
 use Rattle.flow.specs.declared.flow.Place as place
 use Rattle.flow.specs.Live.{IsLiveness}
 use Rattle.flow.proofs.Steps.{live_member}
-use Rattle.flow.specs.Sweep.{enters, IsSound, IsClosedAt, missing, Visited, Swept}
+use Rattle.flow.specs.Sweep.{enters, IsSound, IsClosedAt, missing, Visited}
 
 -- the places from p on were visited
 pub record Sweeping (f : flow.Flow) (old now : List (List Bool)) (set : List Bool) (p : ℕ) (grew : Bool) : Type 0 where
@@ -38,18 +36,21 @@ sweeping_more f old now now' set set' p grew here some unchanged s size v = reco
   sizes = v.sizes;
   sound = λ sound. v.sound (s.sound sound);
   same = λ e.
-    let before = s.same unchanged in
-    let P : List (List Bool) → Type 0 = λ rows. IsClosedAt (graph f) rows (p - 1) in
-    ((v.same e).0 ∙ before.0, λ q from below.
-      elim (cases_eq q (p - 1)) [
-        inl at ↦
-          let Q : ℕ → Type 0 = λ n. IsClosedAt (graph f) old n in
-          subst Q (sym at) (subst P before.0 (v.same e).1)
-      | inr other ↦ before.1 q (omega arith) below ]);
+      let before = s.same unchanged in
+      let P : List (List Bool) → Type 0 = λ rows. IsClosedAt (graph f) rows (p - 1) in (
+        (v.same e).0 ∙ before.0,
+        λ q from below.
+            elim (cases_eq q (p - 1)) [
+              | inl at ↦
+                  let Q : ℕ → Type 0 = λ n. IsClosedAt (graph f) old n in
+                  subst Q (sym at) (subst P before.0 (v.same e).1)
+              | inr other ↦ before.1 q (omega arith) below
+            ],
+      );
   fewer = λ e. let same : missing now ≡ missing old = ap missing (s.same unchanged).0 in omega (arith, same, v.fewer e);
 }
 
-table_past : (field : place.Place → List ℕ) (xs : List place.Place) (p : ℕ) → length xs ≤ p → get_or (map field xs) p [] ≡ []
+pub table_past : (field : place.Place → List ℕ) (xs : List place.Place) (p : ℕ) → length xs ≤ p → get_or (map field xs) p [] ≡ []
 table_past field [] p past = refl
 table_past field (x ∷ xs) zero past = absurd (omega (arith, past))
 table_past field (x ∷ xs) (suc p) past = table_past field xs p (omega (arith, past))
@@ -62,9 +63,9 @@ closed_past f rows p past =
     let d : (graph f).reads p ≡ [] = table_past (λ y. contents y.reads) (contents f.places) p past in
     record {
       member = λ r entered.
-        let none : enters ((graph f).next p) ((graph f).aside p) ((graph f).reads p) ((graph f).writes p) rows r ≡ false =
+          let none : enters ((graph f).next p) ((graph f).aside p) ((graph f).reads p) ((graph f).writes p) rows r ≡ false =
           ap (λ (l : List ℕ). enters l ((graph f).aside p) ((graph f).reads p) ((graph f).writes p) rows r) n ∙ (ap (λ (l : List ℕ). enters [] l ((graph f).reads p) ((graph f).writes p) rows r) a ∙ ap (λ (l : List ℕ). enters [] [] l ((graph f).writes p) rows r) d) in
-        absurd (both_ways _ none entered);
+          absurd (both_ways _ none entered);
     }
 
 -- the sets tell exactly what is live

@@ -1,8 +1,7 @@
 -- A visit of one place.
-use Rattle.std.proofs.Common.{◌≡◌, ◌≢◌, ◌⊎◌, ℕ, zero, suc, ◌+◌, ◌<◌, ◌≤◌, Bool, true, false, not, cond, ◌||◌, ◌&&◌, eqb, List, [], ◌∷◌, length, map, take, get_or, sym, ◌∙◌, ap, inl, inr, arith, refl, subst}
-use Rattle.std.specs.List.{Contains, list_any, All, sum_by}
+use Rattle.std.proofs.Common.{◌≡◌, ◌⊎◌, ℕ, ◌<◌, Bool, true, false, ◌||◌, List, [], ◌∷◌, length, map, get_or, sym, ◌∙◌, ap, inl, inr, arith, refl, subst}
 use Rattle.std.proofs.Math.ListN as Seq
-use Rattle.std.proofs.lemmas.List.{get_or-map, get_or_default, get_or-set_same, get_or-set_other, set-get_or, length-set, get_or_past}
+use Rattle.std.proofs.lemmas.List.{get_or-map, get_or_default, get_or-set_same, get_or-set_other, set-get_or, length-set}
 use Rattle.std.proofs.lemmas.List.Elements.{All-set, All-get_or}
 use Rattle.std.proofs.lemmas.List.Sums.{sum_by-set}
 use Rattle.std.proofs.lemmas.Bool.{or_cases, cases_eq, both_ways}
@@ -11,13 +10,13 @@ use Rattle.bs_bits.specs.Set.{has, union, Grew}
 use Rattle.bs_bits.proofs.Sets.{length-union, has-union, union_cases, grew_not}
 use Rattle.flow.specs.declared.flow.Place as place
 use Rattle.flow.specs.declared.flow.Flow as flow
-use Rattle.flow.specs.Flow.{Graph, graph, LiveBefore, IsPlace, WellFormed}
+use Rattle.flow.specs.Flow.{graph, LiveBefore, IsPlace, WellFormed}
 use Rattle.flow.specs.Rows.{row, HasSizes}
 use Rattle.flow.specs.Sweep.{enters, enters_place, IsSound, IsClosedAt, absent, missing, Visited}
 use Rattle.flow.proofs.Steps.{enters_live, or_right}
 
 -- a table of the graph at a place that was read
-table_at : (field : place.Place → List ℕ) (xs : List place.Place) (p : ℕ) (x : place.Place) → p < length xs → x ≡ get_or xs p x → get_or (map field xs) p [] ≡ field x
+pub table_at : (field : place.Place → List ℕ) (xs : List place.Place) (p : ℕ) (x : place.Place) → p < length xs → x ≡ get_or xs p x → get_or (map field xs) p [] ≡ field x
 table_at field xs p x within read = get_or-map field xs p x [] within ∙ ap field (sym read)
 
 pub enters_at : (f : flow.Flow) (rows : List (List Bool)) (p : ℕ) (x : place.Place) (r : ℕ) → p < length (contents f.places) → x ≡ get_or (contents f.places) p x → enters ((graph f).next p) ((graph f).aside p) ((graph f).reads p) ((graph f).writes p) rows r ≡ enters_place x rows r
@@ -37,7 +36,7 @@ is_place f count bound p x formed e b within read =
 
 -- ---- fewer numbers are missing
 
-absent_less : (xs ys : List Bool) → (union xs ys ≡ xs) ⊎ (absent (union xs ys) < absent xs)
+pub absent_less : (xs ys : List Bool) → (union xs ys ≡ xs) ⊎ (absent (union xs ys) < absent xs)
 absent_less [] ys = inl refl
 absent_less (x ∷ xs) [] = inl refl
 absent_less (true ∷ xs) (y ∷ ys) =
@@ -75,37 +74,43 @@ has_here f rows p set here here' grew v r =
 visit_sound : (f : flow.Flow) (rows : List (List Bool)) (p : ℕ) (set here here' : List Bool) (grew : Bool) → Visit f rows p set here here' grew → IsSound (graph f) rows → IsSound (graph f) (Seq.set rows p here')
 visit_sound f rows p set here here' grew v sound = record {
   live = λ q r is.
-    elim (cases_eq q p) [
-      inl at ↦
-        let new : has here' r ≡ true = sym (ap (λ (n : ℕ). has (row (Seq.set rows p here') n) r) at ∙ ap (λ (m : List Bool). has m r) (get_or-set_same rows p here' [] v.within)) ∙ is in
-        let P : ℕ → Type 0 = λ n. LiveBefore (graph f) n r in
-        subst
-        P
-        (sym at)
-        (elim (or_cases (has here r) (has set r) (sym (has_here f rows p set here here' grew v r) ∙ new)) [
-          inl old ↦ sound.live p r (ap (λ (m : List Bool). has m r) (sym (here_row f rows p set here here' grew v)) ∙ old)
-        | inr entered ↦ enters_live (graph f) rows p r sound (sym (v.members r) ∙ entered) ])
-    | inr other ↦ sound.live q r (sym (ap (λ (m : List Bool). has m r) (get_or-set_other rows p q here' [] other)) ∙ is) ];
+      elim (cases_eq q p) [
+        | inl at ↦
+            let new : has here' r ≡ true = sym (ap (λ (n : ℕ). has (row (Seq.set rows p here') n) r) at ∙ ap (λ (m : List Bool). has m r) (get_or-set_same rows p here' [] v.within)) ∙ is in
+            let P : ℕ → Type 0 = λ n. LiveBefore (graph f) n r in
+            subst
+            P
+            (sym at)
+            (elim (or_cases (has here r) (has set r) (sym (has_here f rows p set here here' grew v r) ∙ new)) [
+              | inl old ↦ sound.live p r (ap (λ (m : List Bool). has m r) (sym (here_row f rows p set here here' grew v)) ∙ old)
+              | inr entered ↦ enters_live (graph f) rows p r sound (sym (v.members r) ∙ entered)
+            ])
+        | inr other ↦ sound.live q r (sym (ap (λ (m : List Bool). has m r) (get_or-set_other rows p q here' [] other)) ∙ is)
+      ];
 }
 
 visit_same : (f : flow.Flow) (rows : List (List Bool)) (p : ℕ) (set here here' : List Bool) (grew : Bool) → Visit f rows p set here here' grew → grew ≡ false → (Seq.set rows p here' ≡ rows) × IsClosedAt (graph f) rows p
 visit_same f rows p set here here' grew v unchanged =
     let same : here' ≡ here = elim (union_cases here set) [
-      inl e ↦ v.all ∙ e
-    | inr g ↦
-        let P : List Bool → Type 0 = λ m. Grew here m in
-        let t : grew ≡ true = v.grew_is.1 (subst P (sym v.all) g) in
-        absurd (both_ways grew unchanged t) ] in
-    (ap (λ (m : List Bool). Seq.set rows p m) (same ∙ v.read) ∙ set-get_or rows p here, record {
-      member = λ r entered.
-        ap (λ (m : List Bool). has m r) (sym (here_row f rows p set here here' grew v) ∙ sym same) ∙ (has_here f rows p set here here' grew v r ∙ or_right (has here r) (has set r) (v.members r ∙ entered));
-    })
+      | inl e ↦ v.all ∙ e
+      | inr g ↦
+          let P : List Bool → Type 0 = λ m. Grew here m in
+          let t : grew ≡ true = v.grew_is.1 (subst P (sym v.all) g) in
+          absurd (both_ways grew unchanged t)
+    ] in (
+      ap (λ (m : List Bool). Seq.set rows p m) (same ∙ v.read) ∙ set-get_or rows p here,
+      record {
+        member = λ r entered.
+            ap (λ (m : List Bool). has m r) (sym (here_row f rows p set here here' grew v) ∙ sym same) ∙ (has_here f rows p set here here' grew v r ∙ or_right (has here r) (has set r) (v.members r ∙ entered));
+      },
+    )
 
 visit_fewer : (f : flow.Flow) (rows : List (List Bool)) (p : ℕ) (set here here' : List Bool) (grew : Bool) → Visit f rows p set here here' grew → grew ≡ true → missing (Seq.set rows p here') < missing rows
 visit_fewer f rows p set here here' grew v grown =
     let less : absent here' < absent here = elim (absent_less here set) [
-      inl e ↦ absurd (grew_not here here' (v.all ∙ e) (v.grew_is.0 grown))
-    | inr less ↦ let e : absent here' ≡ absent (union here set) = ap absent v.all in omega (arith, e, less) ] in
+      | inl e ↦ absurd (grew_not here here' (v.all ∙ e) (v.grew_is.0 grown))
+      | inr less ↦ let e : absent here' ≡ absent (union here set) = ap absent v.all in omega (arith, e, less)
+    ] in
     let e : absent (get_or rows p here) ≡ absent here = ap absent (sym v.read) in
     omega (arith, sum_by-set absent rows p here' here v.within, e, less)
 

@@ -1,4 +1,6 @@
 pub mod Flow
 pub mod Live
+pub mod Reach
 pub mod Rows
+pub mod Spread
 pub mod Sweep

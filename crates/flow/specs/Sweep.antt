@@ -1,5 +1,5 @@
 -- One sweep over the places.
-use Rattle.std.specs.Prelude.{◌≡◌, ℕ, ◌+◌, ◌<◌, ◌≤◌, Bool, true, false, not, cond, ◌||◌, ◌&&◌, ◌==◌, List, [], ◌∷◌, suc, length}
+use Rattle.std.specs.Prelude.{◌≡◌, ℕ, ◌<◌, Bool, true, false, not, ◌||◌, ◌&&◌, ◌==◌, List, [], ◌∷◌, suc, length}
 use Rattle.std.specs.List.{list_any, sum_by}
 use Rattle.bs_words.specs.Contents.{contents}
 use Rattle.bs_bits.specs.Set.{has}

@@ -1,5 +1,15 @@
 //! Where control may go between numbered places, and what each place reads and writes.
+ghost use Rattle.std.specs.Prelude.{◌↔◌, ◌<◌, IsTrue};
+ghost use Rattle.std.specs.List.{All};
+
 use bs_words::List;
+
+/// Whether each number is below `bound`.
+fn all_below(numbers: &[u32], bound: usize) -> bool
+    ensures { IsTrue result ↔ All (λ k. k < bound) numbers.now }
+{
+    numbers.iter().all(|k| (*k as usize) < bound)
+}
 
 /// One place. It reads first, and then writes.
 #[derive(Debug, Drop)]
@@ -24,4 +34,39 @@ pub struct Flow {
 
     /// The number below which all numbers are that places read and write.
     pub bound: u32,
+}
+
+impl Place {
+    ghost use Rattle.std.specs.Prelude.{◌↔◌, IsTrue};
+    ghost use Rattle.flow.specs.Flow.{IsPlace};
+
+    /// Whether it is a place of a graph of `count` places and numbers below `bound`.
+    pub fn is_place(&self, count: usize, bound: u32) -> bool
+        ensures { IsTrue result ↔ IsPlace count bound self.now }
+    {
+        all_below(self.next.as_slice(), count)
+            && all_below(self.aside.as_slice(), count)
+            && all_below(self.reads.as_slice(), bound as usize)
+            && all_below(self.writes.as_slice(), bound as usize)
+    }
+}
+
+impl Flow {
+    ghost use Rattle.std.specs.Prelude.{◌↔◌, IsTrue};
+    ghost use Rattle.flow.specs.Flow.{WellFormed};
+
+    /// Whether every place that is named exists, and every number is below the bound.
+    pub fn is_well_formed(&self) -> bool
+        ensures { IsTrue result ↔ WellFormed self.now }
+    {
+        let count = self.places.len();
+        let bound = self.bound;
+        for place in self.places.as_slice() {
+            let fits = place.is_place(count, bound);
+            if !fits {
+                return false;
+            }
+        }
+        true
+    }
 }

@@ -4,11 +4,14 @@
 
 mod flow;
 mod liveness;
+mod reach;
 mod rows;
+mod spread;
 mod sweep;
 
 pub use flow::{Flow, Place};
 pub use liveness::live;
+pub use reach::reaching;
 pub use rows::Rows;
 
 #[cfg(test)]

@@ -3,14 +3,13 @@ ghost use Rattle.std.specs.Prelude.{◌≡◌, ℕ, ◌<◌, length, false, repl
 ghost use Rattle.flow.specs.Flow.{WellFormed};
 ghost use Rattle.flow.specs.Live.{IsLiveness};
 
+use crate::sweep::sweep;
+use crate::{Flow, Rows};
 use bs_bits::Bits;
 use std::alloc::{AllocError, Global};
 
-use crate::sweep::sweep;
-use crate::{Flow, Rows};
-
 /// An empty set of numbers below `bound` for each of `count` places.
-fn empty_rows(alloc: Global, count: usize, bound: u32) -> Result<Vec<Bits>, AllocError>
+pub(crate) fn empty_rows(alloc: Global, count: usize, bound: u32) -> Result<Vec<Bits>, AllocError>
     ensures { IfOk result (λ rows. rows.items ≡ replicate count (replicate bound false)) }
 {
     let mut rows = Vec::with_capacity(alloc, count)?;

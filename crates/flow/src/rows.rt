@@ -19,4 +19,15 @@ impl Rows {
     {
         &self.rows[place]
     }
+
+    /// Whether the number is in the set of the place. There is none past the last place, or from the
+    /// bound on.
+    pub fn contains(&self, place: usize, number: u32) -> bool
+        ensures { result ≡ has (row self.now.rows.items place) number }
+    {
+        match self.rows.get(place) {
+            None => false,
+            Some(set) => number < set.size() && set.contains(number),
+        }
+    }
 }

@@ -7,9 +7,8 @@ ghost use Rattle.flow.specs.Rows.{row, HasSizes};
 ghost use Rattle.flow.specs.Flow.{IsPlace, WellFormed};
 ghost use Rattle.flow.specs.Sweep.{enters_place, Visited, Swept};
 
-use bs_bits::Bits;
-
 use crate::{Flow, Place};
+use bs_bits::Bits;
 
 /// Adds the sets of the places.
 fn add_rows(set: &mut Bits, rows: &[Bits], places: &[u32])
@@ -24,7 +23,7 @@ fn add_rows(set: &mut Bits, rows: &[Bits], places: &[u32])
 }
 
 /// Takes the numbers out.
-fn take_out(set: &mut Bits, numbers: &[u32])
+pub(crate) fn take_out(set: &mut Bits, numbers: &[u32])
     requires { All (λ k. k < length set.old) numbers.now }
     ensures size { length set.new ≡ length set.old }
     ensures members { (r : ℕ) → has set.new r ≡ (has set.old r && not (list_any (λ k. k == r) numbers.now)) }
@@ -35,7 +34,7 @@ fn take_out(set: &mut Bits, numbers: &[u32])
 }
 
 /// Puts the numbers in.
-fn put_in(set: &mut Bits, numbers: &[u32])
+pub(crate) fn put_in(set: &mut Bits, numbers: &[u32])
     requires { All (λ k. k < length set.old) numbers.now }
     ensures size { length set.new ≡ length set.old }
     ensures members { (r : ℕ) → has set.new r ≡ (has set.old r || list_any (λ k. k == r) numbers.now) }

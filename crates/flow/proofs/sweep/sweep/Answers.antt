@@ -1,4 +1,3 @@
-use Rattle.std.proofs.Common.{arith}
 use Rattle.flow.proofs.Sweeps.{sweeping_more}
 use Rattle.flow.proofs.sweep.sweep.Goals as goal
 

@@ -1,4 +1,4 @@
-use Rattle.std.proofs.Common.{sym, ◌∙◌, ap, ℕ, Bool, false, List, replicate, refl}
+use Rattle.std.proofs.Common.{sym, ◌∙◌, ap, ℕ, false, replicate}
 use Rattle.bs_bits.proofs.Members.{size_is, members-empty}
 use Rattle.bs_bits.proofs.bits.Bits.clear.Goals as goal
 

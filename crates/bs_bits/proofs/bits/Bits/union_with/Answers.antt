@@ -1,4 +1,4 @@
-use Rattle.bs_bits.proofs.Sets.{Union, lent, lent_bits, same_len, united_is_bits, united, grew_iff}
+use Rattle.bs_bits.proofs.Sets.{lent, lent_bits, same_len, united_is_bits, united, grew_iff}
 use Rattle.bs_bits.proofs.bits.Bits.union_with.Goals as goal
 
 pub add_bits-requires : goal.add_bits-requires
