@@ -1,3 +1,5 @@
-pub mod Places
+pub mod Effects
+pub mod Members
 pub mod PendingRows
+pub mod Places
 pub mod Turns

@@ -15,7 +15,8 @@ use Rattle.std.proofs.lemmas.List.{reverse-append, append-nil, nil_from_length}
 use Rattle.bs_words.specs.declared.types.Loc.{Loc}
 use Rattle.par_moves.specs.declared.moves.Move.{Move}
 use Rattle.par_moves.specs.Index.{key_of, readers_of, row_of, Holds, entries_held, held}
-use Rattle.par_moves.specs.Resolved.{Moves, same_place, first_reader, others}
+use Rattle.par_moves.specs.Moves.{Moves, same_place}
+use Rattle.par_moves.specs.Resolved.{first_reader, others}
 use Rattle.par_moves.proofs.Places.{same_place-key}
 
 -- ---- lists

@@ -5,7 +5,7 @@ use Rattle.std.proofs.lemmas.Bool.Decides.{same_from_decides, Decides-eqb, Decid
 use Rattle.bs_words.specs.declared.types.Loc.{Loc}
 use Rattle.bs_words.specs.declared.types.Loc.TheVariants.{Unset, Machine, Slot}
 use Rattle.par_moves.specs.Index.{key_of}
-use Rattle.par_moves.specs.Resolved.{same_place}
+use Rattle.par_moves.specs.Moves.{same_place}
 
 pub same_place-refl : (a : Loc) → same_place a a ≡ true
 same_place-refl Unset = refl

@@ -7,7 +7,8 @@ use Rattle.std.proofs.lemmas.List.{reverse-append, append-nil}
 use Rattle.bs_words.specs.declared.types.Loc.{Loc}
 use Rattle.par_moves.specs.declared.moves.Move.{Move}
 use Rattle.par_moves.specs.Index.{Holds}
-use Rattle.par_moves.specs.Resolved.{Moves, Made, then_made, same_place, first_reader, others, added, gathered, top_target, unwound, unwound_moves, unwound_root, turned, walked, walk_from, drained_by, drained_within, drained_at, drained, resolved_moves, spare}
+use Rattle.par_moves.specs.Moves.{Moves, same_place, spare}
+use Rattle.par_moves.specs.Resolved.{Made, then_made, first_reader, others, added, gathered, top_target, unwound, unwound_moves, unwound_root, turned, walked, walk_from, drained_by, drained_within, drained_at, drained, resolved_moves}
 
 -- ---- lists
 

@@ -3,23 +3,10 @@
 -- A walk goes from a move to a pending move that reads its target, and from there on. Where nothing
 -- reads the last target any more, the last move is made. A walk that comes back to the source of its
 -- first move, the root, has found a cycle: the root's value goes to t0 first, and the root reads t0.
-use Rattle.std.specs.Prelude.{ℕ, zero, suc, ◌+◌, ◌*◌, ◌==◌, Bool, true, false, cond, List, [], ◌∷◌, ◌++◌, length, Option, Some, None}
+use Rattle.std.specs.Prelude.{ℕ, zero, suc, ◌+◌, cond, List, [], ◌∷◌, ◌++◌, length, Option, Some, None}
 use Rattle.bs_words.specs.declared.types.Loc.{Loc}
-use Rattle.bs_words.specs.declared.types.Loc.TheVariants.{Unset, Machine, Slot}
 use Rattle.par_moves.specs.declared.moves.Move.{Move}
-
--- t0
-abbrev pub spare : Loc
-spare = Machine 5
-
-abbrev pub same_place : Loc → Loc → Bool
-same_place Unset Unset = true
-same_place (Machine a) (Machine b) = a == b
-same_place (Slot a) (Slot b) = a == b
-same_place _ _ = false
-
-abbrev pub Moves : Type 0
-Moves = List Move
+use Rattle.par_moves.specs.Moves.{Moves, same_place, spare, saved, from_spare}
 
 -- ---- the moves that are still to be made, the next one first
 
@@ -49,13 +36,6 @@ pub record Made : Type 0 where
 
 abbrev pub then_made : List Move → Made → Made
 then_made first rest = record { made = first ++ rest.made; left = rest.left }
-
--- a move's value into t0, with the component with which it is read from there
-abbrev pub saved : Move → Move
-saved m = record m { to = spare }
-
-abbrev pub from_spare : Move → Move
-from_spare m = record m { from = spare }
 
 -- the target of the last move of a walk from a root along a path, whose last move is first
 abbrev pub top_target : Move → List Move → Loc

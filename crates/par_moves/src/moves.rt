@@ -1,6 +1,6 @@
 //! A move between locations.
 ghost use Rattle.std.specs.Prelude.{◌≡◌};
-ghost use Rattle.par_moves.specs.Resolved.{same_place, saved, from_spare};
+ghost use Rattle.par_moves.specs.Moves.{same_place, saved, from_spare};
 
 use bs_words::{Comp, Loc};
 

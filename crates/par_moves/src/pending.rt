@@ -1,7 +1,8 @@
 //! The moves that are still to be made, by their sources.
 ghost use Rattle.std.specs.Prelude.{◌≡◌, ◌+◌, [], IfOk, OnOk, MatchOption};
 ghost use Rattle.par_moves.specs.Index.{Holds, key_of, held};
-ghost use Rattle.par_moves.specs.Resolved.{Moves, added, first_reader, others};
+ghost use Rattle.par_moves.specs.Moves.{Moves};
+ghost use Rattle.par_moves.specs.Resolved.{added, first_reader, others};
 
 use crate::moves::{Move, is_same};
 use bs_words::Loc;

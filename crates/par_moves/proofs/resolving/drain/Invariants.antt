@@ -1,6 +1,7 @@
 use Rattle.std.proofs.Common.{ℕ}
 use Rattle.par_moves.specs.Index.{Holds, held}
-use Rattle.par_moves.specs.Resolved.{Moves, drained_at}
+use Rattle.par_moves.specs.Moves.{Moves}
+use Rattle.par_moves.specs.Resolved.{drained_at}
 use Rattle.par_moves.proofs.Turns.{Draining}
 use Rattle.par_moves.proofs.resolving.drain.Given as goal
 

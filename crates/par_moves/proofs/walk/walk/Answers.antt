@@ -2,7 +2,8 @@ use Rattle.std.proofs.Common.{◌≡◌, ◌≤◌, ◌++◌, [], ◌∷◌, rev
 use Rattle.std.proofs.lemmas.List.{nil_from_length}
 use Rattle.par_moves.specs.declared.moves.Move.{Move}
 use Rattle.par_moves.specs.Index.{Holds, held}
-use Rattle.par_moves.specs.Resolved.{Moves, top_target, unwound_root, unwound_moves, walk_from}
+use Rattle.par_moves.specs.Moves.{Moves}
+use Rattle.par_moves.specs.Resolved.{top_target, unwound_root, unwound_moves, walk_from}
 use Rattle.par_moves.proofs.Turns.{Standing, Finished, standing_at_first, pushed, popped, finished, at_most}
 use Rattle.par_moves.proofs.walk.walk.Goals as goal
 

@@ -1,6 +1,7 @@
 use Rattle.std.proofs.Common.{◌≤◌, ◌+◌, vec_len}
 use Rattle.par_moves.specs.Index.{Holds, held}
-use Rattle.par_moves.specs.Resolved.{Moves, walk_from}
+use Rattle.par_moves.specs.Moves.{Moves}
+use Rattle.par_moves.specs.Resolved.{walk_from}
 use Rattle.par_moves.proofs.Turns.{Standing}
 use Rattle.par_moves.proofs.walk.walk.Given as goal
 
