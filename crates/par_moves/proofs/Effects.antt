@@ -176,7 +176,7 @@ path_reads_no_top root top path pending f m h e =
 -- ---- all turns
 
 -- the walks of at most so many turns have their effects
-abbrev HaveEffects : Type 0 → ℕ → (Move → Moves → Moves → Made) → Type 0
+abbrev pub HaveEffects : Type 0 → ℕ → (Move → Moves → Moves → Made) → Type 0
 HaveEffects A n go = (root : Move) (path pending : Moves) → length pending + length pending + length path < n → Fit root path pending → (held : Loc → A) → Effect held (root ∷ path) pending (go root path pending)
 
 effect_cycle : {A : Type 0} (go : Move → Moves → Moves → Made) (held : Loc → A) (root top : Move) (path pending : Moves) → ((h : Loc → A) → Effect h (from_spare root ∷ path) pending (go (from_spare root) path pending)) → Fit root (top ∷ path) pending → first_reader top.to pending ≡ None → top.to ≡ root.from → Effect held (root ∷ top ∷ path) pending (then_made (saved root ∷ top ∷ []) (go (from_spare root) path pending))
@@ -234,7 +234,7 @@ effect_turned go n goes held root path pending enough f = by (first_reader (top_
       effect_pushed held root path pending (others (top_target root path) pending) c (go root (c ∷ path) (others (top_target root path) pending)) s f
           (goes root (c ∷ path) (others (top_target root path) pending) (omega arith) (fit_pushed root path pending (others (top_target root path) pending) c s f) held)
 
-effect_walked : {A : Type 0} (n : ℕ) → HaveEffects A n (walked n)
+pub effect_walked : {A : Type 0} (n : ℕ) → HaveEffects A n (walked n)
 unfolding walked
 effect_walked zero root path pending enough f held = absurd (omega arith)
 effect_walked (suc n) root path pending enough f held = effect_turned (walked n) n (effect_walked n) held root path pending enough f
@@ -247,7 +247,7 @@ pub record Ready (place : Loc) (pending : Moves) : Type 0 where
   pub targets : (m : Move) → In m pending → m.to ≢ spare
   pub spare_free : (place ≡ spare) ⊎ ((m : Move) → In m pending → m.from ≢ spare)
 
-fit_root : (place : Loc) (pending rest : Moves) (root : Move) → Split place pending rest root → Ready place pending → Fit root [] rest
+pub fit_root : (place : Loc) (pending rest : Moves) (root : Move) → Split place pending rest root → Ready place pending → Fit root [] rest
 fit_root place pending rest root s r = record {
     below = λ x h e. h;
     root_across = λ x h e. s.alone r.apart x h e;
@@ -261,7 +261,7 @@ fit_root place pending rest root s r = record {
     spare_free = elim r.spare_free [ inl e ↦ inl (s.reads ∙ e) | inr g ↦ inr (λ m h. g m (s.back m h)) ]
   }
 
-effect_nothing : {A : Type 0} (held : Loc → A) (pending : Moves) → Apart pending → Effect held [] pending (record { made = []; left = pending })
+pub effect_nothing : {A : Type 0} (held : Loc → A) (pending : Moves) → Apart pending → Effect held [] pending (record { made = []; left = pending })
 effect_nothing held pending a = record {
     walk_done = λ m h. absurd h;
     done = λ m h. inl h;
@@ -272,7 +272,7 @@ effect_nothing held pending a = record {
   }
 
 -- a walk from one of the pending moves
-effect_root : {A : Type 0} (held : Loc → A) (place : Loc) (pending rest : Moves) (root : Move) (w : Made) → Split place pending rest root → Ready place pending → Effect held (root ∷ []) rest w → Effect held [] pending w
+pub effect_root : {A : Type 0} (held : Loc → A) (place : Loc) (pending rest : Moves) (root : Move) (w : Made) → Split place pending rest root → Ready place pending → Effect held (root ∷ []) rest w → Effect held [] pending w
 effect_root held place pending rest root w s r e = record {
     walk_done = λ m h. absurd h;
     done = λ m h. elim (s.cases m h) [
@@ -292,7 +292,7 @@ after-append [] ys held = refl
 after-append (x ∷ xs) ys held = after-append xs ys (moved x held)
 
 -- first the one, then the other from what it left
-effect_then : {A : Type 0} (held : Loc → A) (pending : Moves) (v w : Made) → ((m : Move) → In m pending → m.to ≢ spare) → Effect held [] pending v → Effect (after v.made held) [] v.left w → Effect held [] pending (then_made v.made w)
+pub effect_then : {A : Type 0} (held : Loc → A) (pending : Moves) (v w : Made) → ((m : Move) → In m pending → m.to ≢ spare) → Effect held [] pending v → Effect (after v.made held) [] v.left w → Effect held [] pending (then_made v.made w)
 effect_then {A} held pending v w targets e f =
     let same : (place : Loc) → after (v.made ++ w.made) held place ≡ after w.made (after v.made held) place = λ place. ap (λ (g : Loc → A). g place) (after-append v.made w.made held) in
     record {
