@@ -9,14 +9,14 @@ use Rattle.par_moves.proofs.Members.{In, NotTo, Apart, Split, split_first, none_
 use Rattle.par_moves.proofs.Turns.{length-others, length-walked}
 use Rattle.par_moves.proofs.Effects.{Effect, Ready, fit_root, effect_nothing, effect_root, effect_then, effect_walked}
 
-ready_left : {A : Type 0} (held : Loc → A) (place : Loc) (pending : Moves) (w : Made) → Ready place pending → Effect held [] pending w → Ready place w.left
+pub ready_left : {A : Type 0} (held : Loc → A) (place : Loc) (pending : Moves) (w : Made) → Ready place pending → Effect held [] pending w → Ready place w.left
 ready_left held place pending w r e = record {
     apart = e.left_apart;
     targets = λ m h. r.targets m (e.left_in m h);
     spare_free = elim r.spare_free [ inl at ↦ inl at | inr g ↦ inr (λ m h. g m (e.left_in m h)) ]
   }
 
-effect_one_walk : {A : Type 0} (held : Loc → A) (place : Loc) (pending : Moves) (root : Move) → first_reader place pending ≡ Some root → Ready place pending → Effect held [] pending (walk_from root (others place pending))
+pub effect_one_walk : {A : Type 0} (held : Loc → A) (place : Loc) (pending : Moves) (root : Move) → first_reader place pending ≡ Some root → Ready place pending → Effect held [] pending (walk_from root (others place pending))
 effect_one_walk held place pending root e r =
     let s = split_first place pending root e in
     let rest = others place pending in

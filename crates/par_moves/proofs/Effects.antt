@@ -47,7 +47,7 @@ pub record Fit (root : Move) (path pending : Moves) : Type 0 where
   pub pending_target : (m : Move) → In m pending → m.to ≢ spare
   pub spare_free : (root.from ≡ spare) ⊎ ((m : Move) → In m pending → m.from ≢ spare)
 
-fit_pushed : (root : Move) (path pending rest : Moves) (c : Move) → Split (top_target root path) pending rest c → Fit root path pending → Fit root (c ∷ path) rest
+pub fit_pushed : (root : Move) (path pending rest : Moves) (c : Move) → Split (top_target root path) pending rest c → Fit root path pending → Fit root (c ∷ path) rest
 fit_pushed root path pending rest c s f = record {
     below = λ x h e. elim h [ inl is ↦ f.root_across c s.inside (sym (ap (λ (y : Move). y.to) is) ∙ e) | inr k ↦ f.below x k e ];
     root_across = λ x h e. f.root_across x (s.back x h) e;
@@ -61,7 +61,7 @@ fit_pushed root path pending rest c s f = record {
     spare_free = elim f.spare_free [ inl e ↦ inl e | inr g ↦ inr (λ m h. g m (s.back m h)) ]
   }
 
-fit_popped : (root : Move) (top : Move) (path pending : Moves) → Fit root (top ∷ path) pending → Fit root path pending
+pub fit_popped : (root : Move) (top : Move) (path pending : Moves) → Fit root (top ∷ path) pending → Fit root path pending
 fit_popped root top path pending f = record {
     below = λ x h e. f.below x (inr h) e;
     root_across = f.root_across;
@@ -83,7 +83,7 @@ follows_saved : (root : Move) (path : Moves) → Follows root path → Follows (
 follows_saved root [] f = tt
 follows_saved root (m ∷ path) f = (f.0 ∙ top-saved root path, follows_saved root path f.1)
 
-fit_saved : (root : Move) (path pending : Moves) → Fit root path pending → Fit (from_spare root) path pending
+pub fit_saved : (root : Move) (path pending : Moves) → Fit root path pending → Fit (from_spare root) path pending
 fit_saved root path pending f = record {
     below = f.below;
     root_across = f.root_across;

@@ -1,3 +1,4 @@
+pub mod Costs
 pub mod Draining
 pub mod Effects
 pub mod Members
