@@ -5,3 +5,4 @@ pub mod Members
 pub mod PendingRows
 pub mod Places
 pub mod Turns
+pub mod Whole

@@ -2,7 +2,7 @@
 ghost use Rattle.std.specs.Prelude.{◌≡◌, ◌≢◌, ◌≤◌, ◌++◌, [], All, AllPairs, OnOk, IfOk};
 ghost use Rattle.bs_words.specs.Contents.{contents};
 ghost use Rattle.par_moves.specs.Index.{Holds, held};
-ghost use Rattle.par_moves.specs.Moves.{Moves};
+ghost use Rattle.par_moves.specs.Moves.{Moves, LeavesSources, IsMadeFor, OneMoreForEachCycle};
 ghost use Rattle.par_moves.specs.Resolved.{drained_at, drained, resolved_moves};
 
 use crate::moves::{Move, SPARE};
@@ -35,6 +35,9 @@ fn drain(
 pub fn resolve(alloc: Global, moves: &[Move]) -> Result<List<Move>, AllocError>
     requires apart { AllPairs (λ a b. a.to ≢ b.to) moves.now }
     requires not_spare { All (λ m. m.to ≢ SPARE) moves.now }
+    ensures leaves { IfOk result (λ r. LeavesSources moves.now (contents r)) }
+    ensures only_needed { IfOk result (λ r. All (IsMadeFor moves.now) (contents r)) }
+    ensures few { IfOk result (λ r. OneMoreForEachCycle moves.now (contents r)) }
     ensures defined { IfOk result (λ r. contents r ≡ resolved_moves moves.now) }
 {
     let mut pending = Pending::new(alloc);
