@@ -2,7 +2,7 @@
 use Rattle.std.proofs.Common.{◌≡◌, ◌≢◌, ℕ, zero, suc, ◌+◌, ◌<◌, ◌≤◌, ◌⊎◌, Bool, true, false, cond, List, [], ◌∷◌, ◌++◌, length, Option, Some, None, refl, sym, ap, ◌∙◌, subst, arith, inl, inr, append_assoc, length-append}
 use Rattle.bs_words.specs.declared.types.Loc.{Loc}
 use Rattle.par_moves.specs.declared.moves.Move.{Move}
-use Rattle.par_moves.specs.Moves.{Moves, same_place, spare, saved, from_spare, first_target, ReadsOn, IsCycle, joined}
+use Rattle.par_moves.specs.Moves.{Moves, same_place, spare, needed, saved, from_spare, first_target, ReadsOn, IsCycle, joined}
 use Rattle.par_moves.specs.Resolved.{Made, then_made, first_reader, others, top_target, unwound, turned, walked, walk_from, gathered, added, drained_by, drained_within, drained_at, drained, resolved_moves}
 use Rattle.par_moves.proofs.Places.{same_place-true, same_place-false}
 use Rattle.par_moves.proofs.Members.{In, NotTo, Apart, Split, split_first}
@@ -313,25 +313,32 @@ total_drained (m ∷ ms) pending a targets free =
     total_then pending w (drained ms w.left) (total_drained_within (suc (length pending)) m.from pending r)
         (total_drained ms w.left first.left_apart (λ x h. targets x (first.left_in x h)) (λ x h. free x (first.left_in x h)))
 
-length-gathered : (ms pending : Moves) → length (gathered ms pending) ≤ length ms + length pending
+needed_in : (ms : Moves) (x : Move) → In x ms → (x.from ≡ x.to → ⊥) → In x (needed ms)
+needed_in [] x h needs = h
+needed_in (m ∷ ms) x h needs = by (λ k. needed_in ms x k needs) (same_place m.from m.to) refl h where
+  by : (In x ms → In x (needed ms)) → (t : Bool) → same_place m.from m.to ≡ t → (x ≡ m) ⊎ In x ms → In x (cond t (needed ms) (m ∷ needed ms))
+  by later true e (inl is) = absurd (needs (ap (λ (y : Move). y.from) is ∙ (same_place-true m.from m.to e ∙ sym (ap (λ (y : Move). y.to) is))))
+  by later true e (inr k) = later k
+  by later false e (inl is) = inl is
+  by later false e (inr k) = inr (later k)
+
+length-gathered : (ms pending : Moves) → length (gathered ms pending) ≡ length (needed ms) + length pending
 length-gathered [] pending = omega arith
 length-gathered (m ∷ ms) pending =
-    let one : length (added m pending) ≤ suc (length pending) = by (same_place m.from m.to) in
-    let rest : length (gathered ms (added m pending)) ≤ length ms + length (added m pending) = length-gathered ms (added m pending) in
-    omega arith
+    length-gathered ms (added m pending) ∙ by (same_place m.from m.to)
   where
-  by : (t : Bool) → length (cond t pending (m ∷ pending)) ≤ suc (length pending)
-  by true = omega arith
+  by : (t : Bool) → length (needed ms) + length (cond t pending (m ∷ pending)) ≡ length (cond t (needed ms) (m ∷ needed ms)) + length pending
+  by true = refl
   by false = omega arith
 
 -- what is made of the moves, and how much
 pub record Sums (moves done : Moves) : Type 0 where
   pub cycles : List Moves
   pub each : EachCycle cycles
-  pub inside : (m : Move) → In m (joined cycles) → In m moves
+  pub inside : (m : Move) → In m (joined cycles) → In m (needed moves)
   pub apart : Apart (joined cycles)
-  pub few : length done ≤ length moves + length cycles
-  pub made : (r : Move) → In r done → (m : Move) × In m moves × (m.from ≢ m.to) × IsFrom m r
+  pub few : length done ≤ length (needed moves) + length cycles
+  pub made : (r : Move) → In r done → (m : Move) × In m (needed moves) × IsFrom m r
 
 pub sums : (moves : Moves) → Apart moves → ((m : Move) → In m moves → m.to ≢ spare) → Sums moves (resolved_moves moves)
 sums moves a targets =
@@ -344,12 +351,13 @@ sums moves a targets =
         total_then all first (drained moves first.left) (total_drained_within (suc (length all)) spare all r)
             (total_drained moves first.left effect.left_apart (λ x k. r.targets x (effect.left_in x k)) (λ x k e. drained_none_reads (suc (length all)) spare all (omega arith) x k e)) in
     let few : length (first.made ++ (drained moves first.left).made) + length (drained moves first.left).left ≤ length all + length whole.cycles = whole.few in
-    let fewer : length all ≤ length moves + 0 = length-gathered moves [] in
+    let fewer : length all ≡ length (needed moves) + 0 = length-gathered moves [] in
+    let is_needed : (x : Move) → In x all → In x (needed moves) = λ x k. needed_in moves x (planned x k).0 (planned x k).1 in
     record {
       cycles = whole.cycles;
       each = whole.each;
-      inside = λ m h. (planned m (whole.inside m h)).0;
+      inside = λ m h. is_needed m (whole.inside m h);
       apart = whole.apart;
       few = omega arith;
-      made = λ x h. let t : (m : Move) × In m all × IsFrom m x = whole.made x h in (t.0, (planned t.0 t.1).0, (planned t.0 t.1).1, t.2)
+      made = λ x h. let t : (m : Move) × In m all × IsFrom m x = whole.made x h in (t.0, is_needed t.0 t.1, t.2)
     }

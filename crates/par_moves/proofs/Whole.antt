@@ -4,7 +4,7 @@ use Rattle.std.proofs.lemmas.List.Elements.{All-nil, All-cons, All-contains}
 use Rattle.std.proofs.lemmas.List.Kept.{AllPairs-cons}
 use Rattle.bs_words.specs.declared.types.Loc.{Loc}
 use Rattle.par_moves.specs.declared.moves.Move.{Move}
-use Rattle.par_moves.specs.Moves.{Moves, spare, same_place, moved, after, origin, LeavesSources, IsMadeFor, OneMoreForEachCycle, IsCycle, joined}
+use Rattle.par_moves.specs.Moves.{Moves, spare, needed, same_place, moved, after, origin, LeavesSources, IsMadeFor, OneMoreForEachCycle, IsCycle, joined}
 use Rattle.par_moves.specs.Resolved.{resolved_moves}
 use Rattle.par_moves.proofs.Places.{same_place-refl}
 use Rattle.par_moves.proofs.Members.{In, NotTo, Apart}
@@ -60,7 +60,7 @@ pub made_for : (moves : Moves) → AllPairs (λ a b. a.to ≢ b.to) moves → Al
 made_for moves a t =
     let s = sums moves (apart_from_pairs moves a) (In-from_all (λ (m : Move). m.to ≢ spare) moves t) in
     all_from_In (IsMadeFor moves) (resolved_moves moves)
-        (λ r h. let p = s.made r h in record { planned = p.0; among = Contains-from_In moves p.0 p.1; needed = p.2; same = p.3 })
+        (λ r h. let p = s.made r h in record { planned = p.0; among = Contains-from_In (needed moves) p.0 p.1; same = p.2 })
 
 pub one_more_for_each_cycle : (moves : Moves) → AllPairs (λ a b. a.to ≢ b.to) moves → All (λ m. m.to ≢ spare) moves → OneMoreForEachCycle moves (resolved_moves moves)
 one_more_for_each_cycle moves a t =
@@ -68,7 +68,7 @@ one_more_for_each_cycle moves a t =
     record {
       cycles = s.cycles;
       each = all_cycles s.cycles s.each;
-      among = all_from_In (Contains moves) (joined s.cycles) (λ m h. Contains-from_In moves m (s.inside m h));
+      among = all_from_In (Contains (needed moves)) (joined s.cycles) (λ m h. Contains-from_In (needed moves) m (s.inside m h));
       apart = pairs_from_apart (joined s.cycles) s.apart;
       few = s.few
     }

@@ -39,6 +39,11 @@ pub record LeavesSources (moves done : Moves) : Type 0 where
 
 -- ---- which moves are made
 
+-- those that are not from a place to itself
+abbrev pub needed : Moves → Moves
+needed [] = []
+needed (m ∷ ms) = cond (same_place m.from m.to) (needed ms) (m ∷ needed ms)
+
 -- a move's value into t0, with the component with which it is read from there
 abbrev pub saved : Move → Move
 saved m = record m { to = spare }
@@ -47,11 +52,11 @@ saved m = record m { to = spare }
 abbrev pub from_spare : Move → Move
 from_spare m = record m { from = spare }
 
--- A move that is made: one of the moves, which changes something, or its two halves through t0.
+-- A move that is made for one that is needed: that move, or one of its halves through t0. So it has
+-- that move's component.
 pub record IsMadeFor (moves : Moves) (made : Move) : Type 0 where
   pub planned : Move
-  pub among : Contains moves planned
-  pub needed : planned.from ≢ planned.to
+  pub among : Contains (needed moves) planned
   pub same : (made ≡ planned) ⊎ ((made ≡ from_spare planned) ⊎ (made ≡ saved planned))
 
 -- ---- how many
@@ -74,11 +79,11 @@ abbrev pub joined : List Moves → Moves
 joined [] = []
 joined (c ∷ cs) = c ++ joined cs
 
--- There are cycles among the moves, no two of which share a move, and at most so many moves more are
--- made than there are moves.
+-- There are cycles of needed moves, no two of which share a target, and at most so many moves more
+-- are made than are needed.
 pub record OneMoreForEachCycle (moves done : Moves) : Type 0 where
   pub cycles : List Moves
   pub each : All IsCycle cycles
-  pub among : All (Contains moves) (joined cycles)
+  pub among : All (Contains (needed moves)) (joined cycles)
   pub apart : AllPairs (λ a b. a.to ≢ b.to) (joined cycles)
-  pub few : length done ≤ length moves + length cycles
+  pub few : length done ≤ length (needed moves) + length cycles
