@@ -1,3 +1,4 @@
+pub mod Checked
 pub mod Costs
 pub mod Draining
 pub mod Effects

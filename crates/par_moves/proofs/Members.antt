@@ -1,5 +1,5 @@
 -- Members of lists of moves, by recursion on the list, and lists whose targets differ.
-use Rattle.std.proofs.Common.{◌≡◌, ◌⊎◌, Bool, true, false, cond, [], ◌∷◌, ◌++◌, Option, Some, None, refl, sym, ap, subst, ◌∙◌, inl, inr}
+use Rattle.std.proofs.Common.{◌≡◌, ◌⊎◌, Bool, true, false, cond, [], ◌∷◌, Some, None, refl, sym, ap, subst, ◌∙◌, inl, inr}
 use Rattle.std.proofs.lemmas.Bool.{true≢false}
 use Rattle.bs_words.specs.declared.types.Loc.{Loc}
 use Rattle.par_moves.specs.declared.moves.Move.{Move}
@@ -40,7 +40,7 @@ split_first place (m ∷ ms) c e = by (split_first place ms c) (same_place m.fro
         back = λ x h. inr h;
         cases = λ x h. elim h [ inl e ↦ inl (e ∙ sym is) | inr k ↦ inr k ];
         apart = λ a. a.1;
-        alone = λ a x h e. a.0 x h (e ∙ ap (λ (y : Move). y.to) is)
+        alone = λ a x h e. a.0 x h (e ∙ ap (λ (y : Move). y.to) is);
       }
   by later false s e =
       let r : Split place ms (others place ms) c = later e in
@@ -50,7 +50,7 @@ split_first place (m ∷ ms) c e = by (split_first place ms c) (same_place m.fro
         back = λ x h. elim h [ inl e ↦ inl e | inr k ↦ inr (r.back x k) ];
         cases = λ x h. elim h [ inl e ↦ inr (inl e) | inr k ↦ elim (r.cases x k) [ inl e ↦ inl e | inr l ↦ inr (inr l) ] ];
         apart = λ a. (λ x h e. a.0 x (r.back x h) e, r.apart a.1);
-        alone = λ a x h e. elim h [ inl is ↦ a.0 c r.inside (sym e ∙ ap (λ (y : Move). y.to) is) | inr k ↦ r.alone a.1 x k e ]
+        alone = λ a x h e. elim h [ inl is ↦ a.0 c r.inside (sym e ∙ ap (λ (y : Move). y.to) is) | inr k ↦ r.alone a.1 x k e ];
       }
 
 -- what reads a place is found there

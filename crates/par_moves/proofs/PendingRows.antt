@@ -1,6 +1,6 @@
 -- Taking the next move that reads a place: what the map's rows have, and what the list of moves has.
-use Rattle.std.proofs.Common.{◌≡◌, ℕ, suc, ◌+◌, ◌==◌, Bool, true, false, cond, List, [], ◌∷◌, ◌++◌, length, Option, Some, None, MatchOption, refl, sym, ap, ◌∙◌, subst, arith, rules}
-use Rattle.std.specs.Prelude.{filter, reverse, vec_len}
+use Rattle.std.proofs.Common.{◌≡◌, ℕ, ◌+◌, ◌==◌, Bool, true, false, cond, List, [], ◌∷◌, ◌++◌, length, Option, Some, None, MatchOption, refl, sym, ap, ◌∙◌, subst, arith}
+use Rattle.std.specs.Prelude.{reverse, vec_len}
 use Rattle.std.specs.Option.{option_to_list}
 use Rattle.std.specs.Ordering.{nat_cmp, match_ordering, is_eq}
 use Rattle.std.specs.declared.cmp.Ordering.{Ordering}
@@ -9,7 +9,7 @@ use Rattle.std.specs.BTreeMap as tree
 use Rattle.std.specs.BTreeMap.{BTreeMap, is_at, insert_entry, Updates, UpdatesBy}
 use Rattle.std.specs.Map.{lookup, remove_entry}
 use Rattle.std.specs.Global.{Vec}
-use Rattle.std.proofs.lemmas.Bool.{eqb-true, ne_eqb, true≢false, false≢true}
+use Rattle.std.proofs.lemmas.Bool.{eqb-true, ne_eqb}
 use Rattle.std.proofs.lemmas.Bool.Decides.{nat_tests}
 use Rattle.std.proofs.lemmas.List.{reverse-append, append-nil, nil_from_length}
 use Rattle.bs_words.specs.declared.types.Loc.{Loc}
@@ -33,9 +33,9 @@ first_reader-rows : (place : Loc) (ms : Moves) → first_reader place ms ≡ fir
 first_reader-rows place [] = refl
 first_reader-rows place (m ∷ ms) =
     rw (same_place-key m.from place) (by (first_reader-rows place ms) (same_place m.from place)) where
-  by : first_reader place ms ≡ first_of (readers_of (key_of place) ms) → (t : Bool) → cond t (Some m) (first_reader place ms) ≡ first_of (cond t (m ∷ readers_of (key_of place) ms) (readers_of (key_of place) ms))
-  by later true = refl
-  by later false = later
+      by : first_reader place ms ≡ first_of (readers_of (key_of place) ms) → (t : Bool) → cond t (Some m) (first_reader place ms) ≡ first_of (cond t (m ∷ readers_of (key_of place) ms) (readers_of (key_of place) ms))
+      by later true = refl
+      by later false = later
 
 others-rows : (place : Loc) (ms : Moves) → readers_of (key_of place) (others place ms) ≡ rest_of (readers_of (key_of place) ms)
 others-rows place [] = refl
@@ -91,7 +91,7 @@ taken_none place key moves old new k h none_at_key e =
     let row : row_of (tree.get nat_cmp old (key_of place)) ≡ [] = ap row_of none in
     record {
       first = sym (first_reader-rows place moves ∙ ap first_of (sym (h.rows (key_of place)) ∙ row));
-      left = left_by_rows place moves old new h (ap row_of (same (key_of place)) ∙ row ∙ sym (ap rest_of row)) (λ q _. same q)
+      left = left_by_rows place moves old new h (ap row_of (same (key_of place)) ∙ row ∙ sym (ap rest_of row)) (λ q _. same q);
     }
 
 popped_row : (row row' : Vec Move) (found : Option Move) → Popped row row' found → (first_of (reverse row.items) ≡ found) × (rest_of (reverse row.items) ≡ reverse row'.items)
@@ -118,7 +118,7 @@ taken_some place key moves old mid new row row' found k h at_key p removed inser
     let apart : (q : ℕ) → (key_of place ≡ q → ⊥) → is_at (nat_cmp (key_of place)) q ≡ false = λ q ne. is_at-apart (key_of place) q ne in
     record {
       first = sym (first_reader-rows place moves ∙ ap first_of (sym (h.rows (key_of place)) ∙ was) ∙ parts.0);
-      left = left_by_rows place moves old new h (is ∙ sym parts.1 ∙ sym (ap rest_of was)) (λ q ne. v.2 q (apart q ne) ∙ u.2 q (apart q ne))
+      left = left_by_rows place moves old new h (is ∙ sym parts.1 ∙ sym (ap rest_of was)) (λ q ne. v.2 q (apart q ne) ∙ u.2 q (apart q ne));
     }
 
 -- ---- the number of moves
@@ -146,8 +146,10 @@ pub fewer_by_one : (key : ℕ) (old mid new : BTreeMap ℕ (Vec Move)) (row row'
 fewer_by_one key old mid new row row' found e removed none inserted popped = by found popped where
   total : vec_len row + entries_held mid.entries ≡ entries_held old.entries
   total = ap (λ (o : Option (Vec Move)). row_held o + entries_held mid.entries) (sym e) ∙ ap (λ (es : List (ℕ × Vec Move)). row_held (tree.get nat_cmp old key) + entries_held es) removed ∙ held-remove (is_at (nat_cmp key)) old.entries
+
   total' : entries_held new.entries ≡ vec_len row' + entries_held mid.entries
   total' = ap entries_held inserted ∙ held-insert key row' mid.entries none
+
   by : (found : Option Move) → MatchOption found ((vec_len row ≡ 0) × (vec_len row' ≡ 0)) (λ _. vec_len row' + 1 ≡ vec_len row) → MatchOption found (held new ≡ held old) (λ _. held new + 1 ≡ held old)
   by None popped = let t = total in let t' = total' in omega arith
   by (Some m) popped = let t = total in let t' = total' in omega arith

@@ -1,5 +1,5 @@
 -- The test whether two places are one, and the key of a place.
-use Rattle.std.proofs.Common.{◌≡◌, ℕ, ◌+◌, ◌*◌, ◌==◌, Bool, true, false, refl, sym, ap, subst, ◌∙◌, arith, eq-eqb, ne_eqb}
+use Rattle.std.proofs.Common.{◌≡◌, ◌+◌, ◌*◌, ◌==◌, Bool, true, false, refl, sym, ap, subst, ◌∙◌, arith, eq-eqb, ne_eqb}
 use Rattle.std.proofs.lemmas.Bool.{eqb-true, true≢false, false≢true}
 use Rattle.std.proofs.lemmas.Bool.Decides.{same_from_decides, Decides-eqb, Decides-like}
 use Rattle.bs_words.specs.declared.types.Loc.{Loc}
@@ -42,10 +42,10 @@ same_place-key Unset (Slot b) = ne_eqb 0 (2 * b + 2) (λ e. absurd (omega arith)
 same_place-key (Machine a) Unset = ne_eqb (2 * a + 1) 0 (λ e. absurd (omega arith))
 same_place-key (Machine a) (Machine b) =
     same_from_decides _ _ (Decides-eqb (2 * a + 1) (2 * b + 1))
-        (Decides-like _ (λ e. let h : 2 * a + 1 ≡ 2 * b + 1 = omega arith in h) (λ e. let h : a ≡ b = omega arith in h) (Decides-eqb a b))
+    (Decides-like _ (λ e. let h : 2 * a + 1 ≡ 2 * b + 1 = omega arith in h) (λ e. let h : a ≡ b = omega arith in h) (Decides-eqb a b))
 same_place-key (Machine a) (Slot b) = ne_eqb (2 * a + 1) (2 * b + 2) (λ e. absurd (omega arith))
 same_place-key (Slot a) Unset = ne_eqb (2 * a + 2) 0 (λ e. absurd (omega arith))
 same_place-key (Slot a) (Machine b) = ne_eqb (2 * a + 2) (2 * b + 1) (λ e. absurd (omega arith))
 same_place-key (Slot a) (Slot b) =
     same_from_decides _ _ (Decides-eqb (2 * a + 2) (2 * b + 2))
-        (Decides-like _ (λ e. let h : 2 * a + 2 ≡ 2 * b + 2 = omega arith in h) (λ e. let h : a ≡ b = omega arith in h) (Decides-eqb a b))
+    (Decides-like _ (λ e. let h : 2 * a + 2 ≡ 2 * b + 2 = omega arith in h) (λ e. let h : a ≡ b = omega arith in h) (Decides-eqb a b))

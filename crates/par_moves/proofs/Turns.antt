@@ -1,5 +1,5 @@
 -- The turns of the loops, against the definition on lists.
-use Rattle.std.proofs.Common.{◌≡◌, ℕ, zero, suc, ◌+◌, ◌<◌, ◌≤◌, Bool, true, false, cond, List, [], ◌∷◌, ◌++◌, length, Option, Some, None, MatchOption, refl, sym, ap, ◌∙◌, subst, arith, append_assoc, length-append}
+use Rattle.std.proofs.Common.{◌≡◌, ℕ, zero, suc, ◌+◌, ◌<◌, ◌≤◌, Bool, true, false, cond, [], ◌∷◌, ◌++◌, length, Option, Some, None, MatchOption, refl, sym, ap, ◌∙◌, subst, arith, append_assoc, length-append}
 use Rattle.std.specs.Prelude.{reverse}
 use Rattle.std.specs.BTreeMap.{BTreeMap}
 use Rattle.std.specs.Global.{Vec}
@@ -67,10 +67,13 @@ pub pushed : (root : Move) (path : Moves) (index index' : BTreeMap ℕ (Vec Move
 pushed root path index index' made before whole here m at t s = by s.turns s.enough s.moves s.left where
   got : (Some m ≡ first_reader here s.pending) × Holds index' (others here s.pending)
   got = t s.pending s.holds
+
   found : first_reader (top_target root (reverse path)) s.pending ≡ Some m
   found = ap (λ (x : Loc). first_reader x s.pending) (sym at) ∙ sym got.0
+
   step : (n : ℕ) → walked (suc n) root (reverse path) s.pending ≡ walked n root (reverse (path ++ m ∷ [])) (others here s.pending)
   step n = walked-some n root (reverse path) s.pending m found ∙ (ap (λ (x : Loc). walked n root (m ∷ reverse path) (others x s.pending)) (sym at) ∙ ap (λ (p : Moves). walked n root p (others here s.pending)) (sym (reverse-push path m)))
+
   by : (n : ℕ) → length s.pending + length s.pending + length path < suc n → made ++ (walked (suc n) root (reverse path) s.pending).made ≡ before ++ whole.made → (walked (suc n) root (reverse path) s.pending).left ≡ whole.left → Standing root (path ++ m ∷ []) index' made before whole
   by zero enough moves left = let fewer : suc (length (others here s.pending)) ≡ length s.pending = length-others here s.pending m (sym got.0) in absurd (omega arith)
   by (suc n) enough moves left = record {
@@ -82,20 +85,23 @@ pushed root path index index' made before whole here m at t s = by s.turns s.eno
         let longer : length (path ++ m ∷ []) ≡ length path + 1 = length-append path (m ∷ []) in
         omega arith;
     moves = ap (λ (w : Made). made ++ w.made) (sym (step (suc n))) ∙ moves;
-    left = ap (λ (w : Made). w.left) (sym (step (suc n))) ∙ left
+    left = ap (λ (w : Made). w.left) (sym (step (suc n))) ∙ left;
   }
 
 pub popped : (root root' : Move) (path path' : Moves) (index index' : BTreeMap ℕ (Vec Move)) (made made' before : Moves) (whole : Made) (here : Loc) (last : Move) → here ≡ top_target root (reverse path) → Takes index index' here None → path ≡ path' ++ last ∷ [] → made' ≡ made ++ unwound_moves root last → root' ≡ unwound_root root last → Standing root path index made before whole → Standing root' path' index' made' before whole
 popped root root' path path' index index' made made' before whole here last at t split more again s = by s.turns s.enough s.moves s.left where
   got : (None ≡ first_reader here s.pending) × Holds index' (others here s.pending)
   got = t s.pending s.holds
+
   found : first_reader (top_target root (reverse path)) s.pending ≡ None
   found = ap (λ (x : Loc). first_reader x s.pending) (sym at) ∙ sym got.0
+
   step : (n : ℕ) → walked (suc n) root (reverse path) s.pending ≡ then_made (unwound_moves root last) (walked n root' (reverse path') s.pending)
   step n =
       walked-none n root (reverse path) s.pending found
       ∙ (ap (λ (p : Moves). unwound (walked n) root p s.pending) (ap reverse split ∙ reverse-push path' last)
       ∙ ap (λ (r : Move). then_made (unwound_moves root last) (walked n r (reverse path') s.pending)) (sym again))
+
   by : (n : ℕ) → length s.pending + length s.pending + length path < suc n → made ++ (walked (suc n) root (reverse path) s.pending).made ≡ before ++ whole.made → (walked (suc n) root (reverse path) s.pending).left ≡ whole.left → Standing root' path' index' made' before whole
   by zero enough moves left =
       let longer : length path ≡ length path' + 1 = ap length split ∙ length-append path' (last ∷ []) in
@@ -111,7 +117,7 @@ popped root root' path path' index index' made made' before whole here last at t
         ap (λ (ms : Moves). ms ++ (walked (suc n) root' (reverse path') s.pending).made) more
         ∙ (append_assoc made (unwound_moves root last) (walked (suc n) root' (reverse path') s.pending).made
         ∙ (ap (λ (w : Made). made ++ w.made) (sym (step (suc n))) ∙ moves));
-    left = ap (λ (w : Made). w.left) (sym (step (suc n))) ∙ left
+    left = ap (λ (w : Made). w.left) (sym (step (suc n))) ∙ left;
   }
 
 pub record Finished (index : BTreeMap ℕ (Vec Move)) (made before : Moves) (whole : Made) : Type 0 where
@@ -120,11 +126,12 @@ pub record Finished (index : BTreeMap ℕ (Vec Move)) (made before : Moves) (who
 
 pub finished : (root : Move) (path : Moves) (index index' : BTreeMap ℕ (Vec Move)) (made made' before : Moves) (whole : Made) (here : Loc) → here ≡ top_target root (reverse path) → Takes index index' here None → path ≡ [] → made' ≡ made ++ root ∷ [] → Standing root path index made before whole → Finished index' made' before whole
 finished root path index index' made made' before whole here at t none more s = record {
-    moves = more ∙ (ap (λ (w : Made). made ++ w.made) (sym step) ∙ s.moves);
-    left = subst (Holds index') (others-none here s.pending (sym got.0) ∙ (ap (λ (w : Made). w.left) (sym step) ∙ s.left)) got.1
-  } where
+  moves = more ∙ (ap (λ (w : Made). made ++ w.made) (sym step) ∙ s.moves);
+  left = subst (Holds index') (others-none here s.pending (sym got.0) ∙ (ap (λ (w : Made). w.left) (sym step) ∙ s.left)) got.1;
+} where
   got : (None ≡ first_reader here s.pending) × Holds index' (others here s.pending)
   got = t s.pending s.holds
+
   step : walked (suc s.turns) root (reverse path) s.pending ≡ record { made = root ∷ []; left = s.pending }
   step =
       walked-none s.turns root (reverse path) s.pending (ap (λ (x : Loc). first_reader x s.pending) (sym at) ∙ sym got.0)
@@ -177,38 +184,44 @@ pub walked_once : (place : Loc) (index mid index' : BTreeMap ℕ (Vec Move)) (ma
 walked_once place index mid index' made made' before whole root t w s = by s.turns s.enough s.moves s.left where
   got : (Some root ≡ first_reader place s.pending) × Holds mid (others place s.pending)
   got = t s.pending s.holds
+
   after : Finished index' made' made (walk_from root (others place s.pending))
   after = w (others place s.pending) got.1
+
   fewer : suc (length (others place s.pending)) ≡ length s.pending
   fewer = length-others place s.pending root (sym got.0)
+
   shorter : length (walk_from root (others place s.pending)).left ≤ length (others place s.pending)
   shorter = length-walked _ root [] (others place s.pending)
+
   step : (n : ℕ) → drained_within (suc n) place s.pending ≡ then_made (walk_from root (others place s.pending)).made (drained_within n place (walk_from root (others place s.pending)).left)
   step n = drained-some n place s.pending root (sym got.0)
+
   by : (n : ℕ) → length s.pending < suc n → made ++ (drained_within (suc n) place s.pending).made ≡ before ++ whole.made → (drained_within (suc n) place s.pending).left ≡ whole.left → Draining place index' made' before whole
   by zero enough moves left = let f = fewer in absurd (omega arith)
   by (suc n) enough moves left =
-    let f = fewer in
-    let g = shorter in
-    record {
-      pending = (walk_from root (others place s.pending)).left;
-      turns = n;
-      holds = after.left;
-      enough = omega arith;
-      moves =
-          ap (λ (ms : Moves). ms ++ (drained_within (suc n) place (walk_from root (others place s.pending)).left).made) after.moves
-          ∙ (append_assoc made (walk_from root (others place s.pending)).made (drained_within (suc n) place (walk_from root (others place s.pending)).left).made
-          ∙ (ap (λ (x : Made). made ++ x.made) (sym (step (suc n))) ∙ moves));
-      left = ap (λ (x : Made). x.left) (sym (step (suc n))) ∙ left
-    }
+      let f = fewer in
+      let g = shorter in
+      record {
+        pending = (walk_from root (others place s.pending)).left;
+        turns = n;
+        holds = after.left;
+        enough = omega arith;
+        moves =
+            ap (λ (ms : Moves). ms ++ (drained_within (suc n) place (walk_from root (others place s.pending)).left).made) after.moves
+            ∙ (append_assoc made (walk_from root (others place s.pending)).made (drained_within (suc n) place (walk_from root (others place s.pending)).left).made
+            ∙ (ap (λ (x : Made). made ++ x.made) (sym (step (suc n))) ∙ moves));
+        left = ap (λ (x : Made). x.left) (sym (step (suc n))) ∙ left;
+      }
 
 pub drained_all : (place : Loc) (index index' : BTreeMap ℕ (Vec Move)) (made before : Moves) (whole : Made) → Takes index index' place None → Draining place index made before whole → Finished index' made before whole
 drained_all place index index' made before whole t s = record {
-    moves = sym (append-nil made) ∙ (ap (λ (x : Made). made ++ x.made) (sym step) ∙ s.moves);
-    left = subst (Holds index') (others-none place s.pending (sym got.0) ∙ (ap (λ (x : Made). x.left) (sym step) ∙ s.left)) got.1
-  } where
+  moves = sym (append-nil made) ∙ (ap (λ (x : Made). made ++ x.made) (sym step) ∙ s.moves);
+  left = subst (Holds index') (others-none place s.pending (sym got.0) ∙ (ap (λ (x : Made). x.left) (sym step) ∙ s.left)) got.1;
+} where
   got : (None ≡ first_reader place s.pending) × Holds index' (others place s.pending)
   got = t s.pending s.holds
+
   step : drained_within (suc s.turns) place s.pending ≡ record { made = []; left = s.pending }
   step = drained-none s.turns place s.pending (sym got.0)
 
@@ -240,7 +253,7 @@ emptying_at_first index index' made made' rest all none new d s =
     record {
       pending = (drained_at spare (gathered all [])).left;
       holds = f.left;
-      same = ap (λ (ms : Moves). ms ++ (drained all (drained_at spare (gathered all [])).left).made) (f.moves ∙ ap (λ (ms : Moves). ms ++ (drained_at spare (gathered all [])).made) new)
+      same = ap (λ (ms : Moves). ms ++ (drained all (drained_at spare (gathered all [])).left).made) (f.moves ∙ ap (λ (ms : Moves). ms ++ (drained_at spare (gathered all [])).made) new);
     }
 
 pub emptying_one : (index index' : BTreeMap ℕ (Vec Move)) (made made' : Moves) (m : Move) (rest rest' all : Moves) → rest ≡ m ∷ rest' → Drains index index' m.from made made' → Emptying index made rest all → Emptying index' made' rest' all
@@ -252,7 +265,7 @@ emptying_one index index' made made' m rest rest' all e d s =
       same =
           ap (λ (ms : Moves). ms ++ (drained rest' (drained_at m.from s.pending).left).made) f.moves
           ∙ (append_assoc made (drained_at m.from s.pending).made (drained rest' (drained_at m.from s.pending).left).made
-          ∙ (ap (λ (ms : Moves). made ++ (drained ms s.pending).made) (sym e) ∙ s.same))
+          ∙ (ap (λ (ms : Moves). made ++ (drained ms s.pending).made) (sym e) ∙ s.same));
     }
 
 pub emptied : (index : BTreeMap ℕ (Vec Move)) (made rest all : Moves) → rest ≡ [] → Emptying index made rest all → made ≡ resolved_moves all

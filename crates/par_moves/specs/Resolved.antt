@@ -6,7 +6,7 @@
 use Rattle.std.specs.Prelude.{ℕ, zero, suc, ◌+◌, cond, List, [], ◌∷◌, ◌++◌, length, Option, Some, None}
 use Rattle.bs_words.specs.declared.types.Loc.{Loc}
 use Rattle.par_moves.specs.declared.moves.Move.{Move}
-use Rattle.par_moves.specs.Moves.{Moves, same_place, spare, saved, from_spare}
+use Rattle.par_moves.specs.Moves.{same_place, spare, saved, from_spare}
 
 -- ---- the moves that are still to be made, the next one first
 

@@ -35,6 +35,9 @@ impl Move {
     pub fn from_spare(self) -> Move
         ensures { result ≡ from_spare self }
     {
-        Move { from: SPARE, ..self }
+        Move {
+            from: SPARE,
+            ..self
+        }
     }
 }

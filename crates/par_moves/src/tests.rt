@@ -1,50 +1,61 @@
-//! Rows of moves, each with the sequence that is made of them.
+//! Moves of each kind at once, and the sequence that is made of them.
 use crate::{Move, resolve};
 use bs_words::{Comp, Loc};
 use std::test::Fail;
 
-const A: Loc = Loc::Machine(10);
-
-const B: Loc = Loc::Machine(11);
-
-const C: Loc = Loc::Slot(3);
-
 const T0: Loc = Loc::Machine(5);
 
-fn int(from: Loc, to: Loc) -> Move {
-    Move {
-        from,
-        to,
-        comp: Comp::Int,
-    }
-}
+const STAYS: Move = Move {
+    from: Loc::Machine(10),
+    to: Loc::Machine(10),
+    comp: Comp::Int,
+};
 
-fn val(from: Loc, to: Loc) -> Move {
-    Move {
-        from,
-        to,
-        comp: Comp::Val,
-    }
-}
+const CHAIN: Move = Move {
+    from: Loc::Machine(11),
+    to: Loc::Machine(12),
+    comp: Comp::Int,
+};
+
+const CHAIN_END: Move = Move {
+    from: Loc::Machine(12),
+    to: Loc::Slot(1),
+    comp: Comp::Val,
+};
+
+const CYCLE: Move = Move {
+    from: Loc::Machine(13),
+    to: Loc::Slot(3),
+    comp: Comp::Int,
+};
+
+const CYCLE_BACK: Move = Move {
+    from: Loc::Slot(3),
+    to: Loc::Machine(13),
+    comp: Comp::Val,
+};
+
+const FROM_SPARE: Move = Move {
+    from: Loc::Machine(5),
+    to: Loc::Machine(14),
+    comp: Comp::Addr,
+};
 
 #[test]
-fn sequences(rt: HostRuntime) -> Result<(), Fail> {
-    // a move to itself is not made
-    let made = resolve(rt.alloc(), [int(A, A)].as_slice())?;
-    assert!(rt; made.is_empty());
-
-    // a chain from its end on
-    let made = resolve(rt.alloc(), [int(A, B), val(B, C)].as_slice())?;
-    assert_eq!(rt; made.as_slice(), [val(B, C), int(A, B)].as_slice());
-
-    // a cycle through a slot, beside a move from t0
-    let made = resolve(
-        rt.alloc(),
-        [int(A, C), val(C, A), int(T0, B)].as_slice(),
-    )?;
-    assert_eq!(rt;
-        made.as_slice(),
-        [int(T0, B), int(A, T0), val(C, A), int(T0, C)].as_slice()
-    );
+fn sequence(rt: HostRuntime) -> Result<(), Fail> {
+    let moves = [STAYS, CHAIN, CHAIN_END, CYCLE, CYCLE_BACK, FROM_SPARE];
+    let made = resolve(rt.alloc(), moves.as_slice())?;
+    let saved = Move {
+        from: Loc::Machine(13),
+        to: T0,
+        comp: Comp::Int,
+    };
+    let read_back = Move {
+        from: T0,
+        to: Loc::Slot(3),
+        comp: Comp::Int,
+    };
+    let expected = [FROM_SPARE, CHAIN_END, CHAIN, saved, CYCLE_BACK, read_back];
+    assert_eq!(rt; made.as_slice(), expected.as_slice());
     Ok(())
 }

@@ -1,4 +1,3 @@
-use Rattle.std.proofs.Common.{ℕ}
 use Rattle.par_moves.specs.Index.{Holds, held}
 use Rattle.par_moves.specs.Moves.{Moves}
 use Rattle.par_moves.specs.Resolved.{drained_at}

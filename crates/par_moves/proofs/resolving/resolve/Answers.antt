@@ -1,4 +1,4 @@
-use Rattle.std.proofs.Common.{◌≡◌, ◌≤◌, All, drop, length, sym, ◌∙◌, subst, arith}
+use Rattle.std.proofs.Common.{◌≡◌, All, drop, sym, ◌∙◌, subst}
 use Rattle.std.proofs.lemmas.List.{drop_all}
 use Rattle.bs_words.specs.Contents.{contents}
 use Rattle.par_moves.specs.Moves.{Moves, LeavesSources, IsMadeFor, OneMoreForEachCycle}

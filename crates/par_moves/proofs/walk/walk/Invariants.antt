@@ -7,9 +7,9 @@ use Rattle.par_moves.proofs.walk.walk.Given as goal
 
 abbrev pub invariant-loop-path : goal.invariant-loop-path
 invariant-loop-path l = record {
-    stands : (moves : Moves) → Holds l.fn.pending.readers moves → Standing l.root l.path.items l.pending.readers l.made.items l.fn.made.items (walk_from l.fn.root moves);
-    fewer : held l.pending.readers ≤ held l.fn.pending.readers
-  }
+  stands : (moves : Moves) → Holds l.fn.pending.readers moves → Standing l.root l.path.items l.pending.readers l.made.items l.fn.made.items (walk_from l.fn.root moves);
+  fewer : held l.pending.readers ≤ held l.fn.pending.readers;
+}
 
 -- each turn takes a pending move onto the path, or makes the path's last
 abbrev pub decreases-loop-path : goal.decreases-loop-path

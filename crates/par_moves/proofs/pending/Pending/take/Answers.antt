@@ -1,4 +1,4 @@
-use Rattle.std.proofs.Common.{◌≡◌, sym, ◌∙◌}
+use Rattle.std.proofs.Common.{sym, ◌∙◌}
 use Rattle.par_moves.proofs.PendingRows.{taken_none, taken_some, fewer_by_one, popped}
 use Rattle.par_moves.proofs.pending.Pending.take.Goals as goal
 
