@@ -1,0 +1,9 @@
+pub mod Checked
+pub mod Costs
+pub mod Draining
+pub mod Effects
+pub mod Members
+pub mod PendingRows
+pub mod Places
+pub mod Turns
+pub mod Whole
