@@ -26,10 +26,10 @@ pub data EndsString : List ℕ → Type 0 where
 -- The bytes that end so many open comments, up to the end of the outermost. Only `(*` and `*)` count, from
 -- left to right.
 pub data EndsComments : ℕ → List ℕ → Type 0 where
-  ended : EndsComments 0 []
+  all_ended : EndsComments 0 []
   opens : (n : ℕ) (bytes : List ℕ) → EndsComments (n + 2) bytes → EndsComments (n + 1) (40 ∷ 42 ∷ bytes)
   closes : (n : ℕ) (bytes : List ℕ) → EndsComments n bytes → EndsComments (n + 1) (42 ∷ 41 ∷ bytes)
-  byte : (n b : ℕ) (bytes : List ℕ)
+  comment_byte : (n b : ℕ) (bytes : List ℕ)
       → (BeginsWith (b ∷ bytes) (40 ∷ 42 ∷ []) → ⊥)
       → (BeginsWith (b ∷ bytes) (42 ∷ 41 ∷ []) → ⊥)
       → EndsComments (n + 1) bytes
@@ -38,7 +38,7 @@ pub data EndsComments : ℕ → List ℕ → Type 0 where
 -- The bytes of a text in braces behind its `{`, up to the next `}`.
 pub data EndsBraces : List ℕ → Type 0 where
   brace : EndsBraces (125 ∷ [])
-  byte : (b : ℕ) (bytes : List ℕ) → (b ≡ 125 → ⊥) → EndsBraces bytes → EndsBraces (b ∷ bytes)
+  brace_byte : (b : ℕ) (bytes : List ℕ) → (b ≡ 125 → ⊥) → EndsBraces bytes → EndsBraces (b ∷ bytes)
 
 -- the bytes behind the opening, up to the end
 abbrev pub Ends : Enclosed → List ℕ → Type 0

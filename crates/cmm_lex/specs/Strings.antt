@@ -1,5 +1,5 @@
 -- Strings: their escapes, and the bytes that they stand for.
-use Rattle.std.specs.Prelude.{◌≡◌, ℕ, ◌+◌, ◌-◌, ◌*◌, ◌≤◌, Bool, true, cond, ◌&&◌, ◌==◌, nat_le, List, [], ◌∷◌, ◌++◌, length, Contains}
+use Rattle.std.specs.Prelude.{◌≡◌, ℕ, ◌+◌, ◌-◌, ◌*◌, Bool, true, cond, ◌&&◌, ◌==◌, nat_le, List, [], ◌∷◌, ◌++◌, length, Contains}
 use Rattle.std.specs.List.{list_all}
 use Rattle.std.specs.Char.{is_ascii_digit, is_ascii_graphic}
 use Rattle.cmm_lex.specs.Enclosed.{BeginsWith}
@@ -14,19 +14,18 @@ letters = 92 ∷ 34 ∷ 110 ∷ 116 ∷ 114 ∷ 98 ∷ []
 abbrev pub coded : ℕ → ℕ → ℕ → ℕ
 coded a b c = 100 * (a - 48) + 10 * (b - 48) + (c - 48)
 
--- A backslash with a letter, or with three decimal digits up to 255.
+-- three decimal digits up to 255
+abbrev pub is_code : ℕ → ℕ → ℕ → Bool
+is_code a b c = (is_ascii_digit a && is_ascii_digit b) && (is_ascii_digit c && nat_le (coded a b c) 255)
+
+-- A backslash with a letter or with a code.
 pub data IsEscape : List ℕ → Type 0 where
   letter : (b : ℕ) → Contains letters b → IsEscape (92 ∷ b ∷ [])
-  code : (a b c : ℕ)
-      → is_ascii_digit a ≡ true
-      → is_ascii_digit b ≡ true
-      → is_ascii_digit c ≡ true
-      → coded a b c ≤ 255
-      → IsEscape (92 ∷ a ∷ b ∷ c ∷ [])
+  code : (a b c : ℕ) → is_code a b c ≡ true → IsEscape (92 ∷ a ∷ b ∷ c ∷ [])
 
 -- The bytes of a string behind its opening quote: plain bytes and escapes, and the closing quote.
 pub data IsInside : List ℕ → Type 0 where
-  quote : IsInside (34 ∷ [])
+  closing : IsInside (34 ∷ [])
   plain : (b : ℕ) (bytes : List ℕ) → (b ≡ 34 → ⊥) → (b ≡ 92 → ⊥) → IsInside bytes → IsInside (b ∷ bytes)
   escape : (e bytes : List ℕ) → IsEscape e → IsInside bytes → IsInside (e ++ bytes)
 
@@ -37,8 +36,8 @@ IsString text = (inside : List ℕ) × (text ≡ 34 ∷ inside) × IsInside insi
 -- Behind so many of the bytes behind an opening quote stands the first backslash that begins no escape.
 pub data BadEscape : ℕ → List ℕ → Type 0 where
   here : (bytes : List ℕ) → ((e : List ℕ) → IsEscape e → BeginsWith (92 ∷ bytes) e → ⊥) → BadEscape 0 (92 ∷ bytes)
-  plain : (n b : ℕ) (bytes : List ℕ) → (b ≡ 34 → ⊥) → (b ≡ 92 → ⊥) → BadEscape n bytes → BadEscape (n + 1) (b ∷ bytes)
-  escape : (n : ℕ) (e bytes : List ℕ) → IsEscape e → BadEscape n bytes → BadEscape (n + length e) (e ++ bytes)
+  past_plain : (n b : ℕ) (bytes : List ℕ) → (b ≡ 34 → ⊥) → (b ≡ 92 → ⊥) → BadEscape n bytes → BadEscape (n + 1) (b ∷ bytes)
+  past_escape : (n : ℕ) (e bytes : List ℕ) → IsEscape e → BadEscape n bytes → BadEscape (n + length e) (e ++ bytes)
 
 -- ---- values
 
@@ -54,7 +53,7 @@ abbrev mutual
 
   pub behind_backslash : List ℕ → List ℕ
   behind_backslash (a ∷ b ∷ c ∷ bs) =
-      cond (is_ascii_digit a) (coded a b c ∷ unescaped bs) (escaped a ∷ unescaped (b ∷ c ∷ bs))
+      cond (is_code a b c) (coded a b c ∷ unescaped bs) (escaped a ∷ unescaped (b ∷ c ∷ bs))
   behind_backslash (a ∷ bs) = escaped a ∷ unescaped bs
   behind_backslash [] = []
 
