@@ -6,5 +6,6 @@ pub mod Fronts
 pub mod Languages
 pub mod Numbers
 pub mod Pairs
+pub mod Places
 pub mod Scans
 pub mod Spelled

@@ -65,18 +65,15 @@ none_of None = true
 none_of (Some w) = false
 
 -- an integer or a pointer that is out of range
-abbrev pub is_out_of_range : TokenTree → Bool
-is_out_of_range t = of_kind t.kind
-  where
-    of_kind : TokenKind → Bool
-    of_kind kind.Integer = none_of (integer_value t.text)
-    of_kind kind.Pointer = none_of (integer_value t.text)
-    of_kind _ = false
+abbrev pub is_out_of_range : TokenKind → List ℕ → Bool
+is_out_of_range kind.Integer text = none_of (integer_value text)
+is_out_of_range kind.Pointer text = none_of (integer_value text)
+is_out_of_range _ text = false
 
 -- the first integer out of range
 abbrev pub first_range : List TokenTree → Option Fault
 first_range [] = None
-first_range (t ∷ ts) = cond (is_out_of_range t) (Some (IntRange t.at)) (first_range ts)
+first_range (t ∷ ts) = cond (is_out_of_range t.kind t.text) (Some (IntRange t.at)) (first_range ts)
 
 -- What the lexer tells of a text.
 pub record IsLexed (text : List ℕ) (lexed : declared.Lexed) : Type 0 where

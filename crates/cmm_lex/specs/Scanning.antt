@@ -1,6 +1,7 @@
 -- What the lexer's own functions give. The definitions of a text's tokens do not rest on this.
 use Rattle.std.specs.Prelude.{◌≡◌, ℕ, ◌+◌, ◌-◌, ◌*◌, ◌^◌, Bool, true, false, cond, not, ◌&&◌, ◌||◌, ◌==◌, nat_le, List, [], ◌∷◌, ◌++◌, length, Option, Some, None, is_some, unwrap_or, codes, bytes_eq, suc, zero}
-use Rattle.bs_fault.specs.declared.fault.Fault.TheVariants.{BadToken, Unclosed}
+use Rattle.bs_fault.specs.declared.fault.Fault.{Fault}
+use Rattle.bs_fault.specs.declared.fault.Fault.TheVariants.{BadToken, Unclosed, IntRange}
 use denote.Ref.{Bor}
 use Rattle.cmm_lex.specs.declared.front.Front.{Front}
 use Rattle.cmm_lex.specs.declared.front.Front.TheVariants as front
@@ -16,7 +17,7 @@ use Rattle.cmm_lex.specs.declared.token.Keyword.TheVariants as word
 use Rattle.cmm_lex.specs.declared.token.Sign.TheVariants as sign
 use Rattle.cmm_lex.specs.Integers.{digit_value, number_after, decimal_digits}
 use Rattle.cmm_lex.specs.Enclosed.{BeginsWith, AComment, opening}
-use Rattle.cmm_lex.specs.Lexing.{IsGap, IsFault}
+use Rattle.cmm_lex.specs.Lexing.{IsGap, IsFault, is_out_of_range}
 use Rattle.cmm_lex.specs.Strings.{coded, is_code, escaped, IsInside}
 use Rattle.cmm_lex.specs.Tokens.{IsToken, Longest}
 
@@ -273,3 +274,7 @@ opening_of [] = Other
 opening_of (b ∷ bs) =
     cond (is_separator b) Separator
     (cond (b == 34) Quote (cond (b == 123) Brace (cond (b == 40 && is_star_first bs) Comment Other)))
+
+-- the fault of an integer that is out of range
+abbrev pub range_of : ℕ → TokenKind → List ℕ → Option Fault
+range_of at k text = cond (is_out_of_range k text) (Some (IntRange at)) None

@@ -1,5 +1,10 @@
 //! The lexer: a text as its tokens, each the longest that fits.
-ghost use Rattle.std.specs.Prelude.{◌≡◌, ◌≤◌, length, IfOk};
+ghost use Rattle.std.specs.Prelude.{◌≡◌, ◌≤◌, length, take, drop, IfOk};
+ghost use Rattle.bs_words.specs.Contents.{contents};
+ghost use Rattle.cmm_lex.specs.Integers.{integer_value};
+ghost use Rattle.cmm_lex.specs.Lexing.{IsLexed};
+ghost use Rattle.cmm_lex.specs.Scanning.{range_of, longest_text};
+ghost use Rattle.cmm_lex.specs.Strings.{string_bytes};
 ghost use Rattle.cmm_lex.specs.Token.{token_view};
 
 use crate::front::{Front, read_front};
@@ -22,7 +27,9 @@ pub struct Lexed {
 }
 
 /// The fault of an integer or a pointer that is out of range.
-fn range_fault(at: u32, kind: TokenKind, text: &[u8]) -> Option<Fault> {
+fn range_fault(at: u32, kind: TokenKind, text: &[u8]) -> Option<Fault>
+    ensures { result ≡ range_of at kind text.now }
+{
     match kind {
         TokenKind::Integer | TokenKind::Pointer => match integer_value(text) {
             None => Some(Fault::IntRange { at }),
@@ -32,12 +39,13 @@ fn range_fault(at: u32, kind: TokenKind, text: &[u8]) -> Option<Fault> {
     }
 }
 
-/// The tokens of a text, each the longest that fits, up to the first `BadToken` or `Unclosed`.
+/// The tokens of a text, each the longest that fits, up to the first `BadToken` or `Unclosed`; that
+/// fault; and the first `IntRange` among the tokens.
 pub fn lex(alloc: Global, text: &[u8]) -> Result<Lexed, AllocError>
-    requires { length text.now ≤ 16777216 }
+    requires { length text.now ≤ longest_text }
+    ensures { IfOk result (λ lexed. IsLexed text.now lexed) }
 {
     let mut tokens = Vec::new(alloc);
-    let mut fault = None;
     let mut range = None;
     let mut rest = text;
     let mut at: u32 = 0;
@@ -56,14 +64,77 @@ pub fn lex(alloc: Global, text: &[u8]) -> Result<Lexed, AllocError>
                 rest = behind;
             }
             Front::BadToken(offset) => {
-                fault = Some(Fault::BadToken { at: at + offset as u32 });
-                break;
+                let fault = Some(Fault::BadToken {
+                    at: at + offset as u32,
+                });
+                return Ok(Lexed {
+                    tokens: List::from_vec(tokens),
+                    fault,
+                    range,
+                });
             }
             Front::Unclosed => {
-                fault = Some(Fault::Unclosed { at });
-                break;
+                return Ok(Lexed {
+                    tokens: List::from_vec(tokens),
+                    fault: Some(Fault::Unclosed { at }),
+                    range,
+                });
             }
         }
     }
-    Ok(Lexed { tokens: List::from_vec(tokens), fault, range })
+    Ok(Lexed {
+        tokens: List::from_vec(tokens),
+        fault: None,
+        range,
+    })
+}
+
+/// So many bytes in front, or all.
+fn in_front(bytes: &[u8], len: usize) -> &[u8]
+    ensures { result.now ≡ take len bytes.now }
+{
+    if len <= bytes.len() {
+        let (front, _) = bytes.split_at(len);
+        front
+    } else {
+        bytes
+    }
+}
+
+/// The bytes behind so many, or none.
+fn past(bytes: &[u8], len: usize) -> &[u8]
+    ensures { result.now ≡ drop len bytes.now }
+{
+    if len <= bytes.len() {
+        let (_, behind) = bytes.split_at(len);
+        behind
+    } else {
+        let (_, behind) = bytes.split_at(bytes.len());
+        behind
+    }
+}
+
+/// The text of a token of this source.
+pub fn text_of<'a>(source: &'a [u8], token: &Token) -> &'a [u8]
+    ensures { result.now ≡ (token_view source.now token.now).text }
+{
+    in_front(
+        past(source, token.at as usize),
+        token.end.saturating_sub(token.at) as usize,
+    )
+}
+
+/// The 64-bit word that an integer or a pointer of this source stands for; `None` where it is out of
+/// range.
+pub fn integer_word(source: &[u8], token: &Token) -> Option<u64>
+    ensures { result ≡ integer_value (token_view source.now token.now).text }
+{
+    integer_value(text_of(source, token))
+}
+
+/// The bytes that a string of this source stands for: those between its quotes, each escape replaced.
+pub fn string_of(alloc: Global, source: &[u8], token: &Token) -> Result<List<u8>, AllocError>
+    ensures { IfOk result (λ bytes. contents bytes ≡ string_bytes (token_view source.now token.now).text) }
+{
+    string_value(alloc, text_of(source, token))
 }

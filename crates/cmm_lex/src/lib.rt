@@ -10,7 +10,8 @@ mod strings;
 pub mod token;
 mod words;
 
-pub use lexer::{Lexed, lex};
+pub use lexer::{Lexed, integer_word, lex, string_of, text_of};
+pub use strings::is_symbol;
 pub use token::{Keyword, Sign, Token, TokenKind};
 
 #[cfg(test)]
