@@ -33,7 +33,7 @@ pub first-none : (bytes : List ℕ) → AreBytes bytes → scan Start 0 None byt
     → (k : TokenKind) (text : List ℕ) → IsToken k text → BeginsWith bytes text → ⊥
 first-none bytes are e no_quote k text is (rest, whole) =
     elim (accepted-token k text (AreBytes-front text rest (subst AreBytes whole are)) is) [
-      | inl s ↦ no_quote (string-quote bytes text rest s whole)
+      | inl s ↦ no_quote (string-quote bytes text rest s.1 whole)
       | inr a ↦ scan-none bytes e text rest a.shape whole a.accepted
     ]
 
@@ -65,7 +65,7 @@ first-some bytes s n front back k are h cut len found =
       is_token = token-found s front k (AreBytes-front front back (subst AreBytes cut are)) accepted found;
       longest = λ no_quote j text rest is whole.
           elim (accepted-token j text (AreBytes-front text rest (subst AreBytes whole are)) is) [
-            | inl str ↦ absurd (no_quote (string-quote bytes text rest str whole))
+            | inl str ↦ absurd (no_quote (string-quote bytes text rest str.1 whole))
             | inr a ↦ let short = h.none_longer text rest a.shape whole a.accepted in omega (arith, short, len)
           ];
     }
@@ -152,7 +152,7 @@ string-token bytes front back are cut ends fine =
           elim (accepted-token j text (AreBytes-front text rest (subst AreBytes whole are)) is) [
             | inl s ↦
                 let here = ap behind_string cut ∙ string-to front back ends in
-                let there = string-rest bytes text rest s whole in
+                let there = string-rest bytes text rest s.1 whole in
                 let tail : back ≡ rest = cc in
                 let tail_size : length back ≡ length rest = ap length tail in
                 let size : length (34 ∷ bytes) ≡ length (text ++ rest) = ap length whole in
@@ -190,7 +190,7 @@ separator-to b (suc (suc (suc (suc zero))), h, e) = subst (λ (v : ℕ). is_sepa
 separator-to b (suc (suc (suc (suc (suc n)))), h, e) = absurd (omega arith)
 
 -- what a text begins with, by what opens
-abbrev Opens : Opening → List ℕ → Type 0
+abbrev pub Opens : Opening → List ℕ → Type 0
 Opens Separator bytes = (b : ℕ) × (bs : List ℕ) × (bytes ≡ b ∷ bs) × Contains separators b
 Opens Quote bytes = (bs : List ℕ) × (bytes ≡ 34 ∷ bs)
 Opens Brace bytes = (bs : List ℕ) × (bytes ≡ 123 ∷ bs)

@@ -9,3 +9,5 @@ pub mod Pairs
 pub mod Places
 pub mod Scans
 pub mod Spelled
+pub mod TokenFacts
+pub mod Unique

@@ -6,6 +6,7 @@ use Rattle.bs_fault.specs.declared.fault.Fault.{Fault}
 use Rattle.bs_fault.specs.declared.fault.Fault.TheVariants.{BadToken, Unclosed, IntRange}
 use Rattle.cmm_lex.specs.declared.token.Token as declared
 use Rattle.cmm_lex.specs.declared.token.TokenKind.{TokenKind}
+use Rattle.cmm_lex.specs.declared.token.TokenKind.TheVariants as kind
 use Rattle.cmm_lex.specs.Enclosed.{BeginsWith, AComment, opening}
 use Rattle.cmm_lex.specs.Lexing.{IsGap, separator, comment, in_braces, IsFault, no_token, bad_escape, unclosed, Splits, gap, token, stopped, ended, first_range, is_out_of_range}
 use Rattle.cmm_lex.specs.Scanning.{GapTo, TokenTo, range_of}
@@ -131,8 +132,8 @@ start-none s e = cc
 pub token-some : (k : TokenKind) (text : List ℕ) → IsToken k text → 1 ≤ length text
 token-some k [] is = absurd (no_empty (accepted-token k [] tt is))
   where
-    no_empty : IsString [] ⊎ Accepted k [] → ⊥
-    no_empty (inl s) = let e = s.1 in cc
+    no_empty : ((k ≡ kind.String) × IsString []) ⊎ Accepted k [] → ⊥
+    no_empty (inl s) = let e = s.1.1 in cc
     no_empty (inr a) = start-none a.shape a.accepted
 token-some k (b ∷ bs) is = omega arith
 

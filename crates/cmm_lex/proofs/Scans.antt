@@ -93,6 +93,10 @@ pub AreBytes-from : (xs : List ℕ) → ((i : ℕ) → get_or xs i 0 < 256) → 
 AreBytes-from [] h = tt
 AreBytes-from (x ∷ xs) h = (h 0, AreBytes-from xs (λ i. h (suc i)))
 
+pub AreBytes-back : (xs ys : List ℕ) → AreBytes (xs ++ ys) → AreBytes ys
+AreBytes-back [] ys h = h
+AreBytes-back (x ∷ xs) ys h = AreBytes-back xs ys h.1
+
 pub AreBytes-front : (xs ys : List ℕ) → AreBytes (xs ++ ys) → AreBytes xs
 AreBytes-front [] ys h = tt
 AreBytes-front (x ∷ xs) ys h = (h.0, AreBytes-front xs ys h.1)

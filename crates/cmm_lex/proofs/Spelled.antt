@@ -264,7 +264,7 @@ no_keyword text none = at_found (find_spelled keyword_table text) refl
     at_found None e = refl
     at_found (Some k) e = let h = find-from IsKeywordOf keyword_table text k keywords-are e in absurd (none h.keyword h.is_text)
 
-pub accepted-token : (k : TokenKind) (text : List ℕ) → AreBytes text → IsToken k text → IsString text ⊎ Accepted k text
+pub accepted-token : (k : TokenKind) (text : List ℕ) → AreBytes text → IsToken k text → ((k ≡ kind.String) × IsString text) ⊎ Accepted k text
 unfolding kind_of IsSpelled
 accepted-token k text are (is_name _ m none) =
     inr (record {
@@ -284,7 +284,7 @@ accepted-token k text are (is_pointer _ m) =
     inr (record { shape = shape.Pointer; accepted = accepts-shape shape.Pointer text are m; found = refl })
 accepted-token k text are (is_float _ m) =
     inr (record { shape = shape.Float; accepted = accepts-shape shape.Float text are m; found = refl })
-accepted-token k text are (is_string _ m) = inl m
+accepted-token k text are (is_string _ m) = inl (refl, m)
 accepted-token k text are (is_operator o _ c) =
     let h = each-at (λ (e : IntOp × List ℕ). IsSpelled (kind.Operator e.0) e.1) operators operators-are (o, text) c in
     inr (record { shape = shape.Signs; accepted = h.0; found = h.1 })

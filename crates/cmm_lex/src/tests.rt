@@ -1,9 +1,18 @@
 //! Texts and their tokens.
-use crate::lexer::lex;
+use crate::lexer::{Lexed, lex};
 use crate::token::{Keyword, Sign, TokenKind};
 use bs_fault::Fault;
 use bs_words::{CmpOp, IntOp};
+use std::alloc::Global;
 use std::test::Fail;
+
+/// What a short text is cut into.
+fn lexed(alloc: Global, text: &[u8]) -> Result<Lexed, Fail> {
+    if text.len() > 100 {
+        Err("a long text")?
+    }
+    Ok(lex(alloc, text)?)
+}
 
 #[test]
 fn longest_tokens(rt: HostRuntime) -> Result<(), Fail> {
@@ -47,7 +56,7 @@ fn longest_tokens(rt: HostRuntime) -> Result<(), Fail> {
         (b"\"\\255\\\\\"", TokenKind::String, 8),
     ];
     for (text, kind, end) in &cases {
-        let lexed = lex(rt.alloc(), *text)?;
+        let lexed = lexed(rt.alloc(), *text)?;
         let first = lexed.tokens.get(0).ok_or("no token")?;
         assert_eq!(rt; first.kind, *kind);
         assert_eq!(rt; first.end, *end);
@@ -76,11 +85,12 @@ fn gaps_and_faults(rt: HostRuntime) -> Result<(), Fail> {
         (b"\"\\12\"", 0, bad(1)),
         (b"a # b", 1, bad(2)),
         (b"a = b", 1, bad(2)),
-        (b"a *) b", 3, None),
+        (b"a *) b", 4, None),
         (b"a\xC3\xA9", 1, bad(1)),
     ];
     for (text, count, fault) in &cases {
-        let lexed = lex(rt.alloc(), *text)?;
+        let lexed = lexed(rt.alloc(), *text)?;
+        assert_eq!(rt; lexed.tokens.len(), *count);
         assert_eq!(rt; lexed.fault, *fault);
     }
     Ok(())
@@ -99,7 +109,7 @@ fn ranges(rt: HostRuntime) -> Result<(), Fail> {
         (b"0o2000000000000000000000", Some(Fault::IntRange { at: 0 })),
     ];
     for (text, range) in &cases {
-        let lexed = lex(rt.alloc(), *text)?;
+        let lexed = lexed(rt.alloc(), *text)?;
         assert_eq!(rt; lexed.range, *range);
     }
     Ok(())
