@@ -8,7 +8,7 @@ use Rattle.cmm_lex.specs.declared.token.Token as declared
 use Rattle.cmm_lex.specs.declared.token.TokenKind.{TokenKind}
 use Rattle.cmm_lex.specs.declared.token.TokenKind.TheVariants as kind
 use Rattle.cmm_lex.specs.Enclosed.{BeginsWith, AComment, opening}
-use Rattle.cmm_lex.specs.Lexing.{IsGap, separator, comment, in_braces, IsFault, no_token, bad_escape, unclosed, Splits, gap, token, stopped, ended, first_range, is_out_of_range}
+use Rattle.cmm_lex.specs.Lexing.{IsGap, separator, comment, in_braces, IsFault, no_token, bad_escape, unclosed, Splits, gap, token, stopped, ended, first_range, is_out_of_range, end_of}
 use Rattle.cmm_lex.specs.Scanning.{GapTo, TokenTo, range_of}
 use Rattle.cmm_lex.specs.Token.{TokenTree, token_view}
 use Rattle.cmm_lex.specs.Tokens.{IsToken, Longest}
@@ -182,3 +182,25 @@ end-on source list items f e s =
 pub ended-on : (at : ℕ) (rest : List ℕ) → length rest ≡ 0 → Splits at rest [] None
 ended-on at [] e = ended at
 ended-on at (b ∷ bs) e = absurd (omega arith)
+
+abbrev pub Ends : List ℕ → List declared.Token → Type 0
+Ends source ts = map (λ (t : declared.Token). t.end) ts ≡ map end_of (map (token_view source) ts)
+
+ends-behind : (source : List ℕ) (ts : List declared.Token) (t : declared.Token)
+    → Ends source ts
+    → t.end ≡ end_of (token_view source t)
+    → Ends source (ts ++ t ∷ [])
+ends-behind source [] t h e = ap (λ (n : ℕ). n ∷ []) e
+ends-behind source (x ∷ xs) t h e =
+    let head : x.end ≡ end_of (token_view source x) = cc in
+    let tail : Ends source xs = cc in
+    let later = ends-behind source xs t tail e in
+    ap (λ (n : ℕ). n ∷ map (λ (t : declared.Token). t.end) (xs ++ t ∷ [])) head
+    ∙ ap (λ (v : List ℕ). end_of (token_view source x) ∷ v) later
+
+pub ends-push : (source : List ℕ) (tokens more : List declared.Token) (t : declared.Token)
+    → more ≡ tokens ++ t ∷ []
+    → Ends source tokens
+    → t.end ≡ end_of (token_view source t)
+    → Ends source more
+ends-push source tokens more t e h last = subst (Ends source) (sym e) (ends-behind source tokens t h last)

@@ -4,6 +4,7 @@ use Rattle.bs_words.specs.Contents.{contents}
 use Rattle.bs_fault.specs.declared.fault.Fault.{Fault}
 use Rattle.bs_fault.specs.declared.fault.Fault.TheVariants.{BadToken, Unclosed, IntRange}
 use Rattle.cmm_lex.specs.declared.lexer.Lexed as declared
+use Rattle.cmm_lex.specs.declared.token.Token.{Token}
 use Rattle.cmm_lex.specs.declared.token.TokenKind.{TokenKind}
 use Rattle.cmm_lex.specs.declared.token.TokenKind.TheVariants as kind
 use Rattle.cmm_lex.specs.Enclosed.{BeginsWith, Enclosed, AString, AComment, Braces, opening, Ends}
@@ -75,7 +76,13 @@ abbrev pub first_range : List TokenTree → Option Fault
 first_range [] = None
 first_range (t ∷ ts) = cond (is_out_of_range t.kind t.text) (Some (IntRange t.at)) (first_range ts)
 
+-- the place behind the last byte of a token
+abbrev pub end_of : TokenTree → ℕ
+end_of t = t.at + length t.text
+
 -- What the lexer tells of a text.
 pub record IsLexed (text : List ℕ) (lexed : declared.Lexed) : Type 0 where
   pub cut : Splits 0 text (map (token_view text) (contents lexed.tokens)) lexed.fault
+  -- each token ends where its bytes end
+  pub ends : map (λ (t : Token). t.end) (contents lexed.tokens) ≡ map end_of (map (token_view text) (contents lexed.tokens))
   pub range : lexed.range ≡ first_range (map (token_view text) (contents lexed.tokens))

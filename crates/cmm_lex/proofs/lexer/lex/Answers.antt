@@ -4,7 +4,7 @@ use Rattle.bs_fault.specs.declared.fault.Fault.TheVariants.{BadToken, Unclosed}
 use Rattle.cmm_lex.specs.declared.token.Token as declared
 use Rattle.cmm_lex.specs.Lexing.{Splits, stopped, first_range}
 use Rattle.cmm_lex.specs.Token.{TokenTree, token_view}
-use Rattle.cmm_lex.proofs.Places.{place-start, place-on, place-room, cut-length, cut-shorter, slice-is, gap-on, token-on, push-view, gap-some, token-some, bad-token-within, range-on, end-on, ended-on}
+use Rattle.cmm_lex.proofs.Places.{place-start, place-on, place-room, cut-length, cut-shorter, slice-is, gap-on, token-on, push-view, gap-some, token-some, bad-token-within, range-on, end-on, ended-on, Ends, ends-push}
 use Rattle.cmm_lex.proofs.Scans.{same_parts}
 use Rattle.cmm_lex.proofs.lexer.lex.Goals as goal
 
@@ -19,6 +19,7 @@ loop-rest-preserved-in-Gap c =
     record {
       place = place-on c.args.text.now at (length rest - length behind) rest h.text behind inv.place h.whole size;
       on = λ ts f s. inv.on ts f (gap-on at (length rest - length behind) rest behind ts f h size s);
+      ends = inv.ends;
       range = inv.range;
     }
 
@@ -49,6 +50,7 @@ loop-rest-preserved c =
       on = λ ts f s.
           subst (λ (v : List TokenTree). Splits 0 text v f) (sym (push-view text c.loop-rest.tokens.items _ t ts c.in_ok-push-in-Token.ensures.items))
           (inv.on _ f (token-on at n rest behind _ kind ts f h size slice s));
+      ends = ends-push text c.loop-rest.tokens.items _ t c.in_ok-push-in-Token.ensures.items inv.ends (ap (λ (m : ℕ). at + m) (ap length (sym same.0) ∙ ap length (sym slice)));
       range =
           c.or-range.ensures
           ∙ range-on text c.loop-rest.tokens.items _ t spelled c.loop-rest.range c.range_fault.result c.in_ok-push-in-Token.ensures.items (slice ∙ same.0) inv.range c.range_fault.ensures;
@@ -76,6 +78,7 @@ returns-in-BadToken c =
     record {
       cut = end-on c.args.text.now _ c.loop-rest.tokens.items fault c.from_vec.ensures
           (inv.on [] fault (stopped at c.loop-rest.rest.now (BadToken (at + c.in-BadToken.offset)) (c.in-BadToken.ensures at)));
+      ends = subst (Ends c.args.text.now) (sym c.from_vec.ensures) inv.ends;
       range = inv.range ∙ ap (λ (v : List declared.Token). first_range (map (token_view c.args.text.now) v)) (sym c.from_vec.ensures);
     }
 
@@ -87,6 +90,7 @@ returns-in-Unclosed c =
     record {
       cut = end-on c.args.text.now _ c.loop-rest.tokens.items fault c.from_vec-in-Unclosed.ensures
           (inv.on [] fault (stopped at c.loop-rest.rest.now (Unclosed at) (c.in-Unclosed.ensures at)));
+      ends = subst (Ends c.args.text.now) (sym c.from_vec-in-Unclosed.ensures) inv.ends;
       range = inv.range ∙ ap (λ (v : List declared.Token). first_range (map (token_view c.args.text.now) v)) (sym c.from_vec-in-Unclosed.ensures);
     }
 
@@ -97,5 +101,6 @@ returns c =
     record {
       cut = end-on c.args.text.now _ c.loop-rest.tokens.items None c.from_vec-2.ensures
           (inv.on [] None (ended-on c.loop-rest.at c.loop-rest.rest.now empty));
+      ends = subst (Ends c.args.text.now) (sym c.from_vec-2.ensures) inv.ends;
       range = inv.range ∙ ap (λ (v : List declared.Token). first_range (map (token_view c.args.text.now) v)) (sym c.from_vec-2.ensures);
     }
