@@ -100,7 +100,7 @@ bound_error = codes "caml_bound_error"
 
 -- the built-in list: 8 zero bytes and their symbol
 abbrev pub built_in : DataListTree
-built_in = record { at = 0; items = record { at = 0; datum = Define bound_error } ∷ record { at = 0; datum = Skip (Some 8) } ∷ [] }
+built_in = record { at = 0; items = record { at = 0; datum = Define bound_error } ∷ record { at = 0; datum = Int (Some 0) } ∷ [] }
 
 -- all lists, the built-in one first
 abbrev pub lists_of : FileTree → List DataListTree
@@ -118,9 +118,12 @@ data_end file = end_of_lists data_start (lists_of file)
 abbrev pub data_bytes : FileTree → ℕ
 data_bytes file = data_end file - data_start
 
+abbrev pub items_of_lists : List PlacedList → List PlacedItem
+items_of_lists lists = flat_map (λ (l : PlacedList). l.items) lists
+
 -- all items at their places, in order
 abbrev pub placed_items : FileTree → List PlacedItem
-placed_items file = flat_map (λ (l : PlacedList). l.items) (placed_lists file)
+placed_items file = items_of_lists (placed_lists file)
 
 -- ---- symbols
 

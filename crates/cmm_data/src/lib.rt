@@ -1,2 +1,11 @@
 //! Where static data lies, what its cells hold, and what is wrong with it.
+//!
+//! Static data begins at 0x10000000 with a built-in list of 8 zero bytes, whose symbol is
+//! `caml_bound_error`. The lists of a file follow in order, each at the next multiple of 8.
 #![tactic(auto)]
+
+mod fault;
+mod size;
+
+pub use fault::data_fault;
+pub use size::{DATA_LIMIT, DATA_START};
