@@ -1,3 +1,4 @@
 pub mod Placement
 pub mod Faults
 pub mod Contents
+pub mod Symbols

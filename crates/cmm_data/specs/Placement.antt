@@ -151,9 +151,13 @@ pub record Definition : Type 0 where
 abbrev pub definition_of_data : DataSymbolTree → Definition
 definition_of_data s = record { name = s.name; value = value.Word s.address }
 
--- what a list behind this end defines
+-- what items define that stand from an address on
+abbrev pub defined_at : ℕ → List DataItemTree → List Definition
+defined_at address items = map definition_of_data (symbols_among (items_from address items))
+
+-- what a list behind this end of the data defines
 abbrev pub defined_by_list : ℕ → DataListTree → List Definition
-defined_by_list end d = map definition_of_data (symbols_among (items_from (start_behind end) d.items))
+defined_by_list end d = defined_at (start_behind end) d.items
 
 -- what items of a file define, behind so many functions and behind the end of the data before them
 abbrev pub defined_from : ℕ → ℕ → List ItemTree → List Definition

@@ -6,6 +6,8 @@
 
 mod fault;
 mod size;
+mod symbols;
 
 pub use fault::data_fault;
 pub use size::{DATA_LIMIT, DATA_START};
+pub use symbols::{BOUND_ERROR, SymbolTable};
