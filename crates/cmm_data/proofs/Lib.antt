@@ -1,3 +1,4 @@
 mod Items
 mod Walk
 mod Table
+mod Cells

@@ -5,7 +5,7 @@ use Rattle.bs_words.specs.Fits.{data_start}
 use Rattle.bs_fault.specs.declared.fault.Fault.{Fault}
 use Rattle.bs_fault.specs.declared.fault.Fault.TheVariants.{DataTooLarge, DataItem}
 use Rattle.cmm_tree.specs.Tree.{DataListTree, DataItemTree}
-use Rattle.cmm_data.specs.Placement.{PlacedItem, size_at, items_from, end_of_items, start_behind, end_behind, lists_behind, items_of_lists}
+use Rattle.cmm_data.specs.Placement.{PlacedItem, size_at, items_from, start_behind, end_behind, lists_behind, items_of_lists}
 use Rattle.cmm_data.specs.Faults.{data_limit, keeps_rule, fault_on, or_later, first_fault}
 
 or_later-assoc : (a b c : Option Fault) → or_later a (or_later b c) ≡ or_later (or_later a b) c

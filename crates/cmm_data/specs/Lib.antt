@@ -2,3 +2,4 @@ pub mod Placement
 pub mod Faults
 pub mod Contents
 pub mod Symbols
+pub mod Filling

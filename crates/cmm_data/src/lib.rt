@@ -5,6 +5,7 @@
 #![tactic(auto)]
 
 mod fault;
+mod filling;
 mod size;
 mod symbols;
 

@@ -1,9 +1,8 @@
-use Rattle.std.proofs.Common.{◌≡◌, ◌∙◌, ap, sym, subst, arith, List, ◌∷◌, drop, map, None, Some, ◌+◌}
+use Rattle.std.proofs.Common.{◌≡◌, ◌∙◌, ap, sym, arith, List, ◌∷◌, drop, map, None, Some, ◌+◌}
 use Rattle.std.proofs.lemmas.Grind.{common_steps}
-use Rattle.bs_words.specs.Contents.{contents}
-use Rattle.cmm_tree.specs.Tree.{ItemTree, AData, data_among, DataListTree}
-use Rattle.cmm_tree.specs.View.{item_view, data_list_view, data_item_view}
-use Rattle.cmm_data.specs.Placement.{start_behind, items_from, end_behind, end_of_items, lists_behind, items_of_lists}
+use Rattle.cmm_tree.specs.Tree.{ItemTree, AData, data_among}
+use Rattle.cmm_tree.specs.View.{item_view, data_list_view}
+use Rattle.cmm_data.specs.Placement.{start_behind, items_from, end_behind, lists_behind, items_of_lists}
 use Rattle.cmm_data.specs.Faults.{first_fault}
 use Rattle.cmm_data.proofs.Items.{map_drop-cons}
 use Rattle.cmm_data.proofs.Walk.{first_fault-next, first_fault-behind}

@@ -1,6 +1,6 @@
 use Rattle.std.proofs.Common.{◌≡◌, ◌∙◌, sym, false, rules}
 use Rattle.std.proofs.lemmas.Map.Text.{btree_map_updates_str}
-use Rattle.cmm_data.proofs.Table.{adds-known, adds-unknown}
+use Rattle.cmm_data.proofs.Table.{adds-unknown}
 use Rattle.cmm_data.proofs.symbols.SymbolTable.define.Goals as goal
 
 pub returns-in_ok-insert : goal.returns-in_ok-insert

@@ -1,13 +1,13 @@
-use Rattle.std.proofs.Common.{◌≡◌, ◌∙◌, ℕ, ◌+◌, suc, refl, ap, sym, arith, List, [], ◌∷◌, ◌++◌, drop, map, None, Some, Option}
+use Rattle.std.proofs.Common.{◌≡◌, ◌∙◌, ◌+◌, suc, refl, ap, sym, arith, List, [], ◌∷◌, drop, map, None, Option}
 use Rattle.bs_words.specs.declared.values.Value.{Value}
 use Rattle.bs_words.specs.declared.values.Value.TheVariants as value
 use Rattle.cmm_tree.specs.Tree.{ItemTree, AFunction, AData, data_among}
-use Rattle.cmm_tree.specs.View.{item_view, function_view, data_list_view, data_item_view}
-use Rattle.cmm_data.specs.Placement.{Definition, start_behind, items_from, end_behind, end_of_items, lists_behind, items_of_lists, defined_from, defined_by_list, value_among, bound_error}
+use Rattle.cmm_tree.specs.View.{item_view, function_view, data_list_view}
+use Rattle.cmm_data.specs.Placement.{Definition, start_behind, items_from, end_behind, lists_behind, items_of_lists, defined_from, defined_by_list, value_among, bound_error}
 use Rattle.cmm_data.specs.Faults.{first_fault}
 use Rattle.cmm_data.specs.Symbols.{value_in, or_else, Adds}
 use Rattle.cmm_data.proofs.Items.{map_drop-cons}
-use Rattle.cmm_data.proofs.Walk.{sound-list, start-within}
+use Rattle.cmm_data.proofs.Walk.{sound-list}
 use Rattle.cmm_data.proofs.Table.{adds-later, value_in-empty}
 use Rattle.cmm_data.proofs.symbols.SymbolTable.of_file.Goals as goal
 use Rattle.cmm_data.proofs.symbols.SymbolTable.of_file.Goals.{in-Function+in_ok-define-in-Function+in_ok-functions-in-Function, in-Data+in_ok-end-in-Data}
