@@ -1,4 +1,5 @@
 mod Items
 mod Walk
+mod Steps
 mod Table
 mod Cells

@@ -3,3 +3,4 @@ pub mod Faults
 pub mod Contents
 pub mod Symbols
 pub mod Filling
+pub mod Map

@@ -4,11 +4,15 @@
 //! `caml_bound_error`. The lists of a file follow in order, each at the next multiple of 8.
 #![tactic(auto)]
 
+mod data_map;
 mod fault;
 mod filling;
+mod place;
 mod size;
 mod symbols;
 
+pub use data_map::{DataCells, DataMap, DataSymbol};
 pub use fault::data_fault;
+pub use place::place_data;
 pub use size::{DATA_LIMIT, DATA_START};
 pub use symbols::{BOUND_ERROR, SymbolTable};
