@@ -7,7 +7,7 @@ pub map_drop-cons : {A B : Type 0} (f : A → B) (xs : List A) (k : ℕ) (x : A)
 map_drop-cons {A} f xs k x h is =
     let next : suc k ≡ k + 1 = omega arith in
     let here : drop k xs ≡ x ∷ drop (k + 1) xs =
-        drop-cons xs k x h ∙ ap (λ y. y ∷ drop (suc k) xs) (sym is) ∙ ap (λ n. x ∷ drop n xs) next in
+    drop-cons xs k x h ∙ ap (λ y. y ∷ drop (suc k) xs) (sym is) ∙ ap (λ n. x ∷ drop n xs) next in
     ap (map f) here
 
 pub map_drop-at : {A B : Type 0} (f : A → B) (xs : List A) (k : ℕ) (d : A) →
@@ -15,5 +15,5 @@ pub map_drop-at : {A B : Type 0} (f : A → B) (xs : List A) (k : ℕ) (d : A) �
 map_drop-at {A} f xs k d h =
     let next : suc k ≡ k + 1 = omega arith in
     let here : drop k xs ≡ get_or xs k d ∷ drop (k + 1) xs =
-        drop-cons xs k d h ∙ ap (λ n. get_or xs k d ∷ drop n xs) next in
+    drop-cons xs k d h ∙ ap (λ n. get_or xs k d ∷ drop n xs) next in
     ap (map f) here

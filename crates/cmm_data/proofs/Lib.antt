@@ -1,5 +1,6 @@
-mod Items
-mod Walk
-mod Steps
-mod Table
+pub mod Items
+pub mod Walk
+pub mod Steps
+pub mod Table
+pub mod Laws
 mod Cells

@@ -1,8 +1,9 @@
 -- Symbols, root cells and cells, one item after the other.
-use Rattle.std.proofs.Common.{◌≡◌, ◌∙◌, ℕ, suc, zero, ◌+◌, ◌-◌, ◌%◌, ◌<◌, ◌≤◌, List, [], ◌∷◌, ◌++◌, Option, Some, None, map, length, append_assoc, refl, ap, sym, arith}
-use Rattle.std.specs.List.{cons_option, flat_map}
+use Rattle.std.proofs.Common.{◌≡◌, ◌∙◌, ℕ, suc, zero, ◌+◌, ◌-◌, ◌≤◌, List, [], ◌∷◌, ◌++◌, Option, Some, None, map, length, append_assoc, refl, ap, sym, arith}
+use Rattle.std.specs.List.{cons_option}
 use Rattle.std.specs.Option.{option_to_list}
-use Rattle.std.proofs.lemmas.List.{map-append}
+use Rattle.std.proofs.lemmas.List.Elements.{filter_map-append}
+use Rattle.std.proofs.lemmas.Grind.{flat_map-append}
 use Rattle.bs_words.specs.Fits.{data_start}
 use Rattle.bs_words.specs.declared.values.Value.{Value}
 use Rattle.bs_words.specs.declared.values.Value.TheVariants as value
@@ -10,8 +11,8 @@ use Rattle.bs_words.specs.Memory.{StaticList}
 use Rattle.cmm_tree.specs.Tree.{DatumTree, Define, Byte, Half, Int, Val, Address, Skip, Align, Text, Global, AFloat, DataItemTree, DataListTree}
 use Rattle.cmm_data.specs.Placement.{PlacedItem, PlacedList, DataSymbolTree, symbol_at, symbols_among, size_at, items_from, end_of_items, start_behind, end_behind, lists_behind, items_of_lists}
 use Rattle.cmm_data.specs.Faults.{data_limit, first_fault}
-use Rattle.cmm_data.specs.Contents.{DataByte, Plain, OfFunction, integer, zeros, symbol_bytes, bytes_at, bytes_of_items, root_at, roots_among, static_list, cells_of}
-use Rattle.cmm_data.proofs.Walk.{IsSound, sound-first}
+use Rattle.cmm_data.specs.Contents.{DataByte, Plain, integer, zeros, symbol_bytes, bytes_at, bytes_of_items, root_at, roots_among, static_list, cells_of}
+use Rattle.cmm_data.proofs.Walk.{sound-first}
 
 consed : (s : Option DataSymbolTree) (more : List DataSymbolTree) → cons_option s more ≡ option_to_list s ++ more
 consed None more = refl
@@ -113,3 +114,41 @@ end-within address (i ∷ items) within none =
     let sound = sound-first address i items within none in
     let later = end-within (address + size_at address i.datum) items sound.within sound.behind in
     (omega (arith, later.0), later.1)
+
+-- ---- one list after the other
+
+pub symbols-list : (before after : List DataSymbolTree) (end : ℕ) (d : DataListTree) (lists : List DataListTree) →
+    after ≡ before ++ symbols_among (items_from (start_behind end) d.items) →
+    before ++ symbols_among (items_of_lists (lists_behind end (d ∷ lists)))
+    ≡ after ++ symbols_among (items_of_lists (lists_behind (end_behind end d) lists))
+symbols-list before after end d lists h =
+    let items = items_from (start_behind end) d.items in
+    let more = items_of_lists (lists_behind (end_behind end d) lists) in
+    ap (λ (v : List DataSymbolTree). before ++ v) (filter_map-append (λ (i : PlacedItem). symbol_at i.address i.datum) items more)
+    ∙ sym (append_assoc before (symbols_among items) (symbols_among more))
+    ∙ ap (λ (v : List DataSymbolTree). v ++ symbols_among more) (sym h)
+
+pub roots-list : (before after : List ℕ) (end : ℕ) (d : DataListTree) (lists : List DataListTree) →
+    after ≡ before ++ roots_among (items_from (start_behind end) d.items) →
+    before ++ roots_among (items_of_lists (lists_behind end (d ∷ lists)))
+    ≡ after ++ roots_among (items_of_lists (lists_behind (end_behind end d) lists))
+roots-list before after end d lists h =
+    let items = items_from (start_behind end) d.items in
+    let more = items_of_lists (lists_behind (end_behind end d) lists) in
+    ap (λ (v : List ℕ). before ++ v) (flat_map-append (λ (i : PlacedItem). root_at i.address i.datum) items more)
+    ∙ sym (append_assoc before (roots_among items) (roots_among more))
+    ∙ ap (λ (v : List ℕ). v ++ roots_among more) (sym h)
+
+abbrev pub placed_list : ℕ → DataListTree → PlacedList
+placed_list end d = record { start = start_behind end; end = end_behind end d; items = items_from (start_behind end) d.items }
+
+pub lists-list : (before after : List StaticList) (l : StaticList) (f g : List ℕ → Option Value) (end : ℕ) (d : DataListTree) (lists : List DataListTree) →
+    after ≡ before ++ l ∷ [] → l ≡ static_list g (placed_list end d) → ((name : List ℕ) → g name ≡ f name) →
+    before ++ map (static_list f) (lists_behind end (d ∷ lists))
+    ≡ after ++ map (static_list f) (lists_behind (end_behind end d) lists)
+lists-list before after l f g end d lists h is same =
+    let more = map (static_list f) (lists_behind (end_behind end d) lists) in
+    let here : static_list f (placed_list end d) ≡ l = sym (is ∙ static_list-same g f same (placed_list end d)) in
+    ap (λ (s : StaticList). before ++ s ∷ more) here
+    ∙ sym (append_assoc before (l ∷ []) more)
+    ∙ ap (λ (v : List StaticList). v ++ more) (sym h)

@@ -1,5 +1,5 @@
 -- What a map of the code says.
-use Rattle.std.specs.Prelude.{◌≡◌, ℕ, List, map}
+use Rattle.std.specs.Prelude.{◌≡◌, map}
 use Rattle.bs_words.specs.Contents.{contents}
 use Rattle.bs_words.specs.Memory.{StaticList}
 use Rattle.cmm_tree.specs.Tree.{FileTree}

@@ -123,7 +123,12 @@ impl Filling {
     }
 
     /// An item at its address.
-    pub(crate) fn put_datum(&mut self, symbols: &SymbolTable<'_>, address: u64, datum: &Datum) -> Result<(), AllocError>
+    pub(crate) fn put_datum(
+        &mut self,
+        symbols: &SymbolTable<'_>,
+        address: u64,
+        datum: &Datum,
+    ) -> Result<(), AllocError>
         requires place { pending self.old ≡ address % 8 }
         requires rule { keeps_rule address (datum_view datum.now) ≡ true }
         ensures { IfOk result (λ _. Puts self.old self.new (bytes_at (value_in symbols.now) address (datum_view datum.now))) }

@@ -16,3 +16,6 @@ pub use fault::data_fault;
 pub use place::place_data;
 pub use size::{DATA_LIMIT, DATA_START};
 pub use symbols::{BOUND_ERROR, SymbolTable};
+
+#[cfg(test)]
+mod tests;

@@ -25,5 +25,5 @@ invariant-loop-item l =
       lists :
           statics (file_view l.file)
           ≡ map cells_view l.lists.items
-            ++ map (static_list (value_of_symbol (file_view l.file))) (lists_behind l.end (data_among (map item_view (drop l.item-index l.item-items))));
+          ++ map (static_list (value_of_symbol (file_view l.file))) (lists_behind l.end (data_among (map item_view (drop l.item-index l.item-items))));
     }

@@ -13,5 +13,5 @@ loop-byte-preserved c =
       left = λ after rest.
           c.loop-byte.invariant.left after
           (puts-step c.loop-byte.self c.put_byte.new.self after (Plain (get_or bytes k 0)) (map Plain (drop (k + 1) bytes)) (map Plain (drop k bytes))
-            c.in_ok-put_byte.ensures rest (map_drop-at Plain bytes k 0 c.loop-byte-test.true));
+          c.in_ok-put_byte.ensures rest (map_drop-at Plain bytes k 0 c.loop-byte-test.true));
     }

@@ -10,5 +10,5 @@ loop-index-preserved c =
       left = λ after rest.
           c.loop-index.invariant.left after
           (puts-step c.loop-index.self c.put_byte.new.self after (Plain (c.loop-index.left % 256)) (little_endian (c.args.count - (c.loop-index._index + 1)) (c.loop-index.left / 256)) (little_endian (c.args.count - c.loop-index._index) c.loop-index.left)
-            c.in_ok-put_byte.ensures rest (little_endian-next c.args.count c.loop-index._index c.loop-index.left c.loop-index-test.true));
+          c.in_ok-put_byte.ensures rest (little_endian-next c.args.count c.loop-index._index c.loop-index.left c.loop-index-test.true));
     }

@@ -10,5 +10,5 @@ loop-index-preserved c =
       left = λ after rest.
           c.loop-index.invariant.left after
           (puts-step c.loop-index.self c.put_byte.new.self after (Plain 0) (zeros (c.args.count - (c.loop-index._index + 1))) (zeros (c.args.count - c.loop-index._index))
-            c.in_ok-put_byte.ensures rest (zeros-next c.args.count c.loop-index._index c.loop-index-test.true));
+          c.in_ok-put_byte.ensures rest (zeros-next c.args.count c.loop-index._index c.loop-index-test.true));
     }
