@@ -1,4 +1,5 @@
-pub mod Layout
 pub mod State
+pub mod Layout
 pub mod Evaluation
 pub mod Run
+pub mod Alone

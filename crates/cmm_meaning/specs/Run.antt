@@ -1,21 +1,26 @@
 -- The run of a function of a file.
-use Rattle.std.specs.Prelude.{ℕ, zero, suc, ◌+◌, ◌-◌, Bool, true, List, [], Option, Some, None, slice_get, slice_index, option_map, map}
-use Rattle.bs_words.specs.Memory.{Memory, heap_need as need_of}
+use Rattle.std.specs.Prelude.{ℕ, zero, suc, ◌+◌, true, List, [], ◌∷◌, ◌++◌, Option, Some, None, slice_get, slice_index, option_map, map}
+use Rattle.bs_words.specs.Memory.{heap_need as need_of}
 use Rattle.bs_words.specs.Observed.{Made}
+use Rattle.bs_words.specs.declared.types.Ret.{Ret}
+use Rattle.bs_words.specs.declared.types.Ret.TheVariants as ret
 use Rattle.bs_words.specs.declared.values.Kind.{Kind}
 use Rattle.bs_words.specs.declared.values.Kind.TheVariants.{BadCall}
 use Rattle.bs_words.specs.declared.values.Obs.{Obs}
 use Rattle.bs_words.specs.declared.values.Value.{Value}
 use Rattle.bs_words.specs.declared.values.Value.TheVariants.{Word}
-use Rattle.cmm_tree.specs.Tree.{FunctionTree, FileTree, functions, names_of, data_end}
+use Rattle.cmm_data.specs.Contents.{first_memory}
+use Rattle.cmm_data.specs.Placement.{data_end, value_of_symbol}
+use Rattle.cmm_tree.specs.Tree.{FunctionTree, FileTree, functions, comps_of}
 use Rattle.cmm_meaning.specs.Layout.{Layout, observed}
 use Rattle.cmm_meaning.specs.State.{World, Here, bound, deepened}
-use Rattle.cmm_meaning.specs.Evaluation.{Stop, OutOfFuel, NotProper, Evaluation, Gives, Stops, Callees, evaluated}
+use Rattle.cmm_meaning.specs.Evaluation.{OutOfFuel, NotProper, NoAnswer, Asking, Evaluation, Gives, Exits, Raises, Stops, Surroundings, scoped_parameter, evaluated}
 
 -- How a run ends.
 pub data Outcome : Type 0 where
   Returned : (value : Option Obs) → Outcome
   Raised : (value : Obs) → Outcome
+  -- an external call wanted an answer, and none was left
   Asks : (call : Made) → Outcome
   More : Outcome
   Improper : (kind : Kind) → Outcome
@@ -30,35 +35,64 @@ pub record Run : Type 0 where
   -- units of fuel that it did not spend
   pub left : ℕ
 
+-- no activation: what a callee leaves of its own is nothing
+abbrev pub nobody : Here
+nobody = record { names = []; below = 0; taken = 0 }
+
 -- an activation of a function: its arguments are bound, its frame counts, and its body is evaluated in
 -- tail position
-abbrev pub activated : ℕ → ℕ → Callees → Option FunctionTree → List Value → ℕ → World → Evaluation
-activated end frame calls None args below w = Stops (NotProper BadCall) w
-activated end frame calls (Some f) args below w =
-    let here : Here = record { names = bound (names_of f) args []; below = below; taken = below + frame } in
-    evaluated end calls f.body true here (deepened (below + frame) w)
+abbrev pub activated : Surroundings → ℕ → Option FunctionTree → List Value → ℕ → World → Evaluation
+activated s frame None arguments below w = Stops (NotProper BadCall) w
+activated s frame (Some f) arguments below w =
+    let here : Here = record { names = bound (map scoped_parameter f.params) arguments []; below = below; taken = below + frame } in
+    evaluated s f.body true here (deepened (below + frame) w)
+
+-- an external call without a result takes no answer; each other one takes the next
+abbrev pub answered : Ret → Made → List ℕ → World → Evaluation
+answered ret.Unit call answers w = Gives None nobody (record w { made = w.made ++ call ∷ [] })
+answered (ret.Comp c) call [] w = Stops (NoAnswer call) w
+answered (ret.Comp c) call (a ∷ answers) w =
+    Gives (Some (Word a)) nobody (record w { made = w.made ++ call ∷ []; answers = answers })
+
+abbrev pub outside : Layout → List ℕ → Ret → List Value → World → Evaluation
+outside layout name result arguments w =
+    answered result (record { name = name; shown = map (observed layout) arguments }) w.answers w
 
 -- what calls do where activations nest at most so deep; each costs units, so a depth past the units
 -- of the run is as good as any
-abbrev pub callees : FileTree → Layout → ℕ → Callees
-callees file layout zero f args below w = Stops OutOfFuel w
-callees file layout (suc depth) f args below w =
-    activated (data_end file) (slice_index layout.frames f) (callees file layout depth) (slice_get (functions file) f) args below w
+abbrev pub callees : FileTree → Layout → ℕ → ℕ → List Value → ℕ → World → Evaluation
+callees file layout zero f arguments below w = Stops OutOfFuel w
+callees file layout (suc depth) f arguments below w =
+    let s : Surroundings = record {
+      end = data_end file;
+      symbol = value_of_symbol file;
+      parameters = map comps_of (functions file);
+      call = callees file layout depth;
+      external = outside layout;
+    } in
+    activated s (slice_index layout.frames f) (slice_get (functions file) f) arguments below w
 
 -- the world in which a run of n units begins
-abbrev pub first_world : List ℕ → ℕ → World
-first_world answers n = record { left = n; stack_need = 0; memory = record { blocks = [] }; made = []; answers = answers }
+abbrev pub first_world : FileTree → List ℕ → ℕ → World
+first_world file answers n =
+    record { left = n; stack_need = 0; memory = first_memory file; made = []; answers = answers; asked = []; doings = [] }
 
 abbrev pub told : Outcome → World → Run
-told outcome w = record { outcome = outcome; calls = w.made; stack_need = w.stack_need; heap_need = need_of w.memory; left = w.left }
+told outcome w =
+    record { outcome = outcome; calls = w.made; stack_need = w.stack_need; heap_need = need_of w.memory; left = w.left }
 
+-- no exit leaves a function of an accepted text, and no run of a whole file asks for what a callee does
 abbrev pub finished : Layout → Evaluation → Run
-finished layout (Gives value h w) = told (Returned (option_map (observed layout) value)) w
+finished layout (Gives v h w) = told (Returned (option_map (observed layout) v)) w
+finished layout (Exits label values h w) = told (Improper BadCall) w
+finished layout (Raises v h w) = told (Raised (observed layout v)) w
 finished layout (Stops OutOfFuel w) = told More w
 finished layout (Stops (NotProper kind) w) = told (Improper kind) w
+finished layout (Stops (NoAnswer call) w) = told (Asks call) w
+finished layout (Stops (Asking call) w) = told (Improper BadCall) w
 
 -- the run of function `entry` of a file, on argument words, with these answers to external calls and n
 -- units of fuel
 abbrev pub cmm_run : FileTree → Layout → ℕ → List ℕ → List ℕ → ℕ → Run
-cmm_run file layout entry args answers n =
-    finished layout (callees file layout (suc n) entry (map Word args) 0 (first_world answers n))
+cmm_run file layout entry arguments answers n =
+    finished layout (callees file layout (suc n) entry (map Word arguments) 0 (first_world file answers n))

@@ -1,8 +1,27 @@
 -- What a run of a text keeps: one part never goes back, the other belongs to one activation.
-use Rattle.std.specs.Prelude.{ℕ, Bool, true, false, List, [], ◌∷◌, Option, Some, None, bytes_eq, max}
+use Rattle.std.specs.Prelude.{ℕ, ◌-◌, Bool, true, false, List, [], ◌∷◌, Option, Some, None, bytes_eq, max, map, length, drop}
 use Rattle.bs_words.specs.Memory.{Memory}
 use Rattle.bs_words.specs.Observed.{Made}
 use Rattle.bs_words.specs.declared.values.Value.{Value}
+use Rattle.cmm_types.specs.Types.{Scoped}
+
+-- What a function or an external call did, where that is handed in: it gave a value or none, or raised,
+-- and left this memory.
+pub data Doing : Type 0 where
+  Gave : (value : Option Value) (memory : Memory) → Doing
+  Threw : (value : Value) (memory : Memory) → Doing
+
+-- Who is called: a function of the file, or what lies outside.
+pub data Callee : Type 0 where
+  Inside : (function : ℕ) → Callee
+  Outside : (name : List ℕ) → Callee
+
+-- A call that one function makes: whom, with what, in which memory, and on how many stack bytes.
+pub record Asked : Type 0 where
+  pub callee : Callee
+  pub arguments : List Value
+  pub memory : Memory
+  pub below : ℕ
 
 -- The world of a run.
 pub record World : Type 0 where
@@ -11,14 +30,17 @@ pub record World : Type 0 where
   -- the stack need so far: the most bytes of frames and tries that were active at once
   pub stack_need : ℕ
   pub memory : Memory
-  -- the external calls so far, first to last
+  -- the external calls so far, first to last, and the answers that are left
   pub made : List Made
-  -- the answers to external calls that are left
   pub answers : List ℕ
+  -- where one function is evaluated alone: the calls that it made, first to last, and what is handed in for
+  -- the next ones
+  pub asked : List Asked
+  pub doings : List Doing
 
--- A name and what it is bound to.
+-- A name in scope and its value.
 pub record Binding : Type 0 where
-  pub name : List ℕ
+  pub scoped : Scoped
   pub value : Value
 
 -- One activation of a function.
@@ -30,6 +52,10 @@ pub record Here : Type 0 where
   -- those bytes with this activation's frame and active tries
   pub taken : ℕ
 
+-- the names in scope
+abbrev pub scope : Here → List Scoped
+scope h = map (λ (b : Binding). b.scoped) h.names
+
 abbrev pub found : Bool → Value → Option Value → Option Value
 found true value others = Some value
 found false value others = others
@@ -37,13 +63,29 @@ found false value others = others
 -- the value of a name: that of its innermost binding
 abbrev pub value_of : List Binding → List ℕ → Option Value
 value_of [] name = None
-value_of (b ∷ rest) name = found (bytes_eq b.name name) b.value (value_of rest name)
+value_of (b ∷ rest) name = found (bytes_eq b.scoped.name name) b.value (value_of rest name)
+
+abbrev pub assigned_first : Bool → Binding → Value → List Binding → List Binding → List Binding
+assigned_first true b value rest others = record b { value = value } ∷ rest
+assigned_first false b value rest others = b ∷ others
+
+-- the bindings where the innermost one of a name has a new value
+abbrev pub assigned : List Binding → List ℕ → Value → List Binding
+assigned [] name value = []
+assigned (b ∷ rest) name value = assigned_first (bytes_eq b.scoped.name name) b value rest (assigned rest name value)
 
 -- these names bound to these values, one after the other, round the bindings that are there
-abbrev pub bound : List (List ℕ) → List Value → List Binding → List Binding
-bound (x ∷ xs) (v ∷ vs) names = bound xs vs (record { name = x; value = v } ∷ names)
-bound [] vs names = names
-bound (x ∷ xs) [] names = names
+abbrev pub bound : List Scoped → List Value → List Binding → List Binding
+bound (s ∷ scoped) (v ∷ values) names = bound scoped values (record { scoped = s; value = v } ∷ names)
+bound _ _ names = names
+
+-- so many of the outermost bindings
+abbrev pub outermost : ℕ → List Binding → List Binding
+outermost level names = drop (length names - level) names
+
+-- the activation back in a scope that it had entered: with so many bindings, and so many stack bytes
+abbrev pub back_in : ℕ → ℕ → Here → Here
+back_in level taken h = record h { names = outermost level h.names; taken = taken }
 
 -- the world where the stack has come to so many bytes
 abbrev pub deepened : ℕ → World → World

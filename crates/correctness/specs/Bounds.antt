@@ -1,39 +1,10 @@
 -- How large an image is at most, by the text of its file.
-use Rattle.std.specs.Prelude.{◌≡◌, ℕ, ◌+◌, ◌*◌, ◌≤◌, max, Bool, ◌&&◌, nat_lt, nat_le, List, [], ◌∷◌, length, take, sum_by, count_by}
+use Rattle.std.specs.Prelude.{◌≡◌, ℕ, ◌+◌, ◌*◌, ◌≤◌, Bool, ◌&&◌, nat_lt, nat_le, List, [], ◌∷◌, length, take, sum_by, count_by}
 use Rattle.std.specs.List.{AllZip}
-use Rattle.cmm_tree.specs.Tree.{Expression, Integer, Name, Operator, FunctionTree, FileTree, functions}
+use Rattle.cmm_tree.specs.Tree.{FunctionTree, FileTree, functions}
+use Rattle.correctness.specs.Measures.{frame_points, switch_indexes, tries}
 use Rattle.image_form.specs.Image.{end_of}
 use Rattle.image_form.specs.Tables.{Tables, Func, Desc}
-
--- ---- measures of a text
-
--- the frame points in an expression: its applications and allocations. No form that is read so far is one.
-abbrev pub frame_points_in : Expression → ℕ
-frame_points_in (Integer at word) = 0
-frame_points_in (Name at name) = 0
-frame_points_in (Operator at op left right) = frame_points_in left + frame_points_in right
-
--- the sizes of the switches in an expression, all together. No form that is read so far is one.
-abbrev pub switch_indexes_in : Expression → ℕ
-switch_indexes_in (Integer at word) = 0
-switch_indexes_in (Name at name) = 0
-switch_indexes_in (Operator at op left right) = switch_indexes_in left + switch_indexes_in right
-
--- the most tries that stand around one point in an expression. No form that is read so far is one.
-abbrev pub tries_in : Expression → ℕ
-tries_in (Integer at word) = 0
-tries_in (Name at name) = 0
-tries_in (Operator at op left right) = max (tries_in left) (tries_in right)
-
--- the same of a function, whose body is all that has such forms
-abbrev pub frame_points : FunctionTree → ℕ
-frame_points f = frame_points_in f.body
-
-abbrev pub switch_indexes : FunctionTree → ℕ
-switch_indexes f = switch_indexes_in f.body
-
-abbrev pub tries : FunctionTree → ℕ
-tries f = tries_in f.body
 
 -- the most words of a function's code
 abbrev pub most_words : FunctionTree → ℕ

@@ -1,3 +1,4 @@
 pub mod Setting
 pub mod Correct
+pub mod Measures
 pub mod Bounds

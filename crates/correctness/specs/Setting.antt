@@ -5,8 +5,9 @@ use Rattle.bs_words.specs.Fits.{fits, type_of_comp}
 use Rattle.bs_words.specs.declared.types.Comp.{Comp}
 use Rattle.bs_words.specs.declared.values.Value.TheVariants.{Word}
 use Rattle.cmm_meaning.specs.Layout.{Layout}
-use Rattle.cmm_tree.specs.Tree.{FunctionTree, FileTree, functions, comps_of, data_end}
-use Rattle.cmm_tree.specs.Types.{body_type, result_of}
+use Rattle.cmm_data.specs.Placement.{data_end}
+use Rattle.cmm_tree.specs.Tree.{FunctionTree, FileTree, functions, comps_of}
+use Rattle.cmm_types.specs.Types.{body_type, result_of}
 use Rattle.image_form.specs.Tables.{Tables, Func}
 use Rattle.rv_machine.specs.Memory.{code_start}
 

@@ -1,0 +1,4 @@
+mod Bit
+mod Loops
+mod Members
+pub mod Sets

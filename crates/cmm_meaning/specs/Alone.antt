@@ -1,0 +1,38 @@
+-- The evaluation of one function alone: what its callees and external calls do is handed in.
+use Rattle.std.specs.Prelude.{ℕ, List, [], ◌∷◌, ◌++◌, Option, Some}
+use Rattle.bs_words.specs.Memory.{Memory}
+use Rattle.bs_words.specs.declared.types.Comp.{Comp}
+use Rattle.bs_words.specs.declared.types.Ret.{Ret}
+use Rattle.bs_words.specs.declared.values.Value.{Value}
+use Rattle.cmm_tree.specs.Tree.{FunctionTree}
+use Rattle.cmm_meaning.specs.State.{Doing, Gave, Threw, Inside, Outside, Asked, World}
+use Rattle.cmm_meaning.specs.Evaluation.{Asking, Evaluation, Gives, Raises, Stops, Surroundings}
+use Rattle.cmm_meaning.specs.Run.{nobody, activated}
+
+-- a call takes the next doing, and asks where none is left
+abbrev pub done : Asked → List Doing → World → Evaluation
+done call [] w = Stops (Asking call) w
+done call (Gave v memory ∷ doings) w =
+    Gives v nobody (record w { memory = memory; asked = w.asked ++ call ∷ []; doings = doings })
+done call (Threw v memory ∷ doings) w =
+    Raises v nobody (record w { memory = memory; asked = w.asked ++ call ∷ []; doings = doings })
+
+abbrev pub call_inside : ℕ → List Value → ℕ → World → Evaluation
+call_inside f arguments below w =
+    done (record { callee = Inside f; arguments = arguments; memory = w.memory; below = below }) w.doings w
+
+abbrev pub call_outside : List ℕ → Ret → List Value → World → Evaluation
+call_outside name result arguments w =
+    done (record { callee = Outside name; arguments = arguments; memory = w.memory; below = 0 }) w.doings w
+
+-- the world in which a function is evaluated alone, from this memory, with n units
+abbrev pub lone_world : Memory → List Doing → ℕ → World
+lone_world memory doings n =
+    record { left = n; stack_need = 0; memory = memory; made = []; answers = []; asked = []; doings = doings }
+
+-- the evaluation of one function on these arguments: the end of the data, the values of symbols and the
+-- parameters of the file's functions are given, and so is what the calls do, first to last
+abbrev pub alone : ℕ → (List ℕ → Option Value) → List (List Comp) → ℕ → FunctionTree → List Value → Memory → List Doing → ℕ → Evaluation
+alone end symbol parameters frame f arguments memory doings n =
+    let s : Surroundings = record { end = end; symbol = symbol; parameters = parameters; call = call_inside; external = call_outside } in
+    activated s frame (Some f) arguments 0 (lone_world memory doings n)

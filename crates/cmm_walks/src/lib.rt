@@ -1,0 +1,2 @@
+//! Addresses at frame points.
+#![tactic(auto)]

@@ -1,0 +1,4 @@
+mod Loops
+mod Steps
+mod Sweeps
+mod Visits

@@ -1,0 +1,4 @@
+pub mod Flow
+pub mod Live
+pub mod Rows
+pub mod Sweep

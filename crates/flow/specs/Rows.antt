@@ -1,0 +1,11 @@
+-- A set of numbers for each place.
+use Rattle.std.specs.Prelude.{◌≡◌, ℕ, Bool, List, [], slice_index_or, length}
+use Rattle.std.specs.List.{All}
+
+-- the set of a place; past the last place it is empty
+abbrev pub row : List (List Bool) → ℕ → List Bool
+row rows p = slice_index_or rows p []
+
+-- each set is one of numbers below `bound`
+abbrev pub HasSizes : ℕ → List (List Bool) → Type 0
+HasSizes bound rows = All (λ set. length set ≡ bound) rows
