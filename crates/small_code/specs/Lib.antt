@@ -1,3 +1,6 @@
+pub mod Tree
+pub mod View
+pub mod Small
 pub mod Code
 pub mod Compiled
 pub mod Frames

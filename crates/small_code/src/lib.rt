@@ -10,8 +10,10 @@ mod function;
 mod image;
 mod registers;
 mod size;
+mod tree;
 
 pub use image::compile_small;
+pub use tree::{SmallExpr, SmallFile, SmallForm, SmallFunction};
 
 #[cfg(test)]
 mod tests;
