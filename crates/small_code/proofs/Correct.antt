@@ -137,16 +137,18 @@ small_entered :
 small_entered file entry f row args answers entered =
     let fs = functions file in
     let there : option_map embedded_function (slice_get fs entry) ≡ Some f =
-        sym (slice_get-map embedded_function fs entry)
-        ∙ ap (λ (gs : List whole.FunctionTree). slice_get gs entry) (sym (functions-embedded fs))
-        ∙ entered.of_file in
-    let g = found_small (slice_get fs entry) f there in
-    (g.0, record {
-      of_file = g.1;
-      of_whole = entered.of_file ∙ ap Some (sym g.2);
-      of_image = entered.of_image;
-      arguments = subst (λ (f : whole.FunctionTree). FitParameters (data_end (embedded_file file)) (whole.comps_of f) args) (sym g.2) entered.arguments;
-    })
+    sym (slice_get-map embedded_function fs entry)
+    ∙ ap (λ (gs : List whole.FunctionTree). slice_get gs entry) (sym (functions-embedded fs))
+    ∙ entered.of_file in
+    let g = found_small (slice_get fs entry) f there in (
+      g.0,
+      record {
+        of_file = g.1;
+        of_whole = entered.of_file ∙ ap Some (sym g.2);
+        of_image = entered.of_image;
+        arguments = subst (λ (f : whole.FunctionTree). FitParameters (data_end (embedded_file file)) (whole.comps_of f) args) (sym g.2) entered.arguments;
+      },
+    )
 
 module _ (file : SmallFileTree) (small : IsSmall file) (tables : AreTables (compiled file)) (room heap : ℕ) (is_room : IsRoom room) (is_heap : IsRoom heap) (entry : ℕ) (f : SmallFunctionTree) (row : Func) (args answers : List ℕ) (schedule : Schedule) (entered : EnteredSmall file entry f row args answers) where
   is_small : IsSmallFunction f

@@ -1,5 +1,5 @@
 -- The function of a test is small.
-use Rattle.std.proofs.Common.{◌≡◌, ◌≢◌, ℕ, zero, suc, ◌≤◌, List, [], ◌∷◌, get_or, codes, All, AllPairs, refl, sym, ap, subst, inl, inr, lit<, lit≤, arith}
+use Rattle.std.proofs.Common.{◌≡◌, ◌≢◌, zero, suc, ◌≤◌, [], ◌∷◌, codes, All, AllPairs, refl, sym, subst, inl, inr, lit<, lit≤, arith}
 use Rattle.bs_words.specs.declared.operators.IntOp.TheVariants.{Sub}
 use Rattle.bs_words.specs.declared.types.Comp.{Comp}
 use Rattle.bs_words.specs.declared.types.Comp.TheVariants.{Int}

@@ -1,5 +1,5 @@
 -- The functions among the first items of a file, and what is made of them one by one.
-use Rattle.std.proofs.Common.{◌≡◌, ℕ, zero, suc, ◌+◌, ◌*◌, ◌<◌, ◌≤◌, List, [], ◌∷◌, ◌++◌, length, get_or, map, take, drop, All, flat_map, refl, sym, ap, subst, ◌∙◌, append_assoc, append-nil, add-zero, length-append, take-append-drop, take_all, arith}
+use Rattle.std.proofs.Common.{◌≡◌, ℕ, zero, suc, ◌+◌, ◌*◌, ◌<◌, ◌≤◌, List, [], ◌∷◌, ◌++◌, length, get_or, map, take, drop, All, flat_map, sym, ap, subst, ◌∙◌, append_assoc, append-nil, add-zero, length-append, take-append-drop, take_all, arith}
 use Rattle.std.proofs.lemmas.List.{take_more, map-append, length-map}
 use Rattle.std.proofs.lemmas.Grind.{flat_map-append}
 use Rattle.bs_words.specs.declared.types.Comp.{Comp}

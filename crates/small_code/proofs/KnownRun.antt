@@ -1,5 +1,5 @@
 -- The code of `(function "add3" (x:int y:int) (+ x (+ y 3)))`, run on the machine: each step is computed.
-use Rattle.std.proofs.Common.{◌≡◌, ℕ, ◌-◌, ◌^◌, refl, codes, Some, List, [], ◌∷◌, length}
+use Rattle.std.proofs.Common.{◌≡◌, ◌-◌, ◌^◌, refl, codes, Some, [], ◌∷◌}
 use Rattle.bs_words.specs.Word.{add_word, sub_word, shl_word}
 use Rattle.bs_words.specs.declared.operators.IntOp.TheVariants as int
 use Rattle.bs_words.specs.declared.types.Comp.TheVariants as comp

@@ -1,5 +1,5 @@
 -- The names of a function's parameters: their numbers, what they are bound to, and their types.
-use Rattle.std.proofs.Common.{◌≡◌, ◌≢◌, ◌⊎◌, ℕ, zero, suc, ◌<◌, Bool, true, false, cond, ◌||◌, List, [], ◌∷◌, length, map, slice_index, slice_index_or, Option, Some, refl, sym, ap, ◌∙◌, subst, arith, inl, inr, Contains, bytes_eq}
+use Rattle.std.proofs.Common.{◌≡◌, ◌≢◌, ◌⊎◌, ℕ, zero, suc, ◌<◌, Bool, true, false, cond, ◌||◌, List, [], ◌∷◌, length, map, slice_index, slice_index_or, Option, Some, refl, sym, ap, ◌∙◌, arith, inl, inr, Contains, bytes_eq}
 use Rattle.std.specs.List.{AllByRecursion}
 use Rattle.std.proofs.lemmas.Slice.Eq.{bytes_eq-Decides}
 use Rattle.std.proofs.lemmas.Bool.{cases_Bool, false_from_ne_true, false≢true, or_left, or_right}

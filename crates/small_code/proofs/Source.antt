@@ -1,6 +1,6 @@
 -- The text's run of a small function: it ends in the word of its body once it has a unit for each node,
 -- and goes on before.
-use Rattle.std.proofs.Common.{◌≡◌, ◌⊎◌, ℕ, zero, suc, ◌+◌, ◌-◌, ◌<◌, ◌≤◌, Bool, true, false, max, not, ◌&&◌, ◌||◌, List, [], ◌∷◌, length, map, slice_get, slice_index, Some, refl, sym, ap, ap₂, ◌∙◌, subst, arith, inl, inr, Contains}
+use Rattle.std.proofs.Common.{◌≡◌, ◌⊎◌, ℕ, zero, suc, ◌+◌, ◌-◌, ◌<◌, ◌≤◌, Bool, true, false, max, not, ◌&&◌, ◌||◌, List, [], length, map, slice_get, slice_index, Some, refl, sym, ap, ap₂, ◌∙◌, subst, arith, inl, inr, Contains}
 use Rattle.std.specs.List.{AllByRecursion}
 use Rattle.std.proofs.lemmas.Bool.{cases_lt}
 use Rattle.std.proofs.lemmas.List.{length-map}
@@ -9,7 +9,6 @@ use Rattle.bs_words.specs.Operators.{apply, type_of_operator}
 use Rattle.bs_words.specs.declared.operators.IntOp.{IntOp}
 use Rattle.bs_words.specs.declared.operators.IntOp.TheVariants.{Add, Sub, And}
 use Rattle.bs_words.specs.declared.types.Comp.TheVariants as comp
-use Rattle.bs_words.specs.declared.types.Ty.{Ty}
 use Rattle.bs_words.specs.declared.types.Ty.TheVariants.{Int}
 use Rattle.bs_words.specs.declared.values.Obs.TheVariants as obs
 use Rattle.bs_words.specs.declared.values.Value.{Value}
@@ -18,11 +17,11 @@ use Rattle.cmm_data.specs.Placement.{data_end, value_of_symbol}
 use Rattle.cmm_meaning.specs.Evaluation.{Evaluation, Gives, Stops, OutOfFuel, Surroundings, scoped_parameter, with_value, proper, typed, looked_up, both, is_left_first, evaluated}
 use Rattle.cmm_meaning.specs.Layout.{Layout}
 use Rattle.cmm_meaning.specs.Run.{Outcome, Run, Returned, More, activated, callees, outside, first_world, told, finished, cmm_run}
-use Rattle.cmm_meaning.specs.State.{World, Here, Binding, scope, value_of, bound, deepened}
+use Rattle.cmm_meaning.specs.State.{World, Here, scope, value_of, bound, deepened}
 use Rattle.cmm_tree.specs.Tree.{FileTree}
 use Rattle.cmm_tree.specs.Tree as whole
-use Rattle.cmm_types.specs.Light.{is_light, is_light_address}
-use Rattle.cmm_types.specs.Types.{Scoped, holds_float, unless_float, type_named, with_parameters}
+use Rattle.cmm_types.specs.Light.{is_light_address}
+use Rattle.cmm_types.specs.Types.{Scoped, holds_float, unless_float, type_named}
 use Rattle.small_code.specs.Small.{NamesAmong, SmallOperators, nodes}
 use Rattle.small_code.specs.Tree.{SmallExpression, Integer, Name, Operator, SmallFunctionTree, Parameter, names_of, embedded, embedded_function}
 use Rattle.rv_machine.specs.Arithmetic.{alu}
@@ -80,13 +79,13 @@ module _ (s : Surroundings) (names : List (List ℕ)) (holds : List ℕ → ℕ)
   begun_operator at op left right tail m small =
       let floats : (holds_float (embedded left) || holds_float (embedded right)) ≡ false = ap₂ (λ a b. a || b) (no_float left) (no_float right) in
       let first : is_left_first (scope h) (embedded left) (embedded right) ≡ false =
-          ap (λ b. b && not (is_light_address (scope h) (embedded left))) (not_light (scope h) right small) in
+      ap (λ b. b && not (is_light_address (scope h) (embedded left))) (not_light (scope h) right small) in
       ap (λ b. typed s.end (unless_float b (type_of_operator op))
-        (both (is_left_first (scope h) (embedded left) (embedded right)) (evaluated s (embedded left) false) (evaluated s (embedded right) false) h (left_with m)
-          (λ a b h w. proper (apply op (sizes w.memory) a b) w (λ v. Gives (Some v) h w)))) floats
+      (both (is_left_first (scope h) (embedded left) (embedded right)) (evaluated s (embedded left) false) (evaluated s (embedded right) false) h (left_with m)
+      (λ a b h w. proper (apply op (sizes w.memory) a b) w (λ v. Gives (Some v) h w)))) floats
       ∙ ap (λ b. typed s.end (type_of_operator op)
-        (both b (evaluated s (embedded left) false) (evaluated s (embedded right) false) h (left_with m)
-          (λ a b h w. proper (apply op (sizes w.memory) a b) w (λ v. Gives (Some v) h w)))) first
+      (both b (evaluated s (embedded left) false) (evaluated s (embedded right) false) h (left_with m)
+      (λ a b h w. proper (apply op (sizes w.memory) a b) w (λ v. Gives (Some v) h w)))) first
 
   -- with a unit for each node, an expression has its word
   pub evaluates :
@@ -109,7 +108,7 @@ module _ (s : Surroundings) (names : List (List ℕ)) (holds : List ℕ → ℕ)
       ∙ begun_operator at op left right tail m small.2
       ∙ ap (of_operands op left) (evaluates right false m (nodes left + k) are small.2 among.1 refl)
       ∙ ap (λ r. typed s.end (type_of_operator op) (with_value r (λ a h w. proper (apply op (sizes w.memory) a (Word y)) w (λ v. Gives (Some v) h w))))
-          (evaluates left false (nodes left + k) k are small.1 among.0 refl)
+      (evaluates left false (nodes left + k) k are small.1 among.0 refl)
       ∙ operated_is s.end op x y h (left_with k) small.0
 
   -- with fewer units it stops for want of one
@@ -136,11 +135,12 @@ module _ (s : Surroundings) (names : List (List ℕ)) (holds : List ℕ → ℕ)
       by_right (inr more) right_starves left_starves =
           let k = n - nodes right in
           let e : n ≡ nodes right + k = omega arith in
-          let stops = left_starves k (omega arith) in
-          (stops.0,
+          let stops = left_starves k (omega arith) in (
+            stops.0,
             begun_operator at op left right tail n small.2
-            ∙ ap (of_operands op left) (evaluates right false n k are small.2 among.1 e)
-            ∙ ap (λ r. typed s.end (type_of_operator op) (with_value r (λ a h w. proper (apply op (sizes w.memory) a (Word (word_in holds right))) w (λ v. Gives (Some v) h w)))) stops.1)
+                ∙ ap (of_operands op left) (evaluates right false n k are small.2 among.1 e)
+                ∙ ap (λ r. typed s.end (type_of_operator op) (with_value r (λ a h w. proper (apply op (sizes w.memory) a (Word (word_in holds right))) w (λ v. Gives (Some v) h w)))) stops.1,
+          )
 
 -- What is told of a run that makes no call and allocates nothing.
 pub record Tells (run : Run) (outcome : Outcome) (frame : ℕ) : Type 0 where

@@ -9,7 +9,7 @@ use Rattle.bs_words.specs.declared.types.Comp.TheVariants as comp
 use Rattle.bs_words.specs.declared.types.Ty.TheVariants.{Int}
 use Rattle.small_code.specs.Small.{IsSmallFunction, NamesAmong, SmallOperators}
 use Rattle.small_code.specs.Tree.{SmallExpression, Integer, Name, Operator, Parameter, SmallFunctionTree, comps_of, embedded, embedded_function}
-use Rattle.cmm_types.specs.Types.{Scoped, holds_float, unless_float, type_without_float, type_of, with_parameters, body_type}
+use Rattle.cmm_types.specs.Types.{holds_float, unless_float, type_without_float, with_parameters, body_type}
 use Rattle.small_code.proofs.Names.{int_named}
 
 -- what holds of each element by its place holds by recursion

@@ -2,7 +2,7 @@
 --
 -- The parameters stand in the slots from 0 on. Each node of the body takes the next slot once its
 -- operands have theirs, the right operand before the left one. Slot k lies 8 * k bytes above sp.
-use Rattle.std.specs.Prelude.{ℕ, zero, suc, ◌+◌, ◌-◌, ◌*◌, ◌/◌, ◌%◌, ◌^◌, cond, Bool, true, false, ◌||◌, List, [], ◌∷◌, ◌++◌, length, bytes_eq}
+use Rattle.std.specs.Prelude.{ℕ, zero, suc, ◌+◌, ◌-◌, ◌*◌, ◌/◌, ◌%◌, ◌^◌, cond, Bool, false, ◌||◌, List, [], ◌∷◌, ◌++◌, length, bytes_eq}
 use Rattle.bs_words.specs.declared.operators.IntOp.{IntOp}
 use Rattle.bs_words.specs.declared.operators.IntOp.TheVariants as int
 use Rattle.small_code.specs.Small.{nodes}

@@ -6,3 +6,4 @@ pub mod Compiled
 pub mod Frames
 pub mod TooLarge
 pub mod Names
+pub mod Read

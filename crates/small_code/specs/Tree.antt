@@ -1,6 +1,6 @@
 -- Small trees: files of functions whose bodies are integers, names, and operators on such expressions.
 -- They are trees of texts with nothing else in them.
-use Rattle.std.specs.Prelude.{ℕ, List, [], ◌∷◌, map, length}
+use Rattle.std.specs.Prelude.{ℕ, List, map}
 use Rattle.bs_words.specs.declared.operators.IntOp.{IntOp}
 use Rattle.bs_words.specs.declared.types.Comp.{Comp}
 pub use Rattle.cmm_tree.specs.Tree.{Parameter, names_of_params}

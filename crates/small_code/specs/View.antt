@@ -1,5 +1,5 @@
 -- The small tree that a value of the code stands for.
-use Rattle.std.specs.Prelude.{ℕ, List, map}
+use Rattle.std.specs.Prelude.{ℕ, map}
 use Rattle.bs_words.specs.Contents.{contents}
 pub use Rattle.cmm_tree.specs.View.{param_view, params_view}
 use Rattle.small_code.specs.Tree.{SmallExpression, Integer, Name, Operator, SmallFunctionTree, SmallFileTree}

@@ -8,8 +8,8 @@ ghost use Rattle.small_code.specs.Names.{names_in};
 
 use crate::emit::Code;
 use crate::registers::{T0, T2};
-use bs_words::{IntOp, Name};
 use crate::tree::{SmallExpr, SmallForm};
+use bs_words::{IntOp, Name};
 use cmm_tree::Param;
 use rv_isa::{AluOp, Instr};
 use std::alloc::AllocError;

@@ -17,9 +17,9 @@ ghost use Rattle.bs_fault.specs.declared.large.Large.{Large};
 
 use crate::emit::Code;
 use crate::size::{frame_bytes, function_words, too_large};
+use crate::tree::{SmallFile, SmallFunction};
 use bs_fault::BuildError;
 use bs_words::{Comp, List, Name, Ret};
-use crate::tree::{SmallFile, SmallFunction};
 use cmm_tree::Param;
 use image_form::{FuncRow, Image, SymRow};
 use std::alloc::{AllocError, Global};
@@ -90,7 +90,7 @@ fn row(alloc: Global, function: &SmallFunction, words_before: usize) -> Result<F
     })
 }
 
-fn copied(alloc: Global, name: &Name) -> Result<Name, AllocError>
+pub(crate) fn copied(alloc: Global, name: &Name) -> Result<Name, AllocError>
     ensures { IfOk result (λ copy. copy ≡ name.now) }
 {
     let bytes = name.as_bytes().to_vec(alloc)?;

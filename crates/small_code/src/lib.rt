@@ -4,6 +4,7 @@
 //! text is a definition, and `compile_small` gives exactly that.
 #![tactic(auto)]
 
+mod convert;
 mod emit;
 mod expression;
 mod function;
@@ -12,6 +13,7 @@ mod registers;
 mod size;
 mod tree;
 
+pub use convert::small_file;
 pub use image::compile_small;
 pub use tree::{SmallExpr, SmallFile, SmallForm, SmallFunction};
 

@@ -41,7 +41,9 @@ fn expression_words(expr: &SmallExpr) -> u32
         // a load and a store
         SmallForm::Name(_) => 8,
         // two loads, the operation and a store
-        SmallForm::Operator(_, left, right) => expression_words(right) + expression_words(left) + 13,
+        SmallForm::Operator(_, left, right) => expression_words(right)
+            + expression_words(left)
+            + 13,
     }
 }
 

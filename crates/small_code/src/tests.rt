@@ -4,9 +4,8 @@ ghost use Rattle.small_code.specs.Tree as tree;
 ghost use Rattle.small_code.specs.View.{expr_view, param_view, function_view, file_view};
 ghost use Rattle.small_code.specs.Small.{IsSmall};
 
-use crate::compile_small;
+use crate::{SmallExpr, SmallFile, SmallForm, SmallFunction, compile_small};
 use bs_words::{Comp, IntOp, List, Name, Ret};
-use crate::{SmallExpr, SmallFile, SmallForm, SmallFunction};
 use cmm_tree::Param;
 use image_form::write_image;
 use std::alloc::{AllocError, Global};

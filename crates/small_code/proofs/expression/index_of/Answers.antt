@@ -18,18 +18,18 @@ loop-index-preserved c =
     let at : (get_or params i d).name ≡ d.name = ap (λ (p : Param). p.name) (sym c.index-params-index.is) in
     let decides = bytes_eq-Decides (get_or params i d).name name in
     elim c.if-same.branch [
-      then-same w ↦ record {
+      | then-same w ↦ record {
         exact =
-          c.loop-index.invariant.exact
-          ∙ index_step params i d name c.loop-index.found c.if-same.found c.loop-index-test.true
-              (λ e. w.found-is) (λ e. absurd (false≢true (sym e ∙ decides.1 (at ∙ c.same.ensures.0 w.if-same.true))));
+            c.loop-index.invariant.exact
+            ∙ index_step params i d name c.loop-index.found c.if-same.found c.loop-index-test.true
+            (λ e. w.found-is) (λ e. absurd (false≢true (sym e ∙ decides.1 (at ∙ c.same.ensures.0 w.if-same.true))));
         within = omega (arith, w.found-is);
       }
       | else-same w ↦ record {
         exact =
-          c.loop-index.invariant.exact
-          ∙ index_step params i d name c.loop-index.found c.if-same.found c.loop-index-test.true
-              (λ e. absurd (false≢true (sym w.if-same.false ∙ c.same.ensures.1 (sym at ∙ decides.0 e)))) (λ e. w.found-is);
+            c.loop-index.invariant.exact
+            ∙ index_step params i d name c.loop-index.found c.if-same.found c.loop-index-test.true
+            (λ e. absurd (false≢true (sym w.if-same.false ∙ c.same.ensures.1 (sym at ∙ decides.0 e)))) (λ e. w.found-is);
         within = omega (arith, w.found-is, c.loop-index.invariant.within);
       }
     ]

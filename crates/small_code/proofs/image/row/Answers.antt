@@ -1,4 +1,4 @@
-use Rattle.std.proofs.Common.{◌≡◌, refl}
+use Rattle.std.proofs.Common.{refl}
 use Rattle.small_code.specs.View.{function_view}
 use Rattle.small_code.proofs.Files.{row_made}
 use Rattle.small_code.proofs.image.row.Goals as goal
