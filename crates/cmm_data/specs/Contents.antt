@@ -1,5 +1,5 @@
 -- What static data holds: its bytes, its cells, and the memory that a run begins with.
-use Rattle.std.specs.Prelude.{ℕ, zero, suc, ◌+◌, ◌-◌, ◌*◌, ◌/◌, ◌%◌, Bool, true, false, List, [], ◌∷◌, Option, Some, None, map, filter, replicate}
+use Rattle.std.specs.Prelude.{ℕ, zero, suc, ◌+◌, ◌-◌, ◌*◌, ◌/◌, ◌%◌, Bool, true, false, List, [], ◌∷◌, Option, Some, None, map, cond, replicate}
 use Rattle.std.specs.List.{flat_map}
 use Rattle.bs_words.specs.Memory.{StaticList, Memory}
 use Rattle.bs_words.specs.declared.values.Value.{Value}
@@ -85,8 +85,12 @@ is_root_datum (Val word) = true
 is_root_datum (Address root name_at name) = root
 is_root_datum _ = false
 
+-- the address of an item, where it is a root cell
+abbrev pub root_at : ℕ → DatumTree → List ℕ
+root_at address datum = cond (is_root_datum datum) (address ∷ []) []
+
 abbrev pub roots_among : List PlacedItem → List ℕ
-roots_among items = map (λ (i : PlacedItem). i.address) (filter (λ (i : PlacedItem). is_root_datum i.datum) items)
+roots_among items = flat_map (λ (i : PlacedItem). root_at i.address i.datum) items
 
 -- the addresses of the root cells, in order
 abbrev pub root_cells : FileTree → List ℕ

@@ -1,3 +1,6 @@
 pub mod Placement
 pub mod Faults
 pub mod Contents
+pub mod Symbols
+pub mod Filling
+pub mod Map

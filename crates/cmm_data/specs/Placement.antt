@@ -100,7 +100,7 @@ bound_error = codes "caml_bound_error"
 
 -- the built-in list: 8 zero bytes and their symbol
 abbrev pub built_in : DataListTree
-built_in = record { at = 0; items = record { at = 0; datum = Define bound_error } ∷ record { at = 0; datum = Skip (Some 8) } ∷ [] }
+built_in = record { at = 0; items = record { at = 0; datum = Define bound_error } ∷ record { at = 0; datum = Int (Some 0) } ∷ [] }
 
 -- all lists, the built-in one first
 abbrev pub lists_of : FileTree → List DataListTree
@@ -118,9 +118,12 @@ data_end file = end_of_lists data_start (lists_of file)
 abbrev pub data_bytes : FileTree → ℕ
 data_bytes file = data_end file - data_start
 
+abbrev pub items_of_lists : List PlacedList → List PlacedItem
+items_of_lists lists = flat_map (λ (l : PlacedList). l.items) lists
+
 -- all items at their places, in order
 abbrev pub placed_items : FileTree → List PlacedItem
-placed_items file = flat_map (λ (l : PlacedList). l.items) (placed_lists file)
+placed_items file = items_of_lists (placed_lists file)
 
 -- ---- symbols
 
@@ -148,9 +151,13 @@ pub record Definition : Type 0 where
 abbrev pub definition_of_data : DataSymbolTree → Definition
 definition_of_data s = record { name = s.name; value = value.Word s.address }
 
--- what a list behind this end defines
+-- what items define that stand from an address on
+abbrev pub defined_at : ℕ → List DataItemTree → List Definition
+defined_at address items = map definition_of_data (symbols_among (items_from address items))
+
+-- what a list behind this end of the data defines
 abbrev pub defined_by_list : ℕ → DataListTree → List Definition
-defined_by_list end d = map definition_of_data (symbols_among (items_from (start_behind end) d.items))
+defined_by_list end d = defined_at (start_behind end) d.items
 
 -- what items of a file define, behind so many functions and behind the end of the data before them
 abbrev pub defined_from : ℕ → ℕ → List ItemTree → List Definition

@@ -1,15 +1,17 @@
 -- The image of a small file is correct.
-use Rattle.std.proofs.Common.{◌≡◌, ◌⊎◌, ℕ, ◌+◌, ◌*◌, ◌<◌, ◌≤◌, List, [], ◌∷◌, ◌++◌, length, slice_index, Some, option_map, refl, sym, ap, ◌∙◌, subst, arith, inl, inr, ⊎_elim}
+use Rattle.std.proofs.Common.{◌≡◌, ◌⊎◌, ℕ, ◌+◌, ◌*◌, ◌<◌, ◌≤◌, List, [], ◌∷◌, ◌++◌, length, map, slice_get, slice_index, Option, Some, None, option_map, refl, sym, ap, ◌∙◌, subst, arith, inl, inr, ⊎_elim}
 use Rattle.std.proofs.lemmas.Bool.{cases_lt}
 use Rattle.std.proofs.lemmas.List.{length-map}
 use Rattle.std.proofs.lemmas.Option.{slice_get_within, slice_get-map, get_or_from_slice_get}
 use Rattle.bs_words.specs.declared.values.Obs.TheVariants as obs
 use Rattle.cmm_meaning.specs.Run.{Outcome, More, Run, cmm_run}
 use Rattle.cmm_meaning.specs.Run as text
-use Rattle.cmm_tree.specs.Small.{IsSmall, IsSmallFunction, nodes}
-use Rattle.cmm_tree.specs.Tree.{FunctionTree, FileTree, Parameter, functions, names_of, comps_of, data_end}
+use Rattle.small_code.specs.Small.{IsSmall, IsSmallFunction, nodes}
+use Rattle.small_code.specs.Tree.{SmallFunctionTree, SmallFileTree, Parameter, functions, names_of, comps_of, embedded_function, embedded_item, embedded_file}
+use Rattle.cmm_data.specs.Placement.{data_end}
+use Rattle.cmm_tree.specs.Tree as whole
 use Rattle.correctness.specs.Correct.{EndsAlike, Alike, Forwards, Backwards, Accounted, IsPrefix, IsCorrect}
-use Rattle.correctness.specs.Setting.{layout_of, IsRoom, Entered}
+use Rattle.correctness.specs.Setting.{layout_of, IsRoom, Entered, FitParameters}
 use Rattle.image_form.specs.Image.{AreTables}
 use Rattle.image_form.specs.Tables.{Func}
 use Rattle.rv_isa.specs.Encoding.{encoded}
@@ -21,10 +23,11 @@ use Rattle.rv_machine.specs.Services.{End, Running, Returned, StackOut, Over}
 use Rattle.small_code.specs.Code.{function_code, frame_bytes, index_of}
 use Rattle.small_code.specs.Compiled.{stub, compiled}
 use Rattle.small_code.proofs.Functions.{Entry, FewSlots, function_ends, function_out}
-use Rattle.small_code.proofs.Names.{index_among}
+use Rattle.small_code.proofs.Names.{among-is, index_among}
 use Rattle.small_code.proofs.Pieces.{HasAt}
 use Rattle.small_code.proofs.Rows.{AtRow, at_row, are_rows}
-use Rattle.small_code.proofs.Source.{Tells, run_returns, run_goes_on, int_result}
+use Rattle.small_code.proofs.Source.{Tells, run_returns, run_goes_on}
+use Rattle.small_code.proofs.Types.{all_ints, by_recursion}
 use Rattle.small_code.proofs.Start.{fit_words, fit_length, setting, first_view, first_stands, first_entry}
 use Rattle.small_code.proofs.Steps.{Setting, View, Stands, Ends}
 use Rattle.small_code.proofs.Values.{word_in}
@@ -106,7 +109,48 @@ module _ (run : ℕ → Run) (machine : ℕ → Seen) (stack heap words enough w
 
 -- ---- one entry
 
-module _ (file : FileTree) (small : IsSmall file) (tables : AreTables (compiled file)) (room heap : ℕ) (is_room : IsRoom room) (is_heap : IsRoom heap) (entry : ℕ) (f : FunctionTree) (row : Func) (args answers : List ℕ) (schedule : Schedule) (entered : Entered file (compiled file) entry f row args answers) where
+-- The functions of the whole file are the small ones.
+functions-embedded : (fs : List SmallFunctionTree) → whole.functions_among (map embedded_item fs) ≡ map embedded_function fs
+functions-embedded [] = refl
+functions-embedded (f ∷ fs) = ap (λ (gs : List whole.FunctionTree). embedded_function f ∷ gs) (functions-embedded fs)
+
+-- Function `entry` of a small file, its row, and words for its parameters.
+record EnteredSmall (file : SmallFileTree) (entry : ℕ) (f : SmallFunctionTree) (row : Func) (args answers : List ℕ) : Type 0 where
+  of_file : slice_get (functions file) entry ≡ Some f
+  of_whole : slice_get (whole.functions (embedded_file file)) entry ≡ Some (embedded_function f)
+  of_image : slice_get (compiled file).funcs entry ≡ Some row
+  arguments : FitParameters (data_end (embedded_file file)) (comps_of f) args
+
+same_some : {A : Type 0} {x y : A} → Some x ≡ Some y → x ≡ y
+same_some e = cc
+
+found_small :
+    (o : Option SmallFunctionTree) (f : whole.FunctionTree) → option_map embedded_function o ≡ Some f →
+    (g : SmallFunctionTree) × (o ≡ Some g) × (embedded_function g ≡ f)
+found_small None f e = absurd (cc)
+found_small (Some g) f e = (g, refl, same_some e)
+
+small_entered :
+    (file : SmallFileTree) (entry : ℕ) (f : whole.FunctionTree) (row : Func) (args answers : List ℕ) →
+    Entered (embedded_file file) (compiled file) entry f row args answers →
+    (g : SmallFunctionTree) × EnteredSmall file entry g row args answers
+small_entered file entry f row args answers entered =
+    let fs = functions file in
+    let there : option_map embedded_function (slice_get fs entry) ≡ Some f =
+    sym (slice_get-map embedded_function fs entry)
+    ∙ ap (λ (gs : List whole.FunctionTree). slice_get gs entry) (sym (functions-embedded fs))
+    ∙ entered.of_file in
+    let g = found_small (slice_get fs entry) f there in (
+      g.0,
+      record {
+        of_file = g.1;
+        of_whole = entered.of_file ∙ ap Some (sym g.2);
+        of_image = entered.of_image;
+        arguments = subst (λ (f : whole.FunctionTree). FitParameters (data_end (embedded_file file)) (whole.comps_of f) args) (sym g.2) entered.arguments;
+      },
+    )
+
+module _ (file : SmallFileTree) (small : IsSmall file) (tables : AreTables (compiled file)) (room heap : ℕ) (is_room : IsRoom room) (is_heap : IsRoom heap) (entry : ℕ) (f : SmallFunctionTree) (row : Func) (args answers : List ℕ) (schedule : Schedule) (entered : EnteredSmall file entry f row args answers) where
   is_small : IsSmallFunction f
   is_small =
       subst IsSmallFunction (get_or_from_slice_get (functions file) entry f f entered.of_file)
@@ -119,11 +163,11 @@ module _ (file : FileTree) (small : IsSmall file) (tables : AreTables (compiled 
   few = record {
     few_params = is_small.few_params;
     few_slots = omega (arith, is_small.tokens_cover, is_small.few_tokens);
-    named = λ name among. omega (arith, index_among (names_of f) name among, length-map f.params (λ (p : Parameter). p.name));
+    named = λ name among. omega (arith, index_among (names_of f) name (among-is (names_of f) name among), length-map f.params (λ (p : Parameter). p.name));
   }
 
-  count : length args ≡ length (names_of f)
-  count = fit_length (data_end file) (comps_of f) args entered.arguments ∙ length-map f.params (λ (p : Parameter). p.comp) ∙ sym (length-map f.params (λ (p : Parameter). p.name))
+  count : length args ≡ length f.params
+  count = fit_length (data_end (embedded_file file)) (comps_of f) args entered.arguments ∙ length-map f.params (λ (p : Parameter). p.comp)
 
   word : ℕ
   word = word_in (λ name. slice_index args (index_of (names_of f) name)) f.body
@@ -134,11 +178,11 @@ module _ (file : FileTree) (small : IsSmall file) (tables : AreTables (compiled 
       (slice_get-map (λ (row : Func). row.frame) (compiled file).funcs entry ∙ ap (option_map (λ (row : Func). row.frame)) entered.of_image)
       ∙ code_at.frame
 
-  text_run : TextRun (cmm_run file (layout_of (compiled file)) entry args answers) (nodes f.body) word (frame_bytes f)
+  text_run : TextRun (cmm_run (embedded_file file) (layout_of (compiled file)) entry args answers) (nodes f.body) word (frame_bytes f)
   unfolding word
-  text_run = subst (TextRun (cmm_run file (layout_of (compiled file)) entry args answers) (nodes f.body) word) row_frame (record {
-    ends = λ n enough. run_returns file (layout_of (compiled file)) entry args answers f entered.of_file count is_small.params_differ is_small.operators is_small.bound n enough;
-    goes_on = λ n few. run_goes_on file (layout_of (compiled file)) entry args answers f entered.of_file count is_small.params_differ is_small.operators is_small.bound n few;
+  text_run = subst (TextRun (cmm_run (embedded_file file) (layout_of (compiled file)) entry args answers) (nodes f.body) word) row_frame (record {
+    ends = λ n enough. run_returns (embedded_file file) (layout_of (compiled file)) entry args answers f entered.of_whole count (all_ints f is_small) is_small.operators is_small.bound n enough;
+    goes_on = λ n few. run_goes_on (embedded_file file) (layout_of (compiled file)) entry args answers f entered.of_whole count (all_ints f is_small) is_small.operators is_small.bound n few;
   })
 
   abbrev during : Setting
@@ -151,7 +195,7 @@ module _ (file : FileTree) (small : IsSmall file) (tables : AreTables (compiled 
   machine m = machine_run (compiled file) row args answers room heap schedule m
 
   begins_so : Stands during (start (compiled file) row args room heap) view
-  begins_so = first_stands (compiled file) tables row args answers schedule room heap is_room is_heap code_at.place code_at.offset (fit_words (data_end file) (comps_of f) args entered.arguments)
+  begins_so = first_stands (compiled file) tables row args answers schedule room heap is_room is_heap code_at.place code_at.offset (fit_words (data_end (embedded_file file)) (comps_of f) args entered.arguments)
 
   entry_so : Entry during room args view
   entry_so = first_entry (compiled file) tables row args answers schedule room heap is_room is_heap code_at.place
@@ -180,19 +224,19 @@ module _ (file : FileTree) (small : IsSmall file) (tables : AreTables (compiled 
   runs_fit fits =
       machine_ends (length (function_code f) + 2) _ (omega (arith, code_at.within, code_at.behind))
       (function_ends during room f args view entry_so few fits function_here stub_at
-      (code_at.result ∙ int_result f is_small.components is_small.operators is_small.bound) is_small.bound is_small.words_fit)
+      code_at.result is_small.bound is_small.words_fit)
 
   runs_out : room < frame_bytes f → MachineRun machine (length (compiled file).code) StackOut
   runs_out much =
       machine_ends 4 StackOut (omega (arith, code_at.within, code_at.behind)) (function_out during room f args view entry_so few function_here much)
 
-  forwards_so : Forwards (cmm_run file (layout_of (compiled file)) entry args answers) machine room heap (length (compiled file).code)
+  forwards_so : Forwards (cmm_run (embedded_file file) (layout_of (compiled file)) entry args answers) machine room heap (length (compiled file).code)
   forwards_so =
       ⊎_elim (λ much. forwards_out _ machine room heap (length (compiled file).code) (nodes f.body) word (frame_bytes f) text_run much)
       (λ fits. forwards_fits _ machine room heap (length (compiled file).code) (nodes f.body) word (frame_bytes f) text_run (runs_fit fits))
       (cases_lt room (frame_bytes f))
 
-  backwards_so : Backwards (cmm_run file (layout_of (compiled file)) entry args answers) machine room heap
+  backwards_so : Backwards (cmm_run (embedded_file file) (layout_of (compiled file)) entry args answers) machine room heap
   backwards_so =
       ⊎_elim (λ much. backwards_out _ machine room heap (length (compiled file).code) (nodes f.body) word (frame_bytes f) text_run much (runs_out much))
       (λ fits. backwards_fits _ machine room heap (length (compiled file).code) (nodes f.body) word (frame_bytes f) text_run (runs_fit fits))
@@ -201,9 +245,13 @@ module _ (file : FileTree) (small : IsSmall file) (tables : AreTables (compiled 
 -- ---- the whole
 
 -- The image of a small file is correct, wherever it is an image.
-pub compiled-correct : (file : FileTree) → IsSmall file → AreTables (compiled file) → IsCorrect file (compiled file)
+pub compiled-correct : (file : SmallFileTree) → IsSmall file → AreTables (compiled file) → IsCorrect (embedded_file file) (compiled file)
 compiled-correct file small tables = λ room heap is_room is_heap. record {
-  rows = are_rows 16 (functions file);
-  forwards = λ entry f row args answers schedule entered. forwards_so file small tables room heap is_room is_heap entry f row args answers schedule entered;
-  backwards = λ entry f row args answers schedule entered. backwards_so file small tables room heap is_room is_heap entry f row args answers schedule entered;
+  rows = are_rows 16 (functions file) (by_recursion IsSmallFunction (functions file) small.functions_small);
+  forwards = λ entry f row args answers schedule entered.
+      let g = small_entered file entry f row args answers entered in
+      forwards_so file small tables room heap is_room is_heap entry g.0 row args answers schedule g.1;
+  backwards = λ entry f row args answers schedule entered.
+      let g = small_entered file entry f row args answers entered in
+      backwards_so file small tables room heap is_room is_heap entry g.0 row args answers schedule g.1;
 }

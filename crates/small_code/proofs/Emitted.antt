@@ -1,14 +1,13 @@
 -- What code that emits code, piece by piece, comes to.
-use Rattle.std.proofs.Common.{◌≡◌, ℕ, zero, suc, ◌+◌, ◌-◌, ◌/◌, ◌%◌, ◌^◌, ◌<◌, Bool, true, false, cond, List, [], ◌∷◌, ◌++◌, length, get_or, map, drop, bytes_eq, refl, sym, ap, ◌∙◌, append_assoc, append-nil, add-zero, arith}
+use Rattle.std.proofs.Common.{◌≡◌, ℕ, zero, suc, ◌+◌, ◌-◌, ◌/◌, ◌%◌, ◌^◌, ◌<◌, Bool, true, false, cond, ◌||◌, List, [], ◌∷◌, ◌++◌, length, get_or, map, drop, bytes_eq, refl, sym, ap, ◌∙◌, append_assoc, append-nil, add-zero, arith}
 use Rattle.std.proofs.lemmas.List.{drop_more, map-append}
-use Rattle.std.proofs.lemmas.Slice.Eq.{bytes_eq-Decides}
 use Rattle.cmm_tree.specs.declared.file.Param.{Param}
-use Rattle.cmm_tree.specs.Tree.{FunctionTree, names_of}
+use Rattle.small_code.specs.Tree.{SmallFunctionTree, names_of}
 use Rattle.rv_isa.specs.Encoding.{encoded}
 use Rattle.rv_isa.specs.declared.instr.AluImmOp.TheVariants.{Addi}
 use Rattle.rv_isa.specs.declared.instr.AluOp.TheVariants.{Add, Sub}
 use Rattle.rv_isa.specs.declared.instr.Instr.TheVariants.{Jalr, OpImm}
-use Rattle.small_code.specs.Code.{argument_code, store_slot, index_of, constant, eleven_more, function_code, move_sp, load_slot, expression_code, frame_bytes, parameters, slots, a0, ra}
+use Rattle.small_code.specs.Code.{argument_code, store_slot, is_among, index_of, constant, eleven_more, function_code, move_sp, load_slot, expression_code, frame_bytes, parameters, slots, a0, ra}
 use Rattle.small_code.specs.Compiled.{function_words}
 use Rattle.small_code.specs.Names.{names_in}
 
@@ -30,7 +29,7 @@ constant_steps rd word a b c d e g h i j k l m n =
     six_pieces encoded (OpImm Addi rd 0 (word / 2 ^ 55) ∷ []) (eleven_more rd (word / 2 ^ 44 % 2 ^ 11)) (eleven_more rd (word / 2 ^ 33 % 2 ^ 11)) (eleven_more rd (word / 2 ^ 22 % 2 ^ 11)) (eleven_more rd (word / 2 ^ 11 % 2 ^ 11)) (eleven_more rd (word % 2 ^ 11)) a b c d e g h i j k l m n
 
 -- the six steps of a function, with numbers that the code has computed
-pub function_steps : (f : FunctionTree) (frame count next last : ℕ) (names : List (List ℕ)) (a b c d e g h : List ℕ) → frame ≡ frame_bytes f → count ≡ parameters f → next ≡ parameters f → last ≡ slots f - 1 → names ≡ names_of f → b ≡ a ++ map encoded (move_sp Sub frame) → c ≡ b ++ map encoded (argument_code count a0 0) → d ≡ c ++ map encoded (expression_code names next f.body) → e ≡ d ++ map encoded (load_slot a0 last) → g ≡ e ++ map encoded (move_sp Add frame) → h ≡ g ++ encoded (Jalr 0 ra 0) ∷ [] → h ≡ a ++ function_words f
+pub function_steps : (f : SmallFunctionTree) (frame count next last : ℕ) (names : List (List ℕ)) (a b c d e g h : List ℕ) → frame ≡ frame_bytes f → count ≡ parameters f → next ≡ parameters f → last ≡ slots f - 1 → names ≡ names_of f → b ≡ a ++ map encoded (move_sp Sub frame) → c ≡ b ++ map encoded (argument_code count a0 0) → d ≡ c ++ map encoded (expression_code names next f.body) → e ≡ d ++ map encoded (load_slot a0 last) → g ≡ e ++ map encoded (move_sp Add frame) → h ≡ g ++ encoded (Jalr 0 ra 0) ∷ [] → h ≡ a ++ function_words f
 unfolding function_code
 function_steps f frame count next last names a b c d e g h of_frame of_count of_next of_last of_names i j k l m n =
     let down : b ≡ a ++ map encoded (move_sp Sub (frame_bytes f)) = i ∙ ap (λ x. a ++ map encoded (move_sp Sub x)) of_frame in
@@ -61,22 +60,44 @@ arguments_step count slot a b c same p q =
 
 -- ---- names
 
-index_at : (params : List Param) (i : ℕ) (d : Param) (name : List ℕ) → i < length params → index_of (names_in (drop i params)) name ≡ cond (bytes_eq (get_or params i d).name name) 0 (suc (index_of (names_in (drop (i + 1) params)) name))
-index_at params i d name lt = ap (λ ps. index_of (names_in ps) name) (drop_more params i d lt)
+-- the first parameter from here on, and the others
+pub names_at : (params : List Param) (i : ℕ) (d : Param) → i < length params →
+    names_in (drop i params) ≡ (get_or params i d).name ∷ names_in (drop (i + 1) params)
+names_at params i d lt = ap names_in (drop_more params i d lt)
 
-cond_true : (b : Bool) (m n : ℕ) → b ≡ true → cond b m n ≡ m
-cond_true true m n e = refl
-cond_true false m n e = cc
+index_next : (same later : Bool) (i k found after : ℕ) → (same ≡ true → after ≡ i) → (same ≡ false → after ≡ found) →
+    cond (same || later) (i + cond later (suc k) 0) found ≡ cond later (i + 1 + k) after
+index_next true true i k found after here there = omega arith
+index_next true false i k found after here there = let e = here refl in omega arith
+index_next false true i k found after here there = omega arith
+index_next false false i k found after here there = sym (there refl)
 
-cond_false : (b : Bool) (m n : ℕ) → (b ≡ true → ⊥) → cond b m n ≡ n
-cond_false true m n e = absurd (e refl)
-cond_false false m n e = refl
+-- the number of a name among the parameters from one on, or the one that was found before
+abbrev pub index_from : List Param → ℕ → List ℕ → ℕ → ℕ
+index_from params i name found =
+    cond (is_among (names_in (drop i params)) name) (i + index_of (names_in (drop i params)) name) found
 
-pub index_here : (params : List Param) (i : ℕ) (d : Param) (name : List ℕ) → i < length params → (get_or params i d).name ≡ name → index_of (names_in (drop i params)) name ≡ 0
-index_here params i d name lt same =
-    index_at params i d name lt ∙ cond_true (bytes_eq (get_or params i d).name name) _ _ ((bytes_eq-Decides (get_or params i d).name name).1 same)
+pub index_step : (params : List Param) (i : ℕ) (d : Param) (name : List ℕ) (found after : ℕ) → i < length params →
+    (bytes_eq (get_or params i d).name name ≡ true → after ≡ i) → (bytes_eq (get_or params i d).name name ≡ false → after ≡ found) →
+    index_from params i name found ≡ index_from params (i + 1) name after
+index_step params i d name found after lt here there =
+    let rest = names_in (drop (i + 1) params) in
+    ap (λ (names : List (List ℕ)). cond (is_among names name) (i + index_of names name) found) (names_at params i d lt)
+    ∙ index_next (bytes_eq (get_or params i d).name name) (is_among rest name) i (index_of rest name) found after here there
 
-pub index_next : (params : List Param) (i : ℕ) (d : Param) (name : List ℕ) → i < length params → ((get_or params i d).name ≡ name → ⊥) → index_of (names_in (drop i params)) name ≡ suc (index_of (names_in (drop (i + 1) params)) name)
-index_next params i d name lt differ =
-    index_at params i d name lt
-    ∙ cond_false (bytes_eq (get_or params i d).name name) _ _ (λ e. differ ((bytes_eq-Decides (get_or params i d).name name).0 e))
+none-first : (names : List (List ℕ)) (name : List ℕ) → is_among names name ≡ false → index_of names name ≡ 0
+none-first [] name h = refl
+none-first (x ∷ xs) name h =
+    let later : is_among xs name ≡ false = or_false-right (bytes_eq x name) (is_among xs name) h in
+    ap (λ b. cond b (suc (index_of xs name)) 0) later
+  where
+    or_false-right : (a b : Bool) → (a || b) ≡ false → b ≡ false
+    or_false-right true b h = absurd (cc)
+    or_false-right false b h = h
+
+pub index_begins : (params : List Param) (name : List ℕ) → index_of (names_in params) name ≡ index_from params 0 name 0
+index_begins params name = begins (is_among (names_in params) name) (index_of (names_in params) name) (none-first (names_in params) name)
+  where
+    begins : (b : Bool) (k : ℕ) → (b ≡ false → k ≡ 0) → k ≡ cond b (0 + k) 0
+    begins true k none = omega arith
+    begins false k none = none refl

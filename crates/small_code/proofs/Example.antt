@@ -1,17 +1,18 @@
 -- The function of a test is small.
-use Rattle.std.proofs.Common.{◌≡◌, ◌≢◌, ℕ, zero, suc, ◌≤◌, List, [], ◌∷◌, get_or, codes, All, AllPairs, refl, sym, ap, subst, inl, inr, lit<, lit≤, arith}
+use Rattle.std.proofs.Common.{◌≡◌, ◌≢◌, zero, suc, ◌≤◌, [], ◌∷◌, codes, All, AllPairs, refl, sym, subst, inl, inr, lit<, lit≤, arith}
 use Rattle.bs_words.specs.declared.operators.IntOp.TheVariants.{Sub}
 use Rattle.bs_words.specs.declared.types.Comp.{Comp}
 use Rattle.bs_words.specs.declared.types.Comp.TheVariants.{Int}
-use Rattle.cmm_tree.specs.Small.{IsSmall, IsSmallFunction}
-use Rattle.cmm_tree.specs.Tree.{Name, Operator, FunctionTree, AFunction}
+use Rattle.small_code.specs.Small.{IsSmall, IsSmallFunction}
+use Rattle.small_code.specs.Tree.{Name, Operator, SmallFunctionTree}
 
 -- `(function "d" (a:int b:int) (- a b))`
-abbrev pub difference : FunctionTree
+abbrev pub difference : SmallFunctionTree
 difference = record {
   at = 0;
+  name_at = 10;
   name = codes "d";
-  params = record { at = 15; name = codes "a"; comp = Int } ∷ record { at = 21; name = codes "b"; comp = Int } ∷ [];
+  params = record { at = 15; name = codes "a"; comp = Int; comp_at = 17 } ∷ record { at = 21; name = codes "b"; comp = Int; comp_at = 23 } ∷ [];
   body = Operator 29 Sub (Name 32 (codes "a")) (Name 34 (codes "b"));
   tokens = 17;
 }
@@ -28,24 +29,14 @@ all_two P x y p q (suc (suc k)) d lt = absurd (omega arith)
 pairs_one : {A : Type 0} (R : A → A → Type 0) (x : A) → AllPairs R (x ∷ [])
 pairs_one R x i j d below within = absurd (omega arith)
 
-pairs_two : {A : Type 0} (R : A → A → Type 0) (x y : A) → R x y → AllPairs R (x ∷ y ∷ [])
-pairs_two R x y r zero (suc zero) d below within = r
-pairs_two R x y r zero zero d below within = absurd (omega arith)
-pairs_two R x y r zero (suc (suc j)) d below within = absurd (omega arith)
-pairs_two R x y r (suc i) j d below within = absurd (omega arith)
-
 d_is_other : codes "d" ≢ codes "caml_bound_error"
 d_is_other e = cc
-
-a_is_other : codes "a" ≢ codes "b"
-a_is_other e = absurd (omega (arith, ap (λ (xs : List ℕ). get_or xs 0 0) e))
 
 pub difference-small : IsSmallFunction difference
 difference-small = record {
   symbol = (lit≤ tt, lit≤ tt, all_one (λ b. (0x21 ≤ b) × (b ≤ 0x7E)) 100 (lit≤ tt, lit≤ tt));
   not_built_in = d_is_other;
   few_params = lit≤ tt;
-  params_differ = pairs_two (λ x y. x ≢ y) (codes "a") (codes "b") a_is_other;
   components = all_two (λ (c : Comp). c ≡ Int) Int Int refl refl;
   operators = (inr (inl refl), tt, tt);
   bound = ((0, lit< tt, refl), (1, lit< tt, refl));
@@ -54,10 +45,10 @@ difference-small = record {
   tokens_cover = lit≤ tt;
 }
 
-pub difference_file-small : (f : FunctionTree) → f ≡ difference → IsSmall (record { items = AFunction f ∷ [] })
-difference_file-small f same = subst (λ g. IsSmall (record { items = AFunction g ∷ [] })) (sym same) small
+pub difference_file-small : (f : SmallFunctionTree) → f ≡ difference → IsSmall (record { functions = f ∷ [] })
+difference_file-small f same = subst (λ g. IsSmall (record { functions = g ∷ [] })) (sym same) small
   where
-    small : IsSmall (record { items = AFunction difference ∷ [] })
+    small : IsSmall (record { functions = difference ∷ [] })
     small = record {
       functions_small = all_one IsSmallFunction difference difference-small;
       names_differ = pairs_one (λ x y. x ≢ y) (codes "d");

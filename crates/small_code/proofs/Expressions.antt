@@ -2,8 +2,8 @@
 -- own are kept.
 use Rattle.std.proofs.Common.{◌≡◌, ◌≢◌, ◌⊎◌, ℕ, suc, ◌+◌, ◌-◌, ◌*◌, ◌^◌, ◌<◌, ◌≤◌, List, ◌∷◌, ◌++◌, length, slice_index, slice_set, refl, ap, ap₂, ◌∙◌, subst, arith, inl, get_or-set_same, get_or-set_other, length-set, length-append, Contains}
 use Rattle.bs_words.specs.declared.operators.IntOp.{IntOp}
-use Rattle.cmm_tree.specs.Small.{NamesAmong, WordsFit, nodes}
-use Rattle.cmm_tree.specs.Tree.{Expression, Integer, Name, Operator}
+use Rattle.small_code.specs.Small.{NamesAmong, WordsFit, nodes}
+use Rattle.small_code.specs.Tree.{SmallExpression, Integer, Name, Operator}
 use Rattle.rv_isa.specs.declared.instr.Instr.{Instr}
 use Rattle.rv_isa.specs.declared.instr.Instr.TheVariants.{Op}
 use Rattle.rv_machine.specs.Arithmetic.{alu}
@@ -226,13 +226,13 @@ module _ (s : Setting) (sp origin total : ℕ) (frame : Frame s sp origin total)
   later names holds next more v le known = record { in_slot = known.in_slot; before = λ name among. omega (arith, known.before name among) }
 
   -- what the code of an expression leads to
-  abbrev pub Evaluates : List (List ℕ) → (List ℕ → ℕ) → Expression → ℕ → View → Type 0
+  abbrev pub Evaluates : List (List ℕ) → (List ℕ → ℕ) → SmallExpression → ℕ → View → Type 0
   Evaluates names holds e next v =
       (w : View) × Reaches s (length (expression_code names next e)) (origin + next) v w × InSlot w (next + nodes e - 1) (word_in holds e)
 
   -- an operator's code is those of its operands, and 13 instructions
   length-operator :
-      (names : List (List ℕ)) (at : ℕ) (op : IntOp) (left right : Expression) (next : ℕ) →
+      (names : List (List ℕ)) (at : ℕ) (op : IntOp) (left right : SmallExpression) (next : ℕ) →
       length (expression_code names next right) + (length (expression_code names (next + nodes right) left) + 13) ≡ length (expression_code names next (Operator at op left right))
   length-operator names at op left right next =
       let cr = expression_code names next right in
@@ -245,7 +245,7 @@ module _ (s : Setting) (sp origin total : ℕ) (frame : Frame s sp origin total)
 
   -- the views behind the two operands and behind the whole
   operator_ends :
-      (names : List (List ℕ)) (holds : List ℕ → ℕ) (at : ℕ) (op : IntOp) (left right : Expression) (next : ℕ) (v w1 w2 w3 : View) →
+      (names : List (List ℕ)) (holds : List ℕ → ℕ) (at : ℕ) (op : IntOp) (left right : SmallExpression) (next : ℕ) (v w1 w2 w3 : View) →
       Reaches s (length (expression_code names next right)) (origin + next) v w1 →
       Reaches s (length (expression_code names (next + nodes right) left)) (origin + (next + nodes right)) w1 w2 →
       Reaches s 13 (origin + (next + nodes right + nodes left)) w2 w3 →
@@ -271,7 +271,7 @@ module _ (s : Setting) (sp origin total : ℕ) (frame : Frame s sp origin total)
 
   -- an operator, where it is known what the codes of its operands lead to
   operator_leads :
-      (names : List (List ℕ)) (holds : List ℕ → ℕ) (at : ℕ) (op : IntOp) (left right : Expression) (next : ℕ) (v : View) →
+      (names : List (List ℕ)) (holds : List ℕ → ℕ) (at : ℕ) (op : IntOp) (left right : SmallExpression) (next : ℕ) (v : View) →
       Ready s sp v → NamesIn names holds next v → next + nodes (Operator at op left right) ≤ total →
       HasAt s v.place (expression_code names next (Operator at op left right)) → Evaluates names holds right next v →
       ((w : View) → Ready s sp w → NamesIn names holds (next + nodes right) w → HasAt s w.place (expression_code names (next + nodes right) left) → Evaluates names holds left (next + nodes right) w) →
@@ -296,7 +296,7 @@ module _ (s : Setting) (sp origin total : ℕ) (frame : Frame s sp origin total)
       operator_ends names holds at op left right next v w1 w2 third.0 first.1 second.1 third.1 first.2 second.2 third.2
 
   pub expression_leads :
-      (names : List (List ℕ)) (holds : List ℕ → ℕ) (e : Expression) (next : ℕ) (v : View) → Ready s sp v →
+      (names : List (List ℕ)) (holds : List ℕ → ℕ) (e : SmallExpression) (next : ℕ) (v : View) → Ready s sp v →
       NamesIn names holds next v → NamesAmong names e → WordsFit e → next + nodes e ≤ total →
       HasAt s v.place (expression_code names next e) → Evaluates names holds e next v
   expression_leads names holds (Integer at word) next v ready known among fit room has =

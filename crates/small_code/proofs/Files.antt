@@ -1,61 +1,51 @@
 -- The functions among the first items of a file, and what is made of them one by one.
-use Rattle.std.proofs.Common.{◌≡◌, ℕ, zero, suc, ◌+◌, ◌*◌, ◌<◌, ◌≤◌, List, [], ◌∷◌, ◌++◌, length, get_or, map, take, drop, All, flat_map, refl, sym, ap, subst, ◌∙◌, append_assoc, append-nil, add-zero, length-append, take-append-drop, take_all, arith}
-use Rattle.std.proofs.lemmas.List.{take_more, map-append}
+use Rattle.std.proofs.Common.{◌≡◌, ℕ, zero, suc, ◌+◌, ◌*◌, ◌<◌, ◌≤◌, List, [], ◌∷◌, ◌++◌, length, get_or, map, take, drop, All, flat_map, sym, ap, subst, ◌∙◌, append_assoc, append-nil, add-zero, length-append, take-append-drop, take_all, arith}
+use Rattle.std.proofs.lemmas.List.{take_more, map-append, length-map}
 use Rattle.std.proofs.lemmas.Grind.{flat_map-append}
 use Rattle.bs_words.specs.declared.types.Comp.{Comp}
 use Rattle.bs_words.specs.declared.types.Ret.{Ret}
-use Rattle.cmm_tree.specs.Tree.{FunctionTree, ItemTree, AFunction, functions_among, comps_of}
-use Rattle.cmm_tree.specs.Types.{body_type, result_of}
+use Rattle.bs_words.specs.declared.types.Comp.TheVariants as comp
+use Rattle.bs_words.specs.declared.types.Ret.TheVariants as returns
+use Rattle.small_code.specs.Tree.{SmallFunctionTree, comps_of}
 use Rattle.small_code.specs.Code.{frame_bytes}
-use Rattle.cmm_tree.specs.View.{function_view, item_view}
-use Rattle.cmm_tree.specs.declared.file.Function.{Function}
-use Rattle.cmm_tree.specs.declared.file.Item.{Item}
-use Rattle.cmm_tree.specs.declared.file.Item.TheVariants as item
+use Rattle.small_code.specs.View.{function_view}
+use Rattle.small_code.specs.declared.tree.SmallFunction.{SmallFunction}
 use Rattle.image_form.specs.Image.{func_bytes}
 use Rattle.image_form.specs.Tables.{Func, func}
 use Rattle.image_form.specs.declared.image.FuncRow.{FuncRow}
 use Rattle.small_code.specs.Compiled.{stub, function_words, row_at, rows_from}
 use Rattle.small_code.proofs.Sizes.{length-row}
 
--- the functions among the first n items
-abbrev pub functions_first : ℕ → List Item → List FunctionTree
-functions_first n items = functions_among (map item_view (take n items))
+-- the first n functions
+abbrev pub functions_first : ℕ → List SmallFunction → List SmallFunctionTree
+functions_first n fs = map function_view (take n fs)
 
-abbrev pub OfItem : (FunctionTree → Type 0) → Item → Type 0
-OfItem P (item.Function f) = P (function_view f)
-
--- what holds of each function of a file holds of the one that is an item
-pub each_item : (P : FunctionTree → Type 0) (items : List Item) (k : ℕ) (d : Item) → All P (functions_among (map item_view items)) → k < length items → OfItem P (get_or items k d)
+-- what holds of each function of a file holds of this one
+pub each_item : (P : SmallFunctionTree → Type 0) (fs : List SmallFunction) (k : ℕ) (d : SmallFunction) → All P (map function_view fs) → k < length fs → P (function_view (get_or fs k d))
 each_item P [] k d all lt = absurd (omega arith)
-each_item P (item.Function f ∷ items) zero d all lt = all 0 (function_view f) (omega arith)
-each_item P (item.Function f ∷ items) (suc k) d all lt =
-    each_item P items k d (λ j e within. all (suc j) e (omega arith)) (omega arith)
+each_item P (f ∷ fs) zero d all lt = all 0 (function_view f) (omega arith)
+each_item P (f ∷ fs) (suc k) d all lt =
+    each_item P fs k d (λ j e within. all (suc j) e (omega arith)) (omega arith)
 
-functions_among-append : (xs ys : List ItemTree) → functions_among (xs ++ ys) ≡ functions_among xs ++ functions_among ys
-functions_among-append [] ys = refl
-functions_among-append (AFunction f ∷ xs) ys = ap (λ fs. f ∷ fs) (functions_among-append xs ys)
+-- one function more
+pub functions_first-more : (fs : List SmallFunction) (k : ℕ) (d : SmallFunction) → k < length fs → functions_first (k + 1) fs ≡ functions_first k fs ++ function_view (get_or fs k d) ∷ []
+functions_first-more fs k d lt =
+    ap (map function_view) (take_more fs k d lt)
+    ∙ map-append function_view (take k fs) (get_or fs k d ∷ [])
 
--- one item more
-pub functions_first-more : (items : List Item) (k : ℕ) (d : Item) (f : Function) → k < length items → get_or items k d ≡ item.Function f → functions_first (k + 1) items ≡ functions_first k items ++ function_view f ∷ []
-functions_first-more items k d f lt is =
-    ap (λ xs. functions_among (map item_view xs)) (take_more items k d lt)
-    ∙ ap functions_among (map-append item_view (take k items) (get_or items k d ∷ []))
-    ∙ functions_among-append (map item_view (take k items)) (map item_view (get_or items k d ∷ []))
-    ∙ ap (λ x. functions_first k items ++ functions_among (item_view x ∷ [])) is
-
-pub rows_from-append : (offset : ℕ) (fs gs : List FunctionTree) → rows_from offset (fs ++ gs) ≡ rows_from offset fs ++ rows_from (offset + 4 * length (flat_map function_words fs)) gs
+pub rows_from-append : (offset : ℕ) (fs gs : List SmallFunctionTree) → rows_from offset (fs ++ gs) ≡ rows_from offset fs ++ rows_from (offset + 4 * length (flat_map function_words fs)) gs
 rows_from-append offset [] gs = ap (λ n. rows_from n gs) (sym (add-zero offset))
 rows_from-append offset (f ∷ fs) gs =
     let on : offset + 4 * length (function_words f) + 4 * length (flat_map function_words fs) ≡ offset + 4 * length (function_words f ++ flat_map function_words fs) = omega (arith, length-append (function_words f) (flat_map function_words fs)) in
     ap (λ rows. row_at offset f ∷ rows) (rows_from-append (offset + 4 * length (function_words f)) fs gs ∙ ap (λ n. rows_from (offset + 4 * length (function_words f)) fs ++ rows_from n gs) on)
 
 -- the code, the rows and their bytes with one function more
-pub words-more : (fs : List FunctionTree) (f : FunctionTree) → length (flat_map function_words (fs ++ f ∷ [])) ≡ length (flat_map function_words fs) + length (function_words f)
+pub words-more : (fs : List SmallFunctionTree) (f : SmallFunctionTree) → length (flat_map function_words (fs ++ f ∷ [])) ≡ length (flat_map function_words fs) + length (function_words f)
 words-more fs f =
     ap length (flat_map-append function_words fs (f ∷ [])) ∙ length-append (flat_map function_words fs) (function_words f ++ [])
     ∙ ap (λ xs. length (flat_map function_words fs) + length xs) (append-nil (function_words f))
 
-pub row_bytes-more : (offset : ℕ) (fs : List FunctionTree) (f : FunctionTree) → length (flat_map func_bytes (rows_from offset (fs ++ f ∷ []))) ≡ length (flat_map func_bytes (rows_from offset fs)) + (16 + length f.name + length f.params)
+pub row_bytes-more : (offset : ℕ) (fs : List SmallFunctionTree) (f : SmallFunctionTree) → length (flat_map func_bytes (rows_from offset (fs ++ f ∷ []))) ≡ length (flat_map func_bytes (rows_from offset fs)) + (16 + length f.name + length f.params)
 row_bytes-more offset fs f =
     let next = offset + 4 * length (flat_map function_words fs) in
     ap (λ rows. length (flat_map func_bytes rows)) (rows_from-append offset fs (f ∷ []))
@@ -64,46 +54,43 @@ row_bytes-more offset fs f =
     ∙ ap (λ xs. length (flat_map func_bytes (rows_from offset fs)) + length xs) (append-nil (func_bytes (row_at next f)))
     ∙ ap (λ n. length (flat_map func_bytes (rows_from offset fs)) + n) (length-row next f)
 
--- an item is a function
-pub length-functions : (items : List Item) → length (functions_among (map item_view items)) ≡ length items
-length-functions [] = refl
-length-functions (item.Function f ∷ items) = ap suc (length-functions items)
+pub length-functions : (fs : List SmallFunction) → length (map function_view fs) ≡ length fs
+length-functions fs = length-map fs function_view
 
-functions_first-rest : (k : ℕ) (items : List Item) → functions_among (map item_view items) ≡ functions_first k items ++ functions_among (map item_view (drop k items))
-functions_first-rest k items =
-    ap (λ xs. functions_among (map item_view xs)) (sym (take-append-drop k items))
-    ∙ ap functions_among (map-append item_view (take k items) (drop k items))
-    ∙ functions_among-append (map item_view (take k items)) (map item_view (drop k items))
+functions_first-rest : (k : ℕ) (fs : List SmallFunction) → map function_view fs ≡ functions_first k fs ++ map function_view (drop k fs)
+functions_first-rest k fs =
+    ap (map function_view) (sym (take-append-drop k fs))
+    ∙ map-append function_view (take k fs) (drop k fs)
 
 -- the first functions have no more words than all
-pub words_first : (k : ℕ) (items : List Item) → length (flat_map function_words (functions_first k items)) ≤ length (flat_map function_words (functions_among (map item_view items)))
+pub words_first : (k : ℕ) (items : List SmallFunction) → length (flat_map function_words (functions_first k items)) ≤ length (flat_map function_words (map function_view items))
 words_first k items =
     let e = ap (λ fs. length (flat_map function_words fs)) (functions_first-rest k items)
-    ∙ ap length (flat_map-append function_words (functions_first k items) (functions_among (map item_view (drop k items))))
-    ∙ length-append (flat_map function_words (functions_first k items)) (flat_map function_words (functions_among (map item_view (drop k items)))) in
+    ∙ ap length (flat_map-append function_words (functions_first k items) (map function_view (drop k items)))
+    ∙ length-append (flat_map function_words (functions_first k items)) (flat_map function_words (map function_view (drop k items))) in
     omega (arith, e)
 
 -- all items are all functions
-pub functions_first-all : (k : ℕ) (items : List Item) → length items ≤ k → functions_first k items ≡ functions_among (map item_view items)
-functions_first-all k items most = ap (λ xs. functions_among (map item_view xs)) (take_all k items most)
+pub functions_first-all : (k : ℕ) (items : List SmallFunction) → length items ≤ k → functions_first k items ≡ map function_view items
+functions_first-all k items most = ap (map function_view) (take_all k items most)
 
 -- a row, by its parts
 abbrev pub made : List ℕ → ℕ → ℕ → ℕ → List Comp → Ret → Func
 made name offset words frame params result = record { name = name; offset = offset; words = words; frame = frame; params = params; result = result }
 
-pub row_made : (f : FunctionTree) (name : List ℕ) (offset words frame : ℕ) (params : List Comp) (result : Ret) → name ≡ f.name → words ≡ length (function_words f) → frame ≡ frame_bytes f → params ≡ comps_of f → result ≡ result_of (body_type f) → made name offset words frame params result ≡ row_at offset f
+pub row_made : (f : SmallFunctionTree) (name : List ℕ) (offset words frame : ℕ) (params : List Comp) (result : Ret) → name ≡ f.name → words ≡ length (function_words f) → frame ≡ frame_bytes f → params ≡ comps_of f → result ≡ returns.Comp comp.Int → made name offset words frame params result ≡ row_at offset f
 row_made f name offset words frame params result of_name of_words of_frame of_params of_result = cc
 
--- ---- one step of a loop over the items, at item number k, which is d
+-- ---- one step of a loop over the functions, at number k, which is f
 
 -- what holds of each function of the file holds of this one
-pub each_function : (P : FunctionTree → Type 0) (items slice : List Item) (k : ℕ) (d : Item) (f : Function) → slice ≡ items → All P (functions_among (map item_view items)) → k < length slice → d ≡ get_or slice k d → d ≡ item.Function f → P (function_view f)
-each_function P items slice k d f same all lt at is =
-    subst (OfItem P) (sym at ∙ is) (each_item P slice k d (subst (λ xs. All P (functions_among (map item_view xs))) (sym same) all) lt)
+pub each_function : (P : SmallFunctionTree → Type 0) (items slice : List SmallFunction) (k : ℕ) (f : SmallFunction) → slice ≡ items → All P (map function_view items) → k < length slice → f ≡ get_or slice k f → P (function_view f)
+each_function P items slice k f same all lt at =
+    subst (λ g. P (function_view g)) (sym at) (each_item P slice k f (subst (λ xs. All P (map function_view xs)) (sym same) all) lt)
 
-module _ (items : List Item) (k : ℕ) (d : Item) (f : Function) (lt : k < length items) (at : d ≡ get_or items k d) (is : d ≡ item.Function f) where
+module _ (items : List SmallFunction) (k : ℕ) (f : SmallFunction) (lt : k < length items) (at : f ≡ get_or items k f) where
   first_more : functions_first (k + 1) items ≡ functions_first k items ++ function_view f ∷ []
-  first_more = functions_first-more items k d f lt (sym at ∙ is)
+  first_more = functions_first-more items k f lt ∙ ap (λ g. functions_first k items ++ function_view g ∷ []) (sym at)
 
   pub row_sizes_step : (bytes row : ℕ) → row ≡ length (func_bytes (row_at 16 (function_view f))) → bytes ≡ 4 + length (flat_map func_bytes (rows_from 16 (functions_first k items))) → bytes + row ≡ 4 + length (flat_map func_bytes (rows_from 16 (functions_first (k + 1) items)))
   row_sizes_step bytes row of_row of_bytes =
@@ -133,12 +120,12 @@ module _ (items : List Item) (k : ℕ) (d : Item) (f : Function) (lt : k < lengt
       ∙ ap (rows_from 16) (sym first_more)
 
 -- the code so far is no longer than all of it
-pub code_so_far : (items slice : List Item) (k : ℕ) (code : List ℕ) → slice ≡ items → code ≡ stub ++ flat_map function_words (functions_first k slice) → length code ≤ length (stub ++ flat_map function_words (functions_among (map item_view items)))
+pub code_so_far : (items slice : List SmallFunction) (k : ℕ) (code : List ℕ) → slice ≡ items → code ≡ stub ++ flat_map function_words (functions_first k slice) → length code ≤ length (stub ++ flat_map function_words (map function_view items))
 code_so_far items slice k code same of_code =
     let fs = functions_first k slice in
-    let all : length (flat_map function_words (functions_among (map item_view slice))) ≡ length (flat_map function_words (functions_among (map item_view items))) = ap (λ xs. length (flat_map function_words (functions_among (map item_view xs)))) same in
-    omega (arith, ap length of_code ∙ length-append stub (flat_map function_words fs), length-append stub (flat_map function_words (functions_among (map item_view items))), words_first k slice)
+    let all : length (flat_map function_words (map function_view slice)) ≡ length (flat_map function_words (map function_view items)) = ap (λ xs. length (flat_map function_words (map function_view xs))) same in
+    omega (arith, ap length of_code ∙ length-append stub (flat_map function_words fs), length-append stub (flat_map function_words (map function_view items)), words_first k slice)
 
 -- at the end all functions are made
-pub all_made : (items slice : List Item) (k : ℕ) → slice ≡ items → length slice ≤ k → functions_first k slice ≡ functions_among (map item_view items)
-all_made items slice k same most = functions_first-all k slice most ∙ ap (λ xs. functions_among (map item_view xs)) same
+pub all_made : (items slice : List SmallFunction) (k : ℕ) → slice ≡ items → length slice ≤ k → functions_first k slice ≡ map function_view items
+all_made items slice k same most = functions_first-all k slice most ∙ ap (λ xs. map function_view xs) same

@@ -4,8 +4,8 @@ use Rattle.bs_words.specs.Word.{add_word, sub_word}
 use Rattle.bs_words.specs.declared.types.Comp.TheVariants as comp
 use Rattle.bs_words.specs.declared.types.Ret.TheVariants as returns
 use Rattle.bs_words.specs.declared.values.Obs.TheVariants.{Word}
-use Rattle.cmm_tree.specs.Small.{NamesAmong, WordsFit}
-use Rattle.cmm_tree.specs.Tree.{FunctionTree, names_of}
+use Rattle.small_code.specs.Small.{NamesAmong, WordsFit}
+use Rattle.small_code.specs.Tree.{SmallFunctionTree, names_of}
 use Rattle.rv_isa.specs.declared.instr.AluImmOp.TheVariants.{Addi}
 use Rattle.rv_isa.specs.declared.instr.AluOp.TheVariants.{Add, Sub}
 use Rattle.rv_isa.specs.declared.instr.Instr.{Instr}
@@ -71,7 +71,7 @@ module _ (s : Setting) (sp origin total : ℕ) (frame : Frame s sp origin total)
 -- ---- a function
 
 -- the pieces of a function's code, each at its place
-record FunctionAt (s : Setting) (place : ℕ) (f : FunctionTree) : Type 0 where
+record FunctionAt (s : Setting) (place : ℕ) (f : SmallFunctionTree) : Type 0 where
   takes : HasAt s place (move_sp Sub (frame_bytes f))
   arguments : HasAt s (place + 4) (argument_code (parameters f) 10 0)
   body : HasAt s (place + 4 + length (argument_code (parameters f) 10 0)) (expression_code (names_of f) (parameters f) f.body)
@@ -79,7 +79,7 @@ record FunctionAt (s : Setting) (place : ℕ) (f : FunctionTree) : Type 0 where
   gives : HasAt s (place + 4 + length (argument_code (parameters f) 10 0) + length (expression_code (names_of f) (parameters f) f.body) + 4) (move_sp Add (frame_bytes f))
   returns : HasAt s (place + 4 + length (argument_code (parameters f) 10 0) + length (expression_code (names_of f) (parameters f) f.body) + 4 + 4) (Jalr 0 1 0 ∷ [])
 
-function_at : (s : Setting) (place : ℕ) (f : FunctionTree) → HasAt s place (function_code f) → FunctionAt s place f
+function_at : (s : Setting) (place : ℕ) (f : SmallFunctionTree) → HasAt s place (function_code f) → FunctionAt s place f
 unfolding function_code
 function_at s place f has =
     let c1 = move_sp Sub (frame_bytes f) in
@@ -103,7 +103,7 @@ function_at s place f has =
     }
 
 length-function :
-    (f : FunctionTree) →
+    (f : SmallFunctionTree) →
     length (function_code f) ≡ 4 + (length (argument_code (parameters f) 10 0) + (length (expression_code (names_of f) (parameters f) f.body) + 9))
 unfolding function_code
 length-function f =
@@ -126,13 +126,13 @@ pub record Entry (s : Setting) (room : ℕ) (args : List ℕ) (v : View) : Type 
   pub long : 8 * length v.stack ≡ s.bytes
 
 -- the frame of a function of few slots
-pub record FewSlots (f : FunctionTree) : Type 0 where
+pub record FewSlots (f : SmallFunctionTree) : Type 0 where
   pub few_params : parameters f ≤ 16
   pub few_slots : slots f ≤ 4000
   pub named : (name : List ℕ) → Contains (names_of f) name → index_of (names_of f) name < parameters f
 
 pub function_out :
-    (s : Setting) (room : ℕ) (f : FunctionTree) (args : List ℕ) (v : View) → Entry s room args v → FewSlots f →
+    (s : Setting) (room : ℕ) (f : SmallFunctionTree) (args : List ℕ) (v : View) → Entry s room args v → FewSlots f →
     HasAt s v.place (function_code f) → room < frame_bytes f → Ends s 4 v StackOut
 function_out s room f args v entry few has much =
     let code = function_at s v.place f has in
@@ -140,7 +140,7 @@ function_out s room f args v entry few has much =
     ap (λ a. sub_word a (frame_bytes f)) entry.bottom ∙ sub_small (s.base + room) (frame_bytes f) (omega (arith, s.domain_below, few.few_slots)) (omega (arith, s.short, entry.bytes)) in
     move_out s v Sub (frame_bytes f) (s.base + room - frame_bytes f) (omega (arith, entry.count)) code.takes (omega (arith, few.few_slots)) below (omega (arith, s.domain_below)) (omega (arith, s.short, entry.bytes))
 
-module _ (s : Setting) (room : ℕ) (f : FunctionTree) (args : List ℕ) (v : View) (entry : Entry s room args v) (few : FewSlots f) (fits : frame_bytes f ≤ room) where
+module _ (s : Setting) (room : ℕ) (f : SmallFunctionTree) (args : List ℕ) (v : View) (entry : Entry s room args v) (few : FewSlots f) (fits : frame_bytes f ≤ room) where
   sp_in : ℕ
   sp_in = s.base + (room - frame_bytes f)
 

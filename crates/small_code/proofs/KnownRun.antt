@@ -1,11 +1,11 @@
 -- The code of `(function "add3" (x:int y:int) (+ x (+ y 3)))`, run on the machine: each step is computed.
-use Rattle.std.proofs.Common.{◌≡◌, ℕ, ◌-◌, ◌^◌, refl, codes, Some, List, [], ◌∷◌, length}
+use Rattle.std.proofs.Common.{◌≡◌, ◌-◌, ◌^◌, refl, codes, Some, [], ◌∷◌}
 use Rattle.bs_words.specs.Word.{add_word, sub_word, shl_word}
 use Rattle.bs_words.specs.declared.operators.IntOp.TheVariants as int
 use Rattle.bs_words.specs.declared.types.Comp.TheVariants as comp
 use Rattle.bs_words.specs.declared.types.Ret.TheVariants as returns
 use Rattle.bs_words.specs.declared.values.Obs.TheVariants as obs
-use Rattle.cmm_tree.specs.Tree.{FileTree, FunctionTree, AFunction, Expression, Integer, Name, Operator}
+use Rattle.small_code.specs.Tree.{SmallFileTree, SmallFunctionTree, SmallExpression, Integer, Name, Operator}
 use Rattle.image_form.specs.Tables.{Func}
 use Rattle.rv_isa.specs.Decoding.{decoded}
 use Rattle.rv_isa.specs.Encoding.{encoded}
@@ -15,20 +15,21 @@ use Rattle.rv_machine.specs.Start.{uniform, data_region, domain_region, stack_re
 use Rattle.small_code.specs.Code.{constant, near_slot, load_slot, store_slot, move_sp, function_code}
 use Rattle.small_code.specs.Compiled.{compiled}
 
-abbrev body : Expression
+abbrev body : SmallExpression
 body = Operator 31 int.Add (Name 34 (codes "x")) (Operator 36 int.Add (Name 39 (codes "y")) (Integer 41 3))
 
-abbrev add3 : FunctionTree
+abbrev add3 : SmallFunctionTree
 add3 = record {
   at = 0;
+  name_at = 10;
   name = codes "add3";
-  params = record { at = 18; name = codes "x"; comp = comp.Int } ∷ record { at = 24; name = codes "y"; comp = comp.Int } ∷ [];
+  params = record { at = 18; name = codes "x"; comp = comp.Int; comp_at = 20 } ∷ record { at = 24; name = codes "y"; comp = comp.Int; comp_at = 26 } ∷ [];
   body = body;
   tokens = 21;
 }
 
-abbrev file : FileTree
-file = record { items = AFunction add3 ∷ [] }
+abbrev file : SmallFileTree
+file = record { functions = add3 ∷ [] }
 
 -- 78 words behind the stub, and a frame of seven slots
 abbrev row : Func

@@ -8,6 +8,8 @@ pub mod Numbers
 pub mod Rules
 pub mod Sizes
 pub mod Types
+pub mod Reading
+pub mod Shifts
 pub mod Memory
 pub mod Steps
 pub mod Instructions

@@ -1,16 +1,16 @@
 -- The numbers of each instruction fit its fields, so each word of the code has 32 bits.
-use Rattle.std.proofs.Common.{ℕ, zero, suc, ◌+◌, ◌-◌, ◌^◌, ◌<◌, ◌≤◌, Bool, true, false, cond, bytes_eq, List, [], ◌∷◌, ◌++◌, length, map, flat_map, lit<, arith}
+use Rattle.std.proofs.Common.{ℕ, zero, suc, ◌+◌, ◌-◌, ◌^◌, ◌<◌, ◌≤◌, Bool, true, false, cond, List, [], ◌∷◌, ◌++◌, length, map, flat_map, lit<, arith}
 use Rattle.std.proofs.lemmas.List.{length-map}
 use Rattle.std.specs.List.{AllByRecursion}
-use Rattle.cmm_tree.specs.Small.{IsSmallFunction, WordsFit, nodes}
-use Rattle.cmm_tree.specs.Tree.{Expression, Integer, Name, Operator, FunctionTree, Parameter, names_of}
+use Rattle.small_code.specs.Small.{IsSmallFunction, WordsFit, nodes}
+use Rattle.small_code.specs.Tree.{SmallExpression, Integer, Name, Operator, SmallFunctionTree, Parameter, names_of}
 use Rattle.rv_isa.specs.Encoding.{InstrFits, encoded}
 use Rattle.rv_isa.specs.declared.instr.AluOp.{AluOp}
 use Rattle.rv_isa.specs.declared.instr.AluOp.TheVariants.{Add, Sub}
 use Rattle.rv_isa.specs.declared.instr.Instr.{Instr}
 use Rattle.rv_isa.specs.declared.instr.Instr.TheVariants.{Jalr, Op}
 use Rattle.rv_isa.proofs.RoundTrip.{encoded-below}
-use Rattle.small_code.specs.Code.{constant, near_slot, load_slot, store_slot, move_sp, expression_code, index_of, row_of, argument_code, function_code, frame_bytes, parameters, slots, t0, t2, a0, ra}
+use Rattle.small_code.specs.Code.{constant, near_slot, load_slot, store_slot, move_sp, expression_code, is_among, index_of, row_of, argument_code, function_code, frame_bytes, parameters, slots, t0, t2, a0, ra}
 use Rattle.small_code.specs.Compiled.{function_words}
 
 abbrev AllFit : List Instr → Type 0
@@ -41,15 +41,15 @@ unfolding move_sp
 move_fits op bytes small =
     ((lit< tt, lit< tt, omega arith), ((lit< tt, lit< tt, lit< tt), ((lit< tt, lit< tt, omega arith), ((lit< tt, lit< tt, lit< tt), tt))))
 
-cond_most : (b : Bool) (m n : ℕ) → m ≤ n → cond b 0 (suc m) ≤ suc n
+cond_most : (b : Bool) (m n : ℕ) → m ≤ n → cond b (suc m) 0 ≤ suc n
 cond_most true m n le = omega arith
 cond_most false m n le = omega arith
 
 index_most : (names : List (List ℕ)) (name : List ℕ) → index_of names name ≤ length names
 index_most [] name = omega arith
-index_most (x ∷ names) name = cond_most (bytes_eq x name) (index_of names name) (length names) (index_most names name)
+index_most (x ∷ names) name = cond_most (is_among names name) (index_of names name) (length names) (index_most names name)
 
-expression_fits : (names : List (List ℕ)) (next : ℕ) (e : Expression) → length names ≤ 16 → next + nodes e < 2 ^ 16 → WordsFit e → AllFit (expression_code names next e)
+expression_fits : (names : List (List ℕ)) (next : ℕ) (e : SmallExpression) → length names ≤ 16 → next + nodes e < 2 ^ 16 → WordsFit e → AllFit (expression_code names next e)
 expression_fits names next (Integer at word) few room fit =
     all-append InstrFits (constant t0 word) (store_slot t0 next) (constant_fits t0 word (lit< tt) fit) (store_fits t0 next (lit< tt) (omega arith))
 expression_fits names next (Name at name) few room fit =
@@ -70,7 +70,7 @@ arguments_fit zero r next few room = tt
 arguments_fit (suc count) r next few room =
     all-append InstrFits (store_slot r next) (argument_code count (suc r) (suc next)) (store_fits r next (omega arith) (omega arith)) (arguments_fit count (suc r) (suc next) (omega arith) (omega arith))
 
-code_fits : (f : FunctionTree) → IsSmallFunction f → AllFit (function_code f)
+code_fits : (f : SmallFunctionTree) → IsSmallFunction f → AllFit (function_code f)
 unfolding function_code
 code_fits f small =
     let frame = frame_bytes f in
@@ -91,7 +91,7 @@ encoded_below : (code : List Instr) → AllFit code → AllByRecursion (λ w. w 
 encoded_below [] fit = tt
 encoded_below (i ∷ code) fit = (encoded-below i fit.0, encoded_below code fit.1)
 
-pub words_below : (fs : List FunctionTree) → AllByRecursion IsSmallFunction fs → AllByRecursion (λ w. w < 2 ^ 32) (flat_map function_words fs)
+pub words_below : (fs : List SmallFunctionTree) → AllByRecursion IsSmallFunction fs → AllByRecursion (λ w. w < 2 ^ 32) (flat_map function_words fs)
 words_below [] small = tt
 words_below (f ∷ fs) small =
     all-append (λ w. w < 2 ^ 32) (function_words f) (flat_map function_words fs) (encoded_below (function_code f) (code_fits f small.0)) (words_below fs small.1)

@@ -1,10 +1,15 @@
 -- The rows of an image of small functions, and the code at them.
-use Rattle.std.proofs.Common.{◌≡◌, ℕ, zero, suc, ◌+◌, ◌*◌, ◌≤◌, List, [], ◌∷◌, ◌++◌, length, map, slice_get, Some, refl, ap, ◌∙◌, subst, arith, length-append, append_assoc}
-use Rattle.std.specs.List.{flat_map}
+use Rattle.std.proofs.Common.{◌≡◌, ℕ, zero, suc, ◌+◌, ◌*◌, ◌≤◌, List, [], ◌∷◌, ◌++◌, length, map, slice_get, Some, refl, sym, ap, ◌∙◌, subst, arith, length-append, append_assoc}
+use Rattle.std.specs.List.{flat_map, AllByRecursion}
 use Rattle.std.proofs.lemmas.List.{length-map, get_or_at}
 use Rattle.std.proofs.lemmas.Option.{slice_get-get_or}
-use Rattle.cmm_tree.specs.Tree.{FunctionTree}
-use Rattle.cmm_tree.specs.Types.{body_type, result_of}
+use Rattle.bs_words.specs.declared.types.Comp.TheVariants as comp
+use Rattle.bs_words.specs.declared.types.Ret.TheVariants as returns
+use Rattle.cmm_tree.specs.Tree.{functions_among}
+use Rattle.cmm_types.specs.Types.{result_of}
+use Rattle.small_code.specs.Small.{IsSmallFunction}
+use Rattle.small_code.specs.Tree.{SmallFunctionTree, embedded_item}
+use Rattle.small_code.proofs.Types.{body_type-int}
 use Rattle.correctness.specs.Setting.{AreRowsOf}
 use Rattle.image_form.specs.Tables.{Func}
 use Rattle.rv_isa.specs.Encoding.{encoded}
@@ -13,9 +18,10 @@ use Rattle.small_code.specs.Code.{function_code, frame_bytes}
 use Rattle.small_code.specs.Compiled.{function_words, row_at, rows_from}
 use Rattle.small_code.proofs.Pieces.{Has}
 
-pub are_rows : (offset : ℕ) (fs : List FunctionTree) → AreRowsOf fs (rows_from offset fs)
-are_rows offset [] = tt
-are_rows offset (f ∷ fs) = (record { name = refl; params = refl; result = refl }, are_rows (offset + 4 * length (function_words f)) fs)
+pub are_rows : (offset : ℕ) (fs : List SmallFunctionTree) → AllByRecursion IsSmallFunction fs → AreRowsOf (functions_among (map embedded_item fs)) (rows_from offset fs)
+are_rows offset [] small = tt
+are_rows offset (f ∷ fs) small =
+    (record { name = refl; params = refl; result = sym (ap result_of (body_type-int f small.0)) }, are_rows (offset + 4 * length (function_words f)) fs small.1)
 
 -- ---- the code at a row
 
@@ -33,11 +39,11 @@ words_stand (i ∷ is) pre post =
     (here, subst (λ m. Has (pre ++ encoded i ∷ rest) m is) n later')
 
 -- What is known of the row of a function: its code stands at its offset, behind `start` words.
-pub record AtRow (code : List ℕ) (start : ℕ) (f : FunctionTree) (row : Func) : Type 0 where
+pub record AtRow (code : List ℕ) (start : ℕ) (f : SmallFunctionTree) (row : Func) : Type 0 where
   pub place : ℕ
   pub offset : row.offset ≡ 4 * place
   pub frame : row.frame ≡ frame_bytes f
-  pub result : row.result ≡ result_of (body_type f)
+  pub result : row.result ≡ returns.Comp comp.Int
   pub has : Has code place (function_code f)
   pub behind : start ≤ place
   pub within : place + length (function_code f) ≤ length code
@@ -46,7 +52,7 @@ same_some : {A : Type 0} {x y : A} → Some x ≡ Some y → x ≡ y
 same_some e = cc
 
 pub at_row :
-    (fs : List FunctionTree) (pre : List ℕ) (k : ℕ) (f : FunctionTree) (row : Func) → slice_get fs k ≡ Some f →
+    (fs : List SmallFunctionTree) (pre : List ℕ) (k : ℕ) (f : SmallFunctionTree) (row : Func) → slice_get fs k ≡ Some f →
     slice_get (rows_from (4 * length pre) fs) k ≡ Some row →
     AtRow (pre ++ flat_map function_words fs) (length pre) f row
 at_row [] pre k f row e h = absurd (cc)

@@ -4,9 +4,9 @@ use Rattle.std.proofs.lemmas.List.{length-map}
 use Rattle.std.specs.List.{AllByRecursion}
 use Rattle.bs_words.specs.declared.types.Comp.{Comp}
 use Rattle.bs_words.specs.declared.types.Comp.TheVariants as comp
-use Rattle.cmm_tree.specs.Grammar.{IsSymbol}
-use Rattle.cmm_tree.specs.Small.{IsSmall, IsSmallFunction, caml_bound_error, names_of_functions}
-use Rattle.cmm_tree.specs.Tree.{FunctionTree, FileTree, Parameter, functions, comps_of}
+use Rattle.small_code.specs.Small.{IsSymbol}
+use Rattle.small_code.specs.Small.{IsSmall, IsSmallFunction, caml_bound_error, names_of_functions}
+use Rattle.small_code.specs.Tree.{SmallFunctionTree, SmallFileTree, Parameter, functions, comps_of}
 use Rattle.image_form.specs.Image.{First, EachNext, AllDiffer, IsName, IsParam, IsFunc, IsBehind, AreTables, end_of}
 use Rattle.image_form.specs.Tables.{func_names}
 use Rattle.small_code.specs.Compiled.{compiled, stub, function_words, row_at, rows_from}
@@ -14,7 +14,7 @@ use Rattle.small_code.specs.TooLarge.{first_too_large}
 use Rattle.small_code.proofs.Limits.{bytes_of_syms, bytes_of_roots, bytes_of_extcs, bytes_of_descs, none_passed}
 use Rattle.small_code.proofs.Numbers.{all-append, words_below}
 use Rattle.small_code.proofs.Sizes.{length-function}
-use Rattle.small_code.proofs.Types.{body_type-int, by_recursion}
+use Rattle.small_code.proofs.Types.{by_recursion}
 
 -- ---- a row
 
@@ -29,10 +29,10 @@ are_params : (cs : List Comp) → AllByRecursion (λ (c : Comp). c ≡ comp.Int)
 are_params [] all = tt
 are_params (c ∷ cs) all = (rw all.0 tt, are_params cs all.1)
 
-some_words : (f : FunctionTree) → 13 ≤ length (function_words f)
+some_words : (f : SmallFunctionTree) → 13 ≤ length (function_words f)
 some_words f = omega (arith, length-function f)
 
-is_func : (offset : ℕ) (f : FunctionTree) → offset % 4 ≡ 0 → IsSmallFunction f → IsFunc (row_at offset f)
+is_func : (offset : ℕ) (f : SmallFunctionTree) → offset % 4 ≡ 0 → IsSmallFunction f → IsFunc (row_at offset f)
 is_func offset f aligned small = record {
   name = is_name f.name small.symbol;
   aligned = aligned;
@@ -40,25 +40,25 @@ is_func offset f aligned small = record {
   frame_fits = omega (arith, small.few_tokens, small.tokens_cover);
   few = omega (arith, length-map f.params (λ (p : Parameter). p.comp), small.few_params);
   params = are_params (comps_of f) (by_recursion (λ (c : Comp). c ≡ comp.Int) (comps_of f) small.components);
-  result = rw (body_type-int f small) tt;
+  result = tt;
 }
 
 -- ---- rows that lie one behind the other
 
-each_func : (offset : ℕ) (fs : List FunctionTree) → offset % 4 ≡ 0 → AllByRecursion IsSmallFunction fs → AllByRecursion IsFunc (rows_from offset fs)
+each_func : (offset : ℕ) (fs : List SmallFunctionTree) → offset % 4 ≡ 0 → AllByRecursion IsSmallFunction fs → AllByRecursion IsFunc (rows_from offset fs)
 each_func offset [] aligned small = tt
 each_func offset (f ∷ fs) aligned small =
     (is_func offset f aligned small.0, each_func (offset + 4 * length (function_words f)) fs (omega arith) small.1)
 
-first_behind : (offset : ℕ) (f : FunctionTree) (fs : List FunctionTree) → First (IsBehind (row_at offset f)) (rows_from (offset + 4 * length (function_words f)) fs)
+first_behind : (offset : ℕ) (f : SmallFunctionTree) (fs : List SmallFunctionTree) → First (IsBehind (row_at offset f)) (rows_from (offset + 4 * length (function_words f)) fs)
 first_behind offset f [] = tt
 first_behind offset f (g ∷ fs) = record { rises = omega (arith, some_words f); apart = omega arith }
 
-in_order : (offset : ℕ) (fs : List FunctionTree) → EachNext IsBehind (rows_from offset fs)
+in_order : (offset : ℕ) (fs : List SmallFunctionTree) → EachNext IsBehind (rows_from offset fs)
 in_order offset [] = tt
 in_order offset (f ∷ fs) = (first_behind offset f fs, in_order (offset + 4 * length (function_words f)) fs)
 
-in_code : (len offset : ℕ) (fs : List FunctionTree) → offset + 4 * length (flat_map function_words fs) ≤ len → AllByRecursion (λ f. end_of f ≤ len) (rows_from offset fs)
+in_code : (len offset : ℕ) (fs : List SmallFunctionTree) → offset + 4 * length (flat_map function_words fs) ≤ len → AllByRecursion (λ f. end_of f ≤ len) (rows_from offset fs)
 in_code len offset [] fits = tt
 in_code len offset (f ∷ fs) fits =
     let both = length-append (function_words f) (flat_map function_words fs) in
@@ -66,7 +66,7 @@ in_code len offset (f ∷ fs) fits =
 
 -- ---- names
 
-names_of_rows : (offset : ℕ) (fs : List FunctionTree) → func_names (rows_from offset fs) ≡ map (λ (f : FunctionTree). f.name) fs
+names_of_rows : (offset : ℕ) (fs : List SmallFunctionTree) → func_names (rows_from offset fs) ≡ map (λ (f : SmallFunctionTree). f.name) fs
 names_of_rows offset [] = refl
 names_of_rows offset (f ∷ fs) = ap (λ names. f.name ∷ names) (names_of_rows (offset + 4 * length (function_words f)) fs)
 
@@ -81,7 +81,7 @@ all_differ y (x ∷ xs) pairs others = (
   all_differ y xs (λ i j d below within. pairs (suc i) (suc j) d (omega arith) (omega arith)) others.1,
 )
 
-none_built_in : (fs : List FunctionTree) → AllByRecursion IsSmallFunction fs → AllByRecursion (λ x. x ≢ caml_bound_error) (map (λ (f : FunctionTree). f.name) fs)
+none_built_in : (fs : List SmallFunctionTree) → AllByRecursion IsSmallFunction fs → AllByRecursion (λ x. x ≢ caml_bound_error) (map (λ (f : SmallFunctionTree). f.name) fs)
 none_built_in [] small = tt
 none_built_in (f ∷ fs) small = (small.0.not_built_in, none_built_in fs small.1)
 
@@ -114,7 +114,7 @@ is_built_in = record {
   visible = seen (99 ∷ 97 ∷ 109 ∷ 108 ∷ 95 ∷ 98 ∷ 111 ∷ 117 ∷ 110 ∷ 100 ∷ 95 ∷ 101 ∷ 114 ∷ 114 ∷ 111 ∷ 114 ∷ []) refl;
 }
 
-pub are_tables : (file : FileTree) → IsSmall file → first_too_large (compiled file) ≡ None → AreTables (compiled file)
+pub are_tables : (file : SmallFileTree) → IsSmall file → first_too_large (compiled file) ≡ None → AreTables (compiled file)
 are_tables file small none =
     let limits = none_passed file none in
     let fs = functions file in

@@ -2,11 +2,11 @@
 --
 -- The parameters stand in the slots from 0 on. Each node of the body takes the next slot once its
 -- operands have theirs, the right operand before the left one. Slot k lies 8 * k bytes above sp.
-use Rattle.std.specs.Prelude.{ℕ, zero, suc, ◌+◌, ◌-◌, ◌*◌, ◌/◌, ◌%◌, ◌^◌, cond, List, [], ◌∷◌, ◌++◌, length, bytes_eq}
+use Rattle.std.specs.Prelude.{ℕ, zero, suc, ◌+◌, ◌-◌, ◌*◌, ◌/◌, ◌%◌, ◌^◌, cond, Bool, false, ◌||◌, List, [], ◌∷◌, ◌++◌, length, bytes_eq}
 use Rattle.bs_words.specs.declared.operators.IntOp.{IntOp}
 use Rattle.bs_words.specs.declared.operators.IntOp.TheVariants as int
-use Rattle.cmm_tree.specs.Small.{nodes}
-use Rattle.cmm_tree.specs.Tree.{Expression, Integer, Name, Operator, FunctionTree, names_of}
+use Rattle.small_code.specs.Small.{nodes}
+use Rattle.small_code.specs.Tree.{SmallExpression, Integer, Name, Operator, SmallFunctionTree, names_of}
 use Rattle.rv_isa.specs.declared.instr.AluOp.{AluOp}
 use Rattle.rv_isa.specs.declared.instr.AluOp.TheVariants.{Add, Sub, And}
 use Rattle.rv_isa.specs.declared.instr.AluImmOp.TheVariants.{Addi}
@@ -68,10 +68,14 @@ move_sp op bytes =
 
 -- ---- expressions
 
--- the number of a name among the parameters
+abbrev pub is_among : List (List ℕ) → List ℕ → Bool
+is_among [] name = false
+is_among (x ∷ xs) name = bytes_eq x name || is_among xs name
+
+-- the number of a name among the parameters, that of the last one where several have it
 abbrev pub index_of : List (List ℕ) → List ℕ → ℕ
 index_of [] name = 0
-index_of (x ∷ xs) name = cond (bytes_eq x name) 0 (suc (index_of xs name))
+index_of (x ∷ xs) name = cond (is_among xs name) (suc (index_of xs name)) 0
 
 -- the row for an operator; the others are not compiled yet
 abbrev pub row_of : IntOp → AluOp
@@ -81,7 +85,7 @@ row_of _ = Add
 
 -- the code of an expression whose nodes take the slots from `next` on; its own value, the last, stands
 -- in slot `next + nodes e - 1`
-abbrev pub expression_code : List (List ℕ) → ℕ → Expression → List Instr
+abbrev pub expression_code : List (List ℕ) → ℕ → SmallExpression → List Instr
 expression_code names next (Integer at word) = constant t0 word ++ store_slot t0 next
 expression_code names next (Name at name) = load_slot t0 (index_of names name) ++ store_slot t0 next
 expression_code names next (Operator at op left right) =
@@ -98,19 +102,19 @@ abbrev pub argument_code : ℕ → ℕ → ℕ → List Instr
 argument_code zero r next = []
 argument_code (suc count) r next = store_slot r next ++ argument_code count (suc r) (suc next)
 
-abbrev pub parameters : FunctionTree → ℕ
+abbrev pub parameters : SmallFunctionTree → ℕ
 parameters f = length f.params
 
 -- the slots of a function: one for each parameter, and one for each node of its body
-abbrev pub slots : FunctionTree → ℕ
+abbrev pub slots : SmallFunctionTree → ℕ
 slots f = parameters f + nodes f.body
 
 -- the bytes of its frame: the least multiple of 16 that holds 8 bytes for each slot
-abbrev pub frame_bytes : FunctionTree → ℕ
+abbrev pub frame_bytes : SmallFunctionTree → ℕ
 frame_bytes f = (8 * slots f + 15) / 16 * 16
 
 -- takes the frame, stores the arguments, computes the body, and returns its value
-unfoldable pub function_code : FunctionTree → List Instr
+unfoldable pub function_code : SmallFunctionTree → List Instr
 function_code f =
     move_sp Sub (frame_bytes f)
     ++ (argument_code (parameters f) a0 0

@@ -1,15 +1,16 @@
 //! The code of expressions.
 ghost use Rattle.std.specs.Prelude.{◌≡◌, ◌+◌, ◌-◌, ◌<◌, ◌≤◌, ◌^◌, ◌∷◌, ◌++◌, length, map, IfOk, OnOk};
-ghost use Rattle.cmm_tree.specs.View.{expr_view};
-ghost use Rattle.cmm_tree.specs.Small.{nodes};
+ghost use Rattle.small_code.specs.View.{expr_view};
+ghost use Rattle.small_code.specs.Small.{nodes};
 ghost use Rattle.rv_isa.specs.Encoding.{encoded};
 ghost use Rattle.small_code.specs.Code.{expression_code, index_of, row_of, load_slot, store_slot, t0, t2};
 ghost use Rattle.small_code.specs.Names.{names_in};
 
 use crate::emit::Code;
 use crate::registers::{T0, T2};
+use crate::tree::{SmallExpr, SmallForm};
 use bs_words::{IntOp, Name};
-use cmm_tree::{Expr, Form, Param};
+use cmm_tree::Param;
 use rv_isa::{AluOp, Instr};
 use std::alloc::AllocError;
 
@@ -20,7 +21,7 @@ impl Code {
         &mut self,
         params: &[Param],
         next: u16,
-        expr: &Expr,
+        expr: &SmallExpr,
     ) -> Result<u16, AllocError>
         requires few { length params.now ≤ 16 }
         requires room { next + nodes (expr_view expr.now) < 2 ^ 16 }
@@ -28,17 +29,17 @@ impl Code {
         ensures code { OnOk result (self.new.words.items ≡ self.old.words.items ++ map encoded (expression_code (names_in params.now) next (expr_view expr.now))) }
     {
         match &expr.form {
-            Form::Integer(word) => {
+            SmallForm::Integer(word) => {
                 self.constant(T0, *word)?;
                 self.store_slot(T0, next)?;
                 Ok(next + 1)
             }
-            Form::Name(name) => {
+            SmallForm::Name(name) => {
                 self.load_slot(T0, index_of(params, name) as u16)?;
                 self.store_slot(T0, next)?;
                 Ok(next + 1)
             }
-            Form::Operator(op, left, right) => {
+            SmallForm::Operator(op, left, right) => {
                 let right_end = self.expression(params, next, right)?;
                 let left_end = self.expression(params, right_end, left)?;
                 self.operator(row_of(*op), left_end, right_end)?;
@@ -65,17 +66,19 @@ impl Code {
     }
 }
 
-/// The number of a name among the parameters, or how many they are.
+/// The number of a name among the parameters: that of the last one where several have it, and 0 where none
+/// has it.
 fn index_of(params: &[Param], name: &Name) -> usize
     ensures exact { result ≡ index_of (names_in params.now) name.now }
     ensures within { result ≤ length params.now }
 {
+    let mut found = 0;
     for (index, param) in params.iter().enumerate() {
         if param.name.same(name) {
-            return index;
+            found = index;
         }
     }
-    params.len()
+    found
 }
 
 /// The row for an operator of a small text.

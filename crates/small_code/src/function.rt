@@ -1,7 +1,7 @@
 //! The code of functions.
 ghost use Rattle.std.specs.Prelude.{◌≡◌, ◌≤◌, ◌++◌, map, OnOk};
-ghost use Rattle.cmm_tree.specs.View.{function_view};
-ghost use Rattle.cmm_tree.specs.Small.{IsSmallFunction};
+ghost use Rattle.small_code.specs.View.{function_view};
+ghost use Rattle.small_code.specs.Small.{IsSmallFunction};
 ghost use Rattle.rv_isa.specs.Encoding.{encoded};
 ghost use Rattle.small_code.specs.Code.{argument_code, a0};
 ghost use Rattle.small_code.specs.Compiled.{function_words};
@@ -9,7 +9,7 @@ ghost use Rattle.small_code.specs.Compiled.{function_words};
 use crate::emit::Code;
 use crate::registers::{A0, RA, ZERO};
 use crate::size::frame_bytes;
-use cmm_tree::{Function, Item};
+use crate::tree::SmallFunction;
 use rv_isa::{AluOp, Instr};
 use std::alloc::AllocError;
 
@@ -17,7 +17,7 @@ impl Code {
     /// The code of a function: it takes the frame, stores the arguments, computes the body, and returns
     /// its value.
     #[tactic(auto, unfolding(crate::specs::Code::function_code))]
-    pub fn function(&mut self, function: &Function) -> Result<(), AllocError>
+    pub fn function(&mut self, function: &SmallFunction) -> Result<(), AllocError>
         requires { IsSmallFunction (function_view function.now) }
         ensures { OnOk result (self.new.words.items ≡ self.old.words.items ++ function_words (function_view function.now)) }
     {
@@ -44,14 +44,5 @@ impl Code {
             self.store_slot(A0 + argument, u16::from(argument))?;
         }
         Ok(())
-    }
-}
-
-/// The function that an item is.
-pub fn function_of(item: &Item) -> &Function
-    ensures { item.now ≡ Item.Function result.now }
-{
-    match item {
-        Item::Function(function) => function,
     }
 }

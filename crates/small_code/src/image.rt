@@ -2,9 +2,10 @@
 ghost use Rattle.std.specs.Prelude.{◌≡◌, ◌≢◌, ℕ, ◌*◌, ◌<◌, ◌≤◌, ◌^◌, length, map, codes, IfOk, Option};
 ghost use Rattle.std.specs.List.{AllZip};
 ghost use Rattle.bs_words.specs.Contents.{contents};
-ghost use Rattle.cmm_tree.specs.Tree.{functions};
-ghost use Rattle.cmm_tree.specs.View.{function_view, file_view, param_view};
-ghost use Rattle.cmm_tree.specs.Small.{IsSmall, IsSmallFunction};
+ghost use Rattle.cmm_tree.specs.View.{param_view};
+ghost use Rattle.small_code.specs.Tree.{functions, embedded_file};
+ghost use Rattle.small_code.specs.View.{function_view, file_view};
+ghost use Rattle.small_code.specs.Small.{IsSmall, IsSmallFunction};
 ghost use Rattle.correctness.specs.Bounds.{IsBounded, IsRoomy};
 ghost use Rattle.correctness.specs.Correct.{IsCorrect};
 ghost use Rattle.image_form.specs.Image.{IsImage};
@@ -15,11 +16,11 @@ ghost use Rattle.small_code.specs.TooLarge.{first_too_large};
 ghost use Rattle.bs_fault.specs.declared.large.Large.{Large};
 
 use crate::emit::Code;
-use crate::function::function_of;
 use crate::size::{frame_bytes, function_words, too_large};
+use crate::tree::{SmallFile, SmallFunction};
 use bs_fault::BuildError;
 use bs_words::{Comp, List, Name, Ret};
-use cmm_tree::{File, Function, Param};
+use cmm_tree::Param;
 use image_form::{FuncRow, Image, SymRow};
 use std::alloc::{AllocError, Global};
 
@@ -30,16 +31,16 @@ use std::alloc::{AllocError, Global};
 ///
 /// It is refused where a section would pass its limit, with the first such section and the bytes that
 /// its body would have; that is found before any code is made. `OutOfMemory` says that memory ran out.
-pub fn compile_small(alloc: Global, file: &File) -> Result<Image, BuildError>
+pub fn compile_small(alloc: Global, file: &SmallFile) -> Result<Image, BuildError>
     requires { IsSmall (file_view file.now) }
     ensures exact { IfOk result (λ image. tables image ≡ compiled (file_view file.now)) }
     ensures is_image { IfOk result IsImage }
-    ensures correct { IfOk result (λ image. IsCorrect (file_view file.now) (tables image)) }
-    ensures bounded { IfOk result (λ image. IsBounded (file_view file.now) (tables image)) }
+    ensures correct { IfOk result (λ image. IsCorrect (embedded_file (file_view file.now)) (tables image)) }
+    ensures bounded { IfOk result (λ image. IsBounded (embedded_file (file_view file.now)) (tables image)) }
     ensures frames { IfOk result (λ image. AllZip HasLeastFrame (functions (file_view file.now)) (tables image).funcs) }
     ensures keeps_limits { IfOk result (λ image. first_too_large (tables image) ≡ None) }
     ensures large { (large : Large) → result ≡ Err (BuildError.TooLarge large) → first_too_large (compiled (file_view file.now)) ≡ Some large }
-    ensures roomy { IsRoomy (file_view file.now) → (large : Large) → result ≢ Err (BuildError.TooLarge large) }
+    ensures roomy { IsRoomy (embedded_file (file_view file.now)) → (large : Large) → result ≢ Err (BuildError.TooLarge large) }
 {
     if let Some(large) = too_large(file) {
         return Err(BuildError::TooLarge(large));
@@ -49,15 +50,14 @@ pub fn compile_small(alloc: Global, file: &File) -> Result<Image, BuildError>
 }
 
 /// The image of a file whose sections keep their limits.
-fn image(alloc: Global, file: &File) -> Result<Image, AllocError>
+fn image(alloc: Global, file: &SmallFile) -> Result<Image, AllocError>
     requires small { IsSmall (file_view file.now) }
     requires fits { first_too_large (compiled (file_view file.now)) ≡ None }
     ensures { IfOk result (λ image. tables image ≡ compiled (file_view file.now)) }
 {
     let mut code = Code::of_stub(alloc)?;
     let mut funcs = Vec::new(alloc);
-    for item in file.items.as_slice() {
-        let function = function_of(item);
+    for function in file.functions.as_slice() {
         funcs.push(row(alloc, function, code.len())?)?;
         code.function(function)?;
     }
@@ -75,7 +75,7 @@ fn image(alloc: Global, file: &File) -> Result<Image, AllocError>
 }
 
 /// The row of a function whose code begins behind so many words.
-fn row(alloc: Global, function: &Function, words_before: usize) -> Result<FuncRow, AllocError>
+fn row(alloc: Global, function: &SmallFunction, words_before: usize) -> Result<FuncRow, AllocError>
     requires small { IsSmallFunction (function_view function.now) }
     requires fits { 4 * words_before < 2 ^ 32 }
     ensures { IfOk result (λ row. func row ≡ row_at (4 * words_before) (function_view function.now)) }
@@ -90,7 +90,7 @@ fn row(alloc: Global, function: &Function, words_before: usize) -> Result<FuncRo
     })
 }
 
-fn copied(alloc: Global, name: &Name) -> Result<Name, AllocError>
+pub(crate) fn copied(alloc: Global, name: &Name) -> Result<Name, AllocError>
     ensures { IfOk result (λ copy. copy ≡ name.now) }
 {
     let bytes = name.as_bytes().to_vec(alloc)?;

@@ -4,14 +4,18 @@
 //! text is a definition, and `compile_small` gives exactly that.
 #![tactic(auto)]
 
+mod convert;
 mod emit;
 mod expression;
 mod function;
 mod image;
 mod registers;
 mod size;
+mod tree;
 
+pub use convert::small_file;
 pub use image::compile_small;
+pub use tree::{SmallExpr, SmallFile, SmallForm, SmallFunction};
 
 #[cfg(test)]
 mod tests;

@@ -1,16 +1,15 @@
 //! How large code and tables become, before any of it is made.
 ghost use Rattle.std.specs.Prelude.{◌≡◌, ℕ, ◌+◌, ◌*◌, ◌<◌, ◌≤◌, [], length, Option};
-ghost use Rattle.cmm_tree.specs.View.{expr_view, function_view, file_view};
-ghost use Rattle.cmm_tree.specs.Small.{IsSmall, IsSmallFunction, nodes};
+ghost use Rattle.small_code.specs.View.{expr_view, function_view, file_view};
+ghost use Rattle.small_code.specs.Small.{IsSmall, IsSmallFunction, nodes};
 ghost use Rattle.image_form.specs.Image.{func_bytes};
 ghost use Rattle.small_code.specs.Code.{expression_code, slots, frame_bytes};
 ghost use Rattle.small_code.specs.Compiled.{function_words, row_at, compiled};
 ghost use Rattle.small_code.specs.TooLarge.{section_bytes_of, first_too_large};
 ghost use Rattle.bs_fault.specs.declared.large.Section.TheVariants as section;
 
-use crate::function::function_of;
+use crate::tree::{SmallExpr, SmallFile, SmallForm, SmallFunction};
 use bs_fault::{Large, Section};
-use cmm_tree::{Expr, File, Form, Function};
 
 /// The most bytes of the body of FUNC.
 const TABLE_LIMIT: u64 = 67_108_864;
@@ -19,36 +18,38 @@ const TABLE_LIMIT: u64 = 67_108_864;
 const CODE_LIMIT: u64 = 268_369_920;
 
 /// The nodes of an expression: integers, names and operators.
-fn nodes(expr: &Expr) -> u16
+fn nodes(expr: &SmallExpr) -> u16
     requires { nodes (expr_view expr.now) ≤ 4000 }
     ensures { result ≡ nodes (expr_view expr.now) }
 {
     match &expr.form {
-        Form::Integer(_) => 1,
-        Form::Name(_) => 1,
-        Form::Operator(_, left, right) => 1 + (nodes(left) + nodes(right)),
+        SmallForm::Integer(_) => 1,
+        SmallForm::Name(_) => 1,
+        SmallForm::Operator(_, left, right) => 1 + (nodes(left) + nodes(right)),
     }
 }
 
 /// The words of an expression's code. They are as many whatever its slots are.
-fn expression_words(expr: &Expr) -> u32
+fn expression_words(expr: &SmallExpr) -> u32
     requires { nodes (expr_view expr.now) ≤ 4000 }
     ensures exact { result ≡ length (expression_code [] 0 (expr_view expr.now)) }
     ensures most { result ≤ 15 * nodes (expr_view expr.now) }
 {
     match &expr.form {
         // the constant, and a store
-        Form::Integer(_) => 15,
+        SmallForm::Integer(_) => 15,
         // a load and a store
-        Form::Name(_) => 8,
+        SmallForm::Name(_) => 8,
         // two loads, the operation and a store
-        Form::Operator(_, left, right) => expression_words(right) + expression_words(left) + 13,
+        SmallForm::Operator(_, left, right) => expression_words(right)
+            + expression_words(left)
+            + 13,
     }
 }
 
 /// The words of a function's code: twice a move of sp, a store for each argument, the body, a load and
 /// the return.
-pub fn function_words(function: &Function) -> u32
+pub fn function_words(function: &SmallFunction) -> u32
     requires { IsSmallFunction (function_view function.now) }
     ensures exact { result ≡ length (function_words (function_view function.now)) }
     ensures most { result ≤ 60000 }
@@ -58,7 +59,7 @@ pub fn function_words(function: &Function) -> u32
 
 /// The bytes of a function's frame: the least multiple of 16 that holds 8 bytes for each slot, one for
 /// each parameter and one for each node of the body.
-pub fn frame_bytes(function: &Function) -> u32
+pub fn frame_bytes(function: &SmallFunction) -> u32
     requires { IsSmallFunction (function_view function.now) }
     ensures exact { result ≡ frame_bytes (function_view function.now) }
     ensures most { result < 32768 }
@@ -69,7 +70,7 @@ pub fn frame_bytes(function: &Function) -> u32
 
 /// The bytes of a function's row: its name behind 2 bytes, its types behind 1, three numbers of 4 bytes
 /// and the type of its result.
-fn row_bytes(function: &Function) -> u64
+fn row_bytes(function: &SmallFunction) -> u64
     requires { IsSmallFunction (function_view function.now) }
     ensures exact { (offset : ℕ) → result ≡ length (func_bytes (row_at offset (function_view function.now))) }
     ensures most { result ≤ 287 }
@@ -85,14 +86,13 @@ struct Sizes {
 }
 
 impl Sizes {
-    fn of(file: &File) -> Sizes
+    fn of(file: &SmallFile) -> Sizes
         requires { IsSmall (file_view file.now) }
         ensures funcs { result.funcs ≡ section_bytes_of (compiled (file_view file.now)) section.Func }
         ensures code { result.code ≡ section_bytes_of (compiled (file_view file.now)) section.Code }
     {
         let mut sizes = Sizes { funcs: 4, code: 16 };
-        for item in file.items.as_slice() {
-            let function = function_of(item);
+        for function in file.functions.as_slice() {
             sizes.funcs += row_bytes(function);
             sizes.code += 4 * u64::from(function_words(function));
         }
@@ -101,7 +101,7 @@ impl Sizes {
 }
 
 /// The first section of the file's image that would pass its limit.
-pub fn too_large(file: &File) -> Option<Large>
+pub fn too_large(file: &SmallFile) -> Option<Large>
     requires { IsSmall (file_view file.now) }
     ensures { result ≡ first_too_large (compiled (file_view file.now)) }
 {

@@ -1,12 +1,12 @@
 //! Images of small files. The words of code are those of another assembler.
-ghost use Rattle.std.specs.Prelude.{◌≡◌, [], ◌∷◌, codes, IfOk};
-ghost use Rattle.cmm_tree.specs.Tree as tree;
-ghost use Rattle.cmm_tree.specs.View.{expr_view, param_view, function_view, file_view};
-ghost use Rattle.cmm_tree.specs.Small.{IsSmall};
+ghost use Rattle.std.specs.Prelude.{◌≡◌, ◌+◌, ◌<◌, [], ◌∷◌, codes, IfOk};
+ghost use Rattle.small_code.specs.Tree as tree;
+ghost use Rattle.small_code.specs.View.{expr_view, param_view, function_view, file_view};
+ghost use Rattle.small_code.specs.Small.{IsSmall};
 
-use crate::compile_small;
+use crate::{SmallExpr, SmallFile, SmallForm, SmallFunction, compile_small};
 use bs_words::{Comp, IntOp, List, Name, Ret};
-use cmm_tree::{Expr, File, Form, Function, Item, Param};
+use cmm_tree::Param;
 use image_form::write_image;
 use std::alloc::{AllocError, Global};
 use std::test::Fail;
@@ -14,8 +14,8 @@ use std::test::Fail;
 #[test]
 fn image_of_no_function(rt: HostRuntime) -> Result<(), Fail> {
     let alloc = rt.alloc();
-    let file = File {
-        items: List::new(alloc),
+    let file = SmallFile {
+        functions: List::new(alloc),
     };
     let image = compile_small(alloc, &file)?;
     let bytes = write_image(alloc, &image)?;
@@ -32,47 +32,51 @@ fn image_of_no_function(rt: HostRuntime) -> Result<(), Fail> {
 }
 
 /// A name at a place of the text.
-fn named(alloc: Global, at: u32, name: &[u8]) -> Result<Expr, AllocError>
+fn named(alloc: Global, at: u32, name: &[u8]) -> Result<SmallExpr, AllocError>
     ensures { IfOk result (λ e. expr_view e ≡ tree.Name at name.now) }
 {
     let name = Name::from_vec(name.to_vec(alloc)?);
-    Ok(Expr {
+    Ok(SmallExpr {
         at,
-        form: Form::Name(name),
+        form: SmallForm::Name(name),
     })
 }
 
 /// A parameter of type int at a place of the text.
 fn param(alloc: Global, at: u32, name: &[u8]) -> Result<Param, AllocError>
-    ensures { IfOk result (λ p. param_view p ≡ record { at = at; name = name.now; comp = Comp.Int }) }
+    requires { at < 1000 }
+    ensures { IfOk result (λ p. param_view p ≡ record { at = at; name = name.now; comp = Comp.Int; comp_at = at + 2 }) }
 {
     let name = Name::from_vec(name.to_vec(alloc)?);
     Ok(Param {
         at,
         name,
         comp: Comp::Int,
+        comp_at: at + 2,
     })
 }
 
 /// The function of `(function "d" (a:int b:int) (- a b))`.
-fn difference(alloc: Global) -> Result<Function, AllocError>
+fn difference(alloc: Global) -> Result<SmallFunction, AllocError>
     ensures { IfOk result (λ f. function_view f ≡ record {
       at = 0;
+      name_at = 10;
       name = codes "d";
-      params = record { at = 15; name = codes "a"; comp = Comp.Int } ∷ record { at = 21; name = codes "b"; comp = Comp.Int } ∷ [];
+      params = record { at = 15; name = codes "a"; comp = Comp.Int; comp_at = 17 } ∷ record { at = 21; name = codes "b"; comp = Comp.Int; comp_at = 23 } ∷ [];
       body = tree.Operator 29 IntOp.Sub (tree.Name 32 (codes "a")) (tree.Name 34 (codes "b"));
       tokens = 17;
     }) }
 {
     let left = Box::new(alloc, named(alloc, 32, b"a")?)?;
     let right = Box::new(alloc, named(alloc, 34, b"b")?)?;
-    let body = Expr {
+    let body = SmallExpr {
         at: 29,
-        form: Form::Operator(IntOp::Sub, left, right),
+        form: SmallForm::Operator(IntOp::Sub, left, right),
     };
     let params = vec![in alloc; param(alloc, 15, b"a")?, param(alloc, 21, b"b")?]?;
-    Ok(Function {
+    Ok(SmallFunction {
         at: 0,
+        name_at: 10,
         name: Name::from_vec(b"d".to_vec(alloc)?),
         params: List::from_vec(params),
         body,
@@ -81,12 +85,12 @@ fn difference(alloc: Global) -> Result<Function, AllocError>
 }
 
 /// The file of that function.
-fn difference_file(alloc: Global) -> Result<File, AllocError>
+fn difference_file(alloc: Global) -> Result<SmallFile, AllocError>
     ensures { IfOk result (λ file. IsSmall (file_view file)) }
 {
-    let items = vec![in alloc; Item::Function(difference(alloc)?)]?;
-    Ok(File {
-        items: List::from_vec(items),
+    let functions = vec![in alloc; difference(alloc)?]?;
+    Ok(SmallFile {
+        functions: List::from_vec(functions),
     })
 }
 

@@ -1,7 +1,7 @@
 use Rattle.std.proofs.Common.{sym, ◌∙◌, subst}
 use Rattle.std.specs.List.{AllZip}
-use Rattle.cmm_tree.specs.Tree.{functions}
-use Rattle.cmm_tree.specs.View.{file_view}
+use Rattle.small_code.specs.Tree.{functions, embedded_file}
+use Rattle.small_code.specs.View.{file_view}
 use Rattle.correctness.specs.Bounds.{IsBounded}
 use Rattle.correctness.specs.Correct.{IsCorrect}
 use Rattle.image_form.specs.Image.{AreTables}
@@ -25,12 +25,12 @@ returns-clause-is_image c =
 pub returns-clause-correct : goal.returns-clause-correct
 returns-clause-correct c =
     let file = file_view c.args.file.now in
-    subst (IsCorrect file) (sym c.in_ok-image.ensures) (compiled-correct file c.requires (are_tables file c.requires (sym c.too_large.ensures ∙ c.in_default.is)))
+    subst (IsCorrect (embedded_file file)) (sym c.in_ok-image.ensures) (compiled-correct file c.requires (are_tables file c.requires (sym c.too_large.ensures ∙ c.in_default.is)))
 
 pub returns-clause-bounded : goal.returns-clause-bounded
 returns-clause-bounded c =
     let file = file_view c.args.file.now in
-    subst (IsBounded file) (sym c.in_ok-image.ensures) (is_bounded file c.requires)
+    subst (IsBounded (embedded_file file)) (sym c.in_ok-image.ensures) (is_bounded file c.requires)
 
 pub returns-clause-frames : goal.returns-clause-frames
 returns-clause-frames c =

@@ -1,6 +1,6 @@
 use Rattle.std.proofs.Common.{◌≡◌, map, take}
-use Rattle.cmm_tree.specs.Tree.{Parameter}
-use Rattle.cmm_tree.specs.View.{param_view}
+use Rattle.small_code.specs.Tree.{Parameter}
+use Rattle.small_code.specs.View.{param_view}
 use Rattle.small_code.proofs.image.components.Given as goal
 
 abbrev pub invariant-loop-param : goal.invariant-loop-param

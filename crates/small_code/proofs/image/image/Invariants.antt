@@ -5,9 +5,9 @@ use Rattle.small_code.specs.Compiled.{function_words, rows_from, stub}
 use Rattle.small_code.proofs.Files.{functions_first}
 use Rattle.small_code.proofs.image.image.Given as goal
 
-abbrev pub invariant-loop-item : goal.invariant-loop-item
-invariant-loop-item l = record {
-  items : l.item-items ≡ contents l.file.items;
-  funcs : map func l.funcs.items ≡ rows_from 16 (functions_first l.item-index l.item-items);
-  code : l.code.words.items ≡ stub ++ flat_map function_words (functions_first l.item-index l.item-items);
+abbrev pub invariant-loop-function : goal.invariant-loop-function
+invariant-loop-function l = record {
+  items : l.function-items ≡ contents l.file.functions;
+  funcs : map func l.funcs.items ≡ rows_from 16 (functions_first l.function-index l.function-items);
+  code : l.code.words.items ≡ stub ++ flat_map function_words (functions_first l.function-index l.function-items);
 }

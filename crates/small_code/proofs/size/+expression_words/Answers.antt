@@ -1,6 +1,6 @@
 use Rattle.std.proofs.Common.{[], sym, arith}
-use Rattle.cmm_tree.specs.Tree.{Integer, Name}
-use Rattle.cmm_tree.specs.View.{expr_view}
+use Rattle.small_code.specs.Tree.{Integer, Name}
+use Rattle.small_code.specs.View.{expr_view}
 use Rattle.small_code.proofs.Sizes.{length-expression, length-operator}
 use Rattle.small_code.proofs.size.+expression_words.Goals as goal
 

@@ -1,6 +1,6 @@
 use Rattle.std.proofs.Common.{arith}
 use Rattle.std.proofs.lemmas.List.{length-map}
-use Rattle.cmm_tree.specs.View.{function_view, param_view}
+use Rattle.small_code.specs.View.{function_view, param_view}
 use Rattle.small_code.proofs.Sizes.{length-function_by}
 use Rattle.small_code.proofs.size.function_words.Goals as goal
 

@@ -1,6 +1,6 @@
 use Rattle.std.proofs.Common.{length, ap, arith}
 use Rattle.std.proofs.lemmas.List.{length-map}
-use Rattle.cmm_tree.specs.View.{function_view, param_view}
+use Rattle.small_code.specs.View.{function_view, param_view}
 use Rattle.small_code.proofs.Sizes.{length-row}
 use Rattle.small_code.proofs.size.row_bytes.Goals as goal
 

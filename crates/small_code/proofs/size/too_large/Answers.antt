@@ -1,5 +1,5 @@
 use Rattle.std.proofs.Common.{sym, arith}
-use Rattle.cmm_tree.specs.View.{file_view}
+use Rattle.small_code.specs.View.{file_view}
 use Rattle.small_code.proofs.Limits.{none_passes}
 use Rattle.small_code.proofs.size.too_large.Goals as goal
 

@@ -1,5 +1,5 @@
 use Rattle.std.proofs.Common.{arith}
-use Rattle.cmm_tree.specs.View.{expr_view}
+use Rattle.small_code.specs.View.{expr_view}
 use Rattle.small_code.proofs.Values.{some_nodes}
 use Rattle.small_code.proofs.emit.Code.+expression.Goals as goal
 

@@ -1,7 +1,7 @@
 use Rattle.std.proofs.Common.{◌≡◌, ◌-◌, length, ap, ◌∙◌, sym, arith}
 use Rattle.std.proofs.lemmas.List.{length-map}
 use Rattle.std.proofs.lemmas.Result.{on_ok_weaker}
-use Rattle.cmm_tree.specs.View.{expr_view, function_view, param_view}
+use Rattle.small_code.specs.View.{expr_view, function_view, param_view}
 use Rattle.small_code.specs.Code.{parameters, slots}
 use Rattle.small_code.specs.Names.{names_in}
 use Rattle.small_code.proofs.Emitted.{function_steps}

@@ -5,11 +5,11 @@ use Rattle.small_code.specs.Compiled.{function_words, rows_from}
 use Rattle.small_code.proofs.Files.{functions_first}
 use Rattle.small_code.proofs.size.Sizes.of.Given as goal
 
-abbrev pub invariant-loop-item : goal.invariant-loop-item
-invariant-loop-item l = record {
-  items : l.item-items ≡ contents l.file.items;
-  funcs : l.sizes.funcs ≡ 4 + length (flat_map func_bytes (rows_from 16 (functions_first l.item-index l.item-items)));
-  code : l.sizes.code ≡ 16 + 4 * length (flat_map function_words (functions_first l.item-index l.item-items));
-  funcs_most : l.sizes.funcs ≤ 4 + 287 * l.item-index;
-  code_most : l.sizes.code ≤ 16 + 240000 * l.item-index;
+abbrev pub invariant-loop-function : goal.invariant-loop-function
+invariant-loop-function l = record {
+  items : l.function-items ≡ contents l.file.functions;
+  funcs : l.sizes.funcs ≡ 4 + length (flat_map func_bytes (rows_from 16 (functions_first l.function-index l.function-items)));
+  code : l.sizes.code ≡ 16 + 4 * length (flat_map function_words (functions_first l.function-index l.function-items));
+  funcs_most : l.sizes.funcs ≤ 4 + 287 * l.function-index;
+  code_most : l.sizes.code ≤ 16 + 240000 * l.function-index;
 }

@@ -1,0 +1,31 @@
+//! Static data at its place.
+use bs_words::{List, Name, Value};
+
+/// A symbol of static data.
+#[derive(Debug, Drop)]
+pub struct DataSymbol {
+    pub name: Name,
+    pub address: u32,
+}
+
+/// A list of static data: the address of its first byte, its bytes, and the values of its cells of 8 bytes.
+/// Zeros fill up the last cell where the bytes are no multiple of 8.
+#[derive(Debug, Drop)]
+pub struct DataCells {
+    pub start: u32,
+    pub size: u32,
+    pub cells: List<Value>,
+}
+
+/// The static data of a file at its place, the built-in list first.
+#[derive(Debug, Drop)]
+pub struct DataMap {
+    /// In the order of their places.
+    pub symbols: List<DataSymbol>,
+    /// In the order of their addresses.
+    pub lists: List<DataCells>,
+    /// The addresses of the root cells, in order.
+    pub roots: List<u32>,
+    /// The bytes of the data, from its start to its end.
+    pub bytes: u32,
+}

@@ -1,0 +1,102 @@
+//! The values of the symbols of a file.
+ghost use Rattle.std.specs.Prelude.{◌≡◌, ◌+◌, ◌≤◌, [], ◌∷◌, None, map, IfOk};
+ghost use Rattle.std.specs.Option.{option_to_list};
+ghost use Rattle.bs_words.specs.Fits.{data_start};
+ghost use Rattle.cmm_tree.specs.View.{file_view, data_item_view, datum_view};
+ghost use Rattle.cmm_data.specs.Placement.{items_from, end_of_items, symbol_at, definition_of_data, defined_at};
+ghost use Rattle.cmm_data.specs.Faults.{data_limit, first_fault, data_fault_of};
+
+use crate::size::{DATA_START, size_at, start_behind};
+use bs_words::Value;
+use cmm_tree::{DataItem, Datum, File, Item};
+use std::alloc::{AllocError, Global};
+use std::collections::BTreeMap;
+
+/// The symbol of the built-in list, which a failed test of an index raises.
+pub const BOUND_ERROR: &[u8] = b"caml_bound_error";
+
+/// The symbols of a file and what they stand for: a function by its number among the file's functions, or
+/// the address of static data. Of a symbol that is defined twice it has the first definition in the text.
+#[derive(Drop)]
+pub struct SymbolTable<'a> {
+    values: BTreeMap<&'a [u8], Value>,
+}
+
+impl<'a> SymbolTable<'a> {
+    ghost use Rattle.cmm_data.specs.Symbols.{value_in, Adds, IsTableOf};
+
+    /// The table of the file.
+    pub fn of_file(alloc: Global, file: &'a File) -> Result<SymbolTable<'a>, AllocError>
+        requires { data_fault_of (file_view file.now) ≡ None }
+        ensures { IfOk result (IsTableOf (file_view file.now)) }
+    {
+        let mut table = SymbolTable {
+            values: BTreeMap::new(alloc),
+        };
+        table.define(BOUND_ERROR, Value::Word(DATA_START))?;
+        let mut functions = 0;
+        let mut end = DATA_START + 8;
+        for item in file.items.as_slice() {
+            match item {
+                Item::Function(function) => {
+                    table.define(function.name.as_bytes(), Value::Function(functions))?;
+                    functions = next_number(functions)?;
+                }
+                Item::Data(list) => {
+                    end = table.define_items(start_behind(end), list.items.as_slice())?;
+                }
+            }
+        }
+        Ok(table)
+    }
+
+    /// What the symbol stands for, if it is defined.
+    pub fn value_of(&self, name: &[u8]) -> Option<Value>
+        ensures { result ≡ value_in self.now name.now }
+    {
+        self.values.get(name).copied()
+    }
+
+    /// Adds a definition. An earlier one of the same name stays.
+    fn define(&mut self, name: &'a [u8], value: Value) -> Result<(), AllocError>
+        ensures { IfOk result (λ _. Adds self.old self.new (record { name = name.now; value = value } ∷ [])) }
+    {
+        if !self.values.contains_key(name) {
+            self.values.insert(name, value)?;
+        }
+        Ok(())
+    }
+
+    /// Adds the symbol that an item at the address defines, if it does.
+    fn define_at(&mut self, address: u64, datum: &'a Datum) -> Result<(), AllocError>
+        ensures { IfOk result (λ _. Adds self.old self.new (map definition_of_data (option_to_list (symbol_at address (datum_view datum.now))))) }
+    {
+        match datum {
+            Datum::Define(name) => self.define(name.as_bytes(), Value::Word(address)),
+            _ => Ok(()),
+        }
+    }
+
+    /// Adds the symbols of a list, whose items stand from the address on, and answers its end.
+    fn define_items(&mut self, start: u64, items: &'a [DataItem]) -> Result<u64, AllocError>
+        requires within { start ≤ data_start + data_limit }
+        requires faultless { first_fault (items_from start (map data_item_view items.now)) ≡ None }
+        ensures adds { IfOk result (λ _. Adds self.old self.new (defined_at start (map data_item_view items.now))) }
+        ensures end { IfOk result (λ end. end ≡ end_of_items start (map data_item_view items.now)) }
+        ensures within { IfOk result (λ end. end ≤ data_start + data_limit) }
+    {
+        let mut address = start;
+        for item in items {
+            self.define_at(address, &item.datum)?;
+            address += size_at(address, &item.datum);
+        }
+        Ok(address)
+    }
+}
+
+/// The number after this one. A file of more functions than a `u32` can number does not fit in memory.
+fn next_number(number: u32) -> Result<u32, AllocError>
+    ensures { IfOk result (λ next. next ≡ number + 1) }
+{
+    number.checked_add(1).ok_or(AllocError)
+}

@@ -1,0 +1,37 @@
+-- What is known of a whole file that was read and accepted, as far as a small file needs it.
+use Rattle.std.specs.Prelude.{◌≢◌, ⊤, ℕ, ◌+◌, ◌*◌, ◌^◌, ◌<◌, ◌≤◌, List, length, map, All, Contains, sum_by}
+use Rattle.cmm_tree.specs.Tree.{Expression, Integer, Name, Operator, FunctionTree, FileTree, functions, names_of}
+use Rattle.correctness.specs.Measures.{nodes}
+use Rattle.small_code.specs.Small.{IsSymbol, AllDiffer, caml_bound_error, longest_text, most_tokens, most_parameters}
+
+-- every name of an expression that a small file can have is one of these; nothing is said of others
+abbrev pub NamesBound : List (List ℕ) → Expression → Type 0
+NamesBound names (Name at name) = Contains names name
+NamesBound names (Operator at op left right) = NamesBound names left × NamesBound names right
+NamesBound names _ = ⊤
+
+-- and every integer is a word of 64 bits
+abbrev pub IntegersFit : Expression → Type 0
+IntegersFit (Integer at word) = word < 2 ^ 64
+IntegersFit (Operator at op left right) = IntegersFit left × IntegersFit right
+IntegersFit _ = ⊤
+
+-- What is known of a function that was read and accepted.
+pub record IsReadFunction (f : FunctionTree) : Type 0 where
+  pub symbol : IsSymbol f.name
+  pub not_built_in : f.name ≢ caml_bound_error
+  pub few_params : length f.params ≤ most_parameters
+  pub bound : NamesBound (names_of f) f.body
+  pub integers_fit : IntegersFit f.body
+  pub few_tokens : f.tokens ≤ most_tokens
+  -- six of its own, three for each parameter, and at least one for each node
+  pub tokens_cover : 6 + 3 * length f.params + nodes f ≤ f.tokens
+
+-- What is known of a file that was read and accepted.
+pub record IsRead (file : FileTree) : Type 0 where
+  pub each : All IsReadFunction (functions file)
+  pub names_differ : AllDiffer (map (λ (f : FunctionTree). f.name) (functions file))
+  -- each token has a byte of its own
+  pub tokens_fit : sum_by (λ (f : FunctionTree). f.tokens) (functions file) ≤ longest_text
+  -- and each function at least seven tokens
+  pub few_functions : 7 * length (functions file) ≤ longest_text
