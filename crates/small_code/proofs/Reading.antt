@@ -9,7 +9,7 @@ use Rattle.bs_words.specs.declared.types.Comp.TheVariants as comp
 use Rattle.cmm_tree.specs.Built.{is_built_operator, is_built, is_int, all_int, is_built_function, all_built, not_built}
 use Rattle.cmm_tree.specs.Tree as whole
 use Rattle.correctness.specs.Measures.{total, counts_one}
-use Rattle.small_code.specs.Read.{NamesBound, IntegersFit, IsReadFunction, IsRead}
+use Rattle.small_code.specs.Read.{NamesBound, IntegersFit, IsReadFunction, IsReadSmall}
 use Rattle.small_code.specs.Small.{NamesAmong, WordsFit, SmallOperators, nodes, IsSmallFunction, IsSmall, AllDiffer}
 use Rattle.small_code.specs.Tree.{SmallExpression, Integer, Name, Operator, SmallFunctionTree, SmallFileTree, Parameter, embedded, embedded_function, embedded_item, embedded_file}
 
@@ -101,7 +101,7 @@ built-not : (b : Bool) → not b ≡ false → b ≡ true
 built-not true h = refl
 built-not false h = absurd (cc)
 
-pub read-small : (small : SmallFileTree) → not_built (embedded_file small) ≡ false → IsRead (embedded_file small) → IsSmall small
+pub read-small : (small : SmallFileTree) → not_built (embedded_file small) ≡ false → IsReadSmall (embedded_file small) → IsSmall small
 read-small small built read =
     let fs = small.functions in
     record {
@@ -112,6 +112,6 @@ read-small small built read =
     }
 
 -- the same where the whole file is another's view
-pub read-small-of : (small : SmallFileTree) (file : whole.FileTree) → embedded_file small ≡ file → not_built file ≡ false → IsRead file → IsSmall small
+pub read-small-of : (small : SmallFileTree) (file : whole.FileTree) → embedded_file small ≡ file → not_built file ≡ false → IsReadSmall file → IsSmall small
 read-small-of small file same built read =
-    read-small small (ap not_built same ∙ built) (subst IsRead (sym same) read)
+    read-small small (ap not_built same ∙ built) (subst IsReadSmall (sym same) read)

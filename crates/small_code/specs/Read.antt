@@ -28,7 +28,7 @@ pub record IsReadFunction (f : FunctionTree) : Type 0 where
   pub tokens_cover : 6 + 3 * length f.params + nodes f ≤ f.tokens
 
 -- What is known of a file that was read and accepted.
-pub record IsRead (file : FileTree) : Type 0 where
+pub record IsReadSmall (file : FileTree) : Type 0 where
   pub each : All IsReadFunction (functions file)
   pub names_differ : AllDiffer (map (λ (f : FunctionTree). f.name) (functions file))
   -- each token has a byte of its own

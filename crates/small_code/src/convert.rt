@@ -3,7 +3,7 @@ ghost use Rattle.std.specs.Prelude.{◌≡◌, true, false, IfOk};
 ghost use Rattle.bs_words.specs.Contents.{contents};
 ghost use Rattle.cmm_tree.specs.Built.{is_built, is_built_function, not_built};
 ghost use Rattle.cmm_tree.specs.View as whole;
-ghost use Rattle.small_code.specs.Read.{IsRead};
+ghost use Rattle.small_code.specs.Read.{IsReadSmall};
 ghost use Rattle.small_code.specs.Small.{IsSmall};
 ghost use Rattle.small_code.specs.Tree.{embedded, embedded_function, embedded_file};
 ghost use Rattle.small_code.specs.View.{expr_view, function_view, file_view};
@@ -17,7 +17,7 @@ use std::alloc::{AllocError, Global};
 /// The small file that this file is: its functions, in order. It fails only if memory runs out.
 pub fn small_file(alloc: Global, file: &File) -> Result<SmallFile, AllocError>
     requires built { not_built (whole.file_view file.now) ≡ false }
-    requires read { IsRead (whole.file_view file.now) }
+    requires read { IsReadSmall (whole.file_view file.now) }
     ensures same { IfOk result (λ small. embedded_file (file_view small) ≡ whole.file_view file.now) }
     ensures small { IfOk result (λ small. IsSmall (file_view small)) }
 {
