@@ -169,9 +169,9 @@ comments-from (suc n) (b ∷ c ∷ bs) rest e =
           inside = b ∷ h.inside;
           ends = subst (λ (m : ℕ). EndsComments m (b ∷ h.inside)) one
               (comment_byte n b h.inside
-                  (no_sign b c 40 42 bs h.inside rest is_open h.whole)
-                  (no_sign b c 42 41 bs h.inside rest is_close h.whole)
-                  (subst (λ (m : ℕ). EndsComments m h.inside) back h.ends));
+              (no_sign b c 40 42 bs h.inside rest is_open h.whole)
+              (no_sign b c 42 41 bs h.inside rest is_close h.whole)
+              (subst (λ (m : ℕ). EndsComments m h.inside) back h.ends));
           whole = ap (λ (v : List ℕ). b ∷ v) h.whole;
         }
 
@@ -221,4 +221,4 @@ comments-to n inside rest (comment_byte k b bytes x y h) =
     let later = comments-to (k + 1) bytes rest h in
     subst (λ (m : ℕ). behind_comments m (b ∷ (bytes ++ rest)) ≡ Some rest) one
     (byte-on k b bytes rest x y (ends-some (k + 1) k bytes h refl)
-        ∙ subst (λ (m : ℕ). behind_comments m (bytes ++ rest) ≡ Some rest) (sym one) later)
+    ∙ subst (λ (m : ℕ). behind_comments m (bytes ++ rest) ≡ Some rest) (sym one) later)

@@ -237,6 +237,7 @@ fine-end (b ∷ bs) tail none closed = at_quote (b == 34) (b == 92) refl refl no
         at_code : (t : Bool) → cond {A = Option (ℕ × List ℕ)} t (Some (coded a c d, cs)) (Some (escaped a, c ∷ d ∷ cs)) ≡ None → ⊥
         at_code true e = cc
         at_code false e = cc
+
     at_quote : (t u : Bool)
         → (b == 34) ≡ t
         → (b == 92) ≡ u

@@ -95,9 +95,9 @@ token-on at n rest behind text k ts f h size same s =
     subst (λ (v : List ℕ). Splits at rest (record { at = at; kind = k; text = v } ∷ ts) f) (sym same)
     (subst (λ (v : List ℕ). Splits at v (record { at = at; kind = k; text = h.text } ∷ ts) f) (sym h.whole)
     (token at k h.text behind ts f h.is_token
-        (subst (λ (v : List ℕ). Longest (length h.text) v) h.whole h.longest)
-        (subst (λ (v : List ℕ). BeginsWith v (opening AComment) → ⊥) h.whole h.no_comment)
-        (subst (λ (m : ℕ). Splits (at + m) behind ts f) (sym size) s)))
+    (subst (λ (v : List ℕ). Longest (length h.text) v) h.whole h.longest)
+    (subst (λ (v : List ℕ). BeginsWith v (opening AComment) → ⊥) h.whole h.no_comment)
+    (subst (λ (m : ℕ). Splits (at + m) behind ts f) (sym size) s)))
 
 pub push-view : (source : List ℕ) (tokens more : List declared.Token) (t : declared.Token) (ts : List TokenTree)
     → more ≡ tokens ++ t ∷ []

@@ -59,101 +59,277 @@ record IsKeywordOf (k : TokenKind) (text : List ℕ) : Type 0 where
 
 -- the keywords of the table are keywords
 keywords-are : Each (λ (e : List ℕ × TokenKind). IsKeywordOf e.1 e.0) keyword_table
-keywords-are =
-    (record { keyword = word.Function; is_kind = refl; is_text = refl },
-    (record { keyword = word.Int; is_kind = refl; is_text = refl },
-    (record { keyword = word.Val; is_kind = refl; is_text = refl },
-    (record { keyword = word.Addr; is_kind = refl; is_text = refl },
-    (record { keyword = word.Float; is_kind = refl; is_text = refl },
-    (record { keyword = word.Unit; is_kind = refl; is_text = refl },
-    (record { keyword = word.Let; is_kind = refl; is_text = refl },
-    (record { keyword = word.Letmut; is_kind = refl; is_text = refl },
-    (record { keyword = word.Assign; is_kind = refl; is_text = refl },
-    (record { keyword = word.App; is_kind = refl; is_text = refl },
-    (record { keyword = word.Extcall; is_kind = refl; is_text = refl },
-    (record { keyword = word.Alloc; is_kind = refl; is_text = refl },
-    (record { keyword = word.Load; is_kind = refl; is_text = refl },
-    (record { keyword = word.Store; is_kind = refl; is_text = refl },
-    (record { keyword = word.Checkbound; is_kind = refl; is_text = refl },
-    (record { keyword = word.Intaref; is_kind = refl; is_text = refl },
-    (record { keyword = word.Addraref; is_kind = refl; is_text = refl },
-    (record { keyword = word.Intaset; is_kind = refl; is_text = refl },
-    (record { keyword = word.Addraset; is_kind = refl; is_text = refl },
-    (record { keyword = word.Mod; is_kind = refl; is_text = refl },
-    (record { keyword = word.Mulh; is_kind = refl; is_text = refl },
-    (record { keyword = word.And; is_kind = refl; is_text = refl },
-    (record { keyword = word.Or; is_kind = refl; is_text = refl },
-    (record { keyword = word.Xor; is_kind = refl; is_text = refl },
-    (record { keyword = word.Raise; is_kind = refl; is_text = refl },
-    (record { keyword = word.Reraise; is_kind = refl; is_text = refl },
-    (record { keyword = word.RaiseNotrace; is_kind = refl; is_text = refl },
-    (record { keyword = word.Seq; is_kind = refl; is_text = refl },
-    (record { keyword = word.If; is_kind = refl; is_text = refl },
-    (record { keyword = word.Switch; is_kind = refl; is_text = refl },
-    (record { keyword = word.Case; is_kind = refl; is_text = refl },
-    (record { keyword = word.While; is_kind = refl; is_text = refl },
-    (record { keyword = word.Catch; is_kind = refl; is_text = refl },
-    (record { keyword = word.With; is_kind = refl; is_text = refl },
-    (record { keyword = word.Exit; is_kind = refl; is_text = refl },
-    (record { keyword = word.Try; is_kind = refl; is_text = refl },
-    (record { keyword = word.Absf; is_kind = refl; is_text = refl },
-    (record { keyword = word.Floatofint; is_kind = refl; is_text = refl },
-    (record { keyword = word.Intoffloat; is_kind = refl; is_text = refl },
-    (record { keyword = word.Floataref; is_kind = refl; is_text = refl },
-    (record { keyword = word.Floataset; is_kind = refl; is_text = refl },
-    (record { keyword = word.Unsigned; is_kind = refl; is_text = refl },
-    (record { keyword = word.Signed; is_kind = refl; is_text = refl },
-    (record { keyword = word.Byte; is_kind = refl; is_text = refl },
-    (record { keyword = word.Half; is_kind = refl; is_text = refl },
-    (record { keyword = word.Int32; is_kind = refl; is_text = refl },
-    (record { keyword = word.Float32; is_kind = refl; is_text = refl },
-    (record { keyword = word.Float64; is_kind = refl; is_text = refl },
-    (record { keyword = word.Data; is_kind = refl; is_text = refl },
-    (record { keyword = word.Skip; is_kind = refl; is_text = refl },
-    (record { keyword = word.Align; is_kind = refl; is_text = refl },
-    (record { keyword = word.String; is_kind = refl; is_text = refl },
-    (record { keyword = word.Global; is_kind = refl; is_text = refl },
-    tt)))))))))))))))))))))))))))))))))))))))))))))))))))))
+keywords-are = (
+  record { keyword = word.Function; is_kind = refl; is_text = refl },
+  (
+    record { keyword = word.Int; is_kind = refl; is_text = refl },
+    (
+      record { keyword = word.Val; is_kind = refl; is_text = refl },
+      (
+        record { keyword = word.Addr; is_kind = refl; is_text = refl },
+        (
+          record { keyword = word.Float; is_kind = refl; is_text = refl },
+          (
+            record { keyword = word.Unit; is_kind = refl; is_text = refl },
+            (
+              record { keyword = word.Let; is_kind = refl; is_text = refl },
+              (
+                record { keyword = word.Letmut; is_kind = refl; is_text = refl },
+                (
+                  record { keyword = word.Assign; is_kind = refl; is_text = refl },
+                  (
+                    record { keyword = word.App; is_kind = refl; is_text = refl },
+                    (
+                      record { keyword = word.Extcall; is_kind = refl; is_text = refl },
+                      (
+                        record { keyword = word.Alloc; is_kind = refl; is_text = refl },
+                        (
+                          record { keyword = word.Load; is_kind = refl; is_text = refl },
+                          (
+                            record { keyword = word.Store; is_kind = refl; is_text = refl },
+                            (
+                              record { keyword = word.Checkbound; is_kind = refl; is_text = refl },
+                              (
+                                record { keyword = word.Intaref; is_kind = refl; is_text = refl },
+                                (
+                                  record { keyword = word.Addraref; is_kind = refl; is_text = refl },
+                                  (
+                                    record { keyword = word.Intaset; is_kind = refl; is_text = refl },
+                                    (
+                                      record { keyword = word.Addraset; is_kind = refl; is_text = refl },
+                                      (
+                                        record { keyword = word.Mod; is_kind = refl; is_text = refl },
+                                        (
+                                          record { keyword = word.Mulh; is_kind = refl; is_text = refl },
+                                          (
+                                            record { keyword = word.And; is_kind = refl; is_text = refl },
+                                            (
+                                              record { keyword = word.Or; is_kind = refl; is_text = refl },
+                                              (
+                                                record { keyword = word.Xor; is_kind = refl; is_text = refl },
+                                                (
+                                                  record { keyword = word.Raise; is_kind = refl; is_text = refl },
+                                                  (
+                                                    record { keyword = word.Reraise; is_kind = refl; is_text = refl },
+                                                    (
+                                                      record { keyword = word.RaiseNotrace; is_kind = refl; is_text = refl },
+                                                      (
+                                                        record { keyword = word.Seq; is_kind = refl; is_text = refl },
+                                                        (
+                                                          record { keyword = word.If; is_kind = refl; is_text = refl },
+                                                          (
+                                                            record { keyword = word.Switch; is_kind = refl; is_text = refl },
+                                                            (
+                                                              record { keyword = word.Case; is_kind = refl; is_text = refl },
+                                                              (
+                                                                record { keyword = word.While; is_kind = refl; is_text = refl },
+                                                                (
+                                                                  record { keyword = word.Catch; is_kind = refl; is_text = refl },
+                                                                  (
+                                                                    record { keyword = word.With; is_kind = refl; is_text = refl },
+                                                                    (
+                                                                      record { keyword = word.Exit; is_kind = refl; is_text = refl },
+                                                                      (
+                                                                        record { keyword = word.Try; is_kind = refl; is_text = refl },
+                                                                        (
+                                                                          record { keyword = word.Absf; is_kind = refl; is_text = refl },
+                                                                          (
+                                                                            record { keyword = word.Floatofint; is_kind = refl; is_text = refl },
+                                                                            (
+                                                                              record { keyword = word.Intoffloat; is_kind = refl; is_text = refl },
+                                                                              (
+                                                                                record { keyword = word.Floataref; is_kind = refl; is_text = refl },
+                                                                                (
+                                                                                  record { keyword = word.Floataset; is_kind = refl; is_text = refl },
+                                                                                  (
+                                                                                    record { keyword = word.Unsigned; is_kind = refl; is_text = refl },
+                                                                                    (
+                                                                                      record { keyword = word.Signed; is_kind = refl; is_text = refl },
+                                                                                      (
+                                                                                        record { keyword = word.Byte; is_kind = refl; is_text = refl },
+                                                                                        (
+                                                                                          record { keyword = word.Half; is_kind = refl; is_text = refl },
+                                                                                          (
+                                                                                            record { keyword = word.Int32; is_kind = refl; is_text = refl },
+                                                                                            (
+                                                                                              record { keyword = word.Float32; is_kind = refl; is_text = refl },
+                                                                                              (
+                                                                                                record { keyword = word.Float64; is_kind = refl; is_text = refl },
+                                                                                                (
+                                                                                                  record { keyword = word.Data; is_kind = refl; is_text = refl },
+                                                                                                  (
+                                                                                                    record { keyword = word.Skip; is_kind = refl; is_text = refl },
+                                                                                                    (
+                                                                                                      record { keyword = word.Align; is_kind = refl; is_text = refl },
+                                                                                                      (
+                                                                                                        record { keyword = word.String; is_kind = refl; is_text = refl },
+                                                                                                        (
+                                                                                                          record { keyword = word.Global; is_kind = refl; is_text = refl },
+                                                                                                          tt,
+                                                                                                        ),
+                                                                                                      ),
+                                                                                                    ),
+                                                                                                  ),
+                                                                                                ),
+                                                                                              ),
+                                                                                            ),
+                                                                                          ),
+                                                                                        ),
+                                                                                      ),
+                                                                                    ),
+                                                                                  ),
+                                                                                ),
+                                                                              ),
+                                                                            ),
+                                                                          ),
+                                                                        ),
+                                                                      ),
+                                                                    ),
+                                                                  ),
+                                                                ),
+                                                              ),
+                                                            ),
+                                                          ),
+                                                        ),
+                                                      ),
+                                                    ),
+                                                  ),
+                                                ),
+                                              ),
+                                            ),
+                                          ),
+                                        ),
+                                      ),
+                                    ),
+                                  ),
+                                ),
+                              ),
+                            ),
+                          ),
+                        ),
+                      ),
+                    ),
+                  ),
+                ),
+              ),
+            ),
+          ),
+        ),
+      ),
+    ),
+  ),
+)
 
 signs-are : Each (λ (e : List ℕ × TokenKind). IsToken e.1 e.0) sign_table
-signs-are =
-    (is_sign sign.Open _ refl,
-    (is_sign sign.Close _ refl,
-    (is_sign sign.OpenBracket _ refl,
-    (is_sign sign.CloseBracket _ refl,
-    (is_sign sign.Colon _ refl,
-    (is_operator op.Add _ (0, lit< tt, refl),
-    (is_operator op.Sub _ (1, lit< tt, refl),
-    (is_operator op.Mul _ (2, lit< tt, refl),
-    (is_operator op.Div _ (3, lit< tt, refl),
-    (is_operator op.Shl _ (4, lit< tt, refl),
-    (is_operator op.Shr _ (5, lit< tt, refl),
-    (is_operator op.Sar _ (6, lit< tt, refl),
-    (is_operator (op.Cmp cmp.Eq) _ (7, lit< tt, refl),
-    (is_operator (op.Cmp cmp.Ne) _ (8, lit< tt, refl),
-    (is_operator (op.Cmp cmp.Lt) _ (9, lit< tt, refl),
-    (is_operator (op.Cmp cmp.Le) _ (10, lit< tt, refl),
-    (is_operator (op.Cmp cmp.Gt) _ (11, lit< tt, refl),
-    (is_operator (op.Cmp cmp.Ge) _ (12, lit< tt, refl),
-    (is_operator op.AddV _ (13, lit< tt, refl),
-    (is_operator op.AddA _ (14, lit< tt, refl),
-    (is_operator (op.CmpU cmp.Eq) _ (15, lit< tt, refl),
-    (is_operator (op.CmpU cmp.Ne) _ (16, lit< tt, refl),
-    (is_operator (op.CmpU cmp.Lt) _ (17, lit< tt, refl),
-    (is_operator (op.CmpU cmp.Le) _ (18, lit< tt, refl),
-    (is_operator (op.CmpU cmp.Gt) _ (19, lit< tt, refl),
-    (is_operator (op.CmpU cmp.Ge) _ (20, lit< tt, refl),
-    (is_float_operator _ (0, lit< tt, refl),
-    (is_float_operator _ (1, lit< tt, refl),
-    (is_float_operator _ (2, lit< tt, refl),
-    (is_float_operator _ (3, lit< tt, refl),
-    (is_float_operator _ (4, lit< tt, refl),
-    (is_float_operator _ (5, lit< tt, refl),
-    (is_float_operator _ (6, lit< tt, refl),
-    (is_float_operator _ (7, lit< tt, refl),
-    (is_float_operator _ (8, lit< tt, refl),
-    (is_float_operator _ (9, lit< tt, refl),
-    tt))))))))))))))))))))))))))))))))))))
+signs-are = (
+  is_sign sign.Open _ refl,
+  (
+    is_sign sign.Close _ refl,
+    (
+      is_sign sign.OpenBracket _ refl,
+      (
+        is_sign sign.CloseBracket _ refl,
+        (
+          is_sign sign.Colon _ refl,
+          (
+            is_operator op.Add _ (0, lit< tt, refl),
+            (
+              is_operator op.Sub _ (1, lit< tt, refl),
+              (
+                is_operator op.Mul _ (2, lit< tt, refl),
+                (
+                  is_operator op.Div _ (3, lit< tt, refl),
+                  (
+                    is_operator op.Shl _ (4, lit< tt, refl),
+                    (
+                      is_operator op.Shr _ (5, lit< tt, refl),
+                      (
+                        is_operator op.Sar _ (6, lit< tt, refl),
+                        (
+                          is_operator (op.Cmp cmp.Eq) _ (7, lit< tt, refl),
+                          (
+                            is_operator (op.Cmp cmp.Ne) _ (8, lit< tt, refl),
+                            (
+                              is_operator (op.Cmp cmp.Lt) _ (9, lit< tt, refl),
+                              (
+                                is_operator (op.Cmp cmp.Le) _ (10, lit< tt, refl),
+                                (
+                                  is_operator (op.Cmp cmp.Gt) _ (11, lit< tt, refl),
+                                  (
+                                    is_operator (op.Cmp cmp.Ge) _ (12, lit< tt, refl),
+                                    (
+                                      is_operator op.AddV _ (13, lit< tt, refl),
+                                      (
+                                        is_operator op.AddA _ (14, lit< tt, refl),
+                                        (
+                                          is_operator (op.CmpU cmp.Eq) _ (15, lit< tt, refl),
+                                          (
+                                            is_operator (op.CmpU cmp.Ne) _ (16, lit< tt, refl),
+                                            (
+                                              is_operator (op.CmpU cmp.Lt) _ (17, lit< tt, refl),
+                                              (
+                                                is_operator (op.CmpU cmp.Le) _ (18, lit< tt, refl),
+                                                (
+                                                  is_operator (op.CmpU cmp.Gt) _ (19, lit< tt, refl),
+                                                  (
+                                                    is_operator (op.CmpU cmp.Ge) _ (20, lit< tt, refl),
+                                                    (
+                                                      is_float_operator _ (0, lit< tt, refl),
+                                                      (
+                                                        is_float_operator _ (1, lit< tt, refl),
+                                                        (
+                                                          is_float_operator _ (2, lit< tt, refl),
+                                                          (
+                                                            is_float_operator _ (3, lit< tt, refl),
+                                                            (
+                                                              is_float_operator _ (4, lit< tt, refl),
+                                                              (
+                                                                is_float_operator _ (5, lit< tt, refl),
+                                                                (
+                                                                  is_float_operator _ (6, lit< tt, refl),
+                                                                  (
+                                                                    is_float_operator _ (7, lit< tt, refl),
+                                                                    (
+                                                                      is_float_operator _ (8, lit< tt, refl),
+                                                                      (
+                                                                        is_float_operator _ (9, lit< tt, refl),
+                                                                        tt,
+                                                                      ),
+                                                                    ),
+                                                                  ),
+                                                                ),
+                                                              ),
+                                                            ),
+                                                          ),
+                                                        ),
+                                                      ),
+                                                    ),
+                                                  ),
+                                                ),
+                                              ),
+                                            ),
+                                          ),
+                                        ),
+                                      ),
+                                    ),
+                                  ),
+                                ),
+                              ),
+                            ),
+                          ),
+                        ),
+                      ),
+                    ),
+                  ),
+                ),
+              ),
+            ),
+          ),
+        ),
+      ),
+    ),
+  ),
+)
 
 keyword-found : (k : Keyword) → find_spelled keyword_table (keyword_text k) ≡ Some (kind.Keyword k)
 keyword-found word.Function = refl
@@ -180,44 +356,104 @@ IsSpelled k text = (accepts (run Start text) ≡ Some shape.Signs) × (find_spel
 
 operators-are : Each (λ (e : IntOp × List ℕ). IsSpelled (kind.Operator e.0) e.1) operators
 unfolding IsSpelled
-operators-are =
-    ((refl, refl),
-    ((refl, refl),
-    ((refl, refl),
-    ((refl, refl),
-    ((refl, refl),
-    ((refl, refl),
-    ((refl, refl),
-    ((refl, refl),
-    ((refl, refl),
-    ((refl, refl),
-    ((refl, refl),
-    ((refl, refl),
-    ((refl, refl),
-    ((refl, refl),
-    ((refl, refl),
-    ((refl, refl),
-    ((refl, refl),
-    ((refl, refl),
-    ((refl, refl),
-    ((refl, refl),
-    ((refl, refl),
-    tt)))))))))))))))))))))
+operators-are = (
+  (refl, refl),
+  (
+    (refl, refl),
+    (
+      (refl, refl),
+      (
+        (refl, refl),
+        (
+          (refl, refl),
+          (
+            (refl, refl),
+            (
+              (refl, refl),
+              (
+                (refl, refl),
+                (
+                  (refl, refl),
+                  (
+                    (refl, refl),
+                    (
+                      (refl, refl),
+                      (
+                        (refl, refl),
+                        (
+                          (refl, refl),
+                          (
+                            (refl, refl),
+                            (
+                              (refl, refl),
+                              (
+                                (refl, refl),
+                                (
+                                  (refl, refl),
+                                  (
+                                    (refl, refl),
+                                    (
+                                      (refl, refl),
+                                      (
+                                        (refl, refl),
+                                        (
+                                          (refl, refl),
+                                          tt,
+                                        ),
+                                      ),
+                                    ),
+                                  ),
+                                ),
+                              ),
+                            ),
+                          ),
+                        ),
+                      ),
+                    ),
+                  ),
+                ),
+              ),
+            ),
+          ),
+        ),
+      ),
+    ),
+  ),
+)
 
 float_operators-are : Each (λ (text : List ℕ). IsSpelled kind.FloatOperator text) float_operators
 unfolding IsSpelled
-float_operators-are =
-    ((refl, refl),
-    ((refl, refl),
-    ((refl, refl),
-    ((refl, refl),
-    ((refl, refl),
-    ((refl, refl),
-    ((refl, refl),
-    ((refl, refl),
-    ((refl, refl),
-    ((refl, refl),
-    tt))))))))))
+float_operators-are = (
+  (refl, refl),
+  (
+    (refl, refl),
+    (
+      (refl, refl),
+      (
+        (refl, refl),
+        (
+          (refl, refl),
+          (
+            (refl, refl),
+            (
+              (refl, refl),
+              (
+                (refl, refl),
+                (
+                  (refl, refl),
+                  (
+                    (refl, refl),
+                    tt,
+                  ),
+                ),
+              ),
+            ),
+          ),
+        ),
+      ),
+    ),
+  ),
+)
 
 -- ---- forms of spelled words
 

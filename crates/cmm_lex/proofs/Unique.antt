@@ -300,8 +300,8 @@ all-tokens-move at k text rest are is longest no_comment =
     string-token-move at k text rest is_kind (inside, e, h) =
         subst (λ (v : List ℕ). move at (v ++ rest) ≡ Take k (length v)) (sym e)
         (string-move at inside rest (inside-ends inside h)
-            ∙ ap (bad_move at (length (34 ∷ inside))) (inside-no_bad 0 inside h)
-            ∙ ap (λ (j : TokenKind). Take j (length (34 ∷ inside))) (sym is_kind))
+        ∙ ap (bad_move at (length (34 ∷ inside))) (inside-no_bad 0 inside h)
+        ∙ ap (λ (j : TokenKind). Take j (length (34 ∷ inside))) (sym is_kind))
 
 -- ---- faults
 
