@@ -1,3 +1,4 @@
 pub mod Fine
 pub mod Basics
 pub mod Sound
+pub mod Complete

@@ -24,7 +24,7 @@ IsSound s d r = (ts : List TokenTree) (a : Value s) (rest : List TokenTree) → 
 abbrev pub FormsSound : ℕ → Type 0
 FormsSound d = (e : ℕ) → e < d → (at : ℕ) → IsSound AnExpression e (form at)
 
-lower : (d : ℕ) → FormsSound (suc d) → FormsSound d
+pub lower : (d : ℕ) → FormsSound (suc d) → FormsSound d
 lower d h e less at = h e (omega arith) at
 
 bracket_sound : (d : ℕ) (o : TokenTree) (ts : List TokenTree) (a : Expression) (rest : List TokenTree)
