@@ -1,0 +1,11 @@
+pub mod Behind
+pub mod Closings
+pub mod Comments
+pub mod Escapes
+pub mod Fronts
+pub mod Languages
+pub mod Numbers
+pub mod Pairs
+pub mod Places
+pub mod Scans
+pub mod Spelled

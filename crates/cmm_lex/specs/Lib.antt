@@ -1,1 +1,9 @@
+pub mod Enclosed
+pub mod Form
+pub mod Integers
+pub mod Automaton
+pub mod Lexing
+pub mod Scanning
+pub mod Strings
 pub mod Token
+pub mod Tokens
