@@ -1,0 +1,4 @@
+pub mod Fine
+pub mod Basics
+pub mod Sound
+pub mod Complete
