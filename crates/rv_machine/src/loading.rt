@@ -207,6 +207,7 @@ fn at_entry<'a>(
         pc,
         memory,
         STACK_BOTTOM - stack,
+        heap,
         blocks,
     ))
 }

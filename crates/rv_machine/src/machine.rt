@@ -27,6 +27,7 @@ pub struct Machine<'a> {
     pc: u64,
     memory: Memory,
     stack_base: u64,
+    heap: u64,
     // The blocks by serial. `load` takes the memory of the whole table.
     blocks: Vec<BlockPlace>,
     retired: u64,
@@ -42,7 +43,7 @@ impl<'a> Model for Machine<'a> {
 
     ghost Value = { Hart };
 
-    ghost view = { λ m. record { image = tables m.image.now; registers = m.registers; pc = m.pc; memory = m.memory; stack_base = m.stack_base; blocks = m.blocks.items; retired = m.retired; services = m.services } };
+    ghost view = { λ m. record { image = tables m.image.now; registers = m.registers; pc = m.pc; memory = m.memory; stack_base = m.stack_base; heap = m.heap; blocks = m.blocks.items; retired = m.retired; services = m.services } };
 
     // x0 holds 0, so that it is read as the others are.
     ghost invariant = { λ m. (slice_index m.registers 0 ≡ 0) × IsImage m.image.now };
@@ -57,12 +58,13 @@ impl<'a> Machine<'a> {
         pc: u64,
         memory: Memory,
         stack_base: u64,
+        heap: u64,
         blocks: Vec<BlockPlace>,
     ) -> Self
         requires zero { slice_index registers 0 ≡ 0 }
         requires rules { IsImage image.now }
         requires no_block { blocks.items ≡ [] }
-        ensures { result ≡ record { image = tables image.now; registers = registers; pc = pc; memory = memory; stack_base = stack_base; blocks = []; retired = 0; services = 0 } }
+        ensures { result ≡ record { image = tables image.now; registers = registers; pc = pc; memory = memory; stack_base = stack_base; heap = heap; blocks = []; retired = 0; services = 0 } }
     {
         Machine {
             image,
@@ -70,6 +72,7 @@ impl<'a> Machine<'a> {
             pc,
             memory,
             stack_base,
+            heap,
             blocks,
             retired: 0,
             services: 0,

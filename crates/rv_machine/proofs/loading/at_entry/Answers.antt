@@ -13,6 +13,7 @@ returns c = λ entry args offset words.
       pc = 0x10000 + from;
       memory = memory;
       stack_base = 0x3FFFFFF0 - c.args.stack;
+      heap = c.args.heap;
       blocks = [];
       retired = 0;
       services = 0;
