@@ -4,7 +4,7 @@ use Rattle.std.specs.List.{list_any, list_all}
 use Rattle.bs_words.specs.Word.{add_word}
 use Rattle.image_form.specs.Tables.{Desc}
 use Rattle.rv_machine.specs.Hart.{Hart, register}
-use Rattle.rv_machine.specs.Memory.{word, code_start}
+use Rattle.rv_machine.specs.Memory.{Region, word, code_start}
 use Rattle.rv_machine.specs.Places.{stack_end}
 
 -- A frame: its lowest address, and the descriptor of the place to which its callee returns.
@@ -56,13 +56,13 @@ frame_then fits at d rest = cond fits (option_map (λ fs. record { at = at; desc
 -- The frames from a return address and a stack pointer up to the stub's address, the lowest first; none
 -- where a return address has no descriptor, a frame does not lie in the stack or names a register too
 -- late. A frame has 16 bytes at least, so that no stack has more of them than the bound allows.
-abbrev pub frames_from : ℕ → Hart → Bool → ℕ → ℕ → Option (List Frame)
-frames_from zero h first address at = None
-frames_from (suc most) h first address at =
+abbrev pub frames_from : ℕ → List Desc → ℕ → List Region → Bool → ℕ → ℕ → Option (List Frame)
+frames_from zero descs base memory first address at = None
+frames_from (suc most) descs base memory first address at =
     cond (address == code_start) (Some [])
     (option_and_then
-    (λ d. frame_then (is_frame first h.stack_base at d) at d (frames_from most h false (word h.memory (return_slot at d)) (add_word at d.size)))
-    (descriptor_at h.image.descs address))
+    (λ d. frame_then (is_frame first base at d) at d (frames_from most descs base memory false (word memory (return_slot at d)) (add_word at d.size)))
+    (descriptor_at descs address))
 
 -- the most frames that a stack holds, and one
 abbrev pub most_frames : ℕ → ℕ
@@ -70,7 +70,7 @@ most_frames base = suc ((stack_end - base) / 16)
 
 -- the frames of a machine that stands at a service: the innermost one returns behind the ECALL
 abbrev pub frames : Hart → Option (List Frame)
-frames h = frames_from (most_frames h.stack_base) h true (h.pc + 4) (register h 2)
+frames h = frames_from (most_frames h.stack_base) h.image.descs h.stack_base h.memory true (h.pc + 4) (register h 2)
 
 -- ---- the locations that frames name
 
