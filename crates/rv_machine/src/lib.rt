@@ -19,6 +19,7 @@ pub mod space;
 pub mod start;
 mod step;
 pub mod step_end;
+pub mod table;
 
 pub use cause::Cause;
 pub use code::CODE_START;
@@ -29,6 +30,7 @@ pub use memory::Memory;
 pub use setup::{Arg, LoadError, Setup};
 pub use space::Space;
 pub use step_end::StepEnd;
+pub use table::Table;
 
 #[cfg(test)]
 mod tests;
