@@ -1,13 +1,22 @@
-// A library with one function.
+//! The allocation service of the machine: it moves every block of the heap.
+//!
+//! The service is a definition of `rv_machine` (`specs/Allocation.antt`), and `service` gives exactly that,
+//! in time linear in the bytes of the blocks and in the stack. It takes no memory: the machine has what is
+//! needed.
 #![tactic(auto)]
 
-ghost use Rattle.std.specs.Prelude.{◌≡◌};
-ghost use Rattle.alloc_service.specs.Echo.{echo_of};
+mod choice;
+mod claims;
+mod forward;
+mod moves;
+pub mod plan;
+mod roots;
+pub mod serving;
+pub mod service_end;
+mod stack;
+mod starts;
+mod young;
 
-// The `ensures` clause is the contract: what `echo` returns is `echo_of` of its argument, a definition
-// in `specs/Echo.antt`, which a caller's clause can cite too.
-pub fn echo(x: usize) -> usize
-    ensures { result ≡ echo_of x }
-{
-    x
-}
+pub use plan::Plan;
+pub use serving::service;
+pub use service_end::ServiceEnd;

@@ -1,0 +1,4 @@
+pub mod Apart
+pub mod InHeap
+pub mod Steps
+pub mod Walking
