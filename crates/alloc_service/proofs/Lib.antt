@@ -1,4 +1,10 @@
 pub mod Apart
+pub mod Chain
+pub mod Falling
+pub mod Gathered
 pub mod InHeap
+pub mod Packing
+pub mod Placing
 pub mod Steps
 pub mod Walking
+pub mod Words

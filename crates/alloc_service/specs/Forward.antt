@@ -1,9 +1,9 @@
 -- The table of marks while a service moves blocks: at the old start of each block it has the new one.
-use Rattle.std.specs.Prelude.{◌≡◌, ℕ, zero, suc, ◌+◌, ◌*◌, ◌<◌, ◌≤◌, ◌%◌, Bool, true, false, cond, not, ◌&&◌, ◌||◌, ◌==◌, nat_le, nat_lt, List, [], ◌∷◌, length, slice_index, take, drop, ◌^◌, IsSome, sum_by}
+use Rattle.std.specs.Prelude.{◌≡◌, ℕ, zero, suc, ◌+◌, ◌*◌, ◌<◌, ◌≤◌, ◌%◌, Bool, true, false, cond, not, ◌&&◌, ◌||◌, ◌==◌, nat_le, nat_lt, List, [], ◌∷◌, length, slice_index, take, drop, ◌^◌, Some, IsSome}
 use Rattle.std.specs.List.{list_all, list_any, flat_map}
-use Rattle.image_form.specs.Tables.{Tables}
+use Rattle.image_form.specs.Tables.{Desc, Tables}
 use Rattle.rv_machine.specs.Allocation.{is_in_data, is_in_code}
-use Rattle.rv_machine.specs.Frames.{Frame, registers_of, slots_of}
+use Rattle.rv_machine.specs.Frames.{Frame, frames_from, most_frames, registers_of, slots_of}
 use Rattle.rv_machine.specs.Hart.{Placed, with_register}
 use Rattle.rv_machine.specs.Marks.{Marks, mark_at, place_of}
 use Rattle.rv_machine.specs.Memory.{Region, word, write, put}
@@ -47,11 +47,17 @@ abbrev pub redirected_now : (ℕ → ℕ) → List Region → List ℕ → List 
 redirected_now f m [] = m
 redirected_now f m (a ∷ as') = redirected_now f (write m a (f (word m a))) as'
 
+-- the places that the frames from a return address and a stack pointer on name are rewritten
+pub record Redirects (f : ℕ → ℕ) (descs : List Desc) (base : ℕ) (old new : List Region) (address sp : ℕ) : Type 0 where
+  pub each :
+      (fs : List Frame) → frames_from (most_frames base) descs base old true address sp ≡ Some fs →
+      new ≡ redirected_now f old (slots_of fs)
+
 -- the same of registers; x0 stays
 abbrev pub redirected_registers_now : (ℕ → ℕ) → List ℕ → List ℕ → List ℕ
-redirected_registers_now f [] registers = registers
-redirected_registers_now f (r ∷ rs) registers =
-    redirected_registers_now f rs (with_register r (f (slice_index registers r)) registers)
+redirected_registers_now f registers [] = registers
+redirected_registers_now f registers (r ∷ rs) =
+    redirected_registers_now f (with_register r (f (slice_index registers r)) registers) rs
 
 -- the words, as many as each block has with its header, poured to the blocks' places one after the other
 abbrev pub poured : List Region → List ℕ → List Placed → List Region
@@ -64,7 +70,8 @@ words_moved f m blocks = flat_map (rewritten_block f m) blocks
 
 -- so many words of all blocks
 abbrev pub words_of : List Placed → ℕ
-words_of blocks = sum_by (λ (b : Placed). suc b.words) blocks
+words_of [] = 0
+words_of (b ∷ bs) = suc b.words + words_of bs
 
 -- ---- claims
 
@@ -96,3 +103,9 @@ pub record IsLow (b : Placed) : Type 0 where
   pub low : b.start + 8 * b.words < 2 ^ 63
   pub high : 8 ≤ b.start
   pub some : 1 ≤ b.words
+
+-- the registers that the first of the frames names are rewritten
+pub record RedirectsFirst (f : ℕ → ℕ) (descs : List Desc) (base : ℕ) (memory : List Region) (old new : List ℕ) (address sp : ℕ) : Type 0 where
+  pub each :
+      (fs : List Frame) → frames_from (most_frames base) descs base memory true address sp ≡ Some fs →
+      new ≡ redirected_registers_now f old (registers_of fs)

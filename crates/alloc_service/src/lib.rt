@@ -9,6 +9,7 @@ mod choice;
 mod claims;
 mod forward;
 mod moves;
+mod attempt;
 pub mod plan;
 mod roots;
 pub mod serving;

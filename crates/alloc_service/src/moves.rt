@@ -1,18 +1,18 @@
 //! Moving the blocks, and rewriting what points to them.
-ghost use Rattle.std.specs.Prelude.{◌≡◌, ◌≤◌, ◌<◌, ◌+◌, ◌*◌, ◌++◌, ◌^◌, suc, zero, Bool, cond, length, map, replicate, slice_index, Some, List, true};
+ghost use Rattle.std.specs.Prelude.{◌≡◌, ◌≤◌, ◌<◌, ◌+◌, ◌*◌, ◌/◌, ◌++◌, ◌^◌, suc, zero, Bool, cond, length, map, replicate, slice_index, Some, List, true};
 ghost use Rattle.std.specs.List.{AllByRecursion};
 ghost use Rattle.std.specs.Vec.{vec_len, vec_capacity};
 ghost use Rattle.bs_words.specs.Contents.{contents};
 ghost use Rattle.image_form.specs.Image.{IsImage};
 ghost use Rattle.image_form.specs.Tables.{desc, tables};
 ghost use Rattle.rv_machine.specs.Allocation.{root_cells};
-ghost use Rattle.rv_machine.specs.Frames.{Frame, frames_from, most_frames, registers_named, registers_of, slots_named, slots_of};
+ghost use Rattle.rv_machine.specs.Frames.{is_register, registers_named, slots_named};
 ghost use Rattle.rv_machine.specs.Hart.{with_register};
 ghost use Rattle.rv_machine.specs.Memory.{put, words_at, write, word};
 ghost use Rattle.rv_machine.specs.Moving.{rewritten_block, rewritten_cells, vacated};
 ghost use Rattle.rv_machine.specs.Placement.{placed_at};
 ghost use Rattle.rv_machine.specs.Places.{filler};
-ghost use Rattle.alloc_service.specs.Forward.{IsLow, forward, poured, redirected_now, redirected_registers_now, words_moved, words_of};
+ghost use Rattle.alloc_service.specs.Forward.{IsLow, Redirects, forward, poured, redirected_now, redirected_registers_now, words_moved, words_of};
 
 use crate::forward::forward;
 use crate::stack::{STACK_END, descriptor_of};
@@ -39,6 +39,7 @@ fn gather_block(memory: &Memory, table: &Table, start: u64, count: u64, words: &
     requires low { start + 8 * count < 2 ^ 63 }
     requires high { 8 ≤ start }
     requires room { vec_len words.old + suc count ≤ vec_capacity words.old }
+    ensures len { vec_len words.new ≡ vec_len words.old + suc count }
     ensures gathered { words.new.items ≡ words.old.items ++ rewritten_block (forward table.now) memory.now (record { start = start; words = count }) }
     ensures capacity { vec_capacity words.old ≤ vec_capacity words.new }
 {
@@ -58,6 +59,7 @@ fn gather_cells(
 )
     requires low { start + 8 * count < 2 ^ 63 }
     requires room { vec_len words.old + count ≤ vec_capacity words.old }
+    ensures len { vec_len words.new ≡ vec_len words.old + count }
     ensures gathered { words.new.items ≡ words.old.items ++ rewritten_cells scanned (forward table.now) (words_at memory.now start count) }
     ensures capacity { vec_capacity words.old ≤ vec_capacity words.new }
 {
@@ -160,7 +162,8 @@ pub fn redirect_roots(memory: &mut Memory, table: &Table, image: &Image)
 pub fn redirect_slots(memory: &mut Memory, table: &Table, image: &Image, base: u64, address: u64, sp: u64)
     requires image { IsImage image.now }
     requires base { base ≤ 0x40000000 }
-    ensures { (fs : List Frame) → frames_from (most_frames base) (map desc (contents image.now.descs)) base memory.old true address sp ≡ Some fs → memory.new ≡ redirected_now (forward table.now) memory.old (slots_of fs) }
+    requires above { 0x10000 ≤ base }
+    ensures { Redirects (forward table.now) (map desc (contents image.now.descs)) base memory.old memory.new address sp }
 {
     let mut most = (STACK_END - base) / 16 + 1;
     let mut address = address;
@@ -196,9 +199,17 @@ pub fn redirect_registers(registers: &mut [u64; 32], table: &Table, entries: &[u
     ensures zero { slice_index registers.new 0 ≡ slice_index registers.old 0 }
 {
     for entry in entries {
-        if entry % 2 == 1 {
-            redirect_register(registers, table, (entry / 2) as usize);
-        }
+        redirect_entry(registers, table, *entry);
+    }
+}
+
+// Rewrites the register that an entry names, where it names one.
+fn redirect_entry(registers: &mut [u64; 32], table: &Table, entry: u32)
+    ensures exact { registers.new ≡ cond (is_register entry) (with_register (entry / 2) (forward table.now (slice_index registers.old (entry / 2))) registers.old) registers.old }
+    ensures zero { slice_index registers.new 0 ≡ slice_index registers.old 0 }
+{
+    if entry % 2 == 1 {
+        redirect_register(registers, table, (entry / 2) as usize);
     }
 }
 

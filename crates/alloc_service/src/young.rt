@@ -30,13 +30,13 @@ pub fn take_young(
 ) -> Taken
     requires most { heap ≤ 67108864 }
     requires empty { young.old.items ≡ [] }
-    requires room { 4096 ≤ vec_capacity young.old }
+    requires room { 4097 ≤ vec_capacity young.old }
     requires table { heap / 16 ≤ vec_capacity blocks.old }
     requires fits { bytes_used blocks.old.items ≤ heap }
     requires some { AllByRecursion HasCells blocks.old.items }
     ensures taken { Takes result (young_blocks memory.now from) heap blocks.old.items blocks.new.items }
     ensures empty { young.new.items ≡ [] }
-    ensures room { 4096 ≤ vec_capacity young.new }
+    ensures room { 4097 ≤ vec_capacity young.new }
     ensures table { heap / 16 ≤ vec_capacity blocks.new }
 {
     if !read_young(memory, from, young) {
@@ -55,9 +55,9 @@ pub fn take_young(
 // whole blocks.
 fn read_young(memory: &Memory, from: u64, young: &mut Vec<BlockPlace>) -> bool
     requires empty { young.old.items ≡ [] }
-    requires room { 4096 ≤ vec_capacity young.old }
+    requires room { 4097 ≤ vec_capacity young.old }
     ensures exact { Reads result (young_blocks memory.now from) young.new.items }
-    ensures room { 4096 ≤ vec_capacity young.new }
+    ensures room { 4097 ≤ vec_capacity young.new }
 {
     if from % 8 != 0 || from < YOUNG_START || from > YOUNG_TOP {
         return false;

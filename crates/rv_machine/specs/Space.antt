@@ -15,7 +15,7 @@ pub record IsSpace (heap : ℕ) (space : Space) : Type 0 where
   pub no_young : space.young.items ≡ []
   pub no_starts : space.starts.items ≡ []
   pub no_words : space.words.items ≡ []
-  pub young : 4096 ≤ vec_capacity space.young
+  pub young : 4097 ≤ vec_capacity space.young
   pub starts : heap / 16 ≤ vec_capacity space.starts
   pub words : heap / 8 ≤ vec_capacity space.words
 

@@ -9,6 +9,7 @@ abbrev pub invariant-loop-left : goal.invariant-loop-left
 invariant-loop-left l = record {
   gathered : l.words.items ++ rewritten_cells l.scanned (forward l.table) (words_at l.memory l.at l.left)
       ≡ l.initial.words.items ++ rewritten_cells l.scanned (forward l.table) (words_at l.memory l.start l.count);
+  len : vec_len l.words + l.left ≡ vec_len l.initial.words + l.count;
   room : vec_len l.words + l.left ≤ vec_capacity l.words;
   kept : vec_capacity l.initial.words ≤ vec_capacity l.words;
   low : l.at + 8 * l.left < 2 ^ 63;

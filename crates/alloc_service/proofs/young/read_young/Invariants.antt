@@ -10,7 +10,7 @@ invariant-loop-most l = record {
   near : l.at + 2056 * l.most ≤ 0x38010000 + 2056 * 4097;
   few : l.most ≤ 4097;
   count : vec_len l.young + l.most ≤ 4097;
-  room : 4096 ≤ vec_capacity l.young;
+  room : 4097 ≤ vec_capacity l.young;
 }
 
 abbrev pub decreases-loop-most : goal.decreases-loop-most
