@@ -5,15 +5,17 @@ use Rattle.std.specs.Option.{option_and_then}
 use Rattle.std.proofs.lemmas.Bool.{ne_eqb, and_parts, leb-true, cases_eq, cond-true, cond-false}
 use Rattle.bs_words.specs.Contents.{contents}
 use Rattle.bs_words.specs.Word.{add_word}
-use Rattle.image_form.specs.Image.{AreTables, EachNext, First, IsDesc, IsEntry, IsImage, IsNextEntry}
+use Rattle.image_form.specs.Image.{AreTables, EachNext, First, IsDesc, IsEntry, IsImage, IsNextEntry, IsRoot}
 use Rattle.image_form.specs.Tables.{Desc, Tables, desc, tables}
 use Rattle.image_form.specs.declared.image.DescRow.{DescRow}
 use Rattle.image_form.specs.declared.image.Image as declared
 use Rattle.rv_machine.proofs.Found.{found_has}
+use Rattle.rv_machine.specs.Allocation.{root_cells}
+use Rattle.rv_machine.specs.Places.{data_start}
 use Rattle.rv_machine.specs.Frames.{Frame, descriptor_at, frame_then, frames_from, is_frame, is_register, is_stack_word, most_frames, registers_named, registers_of, return_slot, slots_named, slots_of}
 use Rattle.rv_machine.specs.Memory.{Region, code_start, word}
 use Rattle.alloc_service.specs.Forward.{redirected_now, roots_by}
-use Rattle.alloc_service.proofs.Words.{Rise, rise_low, redirected-append, kept, none_above}
+use Rattle.alloc_service.proofs.Words.{Rise, rise_low, rise-append, redirected-append, kept, none_above}
 
 -- ---- one frame
 
@@ -212,3 +214,114 @@ module _ (f : ℕ → ℕ) (descs : List Desc) (base : ℕ) (old now new : List 
                 ap (λ m. word m b) rewritten ∙ kept f now (slots_named at d.entries) b (none_above at (at + d.size) b (slots_named at d.entries) over rise)
                 ∙ l.above b (omega (arith, over));
           }
+
+-- ---- what frames name rises
+
+-- the next register that entries name is at least this
+abbrev FirstRegister : ℕ → ℕ → Type 0
+FirstRegister low e = ((e % 2 ≡ 1) × (2 * low + 1 ≤ e)) ⊎ (e % 2 ≡ 0)
+
+first_register : (es : List ℕ) → First (FirstRegister 0) es
+first_register [] = tt
+first_register (e ∷ es) = by_case (cases_eq (e % 2) 1)
+  where
+    by_case : (e % 2 ≡ 1) ⊎ (e % 2 ≡ 1 → ⊥) → FirstRegister 0 e
+    by_case (inl h) = inl (h, omega arith)
+    by_case (inr h) = inr (omega (arith, h))
+
+few_registers : (size e : ℕ) → IsEntry size e → e % 2 ≡ 1 → e ≤ 63
+few_registers size e (inl h) k = h.1
+few_registers size e (inr h) k = absurd (omega (arith, h.0))
+
+after_odd : (e : ℕ) (es : List ℕ) → e % 2 ≡ 1 → First (IsNextEntry e) es → First (FirstRegister (suc (e / 2))) es
+after_odd e [] k n = tt
+after_odd e (g ∷ es) k (inl h) = inl (omega (arith, h.0), omega (arith, h.0, h.1))
+after_odd e (g ∷ es) k (inr h) = inr h.1
+
+after_even : (low e : ℕ) (es : List ℕ) → e % 2 ≡ 0 → First (IsNextEntry e) es → First (FirstRegister low) es
+after_even low e [] k n = tt
+after_even low e (g ∷ es) k (inl h) = inr (omega (arith, h.0))
+after_even low e (g ∷ es) k (inr h) = absurd (omega (arith, h.0))
+
+registers_rise : (size : ℕ) (es : List ℕ) (low : ℕ) → AllByRecursion (IsEntry size) es → EachNext IsNextEntry es → First (FirstRegister low) es → Rise low 32 (registers_named es)
+registers_rise size [] low all next first = tt
+registers_rise size (e ∷ es) low all next (inl h) =
+    let small = few_registers size e all.0 h.0 in
+    subst (Rise low 32) (sym (cond-true (is_register e) (e / 2 ∷ registers_named es) (registers_named es) (eq-eqb (e % 2) 1 h.0)))
+    (omega (arith, h.1), omega (arith, small), registers_rise size es (suc (e / 2)) all.1 next.1 (after_odd e es h.0 next.0))
+registers_rise size (e ∷ es) low all next (inr h) =
+    subst (Rise low 32) (sym (cond-false (is_register e) (e / 2 ∷ registers_named es) (registers_named es) (not_register e h)))
+    (registers_rise size es low all.1 next.1 (after_even low e es h next.0))
+
+abbrev pub Stacks : List Frame → Type 0
+Stacks fs = Rise 0 32 (registers_of fs)
+
+module _ (descs : List Desc) (code base : ℕ) (m : List Region) (rules : AllByRecursion (IsDesc code) descs) (above : 0x38010000 ≤ base) where
+  -- What is known of frames from a stack pointer on.
+  pub record Stacked (at : ℕ) (fs : List Frame) : Type 0 where
+    pub slots : Rise at 0x40000000 (slots_of fs)
+    pub high : (slots_of fs ≡ []) ⊎ (0x20000000 ≤ at)
+    pub first : Stacks fs
+
+  stacked_one :
+      (most : ℕ) (first : Bool) (address at : ℕ) (fs : List Frame) (d : Desc) → at < 2 ^ 64 → descriptor_at descs address ≡ Some d →
+      Framed (is_frame first base at d) (record { at = at; desc = d }) (frames_from most descs base m false (word m (return_slot at d)) (add_word at d.size)) fs →
+      ((address at : ℕ) (fs : List Frame) → at < 2 ^ 64 → frames_from most descs base m false address at ≡ Some fs → Stacked at fs) → Stacked at fs
+  stacked_one most first address at fs d a found fr later =
+      let r = found_has (IsDesc code) (λ (d : Desc). code_start + d.after == address) descs d rules found in
+      let s = in_stack code first base at d r a (omega arith) fr.fits in
+      let next = later (word m (return_slot at d)) (add_word at d.size) fr.tail (omega (arith, s.next, s.high)) fr.found in
+      let here = frame_slots at d.size d.entries (omega (arith, s.high)) r.entries r.in_order in
+      let there : Rise (at + d.size) 0x40000000 (slots_of fr.tail) = rise_low (at + d.size) (add_word at d.size) 0x40000000 (slots_of fr.tail) (omega (arith, s.next)) next.slots in
+      subst (Stacked at) fr.is (record {
+        slots = rise-append at (at + d.size) 0x40000000 (slots_named at d.entries) (slots_of fr.tail) (omega arith) s.high here there;
+        high = inr (omega (arith, s.low, r.size_fits));
+        first = registers_rise d.size d.entries 0 r.entries r.in_order (first_register d.entries);
+      })
+
+  pub stacked : (most : ℕ) (first : Bool) (address at : ℕ) (fs : List Frame) → at < 2 ^ 64 → frames_from most descs base m first address at ≡ Some fs → Stacked at fs
+  stacked zero first address at fs a e = absurd (cc)
+  stacked (suc most) first address at fs a e = by_stub (cases_eq address code_start) (λ address at fs a e. stacked most false address at fs a e)
+    where
+      by_desc :
+          (o : Option Desc) → descriptor_at descs address ≡ o → (address ≡ code_start → ⊥) →
+          ((address at : ℕ) (fs : List Frame) → at < 2 ^ 64 → frames_from most descs base m false address at ≡ Some fs → Stacked at fs) → Stacked at fs
+      by_desc None o n later = let none = no_desc descs base m (suc most) first address at (omega arith) n o in absurd (cc (none, e))
+      by_desc (Some d) o n later =
+          let k : suc most - 1 ≡ most = omega arith in
+          let one : frame_then (is_frame first base at d) at d (frames_from most descs base m false (word m (return_slot at d)) (add_word at d.size)) ≡ Some fs =
+          ap (λ j. frame_then (is_frame first base at d) at d (frames_from j descs base m false (word m (return_slot at d)) (add_word at d.size))) (sym k)
+          ∙ sym (one_frame descs base m (suc most) first address at d (omega arith) n o) ∙ e in
+          stacked_one most first address at fs d a o (framed (is_frame first base at d) at d _ fs one) later
+      by_stub :
+          (address ≡ code_start) ⊎ (address ≡ code_start → ⊥) →
+          ((address at : ℕ) (fs : List Frame) → at < 2 ^ 64 → frames_from most descs base m false address at ≡ Some fs → Stacked at fs) → Stacked at fs
+      by_stub (inl s) later =
+          let none : [] ≡ fs = let stub = at_stub descs base m (suc most) first address at (omega arith) s in cc (stub, e) in
+          subst (Stacked at) none (record { slots = tt; high = inl refl; first = tt })
+      by_stub (inr n) later = by_desc (descriptor_at descs address) refl n later
+
+-- ---- root cells
+
+roots_rise :
+    (len : ℕ) (rs : List ℕ) (low : ℕ) → len ≤ 16777216 → AllByRecursion (IsRoot len) rs → EachNext (λ a b. a < b) rs → First (λ r. low ≤ r) rs →
+    Rise (0x10000000 + low) 0x20000000 (map (λ offset. data_start + offset) rs)
+roots_rise len [] low m all next first = tt
+roots_rise len (r ∷ rs) low m all next first =
+    let n : suc (0x10000000 + r) ≤ 0x10000000 + suc r = omega arith in
+    let inside = all.0.in_data in
+    (omega (arith, first), omega (arith, inside), rise_low (suc (0x10000000 + r)) (0x10000000 + suc r) 0x20000000 (map (λ offset. data_start + offset) rs) n (roots_rise len rs (suc r) m all.1 next.1 (first_next r rs next.0)))
+  where
+    first_next : (r : ℕ) (rs : List ℕ) → First (λ b. r < b) rs → First (λ b. suc r ≤ b) rs
+    first_next r [] h = tt
+    first_next r (b ∷ rs) h = omega (arith, h)
+
+any_root : (rs : List ℕ) → First (λ r. 0 ≤ r) rs
+any_root [] = tt
+any_root (r ∷ rs) = omega arith
+
+-- the root cells rise, below the stack
+pub cells_rise : (image : Tables) → AreTables image → Rise 0x10000000 0x20000000 (root_cells image)
+cells_rise image t =
+    rise_low 0x10000000 (0x10000000 + 0) 0x20000000 (root_cells image) (omega arith)
+    (roots_rise (length image.bytes) image.roots 0 t.bytes.short t.roots.each t.roots.rising (any_root image.roots))

@@ -3,7 +3,9 @@ use Rattle.std.proofs.Common.{◌≡◌, ◌≢◌, ℕ, zero, suc, ◌+◌, ◌
 use Rattle.std.specs.List.{AllByRecursion}
 use Rattle.std.proofs.lemmas.Bool.{and_parts, leb-true, eqb-true, cases_Bool}
 use Rattle.rv_machine.specs.Memory.{Region, byte_in, index_in, is_inside, loaded, memory_or, or_zero, part, read, stored, with_written, word, write, written}
-use Rattle.alloc_service.specs.Forward.{redirected_now}
+use Rattle.rv_machine.specs.Hart.{with_register}
+use Rattle.rv_machine.specs.Moving.{redirected, redirected_registers}
+use Rattle.alloc_service.specs.Forward.{redirected_now, redirected_registers_now}
 
 inside_low : (r : Region) (a w : ℕ) → is_inside r a w ≡ true → r.start ≤ a
 inside_low r a w h = leb-true r.start a (and_parts (nat_le r.start a) (nat_le (a + w) (r.start + r.bytes)) h).0
@@ -82,3 +84,45 @@ none_above low high b (a ∷ as') h r = (λ e. omega (arith, r.1), none_above (s
 pub none_below : (low high b : ℕ) (as' : List ℕ) → b < low → Rise low high as' → AllByRecursion (λ a. a ≢ b) as'
 none_below low high b [] h r = tt
 none_below low high b (a ∷ as') h r = (λ e. omega (arith, r.0), none_below (suc a) high b as' (omega (arith, r.0)) r.2)
+
+-- ---- words read from the old state, and as they stand
+
+-- the numbers that rise from a bound on are rewritten alike, where the words there are the old ones
+pub now_is :
+    (f : ℕ → ℕ) (old : List Region) (as' : List ℕ) (m : List Region) (low high : ℕ) → Rise low high as' →
+    ((b : ℕ) → low ≤ b → b < high → word m b ≡ word old b) → redirected f old m as' ≡ redirected_now f m as'
+now_is f old [] m low high r same = refl
+now_is f old (a ∷ as') m low high r same =
+    let here : word m a ≡ word old a = same a r.0 r.1 in
+    let v = f (word m a) in
+    ap (λ w. redirected f old (write m a (f w)) as') (sym here)
+    ∙ now_is f old as' (write m a v) (suc a) high r.2 (λ b h k. other_word m a b v (λ e. omega arith) ∙ same b (omega (arith, r.0)) k)
+
+pub then_is : (f : ℕ → ℕ) (old m : List Region) (as' bs : List ℕ) → redirected f old m (as' ++ bs) ≡ redirected f old (redirected f old m as') bs
+then_is f old m [] bs = refl
+then_is f old m (a ∷ as') bs = then_is f old (write m a (f (word old a))) as' bs
+
+-- two parts that rise, the second below the first
+pub both_now :
+    (f : ℕ → ℕ) (old : List Region) (as' bs : List ℕ) (from middle top : ℕ) → Rise middle top as' → Rise from middle bs →
+    redirected f old old (as' ++ bs) ≡ redirected_now f (redirected_now f old as') bs
+both_now f old as' bs from middle top r s =
+    then_is f old old as' bs
+    ∙ ap (λ m. redirected f old m bs) (now_is f old as' old middle top r (λ b h k. refl))
+    ∙ now_is f old bs (redirected_now f old as') from middle s (λ b h k. kept f old as' b (none_below middle top b as' k r))
+
+-- ---- registers
+
+other_register : (rs : List ℕ) (r s v : ℕ) → r ≢ s → slice_index (with_register r v rs) s ≡ slice_index rs s
+other_register rs zero s v n = refl
+other_register rs (suc r) s v n = get_or-set_other rs (suc r) s v 0 (λ e. n (sym e))
+
+pub registers_now :
+    (f : ℕ → ℕ) (old : List ℕ) (ns regs : List ℕ) (low high : ℕ) → Rise low high ns →
+    ((b : ℕ) → low ≤ b → slice_index regs b ≡ slice_index old b) → redirected_registers f old ns regs ≡ redirected_registers_now f regs ns
+registers_now f old [] regs low high r same = refl
+registers_now f old (n ∷ ns) regs low high r same =
+    let here : slice_index regs n ≡ slice_index old n = same n r.0 in
+    let v = f (slice_index regs n) in
+    ap (λ w. redirected_registers f old ns (with_register n (f w) regs)) (sym here)
+    ∙ registers_now f old ns (with_register n v regs) (suc n) high r.2 (λ b h. other_register regs n b v (λ e. omega arith) ∙ same b (omega (arith, r.0)))
