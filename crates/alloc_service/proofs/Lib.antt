@@ -5,6 +5,7 @@ pub mod Gathered
 pub mod InHeap
 pub mod Packing
 pub mod Placing
+pub mod Served
 pub mod Steps
 pub mod Walking
 pub mod Words
