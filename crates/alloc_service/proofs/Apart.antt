@@ -76,9 +76,11 @@ apart_of b d x y lb ld none = by_test (is_apart b d) refl
       where
         both : (a : ℕ) → a % 8 ≡ 0 → covers a b ≡ true → covers a d ≡ true → ⊥
         both a e p q = let n = none a e p in cc
+
         by_order : (b.start < d.start) ⊎ (d.start ≤ b.start) → ⊥
         by_order (inl l) = both (d.start - 8) (omega arith) (covered_both (d.start - 8) b (omega arith) (omega arith)) (covered_both (d.start - 8) d (omega arith) (omega arith))
         by_order (inr l) = both (b.start - 8) (omega arith) (covered_both (b.start - 8) b (omega arith) (omega arith)) (covered_both (b.start - 8) d (omega arith) (omega arith))
+
     by_test : (t : Bool) → is_apart b d ≡ t → is_apart b d ≡ true
     by_test true e = e
     by_test false e =

@@ -60,7 +60,13 @@ module _ (plan : List Placed → List ℕ) (h : Hart) (found : List Placed) (req
       ≡ Goes (record h { registers = slice_set new.registers 26 (0x38010000 - slice_index h.registers 5); pc = h.pc + 4; memory = memory; blocks = new.blocks; retired = retired; services = services })
   goes z fs e r new is memory retired services m n s =
       let hart : List ℕ → List Region → List Placed → ℕ → ℕ → Hart = λ registers memory blocks retired services. record h {
-        registers = slice_set registers 26 (0x38010000 - slice_index h.registers 5); pc = h.pc + 4; memory = memory; blocks = blocks; retired = retired; services = services } in
+        registers = slice_set registers 26 (0x38010000 - slice_index h.registers 5);
+        pc = h.pc + 4;
+        memory = memory;
+        blocks = blocks;
+        retired = retired;
+        services = services;
+      } in
       let to = moved_to h.image (new_places h.heap h.services (h.blocks ++ reverse found) (plan (h.blocks ++ reverse found))) fs parts in
       to_frames ∙ ap (with_frames plan (entered h found)) e
       ∙ cond-true (are_roots (entered h found) fs) _ _ (roots_same z fs ∙ r)

@@ -199,7 +199,7 @@ module _ (f : ℕ → ℕ) (descs : List Desc) (base : ℕ) (old now new : List 
       step : {fs : List Frame} → Left f descs base old now fs most first address at → Left f descs base old new fs (most - 1) false (word now (return_slot at d)) (add_word at d.size)
       step {fs} l =
           let fr = framed (is_frame first base at d) at d (frames_from (most - 1) descs base old false (word old (return_slot at d)) (add_word at d.size)) l.rest
-              (sym (one_frame descs base old most first address at d some below is) ∙ l.found) in
+          (sym (one_frame descs base old most first address at d some below is) ∙ l.found) in
           let s = in_stack code first base at d rules a b fr.fits in
           let rise = frame_slots at d.size d.entries (omega (arith, s.high)) rules.entries rules.in_order in
           let above_slot : at ≤ return_slot at d = omega (arith, s.slot) in
@@ -293,6 +293,7 @@ module _ (descs : List Desc) (code base : ℕ) (m : List Region) (rules : AllByR
           ap (λ j. frame_then (is_frame first base at d) at d (frames_from j descs base m false (word m (return_slot at d)) (add_word at d.size))) (sym k)
           ∙ sym (one_frame descs base m (suc most) first address at d (omega arith) n o) ∙ e in
           stacked_one most first address at fs d a o (framed (is_frame first base at d) at d _ fs one) later
+
       by_stub :
           (address ≡ code_start) ⊎ (address ≡ code_start → ⊥) →
           ((address at : ℕ) (fs : List Frame) → at < 2 ^ 64 → frames_from most descs base m false address at ≡ Some fs → Stacked at fs) → Stacked at fs

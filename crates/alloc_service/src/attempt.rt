@@ -31,7 +31,14 @@ fn prepare(plan: Plan<'_>, number: u64, heap: u64, space: &mut Space, blocks: &[
     requires fits { bytes_used blocks.now ≤ heap }
     ensures { IsPrepared heap blocks.now (new_places heap number blocks.now (plan_of plan.entry blocks.now)) space.new }
 {
-    choose(plan, number, &mut space.table, heap, blocks, &mut space.starts);
+    choose(
+        plan,
+        number,
+        &mut space.table,
+        heap,
+        blocks,
+        &mut space.starts,
+    );
     forward_all(&mut space.table, blocks, &space.starts);
 }
 
@@ -88,7 +95,9 @@ pub fn attempt(
         restore(heap, space, blocks);
         return Some(false);
     }
-    move_all(image, base, heap, registers, memory, space, blocks, address, sp);
+    move_all(
+        image, base, heap, registers, memory, space, blocks, address, sp,
+    );
     Some(true)
 }
 

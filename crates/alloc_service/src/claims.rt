@@ -47,7 +47,9 @@ fn is_in_heap(heap: u64, start: u64, words: u64) -> bool
     requires small { words ≤ 2 ^ 24 }
     ensures { result ≡ is_in_heap heap (record { start = start; words = words }) }
 {
-    start % 8 == 0 && (is_in_half(LOWER_HALF, heap, start, words) || is_in_half(UPPER_HALF, heap, start, words))
+    start % 8 == 0
+        && (is_in_half(LOWER_HALF, heap, start, words)
+            || is_in_half(UPPER_HALF, heap, start, words))
 }
 
 fn is_in_half(half: u64, heap: u64, start: u64, words: u64) -> bool

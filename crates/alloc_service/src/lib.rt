@@ -5,19 +5,22 @@
 //! needed.
 #![tactic(auto)]
 
+mod attempt;
 mod choice;
 mod claims;
 mod forward;
 mod moves;
-mod attempt;
 pub mod plan;
 mod roots;
-pub mod serving;
 pub mod service_end;
+pub mod serving;
 mod stack;
 mod starts;
 mod young;
 
 pub use plan::Plan;
-pub use serving::service;
 pub use service_end::ServiceEnd;
+pub use serving::service;
+
+#[cfg(test)]
+mod tests;

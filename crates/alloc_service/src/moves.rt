@@ -159,7 +159,14 @@ pub fn redirect_roots(memory: &mut Memory, table: &Table, image: &Image)
 }
 
 /// Rewrites the places of the stack that the frames name.
-pub fn redirect_slots(memory: &mut Memory, table: &Table, image: &Image, base: u64, address: u64, sp: u64)
+pub fn redirect_slots(
+    memory: &mut Memory,
+    table: &Table,
+    image: &Image,
+    base: u64,
+    address: u64,
+    sp: u64,
+)
     requires image { IsImage image.now }
     requires base { base ≤ 0x40000000 }
     requires above { 0x10000 ≤ base }

@@ -102,7 +102,13 @@ fn are_slot_roots(image: &Image, table: &Table, memory: &Memory, at: u64, entrie
     ensures { result ≡ list_all (λ a. root_by (tables image.now) table.now (word memory.now a)) (slots_named at entries.now) }
 {
     for entry in entries {
-        if entry % 2 == 0 && !is_root(image, table, memory.word(bs_words::add(at, u64::from(*entry)))) {
+        if entry % 2 == 0
+            && !is_root(
+                image,
+                table,
+                memory.word(bs_words::add(at, u64::from(*entry))),
+            )
+        {
             return false;
         }
     }
