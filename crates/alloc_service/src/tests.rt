@@ -36,27 +36,36 @@ fn next_service(machine: &mut Machine<'_>, plan: Plan<'_>) -> Option<ServiceEnd>
     None
 }
 
-fn setup(alloc: Global, a: u64, b: u64, heap: u32) -> Result<Setup, Fail> {
-    Ok(Setup {
-        entry: Name::from_vec(Vec::from_slice(alloc, b"f")?),
-        args: List::from_vec(vec![in alloc; Arg::Word(a), Arg::Word(b)]?),
-        stack: 1024,
-        heap,
-    })
+fn entry(alloc: Global) -> Result<Name, Fail> {
+    Ok(Name::from_vec(Vec::from_slice(alloc, b"f")?))
+}
+
+fn args(alloc: Global, a: u64, b: u64) -> Result<List<Arg>, Fail> {
+    Ok(List::from_vec(vec![in alloc; Arg::Word(a), Arg::Word(b)]?))
 }
 
 // How the first service ends.
 fn first(alloc: Global, bytes: &[u8], a: u64, b: u64) -> Result<Option<ServiceEnd>, Fail> {
     let image = read_image(alloc, bytes)?;
-    let setup = setup(alloc, a, b, 1024)?;
+    let setup = Setup {
+        entry: entry(alloc)?,
+        args: args(alloc, a, b)?,
+        stack: 1024,
+        heap: 1024,
+    };
     let mut machine = load(alloc, &image, &setup)?;
     Ok(next_service(&mut machine, Plan::Packed))
 }
 
-// Where the block is after the second service, with halves of so many bytes.
+// Where the block is after the second service.
 fn place(alloc: Global, plan: Plan<'_>) -> Result<u64, Fail> {
     let image = read_image(alloc, TWICE)?;
-    let setup = setup(alloc, 77, 16, 1024)?;
+    let setup = Setup {
+        entry: entry(alloc)?,
+        args: args(alloc, 77, 16)?,
+        stack: 1024,
+        heap: 1024,
+    };
     let mut machine = load(alloc, &image, &setup)?;
     if next_service(&mut machine, plan) != Some(ServiceEnd::Goes) {
         return Ok(0);
@@ -100,7 +109,12 @@ fn moves(rt: HostRuntime) -> Result<(), Fail> {
 fn has_no_heap(rt: HostRuntime) -> Result<(), Fail> {
     let alloc = rt.alloc();
     let image = read_image(alloc, TWICE)?;
-    let setup = setup(alloc, 77, 16, 0)?;
+    let setup = Setup {
+        entry: entry(alloc)?,
+        args: args(alloc, 77, 16)?,
+        stack: 1024,
+        heap: 0,
+    };
     let mut machine = load(alloc, &image, &setup)?;
     assert_eq!(rt;
         next_service(&mut machine, Plan::Packed),
