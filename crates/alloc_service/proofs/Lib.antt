@@ -6,6 +6,7 @@ pub mod InHeap
 pub mod Packing
 pub mod Placing
 pub mod Served
+pub mod Sorted
 pub mod Steps
 pub mod Walking
 pub mod Words

@@ -147,6 +147,7 @@ fn redirect_first(
     memory: &Memory,
     address: u64,
 )
+    requires { IsImage image.now }
     ensures exact { (base : ℕ) (sp : ℕ) → RedirectsFirst (forward table.now) (map desc (contents image.now.descs)) base memory.now registers.old registers.new address sp }
     ensures zero { slice_index registers.new 0 ≡ slice_index registers.old 0 }
 {

@@ -3,6 +3,7 @@ ghost use Rattle.std.specs.Prelude.{◌≡◌, ◌≤◌, ◌<◌, ◌^◌, map,
 ghost use Rattle.std.specs.Option.{option_copied};
 ghost use Rattle.std.specs.List.{list_all};
 ghost use Rattle.bs_words.specs.Contents.{contents};
+ghost use Rattle.image_form.specs.Image.{IsImage};
 ghost use Rattle.image_form.specs.Tables.{desc};
 ghost use Rattle.rv_machine.specs.Frames.{descriptor_at, is_frame, is_stack_word, names_register, slots_named};
 
@@ -12,13 +13,25 @@ use rv_machine::CODE_START;
 /// The end of the stack's region.
 pub const STACK_END: u64 = 0x4000_0000;
 
-/// The descriptor of a return address.
+/// The descriptor of a return address. It is found by halves, since return offsets rise.
 pub fn descriptor_of(image: &Image, address: u64) -> Option<&DescRow>
+    requires { IsImage image.now }
     ensures { option_map desc (option_copied result) ≡ descriptor_at (map desc (contents image.now.descs)) address }
 {
-    for row in image.descs.as_slice() {
-        if CODE_START + u64::from(row.after) == address {
+    let rows = image.descs.as_slice();
+    let mut low = 0;
+    let mut high = rows.len();
+    while low < high {
+        let middle = low + (high - low) / 2;
+        let row = &rows[middle];
+        let there = CODE_START + u64::from(row.after);
+        if there == address {
             return Some(row);
+        }
+        if there < address {
+            low = middle + 1;
+        } else {
+            high = middle;
         }
     }
     None

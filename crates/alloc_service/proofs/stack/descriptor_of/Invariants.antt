@@ -1,11 +1,15 @@
-use Rattle.std.proofs.Common.{◌≡◌, ◌+◌, drop, map}
-use Rattle.std.specs.Prelude.{find, ◌==◌}
-use Rattle.bs_words.specs.Contents.{contents}
-use Rattle.image_form.specs.Tables.{Desc, desc}
+use Rattle.std.proofs.Common.{ℕ, ◌+◌, ◌-◌, ◌<◌, ◌≤◌, get_or, length}
 use Rattle.rv_machine.specs.Memory.{code_start}
+use Rattle.alloc_service.proofs.Sorted.{afters}
 use Rattle.alloc_service.proofs.stack.descriptor_of.Given as goal
 
-abbrev pub invariant-loop-row : goal.invariant-loop-row
-invariant-loop-row l =
-    find (λ (d : Desc). code_start + d.after == l.address) (map desc (contents l.image.descs))
-    ≡ find (λ (d : Desc). code_start + d.after == l.address) (map desc (drop l.row-index l.row-items))
+abbrev pub invariant-loop-low : goal.invariant-loop-low
+invariant-loop-low l = record {
+  order : l.low ≤ l.high;
+  within : l.high ≤ length l.rows;
+  below : (k : ℕ) → k < l.low → code_start + get_or (afters l.rows) k 0 < l.address;
+  above : (k : ℕ) → l.high ≤ k → k < length l.rows → l.address < code_start + get_or (afters l.rows) k 0;
+}
+
+abbrev pub decreases-loop-low : goal.decreases-loop-low
+decreases-loop-low l = l.high - l.low
