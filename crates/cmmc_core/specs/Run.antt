@@ -6,7 +6,7 @@ use Rattle.image_form.specs.Image.{AreTables, tables_bytes}
 use Rattle.image_form.specs.Reading.{reading}
 use Rattle.image_form.specs.Tables.{Tables, Func}
 use Rattle.rv_machine.specs.Loading.{func_named, word_of_arg, before, words_of_args}
-use Rattle.rv_machine.specs.Run.{Schedule, machine_run}
+use Rattle.rv_machine.specs.Run.{Schedule, lists, machine_run}
 use Rattle.rv_machine.specs.Text.{outcome_text}
 use Rattle.rv_machine.specs.declared.setup.Arg.{Arg}
 use Rattle.cmmc_core.specs.Effects.{Side, IsRead}
@@ -22,7 +22,7 @@ words_of_answers image (answer ∷ answers) = before (word_of_arg image answer) 
 
 -- the mover asks for nothing and moves nothing
 abbrev pub no_moves : Schedule
-no_moves = record { asks = []; plans = [] }
+no_moves = lists [] []
 
 -- These bytes are those of an image.
 pub record IsSpelling (bytes : List ℕ) (image : Tables) : Type 0 where

@@ -31,6 +31,8 @@ pub record Hart : Type 0 where
   pub memory : List Region
   -- the lowest address that the stack pointer may have
   pub stack_base : ℕ
+  -- the bytes of each half of the heap
+  pub heap : ℕ
   -- the blocks by serial
   pub blocks : List Placed
   -- instructions that have retired

@@ -3,6 +3,12 @@ pub mod Width
 pub mod Arithmetic
 pub mod Hart
 pub mod Observation
+pub mod Places
+pub mod Frames
+pub mod Placement
+pub mod Moving
+pub mod Allocation
+pub mod Space
 pub mod Services
 pub mod Step
 pub mod Start

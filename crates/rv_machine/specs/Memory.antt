@@ -1,7 +1,7 @@
 -- The memory of the machine: regions of 64-bit words, and accesses of 1, 2, 4 or 8 bytes.
 --
 -- Numbers are little-endian. An access is at a multiple of its width and lies whole inside one region.
-use Rattle.std.specs.Prelude.{ℕ, ◌+◌, ◌-◌, ◌*◌, ◌/◌, ◌%◌, ◌^◌, Bool, cond, ◌&&◌, ◌==◌, nat_le, List, [], ◌∷◌, Option, Some, None, slice_index, slice_set, option_map, length}
+use Rattle.std.specs.Prelude.{ℕ, zero, suc, ◌+◌, ◌-◌, ◌*◌, ◌/◌, ◌%◌, ◌^◌, Bool, cond, ◌&&◌, ◌==◌, nat_le, List, [], ◌∷◌, Option, Some, None, slice_index, slice_set, option_map, length}
 
 pub record Region : Type 0 where
   -- the first address, a multiple of 8
@@ -59,6 +59,34 @@ loaded regions address width = cond (address % width == 0) (read regions address
 
 abbrev pub stored : List Region → ℕ → ℕ → ℕ → Option (List Region)
 stored regions address width value = cond (address % width == 0) (written regions address width value) None
+
+-- ---- words at multiples of 8
+
+abbrev pub or_zero : Option ℕ → ℕ
+or_zero None = 0
+or_zero (Some word) = word
+
+-- the word at an address; 0 where there is none
+unfoldable pub word : List Region → ℕ → ℕ
+word m address = or_zero (loaded m address 8)
+
+abbrev pub memory_or : List Region → Option (List Region) → List Region
+memory_or old None = old
+memory_or old (Some new) = new
+
+-- the memory with a word written at an address; nothing changes where there is no word
+unfoldable pub write : List Region → ℕ → ℕ → List Region
+write m address value = memory_or m (stored m address 8 value)
+
+-- so many words from an address on
+abbrev pub words_at : List Region → ℕ → ℕ → List ℕ
+words_at m address zero = []
+words_at m address (suc n) = word m address ∷ words_at m (address + 8) n
+
+-- the memory with those words written from an address on
+abbrev pub put : List Region → ℕ → List ℕ → List Region
+put m address [] = m
+put m address (w ∷ ws) = put (write m address w) (address + 8) ws
 
 -- ---- words of bytes, and of instruction words
 

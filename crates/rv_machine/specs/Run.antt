@@ -1,26 +1,33 @@
 -- A run of the machine under a schedule of the mover.
-use Rattle.std.specs.Prelude.{ℕ, zero, suc, Bool, false, cond, ◌||◌, ◌==◌, List, [], ◌∷◌, Option, Some, None}
+use Rattle.std.specs.Prelude.{ℕ, zero, suc, Bool, false, cond, ◌||◌, ◌==◌, List, [], ◌∷◌, Option, Some, None, slice_get}
 use Rattle.bs_words.specs.Observed.{Made}
 use Rattle.image_form.specs.Tables.{Tables, Func}
-use Rattle.rv_machine.specs.Hart.{Hart, Next, Retired, Service, hart}
+use Rattle.rv_machine.specs.Hart.{Hart, Placed, Next, Retired, Service, hart}
 use Rattle.rv_machine.specs.Hart as next
-use Rattle.rv_machine.specs.Memory.{Region, written}
+use Rattle.rv_machine.specs.Memory.{Region, written, memory_or}
 use Rattle.rv_machine.specs.Services.{End, Running, StackOut, Stopped, Machine, Now, Going, Over, service}
 use Rattle.rv_machine.specs.Start.{start, domain_start, limit_asked}
 
--- The numbers of the instructions before which the mover asks, and where it puts the blocks at each
--- service that moves them.
+-- When the mover asks, and where it puts the blocks.
 pub record Schedule : Type 0 where
-  pub asks : List ℕ
-  pub plans : List (List ℕ)
+  -- whether it asks before the instruction of this number
+  pub asks : ℕ → Bool
+  -- the new starts that it plans, at the allocation service of this number, for the blocks that there then
+  -- are, by serial; a list that is no valid plan means packing
+  pub plan : ℕ → List Placed → List ℕ
 
 abbrev pub is_among : List ℕ → ℕ → Bool
 is_among [] k = false
 is_among (a ∷ rest) k = (a == k) || is_among rest k
 
-abbrev pub memory_or : List Region → Option (List Region) → List Region
-memory_or old None = old
-memory_or old (Some new) = new
+abbrev pub plan_or_none : Option (List ℕ) → List ℕ
+plan_or_none None = []
+plan_or_none (Some starts) = starts
+
+-- the schedule of these asks and plans, the first plan for the first allocation service; one that is
+-- missing means packing
+abbrev pub lists : List ℕ → List (List ℕ) → Schedule
+lists asks plans = record { asks = is_among asks; plan = λ number blocks. plan_or_none (slice_get plans number) }
 
 -- an ask sets the limit word and nothing else
 abbrev pub asked : Hart → Hart
@@ -28,18 +35,18 @@ asked h = record h { memory = memory_or h.memory (written h.memory domain_start 
 
 -- the mover asks before the instruction of this number, or does not
 abbrev pub perhaps_asked : Schedule → Hart → Hart
-perhaps_asked schedule h = cond (is_among schedule.asks h.retired) (asked h) h
+perhaps_asked schedule h = cond (schedule.asks h.retired) (asked h) h
 
 -- an ECALL and its service count as one instruction
-abbrev pub after_next : Next → Machine → Now
-after_next (Retired h) m = Going (record m { hart = h })
-after_next (Service h) m = service (record m { hart = h })
-after_next next.StackOut m = Over m.calls StackOut
-after_next (next.Stopped cause) m = Over m.calls (Stopped cause)
+abbrev pub after_next : Schedule → Next → Machine → Now
+after_next schedule (Retired h) m = Going (record m { hart = h })
+after_next schedule (Service h) m = service schedule.plan (record m { hart = h })
+after_next schedule next.StackOut m = Over m.calls StackOut
+after_next schedule (next.Stopped cause) m = Over m.calls (Stopped cause)
 
 -- one instruction, and the ask before it
 abbrev pub one : Schedule → Machine → Now
-one schedule m = after_next (hart (perhaps_asked schedule m.hart)) m
+one schedule m = after_next schedule (hart (perhaps_asked schedule m.hart)) m
 
 -- so many instructions more; a run that is over stays over
 abbrev pub after : Schedule → ℕ → Now → Now

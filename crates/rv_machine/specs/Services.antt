@@ -7,8 +7,10 @@ use Rattle.bs_words.specs.declared.types.Ret.{Ret}
 use Rattle.bs_words.specs.declared.types.Ret.TheVariants as returns
 use Rattle.bs_words.specs.declared.values.Obs.{Obs}
 use Rattle.image_form.specs.Tables.{Ext}
-use Rattle.rv_machine.specs.Hart.{Hart, register, with_register}
+use Rattle.rv_machine.specs.Allocation.{Allocated, Goes, NoHeap, Refused, allocated}
+use Rattle.rv_machine.specs.Hart.{Hart, Placed, register, with_register}
 use Rattle.rv_machine.specs.Observation.{observed}
+pub use Rattle.rv_machine.specs.Places.{filler}
 use Rattle.rv_machine.specs.declared.cause.Cause.{Cause}
 use Rattle.rv_machine.specs.declared.cause.Cause.TheVariants.{BadService}
 
@@ -58,10 +60,6 @@ arguments_from r (c ∷ cs) h = observed h c (register h r) ∷ arguments_from (
 abbrev pub call_made : Ext → Hart → Made
 call_made e h = record { name = e.name; shown = arguments_from 10 e.params h }
 
--- what an external call leaves in the registers that it destroys
-abbrev pub filler : ℕ
-filler = 0x5A5A5A5A5A5A5A5A
-
 abbrev pub filled : List ℕ → List ℕ → List ℕ
 filled [] registers = registers
 filled (r ∷ rs) registers = filled rs (with_register r filler registers)
@@ -85,14 +83,23 @@ abbrev pub external : Option Ext → Machine → Now
 external None m = Over m.calls (Stopped BadService)
 external (Some e) m = answered e.result (call_made e m.hart) m.answers m
 
--- ---- by the number in t2, x7; t0, x5, has the number of the external call
+-- ---- allocation
 
--- allocation, service 3, is not built: it is no service so far
-abbrev pub served : ℕ → Machine → Now
-served zero m = Over m.calls (Returned (value_returned m.result m.hart))
-served (suc zero) m = Over m.calls (Raised (observed m.hart Val (register m.hart 10)))
-served (suc (suc zero)) m = external (slice_get m.hart.image.extcs (register m.hart 5)) m
-served _ m = Over m.calls (Stopped BadService)
+abbrev pub after_allocation : Allocated → Machine → Now
+after_allocation (Goes h) m = Going (record m { hart = h })
+after_allocation NoHeap m = Over m.calls HeapOut
+after_allocation (Refused cause) m = Over m.calls (Stopped cause)
 
-abbrev pub service : Machine → Now
-service m = served (register m.hart 7) m
+-- ---- by the number in t2, x7; t0, x5, has the number of the external call, or the bytes asked for
+
+-- Plans say, for the number of an allocation service and the blocks that there then are, where each of
+-- these is to start.
+abbrev pub served : (ℕ → List Placed → List ℕ) → ℕ → Machine → Now
+served plan zero m = Over m.calls (Returned (value_returned m.result m.hart))
+served plan (suc zero) m = Over m.calls (Raised (observed m.hart Val (register m.hart 10)))
+served plan (suc (suc zero)) m = external (slice_get m.hart.image.extcs (register m.hart 5)) m
+served plan (suc (suc (suc zero))) m = after_allocation (allocated (plan m.hart.services) m.hart) m
+served plan _ m = Over m.calls (Stopped BadService)
+
+abbrev pub service : (ℕ → List Placed → List ℕ) → Machine → Now
+service plan m = served plan (register m.hart 7) m

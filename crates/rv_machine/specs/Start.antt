@@ -4,28 +4,7 @@ use Rattle.image_form.specs.Tables.{Tables, Func}
 use Rattle.rv_machine.specs.Hart.{Hart}
 use Rattle.rv_machine.specs.Memory.{Region, words_of_bytes, code_start}
 use Rattle.rv_machine.specs.Observation.{young_start, young_top}
-use Rattle.rv_machine.specs.Services.{filler}
-
-abbrev pub data_start : ℕ
-data_start = 0x10000000
-
--- the domain page: its first word is the limit word
-abbrev pub domain_start : ℕ
-domain_start = 0x20000000
-
-abbrev pub half_start : ℕ → ℕ
-half_start k = 0x30000000 + 0x04000000 * k
-
--- the bottom of the stack, where a trap frame stands that no program pushed
-abbrev pub stack_bottom : ℕ
-stack_bottom = 0x3FFFFFF0
-
--- the limit word while the mover asks for nothing, and where it asks
-abbrev pub limit_at_rest : ℕ
-limit_at_rest = young_start
-
-abbrev pub limit_asked : ℕ
-limit_asked = young_top
+pub use Rattle.rv_machine.specs.Places.{data_start, domain_start, half_start, stack_bottom, limit_at_rest, limit_asked, filler}
 
 -- a region of so many words that are all the same
 unfoldable pub uniform : ℕ → ℕ → ℕ → Region
@@ -69,6 +48,7 @@ start image entry args stack heap = record {
   pc = code_start + entry.offset;
   memory = start_memory image stack heap;
   stack_base = stack_bottom - stack;
+  heap = heap;
   blocks = [];
   retired = 0;
   services = 0;

@@ -19,10 +19,31 @@ impl Model for BlockPlace {
 }
 
 impl BlockPlace {
+    /// The place of a block whose first cell is at `start`.
+    pub fn new(start: u64, words: u64) -> Self
+        ensures { result ≡ record { start = start; words = words } }
+    {
+        BlockPlace { start, words }
+    }
+
     /// The address of the first cell.
     pub fn start(&self) -> u64
         ensures { result ≡ self.now.start }
     {
         self.start
+    }
+
+    /// The number of cells.
+    pub fn words(&self) -> u64
+        ensures { result ≡ self.now.words }
+    {
+        self.words
+    }
+
+    /// Moves the block: its first cell is at `start`.
+    pub fn move_to(&mut self, start: u64)
+        ensures { self.new ≡ record self.old { start = start } }
+    {
+        self.start = start;
     }
 }

@@ -15,6 +15,7 @@ pub mod observe;
 pub mod region;
 mod runtime;
 pub mod setup;
+pub mod space;
 pub mod start;
 mod step;
 pub mod step_end;
@@ -23,7 +24,10 @@ pub use cause::Cause;
 pub use code::CODE_START;
 pub use loading::{load, word_of_arg};
 pub use machine::Machine;
+pub use blocks::BlockPlace;
+pub use memory::Memory;
 pub use setup::{Arg, LoadError, Setup};
+pub use space::Space;
 pub use step_end::StepEnd;
 
 #[cfg(test)]

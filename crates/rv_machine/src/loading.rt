@@ -15,6 +15,7 @@ use crate::start::{
     self, DATA_START, DOMAIN_START, FILLER, LOWER_HALF, STACK_BOTTOM, UPPER_HALF, YOUNG_START,
     YOUNG_TOP,
 };
+use crate::space::Space;
 use bs_words::{Comp, List, Name};
 use image_form::{FuncRow, Image};
 use std::alloc::{AllocError, Global};
@@ -200,6 +201,7 @@ fn at_entry<'a>(
     let memory = start_memory(alloc, image, stack, heap)?;
     // A block has 16 bytes at least, so that no more fit into a half.
     let blocks = Vec::with_capacity(alloc, (heap / 16) as usize)?;
+    let space = Space::new(alloc, heap)?;
     let pc = CODE_START + u64::from(offset);
     Ok(Machine::new(
         image,
@@ -207,6 +209,8 @@ fn at_entry<'a>(
         pc,
         memory,
         STACK_BOTTOM - stack,
+        heap,
         blocks,
+        space,
     ))
 }

@@ -1,10 +1,13 @@
 //! The state of the machine, and what reads and sets it.
-ghost use Rattle.std.specs.Prelude.{◌≡◌, ◌+◌, ◌-◌, ◌*◌, ◌^◌, ◌<◌, ◌≤◌, [], length, slice_index, IfSome};
+ghost use Rattle.std.specs.Prelude.{◌≡◌, ◌+◌, ◌-◌, ◌*◌, ◌/◌, ◌^◌, ◌<◌, ◌≤◌, [], length, slice_index, IfSome};
 ghost use Rattle.bs_words.specs.Contents.{contents};
 ghost use Rattle.image_form.specs.Image.{IsImage};
 ghost use Rattle.image_form.specs.Tables.{tables};
 ghost use Rattle.rv_machine.specs.Hart.{Hart, register, fetch, readable, sets, goes_to, jumps};
+ghost use Rattle.rv_machine.specs.Loading.{IsRoom};
 ghost use Rattle.rv_machine.specs.Memory.{loaded, stored};
+ghost use Rattle.rv_machine.specs.Space.{IsSpace};
+ghost use Rattle.std.specs.Vec.{vec_capacity};
 ghost use Rattle.rv_machine.specs.Width.{IsWidth};
 ghost use Rattle.rv_machine.specs.Step.{next_of, Keeps, Stores, registers_after};
 ghost use Rattle.rv_machine.specs.Services.{past_ecall};
@@ -14,6 +17,7 @@ use crate::blocks::BlockPlace;
 use crate::code::{self, CODE_START};
 use crate::memory::{Memory, is_aligned};
 use crate::runtime::destroy;
+use crate::space::Space;
 use crate::start::{DOMAIN_START, YOUNG_TOP};
 use crate::step_end::StepEnd;
 use image_form::Image;
@@ -22,19 +26,24 @@ use std::marker::Model;
 /// The machine. Contracts see the state of its hart.
 #[derive(Drop)]
 pub struct Machine<'a> {
-    image: &'a Image,
-    registers: [u64; 32],
-    pc: u64,
-    memory: Memory,
-    stack_base: u64,
-    // The blocks by serial. `load` takes the memory of the whole table.
-    blocks: Vec<BlockPlace>,
-    retired: u64,
-    services: u64,
+    pub image: &'a Image,
+    pub registers: [u64; 32],
+    pub pc: u64,
+    pub memory: Memory,
+    /// The lowest address that the stack pointer may have.
+    pub stack_base: u64,
+    /// The bytes of each half of the heap.
+    pub heap: u64,
+    /// The blocks by serial. `load` takes the memory of the whole table.
+    pub blocks: Vec<BlockPlace>,
+    pub retired: u64,
+    /// How many allocation services have moved blocks.
+    pub services: u64,
+    pub space: Space,
 }
 
 impl<'a> Model for Machine<'a> {
-    ghost use Rattle.std.specs.Prelude.{◌≡◌, ◌≤◌, ◌*◌, length, slice_index};
+    ghost use Rattle.std.specs.Prelude.{◌≡◌, ◌≤◌, ◌*◌, ◌/◌, length, slice_index};
     ghost use Rattle.bs_words.specs.Contents.{contents};
     ghost use Rattle.image_form.specs.Tables.{tables};
     ghost use Rattle.image_form.specs.Image.{IsImage};
@@ -42,27 +51,36 @@ impl<'a> Model for Machine<'a> {
 
     ghost Value = { Hart };
 
-    ghost view = { λ m. record { image = tables m.image.now; registers = m.registers; pc = m.pc; memory = m.memory; stack_base = m.stack_base; blocks = m.blocks.items; retired = m.retired; services = m.services } };
+    ghost view = { λ m. record { image = tables m.image.now; registers = m.registers; pc = m.pc; memory = m.memory; stack_base = m.stack_base; heap = m.heap; blocks = m.blocks.items; retired = m.retired; services = m.services } };
 
-    // x0 holds 0, so that it is read as the others are.
-    ghost invariant = { λ m. (slice_index m.registers 0 ≡ 0) × IsImage m.image.now };
+    ghost use Rattle.std.specs.Vec.{vec_capacity};
+    ghost use Rattle.rv_machine.specs.Space.{IsHeap, IsSpace};
+
+    // x0 holds 0, so that it is read as the others are. The stack lies above the heap.
+    ghost invariant = { λ m. (slice_index m.registers 0 ≡ 0) × IsImage m.image.now × IsHeap m.heap m.blocks.items × IsSpace m.heap m.space × (m.heap / 16 ≤ vec_capacity m.blocks) × (0x38010000 ≤ m.stack_base) × (m.services ≤ m.retired) };
 }
 
 impl<'a> Machine<'a> {
     // A machine in which no instruction has retired and no block lies. `blocks` is empty, with room for the
-    // table.
+    // table; a block has 16 bytes at least.
     pub(crate) fn new(
         image: &'a Image,
         registers: [u64; 32],
         pc: u64,
         memory: Memory,
         stack_base: u64,
+        heap: u64,
         blocks: Vec<BlockPlace>,
+        space: Space,
     ) -> Self
         requires zero { slice_index registers 0 ≡ 0 }
         requires rules { IsImage image.now }
         requires no_block { blocks.items ≡ [] }
-        ensures { result ≡ record { image = tables image.now; registers = registers; pc = pc; memory = memory; stack_base = stack_base; blocks = []; retired = 0; services = 0 } }
+        requires room { heap / 16 ≤ vec_capacity blocks }
+        requires heap { IsRoom heap }
+        requires ready { IsSpace heap space }
+        requires above { 0x38010000 ≤ stack_base }
+        ensures { result ≡ record { image = tables image.now; registers = registers; pc = pc; memory = memory; stack_base = stack_base; heap = heap; blocks = []; retired = 0; services = 0 } }
     {
         Machine {
             image,
@@ -70,9 +88,11 @@ impl<'a> Machine<'a> {
             pc,
             memory,
             stack_base,
+            heap,
             blocks,
             retired: 0,
             services: 0,
+            space,
         }
     }
 

@@ -1,6 +1,6 @@
 //! The memory that may be written: six regions.
 ghost use Rattle.std.specs.Prelude.{◌≡◌, ◌==◌, ◌*◌, ◌%◌, ◌^◌, ◌<◌, [], ◌∷◌, IfSome};
-ghost use Rattle.rv_machine.specs.Memory.{read, written, loaded, stored};
+ghost use Rattle.rv_machine.specs.Memory.{read, written, loaded, stored, word, write};
 ghost use Rattle.rv_machine.specs.Width.{IsWidth, Writes};
 
 use crate::region::Region;
@@ -119,6 +119,20 @@ impl Memory {
         } else {
             None
         }
+    }
+
+    /// The word at an address; 0 where that is no multiple of 8 or no region has a word there.
+    pub fn word(&self, address: u64) -> u64
+        ensures { result ≡ word self.now address }
+    {
+        self.load(address, 8).unwrap_or(0)
+    }
+
+    /// Writes a word at an address, where that is a multiple of 8 and a region has a word there.
+    pub fn put(&mut self, address: u64, word: u64)
+        ensures { self.new ≡ write self.old address word }
+    {
+        let _ = self.store(address, 8, word);
     }
 
     /// Writes as `write` does, where the address is a multiple of the width.

@@ -35,7 +35,7 @@ return_step s v instruction held_there = record {
           register_words = ready.register_words;
           stack_words = ready.stack_words;
         },
-        λ j k e. one_step s h v _ stands instruction j k e ∙ ap (λ next. after s.schedule k (after_next next (at s h))) effect,
+        λ j k e. one_step s h v _ stands instruction j k e ∙ ap (λ next. after s.schedule k (after_next s.schedule next (at s h))) effect,
       );
 }
 
@@ -48,8 +48,8 @@ end_step s v word instruction zero_there word_there int = record {
       let before = perhaps_asked s.schedule h in
       let ready = perhaps_stands s h v stands in
       let m : Machine = record (at s h) { hart = before } in
-      let ends : served (register before 7) m ≡ Over [] (Returned (value_returned s.result before)) =
-      ap (λ n. served n m) (register_held s before v 7 ready ∙ zero_there) in
+      let ends : served s.schedule.plan (register before 7) m ≡ Over [] (Returned (value_returned s.result before)) =
+      ap (λ n. served s.schedule.plan n m) (register_held s before v 7 ready ∙ zero_there) in
       let value : value_returned s.result before ≡ Some (Word word) =
       ap (λ r. value_returned r before) int ∙ ap (λ w. Some (Word w)) (register_held s before v 10 ready ∙ word_there) in
       one_step s h v _ stands instruction j k e ∙ ap (after s.schedule k) (ends ∙ ap (λ o. Over [] (Returned o)) value);

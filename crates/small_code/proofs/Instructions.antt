@@ -119,7 +119,7 @@ store_step s v ra rs imm k instruction small address within = record {
           register_words = ready.register_words;
           stack_words = set_words v.stack k value ready.stack_words word;
         },
-        λ j m e. one_step s h v _ stands instruction j m e ∙ ap (λ next. after s.schedule m (after_next next (at s h))) effect,
+        λ j m e. one_step s h v _ stands instruction j m e ∙ ap (λ next. after s.schedule m (after_next s.schedule next (at s h))) effect,
       );
 }
   where

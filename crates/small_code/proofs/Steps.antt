@@ -9,7 +9,7 @@ use Rattle.rv_isa.specs.declared.instr.Instr.{Instr}
 use Rattle.rv_isa.proofs.RoundTrip.{decoded-encoded}
 use Rattle.rv_machine.specs.Hart.{Hart, register, with_register, sets, executed, decoded_next, fetched, fetch, hart}
 use Rattle.rv_machine.specs.Memory.{code_region, code_start}
-use Rattle.rv_machine.specs.Run.{Schedule, is_among, asked, perhaps_asked, after_next, after}
+use Rattle.rv_machine.specs.Run.{Schedule, asked, perhaps_asked, after_next, after}
 use Rattle.rv_machine.specs.Services.{End, Machine, Going, Over, StackOut}
 use Rattle.rv_machine.specs.Start.{domain_start, limit_asked}
 use Rattle.small_code.proofs.Memory.{HasStack, past, memory_asked}
@@ -98,7 +98,7 @@ asked_stands s true h v stands = record {
 }
 
 pub perhaps_stands : (s : Setting) (h : Hart) (v : View) → Stands s h v → Stands s (perhaps_asked s.schedule h) v
-perhaps_stands s h v stands = asked_stands s (is_among s.schedule.asks h.retired) h v stands
+perhaps_stands s h v stands = asked_stands s (s.schedule.asks h.retired) h v stands
 
 -- ---- one instruction
 
@@ -125,11 +125,11 @@ hart_executes s h v i stands instruction =
 -- what comes of one instruction, where its effect on every hart that stands so is known
 pub one_step :
     (s : Setting) (h : Hart) (v : View) (i : Instr) → Stands s h v → Instruction s v.place i → (j k : ℕ) → j ≡ 1 + k →
-    after s.schedule j (Going (at s h)) ≡ after s.schedule k (after_next (executed i (perhaps_asked s.schedule h)) (at s h))
+    after s.schedule j (Going (at s h)) ≡ after s.schedule k (after_next s.schedule (executed i (perhaps_asked s.schedule h)) (at s h))
 one_step s h v i stands instruction j k e =
     let more : j ≡ suc k = omega arith in
     ap (λ n. after s.schedule n (Going (at s h))) more
-    ∙ ap (λ next. after s.schedule k (after_next next (at s h))) (hart_executes s (perhaps_asked s.schedule h) v i (perhaps_stands s h v stands) instruction)
+    ∙ ap (λ next. after s.schedule k (after_next s.schedule next (at s h))) (hart_executes s (perhaps_asked s.schedule h) v i (perhaps_stands s h v stands) instruction)
 
 -- ---- an instruction that sets a register
 
@@ -195,7 +195,7 @@ set_step s v i rd value instruction passes known = record {
           stack_words = ready.stack_words;
         },
         λ j k e. one_step s h v i stands instruction j k e
-            ∙ ap (λ next. after s.schedule k (after_next next (at s h)))
+            ∙ ap (λ next. after s.schedule k (after_next s.schedule next (at s h)))
             (known.effect before ready ∙ cond-false _ _ _ (passes_test s rd value before.stack_base ready.stack_base passes)),
       );
 }
@@ -212,6 +212,6 @@ out_step s v i value instruction low known = record {
       let before = perhaps_asked s.schedule h in
       let ready = perhaps_stands s h v stands in
       one_step s h v i stands instruction j k e
-      ∙ ap (λ next. after s.schedule k (after_next next (at s h)))
+      ∙ ap (λ next. after s.schedule k (after_next s.schedule next (at s h)))
       (known.effect before ready ∙ cond-true _ _ _ (lt-ltb value before.stack_base (subst (λ b. value < b) (sym ready.stack_base) low)));
 }

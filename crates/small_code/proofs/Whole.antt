@@ -6,10 +6,11 @@ use Rattle.bs_words.specs.declared.types.Ret.{Ret}
 use Rattle.bs_words.specs.declared.types.Ret.TheVariants as returns
 use Rattle.correctness.specs.Correct.{IsPrefix}
 use Rattle.image_form.specs.Tables.{Ext}
-use Rattle.rv_machine.specs.Hart.{Hart, Next, Retired, Service, hart, register}
+use Rattle.rv_machine.specs.Allocation.{Allocated, Goes, NoHeap, Refused, allocated}
+use Rattle.rv_machine.specs.Hart.{Hart, Next, Placed, Retired, Service, hart, register}
 use Rattle.rv_machine.specs.Hart as next
 use Rattle.rv_machine.specs.Run.{Schedule, Seen, perhaps_asked, after_next, one, after, seen}
-use Rattle.rv_machine.specs.Services.{End, Running, Machine, Now, Going, Over, answered, call_made, external, served}
+use Rattle.rv_machine.specs.Services.{End, Running, Machine, Now, Going, Over, after_allocation, answered, call_made, external, served}
 
 pub over_stays :
     (schedule : Schedule) (k : ℕ) (calls : List Made) (end : End) → after schedule k (Over calls end) ≡ Over calls end
@@ -44,17 +45,26 @@ external_grows : (e : Option Ext) (m : Machine) → IsPrefix m.calls (seen (exte
 external_grows None m = same_calls m.calls
 external_grows (Some e) m = answered_grows e.result (call_made e m.hart) m.answers m
 
-served_grows : (number : ℕ) (m : Machine) → IsPrefix m.calls (seen (served number m)).calls
-served_grows zero m = same_calls m.calls
-served_grows (suc zero) m = same_calls m.calls
-served_grows (suc (suc zero)) m = external_grows (slice_get m.hart.image.extcs (register m.hart 5)) m
-served_grows (suc (suc (suc n))) m = same_calls m.calls
+allocation_grows : (a : Allocated) (m : Machine) → IsPrefix m.calls (seen (after_allocation a m)).calls
+allocation_grows (Goes h) m = same_calls m.calls
+allocation_grows NoHeap m = same_calls m.calls
+allocation_grows (Refused cause) m = same_calls m.calls
 
-next_grows : (next : Next) (m : Machine) → IsPrefix m.calls (seen (after_next next m)).calls
-next_grows (Retired h) m = same_calls m.calls
-next_grows (Service h) m = served_grows (register h 7) (record m { hart = h })
-next_grows next.StackOut m = same_calls m.calls
-next_grows (next.Stopped cause) m = same_calls m.calls
+served_grows :
+    (plan : ℕ → List Placed → List ℕ) (number : ℕ) (m : Machine) →
+    IsPrefix m.calls (seen (served plan number m)).calls
+served_grows plan zero m = same_calls m.calls
+served_grows plan (suc zero) m = same_calls m.calls
+served_grows plan (suc (suc zero)) m = external_grows (slice_get m.hart.image.extcs (register m.hart 5)) m
+served_grows plan (suc (suc (suc zero))) m = allocation_grows (allocated (plan m.hart.services) m.hart) m
+served_grows plan (suc (suc (suc (suc n)))) m = same_calls m.calls
+
+next_grows :
+    (schedule : Schedule) (next : Next) (m : Machine) → IsPrefix m.calls (seen (after_next schedule next m)).calls
+next_grows schedule (Retired h) m = same_calls m.calls
+next_grows schedule (Service h) m = served_grows schedule.plan (register h 7) (record m { hart = h })
+next_grows schedule next.StackOut m = same_calls m.calls
+next_grows schedule (next.Stopped cause) m = same_calls m.calls
 
 pub calls_grow :
     (schedule : Schedule) (k : ℕ) (now : Now) → IsPrefix (seen now).calls (seen (after schedule k now)).calls
@@ -62,7 +72,7 @@ calls_grow schedule zero now = same_calls (seen now).calls
 calls_grow schedule (suc k) (Over calls end) = same_calls calls
 calls_grow schedule (suc k) (Going m) =
     then_calls m.calls (seen (one schedule m)).calls (seen (after schedule k (one schedule m))).calls
-    (next_grows (hart (perhaps_asked schedule m.hart)) m) (calls_grow schedule k (one schedule m))
+    (next_grows schedule (hart (perhaps_asked schedule m.hart)) m) (calls_grow schedule k (one schedule m))
 
 no_part : (calls rest : List Made) → calls ++ rest ≡ [] → calls ≡ []
 no_part [] rest e = refl

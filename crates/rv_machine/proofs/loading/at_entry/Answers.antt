@@ -13,11 +13,12 @@ returns c = λ entry args offset words.
       pc = 0x10000 + from;
       memory = memory;
       stack_base = 0x3FFFFFF0 - c.args.stack;
+      heap = c.args.heap;
       blocks = [];
       retired = 0;
       services = 0;
     } in
-    c.new.ensures
+    c.new-2.ensures
     ∙ ap (λ registers. state registers c.from-pc.result c.in_ok-memory.memory) (c.start_registers.ensures.exact args words)
     ∙ ap (λ from. state (start_registers args) from c.in_ok-memory.memory) (c.from-pc.ensures ∙ sym offset)
     ∙ ap (λ memory. state (start_registers args) entry.offset memory) c.in_ok-memory.ensures
