@@ -1,2 +1,5 @@
-pub mod Written
 pub mod Outcome
+pub mod Plans
+pub mod Schedules
+pub mod Standing
+pub mod Written

@@ -103,6 +103,13 @@ impl<'a> Machine<'a> {
         self.retired
     }
 
+    /// How many allocation services have moved blocks.
+    pub fn services(&self) -> u64
+        ensures { result ≡ self.now.services }
+    {
+        self.services
+    }
+
     /// The register `r`.
     pub fn register(&self, r: u8) -> u64
         requires { r < 32 }
