@@ -5,4 +5,5 @@ pub mod Bytes64
 pub mod Found
 pub mod Halves
 pub mod LowHalf
+pub mod Marks
 pub mod Young

@@ -70,7 +70,7 @@ root_cells image = map (λ offset. data_start + offset) image.roots
 abbrev pub moved : Hart → List Placed → List Frame → Hart
 moved h news fs =
     let f = rewritten h.blocks news in
-    let places = root_cells h.image ++ slots_of fs in
+    let places = slots_of fs ++ root_cells h.image in
     record h {
       registers = with_register 26 (young_top - bytes_asked h) (redirected_registers f h.registers (registers_of fs) h.registers);
       pc = h.pc + 4;

@@ -8,6 +8,7 @@ pub mod Frames
 pub mod Placement
 pub mod Moving
 pub mod Allocation
+pub mod Marks
 pub mod Space
 pub mod Services
 pub mod Step

@@ -1,5 +1,5 @@
 -- Where the blocks of the heap lie, and where a service puts them.
-use Rattle.std.specs.Prelude.{ℕ, zero, suc, ◌+◌, ◌-◌, ◌*◌, ◌/◌, ◌%◌, Bool, true, false, cond, ◌&&◌, ◌||◌, ◌==◌, nat_le, List, [], ◌∷◌, length, reverse, sum_by}
+use Rattle.std.specs.Prelude.{ℕ, zero, suc, ◌+◌, ◌-◌, ◌*◌, ◌/◌, ◌%◌, Bool, true, false, cond, ◌&&◌, ◌||◌, ◌==◌, nat_le, List, [], ◌∷◌, length, reverse}
 use Rattle.std.specs.List.{list_all}
 use Rattle.rv_machine.specs.Hart.{Placed}
 use Rattle.rv_machine.specs.Places.{half_start}
@@ -20,7 +20,8 @@ bytes_of b = 8 + 8 * b.words
 
 -- the bytes of all blocks
 abbrev pub bytes_used : List Placed → ℕ
-bytes_used blocks = sum_by bytes_of blocks
+bytes_used [] = 0
+bytes_used (b ∷ bs) = bytes_of b + bytes_used bs
 
 -- ---- new places
 

@@ -19,16 +19,18 @@ pub mod space;
 pub mod start;
 mod step;
 pub mod step_end;
+pub mod table;
 
+pub use blocks::BlockPlace;
 pub use cause::Cause;
 pub use code::CODE_START;
 pub use loading::{load, word_of_arg};
 pub use machine::Machine;
-pub use blocks::BlockPlace;
 pub use memory::Memory;
 pub use setup::{Arg, LoadError, Setup};
 pub use space::Space;
 pub use step_end::StepEnd;
+pub use table::Table;
 
 #[cfg(test)]
 mod tests;

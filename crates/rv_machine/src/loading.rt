@@ -11,11 +11,11 @@ use crate::code::CODE_START;
 use crate::machine::Machine;
 use crate::memory::Memory;
 use crate::setup::{Arg, LoadError, Setup};
+use crate::space::Space;
 use crate::start::{
     self, DATA_START, DOMAIN_START, FILLER, LOWER_HALF, STACK_BOTTOM, UPPER_HALF, YOUNG_START,
     YOUNG_TOP,
 };
-use crate::space::Space;
 use bs_words::{Comp, List, Name};
 use image_form::{FuncRow, Image};
 use std::alloc::{AllocError, Global};

@@ -57,7 +57,7 @@ impl<'a> Model for Machine<'a> {
     ghost use Rattle.rv_machine.specs.Space.{IsHeap, IsSpace};
 
     // x0 holds 0, so that it is read as the others are. The stack lies above the heap.
-    ghost invariant = { λ m. (slice_index m.registers 0 ≡ 0) × IsImage m.image.now × IsHeap m.heap m.blocks.items × IsSpace m.heap m.space × (m.heap / 16 ≤ vec_capacity m.blocks) × (0x38010000 ≤ m.stack_base) × (m.services ≤ m.retired) };
+    ghost invariant = { λ m. (slice_index m.registers 0 ≡ 0) × IsImage m.image.now × IsHeap m.heap m.blocks.items × IsSpace m.heap m.space × (m.heap / 16 ≤ vec_capacity m.blocks) × (0x38010000 ≤ m.stack_base) × (m.stack_base ≤ 0x40000000) × (m.services ≤ m.retired) };
 }
 
 impl<'a> Machine<'a> {
@@ -80,6 +80,7 @@ impl<'a> Machine<'a> {
         requires heap { IsRoom heap }
         requires ready { IsSpace heap space }
         requires above { 0x38010000 ≤ stack_base }
+        requires below { stack_base ≤ 0x40000000 }
         ensures { result ≡ record { image = tables image.now; registers = registers; pc = pc; memory = memory; stack_base = stack_base; heap = heap; blocks = []; retired = 0; services = 0 } }
     {
         Machine {

@@ -2,13 +2,16 @@
 ghost use Rattle.std.specs.Prelude.{◌≡◌, ◌%◌, ◌≤◌, IfOk};
 ghost use Rattle.rv_machine.specs.Space.{IsSpace};
 
+use crate::blocks::BlockPlace;
+use crate::table::Table;
 use std::alloc::{AllocError, Global};
 
 /// What moving blocks needs, so that no service takes memory.
 #[derive(Debug, Drop)]
 pub struct Space {
-    /// A word for each word where a block may start. Between services all are 0.
-    pub table: Vec<u64>,
+    pub table: Table,
+    /// Room for the blocks of the young area.
+    pub young: Vec<BlockPlace>,
     /// Room for the new start of each block.
     pub starts: Vec<u64>,
     /// Room for the words of all blocks.
@@ -22,13 +25,14 @@ impl Space {
         requires most { heap ≤ 67108864 }
         ensures { IfOk result (λ space. IsSpace heap space) }
     {
-        let half = (heap / 8) as usize;
-        let table = vec![in alloc; 0; 8192 + half + half]?;
-        // A block has 16 bytes at least.
+        let table = Table::new(alloc, heap)?;
+        // A block has 16 bytes at least, and the young area has 65,536: 4,096 blocks, and the place behind them.
+        let young = Vec::with_capacity(alloc, 4097)?;
         let starts = Vec::with_capacity(alloc, (heap / 16) as usize)?;
-        let words = Vec::with_capacity(alloc, half)?;
+        let words = Vec::with_capacity(alloc, (heap / 8) as usize)?;
         Ok(Space {
             table,
+            young,
             starts,
             words,
         })

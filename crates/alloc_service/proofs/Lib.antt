@@ -1,0 +1,11 @@
+pub mod Apart
+pub mod Chain
+pub mod Falling
+pub mod Gathered
+pub mod InHeap
+pub mod Packing
+pub mod Placing
+pub mod Served
+pub mod Steps
+pub mod Walking
+pub mod Words

@@ -1,0 +1,128 @@
+-- Words of the memory, after others were written.
+use Rattle.std.proofs.Common.{◌≡◌, ◌≢◌, ℕ, zero, suc, ◌+◌, ◌-◌, ◌*◌, ◌%◌, ◌/◌, ◌^◌, ◌<◌, ◌≤◌, ◌⊎◌, inl, inr, Bool, true, false, cond, ◌&&◌, ◌==◌, nat_le, List, [], ◌∷◌, ◌++◌, slice_index, slice_set, Option, Some, None, option_map, refl, ap, arith, ◌∙◌, sym, subst, get_or-set_other}
+use Rattle.std.specs.List.{AllByRecursion}
+use Rattle.std.proofs.lemmas.Bool.{and_parts, leb-true, eqb-true, cases_Bool}
+use Rattle.rv_machine.specs.Memory.{Region, byte_in, index_in, is_inside, loaded, memory_or, or_zero, part, read, stored, with_written, word, write, written}
+use Rattle.rv_machine.specs.Hart.{with_register}
+use Rattle.rv_machine.specs.Moving.{redirected, redirected_registers}
+use Rattle.alloc_service.specs.Forward.{redirected_now, redirected_registers_now}
+
+inside_low : (r : Region) (a w : ℕ) → is_inside r a w ≡ true → r.start ≤ a
+inside_low r a w h = leb-true r.start a (and_parts (nat_le r.start a) (nat_le (a + w) (r.start + r.bytes)) h).0
+
+-- two places of a region have two words
+apart_in : (start a b : ℕ) → a % 8 ≡ 0 → b % 8 ≡ 0 → a ≢ b → start ≤ a → start ≤ b → (b - start) / 8 ≢ (a - start) / 8
+apart_in start a b x y n h k = omega arith
+
+read_here :
+    (r : Region) (rs : List Region) (a b v : ℕ) (t : Bool) → a % 8 ≡ 0 → b % 8 ≡ 0 → a ≢ b → is_inside r a 8 ≡ true → is_inside r b 8 ≡ t →
+    cond t (Some (part (slice_index (with_written r a 8 v).words (index_in r b)) (byte_in r b) 8)) (read rs b 8)
+    ≡ cond t (Some (part (slice_index r.words (index_in r b)) (byte_in r b) 8)) (read rs b 8)
+read_here r rs a b v true x y n h k =
+    ap (λ w. Some (part w (byte_in r b) 8))
+    (get_or-set_other r.words (index_in r a) (index_in r b) _ 0 (apart_in r.start a b x y n (inside_low r a 8 h) (inside_low r b 8 k)))
+read_here r rs a b v false x y n h k = refl
+
+read_by :
+    (r : Region) (rs : List Region) (a b v : ℕ) (t : Bool) (o : Option (List Region)) → a % 8 ≡ 0 → b % 8 ≡ 0 → a ≢ b → is_inside r a 8 ≡ t →
+    read (memory_or rs o) b 8 ≡ read rs b 8 →
+    read (memory_or (r ∷ rs) (cond t (Some (with_written r a 8 v ∷ rs)) (option_map (λ rest. r ∷ rest) o))) b 8 ≡ read (r ∷ rs) b 8
+read_by r rs a b v true o x y n h later = read_here r rs a b v (is_inside r b 8) x y n h refl
+read_by r rs a b v false None x y n h later = refl
+read_by r rs a b v false (Some new) x y n h later =
+    ap (λ (o : Option ℕ). cond (is_inside r b 8) (Some (part (slice_index r.words (index_in r b)) (byte_in r b) 8)) o) later
+
+read_other : (m : List Region) (a b v : ℕ) → a % 8 ≡ 0 → b % 8 ≡ 0 → a ≢ b → read (memory_or m (written m a 8 v)) b 8 ≡ read m b 8
+read_other [] a b v x y n = refl
+read_other (r ∷ rs) a b v x y n = read_by r rs a b v (is_inside r a 8) (written rs a 8 v) x y n refl (read_other rs a b v x y n)
+
+word_by :
+    (m : List Region) (a b v : ℕ) (s t : Bool) → (a % 8 == 0) ≡ s → (b % 8 == 0) ≡ t → a ≢ b →
+    or_zero (cond t (read (memory_or m (cond s (written m a 8 v) None)) b 8) None) ≡ or_zero (cond t (read m b 8) None)
+word_by m a b v s false e k n = refl
+word_by m a b v false true e k n = refl
+word_by m a b v true true e k n = ap or_zero (read_other m a b v (eqb-true (a % 8) 0 e) (eqb-true (b % 8) 0 k) n)
+
+-- another word stays
+pub other_word : (m : List Region) (a b v : ℕ) → a ≢ b → word (write m a v) b ≡ word m b
+unfolding word write
+other_word m a b v n = word_by m a b v (a % 8 == 0) (b % 8 == 0) refl refl n
+
+-- ---- words that are rewritten
+
+-- numbers that rise, each from a lower bound up and below an upper one
+abbrev pub Rise : ℕ → ℕ → List ℕ → Type 0
+Rise low high [] = Unit {0}
+Rise low high (a ∷ as') = (low ≤ a) × (a < high) × Rise (suc a) high as'
+
+pub rise_low : (low from high : ℕ) (as' : List ℕ) → low ≤ from → Rise from high as' → Rise low high as'
+rise_low low from high [] h r = tt
+rise_low low from high (a ∷ as') h r = (omega (arith, r.0), r.1, r.2)
+
+pub rise_high : (low high top : ℕ) (as' : List ℕ) → high ≤ top → Rise low high as' → Rise low top as'
+rise_high low high top [] h r = tt
+rise_high low high top (a ∷ as') h r = (r.0, omega (arith, r.1), rise_high (suc a) high top as' h r.2)
+
+pub rise-append : (low middle high : ℕ) (as' bs : List ℕ) → low ≤ middle → middle ≤ high → Rise low middle as' → Rise middle high bs → Rise low high (as' ++ bs)
+rise-append low middle high [] bs h k r s = rise_low low middle high bs h s
+rise-append low middle high (a ∷ as') bs h k r s = (r.0, omega (arith, r.1), rise-append (suc a) middle high as' bs (omega (arith, r.1)) k r.2 s)
+
+module _ (f : ℕ → ℕ) where
+  pub redirected-append : (m : List Region) (as' bs : List ℕ) → redirected_now f m (as' ++ bs) ≡ redirected_now f (redirected_now f m as') bs
+  redirected-append m [] bs = refl
+  redirected-append m (a ∷ as') bs = redirected-append (write m a (f (word m a))) as' bs
+
+  -- a word that is none of them stays
+  pub kept : (m : List Region) (as' : List ℕ) (b : ℕ) → AllByRecursion (λ a. a ≢ b) as' → word (redirected_now f m as') b ≡ word m b
+  kept m [] b n = refl
+  kept m (a ∷ as') b n = kept (write m a (f (word m a))) as' b n.1 ∙ other_word m a b (f (word m a)) n.0
+
+pub none_above : (low high b : ℕ) (as' : List ℕ) → high ≤ b → Rise low high as' → AllByRecursion (λ a. a ≢ b) as'
+none_above low high b [] h r = tt
+none_above low high b (a ∷ as') h r = (λ e. omega (arith, r.1), none_above (suc a) high b as' h r.2)
+
+pub none_below : (low high b : ℕ) (as' : List ℕ) → b < low → Rise low high as' → AllByRecursion (λ a. a ≢ b) as'
+none_below low high b [] h r = tt
+none_below low high b (a ∷ as') h r = (λ e. omega (arith, r.0), none_below (suc a) high b as' (omega (arith, r.0)) r.2)
+
+-- ---- words read from the old state, and as they stand
+
+-- the numbers that rise from a bound on are rewritten alike, where the words there are the old ones
+pub now_is :
+    (f : ℕ → ℕ) (old : List Region) (as' : List ℕ) (m : List Region) (low high : ℕ) → Rise low high as' →
+    ((b : ℕ) → low ≤ b → b < high → word m b ≡ word old b) → redirected f old m as' ≡ redirected_now f m as'
+now_is f old [] m low high r same = refl
+now_is f old (a ∷ as') m low high r same =
+    let here : word m a ≡ word old a = same a r.0 r.1 in
+    let v = f (word m a) in
+    ap (λ w. redirected f old (write m a (f w)) as') (sym here)
+    ∙ now_is f old as' (write m a v) (suc a) high r.2 (λ b h k. other_word m a b v (λ e. omega arith) ∙ same b (omega (arith, r.0)) k)
+
+pub then_is : (f : ℕ → ℕ) (old m : List Region) (as' bs : List ℕ) → redirected f old m (as' ++ bs) ≡ redirected f old (redirected f old m as') bs
+then_is f old m [] bs = refl
+then_is f old m (a ∷ as') bs = then_is f old (write m a (f (word old a))) as' bs
+
+-- two parts that rise, the second below the first
+pub both_now :
+    (f : ℕ → ℕ) (old : List Region) (as' bs : List ℕ) (from middle top : ℕ) → Rise middle top as' → Rise from middle bs →
+    redirected f old old (as' ++ bs) ≡ redirected_now f (redirected_now f old as') bs
+both_now f old as' bs from middle top r s =
+    then_is f old old as' bs
+    ∙ ap (λ m. redirected f old m bs) (now_is f old as' old middle top r (λ b h k. refl))
+    ∙ now_is f old bs (redirected_now f old as') from middle s (λ b h k. kept f old as' b (none_below middle top b as' k r))
+
+-- ---- registers
+
+other_register : (rs : List ℕ) (r s v : ℕ) → r ≢ s → slice_index (with_register r v rs) s ≡ slice_index rs s
+other_register rs zero s v n = refl
+other_register rs (suc r) s v n = get_or-set_other rs (suc r) s v 0 (λ e. n (sym e))
+
+pub registers_now :
+    (f : ℕ → ℕ) (old : List ℕ) (ns regs : List ℕ) (low high : ℕ) → Rise low high ns →
+    ((b : ℕ) → low ≤ b → slice_index regs b ≡ slice_index old b) → redirected_registers f old ns regs ≡ redirected_registers_now f regs ns
+registers_now f old [] regs low high r same = refl
+registers_now f old (n ∷ ns) regs low high r same =
+    let here : slice_index regs n ≡ slice_index old n = same n r.0 in
+    let v = f (slice_index regs n) in
+    ap (λ w. redirected_registers f old ns (with_register n (f w) regs)) (sym here)
+    ∙ registers_now f old ns (with_register n v regs) (suc n) high r.2 (λ b h. other_register regs n b v (λ e. omega arith) ∙ same b (omega (arith, r.0)))

@@ -1,0 +1,12 @@
+use Rattle.std.proofs.Common.{◌≡◌, ℕ, zero, suc, ◌+◌, ◌-◌, ◌*◌, ◌%◌, ◌/◌, ◌^◌, ◌<◌, ◌≤◌, ◌⊎◌, ◌++◌, ◌&&◌, Bool, true, false, cond, List, [], drop, take, reverse, map, length, Option, Some, None, option_map, vec_len, replicate, slice_index}
+use Rattle.std.specs.Vec.{vec_capacity}
+use Rattle.alloc_service.specs.Forward.{forward, IsForward, is_covered, poured, redirected_now, redirected_registers_now, root_by, roots_by, words_moved, words_of, MarksWithin}
+use Rattle.alloc_service.proofs.moves.gather.Given as goal
+
+abbrev pub invariant-loop-block : goal.invariant-loop-block
+invariant-loop-block l = record {
+  gathered : l.words.items ++ words_moved (forward l.table) l.memory (drop l.block-index l.blocks)
+      ≡ l.initial.words.items ++ words_moved (forward l.table) l.memory l.blocks;
+  room : vec_len l.words + words_of (drop l.block-index l.blocks) ≤ vec_capacity l.words;
+  kept : vec_capacity l.initial.words ≤ vec_capacity l.words;
+}

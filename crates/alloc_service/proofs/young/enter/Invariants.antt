@@ -1,0 +1,14 @@
+use Rattle.std.proofs.Common.{◌≡◌, ℕ, zero, suc, ◌+◌, ◌-◌, ◌*◌, ◌%◌, ◌/◌, ◌^◌, ◌<◌, ◌≤◌, ◌⊎◌, ◌++◌, ◌&&◌, Bool, true, false, cond, List, [], drop, take, reverse, map, length, Option, Some, None, option_map, vec_len, replicate, slice_index}
+use Rattle.std.specs.Vec.{vec_capacity}
+use Rattle.alloc_service.proofs.young.enter.Given as goal
+
+abbrev pub invariant-loop-block : goal.invariant-loop-block
+invariant-loop-block l = record {
+  entered : l.blocks.items ++ reverse l.young.items ≡ l.initial.blocks.items ++ reverse l.initial.young.items;
+  room : vec_len l.blocks + vec_len l.young ≤ vec_capacity l.blocks;
+  young : vec_capacity l.initial.young ≤ vec_capacity l.young;
+  table : vec_capacity l.initial.blocks ≤ vec_capacity l.blocks;
+}
+
+abbrev pub decreases-loop-block : goal.decreases-loop-block
+decreases-loop-block l = vec_len l.young

@@ -1,0 +1,58 @@
+-- What the later steps of a service come to, on the parts of a machine.
+use Rattle.std.specs.Prelude.{◌≡◌, ℕ, ◌/◌, ◌≤◌, Bool, true, false, ◌&&◌, List, [], ◌++◌, length, slice_index, Option, Some, None}
+use Rattle.std.specs.List.{list_all, AllByRecursion}
+use Rattle.std.specs.Vec.{vec_capacity}
+use Rattle.image_form.specs.Tables.{Tables}
+use Rattle.rv_machine.specs.Allocation.{is_root, root_cells}
+use Rattle.rv_machine.specs.Frames.{Frame, frames_from, most_frames, registers_of, slots_of}
+use Rattle.rv_machine.specs.Hart.{Placed}
+use Rattle.rv_machine.specs.Memory.{Region, word}
+use Rattle.rv_machine.specs.Moving.{moved_memory, redirected_registers, rewritten}
+use Rattle.rv_machine.specs.Placement.{is_in_heap, new_places, placed_at}
+use Rattle.rv_machine.specs.declared.space.Space.{Space}
+use Rattle.alloc_service.specs.Forward.{IsForward}
+
+-- The parts of a machine that a service reads and changes.
+pub record Parts : Type 0 where
+  pub registers : List ℕ
+  pub memory : List Region
+  pub blocks : List Placed
+
+-- the frames from a return address and a stack pointer on
+abbrev pub frames_at : Tables → ℕ → Parts → ℕ → ℕ → Option (List Frame)
+frames_at image base p address sp = frames_from (most_frames base) image.descs base p.memory true address sp
+
+abbrev pub roots_at : Tables → Parts → List Frame → Bool
+roots_at image p fs =
+    list_all (λ r. is_root image p.blocks (slice_index p.registers r)) (registers_of fs)
+    && list_all (λ a. is_root image p.blocks (word p.memory a)) (slots_of fs)
+
+-- the parts once the blocks have moved
+abbrev pub moved_to : Tables → List Placed → List Frame → Parts → Parts
+moved_to image news fs p = record {
+  registers = redirected_registers (rewritten p.blocks news) p.registers (registers_of fs) p.registers;
+  memory = moved_memory p.blocks news p.memory (slots_of fs ++ root_cells image);
+  blocks = news;
+}
+
+-- what a service comes to from the stack walk on: whether all that the frames name may stand there, where
+-- there are frames
+abbrev pub Tries : Option Bool → Tables → ℕ → List Placed → ℕ → ℕ → Parts → Parts → Type 0
+Tries None image base news address sp old new = (frames_at image base old address sp ≡ None) × (new ≡ old)
+Tries (Some true) image base news address sp old new =
+    (fs : List Frame) × (frames_at image base old address sp ≡ Some fs) × (roots_at image old fs ≡ true) × (new ≡ moved_to image news fs old)
+Tries (Some false) image base news address sp old new =
+    (fs : List Frame) × (frames_at image base old address sp ≡ Some fs) × (roots_at image old fs ≡ false) × (new ≡ old)
+
+-- The space with the new starts of the blocks, each marked at the block's old start.
+pub record IsPrepared (heap : ℕ) (blocks news : List Placed) (space : Space) : Type 0 where
+  pub of_heap : space.table.heap ≡ heap
+  pub forward : IsForward space.table blocks space.starts.items
+  pub lengths : length space.starts.items ≡ length blocks
+  pub chosen : placed_at blocks space.starts.items ≡ news
+  pub inside : list_all (is_in_heap heap) news ≡ true
+  pub no_young : space.young.items ≡ []
+  pub no_words : space.words.items ≡ []
+  pub young : 4097 ≤ vec_capacity space.young
+  pub starts : heap / 16 ≤ vec_capacity space.starts
+  pub words : heap / 8 ≤ vec_capacity space.words

@@ -1,0 +1,27 @@
+-- What a plan asks for, and what a service tells.
+use Rattle.std.specs.Prelude.{◌≡◌, ℕ, List, []}
+use Rattle.rv_machine.specs.Allocation.{Allocated, Goes, NoHeap, Refused}
+use Rattle.rv_machine.specs.Hart.{Hart, Placed}
+use Rattle.rv_machine.specs.Placement.{drawn_plan}
+use Rattle.alloc_service.specs.declared.plan.Plan.{Plan}
+use Rattle.alloc_service.specs.declared.plan.Plan.TheVariants.{Packed, Starts, Drawn}
+use Rattle.alloc_service.specs.declared.service_end.ServiceEnd.{ServiceEnd}
+use Rattle.alloc_service.specs.declared.service_end.ServiceEnd.TheVariants as told
+
+-- the new starts that a plan has for these blocks
+abbrev pub plan_of : Plan → List Placed → List ℕ
+plan_of Packed blocks = []
+plan_of (Starts starts) blocks = starts.now
+plan_of (Drawn word) blocks = drawn_plan word blocks
+
+-- what was told is what came of the service, and where it goes on the machine then stands so
+abbrev pub Serves : ServiceEnd → Allocated → Hart → Type 0
+Serves told.Goes came new = came ≡ Goes new
+Serves told.HeapOut came new = came ≡ NoHeap
+Serves (told.Stopped cause) came new = came ≡ Refused cause
+
+-- a service that does not go on leaves the machine as it was
+abbrev pub Keeps : ServiceEnd → Hart → Hart → Type 0
+Keeps told.Goes old new = Unit {0}
+Keeps told.HeapOut old new = new ≡ old
+Keeps (told.Stopped cause) old new = new ≡ old

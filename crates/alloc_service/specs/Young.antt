@@ -1,0 +1,23 @@
+-- What reading and taking the young blocks tells.
+use Rattle.std.specs.Prelude.{◌≡◌, ℕ, ◌≤◌, ◌<◌, Bool, true, false, List, ◌++◌, reverse, Option, Some, None}
+use Rattle.rv_machine.specs.Hart.{Placed}
+use Rattle.rv_machine.specs.Placement.{bytes_used}
+use Rattle.alloc_service.specs.declared.young.Taken.{Taken}
+use Rattle.alloc_service.specs.declared.young.Taken.TheVariants.{Entered, Broken, TooMany}
+
+-- a block has a cell
+abbrev pub HasCells : Placed → Type 0
+HasCells b = 1 ≤ b.words
+
+-- whether there are whole blocks, and which
+abbrev pub Reads : Bool → Option (List Placed) → List Placed → Type 0
+Reads true young found = young ≡ Some found
+Reads false young found = young ≡ None
+
+-- the young blocks are taken into the table where they are whole and fit; else the table stays
+abbrev pub Takes : Taken → Option (List Placed) → ℕ → List Placed → List Placed → Type 0
+Takes Entered young heap old new =
+    (found : List Placed) × (young ≡ Some found) × (new ≡ old ++ reverse found) × (bytes_used new ≤ heap)
+Takes Broken young heap old new = (young ≡ None) × (new ≡ old)
+Takes TooMany young heap old new =
+    (found : List Placed) × (young ≡ Some found) × (heap < bytes_used (old ++ reverse found)) × (new ≡ old)

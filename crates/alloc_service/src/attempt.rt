@@ -1,0 +1,159 @@
+//! The service from the choice of new places on, on the parts of a machine.
+ghost use Rattle.std.specs.Prelude.{◌≡◌, ◌≤◌, ◌<◌, ◌/◌, ℕ, ◌%◌, ◌^◌, true, length, slice_index, map, Some, List};
+ghost use Rattle.rv_machine.specs.Hart.{Placed};
+ghost use Rattle.std.specs.List.{AllByRecursion};
+ghost use Rattle.std.specs.Vec.{vec_capacity};
+ghost use Rattle.bs_words.specs.Contents.{contents};
+ghost use Rattle.image_form.specs.Image.{IsImage};
+ghost use Rattle.image_form.specs.Tables.{desc, tables};
+ghost use Rattle.rv_machine.specs.Placement.{bytes_used, new_places, placed_at};
+ghost use Rattle.rv_machine.specs.Frames.{Frame};
+ghost use Rattle.rv_machine.specs.Space.{IsKept, IsSpace};
+ghost use Rattle.alloc_service.specs.Attempt.{IsPrepared, Tries, frames_at, moved_to};
+ghost use Rattle.alloc_service.specs.Forward.{IsLow, IsPlaced, RedirectsFirst, forward};
+ghost use Rattle.alloc_service.specs.Plan.{plan_of};
+
+use crate::choice::choose;
+use crate::forward::{forget, forward_all};
+use crate::moves;
+use crate::plan::Plan;
+use crate::roots::survey;
+use crate::stack::descriptor_of;
+use image_form::Image;
+use rv_machine::{BlockPlace, CODE_START, Memory, Space, Table};
+
+// Chooses the new starts of the blocks and marks the old ones with them.
+fn prepare(plan: Plan<'_>, number: u64, heap: u64, space: &mut Space, blocks: &[BlockPlace])
+    requires space { IsSpace heap space.old }
+    requires aligned { heap % 16 ≡ 0 }
+    requires most { heap ≤ 67108864 }
+    requires placed { AllByRecursion (IsPlaced heap) blocks.now }
+    requires fits { bytes_used blocks.now ≤ heap }
+    ensures { IsPrepared heap blocks.now (new_places heap number blocks.now (plan_of plan.entry blocks.now)) space.new }
+{
+    choose(
+        plan,
+        number,
+        &mut space.table,
+        heap,
+        blocks,
+        &mut space.starts,
+    );
+    forward_all(&mut space.table, blocks, &space.starts);
+}
+
+// Makes the space as it is between services.
+fn restore(heap: u64, space: &mut Space, blocks: &[BlockPlace])
+    requires prepared { (news : List Placed) × IsPrepared heap blocks.now news space.old }
+    requires placed { AllByRecursion (IsPlaced heap) blocks.now }
+    ensures { IsSpace heap space.new }
+{
+    forget(&mut space.table, blocks, &space.starts);
+    space.starts.clear();
+}
+
+/// Chooses new places for the blocks and moves them there, or tells what is amiss with the stack: nothing
+/// where it does not read as frames, `false` where something may not stand where a frame names it. Then
+/// nothing has changed. The space is left as it was.
+pub fn attempt(
+    plan: Plan<'_>,
+    number: u64,
+    image: &Image,
+    base: u64,
+    heap: u64,
+    registers: &mut [u64; 32],
+    memory: &mut Memory,
+    space: &mut Space,
+    blocks: &mut Vec<BlockPlace>,
+    address: u64,
+    sp: u64,
+) -> Option<bool>
+    requires image { IsImage image.now }
+    requires low { 0x38010000 ≤ base }
+    requires high { base ≤ 0x40000000 }
+    requires space { IsSpace heap space.old }
+    requires aligned { heap % 16 ≡ 0 }
+    requires most { heap ≤ 67108864 }
+    requires placed { AllByRecursion (IsPlaced heap) blocks.old.items }
+    requires far { AllByRecursion IsLow blocks.old.items }
+    requires fits { bytes_used blocks.old.items ≤ heap }
+    requires table { heap / 16 ≤ vec_capacity blocks.old }
+    requires zero { slice_index registers.old 0 ≡ 0 }
+    ensures tries { Tries result (tables image.now) base (new_places heap number blocks.old.items (plan_of plan.entry blocks.old.items)) address sp (record { registers = registers.old; memory = memory.old; blocks = blocks.old.items }) (record { registers = registers.new; memory = memory.new; blocks = blocks.new.items }) }
+    ensures space { IsSpace heap space.new }
+    ensures table { heap / 16 ≤ vec_capacity blocks.new }
+    ensures zero { slice_index registers.new 0 ≡ 0 }
+    ensures kept { result ≡ Some true → AllByRecursion (IsKept heap) blocks.new.items }
+    ensures bytes { bytes_used blocks.new.items ≤ heap }
+{
+    prepare(plan, number, heap, space, blocks);
+    let Some(fine) = survey(image, &space.table, base, registers, memory, address, sp) else {
+        restore(heap, space, blocks);
+        return None;
+    };
+    if !fine {
+        restore(heap, space, blocks);
+        return Some(false);
+    }
+    move_all(
+        image, base, heap, registers, memory, space, blocks, address, sp,
+    );
+    Some(true)
+}
+
+// Moves the blocks to the starts in the space, and rewrites all that points to them.
+fn move_all(
+    image: &Image,
+    base: u64,
+    heap: u64,
+    registers: &mut [u64; 32],
+    memory: &mut Memory,
+    space: &mut Space,
+    blocks: &mut Vec<BlockPlace>,
+    address: u64,
+    sp: u64,
+)
+    requires image { IsImage image.now }
+    requires low { 0x38010000 ≤ base }
+    requires high { base ≤ 0x40000000 }
+    requires prepared { IsPrepared heap blocks.old.items (placed_at blocks.old.items space.old.starts.items) space.old }
+    requires most { heap ≤ 67108864 }
+    requires placed { AllByRecursion (IsPlaced heap) blocks.old.items }
+    requires far { AllByRecursion IsLow blocks.old.items }
+    requires fits { bytes_used blocks.old.items ≤ heap }
+    ensures moved { (fs : List Frame) → frames_at (tables image.now) base (record { registers = registers.old; memory = memory.old; blocks = blocks.old.items }) address sp ≡ Some fs → record { registers = registers.new; memory = memory.new; blocks = blocks.new.items } ≡ moved_to (tables image.now) (placed_at blocks.old.items space.old.starts.items) fs (record { registers = registers.old; memory = memory.old; blocks = blocks.old.items }) }
+    ensures space { IsSpace heap space.new }
+    ensures capacity { vec_capacity blocks.new ≡ vec_capacity blocks.old }
+    ensures zero { slice_index registers.new 0 ≡ slice_index registers.old 0 }
+    ensures places { blocks.new.items ≡ placed_at blocks.old.items space.old.starts.items }
+{
+    redirect_first(image, &space.table, registers, memory, address);
+    moves::gather(memory, &space.table, blocks, &mut space.words);
+    moves::redirect_slots(memory, &space.table, image, base, address, sp);
+    moves::redirect_roots(memory, &space.table, image);
+    moves::vacate(memory, blocks);
+    forget(&mut space.table, blocks, &space.starts);
+    moves::place(blocks, &space.starts);
+    moves::pour(memory, &space.words, blocks);
+    space.starts.clear();
+    space.words.clear();
+}
+
+// Rewrites the registers that the first frame names, if there is one.
+fn redirect_first(
+    image: &Image,
+    table: &Table,
+    registers: &mut [u64; 32],
+    memory: &Memory,
+    address: u64,
+)
+    ensures exact { (base : ℕ) (sp : ℕ) → RedirectsFirst (forward table.now) (map desc (contents image.now.descs)) base memory.now registers.old registers.new address sp }
+    ensures zero { slice_index registers.new 0 ≡ slice_index registers.old 0 }
+{
+    if address == CODE_START {
+        return;
+    }
+    if let Some(row) = descriptor_of(image, address) {
+        moves::redirect_registers(registers, table, row.entries.as_slice());
+    }
+}

@@ -1,0 +1,13 @@
+//! Where the mover wants the blocks.
+
+/// The new start that a service is to give to each block. A plan that is not valid means that the blocks
+/// are packed.
+#[derive(Clone, Copy, Debug)]
+pub enum Plan<'a> {
+    /// No plan.
+    Packed,
+    /// A start for each block, by serial.
+    Starts(&'a [u64]),
+    /// The plan that is drawn from a word of the generator.
+    Drawn { word: u64 },
+}

@@ -1,0 +1,12 @@
+//! What comes of a service.
+use rv_machine::Cause;
+
+/// What a service tells.
+#[derive(Clone, Copy, PartialEq, Eq, Debug)]
+pub enum ServiceEnd {
+    /// The blocks have moved, and the program goes on.
+    Goes,
+    /// The blocks do not fit a half of the heap.
+    HeapOut,
+    Stopped(Cause),
+}
