@@ -1,5 +1,4 @@
 pub mod Outcome
-pub mod Plans
 pub mod Schedules
 pub mod Standing
 pub mod Written

@@ -5,7 +5,6 @@ mod calling;
 pub mod outcome;
 pub mod run;
 pub mod schedule;
-pub mod stub;
 pub mod serving;
 pub mod text;
 

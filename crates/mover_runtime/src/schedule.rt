@@ -1,11 +1,11 @@
 //! When the mover acts, and what it does.
 ghost use Rattle.std.specs.Prelude.{◌≡◌, suc};
-ghost use Rattle.mover_runtime.specs.Plans.{plan_of};
+ghost use Rattle.alloc_service.specs.Plan.{plan_of};
 ghost use Rattle.mover_runtime.specs.declared.schedule.Schedule.{Schedule};
 ghost use Rattle.mover_runtime.specs.Schedules.{schedule_of};
 ghost use Rattle.mover_runtime.specs.Standing.{StandsAt};
 
-use crate::stub::Plan;
+use alloc_service::Plan;
 use bs_words::List;
 use mover_schedule::{SeededAsks, plan_word};
 
@@ -32,13 +32,13 @@ impl Schedule {
         ensures { plan_of result ≡ (schedule_of self.now).plan service }
     {
         match self {
-            Schedule::Never | Schedule::Every => Plan::None,
+            Schedule::Never | Schedule::Every => Plan::Packed,
             Schedule::Seed(seed) => Plan::Drawn {
                 word: plan_word(*seed, service),
             },
             Schedule::Lists { plans, .. } => match plans.get(service as usize) {
                 Some(starts) => Plan::Starts(starts.as_slice()),
-                None => Plan::None,
+                None => Plan::Packed,
             },
         }
     }

@@ -3,7 +3,7 @@ ghost use Rattle.std.specs.Prelude.{◌≡◌, ◌≤◌, ◌<◌, ◌-◌, ◌^
 ghost use Rattle.image_form.specs.Tables.{tables, ext};
 ghost use Rattle.image_form.specs.Image.{IsImage, IsExt};
 ghost use Rattle.mover_runtime.specs.Written.{Writes, Counts};
-ghost use Rattle.mover_runtime.specs.Plans.{plan_of};
+ghost use Rattle.alloc_service.specs.Plan.{plan_of};
 ghost use Rattle.bs_words.specs.declared.types.Ret.{Ret};
 ghost use Rattle.mover_runtime.specs.Outcome.{Serves, allocation_text, calling_none, progress_text, last_line};
 ghost use Rattle.mover_runtime.specs.Schedules.{schedule_of};
@@ -17,7 +17,7 @@ use crate::calling::call;
 use crate::outcome::RunEnd;
 use crate::schedule::Schedule;
 use crate::text::{write_line, write_made_line, write_obs_line, write_stopped};
-use crate::stub::{Plan, ServiceEnd};
+use alloc_service::{Plan, ServiceEnd};
 use bs_io::{OutFault, Sink};
 use bs_words::{Comp, Obs, Ret};
 use image_form::ExtRow;
@@ -80,7 +80,7 @@ fn allocate<K: Sink>(
     ensures text { Writes result (K.held out.old) (K.held out.new) (allocation_text (allocated (plan_of plan.entry) machine.old)) }
     ensures counts { Counts result (K.faults out.old) (K.faults out.new) }
 {
-    match crate::stub::service(machine, plan) {
+    match alloc_service::service(machine, plan) {
         ServiceEnd::Goes => Ok(None),
         ServiceEnd::HeapOut => {
             let told = end_heap_out(out)?;
