@@ -6,15 +6,18 @@ use Rattle.image_form.specs.Image.{AreTables}
 use Rattle.image_form.specs.Tables.{Tables, Func}
 use Rattle.mover_runtime.proofs.Loaded.{loaded_run}
 use Rattle.mover_runtime.specs.Outcome.{run_of}
-use Rattle.mover_runtime.specs.declared.outcome.Schedule.TheVariants.{Never}
+use Rattle.mover_runtime.specs.Schedules as runtime
+use Rattle.mover_runtime.specs.declared.schedule.Schedule.{Schedule}
 use Rattle.rv_machine.specs.Hart.{Hart}
 use Rattle.rv_machine.specs.Loading.{func_named, words_of_args, begins_with, begins_at, beginning}
+use Rattle.rv_machine.specs.Run.{machine_run}
+use Rattle.rv_machine.specs.Run as runs
 use Rattle.rv_machine.specs.Start.{start}
 use Rattle.rv_machine.specs.Text.{outcome_text}
 use Rattle.rv_machine.specs.declared.setup.LoadError.TheVariants.{UnknownEntry, ArgumentUnfit}
 use Rattle.rv_machine.specs.declared.setup.Setup.{Setup}
 use Rattle.cmmc_core.specs.Refusal.{IsTextOf, IsUnfit}
-use Rattle.cmmc_core.specs.Run.{words_of_answers}
+use Rattle.cmmc_core.specs.Run.{words_of_answers, schedule_of}
 
 -- A machine stands where the run of a setup begins.
 pub record Begun (image : Tables) (setup : Setup) (h : Hart) : Type 0 where
@@ -71,10 +74,11 @@ unfit-answers image setup h run entry_is b none =
     record { entry = b.entry; named = ap (λ n. func_named n image.funcs) entry_is ∙ b.named; unfit = inr none }
 
 -- the text that a loaded machine's run writes
-pub text-of : (image : Tables) (setup : Setup) (h : Hart) (run : RunTree) (answers : List ℕ) → AreTables image → Begun image setup h
+pub text-of : (image : Tables) (setup : Setup) (h : Hart) (run : RunTree) (schedule : Schedule) (answers : List ℕ) → AreTables image → Begun image setup h
     → run.entry ≡ setup.entry → run.args ≡ contents setup.args → run.stack ≡ setup.stack → run.heap ≡ setup.heap
-    → words_of_answers image run.answers ≡ Some answers → IsTextOf run image (outcome_text (run_of h answers Never run.steps))
-text-of image setup h run answers tables b entry_is args_are stack_is heap_is answered = record {
+    → runtime.schedule_of schedule ≡ schedule_of run.moves
+    → words_of_answers image run.answers ≡ Some answers → IsTextOf run image (outcome_text (run_of h answers schedule run.steps))
+text-of image setup h run schedule answers tables b entry_is args_are stack_is heap_is moves_are answered = record {
   entry = b.entry;
   args = b.args;
   answers = answers;
@@ -82,7 +86,8 @@ text-of image setup h run answers tables b entry_is args_are stack_is heap_is an
   suit = ap (words_of_args image b.entry.params) args_are ∙ b.suit;
   answered = answered;
   told = ap outcome_text
-      (ap (λ (m : Hart). run_of m answers Never run.steps)
+      (ap (λ (m : Hart). run_of m answers schedule run.steps)
       (b.is_start ∙ ap (λ (s : ℕ). start image b.entry b.args s setup.heap) (sym stack_is) ∙ ap (λ (p : ℕ). start image b.entry b.args run.stack p) (sym heap_is))
-      ∙ loaded_run image setup.entry b.entry b.args answers run.stack run.heap Never run.steps tables b.named);
+      ∙ loaded_run image setup.entry b.entry b.args answers run.stack run.heap schedule run.steps tables b.named
+      ∙ ap (λ (s : runs.Schedule). machine_run image b.entry b.args answers run.stack run.heap s run.steps) moves_are);
 }

@@ -10,7 +10,7 @@ use Rattle.rv_machine.specs.Text.{outcome_text}
 use Rattle.cmmc_core.specs.Compile.{IsImageOf, IsNoText, ReadsNoText, IsTooLarge, ReadsTooLarge}
 use Rattle.cmmc_core.specs.Effects.{Side, Rose, IsRead, Tells, IsKept, Got, GotPart}
 use Rattle.cmmc_core.specs.Lines.{no_memory_line}
-use Rattle.cmmc_core.specs.Run.{IsOutcomeOf, ReadsNoImage, NamesNoEntry, GivesUnfit, words_of_answers, no_moves}
+use Rattle.cmmc_core.specs.Run.{IsOutcomeOf, ReadsNoImage, NamesNoEntry, GivesUnfit, words_of_answers, schedule_of}
 use Rattle.cmmc_core.specs.declared.compile.Refusal.{Refusal}
 use Rattle.cmmc_core.specs.declared.compile.Refusal.TheVariants.{ReadFault, NotBuilt, TooLarge, OutOfMemory}
 use Rattle.cmmc_core.specs.declared.run.RunRefusal.{RunRefusal}
@@ -54,7 +54,7 @@ pub record IsTextOf (run : RunTree) (image : Tables) (text : List ℕ) : Type 0 
   pub named : func_named run.entry image.funcs ≡ Some entry
   pub suit : words_of_args image entry.params run.args ≡ Some args
   pub answered : words_of_answers image run.answers ≡ Some answers
-  pub told : text ≡ outcome_text (machine_run image entry args answers run.stack run.heap no_moves run.steps)
+  pub told : text ≡ outcome_text (machine_run image entry args answers run.stack run.heap (schedule_of run.moves) run.steps)
 
 -- The arguments or the answers do not suit the entry.
 pub record IsUnfit (run : RunTree) (image : Tables) : Type 0 where

@@ -2,11 +2,14 @@
 use Rattle.std.specs.Prelude.{◌≡◌, ◌⊎◌, ℕ, List, [], ◌∷◌, Option, Some, None, Err}
 use Rattle.bs_fault.specs.declared.image.ImageRefusal.{ImageRefusal}
 use Rattle.command_line.specs.Command.{RunTree}
+use Rattle.command_line.specs.declared.command.Moves.{Moves}
+use Rattle.command_line.specs.declared.command.Moves.TheVariants.{Never, Every, Seed}
 use Rattle.image_form.specs.Image.{AreTables, tables_bytes}
 use Rattle.image_form.specs.Reading.{reading}
 use Rattle.image_form.specs.Tables.{Tables, Func}
+use Rattle.mover_schedule.specs.Schedules.{never, every, seeded}
 use Rattle.rv_machine.specs.Loading.{func_named, word_of_arg, before, words_of_args}
-use Rattle.rv_machine.specs.Run.{Schedule, lists, machine_run}
+use Rattle.rv_machine.specs.Run.{Schedule, machine_run}
 use Rattle.rv_machine.specs.Text.{outcome_text}
 use Rattle.rv_machine.specs.declared.setup.Arg.{Arg}
 use Rattle.cmmc_core.specs.Effects.{Side, IsRead}
@@ -20,9 +23,11 @@ abbrev pub words_of_answers : Tables → List Arg → Option (List ℕ)
 words_of_answers image [] = Some []
 words_of_answers image (answer ∷ answers) = before (word_of_arg image answer) (words_of_answers image answers)
 
--- the mover asks for nothing and moves nothing
-abbrev pub no_moves : Schedule
-no_moves = lists [] []
+-- when the mover asks, and where it puts the blocks
+abbrev pub schedule_of : Moves → Schedule
+schedule_of Never = never
+schedule_of Every = every
+schedule_of (Seed seed) = seeded seed
 
 -- These bytes are those of an image.
 pub record IsSpelling (bytes : List ℕ) (image : Tables) : Type 0 where
@@ -45,7 +50,7 @@ pub record IsOutcomeOf (run : RunTree) (source : Side) (text : List ℕ) : Type 
   pub named : func_named run.entry image.funcs ≡ Some entry
   pub suit : words_of_args image entry.params run.args ≡ Some args
   pub answered : words_of_answers image run.answers ≡ Some answers
-  pub told : text ≡ outcome_text (machine_run image entry args answers run.stack run.heap no_moves run.steps)
+  pub told : text ≡ outcome_text (machine_run image entry args answers run.stack run.heap (schedule_of run.moves) run.steps)
 
 -- ---- why there is none
 

@@ -7,12 +7,13 @@ ghost use Rattle.image_form.specs.Image.{IsImage};
 ghost use Rattle.image_form.specs.Tables.{tables};
 ghost use Rattle.cmmc_core.specs.Effects.{side, IsRead};
 ghost use Rattle.cmmc_core.specs.Refusal.{WritesRun, WritesOutcome, IsRunRefusal, IsRunRefusalFrom, IsUnread};
-ghost use Rattle.cmmc_core.specs.Run.{words_of_answers, longest_image};
+ghost use Rattle.cmmc_core.specs.Run.{words_of_answers, longest_image, schedule_of};
+ghost use Rattle.mover_runtime.specs.Schedules as runtime;
 
 use bs_fault::ImageRefusal;
 use bs_io::{InFault, Sink, Source, read_all};
 use bs_words::List;
-use command_line::{Arg, RunWords};
+use command_line::{Arg, Moves, RunWords};
 use image_form::{Image, ImageError, read_image};
 use mover_runtime::{Schedule, run_image};
 use rv_machine::{LoadError, Setup, load, word_of_arg};
@@ -87,6 +88,7 @@ fn run_on<K: Sink>(
         steps,
         stack,
         heap,
+        moves,
     } = run;
     let setup = Setup {
         entry,
@@ -105,9 +107,21 @@ fn run_on<K: Sink>(
         Ok(None) => return Err(RunRefusal::ArgumentUnfit),
         Err(AllocError) => return Err(RunRefusal::OutOfMemory),
     };
-    match run_image(&mut machine, words.as_slice(), &Schedule::Never, steps, out) {
+    let schedule = schedule_for(moves);
+    match run_image(&mut machine, words.as_slice(), &schedule, steps, out) {
         Ok(_) => Ok(()),
         Err(_) => Err(RunRefusal::WriteFault),
+    }
+}
+
+/// The schedule that the words ask for.
+fn schedule_for(moves: Moves) -> Schedule
+    ensures { runtime.schedule_of result ≡ schedule_of moves }
+{
+    match moves {
+        Moves::Never => Schedule::Never,
+        Moves::Every => Schedule::Every,
+        Moves::Seed(seed) => Schedule::Seed(seed),
     }
 }
 

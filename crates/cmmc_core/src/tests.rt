@@ -2,6 +2,7 @@
 //! failing in turn.
 ghost use Rattle.std.specs.Prelude.{◌≡◌, ◌≤◌};
 
+mod moves;
 mod rows;
 
 use crate::cmmc;

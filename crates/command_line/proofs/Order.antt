@@ -6,9 +6,9 @@ use Rattle.std.proofs.lemmas.List.Sorted.{IsPermutation-sym, All-permutation, Co
 use Rattle.command_line.specs.declared.form.CommandWord.{CommandWord}
 use Rattle.command_line.specs.declared.form.CommandWord.TheVariants as word
 use Rattle.command_line.specs.declared.form.Slot.{Slot}
-use Rattle.command_line.specs.declared.form.Slot.TheVariants.{Plain, Args, Answers, Steps, Stack, Heap}
-use Rattle.command_line.specs.Command.{CommandTree, RunTree, Sets, given, left_out, IsRun, IsCommand, compile, run, default_steps, default_size}
-use Rattle.command_line.specs.Values.{IsSteps, IsSize, IsItems}
+use Rattle.command_line.specs.declared.form.Slot.TheVariants.{Plain, Args, Answers, Steps, Stack, Heap, Moves}
+use Rattle.command_line.specs.Command.{CommandTree, RunTree, Sets, given, left_out, IsRun, IsCommand, compile, run, default_steps, default_size, default_moves}
+use Rattle.command_line.specs.Values.{IsSteps, IsSize, IsMoves, IsItems}
 use Rattle.command_line.specs.Words.{word_of, slots_of, wanted_of, fills, IsForm, Gives}
 use Rattle.command_line.proofs.Unique.{parts}
 
@@ -37,6 +37,7 @@ run-order xs ys r p is = record {
   steps = sets-order xs ys Steps IsSteps default_steps r.steps p is.steps;
   stack = sets-order xs ys Stack IsSize default_size r.stack p is.stack;
   heap = sets-order xs ys Heap IsSize default_size r.heap p is.heap;
+  moves = sets-order xs ys Moves IsMoves default_moves r.moves p is.moves;
 }
 
 -- words that differ in the order of those after the first are the same command

@@ -1,12 +1,16 @@
 -- Words are at most one command.
-use Rattle.std.proofs.Common.{◌≡◌, ◌≢◌, ℕ, ◌≤◌, ◌%◌, List, [], ◌∷◌, refl, sym, ap, ◌∙◌, subst, arith, lit<}
+use Rattle.std.proofs.Common.{◌≡◌, ◌≢◌, ℕ, ◌≤◌, ◌%◌, List, [], ◌∷◌, codes, Option, Some, None, MatchOption, refl, sym, ap, ◌∙◌, subst, arith, lit<}
+use Rattle.std.proofs.lemmas.List.{append_cancel_left}
 use Rattle.rv_machine.specs.declared.setup.Arg.{Arg}
 use Rattle.command_line.specs.declared.form.CommandWord.{CommandWord}
 use Rattle.command_line.specs.declared.form.CommandWord.TheVariants as word
 use Rattle.command_line.specs.declared.form.Slot.{Slot}
 use Rattle.command_line.specs.declared.form.Slot.TheVariants.{Plain, Args, Answers, Steps, Stack, Heap}
-use Rattle.command_line.specs.Command.{CommandTree, CompileCommand, RunCommand, RunTree, IsRun, IsCommand, compile, run, default_steps, default_size, Sets, given, left_out, WithinLimits}
-use Rattle.command_line.specs.Values.{Nothing, IsSteps, IsSize, IsItems, most_steps, largest_size}
+use Rattle.command_line.specs.declared.form.Slot.TheVariants as slot
+use Rattle.command_line.specs.declared.command.Moves.{Moves}
+use Rattle.command_line.specs.declared.command.Moves.TheVariants.{Seed}
+use Rattle.command_line.specs.Command.{CommandTree, CompileCommand, RunCommand, RunTree, IsRun, IsCommand, compile, run, default_steps, default_size, default_moves, Sets, given, left_out, WithinLimits}
+use Rattle.command_line.specs.Values.{Nothing, IsSteps, IsSize, IsMoves, never, every, seeded, SeedsMoves, seed, IsItems, number_of, most_steps, largest_size}
 use Rattle.command_line.specs.Words.{word_of, IsForm, WellFormed}
 use Rattle.command_line.proofs.Cuts.{list-unique, tail-same}
 use Rattle.command_line.proofs.Gives.{gives-unique, sets-unique}
@@ -17,22 +21,51 @@ steps-unique bytes m n a b = a.number.value ∙ sym b.number.value
 size-unique : (bytes : List ℕ) (m n : ℕ) → IsSize bytes m → IsSize bytes n → m ≡ n
 size-unique bytes m n a b = a.number.value ∙ sym b.number.value
 
-same_run : (entry entry' : List ℕ) (args args' answers answers' : List Arg) (steps steps' stack stack' heap heap' : ℕ)
-    → entry ≡ entry' → args ≡ args' → answers ≡ answers' → steps ≡ steps' → stack ≡ stack' → heap ≡ heap'
-    → let r : RunTree = record { entry = entry; args = args; answers = answers; steps = steps; stack = stack; heap = heap } in
-    let s : RunTree = record { entry = entry'; args = args'; answers = answers'; steps = steps'; stack = stack'; heap = heap' } in
+-- after `seed:` there is one seed
+seeds-unique : (text : List ℕ) (a b : Moves) → SeedsMoves text a → SeedsMoves text b → a ≡ b
+seeds-unique text a b (seed digits n t is fits e) (seed digits' m t' is' fits' e') =
+    let same : digits ≡ digits' = append_cancel_left (codes "seed:") digits digits' (sym t ∙ t') in
+    let number : n ≡ m = is.value ∙ (ap number_of same ∙ sym is'.value) in
+    e ∙ (ap Seed number ∙ sym e')
+
+-- the first bytes of the texts differ
+no_none : (text : List ℕ) (m : Moves) → text ≡ codes "none" → SeedsMoves text m → ⊥
+no_none text m t (seed digits n t' is fits e) = let h = (tail-same 110 115 _ _ (sym t ∙ t')).0 in omega arith
+
+no_every : (text : List ℕ) (m : Moves) → text ≡ codes "every" → SeedsMoves text m → ⊥
+no_every text m t (seed digits n t' is fits e) = let h = (tail-same 101 115 _ _ (sym t ∙ t')).0 in omega arith
+
+none_or_every : (text : List ℕ) → text ≡ codes "none" → text ≡ codes "every" → ⊥
+none_or_every text t t' = let h = (tail-same 110 101 _ _ (sym t ∙ t')).0 in omega arith
+
+moves-unique : (text : List ℕ) (a b : Moves) → IsMoves text a → IsMoves text b → a ≡ b
+moves-unique text a b (never t e) (never t' e') = e ∙ sym e'
+moves-unique text a b (never t e) (every t' e') = absurd (none_or_every text t t')
+moves-unique text a b (never t e) (seeded s) = absurd (no_none text b t s)
+moves-unique text a b (every t e) (never t' e') = absurd (none_or_every text t' t)
+moves-unique text a b (every t e) (every t' e') = e ∙ sym e'
+moves-unique text a b (every t e) (seeded s) = absurd (no_every text b t s)
+moves-unique text a b (seeded s) (never t e) = absurd (no_none text a t s)
+moves-unique text a b (seeded s) (every t e) = absurd (no_every text a t s)
+moves-unique text a b (seeded s) (seeded s') = seeds-unique text a b s s'
+
+same_run : (entry entry' : List ℕ) (args args' answers answers' : List Arg) (steps steps' stack stack' heap heap' : ℕ) (moves moves' : Moves)
+    → entry ≡ entry' → args ≡ args' → answers ≡ answers' → steps ≡ steps' → stack ≡ stack' → heap ≡ heap' → moves ≡ moves'
+    → let r : RunTree = record { entry = entry; args = args; answers = answers; steps = steps; stack = stack; heap = heap; moves = moves } in
+    let s : RunTree = record { entry = entry'; args = args'; answers = answers'; steps = steps'; stack = stack'; heap = heap'; moves = moves' } in
     r ≡ s
-same_run entry entry' args args' answers answers' steps steps' stack stack' heap heap' a b c d e f = cc
+same_run entry entry' args args' answers answers' steps steps' stack stack' heap heap' moves moves' a b c d e f g = cc
 
 pub run-unique : (others : List (List ℕ)) → IsForm word.Run others → (r s : RunTree) → IsRun others r → IsRun others s → r ≡ s
 run-unique others form r s a b =
-    same_run r.entry s.entry r.args s.args r.answers s.answers r.steps s.steps r.stack s.stack r.heap s.heap
+    same_run r.entry s.entry r.args s.args r.answers s.answers r.steps s.steps r.stack s.stack r.heap s.heap r.moves s.moves
     (gives-unique Plain others r.entry s.entry (form.once 0 Plain (lit< tt)) a.entry b.entry)
     (sets-unique others Args IsItems [] (form.once 1 Args (lit< tt)) list-unique r.args s.args a.args b.args)
     (sets-unique others Answers IsItems [] (form.once 2 Answers (lit< tt)) list-unique r.answers s.answers a.answers b.answers)
     (sets-unique others Steps IsSteps default_steps (form.once 3 Steps (lit< tt)) steps-unique r.steps s.steps a.steps b.steps)
     (sets-unique others Stack IsSize default_size (form.once 4 Stack (lit< tt)) size-unique r.stack s.stack a.stack b.stack)
     (sets-unique others Heap IsSize default_size (form.once 5 Heap (lit< tt)) size-unique r.heap s.heap a.heap b.heap)
+    (sets-unique others slot.Moves IsMoves default_moves (form.once 6 slot.Moves (lit< tt)) moves-unique r.moves s.moves a.moves b.moves)
 
 pub parts : (x y : List ℕ) (xs ys : List (List ℕ)) → x ∷ xs ≡ y ∷ ys → (x ≡ y) × (xs ≡ ys)
 parts x y xs ys e = (cc, cc)
@@ -130,3 +163,16 @@ within others r is =
 pub command-formed : (words : List (List ℕ)) (command : CommandTree) → IsCommand words command → WellFormed words
 command-formed words command (compile others begins form) = record { command = word.Compile; others = others; begins = begins; form = form }
 command-formed words command (run others r begins form is) = record { command = word.Run; others = others; begins = begins; form = form }
+
+-- ---- moves by the three texts in turn
+
+no_moves : (text : List ℕ) → (text ≡ codes "none" → ⊥) → (text ≡ codes "every" → ⊥) → Nothing (SeedsMoves text) → Nothing (IsMoves text)
+no_moves text a b is m (never t e) = a t
+no_moves text a b is m (every t e) = b t
+no_moves text a b is m (seeded s) = is m s
+
+pub seeded_or_none : (text : List ℕ) (o : Option Moves) → (text ≡ codes "none" → ⊥) → (text ≡ codes "every" → ⊥)
+    → MatchOption o (Nothing (SeedsMoves text)) (λ m. SeedsMoves text m)
+    → MatchOption o (Nothing (IsMoves text)) (λ m. IsMoves text m)
+seeded_or_none text (Some m) a b is = seeded is
+seeded_or_none text None a b is = no_moves text a b is

@@ -4,7 +4,10 @@ use Rattle.rv_machine.specs.declared.setup.Arg.{Arg}
 use Rattle.command_line.specs.declared.form.CommandWord.TheVariants as word
 use Rattle.command_line.specs.declared.form.Slot.{Slot}
 use Rattle.command_line.specs.declared.form.Slot.TheVariants.{Plain, Args, Answers, Steps, Stack, Heap}
-use Rattle.command_line.specs.Values.{IsName, IsSteps, IsSize, IsItems, most_steps, largest_size}
+use Rattle.command_line.specs.declared.form.Slot.TheVariants as slot
+use Rattle.command_line.specs.declared.command.Moves.{Moves}
+use Rattle.command_line.specs.declared.command.Moves.TheVariants.{Never}
+use Rattle.command_line.specs.Values.{IsName, IsSteps, IsSize, IsMoves, IsItems, most_steps, largest_size}
 use Rattle.command_line.specs.Words.{word_of, IsForm, Gives}
 
 -- What a run is to do.
@@ -15,6 +18,7 @@ pub record RunTree : Type 0 where
   pub steps : ℕ
   pub stack : ℕ
   pub heap : ℕ
+  pub moves : Moves
 
 -- A command with its values.
 pub data CommandTree : Type 0 where
@@ -27,6 +31,9 @@ default_steps = 100000000
 
 abbrev pub default_size : ℕ
 default_size = 1048576
+
+abbrev pub default_moves : Moves
+default_moves = Never
 
 -- The words set the slot to x: x is read from the value that they give, or they give none and x is the default.
 pub data Sets {X : Type 0} (others : List (List ℕ)) (slot : Slot) (Reads : List ℕ → X → Type 0) (default x : X) : Type 0 where
@@ -42,6 +49,7 @@ pub record IsRun (others : List (List ℕ)) (run : RunTree) : Type 0 where
   pub steps : Sets others Steps IsSteps default_steps run.steps
   pub stack : Sets others Stack IsSize default_size run.stack
   pub heap : Sets others Heap IsSize default_size run.heap
+  pub moves : Sets others slot.Moves IsMoves default_moves run.moves
 
 -- The words are this command.
 pub data IsCommand (words : List (List ℕ)) : CommandTree → Type 0 where

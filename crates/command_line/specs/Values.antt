@@ -1,6 +1,8 @@
 -- How the values of a command line are written.
-use Rattle.std.specs.Prelude.{◌≡◌, ◌≢◌, ℕ, ◌+◌, ◌-◌, ◌*◌, ◌%◌, ◌^◌, ◌<◌, ◌≤◌, List, [], ◌∷◌, ◌++◌, length, fold, All}
+use Rattle.std.specs.Prelude.{◌≡◌, ◌≢◌, ℕ, ◌+◌, ◌-◌, ◌*◌, ◌%◌, ◌^◌, ◌<◌, ◌≤◌, List, [], ◌∷◌, ◌++◌, codes, length, fold, All}
 use Rattle.bs_words.specs.Word.{sub_word}
+use Rattle.command_line.specs.declared.command.Moves.{Moves}
+use Rattle.command_line.specs.declared.command.Moves.TheVariants.{Never, Every, Seed}
 use Rattle.rv_machine.specs.declared.setup.Arg.{Arg}
 use Rattle.rv_machine.specs.declared.setup.Arg.TheVariants.{Word, Symbol}
 
@@ -45,6 +47,19 @@ pub record IsSize (bytes : List ℕ) (n : ℕ) : Type 0 where
   pub number : IsNumber bytes n
   pub limit : n ≤ largest_size
   pub aligned : n % 16 ≡ 0
+
+-- ---- moves
+
+-- `seed:` and a seed: a number of 64 bits
+pub data SeedsMoves (text : List ℕ) (moves : Moves) : Type 0 where
+  seed : (digits : List ℕ) (n : ℕ)
+      → text ≡ codes "seed:" ++ digits → IsNumber digits n → n < 2 ^ 64 → moves ≡ Seed n → SeedsMoves text moves
+
+-- when the mover asks and where it puts blocks: `none`, `every`, or a seed
+pub data IsMoves (text : List ℕ) (moves : Moves) : Type 0 where
+  never : text ≡ codes "none" → moves ≡ Never → IsMoves text moves
+  every : text ≡ codes "every" → moves ≡ Every → IsMoves text moves
+  seeded : SeedsMoves text moves → IsMoves text moves
 
 -- ---- items
 

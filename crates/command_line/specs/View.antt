@@ -11,7 +11,7 @@ use Rattle.command_line.specs.Command.{CommandTree, CompileCommand, RunCommand, 
 
 abbrev pub run_view : RunWords → RunTree
 run_view r =
-    record { entry = r.entry; args = contents r.args; answers = contents r.answers; steps = r.steps; stack = r.stack; heap = r.heap }
+    record { entry = r.entry; args = contents r.args; answers = contents r.answers; steps = r.steps; stack = r.stack; heap = r.heap; moves = r.moves }
 
 abbrev pub view : Command → CommandTree
 view Compile = CompileCommand

@@ -5,7 +5,7 @@ use Rattle.std.specs.List.{list_any, starts_with}
 use Rattle.command_line.specs.declared.form.CommandWord.{CommandWord}
 use Rattle.command_line.specs.declared.form.CommandWord.TheVariants as word
 use Rattle.command_line.specs.declared.form.Slot.{Slot}
-use Rattle.command_line.specs.declared.form.Slot.TheVariants.{Plain, Args, Answers, Steps, Stack, Heap}
+use Rattle.command_line.specs.declared.form.Slot.TheVariants.{Plain, Args, Answers, Steps, Stack, Heap, Moves}
 
 -- ---- the table of commands
 
@@ -17,7 +17,7 @@ word_of word.Run = codes "run"
 -- what the other words may be for
 abbrev pub slots_of : CommandWord → List Slot
 slots_of word.Compile = []
-slots_of word.Run = Plain ∷ Args ∷ Answers ∷ Steps ∷ Stack ∷ Heap ∷ []
+slots_of word.Run = Plain ∷ Args ∷ Answers ∷ Steps ∷ Stack ∷ Heap ∷ Moves ∷ []
 
 -- what a word has to be there for
 abbrev pub wanted_of : CommandWord → List Slot
@@ -32,6 +32,7 @@ prefix_of Answers = codes "--answers="
 prefix_of Steps = codes "--steps="
 prefix_of Stack = codes "--stack="
 prefix_of Heap = codes "--heap="
+prefix_of Moves = codes "--moves="
 
 -- ---- the form
 

@@ -30,6 +30,19 @@ pub struct RunWords {
     pub stack: u32,
     /// The bytes of half of the heap.
     pub heap: u32,
+    /// When the mover asks, and where it puts blocks.
+    pub moves: Moves,
+}
+
+/// When the mover asks during a run, and where it puts the blocks of the heap.
+#[derive(Clone, Copy, PartialEq, Eq, Debug)]
+pub enum Moves {
+    /// It asks for nothing and plans nothing.
+    Never,
+    /// It asks before each instruction and plans nothing.
+    Every,
+    /// It asks and plans by the words of a generator that starts from this seed.
+    Seed(u64),
 }
 
 /// Why words are no command.

@@ -23,17 +23,19 @@ pub(crate) enum Slot {
     Steps,
     Stack,
     Heap,
+    Moves,
 }
 
 static NO_SLOTS: [Slot; 0] = [];
 
-static RUN_SLOTS: [Slot; 6] = [
+static RUN_SLOTS: [Slot; 7] = [
     Slot::Plain,
     Slot::Args,
     Slot::Answers,
     Slot::Steps,
     Slot::Stack,
     Slot::Heap,
+    Slot::Moves,
 ];
 
 static RUN_WANTED: [Slot; 1] = [Slot::Plain];
@@ -86,6 +88,7 @@ impl Slot {
             Slot::Steps => b"--steps=",
             Slot::Stack => b"--stack=",
             Slot::Heap => b"--heap=",
+            Slot::Moves => b"--moves=",
         }
     }
 

@@ -4,12 +4,12 @@ ghost use Rattle.bs_words.specs.Contents.{contents};
 ghost use Rattle.command_line.specs.declared.command.WordsError.{WordsError};
 ghost use Rattle.command_line.specs.declared.form.CommandWord.{CommandWord};
 ghost use Rattle.command_line.specs.declared.form.Slot.{Slot};
-ghost use Rattle.command_line.specs.Values.{IsName, IsSteps, IsSize, IsItems, Nothing};
+ghost use Rattle.command_line.specs.Values.{IsName, IsSteps, IsSize, IsMoves, IsItems, Nothing};
 ghost use Rattle.command_line.specs.Words.{fills, WellFormed, IsForm, Gives};
-ghost use Rattle.command_line.specs.Command.{CommandTree, Sets, IsRun, IsCommand, KeepsLimits, default_steps, default_size};
+ghost use Rattle.command_line.specs.Command.{CommandTree, Sets, IsRun, IsCommand, KeepsLimits, default_steps, default_size, default_moves};
 ghost use Rattle.command_line.specs.View.{texts, view, run_view};
 
-use crate::command::{Command, RunWords, WordsError};
+use crate::command::{Command, Moves, RunWords, WordsError};
 use crate::form::{CommandWord, Slot, has_form};
 use crate::values;
 use bs_words::{List, Name};
@@ -78,6 +78,20 @@ fn size(others: &[String], slot: Slot) -> Result<u32, WordsError>
     }
 }
 
+/// When the mover asks, and where it puts blocks.
+fn moves(others: &[String]) -> Result<Moves, WordsError>
+    requires { count_by (fills Slot.Moves) (texts others.now) ≤ 1 }
+    ensures value { IfOk result (λ moves. Sets (texts others.now) Slot.Moves IsMoves default_moves moves) }
+    ensures bad { IsErrOf result WordsError.ValueText
+        → Nothing (Sets (texts others.now) Slot.Moves IsMoves default_moves) }
+    ensures formed { ¬ IsErrOf result WordsError.Words }
+{
+    match Slot::Moves.value_among(others) {
+        Some(text) => values::moves(text).ok_or(WordsError::ValueText),
+        None => Ok(Moves::Never),
+    }
+}
+
 /// The run that the words after `run` are.
 fn run(alloc: Global, others: &[String]) -> Result<RunWords, WordsError>
     requires { IsForm CommandWord.Run (texts others.now) }
@@ -93,6 +107,7 @@ fn run(alloc: Global, others: &[String]) -> Result<RunWords, WordsError>
         steps: steps(others)?,
         stack: size(others, Slot::Stack)?,
         heap: size(others, Slot::Heap)?,
+        moves: moves(others)?,
     })
 }
 
@@ -108,6 +123,8 @@ fn run(alloc: Global, others: &[String]) -> Result<RunWords, WordsError>
 ///     100,000,000.
 ///   - `--stack=` and `--heap=` are decimal numbers of bytes, multiples of 16 and at most 67,108,864,
 ///     by default 1,048,576.
+///   - `--moves=` is `none`, the default, `every`, or `seed:` and a decimal seed from 0 to
+///     18446744073709551615.
 ///
 /// Zeros may lead a number. The order of the words after the first is free.
 ///

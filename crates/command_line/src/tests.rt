@@ -1,5 +1,5 @@
 //! Command lines and what they are.
-use crate::{Arg, Command, RunWords, WordsError, read_words};
+use crate::{Arg, Command, Moves, RunWords, WordsError, read_words};
 use std::alloc::{AllocError, Global};
 use std::process::Abort;
 use std::test::Fail;
@@ -40,7 +40,7 @@ fn is_symbol(rt: &impl Abort, arg: Option<&Arg>, wanted: &[u8]) {
 
 #[test]
 fn words_of_no_command(rt: HostRuntime) -> Result<(), Fail> {
-    let lines: [&[&str]; 19] = [
+    let lines: [&[&str]; 20] = [
         &[],
         &[""],
         &["help"],
@@ -54,7 +54,8 @@ fn words_of_no_command(rt: HostRuntime) -> Result<(), Fail> {
         &["run", "", "b"],
         &["run", "f", "--steps", "3"],
         &["run", "f", "--args=3", "--args=3"],
-        &["run", "f", "--moves=every"],
+        &["run", "f", "--moves"],
+        &["run", "f", "--moves=none", "--moves=none"],
         &["run", "f", "--jobs=2"],
         &["run", "f", "--Args=3"],
         &["--args=3", "run", "f"],
@@ -73,7 +74,7 @@ fn words_of_no_command(rt: HostRuntime) -> Result<(), Fail> {
 
 #[test]
 fn values_of_no_command(rt: HostRuntime) -> Result<(), Fail> {
-    let lines: [&[&str]; 20] = [
+    let lines: [&[&str]; 25] = [
         &["run", ""],
         &["run", "a b"],
         &["run", "add3", "--args=3,,4"],
@@ -94,6 +95,11 @@ fn values_of_no_command(rt: HostRuntime) -> Result<(), Fail> {
         &["run", "f", "--stack=67108880"],
         &["run", "f", "--heap=1e6"],
         &["run", "f", "--heap=340282366920938463463374607431768211472"],
+        &["run", "f", "--moves="],
+        &["run", "f", "--moves=seed"],
+        &["run", "f", "--moves=seed:"],
+        &["run", "f", "--moves=seed:18446744073709551616"],
+        &["run", "f", "--moves=every:1"],
     ];
     for line in lines {
         assert_eq!(rt;
@@ -124,6 +130,7 @@ fn commands(rt: HostRuntime) -> Result<(), Fail> {
     assert_eq!(rt; plain.steps, 100_000_000);
     assert_eq!(rt; plain.stack, 1_048_576);
     assert_eq!(rt; plain.heap, 1_048_576);
+    assert_eq!(rt; plain.moves, Moves::Never);
     Ok(())
 }
 
@@ -179,5 +186,19 @@ fn empty_items_and_limits(rt: HostRuntime) -> Result<(), Fail> {
         fault(rt.alloc(), &["run", longer.as_str()])?,
         Some(WordsError::ValueText)
     );
+    Ok(())
+}
+
+#[test]
+fn moves(rt: HostRuntime) -> Result<(), Fail> {
+    let cases: [(&str, Moves); 4] = [
+        ("--moves=none", Moves::Never),
+        ("--moves=every", Moves::Every),
+        ("--moves=seed:0", Moves::Seed(0)),
+        ("--moves=seed:018446744073709551615", Moves::Seed(u64::MAX)),
+    ];
+    for (option, wanted) in cases {
+        assert_eq!(rt; run(rt.alloc(), &["run", option, "f"])?.moves, wanted);
+    }
     Ok(())
 }

@@ -2,9 +2,9 @@
 ghost use Rattle.std.specs.Prelude.{◌≡◌, ◌≢◌, ◌<◌, ◌≤◌, ◌↔◌, ◌∷◌, ◌++◌, ℕ, MatchOption, IfOk, IsTrue, IsErrOf, All};
 ghost use Rattle.bs_words.specs.Contents.{contents};
 ghost use Rattle.command_line.specs.declared.command.WordsError.{WordsError};
-ghost use Rattle.command_line.specs.Values.{IsName, IsNumber, IsSteps, IsSize, IsItem, IsItems, Nothing};
+ghost use Rattle.command_line.specs.Values.{IsName, IsNumber, IsSteps, IsSize, IsMoves, SeedsMoves, IsItem, IsItems, Nothing};
 
-use crate::command::WordsError;
+use crate::command::{Moves, WordsError};
 use bs_words::{List, Name, sub};
 use rv_machine::Arg;
 use std::alloc::Global;
@@ -63,6 +63,37 @@ pub(crate) fn size(text: &[u8]) -> Option<u32>
         Some(bytes as u32)
     } else {
         None
+    }
+}
+
+/// When the mover asks and where it puts blocks, as the text says: `none`, `every`, or `seed:` and a
+/// seed.
+pub(crate) fn moves(text: &[u8]) -> Option<Moves>
+    ensures { MatchOption result
+        (Nothing (IsMoves text.now))
+        (λ moves. IsMoves text.now moves) }
+{
+    if text == b"none".as_slice() {
+        Some(Moves::Never)
+    } else if text == b"every".as_slice() {
+        Some(Moves::Every)
+    } else {
+        seed(text)
+    }
+}
+
+/// The seed that the text gives.
+fn seed(text: &[u8]) -> Option<Moves>
+    ensures { MatchOption result
+        (Nothing (SeedsMoves text.now))
+        (λ moves. SeedsMoves text.now moves) }
+{
+    match text.strip_prefix(b"seed:".as_slice()) {
+        Some(digits) => match number(digits, u64::MAX) {
+            Some(seed) => Some(Moves::Seed(seed)),
+            None => None,
+        },
+        None => None,
     }
 }
 

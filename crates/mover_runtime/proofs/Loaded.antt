@@ -11,8 +11,9 @@ use Rattle.rv_machine.specs.Memory.{code_start}
 use Rattle.rv_machine.specs.Run.{after, machine_run, seen}
 use Rattle.rv_machine.specs.Services.{Going}
 use Rattle.rv_machine.specs.Start.{start}
-use Rattle.mover_runtime.specs.Outcome.{calling_none, entry_result, result_at, run_of, schedule_of}
-use Rattle.mover_runtime.specs.declared.outcome.Schedule.{Schedule}
+use Rattle.mover_runtime.specs.Outcome.{calling_none, entry_result, result_at, run_of}
+use Rattle.mover_runtime.specs.Schedules.{schedule_of}
+use Rattle.mover_runtime.specs.declared.schedule.Schedule.{Schedule}
 
 -- a function that is found behind another one has the greater offset
 behind_by : (p : Func → Bool) (f g : Func) (gs : List Func) (e : Func) (t : Bool) → f.offset < g.offset → cond t (Some g) (find p gs) ≡ Some e

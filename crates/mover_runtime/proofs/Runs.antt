@@ -1,19 +1,17 @@
 -- A run, instruction by instruction, and the text that it has told.
-use Rattle.std.proofs.Common.{◌≡◌, ℕ, zero, suc, ◌+◌, ◌-◌, ◌<◌, ◌≤◌, List, [], ◌∷◌, ◌++◌, Option, Some, None, refl, ap, arith, ◌∙◌, sym, append_assoc, append-nil}
+use Rattle.std.proofs.Common.{◌≡◌, ℕ, zero, suc, ◌+◌, ◌-◌, ◌<◌, ◌≤◌, Bool, List, [], ◌∷◌, ◌++◌, Option, Some, None, refl, ap, arith, ◌∙◌, sym, append_assoc, append-nil}
 use Rattle.std.specs.Prelude.{codes, slice_get}
 use Rattle.bs_words.specs.Observed.{Made}
 use Rattle.bs_words.specs.declared.types.Ret.{Ret}
 use Rattle.bs_words.specs.declared.types.Ret.TheVariants as returns
 use Rattle.image_form.specs.Tables.{Ext}
-use Rattle.rv_machine.specs.Hart.{Hart, Next, hart, register}
+use Rattle.rv_machine.specs.Allocation.{Allocated, Goes, NoHeap, Refused, allocated}
+use Rattle.rv_machine.specs.Hart.{Hart, Placed, Next, hart, register}
 use Rattle.rv_machine.specs.Hart as next
-use Rattle.rv_machine.specs.Run.{after, after_next, one, seen, perhaps_asked}
-use Rattle.rv_machine.specs.Run as runs
-use Rattle.rv_machine.specs.Services.{End, Machine, Now, Going, Over, Running, Asks, StackOut, Stopped, service, served, external, answered, call_made}
+use Rattle.rv_machine.specs.Run.{Schedule, after, after_next, one, seen, perhaps_asked}
+use Rattle.rv_machine.specs.Services.{End, Machine, Now, Going, Over, Running, Asks, StackOut, HeapOut, Stopped, after_allocation, service, served, external, answered, call_made}
 use Rattle.rv_machine.specs.Text.{calls_text, made_text, end_text, outcome_text}
-use Rattle.mover_runtime.specs.Outcome.{schedule_of, calling_none, progress_text, last_line}
-use Rattle.mover_runtime.specs.declared.outcome.Schedule.{Schedule}
-use Rattle.mover_runtime.specs.declared.outcome.Schedule.TheVariants.{Never}
+use Rattle.mover_runtime.specs.Outcome.{allocation_text, asked_if, calling_none, progress_text, last_line}
 
 -- ---- calls that were made before
 
@@ -39,16 +37,26 @@ external_behind : (e : Option Ext) (h : Hart) (result : Ret) (answers : List ℕ
 external_behind None h result answers cs = over_behind cs _
 external_behind (Some e) h result answers cs = answered_behind e.result (call_made e h) h result answers answers cs
 
-served_behind : (n : ℕ) (h : Hart) (result : Ret) (answers : List ℕ) (cs : List Made)
-    → served n (state h result answers cs) ≡ behind cs (served n (state h result answers []))
-served_behind zero h result answers cs = over_behind cs _
-served_behind (suc zero) h result answers cs = over_behind cs _
-served_behind (suc (suc zero)) h result answers cs = external_behind (slice_get h.image.extcs (register h 5)) h result answers cs
-served_behind (suc (suc (suc n))) h result answers cs = over_behind cs _
+allocation_behind : (a : Allocated) (h : Hart) (result : Ret) (answers : List ℕ) (cs : List Made)
+    → after_allocation a (state h result answers cs) ≡ behind cs (after_allocation a (state h result answers []))
+allocation_behind (Goes g) h result answers cs = ap (λ (calls : List Made). Going (state g result answers calls)) (sym (append-nil cs))
+allocation_behind NoHeap h result answers cs = over_behind cs HeapOut
+allocation_behind (Refused cause) h result answers cs = over_behind cs (Stopped cause)
 
-pub service_behind : (h : Hart) (result : Ret) (answers : List ℕ) (cs : List Made)
-    → service (state h result answers cs) ≡ behind cs (service (calling_none h result answers))
-service_behind h result answers cs = served_behind (register h 7) h result answers cs
+abbrev pub Plans : Type 0
+Plans = ℕ → List Placed → List ℕ
+
+served_behind : (plans : Plans) (n : ℕ) (h : Hart) (result : Ret) (answers : List ℕ) (cs : List Made)
+    → served plans n (state h result answers cs) ≡ behind cs (served plans n (state h result answers []))
+served_behind plans zero h result answers cs = over_behind cs _
+served_behind plans (suc zero) h result answers cs = over_behind cs _
+served_behind plans (suc (suc zero)) h result answers cs = external_behind (slice_get h.image.extcs (register h 5)) h result answers cs
+served_behind plans (suc (suc (suc zero))) h result answers cs = allocation_behind (allocated (plans h.services) h) h result answers cs
+served_behind plans (suc (suc (suc (suc n)))) h result answers cs = over_behind cs _
+
+pub service_behind : (plans : Plans) (h : Hart) (result : Ret) (answers : List ℕ) (cs : List Made)
+    → service plans (state h result answers cs) ≡ behind cs (service plans (calling_none h result answers))
+service_behind plans h result answers cs = served_behind plans (register h 7) h result answers cs
 
 -- ---- texts
 
@@ -72,22 +80,22 @@ pub outcome_line : (cs : List Made) (end : End) → outcome_text (record { calls
 outcome_line cs end = append_assoc (calls_text cs) (end_text end) (codes "\n")
 
 -- what is told grows
-next_grows : (nx : Next) (m : Machine) → (rest : List ℕ) × (progress_text (after_next nx m) ≡ calls_text m.calls ++ rest)
-next_grows (next.Retired h) m = ([], sym (append-nil (calls_text m.calls)))
-next_grows (next.Service h) m = (
-  progress_text (service (calling_none h m.result m.answers)),
-  ap progress_text (service_behind h m.result m.answers m.calls) ∙ progress_behind m.calls (service (calling_none h m.result m.answers)),
+next_grows : (schedule : Schedule) (nx : Next) (m : Machine) → (rest : List ℕ) × (progress_text (after_next schedule nx m) ≡ calls_text m.calls ++ rest)
+next_grows schedule (next.Retired h) m = ([], sym (append-nil (calls_text m.calls)))
+next_grows schedule (next.Service h) m = (
+  progress_text (service schedule.plan (calling_none h m.result m.answers)),
+  ap progress_text (service_behind schedule.plan h m.result m.answers m.calls) ∙ progress_behind m.calls (service schedule.plan (calling_none h m.result m.answers)),
 )
-next_grows next.StackOut m = (last_line StackOut, outcome_line m.calls StackOut)
-next_grows (next.Stopped cause) m = (last_line (Stopped cause), outcome_line m.calls (Stopped cause))
+next_grows schedule next.StackOut m = (last_line StackOut, outcome_line m.calls StackOut)
+next_grows schedule (next.Stopped cause) m = (last_line (Stopped cause), outcome_line m.calls (Stopped cause))
 
-pub grows : (schedule : runs.Schedule) (n : ℕ) (now : Now) → (rest : List ℕ) × (outcome_text (seen (after schedule n now)) ≡ progress_text now ++ rest)
+pub grows : (schedule : Schedule) (n : ℕ) (now : Now) → (rest : List ℕ) × (outcome_text (seen (after schedule n now)) ≡ progress_text now ++ rest)
 grows schedule zero (Going m) = (last_line Running, outcome_line m.calls Running)
 grows schedule zero (Over calls end) = ([], sym (append-nil (outcome_text (record { calls = calls; end = end }))))
 grows schedule (suc n) (Over calls end) = ([], sym (append-nil (outcome_text (record { calls = calls; end = end }))))
 grows schedule (suc n) (Going m) =
     let later = grows schedule n (one schedule m) in
-    let here = next_grows (hart (perhaps_asked schedule m.hart)) m in (
+    let here = next_grows schedule (hart (perhaps_asked schedule m.hart)) m in (
       here.0 ++ later.0,
       later.1 ∙ ap (λ (t : List ℕ). t ++ later.0) here.1 ∙ append_assoc (calls_text m.calls) here.0 later.0,
     )
@@ -97,42 +105,34 @@ grows schedule (suc n) (Going m) =
 one_more : (n k : ℕ) → k < n → n - k ≡ suc (n - (k + 1))
 one_more n k h = omega arith
 
--- the mover asks for nothing
-quiet : (schedule : Schedule) (n : ℕ) (m : Machine) → after (schedule_of schedule) (suc n) (Going m) ≡ after (schedule_of schedule) n (after_next (hart m.hart) m)
-quiet Never n m = refl
-
-pub stepped : (schedule : Schedule) (limit k : ℕ) (nx : Next) (m : Machine) → k < limit → hart m.hart ≡ nx
-    → after (schedule_of schedule) (limit - k) (Going m) ≡ after (schedule_of schedule) (limit - (k + 1)) (after_next nx m)
-stepped schedule limit k nx m h e =
-    ap (λ (n : ℕ). after (schedule_of schedule) n (Going m)) (one_more limit k h)
-    ∙ quiet schedule (limit - (k + 1)) m ∙ ap (λ (x : Next). after (schedule_of schedule) (limit - (k + 1)) (after_next x m)) e
-
-pub over_stays : (schedule : runs.Schedule) (n : ℕ) (calls : List Made) (end : End) → after schedule n (Over calls end) ≡ Over calls end
+pub over_stays : (schedule : Schedule) (n : ℕ) (calls : List Made) (end : End) → after schedule n (Over calls end) ≡ Over calls end
 over_stays schedule zero calls end = refl
 over_stays schedule (suc n) calls end = refl
 
-next_behind : (nx : Next) (h : Hart) (result : Ret) (answers : List ℕ) (cs : List Made)
-    → after_next nx (state h result answers cs) ≡ behind cs (after_next nx (calling_none h result answers))
-next_behind (next.Retired h') h result answers cs = ap (λ (calls : List Made). Going (state h' result answers calls)) (sym (append-nil cs))
-next_behind (next.Service h') h result answers cs = service_behind h' result answers cs
-next_behind next.StackOut h result answers cs = over_behind cs StackOut
-next_behind (next.Stopped cause) h result answers cs = over_behind cs (Stopped cause)
+next_behind : (schedule : Schedule) (nx : Next) (h : Hart) (result : Ret) (answers : List ℕ) (cs : List Made)
+    → after_next schedule nx (state h result answers cs) ≡ behind cs (after_next schedule nx (calling_none h result answers))
+next_behind schedule (next.Retired h') h result answers cs = ap (λ (calls : List Made). Going (state h' result answers calls)) (sym (append-nil cs))
+next_behind schedule (next.Service h') h result answers cs = service_behind schedule.plan h' result answers cs
+next_behind schedule next.StackOut h result answers cs = over_behind cs StackOut
+next_behind schedule (next.Stopped cause) h result answers cs = over_behind cs (Stopped cause)
 
 -- what one instruction comes to, behind the calls that were made before
-pub advances : (schedule : Schedule) (limit k : ℕ) (h : Hart) (result : Ret) (answers : List ℕ) (cs : List Made) → k < limit
-    → after (schedule_of schedule) (limit - k) (Going (state h result answers cs))
-    ≡ after (schedule_of schedule) (limit - (k + 1)) (behind cs (after_next (hart h) (calling_none h result answers)))
-advances schedule limit k h result answers cs l =
-    stepped schedule limit k (hart h) (state h result answers cs) l refl
-    ∙ ap (after (schedule_of schedule) (limit - (k + 1))) (next_behind (hart h) h result answers cs)
+pub advances : (schedule : Schedule) (limit k : ℕ) (asks : Bool) (h : Hart) (result : Ret) (answers : List ℕ) (cs : List Made) → k < limit
+    → asks ≡ schedule.asks h.retired
+    → after schedule (limit - k) (Going (state h result answers cs))
+    ≡ after schedule (limit - (k + 1)) (behind cs (after_next schedule (hart (asked_if asks h)) (calling_none h result answers)))
+advances schedule limit k asks h result answers cs l a =
+    ap (λ (n : ℕ). after schedule n (Going (state h result answers cs))) (one_more limit k l)
+    ∙ ap (λ (b : Bool). after schedule (limit - (k + 1)) (after_next schedule (hart (asked_if b h)) (state h result answers cs))) (sym a)
+    ∙ ap (after schedule (limit - (k + 1))) (next_behind schedule (hart (asked_if asks h)) h result answers cs)
 
 pub goes_on : (schedule : Schedule) (n : ℕ) (cs calls : List Made) (now : Now) (h : Hart) (result : Ret) (answers : List ℕ) → now ≡ Going (state h result answers calls)
-    → after (schedule_of schedule) n (behind cs now) ≡ after (schedule_of schedule) n (Going (state h result answers (cs ++ calls)))
-goes_on schedule n cs calls now h result answers e = ap (λ (x : Now). after (schedule_of schedule) n (behind cs x)) e
+    → after schedule n (behind cs now) ≡ after schedule n (Going (state h result answers (cs ++ calls)))
+goes_on schedule n cs calls now h result answers e = ap (λ (x : Now). after schedule n (behind cs x)) e
 
 pub ends_so : (schedule : Schedule) (n : ℕ) (cs calls : List Made) (now : Now) (end : End) → now ≡ Over calls end
-    → after (schedule_of schedule) n (behind cs now) ≡ Over (cs ++ calls) end
-ends_so schedule n cs calls now end e = ap (λ (x : Now). after (schedule_of schedule) n (behind cs x)) e ∙ over_stays (schedule_of schedule) n (cs ++ calls) end
+    → after schedule n (behind cs now) ≡ Over (cs ++ calls) end
+ends_so schedule n cs calls now end e = ap (λ (x : Now). after schedule n (behind cs x)) e ∙ over_stays schedule n (cs ++ calls) end
 
 pub text_so : (cs calls : List Made) (now : Now) (end : End) → now ≡ Over calls end
     → calls_text cs ++ progress_text now ≡ outcome_text (record { calls = cs ++ calls; end = end })
@@ -144,10 +144,16 @@ text_on cs calls now h result answers e = sym (progress_behind cs now) ∙ ap (�
 
 -- the text of the whole run begins with what was told so far
 pub text_begins : (schedule : Schedule) (n : ℕ) (cs : List Made) (now : Now)
-    → (rest : List ℕ) × (outcome_text (seen (after (schedule_of schedule) n (behind cs now))) ≡ calls_text cs ++ (progress_text now ++ rest))
+    → (rest : List ℕ) × (outcome_text (seen (after schedule n (behind cs now))) ≡ calls_text cs ++ (progress_text now ++ rest))
 text_begins schedule n cs now =
-    let all = grows (schedule_of schedule) n (behind cs now) in
+    let all = grows schedule n (behind cs now) in
     (all.0, all.1 ∙ ap (λ (t : List ℕ). t ++ all.0) (progress_behind cs now) ∙ append_assoc (calls_text cs) (progress_text now) all.0)
 
-pub stands_so : (schedule : Schedule) (limit k : ℕ) (m : Machine) → limit ≤ k → after (schedule_of schedule) (limit - k) (Going m) ≡ Going m
-stands_so schedule limit k m h = let n : limit - k ≡ 0 = omega arith in ap (λ (j : ℕ). after (schedule_of schedule) j (Going m)) n
+pub stands_so : (schedule : Schedule) (limit k : ℕ) (m : Machine) → limit ≤ k → after schedule (limit - k) (Going m) ≡ Going m
+stands_so schedule limit k m h = let n : limit - k ≡ 0 = omega arith in ap (λ (j : ℕ). after schedule j (Going m)) n
+
+-- what an allocation service writes, where no call was made before
+pub allocation_progress : (a : Allocated) (h : Hart) (result : Ret) (answers : List ℕ) → allocation_text a ≡ progress_text (after_allocation a (calling_none h result answers))
+allocation_progress (Goes g) h result answers = refl
+allocation_progress NoHeap h result answers = refl
+allocation_progress (Refused cause) h result answers = refl

@@ -1,2 +1,4 @@
-pub mod Written
 pub mod Outcome
+pub mod Schedules
+pub mod Standing
+pub mod Written

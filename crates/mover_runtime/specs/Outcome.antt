@@ -1,20 +1,20 @@
 -- How a run of the machine ends, and what is told of it.
-use Rattle.std.specs.Prelude.{◌≡◌, ℕ, ◌+◌, ◌==◌, List, [], ◌++◌, Option, Some, None, find, codes}
+use Rattle.std.specs.Prelude.{◌≡◌, ℕ, ◌+◌, ◌==◌, Bool, cond, List, [], ◌++◌, Option, Some, None, find, codes}
 use Rattle.bs_words.specs.Observed.{Made}
 use Rattle.bs_words.specs.declared.types.Ret.{Ret}
 use Rattle.bs_words.specs.declared.types.Ret.TheVariants.{Unit}
 use Rattle.image_form.specs.Tables.{Func}
+use Rattle.rv_machine.specs.Allocation.{Allocated, Goes, NoHeap, Refused}
 use Rattle.rv_machine.specs.Hart.{Hart}
 use Rattle.rv_machine.specs.Memory.{code_start}
-use Rattle.rv_machine.specs.Run.{Seen, after, seen}
-use Rattle.rv_machine.specs.Run as runs
+use Rattle.rv_machine.specs.Run.{Seen, after, asked, seen}
 use Rattle.rv_machine.specs.Services.{End, Machine, Now, Going, Over}
 use Rattle.rv_machine.specs.Services as ends
 use Rattle.rv_machine.specs.Text.{calls_text, end_text, outcome_text}
 use Rattle.mover_runtime.specs.declared.outcome.RunEnd.{RunEnd}
 use Rattle.mover_runtime.specs.declared.outcome.RunEnd.TheVariants.{Returned, Raised, Asks, More, StackOut, HeapOut, Stopped}
-use Rattle.mover_runtime.specs.declared.outcome.Schedule.{Schedule}
-use Rattle.mover_runtime.specs.declared.outcome.Schedule.TheVariants.{Never}
+use Rattle.mover_runtime.specs.declared.schedule.Schedule.{Schedule}
+use Rattle.mover_runtime.specs.Schedules.{schedule_of}
 
 -- what is told of how a run stands
 abbrev pub end_told : End → RunEnd
@@ -25,9 +25,6 @@ end_told (ends.Asks call) = Asks
 end_told ends.StackOut = StackOut
 end_told ends.HeapOut = HeapOut
 end_told (ends.Stopped cause) = Stopped cause
-
-abbrev pub schedule_of : Schedule → runs.Schedule
-schedule_of Never = record { asks = []; plans = [] }
 
 -- the type of what the function whose code begins at the program counter returns
 abbrev pub result_at : Option Func → Ret
@@ -41,6 +38,10 @@ entry_result h = result_at (find (λ (f : Func). code_start + f.offset == h.pc) 
 abbrev pub calling_none : Hart → Ret → List ℕ → Machine
 calling_none h result answers = record { hart = h; result = result; answers = answers; calls = [] }
 
+-- the machine before its next instruction, where the mover asks or does not
+abbrev pub asked_if : Bool → Hart → Hart
+asked_if asks h = cond asks (asked h) h
+
 -- the run of a machine from the state where it stands, after so many instructions
 abbrev pub run_of : Hart → List ℕ → Schedule → ℕ → Seen
 run_of h answers schedule limit = seen (after (schedule_of schedule) limit (Going (calling_none h (entry_result h) answers)))
@@ -49,6 +50,12 @@ run_of h answers schedule limit = seen (after (schedule_of schedule) limit (Goin
 abbrev pub progress_text : Now → List ℕ
 progress_text (Going m) = calls_text m.calls
 progress_text (Over calls end) = outcome_text (record { calls = calls; end = end })
+
+-- what an allocation service writes: the last line of a run that it ends
+abbrev pub allocation_text : Allocated → List ℕ
+allocation_text (Goes h) = []
+allocation_text NoHeap = end_text ends.HeapOut ++ codes "\n"
+allocation_text (Refused cause) = end_text (ends.Stopped cause) ++ codes "\n"
 
 -- what a service tells: the run goes on, and the machine and the answers left are these; or it has ended
 abbrev pub Serves : Option RunEnd → Now → Hart → Ret → List ℕ → Type 0

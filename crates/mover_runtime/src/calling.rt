@@ -1,5 +1,5 @@
 //! External calls.
-ghost use Rattle.std.specs.Prelude.{◌≡◌, ◌≤◌, ◌<◌, ◌-◌, ◌^◌, [], ◌∷◌, length, drop, suc, IfOk, None, slice_get};
+ghost use Rattle.std.specs.Prelude.{◌≡◌, ◌≤◌, ◌<◌, ◌-◌, ◌^◌, [], ◌∷◌, length, drop, IfOk, None, slice_get};
 ghost use Rattle.bs_words.specs.Contents.{contents};
 ghost use Rattle.image_form.specs.Tables.{ext};
 ghost use Rattle.mover_runtime.specs.Written.{Writes, Counts};
@@ -36,7 +36,6 @@ pub fn call<K: Sink>(
     ensures text { Writes result (K.held out.old) (K.held out.new) (progress_text (external (slice_get machine.old.image.extcs (register machine.old 5)) (calling_none machine.old returns (drop taken.old answers.now)))) }
     ensures counts { Counts result (K.faults out.old) (K.faults out.new) }
     ensures left { taken.new ≤ length answers.now }
-    ensures one { machine.new.retired ≤ suc machine.old.retired }
 {
     let number = machine.register(NUMBER) as usize;
     match machine.image().extcs.get(number) {
@@ -65,7 +64,6 @@ fn answer_call<K: Sink>(
     ensures text { Writes result (K.held out.old) (K.held out.new) (progress_text (answered row.now.result (call_made (ext row.now) machine.old) (drop taken.old answers.now) (calling_none machine.old returns (drop taken.old answers.now)))) }
     ensures counts { Counts result (K.faults out.old) (K.faults out.new) }
     ensures left { taken.new ≤ length answers.now }
-    ensures one { machine.new.retired ≤ suc machine.old.retired }
 {
     match row.result {
         Ret::Unit => finish(machine, row, None, out),
@@ -95,7 +93,6 @@ fn finish<K: Sink>(
     ensures told { IfOk result (λ told. (told ≡ None) × (machine.new ≡ past_ecall (record machine.old { registers = registers_after answer machine.old.registers }))) }
     ensures text { Writes result (K.held out.old) (K.held out.new) (calls_text (call_made (ext row.now) machine.old ∷ [])) }
     ensures counts { Counts result (K.faults out.old) (K.faults out.new) }
-    ensures one { machine.new.retired ≤ suc machine.old.retired }
 {
     write_made_line(b"call ", machine, row, out)?;
     machine.finish_call(answer);

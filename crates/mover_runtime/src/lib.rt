@@ -4,11 +4,13 @@
 mod calling;
 pub mod outcome;
 pub mod run;
+pub mod schedule;
 pub mod serving;
 pub mod text;
 
-pub use outcome::{RunEnd, Schedule};
+pub use outcome::RunEnd;
 pub use run::run_image;
+pub use schedule::Schedule;
 
 #[cfg(test)]
 mod tests;

@@ -1,13 +1,6 @@
-//! How runs end, and when the mover acts.
+//! How runs end.
 use bs_words::Obs;
 use rv_machine::Cause;
-
-/// When the mover asks, and where it moves blocks.
-#[derive(Debug, Drop)]
-pub enum Schedule {
-    /// The mover asks for nothing.
-    Never,
-}
 
 /// How a run has ended, or that it goes on.
 #[derive(Clone, Copy, PartialEq, Eq, Debug)]

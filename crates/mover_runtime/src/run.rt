@@ -1,12 +1,14 @@
 //! A run of a machine that was just loaded.
-ghost use Rattle.std.specs.Prelude.{◌≡◌, ◌≤◌, ◌<◌, ◌-◌, ◌^◌, suc, length, drop, IfOk};
+ghost use Rattle.std.specs.Prelude.{◌≡◌, ◌≤◌, ◌<◌, ◌-◌, ◌^◌, length, drop, IfOk};
 ghost use Rattle.mover_runtime.specs.Written.{Writes, Counts};
-ghost use Rattle.mover_runtime.specs.Outcome.{Serves, calling_none, end_told, entry_result, progress_text, run_of};
+ghost use Rattle.mover_runtime.specs.Outcome.{Serves, asked_if, calling_none, end_told, entry_result, progress_text, run_of};
+ghost use Rattle.mover_runtime.specs.Schedules.{schedule_of};
 ghost use Rattle.rv_machine.specs.Hart.{hart};
 ghost use Rattle.rv_machine.specs.Run.{after_next};
 ghost use Rattle.rv_machine.specs.Text.{outcome_text};
 
-use crate::outcome::{RunEnd, Schedule};
+use crate::outcome::RunEnd;
+use crate::schedule::Schedule;
 use crate::serving::{end_more, end_stack_out, end_stopped, serve};
 use bs_io::{OutFault, Sink};
 use bs_words::Ret;
@@ -14,6 +16,9 @@ use rv_machine::{CODE_START, Machine, StepEnd};
 
 /// Runs the machine to an end, or until `limit` instructions have retired, and writes the outcome text:
 /// a line for each external call when it is answered, and one line for the end. It takes no memory.
+///
+/// Before each instruction the mover asks where the schedule says so, and each allocation service moves the
+/// blocks where it says.
 ///
 /// The machine was just loaded. A write fault ends the run; the sink then holds a part of the text, from
 /// its front.
@@ -30,10 +35,12 @@ pub fn run_image<K: Sink>(
     ensures counts { Counts result (K.faults out.old) (K.faults out.new) }
 {
     let returns = entry_result(machine);
+    let mut asks = schedule.asks();
     let mut taken = 0;
     let mut count = 0;
     while count < limit {
-        if let Some(told) = one(machine, returns, answers, &mut taken, out)? {
+        let asked = asks.next(count);
+        if let Some(told) = one(machine, asked, schedule, returns, answers, &mut taken, out)? {
             return Ok(told);
         }
         count += 1;
@@ -41,10 +48,13 @@ pub fn run_image<K: Sink>(
     end_more(out)
 }
 
-// One instruction, with its service where it is an ECALL. `taken` answers were taken before.
+// One instruction, with the ask before it where the mover asks, and its service where it is an ECALL.
+// `taken` answers were taken before.
 #[inline]
 fn one<K: Sink>(
     machine: &mut Machine<'_>,
+    asks: bool,
+    schedule: &Schedule,
     returns: Ret,
     answers: &[u64],
     taken: &mut usize,
@@ -52,15 +62,15 @@ fn one<K: Sink>(
 ) -> Result<Option<RunEnd>, OutFault>
     requires room { machine.old.retired < 2 ^ 64 - 1 }
     requires within { taken.old ≤ length answers.now }
-    ensures told { IfOk result (λ told. Serves told (after_next (hart machine.old) (calling_none machine.old returns (drop taken.old answers.now))) machine.new returns (drop taken.new answers.now)) }
-    ensures text { Writes result (K.held out.old) (K.held out.new) (progress_text (after_next (hart machine.old) (calling_none machine.old returns (drop taken.old answers.now)))) }
+    ensures told { IfOk result (λ told. Serves told (after_next (schedule_of schedule.now) (hart (asked_if asks machine.old)) (calling_none machine.old returns (drop taken.old answers.now))) machine.new returns (drop taken.new answers.now)) }
+    ensures text { Writes result (K.held out.old) (K.held out.new) (progress_text (after_next (schedule_of schedule.now) (hart (asked_if asks machine.old)) (calling_none machine.old returns (drop taken.old answers.now)))) }
     ensures counts { Counts result (K.faults out.old) (K.faults out.new) }
     ensures left { taken.new ≤ length answers.now }
-    ensures once { machine.new.retired ≤ suc machine.old.retired }
 {
+    ask_if(machine, asks);
     match machine.step() {
         StepEnd::Retired => Ok(None),
-        StepEnd::Service => serve(machine, returns, answers, taken, out),
+        StepEnd::Service => serve(machine, schedule, returns, answers, taken, out),
         StepEnd::StackOut => {
             let told = end_stack_out(out)?;
             Ok(Some(told))
@@ -69,6 +79,16 @@ fn one<K: Sink>(
             let told = end_stopped(cause, out)?;
             Ok(Some(told))
         }
+    }
+}
+
+// The mover asks before the next instruction, or does not.
+#[inline]
+fn ask_if(machine: &mut Machine<'_>, asks: bool)
+    ensures { machine.new ≡ asked_if asks machine.old }
+{
+    if asks {
+        machine.ask();
     }
 }
 

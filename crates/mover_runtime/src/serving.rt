@@ -1,17 +1,23 @@
-//! The services of the runtime: return, uncaught raise and external calls.
-ghost use Rattle.std.specs.Prelude.{◌≡◌, ◌≤◌, ◌<◌, ◌-◌, ◌^◌, [], length, drop, suc, IfOk, slice_get};
+//! The services of the runtime: return, uncaught raise, external calls and allocation.
+ghost use Rattle.std.specs.Prelude.{◌≡◌, ◌≤◌, ◌<◌, ◌-◌, ◌^◌, ℕ, List, [], length, drop, IfOk, slice_get};
 ghost use Rattle.image_form.specs.Tables.{tables, ext};
 ghost use Rattle.image_form.specs.Image.{IsImage, IsExt};
 ghost use Rattle.mover_runtime.specs.Written.{Writes, Counts};
-ghost use Rattle.mover_runtime.specs.Outcome.{Serves, calling_none, progress_text, last_line};
+ghost use Rattle.alloc_service.specs.Plan.{plan_of};
+ghost use Rattle.bs_words.specs.declared.types.Ret.{Ret};
+ghost use Rattle.mover_runtime.specs.Outcome.{Serves, allocation_text, calling_none, progress_text, last_line};
+ghost use Rattle.mover_runtime.specs.Schedules.{schedule_of};
+ghost use Rattle.rv_machine.specs.Allocation.{allocated};
 ghost use Rattle.rv_machine.specs.Hart.{register};
-ghost use Rattle.rv_machine.specs.Services.{service, value_returned};
+ghost use Rattle.rv_machine.specs.Services.{after_allocation, service, value_returned};
 ghost use Rattle.rv_machine.specs.Services as ends;
 ghost use Rattle.rv_machine.specs.Observation.{observed};
 
 use crate::calling::call;
 use crate::outcome::RunEnd;
+use crate::schedule::Schedule;
 use crate::text::{write_line, write_made_line, write_obs_line, write_stopped};
+use alloc_service::{Plan, ServiceEnd};
 use bs_io::{OutFault, Sink};
 use bs_words::{Comp, Obs, Ret};
 use image_form::ExtRow;
@@ -27,6 +33,7 @@ const VALUE: u8 = 10;
 /// call that is answered, or the last line of the run. `taken` answers were taken before.
 pub fn serve<K: Sink>(
     machine: &mut Machine<'_>,
+    schedule: &Schedule,
     returns: Ret,
     answers: &[u64],
     taken: &mut usize,
@@ -35,11 +42,10 @@ pub fn serve<K: Sink>(
     requires near { machine.old.pc < 2 ^ 32 }
     requires room { machine.old.retired < 2 ^ 64 - 1 }
     requires within { taken.old ≤ length answers.now }
-    ensures told { IfOk result (λ told. Serves told (service (calling_none machine.old returns (drop taken.old answers.now))) machine.new returns (drop taken.new answers.now)) }
-    ensures text { Writes result (K.held out.old) (K.held out.new) (progress_text (service (calling_none machine.old returns (drop taken.old answers.now)))) }
+    ensures told { IfOk result (λ told. Serves told (service (schedule_of schedule.now).plan (calling_none machine.old returns (drop taken.old answers.now))) machine.new returns (drop taken.new answers.now)) }
+    ensures text { Writes result (K.held out.old) (K.held out.new) (progress_text (service (schedule_of schedule.now).plan (calling_none machine.old returns (drop taken.old answers.now)))) }
     ensures counts { Counts result (K.faults out.old) (K.faults out.new) }
     ensures left { taken.new ≤ length answers.now }
-    ensures one { machine.new.retired ≤ suc machine.old.retired }
 {
     match machine.register(SERVICE) {
         0 => {
@@ -51,8 +57,37 @@ pub fn serve<K: Sink>(
             Ok(Some(told))
         }
         2 => call(machine, returns, answers, taken, out),
+        3 => {
+            let plan = schedule.plan(machine.services());
+            allocate(machine, plan, out)
+        }
         _ => {
             let told = end_stopped(Cause::BadService, out)?;
+            Ok(Some(told))
+        }
+    }
+}
+
+// Does the allocation service under a plan.
+fn allocate<K: Sink>(
+    machine: &mut Machine<'_>,
+    plan: Plan<'_>,
+    out: &mut K,
+) -> Result<Option<RunEnd>, OutFault>
+    requires near { machine.old.pc < 2 ^ 32 }
+    requires room { machine.old.retired < 2 ^ 64 - 1 }
+    ensures told { IfOk result (λ told. (returns : Ret) (answers : List ℕ) → Serves told (after_allocation (allocated (plan_of plan.entry) machine.old) (calling_none machine.old returns answers)) machine.new returns answers) }
+    ensures text { Writes result (K.held out.old) (K.held out.new) (allocation_text (allocated (plan_of plan.entry) machine.old)) }
+    ensures counts { Counts result (K.faults out.old) (K.faults out.new) }
+{
+    match alloc_service::service(machine, plan) {
+        ServiceEnd::Goes => Ok(None),
+        ServiceEnd::HeapOut => {
+            let told = end_heap_out(out)?;
+            Ok(Some(told))
+        }
+        ServiceEnd::Stopped(cause) => {
+            let told = end_stopped(cause, out)?;
             Ok(Some(told))
         }
     }
@@ -110,6 +145,16 @@ pub fn end_stack_out<K: Sink>(out: &mut K) -> Result<RunEnd, OutFault>
 {
     write_line(b"stack out", out)?;
     Ok(RunEnd::StackOut)
+}
+
+/// The blocks do not fit half of the heap.
+fn end_heap_out<K: Sink>(out: &mut K) -> Result<RunEnd, OutFault>
+    ensures told { IfOk result (λ told. told ≡ RunEnd.HeapOut) }
+    ensures text { Writes result (K.held out.old) (K.held out.new) (last_line ends.HeapOut) }
+    ensures counts { Counts result (K.faults out.old) (K.faults out.new) }
+{
+    write_line(b"heap out", out)?;
+    Ok(RunEnd::HeapOut)
 }
 
 /// The run goes on past what was allowed.

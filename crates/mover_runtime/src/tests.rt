@@ -1,5 +1,7 @@
 //! Runs of small programs, whose words are of LLVM's assembler, and each write failing in turn.
 
+mod lists;
+
 use crate::{RunEnd, Schedule, run_image};
 use bs_io::{MemSink, OutFault};
 use bs_words::{List, Name, Obs};

@@ -21,7 +21,7 @@ returns-in-Ok-None-clause-refused g c = (
 pub returns-in-Ok-run_image-clause-written : goal.returns-in-Ok-run_image-clause-written
 returns-in-Ok-run_image-clause-written g c = record {
   text = _;
-  is_text = text-of (tables c.args.image.now) (setup_of c.args.run) _ (run_view c.args.run) _ c.requires.rules (begun _ (setup_of c.args.run) _ c.in-Ok.ensures.loaded) refl refl refl refl
+  is_text = text-of (tables c.args.image.now) (setup_of c.args.run) _ (run_view c.args.run) c.schedule_for-schedule.result _ c.requires.rules (begun _ (setup_of c.args.run) _ c.in-Ok.ensures.loaded) refl refl refl refl c.schedule_for-schedule.ensures
       (sym (rw c.in-Ok-Some.field-0-is at c.in-Ok-Some.ensures));
   got = rw c.as_slice.ensures.value at c.in-Ok-run_image.ensures.text;
 }
@@ -29,7 +29,7 @@ returns-in-Ok-run_image-clause-written g c = record {
 pub returns-clause-refused : goal.returns-clause-refused
 returns-clause-refused g c = record {
   text = _;
-  is_text = text-of (tables c.args.image.now) (setup_of c.args.run) _ (run_view c.args.run) _ c.requires.rules (begun _ (setup_of c.args.run) _ c.in-Ok.ensures.loaded) refl refl refl refl
+  is_text = text-of (tables c.args.image.now) (setup_of c.args.run) _ (run_view c.args.run) c.schedule_for-schedule.result _ c.requires.rules (begun _ (setup_of c.args.run) _ c.in-Ok.ensures.loaded) refl refl refl refl c.schedule_for-schedule.ensures
       (sym (rw c.in-Ok-Some.field-0-is at c.in-Ok-Some.ensures));
   got = GotPart-part _ _ (rw c.as_slice.ensures.value at c.in-Err-run_image.ensures.text) c.in-Err-run_image.ensures.counts.0;
 }

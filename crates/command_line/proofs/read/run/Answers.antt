@@ -3,6 +3,8 @@ use Rattle.bs_words.specs.declared.list.List.{List}
 use Rattle.rv_machine.specs.declared.setup.Arg.{Arg}
 use Rattle.command_line.specs.declared.command.WordsError.TheVariants.{ValueText}
 use Rattle.command_line.specs.declared.form.Slot.TheVariants.{Heap}
+use Rattle.command_line.specs.declared.form.Slot.TheVariants as slot
+use Rattle.command_line.specs.declared.command.Moves.{Moves}
 use Rattle.command_line.proofs.read.run.Goals as goal
 
 pub returns-in_err-items-clause-bad : goal.returns-in_err-items-clause-bad
@@ -27,3 +29,10 @@ returns-in_err-size-2-clause-bad c = λ e run is.
 
 pub size-requires-2 : goal.size-requires-2
 size-requires-2 c = c.requires.once 5 Heap (lit< tt)
+
+pub returns-in_err-moves-clause-bad : goal.returns-in_err-moves-clause-bad
+returns-in_err-moves-clause-bad c = λ e run is.
+    let same : IsErrOf {T = Moves} (Err c.in_err-moves.field-0.0) ValueText = search rules in c.in_err-moves.ensures.bad same run.moves is.moves
+
+pub moves-requires : goal.moves-requires
+moves-requires c = c.requires.once 6 slot.Moves (lit< tt)

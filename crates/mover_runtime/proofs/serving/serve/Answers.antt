@@ -1,17 +1,21 @@
-use Rattle.std.proofs.Common.{◌≡◌, ℕ, suc, zero, [], drop, refl, sym, ap, ◌∙◌, rules}
+use Rattle.std.proofs.Common.{◌≡◌, ℕ, List, subst, suc, zero, [], drop, refl, sym, ap, ◌∙◌, rules}
 use Rattle.bs_words.specs.declared.types.Comp.TheVariants.{Val}
-use Rattle.rv_machine.specs.Hart.{register}
+use Rattle.rv_machine.specs.Allocation.{allocated}
+use Rattle.rv_machine.specs.Hart.{Placed, register}
 use Rattle.rv_machine.specs.Observation.{observed}
 use Rattle.rv_machine.specs.Services.{Machine, Over, Returned, Raised, Stopped, served, value_returned}
 use Rattle.rv_machine.specs.declared.cause.Cause.TheVariants.{BadService}
-use Rattle.mover_runtime.specs.Outcome.{calling_none}
+use Rattle.mover_runtime.specs.Outcome.{allocation_text, calling_none, progress_text}
+use Rattle.mover_runtime.specs.Written.{Writes}
+use Rattle.mover_runtime.specs.Schedules.{schedule_of}
+use Rattle.mover_runtime.proofs.Runs.{Plans, allocation_progress}
 use Rattle.mover_runtime.proofs.serving.serve.Goals as goal
 
 pub returns-in_ok-told-in-0-clause-told : goal.returns-in_ok-told-in-0-clause-told
 returns-in_ok-told-in-0-clause-told g c = (
   [],
   Returned (value_returned c.args.returns c.args.machine.now),
-  ap (λ (n : ℕ). served n (calling_none c.args.machine.now c.args.returns (drop c.args.taken.now c.args.answers.now))) (sym c.register.ensures ∙ c.in-0.is),
+  ap (λ (n : ℕ). served (schedule_of c.args.schedule.now).plan n (calling_none c.args.machine.now c.args.returns (drop c.args.taken.now c.args.answers.now))) (sym c.register.ensures ∙ c.in-0.is),
   c.in_ok-told-in-0.ensures.told,
 )
 
@@ -19,21 +23,34 @@ pub returns-in_ok-told-in-1-clause-told : goal.returns-in_ok-told-in-1-clause-to
 returns-in_ok-told-in-1-clause-told g c = (
   [],
   Raised (observed c.args.machine.now Val (register c.args.machine.now 10)),
-  ap (λ (n : ℕ). served n (calling_none c.args.machine.now c.args.returns (drop c.args.taken.now c.args.answers.now))) (sym c.register.ensures ∙ c.in-1.is),
+  ap (λ (n : ℕ). served (schedule_of c.args.schedule.now).plan n (calling_none c.args.machine.now c.args.returns (drop c.args.taken.now c.args.answers.now))) (sym c.register.ensures ∙ c.in-1.is),
   c.in_ok-told-in-1.ensures.told,
 )
 
-other : (n : ℕ) (m : Machine) → (n ≡ 0 → ⊥) → (n ≡ 1 → ⊥) → (n ≡ 2 → ⊥) → served n m ≡ Over m.calls (Stopped BadService)
-other zero m a b d = absurd (a refl)
-other (suc zero) m a b d = absurd (b refl)
-other (suc (suc zero)) m a b d = absurd (d refl)
-other (suc (suc (suc n))) m a b d = refl
+other : (plans : Plans) (n : ℕ) (m : Machine) → (n ≡ 0 → ⊥) → (n ≡ 1 → ⊥) → (n ≡ 2 → ⊥) → (n ≡ 3 → ⊥) → served plans n m ≡ Over m.calls (Stopped BadService)
+other plans zero m a b d e = absurd (a refl)
+other plans (suc zero) m a b d e = absurd (b refl)
+other plans (suc (suc zero)) m a b d e = absurd (d refl)
+other plans (suc (suc (suc zero))) m a b d e = absurd (e refl)
+other plans (suc (suc (suc (suc n)))) m a b d e = refl
 
 pub returns-in_ok-told-in_default-clause-told : goal.returns-in_ok-told-in_default-clause-told
 returns-in_ok-told-in_default-clause-told g c = (
   [],
   Stopped BadService,
-  (ap (λ (n : ℕ). served n (calling_none c.args.machine.now c.args.returns (drop c.args.taken.now c.args.answers.now))) (sym c.register.ensures)
-      ∙ other c.register.result (calling_none c.args.machine.now c.args.returns (drop c.args.taken.now c.args.answers.now)) (search rules) (search rules) (search rules)),
+  (ap (λ (n : ℕ). served (schedule_of c.args.schedule.now).plan n (calling_none c.args.machine.now c.args.returns (drop c.args.taken.now c.args.answers.now))) (sym c.register.ensures)
+      ∙ other (schedule_of c.args.schedule.now).plan c.register.result (calling_none c.args.machine.now c.args.returns (drop c.args.taken.now c.args.answers.now)) (search rules) (search rules) (search rules) (search rules)),
   c.in_ok-told-in_default.ensures.told,
 )
+
+pub returns-in-3-clause-text : goal.returns-in-3-clause-text
+returns-in-3-clause-text g c =
+    let schedule = schedule_of c.args.schedule.now in
+    let h = c.args.machine.now in
+    let answers = drop c.args.taken.now c.args.answers.now in
+    let planned = c.plan-plan.ensures ∙ ap schedule.plan c.services.ensures in
+    subst (Writes c.allocate.result (g.K.Sink.held c.args.out.now) (g.K.Sink.held c.allocate.new.out))
+    (ap (λ (p : List Placed → List ℕ). allocation_text (allocated p h)) planned
+    ∙ allocation_progress (allocated (schedule.plan h.services) h) h c.args.returns answers
+    ∙ ap (λ (n : ℕ). progress_text (served schedule.plan n (calling_none h c.args.returns answers))) (sym c.in-3.is ∙ c.register.ensures))
+    c.allocate.ensures.text
