@@ -4,6 +4,6 @@
 //! passes from selection to emission will take its place behind the same call.
 #![tactic(auto)]
 
-mod compile;
+mod image;
 
-pub use compile::compile;
+pub use image::compile;
