@@ -53,8 +53,16 @@ fn each_cause_stops_a_run(rt: HostRuntime) -> Result<(), Fail> {
         (TAKES, "run f --args=-1,16", b"stopped BadRequest\n"),
         (TAKES, "run g --args=1024,16", b"returned 1024\n"),
         (UNDESCRIBED, "run g --args=1024,16", b"stopped BadFrame\n"),
-        (OUTER_REGISTER, "run g --args=1024,16", b"stopped BadFrame\n"),
-        (PAST_THE_STACK, "run g --args=1024,16", b"stopped BadFrame\n"),
+        (
+            OUTER_REGISTER,
+            "run g --args=1024,16",
+            b"stopped BadFrame\n",
+        ),
+        (
+            PAST_THE_STACK,
+            "run g --args=1024,16",
+            b"stopped BadFrame\n",
+        ),
         (TAKES, "run f --args=1024,16 --heap=0", b"heap out\n"),
         (TAKES, "run f --args=1024,16 --heap=16", b"returned 1024\n"),
     ];
@@ -69,11 +77,26 @@ fn each_cause_stops_a_run(rt: HostRuntime) -> Result<(), Fail> {
 #[test]
 fn linked_blocks_under_each_schedule(rt: HostRuntime) -> Result<(), Fail> {
     let cases: [(&str, &[u8]); 7] = [
-        ("run f --args=40 --moves=none", b"call out block 39 1680\nreturned 1680\n"),
-        ("run f --args=40 --moves=every", b"call out block 39 1680\nreturned 1680\n"),
-        ("run f --args=40 --moves=seed:1", b"call out block 39 1680\nreturned 1680\n"),
-        ("run f --args=40 --moves=seed:7", b"call out block 39 1680\nreturned 1680\n"),
-        ("run f --args=40 --moves=seed:18446744073709551615", b"call out block 39 1680\nreturned 1680\n"),
+        (
+            "run f --args=40 --moves=none",
+            b"call out block 39 1680\nreturned 1680\n",
+        ),
+        (
+            "run f --args=40 --moves=every",
+            b"call out block 39 1680\nreturned 1680\n",
+        ),
+        (
+            "run f --args=40 --moves=seed:1",
+            b"call out block 39 1680\nreturned 1680\n",
+        ),
+        (
+            "run f --args=40 --moves=seed:7",
+            b"call out block 39 1680\nreturned 1680\n",
+        ),
+        (
+            "run f --args=40 --moves=seed:18446744073709551615",
+            b"call out block 39 1680\nreturned 1680\n",
+        ),
         ("run f --args=40 --heap=64 --moves=none", b"heap out\n"),
         ("run f --args=40 --heap=64 --moves=every", b"heap out\n"),
     ];
@@ -88,11 +111,26 @@ fn linked_blocks_under_each_schedule(rt: HostRuntime) -> Result<(), Fail> {
 #[test]
 fn places_under_each_schedule(rt: HostRuntime) -> Result<(), Fail> {
     let cases: [(&str, &[u8]); 5] = [
-        ("run f --moves=none", b"call at 805306376 805306392\ncall at 872415240 872415256\nreturned\n"),
-        ("run f --moves=every", b"call at 805306376 805306392\ncall at 872415240 872415256\nreturned\n"),
-        ("run f --moves=seed:1", b"call at 805306392 805306424\ncall at 872415248 872415272\nreturned\n"),
-        ("run f --moves=seed:2", b"call at 872415296 872415256\ncall at 872415352 872415304\nreturned\n"),
-        ("run f --moves=seed:3", b"call at 872415312 872415264\ncall at 872415352 872415304\nreturned\n"),
+        (
+            "run f --moves=none",
+            b"call at 805306376 805306392\ncall at 872415240 872415256\nreturned\n",
+        ),
+        (
+            "run f --moves=every",
+            b"call at 805306376 805306392\ncall at 872415240 872415256\nreturned\n",
+        ),
+        (
+            "run f --moves=seed:1",
+            b"call at 805306392 805306424\ncall at 872415248 872415272\nreturned\n",
+        ),
+        (
+            "run f --moves=seed:2",
+            b"call at 872415296 872415256\ncall at 872415352 872415304\nreturned\n",
+        ),
+        (
+            "run f --moves=seed:3",
+            b"call at 872415312 872415264\ncall at 872415352 872415304\nreturned\n",
+        ),
     ];
     for (line, written) in cases {
         let ended = call(rt.alloc(), line, PLACES, SOUND)?;

@@ -30,7 +30,12 @@ fn lists(alloc: Global, asks: &[u64], plans: &[&[u64]]) -> Result<Schedule, Allo
 }
 
 // Runs f of an image, with a heap of 1,024 bytes in each half.
-fn run(alloc: Global, bytes: &[u8], schedule: &Schedule, out: &mut MemSink) -> Result<RunEnd, Fail> {
+fn run(
+    alloc: Global,
+    bytes: &[u8],
+    schedule: &Schedule,
+    out: &mut MemSink,
+) -> Result<RunEnd, Fail> {
     let image = read_image(alloc, bytes)?;
     let setup = Setup {
         entry: Name::from_vec(Vec::from_slice(alloc, b"f")?),
@@ -48,7 +53,10 @@ fn asks_before_their_instructions(rt: HostRuntime) -> Result<(), Fail> {
         (&[], b"call at 939524096 939524096 939524096\nreturned\n"),
         (&[0], b"call at 939589632 939589632 939589632\nreturned\n"),
         (&[1], b"call at 939524096 939589632 939589632\nreturned\n"),
-        (&[5, 2], b"call at 939524096 939524096 939589632\nreturned\n"),
+        (
+            &[5, 2],
+            b"call at 939524096 939524096 939589632\nreturned\n",
+        ),
         (&[3], b"call at 939524096 939524096 939524096\nreturned\n"),
     ];
     for (asks, written) in cases {
@@ -65,19 +73,63 @@ fn asks_before_their_instructions(rt: HostRuntime) -> Result<(), Fail> {
 #[test]
 fn plans_that_are_valid_and_not(rt: HostRuntime) -> Result<(), Fail> {
     let cases: [(&str, &[u64], &[u8]); 13] = [
-        ("in both halves", &[0x34000008, 0x30000100], b"call at 872415240 805306624"),
-        ("one behind the other", &[0x30000020, 0x30000008], b"call at 805306400 805306376"),
-        ("the last bytes of a half", &[0x30000008, 0x300003F0], b"call at 805306376 805307376"),
+        (
+            "in both halves",
+            &[0x34000008, 0x30000100],
+            b"call at 872415240 805306624",
+        ),
+        (
+            "one behind the other",
+            &[0x30000020, 0x30000008],
+            b"call at 805306400 805306376",
+        ),
+        (
+            "the last bytes of a half",
+            &[0x30000008, 0x300003F0],
+            b"call at 805306376 805307376",
+        ),
         ("no plan", &[], b"call at 805306376 805306392"),
-        ("a word of both", &[0x30000018, 0x30000008], b"call at 805306376 805306392"),
-        ("the same place", &[0x30000008, 0x30000008], b"call at 805306376 805306392"),
-        ("not a multiple of 8", &[0x30000104, 0x30000008], b"call at 805306376 805306392"),
-        ("before a half", &[0x30000000, 0x30000100], b"call at 805306376 805306392"),
-        ("past the end", &[0x30000008, 0x300003F8], b"call at 805306376 805306392"),
-        ("young", &[0x38000008, 0x30000008], b"call at 805306376 805306392"),
-        ("between", &[0x30000408, 0x30000008], b"call at 805306376 805306392"),
+        (
+            "a word of both",
+            &[0x30000018, 0x30000008],
+            b"call at 805306376 805306392",
+        ),
+        (
+            "the same place",
+            &[0x30000008, 0x30000008],
+            b"call at 805306376 805306392",
+        ),
+        (
+            "not a multiple of 8",
+            &[0x30000104, 0x30000008],
+            b"call at 805306376 805306392",
+        ),
+        (
+            "before a half",
+            &[0x30000000, 0x30000100],
+            b"call at 805306376 805306392",
+        ),
+        (
+            "past the end",
+            &[0x30000008, 0x300003F8],
+            b"call at 805306376 805306392",
+        ),
+        (
+            "young",
+            &[0x38000008, 0x30000008],
+            b"call at 805306376 805306392",
+        ),
+        (
+            "between",
+            &[0x30000408, 0x30000008],
+            b"call at 805306376 805306392",
+        ),
         ("one short", &[0x34000008], b"call at 805306376 805306392"),
-        ("one too many", &[0x34000008, 0x30000100, 0x30000200], b"call at 805306376 805306392"),
+        (
+            "one too many",
+            &[0x34000008, 0x30000100, 0x30000200],
+            b"call at 805306376 805306392",
+        ),
     ];
     for (what, plan, first) in cases {
         let mut out = MemSink::new(rt.alloc(), 100, List::new(rt.alloc()), 100)?;
@@ -85,7 +137,11 @@ fn plans_that_are_valid_and_not(rt: HostRuntime) -> Result<(), Fail> {
         let end = run(rt.alloc(), PLACES, &schedule, &mut out)?;
         assert_eq!(rt; end, RunEnd::Returned(None), "{what}");
         assert!(rt; out.bytes().starts_with(first), "{what}");
-        assert!(rt; out.bytes().ends_with(b"call at 872415240 872415256\nreturned\n"), "{what}");
+        assert!(rt;
+            out.bytes()
+                .ends_with(b"call at 872415240 872415256\nreturned\n"),
+            "{what}"
+        );
     }
     Ok(())
 }
@@ -93,9 +149,19 @@ fn plans_that_are_valid_and_not(rt: HostRuntime) -> Result<(), Fail> {
 #[test]
 fn the_second_plan_is_for_the_second_service(rt: HostRuntime) -> Result<(), Fail> {
     let mut out = MemSink::new(rt.alloc(), 100, List::new(rt.alloc()), 100)?;
-    let schedule = lists(rt.alloc(), &[], &[&[0x34000008, 0x30000100], &[0x30000008, 0x30000040, 0x34000100]])?;
+    let schedule = lists(
+        rt.alloc(),
+        &[],
+        &[
+            &[0x34000008, 0x30000100],
+            &[0x30000008, 0x30000040, 0x34000100],
+        ],
+    )?;
     let end = run(rt.alloc(), PLACES, &schedule, &mut out)?;
     assert_eq!(rt; end, RunEnd::Returned(None));
-    assert_eq!(rt; out.bytes(), b"call at 872415240 805306624\ncall at 805306376 805306432\nreturned\n".as_slice());
+    assert_eq!(rt;
+        out.bytes(),
+        b"call at 872415240 805306624\ncall at 805306376 805306432\nreturned\n".as_slice()
+    );
     Ok(())
 }
