@@ -1,9 +1,9 @@
 -- Where strings, comments and texts in braces end.
-use Rattle.std.proofs.Common.{◌≡◌, ℕ, ◌+◌, ◌≤◌, ◌<◌, suc, zero, Bool, true, false, cond, ◌&&◌, ◌==◌, eqb-true, List, [], ◌∷◌, ◌++◌, length, Option, Some, None, refl, sym, ap, subst, ◌∙◌, inl, inr, arith, append-nil, append_assoc}
+use Rattle.std.proofs.Common.{◌≡◌, ℕ, ◌+◌, suc, zero, Bool, true, false, cond, ◌&&◌, ◌==◌, eqb-true, List, [], ◌∷◌, ◌++◌, Some, None, refl, sym, ap, subst, ◌∙◌, arith, append_assoc}
 use Rattle.std.proofs.lemmas.Bool.{false≢true, and_parts, and_from, eqb-false, eq-eqb, ne_eqb}
 use Rattle.cmm_lex.specs.Enclosed.{BeginsWith, EndsString, quote, pair, byte, EndsComments, all_ended, opens, closes, comment_byte, EndsBraces, brace, brace_byte}
 use Rattle.cmm_lex.specs.Scanning.{behind_string, behind_comments, behind_braces}
-use Rattle.cmm_lex.specs.Strings.{IsEscape, letter, code, IsInside, closing, plain, escape, is_code, coded}
+use Rattle.cmm_lex.specs.Strings.{IsEscape, letter, code, IsInside, closing, plain, escape}
 use Rattle.cmm_lex.proofs.Escapes.{plain-on, code-plain}
 
 -- bytes up to the end, and those behind

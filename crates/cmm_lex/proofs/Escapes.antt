@@ -1,8 +1,7 @@
 -- Strings, byte by byte.
-use Rattle.std.proofs.Common.{◌≡◌, ℕ, ◌+◌, ◌-◌, ◌≤◌, ◌<◌, suc, zero, Bool, true, false, not, cond, ◌&&◌, ◌||◌, ◌==◌, eqb-true, leb-true, nat_le, List, [], ◌∷◌, ◌++◌, length, Option, Some, None, is_some, Contains, lit<, ◌⊎◌, inl, inr, refl, sym, ap, subst, ◌∙◌, arith, length-append, append_assoc}
+use Rattle.std.proofs.Common.{◌≡◌, ℕ, ◌+◌, ◌-◌, ◌≤◌, suc, zero, Bool, true, false, not, cond, ◌&&◌, ◌||◌, ◌==◌, eqb-true, leb-true, nat_le, List, [], ◌∷◌, ◌++◌, length, Option, Some, None, is_some, Contains, lit<, ◌⊎◌, inl, inr, refl, sym, ap, subst, ◌∙◌, arith, length-append, append_assoc}
 use Rattle.std.proofs.lemmas.Bool.{false≢true, and_parts, or_cases, or_left, or_right, eqb-false, ne_eqb}
 use Rattle.std.specs.Char.{is_ascii_digit}
-use Rattle.cmm_lex.specs.Enclosed.{BeginsWith}
 use Rattle.cmm_lex.specs.Scanning.{code_of, first_unescaped, is_letter_escape, begins_escape, is_bad, next_byte, behind_string, Fine}
 use Rattle.cmm_lex.specs.Strings.{letters, coded, is_code, escaped, unescaped, behind_backslash, IsEscape, letter, code, IsInside, closing, plain, escape, BadEscape, here, past_plain, past_escape}
 use Rattle.cmm_lex.proofs.Pairs.{some_pair}

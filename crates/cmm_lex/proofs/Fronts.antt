@@ -1,26 +1,24 @@
 -- What stands at the front of a text.
-use Rattle.std.proofs.Common.{◌≡◌, ℕ, ◌+◌, ◌-◌, ◌≤◌, ◌<◌, suc, zero, Bool, true, false, cond, ◌&&◌, ◌||◌, ◌==◌, eqb-true, List, [], ◌∷◌, ◌++◌, length, drop, take, Option, Some, None, Contains, lit<, ◌⊎◌, refl, sym, ap, subst, ◌∙◌, inl, inr, arith, length-append, append-nil, Bor}
-use Rattle.std.proofs.lemmas.Bool.{false≢true, and_parts, or_cases, eqb-false}
-use Rattle.bs_fault.specs.declared.fault.Fault.{Fault}
+use Rattle.std.proofs.Common.{◌≡◌, ℕ, ◌+◌, ◌-◌, ◌≤◌, ◌<◌, suc, zero, Bool, true, false, cond, ◌&&◌, ◌==◌, eqb-true, List, [], ◌∷◌, ◌++◌, length, drop, Some, None, Contains, lit<, ◌⊎◌, refl, sym, ap, subst, ◌∙◌, inl, inr, arith, length-append, append-nil}
+use Rattle.std.proofs.lemmas.Bool.{false≢true, and_parts, or_cases}
 use Rattle.bs_fault.specs.declared.fault.Fault.TheVariants.{BadToken, Unclosed}
 use Rattle.cmm_lex.specs.declared.front.Opening.{Opening}
 use Rattle.cmm_lex.specs.declared.front.Opening.TheVariants.{Separator, Quote, Brace, Comment, Other}
 use Rattle.cmm_lex.specs.declared.state.Shape.{Shape}
-use Rattle.cmm_lex.specs.declared.state.State.{State}
-use Rattle.cmm_lex.specs.declared.state.State.TheVariants.{Start, Dead}
+use Rattle.cmm_lex.specs.declared.state.State.TheVariants.{Start}
 use Rattle.cmm_lex.specs.declared.token.TokenKind.{TokenKind}
 use Rattle.cmm_lex.specs.declared.token.TokenKind.TheVariants as kind
 use Rattle.cmm_lex.specs.Automaton.{run, after, after_start, accepts, scan}
-use Rattle.cmm_lex.specs.Enclosed.{BeginsWith, Enclosed, AString, AComment, Braces, opening, Ends, EndsString, EndsComments, EndsBraces}
-use Rattle.cmm_lex.specs.Lexing.{separators, IsGap, separator, comment, in_braces, IsFault, no_token, bad_escape, unclosed}
-use Rattle.cmm_lex.specs.Scanning.{behind_string, behind_comments, behind_braces, kind_of, Fine, IsFine, GapTo, TokenTo, Longer, is_separator, is_star_first, opening_of}
+use Rattle.cmm_lex.specs.Enclosed.{BeginsWith, Enclosed, AString, AComment, Braces, opening, EndsString, EndsComments, EndsBraces}
+use Rattle.cmm_lex.specs.Lexing.{separators, separator, comment, in_braces, IsFault, no_token, bad_escape, unclosed}
+use Rattle.cmm_lex.specs.Scanning.{behind_string, behind_comments, behind_braces, kind_of, IsFine, GapTo, TokenTo, Longer, is_separator, is_star_first, opening_of}
 use Rattle.cmm_lex.specs.Strings.{IsString, IsInside, BadEscape, here, past_plain, past_escape}
-use Rattle.cmm_lex.specs.Tokens.{IsToken, is_string, Longest}
-use Rattle.cmm_lex.proofs.Closings.{Closed, string-from, string-to, inside-ends, braces-from, braces-to, comments-from, comments-to}
+use Rattle.cmm_lex.specs.Tokens.{IsToken, is_string}
+use Rattle.cmm_lex.proofs.Closings.{string-from, string-to, inside-ends, braces-from, braces-to, comments-from, comments-to}
 use Rattle.cmm_lex.proofs.Languages.{AreBytes}
 use Rattle.cmm_lex.proofs.Scans as scans
 use Rattle.cmm_lex.proofs.Scans.{AreBytes-front, scan-none, same_parts, run-dead}
-use Rattle.cmm_lex.proofs.Spelled.{Accepted, accepted-token, token-found, kind-some}
+use Rattle.cmm_lex.proofs.Spelled.{accepted-token, token-found, kind-some}
 
 -- ---- tokens that are no strings
 

@@ -1,5 +1,5 @@
 -- Pairs in options.
-use Rattle.std.proofs.Common.{◌≡◌, Option, Some, None, unwrap_or, ap}
+use Rattle.std.proofs.Common.{◌≡◌, Option, Some, unwrap_or, ap}
 
 pub some_pair : {A B : Type 0} (a c : A) (b d : B) → ◌≡◌ {A = Option (A × B)} (Some (a, b)) (Some (c, d)) → (a ≡ c) × (b ≡ d)
 some_pair {A} {B} a c b d e =

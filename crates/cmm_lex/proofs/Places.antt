@@ -1,14 +1,14 @@
 -- How far a text is cut.
-use Rattle.std.proofs.Common.{◌≡◌, ℕ, ◌+◌, ◌-◌, ◌≤◌, ◌<◌, suc, zero, Bool, true, false, cond, ◌⊎◌, List, [], ◌∷◌, ◌++◌, length, take, drop, map, Option, Some, None, refl, sym, ap, subst, ◌∙◌, inl, inr, arith, length-append, append_assoc, append-nil}
+use Rattle.std.proofs.Common.{◌≡◌, ℕ, ◌+◌, ◌-◌, ◌≤◌, ◌<◌, Bool, true, false, cond, ◌⊎◌, List, [], ◌∷◌, ◌++◌, length, take, drop, map, Option, Some, None, refl, sym, ap, subst, ◌∙◌, inl, inr, arith, length-append, append_assoc, append-nil}
 use Rattle.std.specs.Option.{option_or}
 use Rattle.std.proofs.Math.Seq.{drop-append_seam, take-append_seam}
 use Rattle.bs_fault.specs.declared.fault.Fault.{Fault}
-use Rattle.bs_fault.specs.declared.fault.Fault.TheVariants.{BadToken, Unclosed, IntRange}
+use Rattle.bs_fault.specs.declared.fault.Fault.TheVariants.{BadToken, IntRange}
 use Rattle.cmm_lex.specs.declared.token.Token as declared
 use Rattle.cmm_lex.specs.declared.token.TokenKind.{TokenKind}
 use Rattle.cmm_lex.specs.declared.token.TokenKind.TheVariants as kind
 use Rattle.cmm_lex.specs.Enclosed.{BeginsWith, AComment, opening}
-use Rattle.cmm_lex.specs.Lexing.{IsGap, separator, comment, in_braces, IsFault, no_token, bad_escape, unclosed, Splits, gap, token, stopped, ended, first_range, is_out_of_range, end_of}
+use Rattle.cmm_lex.specs.Lexing.{IsGap, separator, comment, in_braces, IsFault, no_token, bad_escape, unclosed, Splits, gap, token, ended, first_range, is_out_of_range, end_of}
 use Rattle.cmm_lex.specs.Scanning.{GapTo, TokenTo, range_of}
 use Rattle.cmm_lex.specs.Token.{TokenTree, token_view}
 use Rattle.cmm_lex.specs.Tokens.{IsToken, Longest}

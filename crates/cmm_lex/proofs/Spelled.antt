@@ -1,6 +1,5 @@
 -- The kind of a token, by its shape and its spelling.
-use Rattle.std.proofs.Common.{◌≡◌, ℕ, ◌+◌, ◌<◌, ◌≤◌, suc, zero, Bool, true, false, cond, eqb, List, [], ◌∷◌, ◌++◌, length, Option, Some, None, unwrap_or, codes, Contains, bytes_eq, lit<, ◌⊎◌, inl, inr, refl, sym, ap, subst, ◌∙◌, arith}
-use Rattle.std.proofs.lemmas.Bool.{false≢true}
+use Rattle.std.proofs.Common.{◌≡◌, ℕ, suc, zero, Bool, true, false, cond, List, [], ◌∷◌, Option, Some, None, unwrap_or, Contains, bytes_eq, lit<, ◌⊎◌, inl, inr, refl, sym, ap, subst, ◌∙◌, arith}
 use Rattle.std.proofs.lemmas.Slice.Eq.{bytes_eq-Decides}
 use Rattle.bs_words.specs.declared.operators.CmpOp.TheVariants as cmp
 use Rattle.bs_words.specs.declared.operators.IntOp.{IntOp}
@@ -14,12 +13,12 @@ use Rattle.cmm_lex.specs.declared.token.Keyword.{Keyword}
 use Rattle.cmm_lex.specs.declared.token.Keyword.TheVariants as word
 use Rattle.cmm_lex.specs.declared.token.Sign.{Sign}
 use Rattle.cmm_lex.specs.declared.token.Sign.TheVariants as sign
-use Rattle.cmm_lex.specs.Automaton.{run, after, accepts, after_start, after_name, after_number, after_decimal, after_operator, accepts_name, accepts_number, accepts_operator}
-use Rattle.cmm_lex.specs.Form.{Form, Nothing, Empty, Between, Then, Either, Many, Matches, spelled, one_of}
+use Rattle.cmm_lex.specs.Automaton.{run, after, accepts, after_start, after_name, after_operator, accepts_name, accepts_operator}
+use Rattle.cmm_lex.specs.Form.{Matches, spelled, one_of}
 use Rattle.cmm_lex.specs.Scanning.{find_spelled, keyword_table, sign_table, kind_of}
 use Rattle.cmm_lex.specs.Strings.{IsString}
 use Rattle.cmm_lex.specs.Tokens.{keyword_text, sign_text, operators, float_operators, IsToken, is_name, is_keyword, is_integer, is_pointer, is_float, is_string, is_operator, is_float_operator, is_sign}
-use Rattle.cmm_lex.proofs.Languages.{AreBytes, form_of, spellings, accepts-shape, shape-accepts}
+use Rattle.cmm_lex.proofs.Languages.{AreBytes, spellings, accepts-shape, shape-accepts}
 
 -- ---- tables
 

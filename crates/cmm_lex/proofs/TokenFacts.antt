@@ -4,7 +4,7 @@ use Rattle.bs_fault.specs.declared.fault.Fault.{Fault}
 use Rattle.cmm_lex.specs.declared.token.TokenKind.TheVariants as kind
 use Rattle.cmm_lex.specs.declared.token.Keyword.{Keyword}
 use Rattle.cmm_lex.specs.declared.token.Sign.{Sign}
-use Rattle.cmm_lex.specs.Lexing.{IsGap, Splits, gap, token, stopped, ended}
+use Rattle.cmm_lex.specs.Lexing.{Splits, gap, token, stopped, ended}
 use Rattle.cmm_lex.specs.Token.{TokenTree}
 use Rattle.cmm_lex.specs.Tokens.{keyword_text, sign_text, IsToken, is_keyword, is_sign}
 use Rattle.cmm_lex.proofs.Places.{token-some}

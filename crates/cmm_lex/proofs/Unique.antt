@@ -1,8 +1,7 @@
 -- A text is cut in one way.
-use Rattle.std.proofs.Common.{◌≡◌, ℕ, ◌+◌, ◌-◌, ◌≤◌, ◌<◌, suc, zero, Bool, true, false, cond, ◌&&◌, ◌==◌, nat_le, List, [], ◌∷◌, ◌++◌, length, take, drop, Option, Some, None, Contains, ◌⊎◌, inl, inr, refl, sym, ap, subst, ◌∙◌, arith, length-append}
+use Rattle.std.proofs.Common.{◌≡◌, ℕ, ◌+◌, ◌-◌, ◌≤◌, suc, zero, false, cond, ◌==◌, List, [], ◌∷◌, ◌++◌, length, take, drop, Option, Some, None, Contains, inl, inr, refl, sym, ap, subst, ◌∙◌, arith, length-append}
 use Rattle.std.proofs.Math.Seq.{take-append_seam}
-use Rattle.std.proofs.lemmas.Bool.{false≢true, and_parts, ne_eqb, cases_Bool}
-use Rattle.std.specs.Char.{is_ascii_digit}
+use Rattle.std.proofs.lemmas.Bool.{ne_eqb, cases_Bool}
 use Rattle.bs_fault.specs.declared.fault.Fault.{Fault}
 use Rattle.bs_fault.specs.declared.fault.Fault.TheVariants.{BadToken, Unclosed}
 use Rattle.cmm_lex.specs.declared.front.Opening.{Opening}
@@ -15,15 +14,14 @@ use Rattle.cmm_lex.specs.declared.token.TokenKind.TheVariants as kind
 use Rattle.cmm_lex.specs.Automaton.{run, after, after_start, accepts, scan}
 use Rattle.cmm_lex.specs.Enclosed.{BeginsWith, Enclosed, AString, AComment, Braces, opening, Ends, EndsString, EndsComments, EndsBraces}
 use Rattle.cmm_lex.specs.Lexing.{separators, IsGap, separator, comment, in_braces, IsFault, no_token, bad_escape, unclosed, Splits, ended, gap, token, stopped}
-use Rattle.cmm_lex.specs.Scanning.{behind_string, behind_comments, behind_braces, kind_of, is_separator, opening_of, is_letter_escape, begins_escape, code_of}
+use Rattle.cmm_lex.specs.Scanning.{behind_string, behind_comments, behind_braces, kind_of, opening_of, is_letter_escape}
 use Rattle.cmm_lex.specs.Strings.{letters, is_code, IsEscape, letter, code, IsString, IsInside, closing, plain, escape, BadEscape, here, past_plain, past_escape}
 use Rattle.cmm_lex.specs.Token.{TokenTree}
-use Rattle.cmm_lex.specs.Tokens.{IsToken, is_string, Longest}
+use Rattle.cmm_lex.specs.Tokens.{IsToken, Longest}
 use Rattle.cmm_lex.proofs.Closings.{string-from, string-to, inside-ends, braces-from, braces-to, comments-from, comments-to}
 use Rattle.cmm_lex.proofs.Escapes.{letter-from, letter-to}
-use Rattle.cmm_lex.proofs.Fronts.{separator-from, separator-to, Opens, opens-is}
+use Rattle.cmm_lex.proofs.Fronts.{separator-to, Opens, opens-is}
 use Rattle.cmm_lex.proofs.Languages.{AreBytes}
-use Rattle.cmm_lex.proofs.Pairs.{some_pair}
 use Rattle.cmm_lex.proofs.Places.{gap-some, token-some}
 use Rattle.cmm_lex.proofs.Scans as scans
 use Rattle.cmm_lex.proofs.Scans.{AreBytes-front, AreBytes-back, scan-token, scan-none, same_parts, run-dead}

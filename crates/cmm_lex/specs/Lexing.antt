@@ -1,5 +1,5 @@
 -- How a text is cut into tokens, and where it is not.
-use Rattle.std.specs.Prelude.{◌≡◌, ℕ, ◌+◌, Bool, true, false, cond, List, [], ◌∷◌, ◌++◌, length, map, codes, Contains, Option, Some, None}
+use Rattle.std.specs.Prelude.{◌≡◌, ℕ, ◌+◌, Bool, true, false, cond, List, [], ◌∷◌, ◌++◌, length, map, Contains, Option, Some, None}
 use Rattle.bs_words.specs.Contents.{contents}
 use Rattle.bs_fault.specs.declared.fault.Fault.{Fault}
 use Rattle.bs_fault.specs.declared.fault.Fault.TheVariants.{BadToken, Unclosed, IntRange}

@@ -1,7 +1,7 @@
+pub mod Automaton
 pub mod Enclosed
 pub mod Form
 pub mod Integers
-pub mod Automaton
 pub mod Lexing
 pub mod Scanning
 pub mod Strings

@@ -10,7 +10,7 @@ use Rattle.cmm_lex.specs.declared.token.Keyword.TheVariants as word
 use Rattle.cmm_lex.specs.declared.token.Sign.{Sign}
 use Rattle.cmm_lex.specs.declared.token.Sign.TheVariants as sign
 use Rattle.cmm_lex.specs.Strings.{IsString}
-use Rattle.cmm_lex.specs.Form.{Form, Between, Then, Either, Many, Matches, this, one_of, maybe, some}
+use Rattle.cmm_lex.specs.Form.{Form, Between, Then, Either, Many, Matches, this, maybe, some}
 
 -- ---- forms
 

@@ -1,5 +1,5 @@
-use Rattle.std.proofs.Common.{◌≡◌, ◌∙◌, sym, arith}
-use Rattle.cmm_lex.proofs.Comments.{step-to, step-none}
+use Rattle.std.proofs.Common.{◌∙◌, sym, arith}
+use Rattle.cmm_lex.proofs.Comments.{step-to}
 use Rattle.cmm_lex.proofs.enclosed.behind_comment.Goals as goal
 
 pub loop-depth-preserved : goal.loop-depth-preserved

@@ -1,4 +1,4 @@
-use Rattle.std.proofs.Common.{◌≡◌, ℕ, ◌+◌, ◌≤◌, length}
+use Rattle.std.proofs.Common.{◌≡◌, ◌+◌, ◌≤◌, length}
 use Rattle.cmm_lex.specs.Scanning.{behind_comments}
 use Rattle.cmm_lex.proofs.enclosed.behind_comment.Given as goal
 

@@ -1,4 +1,4 @@
-use Rattle.std.proofs.Common.{◌≡◌, ◌++◌, ◌<◌, length, ap, sym, ◌∙◌, arith, length-append}
+use Rattle.std.proofs.Common.{sym, arith}
 use Rattle.cmm_lex.proofs.Fronts.{unclosed-string, string-cut, string-shorter, bad-string, bad-within, string-token}
 use Rattle.cmm_lex.proofs.Scans.{AreBytes-from}
 use Rattle.cmm_lex.proofs.front.after_quote.Goals as goal

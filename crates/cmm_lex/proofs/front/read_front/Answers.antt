@@ -1,5 +1,5 @@
-use Rattle.std.proofs.Common.{◌≡◌, length, ap, sym, subst, ◌∙◌, arith}
-use Rattle.cmm_lex.proofs.Fronts.{separator-gap, brace-behind, comment-behind, brace-gap, comment-gap, unclosed-brace, unclosed-comment, quote-behind, other-token, other-bad, other-no_quote}
+use Rattle.std.proofs.Common.{sym, ◌∙◌}
+use Rattle.cmm_lex.proofs.Fronts.{separator-gap, brace-behind, comment-behind, brace-gap, comment-gap, unclosed-brace, unclosed-comment, other-bad, other-no_quote}
 use Rattle.cmm_lex.proofs.front.read_front.Goals as goal
 
 pub returns-in-Separator : goal.returns-in-Separator

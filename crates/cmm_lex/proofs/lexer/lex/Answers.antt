@@ -1,10 +1,9 @@
-use Rattle.std.proofs.Common.{◌≡◌, ℕ, ◌+◌, ◌-◌, List, [], ◌++◌, length, map, Option, Some, None, sym, ap, subst, ◌∙◌, arith, eqb-true}
-use Rattle.bs_fault.specs.declared.fault.Fault.{Fault}
+use Rattle.std.proofs.Common.{ℕ, ◌+◌, ◌-◌, List, [], length, map, Some, None, sym, ap, subst, ◌∙◌, arith, eqb-true}
 use Rattle.bs_fault.specs.declared.fault.Fault.TheVariants.{BadToken, Unclosed}
 use Rattle.cmm_lex.specs.declared.token.Token as declared
 use Rattle.cmm_lex.specs.Lexing.{Splits, stopped, first_range}
 use Rattle.cmm_lex.specs.Token.{TokenTree, token_view}
-use Rattle.cmm_lex.proofs.Places.{place-start, place-on, place-room, cut-length, cut-shorter, slice-is, gap-on, token-on, push-view, gap-some, token-some, bad-token-within, range-on, end-on, ended-on, Ends, ends-push}
+use Rattle.cmm_lex.proofs.Places.{place-on, place-room, cut-length, slice-is, gap-on, token-on, push-view, token-some, bad-token-within, range-on, end-on, ended-on, Ends, ends-push}
 use Rattle.cmm_lex.proofs.Scans.{same_parts}
 use Rattle.cmm_lex.proofs.lexer.lex.Goals as goal
 

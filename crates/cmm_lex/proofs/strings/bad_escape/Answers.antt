@@ -1,4 +1,4 @@
-use Rattle.std.proofs.Common.{◌≡◌, ℕ, ◌+◌, ◌-◌, List, length, sym, subst, ◌∙◌, arith}
+use Rattle.std.proofs.Common.{◌≡◌, ℕ, ◌+◌, ◌-◌, length, sym, subst, ◌∙◌, arith}
 use Rattle.cmm_lex.specs.Strings.{BadEscape}
 use Rattle.cmm_lex.proofs.Escapes.{passed, bad-on, fine-on, passed-shorter, bad-here, fine-end}
 use Rattle.cmm_lex.proofs.strings.bad_escape.Goals as goal

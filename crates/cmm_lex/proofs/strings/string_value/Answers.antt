@@ -1,6 +1,6 @@
-use Rattle.std.proofs.Common.{◌≡◌, ◌∷◌, ◌++◌, List, ℕ, [], sym, ap, ◌∙◌, append_assoc}
+use Rattle.std.proofs.Common.{◌∷◌, ◌++◌, List, ℕ, [], sym, ap, ◌∙◌, append_assoc}
 use Rattle.cmm_lex.specs.Strings.{unescaped}
-use Rattle.cmm_lex.proofs.Escapes.{unescaped-on, unescaped-end}
+use Rattle.cmm_lex.proofs.Escapes.{unescaped-on}
 use Rattle.cmm_lex.proofs.strings.string_value.Goals as goal
 
 pub loop-byte-preserved : goal.loop-byte-preserved
