@@ -58,8 +58,8 @@ fn first(alloc: Global, bytes: &[u8], a: u64, b: u64) -> Result<Option<ServiceEn
 }
 
 // Where the block is after the second service.
-fn place(alloc: Global, plan: Plan<'_>) -> Result<u64, Fail> {
-    let image = read_image(alloc, TWICE)?;
+fn place(alloc: Global, bytes: &[u8], plan: Plan<'_>) -> Result<u64, Fail> {
+    let image = read_image(alloc, bytes)?;
     let setup = Setup {
         entry: entry(alloc)?,
         args: args(alloc, 77, 16)?,
@@ -78,17 +78,41 @@ fn place(alloc: Global, plan: Plan<'_>) -> Result<u64, Fail> {
     Ok(if whole { start } else { 0 })
 }
 
+// How the second service ends where the halves have no bytes.
+fn second_without_heap(alloc: Global, bytes: &[u8]) -> Result<Option<ServiceEnd>, Fail> {
+    let image = read_image(alloc, bytes)?;
+    let setup = Setup {
+        entry: entry(alloc)?,
+        args: args(alloc, 77, 16)?,
+        stack: 1024,
+        heap: 0,
+    };
+    let mut machine = load(alloc, &image, &setup)?;
+    if next_service(&mut machine, Plan::Packed) != Some(ServiceEnd::Goes) {
+        return Ok(None);
+    }
+    Ok(next_service(&mut machine, Plan::Packed))
+}
+
 #[test]
 fn stops(rt: HostRuntime) -> Result<(), Fail> {
     let alloc = rt.alloc();
-    let stopped = |cause| Some(ServiceEnd::Stopped(cause));
     assert_eq!(rt; first(alloc, TWICE, 77, 16)?, Some(ServiceEnd::Goes));
-    assert_eq!(rt; first(alloc, TWICE, 77, 8)?, stopped(Cause::BadRequest));
-    assert_eq!(rt; first(alloc, TWICE, 77, 24)?, stopped(Cause::BadRequest));
-    assert_eq!(rt; first(alloc, TWICE, 78, 16)?, stopped(Cause::BadRoot));
+    assert_eq!(rt;
+        first(alloc, TWICE, 77, 8)?,
+        Some(ServiceEnd::Stopped(Cause::BadRequest))
+    );
+    assert_eq!(rt;
+        first(alloc, TWICE, 77, 24)?,
+        Some(ServiceEnd::Stopped(Cause::BadRequest))
+    );
+    assert_eq!(rt;
+        first(alloc, TWICE, 78, 16)?,
+        Some(ServiceEnd::Stopped(Cause::BadRoot))
+    );
     assert_eq!(rt;
         first(alloc, UNDESCRIBED, 77, 16)?,
-        stopped(Cause::BadFrame)
+        Some(ServiceEnd::Stopped(Cause::BadFrame))
     );
     Ok(())
 }
@@ -97,32 +121,26 @@ fn stops(rt: HostRuntime) -> Result<(), Fail> {
 #[test]
 fn moves(rt: HostRuntime) -> Result<(), Fail> {
     let alloc = rt.alloc();
-    assert_eq!(rt; place(alloc, Plan::Packed)?, 0x3400_0008);
-    assert_eq!(rt; place(alloc, Plan::Starts(&[0x3000_0010]))?, 0x3000_0010);
-    assert_eq!(rt; place(alloc, Plan::Starts(&[0x3000_000C]))?, 0x3400_0008);
-    assert_eq!(rt; place(alloc, Plan::Starts(&[0x3000_0400]))?, 0x3400_0008);
-    assert_eq!(rt; place(alloc, Plan::Drawn { word: 4 })?, 0x3000_0010);
+    assert_eq!(rt; place(alloc, TWICE, Plan::Packed)?, 0x3400_0008);
+    assert_eq!(rt;
+        place(alloc, TWICE, Plan::Starts(&[0x3000_0010]))?,
+        0x3000_0010
+    );
+    assert_eq!(rt;
+        place(alloc, TWICE, Plan::Starts(&[0x3000_000C]))?,
+        0x3400_0008
+    );
+    assert_eq!(rt;
+        place(alloc, TWICE, Plan::Starts(&[0x3000_0400]))?,
+        0x3400_0008
+    );
+    assert_eq!(rt; place(alloc, TWICE, Plan::Drawn { word: 4 })?, 0x3000_0010);
     Ok(())
 }
 
 #[test]
 fn has_no_heap(rt: HostRuntime) -> Result<(), Fail> {
-    let alloc = rt.alloc();
-    let image = read_image(alloc, TWICE)?;
-    let setup = Setup {
-        entry: entry(alloc)?,
-        args: args(alloc, 77, 16)?,
-        stack: 1024,
-        heap: 0,
-    };
-    let mut machine = load(alloc, &image, &setup)?;
-    assert_eq!(rt;
-        next_service(&mut machine, Plan::Packed),
-        Some(ServiceEnd::Goes)
-    );
-    assert_eq!(rt;
-        next_service(&mut machine, Plan::Packed),
-        Some(ServiceEnd::HeapOut)
-    );
+    let end = second_without_heap(rt.alloc(), TWICE)?;
+    assert_eq!(rt; end, Some(ServiceEnd::HeapOut));
     Ok(())
 }
