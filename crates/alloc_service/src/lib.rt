@@ -21,6 +21,3 @@ mod young;
 pub use plan::Plan;
 pub use service_end::ServiceEnd;
 pub use serving::service;
-
-#[cfg(test)]
-mod tests;
