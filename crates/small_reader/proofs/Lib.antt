@@ -1,0 +1,15 @@
+pub mod Languages
+pub mod Scanning
+pub mod Cutting
+pub mod Magnitudes
+pub mod Depth
+pub mod Steps
+pub mod Symbols
+pub mod Keyword
+pub mod Sound
+pub mod Complete
+pub mod Lengths
+pub mod Items
+pub mod RuleTests
+pub mod Texts
+pub mod Names

@@ -1,0 +1,5 @@
+pub mod Automaton
+pub mod Lexing
+pub mod Reading
+pub mod Parsing
+pub mod Rules
