@@ -17,12 +17,20 @@ pub fn converted(alloc: Global, file: &File) -> Result<SmallFile, AllocError>
 {
     let mut functions = Vec::new(alloc);
     for item in file.items.as_slice() {
-        let Item::Function(function) = item;
-        functions.push(converted_function(alloc, function)?)?;
+        functions.push(converted_function(alloc, function_of(item))?)?;
     }
     Ok(SmallFile {
         functions: List::from_vec(functions),
     })
+}
+
+/// The function that an item is.
+fn function_of(item: &Item) -> &Function
+    ensures { item.now ≡ Item.Function result.now }
+{
+    match item {
+        Item::Function(function) => function,
+    }
 }
 
 fn copied(alloc: Global, name: &Name) -> Result<Name, AllocError>
@@ -45,10 +53,7 @@ fn converted_function(alloc: Global, function: &Function) -> Result<SmallFunctio
     })
 }
 
-fn converted_params(
-    alloc: Global,
-    params: &[small_tree::Param],
-) -> Result<List<Param>, AllocError>
+fn converted_params(alloc: Global, params: &[small_tree::Param]) -> Result<List<Param>, AllocError>
     ensures { IfOk result (λ copies. params_view (contents copies) ≡ converted_params (map read.param_view params.now)) }
 {
     let mut copies = Vec::new(alloc);
