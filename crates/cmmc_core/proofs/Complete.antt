@@ -1,8 +1,8 @@
 -- Where no count rose, good input has its output, and bad input its line, but for want of memory.
 use Rattle.std.proofs.Common.{◌≡◌, ◌⊎◌, ℕ, ◌+◌, ◌≤◌, List, Option, Some, None, length, refl, sym, ap, ◌∙◌, subst, inl, inr, arith}
 use Rattle.bs_fault.specs.declared.large.Large.{Large}
-use Rattle.cmm_tree.specs.Tree.{FileTree}
-use Rattle.cmm_tree.specs.Small.{SmallText, longest_text}
+use Rattle.small_tree.specs.Tree.{FileTree}
+use Rattle.small_tree.specs.Small.{SmallText, longest_text}
 use Rattle.command_line.proofs.Unique.{command-unique, command-formed}
 use Rattle.command_line.specs.Command.{IsCommand, CommandTree, CompileCommand, RunCommand, RunTree}
 use Rattle.command_line.specs.Words.{WellFormed}
@@ -10,6 +10,7 @@ use Rattle.correctness.specs.Bounds.{IsRoomy}
 use Rattle.image_form.specs.Tables.{Tables, Func}
 use Rattle.rv_machine.specs.Loading.{func_named, words_of_args}
 use Rattle.small_code.specs.Compiled.{compiled}
+use Rattle.small_front.specs.Converted.{converted, whole_of}
 use Rattle.small_code.specs.TooLarge.{first_too_large}
 use Rattle.small_reader.specs.Parsing.{IsTreeOf}
 use Rattle.cmmc_core.specs.Compile.{IsNoText}
@@ -21,10 +22,10 @@ use Rattle.cmmc_core.proofs.Reading.{all, too_long, IsRead-known}
 use Rattle.cmmc_core.proofs.Spelled.{one_image, spelling_short}
 
 abbrev Fits : FileTree → Type 0
-Fits file = first_too_large (compiled file) ≡ None
+Fits file = first_too_large (compiled (converted file)) ≡ None
 
 abbrev Passes : Large → FileTree → Type 0
-Passes large file = first_too_large (compiled file) ≡ Some large
+Passes large file = first_too_large (compiled (converted file)) ≡ Some large
 
 some_none : {A : Type 0} (o : Option A) (x : A) → o ≡ Some x → o ≡ None → ⊥
 some_none o x s n = let e : Some x ≡ None = sym s ∙ n in cc
@@ -111,14 +112,14 @@ module _ (words : List (List ℕ)) (source : Side) where
     fits_end status (cause line (unfit ran i r)) file small fits = absurd (compile_is_no_run ran is i)
     fits_end status (cause line no_memory) file small fits = inr refl
 
-    roomy_end : (status : ℕ) → Told words source status → (file : FileTree) → SmallText text file → IsRoomy file → Is 0 status
+    roomy_end : (status : ℕ) → Told words source status → (file : FileTree) → SmallText text file → IsRoomy (whole_of file) → Is 0 status
     roomy_end status (output bytes z o) file small roomy = inl z
     roomy_end status (cause line (no_command n k)) file small roomy = absurd (n (command-formed words CompileCommand is))
     roomy_end status (cause line (no_value w n k)) file small roomy = absurd (n CompileCommand is)
     roomy_end status (cause line (read_fault c i r)) file small roomy = absurd (calm r)
     roomy_end status (cause line (no_text i r)) file small roomy = absurd (r.no_text file (small_read r.text file r.read small))
     roomy_end status (cause line (too_large l i r)) file small roomy =
-        absurd (r.too_large.not_roomy (same_file IsRoomy file small r.text r.too_large.file r.read r.too_large.is_file roomy))
+        absurd (r.too_large.not_roomy (same_file (λ f. IsRoomy (whole_of f)) file small r.text r.too_large.file r.read r.too_large.is_file roomy))
     roomy_end status (cause line (no_image ran w i r)) file small roomy = absurd (compile_is_no_run ran is i)
     roomy_end status (cause line (no_entry ran i r)) file small roomy = absurd (compile_is_no_run ran is i)
     roomy_end status (cause line (unfit ran i r)) file small roomy = absurd (compile_is_no_run ran is i)

@@ -7,7 +7,7 @@ use Rattle.bs_io.specs.Faults.{Risen}
 use Rattle.bs_io.specs.Whole.{AppendsPart}
 use Rattle.bs_words.specs.Contents.{contents}
 use Rattle.bs_words.specs.declared.list.List as code
-use Rattle.cmm_tree.specs.Small.{longest_text}
+use Rattle.small_tree.specs.Small.{longest_text}
 use Rattle.command_line.specs.Command.{IsCommand, CompileCommand, RunCommand, RunTree}
 use Rattle.image_form.specs.Tables.{Tables}
 use Rattle.cmmc_core.specs.Effects.{Side, Effects, IsKept, Got, GotPart, Tells, IsRead}

@@ -2,8 +2,10 @@
 use Rattle.std.specs.Prelude.{◌≡◌, ℕ, List, [], ◌∷◌, replicate, Some, None}
 use Rattle.std.specs.List.{AllZip}
 use Rattle.bs_fault.specs.declared.large.Large.{Large}
-use Rattle.cmm_tree.specs.Tree.{FileTree, functions}
-use Rattle.cmm_tree.specs.Small.{SmallText, longest_text, caml_bound_error}
+use Rattle.small_tree.specs.Tree.{FileTree}
+use Rattle.small_code.specs.Tree.{functions}
+use Rattle.small_front.specs.Converted.{converted, whole_of}
+use Rattle.small_tree.specs.Small.{SmallText, longest_text, caml_bound_error}
 use Rattle.correctness.specs.Bounds.{IsBounded, IsRoomy}
 use Rattle.correctness.specs.Correct.{IsCorrect}
 use Rattle.image_form.specs.Image.{AreTables}
@@ -27,12 +29,12 @@ pub record IsImageOf (text : List ℕ) (image : Tables) : Type 0 where
   pub file : FileTree
   pub is_file : IsTreeOf text file
   pub is_image : AreTables image
-  pub correct : IsCorrect file image
-  pub bounded : IsBounded file image
-  pub frames : AllZip HasLeastFrame (functions file) image.funcs
+  pub correct : IsCorrect (whole_of file) image
+  pub bounded : IsBounded (whole_of file) image
+  pub frames : AllZip HasLeastFrame (functions (converted file)) image.funcs
   pub built_in_data : HasBuiltInData image
   -- no section of the image that is made for the file passes its limit
-  pub fits : first_too_large (compiled file) ≡ None
+  pub fits : first_too_large (compiled (converted file)) ≡ None
 
 -- This is an image of the text that was read.
 pub record CompilesTo (source : Side) (image : Tables) : Type 0 where
@@ -55,8 +57,8 @@ pub record ReadsNoText (source : Side) : Type 0 where
 pub record IsTooLarge (text : List ℕ) (large : Large) : Type 0 where
   pub file : FileTree
   pub is_file : IsTreeOf text file
-  pub passes : first_too_large (compiled file) ≡ Some large
-  pub not_roomy : IsRoomy file → ⊥
+  pub passes : first_too_large (compiled (converted file)) ≡ Some large
+  pub not_roomy : IsRoomy (whole_of file) → ⊥
 
 pub record ReadsTooLarge (source : Side) (large : Large) : Type 0 where
   pub text : List ℕ

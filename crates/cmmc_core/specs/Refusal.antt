@@ -1,6 +1,6 @@
 -- What the parts of the program answer one another.
 use Rattle.std.specs.Prelude.{◌≡◌, ◌⊎◌, ⊤, ℕ, List, Some, None}
-use Rattle.cmm_tree.specs.Small.{longest_text}
+use Rattle.small_tree.specs.Small.{longest_text}
 use Rattle.command_line.specs.Command.{RunTree}
 use Rattle.image_form.specs.Image.{tables_bytes}
 use Rattle.image_form.specs.Tables.{Tables, Func}

@@ -9,6 +9,7 @@ use bs_io::{InFault, Source, read_all};
 use bs_words::List;
 use image_form::write_image;
 use small_code::compile_small;
+use small_front::converted;
 use small_reader::{SmallError, read_small};
 use std::alloc::Global;
 
@@ -48,7 +49,11 @@ fn compile_text(alloc: Global, text: &[u8]) -> Result<List<u8>, Refusal>
         Err(SmallError::NotSmall) => return Err(Refusal::NotBuilt),
         Err(SmallError::OutOfMemory) => return Err(Refusal::OutOfMemory),
     };
-    let image = match compile_small(alloc, &file) {
+    let small = match converted(alloc, &file) {
+        Ok(small) => small,
+        Err(_) => return Err(Refusal::OutOfMemory),
+    };
+    let image = match compile_small(alloc, &small) {
         Ok(image) => image,
         Err(BuildError::TooLarge(large)) => return Err(Refusal::TooLarge(large)),
         Err(BuildError::OutOfMemory) => return Err(Refusal::OutOfMemory),
