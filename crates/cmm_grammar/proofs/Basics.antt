@@ -1,14 +1,14 @@
 -- What is used of outcomes, of tokens and of spelling.
-use Rattle.std.proofs.Common.{◌≡◌, ℕ, ◌+◌, ◌<◌, ◌≤◌, zero, suc, Bool, true, false, cond, ◌&&◌, List, [], ◌∷◌, ◌++◌, length, Option, Some, None, ◌⊎◌, inl, inr, refl, sym, ap, subst, ◌∙◌, arith, append_assoc, length-append}
+use Rattle.std.proofs.Common.{◌≡◌, ℕ, ◌≤◌, zero, suc, Bool, true, false, cond, List, length, Option, Some, None, refl, ap, arith, length-append}
 use Rattle.cmm_lex.specs.Token.{TokenTree}
 use Rattle.cmm_lex.specs.declared.token.TokenKind.{TokenKind}
 use Rattle.cmm_lex.specs.declared.token.TokenKind.TheVariants as kind
 use Rattle.cmm_lex.specs.declared.token.Sign.TheVariants as sign
 use Rattle.cmm_tree.specs.Tree.{Expression}
-use Rattle.cmm_grammar.specs.Words.{is_open, is_open_kind, is_open_bracket, is_open_bracket_kind, is_close_bracket, is_name, leaf_of}
-use Rattle.cmm_grammar.specs.Rule.{Sort, Value, AnExpression, Listed, Rule, Give, One, Then, Expr, Inside, InsideOr, LabelledOr, Until, Maybe, Repeat}
+use Rattle.cmm_grammar.specs.Words.{is_open, is_open_kind, is_open_bracket, is_open_bracket_kind, leaf_of}
+use Rattle.cmm_grammar.specs.Rule.{Sort, Value, Rule}
 use Rattle.cmm_grammar.specs.Spelling.{Spells, nothing, token, both, leaf, brackets, parenthesis, inside, inside_first, not_inside, labelled, not_labelled, ended, one_more, present, absent, last, another}
-use Rattle.cmm_grammar.specs.Reading.{Outcome, Read, Stops, Why, Stuck, Deep, Reader, bind, given}
+use Rattle.cmm_grammar.specs.Reading.{Outcome, Read, Stops, Why, Reader, bind, given}
 use Rattle.cmm_grammar.proofs.Fine.{Solid}
 
 pub read_inj : {A : Type 0} (a b : A) (xs ys : List TokenTree) → Read a xs ≡ Read b ys → (a ≡ b) × (xs ≡ ys)

@@ -1,16 +1,16 @@
 -- What is spelled so is read, whatever follows.
-use Rattle.std.proofs.Common.{◌≡◌, ℕ, ◌+◌, ◌<◌, ◌≤◌, zero, suc, Bool, true, false, cond, ◌&&◌, List, [], ◌∷◌, ◌++◌, length, Option, Some, None, refl, sym, ap, subst, ◌∙◌, arith, append_assoc, length-append}
+use Rattle.std.proofs.Common.{◌≡◌, ℕ, ◌<◌, ◌≤◌, zero, suc, Bool, true, false, cond, ◌&&◌, List, [], ◌∷◌, ◌++◌, length, Some, None, refl, ap, ◌∙◌, arith, append_assoc, length-append}
 use Rattle.std.proofs.lemmas.Bool.{and_from}
 use Rattle.cmm_lex.specs.Token.{TokenTree}
-use Rattle.cmm_tree.specs.Tree.{Expression, Nothing}
-use Rattle.cmm_grammar.specs.Words.{is_open, is_open_bracket, is_close_bracket, is_name, is_labelled, leaf_of}
-use Rattle.cmm_grammar.specs.Rule.{Sort, Value, AnExpression, Listed, Rule, Give, One, Then, Expr, Inside, InsideOr, LabelledOr, Until, Maybe, Repeat}
+use Rattle.cmm_tree.specs.Tree.{Expression}
+use Rattle.cmm_grammar.specs.Words.{is_open, is_open_bracket, is_close_bracket, is_name, is_labelled}
+use Rattle.cmm_grammar.specs.Rule.{Sort, Value, AnExpression, Listed, Rule, Then, Expr, InsideOr, LabelledOr, Until, Repeat}
 use Rattle.cmm_grammar.specs.Grammar.{form}
 use Rattle.cmm_grammar.specs.Spelling.{Spells, nothing, token, both, leaf, brackets, parenthesis, inside, inside_first, not_inside, labelled, not_labelled, ended, one_more, present, absent, last, another}
-use Rattle.cmm_grammar.specs.Reading.{Outcome, Read, Stops, Why, Stuck, Deep, Reader, bind, given, behind, bracket_at, expression_by, many, some_of, inside_by, inside_or_by, labelled_by, maybe_given, maybe_by, one_by, deeper, form_below, reading, forms_below, reads}
-use Rattle.cmm_grammar.proofs.Fine.{Solid, Fine, Two, Three}
+use Rattle.cmm_grammar.specs.Reading.{Outcome, Read, Stops, Reader, bind, given, many, some_of, maybe_given, reads}
+use Rattle.cmm_grammar.proofs.Fine.{Solid, Fine}
 use Rattle.cmm_grammar.proofs.Basics.{bind_on, bind_bind, cond_on, cond_off, solid_some, leaf_closed, bracket_closed}
-use Rattle.cmm_grammar.proofs.Sound.{Taken, IsSound, FormsSound, sound, lower}
+use Rattle.cmm_grammar.proofs.Sound.{IsSound, FormsSound, sound}
 
 -- reading takes at least one token
 abbrev pub Shortens : {A : Type 0} → Reader A → Type 0
@@ -70,7 +70,7 @@ pub shortens : FineForms → (s : Sort) (d : ℕ) (r : Rule s) → Solid r → F
 shortens forms s d r solid fine = solid_shortens s d r solid (sound s r d fine (forms_sound forms d))
 
 -- the lists begin again behind the first
-fine_again : (s t : Sort) (d : ℕ) (stop : TokenTree → Bool) (r : Rule s) (k : List (Value s) → Rule t) (a : Value s)
+pub fine_again : (s t : Sort) (d : ℕ) (stop : TokenTree → Bool) (r : Rule s) (k : List (Value s) → Rule t) (a : Value s)
     → Fine (Until s t stop r k) d
     → Fine (Until s t stop r (λ v. k (a ∷ v))) d
 fine_again s t d stop r k a fine = record { first = fine.first; second = λ v. fine.second (a ∷ v) }
@@ -102,7 +102,7 @@ repeat_more s d more r ts middle a values rest short is one others =
     ∙ cond_on (more a) _ _ is
     ∙ ap (λ v. bind v (λ w left. Read (a ∷ w) left)) (some_same more (reads r d) short (length ts) (suc (length middle)) middle (omega arith) (omega arith) ∙ others)
 
-abbrev IsExpr : {s : Sort} → Rule s → Type 0
+abbrev pub IsExpr : {s : Sort} → Rule s → Type 0
 IsExpr Expr = Unit {0}
 IsExpr _ = ⊥
 
@@ -130,7 +130,7 @@ alone_closed : (d : ℕ) (o : TokenTree) (e : Expression) → Spells AnExpressio
 alone_closed d o e h = alone AnExpression d Expr e (o ∷ []) h tt
 
 -- where an expression is spelled that is not labelled, it is read first
-not_labelled_read : (s t : Sort) (d : ℕ) (r : TokenTree → Rule s) (k : Value s → Rule t) (other : Expression → Rule t) (e : Expression) (xs rest : List TokenTree)
+pub not_labelled_read : (s t : Sort) (d : ℕ) (r : TokenTree → Rule s) (k : Value s → Rule t) (other : Expression → Rule t) (e : Expression) (xs rest : List TokenTree)
     → is_labelled xs ≡ false
     → Spells AnExpression d Expr e xs
     → reads Expr d (xs ++ rest) ≡ Read e rest

@@ -1,8 +1,8 @@
 -- Rules that can always be finished, and whose next token always decides.
-use Rattle.std.proofs.Common.{◌≡◌, ℕ, zero, suc, Bool, true, false, not, List, [], ◌∷◌, ◌++◌, Option, Some, None, refl}
+use Rattle.std.proofs.Common.{◌≡◌, ℕ, zero, suc, Bool, true, false, not, List, ◌∷◌, Option, Some, None}
 use Rattle.cmm_lex.specs.Token.{TokenTree}
 use Rattle.cmm_grammar.specs.Words.{is_open}
-use Rattle.cmm_grammar.specs.Rule.{Sort, Value, AnExpression, Listed, Rule, Give, One, Then, Expr, Inside, InsideOr, LabelledOr, Until, Maybe, Repeat}
+use Rattle.cmm_grammar.specs.Rule.{Sort, Value, AnExpression, Rule, Give, One, Then, Expr, Inside, InsideOr, LabelledOr, Until, Maybe, Repeat}
 use Rattle.cmm_grammar.specs.Spelling.{Spells}
 
 -- a rule that spells no value by no token

@@ -2,3 +2,13 @@ pub mod Fine
 pub mod Basics
 pub mod Sound
 pub mod Complete
+pub mod Finish
+pub mod FineGrammar
+pub mod Halt
+pub mod Stops
+pub mod Lists
+pub mod Labels
+pub mod Halting
+pub mod Items
+pub mod Places
+pub mod Apart

@@ -1,5 +1,5 @@
 -- What is read is spelled so.
-use Rattle.std.proofs.Common.{◌≡◌, ℕ, ◌+◌, ◌<◌, ◌≤◌, zero, suc, Bool, true, false, cond, ◌&&◌, List, [], ◌∷◌, ◌++◌, length, Option, Some, None, ◌⊎◌, inl, inr, refl, sym, ap, subst, ◌∙◌, arith, append_assoc, length-append}
+use Rattle.std.proofs.Common.{◌≡◌, ℕ, ◌<◌, zero, suc, Bool, true, false, cond, ◌&&◌, List, [], ◌∷◌, ◌++◌, length, Option, Some, None, refl, sym, ap, subst, ◌∙◌, arith, append_assoc}
 use Rattle.std.proofs.lemmas.Bool.{and_parts}
 use Rattle.cmm_lex.specs.Token.{TokenTree}
 use Rattle.cmm_tree.specs.Tree.{Expression, Nothing}
@@ -7,9 +7,9 @@ use Rattle.cmm_grammar.specs.Words.{is_open, is_open_bracket, is_close_bracket, 
 use Rattle.cmm_grammar.specs.Rule.{Sort, Value, AnExpression, Listed, Rule, Give, One, Then, Expr, Inside, InsideOr, LabelledOr, Until, Maybe, Repeat}
 use Rattle.cmm_grammar.specs.Grammar.{form}
 use Rattle.cmm_grammar.specs.Spelling.{Spells, nothing, token, both, leaf, brackets, parenthesis, inside, inside_first, not_inside, labelled, not_labelled, ended, one_more, present, absent, last, another}
-use Rattle.cmm_grammar.specs.Reading.{Outcome, Read, Stops, Why, Stuck, Deep, Reader, bind, given, behind, bracket_at, expression_by, many, some_of, inside_by, inside_or_by, labelled_by, maybe_given, maybe_by, one_by, deeper, form_below, reading, forms_below, reads}
-use Rattle.cmm_grammar.proofs.Fine.{Solid, Fine, Two, Three}
-use Rattle.cmm_grammar.proofs.Basics.{read_inj, bind_read, BothRead, given_read, cond_off, solid_some}
+use Rattle.cmm_grammar.specs.Reading.{Outcome, Read, Stops, Stuck, bind, given, behind, bracket_at, many, some_of, maybe_given, deeper, form_below, reading, forms_below, reads}
+use Rattle.cmm_grammar.proofs.Fine.{Solid, Fine}
+use Rattle.cmm_grammar.proofs.Basics.{read_inj, bind_read, given_read, solid_some}
 
 -- the tokens that were read spell the value
 pub record Taken (s : Sort) (d : ℕ) (r : Rule s) (a : Value s) (ts rest : List TokenTree) : Type 0 where
@@ -78,7 +78,7 @@ pub record ManyTaken (s : Sort) (d : ℕ) (stop : TokenTree → Bool) (r : Rule 
   pub goes_on : (t : Sort) (k : List (Value s) → Rule t) (b : Value t) (ys zs : List TokenTree) → Spells t d (k values) b (next ∷ ys) → others ≡ ys ++ zs
       → Taken t d (Until s t stop r k) b ts zs
 
-some_tokens : (s : Sort) (d : ℕ) (r : Rule s) (a : Value s) (t : TokenTree) (ts rest xs : List TokenTree) → Spells s d r a xs → Solid r → t ∷ ts ≡ xs ++ rest
+pub some_tokens : (s : Sort) (d : ℕ) (r : Rule s) (a : Value s) (t : TokenTree) (ts rest xs : List TokenTree) → Spells s d r a xs → Solid r → t ∷ ts ≡ xs ++ rest
     → (ys : List TokenTree) × (xs ≡ t ∷ ys) × (ts ≡ ys ++ rest)
 some_tokens s d r a t ts rest [] h solid e = absurd (omega (arith, solid_some s d r a [] h solid))
 some_tokens s d r a t ts rest (x ∷ ys) h solid e = (ys, cc, cc)

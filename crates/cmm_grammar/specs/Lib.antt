@@ -5,3 +5,4 @@ pub mod Rule
 pub mod Grammar
 pub mod Spelling
 pub mod Reading
+pub mod Faults

@@ -45,6 +45,6 @@ catch_one at label body handler = Catch at body (Handle at label [] handler NoHa
 abbrev pub while_loop : ℕ → Expression → Expression → Expression
 while_loop at condition body =
     catch_one at Done
-        (catch_one at Again (exit_to at Again)
-            (Seq at (More (turn at condition body) (More (exit_to at Again) NoMore))))
-        (Nothing at)
+    (catch_one at Again (exit_to at Again)
+    (Seq at (More (turn at condition body) (More (exit_to at Again) NoMore))))
+    (Nothing at)

@@ -75,7 +75,6 @@ pub data Rule : Sort → Type 0 where
   Repeat : (s : Sort) → (Value s → Bool) → Rule s → Rule (Listed s)
 
 infixl 10 ◌>>=◌ ◌>>◌
-
 abbrev pub ◌>>=◌ : {s t : Sort} → Rule s → (Value s → Rule t) → Rule t
 ◌>>=◌ {s} {t} r k = Then s t r k
 

@@ -1,0 +1,9 @@
+pub mod Among
+pub mod Containing
+pub mod Complete
+pub mod Sound
+pub mod FirstSymbols
+pub mod Exact
+pub mod Views
+pub mod Leaving
+pub mod Joining

@@ -1,2 +1,9 @@
 pub mod Types
+pub mod Standing
+pub mod Symbols
+pub mod Faults
+pub mod Annotated
+pub mod Gathered
+pub mod Rows
+pub mod Lists
 pub mod Light

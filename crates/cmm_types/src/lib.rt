@@ -1,2 +1,4 @@
 //! The types and symbols of Cmm files.
 #![tactic(auto)]
+
+mod role;
