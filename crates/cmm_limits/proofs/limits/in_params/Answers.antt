@@ -1,0 +1,13 @@
+use Rattle.std.proofs.Common.{sym, ap, ◌∙◌}
+use Rattle.cmm_limits.specs.Leftmost.{noted_all}
+use Rattle.cmm_limits.specs.Limits.{too_many_at}
+use Rattle.cmm_limits.proofs.Rows.{param-some, param-none}
+use Rattle.cmm_limits.proofs.limits.in_params.Goals as goal
+
+pub returns-in-Some : goal.returns-in-Some
+returns-in-Some c =
+    c.noted.ensures
+    ∙ ap (λ o. noted_all (too_many_at o) c.args.found) (sym (param-some c.args.params.now c.in-Some.param.now (sym c.in-Some.ensures)))
+
+pub returns-in-None : goal.returns-in-None
+returns-in-None c = ap (λ o. noted_all (too_many_at o) c.args.found) (sym (param-none c.args.params.now (sym c.in-None.ensures)))
