@@ -3,27 +3,38 @@ use Rattle.std.specs.Prelude.{ℕ, List, [], ◌∷◌, ◌++◌, Option, Some}
 use Rattle.bs_words.specs.Memory.{Memory}
 use Rattle.bs_words.specs.declared.types.Comp.{Comp}
 use Rattle.bs_words.specs.declared.types.Ret.{Ret}
+use Rattle.bs_words.specs.declared.types.Ty.TheVariants as ty
+use Rattle.bs_words.specs.declared.values.Kind.TheVariants.{BadCall}
 use Rattle.bs_words.specs.declared.values.Value.{Value}
 use Rattle.cmm_tree.specs.Tree.{FunctionTree}
 use Rattle.cmm_meaning.specs.State.{Doing, Gave, Threw, Inside, Outside, Asked, World}
-use Rattle.cmm_meaning.specs.Evaluation.{Asking, Evaluation, Gives, Raises, Stops, Surroundings}
+use Rattle.cmm_meaning.specs.Evaluation.{Asking, NotProper, Evaluation, Gives, Raises, Stops, Surroundings, tested}
 use Rattle.cmm_meaning.specs.Run.{nobody, activated}
 
--- a call takes the next doing, and asks where none is left
-abbrev pub done : Asked → List Doing → World → Evaluation
-done call [] w = Stops (Asking call) w
-done call (Gave v memory ∷ doings) w =
+-- a call of a function takes the next doing, and asks where none is left; a raised value fits val, as each
+-- value that a text raises does
+abbrev pub done_inside : ℕ → Asked → List Doing → World → Evaluation
+done_inside end call [] w = Stops (Asking call) w
+done_inside end call (Gave v memory ∷ doings) w =
     Gives v nobody (record w { memory = memory; asked = w.asked ++ call ∷ []; doings = doings })
-done call (Threw v memory ∷ doings) w =
-    Raises v nobody (record w { memory = memory; asked = w.asked ++ call ∷ []; doings = doings })
+done_inside end call (Threw v memory ∷ doings) w =
+    let after : World = record w { memory = memory; asked = w.asked ++ call ∷ []; doings = doings } in
+    tested end ty.Val v after (Raises v nobody after)
 
-abbrev pub call_inside : ℕ → List Value → ℕ → World → Evaluation
-call_inside f arguments below w =
-    done (record { callee = Inside f; arguments = arguments; memory = w.memory; below = below }) w.doings w
+-- so does an external call, which answers and leaves the memory as it was; none raises
+abbrev pub done_outside : Asked → List Doing → World → Evaluation
+done_outside call [] w = Stops (Asking call) w
+done_outside call (Gave v memory ∷ doings) w =
+    Gives v nobody (record w { asked = w.asked ++ call ∷ []; doings = doings })
+done_outside call (Threw v memory ∷ doings) w = Stops (NotProper BadCall) w
+
+abbrev pub call_inside : ℕ → ℕ → List Value → ℕ → World → Evaluation
+call_inside end f arguments below w =
+    done_inside end (record { callee = Inside f; arguments = arguments; memory = w.memory; below = below }) w.doings w
 
 abbrev pub call_outside : List ℕ → Ret → List Value → World → Evaluation
 call_outside name result arguments w =
-    done (record { callee = Outside name; arguments = arguments; memory = w.memory; below = 0 }) w.doings w
+    done_outside (record { callee = Outside name; arguments = arguments; memory = w.memory; below = 0 }) w.doings w
 
 -- the world in which a function is evaluated alone, from this memory, with n units
 abbrev pub lone_world : Memory → List Doing → ℕ → World
@@ -34,5 +45,5 @@ lone_world memory doings n =
 -- parameters of the file's functions are given, and so is what the calls do, first to last
 abbrev pub alone : ℕ → (List ℕ → Option Value) → List (List Comp) → ℕ → FunctionTree → List Value → Memory → List Doing → ℕ → Evaluation
 alone end symbol parameters frame f arguments memory doings n =
-    let s : Surroundings = record { end = end; symbol = symbol; parameters = parameters; call = call_inside; external = call_outside } in
+    let s : Surroundings = record { end = end; symbol = symbol; parameters = parameters; call = call_inside end; external = call_outside } in
     activated s frame (Some f) arguments 0 (lone_world memory doings n)
