@@ -9,7 +9,7 @@ pub record Extends {A : Type 0} (whole rest : List A) : Type 0 where
   pub front : List A
   pub is : whole ≡ front ++ rest
 
-drop_front : {A : Type 0} (front rest : List A) → drop (length front) (front ++ rest) ≡ rest
+pub drop_front : {A : Type 0} (front rest : List A) → drop (length front) (front ++ rest) ≡ rest
 drop_front [] rest = refl
 drop_front (x ∷ front) rest = drop_front front rest
 

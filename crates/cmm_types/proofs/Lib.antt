@@ -7,3 +7,13 @@ pub mod Exact
 pub mod Views
 pub mod Leaving
 pub mod Joining
+pub mod Loops
+pub mod Turns
+pub mod Stacks
+pub mod Appending
+pub mod Lookups
+pub mod Meanings
+pub mod Arms
+pub mod ItemTurns
+pub mod Whole
+pub mod Told

@@ -4,6 +4,13 @@ pub mod Symbols
 pub mod Faults
 pub mod Annotated
 pub mod Gathered
+pub mod Scopes
+pub mod Entries
 pub mod Rows
 pub mod Lists
+pub mod VisibleLabels
+pub mod SymbolEntries
+pub mod Definitions
+pub mod Groups
+pub mod Typing
 pub mod Light

@@ -3,5 +3,15 @@ mod Ways
 mod Runs
 mod Forms
 mod Firsts
-pub mod Simulation
-pub mod Told
+mod Simulation
+pub mod Arena
+pub mod Pushed
+pub mod Names
+pub mod Parts
+pub mod Operations
+pub mod Catches
+pub mod Shapes
+pub mod Leavings
+pub mod Nodes
+pub mod Agreeing
+pub mod Least

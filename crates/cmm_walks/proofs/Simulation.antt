@@ -1,33 +1,15 @@
 -- Walks of a function, and ways over a table of nodes of which each stands for what is left to do.
 use Rattle.std.proofs.Common.{◌≡◌, ℕ, Bool, true, List, [], ◌∷◌, ◌++◌, sym, ap, refl, subst, append_assoc}
-use Rattle.std.specs.Prelude.{Some}
 use Rattle.std.specs.List.{Contains}
-use Rattle.cmm_tree.specs.Tree.{LabelTree, Expression, Bindings, Handlers, FunctionTree}
+use Rattle.cmm_tree.specs.Tree.{FunctionTree}
 use Rattle.cmm_walks.specs.Walks.{Event, Binds, Uses, Passes, Slotted, Task, Does, Evaluates, Enters, OneOf, MayRaise, Raises, Exits, Catches, Handles, tasks_of, entering, behind_raise, behind_exit, Walk, stops, walk_tasks}
 use Rattle.cmm_walks.specs.Walks as walk
+use Rattle.cmm_walks.specs.Steps.{Next, does, evaluates, enters, one_of, goes_on, may_raise, raises, exits, leaves_catch, leaves_try}
 use Rattle.cmm_walks.specs.AddrLive.{IsLiveIn}
 use Rattle.cmm_walks.specs.Table.{shown, step_at, next_at, Trail, here, goes, LeadsToUse, LeadsToPoint, LeadsToBinding}
 use Rattle.cmm_walks.specs.declared.node.Step.{Step}
 use Rattle.cmm_walks.specs.declared.node.Step.TheVariants as step
 use Rattle.cmm_walks.specs.declared.node.Node as node
-
--- One step of a walk, with its event, if it has one.
-pub data Next : List Task → List Event → List Task → Type 0 where
-  does : (event : Event) (tasks : List Task) → Next (Does event ∷ tasks) (event ∷ []) tasks
-  evaluates : (scope : List Slotted) (slot : ℕ) (e : Expression) (tasks : List Task)
-      → Next (Evaluates scope slot e ∷ tasks) [] (tasks_of scope slot e ++ tasks)
-  enters : (scope : List Slotted) (slot : ℕ) (bindings : Bindings) (body : Expression) (tasks : List Task)
-      → Next (Enters scope slot bindings body ∷ tasks) [] (entering scope slot bindings body ++ tasks)
-  one_of : (scope : List Slotted) (slot : ℕ) (es : List Expression) (e : Expression) (tasks : List Task)
-      → Contains es e → Next (OneOf scope slot es ∷ tasks) [] (Evaluates scope slot e ∷ tasks)
-  goes_on : (tasks : List Task) → Next (MayRaise ∷ tasks) [] tasks
-  may_raise : (tasks : List Task) → Next (MayRaise ∷ tasks) [] (Raises ∷ tasks)
-  raises : (tasks handler : List Task) → behind_raise tasks ≡ Some handler → Next (Raises ∷ tasks) [] handler
-  exits : (label : LabelTree) (tasks handler : List Task) → behind_exit label tasks ≡ Some handler → Next (Exits label ∷ tasks) [] handler
-  leaves_catch : (scope : List Slotted) (slot : ℕ) (in_handler : Bool) (handlers : Handlers) (tasks : List Task)
-      → Next (Catches scope slot in_handler handlers ∷ tasks) [] tasks
-  leaves_try : (scope : List Slotted) (slot name_at : ℕ) (name : List ℕ) (handler : Expression) (tasks : List Task)
-      → Next (Handles scope slot name_at name handler ∷ tasks) [] tasks
 
 -- a step before a walk
 before_walk : (tasks tasks' : List Task) (es events : List Event) → Next tasks es tasks' → Walk tasks' events → Walk tasks (es ++ events)

@@ -3,3 +3,11 @@ pub mod AddrLive
 pub mod Table
 pub mod Live
 pub mod First
+pub mod Cells
+pub mod Steps
+pub mod Sound
+pub mod Found
+pub mod Leaving
+pub mod Refusal
+pub mod Made
+pub mod Checked

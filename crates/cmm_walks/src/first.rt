@@ -1,7 +1,7 @@
 //! The first address that is live at a frame point.
-ghost use Rattle.std.specs.Prelude.{◌≡◌, ◌<◌, ◌≤◌, ℕ, ◌↔◌, length, true, IsTrue, IfOk, MatchOption};
+ghost use Rattle.std.specs.Prelude.{◌≡◌, ◌<◌, ◌≤◌, ℕ, IfOk, MatchOption};
 ghost use Rattle.std.specs.List.{All, list_any};
-ghost use Rattle.cmm_walks.specs.Table.{slot_below, IsLinked, AreLinked, AreNodes, IsWithin, LeadsToBinding};
+ghost use Rattle.cmm_walks.specs.Table.{slot_below, AreLinked, AreNodes, IsWithin, LeadsToBinding};
 ghost use Rattle.cmm_walks.specs.First.{with_part, place_within, binds_address, IsLeast, IsFirst};
 
 use crate::decide::{Limits, is_live_within};
@@ -179,34 +179,6 @@ fn least_of_all(
     let of_point = with_part(of_use, Part::Point, point);
     let binding = least(alloc, nodes, entry, bound, of_point, Part::Bound, greatest)?;
     Ok(with_part(of_point, Part::Bound, binding))
-}
-
-/// Whether every number is below the bound.
-fn all_below(numbers: &[u32], bound: usize) -> bool
-    ensures { IsTrue result ↔ All (λ q. q < bound) numbers.now }
-{
-    numbers.iter().all(|q| (*q as usize) < bound)
-}
-
-/// Whether the nodes behind the node exist.
-fn is_linked(node: &Node, count: usize) -> bool
-    ensures { IsTrue result ↔ IsLinked count node.now }
-{
-    all_below(node.next.as_slice(), count)
-}
-
-/// Whether every node that is named exists.
-pub fn are_linked(nodes: &[Node]) -> bool
-    ensures { IsTrue result ↔ AreLinked nodes.now }
-{
-    let count = nodes.len();
-    for node in nodes {
-        let fits = is_linked(node, count);
-        if !fits {
-            return false;
-        }
-    }
-    true
 }
 
 /// The least use, then the least frame point, then the least binding of an address that is live there, or

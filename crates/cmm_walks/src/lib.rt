@@ -1,14 +1,23 @@
 //! Addresses at frame points.
 //!
-//! A walk of a function binds, uses and passes frame points (`specs/Walks.antt`). Where a table of nodes
-//! agrees with the walks, `first_live` tells the address that is told of them (`proofs/Told.antt`). The
-//! table of a function is not made yet.
+//! A walk of a function binds, uses and passes frame points (`specs/Walks.antt`): what is left to do at
+//! each point is a list of tasks. The table of a function has a node for each such list, as cells that
+//! share what they have in common; it agrees with the walks (`proofs/Agreeing.antt`), and so the first
+//! address that is live in the table is the first that is live on a walk. `check_addresses` tells it.
 #![tactic(auto)]
 
+mod check;
+mod checked;
 mod decide;
+mod expressions;
 mod first;
+mod items;
+mod leaving;
 mod node;
+mod numbers;
+mod scopes;
+mod steps;
+mod table;
+mod tasks;
 
-pub use decide::Limits;
-pub use first::{are_linked, first_live};
-pub use node::{Node, Step};
+pub use checked::{Checked, check_addresses};

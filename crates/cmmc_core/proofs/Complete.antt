@@ -1,8 +1,14 @@
 -- Where no count rose, good input has its output, and bad input its line, but for want of memory.
-use Rattle.std.proofs.Common.{◌≡◌, ◌⊎◌, ℕ, ◌+◌, ◌≤◌, List, Option, Some, None, length, refl, sym, ap, ◌∙◌, subst, inl, inr, arith}
+use Rattle.std.proofs.Common.{◌≡◌, ◌⊎◌, ℕ, ◌+◌, ◌<◌, ◌≤◌, true, false, All, List, [], ◌∷◌, Option, Some, None, length, refl, sym, ap, ◌∙◌, subst, inl, inr, arith}
 use Rattle.bs_fault.specs.declared.large.Large.{Large}
-use Rattle.small_tree.specs.Tree.{FileTree}
-use Rattle.small_tree.specs.Small.{SmallText, longest_text}
+use Rattle.bs_fault.specs.declared.fault.Fault.{Fault}
+use Rattle.cmm_front.proofs.OneFile.{one_file, file_or_fault}
+use Rattle.cmm_front.proofs.Readings.{is_read}
+use Rattle.cmm_front.specs.FileOf.{IsFileOf, HasFault}
+use Rattle.cmm_reader.specs.Text.{longest}
+use Rattle.cmm_lex.proofs.Languages.{AreBytes}
+use Rattle.cmm_tree.specs.Built.{not_built}
+use Rattle.cmm_tree.specs.Tree.{FileTree}
 use Rattle.command_line.proofs.Unique.{command-unique, command-formed}
 use Rattle.command_line.specs.Command.{IsCommand, CommandTree, CompileCommand, RunCommand, RunTree}
 use Rattle.command_line.specs.Words.{WellFormed}
@@ -10,25 +16,32 @@ use Rattle.correctness.specs.Bounds.{IsRoomy}
 use Rattle.image_form.specs.Tables.{Tables, Func}
 use Rattle.rv_machine.specs.Loading.{func_named, words_of_args}
 use Rattle.small_code.specs.Compiled.{compiled}
-use Rattle.small_front.specs.Converted.{converted, whole_of}
 use Rattle.small_code.specs.TooLarge.{first_too_large}
-use Rattle.small_reader.specs.Parsing.{IsTreeOf}
-use Rattle.cmmc_core.specs.Compile.{IsNoText}
+use Rattle.small_code.specs.Tree.{SmallFileTree, embedded_file}
+use Rattle.text_compile.proofs.Embedded.{one_small}
+use Rattle.text_compile.specs.Compile.{IsSmallFileOf, IsImageOf, IsNotBuilt, IsTooLarge}
+use Rattle.cmmc_core.specs.Compile.{Reads}
 use Rattle.cmmc_core.specs.Complete.{NoneRose, Is, CompileComplete, RunComplete, Complete}
 use Rattle.cmmc_core.specs.Effects.{Effects, Side, Rose, IsRead}
-use Rattle.cmmc_core.specs.Ends.{Output, spelling, outcome, Cause, no_command, no_value, read_fault, no_text, too_large, no_image, no_entry, unfit, no_memory, Ends, written, refused, out_fault, err_fault}
+use Rattle.cmmc_core.specs.Ends as ends
+use Rattle.cmmc_core.specs.Ends.{Output, spelling, outcome, Cause, no_command, no_value, read_fault, fault, too_large, no_image, no_entry, unfit, no_memory, Ends, written, refused, out_fault, err_fault}
 use Rattle.cmmc_core.specs.Run.{IsSpelling, ReadsImage, words_of_answers, longest_image}
+use Rattle.cmmc_core.proofs.Bytes.{bytes_of}
 use Rattle.cmmc_core.proofs.Reading.{all, too_long, IsRead-known}
 use Rattle.cmmc_core.proofs.Spelled.{one_image, spelling_short}
 
-abbrev Fits : FileTree → Type 0
-Fits file = first_too_large (compiled (converted file)) ≡ None
+abbrev Fits : SmallFileTree → Type 0
+Fits file = first_too_large (compiled file) ≡ None
 
-abbrev Passes : Large → FileTree → Type 0
-Passes large file = first_too_large (compiled (converted file)) ≡ Some large
+abbrev Passes : Large → SmallFileTree → Type 0
+Passes large file = first_too_large (compiled file) ≡ Some large
 
 some_none : {A : Type 0} (o : Option A) (x : A) → o ≡ Some x → o ≡ None → ⊥
 some_none o x s n = let e : Some x ≡ None = sym s ∙ n in cc
+
+-- a file is compiled or not
+apart : (a b : FileTree) → a ≡ b → not_built b ≡ true → not_built a ≡ false → ⊥
+apart a b same unbuilt built = let e : true ≡ false = sym unbuilt ∙ sym (ap not_built same) ∙ built in cc
 
 -- How a call ends where no count rose: with its output, or with a cause.
 pub data Told (words : List (List ℕ)) (source : Side) (status : ℕ) : Type 0 where
@@ -66,7 +79,8 @@ module _ (words : List (List ℕ)) (source : Side) where
   no_command_end status (cause line (no_command n k)) not = inl refl
   no_command_end status (cause line (no_value w n k)) not = absurd (not w)
   no_command_end status (cause line (read_fault c is r)) not = absurd (not (command-formed words c is))
-  no_command_end status (cause line (no_text is r)) not = absurd (not (command-formed words CompileCommand is))
+  no_command_end status (cause line (fault f is r)) not = absurd (not (command-formed words CompileCommand is))
+  no_command_end status (cause line (ends.not_built is r)) not = absurd (not (command-formed words CompileCommand is))
   no_command_end status (cause line (too_large l is r)) not = absurd (not (command-formed words CompileCommand is))
   no_command_end status (cause line (no_image ran w is r)) not = absurd (not (command-formed words (RunCommand ran) is))
   no_command_end status (cause line (no_entry ran is r)) not = absurd (not (command-formed words (RunCommand ran) is))
@@ -79,7 +93,8 @@ module _ (words : List (List ℕ)) (source : Side) where
   no_value_end status (cause line (no_command n k)) not = inl refl
   no_value_end status (cause line (no_value w n k)) not = inl refl
   no_value_end status (cause line (read_fault c is r)) not = absurd (not c is)
-  no_value_end status (cause line (no_text is r)) not = absurd (not CompileCommand is)
+  no_value_end status (cause line (fault f is r)) not = absurd (not CompileCommand is)
+  no_value_end status (cause line (ends.not_built is r)) not = absurd (not CompileCommand is)
   no_value_end status (cause line (too_large l is r)) not = absurd (not CompileCommand is)
   no_value_end status (cause line (no_image ran w is r)) not = absurd (not (RunCommand ran) is)
   no_value_end status (cause line (no_entry ran is r)) not = absurd (not (RunCommand ran) is)
@@ -89,77 +104,128 @@ module _ (words : List (List ℕ)) (source : Side) where
   -- ---- compile
 
   module _ (text : List ℕ) (known : source.before ≡ Some text) (is : IsCommand words CompileCommand) (calm : Rose source → ⊥) where
-    small_read : (read : List ℕ) (file : FileTree) → IsRead longest_text source read → SmallText text file → SmallText read file
-    small_read read file r small = of_read longest_text text known (λ t. SmallText t file) read r (λ long. absurd (omega (arith, small.short))) small
+    -- of a text with a file: what was read is the text
+    of_file : (P : List ℕ → Type 0) (file : FileTree) → IsFileOf text file → Reads P source → AreBytes text × P text
+    of_file P file f r =
+        let short = (is_read text file f.read).short in
+        elim (IsRead-known longest source text r.text known r.read) [ all same ↦ (subst AreBytes (sym same) (bytes_of r.text r.are_bytes), subst P (sym same) r.holds) | too_long long cut ↦ absurd (omega (arith, long, short)) ]
 
-    small_before : (read : List ℕ) (file : FileTree) → IsRead longest_text source read → SmallText read file → SmallText text file
-    small_before read file r small = before_read longest_text text known (λ t. SmallText t file) read r (λ long. absurd (omega (arith, small.short))) small
+    -- and where what was read has a file, it is the text
+    of_read_file : (P : List ℕ → Type 0) (r : Reads P source) (file : FileTree) → IsFileOf r.text file → AreBytes text × IsFileOf text file
+    of_read_file P r file f =
+        let short = (is_read r.text file f.read).short in
+        let same_text : List ℕ → Type 0 = λ t. IsFileOf t file in
+        elim (IsRead-known longest source text r.text known r.read) [ all same ↦ (subst AreBytes (sym same) (bytes_of r.text r.are_bytes), subst same_text (sym same) f) | too_long long cut ↦ absurd (omega (arith, cut, short)) ]
+
+    -- a text with a file has no fault
+    no_fault : (file : FileTree) (told : Fault) → IsFileOf text file → Reads (λ t. HasFault t told) source → ⊥
+    no_fault file f has r =
+        let h = of_file (λ t. HasFault t f) file has r in
+        file_or_fault text file f h.0 has h.1
+
+    no_file : (P : List ℕ → Type 0) (f : Fault) → HasFault text f → (r : Reads P source) (file : FileTree) → IsFileOf r.text file → ⊥
+    no_file P f has r file h =
+        let k = of_read_file P r file h in
+        file_or_fault text file f k.0 k.1 has
+
+    -- a small file is compiled
+    is_built : (file : SmallFileTree) → IsSmallFileOf text file → Reads IsNotBuilt source → ⊥
+    is_built file has r =
+        let h = of_file IsNotBuilt (embedded_file file) has.is_file r in
+        apart _ _ (one_file text (embedded_file file) h.1.file h.0 has.is_file h.1.is_file) h.1.not_built has.built
+
+    not_small : (file : FileTree) (small : SmallFileTree) → AreBytes text → IsFileOf text file → not_built file ≡ true → IsSmallFileOf text small → ⊥
+    not_small file small are has unbuilt h = apart _ _ (one_file text (embedded_file small) file are h.is_file has) unbuilt h.built
 
     -- the file of what was read is that of the text
-    same_file : (P : FileTree → Type 0) (file : FileTree) → SmallText text file → (read : List ℕ) (of_read : FileTree) → IsRead longest_text source read → IsTreeOf read of_read → P file → P of_read
-    same_file P file small read of_read r tree p = subst P (tree.only file (small_read read file r small)) p
+    same_file : (P : SmallFileTree → Type 0) (file other : SmallFileTree) → AreBytes text → IsSmallFileOf text file → IsSmallFileOf text other → P file → P other
+    same_file P file other are h g p = subst P (one_small file other (one_file text (embedded_file file) (embedded_file other) are h.is_file g.is_file)) p
 
-    fits_end : (status : ℕ) → Told words source status → (file : FileTree) → SmallText text file → Fits file → Is 0 status
+    fault_end : (status : ℕ) → Told words source status → (told : Fault) → HasFault text told → Is 3 status
+    fault_end status (output bytes z (spelling image i c)) f has = absurd (no_file _ f has c _ c.holds.is_file.is_file)
+    fault_end status (output bytes z (outcome ran text i o)) f has = absurd (compile_is_no_run ran is i)
+    fault_end status (cause line (no_command n k)) f has = absurd (n (command-formed words CompileCommand is))
+    fault_end status (cause line (no_value w n k)) f has = absurd (n CompileCommand is)
+    fault_end status (cause line (read_fault c i r)) f has = absurd (calm r)
+    fault_end status (cause line (fault g i r)) f has = inl refl
+    fault_end status (cause line (ends.not_built i r)) f has = inl refl
+    fault_end status (cause line (too_large l i r)) f has = absurd (no_file _ f has r _ r.holds.is_file.is_file)
+    fault_end status (cause line (no_image ran w i r)) f has = absurd (compile_is_no_run ran is i)
+    fault_end status (cause line (no_entry ran i r)) f has = absurd (compile_is_no_run ran is i)
+    fault_end status (cause line (unfit ran i r)) f has = absurd (compile_is_no_run ran is i)
+    fault_end status (cause line no_memory) f has = inr refl
+
+    unbuilt_end : (status : ℕ) → Told words source status → (file : FileTree) → IsFileOf text file → not_built file ≡ true → Is 3 status
+    unbuilt_end status (output bytes z (spelling image i c)) file has unbuilt =
+        let h = of_file (λ t. IsImageOf t image) file has c in
+        absurd (not_small file h.1.file h.0 has unbuilt h.1.is_file)
+    unbuilt_end status (output bytes z (outcome ran text i o)) file has unbuilt = absurd (compile_is_no_run ran is i)
+    unbuilt_end status (cause line (no_command n k)) file has unbuilt = absurd (n (command-formed words CompileCommand is))
+    unbuilt_end status (cause line (no_value w n k)) file has unbuilt = absurd (n CompileCommand is)
+    unbuilt_end status (cause line (read_fault c i r)) file has unbuilt = absurd (calm r)
+    unbuilt_end status (cause line (fault g i r)) file has unbuilt = inl refl
+    unbuilt_end status (cause line (ends.not_built i r)) file has unbuilt = inl refl
+    unbuilt_end status (cause line (too_large l i r)) file has unbuilt =
+        let h = of_file (λ t. IsTooLarge t l) file has r in
+        absurd (not_small file h.1.file h.0 has unbuilt h.1.is_file)
+    unbuilt_end status (cause line (no_image ran w i r)) file has unbuilt = absurd (compile_is_no_run ran is i)
+    unbuilt_end status (cause line (no_entry ran i r)) file has unbuilt = absurd (compile_is_no_run ran is i)
+    unbuilt_end status (cause line (unfit ran i r)) file has unbuilt = absurd (compile_is_no_run ran is i)
+    unbuilt_end status (cause line no_memory) file has unbuilt = inr refl
+
+    fits_end : (status : ℕ) → Told words source status → (file : SmallFileTree) → IsSmallFileOf text file → Fits file → Is 0 status
     fits_end status (output bytes z o) file small fits = inl z
     fits_end status (cause line (no_command n k)) file small fits = absurd (n (command-formed words CompileCommand is))
     fits_end status (cause line (no_value w n k)) file small fits = absurd (n CompileCommand is)
     fits_end status (cause line (read_fault c i r)) file small fits = absurd (calm r)
-    fits_end status (cause line (no_text i r)) file small fits = absurd (r.no_text file (small_read r.text file r.read small))
+    fits_end status (cause line (fault g i r)) file small fits = absurd (no_fault (embedded_file file) g small.is_file r)
+    fits_end status (cause line (ends.not_built i r)) file small fits = absurd (is_built file small r)
     fits_end status (cause line (too_large l i r)) file small fits =
-        absurd (some_none _ l r.too_large.passes (same_file Fits file small r.text r.too_large.file r.read r.too_large.is_file fits))
+        let h = of_file (λ t. IsTooLarge t l) (embedded_file file) small.is_file r in
+        absurd (some_none _ l h.1.passes (same_file Fits file h.1.file h.0 small h.1.is_file fits))
     fits_end status (cause line (no_image ran w i r)) file small fits = absurd (compile_is_no_run ran is i)
     fits_end status (cause line (no_entry ran i r)) file small fits = absurd (compile_is_no_run ran is i)
     fits_end status (cause line (unfit ran i r)) file small fits = absurd (compile_is_no_run ran is i)
     fits_end status (cause line no_memory) file small fits = inr refl
 
-    roomy_end : (status : ℕ) → Told words source status → (file : FileTree) → SmallText text file → IsRoomy (whole_of file) → Is 0 status
+    roomy_end : (status : ℕ) → Told words source status → (file : SmallFileTree) → IsSmallFileOf text file → IsRoomy (embedded_file file) → Is 0 status
     roomy_end status (output bytes z o) file small roomy = inl z
     roomy_end status (cause line (no_command n k)) file small roomy = absurd (n (command-formed words CompileCommand is))
     roomy_end status (cause line (no_value w n k)) file small roomy = absurd (n CompileCommand is)
     roomy_end status (cause line (read_fault c i r)) file small roomy = absurd (calm r)
-    roomy_end status (cause line (no_text i r)) file small roomy = absurd (r.no_text file (small_read r.text file r.read small))
+    roomy_end status (cause line (fault g i r)) file small roomy = absurd (no_fault (embedded_file file) g small.is_file r)
+    roomy_end status (cause line (ends.not_built i r)) file small roomy = absurd (is_built file small r)
     roomy_end status (cause line (too_large l i r)) file small roomy =
-        absurd (r.too_large.not_roomy (same_file (λ f. IsRoomy (whole_of f)) file small r.text r.too_large.file r.read r.too_large.is_file roomy))
+        let h = of_file (λ t. IsTooLarge t l) (embedded_file file) small.is_file r in
+        absurd (h.1.not_roomy (same_file (λ f. IsRoomy (embedded_file f)) file h.1.file h.0 small h.1.is_file roomy))
     roomy_end status (cause line (no_image ran w i r)) file small roomy = absurd (compile_is_no_run ran is i)
     roomy_end status (cause line (no_entry ran i r)) file small roomy = absurd (compile_is_no_run ran is i)
     roomy_end status (cause line (unfit ran i r)) file small roomy = absurd (compile_is_no_run ran is i)
     roomy_end status (cause line no_memory) file small roomy = inr refl
 
-    large_end : (status : ℕ) → Told words source status → (file : FileTree) (large : Large) → SmallText text file → Passes large file → Is 8 status
+    large_end : (status : ℕ) → Told words source status → (file : SmallFileTree) (large : Large) → IsSmallFileOf text file → Passes large file → Is 8 status
     large_end status (output bytes z (spelling image i c)) file large small passes =
-        absurd (some_none _ large (same_file (Passes large) file small c.text c.is_image.file c.read c.is_image.is_file passes) c.is_image.fits)
+        let h = of_file (λ t. IsImageOf t image) (embedded_file file) small.is_file c in
+        absurd (some_none _ large (same_file (Passes large) file h.1.file h.0 small h.1.is_file passes) h.1.fits)
     large_end status (output bytes z (outcome ran text i o)) file large small passes = absurd (compile_is_no_run ran is i)
     large_end status (cause line (no_command n k)) file large small passes = absurd (n (command-formed words CompileCommand is))
     large_end status (cause line (no_value w n k)) file large small passes = absurd (n CompileCommand is)
     large_end status (cause line (read_fault c i r)) file large small passes = absurd (calm r)
-    large_end status (cause line (no_text i r)) file large small passes = absurd (r.no_text file (small_read r.text file r.read small))
+    large_end status (cause line (fault g i r)) file large small passes = absurd (no_fault (embedded_file file) g small.is_file r)
+    large_end status (cause line (ends.not_built i r)) file large small passes = absurd (is_built file small r)
     large_end status (cause line (too_large l i r)) file large small passes = inl refl
     large_end status (cause line (no_image ran w i r)) file large small passes = absurd (compile_is_no_run ran is i)
     large_end status (cause line (no_entry ran i r)) file large small passes = absurd (compile_is_no_run ran is i)
     large_end status (cause line (unfit ran i r)) file large small passes = absurd (compile_is_no_run ran is i)
     large_end status (cause line no_memory) file large small passes = inr refl
 
-    other_end : (status : ℕ) → Told words source status → IsNoText text → Is 3 status
-    other_end status (output bytes z (spelling image i c)) none =
-        absurd (none c.is_image.file (small_before c.text c.is_image.file c.read c.is_image.is_file.small))
-    other_end status (output bytes z (outcome ran text i o)) none = absurd (compile_is_no_run ran is i)
-    other_end status (cause line (no_command n k)) none = absurd (n (command-formed words CompileCommand is))
-    other_end status (cause line (no_value w n k)) none = absurd (n CompileCommand is)
-    other_end status (cause line (read_fault c i r)) none = absurd (calm r)
-    other_end status (cause line (no_text i r)) none = inl refl
-    other_end status (cause line (too_large l i r)) none =
-        absurd (none r.too_large.file (small_before r.text r.too_large.file r.read r.too_large.is_file.small))
-    other_end status (cause line (no_image ran w i r)) none = absurd (compile_is_no_run ran is i)
-    other_end status (cause line (no_entry ran i r)) none = absurd (compile_is_no_run ran is i)
-    other_end status (cause line (unfit ran i r)) none = absurd (compile_is_no_run ran is i)
-    other_end status (cause line no_memory) none = inr refl
-
 pub compile-complete : (words : List (List ℕ)) (source : Side) (text : List ℕ) (status : ℕ) → source.before ≡ Some text → IsCommand words CompileCommand → (Rose source → ⊥) → Told words source status → CompileComplete text status
 compile-complete words source text status known is calm t = record {
+  fault = λ f has. fault_end words source text known is calm status t f has;
+  not_built = λ file has unbuilt. unbuilt_end words source text known is calm status t file has unbuilt;
   fits = λ file small fits. fits_end words source text known is calm status t file small fits;
   roomy = λ file small roomy. roomy_end words source text known is calm status t file small roomy;
   too_large = λ file large small passes. large_end words source text known is calm status t file large small passes;
-  no_text = λ none. other_end words source text known is calm status t none;
 }
 
 -- ---- run
@@ -198,7 +264,8 @@ module _ (words : List (List ℕ)) (source : Side) (bytes : List ℕ) (known : s
   run_told status (cause line (no_command n k)) = absurd (n (command-formed words (RunCommand ran) is))
   run_told status (cause line (no_value w n k)) = absurd (n (RunCommand ran) is)
   run_told status (cause line (read_fault c i r)) = absurd (calm r)
-  run_told status (cause line (no_text i r)) = absurd (compile_is_no_run words source ran i is)
+  run_told status (cause line (fault f i r)) = absurd (compile_is_no_run words source ran i is)
+  run_told status (cause line (ends.not_built i r)) = absurd (compile_is_no_run words source ran i is)
   run_told status (cause line (too_large l i r)) = absurd (compile_is_no_run words source ran i is)
   run_told status (cause line (no_image other w i r)) = not_image refl (λ image s. r.no_image.none image (spelling_read r.bytes image r.read s))
   run_told status (cause line (no_entry other i r)) =

@@ -1,5 +1,5 @@
 -- How the parts of the top call put its end together.
-use Rattle.std.proofs.Common.{ℕ, ◌≤◌, List, length, take, drop, Option, Some, None, Result, Ok, Err, refl, sym, subst, inl, inr, arith, length-drop}
+use Rattle.std.proofs.Common.{ℕ, ◌≤◌, ◌<◌, All, List, length, take, drop, Option, Some, None, Result, Ok, Err, refl, sym, subst, inl, inr, arith, length-drop}
 use Rattle.std.specs.Io.KnownBytes.{Keeps, Consumes, IsAtEnd}
 use Rattle.std.specs.Prelude.{IfOk, OnOk, IfErr}
 use Rattle.std.proofs.lemmas.List.{take-append-drop}
@@ -7,15 +7,19 @@ use Rattle.bs_io.specs.Faults.{Risen}
 use Rattle.bs_io.specs.Whole.{AppendsPart}
 use Rattle.bs_words.specs.Contents.{contents}
 use Rattle.bs_words.specs.declared.list.List as code
-use Rattle.small_tree.specs.Small.{longest_text}
 use Rattle.command_line.specs.Command.{IsCommand, CompileCommand, RunCommand, RunTree}
 use Rattle.image_form.specs.Tables.{Tables}
+use Rattle.cmm_reader.specs.Text.{longest}
 use Rattle.cmmc_core.specs.Effects.{Side, Effects, IsKept, Got, GotPart, Tells, IsRead}
-use Rattle.cmmc_core.specs.Ends.{Output, spelling, outcome, Cause, no_memory, Ends, written, refused, out_fault, err_fault}
-use Rattle.cmmc_core.specs.Refusal.{SpellsImageOf, SpellsImageRead, IsRefusalOf, IsRefusalFrom, IsTextOf, WritesRun, IsRunRefusal, WritesOutcome, CutsOutcome, IsRunRefusalFrom, TellsOr}
+use Rattle.cmmc_core.specs.Ends.{Output, spelling, outcome, Cause, fault, not_built, too_large, no_memory, Ends, written, refused, out_fault, err_fault}
+use Rattle.cmmc_core.specs.Compile.{Reads}
+use Rattle.cmmc_core.specs.Refusal.{IsRefusalRead, IsRefusalFrom, TellsRefusal, IsTextOf, WritesRun, IsRunRefusal, WritesOutcome, CutsOutcome, IsRunRefusalFrom, TellsOr}
 use Rattle.cmmc_core.specs.Run.{ReadsImage, IsOutcomeOf}
+use Rattle.text_compile.specs.Refusal.{SpellsImageOf, IsRefusalOf}
+use Rattle.text_compile.specs.declared.compile.Refusal as text
+use Rattle.text_compile.specs.declared.compile.Refusal.TheVariants.{Fault, NotBuilt, TooLarge, OutOfMemory}
 use Rattle.cmmc_core.specs.declared.compile.Refusal.{Refusal}
-use Rattle.cmmc_core.specs.declared.compile.Refusal.TheVariants.{ReadFault, NotBuilt, TooLarge, OutOfMemory}
+use Rattle.cmmc_core.specs.declared.compile.Refusal.TheVariants.{ReadFault, Text}
 use Rattle.cmmc_core.specs.declared.run.RunRefusal.{RunRefusal}
 use Rattle.cmmc_core.specs.declared.run.RunRefusal.TheVariants as refusal
 
@@ -62,31 +66,35 @@ pub IsRead-whole : (limit : ℕ) (s : Side) (text : List ℕ) → Consumes s.bef
 IsRead-whole limit s text taken end short = record { taken = taken; whole = inl (short, end) }
 
 -- what is written is the spelling of an image of the text that was read
-spells : (words : List (List ℕ)) (s : Side) (bytes : List ℕ) → IsCommand words CompileCommand → SpellsImageRead s bytes → Output words s bytes
+spells : (words : List (List ℕ)) (s : Side) (bytes : List ℕ) → IsCommand words CompileCommand → Reads (λ text. SpellsImageOf text bytes) s → Output words s bytes
 spells words s bytes is r =
-    subst (Output words s) (sym r.spells.spelled)
-    (spelling r.spells.image is (record { text = r.text; read = r.read; is_image = r.spells.is_image }))
+    subst (Output words s) (sym r.holds.spelled)
+    (spelling r.holds.image is (record { text = r.text; are_bytes = r.are_bytes; read = r.read; holds = r.holds.is_image }))
 
-pub Ends-written : (words : List (List ℕ)) (e : Effects) (bytes : List ℕ) → IsCommand words CompileCommand → SpellsImageRead e.source bytes → Got e.out bytes → IsKept e.err → Ends words e 0
+pub Ends-written : (words : List (List ℕ)) (e : Effects) (bytes : List ℕ) → IsCommand words CompileCommand → Reads (λ text. SpellsImageOf text bytes) e.source → Got e.out bytes → IsKept e.err → Ends words e 0
 Ends-written words e bytes is r got kept = written bytes (spells words e.source bytes is r) got kept
 
-pub Ends-cut : (words : List (List ℕ)) (e : Effects) (bytes : List ℕ) → IsCommand words CompileCommand → SpellsImageRead e.source bytes → GotPart e.out bytes → IsKept e.err → Ends words e 6
+pub Ends-cut : (words : List (List ℕ)) (e : Effects) (bytes : List ℕ) → IsCommand words CompileCommand → Reads (λ text. SpellsImageOf text bytes) e.source → GotPart e.out bytes → IsKept e.err → Ends words e 6
 Ends-cut words e bytes is r part kept = out_fault bytes (spells words e.source bytes is r) part kept
 
 -- what a text that was read is refused for
-refusal_read : (s : Side) (text : List ℕ) (r : Refusal) → IsRead longest_text s text → IsRefusalOf text r → IsRefusalFrom s r
-refusal_read s text ReadFault read why = absurd why
-refusal_read s text NotBuilt read why = record { text = text; read = read; no_text = why }
-refusal_read s text (TooLarge large) read why = record { text = text; read = read; too_large = why }
-refusal_read s text OutOfMemory read why = tt
+pub refusal_read : (s : Side) (read : List ℕ) (r : text.Refusal) → All (λ b. b < 256) read → IsRead longest s read → IsRefusalOf read r → IsRefusalRead s r
+refusal_read s read (Fault told) are r why = record { text = read; are_bytes = are; read = r; holds = why }
+refusal_read s read NotBuilt are r why = record { text = read; are_bytes = are; read = r; holds = why }
+refusal_read s read (TooLarge large) are r why = record { text = read; are_bytes = are; read = r; holds = why }
+refusal_read s read OutOfMemory are r why = tt
 
-pub IfErr-read : (s : Side) (text : List ℕ) (r : Result (code.List ℕ) Refusal) → IsRead longest_text s text → IfErr r (λ w. IsRefusalOf text w) → IfErr r (λ w. IsRefusalFrom s w)
-IfErr-read s text (Ok bytes) read why = why
-IfErr-read s text (Err w) read why = refusal_read s text w read why
-
-pub IfOk-read : (s : Side) (text : List ℕ) (r : Result (code.List ℕ) Refusal) → IsRead longest_text s text → IfOk r (λ b. SpellsImageOf text (contents b)) → IfOk r (λ b. SpellsImageRead s (contents b))
-IfOk-read s text (Ok bytes) read spells = record { text = text; read = read; spells = spells }
-IfOk-read s text (Err w) read spells = spells
+-- the line of a text that has no image was written, or could not be
+pub Ends-refused : (words : List (List ℕ)) (e : Effects) (r : text.Refusal) (result : ℕ)
+    → IsCommand words CompileCommand
+    → IsRefusalRead e.source r
+    → IsKept e.out
+    → TellsRefusal e.err r result
+    → Ends words e result
+Ends-refused words e (Fault told) result is why kept tells = Ends-told-or words e 3 result _ (fault told is why) kept tells
+Ends-refused words e NotBuilt result is why kept tells = Ends-told words e 3 result _ (not_built is why) kept tells
+Ends-refused words e (TooLarge large) result is why kept tells = Ends-told-or words e 8 result _ (too_large large is why) kept tells
+Ends-refused words e OutOfMemory result is why kept tells = Ends-told words e 9 result _ no_memory kept tells
 
 -- ---- run
 

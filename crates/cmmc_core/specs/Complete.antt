@@ -1,17 +1,19 @@
 -- That nothing but want of memory stands between good input and its output, where no count rose.
-use Rattle.std.specs.Prelude.{◌≡◌, ◌⊎◌, ℕ, List, Some, None}
+use Rattle.std.specs.Prelude.{◌≡◌, ◌⊎◌, ℕ, true, List, Some, None}
+use Rattle.bs_fault.specs.declared.fault.Fault.{Fault}
 use Rattle.bs_fault.specs.declared.large.Large.{Large}
-use Rattle.small_tree.specs.Tree.{FileTree}
-use Rattle.small_tree.specs.Small.{SmallText}
+use Rattle.cmm_front.specs.FileOf.{IsFileOf, HasFault}
+use Rattle.cmm_tree.specs.Built.{not_built}
+use Rattle.cmm_tree.specs.Tree.{FileTree}
 use Rattle.command_line.specs.Command.{IsCommand, CommandTree, CompileCommand, RunCommand, RunTree}
 use Rattle.command_line.specs.Words.{WellFormed}
 use Rattle.correctness.specs.Bounds.{IsRoomy}
 use Rattle.image_form.specs.Tables.{Tables, Func}
 use Rattle.rv_machine.specs.Loading.{func_named, words_of_args}
 use Rattle.small_code.specs.Compiled.{compiled}
-use Rattle.small_front.specs.Converted.{converted, whole_of}
 use Rattle.small_code.specs.TooLarge.{first_too_large}
-use Rattle.cmmc_core.specs.Compile.{IsNoText}
+use Rattle.small_code.specs.Tree.{SmallFileTree, embedded_file}
+use Rattle.text_compile.specs.Compile.{IsSmallFileOf}
 use Rattle.cmmc_core.specs.Effects.{Effects, Rose}
 use Rattle.cmmc_core.specs.Run.{IsSpelling, words_of_answers}
 
@@ -27,11 +29,12 @@ Is wanted status = (status ≡ wanted) ⊎ (status ≡ 9)
 
 -- What `compile` comes to on a text that the source tells.
 pub record CompileComplete (text : List ℕ) (status : ℕ) : Type 0 where
+  pub fault : (told : Fault) → HasFault text told → Is 3 status
+  pub not_built : (file : FileTree) → IsFileOf text file → not_built file ≡ true → Is 3 status
   -- a text whose image fits is compiled
-  pub fits : (file : FileTree) → SmallText text file → first_too_large (compiled (converted file)) ≡ None → Is 0 status
-  pub roomy : (file : FileTree) → SmallText text file → IsRoomy (whole_of file) → Is 0 status
-  pub too_large : (file : FileTree) (large : Large) → SmallText text file → first_too_large (compiled (converted file)) ≡ Some large → Is 8 status
-  pub no_text : IsNoText text → Is 3 status
+  pub fits : (file : SmallFileTree) → IsSmallFileOf text file → first_too_large (compiled file) ≡ None → Is 0 status
+  pub roomy : (file : SmallFileTree) → IsSmallFileOf text file → IsRoomy (embedded_file file) → Is 0 status
+  pub too_large : (file : SmallFileTree) (large : Large) → IsSmallFileOf text file → first_too_large (compiled file) ≡ Some large → Is 8 status
 
 -- What `run` comes to on bytes that the source tells.
 pub record RunComplete (run : RunTree) (bytes : List ℕ) (status : ℕ) : Type 0 where

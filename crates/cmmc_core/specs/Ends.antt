@@ -1,14 +1,18 @@
 -- How a call of the program ends, status by status.
 use Rattle.std.specs.Prelude.{ℕ, List}
+use Rattle.bs_fault.specs.FaultLines.{fault_line}
 use Rattle.bs_fault.specs.Lines.{usage_line, large_line, image_line}
+use Rattle.bs_fault.specs.declared.fault.Fault.{Fault}
 use Rattle.bs_fault.specs.declared.image.ImageRefusal.{ImageRefusal}
 use Rattle.bs_fault.specs.declared.large.Large.{Large}
 use Rattle.bs_fault.specs.declared.usage.Usage.TheVariants.{Words, ValueText, UnknownEntry, ArgumentUnfit}
 use Rattle.command_line.specs.Command.{IsCommand, CommandTree, CompileCommand, RunCommand, RunTree}
 use Rattle.command_line.specs.Words.{WellFormed}
+use Rattle.cmm_front.specs.FileOf.{HasFault}
 use Rattle.image_form.specs.Image.{tables_bytes}
 use Rattle.image_form.specs.Tables.{Tables}
-use Rattle.cmmc_core.specs.Compile.{CompilesTo, ReadsNoText, ReadsTooLarge}
+use Rattle.text_compile.specs.Compile.{IsImageOf, IsNotBuilt, IsTooLarge}
+use Rattle.cmmc_core.specs.Compile.{Reads}
 use Rattle.cmmc_core.specs.Effects.{Effects, Side, Rose, IsKept, Got, GotPart}
 use Rattle.cmmc_core.specs.Lines.{not_built_line, read_fault_line, no_memory_line}
 use Rattle.cmmc_core.specs.Run.{IsOutcomeOf, ReadsNoImage, NamesNoEntry, GivesUnfit}
@@ -18,7 +22,7 @@ pub data Output (words : List (List ℕ)) (source : Side) : List ℕ → Type 0 
   -- `compile`: the one spelling of an image of the text
   spelling : (image : Tables)
       → IsCommand words CompileCommand
-      → CompilesTo source image
+      → Reads (λ text. IsImageOf text image) source
       → Output words source (tables_bytes image)
   -- `run`: the outcome of the run of the image
   outcome : (run : RunTree) (text : List ℕ)
@@ -39,10 +43,14 @@ pub data Cause (words : List (List ℕ)) (source : Side) : ℕ → List ℕ → 
       → Rose source
       → Cause words source 5 read_fault_line
   -- `compile`
-  no_text : IsCommand words CompileCommand → ReadsNoText source → Cause words source 3 not_built_line
+  fault : (told : Fault)
+      → IsCommand words CompileCommand
+      → Reads (λ text. HasFault text told) source
+      → Cause words source 3 (fault_line told)
+  not_built : IsCommand words CompileCommand → Reads IsNotBuilt source → Cause words source 3 not_built_line
   too_large : (large : Large)
       → IsCommand words CompileCommand
-      → ReadsTooLarge source large
+      → Reads (λ text. IsTooLarge text large) source
       → Cause words source 8 (large_line large)
   -- `run`
   no_image : (run : RunTree) (refusal : ImageRefusal)

@@ -1,7 +1,7 @@
 -- The lines on err that have no number.
 use Rattle.std.specs.Prelude.{ℕ, List, codes}
 
--- the text is no small text, and nothing else is built
+-- the text has no fault, and what it holds is not compiled yet
 abbrev pub not_built_line : List ℕ
 not_built_line = codes "cmmc: not built\n"
 

@@ -1,48 +1,38 @@
 -- What the parts of the program answer one another.
 use Rattle.std.specs.Prelude.{◌≡◌, ◌⊎◌, ⊤, ℕ, List, Some, None}
-use Rattle.small_tree.specs.Small.{longest_text}
+use Rattle.bs_fault.specs.FaultLines.{fault_line}
+use Rattle.bs_fault.specs.Lines.{large_line}
 use Rattle.command_line.specs.Command.{RunTree}
-use Rattle.image_form.specs.Image.{tables_bytes}
 use Rattle.image_form.specs.Tables.{Tables, Func}
 use Rattle.rv_machine.specs.Loading.{func_named, words_of_args}
 use Rattle.rv_machine.specs.Run.{machine_run}
 use Rattle.rv_machine.specs.Text.{outcome_text}
-use Rattle.cmmc_core.specs.Compile.{IsImageOf, IsNoText, ReadsNoText, IsTooLarge, ReadsTooLarge}
+use Rattle.cmm_front.specs.FileOf.{HasFault}
+use Rattle.text_compile.specs.Compile.{IsNotBuilt, IsTooLarge}
+use Rattle.text_compile.specs.declared.compile.Refusal as text
+use Rattle.text_compile.specs.declared.compile.Refusal.TheVariants.{Fault, NotBuilt, TooLarge, OutOfMemory}
+use Rattle.cmmc_core.specs.Compile.{Reads}
 use Rattle.cmmc_core.specs.Effects.{Side, Rose, IsRead, Tells, IsKept, Got, GotPart}
-use Rattle.cmmc_core.specs.Lines.{no_memory_line}
+use Rattle.cmmc_core.specs.Lines.{not_built_line, no_memory_line}
 use Rattle.cmmc_core.specs.Run.{IsOutcomeOf, ReadsNoImage, NamesNoEntry, GivesUnfit, words_of_answers, schedule_of}
 use Rattle.cmmc_core.specs.declared.compile.Refusal.{Refusal}
-use Rattle.cmmc_core.specs.declared.compile.Refusal.TheVariants.{ReadFault, NotBuilt, TooLarge, OutOfMemory}
+use Rattle.cmmc_core.specs.declared.compile.Refusal.TheVariants.{ReadFault, Text}
 use Rattle.cmmc_core.specs.declared.run.RunRefusal.{RunRefusal}
 use Rattle.cmmc_core.specs.declared.run.RunRefusal.TheVariants as refusal
 
 -- ---- compile
 
--- The bytes are the spelling of an image of the text.
-pub record SpellsImageOf (text bytes : List ℕ) : Type 0 where
-  pub image : Tables
-  pub is_image : IsImageOf text image
-  pub spelled : bytes ≡ tables_bytes image
+-- why the text that was read has no image; want of memory may come before all is read
+abbrev pub IsRefusalRead : Side → text.Refusal → Type 0
+IsRefusalRead source (Fault told) = Reads (λ text. HasFault text told) source
+IsRefusalRead source NotBuilt = Reads IsNotBuilt source
+IsRefusalRead source (TooLarge large) = Reads (λ text. IsTooLarge text large) source
+IsRefusalRead source OutOfMemory = ⊤
 
--- The text was read, and the bytes are the spelling of an image of it.
-pub record SpellsImageRead (source : Side) (bytes : List ℕ) : Type 0 where
-  pub text : List ℕ
-  pub read : IsRead longest_text source text
-  pub spells : SpellsImageOf text bytes
-
--- why a text has no image
-abbrev pub IsRefusalOf : List ℕ → Refusal → Type 0
-IsRefusalOf text ReadFault = ⊥
-IsRefusalOf text NotBuilt = IsNoText text
-IsRefusalOf text (TooLarge large) = IsTooLarge text large
-IsRefusalOf text OutOfMemory = ⊤
-
--- why a source has none
+-- why a source has no image
 abbrev pub IsRefusalFrom : Side → Refusal → Type 0
 IsRefusalFrom source ReadFault = Rose source
-IsRefusalFrom source NotBuilt = ReadsNoText source
-IsRefusalFrom source (TooLarge large) = ReadsTooLarge source large
-IsRefusalFrom source OutOfMemory = ⊤
+IsRefusalFrom source (Text why) = IsRefusalRead source why
 
 -- ---- run
 
@@ -117,3 +107,10 @@ IsUnread source refusal.OutOfMemory = ⊤
 -- the line was told, or that there is no memory for it
 abbrev pub TellsOr : Side → List ℕ → ℕ → ℕ → Type 0
 TellsOr err line status result = Tells err line status result ⊎ Tells err no_memory_line 9 result
+
+-- the line of a text that has no image
+abbrev pub TellsRefusal : Side → text.Refusal → ℕ → Type 0
+TellsRefusal err (Fault told) result = TellsOr err (fault_line told) 3 result
+TellsRefusal err NotBuilt result = Tells err not_built_line 3 result
+TellsRefusal err (TooLarge large) result = TellsOr err (large_line large) 8 result
+TellsRefusal err OutOfMemory result = Tells err no_memory_line 9 result

@@ -1,12 +1,14 @@
 //! The lines on err, and the statuses.
 ghost use Rattle.std.specs.Prelude.{◌≡◌};
 ghost use Rattle.cmmc_core.specs.Effects.{side, Tells};
+ghost use Rattle.bs_fault.specs.FaultLines.{fault_line};
 ghost use Rattle.bs_fault.specs.Lines.{large_line, image_line};
-ghost use Rattle.cmmc_core.specs.Refusal.{TellsOr};
+ghost use Rattle.cmmc_core.specs.Refusal.{TellsOr, TellsRefusal};
 
-use bs_fault::{ImageRefusal, Large, image_text, large_text};
+use bs_fault::{Fault, ImageRefusal, Large, fault_text, image_text, large_text};
 use bs_io::{Sink, write_all};
 use std::alloc::Global;
+use text_compile::Refusal;
 
 /// The output was written whole.
 pub const WRITTEN: u8 = 0;
@@ -15,7 +17,7 @@ pub const WRITTEN: u8 = 0;
 pub const USAGE: u8 = 2;
 
 /// The text is refused.
-pub const NOT_BUILT: u8 = 3;
+pub const TEXT: u8 = 3;
 
 /// The bytes are no image.
 pub const NO_IMAGE: u8 = 4;
@@ -43,12 +45,34 @@ pub fn tell<E: Sink>(err: &mut E, line: &[u8], status: u8) -> u8
 }
 
 /// Writes the line of a section that is too large, for which there may be no memory.
-pub fn tell_large<E: Sink>(alloc: Global, err: &mut E, large: &Large) -> u8
+fn tell_large<E: Sink>(alloc: Global, err: &mut E, large: &Large) -> u8
     ensures { let err_side = side (E.held err.old) (E.held err.new) (E.faults err.old) (E.faults err.new) in TellsOr err_side (large_line large.now) 8 result }
 {
     match large_text(alloc, large) {
         Ok(line) => tell(err, line.as_slice(), TOO_LARGE),
         Err(_) => tell(err, b"cmmc: no memory\n", NO_MEMORY),
+    }
+}
+
+/// Writes the line of a text's fault, for which there may be no memory.
+fn tell_fault<E: Sink>(alloc: Global, err: &mut E, fault: &Fault) -> u8
+    ensures { let err_side = side (E.held err.old) (E.held err.new) (E.faults err.old) (E.faults err.new) in TellsOr err_side (fault_line fault.now) 3 result }
+{
+    match fault_text(alloc, fault) {
+        Ok(line) => tell(err, line.as_slice(), TEXT),
+        Err(_) => tell(err, b"cmmc: no memory\n", NO_MEMORY),
+    }
+}
+
+/// Writes the line of a text that has no image.
+pub fn tell_refusal<E: Sink>(alloc: Global, err: &mut E, refusal: &Refusal) -> u8
+    ensures { let err_side = side (E.held err.old) (E.held err.new) (E.faults err.old) (E.faults err.new) in TellsRefusal err_side refusal.now result }
+{
+    match refusal {
+        Refusal::Fault(fault) => tell_fault(alloc, err, fault),
+        Refusal::NotBuilt => tell(err, b"cmmc: not built\n", TEXT),
+        Refusal::TooLarge(large) => tell_large(alloc, err, large),
+        Refusal::OutOfMemory => tell(err, b"cmmc: no memory\n", NO_MEMORY),
     }
 }
 

@@ -6,7 +6,7 @@ ghost use Rattle.cmmc_core.specs.Ends.{Ends};
 
 use crate::compile::{Refusal, compile_source};
 use crate::line::{
-    NO_MEMORY, NOT_BUILT, READ_FAULT, USAGE, WRITE_FAULT, WRITTEN, tell, tell_image, tell_large,
+    NO_MEMORY, READ_FAULT, USAGE, WRITE_FAULT, WRITTEN, tell, tell_image, tell_refusal,
 };
 use crate::run::{RunRefusal, run_source};
 use bs_io::{Sink, Source, write_all};
@@ -48,10 +48,8 @@ fn dispatch<S: Source, K: Sink, E: Sink>(
                 Ok(()) => WRITTEN,
                 Err(_) => WRITE_FAULT,
             },
-            Err(Refusal::NotBuilt) => tell(err, b"cmmc: not built\n", NOT_BUILT),
             Err(Refusal::ReadFault) => tell(err, b"cmmc: read fault\n", READ_FAULT),
-            Err(Refusal::TooLarge(large)) => tell_large(alloc, err, &large),
-            Err(Refusal::OutOfMemory) => tell(err, b"cmmc: no memory\n", NO_MEMORY),
+            Err(Refusal::Text(why)) => tell_refusal(alloc, err, &why),
         },
         Ok(Command::Run(run)) => match run_source(alloc, run, source, out) {
             Ok(()) => WRITTEN,

@@ -70,9 +70,9 @@ small_function f built read = record {
   components = int_comps f.params (and-left (all_int f.params) (is_built (embedded f.body)) built);
   operators = small_operators f.body (and-right (all_int f.params) (is_built (embedded f.body)) built);
   bound = names_among (whole.names_of (embedded_function f)) f.body read.bound;
-  words_fit = words_fit f.body read.integers_fit;
+  words_fit = words_fit f.body (read.integers_fit built);
   few_tokens = read.few_tokens;
-  tokens_cover = let n = nodes-total f.body in let cover = read.tokens_cover in omega arith;
+  tokens_cover = let n = nodes-total f.body in let cover = read.tokens_cover built in omega arith;
 }
 
 each_small : (fs : List SmallFunctionTree) → all_built (map embedded_item fs) ≡ true → All IsReadFunction (whole.functions_among (map embedded_item fs)) → All IsSmallFunction fs

@@ -1,7 +1,7 @@
 use Rattle.std.proofs.Common.{Err, ap}
 use Rattle.bs_words.specs.Contents.{contents}
-use Rattle.cmmc_core.specs.Ends.{no_command, no_value, read_fault, no_text, too_large, no_image, no_entry, unfit, no_memory}
-use Rattle.cmmc_core.proofs.Ending.{Keeps-same, GotPart-part, Ends-told, Ends-told-or, Ends-written, Ends-cut, Ends-run, Ends-run-cut}
+use Rattle.cmmc_core.specs.Ends.{no_command, no_value, read_fault, no_image, no_entry, unfit, no_memory}
+use Rattle.cmmc_core.proofs.Ending.{Keeps-same, GotPart-part, Ends-told, Ends-told-or, Ends-refused, Ends-written, Ends-cut, Ends-run, Ends-run-cut}
 use Rattle.cmmc_core.proofs.top.dispatch.Goals as goal
 
 -- ---- compile
@@ -16,23 +16,15 @@ returns-in-Ok g c =
     Ends-cut _ _ (contents c.in-Ok.bytes) (rw c.in-Ok-Compile.field-0-is at c.in-Ok-Compile.ensures.command) c.in-Ok.ensures.image
     (rw c.as_slice.ensures at (GotPart-part _ _ c.in-Err.ensures.part c.in-Err.ensures.failed)) (Keeps-same _)
 
-pub returns-in-Err-NotBuilt : goal.returns-in-Err-NotBuilt
-returns-in-Err-NotBuilt g c =
-    Ends-told _ _ 3 _ _ (no_text (rw c.in-Ok-Compile.field-0-is at c.in-Ok-Compile.ensures.command)
-    (rw c.in-Err-NotBuilt.field-0-is at c.in-Err-NotBuilt.ensures.refused)) (Keeps-same _) c.tell.ensures
-
 pub returns-in-Err-ReadFault : goal.returns-in-Err-ReadFault
 returns-in-Err-ReadFault g c =
     Ends-told _ _ 5 _ _ (read_fault _ c.in-Ok-Compile.ensures.command
-    (rw c.in-Err-ReadFault.field-0-is at c.in-Err-ReadFault.ensures.refused)) (Keeps-same _) c.tell-in-Err-ReadFault.ensures
-
-pub returns-in-Err-TooLarge : goal.returns-in-Err-TooLarge
-returns-in-Err-TooLarge g c =
-    Ends-told-or _ _ 8 _ _ (too_large _ (rw c.in-Ok-Compile.field-0-is at c.in-Ok-Compile.ensures.command)
-    (rw c.in-Err-TooLarge.field-0-is at c.in-Err-TooLarge.ensures.refused)) (Keeps-same _) c.tell_large.ensures
+    (rw c.in-Err-ReadFault.field-0-is at c.in-Err-ReadFault.ensures.refused)) (Keeps-same _) c.tell.ensures
 
 pub returns-in-Ok-Compile : goal.returns-in-Ok-Compile
-returns-in-Ok-Compile g c = Ends-told _ _ 9 _ _ no_memory (Keeps-same _) c.tell-in-Err-OutOfMemory-compile_source.ensures
+returns-in-Ok-Compile g c =
+    Ends-refused _ _ c.in-Err-Text.why _ (rw c.in-Ok-Compile.field-0-is at c.in-Ok-Compile.ensures.command)
+    (rw c.in-Err-Text.field-0-is at c.in-Err-Text.ensures.refused) (Keeps-same _) c.tell_refusal.ensures
 
 -- ---- run
 

@@ -1,0 +1,4 @@
+pub mod Told
+pub mod Readings
+pub mod OneFile
+pub mod Answering

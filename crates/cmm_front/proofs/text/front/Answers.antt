@@ -1,0 +1,29 @@
+-- Each step tells the fault that it finds; behind all of them the file is the text's.
+use Rattle.std.proofs.Common.{rules}
+use Rattle.cmm_tree.specs.View.{file_view}
+use Rattle.cmm_types.specs.Typing.{file_of}
+use Rattle.cmm_front.proofs.Answering.{unread_told, untyped_told, checked_told, checked_file, read_same, typed_same}
+use Rattle.cmm_front.proofs.text.front.Goals as goal
+
+pub returns-in_err-file-clause-fault : goal.returns-in_err-file-clause-fault
+returns-in_err-file-clause-fault c = search (rules, unread_told c.args.text.now c.in_err-file.field-0.0 c.in_err-file.ensures)
+
+pub returns-in_err-typed-clause-fault : goal.returns-in_err-typed-clause-fault
+returns-in_err-typed-clause-fault c =
+    search (rules, untyped_told c.args.text.now (file_view c.in_ok-file.file) c.in_err-typed.field-0.0 c.in_ok-file.ensures c.in_err-typed.ensures.fault)
+
+pub returns-clause-file : goal.returns-clause-file
+returns-clause-file c =
+    let same = c.in_ok-typed.ensures.same in
+    checked_file c.args.text.now c.in_ok-typed.typed c.check_addresses.result
+    (read_same c.args.text.now (file_view c.in_ok-file.file) (file_view (file_of c.in_ok-typed.typed)) same c.in_ok-file.ensures)
+    (typed_same (file_view c.in_ok-file.file) (file_view (file_of c.in_ok-typed.typed)) same c.in_ok-typed.ensures.faultless)
+    c.check_addresses.ensures.same c.check_addresses.ensures.settled
+
+pub returns-clause-fault : goal.returns-clause-fault
+returns-clause-fault c =
+    let same = c.in_ok-typed.ensures.same in
+    checked_told c.args.text.now (file_view (file_of c.in_ok-typed.typed)) c.check_addresses.result
+    (read_same c.args.text.now (file_view c.in_ok-file.file) (file_view (file_of c.in_ok-typed.typed)) same c.in_ok-file.ensures)
+    (typed_same (file_view c.in_ok-file.file) (file_view (file_of c.in_ok-typed.typed)) same c.in_ok-typed.ensures.faultless)
+    c.check_addresses.ensures.fault

@@ -1,0 +1,33 @@
+-- The file of a text, or its fault.
+use Rattle.std.specs.Prelude.{ℕ, List, Ok, Err}
+use Rattle.bs_fault.specs.declared.fault.Fault.{Fault}
+use Rattle.bs_fault.specs.declared.fault.Fault.TheVariants.{AddrLive}
+use Rattle.bs_fault.specs.declared.fault.FrontError.{FrontError}
+use Rattle.bs_fault.specs.declared.fault.FrontError.TheVariants as error
+use Rattle.cmm_tree.specs.Tree.{FileTree}
+use Rattle.cmm_types.specs.Faults.{TypeFault, IsLeftmost}
+use Rattle.cmm_walks.specs.AddrLive.{IsLive, IsToldLive}
+use Rattle.cmm_reader.specs.Text.{ReadsAs}
+
+-- The text is that of the file: it is read as this file, which has no fault of types or symbols, and no
+-- address that is used after a frame point that it was bound before.
+pub record IsFileOf (text : List ℕ) (file : FileTree) : Type 0 where
+  pub read : ReadsAs text (Ok file)
+  pub typed : (told : Fault) → ¬ TypeFault file told
+  pub settled : (bound point used : ℕ) → ¬ IsLive file bound point used
+
+-- The fault that is told of a text: what the reader tells of it; of a text that is read, the leftmost fault
+-- of types or symbols; and of one without these, the first address that is used so.
+pub data HasFault (text : List ℕ) : Fault → Type 0 where
+  unread : (told : Fault) → ReadsAs text (Err told) → HasFault text told
+  untyped : (file : FileTree) (told : Fault) → ReadsAs text (Ok file) → IsLeftmost file told → HasFault text told
+  unsettled : (file : FileTree) (bound point used : ℕ)
+      → ReadsAs text (Ok file)
+      → ((told : Fault) → ¬ TypeFault file told)
+      → IsToldLive file bound point used
+      → HasFault text (AddrLive bound point used)
+
+-- an error tells the fault of the text, unless memory ran out
+abbrev pub IsErrorOf : List ℕ → FrontError → Type 0
+IsErrorOf text (error.Fault told) = HasFault text told
+IsErrorOf text error.OutOfMemory = Unit {0}

@@ -1,0 +1,30 @@
+//! Texts.
+ghost use Rattle.std.specs.Prelude.{IfOk, IfErr};
+ghost use Rattle.cmm_tree.specs.View.{file_view};
+ghost use Rattle.cmm_front.specs.FileOf.{IsFileOf, IsErrorOf};
+ghost use Rattle.cmm_types.specs.Typing.{file_of};
+ghost use Rattle.cmm_walks.specs.Checked.{typed_of};
+
+use bs_fault::FrontError;
+use cmm_reader::read_file;
+use cmm_types::check_types;
+use cmm_walks::{Checked, check_addresses};
+use std::alloc::Global;
+
+/// The file of a text, with the type of each node, all faults but the image's size looked for.
+///
+/// One fault is told of a text that has none: what reading tells; else the leftmost fault of types or
+/// symbols; else the first use of an address behind a frame point that it was bound before.
+///
+/// # Errors
+///
+/// `Fault` exactly where the text has a fault, with that fault, and `OutOfMemory` where memory ran out
+/// before that is known.
+pub fn front(alloc: Global, text: &[u8]) -> Result<Checked, FrontError>
+    ensures file { IfOk result (λ checked. IsFileOf text.now (file_view (file_of (typed_of checked)))) }
+    ensures fault { IfErr result (IsErrorOf text.now) }
+{
+    let file = read_file(alloc, text)?;
+    let typed = check_types(alloc, file)?;
+    check_addresses(alloc, typed)
+}

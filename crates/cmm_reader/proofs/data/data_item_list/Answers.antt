@@ -1,0 +1,24 @@
+use Rattle.std.proofs.Common.{◌∙◌, sym}
+use Rattle.cmm_tree.specs.View.{data_item_view}
+use Rattle.cmm_grammar.specs.Words.{is_close}
+use Rattle.cmm_grammar.specs.Grammar.{a_data_item}
+use Rattle.cmm_grammar.specs.Reading.{reading, forms_below}
+use Rattle.cmm_reader.specs.Results.{trees}
+use Rattle.cmm_reader.proofs.Lists.{going-start}
+use Rattle.cmm_reader.proofs.Loops.{takes-data-item, loop-shorter, loop-on}
+use Rattle.cmm_reader.proofs.data.data_item_list.Goals as goal
+
+pub loop-first-init : goal.loop-first-init
+loop-first-init c =
+    rw c.new-items.ensures.items
+    (going-start is_close (reading a_data_item c.args.depth (forms_below c.args.depth)) (trees c.args.source.now c.args.tokens.now))
+
+pub loop-first-smaller : goal.loop-first-smaller
+loop-first-smaller c =
+    loop-shorter a_data_item takes-data-item c.args.depth c.args.source.now c.loop-first.rest.now c.in-Some.first.now c.in-Some.field-0-1.now c.in_ok-item.behind.now _ c.in-Some.ensures.cases.0 c.in_ok-item.ensures
+
+pub loop-first-preserved : goal.loop-first-preserved
+loop-first-preserved c =
+    loop-on data_item_view a_data_item takes-data-item c.args.depth is_close c.args.source.now (trees c.args.source.now c.args.tokens.now)
+    c.loop-first.items.items c.push.new.self.items c.in_ok-item.item c.loop-first.rest.now c.in-Some.first.now c.in-Some.field-0-1.now c.in_ok-item.behind.now
+    c.loop-first.invariant c.in-Some.ensures.cases.0 (sym c.passes.ensures ∙ c.if-passes.false) c.in_ok-item.ensures c.in_ok-push.ensures.items

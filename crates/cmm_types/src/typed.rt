@@ -1,0 +1,181 @@
+//! Files whose types and symbols are in order.
+ghost use Rattle.std.specs.Prelude.{◌≡◌, [], map, IfOk, IfErr, OnOk};
+ghost use Rattle.bs_words.specs.Contents.{contents};
+ghost use Rattle.bs_fault.specs.declared.fault.Fault.{Fault};
+ghost use Rattle.cmm_tree.specs.View.{function_view, item_view, datum_view, data_item_view, file_view};
+ghost use Rattle.cmm_types.specs.Symbols.{symbols, definition_of};
+ghost use Rattle.cmm_types.specs.Faults.{TypeFault};
+ghost use Rattle.cmm_types.specs.Gathered.{noted_all, function_faults, datum_faults, data_faults, item_faults, items_faults};
+ghost use Rattle.cmm_types.specs.Typing.{IsFunctionAnnotated, IsItemAnnotated, AreItemsAnnotated, IsFaultTold, file_of, symbols_of};
+
+use crate::checker::Checker;
+use crate::gathering::gather;
+use crate::labels::Labels;
+use crate::names::Names;
+use crate::seen::is_address;
+use crate::symbols::Symbols;
+use bs_fault::{Fault, FrontError};
+use bs_words::List;
+use cmm_tree::{DataItem, Datum, File, Function, Item};
+use std::alloc::{AllocError, Global};
+
+/// A file without a fault of types or symbols. Each node of its functions holds its type, and its symbols
+/// stand in the order of their definitions.
+#[derive(Drop)]
+pub struct Typed {
+    file: File,
+    symbols: Symbols,
+}
+
+impl Typed {
+    /// The file.
+    pub fn file(&self) -> &File
+        ensures { result.now ≡ file_of self.now }
+    {
+        &self.file
+    }
+
+    /// Its symbols, first the built-in data and then those that the file defines, in order.
+    pub fn symbols(&self) -> &Symbols
+        ensures { result.now ≡ symbols_of self.now }
+    {
+        &self.symbols
+    }
+}
+
+/// Gives each node its type. It answers the leftmost fault of types and symbols, F11 to F19 and F21, if
+/// there is one; of those on one place the one with the lowest number.
+pub fn check_types(alloc: Global, file: File) -> Result<Typed, FrontError>
+    ensures same { IfOk result (λ typed. file_view (file_of typed) ≡ file_view file) }
+    ensures typed { IfOk result (λ typed. AreItemsAnnotated (contents (file_of typed).items)) }
+    ensures symbols { IfOk result (λ typed. symbols_of typed ≡ symbols (file_view file)) }
+    ensures faultless { IfOk result (λ typed. (told : Fault) → ¬ TypeFault (file_view file) told) }
+    ensures fault { IfErr result (IsFaultTold (file_view file)) }
+{
+    let mut items = file.items.into_vec();
+    let all = gather(alloc, items.as_slice())?;
+    let symbols = all.symbols;
+    let mut checker = Checker {
+        names: Names::new(alloc),
+        labels: Labels::new(alloc),
+        found: all.found,
+    };
+    checker.check_items(alloc, &symbols, items.as_mut_slice())?;
+    match checker.found {
+        Some(told) => Err(FrontError::Fault(told)),
+        None => {
+            let items = List::from_vec(items);
+            Ok(Typed {
+                file: File { items },
+                symbols,
+            })
+        }
+    }
+}
+
+impl Checker {
+    /// Gives the nodes of the functions among these items their types, and notes the faults of the items.
+    fn check_items(
+        &mut self,
+        alloc: Global,
+        symbols: &Symbols,
+        items: &mut [Item],
+    ) -> Result<(), AllocError>
+        requires names { self.old.names ≡ [] }
+        requires labels { self.old.labels ≡ [] }
+        ensures view { OnOk result (map item_view items.new ≡ map item_view items.old) }
+        ensures typed { OnOk result (AreItemsAnnotated items.new) }
+        ensures found { OnOk result (self.new.found ≡ noted_all (items_faults (definition_of symbols.now) (map item_view items.old)) self.old.found) }
+    {
+        for index in 0..items.len() {
+            self.check_item(alloc, symbols, &mut items[index])?;
+        }
+        Ok(())
+    }
+
+    /// The same of one item.
+    fn check_item(
+        &mut self,
+        alloc: Global,
+        symbols: &Symbols,
+        item: &mut Item,
+    ) -> Result<(), AllocError>
+        requires names { self.old.names ≡ [] }
+        requires labels { self.old.labels ≡ [] }
+        ensures view { OnOk result (item_view item.new ≡ item_view item.old) }
+        ensures typed { OnOk result (IsItemAnnotated item.new) }
+        ensures names { OnOk result (self.new.names ≡ []) }
+        ensures labels { OnOk result (self.new.labels ≡ []) }
+        ensures found { OnOk result (self.new.found ≡ noted_all (item_faults (definition_of symbols.now) (item_view item.old)) self.old.found) }
+    {
+        match item {
+            Item::Function(function) => {
+                self.check_function(alloc, symbols, function)?;
+                Ok(())
+            }
+            Item::Data(list) => {
+                self.note_data(symbols, list.items.as_slice());
+                Ok(())
+            }
+        }
+    }
+
+    /// The same of a function.
+    fn check_function(
+        &mut self,
+        alloc: Global,
+        symbols: &Symbols,
+        function: &mut Function,
+    ) -> Result<(), AllocError>
+        requires names { self.old.names ≡ [] }
+        requires labels { self.old.labels ≡ [] }
+        ensures view { OnOk result (function_view function.new ≡ function_view function.old) }
+        ensures typed { OnOk result (IsFunctionAnnotated function.new) }
+        ensures names { OnOk result (self.new.names ≡ []) }
+        ensures labels { OnOk result (self.new.labels ≡ []) }
+        ensures found { OnOk result (self.new.found ≡ noted_all (function_faults (definition_of symbols.now) (function_view function.old)) self.old.found) }
+    {
+        let params = function.params.as_slice();
+        self.note_params(params);
+        self.bind_params(alloc, params)?;
+        let seen = self.visit(alloc, symbols, &mut function.body)?;
+        self.names.leave(0);
+        self.note_if(
+            is_address(seen.ty()),
+            Fault::AddrArgument { at: function.at },
+        );
+        Ok(())
+    }
+
+    /// Notes the faults of static data.
+    fn note_data(&mut self, symbols: &Symbols, items: &[DataItem])
+        ensures names { self.new.names ≡ self.old.names }
+        ensures labels { self.new.labels ≡ self.old.labels }
+        ensures found { self.new.found ≡ noted_all (data_faults (definition_of symbols.now) (map data_item_view items.now)) self.old.found }
+    {
+        for item in items {
+            self.note_datum(symbols, item.at, &item.datum);
+        }
+    }
+
+    /// Notes the fault of an item of static data.
+    fn note_datum(&mut self, symbols: &Symbols, at: u32, datum: &Datum)
+        ensures names { self.new.names ≡ self.old.names }
+        ensures labels { self.new.labels ≡ self.old.labels }
+        ensures found { self.new.found ≡ noted_all (datum_faults (definition_of symbols.now) at (datum_view datum.now)) self.old.found }
+    {
+        match datum {
+            Datum::Address {
+                root: _,
+                name_at,
+                name,
+            } => self.note_if(!symbols.has(name), Fault::UnknownSymbol { at: *name_at }),
+            Datum::Global { name_at, name } => self.note_if(
+                !symbols.has(name),
+                Fault::UnknownSymbol { at: *name_at },
+            ),
+            Datum::Float => self.note(Fault::Float { at }),
+            _ => {}
+        }
+    }
+}

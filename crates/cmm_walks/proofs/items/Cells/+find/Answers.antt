@@ -1,0 +1,34 @@
+use Rattle.std.proofs.Common.{List, refl, sym, ap, ◌∙◌, Some, ◌<◌, arith}
+use Rattle.cmm_walks.specs.Cells.{cells, scope_at}
+use Rattle.cmm_walks.specs.Found.{found_in}
+use Rattle.cmm_walks.specs.Walks.{Slotted}
+use Rattle.cmm_walks.proofs.Arena.{item-within}
+use Rattle.cmm_walks.proofs.Names.{not_both, found-same, found-other, cell-scope, no-cell, not-named}
+use Rattle.cmm_walks.proofs.items.Cells.+find.Goals as goal
+
+pub find-returns-in-None : goal.find-returns-in-None
+find-returns-in-None t c = λ s sound scope. absurd (no-cell (cells c.args.self.now) c.args.scope s scope (sym c.get.ensures ∙ c.in-None.is))
+
+pub find_in-returns-then-same : goal.find_in-returns-then-same
+find_in-returns-then-same t c = λ s sound scope e.
+    let n = cell-scope (cells c.args.self.now) c.args.scope _ s sound scope (e ∙ ap Some c.in-Named.is) in
+    sym (ap (λ (l : List Slotted). found_in l c.args.name.now) n ∙ found-same _ _ c.args.name.now (c.same.ensures.0 c.if-same.true))
+
+pub find_in-returns-then-outer-scope : goal.find_in-returns-then-outer-scope
+find_in-returns-then-outer-scope t c = λ s sound scope e.
+    let h = e ∙ ap Some c.in-Named.is in
+    let n = cell-scope (cells c.args.self.now) c.args.scope _ s sound scope h in
+    let b = sound.below c.args.scope _ h in
+    let w = item-within (cells c.args.self.now) c.args.scope _ h in
+    c.find.ensures (scope_at (cells c.args.self.now) c.in-Named.outer) sound (record { within = omega (arith, b, w); is = refl })
+    ∙ sym (ap (λ (l : List Slotted). found_in l c.args.name.now) n ∙ found-other _ _ c.args.name.now (λ q. not_both c.same.result (c.same.ensures.1 q) c.if-same.false))
+
+pub find_in-returns-else-outer-scope : goal.find_in-returns-else-outer-scope
+find_in-returns-else-outer-scope t c = λ s sound scope e.
+    let b : c.in-Named.outer < c.args.scope = sound.below c.args.scope _ (e ∙ ap Some c.in-Named.is) in
+    absurd (omega (arith, c.if-outer-scope.false))
+
+pub find_in-returns-in_default : goal.find_in-returns-in_default
+find_in-returns-in_default t c = λ s sound scope e.
+    let n = cell-scope (cells c.args.self.now) c.args.scope c.args.item s sound scope e ∙ not-named (scope_at (cells c.args.self.now)) c.args.item c.in_default.not-Named in
+    sym (ap (λ (l : List Slotted). found_in l c.args.name.now) n)

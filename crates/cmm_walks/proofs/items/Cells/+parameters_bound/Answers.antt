@@ -1,0 +1,11 @@
+use Rattle.cmm_walks.proofs.Arena.{first-rest}
+use Rattle.cmm_walks.proofs.Pushed.{then, ready, adds-as}
+use Rattle.cmm_walks.proofs.Parts.{parameters-first}
+use Rattle.cmm_walks.proofs.items.Cells.+parameters_bound.Goals as goal
+
+pub returns-in_ok-cell-in-len1-up : goal.returns-in_ok-cell-in-len1-up
+returns-in_ok-cell-in-len1-up t c = λ r.
+    let p = first-rest c.args.params.now c.first-item.result c.in-len1-up.len_at_least c.first-item.is in
+    let l = c.in_ok-later-in-len1-up.ensures r in
+    let d = c.in_ok-cell-in-len1-up.ensures (ready l) in
+    adds-as (parameters-first c.args.slot c.in_ok-next-in-len1-up.next c.args.params.now c.first-item.result _ c.is_address-address.result c.type_of_comp.result p c.in_ok-next-in-len1-up.ensures c.is_address-address.ensures c.type_of_comp.ensures) (then d l)

@@ -1,0 +1,24 @@
+use Rattle.std.proofs.Common.{◌∷◌, [], ◌∙◌, ◌++◌, append_assoc}
+use Rattle.cmm_tree.specs.View.{expr_view, params_view}
+use Rattle.cmm_walks.specs.Cells.{cells, tasks_at}
+use Rattle.cmm_walks.specs.Walks.{Binds, Evaluates, parameters_bound}
+use Rattle.cmm_walks.proofs.Nodes.{goes-does, steps-as, first-parameter}
+use Rattle.cmm_walks.proofs.Pushed.{then, ready}
+use Rattle.cmm_walks.proofs.items.Cells.enter_bound.Goals as goal
+
+pub returns : goal.returns
+returns c = λ s r scope typed.
+    let v0 = cells c.args.self.now in
+    let v2 = cells c.parameters_bound.new.self in
+    let behind = tasks_at v0 c.args.caught in
+    let others = parameters_bound c.in_ok-next.next (params_view c.args.others.now) in
+    let e = c.in_ok-evaluated.ensures s r scope typed in
+    let x = then (c.in_ok-bound.ensures (ready e)) e in
+    steps-as v0 v2 _ _ c.in_ok-node.node (first-parameter s c.args.slot c.args.free c.in_ok-next.next c.args.param.now c.args.others.now c.is_address-address.result c.type_of_comp.result (expr_view c.args.body.now) behind c.in_ok-next.ensures c.is_address-address.ensures c.type_of_comp.ensures)
+    (record {
+      extends = x.extends;
+      sound = x.sound;
+      goes =
+          goes-does v2 (Binds c.args.slot c.is_address-address.result c.args.param.now.at) (others ++ (Evaluates s c.args.free (expr_view c.args.body.now) ∷ behind)) c.in_ok-node.node c.in_ok-bound.bound c.in_ok-node.ensures x.within
+          (x.is ∙ append_assoc others (Evaluates s c.args.free (expr_view c.args.body.now) ∷ []) behind);
+    })

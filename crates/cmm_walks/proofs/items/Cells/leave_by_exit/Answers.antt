@@ -1,0 +1,26 @@
+use Rattle.std.proofs.Common.{length}
+use Rattle.cmm_tree.specs.View.{label_view}
+use Rattle.cmm_walks.specs.Cells.{cells, tasks_at}
+use Rattle.cmm_walks.proofs.Leavings.{leads-found}
+use Rattle.cmm_walks.proofs.Nodes.{goes-exits, goes-exits-none}
+use Rattle.cmm_walks.proofs.Pushed.{extends-none}
+use Rattle.cmm_walks.proofs.items.Cells.leave_by_exit.Goals as goal
+
+pub returns-in-None : goal.returns-in-None
+returns-in-None c = λ sound.
+    let v = cells c.args.self.now in
+    record {
+      extends = extends-none v;
+      sound = sound;
+      goes = goes-exits-none v (label_view c.args.label.now) (tasks_at v c.args.rest) c.last.result c.last.ensures (leads-found (length v) (tasks_at v) c.in_ok-found.found _ _ c.in-None.is (c.in_ok-found.ensures sound));
+    }
+
+pub returns-in_ok-node-in-Some : goal.returns-in_ok-node-in-Some
+returns-in_ok-node-in-Some c = λ sound.
+    let v = cells c.args.self.now in
+    let l = leads-found (length v) (tasks_at v) c.in_ok-found.found _ _ c.in-Some.is (c.in_ok-found.ensures sound) in
+    record {
+      extends = extends-none v;
+      sound = sound;
+      goes = goes-exits v (label_view c.args.label.now) (tasks_at v c.args.rest) c.in_ok-node-in-Some.node c.in-Some.cell c.in_ok-node-in-Some.ensures l.0 l.1;
+    }

@@ -1,0 +1,6 @@
+use Rattle.cmm_walks.specs.Cells.{cells}
+use Rattle.cmm_walks.proofs.Catches.{adds-may_raise}
+use Rattle.cmm_walks.proofs.items.Cells.may_raise.Goals as goal
+
+pub returns : goal.returns
+returns c = λ r. adds-may_raise (cells c.args.self.now) (cells c.push.new.self) c.in_ok-cell.cell c.args.rest c.in_ok-cell.ensures r

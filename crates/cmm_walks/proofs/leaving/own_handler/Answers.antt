@@ -1,0 +1,19 @@
+use Rattle.std.proofs.lemmas.Result.{IfOk-weaker}
+use Rattle.cmm_tree.specs.View.{label_view}
+use Rattle.cmm_walks.proofs.Leavings.{own-as, own-none}
+use Rattle.cmm_walks.proofs.leaving.own_handler.Goals as goal
+
+pub returns-in-Catches : goal.returns-in-Catches
+returns-in-Catches c =
+    IfOk-weaker c.find_handler.result _ _
+    (λ found h. λ count scopes tasks. own-as (label_view c.args.label.now) count scopes tasks c.args.item _ found c.in-Catches.is (λ held. h count tasks _ _ _ _ held.1))
+    c.find_handler.ensures
+
+pub returns-in-Handler : goal.returns-in-Handler
+returns-in-Handler c =
+    IfOk-weaker c.find_handler-in-Handler.result _ _
+    (λ found h. λ count scopes tasks. own-as (label_view c.args.label.now) count scopes tasks c.args.item _ found c.in-Handler.is (λ held. h count tasks _ _ _ _ held.1))
+    c.find_handler-in-Handler.ensures
+
+pub returns-in_default : goal.returns-in_default
+returns-in_default c = λ count scopes tasks held. own-none (label_view c.args.label.now) scopes tasks c.args.item c.in_default.not-Catches c.in_default.not-Handler

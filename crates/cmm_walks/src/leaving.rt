@@ -1,0 +1,195 @@
+//! Where an exit and a raise lead.
+ghost use Rattle.std.specs.Prelude.{◌≡◌, ◌&&◌, not, ℕ, List, Some, length, IfOk, bytes_eq};
+ghost use Rattle.cmm_tree.specs.View.{label_view};
+ghost use Rattle.cmm_tree.specs.declared.expr.Handler as declared_handler;
+ghost use Rattle.cmm_types.specs.Rows.{handlers_of};
+ghost use Rattle.cmm_walks.specs.Walks.{Slotted, Task, same_label, is_bare, handler_for, behind_exit, behind_raise};
+ghost use Rattle.cmm_walks.specs.Cells.{cells, item_at, scope_at, tasks_at};
+ghost use Rattle.cmm_walks.specs.Sound.{IsSound, IsHeld, HandlersAt, LeadsTo};
+ghost use Rattle.cmm_walks.specs.Leaving.{rest_in, own_handler, exit_rest, raise_rest};
+
+use crate::items::{Cells, Item};
+use crate::numbers::after;
+use bs_words::Name;
+use cmm_tree::{Handler, Label};
+use std::alloc::AllocError;
+
+fn same_name(one: &Name, other: &Name) -> bool
+    ensures { result ≡ bytes_eq one.now other.now }
+{
+    one.as_bytes() == other.as_bytes()
+}
+
+fn same_label(one: &Label, other: &Label) -> bool
+    ensures { result ≡ same_label (label_view one.now) (label_view other.now) }
+{
+    match (one, other) {
+        (Label::Named(first), Label::Named(second)) => same_name(first, second),
+        (Label::Bare, Label::Bare) => true,
+        (Label::Done, Label::Done) => true,
+        (Label::Again, Label::Again) => true,
+        _ => false,
+    }
+}
+
+fn is_bare(label: &Label) -> bool
+    ensures { result ≡ is_bare (label_view label.now) }
+{
+    match label {
+        Label::Bare => true,
+        _ => false,
+    }
+}
+
+/// Whether an exit of this label finds the handler of the other one. A bare one is not visible in the
+/// handlers.
+fn finds(label: &Label, own: &Label, in_handler: bool) -> bool
+    ensures { result ≡ (same_label (label_view label.now) (label_view own.now) && not (is_bare (label_view label.now) && in_handler)) }
+{
+    let same = same_label(label, own);
+    let bare = is_bare(label);
+    same && !(bare && in_handler)
+}
+
+/// Which of these handlers, which stand in a row of cells from `first` on, an exit finds.
+fn find_handler(
+    label: &Label,
+    in_handler: bool,
+    handlers: &[Handler],
+    first: u32,
+) -> Result<Option<u32>, AllocError>
+    ensures { IfOk result (λ found. (count : ℕ) (tasks : ℕ → List Task) (s : List Slotted) (slot : ℕ) (all : List declared_handler.Handler) (behind : List Task) → HandlersAt count tasks first s slot all behind handlers.now → LeadsTo count tasks found (handler_for (label_view label.now) s slot in_handler (handlers_of all) behind (handlers_of handlers.now))) }
+{
+    match handlers {
+        [] => Ok(None),
+        [own, others @ ..] => {
+            if finds(label, &own.label, in_handler) {
+                return Ok(Some(first));
+            }
+            let next = after(first)?;
+            let found = find_handler(label, in_handler, others, next)?;
+            Ok(found)
+        }
+    }
+}
+
+/// The handler that the catch of this cell has for the label.
+fn own_handler(label: &Label, item: Item<'_>) -> Result<Option<u32>, AllocError>
+    ensures { IfOk result (λ found. (count : ℕ) (scopes : ℕ → List Slotted) (tasks : ℕ → List Task) → IsHeld count scopes tasks item.entry → LeadsTo count tasks found (own_handler (label_view label.now) scopes tasks item.entry)) }
+{
+    match item {
+        Item::Catches {
+            in_handler,
+            handlers,
+            first,
+            ..
+        } => find_handler(label, in_handler, handlers, first),
+        Item::Handler {
+            handlers,
+            first,
+            ..
+        } => find_handler(label, true, handlers, first),
+        _ => Ok(None),
+    }
+}
+
+/// The cell behind the task of this one.
+fn rest_of(item: Item<'_>) -> Option<u32>
+    ensures { result ≡ rest_in item.entry }
+{
+    match item {
+        Item::Empty => None,
+        Item::Named { .. } => None,
+        Item::Does { rest, .. } => Some(rest),
+        Item::Evaluates { rest, .. } => Some(rest),
+        Item::Enters { rest, .. } => Some(rest),
+        Item::Either { rest, .. } => Some(rest),
+        Item::OneOf { rest, .. } => Some(rest),
+        Item::MayRaise { rest } => Some(rest),
+        Item::Raises { rest } => Some(rest),
+        Item::Exits { rest, .. } => Some(rest),
+        Item::Catches { rest, .. } => Some(rest),
+        Item::Handler { rest, .. } => Some(rest),
+        Item::Handles { rest, .. } => Some(rest),
+    }
+}
+
+impl<'a> Cells<'a> {
+    /// The cell to which an exit leads from this one, if a handler of its label is visible.
+    #[cycle(exit)]
+    pub fn exit(&self, label: &Label, cell: u32) -> Result<Option<u32>, AllocError>
+        ensures { IfOk result (λ found. IsSound (cells self.now) → LeadsTo (length (cells self.now)) (tasks_at (cells self.now)) found (behind_exit (label_view label.now) (tasks_at (cells self.now) cell))) }
+    {
+        match self.get(cell) {
+            None => Ok(None),
+            Some(item) => self.exit_in(label, cell, item),
+        }
+    }
+
+    #[cycle(exit)]
+    fn exit_in(&self, label: &Label, cell: u32, item: Item<'a>) -> Result<Option<u32>, AllocError>
+        ensures { IfOk result (λ found. IsSound (cells self.now) → item_at (cells self.now) cell ≡ Some item.entry → LeadsTo (length (cells self.now)) (tasks_at (cells self.now)) found (behind_exit (label_view label.now) (tasks_at (cells self.now) cell))) }
+    {
+        let own = own_handler(label, item)?;
+        match own {
+            Some(handler) => Ok(Some(handler)),
+            None => self.exit_behind(label, cell, item),
+        }
+    }
+
+    #[cycle(exit)]
+    fn exit_behind(
+        &self,
+        label: &Label,
+        cell: u32,
+        item: Item<'a>,
+    ) -> Result<Option<u32>, AllocError>
+        ensures { IfOk result (λ found. IsSound (cells self.now) → item_at (cells self.now) cell ≡ Some item.entry → LeadsTo (length (cells self.now)) (tasks_at (cells self.now)) found (exit_rest (label_view label.now) (tasks_at (cells self.now)) (rest_in item.entry))) }
+    {
+        match rest_of(item) {
+            None => Ok(None),
+            Some(rest) => {
+                if rest < cell {
+                    return self.exit(label, rest);
+                }
+                Ok(None)
+            }
+        }
+    }
+
+    /// The cell to which a raise leads from this one, if a try of the function is active.
+    #[cycle(raise)]
+    pub fn raise(&self, cell: u32) -> Option<u32>
+        ensures { IsSound (cells self.now) → LeadsTo (length (cells self.now)) (tasks_at (cells self.now)) result (behind_raise (tasks_at (cells self.now) cell)) }
+    {
+        match self.get(cell) {
+            None => None,
+            Some(item) => self.raise_in(cell, item),
+        }
+    }
+
+    #[cycle(raise)]
+    fn raise_in(&self, cell: u32, item: Item<'a>) -> Option<u32>
+        ensures { IsSound (cells self.now) → item_at (cells self.now) cell ≡ Some item.entry → LeadsTo (length (cells self.now)) (tasks_at (cells self.now)) result (behind_raise (tasks_at (cells self.now) cell)) }
+    {
+        match item {
+            Item::Handles { entry, .. } => Some(entry),
+            _ => self.raise_behind(cell, item),
+        }
+    }
+
+    #[cycle(raise)]
+    fn raise_behind(&self, cell: u32, item: Item<'a>) -> Option<u32>
+        ensures { IsSound (cells self.now) → item_at (cells self.now) cell ≡ Some item.entry → LeadsTo (length (cells self.now)) (tasks_at (cells self.now)) result (raise_rest (tasks_at (cells self.now)) (rest_in item.entry)) }
+    {
+        match rest_of(item) {
+            None => None,
+            Some(rest) => {
+                if rest < cell {
+                    return self.raise(rest);
+                }
+                None
+            }
+        }
+    }
+}

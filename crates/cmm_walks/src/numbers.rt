@@ -1,0 +1,71 @@
+//! Slots, and the types of what is bound to them.
+ghost use Rattle.std.specs.Prelude.{◌≡◌, ◌+◌, suc, IfOk};
+ghost use Rattle.std.specs.Option.{option_map};
+ghost use Rattle.bs_words.specs.Fits.{type_of_comp};
+ghost use Rattle.cmm_tree.specs.View.{declared_view};
+ghost use Rattle.cmm_types.specs.Types.{type_bound, is_mutable};
+ghost use Rattle.cmm_walks.specs.Walks.{is_address};
+
+use bs_words::{Comp, Ty};
+use cmm_tree::Declared;
+use std::alloc::AllocError;
+
+/// The number behind this one. That there is none counts as want of memory.
+pub fn after(number: u32) -> Result<u32, AllocError>
+    ensures { IfOk result (λ next. next ≡ suc number) }
+{
+    if number == u32::MAX {
+        return Err(AllocError);
+    }
+    Ok(number + 1)
+}
+
+/// The slot that lies `count` behind this one.
+pub fn behind(slot: u32, count: usize) -> Result<u32, AllocError>
+    ensures { IfOk result (λ next. next ≡ slot + count) }
+{
+    if count > (u32::MAX - slot) as usize {
+        return Err(AllocError);
+    }
+    Ok(slot + count as u32)
+}
+
+pub fn is_address(ty: Ty) -> bool
+    ensures { result ≡ is_address ty }
+{
+    match ty {
+        Ty::Addr => true,
+        _ => false,
+    }
+}
+
+pub fn type_of_comp(comp: Comp) -> Ty
+    ensures { result ≡ type_of_comp comp }
+{
+    match comp {
+        Comp::Int => Ty::Int,
+        Comp::Val => Ty::Val,
+        Comp::Addr => Ty::Addr,
+        Comp::Float => Ty::Never,
+    }
+}
+
+/// The type of a name that is bound to a value of this type.
+pub fn type_bound(declared: Option<Declared>, ty: Ty) -> Ty
+    ensures { result ≡ type_bound (option_map declared_view declared) ty }
+{
+    match declared {
+        None => ty,
+        Some(declared) => type_of_comp(declared.comp),
+    }
+}
+
+/// Whether an assignment may change the name.
+pub fn is_mutable(declared: Option<Declared>) -> bool
+    ensures { result ≡ is_mutable (option_map declared_view declared) }
+{
+    match declared {
+        None => false,
+        Some(_) => true,
+    }
+}

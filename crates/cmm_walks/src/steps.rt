@@ -1,0 +1,265 @@
+//! The nodes of a function: each cell's task, and the cells that may come next.
+ghost use Rattle.std.specs.Prelude.{◌+◌, ◌∷◌, ◌++◌, [], List, length, IfOk};
+ghost use Rattle.cmm_tree.specs.View.{expr_view, params_view, label_view};
+ghost use Rattle.cmm_types.specs.Annotated.{IsAnnotated};
+ghost use Rattle.cmm_types.specs.Lists.{AreBindingsAnnotated, AreCasesAnnotated, AreHandlersAnnotated};
+ghost use Rattle.cmm_types.specs.Rows.{bindings_of, cases_of};
+ghost use Rattle.cmm_types.specs.Types.{with_bindings, with_parameters};
+ghost use Rattle.cmm_walks.specs.Walks.{Slotted, Evaluates, Enters, OneOf, MayRaise, Raises, Exits, names, bodies, parameters_bound};
+ghost use Rattle.cmm_walks.specs.Cells.{cells, scope_at, tasks_at, tasks_in, handler_tasks};
+ghost use Rattle.cmm_walks.specs.Sound.{IsSound, IsBelow, IsHeld, IsReady, IsScope, HandlersAt, Steps, AddsBodies};
+
+use crate::items::{Action, Cells, Item};
+use crate::node::{Node, any_of, forked, last, quiet, telling};
+use crate::numbers::{after, behind, is_address, type_of_comp};
+use cmm_tree::{Binding, Case, Expr, Handler, Label, Param};
+use std::alloc::{AllocError, Global};
+
+impl<'a> Cells<'a> {
+    /// The node of an expression.
+    fn evaluate(
+        &mut self,
+        alloc: Global,
+        scope: u32,
+        slot: u32,
+        expr: &'a Expr,
+        rest: u32,
+    ) -> Result<Node, AllocError>
+        ensures { IfOk result (λ node. (s : List Slotted) → IsReady (cells self.old) rest → IsScope (cells self.old) scope s → IsAnnotated (names s) expr.now → Steps (cells self.old) (cells self.new) (Evaluates s slot (expr_view expr.now) ∷ tasks_at (cells self.old) rest) node) }
+    {
+        let cell = self.form(scope, slot, expr, rest)?;
+        let node = quiet(alloc, cell)?;
+        Ok(node)
+    }
+
+    /// The node of bindings and what is evaluated in their scope.
+    fn enter(
+        &mut self,
+        alloc: Global,
+        scope: u32,
+        slot: u32,
+        bindings: &'a [Binding],
+        body: &'a Expr,
+        rest: u32,
+    ) -> Result<Node, AllocError>
+        ensures { IfOk result (λ node. (s : List Slotted) → IsReady (cells self.old) rest → IsScope (cells self.old) scope s → AreBindingsAnnotated (names s) bindings.now → IsAnnotated (with_bindings (names s) (bindings_of bindings.now)) body.now → Steps (cells self.old) (cells self.new) (Enters s slot (bindings_of bindings.now) (expr_view body.now) ∷ tasks_at (cells self.old) rest) node) }
+    {
+        let cell = self.entering(scope, slot, bindings, body, rest)?;
+        let node = quiet(alloc, cell)?;
+        Ok(node)
+    }
+
+    /// The node of a choice of two.
+    fn either(
+        &mut self,
+        alloc: Global,
+        scope: u32,
+        slot: u32,
+        on_true: &'a Expr,
+        on_false: &'a Expr,
+        rest: u32,
+    ) -> Result<Node, AllocError>
+        ensures { IfOk result (λ node. (s : List Slotted) → IsReady (cells self.old) rest → IsScope (cells self.old) scope s → IsAnnotated (names s) on_true.now → IsAnnotated (names s) on_false.now → Steps (cells self.old) (cells self.new) (OneOf s slot (expr_view on_true.now ∷ expr_view on_false.now ∷ []) ∷ tasks_at (cells self.old) rest) node) }
+    {
+        let first = self.eval(scope, slot, on_true, rest)?;
+        let second = self.eval(scope, slot, on_false, rest)?;
+        let node = forked(alloc, first, second)?;
+        Ok(node)
+    }
+
+    /// Cells for the bodies of the cases, each with `rest` behind it.
+    fn bodies(
+        &mut self,
+        scope: u32,
+        slot: u32,
+        cases: &'a [Case],
+        rest: u32,
+        next: &mut Vec<u32>,
+    ) -> Result<(), AllocError>
+        ensures { IfOk result (λ _. (s : List Slotted) → IsReady (cells self.old) rest → IsScope (cells self.old) scope s → AreCasesAnnotated (names s) cases.now → AddsBodies (cells self.old) (cells self.new) s slot (tasks_at (cells self.old) rest) next.old.items next.new.items (bodies (cases_of cases.now))) }
+    {
+        match cases {
+            [] => Ok(()),
+            [first, others @ ..] => {
+                let body = self.eval(scope, slot, &first.body, rest)?;
+                next.push(body)?;
+                self.bodies(scope, slot, others, rest, next)?;
+                Ok(())
+            }
+        }
+    }
+
+    /// The node of a choice among the cases.
+    fn one_of(
+        &mut self,
+        alloc: Global,
+        scope: u32,
+        slot: u32,
+        cases: &'a [Case],
+        rest: u32,
+    ) -> Result<Node, AllocError>
+        ensures { IfOk result (λ node. (s : List Slotted) → IsReady (cells self.old) rest → IsScope (cells self.old) scope s → AreCasesAnnotated (names s) cases.now → Steps (cells self.old) (cells self.new) (OneOf s slot (bodies (cases_of cases.now)) ∷ tasks_at (cells self.old) rest) node) }
+    {
+        let mut next = Vec::new(alloc);
+        self.bodies(scope, slot, cases, rest, &mut next)?;
+        Ok(any_of(next))
+    }
+
+    /// The node of a call or a test.
+    fn go_on_or_raise(&mut self, alloc: Global, rest: u32) -> Result<Node, AllocError>
+        ensures { IfOk result (λ node. IsReady (cells self.old) rest → Steps (cells self.old) (cells self.new) (MayRaise ∷ tasks_at (cells self.old) rest) node) }
+    {
+        let raises = self.raises(rest)?;
+        let node = forked(alloc, rest, raises)?;
+        Ok(node)
+    }
+
+    /// The node of a raise.
+    fn leave_by_raise(&self, alloc: Global, rest: u32) -> Result<Node, AllocError>
+        ensures { IfOk result (λ node. IsSound (cells self.now) → Steps (cells self.now) (cells self.now) (Raises ∷ tasks_at (cells self.now) rest) node) }
+    {
+        match self.raise(rest) {
+            None => Ok(last(alloc)),
+            Some(cell) => {
+                let node = quiet(alloc, cell)?;
+                Ok(node)
+            }
+        }
+    }
+
+    /// The node of an exit.
+    fn leave_by_exit(&self, alloc: Global, label: &Label, rest: u32) -> Result<Node, AllocError>
+        ensures { IfOk result (λ node. IsSound (cells self.now) → Steps (cells self.now) (cells self.now) (Exits (label_view label.now) ∷ tasks_at (cells self.now) rest) node) }
+    {
+        let found = self.exit(label, rest)?;
+        match found {
+            None => Ok(last(alloc)),
+            Some(cell) => {
+                let node = quiet(alloc, cell)?;
+                Ok(node)
+            }
+        }
+    }
+
+    /// The node of the first parameter of a handler.
+    fn enter_bound(
+        &mut self,
+        alloc: Global,
+        inner: u32,
+        slot: u32,
+        free: u32,
+        param: &'a Param,
+        others: &'a [Param],
+        body: &'a Expr,
+        caught: u32,
+    ) -> Result<Node, AllocError>
+        ensures { IfOk result (λ node. (s : List Slotted) → IsReady (cells self.old) caught → IsScope (cells self.old) inner s → IsAnnotated (names s) body.now → Steps (cells self.old) (cells self.new) (parameters_bound slot (params_view (param.now ∷ others.now)) ++ (Evaluates s free (expr_view body.now) ∷ tasks_at (cells self.old) caught)) node) }
+    {
+        let next = after(slot)?;
+        let evaluated = self.eval(inner, free, body, caught)?;
+        let bound = self.parameters_bound(next, others, evaluated)?;
+        let address = is_address(type_of_comp(param.comp));
+        let at = param.at;
+        let node = telling(alloc, Action::Binds { slot, address, at }, bound)?;
+        Ok(node)
+    }
+
+    /// The node of a handler in the scope of its parameters.
+    fn enter_handler(
+        &mut self,
+        alloc: Global,
+        inner: u32,
+        slot: u32,
+        params: &'a [Param],
+        body: &'a Expr,
+        caught: u32,
+    ) -> Result<Node, AllocError>
+        ensures { IfOk result (λ node. (s : List Slotted) → IsReady (cells self.old) caught → IsScope (cells self.old) inner s → IsAnnotated (names s) body.now → Steps (cells self.old) (cells self.new) (parameters_bound slot (params_view params.now) ++ (Evaluates s (slot + length (params_view params.now)) (expr_view body.now) ∷ tasks_at (cells self.old) caught)) node) }
+    {
+        let free = behind(slot, params.len())?;
+        match params {
+            [] => self.evaluate(alloc, inner, free, body, caught),
+            [param, others @ ..] => {
+                self.enter_bound(alloc, inner, slot, free, param, others, body, caught)
+            }
+        }
+    }
+
+    /// The node of a handler.
+    fn handle(
+        &mut self,
+        alloc: Global,
+        scope: u32,
+        slot: u32,
+        handlers: &'a [Handler],
+        own: &'a Handler,
+        first: u32,
+        rest: u32,
+    ) -> Result<Node, AllocError>
+        ensures { IfOk result (λ node. (s : List Slotted) → IsReady (cells self.old) rest → IsScope (cells self.old) scope s → AreHandlersAnnotated (names s) handlers.now → HandlersAt (length (cells self.old)) (tasks_at (cells self.old)) first s slot handlers.now (tasks_at (cells self.old) rest) handlers.now → IsAnnotated (with_parameters (params_view own.now.params.items) (names s)) own.now.body → Steps (cells self.old) (cells self.new) (handler_tasks s slot handlers.now (tasks_at (cells self.old) rest) own.now) node) }
+    {
+        let in_handler = true;
+        let caught = self.push(Item::Catches {
+            scope,
+            slot,
+            in_handler,
+            handlers,
+            first,
+            rest,
+        })?;
+        let params = own.params.as_slice();
+        let inner = self.with_slots(scope, slot, params)?;
+        let node = self.enter_handler(alloc, inner, slot, params, &own.body, caught)?;
+        Ok(node)
+    }
+
+    /// The node of a cell.
+    pub fn step(&mut self, alloc: Global, item: Item<'a>) -> Result<Node, AllocError>
+        ensures { IfOk result (λ node. IsSound (cells self.old) → IsBelow (length (cells self.old)) item.entry → IsHeld (length (cells self.old)) (scope_at (cells self.old)) (tasks_at (cells self.old)) item.entry → Steps (cells self.old) (cells self.new) (tasks_in (scope_at (cells self.old)) (tasks_at (cells self.old)) item.entry) node) }
+    {
+        match item {
+            Item::Empty => Ok(last(alloc)),
+            Item::Named { .. } => Ok(last(alloc)),
+            Item::Does { action, rest } => telling(alloc, action, rest),
+            Item::Evaluates {
+                scope,
+                slot,
+                expr,
+                rest,
+            } => self.evaluate(alloc, scope, slot, expr, rest),
+            Item::Enters {
+                scope,
+                slot,
+                bindings,
+                body,
+                rest,
+            } => self.enter(alloc, scope, slot, bindings, body, rest),
+            Item::Either {
+                scope,
+                slot,
+                on_true,
+                on_false,
+                rest,
+            } => self.either(alloc, scope, slot, on_true, on_false, rest),
+            Item::OneOf {
+                scope,
+                slot,
+                cases,
+                rest,
+            } => self.one_of(alloc, scope, slot, cases, rest),
+            Item::MayRaise { rest } => self.go_on_or_raise(alloc, rest),
+            Item::Raises { rest } => self.leave_by_raise(alloc, rest),
+            Item::Exits { label, rest } => self.leave_by_exit(alloc, label, rest),
+            Item::Catches { rest, .. } => quiet(alloc, rest),
+            Item::Handler {
+                scope,
+                slot,
+                handlers,
+                own,
+                first,
+                rest,
+            } => self.handle(alloc, scope, slot, handlers, own, first, rest),
+            Item::Handles { rest, .. } => quiet(alloc, rest),
+        }
+    }
+}
