@@ -5,7 +5,7 @@ use Rattle.std.specs.Prelude.{◌≡◌, ℕ, ◌<◌, ◌≤◌, Bool, true, fa
 abbrev pub has : List Bool → ℕ → Bool
 has set k = slice_index_or set k false
 
--- the members of both, of the size of the first
+-- the members of either, of the size of the first
 abbrev pub union : List Bool → List Bool → List Bool
 union [] others = []
 union (x ∷ xs) [] = x ∷ xs

@@ -194,10 +194,12 @@ ready_for within label [] = None
 ready_for within label (r ∷ handlers) =
     first_ready (same_label label r.label && not (is_bare label && within)) r (ready_for within label handlers)
 
--- the arguments of an exit fit the handler's parameters, tested in their order
+-- the arguments of an exit fit the handler's parameters, tested in their order; no accepted text has an exit
+-- with another number of arguments than its handler has parameters
 abbrev pub entered : ℕ → List Parameter → List Value → World → Evaluation → Evaluation
+entered end [] [] w go = go
 entered end (p ∷ params) (v ∷ values) w go = tested end (type_of_comp p.comp) v w (entered end params values w go)
-entered end _ _ w go = go
+entered end _ _ w go = Stops (NotProper BadCall) w
 
 abbrev pub scoped_parameter : Parameter → Scoped
 scoped_parameter p = record { name = p.name; type = type_of_comp p.comp; mutable = false }

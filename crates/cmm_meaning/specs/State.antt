@@ -5,8 +5,8 @@ use Rattle.bs_words.specs.Observed.{Made}
 use Rattle.bs_words.specs.declared.values.Value.{Value}
 use Rattle.cmm_types.specs.Types.{Scoped}
 
--- What a function or an external call did, where that is handed in: it gave a value or none, or raised,
--- and left this memory.
+-- What a function or an external call did, where that is handed in: it gave a value or none, or raised. A
+-- function left this memory; an external call leaves the memory as it was.
 pub data Doing : Type 0 where
   Gave : (value : Option Value) (memory : Memory) → Doing
   Threw : (value : Value) (memory : Memory) → Doing

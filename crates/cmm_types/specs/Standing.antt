@@ -67,7 +67,7 @@ pub data InHandlers (params : List Parameter) (e : Expression) : Handlers → Ty
   first : {at : ℕ} {label : LabelTree} {rest : Handlers} → InHandlers params e (Handle at label params e rest)
   later : {at : ℕ} {label : LabelTree} {others : List Parameter} {other : Expression} {rest : Handlers} → InHandlers params e rest → InHandlers params e (Handle at label others other rest)
 
--- `InBindings names value bindings inner`: this is what one of the bindings binds, and it stands with the
+-- `InBindings value inner names bindings`: this is what one of the bindings binds, and it stands with the
 -- names `inner` in scope: those before the bindings, and those that the earlier bindings bind
 pub data InBindings (value : Expression) (inner : List Scoped) : List Scoped → Bindings → Type 0 where
   first : {at : ℕ} {name : List ℕ} {declared : _} {rest : Bindings} → InBindings value inner inner (Bind at name declared value rest)

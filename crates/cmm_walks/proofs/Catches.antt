@@ -183,11 +183,11 @@ handler-held n scopes t scope slot all first rest s e a r (item.Handler scope' s
     let same : s ≡ scopes scope' = sym e ∙ ap scopes (sym h.0) in
     let P : List Slotted → Type 0 = λ l. AreHandlersAnnotated (names l) handlers.now × HandlersAt n t first' l slot' handlers.now (t rest') handlers.now × HandlerType l own.now in
     let Hs : List Handler → Type 0 = λ l. AreHandlersAnnotated (names s) l in
-    let R1 : List Handler → Type 0 = λ l. HandlersAt n t first s slot l (t rest) l in
-    let R2 : ℕ → Type 0 = λ f. HandlersAt n t f s slot handlers.now (t rest) handlers.now in
-    let R3 : ℕ → Type 0 = λ b. HandlersAt n t first' s b handlers.now (t rest) handlers.now in
-    let R4 : ℕ → Type 0 = λ q. HandlersAt n t first' s slot' handlers.now (t q) handlers.now in
-    subst P same (subst Hs (sym h.2) a, subst R4 (sym h.4) (subst R3 (sym h.1) (subst R2 (sym h.3) (subst R1 (sym h.2) r))), h.5)
+    let FromHandlers : List Handler → Type 0 = λ l. HandlersAt n t first s slot l (t rest) l in
+    let FromFirst : ℕ → Type 0 = λ f. HandlersAt n t f s slot handlers.now (t rest) handlers.now in
+    let FromBody : ℕ → Type 0 = λ b. HandlersAt n t first' s b handlers.now (t rest) handlers.now in
+    let FromRest : ℕ → Type 0 = λ q. HandlersAt n t first' s slot' handlers.now (t q) handlers.now in
+    subst P same (subst Hs (sym h.2) a, subst FromRest (sym h.4) (subst FromBody (sym h.1) (subst FromFirst (sym h.3) (subst FromHandlers (sym h.2) r))), h.5)
 handler-held n scopes t scope slot all first rest s e a r (item.Handles scope' slot' name_at name handler entry rest') h = absurd h
 
 -- what a catch needs of its handlers

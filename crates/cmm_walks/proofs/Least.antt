@@ -13,9 +13,6 @@ use Rattle.cmm_walks.proofs.Elements.{no_element, only, itself}
 
 -- ---- the order
 
-same_next : (a b c d e f : ℕ) → a ≡ b → b ≡ c → a ≡ c
-same_next a b c d e f p q = p ∙ q
-
 pub before-trans : (b p u b' p' u' b'' p'' u'' : ℕ) → Before b p u b' p' u' → Before b' p' u' b'' p'' u'' → Before b p u b'' p'' u''
 before-trans b p u b' p' u' b'' p'' u'' x y =
     elim x [

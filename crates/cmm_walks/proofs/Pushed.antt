@@ -93,9 +93,6 @@ tasks-extend a b c p h = ap (λ (l : List Item). tasks_at l c) p.is ∙ tasks-ke
 pub scope-extend : (a b : List Item) (c : ℕ) → Extends a b → c < length a → scope_at b c ≡ scope_at a c
 scope-extend a b c p h = ap (λ (l : List Item). scope_at l c) p.is ∙ scope-kept p.more a c h
 
-pub item-extend : (a b : List Item) (c : ℕ) → Extends a b → c < length a → item_at b c ≡ item_at a c
-item-extend a b c p h = ap (λ (l : List Item). item_at l c) p.is ∙ item-kept p.more a c h
-
 pub kept-scope : {a b : List Item} {c : ℕ} {s : List Slotted} → Extends a b → IsScope a c s → IsScope b c s
 kept-scope {a = a} {b = b} {c = c} p h = record { within = (let l : length a ≤ length b = extends-length a b p in omega (arith, h.within)); is = scope-extend a b c p h.within ∙ h.is }
 

@@ -12,7 +12,7 @@ use Rattle.small_code.specs.Compiled.{compiled, function_words, row_at, rows_fro
 use Rattle.small_code.specs.Frames.{HasLeastFrame}
 use Rattle.small_code.specs.TooLarge.{first_too_large}
 use Rattle.small_code.proofs.Limits.{bytes_of_rows, length-compiled, none_passes}
-use Rattle.small_code.proofs.Sizes.{length-function, length-row, expression_length-most}
+use Rattle.small_code.proofs.Sizes.{length-function, row-length, expression_length-most}
 use Rattle.small_code.proofs.Types.{by_recursion}
 
 no_tries : (e : SmallExpression) → tries_in (embedded e) ≡ 0
@@ -64,7 +64,7 @@ words_most : (f : SmallFunctionTree) → IsSmallFunction f → length (function_
 words_most f small = omega (arith, length-function f, expression_length-most f.body, small.tokens_cover)
 
 row_most : (offset : ℕ) (f : SmallFunctionTree) → IsSmallFunction f → length (func_bytes (row_at offset f)) ≤ most_words (embedded_function f)
-row_most offset f small = omega (arith, length-row offset f, small.symbol.1, small.few_params, small.tokens_cover)
+row_most offset f small = omega (arith, row-length offset f, small.symbol.1, small.few_params, small.tokens_cover)
 
 sum-cons : (f : FunctionTree) (fs : List FunctionTree) → sum_by most_words (f ∷ fs) ≡ most_words f + sum_by most_words fs
 sum-cons f fs = omega (arith, sum_by_from most_words (0 + most_words f) fs)

@@ -14,7 +14,7 @@ use Rattle.image_form.specs.Image.{func_bytes}
 use Rattle.image_form.specs.Tables.{Func, func}
 use Rattle.image_form.specs.declared.image.FuncRow.{FuncRow}
 use Rattle.small_code.specs.Compiled.{stub, function_words, row_at, rows_from}
-use Rattle.small_code.proofs.Sizes.{length-row}
+use Rattle.small_code.proofs.Sizes.{row-length}
 
 -- the first n functions
 abbrev pub functions_first : ℕ → List SmallFunction → List SmallFunctionTree
@@ -52,7 +52,7 @@ row_bytes-more offset fs f =
     ∙ ap length (flat_map-append func_bytes (rows_from offset fs) (row_at next f ∷ []))
     ∙ length-append (flat_map func_bytes (rows_from offset fs)) (func_bytes (row_at next f) ++ [])
     ∙ ap (λ xs. length (flat_map func_bytes (rows_from offset fs)) + length xs) (append-nil (func_bytes (row_at next f)))
-    ∙ ap (λ n. length (flat_map func_bytes (rows_from offset fs)) + n) (length-row next f)
+    ∙ ap (λ n. length (flat_map func_bytes (rows_from offset fs)) + n) (row-length next f)
 
 pub length-functions : (fs : List SmallFunction) → length (map function_view fs) ≡ length fs
 length-functions fs = length-map fs function_view
@@ -95,7 +95,7 @@ module _ (items : List SmallFunction) (k : ℕ) (f : SmallFunction) (lt : k < le
   pub row_sizes_step : (bytes row : ℕ) → row ≡ length (func_bytes (row_at 16 (function_view f))) → bytes ≡ 4 + length (flat_map func_bytes (rows_from 16 (functions_first k items))) → bytes + row ≡ 4 + length (flat_map func_bytes (rows_from 16 (functions_first (k + 1) items)))
   row_sizes_step bytes row of_row of_bytes =
       let e = ap (λ fs. length (flat_map func_bytes (rows_from 16 fs))) first_more ∙ row_bytes-more 16 (functions_first k items) (function_view f) in
-      omega (arith, e, length-row 16 (function_view f))
+      omega (arith, e, row-length (16) (function_view f))
 
   pub code_sizes_step : (bytes words : ℕ) → words ≡ length (function_words (function_view f)) → bytes ≡ 16 + 4 * length (flat_map function_words (functions_first k items)) → bytes + 4 * words ≡ 16 + 4 * length (flat_map function_words (functions_first (k + 1) items))
   code_sizes_step bytes words of_words of_bytes =

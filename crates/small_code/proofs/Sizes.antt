@@ -100,5 +100,5 @@ unfolding func_bytes
 length-func row =
     omega (arith, length_six (name_bytes row.name) (le32 row.offset) (le32 row.words) (le32 row.frame) (params_bytes row.params) (ret_byte row.result), length-name row.name, length-le32 row.offset, length-le32 row.words, length-le32 row.frame, length-params row.params)
 
-pub length-row : (offset : ℕ) (f : SmallFunctionTree) → length (func_bytes (row_at offset f)) ≡ 16 + length f.name + length f.params
-length-row offset f = length-func (row_at offset f) ∙ ap (λ n. 16 + length f.name + n) (length-map f.params (λ (p : Parameter). p.comp))
+pub row-length : (offset : ℕ) (f : SmallFunctionTree) → length (func_bytes (row_at offset f)) ≡ 16 + length f.name + length f.params
+row-length offset f = length-func (row_at offset f) ∙ ap (λ n. 16 + length f.name + n) (length-map f.params (λ (p : Parameter). p.comp))
