@@ -41,9 +41,10 @@ abbrev pub lone_world : Memory → List Doing → ℕ → World
 lone_world memory doings n =
     record { left = n; stack_need = 0; memory = memory; made = []; answers = []; asked = []; doings = doings }
 
--- the evaluation of one function on these arguments: the end of the data, the values of symbols and the
--- parameters of the file's functions are given, and so is what the calls do, first to last
-abbrev pub alone : ℕ → (List ℕ → Option Value) → List (List Comp) → ℕ → FunctionTree → List Value → Memory → List Doing → ℕ → Evaluation
-alone end symbol parameters frame f arguments memory doings n =
+-- the evaluation of one function on these arguments, with so many stack bytes below it: the end of the data,
+-- the values of symbols and the parameters of the file's functions are given, and so is what the calls do,
+-- first to last
+abbrev pub alone : ℕ → (List ℕ → Option Value) → List (List Comp) → ℕ → FunctionTree → List Value → ℕ → Memory → List Doing → ℕ → Evaluation
+alone end symbol parameters frame f arguments below memory doings n =
     let s : Surroundings = record { end = end; symbol = symbol; parameters = parameters; call = call_inside end; external = call_outside } in
-    activated s frame (Some f) arguments 0 (lone_world memory doings n)
+    activated s frame (Some f) arguments below (lone_world memory doings n)
