@@ -1,14 +1,16 @@
 -- What each step of the front tells of a text.
-use Rattle.std.proofs.Common.{◌≡◌, ℕ, List, Result, Ok, Err, IfOk, IfErr, sym, subst}
+use Rattle.std.proofs.Common.{◌≡◌, ℕ, List, None, Result, Ok, Err, IfOk, IfErr, sym, subst}
 use Rattle.bs_fault.specs.declared.fault.Fault.{Fault}
 use Rattle.bs_fault.specs.declared.fault.Fault.TheVariants.{AddrLive}
 use Rattle.bs_fault.specs.declared.fault.FrontError.{FrontError}
 use Rattle.bs_fault.specs.declared.fault.FrontError.TheVariants as error
+use Rattle.bs_words.specs.Contents.{contents}
+use Rattle.cmm_data.specs.Faults.{data_fault_of}
 use Rattle.cmm_tree.specs.Tree.{FileTree}
 use Rattle.cmm_tree.specs.View.{file_view}
 use Rattle.cmm_types.specs.Faults.{TypeFault}
 use Rattle.cmm_walks.specs.AddrLive.{IsLive}
-use Rattle.cmm_types.specs.Typing.{IsFaultTold, file_of}
+use Rattle.cmm_types.specs.Typing.{IsFaultTold, AreItemsAnnotated, file_of}
 use Rattle.cmm_types.specs.declared.typed.Typed.{Typed}
 use Rattle.cmm_walks.specs.Checked.{typed_of}
 use Rattle.cmm_walks.specs.Refusal.{IsRefusal}
@@ -54,3 +56,17 @@ checked_file text typed (Ok checked) read faultless same settled =
     let whole : IsFileOf text (file_view (file_of typed)) = record { read = read; typed = faultless; settled = settled } in
     subst (λ (v : Typed). IsFileOf text (file_view (file_of v))) (sym same) whole
 checked_file text typed (Err e) read faultless same settled = tt
+
+pub checked_annotated : (typed : Typed) (r : Result Checked FrontError)
+    → AreItemsAnnotated (contents (file_of typed).items)
+    → IfOk r (λ (checked : Checked). typed_of checked ≡ typed)
+    → IfOk r (λ (checked : Checked). AreItemsAnnotated (contents (file_of (typed_of checked)).items))
+checked_annotated typed (Ok checked) is same = subst (λ (v : Typed). AreItemsAnnotated (contents (file_of v).items)) (sym same) is
+checked_annotated typed (Err e) is same = tt
+
+pub checked_placed : (typed : Typed) (r : Result Checked FrontError)
+    → data_fault_of (file_view (file_of typed)) ≡ None
+    → IfOk r (λ (checked : Checked). typed_of checked ≡ typed)
+    → IfOk r (λ (checked : Checked). data_fault_of (file_view (file_of (typed_of checked))) ≡ None)
+checked_placed typed (Ok checked) is same = subst (λ (v : Typed). data_fault_of (file_view (file_of v)) ≡ None) (sym same) is
+checked_placed typed (Err e) is same = tt

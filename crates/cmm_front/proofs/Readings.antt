@@ -5,9 +5,10 @@ use Rattle.cmm_grammar.specs.Reading.{Outcome, Read, Stops, items_at}
 use Rattle.cmm_lex.specs.Lexing.{Splits, first_range}
 use Rattle.cmm_lex.specs.Token.{TokenTree}
 use Rattle.cmm_lex.proofs.Languages.{AreBytes}
-use Rattle.cmm_limits.specs.Leftmost.{Faultless}
+use Rattle.cmm_limits.specs.Leftmost.{Faultless, one_of, here, second}
 use Rattle.cmm_tree.specs.Tree.{ItemTree, FileTree}
 use Rattle.cmm_grammar.specs.Spelling.{nesting}
+use Rattle.cmm_data.specs.Faults.{data_fault_of}
 use Rattle.cmm_reader.specs.Text.{longest, file_faults, ReadsAs}
 use Rattle.cmm_reader.specs.Telling.{Tells, IsReading, too_long, by_tokens}
 use Rattle.cmm_reader.proofs.One.{one-reading}
@@ -65,3 +66,12 @@ read_of text _ file (by_tokens tokens lexing result short cut tells) same =
 
 pub is_read : (text : List ℕ) (file : FileTree) → ReadsAs text (Ok file) → IsRead text file
 is_read text file h = read_of text (Ok file) file (said_reading text (Ok file) h) refl
+
+no_fault : (o : Option Fault) → Faultless (one_of o) → o ≡ None
+no_fault None h = refl
+no_fault (Some f) h = absurd (h f here)
+
+-- the data of a text that is read has a place
+pub is_placed : (text : List ℕ) (file : FileTree) → ReadsAs text (Ok file) → data_fault_of file ≡ None
+is_placed text file h =
+    no_fault (data_fault_of file) (λ told among. (is_read text file h).faultless told (second _ _ (second _ _ among)))

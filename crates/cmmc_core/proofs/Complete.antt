@@ -10,7 +10,7 @@ use Rattle.cmm_lex.proofs.Languages.{AreBytes}
 use Rattle.cmm_tree.specs.Built.{not_built}
 use Rattle.cmm_tree.specs.Tree.{FileTree}
 use Rattle.command_line.proofs.Unique.{command-unique, command-formed}
-use Rattle.command_line.specs.Command.{IsCommand, CommandTree, CompileCommand, RunCommand, RunTree}
+use Rattle.command_line.specs.Command.{IsCommand, CommandTree, CompileCommand, RunCommand, CheckCommand, RunTree, CheckTree}
 use Rattle.command_line.specs.Words.{WellFormed}
 use Rattle.correctness.specs.Bounds.{IsRoomy}
 use Rattle.image_form.specs.Tables.{Tables, Func}
@@ -18,13 +18,16 @@ use Rattle.rv_machine.specs.Loading.{func_named, words_of_args}
 use Rattle.small_code.specs.Compiled.{compiled}
 use Rattle.small_code.specs.TooLarge.{first_too_large}
 use Rattle.small_code.specs.Tree.{SmallFileTree, embedded_file}
+use Rattle.text_check.specs.Arguments.{NamesNone, HasUnfit, IsCall}
+use Rattle.text_check.specs.Check.{IsCheckOf, HasNoEntry, IsUnfitFor, IsTooLargeToCheck}
+use Rattle.text_check.proofs.Called.{named_none, call_unfit}
 use Rattle.text_compile.proofs.Embedded.{one_small}
 use Rattle.text_compile.specs.Compile.{IsSmallFileOf, IsImageOf, IsNotBuilt, IsTooLarge}
 use Rattle.cmmc_core.specs.Compile.{Reads}
-use Rattle.cmmc_core.specs.Complete.{NoneRose, Is, CompileComplete, RunComplete, Complete}
+use Rattle.cmmc_core.specs.Complete.{NoneRose, Is, CompileComplete, RunComplete, CheckComplete, Complete}
 use Rattle.cmmc_core.specs.Effects.{Effects, Side, Rose, IsRead}
 use Rattle.cmmc_core.specs.Ends as ends
-use Rattle.cmmc_core.specs.Ends.{Output, spelling, outcome, Cause, no_command, no_value, read_fault, fault, too_large, no_image, no_entry, unfit, no_memory, Ends, written, refused, out_fault, err_fault}
+use Rattle.cmmc_core.specs.Ends.{Output, spelling, outcome, checked, Cause, CheckCause, no_command, no_value, read_fault, fault, too_large, no_image, no_entry, unfit, unchecked, no_memory, Ends, written, refused, out_fault, err_fault}
 use Rattle.cmmc_core.specs.Run.{IsSpelling, ReadsImage, words_of_answers, longest_image}
 use Rattle.cmmc_core.proofs.Bytes.{bytes_of}
 use Rattle.cmmc_core.proofs.Reading.{all, too_long, IsRead-known}
@@ -68,6 +71,15 @@ module _ (words : List (List ℕ)) (source : Side) where
   compile_is_no_run : (ran : RunTree) → IsCommand words CompileCommand → IsCommand words (RunCommand ran) → ⊥
   compile_is_no_run ran c r = let e = command-unique words CompileCommand (RunCommand ran) c r in cc
 
+  compile_is_no_check : (check : CheckTree) → IsCommand words CompileCommand → IsCommand words (CheckCommand check) → ⊥
+  compile_is_no_check check c k = let e = command-unique words CompileCommand (CheckCommand check) c k in cc
+
+  run_is_no_check : (ran : RunTree) (check : CheckTree) → IsCommand words (RunCommand ran) → IsCommand words (CheckCommand check) → ⊥
+  run_is_no_check ran check r k = let e = command-unique words (RunCommand ran) (CheckCommand check) r k in cc
+
+  one_check : (check other : CheckTree) → IsCommand words (CheckCommand check) → IsCommand words (CheckCommand other) → other ≡ check
+  one_check check other k o = let e = command-unique words (CheckCommand other) (CheckCommand check) o k in cc
+
   one_run : (ran other : RunTree) → IsCommand words (RunCommand ran) → IsCommand words (RunCommand other) → other ≡ ran
   one_run ran other r o = let e = command-unique words (RunCommand other) (RunCommand ran) o r in cc
 
@@ -76,6 +88,7 @@ module _ (words : List (List ℕ)) (source : Side) where
   no_command_end : (status : ℕ) → Told words source status → (WellFormed words → ⊥) → Is 2 status
   no_command_end status (output bytes z (spelling image is c)) not = absurd (not (command-formed words CompileCommand is))
   no_command_end status (output bytes z (outcome ran text is o)) not = absurd (not (command-formed words (RunCommand ran) is))
+  no_command_end status (output bytes z (checked ck lines is r)) not = absurd (not (command-formed words (CheckCommand ck) is))
   no_command_end status (cause line (no_command n k)) not = inl refl
   no_command_end status (cause line (no_value w n k)) not = absurd (not w)
   no_command_end status (cause line (read_fault c is r)) not = absurd (not (command-formed words c is))
@@ -85,11 +98,13 @@ module _ (words : List (List ℕ)) (source : Side) where
   no_command_end status (cause line (no_image ran w is r)) not = absurd (not (command-formed words (RunCommand ran) is))
   no_command_end status (cause line (no_entry ran is r)) not = absurd (not (command-formed words (RunCommand ran) is))
   no_command_end status (cause line (unfit ran is r)) not = absurd (not (command-formed words (RunCommand ran) is))
+  no_command_end status (cause line (unchecked ck s l is r)) not = absurd (not (command-formed words (CheckCommand ck) is))
   no_command_end status (cause line no_memory) not = inr refl
 
   no_value_end : (status : ℕ) → Told words source status → ((command : CommandTree) → IsCommand words command → ⊥) → Is 2 status
   no_value_end status (output bytes z (spelling image is c)) not = absurd (not CompileCommand is)
   no_value_end status (output bytes z (outcome ran text is o)) not = absurd (not (RunCommand ran) is)
+  no_value_end status (output bytes z (checked ck lines is r)) not = absurd (not (CheckCommand ck) is)
   no_value_end status (cause line (no_command n k)) not = inl refl
   no_value_end status (cause line (no_value w n k)) not = inl refl
   no_value_end status (cause line (read_fault c is r)) not = absurd (not c is)
@@ -99,11 +114,12 @@ module _ (words : List (List ℕ)) (source : Side) where
   no_value_end status (cause line (no_image ran w is r)) not = absurd (not (RunCommand ran) is)
   no_value_end status (cause line (no_entry ran is r)) not = absurd (not (RunCommand ran) is)
   no_value_end status (cause line (unfit ran is r)) not = absurd (not (RunCommand ran) is)
+  no_value_end status (cause line (unchecked ck s l is r)) not = absurd (not (CheckCommand ck) is)
   no_value_end status (cause line no_memory) not = inr refl
 
   -- ---- compile
 
-  module _ (text : List ℕ) (known : source.before ≡ Some text) (is : IsCommand words CompileCommand) (calm : Rose source → ⊥) where
+  module _ (text : List ℕ) (known : source.before ≡ Some text) where
     -- of a text with a file: what was read is the text
     of_file : (P : List ℕ → Type 0) (file : FileTree) → IsFileOf text file → Reads P source → AreBytes text × P text
     of_file P file f r =
@@ -141,36 +157,41 @@ module _ (words : List (List ℕ)) (source : Side) where
     same_file : (P : SmallFileTree → Type 0) (file other : SmallFileTree) → AreBytes text → IsSmallFileOf text file → IsSmallFileOf text other → P file → P other
     same_file P file other are h g p = subst P (one_small file other (one_file text (embedded_file file) (embedded_file other) are h.is_file g.is_file)) p
 
+  module _ (text : List ℕ) (known : source.before ≡ Some text) (is : IsCommand words CompileCommand) (calm : Rose source → ⊥) where
     fault_end : (status : ℕ) → Told words source status → (told : Fault) → HasFault text told → Is 3 status
-    fault_end status (output bytes z (spelling image i c)) f has = absurd (no_file _ f has c _ c.holds.is_file.is_file)
+    fault_end status (output bytes z (spelling image i c)) f has = absurd (no_file text known _ f has c _ c.holds.is_file.is_file)
     fault_end status (output bytes z (outcome ran text i o)) f has = absurd (compile_is_no_run ran is i)
+    fault_end status (output bytes z (checked ck lines i o)) f has = absurd (compile_is_no_check ck is i)
     fault_end status (cause line (no_command n k)) f has = absurd (n (command-formed words CompileCommand is))
     fault_end status (cause line (no_value w n k)) f has = absurd (n CompileCommand is)
     fault_end status (cause line (read_fault c i r)) f has = absurd (calm r)
     fault_end status (cause line (fault g i r)) f has = inl refl
     fault_end status (cause line (ends.not_built i r)) f has = inl refl
-    fault_end status (cause line (too_large l i r)) f has = absurd (no_file _ f has r _ r.holds.is_file.is_file)
+    fault_end status (cause line (too_large l i r)) f has = absurd (no_file text known _ f has r _ r.holds.is_file.is_file)
     fault_end status (cause line (no_image ran w i r)) f has = absurd (compile_is_no_run ran is i)
     fault_end status (cause line (no_entry ran i r)) f has = absurd (compile_is_no_run ran is i)
     fault_end status (cause line (unfit ran i r)) f has = absurd (compile_is_no_run ran is i)
+    fault_end status (cause line (unchecked ck s l i r)) f has = absurd (compile_is_no_check ck is i)
     fault_end status (cause line no_memory) f has = inr refl
 
     unbuilt_end : (status : ℕ) → Told words source status → (file : FileTree) → IsFileOf text file → not_built file ≡ true → Is 3 status
     unbuilt_end status (output bytes z (spelling image i c)) file has unbuilt =
-        let h = of_file (λ t. IsImageOf t image) file has c in
-        absurd (not_small file h.1.file h.0 has unbuilt h.1.is_file)
+        let h = of_file text known (λ t. IsImageOf t image) file has c in
+        absurd (not_small text known file h.1.file h.0 has unbuilt h.1.is_file)
     unbuilt_end status (output bytes z (outcome ran text i o)) file has unbuilt = absurd (compile_is_no_run ran is i)
+    unbuilt_end status (output bytes z (checked ck lines i o)) file has unbuilt = absurd (compile_is_no_check ck is i)
     unbuilt_end status (cause line (no_command n k)) file has unbuilt = absurd (n (command-formed words CompileCommand is))
     unbuilt_end status (cause line (no_value w n k)) file has unbuilt = absurd (n CompileCommand is)
     unbuilt_end status (cause line (read_fault c i r)) file has unbuilt = absurd (calm r)
     unbuilt_end status (cause line (fault g i r)) file has unbuilt = inl refl
     unbuilt_end status (cause line (ends.not_built i r)) file has unbuilt = inl refl
     unbuilt_end status (cause line (too_large l i r)) file has unbuilt =
-        let h = of_file (λ t. IsTooLarge t l) file has r in
-        absurd (not_small file h.1.file h.0 has unbuilt h.1.is_file)
+        let h = of_file text known (λ t. IsTooLarge t l) file has r in
+        absurd (not_small text known file h.1.file h.0 has unbuilt h.1.is_file)
     unbuilt_end status (cause line (no_image ran w i r)) file has unbuilt = absurd (compile_is_no_run ran is i)
     unbuilt_end status (cause line (no_entry ran i r)) file has unbuilt = absurd (compile_is_no_run ran is i)
     unbuilt_end status (cause line (unfit ran i r)) file has unbuilt = absurd (compile_is_no_run ran is i)
+    unbuilt_end status (cause line (unchecked ck s l i r)) file has unbuilt = absurd (compile_is_no_check ck is i)
     unbuilt_end status (cause line no_memory) file has unbuilt = inr refl
 
     fits_end : (status : ℕ) → Told words source status → (file : SmallFileTree) → IsSmallFileOf text file → Fits file → Is 0 status
@@ -178,14 +199,15 @@ module _ (words : List (List ℕ)) (source : Side) where
     fits_end status (cause line (no_command n k)) file small fits = absurd (n (command-formed words CompileCommand is))
     fits_end status (cause line (no_value w n k)) file small fits = absurd (n CompileCommand is)
     fits_end status (cause line (read_fault c i r)) file small fits = absurd (calm r)
-    fits_end status (cause line (fault g i r)) file small fits = absurd (no_fault (embedded_file file) g small.is_file r)
-    fits_end status (cause line (ends.not_built i r)) file small fits = absurd (is_built file small r)
+    fits_end status (cause line (fault g i r)) file small fits = absurd (no_fault text known (embedded_file file) g small.is_file r)
+    fits_end status (cause line (ends.not_built i r)) file small fits = absurd (is_built text known file small r)
     fits_end status (cause line (too_large l i r)) file small fits =
-        let h = of_file (λ t. IsTooLarge t l) (embedded_file file) small.is_file r in
-        absurd (some_none _ l h.1.passes (same_file Fits file h.1.file h.0 small h.1.is_file fits))
+        let h = of_file text known (λ t. IsTooLarge t l) (embedded_file file) small.is_file r in
+        absurd (some_none _ l h.1.passes (same_file text known Fits file h.1.file h.0 small h.1.is_file fits))
     fits_end status (cause line (no_image ran w i r)) file small fits = absurd (compile_is_no_run ran is i)
     fits_end status (cause line (no_entry ran i r)) file small fits = absurd (compile_is_no_run ran is i)
     fits_end status (cause line (unfit ran i r)) file small fits = absurd (compile_is_no_run ran is i)
+    fits_end status (cause line (unchecked ck s l i r)) file small fits = absurd (compile_is_no_check ck is i)
     fits_end status (cause line no_memory) file small fits = inr refl
 
     roomy_end : (status : ℕ) → Told words source status → (file : SmallFileTree) → IsSmallFileOf text file → IsRoomy (embedded_file file) → Is 0 status
@@ -193,30 +215,33 @@ module _ (words : List (List ℕ)) (source : Side) where
     roomy_end status (cause line (no_command n k)) file small roomy = absurd (n (command-formed words CompileCommand is))
     roomy_end status (cause line (no_value w n k)) file small roomy = absurd (n CompileCommand is)
     roomy_end status (cause line (read_fault c i r)) file small roomy = absurd (calm r)
-    roomy_end status (cause line (fault g i r)) file small roomy = absurd (no_fault (embedded_file file) g small.is_file r)
-    roomy_end status (cause line (ends.not_built i r)) file small roomy = absurd (is_built file small r)
+    roomy_end status (cause line (fault g i r)) file small roomy = absurd (no_fault text known (embedded_file file) g small.is_file r)
+    roomy_end status (cause line (ends.not_built i r)) file small roomy = absurd (is_built text known file small r)
     roomy_end status (cause line (too_large l i r)) file small roomy =
-        let h = of_file (λ t. IsTooLarge t l) (embedded_file file) small.is_file r in
-        absurd (h.1.not_roomy (same_file (λ f. IsRoomy (embedded_file f)) file h.1.file h.0 small h.1.is_file roomy))
+        let h = of_file text known (λ t. IsTooLarge t l) (embedded_file file) small.is_file r in
+        absurd (h.1.not_roomy (same_file text known (λ f. IsRoomy (embedded_file f)) file h.1.file h.0 small h.1.is_file roomy))
     roomy_end status (cause line (no_image ran w i r)) file small roomy = absurd (compile_is_no_run ran is i)
     roomy_end status (cause line (no_entry ran i r)) file small roomy = absurd (compile_is_no_run ran is i)
     roomy_end status (cause line (unfit ran i r)) file small roomy = absurd (compile_is_no_run ran is i)
+    roomy_end status (cause line (unchecked ck s l i r)) file small roomy = absurd (compile_is_no_check ck is i)
     roomy_end status (cause line no_memory) file small roomy = inr refl
 
     large_end : (status : ℕ) → Told words source status → (file : SmallFileTree) (large : Large) → IsSmallFileOf text file → Passes large file → Is 8 status
     large_end status (output bytes z (spelling image i c)) file large small passes =
-        let h = of_file (λ t. IsImageOf t image) (embedded_file file) small.is_file c in
-        absurd (some_none _ large (same_file (Passes large) file h.1.file h.0 small h.1.is_file passes) h.1.fits)
+        let h = of_file text known (λ t. IsImageOf t image) (embedded_file file) small.is_file c in
+        absurd (some_none _ large (same_file text known (Passes large) file h.1.file h.0 small h.1.is_file passes) h.1.fits)
     large_end status (output bytes z (outcome ran text i o)) file large small passes = absurd (compile_is_no_run ran is i)
+    large_end status (output bytes z (checked ck lines i o)) file large small passes = absurd (compile_is_no_check ck is i)
     large_end status (cause line (no_command n k)) file large small passes = absurd (n (command-formed words CompileCommand is))
     large_end status (cause line (no_value w n k)) file large small passes = absurd (n CompileCommand is)
     large_end status (cause line (read_fault c i r)) file large small passes = absurd (calm r)
-    large_end status (cause line (fault g i r)) file large small passes = absurd (no_fault (embedded_file file) g small.is_file r)
-    large_end status (cause line (ends.not_built i r)) file large small passes = absurd (is_built file small r)
+    large_end status (cause line (fault g i r)) file large small passes = absurd (no_fault text known (embedded_file file) g small.is_file r)
+    large_end status (cause line (ends.not_built i r)) file large small passes = absurd (is_built text known file small r)
     large_end status (cause line (too_large l i r)) file large small passes = inl refl
     large_end status (cause line (no_image ran w i r)) file large small passes = absurd (compile_is_no_run ran is i)
     large_end status (cause line (no_entry ran i r)) file large small passes = absurd (compile_is_no_run ran is i)
     large_end status (cause line (unfit ran i r)) file large small passes = absurd (compile_is_no_run ran is i)
+    large_end status (cause line (unchecked ck s l i r)) file large small passes = absurd (compile_is_no_check ck is i)
     large_end status (cause line no_memory) file large small passes = inr refl
 
 pub compile-complete : (words : List (List ℕ)) (source : Side) (text : List ℕ) (status : ℕ) → source.before ≡ Some text → IsCommand words CompileCommand → (Rose source → ⊥) → Told words source status → CompileComplete text status
@@ -258,6 +283,7 @@ module _ (words : List (List ℕ)) (source : Side) (bytes : List ℕ) (known : s
 
   run_told : (status : ℕ) → Told words source status → RunTold ran bytes status
   run_told status (output b z (spelling image i c)) = absurd (compile_is_no_run words source ran i is)
+  run_told status (output b z (checked ck lines i o)) = absurd (run_is_no_check words source ran ck is i)
   run_told status (output b z (outcome other text i o)) =
       let P : RunTree → Type 0 = λ r. RunTold r bytes status in
       subst P (one_run words source ran other is i) (ran_out z o.image o.entry o.args o.answers (of_image o.image o.reads) o.named o.suit o.answered)
@@ -271,6 +297,7 @@ module _ (words : List (List ℕ)) (source : Side) (bytes : List ℕ) (known : s
   run_told status (cause line (no_entry other i r)) =
       let P : RunTree → Type 0 = λ x. RunTold x bytes status in
       subst P (one_run words source ran other is i) (not_entry refl r.image (of_image r.image r.reads) r.unknown)
+  run_told status (cause line (unchecked ck s l i r)) = absurd (run_is_no_check words source ran ck is i)
   run_told status (cause line (unfit other i r)) =
       let P : RunTree → Type 0 = λ x. RunTold x bytes status in
       subst P (one_run words source ran other is i) (not_fit refl r.image r.entry (of_image r.image r.reads) r.named r.unfit)
@@ -344,10 +371,173 @@ module _ (ran : RunTree) (bytes : List ℕ) where
     no_image = image_end status t;
   }
 
+-- ---- check
+
+-- How a call of `check` ends.
+pub data CheckEnd (check : CheckTree) (source : Side) (status : ℕ) : Type 0 where
+  answered : (lines : List ℕ) → status ≡ 0 → Reads (λ text. IsCheckOf check text lines) source → CheckEnd check source status
+  because : (line : List ℕ) → CheckCause check source status line → CheckEnd check source status
+  nothing : status ≡ 9 → CheckEnd check source status
+
+module _ (words : List (List ℕ)) (source : Side) (text : List ℕ) (known : source.before ≡ Some text) (check : CheckTree) where
+  check_end : IsCommand words (CheckCommand check) → (Rose source → ⊥) → (status : ℕ) → Told words source status → CheckEnd check source status
+  check_end is calm status (output b z (spelling image i c)) = absurd (compile_is_no_check words source check i is)
+  check_end is calm status (output b z (outcome ran t i o)) = absurd (run_is_no_check words source ran check i is)
+  check_end is calm status (output b z (checked other lines i o)) =
+      let P : CheckTree → Type 0 = λ c. CheckEnd c source status in
+      subst P (one_check words source check other is i) (answered lines z o)
+  check_end is calm status (cause line (no_command n k)) = absurd (n (command-formed words (CheckCommand check) is))
+  check_end is calm status (cause line (no_value w n k)) = absurd (n (CheckCommand check) is)
+  check_end is calm status (cause line (read_fault c i r)) = absurd (calm r)
+  check_end is calm status (cause line (fault f i r)) = absurd (compile_is_no_check words source check i is)
+  check_end is calm status (cause line (ends.not_built i r)) = absurd (compile_is_no_check words source check i is)
+  check_end is calm status (cause line (too_large l i r)) = absurd (compile_is_no_check words source check i is)
+  check_end is calm status (cause line (no_image ran w i r)) = absurd (run_is_no_check words source ran check i is)
+  check_end is calm status (cause line (no_entry ran i r)) = absurd (run_is_no_check words source ran check i is)
+  check_end is calm status (cause line (unfit ran i r)) = absurd (run_is_no_check words source ran check i is)
+  check_end is calm status (cause line (unchecked other s l i r)) =
+      let P : CheckTree → Type 0 = λ c. CheckEnd c source s in
+      subst P (one_check words source check other is i) (because l r)
+  check_end is calm status (cause line no_memory) = nothing refl
+
+  abbrev Called : ℕ → List ℕ → List ℕ → SmallFileTree → Type 0
+  Called entry args answers file = IsCall check (embedded_file file) entry args answers
+
+  -- the small file of what was read is that of the text, and has what that has
+  abbrev small_read : (P : List ℕ → Type 0) (Q : SmallFileTree → Type 0) (file : SmallFileTree) → IsSmallFileOf text file → Q file
+      → (of : (t : List ℕ) → P t → (other : SmallFileTree) × IsSmallFileOf t other) → Reads P source → (p : P text) × Q (of text p).0
+  small_read P Q file small q of r =
+      let h = of_file words source text known P (embedded_file file) small.is_file r in
+      let o = of text h.1 in
+      (h.1, same_file words source text known Q file o.0 h.0 small o.1 q)
+
+  abbrev told_of : (lines : List ℕ) (t : List ℕ) → IsCheckOf check t lines → (other : SmallFileTree) × IsSmallFileOf t other
+  told_of lines t h = (h.file, h.is_file)
+
+  abbrev unnamed_of : (t : List ℕ) → HasNoEntry check t → (other : SmallFileTree) × IsSmallFileOf t other
+  unnamed_of t h = (h.file, h.is_file)
+
+  abbrev unfit_of : (t : List ℕ) → IsUnfitFor check t → (other : SmallFileTree) × IsSmallFileOf t other
+  unfit_of t h = (h.file, h.is_file)
+
+  abbrev large_of : (l : Large) (t : List ℕ) → IsTooLargeToCheck check t l → (other : SmallFileTree) × IsSmallFileOf t other
+  large_of l t h = (h.file, h.is_file)
+
+  -- no small file has a fault
+  faulty : (P : List ℕ → Type 0) (f : Fault) → HasFault text f → (of : (t : List ℕ) → P t → (other : SmallFileTree) × IsSmallFileOf t other) → Reads P source → ⊥
+  faulty P f has of r = let o = of r.text r.holds in no_file words source text known P f has r (embedded_file o.0) o.1.is_file
+
+  unbuilt : (P : List ℕ → Type 0) (file : FileTree) → IsFileOf text file → not_built file ≡ true → (of : (t : List ℕ) → P t → (other : SmallFileTree) × IsSmallFileOf t other) → Reads P source → ⊥
+  unbuilt P file has not of r =
+      let h = of_file words source text known P file has r in
+      let o = of text h.1 in
+      not_small words source text known file o.0 h.0 has not o.1
+
+  fault_told : (status : ℕ) → CheckEnd check source status → (f : Fault) → HasFault text f → Is 3 status
+  fault_told status (answered lines z r) f has = absurd (faulty _ f has (told_of lines) r)
+  fault_told status (because line (ends.fault g r)) f has = inl refl
+  fault_told status (because line (ends.not_built r)) f has = inl refl
+  fault_told status (because line (ends.no_entry r)) f has = absurd (faulty _ f has unnamed_of r)
+  fault_told status (because line (ends.unfit r)) f has = absurd (faulty _ f has unfit_of r)
+  fault_told status (because line (ends.too_large l r)) f has = absurd (faulty _ f has (large_of l) r)
+  fault_told status (nothing z) f has = inr z
+
+  unbuilt_told : (status : ℕ) → CheckEnd check source status → (file : FileTree) → IsFileOf text file → not_built file ≡ true → Is 3 status
+  unbuilt_told status (answered lines z r) file has not = absurd (unbuilt _ file has not (told_of lines) r)
+  unbuilt_told status (because line (ends.fault g r)) file has not = inl refl
+  unbuilt_told status (because line (ends.not_built r)) file has not = inl refl
+  unbuilt_told status (because line (ends.no_entry r)) file has not = absurd (unbuilt _ file has not unnamed_of r)
+  unbuilt_told status (because line (ends.unfit r)) file has not = absurd (unbuilt _ file has not unfit_of r)
+  unbuilt_told status (because line (ends.too_large l r)) file has not = absurd (unbuilt _ file has not (large_of l) r)
+  unbuilt_told status (nothing z) file has not = inr z
+
+  entry_told : (status : ℕ) → CheckEnd check source status → (file : SmallFileTree) → IsSmallFileOf text file → NamesNone (embedded_file file) check.entry → Is 2 status
+  entry_told status (answered lines z r) file small none =
+      let h = small_read _ (λ f. NamesNone (embedded_file f) check.entry) file small none (told_of lines) r in
+      absurd (named_none check (embedded_file h.0.file) h.0.entry h.0.args h.0.answers h.0.call h.1)
+  entry_told status (because line (ends.fault g r)) file small none = absurd (no_fault words source text known (embedded_file file) g small.is_file r)
+  entry_told status (because line (ends.not_built r)) file small none = absurd (is_built words source text known file small r)
+  entry_told status (because line (ends.no_entry r)) file small none = inl refl
+  entry_told status (because line (ends.unfit r)) file small none = inl refl
+  entry_told status (because line (ends.too_large l r)) file small none =
+      let h = small_read _ (λ f. NamesNone (embedded_file f) check.entry) file small none (large_of l) r in
+      absurd (named_none check (embedded_file h.0.file) h.0.entry h.0.args h.0.answers h.0.call h.1)
+  entry_told status (nothing z) file small none = inr z
+
+  unfit_told : (status : ℕ) → CheckEnd check source status → (file : SmallFileTree) → IsSmallFileOf text file → HasUnfit check (embedded_file file) → Is 2 status
+  unfit_told status (answered lines z r) file small not =
+      let h = small_read _ (λ f. HasUnfit check (embedded_file f)) file small not (told_of lines) r in
+      absurd (call_unfit check (embedded_file h.0.file) h.0.entry h.0.args h.0.answers h.0.call h.1)
+  unfit_told status (because line (ends.fault g r)) file small not = absurd (no_fault words source text known (embedded_file file) g small.is_file r)
+  unfit_told status (because line (ends.not_built r)) file small not = absurd (is_built words source text known file small r)
+  unfit_told status (because line (ends.no_entry r)) file small not = inl refl
+  unfit_told status (because line (ends.unfit r)) file small not = inl refl
+  unfit_told status (because line (ends.too_large l r)) file small not =
+      let h = small_read _ (λ f. HasUnfit check (embedded_file f)) file small not (large_of l) r in
+      absurd (call_unfit check (embedded_file h.0.file) h.0.entry h.0.args h.0.answers h.0.call h.1)
+  unfit_told status (nothing z) file small not = inr z
+
+  module _ (entry : ℕ) (args answers : List ℕ) where
+    -- a file of which a function is called has one of that name, and the words suit it
+    unnamed : (file : SmallFileTree) → IsSmallFileOf text file → Called entry args answers file → Reads (HasNoEntry check) source → ⊥
+    unnamed file small call r =
+        let h = small_read _ (Called entry args answers) file small call unnamed_of r in
+        named_none check (embedded_file h.0.file) entry args answers h.1 h.0.none
+
+    misfits : (file : SmallFileTree) → IsSmallFileOf text file → Called entry args answers file → Reads (IsUnfitFor check) source → ⊥
+    misfits file small call r =
+        let h = small_read _ (Called entry args answers) file small call unfit_of r in
+        call_unfit check (embedded_file h.0.file) entry args answers h.1 h.0.unfit
+
+    fits_told : (status : ℕ) → CheckEnd check source status → (file : SmallFileTree) → IsSmallFileOf text file → Called entry args answers file → Fits file → Is 0 status
+    fits_told status (answered lines z r) file small call fits = inl z
+    fits_told status (because line (ends.fault g r)) file small call fits = absurd (no_fault words source text known (embedded_file file) g small.is_file r)
+    fits_told status (because line (ends.not_built r)) file small call fits = absurd (is_built words source text known file small r)
+    fits_told status (because line (ends.no_entry r)) file small call fits = absurd (unnamed file small call r)
+    fits_told status (because line (ends.unfit r)) file small call fits = absurd (misfits file small call r)
+    fits_told status (because line (ends.too_large l r)) file small call fits =
+        let h = small_read _ Fits file small fits (large_of l) r in
+        absurd (some_none _ l h.0.passes h.1)
+    fits_told status (nothing z) file small call fits = inr z
+
+    roomy_told : (status : ℕ) → CheckEnd check source status → (file : SmallFileTree) → IsSmallFileOf text file → Called entry args answers file → IsRoomy (embedded_file file) → Is 0 status
+    roomy_told status (answered lines z r) file small call roomy = inl z
+    roomy_told status (because line (ends.fault g r)) file small call roomy = absurd (no_fault words source text known (embedded_file file) g small.is_file r)
+    roomy_told status (because line (ends.not_built r)) file small call roomy = absurd (is_built words source text known file small r)
+    roomy_told status (because line (ends.no_entry r)) file small call roomy = absurd (unnamed file small call r)
+    roomy_told status (because line (ends.unfit r)) file small call roomy = absurd (misfits file small call r)
+    roomy_told status (because line (ends.too_large l r)) file small call roomy =
+        let h = small_read _ (λ f. IsRoomy (embedded_file f)) file small roomy (large_of l) r in
+        absurd (h.0.not_roomy h.1)
+    roomy_told status (nothing z) file small call roomy = inr z
+
+    large_told : (status : ℕ) → CheckEnd check source status → (file : SmallFileTree) (large : Large) → IsSmallFileOf text file → Called entry args answers file → Passes large file → Is 8 status
+    large_told status (answered lines z r) file large small call passes =
+        let h = small_read _ (Passes large) file small passes (told_of lines) r in
+        absurd (some_none _ large h.1 h.0.fits)
+    large_told status (because line (ends.fault g r)) file large small call passes = absurd (no_fault words source text known (embedded_file file) g small.is_file r)
+    large_told status (because line (ends.not_built r)) file large small call passes = absurd (is_built words source text known file small r)
+    large_told status (because line (ends.no_entry r)) file large small call passes = absurd (unnamed file small call r)
+    large_told status (because line (ends.unfit r)) file large small call passes = absurd (misfits file small call r)
+    large_told status (because line (ends.too_large l r)) file large small call passes = inl refl
+    large_told status (nothing z) file large small call passes = inr z
+
+pub check-complete : (words : List (List ℕ)) (source : Side) (text : List ℕ) (known : source.before ≡ Some text) (check : CheckTree) (status : ℕ) → CheckEnd check source status → CheckComplete check text status
+check-complete words source text known check status e = record {
+  fault = λ f has. fault_told words source text known check status e f has;
+  not_built = λ file has not. unbuilt_told words source text known check status e file has not;
+  no_entry = λ file small none. entry_told words source text known check status e file small none;
+  unfit = λ file small not. unfit_told words source text known check status e file small not;
+  fits = λ file entry args answers small call fits. fits_told words source text known check entry args answers status e file small call fits;
+  roomy = λ file entry args answers small call roomy. roomy_told words source text known check entry args answers status e file small call roomy;
+  too_large = λ file large entry args answers small call passes. large_told words source text known check entry args answers status e file large small call passes;
+}
+
 pub Ends-complete : (words : List (List ℕ)) (e : Effects) (status : ℕ) → Ends words e status → Complete words e status
 Ends-complete words e status ends = record {
   no_command = λ not none. no_command_end words e.source status (told words e status ends none) not;
   no_value = λ not none. no_value_end words e.source status (told words e status ends none) not;
   compile = λ is none text known. compile-complete words e.source text status known is none.source (told words e status ends none);
   run = λ ran is none bytes known. run-complete ran bytes status (run_told words e.source bytes known ran is none.source status (told words e status ends none));
+  check = λ check is none text known. check-complete words e.source text known check status (check_end words e.source text known check is none.source status (told words e status ends none));
 }

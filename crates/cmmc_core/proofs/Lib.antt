@@ -5,3 +5,4 @@ pub mod Running
 pub mod Ending
 pub mod Spelled
 pub mod Complete
+mod Checking

@@ -1,4 +1,4 @@
--- What the command `compile` read.
+-- What the commands `compile` and `check` read.
 use Rattle.std.specs.Prelude.{ℕ, ◌<◌, List, All}
 use Rattle.cmm_reader.specs.Text.{longest}
 use Rattle.cmmc_core.specs.Effects.{Side, IsRead}

@@ -5,7 +5,7 @@ use Rattle.bs_fault.specs.declared.large.Large.{Large}
 use Rattle.cmm_front.specs.FileOf.{IsFileOf, HasFault}
 use Rattle.cmm_tree.specs.Built.{not_built}
 use Rattle.cmm_tree.specs.Tree.{FileTree}
-use Rattle.command_line.specs.Command.{IsCommand, CommandTree, CompileCommand, RunCommand, RunTree}
+use Rattle.command_line.specs.Command.{IsCommand, CommandTree, CompileCommand, RunCommand, CheckCommand, RunTree, CheckTree}
 use Rattle.command_line.specs.Words.{WellFormed}
 use Rattle.correctness.specs.Bounds.{IsRoomy}
 use Rattle.image_form.specs.Tables.{Tables, Func}
@@ -13,6 +13,7 @@ use Rattle.rv_machine.specs.Loading.{func_named, words_of_args}
 use Rattle.small_code.specs.Compiled.{compiled}
 use Rattle.small_code.specs.TooLarge.{first_too_large}
 use Rattle.small_code.specs.Tree.{SmallFileTree, embedded_file}
+use Rattle.text_check.specs.Arguments.{NamesNone, HasUnfit, IsCall}
 use Rattle.text_compile.specs.Compile.{IsSmallFileOf}
 use Rattle.cmmc_core.specs.Effects.{Effects, Rose}
 use Rattle.cmmc_core.specs.Run.{IsSpelling, words_of_answers}
@@ -45,8 +46,20 @@ pub record RunComplete (run : RunTree) (bytes : List ℕ) (status : ℕ) : Type 
   pub unfit_answers : (image : Tables) (entry : Func) → IsSpelling bytes image → func_named run.entry image.funcs ≡ Some entry → words_of_answers image run.answers ≡ None → Is 2 status
   pub no_image : ((image : Tables) → IsSpelling bytes image → ⊥) → Is 4 status
 
+-- What `check` comes to on a text that the source tells.
+pub record CheckComplete (check : CheckTree) (text : List ℕ) (status : ℕ) : Type 0 where
+  pub fault : (told : Fault) → HasFault text told → Is 3 status
+  pub not_built : (file : FileTree) → IsFileOf text file → not_built file ≡ true → Is 3 status
+  pub no_entry : (file : SmallFileTree) → IsSmallFileOf text file → NamesNone (embedded_file file) check.entry → Is 2 status
+  pub unfit : (file : SmallFileTree) → IsSmallFileOf text file → HasUnfit check (embedded_file file) → Is 2 status
+  -- a call that suits is run, whatever becomes of the run, where the image of its text fits
+  pub fits : (file : SmallFileTree) (entry : ℕ) (args answers : List ℕ) → IsSmallFileOf text file → IsCall check (embedded_file file) entry args answers → first_too_large (compiled file) ≡ None → Is 0 status
+  pub roomy : (file : SmallFileTree) (entry : ℕ) (args answers : List ℕ) → IsSmallFileOf text file → IsCall check (embedded_file file) entry args answers → IsRoomy (embedded_file file) → Is 0 status
+  pub too_large : (file : SmallFileTree) (large : Large) (entry : ℕ) (args answers : List ℕ) → IsSmallFileOf text file → IsCall check (embedded_file file) entry args answers → first_too_large (compiled file) ≡ Some large → Is 8 status
+
 pub record Complete (words : List (List ℕ)) (e : Effects) (status : ℕ) : Type 0 where
   pub no_command : (WellFormed words → ⊥) → NoneRose e → Is 2 status
   pub no_value : ((command : CommandTree) → IsCommand words command → ⊥) → NoneRose e → Is 2 status
   pub compile : IsCommand words CompileCommand → NoneRose e → (text : List ℕ) → e.source.before ≡ Some text → CompileComplete text status
   pub run : (run : RunTree) → IsCommand words (RunCommand run) → NoneRose e → (bytes : List ℕ) → e.source.before ≡ Some bytes → RunComplete run bytes status
+  pub check : (check : CheckTree) → IsCommand words (CheckCommand check) → NoneRose e → (text : List ℕ) → e.source.before ≡ Some text → CheckComplete check text status

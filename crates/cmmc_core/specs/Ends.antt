@@ -6,11 +6,12 @@ use Rattle.bs_fault.specs.declared.fault.Fault.{Fault}
 use Rattle.bs_fault.specs.declared.image.ImageRefusal.{ImageRefusal}
 use Rattle.bs_fault.specs.declared.large.Large.{Large}
 use Rattle.bs_fault.specs.declared.usage.Usage.TheVariants.{Words, ValueText, UnknownEntry, ArgumentUnfit}
-use Rattle.command_line.specs.Command.{IsCommand, CommandTree, CompileCommand, RunCommand, RunTree}
+use Rattle.command_line.specs.Command.{IsCommand, CommandTree, CompileCommand, RunCommand, CheckCommand, RunTree, CheckTree}
 use Rattle.command_line.specs.Words.{WellFormed}
 use Rattle.cmm_front.specs.FileOf.{HasFault}
 use Rattle.image_form.specs.Image.{tables_bytes}
 use Rattle.image_form.specs.Tables.{Tables}
+use Rattle.text_check.specs.Check.{IsCheckOf, HasNoEntry, IsUnfitFor, IsTooLargeToCheck}
 use Rattle.text_compile.specs.Compile.{IsImageOf, IsNotBuilt, IsTooLarge}
 use Rattle.cmmc_core.specs.Compile.{Reads}
 use Rattle.cmmc_core.specs.Effects.{Effects, Side, Rose, IsKept, Got, GotPart}
@@ -29,6 +30,21 @@ pub data Output (words : List (List ℕ)) (source : Side) : List ℕ → Type 0 
       → IsCommand words (RunCommand run)
       → IsOutcomeOf run source text
       → Output words source text
+  -- `check`: the outcome of the run of the text, and what it needs of stack, heap and fuel
+  checked : (check : CheckTree) (lines : List ℕ)
+      → IsCommand words (CheckCommand check)
+      → Reads (λ text. IsCheckOf check text lines) source
+      → Output words source lines
+
+-- Why `check` has no output, in the order in which the causes are looked for.
+pub data CheckCause (check : CheckTree) (source : Side) : ℕ → List ℕ → Type 0 where
+  fault : (told : Fault) → Reads (λ text. HasFault text told) source → CheckCause check source 3 (fault_line told)
+  not_built : Reads IsNotBuilt source → CheckCause check source 3 not_built_line
+  no_entry : Reads (HasNoEntry check) source → CheckCause check source 2 (usage_line UnknownEntry)
+  unfit : Reads (IsUnfitFor check) source → CheckCause check source 2 (usage_line ArgumentUnfit)
+  too_large : (large : Large)
+      → Reads (λ text. IsTooLargeToCheck check text large) source
+      → CheckCause check source 8 (large_line large)
 
 -- Why there is no output: the status that tells it, and the line.
 pub data Cause (words : List (List ℕ)) (source : Side) : ℕ → List ℕ → Type 0 where
@@ -65,6 +81,10 @@ pub data Cause (words : List (List ℕ)) (source : Side) : ℕ → List ℕ → 
       → IsCommand words (RunCommand run)
       → GivesUnfit run source
       → Cause words source 2 (usage_line ArgumentUnfit)
+  unchecked : (check : CheckTree) (status : ℕ) (line : List ℕ)
+      → IsCommand words (CheckCommand check)
+      → CheckCause check source status line
+      → Cause words source status line
   no_memory : Cause words source 9 no_memory_line
 
 -- How a call ends.

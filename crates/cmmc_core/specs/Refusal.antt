@@ -1,13 +1,17 @@
 -- What the parts of the program answer one another.
 use Rattle.std.specs.Prelude.{◌≡◌, ◌⊎◌, ⊤, ℕ, List, Some, None}
 use Rattle.bs_fault.specs.FaultLines.{fault_line}
-use Rattle.bs_fault.specs.Lines.{large_line}
-use Rattle.command_line.specs.Command.{RunTree}
+use Rattle.bs_fault.specs.Lines.{usage_line, large_line}
+use Rattle.bs_fault.specs.declared.usage.Usage.TheVariants.{UnknownEntry, ArgumentUnfit}
+use Rattle.command_line.specs.Command.{RunTree, CheckTree}
 use Rattle.image_form.specs.Tables.{Tables, Func}
 use Rattle.rv_machine.specs.Loading.{func_named, words_of_args}
 use Rattle.rv_machine.specs.Run.{machine_run}
 use Rattle.rv_machine.specs.Text.{outcome_text}
 use Rattle.cmm_front.specs.FileOf.{HasFault}
+use Rattle.text_check.specs.Check.{HasNoEntry, IsUnfitFor, IsTooLargeToCheck}
+use Rattle.text_check.specs.declared.check.CheckRefusal as check
+use Rattle.text_check.specs.declared.check.CheckRefusal.TheVariants as checked
 use Rattle.text_compile.specs.Compile.{IsNotBuilt, IsTooLarge}
 use Rattle.text_compile.specs.declared.compile.Refusal as text
 use Rattle.text_compile.specs.declared.compile.Refusal.TheVariants.{Fault, NotBuilt, TooLarge, OutOfMemory}
@@ -15,10 +19,21 @@ use Rattle.cmmc_core.specs.Compile.{Reads}
 use Rattle.cmmc_core.specs.Effects.{Side, Rose, IsRead, Tells, IsKept, Got, GotPart}
 use Rattle.cmmc_core.specs.Lines.{not_built_line, no_memory_line}
 use Rattle.cmmc_core.specs.Run.{IsOutcomeOf, ReadsNoImage, NamesNoEntry, GivesUnfit, words_of_answers, schedule_of}
+use Rattle.cmmc_core.specs.declared.check.CheckFailure.{CheckFailure}
+use Rattle.cmmc_core.specs.declared.check.CheckFailure.TheVariants as failure
+use Rattle.cmmc_core.specs.declared.text.Unread.{Unread}
+use Rattle.cmmc_core.specs.declared.text.Unread.TheVariants as unread
 use Rattle.cmmc_core.specs.declared.compile.Refusal.{Refusal}
 use Rattle.cmmc_core.specs.declared.compile.Refusal.TheVariants.{ReadFault, Text}
 use Rattle.cmmc_core.specs.declared.run.RunRefusal.{RunRefusal}
 use Rattle.cmmc_core.specs.declared.run.RunRefusal.TheVariants as refusal
+
+-- ---- texts
+
+-- why a text was not read
+abbrev pub IsTextUnread : Side → Unread → Type 0
+IsTextUnread source unread.ReadFault = Rose source
+IsTextUnread source unread.OutOfMemory = ⊤
 
 -- ---- compile
 
@@ -33,6 +48,22 @@ IsRefusalRead source OutOfMemory = ⊤
 abbrev pub IsRefusalFrom : Side → Refusal → Type 0
 IsRefusalFrom source ReadFault = Rose source
 IsRefusalFrom source (Text why) = IsRefusalRead source why
+
+-- ---- check
+
+-- why nothing is told of a run of the text that was read
+abbrev pub IsCheckRefusalRead : CheckTree → Side → check.CheckRefusal → Type 0
+IsCheckRefusalRead check source (checked.Fault told) = Reads (λ text. HasFault text told) source
+IsCheckRefusalRead check source checked.NotBuilt = Reads IsNotBuilt source
+IsCheckRefusalRead check source checked.UnknownEntry = Reads (HasNoEntry check) source
+IsCheckRefusalRead check source checked.ArgumentUnfit = Reads (IsUnfitFor check) source
+IsCheckRefusalRead check source (checked.TooLarge large) = Reads (λ text. IsTooLargeToCheck check text large) source
+IsCheckRefusalRead check source checked.OutOfMemory = ⊤
+
+-- why nothing is told of a source
+abbrev pub IsCheckFailure : CheckTree → Side → CheckFailure → Type 0
+IsCheckFailure check source failure.ReadFault = Rose source
+IsCheckFailure check source (failure.Text why) = IsCheckRefusalRead check source why
 
 -- ---- run
 
@@ -114,3 +145,12 @@ TellsRefusal err (Fault told) result = TellsOr err (fault_line told) 3 result
 TellsRefusal err NotBuilt result = Tells err not_built_line 3 result
 TellsRefusal err (TooLarge large) result = TellsOr err (large_line large) 8 result
 TellsRefusal err OutOfMemory result = Tells err no_memory_line 9 result
+
+-- the line of a text of whose run nothing is told
+abbrev pub TellsCheckRefusal : Side → check.CheckRefusal → ℕ → Type 0
+TellsCheckRefusal err (checked.Fault told) result = TellsOr err (fault_line told) 3 result
+TellsCheckRefusal err checked.NotBuilt result = Tells err not_built_line 3 result
+TellsCheckRefusal err checked.UnknownEntry result = Tells err (usage_line UnknownEntry) 2 result
+TellsCheckRefusal err checked.ArgumentUnfit result = Tells err (usage_line ArgumentUnfit) 2 result
+TellsCheckRefusal err (checked.TooLarge large) result = TellsOr err (large_line large) 8 result
+TellsCheckRefusal err checked.OutOfMemory result = Tells err no_memory_line 9 result

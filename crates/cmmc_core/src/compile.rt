@@ -1,19 +1,16 @@
 //! The command `compile`: a Cmm text in, an image out.
 ghost use Rattle.std.specs.Prelude.{◌≡◌, ◌<◌, All, IfOk, IfErr};
 ghost use Rattle.bs_words.specs.Contents.{contents};
-ghost use Rattle.cmm_reader.specs.Text.{longest};
 ghost use Rattle.cmmc_core.specs.Compile.{Reads};
-ghost use Rattle.cmmc_core.specs.Effects.{side, IsRead};
+ghost use Rattle.cmmc_core.specs.Effects.{side};
 ghost use Rattle.cmmc_core.specs.Refusal.{IsRefusalFrom};
 ghost use Rattle.text_compile.specs.Refusal.{SpellsImageOf, IsRefusalOf};
 
-use bs_io::{InFault, Source, read_all};
+use crate::text::{Unread, read_text};
+use bs_io::Source;
 use bs_words::List;
 use std::alloc::Global;
 use text_compile::{Refusal as TextRefusal, compile_text};
-
-/// The most bytes of a text.
-const LONGEST_TEXT: u64 = 16_777_216;
 
 /// Why there is no image.
 #[derive(Debug, Drop)]
@@ -33,20 +30,8 @@ pub fn compile_source<S: Source>(alloc: Global, source: &mut S) -> Result<List<u
             Ok(bytes) => Ok(bytes),
             Err(why) => Err(Refusal::Text(why)),
         },
-        Err(refusal) => Err(refusal),
-    }
-}
-
-/// The bytes that a source holds, up to one past the longest text, which no text has.
-fn read_text<S: Source>(alloc: Global, source: &mut S) -> Result<List<u8>, Refusal>
-    ensures read { IfOk result (λ bytes. IsRead longest (side (S.left source.old) (S.left source.new) (S.faults source.old) (S.faults source.new)) (contents bytes)) }
-    ensures refused { IfErr result (λ r. IsRefusalFrom (side (S.left source.old) (S.left source.new) (S.faults source.old) (S.faults source.new)) r) }
-{
-    match read_all(alloc, source, LONGEST_TEXT) {
-        Ok(text) => Ok(text),
-        Err(InFault::Long(text)) => Ok(text),
-        Err(InFault::Read) => Err(Refusal::ReadFault),
-        Err(InFault::OutOfMemory) => Err(Refusal::Text(TextRefusal::OutOfMemory)),
+        Err(Unread::ReadFault) => Err(Refusal::ReadFault),
+        Err(Unread::OutOfMemory) => Err(Refusal::Text(TextRefusal::OutOfMemory)),
     }
 }
 

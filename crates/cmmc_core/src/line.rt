@@ -3,11 +3,12 @@ ghost use Rattle.std.specs.Prelude.{◌≡◌};
 ghost use Rattle.cmmc_core.specs.Effects.{side, Tells};
 ghost use Rattle.bs_fault.specs.FaultLines.{fault_line};
 ghost use Rattle.bs_fault.specs.Lines.{large_line, image_line};
-ghost use Rattle.cmmc_core.specs.Refusal.{TellsOr, TellsRefusal};
+ghost use Rattle.cmmc_core.specs.Refusal.{TellsOr, TellsRefusal, TellsCheckRefusal};
 
 use bs_fault::{Fault, ImageRefusal, Large, fault_text, image_text, large_text};
 use bs_io::{Sink, write_all};
 use std::alloc::Global;
+use text_check::CheckRefusal;
 use text_compile::Refusal;
 
 /// The output was written whole.
@@ -73,6 +74,20 @@ pub fn tell_refusal<E: Sink>(alloc: Global, err: &mut E, refusal: &Refusal) -> u
         Refusal::NotBuilt => tell(err, b"cmmc: not built\n", TEXT),
         Refusal::TooLarge(large) => tell_large(alloc, err, large),
         Refusal::OutOfMemory => tell(err, b"cmmc: no memory\n", NO_MEMORY),
+    }
+}
+
+/// Writes the line of a text of whose run nothing is told.
+pub fn tell_check_refusal<E: Sink>(alloc: Global, err: &mut E, refusal: &CheckRefusal) -> u8
+    ensures { let err_side = side (E.held err.old) (E.held err.new) (E.faults err.old) (E.faults err.new) in TellsCheckRefusal err_side refusal.now result }
+{
+    match refusal {
+        CheckRefusal::Fault(fault) => tell_fault(alloc, err, fault),
+        CheckRefusal::NotBuilt => tell(err, b"cmmc: not built\n", TEXT),
+        CheckRefusal::UnknownEntry => tell(err, b"cmmc: U3 UnknownEntry\n", USAGE),
+        CheckRefusal::ArgumentUnfit => tell(err, b"cmmc: U4 ArgumentUnfit\n", USAGE),
+        CheckRefusal::TooLarge(large) => tell_large(alloc, err, large),
+        CheckRefusal::OutOfMemory => tell(err, b"cmmc: no memory\n", NO_MEMORY),
     }
 }
 

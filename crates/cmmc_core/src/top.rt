@@ -4,6 +4,7 @@ ghost use Rattle.cmmc_core.specs.Complete.{Complete};
 ghost use Rattle.cmmc_core.specs.Effects.{side, effects};
 ghost use Rattle.cmmc_core.specs.Ends.{Ends};
 
+use crate::check::check;
 use crate::compile::{Refusal, compile_source};
 use crate::line::{
     NO_MEMORY, READ_FAULT, USAGE, WRITE_FAULT, WRITTEN, tell, tell_image, tell_refusal,
@@ -17,7 +18,8 @@ use std::alloc::Global;
 ///
 /// `words` are those of the command line without the program's name. `compile` reads a Cmm text from
 /// `source` and writes its image to `out`; `run ENTRY` reads an image and writes the outcome of a run of
-/// that function. At status 0 nothing is written to `err`; at any other nothing but the front of the
+/// that function; `check ENTRY` reads a Cmm text and writes the outcome of a run of that function of the text, and
+/// what the run needs of stack, heap and fuel. At status 0 nothing is written to `err`; at any other nothing but the front of the
 /// output is written to `out`.
 pub fn cmmc<S: Source, K: Sink, E: Sink>(
     alloc: Global,
@@ -51,6 +53,7 @@ fn dispatch<S: Source, K: Sink, E: Sink>(
             Err(Refusal::ReadFault) => tell(err, b"cmmc: read fault\n", READ_FAULT),
             Err(Refusal::Text(why)) => tell_refusal(alloc, err, &why),
         },
+        Ok(Command::Check(words)) => check(alloc, &words, source, out, err),
         Ok(Command::Run(run)) => match run_source(alloc, run, source, out) {
             Ok(()) => WRITTEN,
             Err(RunRefusal::WriteFault) => WRITE_FAULT,

@@ -6,8 +6,8 @@ use Rattle.std.proofs.lemmas.List.Sorted.{IsPermutation-sym, All-permutation, Co
 use Rattle.command_line.specs.declared.form.CommandWord.{CommandWord}
 use Rattle.command_line.specs.declared.form.CommandWord.TheVariants as word
 use Rattle.command_line.specs.declared.form.Slot.{Slot}
-use Rattle.command_line.specs.declared.form.Slot.TheVariants.{Plain, Args, Answers, Steps, Stack, Heap, Moves}
-use Rattle.command_line.specs.Command.{CommandTree, RunTree, Sets, given, left_out, IsRun, IsCommand, compile, run, default_steps, default_size, default_moves}
+use Rattle.command_line.specs.declared.form.Slot.TheVariants.{Plain, Args, Answers, Steps, Stack, Heap, Moves, Fuel}
+use Rattle.command_line.specs.Command.{CommandTree, RunTree, CheckTree, Sets, given, left_out, IsRun, IsCheck, IsCommand, compile, run, check, default_steps, default_size, default_moves}
 use Rattle.command_line.specs.Values.{IsSteps, IsSize, IsMoves, IsItems}
 use Rattle.command_line.specs.Words.{word_of, slots_of, wanted_of, fills, IsForm, Gives}
 use Rattle.command_line.proofs.Unique.{parts}
@@ -40,6 +40,15 @@ run-order xs ys r p is = record {
   moves = sets-order xs ys Moves IsMoves default_moves r.moves p is.moves;
 }
 
+check-order : (xs ys : List (List ℕ)) (c : CheckTree) → IsPermutation xs ys → IsCheck xs c → IsCheck ys c
+check-order xs ys c p is = record {
+  entry = gives-order xs ys Plain c.entry p is.entry;
+  entry_name = is.entry_name;
+  args = sets-order xs ys Args IsItems [] c.args p is.args;
+  answers = sets-order xs ys Answers IsItems [] c.answers p is.answers;
+  fuel = sets-order xs ys Fuel IsSteps default_steps c.fuel p is.fuel;
+}
+
 -- words that differ in the order of those after the first are the same command
 pub order_free : (first : List ℕ) (xs ys : List (List ℕ)) (command : CommandTree) → IsPermutation xs ys
     → IsCommand (first ∷ xs) command → IsCommand (first ∷ ys) command
@@ -52,3 +61,8 @@ order_free first xs ys _ p (run others r e form is) =
     let P : List (List ℕ) → Type 0 = λ o. IsForm word.Run o in
     let Q : List (List ℕ) → Type 0 = λ o. IsRun o r in
     run ys r (ap (λ w. w ∷ ys) both.0) (form-order word.Run xs ys p (subst P (sym both.1) form)) (run-order xs ys r p (subst Q (sym both.1) is))
+order_free first xs ys _ p (check others c e form is) =
+    let both = parts first (word_of word.Check) xs others e in
+    let P : List (List ℕ) → Type 0 = λ o. IsForm word.Check o in
+    let Q : List (List ℕ) → Type 0 = λ o. IsCheck o c in
+    check ys c (ap (λ w. w ∷ ys) both.0) (form-order word.Check xs ys p (subst P (sym both.1) form)) (check-order xs ys c p (subst Q (sym both.1) is))

@@ -5,11 +5,11 @@ use Rattle.rv_machine.specs.declared.setup.Arg.{Arg}
 use Rattle.command_line.specs.declared.form.CommandWord.{CommandWord}
 use Rattle.command_line.specs.declared.form.CommandWord.TheVariants as word
 use Rattle.command_line.specs.declared.form.Slot.{Slot}
-use Rattle.command_line.specs.declared.form.Slot.TheVariants.{Plain, Args, Answers, Steps, Stack, Heap}
+use Rattle.command_line.specs.declared.form.Slot.TheVariants.{Plain, Args, Answers, Steps, Stack, Heap, Fuel}
 use Rattle.command_line.specs.declared.form.Slot.TheVariants as slot
 use Rattle.command_line.specs.declared.command.Moves.{Moves}
 use Rattle.command_line.specs.declared.command.Moves.TheVariants.{Seed}
-use Rattle.command_line.specs.Command.{CommandTree, CompileCommand, RunCommand, RunTree, IsRun, IsCommand, compile, run, default_steps, default_size, default_moves, Sets, given, left_out, WithinLimits}
+use Rattle.command_line.specs.Command.{CommandTree, CompileCommand, RunCommand, CheckCommand, RunTree, CheckTree, IsRun, IsCheck, IsCommand, compile, run, check, default_steps, default_size, default_moves, Sets, given, left_out, WithinLimits, WithinFuel}
 use Rattle.command_line.specs.Values.{Nothing, IsSteps, IsSize, IsMoves, never, every, seeded, SeedsMoves, seed, IsItems, number_of, most_steps, largest_size}
 use Rattle.command_line.specs.Words.{word_of, IsForm, WellFormed}
 use Rattle.command_line.proofs.Cuts.{list-unique, tail-same}
@@ -67,6 +67,21 @@ run-unique others form r s a b =
     (sets-unique others Heap IsSize default_size (form.once 5 Heap (lit< tt)) size-unique r.heap s.heap a.heap b.heap)
     (sets-unique others slot.Moves IsMoves default_moves (form.once 6 slot.Moves (lit< tt)) moves-unique r.moves s.moves a.moves b.moves)
 
+same_check : (entry entry' : List ℕ) (args args' answers answers' : List Arg) (fuel fuel' : ℕ)
+    → entry ≡ entry' → args ≡ args' → answers ≡ answers' → fuel ≡ fuel'
+    → let c : CheckTree = record { entry = entry; args = args; answers = answers; fuel = fuel } in
+    let d : CheckTree = record { entry = entry'; args = args'; answers = answers'; fuel = fuel' } in
+    c ≡ d
+same_check entry entry' args args' answers answers' fuel fuel' a b c d = cc
+
+pub check-unique : (others : List (List ℕ)) → IsForm word.Check others → (c d : CheckTree) → IsCheck others c → IsCheck others d → c ≡ d
+check-unique others form c d a b =
+    same_check c.entry d.entry c.args d.args c.answers d.answers c.fuel d.fuel
+    (gives-unique Plain others c.entry d.entry (form.once 0 Plain (lit< tt)) a.entry b.entry)
+    (sets-unique others Args IsItems [] (form.once 1 Args (lit< tt)) list-unique c.args d.args a.args b.args)
+    (sets-unique others Answers IsItems [] (form.once 2 Answers (lit< tt)) list-unique c.answers d.answers a.answers b.answers)
+    (sets-unique others Fuel IsSteps default_steps (form.once 3 Fuel (lit< tt)) steps-unique c.fuel d.fuel a.fuel b.fuel)
+
 pub parts : (x y : List ℕ) (xs ys : List (List ℕ)) → x ∷ xs ≡ y ∷ ys → (x ≡ y) × (xs ≡ ys)
 parts x y xs ys e = (cc, cc)
 
@@ -76,6 +91,11 @@ word-unique word.Compile word.Compile e = refl
 word-unique word.Compile word.Run e = let h = (tail-same 99 114 _ _ e).0 in absurd (omega arith)
 word-unique word.Run word.Compile e = let h = (tail-same 114 99 _ _ e).0 in absurd (omega arith)
 word-unique word.Run word.Run e = refl
+word-unique word.Compile word.Check e = let h = (tail-same 111 104 _ _ (tail-same 99 99 _ _ e).1).0 in absurd (omega arith)
+word-unique word.Check word.Compile e = let h = (tail-same 104 111 _ _ (tail-same 99 99 _ _ e).1).0 in absurd (omega arith)
+word-unique word.Run word.Check e = let h = (tail-same 114 99 _ _ e).0 in absurd (omega arith)
+word-unique word.Check word.Run e = let h = (tail-same 99 114 _ _ e).0 in absurd (omega arith)
+word-unique word.Check word.Check e = refl
 
 pub command-unique : (words : List (List ℕ)) (c d : CommandTree) → IsCommand words c → IsCommand words d → c ≡ d
 command-unique words _ _ (compile others e form) (compile others' e' form') = refl
@@ -87,6 +107,18 @@ command-unique words _ _ (run others r e form is) (run others' s e' form' is') =
     let same = (parts _ _ others' others (sym e' ∙ e)).1 in
     let P : List (List ℕ) → Type 0 = λ o. IsRun o s in
     ap RunCommand (run-unique others form r s is (subst P same is'))
+command-unique words _ _ (compile others e form) (check others' d e' form' is) =
+    let h : word.Compile ≡ word.Check = word-unique word.Compile word.Check (parts _ _ others others' (sym e ∙ e')).0 in cc
+command-unique words _ _ (check others' d e' form' is) (compile others e form) =
+    let h : word.Compile ≡ word.Check = word-unique word.Compile word.Check (parts _ _ others others' (sym e ∙ e')).0 in cc
+command-unique words _ _ (run others r e form is) (check others' d e' form' is') =
+    let h : word.Run ≡ word.Check = word-unique word.Run word.Check (parts _ _ others others' (sym e ∙ e')).0 in cc
+command-unique words _ _ (check others' d e' form' is') (run others r e form is) =
+    let h : word.Run ≡ word.Check = word-unique word.Run word.Check (parts _ _ others others' (sym e ∙ e')).0 in cc
+command-unique words _ _ (check others c e form is) (check others' d e' form' is') =
+    let same = (parts _ _ others' others (sym e' ∙ e)).1 in
+    let P : List (List ℕ) → Type 0 = λ o. IsCheck o d in
+    ap CheckCommand (check-unique others form c d is (subst P same is'))
 
 -- ---- from the first word
 
@@ -124,12 +156,34 @@ is_run command words first others r e named form c is =
     let P : CommandWord → Type 0 = λ d. IsForm d others in
     run others r (e ∙ ap (λ w. w ∷ others) (named ∙ ap word_of c)) (subst P c form) is
 
+pub is_check : (command : CommandWord) (words : List (List ℕ)) (first : List ℕ) (others : List (List ℕ)) (d : CheckTree) → words ≡ first ∷ others
+    → first ≡ word_of command → IsForm command others → command ≡ word.Check → IsCheck others d → IsCommand words (CheckCommand d)
+is_check command words first others d e named form c is =
+    let P : CommandWord → Type 0 = λ d. IsForm d others in
+    check others d (e ∙ ap (λ w. w ∷ others) (named ∙ ap word_of c)) (subst P c form) is
+
 no_run-at : (words : List (List ℕ)) (others : List (List ℕ)) → words ≡ word_of word.Run ∷ others
     → Nothing (IsRun others) → Nothing (IsCommand words)
 no_run-at words others e none _ (compile others' e' form) =
     let h : word.Compile ≡ word.Run = word-unique word.Compile word.Run (parts _ _ others' others (sym e' ∙ e)).0 in cc
 no_run-at words others e none _ (run others' r e' form is) =
     let P : List (List ℕ) → Type 0 = λ o. IsRun o r in none r (subst P (parts _ _ others' others (sym e' ∙ e)).1 is)
+no_run-at words others e none _ (check others' d e' form is) =
+    let h : word.Check ≡ word.Run = word-unique word.Check word.Run (parts _ _ others' others (sym e' ∙ e)).0 in cc
+
+no_check-at : (words : List (List ℕ)) (others : List (List ℕ)) → words ≡ word_of word.Check ∷ others
+    → Nothing (IsCheck others) → Nothing (IsCommand words)
+no_check-at words others e none _ (compile others' e' form) =
+    let h : word.Compile ≡ word.Check = word-unique word.Compile word.Check (parts _ _ others' others (sym e' ∙ e)).0 in cc
+no_check-at words others e none _ (run others' r e' form is) =
+    let h : word.Run ≡ word.Check = word-unique word.Run word.Check (parts _ _ others' others (sym e' ∙ e)).0 in cc
+no_check-at words others e none _ (check others' d e' form is) =
+    let P : List (List ℕ) → Type 0 = λ o. IsCheck o d in none d (subst P (parts _ _ others' others (sym e' ∙ e)).1 is)
+
+pub no_check : (command : CommandWord) (words : List (List ℕ)) (first : List ℕ) (others : List (List ℕ)) → words ≡ first ∷ others
+    → first ≡ word_of command → command ≡ word.Check → Nothing (IsCheck others) → Nothing (IsCommand words)
+no_check command words first others e named c none =
+    no_check-at words others (e ∙ ap (λ w. w ∷ others) (named ∙ ap word_of c)) none
 
 pub no_run : (command : CommandWord) (words : List (List ℕ)) (first : List ℕ) (others : List (List ℕ)) → words ≡ first ∷ others
     → first ≡ word_of command → command ≡ word.Run → Nothing (IsRun others) → Nothing (IsCommand words)
@@ -138,9 +192,9 @@ no_run command words first others e named c none =
 
 -- ---- what is known of a run
 
-steps_within : (others : List (List ℕ)) (n : ℕ) → Sets others Steps IsSteps default_steps n → n ≤ most_steps
-steps_within others n (given value g is) = is.limit
-steps_within others n (left_out none e) = omega arith
+steps_within : (others : List (List ℕ)) (slot : Slot) (n : ℕ) → Sets others slot IsSteps default_steps n → n ≤ most_steps
+steps_within others slot n (given value g is) = is.limit
+steps_within others slot n (left_out none e) = omega arith
 
 size_within : (others : List (List ℕ)) (slot : Slot) (n : ℕ) → Sets others slot IsSize default_size n → (n ≤ largest_size) × (n % 16 ≡ 0)
 size_within others slot n (given value g is) = (is.limit, is.aligned)
@@ -152,17 +206,21 @@ within others r is =
     let heap = size_within others Heap r.heap is.heap in
     record {
       entry = is.entry_name;
-      steps = steps_within others r.steps is.steps;
+      steps = steps_within others Steps r.steps is.steps;
       stack = stack.0;
       stack_aligned = stack.1;
       heap = heap.0;
       heap_aligned = heap.1;
     }
 
+pub within_fuel : (others : List (List ℕ)) (c : CheckTree) → IsCheck others c → WithinFuel c
+within_fuel others c is = record { entry = is.entry_name; fuel = steps_within others Fuel c.fuel is.fuel }
+
 -- the words of a command have the form of one
 pub command-formed : (words : List (List ℕ)) (command : CommandTree) → IsCommand words command → WellFormed words
 command-formed words command (compile others begins form) = record { command = word.Compile; others = others; begins = begins; form = form }
 command-formed words command (run others r begins form is) = record { command = word.Run; others = others; begins = begins; form = form }
+command-formed words command (check others d begins form is) = record { command = word.Check; others = others; begins = begins; form = form }
 
 -- ---- moves by the three texts in turn
 

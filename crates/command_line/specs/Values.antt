@@ -20,7 +20,8 @@ pub record IsName (bytes : List ℕ) : Type 0 where
 
 -- ---- numbers
 
--- the most instructions that a run may be told to retire, and the most bytes of a stack or half of a heap
+-- the most instructions that a run may be told to retire, which is also the most fuel of a run of a text; and
+-- the most bytes of a stack or half of a heap
 abbrev pub most_steps : ℕ
 most_steps = 1000000000000
 
@@ -37,7 +38,7 @@ pub record IsNumber (bytes : List ℕ) (n : ℕ) : Type 0 where
   pub digits : All (λ b. (48 ≤ b) × (b ≤ 57)) bytes
   pub value : n ≡ number_of bytes
 
--- a number of instructions
+-- a number of instructions, or of units of fuel
 pub record IsSteps (bytes : List ℕ) (n : ℕ) : Type 0 where
   pub number : IsNumber bytes n
   pub limit : n ≤ most_steps

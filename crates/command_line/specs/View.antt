@@ -5,17 +5,22 @@ use Rattle.std.specs.declared.string.String.{String}
 use Rattle.std.specs.declared.alloc.Global.{Global}
 use Rattle.bs_words.specs.Contents.{contents}
 use Rattle.command_line.specs.declared.command.Command.{Command}
-use Rattle.command_line.specs.declared.command.Command.TheVariants.{Compile, Run}
+use Rattle.command_line.specs.declared.command.Command.TheVariants.{Compile, Run, Check}
 use Rattle.command_line.specs.declared.command.RunWords.{RunWords}
-use Rattle.command_line.specs.Command.{CommandTree, CompileCommand, RunCommand, RunTree}
+use Rattle.command_line.specs.declared.command.CheckWords.{CheckWords}
+use Rattle.command_line.specs.Command.{CommandTree, CompileCommand, RunCommand, CheckCommand, RunTree, CheckTree}
 
 abbrev pub run_view : RunWords → RunTree
 run_view r =
     record { entry = r.entry; args = contents r.args; answers = contents r.answers; steps = r.steps; stack = r.stack; heap = r.heap; moves = r.moves }
 
+abbrev pub check_view : CheckWords → CheckTree
+check_view c = record { entry = c.entry; args = contents c.args; answers = contents c.answers; fuel = c.fuel }
+
 abbrev pub view : Command → CommandTree
 view Compile = CompileCommand
 view (Run r) = RunCommand (run_view r)
+view (Check c) = CheckCommand (check_view c)
 
 -- the words, each as its bytes
 abbrev pub texts : List (String Global) → List (List ℕ)

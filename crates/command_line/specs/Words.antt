@@ -5,7 +5,7 @@ use Rattle.std.specs.List.{list_any, starts_with}
 use Rattle.command_line.specs.declared.form.CommandWord.{CommandWord}
 use Rattle.command_line.specs.declared.form.CommandWord.TheVariants as word
 use Rattle.command_line.specs.declared.form.Slot.{Slot}
-use Rattle.command_line.specs.declared.form.Slot.TheVariants.{Plain, Args, Answers, Steps, Stack, Heap, Moves}
+use Rattle.command_line.specs.declared.form.Slot.TheVariants.{Plain, Args, Answers, Steps, Stack, Heap, Moves, Fuel}
 
 -- ---- the table of commands
 
@@ -13,16 +13,19 @@ use Rattle.command_line.specs.declared.form.Slot.TheVariants.{Plain, Args, Answe
 abbrev pub word_of : CommandWord → List ℕ
 word_of word.Compile = codes "compile"
 word_of word.Run = codes "run"
+word_of word.Check = codes "check"
 
 -- what the other words may be for
 abbrev pub slots_of : CommandWord → List Slot
 slots_of word.Compile = []
 slots_of word.Run = Plain ∷ Args ∷ Answers ∷ Steps ∷ Stack ∷ Heap ∷ Moves ∷ []
+slots_of word.Check = Plain ∷ Args ∷ Answers ∷ Fuel ∷ []
 
 -- what a word has to be there for
 abbrev pub wanted_of : CommandWord → List Slot
 wanted_of word.Compile = []
 wanted_of word.Run = Plain ∷ []
+wanted_of word.Check = Plain ∷ []
 
 -- what stands before the value in a word of the slot: an option is `--name=value`, and a plain word is its own value
 abbrev pub prefix_of : Slot → List ℕ
@@ -33,6 +36,7 @@ prefix_of Steps = codes "--steps="
 prefix_of Stack = codes "--stack="
 prefix_of Heap = codes "--heap="
 prefix_of Moves = codes "--moves="
+prefix_of Fuel = codes "--fuel="
 
 -- ---- the form
 

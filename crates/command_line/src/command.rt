@@ -14,6 +14,8 @@ pub enum Command {
     Compile,
     /// Reads an image and writes the outcome of a run of it.
     Run(RunWords),
+    /// Reads a Cmm text and writes the outcome of a run of it, and what that run needs.
+    Check(CheckWords),
 }
 
 /// What a run is to do.
@@ -32,6 +34,18 @@ pub struct RunWords {
     pub heap: u32,
     /// When the mover asks, and where it puts blocks.
     pub moves: Moves,
+}
+
+/// What a run of a text is to do.
+#[derive(Debug, Drop)]
+pub struct CheckWords {
+    /// The name of the function that is called.
+    pub entry: Name,
+    pub args: List<Arg>,
+    /// What the external calls that are asked for give, in order.
+    pub answers: List<Arg>,
+    /// The most units of fuel, one of which each node costs when its evaluation begins.
+    pub fuel: u64,
 }
 
 /// When the mover asks during a run, and where it puts the blocks of the heap.

@@ -11,6 +11,7 @@ ghost use Rattle.command_line.specs.Words.{word_of, slots_of, wanted_of, prefix_
 pub(crate) enum CommandWord {
     Compile,
     Run,
+    Check,
 }
 
 /// What a word after the first is for.
@@ -24,6 +25,7 @@ pub(crate) enum Slot {
     Stack,
     Heap,
     Moves,
+    Fuel,
 }
 
 static NO_SLOTS: [Slot; 0] = [];
@@ -38,7 +40,9 @@ static RUN_SLOTS: [Slot; 7] = [
     Slot::Moves,
 ];
 
-static RUN_WANTED: [Slot; 1] = [Slot::Plain];
+static CHECK_SLOTS: [Slot; 4] = [Slot::Plain, Slot::Args, Slot::Answers, Slot::Fuel];
+
+static ENTRY_WANTED: [Slot; 1] = [Slot::Plain];
 
 impl CommandWord {
     pub(crate) fn named(word: &[u8]) -> Option<CommandWord>
@@ -50,6 +54,8 @@ impl CommandWord {
             Some(CommandWord::Compile)
         } else if word == b"run".as_slice() {
             Some(CommandWord::Run)
+        } else if word == b"check".as_slice() {
+            Some(CommandWord::Check)
         } else {
             None
         }
@@ -62,6 +68,7 @@ impl CommandWord {
         match self {
             CommandWord::Compile => &NO_SLOTS,
             CommandWord::Run => &RUN_SLOTS,
+            CommandWord::Check => &CHECK_SLOTS,
         }
     }
 
@@ -71,7 +78,7 @@ impl CommandWord {
     {
         match self {
             CommandWord::Compile => &NO_SLOTS,
-            CommandWord::Run => &RUN_WANTED,
+            CommandWord::Run | CommandWord::Check => &ENTRY_WANTED,
         }
     }
 }
@@ -89,6 +96,7 @@ impl Slot {
             Slot::Stack => b"--stack=",
             Slot::Heap => b"--heap=",
             Slot::Moves => b"--moves=",
+            Slot::Fuel => b"--fuel=",
         }
     }
 

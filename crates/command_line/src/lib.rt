@@ -11,7 +11,7 @@ mod form;
 mod read;
 mod values;
 
-pub use command::{Command, Moves, RunWords, WordsError};
+pub use command::{CheckWords, Command, Moves, RunWords, WordsError};
 pub use read::read_words;
 pub use rv_machine::Arg;
 

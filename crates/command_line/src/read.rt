@@ -6,17 +6,17 @@ ghost use Rattle.command_line.specs.declared.form.CommandWord.{CommandWord};
 ghost use Rattle.command_line.specs.declared.form.Slot.{Slot};
 ghost use Rattle.command_line.specs.Values.{IsName, IsSteps, IsSize, IsMoves, IsItems, Nothing};
 ghost use Rattle.command_line.specs.Words.{fills, WellFormed, IsForm, Gives};
-ghost use Rattle.command_line.specs.Command.{CommandTree, Sets, IsRun, IsCommand, KeepsLimits, default_steps, default_size, default_moves};
-ghost use Rattle.command_line.specs.View.{texts, view, run_view};
+ghost use Rattle.command_line.specs.Command.{CommandTree, Sets, IsRun, IsCheck, IsCommand, KeepsLimits, default_steps, default_size, default_moves};
+ghost use Rattle.command_line.specs.View.{texts, view, run_view, check_view};
 
-use crate::command::{Command, Moves, RunWords, WordsError};
+use crate::command::{CheckWords, Command, Moves, RunWords, WordsError};
 use crate::form::{CommandWord, Slot, has_form};
 use crate::values;
 use bs_words::{List, Name};
 use rv_machine::Arg;
 use std::alloc::Global;
 
-/// The most instructions where no option says otherwise.
+/// The most instructions, and the most units of fuel, where no option says otherwise.
 const DEFAULT_STEPS: u64 = 100_000_000;
 
 /// The bytes of the stack and of half of the heap where no option says otherwise.
@@ -50,15 +50,15 @@ fn items(alloc: Global, others: &[String], slot: Slot) -> Result<List<Arg>, Word
     }
 }
 
-/// The most instructions.
-fn steps(others: &[String]) -> Result<u64, WordsError>
-    requires { count_by (fills Slot.Steps) (texts others.now) ≤ 1 }
-    ensures value { IfOk result (λ n. Sets (texts others.now) Slot.Steps IsSteps default_steps n) }
+/// The most instructions, or units of fuel.
+fn steps(others: &[String], slot: Slot) -> Result<u64, WordsError>
+    requires { count_by (fills slot) (texts others.now) ≤ 1 }
+    ensures value { IfOk result (λ n. Sets (texts others.now) slot IsSteps default_steps n) }
     ensures bad { IsErrOf result WordsError.ValueText
-        → Nothing (Sets (texts others.now) Slot.Steps IsSteps default_steps) }
+        → Nothing (Sets (texts others.now) slot IsSteps default_steps) }
     ensures formed { ¬ IsErrOf result WordsError.Words }
 {
-    match Slot::Steps.value_among(others) {
+    match slot.value_among(others) {
         Some(text) => values::steps(text).ok_or(WordsError::ValueText),
         None => Ok(DEFAULT_STEPS),
     }
@@ -104,10 +104,26 @@ fn run(alloc: Global, others: &[String]) -> Result<RunWords, WordsError>
         entry: entry(alloc, others)?,
         args: items(alloc, others, Slot::Args)?,
         answers: items(alloc, others, Slot::Answers)?,
-        steps: steps(others)?,
+        steps: steps(others, Slot::Steps)?,
         stack: size(others, Slot::Stack)?,
         heap: size(others, Slot::Heap)?,
         moves: moves(others)?,
+    })
+}
+
+/// The run of a text that the words after `check` are.
+fn check(alloc: Global, others: &[String]) -> Result<CheckWords, WordsError>
+    requires { IsForm CommandWord.Check (texts others.now) }
+    ensures value { IfOk result (λ check. IsCheck (texts others.now) (check_view check)) }
+    ensures bad { IsErrOf result WordsError.ValueText
+        → Nothing (IsCheck (texts others.now)) }
+    ensures formed { ¬ IsErrOf result WordsError.Words }
+{
+    Ok(CheckWords {
+        entry: entry(alloc, others)?,
+        args: items(alloc, others, Slot::Args)?,
+        answers: items(alloc, others, Slot::Answers)?,
+        fuel: steps(others, Slot::Fuel)?,
     })
 }
 
@@ -125,6 +141,8 @@ fn run(alloc: Global, others: &[String]) -> Result<RunWords, WordsError>
 ///     by default 1,048,576.
 ///   - `--moves=` is `none`, the default, `every`, or `seed:` and a decimal seed from 0 to
 ///     18446744073709551615.
+/// - `check ENTRY` has the name of a function, `--args=` and `--answers=` as `run` has them, and `--fuel=`,
+///   a decimal number of units with the limit and the default of `--steps=`.
 ///
 /// Zeros may lead a number. The order of the words after the first is free.
 ///
@@ -153,5 +171,6 @@ pub fn read_words(alloc: Global, words: &[String]) -> Result<Command, WordsError
     match command {
         CommandWord::Compile => Ok(Command::Compile),
         CommandWord::Run => Ok(Command::Run(run(alloc, others)?)),
+        CommandWord::Check => Ok(Command::Check(check(alloc, others)?)),
     }
 }

@@ -1,5 +1,5 @@
 //! Command lines and what they are.
-use crate::{Arg, Command, Moves, RunWords, WordsError, read_words};
+use crate::{Arg, CheckWords, Command, Moves, RunWords, WordsError, read_words};
 use std::alloc::{AllocError, Global};
 use std::process::Abort;
 use std::test::Fail;
@@ -26,7 +26,16 @@ fn run(alloc: Global, texts: &[&str]) -> Result<RunWords, Fail> {
     let words = strings(alloc, texts)?;
     match read_words(alloc, &words)? {
         Command::Run(run) => Ok(run),
-        Command::Compile => Err(WordsError::Words.into()),
+        _ => Err(WordsError::Words.into()),
+    }
+}
+
+/// The run of a text that the words are.
+fn check(alloc: Global, texts: &[&str]) -> Result<CheckWords, Fail> {
+    let words = strings(alloc, texts)?;
+    match read_words(alloc, &words)? {
+        Command::Check(check) => Ok(check),
+        _ => Err(WordsError::Words.into()),
     }
 }
 
@@ -44,7 +53,7 @@ fn words_of_no_command(rt: HostRuntime) -> Result<(), Fail> {
         &[],
         &[""],
         &["help"],
-        &["check", "f"],
+        &["check"],
         &["run"],
         &["run", "--help"],
         &["run", "--version"],
@@ -199,6 +208,38 @@ fn moves(rt: HostRuntime) -> Result<(), Fail> {
     ];
     for (option, wanted) in cases {
         assert_eq!(rt; run(rt.alloc(), &["run", option, "f"])?.moves, wanted);
+    }
+    Ok(())
+}
+
+#[test]
+fn checks(rt: HostRuntime) -> Result<(), Fail> {
+    let given = check(
+        rt.alloc(),
+        &["check", "--answers=7", "--fuel=012", "add3", "--args=3,@t"],
+    )?;
+    assert_eq!(rt; given.entry.as_bytes(), b"add3".as_slice());
+    is_word(&rt, given.args.get(0), 3);
+    is_symbol(&rt, given.args.get(1), b"t");
+    is_word(&rt, given.answers.get(0), 7);
+    assert_eq!(rt; given.fuel, 12);
+    assert_eq!(rt; check(rt.alloc(), &["check", "f"])?.fuel, 100_000_000);
+    let misformed: [&[&str]; 4] = [
+        &["check", "f", "--steps=3"],
+        &["check", "f", "--moves=none"],
+        &["check", "f", "--fuel=1", "--fuel=1"],
+        &["check", "f", "g"],
+    ];
+    for words in misformed {
+        assert!(rt; matches!(fault(rt.alloc(), words)?, Some(WordsError::Words)));
+    }
+    for fuel in ["--fuel=", "--fuel=-1", "--fuel=1000000000001"] {
+        assert!(rt;
+            matches!(
+                fault(rt.alloc(), &["check", "f", fuel])?,
+                Some(WordsError::ValueText)
+            )
+        );
     }
     Ok(())
 }

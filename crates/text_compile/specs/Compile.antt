@@ -33,6 +33,8 @@ pub record IsImageOf (text : List ℕ) (image : Tables) : Type 0 where
   pub file : SmallFileTree
   pub is_file : IsSmallFileOf text file
   pub is_image : AreTables image
+  -- the image that is made for the file
+  pub made : image ≡ compiled file
   pub correct : IsCorrect (embedded_file file) image
   pub bounded : IsBounded (embedded_file file) image
   pub frames : AllZip HasLeastFrame (functions file) image.funcs

@@ -5,6 +5,8 @@ use Rattle.image_form.specs.Image.{tables_bytes}
 use Rattle.image_form.specs.Tables.{Tables}
 use Rattle.text_compile.specs.Compile.{IsImageOf, IsNotBuilt, IsTooLarge}
 use Rattle.text_compile.specs.declared.compile.Refusal.{Refusal}
+use Rattle.text_compile.specs.declared.small.Unready.{Unready}
+use Rattle.text_compile.specs.declared.small.Unready.TheVariants as unready
 use Rattle.text_compile.specs.declared.compile.Refusal.TheVariants.{Fault, NotBuilt, TooLarge, OutOfMemory}
 
 -- The bytes are the spelling of an image of the text.
@@ -19,3 +21,9 @@ IsRefusalOf text (Fault told) = HasFault text told
 IsRefusalOf text NotBuilt = IsNotBuilt text
 IsRefusalOf text (TooLarge large) = IsTooLarge text large
 IsRefusalOf text OutOfMemory = ⊤
+
+-- why a text has no small file
+abbrev pub IsUnready : List ℕ → Unready → Type 0
+IsUnready text (unready.Fault told) = HasFault text told
+IsUnready text unready.NotBuilt = IsNotBuilt text
+IsUnready text unready.OutOfMemory = ⊤

@@ -3,12 +3,11 @@ ghost use Rattle.std.specs.Prelude.{◌≡◌, IfOk, IfErr};
 ghost use Rattle.bs_words.specs.Contents.{contents};
 ghost use Rattle.text_compile.specs.Refusal.{SpellsImageOf, IsRefusalOf};
 
-use bs_fault::{BuildError, Fault, FrontError, Large};
+use crate::small::{Unready, small_text};
+use bs_fault::{BuildError, Fault, Large};
 use bs_words::List;
-use cmm_front::front;
-use cmm_tree::not_built;
 use image_form::write_image;
-use small_code::{compile_small, small_file};
+use small_code::compile_small;
 use std::alloc::Global;
 use thiserror::Error;
 
@@ -39,20 +38,13 @@ pub fn compile_text(alloc: Global, text: &[u8]) -> Result<List<u8>, Refusal>
     ensures image { IfOk result (λ bytes. SpellsImageOf text.now (contents bytes)) }
     ensures refused { IfErr result (λ r. IsRefusalOf text.now r) }
 {
-    let checked = match front(alloc, text) {
-        Ok(checked) => checked,
-        Err(FrontError::Fault(fault)) => return Err(Refusal::Fault(fault)),
-        Err(FrontError::OutOfMemory) => return Err(Refusal::OutOfMemory),
+    let read = match small_text(alloc, text) {
+        Ok(read) => read,
+        Err(Unready::Fault(fault)) => return Err(Refusal::Fault(fault)),
+        Err(Unready::NotBuilt) => return Err(Refusal::NotBuilt),
+        Err(Unready::OutOfMemory) => return Err(Refusal::OutOfMemory),
     };
-    let file = checked.typed().file();
-    if not_built(file) {
-        return Err(Refusal::NotBuilt);
-    }
-    let small = match small_file(alloc, file) {
-        Ok(small) => small,
-        Err(_) => return Err(Refusal::OutOfMemory),
-    };
-    let image = match compile_small(alloc, &small) {
+    let image = match compile_small(alloc, &read.small) {
         Ok(image) => image,
         Err(BuildError::TooLarge(large)) => return Err(Refusal::TooLarge(large)),
         Err(BuildError::OutOfMemory) => return Err(Refusal::OutOfMemory),

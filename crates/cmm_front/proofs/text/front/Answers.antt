@@ -2,7 +2,8 @@
 use Rattle.std.proofs.Common.{rules}
 use Rattle.cmm_tree.specs.View.{file_view}
 use Rattle.cmm_types.specs.Typing.{file_of}
-use Rattle.cmm_front.proofs.Answering.{unread_told, untyped_told, checked_told, checked_file, read_same, typed_same}
+use Rattle.cmm_front.proofs.Answering.{unread_told, untyped_told, checked_told, checked_file, checked_annotated, checked_placed, read_same, typed_same}
+use Rattle.cmm_front.proofs.Readings.{is_placed}
 use Rattle.cmm_front.proofs.text.front.Goals as goal
 
 pub returns-in_err-file-clause-fault : goal.returns-in_err-file-clause-fault
@@ -19,6 +20,16 @@ returns-clause-file c =
     (read_same c.args.text.now (file_view c.in_ok-file.file) (file_view (file_of c.in_ok-typed.typed)) same c.in_ok-file.ensures)
     (typed_same (file_view c.in_ok-file.file) (file_view (file_of c.in_ok-typed.typed)) same c.in_ok-typed.ensures.faultless)
     c.check_addresses.ensures.same c.check_addresses.ensures.settled
+
+pub returns-clause-typed : goal.returns-clause-typed
+returns-clause-typed c = checked_annotated c.in_ok-typed.typed c.check_addresses.result c.in_ok-typed.ensures.typed c.check_addresses.ensures.same
+
+pub returns-clause-placed : goal.returns-clause-placed
+returns-clause-placed c =
+    let same = c.in_ok-typed.ensures.same in
+    checked_placed c.in_ok-typed.typed c.check_addresses.result
+    (is_placed c.args.text.now (file_view (file_of c.in_ok-typed.typed)) (read_same c.args.text.now (file_view c.in_ok-file.file) (file_view (file_of c.in_ok-typed.typed)) same c.in_ok-file.ensures))
+    c.check_addresses.ensures.same
 
 pub returns-clause-fault : goal.returns-clause-fault
 returns-clause-fault c =

@@ -12,5 +12,5 @@ returns-in-Ok-compile_bytes-clause-image g c = record {
 
 pub returns-in-Ok-clause-refused : goal.returns-in-Ok-clause-refused
 returns-in-Ok-clause-refused g c =
-    refusal_read _ (contents c.in-Ok.text) c.in-Err-compile_bytes.why (rw c.as_slice.ensures at c.compile_bytes.ensures.are_bytes) c.in-Ok.ensures.read
-    (rw c.as_slice.ensures at c.in-Err-compile_bytes.ensures.refused)
+    refusal_read _ (contents c.in-Ok.text) c.in-Err.why (rw c.as_slice.ensures at c.compile_bytes.ensures.are_bytes) c.in-Ok.ensures.read
+    (rw c.as_slice.ensures at c.in-Err.ensures.refused)

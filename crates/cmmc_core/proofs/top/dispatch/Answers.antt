@@ -61,6 +61,11 @@ returns-in-Ok-Run g c =
     let why = rw c.in-Err-OutOfMemory-run_source.field-0-is at c.in-Err-OutOfMemory-run_source.ensures.refused in
     Ends-told _ _ 9 _ _ no_memory why c.tell-in-Err-OutOfMemory-run_source.ensures
 
+-- ---- check
+
+pub returns-in-Ok-Check : goal.returns-in-Ok-Check
+returns-in-Ok-Check g c = c.check.ensures _ (rw c.in-Ok-Check.field-0-is at c.in-Ok-Check.ensures.command)
+
 -- ---- words
 
 pub returns-in-Err-Words : goal.returns-in-Err-Words

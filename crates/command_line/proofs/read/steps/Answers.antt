@@ -1,4 +1,3 @@
-use Rattle.command_line.specs.declared.form.Slot.TheVariants.{Steps}
 use Rattle.command_line.specs.Command.{default_steps}
 use Rattle.command_line.specs.View.{texts}
 use Rattle.command_line.specs.Values.{IsSteps}
@@ -7,8 +6,8 @@ use Rattle.command_line.proofs.read.steps.Goals as goal
 
 pub returns-in-Some-clause-value : goal.returns-in-Some-clause-value
 returns-in-Some-clause-value c =
-    sets_value (texts c.args.others.now) Steps IsSteps default_steps c.in-Some.text.now c.in-Some.ensures c.steps.result c.ok_or.result c.ok_or.ensures.value c.steps.ensures
+    sets_value (texts c.args.others.now) c.args.slot IsSteps default_steps c.in-Some.text.now c.in-Some.ensures c.steps.result c.ok_or.result c.ok_or.ensures.value c.steps.ensures
 
 pub returns-in-Some-clause-bad : goal.returns-in-Some-clause-bad
 returns-in-Some-clause-bad c = λ e.
-    sets_bad (texts c.args.others.now) Steps IsSteps default_steps c.in-Some.text.now c.requires c.in-Some.ensures c.steps.result c.ok_or.result c.ok_or.ensures.value c.steps.ensures e
+    sets_bad (texts c.args.others.now) c.args.slot IsSteps default_steps c.in-Some.text.now c.requires c.in-Some.ensures c.steps.result c.ok_or.result c.ok_or.ensures.value c.steps.ensures e

@@ -1,0 +1,138 @@
+-- What frames do with how the evaluation in them ends.
+use Rattle.std.proofs.Common.{◌≡◌, ◌∙◌, ℕ, zero, suc, Bool, true, false, cond, not, List, [], ◌∷◌, ◌++◌, Option, Some, None, Result, Ok, Err, length, refl, ap, sym, subst, Vec, Box, Global}
+use Rattle.std.specs.Prelude.{if◌then◌else◌, IfOk, reverse, nat_lt}
+use mathlib.Core.Former.{Count}
+use Rattle.std.proofs.lemmas.List.{length-reverse, length-map}
+use Rattle.std.specs.Borrow.{Bor}
+use Rattle.bs_words.specs.declared.types.Ret.{Ret}
+use Rattle.bs_words.specs.declared.types.Ty.TheVariants as ty
+use Rattle.bs_words.specs.Operators.{word_in}
+use Rattle.bs_words.specs.declared.values.Kind.{Kind}
+use Rattle.bs_words.specs.declared.values.Kind.TheVariants.{SwitchRange}
+use Rattle.bs_words.specs.declared.values.Value.{Value}
+use Rattle.cmm_tree.specs.declared.expr.Binding.{Binding}
+use Rattle.cmm_tree.specs.declared.expr.Case.{Case}
+use Rattle.cmm_tree.specs.declared.expr.Expr.{Expr}
+use Rattle.cmm_tree.specs.declared.expr.Form.{Form}
+use Rattle.cmm_tree.specs.declared.expr.Form as form
+use Rattle.cmm_types.specs.Types.{Scoped}
+use Rattle.cmm_meaning.specs.State.{World, Here, back_in}
+use Rattle.cmm_meaning.specs.Evaluation.{NotProper, Evaluation, Gives, Raises, Stops, Surroundings, with_value, proper, tested, with_bound, back, Chosen, case_for, chosen}
+use Rattle.cmm_eval.specs.Held.{choices_held}
+use Rattle.cmm_eval.specs.Filled.{or_improper, expression, taken_by, left_of, right_of, joined_by, operated_by, scoped_binding, bindings_from, first_bound, handler_of, cases_ready, does, resume}
+use Rattle.cmm_eval.specs.declared.frame.Frame.{Frame}
+use Rattle.cmm_eval.specs.declared.frame.Step.{Step}
+use Rattle.cmm_eval.specs.declared.frame.Step.TheVariants as step
+use Rattle.cmm_eval.specs.declared.here.Here as here
+use Rattle.cmm_eval.specs.declared.here.Bound.{Bound}
+use Rattle.cmm_eval.specs.Views.{bound_view, bounds_view}
+use Rattle.cmm_eval.proofs.Turns.{pushed}
+use Rattle.cmm_eval.proofs.Listed.{choices_is}
+
+-- as many bindings as the code has
+pub bounds_count : (xs : List Bound) → length xs ≡ length (bounds_view xs)
+bounds_count xs = sym (length-map (reverse xs) bound_view ∙ length-reverse xs)
+
+pub if_ok_then : {A E : Type 0} (P Q : A → Type 0) (r : Result A E) → ((a : A) → P a → Q a) → IfOk r P → IfOk r Q
+if_ok_then P Q (Ok a) f p = f a p
+if_ok_then P Q (Err e) f p = p
+
+-- a raise goes through all frames but those of a try and of a callee
+pub raise_passes : (s : Surroundings) (st : Step) (f : Form) (tail : Bool) (v : Value) (h : Here) (w : World) →
+    ((level taken : ℕ) → st ≡ step.Try level taken → ⊥) → ((here : here.Here) (written : Ret) → st ≡ step.Return here written → ⊥) →
+    does s st f tail (Raises v h w) ≡ Raises v h w
+raise_passes s (step.Typed type) f tail v h w p q = refl
+raise_passes s (step.Scope level taken) f tail v h w p q = refl
+raise_passes s step.Operand f tail v h w p q = refl
+raise_passes s (step.First true) f tail v h w p q = refl
+raise_passes s (step.First false) f tail v h w p q = refl
+raise_passes s (step.Second first true) f tail v h w p q = refl
+raise_passes s (step.Second first false) f tail v h w p q = refl
+raise_passes s (step.Elements rest) f tail v h w p q = refl
+raise_passes s (step.Bindings bindings) f tail v h w p q = refl
+raise_passes s (step.Bound level taken) f tail v h w p q = refl
+raise_passes s (step.Waiting rest values) f tail v h w p q = refl
+raise_passes s (step.Callee waited) f tail v h w p q = refl
+raise_passes s (step.Filling callee rest waited values) f tail v h w p q = refl
+raise_passes s (step.LateCallee values) f tail v h w p q = refl
+raise_passes s (step.Catch within zero level taken) f tail v h w p q = refl
+raise_passes s (step.Catch within (suc turns) level taken) f tail v h w p q = refl
+raise_passes s (step.Try level taken) f tail v h w p q = absurd (p level taken refl)
+raise_passes s (step.Return here written) f tail v h w p q = absurd (q here written refl)
+
+-- the name that a handler of a try binds
+abbrev pub raised : List ℕ → Scoped
+raised name = record { name = name; type = ty.Val; mutable = false }
+
+-- a try handles a raise
+pub try_handles : (s : Surroundings) (frames new : List Frame) (form : Bor Form) (tail : Bool) (level taken length' : ℕ) (v : Value) (h inner here : Here) (w : World)
+    (name : List ℕ) (handler expr : Expr) →
+    new ≡ frames ++ record { form = form; tail = tail; step = step.Scope length' taken } ∷ [] →
+    inner ≡ back_in level taken h → length' ≡ length inner.names → here ≡ with_bound (raised name ∷ []) (v ∷ []) inner → expr ≡ handler →
+    ((h : Here) (w : World) →
+    handler_of s form.now tail v h w ≡ back (length h.names) h.taken (expression s handler tail (with_bound (raised name ∷ []) (v ∷ []) h) w)) →
+    resume s new (expression s expr tail here w) ≡ resume s frames (does s (step.Try level taken) form.now tail (Raises v h w))
+try_handles s frames new form tail level taken length' v h inner here w name handler expr is-new is-inner is-length is-here is-expr is-handler =
+    let body : Here → Evaluation = λ i. expression s handler tail i w in
+    let bind : Here → Here = λ i. with_bound (raised name ∷ []) (v ∷ []) i in
+    pushed s frames new (record { form = form; tail = tail; step = step.Scope length' taken }) (expression s expr tail here w)
+    (handler_of s form.now tail v (back_in level taken h) w) is-new
+    (ap (λ (e : Expr). back length' taken (expression s e tail here w)) is-expr
+    ∙ ap (λ (i : Here). back length' taken (body i)) is-here
+    ∙ ap (λ (n : ℕ). back n taken (body (bind inner))) is-length
+    ∙ ap (λ (i : Here). back (length i.names) taken (body (bind i))) is-inner
+    ∙ sym (is-handler (back_in level taken h) w))
+
+-- the second of two operands is evaluated
+pub second_begins : (s : Surroundings) (f : Form) (left_first tail : Bool) (first : Value) (left right expr : Expr) →
+    ((h : Here) (w : World) → left_of s f h w ≡ expression s left false h w) → ((h : Here) (w : World) → right_of s f h w ≡ expression s right false h w) →
+    expr ≡ (if not left_first then left else right) → (h : Here) (w : World) →
+    does s (step.Second first left_first) f tail (expression s expr false h w) ≡ does s (step.First left_first) f tail (Gives (Some first) h w)
+second_begins s f false tail first left right expr l r e h w =
+    ap (λ (x : Expr). with_value (expression s x false h w) (λ a h w. joined_by s f a first h w)) e
+    ∙ ap (λ (x : Evaluation). with_value x (λ a h w. joined_by s f a first h w)) (sym (l h w))
+second_begins s f true tail first left right expr l r e h w =
+    ap (λ (x : Expr). with_value (expression s x false h w) (λ b h w. joined_by s f first b h w)) e
+    ∙ ap (λ (x : Evaluation). with_value x (λ b h w. joined_by s f first b h w)) (sym (r h w))
+
+-- the first of these bindings has its value, or it does not fit
+pub first_is_bound : (s : Surroundings) (end : ℕ) (bindings : List Binding) (b : Binding) (rest : List Binding) (v : Value) (h here : Here) (w : World) (kind : Option Kind) →
+    bindings ≡ b ∷ rest → end ≡ s.end →
+    ((w : World) (go : Here → Evaluation) →
+    or_improper kind w (go here) ≡ tested end (scoped_binding b).type v w (go (with_bound (scoped_binding b ∷ []) (v ∷ []) h))) →
+    or_improper kind w (bindings_from s rest here w) ≡ first_bound s bindings v h w
+first_is_bound s end bindings b rest v h here w kind is-bindings is-end bind =
+    bind w (λ i. bindings_from s rest i w)
+    ∙ ap (λ (e : ℕ). tested e (scoped_binding b).type v w (bindings_from s rest (with_bound (scoped_binding b ∷ []) (v ∷ []) h) w)) is-end
+    ∙ sym (ap (λ (l : List Binding). first_bound s l v h w) is-bindings)
+
+-- ---- switches
+
+abbrev cases_in : Form → (n : Count) × form.Row_of-Case n
+cases_in (form.Switch' size_at size p at type selector _ row) = (_, row)
+cases_in _ = (_, form.end_of-Case)
+
+-- a number below the size chooses a case
+pub switch_chooses : (s : Surroundings) (size_at size : ℕ) (selector : Box Expr Global) (cases : Vec Case Global) (tail : Bool) (v : Value) (h : Here) (w : World) (k : ℕ) →
+    word_in v ≡ Ok k → nat_lt k size ≡ true →
+    taken_by s (form.Switch size_at size selector cases) tail v h w ≡ chosen (case_for (cases_ready s tail cases.items) k) h w
+switch_chooses s size_at size selector cases tail v h w k e lt =
+    let f : Form = form.Switch size_at size selector cases in
+    let choose : List Chosen → ℕ → Evaluation = λ l n. cond (nat_lt n size) (chosen (case_for l n) h w) (Stops (NotProper SwitchRange) w) in
+    ap (λ (r : Result ℕ Kind). proper r w (choose (choices_held s (cases_in f).1 tail))) e
+    ∙ ap (λ (b : Bool). cond b (chosen (case_for (choices_held s (cases_in f).1 tail) k) h w) (Stops (NotProper SwitchRange) w)) lt
+    ∙ ap (λ (l : List Chosen). chosen (case_for l k) h w)
+    (choices_is s (cases_in f).0 (cases_in f).1 tail ∙ ap (cases_ready s tail) (form.items_hidden-the_row-Case-2 cases))
+
+-- ---- calls
+
+-- the callee of a call is evaluated last
+pub late_callee : (s : Surroundings) (f : Form) (b : Box Expr Global) (arguments : Vec Expr Global) (result : Ret) (result_at : ℕ) (tail : Bool) (callee : Option Value)
+    (e : Expr) (values : List Value) → f ≡ form.App b arguments result result_at → callee ≡ None → e ≡ b.value → (h : Here) (w : World) →
+    with_value (expression s e false h w) (λ c h w. operated_by s f tail (Some c) values h w) ≡ operated_by s f tail callee values h w
+late_callee s f b arguments result result_at tail callee e values p q r h w =
+    let P : Form → Type 0 =
+    λ g. with_value (expression s b.value false h w) (λ c h w. operated_by s g tail (Some c) values h w) ≡ operated_by s g tail None values h w in
+    ap (λ (x : Expr). with_value (expression s x false h w) (λ c h w. operated_by s f tail (Some c) values h w)) r
+    ∙ subst P (sym p) refl
+    ∙ ap (λ (o : Option Value). operated_by s f tail o values h w) (sym q)

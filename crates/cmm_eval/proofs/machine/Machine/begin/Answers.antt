@@ -1,0 +1,37 @@
+use Rattle.std.proofs.Common.{◌≡◌, ◌≢◌, ◌∙◌, ◌-◌, true, false, ap}
+use denote.Enum.Bare.{sameb}
+use Rattle.cmm_eval.specs.contracts.group.Group.{the_type}
+use Rattle.cmm_eval.specs.Groups.{group_of}
+use Rattle.cmm_eval.specs.Held.{inside}
+use Rattle.cmm_eval.specs.Filled.{expression, resume}
+use Rattle.cmm_eval.specs.Stands.{around_view, stands, goes_on}
+use Rattle.cmm_eval.specs.Views.{here_view, world_view}
+use Rattle.cmm_eval.specs.declared.group.Group.TheVariants as group
+use Rattle.cmm_eval.specs.declared.here.Here as here
+use Rattle.cmm_eval.specs.declared.world.World as world
+use Rattle.cmm_eval.proofs.Ended.{if_ok_then}
+use Rattle.cmm_eval.proofs.Turns.{pushed, node_begins}
+use Rattle.cmm_eval.proofs.machine.Machine.begin.Goals as goal
+
+pub returns : goal.returns
+returns c =
+    let a = c.args.around.now in
+    let s = around_view a in
+    let m = c.args.self.now in
+    let e = c.args.expr.now in
+    let tail = c.args.tail in
+    let h = here_view m.here in
+    let w = world_view m.world in
+    let p = c.in_ok-push.ensures in
+    let not-float : group_of e.form ≢ group.Float = λ is.
+    let different : false ≡ true = c.if-eq.ensures ∙ ap (λ g. sameb the_type g group.Float) (c.group_of.ensures ∙ is) in cc in
+    let frames = c.push.new.self.frames.items in
+    if_ok_then
+    (λ now. stands a c.enter.new.self now ≡ goes_on a c.push.new.self (λ h w. inside s e.form tail h w))
+    (λ now. stands a c.enter.new.self now ≡ goes_on a m (λ h w. expression s e tail h w)) c.enter.result
+    (λ now q. q
+    ∙ ap (λ (i : here.Here). resume s frames (inside s e.form tail (here_view i) (world_view c.push.new.self.world))) p.here
+    ∙ ap (λ (v : world.World). resume s frames (inside s e.form tail h (world_view v))) p.world
+    ∙ pushed s m.frames.items frames _ (inside s e.form tail h (record w { left = w.left - 1 })) (expression s e tail h w) p.frames
+    (node_begins s e tail h w not-float c.if-self-eq0.false))
+    c.enter.ensures

@@ -1,0 +1,19 @@
+use Rattle.std.proofs.Common.{◌≡◌, refl, subst, sym, ap, ◌∙◌}
+use Rattle.cmm_tree.specs.declared.expr.Form.{Form}
+use Rattle.cmm_tree.specs.declared.expr.Expr.{Expr}
+use Rattle.cmm_meaning.specs.Evaluation.{back}
+use Rattle.cmm_eval.specs.Filled.{expression, body_of}
+use Rattle.cmm_eval.specs.declared.frame.Step.TheVariants as step
+use Rattle.cmm_eval.proofs.Resumed.{stands_pushed}
+use Rattle.cmm_eval.proofs.machine.Machine.body.Goals as goal
+
+pub returns-in_ok-push-in-Let : goal.returns-in_ok-push-in-Let
+returns-in_ok-push-in-Let c s =
+    let p = c.in_ok-push-in-Let.ensures in
+    let tail = c.args.tail in
+    let level = c.args.level in
+    let taken = c.args.taken in
+    stands_pushed s c.args.self.now c.push.new.self (record { form = c.args.form; tail = tail; step = step.Scope level taken })
+    (expression s c.deref.result.now tail) (λ h w. body_of s c.args.form.now tail level taken h w) p.here p.world p.frames
+    (λ h w. ap (λ (e : Expr). back level taken (expression s e tail h w)) c.deref.ensures
+    ∙ subst (λ (f : Form). back level taken (expression s c.in-Let.body.value tail h w) ≡ body_of s f tail level taken h w) (sym c.in-Let.is) refl)

@@ -1,0 +1,16 @@
+use Rattle.std.proofs.Common.{◌∙◌, ap, sym}
+use Rattle.cmm_eval.specs.Filled.{resume, fills, standing}
+use Rattle.cmm_eval.specs.Stands.{around_view}
+use Rattle.cmm_eval.specs.Views.{here_view, world_view, stop_view}
+use Rattle.cmm_eval.specs.declared.frame.Now.{Now}
+use Rattle.cmm_eval.proofs.Resumed.{does_stops}
+use Rattle.cmm_eval.proofs.machine.Machine.end.Goals as goal
+
+pub returns-in-Stops : goal.returns-in-Stops
+returns-in-Stops c =
+    let s = around_view c.args.around.now in
+    let m = c.args.self.now in
+    let f = c.args.frame in
+    let h = here_view m.here in
+    let w = world_view m.world in
+    ap (resume s m.frames.items) (sym (ap (λ (n : Now). fills s f (standing s n h w)) c.in-Stops.is ∙ does_stops s f.step f.form.now f.tail (stop_view c.in-Stops.why) w))

@@ -1,0 +1,45 @@
+use Rattle.std.proofs.Common.{◌∙◌, List, ap, sym}
+use Rattle.std.proofs.lemmas.Bool.{lt-ltb}
+use Rattle.cmm_tree.specs.declared.expr.Case.{Case}
+use Rattle.cmm_tree.specs.declared.expr.Form.{Form}
+use Rattle.cmm_meaning.specs.Evaluation.{case_for, chosen}
+use Rattle.cmm_eval.specs.Filled.{resume, taken_by, cases_ready}
+use Rattle.cmm_eval.specs.Stands.{around_view, stands}
+use Rattle.cmm_eval.specs.Views.{here_view, world_view}
+use Rattle.cmm_eval.specs.declared.frame.Now.{Now}
+use Rattle.cmm_eval.proofs.Ended.{switch_chooses}
+use Rattle.cmm_eval.proofs.machine.Machine.take.Goals as goal
+
+pub returns-in-Some : goal.returns-in-Some
+returns-in-Some c =
+    let s = around_view c.args.around.now in
+    let m = c.args.self.now in
+    let h = here_view m.here in
+    let w = world_view m.world in
+    let tail = c.args.tail in
+    let v = c.args.value in
+    let k = c.in-Ok.number in
+    let f = c.in-Switch in
+    ap (resume s m.frames.items)
+    (sym (ap (λ (g : Form). taken_by s g tail v h w) f.is
+    ∙ switch_chooses s f.size_at f.size f.selector f.cases tail v h w k (sym c.in-Ok.ensures) (lt-ltb k f.size c.if-number-size.false)
+    ∙ ap (λ (l : List Case). chosen (case_for (cases_ready s tail l) k) h w) (sym c.as_slice.ensures.value)
+    ∙ ap (λ o. chosen o h w) (sym (c.in-Some.ensures s tail))))
+
+pub returns-in-None : goal.returns-in-None
+returns-in-None c =
+    let a = c.args.around.now in
+    let s = around_view a in
+    let m = c.args.self.now in
+    let h = here_view m.here in
+    let w = world_view m.world in
+    let tail = c.args.tail in
+    let v = c.args.value in
+    let k = c.in-Ok.number in
+    let f = c.in-Switch in
+    ap (λ (n : Now). stands a m n) c.not_proper-in-None.ensures
+    ∙ ap (resume s m.frames.items)
+    (sym (ap (λ (g : Form). taken_by s g tail v h w) f.is
+    ∙ switch_chooses s f.size_at f.size f.selector f.cases tail v h w k (sym c.in-Ok.ensures) (lt-ltb k f.size c.if-number-size.false)
+    ∙ ap (λ (l : List Case). chosen (case_for (cases_ready s tail l) k) h w) (sym c.as_slice.ensures.value)
+    ∙ ap (λ o. chosen o h w) (sym (c.in-None.ensures s tail))))

@@ -1,0 +1,7 @@
+pub mod Views
+pub mod Innermost
+pub mod Groups
+pub mod Held
+pub mod Filled
+pub mod Annotated
+pub mod Stands

@@ -1,0 +1,76 @@
+-- The evaluation that a machine stands for.
+use Rattle.std.specs.Prelude.{◌≡◌, ℕ, suc, ◌+◌, true, List, [], ◌∷◌, Option, Some, None, map, option_copied, slice_get}
+use Rattle.bs_words.specs.Contents.{contents}
+use Rattle.bs_words.specs.declared.values.Kind.TheVariants.{BadCall}
+use Rattle.bs_words.specs.declared.values.Value.{Value}
+use Rattle.cmm_tree.specs.Tree.{functions, comps_of}
+use Rattle.cmm_tree.specs.View.{file_view, params_view}
+use Rattle.cmm_tree.specs.declared.file.File.{File}
+use Rattle.cmm_tree.specs.declared.file.Item.{Item}
+use Rattle.cmm_tree.specs.declared.file.Item.TheVariants as item
+use Rattle.cmm_tree.specs.declared.file.Function.{Function}
+use Rattle.cmm_data.specs.Placement.{data_end, value_of_symbol}
+use Rattle.cmm_data.specs.Symbols.{IsTableOf}
+use Rattle.cmm_meaning.specs.Layout.{Layout}
+use Rattle.cmm_meaning.specs.State.{World, Here, bound, deepened}
+use Rattle.cmm_meaning.specs.Evaluation.{Evaluation, Stops, NotProper, scoped_parameter}
+use Rattle.cmm_meaning.specs.Evaluation as evaluation
+use Rattle.cmm_meaning.specs.Run.{outside, callees}
+use Rattle.cmm_eval.specs.Annotated.{IsTyped}
+use Rattle.cmm_eval.specs.Filled.{expression, resume, standing}
+use Rattle.cmm_eval.specs.Views.{layout_view, here_view, world_view}
+use Rattle.cmm_eval.specs.declared.around.Surroundings.{Surroundings}
+use Rattle.cmm_eval.specs.declared.frame.Now.{Now}
+use Rattle.cmm_eval.specs.declared.machine.Machine.{Machine}
+
+-- the functions of a file, in the order of its text
+abbrev pub functions_in : List Item → List Function
+functions_in [] = []
+functions_in (item.Function f ∷ items) = f ∷ functions_in items
+functions_in (item.Data d ∷ items) = functions_in items
+
+-- an activation, by the types that nodes hold
+abbrev pub activated_held : evaluation.Surroundings → ℕ → Option Function → List Value → ℕ → World → Evaluation
+activated_held s frame None arguments below w = Stops (NotProper BadCall) w
+activated_held s frame (Some f) arguments below w =
+    let here : Here = record { names = bound (map scoped_parameter (params_view (contents f.params))) arguments []; below = below; taken = below + frame } in
+    expression s f.body true here (deepened (below + frame) w)
+
+abbrev pub around_of : File → Layout → (ℕ → List Value → ℕ → World → Evaluation) → evaluation.Surroundings
+around_of file layout call =
+    record {
+      end = data_end (file_view file);
+      symbol = value_of_symbol (file_view file);
+      parameters = map comps_of (functions (file_view file));
+      call = call;
+      external = outside layout;
+    }
+
+-- what stands round a run of a file, where calls nest as deep as the units that are left allow
+abbrev pub whole : File → Layout → evaluation.Surroundings
+whole file layout =
+    around_of file layout (λ f arguments below w. callees (file_view file) layout (suc w.left) f arguments below w)
+
+abbrev pub around_view : Surroundings → evaluation.Surroundings
+around_view a = whole a.file.now (layout_view a.layout.now)
+
+-- What the machine keeps of its file is right.
+pub record IsAround (a : Surroundings) : Type 0 where
+  pub end : a.end ≡ data_end (file_view a.file.now)
+  pub symbols : IsTableOf (file_view a.file.now) a.symbols
+  pub functions : (k : ℕ) → option_copied (slice_get a.functions.items k) ≡ slice_get (functions_in (contents a.file.now.items)) k
+  pub typed : IsTyped a.file.now
+
+-- the evaluation that stands in the machine, with all that is still to be done
+abbrev pub stands_in : evaluation.Surroundings → Machine → Now → Evaluation
+stands_in s m now = resume s m.frames.items (standing s now (here_view m.here) (world_view m.world))
+
+-- the machine's frames round this evaluation from where it stands
+abbrev pub goes_on_in : evaluation.Surroundings → Machine → (Here → World → Evaluation) → Evaluation
+goes_on_in s m e = resume s m.frames.items (e (here_view m.here) (world_view m.world))
+
+abbrev pub stands : Surroundings → Machine → Now → Evaluation
+stands a m now = stands_in (around_view a) m now
+
+abbrev pub goes_on : Surroundings → Machine → (Here → World → Evaluation) → Evaluation
+goes_on a m e = goes_on_in (around_view a) m e

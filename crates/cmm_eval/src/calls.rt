@@ -1,0 +1,224 @@
+//! What a node does once all its operands are there: calls among others.
+ghost use Rattle.std.specs.Prelude.{◌≡◌, [], IfOk, Some, reverse, map};
+ghost use Rattle.bs_words.specs.Contents.{contents};
+ghost use Rattle.bs_words.specs.Memory.{allocated, next_block};
+ghost use Rattle.cmm_tree.specs.View.{params_view};
+ghost use Rattle.cmm_meaning.specs.Layout as meaning;
+ghost use Rattle.cmm_meaning.specs.State.{bound};
+ghost use Rattle.cmm_meaning.specs.Evaluation as evaluation;
+ghost use Rattle.cmm_meaning.specs.Evaluation.{Gives, and_then, proper, applied, back_from_call, as_written, stack_below, scoped_parameter};
+ghost use Rattle.cmm_meaning.specs.Run.{outside};
+ghost use Rattle.cmm_eval.specs.Filled.{operated_by};
+ghost use Rattle.cmm_eval.specs.Views.{here_view, layout_view};
+ghost use Rattle.cmm_eval.specs.Stands.{IsAround, around_view, stands, goes_on, stands_in, goes_on_in, activated_held};
+
+use crate::around::Surroundings;
+use crate::bind::{bind_params, fit_parameters};
+use crate::frame::{Now, Step};
+use crate::here::Here;
+use crate::layout::Layout;
+use crate::machine::{Machine, not_proper};
+use crate::world::Stop;
+use bs_words::{Call, Kind, List, Name, Obs, Ret, Value};
+use cmm_tree::{Form, Function};
+use std::alloc::{AllocError, Global};
+
+impl<'a> Machine<'a> {
+    /// What a node with a row of operands does with their values, last to first.
+    pub(crate) fn operate(
+        &mut self,
+        around: &Surroundings<'a>,
+        form: &'a Form,
+        tail: bool,
+        callee: Option<Value>,
+        mut values: Vec<Value>,
+    ) -> Result<Now<'a>, AllocError>
+        requires { IsAround around.now }
+        ensures { IfOk result (λ now. stands around.now self.new now ≡ goes_on around.now self.old (λ h w. operated_by (around_view around.now) form.entry.now tail callee (reverse values.items) h w)) }
+    {
+        match form {
+            Form::Alloc { header, .. } => {
+                values.reverse();
+                self.allocate(*header, values)
+            }
+            Form::App {
+                callee: late,
+                result,
+                ..
+            } => match callee {
+                // The callee was evaluated before the arguments that have waited, or is now.
+                Some(callee) => {
+                    values.reverse();
+                    self.apply(around, form, tail, callee, values, *result)
+                }
+                None => {
+                    self.push(form, tail, Step::LateCallee { values })?;
+                    Ok(Now::Begins {
+                        expr: late,
+                        tail: false,
+                    })
+                }
+            },
+            Form::Extcall { name, result, .. } => {
+                values.reverse();
+                self.call_outside(around, name, values.as_slice(), *result)
+            }
+            Form::Exit { label, .. } => {
+                values.reverse();
+                Ok(Now::Exits { label, values })
+            }
+            _ => Ok(not_proper(Kind::BadValue)),
+        }
+    }
+
+    fn allocate(&mut self, header: u64, cells: Vec<Value>) -> Result<Now<'a>, AllocError>
+        ensures { IfOk result (λ now. (s : evaluation.Surroundings) → stands_in s self.new now ≡ goes_on_in s self.old (λ h w. proper (allocated w.memory header cells.items) w (λ memory. Gives (Some (next_block w.memory)) h (record w { memory = memory })))) }
+    {
+        match self.world.memory.allocate(header, cells)? {
+            Ok(pointer) => Ok(Now::Gives(Some(pointer))),
+            Err(kind) => Ok(not_proper(kind)),
+        }
+    }
+
+    /// A call of a value, which must be a function with parameters that the arguments fit.
+    pub(crate) fn apply(
+        &mut self,
+        around: &Surroundings<'a>,
+        form: &'a Form,
+        tail: bool,
+        callee: Value,
+        arguments: Vec<Value>,
+        written: Ret,
+    ) -> Result<Now<'a>, AllocError>
+        requires { IsAround around.now }
+        ensures { IfOk result (λ now. stands around.now self.new now ≡ goes_on around.now self.old (λ h w. applied (around_view around.now) callee arguments.items written tail h w)) }
+    {
+        let Value::Function(number) = callee else {
+            return Ok(not_proper(Kind::BadCall));
+        };
+        let Some(function) = around.functions.get(number as usize) else {
+            return Ok(not_proper(Kind::BadCall));
+        };
+        let arguments = arguments.as_slice();
+        if !fit_parameters(around.end, function.params.as_slice(), arguments) {
+            return Ok(not_proper(Kind::BadCall));
+        }
+        let frame = around.layout.frame_of(number);
+        self.activate(
+            around.alloc,
+            form,
+            tail,
+            function,
+            frame,
+            arguments,
+            written,
+        )
+    }
+
+    /// A call of a function with a frame of so many bytes. In tail position it takes the place of its
+    /// caller.
+    fn activate(
+        &mut self,
+        alloc: Global,
+        form: &'a Form,
+        tail: bool,
+        function: &'a Function,
+        frame: u64,
+        arguments: &[Value],
+        written: Ret,
+    ) -> Result<Now<'a>, AllocError>
+        ensures { IfOk result (λ now. (s : evaluation.Surroundings) → stands_in s self.new now ≡ goes_on_in s self.old (λ h w. and_then (back_from_call h (activated_held s frame (Some function.entry.now) arguments.now (stack_below tail h) w)) (λ v h w. as_written written v h w))) }
+    {
+        let below = if tail {
+            self.here.below
+        } else {
+            self.here.taken
+        };
+        let taken = below.checked_add(frame).ok_or(AllocError)?;
+        let inner = activation(alloc, function, below, taken, arguments)?;
+        self.world.deepen(taken);
+        let here = std::mem::replace(&mut self.here, inner);
+        self.push(
+            form,
+            tail,
+            Step::Return {
+                here,
+                result: written,
+            },
+        )?;
+        Ok(Now::Begins {
+            expr: &function.body,
+            tail: true,
+        })
+    }
+
+    /// A call of what lies outside. One without a result takes no answer; each other one takes the next.
+    fn call_outside(
+        &mut self,
+        around: &Surroundings<'a>,
+        name: &'a Name,
+        arguments: &[Value],
+        written: Ret,
+    ) -> Result<Now<'a>, AllocError>
+        ensures { IfOk result (λ now. stands around.now self.new now ≡ goes_on around.now self.old (λ h w. and_then (back_from_call h (outside (layout_view around.now.layout.now) name.entry.now written arguments.now w)) (λ v h w. as_written written v h w))) }
+    {
+        let call = Call {
+            name: Name::from_vec(Vec::from_slice(around.alloc, name.as_bytes())?),
+            args: shown(around.alloc, around.layout, arguments)?,
+        };
+        match written {
+            Ret::Unit => {
+                self.world.made.push(call)?;
+                Ok(Now::Gives(None))
+            }
+            Ret::Comp(_) => match self.world.answers.split_first() {
+                None => Ok(Now::Stops(Stop::NoAnswer(call))),
+                Some((answer, left)) => {
+                    self.world.made.push(call)?;
+                    self.world.answers = left;
+                    Ok(Now::Gives(Some(Value::Word(*answer))))
+                }
+            },
+        }
+    }
+}
+
+/// An activation of a function on these arguments.
+pub(crate) fn activation<'a>(
+    alloc: Global,
+    function: &'a Function,
+    below: u64,
+    taken: u64,
+    arguments: &[Value],
+) -> Result<Here<'a>, AllocError>
+    ensures { IfOk result (λ here. here_view here ≡ record { names = bound (map scoped_parameter (params_view (contents function.entry.now.params))) arguments.now []; below = below; taken = taken }) }
+{
+    let mut here = Here {
+        names: Vec::new(alloc),
+        below,
+        taken,
+    };
+    bind_params(&mut here, function.params.as_slice(), arguments)?;
+    Ok(here)
+}
+
+/// What is seen of a value.
+pub(crate) fn observed(layout: &Layout, value: Value) -> Obs
+    ensures { result ≡ meaning.observed (layout_view layout.now) value }
+{
+    match value {
+        Value::Word(word) => Obs::Word(word),
+        Value::Block { serial, .. } => Obs::Block(serial),
+        Value::Function(function) => Obs::Word(layout.address_of(function)),
+    }
+}
+
+fn shown(alloc: Global, layout: &Layout, values: &[Value]) -> Result<List<Obs>, AllocError>
+    ensures { IfOk result (λ seen. contents seen ≡ map (meaning.observed (layout_view layout.now)) values.now) }
+{
+    let mut seen = Vec::new(alloc);
+    for value in values {
+        seen.push(observed(layout, *value))?;
+    }
+    Ok(List::from_vec(seen))
+}

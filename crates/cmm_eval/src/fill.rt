@@ -1,0 +1,284 @@
+//! What a frame makes of a value, or of none.
+ghost use Rattle.std.specs.Prelude.{◌≡◌, IfOk, None, Some, cond, nat_lt};
+ghost use Rattle.bs_words.specs.Operators.{word_in};
+ghost use Rattle.cmm_meaning.specs.State as state;
+ghost use Rattle.cmm_meaning.specs.Evaluation as evaluation;
+ghost use Rattle.cmm_meaning.specs.Evaluation.{Gives, Raises, proper, as_written, bound_error};
+ghost use Rattle.cmm_eval.specs.declared.frame.Step.{Step};
+ghost use Rattle.cmm_eval.specs.Filled.{WantsValue, does, fills, standing, taken_by, joined_by, body_of, first_bound};
+ghost use Rattle.cmm_eval.specs.Stands.{IsAround, around_view, stands, goes_on, stands_in, goes_on_in};
+
+use crate::around::Surroundings;
+use crate::bind::bind_value;
+use crate::cases::case_for;
+use crate::frame::{Frame, Now, Step};
+use crate::group::{Group, group_of};
+use crate::leaf::{both_operands, earlier};
+use crate::machine::{Machine, not_proper, of_type};
+use crate::rows::operands_of;
+use bs_words::{Kind, Ret, Ty, Value};
+use cmm_data::DATA_START;
+use cmm_tree::{Binding, Form};
+use cmm_values::{apply, condition_of, fits, misfit, word_in};
+use std::alloc::AllocError;
+
+impl<'a> Machine<'a> {
+    pub(crate) fn fill(
+        &mut self,
+        around: &Surroundings<'a>,
+        frame: Frame<'a>,
+        value: Option<Value>,
+    ) -> Result<Now<'a>, AllocError>
+        requires { IsAround around.now }
+        ensures { IfOk result (λ now. stands around.now self.new now ≡ goes_on around.now self.old (λ h w. fills (around_view around.now) frame.entry (Gives value h w))) }
+    {
+        let Frame { form, tail, step } = frame;
+        match step {
+            Step::Typed(ty) => Ok(of_type(around.end, ty, value)),
+            Step::Scope { level, taken } => {
+                self.here.back_in(level, taken);
+                Ok(Now::Gives(value))
+            }
+            Step::Try { level, taken } => {
+                self.here.back_in(level, taken);
+                Ok(Now::Gives(value))
+            }
+            Step::Catch { .. } => Ok(Now::Gives(value)),
+            Step::Elements(rest) => self.elements(form, tail, rest),
+            Step::Bound { level, taken } => self.body(form, tail, level, taken),
+            Step::Return {
+                here,
+                result: written,
+            } => {
+                self.here = here;
+                Ok(as_written(written, value))
+            }
+            step => match value {
+                Some(value) => self.fill_value(around, Frame { form, tail, step }, value),
+                None => Ok(not_proper(Kind::BadValue)),
+            },
+        }
+    }
+
+    // What a frame that wants a value makes of it.
+    fn fill_value(
+        &mut self,
+        around: &Surroundings<'a>,
+        frame: Frame<'a>,
+        value: Value,
+    ) -> Result<Now<'a>, AllocError>
+        requires around { IsAround around.now }
+        requires wants { WantsValue frame.step }
+        ensures { IfOk result (λ now. stands around.now self.new now ≡ goes_on around.now self.old (λ h w. fills (around_view around.now) frame.entry (Gives (Some value) h w))) }
+    {
+        let Frame { form, tail, step } = frame;
+        match step {
+            Step::Operand => self.take(around, form, tail, value),
+            Step::First { left_first } => self.second(form, tail, left_first, value),
+            Step::Second { first, left_first } => {
+                if left_first {
+                    self.join(form, first, value)
+                } else {
+                    self.join(form, value, first)
+                }
+            }
+            Step::Bindings(bindings) => self.bound(around, form, tail, bindings, value),
+            Step::Waiting { rest, mut values } => {
+                values.push(Some(value))?;
+                self.wait(around, form, tail, rest, values)
+            }
+            Step::Callee { waited } => {
+                let values = Vec::new(around.alloc);
+                let operands = operands_of(form);
+                self.fill_in(around, form, tail, Some(value), operands, waited, values)
+            }
+            Step::Filling {
+                callee,
+                rest,
+                waited,
+                mut values,
+            } => {
+                values.push(value)?;
+                self.fill_in(around, form, tail, callee, rest, waited, values)
+            }
+            Step::LateCallee { values } => { self.operate(around, form, tail, Some(value), values) }
+            _ => unreachable!(),
+        }
+    }
+
+    // What a node with one operand does with its value.
+    fn take(
+        &mut self,
+        around: &Surroundings<'a>,
+        form: &'a Form,
+        tail: bool,
+        value: Value,
+    ) -> Result<Now<'a>, AllocError>
+        requires { IsAround around.now }
+        ensures { IfOk result (λ now. stands around.now self.new now ≡ goes_on around.now self.old (λ h w. taken_by (around_view around.now) form.entry.now tail value h w)) }
+    {
+        match form {
+            Form::Assign { name, .. } => {
+                let ty = self.here.type_named(name);
+                if !fits(around.end, ty, value) {
+                    return Ok(not_proper(misfit(ty)));
+                }
+                self.here.assign(name, value);
+                Ok(Now::Gives(None))
+            }
+            Form::Load(chunk, _) => Ok(given(self.world.memory.load(*chunk, value))),
+            Form::Raise(_) => {
+                if !fits(around.end, Ty::Val, value) {
+                    return Ok(not_proper(misfit(Ty::Val)));
+                }
+                Ok(Now::Raises(value))
+            }
+            Form::If(_, on_true, on_false) => {
+                match condition_of(&self.world.memory, value) {
+                    Ok(true) => Ok(Now::Begins {
+                        expr: on_true,
+                        tail,
+                    }),
+                    Ok(false) => Ok(Now::Begins {
+                        expr: on_false,
+                        tail,
+                    }),
+                    Err(kind) => Ok(not_proper(kind)),
+                }
+            }
+            Form::Switch { size, cases, .. } => match word_in(value) {
+                Err(kind) => Ok(not_proper(kind)),
+                Ok(number) => {
+                    if number >= *size {
+                        return Ok(not_proper(Kind::SwitchRange));
+                    }
+                    match case_for(cases.as_slice(), number) {
+                        Some(case) => Ok(Now::Begins {
+                            expr: &case.body,
+                            tail,
+                        }),
+                        None => Ok(not_proper(Kind::SwitchRange)),
+                    }
+                }
+            },
+            _ => Ok(not_proper(Kind::BadValue)),
+        }
+    }
+
+    // The second of two operands.
+    fn second(
+        &mut self,
+        form: &'a Form,
+        tail: bool,
+        left_first: bool,
+        first: Value,
+    ) -> Result<Now<'a>, AllocError>
+        ensures { IfOk result (λ now. (s : evaluation.Surroundings) → stands_in s self.new now ≡ goes_on_in s self.old (λ h w. does s (Step.First left_first) form.entry.now tail (Gives (Some first) h w))) }
+    {
+        if group_of(form) != Group::Two {
+            return Ok(not_proper(Kind::BadValue));
+        }
+        let (left, right) = both_operands(form);
+        let expr = earlier(!left_first, left, right);
+        self.push(form, tail, Step::Second { first, left_first })?;
+        Ok(Now::Begins { expr, tail: false })
+    }
+
+    // What a node with two operands does with their values.
+    fn join(&mut self, form: &'a Form, left: Value, right: Value) -> Result<Now<'a>, AllocError>
+        ensures { IfOk result (λ now. (s : evaluation.Surroundings) → stands_in s self.new now ≡ goes_on_in s self.old (λ h w. joined_by s form.entry.now left right h w)) }
+    {
+        match form {
+            Form::Operator(op, _, _) => Ok(given(apply(*op, &self.world.memory, left, right))),
+            Form::Store(chunk, _, _) => match self.world.memory.store(*chunk, left, right) {
+                Ok(()) => Ok(Now::Gives(None)),
+                Err(kind) => Ok(not_proper(kind)),
+            },
+            Form::Checkbound(_, _) => Ok(checked(left, right)),
+            _ => Ok(not_proper(Kind::BadValue)),
+        }
+    }
+
+    // The first of these bindings has its value: the next one, or the body.
+    fn bound(
+        &mut self,
+        around: &Surroundings<'a>,
+        form: &'a Form,
+        tail: bool,
+        bindings: &'a [Binding],
+        value: Value,
+    ) -> Result<Now<'a>, AllocError>
+        requires { IsAround around.now }
+        ensures { IfOk result (λ now. stands around.now self.new now ≡ goes_on around.now self.old (λ h w. first_bound (around_view around.now) bindings.entry.now value h w)) }
+    {
+        match bindings.split_first() {
+            None => Ok(not_proper(Kind::BadValue)),
+            Some((binding, rest)) => {
+                match bind_value(around.end, &mut self.here, binding, value)? {
+                    Some(kind) => Ok(not_proper(kind)),
+                    None => self.bind_next(form, tail, rest),
+                }
+            }
+        }
+    }
+
+    // The body of a let.
+    fn body(
+        &mut self,
+        form: &'a Form,
+        tail: bool,
+        level: usize,
+        taken: u64,
+    ) -> Result<Now<'a>, AllocError>
+        ensures { IfOk result (λ now. (s : evaluation.Surroundings) → stands_in s self.new now ≡ goes_on_in s self.old (λ h w. body_of s form.entry.now tail level taken h w)) }
+    {
+        match form {
+            Form::Let(_, body) => {
+                self.push(form, tail, Step::Scope { level, taken })?;
+                Ok(Now::Begins { expr: body, tail })
+            }
+            _ => Ok(not_proper(Kind::BadValue)),
+        }
+    }
+}
+
+fn given<'a>(value: Result<Value, Kind>) -> Now<'a>
+    ensures { (s : evaluation.Surroundings) → (h : state.Here) → (w : state.World) → standing s result h w ≡ proper value w (λ v. Gives (Some v) h w) }
+{
+    match value {
+        Ok(value) => Now::Gives(Some(value)),
+        Err(kind) => not_proper(kind),
+    }
+}
+
+// A value comes where the call is written with a type.
+fn as_written<'a>(written: Ret, value: Option<Value>) -> Now<'a>
+    ensures { (s : evaluation.Surroundings) → (h : state.Here) → (w : state.World) → standing s result h w ≡ as_written written value h w }
+{
+    match written {
+        Ret::Unit => Now::Gives(None),
+        Ret::Comp(_) => match value {
+            Some(value) => Now::Gives(Some(value)),
+            None => not_proper(Kind::BadCall),
+        },
+    }
+}
+
+// A test of an index, which raises the address of the built-in symbol where it fails.
+fn checked<'a>(bound: Value, index: Value) -> Now<'a>
+    ensures { (s : evaluation.Surroundings) → (h : state.Here) → (w : state.World) → standing s result h w ≡ proper (word_in bound) w (λ bound. proper (word_in index) w (λ index. cond (nat_lt index bound) (Gives None h w) (Raises bound_error h w))) }
+{
+    match word_in(bound) {
+        Err(kind) => not_proper(kind),
+        Ok(bound) => match word_in(index) {
+            Err(kind) => not_proper(kind),
+            Ok(index) => {
+                if index < bound {
+                    Now::Gives(None)
+                } else {
+                    Now::Raises(Value::Word(DATA_START))
+                }
+            }
+        },
+    }
+}

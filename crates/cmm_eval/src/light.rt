@@ -1,0 +1,68 @@
+//! Light expressions, whose evaluation may wait until the operation that takes them.
+ghost use Rattle.std.specs.Prelude.{◌≡◌, ◌&&◌};
+ghost use Rattle.bs_words.specs.declared.operators.IntOp.TheVariants.{AddA};
+ghost use Rattle.cmm_tree.specs.View.{expr_view};
+ghost use Rattle.cmm_types.specs.Light.{is_light, is_light_address, is_light_operator};
+ghost use Rattle.cmm_meaning.specs.State.{scope};
+ghost use Rattle.cmm_meaning.specs.Evaluation.{is_left_first};
+ghost use Rattle.cmm_eval.specs.Views.{here_view};
+ghost use Rattle.cmm_eval.specs.Innermost.{is_address_sum};
+
+use crate::here::Here;
+use bs_words::IntOp;
+use cmm_tree::{Expr, Form};
+
+/// Whether the expression is a light address: it is evaluated after the other operands of its operation.
+pub(crate) fn is_light_address(here: &Here<'_>, expr: &Expr) -> bool
+    ensures { result ≡ is_light_address (scope (here_view here.now)) (expr_view expr.now) }
+{
+    match &expr.form {
+        Form::Operator(op, left, right) => {
+            is_address_sum(*op) && (is_light(here, left) && is_light(here, right))
+        }
+        _ => false,
+    }
+}
+
+/// Whether the right operand alone is a light address, so that the left one is evaluated first.
+pub(crate) fn is_left_first(here: &Here<'_>, left: &Expr, right: &Expr) -> bool
+    ensures { result ≡ is_left_first (scope (here_view here.now)) (expr_view left.now) (expr_view right.now) }
+{
+    is_light_address(here, right) && !is_light_address(here, left)
+}
+
+fn is_light(here: &Here<'_>, expr: &Expr) -> bool
+    ensures { result ≡ is_light (scope (here_view here.now)) (expr_view expr.now) }
+{
+    match &expr.form {
+        Form::Integer(_) => true,
+        Form::Symbol(_) => true,
+        Form::Name(name) => here.is_immutable(name),
+        Form::Operator(op, left, right) => {
+            is_light_operator(*op) && (is_light(here, left) && is_light(here, right))
+        }
+        _ => false,
+    }
+}
+
+fn is_address_sum(op: IntOp) -> bool
+    ensures { result ≡ is_address_sum op }
+{
+    match op {
+        IntOp::AddA => true,
+        _ => false,
+    }
+}
+
+fn is_light_operator(op: IntOp) -> bool
+    ensures { result ≡ is_light_operator op }
+{
+    match op {
+        IntOp::Mulh => false,
+        IntOp::Div => false,
+        IntOp::Mod => false,
+        IntOp::Cmp(_) => false,
+        IntOp::CmpU(_) => false,
+        _ => true,
+    }
+}

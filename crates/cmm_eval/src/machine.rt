@@ -1,0 +1,174 @@
+//! The machine: an activation, the world, and what is still to be done.
+ghost use Rattle.std.specs.Prelude.{◌≡◌, ◌++◌, ◌∷◌, [], IfOk, Some};
+ghost use Rattle.cmm_meaning.specs.State as state;
+ghost use Rattle.cmm_meaning.specs.Evaluation as evaluation;
+ghost use Rattle.cmm_meaning.specs.Evaluation.{of_type, tested, Gives};
+ghost use Rattle.cmm_eval.specs.Views.{here_view, world_view};
+ghost use Rattle.cmm_eval.specs.Groups.{group_of};
+ghost use Rattle.cmm_eval.specs.Held.{inside};
+ghost use Rattle.cmm_eval.specs.Filled.{HasEnded, expression, standing, fills};
+ghost use Rattle.cmm_eval.specs.Stands.{IsAround, around_view, stands, goes_on};
+
+use crate::around::Surroundings;
+use crate::frame::{Frame, Now, Step};
+use crate::group::{Group, group_of};
+use crate::here::Here;
+use crate::rows::operands_of;
+use crate::world::{Stop, World};
+use bs_words::{Kind, Ty, Value};
+use cmm_tree::{Expr, Form};
+use cmm_values::{fits, misfit};
+use std::alloc::AllocError;
+
+/// A run that has come so far.
+#[derive(Drop)]
+pub(crate) struct Machine<'a> {
+    pub(crate) here: Here<'a>,
+    pub(crate) world: World<'a>,
+    /// What is still to be done, the innermost last.
+    pub(crate) frames: Vec<Frame<'a>>,
+}
+
+impl<'a> Machine<'a> {
+    /// Evaluates to the end, and answers how that came.
+    ///
+    /// Each turn takes a unit, ends a frame or goes on in one, so that the turns never run out.
+    #[tactic(auto, using(crate::proofs::Resumed::resume_push, crate::proofs::Resumed::resume_stops))]
+    pub(crate) fn run(
+        &mut self,
+        around: &Surroundings<'a>,
+        first: Now<'a>,
+    ) -> Result<Now<'a>, AllocError>
+        requires { IsAround around.now }
+        ensures ended { IfOk result (λ end. HasEnded end) }
+        ensures end { IfOk result (λ end. standing (around_view around.now) end (here_view self.new.here) (world_view self.new.world) ≡ stands around.now self.old first.entry) }
+    {
+        let mut now = first;
+        'turns: for _turn in 0..u64::MAX {
+            now = match now {
+                Now::Begins { expr, tail } => self.begin(around, expr, tail)?,
+                Now::Stops(why) => return Ok(Now::Stops(why)),
+                ended => match self.frames.pop() {
+                    Some(frame) => self.end(around, frame, ended)?,
+                    None => return Ok(ended),
+                },
+            };
+        }
+        Err(AllocError)
+    }
+
+    /// A node begins: it takes a unit, and its type is to be tested.
+    #[tactic(auto, using(crate::proofs::Resumed::resume_push, crate::proofs::Resumed::resume_stops))]
+    fn begin(
+        &mut self,
+        around: &Surroundings<'a>,
+        expr: &'a Expr,
+        tail: bool,
+    ) -> Result<Now<'a>, AllocError>
+        requires { IsAround around.now }
+        ensures { IfOk result (λ now. stands around.now self.new now ≡ goes_on around.now self.old (λ h w. expression (around_view around.now) expr.entry.now tail h w)) }
+    {
+        if group_of(&expr.form) == Group::Float {
+            return Ok(not_proper(Kind::BadValue));
+        }
+        if self.world.left == 0 {
+            return Ok(Now::Stops(Stop::OutOfFuel));
+        }
+        self.world.left -= 1;
+        self.push(&expr.form, tail, Step::Typed(expr.ty))?;
+        self.enter(around, &expr.form, tail)
+    }
+
+    /// Adds what is to be done with what comes next.
+    pub(crate) fn push(
+        &mut self,
+        form: &'a Form,
+        tail: bool,
+        step: Step<'a>,
+    ) -> Result<(), AllocError>
+        ensures here { IfOk result (λ _. self.new.here ≡ self.old.here) }
+        ensures world { IfOk result (λ _. self.new.world ≡ self.old.world) }
+        ensures frames { IfOk result (λ _. self.new.frames.items ≡ self.old.frames.items ++ record { form = form.entry; tail = tail; step = step.entry } ∷ []) }
+    {
+        self.frames.push(Frame { form, tail, step })?;
+        Ok(())
+    }
+
+    /// What a node does once it has taken its unit.
+    fn enter(
+        &mut self,
+        around: &Surroundings<'a>,
+        form: &'a Form,
+        tail: bool,
+    ) -> Result<Now<'a>, AllocError>
+        requires { IsAround around.now }
+        ensures { IfOk result (λ now. stands around.now self.new now ≡ goes_on around.now self.old (λ h w. inside (around_view around.now) form.entry.now tail h w)) }
+    {
+        match group_of(form) {
+            Group::Float => Ok(not_proper(Kind::BadValue)),
+            Group::Leaf => Ok(self.leaf(around, form)),
+            Group::One => self.operand(around, form, tail),
+            Group::Two => self.operands(around, form, tail),
+            Group::Row => self.wait(
+                around,
+                form,
+                tail,
+                operands_of(form),
+                Vec::new(around.alloc),
+            ),
+            Group::Sequence => self.sequence(form, tail),
+            Group::Scope => self.enter_scope(form, tail),
+        }
+    }
+
+    /// What a frame makes of how the evaluation in it ended.
+    fn end(
+        &mut self,
+        around: &Surroundings<'a>,
+        frame: Frame<'a>,
+        ended: Now<'a>,
+    ) -> Result<Now<'a>, AllocError>
+        requires around { IsAround around.now }
+        requires ended { HasEnded ended }
+        ensures { IfOk result (λ now. stands around.now self.new now ≡ goes_on around.now self.old (λ h w. fills (around_view around.now) frame.entry (standing (around_view around.now) ended.entry h w))) }
+    {
+        match ended {
+            Now::Gives(value) => self.fill(around, frame, value),
+            Now::Exits { label, values } => self.leave(around, frame, label, values),
+            Now::Raises(value) => self.raise(frame, value),
+            Now::Stops(why) => Ok(Now::Stops(why)),
+            Now::Begins { .. } => unreachable!(),
+        }
+    }
+}
+
+/// A run that is improper.
+pub(crate) fn not_proper<'a>(kind: Kind) -> Now<'a>
+    ensures { result ≡ Now.Stops (Stop.NotProper kind) }
+{
+    Now::Stops(Stop::NotProper(kind))
+}
+
+/// What a node of this type gives; where the type is no value, a value is dropped.
+pub(crate) fn of_type<'a>(end: u64, ty: Ty, value: Option<Value>) -> Now<'a>
+    ensures { (s : evaluation.Surroundings) → (h : state.Here) → (w : state.World) → standing s result h w ≡ of_type end ty value h w }
+{
+    match ty {
+        Ty::NoValue => Now::Gives(None),
+        _ => match value {
+            Some(value) => tested(end, ty, value),
+            None => not_proper(Kind::BadValue),
+        },
+    }
+}
+
+/// The value, which must fit the type.
+fn tested<'a>(end: u64, ty: Ty, value: Value) -> Now<'a>
+    ensures { (s : evaluation.Surroundings) → (h : state.Here) → (w : state.World) → standing s result h w ≡ tested end ty value w (Gives (Some value) h w) }
+{
+    if fits(end, ty, value) {
+        Now::Gives(Some(value))
+    } else {
+        not_proper(misfit(ty))
+    }
+}

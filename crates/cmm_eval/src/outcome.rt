@@ -1,0 +1,29 @@
+//! How a run ends, and what is told of it.
+use bs_words::{Call, Kind, Obs};
+
+/// How a run ends.
+#[derive(Debug, Drop)]
+pub enum Outcome {
+    /// It returned a value, or none.
+    Returned(Option<Obs>),
+    Raised(Obs),
+    /// An external call wanted an answer, and none was left.
+    Asks(Call),
+    /// The units did not suffice.
+    More,
+    Improper(Kind),
+}
+
+/// What is told of a run.
+#[derive(Debug, Drop)]
+pub struct Eval {
+    pub outcome: Outcome,
+    /// The external calls that were made, first to last.
+    pub calls: Vec<Call>,
+    /// The most bytes of frames and tries that were active at once.
+    pub stack_need: u64,
+    /// The bytes of all blocks, their headers counted.
+    pub heap_need: u64,
+    /// The units of fuel that were not spent.
+    pub left: u64,
+}

@@ -1,0 +1,217 @@
+//! Rows of operands, elements of sequences, and scopes that are entered.
+ghost use Rattle.std.specs.Prelude.{◌≡◌, Bool, List, Option, IfOk, reverse, option_copied};
+ghost use Rattle.bs_words.specs.declared.values.Value.{Value};
+ghost use Rattle.cmm_meaning.specs.State as state;
+ghost use Rattle.cmm_eval.specs.Views.{here_view};
+ghost use Rattle.cmm_eval.specs.Filled.{elements_from, waits_for, after_callee, after_waiting, fills_in, operands_of};
+ghost use Rattle.cmm_eval.specs.Groups.{group_of};
+ghost use Rattle.cmm_eval.specs.Held.{inside};
+ghost use Rattle.cmm_eval.specs.declared.group.Group.{Group};
+ghost use Rattle.cmm_eval.specs.Stands.{IsAround, around_view, stands, goes_on, stands_in, goes_on_in};
+ghost use Rattle.cmm_meaning.specs.Evaluation as evaluation;
+
+use crate::around::Surroundings;
+use crate::frame::{Now, Step};
+use crate::here::Here;
+use crate::light::is_light_address;
+use crate::machine::{Machine, not_proper};
+use bs_words::{Kind, Value};
+use cmm_tree::{Expr, Form};
+use std::alloc::AllocError;
+
+impl<'a> Machine<'a> {
+    /// A sequence.
+    pub(crate) fn sequence(&mut self, form: &'a Form, tail: bool) -> Result<Now<'a>, AllocError>
+        requires { group_of form.now ≡ Group.Sequence }
+        ensures { IfOk result (λ now. (s : evaluation.Surroundings) → stands_in s self.new now ≡ goes_on_in s self.old (λ h w. inside s form.entry.now tail h w)) }
+    {
+        match form {
+            Form::Seq(elements) => self.elements(form, tail, elements.as_slice()),
+            _ => Ok(not_proper(Kind::BadValue)),
+        }
+    }
+
+    /// The elements of a sequence from here on, the last in tail position where the whole is.
+    pub(crate) fn elements(
+        &mut self,
+        form: &'a Form,
+        tail: bool,
+        elements: &'a [Expr],
+    ) -> Result<Now<'a>, AllocError>
+        ensures { IfOk result (λ now. (s : evaluation.Surroundings) → stands_in s self.new now ≡ goes_on_in s self.old (λ h w. elements_from s elements.entry.now tail h w)) }
+    {
+        match elements.split_first() {
+            None => Ok(Now::Gives(None)),
+            Some((expr, rest)) => {
+                if rest.is_empty() {
+                    return Ok(Now::Begins { expr, tail });
+                }
+                self.push(form, tail, Step::Elements(rest))?;
+                Ok(Now::Begins { expr, tail: false })
+            }
+        }
+    }
+
+    /// A let, a catch or a try.
+    pub(crate) fn enter_scope(&mut self, form: &'a Form, tail: bool) -> Result<Now<'a>, AllocError>
+        requires { group_of form.now ≡ Group.Scope }
+        ensures { IfOk result (λ now. (s : evaluation.Surroundings) → stands_in s self.new now ≡ goes_on_in s self.old (λ h w. inside s form.entry.now tail h w)) }
+    {
+        let level = self.here.names.len();
+        let taken = self.here.taken;
+        match form {
+            Form::Let(bindings, _) => {
+                self.push(form, tail, Step::Bound { level, taken })?;
+                self.bind_next(form, tail, bindings.as_slice())
+            }
+            Form::Catch(body, _) => {
+                let turns = self.world.left.checked_add(1).ok_or(AllocError)?;
+                let within = false;
+                self.push(
+                    form,
+                    tail,
+                    Step::Catch {
+                        within,
+                        turns,
+                        level,
+                        taken,
+                    },
+                )?;
+                Ok(Now::Begins { expr: body, tail })
+            }
+            Form::Try { body, .. } => {
+                self.push(form, tail, Step::Try { level, taken })?;
+                let deeper = taken.checked_add(16).ok_or(AllocError)?;
+                self.here.taken = deeper;
+                self.world.deepen(deeper);
+                Ok(Now::Begins {
+                    expr: body,
+                    tail: false,
+                })
+            }
+            _ => Ok(not_proper(Kind::BadValue)),
+        }
+    }
+
+    /// The operands that are no light addresses, right to left; the others wait. The values so far are
+    /// last to first.
+    pub(crate) fn wait(
+        &mut self,
+        around: &Surroundings<'a>,
+        form: &'a Form,
+        tail: bool,
+        operands: &'a [Expr],
+        mut values: Vec<Option<Value>>,
+    ) -> Result<Now<'a>, AllocError>
+        requires { IsAround around.now }
+        ensures { IfOk result (λ now. stands around.now self.new now ≡ goes_on around.now self.old (λ h w. waits_for (around_view around.now) form.entry.now tail (reverse operands.entry.now) (reverse values.items) h w)) }
+    {
+        let mut left = operands.len();
+        while left > 0 {
+            left -= 1;
+            let expr = &operands[left];
+            if !is_light_address(&self.here, expr) {
+                let rest = &operands[..left];
+                self.push(form, tail, Step::Waiting { rest, values })?;
+                return Ok(Now::Begins { expr, tail: false });
+            }
+            values.push(None)?;
+        }
+        values.reverse();
+        self.callee(around, form, tail, values)
+    }
+
+    /// The callee of a call, unless it waits; then the operands that have waited.
+    fn callee(
+        &mut self,
+        around: &Surroundings<'a>,
+        form: &'a Form,
+        tail: bool,
+        waited: Vec<Option<Value>>,
+    ) -> Result<Now<'a>, AllocError>
+        requires { IsAround around.now }
+        ensures { IfOk result (λ now. stands around.now self.new now ≡ goes_on around.now self.old (λ h w. after_waiting (around_view around.now) form.entry.now tail waited.items h w)) }
+    {
+        match prompt_callee(&self.here, form) {
+            Some(expr) => {
+                self.push(form, tail, Step::Callee { waited })?;
+                Ok(Now::Begins { expr, tail: false })
+            }
+            None => {
+                let values = Vec::new(around.alloc);
+                self.fill_in(around, form, tail, None, operands_of(form), waited, values)
+            }
+        }
+    }
+
+    /// The operands that have waited, right to left. `waited` has what the operands of `operands` have
+    /// come to before, first to last, and `values` those behind them, last to first.
+    pub(crate) fn fill_in(
+        &mut self,
+        around: &Surroundings<'a>,
+        form: &'a Form,
+        tail: bool,
+        callee: Option<Value>,
+        operands: &'a [Expr],
+        mut waited: Vec<Option<Value>>,
+        mut values: Vec<Value>,
+    ) -> Result<Now<'a>, AllocError>
+        requires { IsAround around.now }
+        ensures { IfOk result (λ now. stands around.now self.new now ≡ goes_on around.now self.old (λ h w. fills_in (around_view around.now) form.entry.now tail callee (reverse operands.entry.now) (reverse waited.items) (reverse values.items) h w)) }
+    {
+        let mut left = operands.len();
+        while left > 0 {
+            left -= 1;
+            match waited.pop().flatten() {
+                Some(value) => values.push(value)?,
+                None => {
+                    let rest = &operands[..left];
+                    self.push(
+                        form,
+                        tail,
+                        Step::Filling {
+                            callee,
+                            rest,
+                            waited,
+                            values,
+                        },
+                    )?;
+                    return Ok(Now::Begins {
+                        expr: &operands[left],
+                        tail: false,
+                    });
+                }
+            }
+        }
+        self.operate(around, form, tail, callee, values)
+    }
+}
+
+/// The callee of a call, unless it waits.
+fn prompt_callee<'a>(here: &Here<'_>, form: &'a Form) -> Option<&'a Expr>
+    ensures { (s : evaluation.Surroundings) → (tail : Bool) → (before : List (Option Value)) → (w : state.World) → after_waiting s form.entry.now tail before (here_view here.now) w ≡ after_callee s form.entry.now tail (option_copied result) before (here_view here.now) w }
+{
+    match form {
+        Form::App { callee, .. } => {
+            if is_light_address(here, callee) {
+                None
+            } else {
+                Some(callee)
+            }
+        }
+        _ => None,
+    }
+}
+
+/// The operands of a node with a row of them.
+pub(crate) fn operands_of(form: &Form) -> &[Expr]
+    ensures { result.now ≡ operands_of form.now }
+{
+    match form {
+        Form::Alloc { operands, .. } => operands.as_slice(),
+        Form::App { arguments, .. } => arguments.as_slice(),
+        Form::Extcall { arguments, .. } => arguments.as_slice(),
+        Form::Exit { arguments, .. } => arguments.as_slice(),
+        _ => &[],
+    }
+}

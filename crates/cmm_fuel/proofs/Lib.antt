@@ -1,0 +1,4 @@
+pub mod Alike
+pub mod Choosing
+pub mod Agreed
+pub mod Depth

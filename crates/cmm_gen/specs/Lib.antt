@@ -1,0 +1,4 @@
+pub mod Drawn
+pub mod Trees
+pub mod Drawing
+pub mod Generated

@@ -1,0 +1,6 @@
+pub mod Does
+pub mod Interaction
+pub mod Links
+pub mod Pace
+pub mod Fitting
+pub mod Units

@@ -1,0 +1,4 @@
+//! The meaning of a text once more as an interaction, and the laws of it that a compiler stands on.
+//!
+//! The crate holds definitions and laws alone.
+#![tactic(auto)]

@@ -1,0 +1,78 @@
+//! The command `check`: a Cmm text in, what is told of a run of one of its functions out.
+ghost use Rattle.std.specs.Prelude.{◌<◌, ℕ, List, All, IfOk, IfErr};
+ghost use Rattle.bs_words.specs.Contents.{contents};
+ghost use Rattle.command_line.specs.Command.{IsCommand, CheckCommand};
+ghost use Rattle.command_line.specs.View.{check_view};
+ghost use Rattle.cmmc_core.specs.Compile.{Reads};
+ghost use Rattle.cmmc_core.specs.Effects.{side, effects};
+ghost use Rattle.cmmc_core.specs.Ends.{Ends};
+ghost use Rattle.cmmc_core.specs.Refusal.{IsCheckFailure};
+ghost use Rattle.text_check.specs.Check.{IsCheckOf};
+ghost use Rattle.text_check.specs.Refusal.{IsCheckRefusal};
+
+use crate::line::{READ_FAULT, WRITE_FAULT, WRITTEN, tell, tell_check_refusal};
+use crate::text::{Unread, read_text};
+use bs_io::{Sink, Source, write_all};
+use command_line::CheckWords;
+use std::alloc::Global;
+use text_check::{CheckRefusal, check_text};
+
+/// Why nothing is told of a source.
+#[derive(Debug, Drop)]
+pub enum CheckFailure {
+    ReadFault,
+    Text(CheckRefusal),
+}
+
+/// Writes what is told of the run of the text that a source holds, or the line that tells why there is nothing, and
+/// answers the status.
+pub fn check<S: Source, K: Sink, E: Sink>(
+    alloc: Global,
+    words: &CheckWords,
+    source: &mut S,
+    out: &mut K,
+    err: &mut E,
+) -> u8
+    ensures { (line : List (List ℕ)) → IsCommand line (CheckCommand (check_view words.now)) → Ends line (effects (side (S.left source.old) (S.left source.new) (S.faults source.old) (S.faults source.new)) (side (K.held out.old) (K.held out.new) (K.faults out.old) (K.faults out.new)) (side (E.held err.old) (E.held err.new) (E.faults err.old) (E.faults err.new))) result }
+{
+    match check_source(alloc, words, source) {
+        Ok(told) => match write_all(out, told.as_slice()) {
+            Ok(()) => WRITTEN,
+            Err(_) => WRITE_FAULT,
+        },
+        Err(CheckFailure::ReadFault) => tell(err, b"cmmc: read fault\n", READ_FAULT),
+        Err(CheckFailure::Text(why)) => tell_check_refusal(alloc, err, &why),
+    }
+}
+
+/// What is told of the run of the text that a source holds. At most one byte past the longest text is read.
+fn check_source<S: Source>(
+    alloc: Global,
+    words: &CheckWords,
+    source: &mut S,
+) -> Result<bs_words::List<u8>, CheckFailure>
+    ensures told { IfOk result (λ lines. Reads (λ text. IsCheckOf (check_view words.now) text (contents lines)) (side (S.left source.old) (S.left source.new) (S.faults source.old) (S.faults source.new))) }
+    ensures failed { IfErr result (λ r. IsCheckFailure (check_view words.now) (side (S.left source.old) (S.left source.new) (S.faults source.old) (S.faults source.new)) r) }
+{
+    match read_text(alloc, source) {
+        Ok(text) => match check_bytes(alloc, text.as_slice(), words) {
+            Ok(told) => Ok(told),
+            Err(why) => Err(CheckFailure::Text(why)),
+        },
+        Err(Unread::ReadFault) => Err(CheckFailure::ReadFault),
+        Err(Unread::OutOfMemory) => Err(CheckFailure::Text(CheckRefusal::OutOfMemory)),
+    }
+}
+
+/// What is told of the run of a text, whose bytes are bytes.
+fn check_bytes(
+    alloc: Global,
+    text: &[u8],
+    words: &CheckWords,
+) -> Result<bs_words::List<u8>, CheckRefusal>
+    ensures are_bytes { All (λ b. b < 256) text.now }
+    ensures told { IfOk result (λ lines. IsCheckOf (check_view words.now) text.now (contents lines)) }
+    ensures refused { IfErr result (λ r. IsCheckRefusal (check_view words.now) text.now r) }
+{
+    check_text(alloc, text, words)
+}

@@ -1,0 +1,33 @@
+//! Reading the text of a source.
+ghost use Rattle.std.specs.Prelude.{IfOk, IfErr};
+ghost use Rattle.bs_words.specs.Contents.{contents};
+ghost use Rattle.cmm_reader.specs.Text.{longest};
+ghost use Rattle.cmmc_core.specs.Effects.{side, IsRead};
+ghost use Rattle.cmmc_core.specs.Refusal.{IsTextUnread};
+
+use bs_io::{InFault, Source, read_all};
+use bs_words::List;
+use std::alloc::Global;
+
+/// The most bytes of a text.
+const LONGEST_TEXT: u64 = 16_777_216;
+
+/// Why a text was not read.
+#[derive(Debug, Drop)]
+pub enum Unread {
+    ReadFault,
+    OutOfMemory,
+}
+
+/// The bytes that a source holds, up to one past the longest text, which no text has.
+pub fn read_text<S: Source>(alloc: Global, source: &mut S) -> Result<List<u8>, Unread>
+    ensures read { IfOk result (λ bytes. IsRead longest (side (S.left source.old) (S.left source.new) (S.faults source.old) (S.faults source.new)) (contents bytes)) }
+    ensures unread { IfErr result (λ r. IsTextUnread (side (S.left source.old) (S.left source.new) (S.faults source.old) (S.faults source.new)) r) }
+{
+    match read_all(alloc, source, LONGEST_TEXT) {
+        Ok(text) => Ok(text),
+        Err(InFault::Long(text)) => Ok(text),
+        Err(InFault::Read) => Err(Unread::ReadFault),
+        Err(InFault::OutOfMemory) => Err(Unread::OutOfMemory),
+    }
+}

@@ -1,0 +1,70 @@
+//! What a run of each text of standard input comes to: what `cmmc check` prints, for every text that has no fault.
+//!
+//! Each line of `stdin` has the words of a `check`, a bar, and a Cmm text: `f --args=1 | (function "f" (x:int) x)`. The
+//! frames and addresses of functions are made by hand here, since most of these texts are not compiled yet. The lines
+//! in `stdout` were not written by this program: they are a second evaluator's, written from the rules alone.
+#![tactic(auto)]
+
+use anyhow::Result;
+use cmm_eval::Layout;
+use cmm_front::front;
+use command_line::{Command, read_words};
+use std::alloc::Global;
+use std::io::{self, BufRead, BufReader, BufWriter, Write};
+use text_check::{CallRefusal, call_of, told_of_run};
+
+/// The most functions of a text in `stdin`.
+const FUNCTIONS: u32 = 64;
+
+fn main(rt: HostRuntime) -> Result<()> {
+    let alloc = rt.alloc();
+    let layout = layout(alloc)?;
+    let mut out = BufWriter::new(alloc, rt.stdout())?;
+    for line in BufReader::new(alloc, rt.stdin())?.lines(alloc) {
+        let line = line?;
+        out.write_all(told(alloc, &layout, line.as_str())?.as_slice())?;
+    }
+    out.flush()?;
+    Ok(())
+}
+
+/// Frames of 32 bytes and 16 more for each function before, and addresses that are 64 bytes apart.
+fn layout(alloc: Global) -> Result<Layout> {
+    let mut frames = Vec::new(alloc);
+    let mut addresses = Vec::new(alloc);
+    for number in 0..FUNCTIONS {
+        frames.push(32 + 16 * number)?;
+        addresses.push(0x1_0010 + 64 * u64::from(number))?;
+    }
+    Ok(Layout { frames, addresses })
+}
+
+/// What is told of a line.
+fn told(alloc: Global, layout: &Layout, line: &str) -> Result<Vec<u8>> {
+    let Some((words, text)) = line.split_once(" | ") else {
+        return Ok(b"no bar\n".to_vec(alloc)?);
+    };
+    let mut all = Vec::new(alloc);
+    all.push(String::from_str(alloc, "check")?)?;
+    for word in words.split(' ') {
+        all.push(String::from_str(alloc, word)?)?;
+    }
+    let check = match read_words(alloc, all.as_slice()) {
+        Ok(Command::Check(check)) => check,
+        _ => return Ok(b"no words\n".to_vec(alloc)?),
+    };
+    let checked = match front(alloc, text.as_bytes()) {
+        Ok(checked) => checked,
+        Err(_) => return Ok(b"a fault\n".to_vec(alloc)?),
+    };
+    let file = checked.typed().file();
+    match call_of(alloc, file, &check) {
+        Ok(call) => {
+            let told = told_of_run(alloc, file, layout, &call, check.fuel)?;
+            Ok(told.into_vec())
+        }
+        Err(CallRefusal::UnknownEntry) => Ok(b"U3 UnknownEntry\n".to_vec(alloc)?),
+        Err(CallRefusal::ArgumentUnfit) => Ok(b"U4 ArgumentUnfit\n".to_vec(alloc)?),
+        Err(CallRefusal::OutOfMemory) => Ok(b"no memory\n".to_vec(alloc)?),
+    }
+}

@@ -1,0 +1,6 @@
+mod Words
+mod Rows
+mod Told
+mod Entries
+pub mod Called
+mod Fitting

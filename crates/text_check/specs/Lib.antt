@@ -1,0 +1,4 @@
+pub mod Lines
+pub mod Arguments
+pub mod Check
+pub mod Refusal

@@ -1,0 +1,14 @@
+//! From a Cmm text to what is told of a run of one of its functions.
+#![tactic(auto)]
+
+mod arguments;
+mod call;
+mod check;
+mod entry;
+mod layout;
+mod lines;
+mod run;
+
+pub use call::{CallRefusal, FileCall, call_of};
+pub use check::{CheckRefusal, check_text};
+pub use run::told_of_run;
