@@ -1,5 +1,5 @@
 -- The parts of a function: each call, exit and raise is one of a node, which has paid a unit. The steps.
-use Rattle.std.proofs.Common.{ℕ, zero, suc, ◌+◌, ◌≤◌, ◌&&◌, not, Bool, true, false, cond, List, [], ◌∷◌, Option, Some, None, Result, Ok, Err, map, arith}
+use Rattle.std.proofs.Common.{ℕ, zero, suc, ◌+◌, ◌≤◌, Bool, true, false, cond, List, [], ◌∷◌, Option, Some, None, Result, Ok, Err, map, arith}
 use Rattle.std.specs.List.{slice_get}
 use Rattle.bs_words.specs.Fits.{fits, misfit, type_of_comp}
 use Rattle.bs_words.specs.Memory.{Memory}
@@ -14,11 +14,12 @@ use Rattle.bs_words.specs.declared.values.Value.{Value}
 use Rattle.bs_words.specs.declared.values.Value.TheVariants as value
 use Rattle.cmm_tree.specs.Tree.{LabelTree, Parameter, Expression}
 use Rattle.cmm_types.specs.Types.{type_of}
-use Rattle.cmm_meaning.specs.Evaluation.{same_label, is_bare, is_named, scoped_parameter, with_bound, fit_parameters, stack_below}
+use Rattle.cmm_meaning.specs.Evaluation.{scoped_parameter, with_bound, fit_parameters, stack_below}
 use Rattle.cmm_laws.specs.Interaction.{Setting, Part, Operand, from, onward, and_then, only_value, with_value, proper, tested, of_type, typed, both, unless_light, now_or_before, as_written, back_from_call, called_with, applied, Ready, ready_for, entered, back, handled, catching, trying, Chosen, last_naming, first_case, case_for, chosen, looked_up, node}
 use Rattle.cmm_laws.specs.Interaction as parts
 use Rattle.cmm_meaning.specs.State.{Doing, Gave, Threw, Here, scope, back_in}
 use Rattle.cmm_laws.specs.Does.{Leaves, Giving, Exiting, Raising, Does, Ends, Pays, Deepens, Jumps, Calls, CallsOut, Fails, Spent}
+use Rattle.cmm_laws.proofs.Choices.{EachCase, OneCase, no_chosen, a_chosen, case_holds, EachHandler, OneHandler, no_ready, a_ready, ready_holds}
 
 -- Up to any point what a function does has passed at most `spare` beats more than it has paid units.
 pub data Earned : ℕ → Does → Type 0 where
@@ -210,57 +211,19 @@ covers_called_out name arguments result h m =
 
 -- ---- cases
 
-data ChosenCovers : Option Chosen → Type 0 where
-  no_chosen : ChosenCovers None
-  a_chosen : {a : Chosen} → ((h : Here) (m : Memory) → Covers 0 (a.body h m)) → ChosenCovers (Some a)
+-- an operand, wherever it is evaluated
+abbrev pub Covering : Operand → Type 0
+Covering operand = (h : Here) (m : Memory) → Covers 0 (operand h m)
 
-pub data CasesCover : List Chosen → Type 0 where
-  no_case : CasesCover []
-  a_case : {a : Chosen} {cases : List Chosen} → ((h : Here) (m : Memory) → Covers 0 (a.body h m)) → CasesCover cases →
-      CasesCover (a ∷ cases)
-
-chosen_cond : (t : Bool) (a : Chosen) {o : Option Chosen} → ((h : Here) (m : Memory) → Covers 0 (a.body h m)) →
-    ChosenCovers o → ChosenCovers (cond t (Some a) o)
-chosen_cond true a p q = a_chosen p
-chosen_cond false a p q = q
-
-naming_covers : {cases : List Chosen} (k : ℕ) {o : Option Chosen} → CasesCover cases → ChosenCovers o →
-    ChosenCovers (last_naming cases k o)
-naming_covers k no_case q = q
-naming_covers k (a_case {a} p l) q = naming_covers k l (chosen_cond (is_named a.indexes k) a p q)
-
-first_covers : {cases : List Chosen} → CasesCover cases → ChosenCovers (first_case cases)
-first_covers no_case = no_chosen
-first_covers (a_case p l) = a_chosen p
-
-covers_chosen : {n : ℕ} {o : Option Chosen} → ChosenCovers o → (h : Here) (m : Memory) → Covers n (chosen o h m)
+covers_chosen : {n : ℕ} {o : Option Chosen} → OneCase Covering o → (h : Here) (m : Memory) → Covers n (chosen o h m)
 covers_chosen no_chosen h m = covers_fails SwitchRange m
 covers_chosen (a_chosen p) h m = covers_any (p h m)
 
-pub covers_case : {n : ℕ} {cases : List Chosen} (k : ℕ) → CasesCover cases → (h : Here) (m : Memory) →
+pub covers_case : {n : ℕ} {cases : List Chosen} (k : ℕ) → EachCase Covering cases → (h : Here) (m : Memory) →
     Covers n (chosen (case_for cases k) h m)
-covers_case k l h m = covers_chosen (naming_covers k l (first_covers l)) h m
+covers_case k l h m = covers_chosen (case_holds k l) h m
 
 -- ---- handlers
-
-data ReadyCovers : Option Ready → Type 0 where
-  no_ready : ReadyCovers None
-  a_ready : {a : Ready} → ((h : Here) (m : Memory) → Covers 0 (a.body h m)) → ReadyCovers (Some a)
-
-pub data HandlersCover : List Ready → Type 0 where
-  no_handler : HandlersCover []
-  a_handler : {a : Ready} {handlers : List Ready} → ((h : Here) (m : Memory) → Covers 0 (a.body h m)) →
-      HandlersCover handlers → HandlersCover (a ∷ handlers)
-
-ready_cond : (t : Bool) (a : Ready) {o : Option Ready} → ((h : Here) (m : Memory) → Covers 0 (a.body h m)) →
-    ReadyCovers o → ReadyCovers (cond t (Some a) o)
-ready_cond true a p q = a_ready p
-ready_cond false a p q = q
-
-ready_covers : (within : Bool) (label : LabelTree) {handlers : List Ready} → HandlersCover handlers →
-    ReadyCovers (ready_for within label handlers)
-ready_covers within label no_handler = no_ready
-ready_covers within label (a_handler {a} p l) = ready_cond (same_label label a.label && not (is_bare label && within)) a p (ready_covers within label l)
 
 covers_entered : {n : ℕ} (data_end : ℕ) (params : List Parameter) (values : List Value) (m : Memory) {part : Part (Option Value)} →
     Covers n part → Covers n (entered data_end params values m part)
@@ -272,7 +235,7 @@ covers_entered data_end (q ∷ params) (v ∷ values) m p = covers_tested data_e
 pub covers_back : {n : ℕ} (level taken : ℕ) {part : Part (Option Value)} → Covers 0 part → Covers n (back level taken part)
 covers_back level taken p = covers_then p (λ v h m. covers_gives v (back_in level taken h) m)
 
-covers_handled : {n : ℕ} (data_end : ℕ) {o : Option Ready} → ReadyCovers o → (level taken : ℕ) (label : LabelTree) (values : List Value)
+covers_handled : {n : ℕ} (data_end : ℕ) {o : Option Ready} → OneHandler Covering o → (level taken : ℕ) (label : LabelTree) (values : List Value)
     (h : Here) (m : Memory) (again : Leaves (Option Value) → Part (Option Value)) →
     ((v : Option Value) (h : Here) (m : Memory) → Covers n (again (Giving v h m))) →
     ((label : LabelTree) (values : List Value) (h : Here) (m : Memory) → Covers n (again (Exiting label values h m))) →
@@ -286,12 +249,12 @@ covers_handled data_end (a_ready {a} p) level taken label values h m again on_gi
     on_giving on_exiting on_raising
 
 -- a catch, from how its body, or one of its handlers, is left by an exit
-pub covers_catching : {n : ℕ} (data_end turns : ℕ) (within : Bool) {handlers : List Ready} → HandlersCover handlers → (level taken : ℕ)
+pub covers_catching : {n : ℕ} (data_end turns : ℕ) (within : Bool) {handlers : List Ready} → EachHandler Covering handlers → (level taken : ℕ)
     (label : LabelTree) (values : List Value) (h : Here) (m : Memory) →
     Covers n (catching data_end turns within handlers level taken (Exiting label values h m))
 covers_catching data_end zero within l level taken label values h m = covers_spent m
 covers_catching data_end (suc turns) within {handlers = handlers} l level taken label values h m =
-    covers_handled data_end (ready_covers within label l) level taken label values h m (catching data_end turns true handlers level taken)
+    covers_handled data_end (ready_holds within label l) level taken label values h m (catching data_end turns true handlers level taken)
     (λ v h m. covers_gives v h m)
     (λ label values h m. covers_catching data_end turns true l level taken label values h m)
     (λ v h m. covers_raises v h m)

@@ -14,7 +14,8 @@ use Rattle.cmm_meaning.specs.State.{Here, scope, value_of, assigned, bound, back
 use Rattle.cmm_meaning.specs.Evaluation.{is_left_first, first_of, rest_of, scoped_parameter, with_bound, bound_error}
 use Rattle.cmm_laws.specs.Does.{Ends}
 use Rattle.cmm_laws.specs.Interaction.{Setting, back, catching, trying, does, waiting, filled, entering, in_order, choices, readied, function_does}
-use Rattle.cmm_laws.proofs.Covers.{Earned, ends, deepens, earned_more, Covers, CasesCover, no_case, a_case, HandlersCover, no_handler, a_handler, covers_any, covers_applied, covers_back, covers_both, covers_called_out, covers_case, covers_catching, covers_cond, covers_deepens, covers_exits, covers_fails, covers_from, covers_gives, covers_jumps, covers_looked, covers_node, covers_now, covers_proper, covers_raises, covers_tested, covers_then, covers_unless, covers_value}
+use Rattle.cmm_laws.proofs.Choices.{EachCase, no_case, a_case, EachHandler, no_handler, a_handler}
+use Rattle.cmm_laws.proofs.Covers.{Earned, ends, deepens, earned_more, Covers, Covering, covers_any, covers_applied, covers_back, covers_both, covers_called_out, covers_case, covers_catching, covers_cond, covers_deepens, covers_exits, covers_fails, covers_from, covers_gives, covers_jumps, covers_looked, covers_node, covers_now, covers_proper, covers_raises, covers_tested, covers_then, covers_unless, covers_value}
 
 module _ (c : Setting) (turns : ℕ) where
   mutual
@@ -125,11 +126,11 @@ module _ (c : Setting) (turns : ℕ) where
     covers_in_order (More e (More next rest)) tail h m =
         covers_then (covers_does e false h m) (λ _ h m. covers_in_order (More next rest) tail h m)
 
-    covers_choices : (row : Cases) (tail : Bool) → CasesCover (choices c turns row tail)
+    covers_choices : (row : Cases) (tail : Bool) → EachCase Covering (choices c turns row tail)
     covers_choices NoCase tail = no_case
     covers_choices (Choose indexes body rest) tail = a_case (λ h m. covers_does body tail h m) (covers_choices rest tail)
 
-    covers_readied : (row : Handlers) (tail : Bool) → HandlersCover (readied c turns row tail)
+    covers_readied : (row : Handlers) (tail : Bool) → EachHandler Covering (readied c turns row tail)
     covers_readied NoHandler tail = no_handler
     covers_readied (Handle at label params body rest) tail = a_handler (λ h m. covers_does body tail h m) (covers_readied rest tail)
 

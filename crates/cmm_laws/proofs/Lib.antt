@@ -22,3 +22,5 @@ pub mod UnitsAlone
 pub mod LinksCalls
 pub mod LinksCalled
 pub mod LinksAsking
+pub mod Handed
+pub mod Choices

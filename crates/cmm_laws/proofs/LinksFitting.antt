@@ -20,7 +20,8 @@ use Rattle.cmm_laws.specs.Fitting.{FitsAndGrows, gives, exits, raises, deepens}
 use Rattle.cmm_laws.proofs.LinksFirst.{PaysFirst}
 use Rattle.cmm_laws.proofs.LinksFirst as first
 use Rattle.cmm_laws.proofs.LinksMemory.{NoLess, no_less, no_memory, stored_no_less, allocated_no_less}
-use Rattle.cmm_laws.proofs.LinksParts.{Keeps, keeps_after, keeps_gives, keeps_fails, keeps_exits, keeps_raises, keeps_jumps, keeps_deepens, keeps_from, keeps_then, keeps_value, keeps_cond, keeps_proper, keeps_tested, keeps_tested_so, keeps_node, keeps_looked, keeps_both, keeps_unless, keeps_now, keeps_applied, keeps_called_out, CasesKeep, no_case, a_case, keeps_case, HandlersKeep, no_handler, a_handler, keeps_back, keeps_catching}
+use Rattle.cmm_laws.proofs.Choices.{EachCase, no_case, a_case, EachHandler, no_handler, a_handler}
+use Rattle.cmm_laws.proofs.LinksParts.{Keeps, keeps_after, keeps_gives, keeps_fails, keeps_exits, keeps_raises, keeps_jumps, keeps_deepens, keeps_from, keeps_then, keeps_value, keeps_cond, keeps_proper, keeps_tested, keeps_tested_so, keeps_node, keeps_looked, keeps_both, keeps_unless, keeps_now, keeps_applied, keeps_called_out, Keeping, keeps_case, keeps_back, keeps_catching}
 
 -- an operation on the memory
 keeps_memory : {c : Setting} (r : Result Memory Kind) (m : Memory) → NoLess m r → (v : Option Value) (h : Here) →
@@ -137,11 +138,11 @@ module _ (c : Setting) (turns : ℕ) (still : fits c.end ty.Val bound_error ≡ 
     keeps_in_order (More e (More next rest)) tail h m =
         keeps_then (keeps_does e false h m) (λ _ h m. keeps_in_order (More next rest) tail h m)
 
-    keeps_choices : (row : Cases) (tail : Bool) → CasesKeep c (choices c turns row tail)
+    keeps_choices : (row : Cases) (tail : Bool) → EachCase (Keeping c) (choices c turns row tail)
     keeps_choices NoCase tail = no_case
     keeps_choices (Choose indexes body rest) tail = a_case (λ h m. keeps_does body tail h m) (keeps_choices rest tail)
 
-    keeps_readied : (row : Handlers) (tail : Bool) → HandlersKeep c (readied c turns row tail)
+    keeps_readied : (row : Handlers) (tail : Bool) → EachHandler (Keeping c) (readied c turns row tail)
     keeps_readied NoHandler tail = no_handler
     keeps_readied (Handle at label params body rest) tail = a_handler (λ h m. keeps_does body tail h m) (keeps_readied rest tail)
 

@@ -1,6 +1,6 @@
 -- The parts of a function: the arguments of their calls fit, what they raise fits val, and the heap need does not
 -- fall. The steps.
-use Rattle.std.proofs.Common.{◌≡◌, ℕ, zero, suc, ◌≤◌, ◌&&◌, not, Bool, true, false, cond, List, [], ◌∷◌, Option, Some, None, Result, Ok, Err, map, refl, arith}
+use Rattle.std.proofs.Common.{◌≡◌, ℕ, zero, suc, ◌≤◌, Bool, true, false, cond, List, [], ◌∷◌, Option, Some, None, Result, Ok, Err, map, refl, arith}
 use Rattle.std.specs.List.{slice_get}
 use Rattle.bs_words.specs.Fits.{fits, misfit, type_of_comp}
 use Rattle.bs_words.specs.Memory.{Memory, heap_need}
@@ -16,11 +16,12 @@ use Rattle.bs_words.specs.declared.values.Value.TheVariants as value
 use Rattle.cmm_tree.specs.Tree.{LabelTree, Parameter, Expression}
 use Rattle.cmm_types.specs.Types.{type_of}
 use Rattle.cmm_meaning.specs.State.{Doing, Gave, Threw, Here, scope, back_in}
-use Rattle.cmm_meaning.specs.Evaluation.{same_label, is_bare, is_named, scoped_parameter, with_bound, fit_parameters, stack_below}
+use Rattle.cmm_meaning.specs.Evaluation.{scoped_parameter, with_bound, fit_parameters, stack_below}
 use Rattle.cmm_laws.specs.Does.{Leaves, Giving, Exiting, Raising, Does}
 use Rattle.cmm_laws.specs.Interaction.{Setting, Part, Operand, from, onward, and_then, only_value, with_value, proper, tested, of_type, typed, both, unless_light, now_or_before, as_written, back_from_call, called_with, applied, Ready, ready_for, entered, back, handled, catching, trying, Chosen, last_naming, first_case, case_for, chosen, looked_up, node}
 use Rattle.cmm_laws.specs.Interaction as parts
 use Rattle.cmm_laws.specs.Fitting.{Returned, gave, threw, memory_after, FitsCallee, FitsAndGrows, gives, exits, raises, pays, deepens, jumps, calls, calls_out, fails, spent}
+use Rattle.cmm_laws.proofs.Choices.{EachCase, OneCase, no_chosen, a_chosen, case_holds, EachHandler, OneHandler, no_ready, a_ready, ready_holds}
 
 pub fits_less : {c : Setting} {more : ℕ} (less : ℕ) {d : Does} → less ≤ more → FitsAndGrows c more d → FitsAndGrows c less d
 fits_less less le (gives p) = gives (omega arith)
@@ -212,57 +213,19 @@ keeps_called_out name arguments result h m = record { holds = λ k q. calls_out 
 
 -- ---- cases
 
-data ChosenKeeps (c : Setting) : Option Chosen → Type 0 where
-  no_chosen : ChosenKeeps c None
-  a_chosen : {a : Chosen} → ((h : Here) (m : Memory) → Keeps c (heap_need m) (a.body h m)) → ChosenKeeps c (Some a)
+-- an operand, wherever it is evaluated
+abbrev pub Keeping : Setting → Operand → Type 0
+Keeping c operand = (h : Here) (m : Memory) → Keeps c (heap_need m) (operand h m)
 
-pub data CasesKeep (c : Setting) : List Chosen → Type 0 where
-  no_case : CasesKeep c []
-  a_case : {a : Chosen} {cases : List Chosen} → ((h : Here) (m : Memory) → Keeps c (heap_need m) (a.body h m)) → CasesKeep c cases →
-      CasesKeep c (a ∷ cases)
-
-chosen_cond : {c : Setting} (t : Bool) (a : Chosen) {o : Option Chosen} → ((h : Here) (m : Memory) → Keeps c (heap_need m) (a.body h m)) →
-    ChosenKeeps c o → ChosenKeeps c (cond t (Some a) o)
-chosen_cond true a p q = a_chosen p
-chosen_cond false a p q = q
-
-naming_keeps : {c : Setting} {cases : List Chosen} (k : ℕ) {o : Option Chosen} → CasesKeep c cases → ChosenKeeps c o →
-    ChosenKeeps c (last_naming cases k o)
-naming_keeps k no_case q = q
-naming_keeps k (a_case {a} p l) q = naming_keeps k l (chosen_cond (is_named a.indexes k) a p q)
-
-first_keeps : {c : Setting} {cases : List Chosen} → CasesKeep c cases → ChosenKeeps c (first_case cases)
-first_keeps no_case = no_chosen
-first_keeps (a_case p l) = a_chosen p
-
-keeps_chosen : {c : Setting} {o : Option Chosen} → ChosenKeeps c o → (h : Here) (m : Memory) → Keeps c (heap_need m) (chosen o h m)
+keeps_chosen : {c : Setting} {o : Option Chosen} → OneCase (Keeping c) o → (h : Here) (m : Memory) → Keeps c (heap_need m) (chosen o h m)
 keeps_chosen no_chosen h m = keeps_fails SwitchRange m
 keeps_chosen (a_chosen p) h m = p h m
 
-pub keeps_case : {c : Setting} {cases : List Chosen} (k : ℕ) → CasesKeep c cases → (h : Here) (m : Memory) →
+pub keeps_case : {c : Setting} {cases : List Chosen} (k : ℕ) → EachCase (Keeping c) cases → (h : Here) (m : Memory) →
     Keeps c (heap_need m) (chosen (case_for cases k) h m)
-keeps_case k l h m = keeps_chosen (naming_keeps k l (first_keeps l)) h m
+keeps_case k l h m = keeps_chosen (case_holds k l) h m
 
 -- ---- handlers
-
-data ReadyKeeps (c : Setting) : Option Ready → Type 0 where
-  no_ready : ReadyKeeps c None
-  a_ready : {a : Ready} → ((h : Here) (m : Memory) → Keeps c (heap_need m) (a.body h m)) → ReadyKeeps c (Some a)
-
-pub data HandlersKeep (c : Setting) : List Ready → Type 0 where
-  no_handler : HandlersKeep c []
-  a_handler : {a : Ready} {handlers : List Ready} → ((h : Here) (m : Memory) → Keeps c (heap_need m) (a.body h m)) →
-      HandlersKeep c handlers → HandlersKeep c (a ∷ handlers)
-
-ready_cond : {c : Setting} (t : Bool) (a : Ready) {o : Option Ready} → ((h : Here) (m : Memory) → Keeps c (heap_need m) (a.body h m)) →
-    ReadyKeeps c o → ReadyKeeps c (cond t (Some a) o)
-ready_cond true a p q = a_ready p
-ready_cond false a p q = q
-
-ready_keeps : {c : Setting} (within : Bool) (label : LabelTree) {handlers : List Ready} → HandlersKeep c handlers →
-    ReadyKeeps c (ready_for within label handlers)
-ready_keeps within label no_handler = no_ready
-ready_keeps within label (a_handler {a} p l) = ready_cond (same_label label a.label && not (is_bare label && within)) a p (ready_keeps within label l)
 
 keeps_entered : {c : Setting} (data_end : ℕ) (params : List Parameter) (values : List Value) (m : Memory) {part : Part (Option Value)} →
     Keeps c (heap_need m) part → Keeps c (heap_need m) (entered data_end params values m part)
@@ -274,7 +237,7 @@ keeps_entered data_end (q ∷ params) (v ∷ values) m p = keeps_tested data_end
 pub keeps_back : {c : Setting} {need : ℕ} (level taken : ℕ) {part : Part (Option Value)} → Keeps c need part → Keeps c need (back level taken part)
 keeps_back level taken p = keeps_then p (λ v h m. keeps_gives v (back_in level taken h) m)
 
-keeps_handled : {c : Setting} (data_end : ℕ) {o : Option Ready} → ReadyKeeps c o → (level taken : ℕ) (label : LabelTree) (values : List Value)
+keeps_handled : {c : Setting} (data_end : ℕ) {o : Option Ready} → OneHandler (Keeping c) o → (level taken : ℕ) (label : LabelTree) (values : List Value)
     (h : Here) (m : Memory) (again : Leaves (Option Value) → Part (Option Value)) →
     ((v : Option Value) (h : Here) (m : Memory) → Keeps c (heap_need m) (again (Giving v h m))) →
     ((label : LabelTree) (values : List Value) (h : Here) (m : Memory) → Keeps c (heap_need m) (again (Exiting label values h m))) →
@@ -288,12 +251,12 @@ keeps_handled data_end (a_ready {a} p) level taken label values h m again on_giv
     on_giving on_exiting on_raising
 
 -- a catch, from how its body, or one of its handlers, is left by an exit
-pub keeps_catching : {c : Setting} (data_end turns : ℕ) (within : Bool) {handlers : List Ready} → HandlersKeep c handlers → (level taken : ℕ)
+pub keeps_catching : {c : Setting} (data_end turns : ℕ) (within : Bool) {handlers : List Ready} → EachHandler (Keeping c) handlers → (level taken : ℕ)
     (label : LabelTree) (values : List Value) (h : Here) (m : Memory) →
     Keeps c (heap_need m) (catching data_end turns within handlers level taken (Exiting label values h m))
 keeps_catching data_end zero within l level taken label values h m = keeps_spent m
 keeps_catching data_end (suc turns) within {handlers = handlers} l level taken label values h m =
-    keeps_handled data_end (ready_keeps within label l) level taken label values h m (catching data_end turns true handlers level taken)
+    keeps_handled data_end (ready_holds within label l) level taken label values h m (catching data_end turns true handlers level taken)
     (λ v h m. keeps_gives v h m)
     (λ label values h m. keeps_catching data_end turns true l level taken label values h m)
     (λ v h m fit. keeps_raises v h m fit)

@@ -15,7 +15,8 @@ use Rattle.cmm_meaning.specs.Evaluation.{is_left_first, first_of, rest_of, scope
 use Rattle.cmm_laws.specs.Does.{Ends}
 use Rattle.cmm_laws.specs.Interaction.{Setting, back, catching, trying, does, waiting, filled, entering, in_order, choices, readied, function_does}
 use Rattle.cmm_laws.specs.Pace.{nodes, nodes_of, nodes_bound, nodes_chosen, nodes_handling, Paced, ends, deepens}
-use Rattle.cmm_laws.proofs.Takes.{paced_more, Takes, takes_gives, takes_fails, after_takes, after_exits, after_raises, takes_jumps, takes_deepens, takes_frame, takes_first, takes_more, takes_from, takes_then, takes_value, takes_cond, takes_proper, takes_tested, takes_node, takes_looked, takes_both, waits, takes_unless, takes_now, takes_applied, takes_called_out, takes_case, AllChosen, no_case, a_case, more_chosen, AllReady, no_handler, a_handler, more_ready, takes_back, after_catching}
+use Rattle.cmm_laws.proofs.Choices.{EachCase, no_case, a_case, more_cases, EachHandler, no_handler, a_handler, more_handlers}
+use Rattle.cmm_laws.proofs.Takes.{paced_more, Takes, takes_gives, takes_fails, after_takes, after_exits, after_raises, takes_jumps, takes_deepens, takes_frame, takes_first, takes_more, takes_from, takes_then, takes_value, takes_cond, takes_proper, takes_tested, takes_node, takes_looked, takes_both, waits, takes_unless, takes_now, takes_applied, takes_called_out, takes_case, Taking, more_taken, takes_back, after_catching}
 
 -- the units of the operands that have waited
 abbrev waiting_nodes : Expressions → List (Option Value) → ℕ
@@ -141,15 +142,15 @@ module _ (most : ℕ) (c : Setting) (turns : ℕ) where
         takes_then (takes_first (nodes_of (More next rest)) (takes_nodes e false h m) (omega arith)) (λ _ h m.
         takes_in_order (More next rest) tail h m)
 
-    takes_choices : (row : Cases) (tail : Bool) → AllChosen most (nodes_chosen row) (choices c turns row tail)
+    takes_choices : (row : Cases) (tail : Bool) → EachCase (Taking most (nodes_chosen row)) (choices c turns row tail)
     takes_choices NoCase tail = no_case
     takes_choices (Choose indexes body rest) tail =
-        a_case (λ h m. takes_more (takes_nodes body tail h m) (omega arith)) (more_chosen (omega arith) (takes_choices rest tail))
+        a_case (λ h m. takes_more (takes_nodes body tail h m) (omega arith)) (more_cases (more_taken (omega arith)) (takes_choices rest tail))
 
-    takes_readied : (row : Handlers) (tail : Bool) → AllReady most (nodes_handling row) (readied c turns row tail)
+    takes_readied : (row : Handlers) (tail : Bool) → EachHandler (Taking most (nodes_handling row)) (readied c turns row tail)
     takes_readied NoHandler tail = no_handler
     takes_readied (Handle at label params body rest) tail =
-        a_handler (λ h m. takes_more (takes_nodes body tail h m) (omega arith)) (more_ready (omega arith) (takes_readied rest tail))
+        a_handler (λ h m. takes_more (takes_nodes body tail h m) (omega arith)) (more_handlers (more_taken (omega arith)) (takes_readied rest tail))
 
 pub function_paced : (c : Setting) (turns frame : ℕ) (f : FunctionTree) (arguments : List Value) (below : ℕ) (m : Memory) →
     Paced (nodes f.body) (nodes f.body) (function_does c turns frame f arguments below m)

@@ -1,5 +1,5 @@
 -- How many units the parts of a function take at most, between two of its calls, raises and exits: the steps.
-use Rattle.std.proofs.Common.{ℕ, zero, suc, ◌+◌, ◌≤◌, ◌&&◌, not, Bool, true, false, cond, List, [], ◌∷◌, Option, Some, None, Result, Ok, Err, map, arith}
+use Rattle.std.proofs.Common.{ℕ, zero, suc, ◌+◌, ◌≤◌, Bool, true, false, cond, List, [], ◌∷◌, Option, Some, None, Result, Ok, Err, map, arith}
 use Rattle.std.specs.List.{slice_get}
 use Rattle.bs_words.specs.Fits.{fits, misfit, type_of_comp}
 use Rattle.bs_words.specs.Memory.{Memory}
@@ -15,11 +15,12 @@ use Rattle.bs_words.specs.declared.values.Value.TheVariants as value
 use Rattle.cmm_tree.specs.Tree.{LabelTree, Parameter, Expression}
 use Rattle.cmm_types.specs.Types.{type_of}
 use Rattle.cmm_meaning.specs.State.{Doing, Gave, Threw, Here, scope, back_in}
-use Rattle.cmm_meaning.specs.Evaluation.{same_label, is_bare, is_named, scoped_parameter, with_bound, fit_parameters, stack_below}
+use Rattle.cmm_meaning.specs.Evaluation.{scoped_parameter, with_bound, fit_parameters, stack_below}
 use Rattle.cmm_laws.specs.Does.{Leaves, Giving, Exiting, Raising, Does}
 use Rattle.cmm_laws.specs.Interaction.{Setting, Part, Operand, from, onward, and_then, only_value, with_value, proper, tested, of_type, typed, both, unless_light, now_or_before, as_written, back_from_call, called_with, applied, Ready, ready_for, entered, back, handled, catching, trying, Chosen, last_naming, first_case, case_for, chosen, looked_up, node}
 use Rattle.cmm_laws.specs.Interaction as parts
 use Rattle.cmm_laws.specs.Pace.{Paced, ends, pays, deepens, jumps, calls, calls_out, fails, spent}
+use Rattle.cmm_laws.proofs.Choices.{EachCase, OneCase, no_chosen, a_chosen, case_holds, EachHandler, OneHandler, no_ready, a_ready, ready_holds}
 
 pub paced_more : {most : ℕ} {m : ℕ} (n : ℕ) {d : Does} → m ≤ n → Paced most m d → Paced most n d
 paced_more n le ends = ends
@@ -229,66 +230,22 @@ takes_called_out {most} name arguments result h m =
 
 -- ---- cases
 
-data ChosenTakes (most n : ℕ) : Option Chosen → Type 0 where
-  no_chosen : ChosenTakes most n None
-  a_chosen : {a : Chosen} → ((h : Here) (m : Memory) → Takes most n (λ _. 0) (a.body h m)) → ChosenTakes most n (Some a)
+-- an operand, wherever it is evaluated
+abbrev pub Taking : ℕ → ℕ → Operand → Type 0
+Taking most n operand = (h : Here) (m : Memory) → Takes most n (λ _. 0) (operand h m)
 
-pub data AllChosen (most n : ℕ) : List Chosen → Type 0 where
-  no_case : AllChosen most n []
-  a_case : {a : Chosen} {cases : List Chosen} → ((h : Here) (m : Memory) → Takes most n (λ _. 0) (a.body h m)) → AllChosen most n cases →
-      AllChosen most n (a ∷ cases)
-
-chosen_cond : {most n : ℕ} (t : Bool) (a : Chosen) {o : Option Chosen} → ((h : Here) (m : Memory) → Takes most n (λ _. 0) (a.body h m)) →
-    ChosenTakes most n o → ChosenTakes most n (cond t (Some a) o)
-chosen_cond true a p q = a_chosen p
-chosen_cond false a p q = q
-
-naming_takes : {most n : ℕ} {cases : List Chosen} (k : ℕ) {o : Option Chosen} → AllChosen most n cases → ChosenTakes most n o →
-    ChosenTakes most n (last_naming cases k o)
-naming_takes k no_case q = q
-naming_takes k (a_case {a} p l) q = naming_takes k l (chosen_cond (is_named a.indexes k) a p q)
-
-first_takes : {most n : ℕ} {cases : List Chosen} → AllChosen most n cases → ChosenTakes most n (first_case cases)
-first_takes no_case = no_chosen
-first_takes (a_case p l) = a_chosen p
-
-takes_chosen : {most n : ℕ} {o : Option Chosen} → ChosenTakes most n o → (h : Here) (m : Memory) → Takes most n (λ _. 0) (chosen o h m)
+takes_chosen : {most n : ℕ} {o : Option Chosen} → OneCase (Taking most n) o → (h : Here) (m : Memory) → Takes most n (λ _. 0) (chosen o h m)
 takes_chosen no_chosen h m = takes_fails SwitchRange m
 takes_chosen (a_chosen p) h m = p h m
 
-pub takes_case : {most n : ℕ} {cases : List Chosen} (k : ℕ) → AllChosen most n cases → (h : Here) (m : Memory) →
+pub takes_case : {most n : ℕ} {cases : List Chosen} (k : ℕ) → EachCase (Taking most n) cases → (h : Here) (m : Memory) →
     Takes most n (λ _. 0) (chosen (case_for cases k) h m)
-takes_case k l h m = takes_chosen (naming_takes k l (first_takes l)) h m
+takes_case k l h m = takes_chosen (case_holds k l) h m
 
-pub more_chosen : {most i n : ℕ} {cases : List Chosen} → i ≤ n → AllChosen most i cases → AllChosen most n cases
-more_chosen le no_case = no_case
-more_chosen le (a_case p l) = a_case (λ h m. takes_more (p h m) le) (more_chosen le l)
+pub more_taken : {most i n : ℕ} → i ≤ n → (operand : Operand) → Taking most i operand → Taking most n operand
+more_taken le operand p h m = takes_more (p h m) le
 
 -- ---- handlers
-
-data ReadyTakes (most n : ℕ) : Option Ready → Type 0 where
-  no_ready : ReadyTakes most n None
-  a_ready : {a : Ready} → ((h : Here) (m : Memory) → Takes most n (λ _. 0) (a.body h m)) → ReadyTakes most n (Some a)
-
-pub data AllReady (most n : ℕ) : List Ready → Type 0 where
-  no_handler : AllReady most n []
-  a_handler : {a : Ready} {handlers : List Ready} → ((h : Here) (m : Memory) → Takes most n (λ _. 0) (a.body h m)) → AllReady most n handlers →
-      AllReady most n (a ∷ handlers)
-
-pub more_ready : {most i n : ℕ} {handlers : List Ready} → i ≤ n → AllReady most i handlers → AllReady most n handlers
-more_ready le no_handler = no_handler
-more_ready le (a_handler p l) = a_handler (λ h m. takes_more (p h m) le) (more_ready le l)
-
-ready_cond : {most n : ℕ} (t : Bool) (a : Ready) {o : Option Ready} → ((h : Here) (m : Memory) → Takes most n (λ _. 0) (a.body h m)) →
-    ReadyTakes most n o → ReadyTakes most n (cond t (Some a) o)
-ready_cond true a p q = a_ready p
-ready_cond false a p q = q
-
-ready_takes : {most n : ℕ} (within : Bool) (label : LabelTree) {handlers : List Ready} → AllReady most n handlers →
-    ReadyTakes most n (ready_for within label handlers)
-ready_takes within label no_handler = no_ready
-ready_takes within label (a_handler {a} p l) =
-    ready_cond (same_label label a.label && not (is_bare label && within)) a p (ready_takes within label l)
 
 takes_entered : {most n : ℕ} (end : ℕ) (params : List Parameter) (values : List Value) (m : Memory) {part : Part (Option Value)} →
     Takes most n (λ _. 0) part → Takes most n (λ _. 0) (entered end params values m part)
@@ -300,7 +257,7 @@ takes_entered end (q ∷ params) (v ∷ values) m p = takes_tested end (type_of_
 pub takes_back : {most n : ℕ} (level taken : ℕ) {part : Part (Option Value)} → Takes most n (λ _. 0) part → Takes most n (λ _. 0) (back level taken part)
 takes_back level taken p = takes_then p (λ v h m. takes_gives v (back_in level taken h) m (omega arith))
 
-after_handled : {most n : ℕ} (end : ℕ) {o : Option Ready} → ReadyTakes most n o → (level taken : ℕ) (label : LabelTree) (values : List Value)
+after_handled : {most n : ℕ} (end : ℕ) {o : Option Ready} → OneHandler (Taking most n) o → (level taken : ℕ) (label : LabelTree) (values : List Value)
     (h : Here) (m : Memory) (again : Leaves (Option Value) → Part (Option Value)) →
     ((v : Option Value) (h : Here) (m : Memory) → Takes most 0 (λ _. 0) (again (Giving v h m))) →
     ((label : LabelTree) (values : List Value) (h : Here) (m : Memory) → After most n (λ _. 0) (again (Exiting label values h m))) →
@@ -314,12 +271,12 @@ after_handled end (a_ready {a} p) level taken label values h m again on_giving o
     (omega arith) (omega arith) on_giving on_exiting on_raising)
 
 -- a catch, from how its body, or one of its handlers, is left by an exit
-pub after_catching : {most n : ℕ} (end turns : ℕ) (within : Bool) {handlers : List Ready} → AllReady most n handlers → (level taken : ℕ)
+pub after_catching : {most n : ℕ} (end turns : ℕ) (within : Bool) {handlers : List Ready} → EachHandler (Taking most n) handlers → (level taken : ℕ)
     (label : LabelTree) (values : List Value) (h : Here) (m : Memory) →
     After most n (λ _. 0) (catching end turns within handlers level taken (Exiting label values h m))
 after_catching end zero within l level taken label values h m = after_takes (takes_spent m)
 after_catching end (suc turns) within {handlers = handlers} l level taken label values h m =
-    after_handled end (ready_takes within label l) level taken label values h m (catching end turns true handlers level taken)
+    after_handled end (ready_holds within label l) level taken label values h m (catching end turns true handlers level taken)
     (λ v h m. takes_gives v h m (omega arith))
     (λ label values h m. after_catching end turns true l level taken label values h m)
     (λ v h m. after_raises v h m)

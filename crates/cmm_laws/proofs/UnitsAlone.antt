@@ -18,7 +18,7 @@ use Rattle.cmm_laws.proofs.AgreementRuns.{alone_plays}
 use Rattle.cmm_tree.specs.Tree.{FunctionTree}
 use Rattle.bs_words.specs.Memory.{Memory}
 
-same_asked : (w : World) → OnwardAlone w w
+pub same_asked : (w : World) → OnwardAlone w w
 same_asked w = record { asked = record { further = []; is = sym (append-nil w.asked) }; stack = omega arith }
 
 asked_trans : {a b c : World} → OnwardAlone a b → OnwardAlone b c → OnwardAlone a c
@@ -32,7 +32,7 @@ asked_trans {a} p q =
     }
 
 -- from a world that differs in other things only
-asked_from : (w v : World) {z : World} → v.asked ≡ w.asked → v.stack_need ≡ w.stack_need → OnwardAlone v z → OnwardAlone w z
+pub asked_from : (w v : World) {z : World} → v.asked ≡ w.asked → v.stack_need ≡ w.stack_need → OnwardAlone v z → OnwardAlone w z
 asked_from w v asked stack p =
     record {
       asked = record { further = p.asked.further; is = p.asked.is ∙ ap (λ l. l ++ p.asked.further) asked };
@@ -59,7 +59,7 @@ on_spend : (n : ℕ) (w : World) (go : World → Evaluation) → ((v : World) �
 on_spend zero w go on = same_asked w
 on_spend (suc n) w go on = asked_from w (record w { left = n }) refl refl (on (record w { left = n }))
 
-on_after : (go : Doing → World → Evaluation) → ((d : Doing) (v : World) → OnwardAlone v (world_of (go d v))) → (w : World) (e : Evaluation) →
+pub on_after : (go : Doing → World → Evaluation) → ((d : Doing) (v : World) → OnwardAlone v (world_of (go d v))) → (w : World) (e : Evaluation) →
     OnwardAlone w (world_of e) → OnwardAlone w (world_of (after_call go e))
 on_after go on w (Gives v h u) p = asked_trans p (on (Gave v u.memory) u)
 on_after go on w (Exits label values h u) p = p
@@ -105,7 +105,7 @@ after_continues k go on same (ends_alike e) = by e
     by (Stops why w) = ends_alike (Stops why w)
 after_continues k go on same (goes_on {w = w} {e = e} p) = goes_on (on_after go on w e p)
 
-module _ (k end : ℕ) (symbol : List ℕ → Option Value) (parameters : List (List Comp)) where
+module _ (end : ℕ) (symbol : List ℕ → Option Value) (parameters : List (List Comp)) where
   -- Alone a function only adds to the calls that it asked, and its stack need does not fall.
   pub played_on : (d : Does) (w : World) → OnwardAlone w (world_of (played (lonely end symbol parameters) d w))
   played_on (Ends (Giving v h memory)) w = asked_from w (record w { memory = memory }) refl refl (same_asked (record w { memory = memory }))
@@ -134,23 +134,23 @@ module _ (k end : ℕ) (symbol : List ℕ → Option Value) (parameters : List (
   played_on (Spent memory) w = asked_from w (record w { memory = memory }) refl refl (same_asked (record w { memory = memory }))
 
   -- Alone a function ends alike with k more units, or was out of units and goes on from there.
-  pub played_alone_continues : (d : Does) (w : World) →
+  pub played_alone_continues : (k : ℕ) (d : Does) (w : World) →
       ContinuesAlone k (played (lonely end symbol parameters) d w) (played (lonely end symbol parameters) d (with_more k w))
-  played_alone_continues (Ends (Giving v h memory)) w = ends_alike (Gives v h (record w { memory = memory }))
-  played_alone_continues (Ends (Exiting label values h memory)) w = ends_alike (Exits label values h (record w { memory = memory }))
-  played_alone_continues (Ends (Raising v h memory)) w = ends_alike (Raises v h (record w { memory = memory }))
-  played_alone_continues (Pays memory rest) w =
-      spend_continues k w.left (record w { memory = memory }) (λ v. played (lonely end symbol parameters) rest v) (λ v. played_on rest v) (λ v. played_alone_continues rest v)
-  played_alone_continues (Deepens bytes rest) w = played_alone_continues rest (deepened bytes w)
-  played_alone_continues (Jumps rest) w = played_alone_continues rest w
-  played_alone_continues (Calls f arguments below memory go) w =
-      after_continues k (λ d v. played (lonely end symbol parameters) (go d) v) (λ d v. played_on (go d) v) (λ d v. played_alone_continues (go d) v)
+  played_alone_continues k (Ends (Giving v h memory)) w = ends_alike (Gives v h (record w { memory = memory }))
+  played_alone_continues k (Ends (Exiting label values h memory)) w = ends_alike (Exits label values h (record w { memory = memory }))
+  played_alone_continues k (Ends (Raising v h memory)) w = ends_alike (Raises v h (record w { memory = memory }))
+  played_alone_continues k (Pays memory rest) w =
+      spend_continues k w.left (record w { memory = memory }) (λ v. played (lonely end symbol parameters) rest v) (λ v. played_on rest v) (λ v. played_alone_continues k rest v)
+  played_alone_continues k (Deepens bytes rest) w = played_alone_continues k rest (deepened bytes w)
+  played_alone_continues k (Jumps rest) w = played_alone_continues k rest w
+  played_alone_continues k (Calls f arguments below memory go) w =
+      after_continues k (λ d v. played (lonely end symbol parameters) (go d) v) (λ d v. played_on (go d) v) (λ d v. played_alone_continues k (go d) v)
       (inside_continues end k (record { callee = Inside f; arguments = arguments; memory = memory; below = below }) w.doings (record w { memory = memory }))
-  played_alone_continues (CallsOut name result arguments memory go) w =
-      after_continues k (λ d v. played (lonely end symbol parameters) (go d) v) (λ d v. played_on (go d) v) (λ d v. played_alone_continues (go d) v)
+  played_alone_continues k (CallsOut name result arguments memory go) w =
+      after_continues k (λ d v. played (lonely end symbol parameters) (go d) v) (λ d v. played_on (go d) v) (λ d v. played_alone_continues k (go d) v)
       (outside_alone_continues k (record { callee = Outside name; arguments = arguments; memory = memory; below = 0 }) w.doings (record w { memory = memory }))
-  played_alone_continues (Fails memory kind) w = ends_alike (Stops (NotProper kind) (record w { memory = memory }))
-  played_alone_continues (Spent memory) w = ends_alike (Stops OutOfFuel (record w { memory = memory }))
+  played_alone_continues k (Fails memory kind) w = ends_alike (Stops (NotProper kind) (record w { memory = memory }))
+  played_alone_continues k (Spent memory) w = ends_alike (Stops OutOfFuel (record w { memory = memory }))
 
 -- One function alone ends alike with k more units, or was out of units and goes on from there.
 pub alone_continues : (k end : ℕ) (symbol : List ℕ → Option Value) (parameters : List (List Comp)) (frame : ℕ) (f : FunctionTree)
@@ -165,4 +165,4 @@ alone_continues k end symbol parameters frame f arguments below memory doings n 
     alone_plays end symbol parameters (n + k) frame f arguments below memory doings (n + k) (omega arith) in
     subst (λ (e : Evaluation). ContinuesAlone k e (alone end symbol parameters frame f arguments below memory doings (n + k))) one
     (subst (λ (e : Evaluation). ContinuesAlone k (played (lonely end symbol parameters) d (lone_world memory doings n)) e) two
-    (played_alone_continues k end symbol parameters d (lone_world memory doings n)))
+    (played_alone_continues end symbol parameters k d (lone_world memory doings n)))

@@ -4,3 +4,4 @@ pub mod Links
 pub mod Pace
 pub mod Fitting
 pub mod Units
+pub mod Handed

@@ -6,7 +6,7 @@ use Rattle.bs_words.specs.declared.values.Kind.{Kind}
 use Rattle.bs_words.specs.declared.values.Value.{Value}
 use Rattle.cmm_tree.specs.Tree.{Expression, Integer, Pointer, Symbol, Name, Nothing, Float, Let, Assign, Operator, Load, Store, Alloc, App, Extcall, Checkbound, Raise, Seq, If, Switch, Catch, Exit, Try, Expressions, NoMore, More, Bindings, NoBinding, Bind, Cases, NoCase, Choose, Handlers, NoHandler, Handle}
 use Rattle.cmm_meaning.specs.State.{Doing, Gave, Threw, World, deepened}
-use Rattle.cmm_meaning.specs.Evaluation.{Evaluation, Gives, Exits, Raises, Stops, Surroundings}
+use Rattle.cmm_meaning.specs.Evaluation.{OutOfFuel, NotProper, NoAnswer, Asking, Evaluation, Gives, Exits, Raises, Stops, Surroundings}
 use Rattle.cmm_laws.specs.Does.{Leaves, Does, Ends, Pays, Deepens, Jumps, Calls, CallsOut, Fails, Spent}
 
 abbrev mutual
@@ -100,3 +100,14 @@ beats s (CallsOut name result arguments memory go) w =
     beats_behind_external (λ d w. beats s (go d) w) (s.external name result arguments (record w { memory = memory }))
 beats s (Fails memory kind) w = 0
 beats s (Spent memory) w = 0
+
+-- The call that a function alone asks for where it ends, as nothing is handed in for it: none or one. It has not come
+-- back, so it is none of the beats.
+abbrev pub pending : Evaluation → ℕ
+pending (Gives v h w) = 0
+pending (Exits label values h w) = 0
+pending (Raises v h w) = 0
+pending (Stops OutOfFuel w) = 0
+pending (Stops (NotProper kind) w) = 0
+pending (Stops (NoAnswer call) w) = 0
+pending (Stops (Asking call) w) = 1
