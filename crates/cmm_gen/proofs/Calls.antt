@@ -16,8 +16,8 @@ use Rattle.cmm_meaning.specs.State.{World, Binding, Here, scope, found, value_of
 use Rattle.cmm_meaning.specs.Evaluation.{OutOfFuel, Evaluated, Evaluation, Gives, Stops, Surroundings, and_then, with_value, spend, typed, tested, looked_up, applied, called_with, back_from_call, as_written, stack_below, back, with_bound, evaluated, waiting, filled}
 use Rattle.cmm_meaning.specs.Run.{activated, callees, outside}
 use Rattle.cmm_gen.specs.Drawn.{Drawn, DrawnFunction, symbol_of}
-use Rattle.cmm_gen.specs.Trees
-use Rattle.cmm_gen.specs.Trees.{IsTreeOf, IsBodyOf, IsFunctionTreeOf, AreItemsOf}
+use Rattle.cmm_gen.proofs.Trees
+use Rattle.cmm_gen.proofs.Trees.{IsTreeOf, IsBodyOf, IsFunctionTreeOf, AreItemsOf}
 use Rattle.cmm_gen.proofs.Typed.{bound_int, is_int, inner_let, whole, inner_let_is_int, whole_is_int, sum_is_int}
 use Rattle.cmm_gen.proofs.Symbols.{HasFunction, function_at, function_symbol}
 use Rattle.cmm_gen.proofs.WordsGiven

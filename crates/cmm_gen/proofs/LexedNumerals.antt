@@ -15,7 +15,7 @@ use Rattle.cmm_lex.specs.Strings.{IsInside, closing, plain, unescaped, string_by
 use Rattle.cmm_lex.proofs.Languages.{AreBytes}
 use Rattle.cmm_lex.proofs.Spelled.{token-found}
 use Rattle.cmm_gen.specs.Drawn.{number_text, symbol_of}
-use Rattle.cmm_gen.specs.Trees.{number_word}
+use Rattle.cmm_gen.proofs.Trees.{number_word}
 use Rattle.cmm_gen.proofs.Lexed.{Word, Halts, begins_plain, Closed, closed-string, bytes-append}
 
 -- ---- tests below a number

@@ -1,3 +1,5 @@
+pub mod Within
+pub mod Trees
 pub mod Lexed
 pub mod LexedNumerals
 pub mod LexedWords

@@ -7,8 +7,8 @@ use Rattle.cmm_meaning.specs.Layout.{Layout}
 use Rattle.cmm_meaning.specs.Evaluation.{Evaluation}
 use Rattle.cmm_meaning.specs.Run.{first_world, callees, finished, cmm_run}
 use Rattle.cmm_gen.specs.Drawn.{DrawnFunction}
-use Rattle.cmm_gen.specs.Trees
-use Rattle.cmm_gen.specs.Trees.{IsFunctionTreeOf, AreItemsOf}
+use Rattle.cmm_gen.proofs.Trees
+use Rattle.cmm_gen.proofs.Trees.{IsFunctionTreeOf, AreItemsOf}
 use Rattle.cmm_gen.specs.Generated.{IsProper, RunsProperly}
 use Rattle.cmm_gen.proofs.Symbols.{HasFunction, function_at, two_parameters}
 use Rattle.cmm_gen.proofs.Calls.{IsEnd, gives, out, callee_ends}

@@ -7,10 +7,11 @@ use Rattle.bs_words.specs.declared.types.Chunk.TheVariants as chunk
 use Rattle.cmm_lex.specs.declared.token.TokenKind.TheVariants as kind
 use Rattle.cmm_tree.specs.Tree.{Expression, Integer, Name, Operator, Load, Alloc, Raise, If, Try, NoMore, More}
 use Rattle.cmm_grammar.specs.Words.{word_of}
-use Rattle.cmm_gen.specs.Drawn as drawn
-use Rattle.cmm_gen.specs.Drawn.{Drawn, Number, Variable, Sum, Difference, Product, Choice, Cell, Attempt, IsWithin, drawn_text, number_text, variable_name}
-use Rattle.cmm_gen.specs.Trees as tree
-use Rattle.cmm_gen.specs.Trees.{IsTreeOf, number_word}
+use Rattle.cmm_gen.proofs.Within as within
+use Rattle.cmm_gen.specs.Drawn.{Drawn, Number, Variable, Sum, Difference, Product, Choice, Cell, Attempt, drawn_text, number_text}
+use Rattle.cmm_gen.proofs.Within.{IsWithin}
+use Rattle.cmm_gen.proofs.Trees as tree
+use Rattle.cmm_gen.proofs.Trees.{IsTreeOf, number_word}
 use Rattle.cmm_gen.proofs.LexedNumerals.{number-is}
 use Rattle.cmm_gen.proofs.LexedWords.{word-plus, word-minus, word-less, word-one, word-x, word-y}
 use Rattle.cmm_gen.proofs.ReadingParts.{Spelled, spelled-as, deeper, more-tokens, leaf-spelled, pair_text, pair-spelled, product_text, product-spelled, if_text, if-spelled, raise_text, raise-spelled, alloc_text, alloc-spelled, load_text, load-spelled, try_text, try-spelled, none-fine}
@@ -219,13 +220,13 @@ attempt-reads n a b c d at reads_a reads_b reads_c reads_d =
 
 -- an expression that is drawn is read at any place
 pub drawn-reads : (n : ℕ) (e : Drawn) (at : ℕ) → IsWithin n e → Reading n e at
-drawn-reads n e at (drawn.number _ draw h) = number-reads n draw at h
-drawn-reads n e at (drawn.variable _ even) = variable-reads n even at
-drawn-reads _ e at (drawn.sum n a b h g) = sum-reads n a b at (λ p. drawn-reads n a p h) (λ p. drawn-reads n b p g)
-drawn-reads _ e at (drawn.difference n a b h g) = difference-reads n a b at (λ p. drawn-reads n a p h) (λ p. drawn-reads n b p g)
-drawn-reads _ e at (drawn.product n a b h g) = product-reads n a b at (λ p. drawn-reads n a p h) (λ p. drawn-reads n b p g)
-drawn-reads _ e at (drawn.choice n a b c d h g i j) =
+drawn-reads n e at (within.number _ draw h) = number-reads n draw at h
+drawn-reads n e at (within.variable _ even) = variable-reads n even at
+drawn-reads _ e at (within.sum n a b h g) = sum-reads n a b at (λ p. drawn-reads n a p h) (λ p. drawn-reads n b p g)
+drawn-reads _ e at (within.difference n a b h g) = difference-reads n a b at (λ p. drawn-reads n a p h) (λ p. drawn-reads n b p g)
+drawn-reads _ e at (within.product n a b h g) = product-reads n a b at (λ p. drawn-reads n a p h) (λ p. drawn-reads n b p g)
+drawn-reads _ e at (within.choice n a b c d h g i j) =
     choice-reads n a b c d at (λ p. drawn-reads n a p h) (λ p. drawn-reads n b p g) (λ p. drawn-reads n c p i) (λ p. drawn-reads n d p j)
-drawn-reads _ e at (drawn.cell n a b h g) = cell-reads n a b at (λ p. drawn-reads n a p h) (λ p. drawn-reads n b p g)
-drawn-reads _ e at (drawn.attempt n a b c d h g i j) =
+drawn-reads _ e at (within.cell n a b h g) = cell-reads n a b at (λ p. drawn-reads n a p h) (λ p. drawn-reads n b p g)
+drawn-reads _ e at (within.attempt n a b c d h g i j) =
     attempt-reads n a b c d at (λ p. drawn-reads n a p h) (λ p. drawn-reads n b p g) (λ p. drawn-reads n c p i) (λ p. drawn-reads n d p j)

@@ -2,14 +2,15 @@
 use Rattle.std.proofs.Common.{◌≡◌, ℕ, zero, suc, ◌%◌, ◌==◌, ◌<◌, Bool, true, false, cond, length, refl, ap, arith}
 use Rattle.std.proofs.lemmas.Bool.{eqb-false}
 use Rattle.rand_pcg.specs.Lcg.{Lcg}
-use Rattle.cmm_gen.specs.Drawn as drawn
-use Rattle.cmm_gen.specs.Drawn.{Drawn, Number, Variable, Sum, Difference, Product, Choice, Cell, Attempt, DrawnFunction, IsWithin, text_of}
+use Rattle.cmm_gen.proofs.Within as within
+use Rattle.cmm_gen.specs.Drawn.{Drawn, Number, Sum, Difference, Product, Choice, Cell, Attempt, text_of}
+use Rattle.cmm_gen.proofs.Within.{IsWithin}
 use Rattle.cmm_gen.specs.Drawing as drawing
 use Rattle.cmm_gen.specs.Drawing.{Draw, word, two, four, form, expression, function, generator}
 use Rattle.cmm_gen.proofs.ReadingFile.{IsFunctionWithin, AreWithin, none_within, more_within, ReadAs, text-reads}
 
 number-within : (d w : ℕ) → IsWithin d (Number (w % 201))
-number-within d w = drawn.number d (w % 201) (omega arith)
+number-within d w = within.number d (w % 201) (omega arith)
 
 -- one of the first two forms
 leaf-within : (d r : ℕ) (part : Draw Drawn) (g : Lcg) → r < 2 → IsWithin d (form r part g).0
@@ -25,7 +26,7 @@ leaf-within d r part g small = at_test (r == 0) (r == 1) refl refl
         (cond (r == 5) (four part Choice g)
         (cond (r == 6) (two part Cell g) (four part Attempt g)))))))).0
     at_test true t is_s is_t = number-within d (word g).0
-    at_test false true is_s is_t = drawn.variable d _
+    at_test false true is_s is_t = within.variable d _
     at_test false false is_s is_t =
         let not_zero = eqb-false r 0 is_s in
         let not_one = eqb-false r 1 is_t in
@@ -46,13 +47,13 @@ form-within d r part h g = at_test (r == 0) (r == 1) (r == 2) (r == 3) (r == 4) 
         (cond j (four part Choice g)
         (cond k (two part Cell g) (four part Attempt g)))))))).0
     at_test true b c e i j k = number-within (suc d) (word g).0
-    at_test false true c e i j k = drawn.variable (suc d) _
-    at_test false false true e i j k = drawn.sum d _ _ (h _) (h _)
-    at_test false false false true i j k = drawn.difference d _ _ (h _) (h _)
-    at_test false false false false true j k = drawn.product d _ _ (h _) (h _)
-    at_test false false false false false true k = drawn.choice d _ _ _ _ (h _) (h _) (h _) (h _)
-    at_test false false false false false false true = drawn.cell d _ _ (h _) (h _)
-    at_test false false false false false false false = drawn.attempt d _ _ _ _ (h _) (h _) (h _) (h _)
+    at_test false true c e i j k = within.variable (suc d) _
+    at_test false false true e i j k = within.sum d _ _ (h _) (h _)
+    at_test false false false true i j k = within.difference d _ _ (h _) (h _)
+    at_test false false false false true j k = within.product d _ _ (h _) (h _)
+    at_test false false false false false true k = within.choice d _ _ _ _ (h _) (h _) (h _) (h _)
+    at_test false false false false false false true = within.cell d _ _ (h _) (h _)
+    at_test false false false false false false false = within.attempt d _ _ _ _ (h _) (h _) (h _) (h _)
 
 expression-within : (d : ℕ) (g : Lcg) → IsWithin d (expression d g).0
 unfolding expression

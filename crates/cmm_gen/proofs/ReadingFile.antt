@@ -18,9 +18,10 @@ use Rattle.cmm_grammar.specs.Rule.{AnItem}
 use Rattle.cmm_grammar.specs.Spelling.{Spells, AreItems, none, more, nesting}
 use Rattle.cmm_grammar.specs.Words.{is_symbol_token}
 use Rattle.cmm_lex.specs.Strings.{string_bytes, is_symbol}
-use Rattle.cmm_gen.specs.Drawn.{Drawn, DrawnFunction, IsWithin, drawn_text, symbol_of, body_text, function_text, text_from, text_of}
-use Rattle.cmm_gen.specs.Trees as tree
-use Rattle.cmm_gen.specs.Trees.{IsTreeOf, IsBodyOf, IsFunctionTreeOf, AreItemsOf, IsFileTreeOf}
+use Rattle.cmm_gen.specs.Drawn.{Drawn, DrawnFunction, drawn_text, symbol_of, body_text, function_text, text_from, text_of}
+use Rattle.cmm_gen.proofs.Within.{IsWithin}
+use Rattle.cmm_gen.proofs.Trees as tree
+use Rattle.cmm_gen.proofs.Trees.{IsTreeOf, IsBodyOf, IsFunctionTreeOf, AreItemsOf, IsFileTreeOf}
 use Rattle.cmm_data.specs.Faults.{data_fault_of}
 use Rattle.cmm_reader.specs.Text.{ReadsAs}
 use Rattle.cmm_reader.specs.Text as text

@@ -12,8 +12,8 @@ use Rattle.cmm_walks.specs.Walks
 use Rattle.cmm_walks.specs.Walks.{Event, Binds, Uses, Passes, is_address, Slotted, names, slot_of, Task, Does, Evaluates, Enters, OneOf, MayRaise, Raises, Exits, Catches, Handles, first_tasks, operand, takes, count, waiting, filled, all_operands, used_at, tasks_of, entering, handling, behind_raise, Walk, walk_tasks, IsWalkOf}
 use Rattle.cmm_walks.specs.AddrLive.{IsLive}
 use Rattle.cmm_gen.specs.Drawn.{Drawn, DrawnFunction}
-use Rattle.cmm_gen.specs.Trees
-use Rattle.cmm_gen.specs.Trees.{IsTreeOf, IsBodyOf, IsFunctionTreeOf, AreItemsOf, number, variable, sum, difference, product, choice, cell, attempt}
+use Rattle.cmm_gen.proofs.Trees
+use Rattle.cmm_gen.proofs.Trees.{IsTreeOf, IsBodyOf, IsFunctionTreeOf, AreItemsOf, number, variable, sum, difference, product, choice, cell, attempt}
 use Rattle.cmm_gen.proofs.Typed.{HasInts, raised, bound_int, is_int, ints_below, test_is_int, pair_without_float, inner_let}
 
 -- ---- events that bind no address

@@ -1,6 +1,7 @@
 -- How long generated texts are.
 use Rattle.std.proofs.Common.{ℕ, ◌+◌, ◌*◌, ◌≤◌, ◌<◌, suc, zero, Bool, true, false, List, length, arith, length-append}
-use Rattle.cmm_gen.specs.Drawn.{Drawn, IsWithin, number, variable, sum, difference, product, choice, cell, attempt, drawn_text, number_text, variable_name, DrawnFunction, body_text, function_text}
+use Rattle.cmm_gen.specs.Drawn.{Drawn, drawn_text, number_text, variable_name, DrawnFunction, body_text, function_text}
+use Rattle.cmm_gen.proofs.Within.{IsWithin, number, variable, sum, difference, product, choice, cell, attempt}
 use Rattle.cmm_gen.proofs.LexedNumerals.{number-is, symbol-is}
 
 -- the most bytes of an expression in which forms nest so deep

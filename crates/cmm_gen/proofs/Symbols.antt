@@ -8,7 +8,7 @@ use Rattle.bs_words.specs.declared.values.Value.TheVariants.{Word, Function}
 use Rattle.cmm_tree.specs.Tree.{FunctionTree, ItemTree, FileTree, functions_among}
 use Rattle.cmm_data.specs.Placement.{bound_error, built_in, end_behind, defined_from, value_among, value_of_symbol}
 use Rattle.cmm_gen.specs.Drawn.{DrawnFunction, symbol_of}
-use Rattle.cmm_gen.specs.Trees.{IsFunctionTreeOf, function, AreItemsOf, none, more}
+use Rattle.cmm_gen.proofs.Trees.{IsFunctionTreeOf, function, AreItemsOf, none, more}
 
 -- ---- symbols
 

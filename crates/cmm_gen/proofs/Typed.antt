@@ -10,8 +10,8 @@ use Rattle.cmm_tree.specs.Tree.{Expression, Integer, Symbol, Name, App, Let, Ope
 use Rattle.cmm_types.specs.Light.{is_light_address}
 use Rattle.cmm_types.specs.Types.{Scoped, first_type, join, type_named, holds_float, unless_float, type_without_float, type_of}
 use Rattle.cmm_gen.specs.Drawn.{Drawn, DrawnFunction, symbol_of}
-use Rattle.cmm_gen.specs.Trees.{IsTreeOf, number, variable, sum, difference, product, choice, cell, attempt, IsBodyOf}
-use Rattle.cmm_gen.specs.Trees
+use Rattle.cmm_gen.proofs.Trees.{IsTreeOf, number, variable, sum, difference, product, choice, cell, attempt, IsBodyOf}
+use Rattle.cmm_gen.proofs.Trees
 
 -- `x` and `y` are in scope, and are ints
 pub record HasInts (scope : List Scoped) : Type 0 where

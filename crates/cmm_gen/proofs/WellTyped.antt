@@ -19,8 +19,8 @@ use Rattle.cmm_types.proofs.Among.{Among, first, second}
 use Rattle.cmm_types.proofs.Exact.{below}
 use Rattle.cmm_types.proofs.FirstSymbols.{with_symbols-all}
 use Rattle.cmm_gen.specs.Drawn.{Drawn, DrawnFunction, symbol_of}
-use Rattle.cmm_gen.specs.Trees
-use Rattle.cmm_gen.specs.Trees.{IsTreeOf, IsBodyOf, IsFunctionTreeOf, AreItemsOf, number, variable, sum, difference, product, choice, cell, attempt}
+use Rattle.cmm_gen.proofs.Trees
+use Rattle.cmm_gen.proofs.Trees.{IsTreeOf, IsBodyOf, IsFunctionTreeOf, AreItemsOf, number, variable, sum, difference, product, choice, cell, attempt}
 use Rattle.cmm_gen.proofs.Typed.{HasInts, raised, bound_int, is_int, ints_below, test_is_int, pair_without_float, inner_let, whole_is_int}
 use Rattle.cmm_gen.proofs.Symbols.{other_symbol, same_symbol, name_is, two_parameters}
 

@@ -19,7 +19,7 @@ use Rattle.cmm_types.specs.Types.{Scoped, type_named, holds_float, unless_float,
 use Rattle.cmm_meaning.specs.State.{World, Binding, Here, scope, value_of, outermost, back_in, deepened}
 use Rattle.cmm_meaning.specs.Evaluation.{OutOfFuel, Evaluated, Evaluation, Gives, Raises, Stops, Surroundings, and_then, with_value, spend, typed, both, unless_light, is_left_first, proper, tested, with_bound, looked_up, back, tried, node, evaluated, waiting, filled}
 use Rattle.cmm_gen.specs.Drawn.{Drawn}
-use Rattle.cmm_gen.specs.Trees.{number_word, IsTreeOf, number, variable, sum, difference, product, choice, cell, attempt}
+use Rattle.cmm_gen.proofs.Trees.{number_word, IsTreeOf, number, variable, sum, difference, product, choice, cell, attempt}
 use Rattle.cmm_gen.proofs.Typed.{HasInts, raised, is_int, no_light_address, test_is_int, guarded_is_int, pair_without_float}
 
 -- a name that is bound to a word

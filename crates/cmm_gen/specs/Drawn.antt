@@ -1,5 +1,5 @@
 -- What the generator draws, and its text.
-use Rattle.std.specs.Prelude.{ℕ, zero, suc, ◌-◌, ◌≤◌, cond, nat_lt, Bool, true, false, List, [], ◌∷◌, ◌++◌, codes}
+use Rattle.std.specs.Prelude.{ℕ, zero, suc, ◌-◌, cond, nat_lt, Bool, true, false, List, [], ◌∷◌, ◌++◌, codes}
 use Rattle.std.specs.Fmt.{decimal}
 
 -- An expression that the generator draws.
@@ -24,27 +24,6 @@ pub record DrawnFunction : Type 0 where
   pub p : Drawn
   pub q : Drawn
   pub b : Drawn
-
--- Forms nest at most so deep in an expression, and its numbers are from -100 to 100.
-pub data IsWithin : ℕ → Drawn → Type 0 where
-  number : (d draw : ℕ) → draw ≤ 200 → IsWithin d (Number draw)
-  variable : (d : ℕ) (even : Bool) → IsWithin d (Variable even)
-  sum : (d : ℕ) (a b : Drawn) → IsWithin d a → IsWithin d b → IsWithin (suc d) (Sum a b)
-  difference : (d : ℕ) (a b : Drawn) → IsWithin d a → IsWithin d b → IsWithin (suc d) (Difference a b)
-  product : (d : ℕ) (a b : Drawn) → IsWithin d a → IsWithin d b → IsWithin (suc d) (Product a b)
-  choice : (d : ℕ) (a b c e : Drawn)
-      → IsWithin d a
-      → IsWithin d b
-      → IsWithin d c
-      → IsWithin d e
-      → IsWithin (suc d) (Choice a b c e)
-  cell : (d : ℕ) (a b : Drawn) → IsWithin d a → IsWithin d b → IsWithin (suc d) (Cell a b)
-  attempt : (d : ℕ) (a b c e : Drawn)
-      → IsWithin d a
-      → IsWithin d b
-      → IsWithin d c
-      → IsWithin d e
-      → IsWithin (suc d) (Attempt a b c e)
 
 -- ---- texts, in bytes
 

@@ -1,4 +1,3 @@
 pub mod Drawn
-pub mod Trees
 pub mod Drawing
 pub mod Generated
