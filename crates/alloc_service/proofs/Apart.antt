@@ -1,7 +1,7 @@
 -- Claims in the table, and blocks that lie apart.
-use Rattle.std.proofs.Common.{◌≡◌, ℕ, zero, suc, ◌+◌, ◌-◌, ◌*◌, ◌%◌, ◌<◌, ◌≤◌, ◌≢◌, ◌⊎◌, inl, inr, Bool, true, false, cond, ◌&&◌, ◌||◌, ◌==◌, nat_le, nat_lt, List, [], ◌∷◌, length, drop, get_or, refl, ap, arith, ◌∙◌, sym, subst}
-use Rattle.std.specs.List.{list_all, list_any, AllByRecursion}
-use Rattle.std.proofs.lemmas.Bool.{eqb-true, eq-eqb, leb-true, le-leb, lt-leb, lt-ltb, leb-false, ltb-true, and_parts, and_from, and_left, and_right, or_cases, or_left, or_right, or_parts, or_from, cond-false, cond-true, cases_Bool, cases_lt, cases_eq}
+use Rattle.std.proofs.Common.{◌≡◌, ℕ, zero, suc, ◌+◌, ◌-◌, ◌%◌, ◌<◌, ◌≤◌, ◌≢◌, ◌⊎◌, inl, inr, Bool, true, false, cond, ◌||◌, List, [], ◌∷◌, length, drop, get_or, refl, ap, arith, ◌∙◌, sym}
+use Rattle.std.specs.List.{list_all}
+use Rattle.std.proofs.lemmas.Bool.{leb-true, le-leb, lt-leb, lt-ltb, leb-false, ltb-true, and_parts, and_from, and_left, and_right, or_cases, or_left, or_parts, or_from, cases_lt, cases_eq}
 use Rattle.rv_machine.specs.Hart.{Placed}
 use Rattle.rv_machine.specs.Marks.{Marks, mark_at}
 use Rattle.rv_machine.specs.Placement.{are_apart, end_of, header_at, is_apart, is_in_heap, placed_at}

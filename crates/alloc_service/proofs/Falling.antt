@@ -1,9 +1,9 @@
 -- Blocks from the last to the first.
-use Rattle.std.proofs.Common.{◌≡◌, ℕ, zero, suc, ◌+◌, ◌-◌, ◌*◌, ◌<◌, ◌≤◌, List, [], ◌∷◌, ◌++◌, length, take, get_or, reverse, refl, ap, arith, ◌∙◌, sym, append_assoc}
+use Rattle.std.proofs.Common.{◌≡◌, ℕ, suc, ◌+◌, ◌-◌, ◌*◌, ◌<◌, ◌≤◌, List, [], ◌∷◌, ◌++◌, length, take, get_or, reverse, ap, arith, ◌∙◌, sym, append_assoc}
 use Rattle.std.proofs.lemmas.List.{reverse-append}
 use Rattle.std.proofs.Math.Seq.{take-suc}
 use Rattle.rv_machine.specs.Hart.{Placed}
-use Rattle.rv_machine.specs.Placement.{bytes_of, bytes_used, spaced}
+use Rattle.rv_machine.specs.Placement.{bytes_used, spaced}
 use Rattle.alloc_service.proofs.Chain.{bytes-append}
 
 last : (bs : List Placed) (left : ℕ) (b : Placed) → 0 < left → left ≤ length bs → b ≡ get_or bs (left - 1) b → take left bs ≡ take (left - 1) bs ++ b ∷ []

@@ -1,9 +1,9 @@
 -- Packed blocks lie in their half.
-use Rattle.std.proofs.Common.{◌≡◌, ℕ, zero, suc, ◌+◌, ◌-◌, ◌*◌, ◌/◌, ◌%◌, ◌<◌, ◌≤◌, ◌⊎◌, inl, inr, Bool, true, false, cond, ◌&&◌, ◌||◌, ◌==◌, nat_le, List, [], ◌∷◌, length, refl, ap, arith, ◌∙◌, sym, subst}
+use Rattle.std.proofs.Common.{◌≡◌, ℕ, zero, suc, ◌+◌, ◌*◌, ◌%◌, ◌<◌, ◌≤◌, true, List, [], ◌∷◌, length, refl, ap, arith}
 use Rattle.std.specs.List.{list_all}
-use Rattle.std.proofs.lemmas.Bool.{eqb-true, eq-eqb, le-leb, and_parts, and_from, or_left, or_right, cond-true, cond-false}
+use Rattle.std.proofs.lemmas.Bool.{eqb-true, eq-eqb, le-leb, and_parts, and_from, or_left, or_right}
 use Rattle.rv_machine.specs.Hart.{Placed}
-use Rattle.rv_machine.specs.Placement.{bytes_used, end_of, is_in_half, is_in_heap, is_valid, packed, placed_at, spaced, new_places}
+use Rattle.rv_machine.specs.Placement.{bytes_used, is_in_half, is_in_heap, is_valid, placed_at, spaced}
 use Rattle.rv_machine.specs.Places.{half_start}
 
 pub length-spaced : (gap : ℕ) (bs : List Placed) (at : ℕ) → length (spaced gap at bs) ≡ length bs

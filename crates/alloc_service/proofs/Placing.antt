@@ -1,16 +1,16 @@
 -- What is known of the blocks when they move.
 use mathlib.Core.Path.{fun_ext}
-use Rattle.std.proofs.Common.{◌≡◌, ◌≢◌, ℕ, zero, suc, ◌+◌, ◌-◌, ◌*◌, ◌%◌, ◌/◌, ◌^◌, ◌<◌, ◌≤◌, ◌⊎◌, inl, inr, ◌||◌, not, Bool, true, false, cond, List, [], ◌∷◌, ◌++◌, length, reverse, map, take, drop, refl, ap, arith, ◌∙◌, sym, subst, eq-eqb}
-use Rattle.std.specs.Prelude.{IsSome, ◌==◌}
+use Rattle.std.proofs.Common.{◌≡◌, ℕ, zero, suc, ◌+◌, ◌-◌, ◌*◌, ◌%◌, ◌<◌, ◌≤◌, ◌⊎◌, inl, inr, ◌||◌, not, Bool, true, false, cond, List, [], ◌∷◌, ◌++◌, length, reverse, map, take, drop, refl, ap, arith, ◌∙◌, sym, subst, eq-eqb}
+use Rattle.std.specs.Prelude.{◌==◌}
 use Rattle.std.specs.List.{AllByRecursion, list_all}
-use Rattle.std.proofs.lemmas.Bool.{and_parts, cases_eq, ne_eqb, eqb-true}
+use Rattle.std.proofs.lemmas.Bool.{and_parts, cases_eq, ne_eqb}
 use Rattle.std.proofs.lemmas.List.{reverse-append}
 use Rattle.image_form.specs.Tables.{Tables}
-use Rattle.rv_machine.specs.Allocation.{is_in_code, is_in_data, is_root, is_start}
+use Rattle.rv_machine.specs.Relocation.{is_in_code, is_in_data, is_root, is_start}
 use Rattle.rv_machine.specs.Hart.{Placed}
-use Rattle.rv_machine.specs.Marks.{Marks, mark_at, place_of}
+use Rattle.rv_machine.specs.Marks.{Marks}
 use Rattle.rv_machine.specs.Moving.{copied, is_scanned, moved_memory, redirected, vacated, rewritten, rewritten_block, rewritten_cells}
-use Rattle.rv_machine.specs.Placement.{bytes_of, bytes_used, end_of, header_at, is_in_heap, placed_at}
+use Rattle.rv_machine.specs.Placement.{bytes_used, header_at, is_in_heap, placed_at}
 use Rattle.rv_machine.specs.Space.{IsKept}
 use Rattle.rv_machine.specs.Memory.{Region, put, word, words_at}
 use Rattle.alloc_service.specs.Forward.{IsForward, IsLow, IsPlaced, IsSmall, forward, forwarded, mark_or, poured, redirected_now, root_by, words_moved, words_of}

@@ -1,17 +1,20 @@
 -- The service, step by step, on a hart.
 use mathlib.Core.Path.{fun_ext}
-use Rattle.std.proofs.Common.{◌≡◌, ℕ, zero, suc, ◌+◌, ◌-◌, ◌<◌, ◌≤◌, Bool, true, false, cond, ◌&&◌, List, [], ◌∷◌, ◌++◌, reverse, Option, Some, None, option_map, slice_index, slice_set, refl, ap, arith, ◌∙◌, sym, subst}
+use Rattle.std.proofs.Common.{◌≡◌, ℕ, zero, suc, ◌+◌, ◌≤◌, Bool, true, false, ◌&&◌, List, ◌++◌, reverse, Option, Some, None, option_map, slice_index, refl, ap, ◌∙◌, sym}
 use Rattle.std.specs.List.{list_all}
 use Rattle.std.proofs.lemmas.Bool.{cond-true, cond-false, le-leb}
-use Rattle.rv_machine.specs.Allocation.{Allocated, Goes, Refused, allocated, are_roots, bytes_asked, entered, is_request, is_root, moved, with_frames, with_young, young_at_request, young_from}
+use Rattle.rv_machine.specs.Allocation.{after_request}
+use Rattle.rv_machine.specs.Relocation.{Serviced, Goes, NoHeap, Refused, and_then, are_roots, emptied, is_root, with_blocks, with_frames}
+use Rattle.rv_machine.specs.Step.{count, counted}
 use Rattle.rv_machine.specs.Frames.{Frame, frames, registers_of, slots_of}
-use Rattle.rv_machine.specs.Hart.{Hart, Placed, register}
-use Rattle.rv_machine.specs.Memory.{Region, word, write}
-use Rattle.rv_machine.specs.Observation.{young_blocks, young_top}
+use Rattle.rv_machine.specs.Hart.{Hart, Placed, past_ecall, register}
+use Rattle.rv_machine.specs.Memory.{word}
+use Rattle.rv_machine.specs.Observation.{blocks_at, young_blocks}
 use Rattle.rv_machine.specs.Placement.{bytes_used, new_places}
-use Rattle.rv_machine.specs.Places.{domain_start, limit_at_rest}
+use Rattle.rv_machine.specs.declared.cause.Cause.{Cause}
 use Rattle.rv_machine.specs.declared.cause.Cause.TheVariants.{BadRoot}
 use Rattle.alloc_service.specs.Attempt.{Parts, frames_at, moved_to, roots_at}
+use Rattle.alloc_service.specs.Plan.{both_counted, services_counted, with_counts}
 
 -- ---- what a survey has found
 
@@ -26,51 +29,72 @@ surveyed_by (Some fs) g b e = record { fs = fs; found = refl; holds = let same :
 
 -- ---- the steps
 
-module _ (plan : List Placed → List ℕ) (h : Hart) (found : List Placed) (request : is_request (slice_index h.registers 5) ≡ true) (young : young_blocks h.memory (young_from h) ≡ Some found) (fits : bytes_used (h.blocks ++ reverse found) ≤ h.heap) where
+module _ (plan : List Placed → List ℕ) (h : Hart) (found : List Placed) (from : ℕ) (young : young_blocks h.memory from ≡ Some found) (fits : bytes_used (h.blocks ++ reverse found) ≤ h.heap) where
   abbrev pub parts : Parts
   parts = record { registers = h.registers; memory = h.memory; blocks = h.blocks ++ reverse found }
 
-  to_frames : allocated plan h ≡ with_frames plan (entered h found) (frames (entered h found))
+  abbrev entered : Hart
+  entered = record h { blocks = h.blocks ++ reverse found }
+
+  to_frames : with_blocks plan h (blocks_at h from) ≡ with_frames plan entered (frames entered)
   to_frames =
-      ap (with_young plan h) (cond-true (is_request (bytes_asked h)) (young_blocks h.memory (young_from h)) None request ∙ young)
+      ap (λ o. with_blocks plan h (option_map (λ bs. h.blocks ++ reverse bs) o)) young
       ∙ cond-true _ _ _ (le-leb (bytes_used (h.blocks ++ reverse found)) h.heap fits)
 
-  read_by : slice_index h.registers 0 ≡ 0 → (r : ℕ) → register (entered h found) r ≡ slice_index h.registers r
+  read_by : slice_index h.registers 0 ≡ 0 → (r : ℕ) → register entered r ≡ slice_index h.registers r
   read_by z zero = sym z
   read_by z (suc r) = refl
 
-  roots_same : slice_index h.registers 0 ≡ 0 → (fs : List Frame) → are_roots (entered h found) fs ≡ roots_at h.image parts fs
+  roots_same : slice_index h.registers 0 ≡ 0 → (fs : List Frame) → are_roots entered fs ≡ roots_at h.image parts fs
   roots_same z fs =
       ap (λ (g : ℕ → ℕ). list_all (λ r. is_root h.image (h.blocks ++ reverse found) (g r)) (registers_of fs) && list_all (λ a. is_root h.image (h.blocks ++ reverse found) (word h.memory a)) (slots_of fs))
       (fun_ext (read_by z))
 
   pub bad_root :
       slice_index h.registers 0 ≡ 0 → (fs : List Frame) → frames_at h.image h.stack_base parts (h.pc + 4) (slice_index h.registers 2) ≡ Some fs →
-      roots_at h.image parts fs ≡ false → allocated plan h ≡ Refused BadRoot
+      roots_at h.image parts fs ≡ false → with_counts services_counted (with_blocks plan h (blocks_at h from)) ≡ Refused BadRoot
   bad_root z fs e r =
-      to_frames ∙ ap (with_frames plan (entered h found)) e
-      ∙ cond-false (are_roots (entered h found) fs) _ _ (roots_same z fs ∙ r)
+      ap (with_counts services_counted)
+      (to_frames ∙ ap (with_frames plan entered) e
+      ∙ cond-false (are_roots entered fs) _ _ (roots_same z fs ∙ r))
 
   pub goes :
       slice_index h.registers 0 ≡ 0 → (fs : List Frame) → frames_at h.image h.stack_base parts (h.pc + 4) (slice_index h.registers 2) ≡ Some fs →
       roots_at h.image parts fs ≡ true → (new : Parts) →
       new ≡ moved_to h.image (new_places h.heap h.services (h.blocks ++ reverse found) (plan (h.blocks ++ reverse found))) fs parts →
-      (memory : List Region) (retired services : ℕ) → memory ≡ write new.memory domain_start limit_at_rest → retired ≡ suc h.retired → services ≡ suc h.services →
-      allocated plan h
-      ≡ Goes (record h { registers = slice_set new.registers 26 (0x38010000 - slice_index h.registers 5); pc = h.pc + 4; memory = memory; blocks = new.blocks; retired = retired; services = services })
-  goes z fs e r new is memory retired services m n s =
-      let hart : List ℕ → List Region → List Placed → ℕ → ℕ → Hart = λ registers memory blocks retired services. record h {
-        registers = slice_set registers 26 (0x38010000 - slice_index h.registers 5);
-        pc = h.pc + 4;
-        memory = memory;
-        blocks = blocks;
-        retired = retired;
-        services = services;
-      } in
-      let to = moved_to h.image (new_places h.heap h.services (h.blocks ++ reverse found) (plan (h.blocks ++ reverse found))) fs parts in
-      to_frames ∙ ap (with_frames plan (entered h found)) e
-      ∙ cond-true (are_roots (entered h found) fs) _ _ (roots_same z fs ∙ r)
-      ∙ ap (λ (p : Parts). Goes (hart p.registers (write p.memory domain_start limit_at_rest) p.blocks (suc h.retired) (suc h.services))) (sym is)
-      ∙ ap (λ (m : List Region). Goes (hart new.registers m new.blocks (suc h.retired) (suc h.services))) (sym m)
-      ∙ ap (λ (k : ℕ). Goes (hart new.registers memory new.blocks k (suc h.services))) (sym n)
-      ∙ ap (λ (k : ℕ). Goes (hart new.registers memory new.blocks retired k)) (sym s)
+      (services : ℕ) → services ≡ count (suc h.services) →
+      with_counts services_counted (with_blocks plan h (blocks_at h from))
+      ≡ Goes (record h { registers = new.registers; memory = new.memory; blocks = new.blocks; services = services })
+  goes z fs e r new is services s =
+      let hart : Parts → ℕ → Hart = λ p services. record h { registers = p.registers; memory = p.memory; blocks = p.blocks; services = services } in
+      ap (with_counts services_counted)
+      (to_frames ∙ ap (with_frames plan entered) e
+      ∙ cond-true (are_roots entered fs) _ _ (roots_same z fs ∙ r))
+      ∙ ap (λ (p : Parts). Goes (hart p (count (suc h.services)))) (sym is)
+      ∙ ap (λ (k : ℕ). Goes (hart new k)) (sym s)
+
+-- ---- what comes after the move
+
+-- the young area is emptied and the ECALL retires
+pub requested : (bytes : ℕ) (came : Serviced) (mid : Hart) → with_counts services_counted came ≡ Goes mid
+    → with_counts both_counted (and_then (after_request bytes) came) ≡ Goes (counted (past_ecall (emptied bytes mid)))
+requested bytes (Goes h) mid e = let same : services_counted h ≡ mid = cc in ap (λ (g : Hart). Goes (counted (past_ecall (emptied bytes g)))) same
+requested bytes NoHeap mid e = absurd cc
+requested bytes (Refused cause) mid e = absurd cc
+
+pub emptied_so : (came : Serviced) (mid : Hart) → with_counts services_counted came ≡ Goes mid
+    → with_counts services_counted (and_then (λ g. Goes (emptied 0 g)) came) ≡ Goes (emptied 0 mid)
+emptied_so (Goes h) mid e = let same : services_counted h ≡ mid = cc in ap (λ (g : Hart). Goes (emptied 0 g)) same
+emptied_so NoHeap mid e = absurd cc
+emptied_so (Refused cause) mid e = absurd cc
+
+-- a service that has ended has ended whatever comes after it
+pub no_heap : (counts counts' : Hart → Hart) (next : Hart → Serviced) (came : Serviced) → with_counts counts came ≡ NoHeap → with_counts counts' (and_then next came) ≡ NoHeap
+no_heap counts counts' next (Goes h) e = absurd cc
+no_heap counts counts' next NoHeap e = refl
+no_heap counts counts' next (Refused cause) e = absurd cc
+
+pub refused : (counts counts' : Hart → Hart) (next : Hart → Serviced) (came : Serviced) (cause : Cause) → with_counts counts came ≡ Refused cause → with_counts counts' (and_then next came) ≡ Refused cause
+refused counts counts' next (Goes h) cause e = absurd cc
+refused counts counts' next NoHeap cause e = absurd cc
+refused counts counts' next (Refused other) cause e = e

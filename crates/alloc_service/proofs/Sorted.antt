@@ -1,6 +1,5 @@
 -- Descriptors by rising return addresses.
-use Rattle.std.proofs.Common.{◌≡◌, ◌≢◌, ℕ, zero, suc, ◌+◌, ◌-◌, ◌<◌, ◌≤◌, ◌⊎◌, inl, inr, Bool, true, false, cond, ◌==◌, List, [], ◌∷◌, length, map, get_or, Option, Some, None, refl, ap, arith, ◌∙◌, sym, subst, eq-eqb}
-use Rattle.std.specs.Prelude.{find}
+use Rattle.std.proofs.Common.{◌≡◌, ◌≢◌, ℕ, zero, suc, ◌+◌, ◌<◌, ◌≤◌, ◌⊎◌, inl, inr, ◌==◌, List, [], ◌∷◌, length, map, get_or, Some, None, refl, ap, arith, ◌∙◌, sym, eq-eqb}
 use Rattle.std.proofs.lemmas.Bool.{ne_eqb, cond-true, cond-false, cases_eq}
 use Rattle.image_form.specs.Image.{EachNext, First}
 use Rattle.image_form.specs.Tables.{Desc, desc}

@@ -1,16 +1,17 @@
 -- The walk up the stack, and what it finds.
-use Rattle.std.proofs.Common.{◌≡◌, ◌≢◌, ℕ, zero, suc, ◌+◌, ◌-◌, ◌*◌, ◌%◌, ◌/◌, ◌^◌, ◌<◌, ◌≤◌, ◌⊎◌, inl, inr, Bool, true, false, cond, ◌&&◌, ◌==◌, List, [], ◌∷◌, ◌++◌, length, map, Option, Some, None, option_map, slice_index, refl, ap, arith, ◌∙◌, sym, subst, eq-eqb}
+use Rattle.std.proofs.Common.{◌≡◌, ℕ, zero, suc, ◌+◌, ◌-◌, ◌*◌, ◌%◌, ◌/◌, ◌^◌, ◌<◌, ◌≤◌, ◌⊎◌, inl, inr, Bool, true, false, cond, ◌&&◌, ◌==◌, List, [], ◌∷◌, ◌++◌, length, map, Option, Some, None, option_map, slice_index, refl, ap, arith, ◌∙◌, sym, subst, eq-eqb}
 use Rattle.std.specs.List.{list_all, AllByRecursion}
 use Rattle.std.specs.Option.{option_and_then}
 use Rattle.std.proofs.lemmas.Bool.{ne_eqb, and_parts, leb-true, cases_eq, cond-true, cond-false}
 use Rattle.bs_words.specs.Contents.{contents}
 use Rattle.bs_words.specs.Word.{add_word}
 use Rattle.image_form.specs.Image.{AreTables, EachNext, First, IsDesc, IsEntry, IsImage, IsNextEntry, IsRoot}
-use Rattle.image_form.specs.Tables.{Desc, Tables, desc, tables}
+use Rattle.image_form.proofs.Lengths.{wide_enough}
+use Rattle.image_form.specs.Tables.{Desc, Tables, desc}
 use Rattle.image_form.specs.declared.image.DescRow.{DescRow}
 use Rattle.image_form.specs.declared.image.Image as declared
 use Rattle.rv_machine.proofs.Found.{found_has}
-use Rattle.rv_machine.specs.Allocation.{root_cells}
+use Rattle.rv_machine.specs.Relocation.{root_cells}
 use Rattle.rv_machine.specs.Places.{data_start}
 use Rattle.rv_machine.specs.Frames.{Frame, descriptor_at, frame_then, frames_from, is_frame, is_register, is_stack_word, most_frames, registers_named, registers_of, return_slot, slots_named, slots_of}
 use Rattle.rv_machine.specs.Memory.{Region, code_start, word}
@@ -54,9 +55,9 @@ module _ (descs : List Desc) (base : ℕ) (m : List Region) where
 -- ---- descriptors of an image
 
 -- a descriptor that is found keeps the rules
-pub desc_rules : (image : declared.Image) (address : ℕ) (row : DescRow) → IsImage image → Some (desc row) ≡ descriptor_at (map desc (contents image.descs)) address → IsDesc (4 * length (contents image.code)) (desc row)
+pub desc_rules : (image : declared.Image) (address : ℕ) (row : DescRow) → IsImage image → Some (desc row) ≡ descriptor_at (map desc (contents image.descs)) address → IsDesc image.version (4 * length (contents image.code)) (desc row)
 desc_rules image address row rules e =
-    found_has (IsDesc (4 * length (contents image.code))) (λ (d : Desc). code_start + d.after == address) (map desc (contents image.descs)) (desc row) rules.descs.each (sym e)
+    found_has (IsDesc image.version (4 * length (contents image.code))) (λ (d : Desc). code_start + d.after == address) (map desc (contents image.descs)) (desc row) rules.descs.each (sym e)
 
 -- ---- roots
 
@@ -91,20 +92,21 @@ surveyed test registers m first fine here f (Some fs) h =
 
 -- ---- where the places of a frame lie
 
-no_wrap :
-    (base at n : ℕ) → at < 2 ^ 64 → n < 2 ^ 16 → 0x10000 ≤ base → is_stack_word base (add_word at n) ≡ true →
-    (add_word at n ≡ at + n) × (base ≤ at + n) × (at + n + 8 ≤ 0x40000000)
-unfolding add_word
-no_wrap base at n a b c h =
+-- what a word of the stack is
+stack_word : (base a : ℕ) → is_stack_word base a ≡ true → (base ≤ a) × (a + 8 ≤ 0x40000000)
+stack_word base a h =
     let p = and_parts _ _ h in
     let q = and_parts _ _ p.0 in
-    let low : base ≤ (at + n) % 2 ^ 64 = leb-true base ((at + n) % 2 ^ 64) q.1 in
-    let high : (at + n) % 2 ^ 64 + 8 ≤ 0x40000000 = leb-true ((at + n) % 2 ^ 64 + 8) 0x40000000 p.1 in
-    (omega (arith, low, high), omega (arith, low, high), omega (arith, low, high))
+    (leb-true base a q.1, leb-true (a + 8) 0x40000000 p.1)
 
-small_sum : (at n : ℕ) → at + n < 2 ^ 64 → add_word at n ≡ at + n
+-- From a place in the stack on, sums do not wrap, though the one to that place may have.
+farther : (at e g : ℕ) → at < 2 ^ 64 → e ≤ g → g ≤ 2 ^ 32 → add_word at e + 8 ≤ 0x40000000 → add_word at g ≡ add_word at e + (g - e)
 unfolding add_word
-small_sum at n h = omega arith
+farther at e g a le few high = omega arith
+
+no_wrap : (at e : ℕ) → at ≤ 0x40000000 → e ≤ 2 ^ 32 → add_word at e ≡ at + e
+unfolding add_word
+no_wrap at e a few = omega arith
 
 abbrev IsEven : ℕ → ℕ → Type 0
 IsEven low e = (e % 2 ≡ 0) × (low ≤ e)
@@ -121,31 +123,67 @@ next_even e (g ∷ es) k (inr h) = absurd (omega (arith, h.0))
 not_register : (e : ℕ) → e % 2 ≡ 0 → is_register e ≡ false
 not_register e k = ne_eqb (e % 2) 1 (λ h. omega arith)
 
+-- places that lie at offsets from here on, in the stack, are at this address or above it
+unfoldable pub Reaches : ℕ → ℕ → ℕ → ℕ → ℕ → Type 0
+Reaches base at size from low = (e : ℕ) → from ≤ e → e < size → is_stack_word base (add_word at e) ≡ true → low ≤ add_word at e
+
 even_slots :
-    (at size : ℕ) (es : List ℕ) (low : ℕ) → at + size < 2 ^ 64 → AllByRecursion (IsEntry size) es → EachNext IsNextEntry es → First (IsEven low) es →
-    Rise (at + low) (at + size) (slots_named at es)
-even_slots at size [] low b all next first = tt
-even_slots at size (e ∷ es) low b all next first =
+    (base at size : ℕ) (es : List ℕ) (from low : ℕ) → at < 2 ^ 64 → size ≤ 2 ^ 32 → AllByRecursion (IsEntry size) es → EachNext IsNextEntry es → First (IsEven from) es →
+    list_all (is_stack_word base) (slots_named at es) ≡ true → Reaches base at size from low → Rise low (add_word at size) (slots_named at es)
+unfolding Reaches
+even_slots base at size [] from low a few all next first in_stack reaches = tt
+even_slots base at size (e ∷ es) from low a few all next first in_stack reaches =
     let small = below_size size e all.0 first.0 in
-    let same = small_sum at e (omega (arith, small)) in
-    let later = even_slots at size es (suc e) b all.1 next.1 (next_even e es first.0 next.0) in
-    let n : suc (add_word at e) ≤ at + suc e = omega (arith, same) in
-    subst (Rise (at + low) (at + size)) (sym (cond-false (is_register e) (slots_named at es) (add_word at e ∷ slots_named at es) (not_register e first.0)))
-    (omega (arith, same, first.1), omega (arith, same, small), rise_low (suc (add_word at e)) (at + suc e) (at + size) (slots_named at es) n later)
+    let here : slots_named at (e ∷ es) ≡ add_word at e ∷ slots_named at es =
+    cond-false (is_register e) (slots_named at es) (add_word at e ∷ slots_named at es) (not_register e first.0) in
+    let parts = and_parts (is_stack_word base (add_word at e)) (list_all (is_stack_word base) (slots_named at es)) (ap (list_all (is_stack_word base)) (sym here) ∙ in_stack) in
+    let word = stack_word base (add_word at e) parts.0 in
+    let end = farther at e size a (omega arith) few word.1 in
+    let later = even_slots base at size es (suc e) (suc (add_word at e)) a few all.1 next.1 (next_even e es first.0 next.0) parts.1
+    (λ g le lt in'. let there = farther at e g a (omega arith) (omega arith) word.1 in omega (arith, there)) in
+    subst (Rise low (add_word at size)) (sym here)
+    (reaches e first.1 small parts.0, omega (arith, end, small), later)
 
 -- the places of a frame rise, and lie in the frame
-pub frame_slots : (at size : ℕ) (es : List ℕ) → at + size < 2 ^ 64 → AllByRecursion (IsEntry size) es → EachNext IsNextEntry es → Rise at (at + size) (slots_named at es)
-frame_slots at size [] b all next = tt
-frame_slots at size (e ∷ es) b all next = by_case (cases_eq (e % 2) 1) (frame_slots at size es b all.1 next.1)
+pub frame_slots :
+    (base at size : ℕ) (es : List ℕ) (low : ℕ) → at < 2 ^ 64 → size ≤ 2 ^ 32 → AllByRecursion (IsEntry size) es → EachNext IsNextEntry es →
+    list_all (is_stack_word base) (slots_named at es) ≡ true → Reaches base at size 0 low → Rise low (add_word at size) (slots_named at es)
+frame_slots base at size [] low a few all next in_stack reaches = tt
+frame_slots base at size (e ∷ es) low a few all next in_stack reaches = by_case (cases_eq (e % 2) 1) (λ h. frame_slots base at size es low a few all.1 next.1 h reaches)
   where
-    by_case : (e % 2 ≡ 1) ⊎ (e % 2 ≡ 1 → ⊥) → Rise at (at + size) (slots_named at es) → Rise at (at + size) (slots_named at (e ∷ es))
+    by_case : (e % 2 ≡ 1) ⊎ (e % 2 ≡ 1 → ⊥) → (list_all (is_stack_word base) (slots_named at es) ≡ true → Rise low (add_word at size) (slots_named at es)) → Rise low (add_word at size) (slots_named at (e ∷ es))
     by_case (inl odd) later =
-        subst (Rise at (at + size)) (sym (cond-true (is_register e) (slots_named at es) (add_word at e ∷ slots_named at es) (eq-eqb (e % 2) 1 odd))) later
+        let here = cond-true (is_register e) (slots_named at es) (add_word at e ∷ slots_named at es) (eq-eqb (e % 2) 1 odd) in
+        subst (Rise low (add_word at size)) (sym here) (later (ap (list_all (is_stack_word base)) (sym here) ∙ in_stack))
     by_case (inr even) later =
         let z : e % 2 ≡ 0 = omega (arith, even) in
-        rise_low at (at + 0) (at + size) (slots_named at (e ∷ es)) (omega arith) (even_slots at size (e ∷ es) 0 b all next (z, omega arith))
+        even_slots base at size (e ∷ es) 0 low a few all next (z, omega arith) in_stack reaches
+
+-- where a lower bound of a frame's places may be: at the stack's base, or where the frame begins, if that is
+-- in the stack
+abbrev pub IsFloor : ℕ → ℕ → ℕ → Type 0
+IsFloor base at low = (low ≤ base) ⊎ ((low ≤ at) × (at ≤ 0x40000000))
+
+reaches_from : (base at size low : ℕ) → size ≤ 2 ^ 32 → IsFloor base at low → Reaches base at size 0 low
+unfolding Reaches
+reaches_from base at size low few (inl h) e le lt in' = omega (arith, h, (stack_word base (add_word at e) in').0)
+reaches_from base at size low few (inr h) e le lt in' = let same = no_wrap at e h.1 (omega arith) in omega (arith, h.0, same)
 
 -- ---- rewriting what the frames name
+
+-- nothing is rewritten before the first frame, and then nothing from the next frame up
+abbrev pub IsAbove : Bool → ℕ → ℕ → Type 0
+IsAbove true at b = Unit {0}
+IsAbove false at b = at ≤ b
+
+-- a frame behind the first one begins in the stack
+abbrev pub BeginsLow : Bool → ℕ → Type 0
+BeginsLow true at = Unit {0}
+BeginsLow false at = at ≤ 0x40000000
+
+above_by : (first : Bool) (at b : ℕ) → BeginsLow first at → (at ≤ 0x40000000 → at ≤ b) → IsAbove first at b
+above_by true at b low h = tt
+above_by false at b low h = h low
 
 -- What is left of the walk: the frames that are left, read from the old memory, are rewritten in the one
 -- that there now is, and both have the same words from here up.
@@ -153,7 +191,8 @@ pub record Left (f : ℕ → ℕ) (descs : List Desc) (base : ℕ) (old now : Li
   pub rest : List Frame
   pub found : frames_from most descs base old first address at ≡ Some rest
   pub redirected : redirected_now f old (slots_of fs) ≡ redirected_now f now (slots_of rest)
-  pub above : (b : ℕ) → at ≤ b → word now b ≡ word old b
+  pub above : (b : ℕ) → IsAbove first at b → word now b ≡ word old b
+  pub low : BeginsLow first at
 
 pub record Walks (f : ℕ → ℕ) (descs : List Desc) (base : ℕ) (old now : List Region) (from sp most : ℕ) (first : Bool) (address at : ℕ) : Type 0 where
   pub each : (fs : List Frame) → frames_from (most_frames base) descs base old true from sp ≡ Some fs → Left f descs base old now fs most first address at
@@ -172,37 +211,43 @@ framed true at d (Some tail) fs e = record { fits = refl; tail = tail; found = r
 
 -- where a frame that fits lies
 pub record InStack (base at : ℕ) (d : Desc) : Type 0 where
-  pub slot : return_slot at d ≡ at + (d.size - 8)
-  pub next : add_word at d.size ≡ at + d.size
-  pub low : base ≤ at + (d.size - 8)
-  pub high : at + d.size ≤ 0x40000000
+  pub next : return_slot at d + 8 ≡ add_word at d.size
+  pub low : base ≤ return_slot at d
+  pub high : add_word at d.size ≤ 0x40000000
+  pub few : d.size ≤ 2 ^ 32
+  pub slots : list_all (is_stack_word base) (slots_named at d.entries) ≡ true
 
-pub in_stack : (code : ℕ) (first : Bool) (base at : ℕ) (d : Desc) → IsDesc code d → at < 2 ^ 64 → 0x10000 ≤ base → is_frame first base at d ≡ true → InStack base at d
-in_stack code first base at d rules a b h =
+pub in_stack : (version code : ℕ) (first : Bool) (base at : ℕ) (d : Desc) → IsDesc version code d → at < 2 ^ 64 → is_frame first base at d ≡ true → InStack base at d
+in_stack version code first base at d rules a h =
     let p = and_parts _ _ h in
     let q = and_parts _ _ p.0 in
-    let w = no_wrap base at (d.size - 8) a (omega (arith, rules.size_fits)) b q.1 in
+    let w = stack_word base (return_slot at d) q.1 in
+    let few : d.size ≤ 2 ^ 32 = omega (arith, rules.size_fits, (wide_enough version).1) in
+    let end = farther at (d.size - 8) d.size a (omega arith) few w.1 in
+    let eight : d.size - (d.size - 8) ≡ 8 = omega (arith, rules.nonempty) in
     record {
-      slot = w.0;
-      next = small_sum at d.size (omega (arith, w.2, rules.nonempty));
-      low = w.1;
-      high = omega (arith, w.2, rules.nonempty);
+      next = omega (arith, end, eight);
+      low = w.0;
+      high = omega (arith, end, eight, w.1);
+      few = few;
+      slots = p.1;
     }
 
-module _ (f : ℕ → ℕ) (descs : List Desc) (base : ℕ) (old now new : List Region) (from sp most : ℕ) (first : Bool) (address at : ℕ) (d : Desc) (code : ℕ) where
+module _ (f : ℕ → ℕ) (descs : List Desc) (base : ℕ) (old now new : List Region) (from sp most : ℕ) (first : Bool) (address at : ℕ) (d : Desc) (version code : ℕ) where
   pub walks_more :
-      0 < most → (address ≡ code_start → ⊥) → descriptor_at descs address ≡ Some d → IsDesc code d → at < 2 ^ 64 → 0x10000 ≤ base →
+      0 < most → (address ≡ code_start → ⊥) → descriptor_at descs address ≡ Some d → IsDesc version code d → at < 2 ^ 64 →
       new ≡ redirected_now f now (slots_named at d.entries) → Walks f descs base old now from sp most first address at →
       Walks f descs base old new from sp (most - 1) false (word now (return_slot at d)) (add_word at d.size)
-  walks_more some below is rules a b rewritten walks = record { each = λ fs e. step (walks.each fs e) }
+  walks_more some below is rules a rewritten walks = record { each = λ fs e. step (walks.each fs e) }
     where
       step : {fs : List Frame} → Left f descs base old now fs most first address at → Left f descs base old new fs (most - 1) false (word now (return_slot at d)) (add_word at d.size)
       step {fs} l =
           let fr = framed (is_frame first base at d) at d (frames_from (most - 1) descs base old false (word old (return_slot at d)) (add_word at d.size)) l.rest
           (sym (one_frame descs base old most first address at d some below is) ∙ l.found) in
-          let s = in_stack code first base at d rules a b fr.fits in
-          let rise = frame_slots at d.size d.entries (omega (arith, s.high)) rules.entries rules.in_order in
-          let above_slot : at ≤ return_slot at d = omega (arith, s.slot) in
+          let s = in_stack version code first base at d rules a fr.fits in
+          let rise = frame_slots base at d.size d.entries base a s.few rules.entries rules.in_order s.slots (reaches_from base at d.size base s.few (inl (omega arith))) in
+          let above_slot : IsAbove first at (return_slot at d) =
+          above_by first at (return_slot at d) l.low (λ h. let same = no_wrap at (d.size - 8) h (omega (arith, s.few)) in omega (arith, same)) in
           record {
             rest = fr.tail;
             found = ap (λ w. frames_from (most - 1) descs base old false w (add_word at d.size)) (l.above (return_slot at d) above_slot) ∙ fr.found;
@@ -210,9 +255,9 @@ module _ (f : ℕ → ℕ) (descs : List Desc) (base : ℕ) (old now new : List 
                 ∙ redirected-append f now (slots_named at d.entries) (slots_of fr.tail)
                 ∙ ap (λ m. redirected_now f m (slots_of fr.tail)) (sym rewritten);
             above = λ b h.
-                let over : at + d.size ≤ b = omega (arith, h, s.next) in
-                ap (λ m. word m b) rewritten ∙ kept f now (slots_named at d.entries) b (none_above at (at + d.size) b (slots_named at d.entries) over rise)
-                ∙ l.above b (omega (arith, over));
+                ap (λ m. word m b) rewritten ∙ kept f now (slots_named at d.entries) b (none_above base (add_word at d.size) b (slots_named at d.entries) h rise)
+                ∙ l.above b (above_by first at b l.low (λ k. let same = no_wrap at d.size k s.few in omega (arith, same, h)));
+            low = s.high;
           }
 
 -- ---- what frames name rises
@@ -256,11 +301,10 @@ registers_rise size (e ∷ es) low all next (inr h) =
 abbrev pub Stacks : List Frame → Type 0
 Stacks fs = Rise 0 32 (registers_of fs)
 
-module _ (descs : List Desc) (code base : ℕ) (m : List Region) (rules : AllByRecursion (IsDesc code) descs) (above : 0x38010000 ≤ base) where
+module _ (descs : List Desc) (version code base : ℕ) (m : List Region) (rules : AllByRecursion (IsDesc version code) descs) where
   -- What is known of frames from a stack pointer on.
   pub record Stacked (at : ℕ) (fs : List Frame) : Type 0 where
-    pub slots : Rise at 0x40000000 (slots_of fs)
-    pub high : (slots_of fs ≡ []) ⊎ (0x20000000 ≤ at)
+    pub slots : (low : ℕ) → IsFloor base at low → Rise low 0x40000000 (slots_of fs)
     pub first : Stacks fs
 
   stacked_one :
@@ -268,16 +312,20 @@ module _ (descs : List Desc) (code base : ℕ) (m : List Region) (rules : AllByR
       Framed (is_frame first base at d) (record { at = at; desc = d }) (frames_from most descs base m false (word m (return_slot at d)) (add_word at d.size)) fs →
       ((address at : ℕ) (fs : List Frame) → at < 2 ^ 64 → frames_from most descs base m false address at ≡ Some fs → Stacked at fs) → Stacked at fs
   stacked_one most first address at fs d a found fr later =
-      let r = found_has (IsDesc code) (λ (d : Desc). code_start + d.after == address) descs d rules found in
-      let s = in_stack code first base at d r a (omega arith) fr.fits in
-      let next = later (word m (return_slot at d)) (add_word at d.size) fr.tail (omega (arith, s.next, s.high)) fr.found in
-      let here = frame_slots at d.size d.entries (omega (arith, s.high)) r.entries r.in_order in
-      let there : Rise (at + d.size) 0x40000000 (slots_of fr.tail) = rise_low (at + d.size) (add_word at d.size) 0x40000000 (slots_of fr.tail) (omega (arith, s.next)) next.slots in
+      let r = found_has (IsDesc version code) (λ (d : Desc). code_start + d.after == address) descs d rules found in
+      let s = in_stack version code first base at d r a fr.fits in
+      let next = later (word m (return_slot at d)) (add_word at d.size) fr.tail (omega (arith, s.high)) fr.found in
+      let there : Rise (add_word at d.size) 0x40000000 (slots_of fr.tail) = next.slots (add_word at d.size) (inr (omega arith, s.high)) in
       subst (Stacked at) fr.is (record {
-        slots = rise-append at (at + d.size) 0x40000000 (slots_named at d.entries) (slots_of fr.tail) (omega arith) s.high here there;
-        high = inr (omega (arith, s.low, r.size_fits));
+        slots = λ low floor.
+            let here = frame_slots base at d.size d.entries low a s.few r.entries r.in_order s.slots (reaches_from base at d.size low s.few floor) in
+            rise-append low (add_word at d.size) 0x40000000 (slots_named at d.entries) (slots_of fr.tail) (floor_below floor s) s.high here there;
         first = registers_rise d.size d.entries 0 r.entries r.in_order (first_register d.entries);
       })
+    where
+      floor_below : {low : ℕ} → IsFloor base at low → InStack base at d → low ≤ add_word at d.size
+      floor_below (inl h) s = omega (arith, h, s.low, s.next)
+      floor_below (inr h) s = let same = no_wrap at d.size h.1 s.few in omega (arith, h.0, same)
 
   pub stacked : (most : ℕ) (first : Bool) (address at : ℕ) (fs : List Frame) → at < 2 ^ 64 → frames_from most descs base m first address at ≡ Some fs → Stacked at fs
   stacked zero first address at fs a e = absurd (cc)
@@ -299,7 +347,7 @@ module _ (descs : List Desc) (code base : ℕ) (m : List Region) (rules : AllByR
           ((address at : ℕ) (fs : List Frame) → at < 2 ^ 64 → frames_from most descs base m false address at ≡ Some fs → Stacked at fs) → Stacked at fs
       by_stub (inl s) later =
           let none : [] ≡ fs = let stub = at_stub descs base m (suc most) first address at (omega arith) s in cc (stub, e) in
-          subst (Stacked at) none (record { slots = tt; high = inl refl; first = tt })
+          subst (Stacked at) none (record { slots = λ low floor. tt; first = tt })
       by_stub (inr n) later = by_desc (descriptor_at descs address) refl n later
 
 -- ---- root cells

@@ -1,8 +1,8 @@
 -- Words of the memory, after others were written.
-use Rattle.std.proofs.Common.{◌≡◌, ◌≢◌, ℕ, zero, suc, ◌+◌, ◌-◌, ◌*◌, ◌%◌, ◌/◌, ◌^◌, ◌<◌, ◌≤◌, ◌⊎◌, inl, inr, Bool, true, false, cond, ◌&&◌, ◌==◌, nat_le, List, [], ◌∷◌, ◌++◌, slice_index, slice_set, Option, Some, None, option_map, refl, ap, arith, ◌∙◌, sym, subst, get_or-set_other}
+use Rattle.std.proofs.Common.{◌≡◌, ◌≢◌, ℕ, zero, suc, ◌+◌, ◌-◌, ◌%◌, ◌/◌, ◌<◌, ◌≤◌, Bool, true, false, cond, ◌==◌, nat_le, List, [], ◌∷◌, ◌++◌, slice_index, Option, Some, None, option_map, refl, ap, arith, ◌∙◌, sym, get_or-set_other}
 use Rattle.std.specs.List.{AllByRecursion}
-use Rattle.std.proofs.lemmas.Bool.{and_parts, leb-true, eqb-true, cases_Bool}
-use Rattle.rv_machine.specs.Memory.{Region, byte_in, index_in, is_inside, loaded, memory_or, or_zero, part, read, stored, with_written, word, write, written}
+use Rattle.std.proofs.lemmas.Bool.{and_parts, leb-true, eqb-true}
+use Rattle.rv_machine.specs.Memory.{Region, byte_in, index_in, is_inside, memory_or, or_zero, part, read, with_written, word, write, written}
 use Rattle.rv_machine.specs.Hart.{with_register}
 use Rattle.rv_machine.specs.Moving.{redirected, redirected_registers}
 use Rattle.alloc_service.specs.Forward.{redirected_now, redirected_registers_now}

@@ -1,14 +1,14 @@
 -- What the later steps of a service come to, on the parts of a machine.
 use Rattle.std.specs.Prelude.{◌≡◌, ℕ, ◌/◌, ◌≤◌, Bool, true, false, ◌&&◌, List, [], ◌++◌, length, slice_index, Option, Some, None}
-use Rattle.std.specs.List.{list_all, AllByRecursion}
+use Rattle.std.specs.List.{list_all}
 use Rattle.std.specs.Vec.{vec_capacity}
 use Rattle.image_form.specs.Tables.{Tables}
-use Rattle.rv_machine.specs.Allocation.{is_root, root_cells}
+use Rattle.rv_machine.specs.Relocation.{is_root, root_cells}
 use Rattle.rv_machine.specs.Frames.{Frame, frames_from, most_frames, registers_of, slots_of}
 use Rattle.rv_machine.specs.Hart.{Placed}
 use Rattle.rv_machine.specs.Memory.{Region, word}
 use Rattle.rv_machine.specs.Moving.{moved_memory, redirected_registers, rewritten}
-use Rattle.rv_machine.specs.Placement.{is_in_heap, new_places, placed_at}
+use Rattle.rv_machine.specs.Placement.{is_in_heap, placed_at}
 use Rattle.rv_machine.specs.declared.space.Space.{Space}
 use Rattle.alloc_service.specs.Forward.{IsForward}
 

@@ -1,8 +1,8 @@
 -- The table of marks while a service moves blocks: at the old start of each block it has the new one.
-use Rattle.std.specs.Prelude.{◌≡◌, ℕ, zero, suc, ◌+◌, ◌*◌, ◌<◌, ◌≤◌, ◌%◌, Bool, true, false, cond, not, ◌&&◌, ◌||◌, ◌==◌, nat_le, nat_lt, List, [], ◌∷◌, length, slice_index, take, drop, ◌^◌, Some, IsSome}
+use Rattle.std.specs.Prelude.{◌≡◌, ℕ, zero, suc, ◌+◌, ◌*◌, ◌<◌, ◌≤◌, ◌%◌, Bool, true, false, cond, not, ◌&&◌, ◌||◌, ◌==◌, nat_le, nat_lt, List, [], ◌∷◌, slice_index, take, drop, ◌^◌, Some, IsSome}
 use Rattle.std.specs.List.{list_all, list_any, flat_map}
 use Rattle.image_form.specs.Tables.{Desc, Tables}
-use Rattle.rv_machine.specs.Allocation.{is_in_data, is_in_code}
+use Rattle.rv_machine.specs.Relocation.{is_in_data, is_in_code}
 use Rattle.rv_machine.specs.Frames.{Frame, frames_from, most_frames, registers_of, slots_of}
 use Rattle.rv_machine.specs.Hart.{Placed, with_register}
 use Rattle.rv_machine.specs.Marks.{Marks, mark_at, place_of}

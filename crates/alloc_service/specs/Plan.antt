@@ -1,6 +1,7 @@
 -- What a plan asks for, and what a service tells.
 use Rattle.std.specs.Prelude.{◌≡◌, ℕ, List, []}
-use Rattle.rv_machine.specs.Allocation.{Allocated, Goes, NoHeap, Refused}
+use Rattle.rv_machine.specs.Relocation.{Serviced, Goes, NoHeap, Refused, and_then}
+use Rattle.rv_machine.specs.Step.{count}
 use Rattle.rv_machine.specs.Hart.{Hart, Placed}
 use Rattle.rv_machine.specs.Placement.{drawn_plan}
 use Rattle.alloc_service.specs.declared.plan.Plan.{Plan}
@@ -14,8 +15,19 @@ plan_of Packed blocks = []
 plan_of (Starts starts) blocks = starts.now
 plan_of (Drawn word) blocks = drawn_plan word blocks
 
+-- the counts of a machine stay at the ends of their types
+abbrev pub services_counted : Hart → Hart
+services_counted h = record h { services = count h.services }
+
+abbrev pub both_counted : Hart → Hart
+both_counted h = record h { retired = count h.retired; services = count h.services }
+
+-- what came of a service, with its counts so
+abbrev pub with_counts : (Hart → Hart) → Serviced → Serviced
+with_counts counts came = and_then (λ h. Goes (counts h)) came
+
 -- what was told is what came of the service, and where it goes on the machine then stands so
-abbrev pub Serves : ServiceEnd → Allocated → Hart → Type 0
+abbrev pub Serves : ServiceEnd → Serviced → Hart → Type 0
 Serves told.Goes came new = came ≡ Goes new
 Serves told.HeapOut came new = came ≡ NoHeap
 Serves (told.Stopped cause) came new = came ≡ Refused cause

@@ -1,7 +1,7 @@
-//! The allocation service of the machine: it moves every block of the heap.
+//! The services of the machine that move every block of the heap.
 //!
-//! The service is a definition of `rv_machine` (`specs/Allocation.antt`), and `service` gives exactly that,
-//! in time linear in the bytes of the blocks and in the stack. It takes no memory: the machine has what is
+//! They are definitions of `rv_machine` (`specs/Allocation.antt` and `specs/FrameCalls.antt`). `allocate` and
+//! `collect` give exactly those, in time linear in the bytes of the blocks and in the stack. It takes no memory: the machine has what is
 //! needed.
 #![tactic(auto)]
 
@@ -20,4 +20,4 @@ mod young;
 
 pub use plan::Plan;
 pub use service_end::ServiceEnd;
-pub use serving::service;
+pub use serving::{allocate, collect};

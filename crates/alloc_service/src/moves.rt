@@ -5,7 +5,7 @@ ghost use Rattle.std.specs.Vec.{vec_len, vec_capacity};
 ghost use Rattle.bs_words.specs.Contents.{contents};
 ghost use Rattle.image_form.specs.Image.{IsImage};
 ghost use Rattle.image_form.specs.Tables.{desc, tables};
-ghost use Rattle.rv_machine.specs.Allocation.{root_cells};
+ghost use Rattle.rv_machine.specs.Relocation.{root_cells};
 ghost use Rattle.rv_machine.specs.Frames.{is_register, registers_named, slots_named};
 ghost use Rattle.rv_machine.specs.Hart.{with_register};
 ghost use Rattle.rv_machine.specs.Memory.{put, words_at, write, word};

@@ -4,7 +4,7 @@ ghost use Rattle.std.specs.List.{list_all};
 ghost use Rattle.bs_words.specs.Contents.{contents};
 ghost use Rattle.image_form.specs.Image.{IsImage};
 ghost use Rattle.image_form.specs.Tables.{desc, tables};
-ghost use Rattle.rv_machine.specs.Allocation.{is_in_code, is_in_data};
+ghost use Rattle.rv_machine.specs.Relocation.{is_in_code, is_in_data};
 ghost use Rattle.rv_machine.specs.Frames.{frames_from, most_frames, registers_named, slots_named};
 ghost use Rattle.rv_machine.specs.Memory.{word};
 ghost use Rattle.alloc_service.specs.Forward.{root_by, roots_by};

@@ -5,6 +5,3 @@ mod bits;
 mod words;
 
 pub use bits::Bits;
-
-#[cfg(test)]
-mod tests;

@@ -54,9 +54,17 @@ fault_place (AddrLive bound point used) = used
 fault_place (AddrArgument at) = at
 fault_place (SwitchSize at) = at
 
--- where an address is bound, and the frame point that it passes; no other fault tells more than its place
+-- as `, bound at 27`
+abbrev pub bound_words : ℕ → List ℕ
+bound_words bound = codes ", bound at " ++ decimal bound
+
+-- as `, frame point at 38`
+abbrev pub point_words : ℕ → List ℕ
+point_words point = codes ", frame point at " ++ decimal point
+
+-- where an address is bound, and the frame point that it passes; the line of another fault says no more than its place
 abbrev pub fault_more : Fault → List ℕ
-fault_more (AddrLive bound point used) = (codes ", bound at " ++ decimal bound) ++ (codes ", frame point at " ++ decimal point)
+fault_more (AddrLive bound point used) = bound_words bound ++ point_words point
 fault_more _ = codes ""
 
 -- as `cmmc: F11 Unbound at 27`

@@ -1,2 +1,5 @@
 pub mod Lines
 pub mod FaultLines
+pub mod Limits
+pub mod Order
+pub mod Reported

@@ -1,6 +1,6 @@
 -- The lines that the program writes for faults: the program's name, the number and the word of the
 -- fault, and where it stands.
-use Rattle.std.specs.Prelude.{ℕ, List, [], ◌∷◌, ◌++◌, codes}
+use Rattle.std.specs.Prelude.{ℕ, List, ◌++◌, codes}
 use Rattle.std.specs.Fmt.{decimal}
 use Rattle.bs_fault.specs.declared.image.ImageFault.{ImageFault}
 use Rattle.bs_fault.specs.declared.image.ImageFault.TheVariants.{Truncated, Magic, Version, Section, Table, Trailing}

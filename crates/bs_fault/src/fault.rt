@@ -2,7 +2,7 @@
 ghost use Rattle.std.specs.Prelude.{◌≡◌, ◌++◌, codes, IfOk};
 ghost use Rattle.std.specs.Fmt.{decimal};
 ghost use Rattle.bs_words.specs.Contents.{contents};
-ghost use Rattle.bs_fault.specs.FaultLines.{fault_word, fault_place, fault_more, fault_line};
+ghost use Rattle.bs_fault.specs.FaultLines.{fault_word, bound_words, point_words, fault_more, fault_line};
 
 use bs_words::List;
 use std::alloc::{AllocError, AllocFailed, Global};
@@ -25,7 +25,7 @@ pub enum Fault {
     IntRange { at: u32 },
     /// F7: more than 16 parameters or arguments. It stands at the seventeenth.
     TooManyParams { at: u32 },
-    /// F8: a function has more than 4,000 tokens.
+    /// F8: a function has more than 32,000 tokens.
     FunctionTooLong { at: u32 },
     /// F9: the static data passes 16,777,216 bytes.
     DataTooLarge { at: u32 },
@@ -119,55 +119,22 @@ fn fault_word(fault: Fault) -> &'static str
     }
 }
 
-fn fault_place(fault: Fault) -> u32
-    ensures { result ≡ fault_place fault }
-{
-    match fault {
-        Fault::TooLong { at } => at,
-        Fault::BadToken { at } => at,
-        Fault::Unclosed { at } => at,
-        Fault::Unexpected { at } => at,
-        Fault::TooDeep { at } => at,
-        Fault::IntRange { at } => at,
-        Fault::TooManyParams { at } => at,
-        Fault::FunctionTooLong { at } => at,
-        Fault::DataTooLarge { at } => at,
-        Fault::DataItem { at } => at,
-        Fault::Unbound { at } => at,
-        Fault::UnknownSymbol { at } => at,
-        Fault::DuplicateSymbol { at } => at,
-        Fault::Arity { at } => at,
-        Fault::NoValue { at } => at,
-        Fault::NotMutable { at } => at,
-        Fault::AllocHeader { at } => at,
-        Fault::UnknownLabel { at } => at,
-        Fault::Float { at } => at,
-        Fault::AddrLive {
-            bound: _,
-            point: _,
-            used,
-        } => used,
-        Fault::AddrArgument { at } => at,
-        Fault::SwitchSize { at } => at,
-    }
-}
-
 fn point_text(alloc: Global, point: u32) -> Result<String, AllocError>
-    ensures { IfOk result (λ text. text.bytes.items ≡ codes ", frame point at " ++ decimal point) }
+    ensures { IfOk result (λ text. text.bytes.items ≡ point_words point) }
 {
     let text = format!(in alloc; ", frame point at {point}")?;
     Ok(text)
 }
 
 fn bound_text(alloc: Global, bound: u32) -> Result<String, AllocError>
-    ensures { IfOk result (λ text. text.bytes.items ≡ codes ", bound at " ++ decimal bound) }
+    ensures { IfOk result (λ text. text.bytes.items ≡ bound_words bound) }
 {
     let text = format!(in alloc; ", bound at {bound}")?;
     Ok(text)
 }
 
 fn bound_and_point(alloc: Global, bound: u32, point: u32) -> Result<String, AllocError>
-    ensures { IfOk result (λ text. text.bytes.items ≡ (codes ", bound at " ++ decimal bound) ++ (codes ", frame point at " ++ decimal point)) }
+    ensures { IfOk result (λ text. text.bytes.items ≡ bound_words bound ++ point_words point) }
 {
     let mut text = bound_text(alloc, bound)?;
     let passed = point_text(alloc, point)?;
@@ -195,7 +162,7 @@ pub fn fault_text(alloc: Global, fault: &Fault) -> Result<List<u8>, AllocError>
     ensures { IfOk result (λ text. contents text ≡ fault_line fault.now) }
 {
     let word = fault_word(*fault);
-    let at = fault_place(*fault);
+    let at = fault.place();
     let more = fault_more(alloc, *fault)?;
     let line = format!(in alloc; "cmmc: {word} at {at}{more}\n")?;
     Ok(List::from_vec(line.into_bytes()))

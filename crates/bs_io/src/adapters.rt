@@ -39,7 +39,8 @@ impl<R: Read> Source for ReadSource<R> {
 
     fn read(&mut self, into: &mut [u8]) -> Result<usize, Failed>
         // What the reader tells of its bytes holds of this read.
-        ensures bytes { ReadConsumes (R.remaining (reader_of self.old)) (R.remaining (reader_of self.new)) result into.new }
+        ensures bytes { ReadConsumes (R.remaining (reader_of self.old)) (R.remaining
+            (reader_of self.new)) result into.new }
 
         // The trait's clauses, where no byte is told.
         ensures within { IfOk result (λ count. count ≤ length into.new) }
@@ -88,12 +89,14 @@ impl<W: Write> Sink for WriteSink<W> {
 
     fn write(&mut self, piece: &[u8]) -> Result<usize, Failed>
         // What the writer tells of its bytes holds of this write.
-        ensures bytes { WriteAppends (W.contents (writer_of self.old)) (W.contents (writer_of self.new)) result piece.now }
+        ensures bytes { WriteAppends (W.contents (writer_of self.old)) (W.contents
+            (writer_of self.new)) result piece.now }
 
         // The trait's clauses, where no byte is told.
         ensures within { IfOk result (λ count. count ≤ length piece.now) }
         ensures failed { OnErr result (Risen self.old.faults self.new.faults) }
-        ensures stuck { IfOk result (λ count. count ≡ 0 → 0 < length piece.now → Risen self.old.faults self.new.faults) }
+        ensures stuck { IfOk result (λ count. count ≡ 0 → 0 < length piece.now →
+            Risen self.old.faults self.new.faults) }
         ensures never_falls { self.old.faults ≤ self.new.faults }
     {
         match self.writer.write(piece) {

@@ -13,6 +13,3 @@ pub use memory::{MemSink, MemSource};
 pub use sink::Sink;
 pub use source::{Failed, Source};
 pub use whole::{InFault, OutFault, read_all, write_all};
-
-#[cfg(test)]
-mod tests;

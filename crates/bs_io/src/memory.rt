@@ -29,7 +29,13 @@ impl Model for MemSource {
 
     ghost Value = { Reading };
 
-    ghost view = { λ s. record { left = drop s.taken (contents s.bytes); fails = contents s.fails; most = s.most; calls = s.calls; faults = s.faults } };
+    ghost view = { λ s. record {
+      left = drop s.taken (contents s.bytes);
+      fails = contents s.fails;
+      most = s.most;
+      calls = s.calls;
+      faults = s.faults;
+    } };
 
     ghost invariant = { λ s. (s.taken ≤ length (contents s.bytes)) × (1 ≤ s.most) };
 }
@@ -39,7 +45,13 @@ impl MemSource {
     /// call moves at most `most` bytes. It takes no memory.
     pub fn new(bytes: List<u8>, fails: List<u64>, most: usize) -> MemSource
         requires { 1 ≤ most }
-        ensures { result ≡ record { left = contents bytes; fails = contents fails; most = most; calls = 0; faults = 0 } }
+        ensures { result ≡ record {
+          left = contents bytes;
+          fails = contents fails;
+          most = most;
+          calls = 0;
+          faults = 0;
+        } }
     {
         MemSource {
             bytes,
@@ -80,7 +92,8 @@ impl Source for MemSource {
 
         // The trait's clauses.
         ensures within { IfOk result (λ count. count ≤ length into.new) }
-        ensures taken { IfOk result (λ count. Consumes (Some self.old.left) (Some self.new.left) (take count into.new)) }
+        ensures taken { IfOk result (λ count. Consumes (Some self.old.left) (Some self.new.left)
+            (take count into.new)) }
         ensures end { IfOk result (λ count. count ≡ 0 → 0 < length into.new → IsAtEnd (Some self.new.left)) }
         ensures kept { OnErr result (Keeps (Some self.old.left) (Some self.new.left)) }
         ensures failed { OnErr result (Risen self.old.faults self.new.faults) }
@@ -127,7 +140,14 @@ impl Model for MemSink {
 
     ghost Value = { Writing };
 
-    ghost view = { λ s. record { held = s.held.items; room = s.room; fails = contents s.fails; most = s.most; calls = s.calls; faults = s.faults } };
+    ghost view = { λ s. record {
+      held = s.held.items;
+      room = s.room;
+      fails = contents s.fails;
+      most = s.most;
+      calls = s.calls;
+      faults = s.faults;
+    } };
 
     ghost invariant = { λ s. (vec_len s.held ≤ s.room) × (s.room ≤ vec_capacity s.held) × (1 ≤ s.most) };
 }
@@ -142,7 +162,14 @@ impl MemSink {
         most: usize,
     ) -> Result<MemSink, AllocError>
         requires { 1 ≤ most }
-        ensures { IfOk result (λ sink. sink ≡ record { held = []; room = room; fails = contents fails; most = most; calls = 0; faults = 0 }) }
+        ensures { IfOk result (λ sink. sink ≡ record {
+          held = [];
+          room = room;
+          fails = contents fails;
+          most = most;
+          calls = 0;
+          faults = 0;
+        }) }
     {
         Ok(MemSink {
             held: Vec::with_capacity(alloc, room)?,
@@ -177,17 +204,20 @@ impl Sink for MemSink {
     fn write(&mut self, piece: &[u8]) -> Result<usize, Failed>
         // Which calls fail, among them each one with a nonempty piece and no room, how much each other
         // call takes, and what is held.
-        ensures fails { IsErr result ↔ (Contains self.old.fails self.old.calls ⊎ ((0 < length piece.now) × (self.old.room ≤ length self.old.held))) }
+        ensures fails { IsErr result ↔ (Contains self.old.fails self.old.calls ⊎
+            ((0 < length piece.now) × (self.old.room ≤ length self.old.held))) }
         ensures count { IfOk result (λ count. count ≡ write_count self.old (length piece.now)) }
         ensures after { IfOk result (λ count. self.new ≡ after_write self.old (take count piece.now)) }
         ensures after_failure { OnErr result (self.new ≡ after_failed_write self.old) }
 
         // The trait's clauses.
         ensures within { IfOk result (λ count. count ≤ length piece.now) }
-        ensures appended { IfOk result (λ count. Appends (Some self.old.held) (Some self.new.held) (take count piece.now)) }
+        ensures appended { IfOk result (λ count. Appends (Some self.old.held) (Some self.new.held)
+            (take count piece.now)) }
         ensures kept { OnErr result (Keeps (Some self.old.held) (Some self.new.held)) }
         ensures failed { OnErr result (Risen self.old.faults self.new.faults) }
-        ensures stuck { IfOk result (λ count. count ≡ 0 → 0 < length piece.now → Risen self.old.faults self.new.faults) }
+        ensures stuck { IfOk result (λ count. count ≡ 0 → 0 < length piece.now →
+            Risen self.old.faults self.new.faults) }
         ensures never_falls { self.old.faults ≤ self.new.faults }
     {
         let call = self.calls;

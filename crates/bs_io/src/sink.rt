@@ -22,6 +22,7 @@ pub trait Sink {
         ensures appended { IfOk result (λ count. Appends (held self.old) (held self.new) (take count piece.now)) }
         ensures kept { OnErr result (Keeps (held self.old) (held self.new)) }
         ensures failed { OnErr result (Risen (faults self.old) (faults self.new)) }
-        ensures stuck { IfOk result (λ count. count ≡ 0 → 0 < length piece.now → Risen (faults self.old) (faults self.new)) }
+        ensures stuck { IfOk result (λ count. count ≡ 0 → 0 < length piece.now →
+            Risen (faults self.old) (faults self.new)) }
         ensures never_falls { faults self.old ≤ faults self.new };
 }

@@ -94,7 +94,8 @@ fn read_at<S: Source>(source: &mut S, buffer: &mut [u8], at: usize) -> Result<us
     requires { at < length buffer.old }
     ensures front { take at buffer.new ≡ take at buffer.old }
     ensures fits { IfOk result (λ count. at + count ≤ length buffer.new) }
-    ensures taken { IfOk result (λ count. Consumes (S.left source.old) (S.left source.new) (take count (drop at buffer.new))) }
+    ensures taken { IfOk result (λ count. Consumes (S.left source.old) (S.left source.new) (take count
+        (drop at buffer.new))) }
     ensures end { IfOk result (λ count. count ≡ 0 → IsAtEnd (S.left source.new)) }
     ensures kept { OnErr result (Keeps (S.left source.old) (S.left source.new)) }
     ensures failed { OnErr result (Risen (S.faults source.old) (S.faults source.new)) }

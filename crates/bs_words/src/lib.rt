@@ -17,6 +17,3 @@ pub use name::Name;
 pub use operators::{CmpOp, IntOp};
 pub use types::{Chunk, Comp, Loc, Ret, Ty};
 pub use values::{Call, Kind, Obs, Value};
-
-#[cfg(test)]
-mod tests;

@@ -2,9 +2,10 @@
 --
 -- An address is a number of bytes. Static data begins at 0x10000000 with a built-in list of 8 zero bytes, and
 -- the lists of the file follow in order, each at the next multiple of 8.
-use Rattle.std.specs.Prelude.{ℕ, suc, ◌+◌, ◌-◌, ◌%◌, Bool, cond, ◌&&◌, ◌==◌, nat_lt, List, [], ◌∷◌, ◌++◌, Option, Some, None, map, length, codes, pos, int_lt}
+use Rattle.std.specs.Prelude.{ℕ, suc, ◌+◌, ◌-◌, ◌%◌, Bool, cond, ◌&&◌, ◌==◌, nat_lt, List, [], ◌∷◌, ◌++◌, Option, Some, None, map, length, pos, int_lt}
 use Rattle.std.specs.List.{flat_map, filter_map}
 use Rattle.std.specs.Str.{bytes_eq}
+use Rattle.bs_words.specs.Symbol.{caml_bound_error}
 use Rattle.bs_words.specs.Fits.{data_start}
 use Rattle.bs_words.specs.Word.{signed_of}
 use Rattle.bs_words.specs.declared.values.Value.{Value}
@@ -94,13 +95,9 @@ abbrev pub end_of_lists : ℕ → List DataListTree → ℕ
 end_of_lists end [] = end
 end_of_lists end (d ∷ lists) = end_of_lists (end_behind end d) lists
 
--- the symbol of the built-in list, which a failed test of an index raises
-unfoldable pub bound_error : List ℕ
-bound_error = codes "caml_bound_error"
-
 -- the built-in list: 8 zero bytes and their symbol
 abbrev pub built_in : DataListTree
-built_in = record { at = 0; items = record { at = 0; datum = Define bound_error } ∷ record { at = 0; datum = Int (Some 0) } ∷ [] }
+built_in = record { at = 0; items = record { at = 0; datum = Define caml_bound_error } ∷ record { at = 0; datum = Int (Some 0) } ∷ [] }
 
 -- all lists, the built-in one first
 abbrev pub lists_of : FileTree → List DataListTree

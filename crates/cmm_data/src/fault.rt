@@ -36,7 +36,8 @@ fn end_of_items(start: u64, items: &[DataItem]) -> Result<u64, Fault>
     ensures within { IfOk result (λ end. end ≤ data_start + data_limit) }
     ensures end { IfOk result (λ end. end ≡ end_of_items start (map data_item_view items.now)) }
     ensures faultless { IfOk result (λ end. first_fault (items_from start (map data_item_view items.now)) ≡ None) }
-    ensures fault { IfErr result (λ fault. first_fault (items_from start (map data_item_view items.now)) ≡ Some fault) }
+    ensures fault { IfErr result (λ fault. first_fault (items_from start
+        (map data_item_view items.now)) ≡ Some fault) }
 {
     let mut address = start;
     for item in items {

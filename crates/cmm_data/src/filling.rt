@@ -104,7 +104,8 @@ impl Filling {
     /// The address of a function, which fills a cell.
     fn put_function(&mut self, function: u32) -> Result<(), AllocError>
         requires { pending self.old ≡ 0 }
-        ensures { IfOk result (λ _. Puts self.old self.new (symbol_bytes (Some (Value.Function function)))) }
+        ensures { IfOk result (λ _. Puts self.old self.new (symbol_bytes (Some
+            (Value.Function function)))) }
     {
         self.cells.push(Value::Function(function))?;
         Ok(())
@@ -131,7 +132,8 @@ impl Filling {
     ) -> Result<(), AllocError>
         requires place { pending self.old ≡ address % 8 }
         requires rule { keeps_rule address (datum_view datum.now) ≡ true }
-        ensures { IfOk result (λ _. Puts self.old self.new (bytes_at (value_in symbols.now) address (datum_view datum.now))) }
+        ensures { IfOk result (λ _. Puts self.old self.new (bytes_at
+            (value_in symbols.now) address (datum_view datum.now))) }
     {
         match datum {
             Datum::Byte(word) => self.put_integer(1, *word),

@@ -16,6 +16,3 @@ pub use fault::data_fault;
 pub use place::place_data;
 pub use size::{DATA_LIMIT, DATA_START};
 pub use symbols::{BOUND_ERROR, SymbolTable};
-
-#[cfg(test)]
-mod tests;

@@ -3,7 +3,8 @@ ghost use Rattle.std.specs.Prelude.{◌≡◌, ◌%◌, ◌+◌, ◌<◌, ◌≤
 ghost use Rattle.std.specs.Option.{option_to_list};
 ghost use Rattle.bs_words.specs.Fits.{data_start};
 ghost use Rattle.cmm_tree.specs.View.{file_view, data_item_view, datum_view};
-ghost use Rattle.cmm_data.specs.Placement.{items_from, end_of_items, symbol_at, symbols_among, bound_error};
+ghost use Rattle.cmm_data.specs.Placement.{items_from, end_of_items, symbol_at, symbols_among};
+ghost use Rattle.bs_words.specs.Symbol.{caml_bound_error};
 ghost use Rattle.cmm_data.specs.Faults.{data_limit, first_fault, data_fault_of};
 ghost use Rattle.cmm_data.specs.Contents.{static_list, is_root_datum, root_at, roots_among};
 ghost use Rattle.cmm_data.specs.Symbols.{value_in};
@@ -44,9 +45,11 @@ pub fn place_data(alloc: Global, file: &File) -> Result<DataMap, AllocError>
     })
 }
 
-#[tactic(auto, unfolding(crate::specs::Placement::bound_error))]
 fn built_in_symbol(alloc: Global) -> Result<DataSymbol, AllocError>
-    ensures { IfOk result (λ symbol. symbol_view symbol ≡ record { name = bound_error; address = data_start }) }
+    ensures { IfOk result (λ symbol. symbol_view symbol ≡ record {
+      name = caml_bound_error;
+      address = data_start;
+    }) }
 {
     symbol(alloc, BOUND_ERROR, DATA_START)
 }
@@ -63,7 +66,11 @@ fn symbol(alloc: Global, name: &[u8], address: u64) -> Result<DataSymbol, AllocE
 }
 
 fn built_in_list(alloc: Global) -> Result<DataCells, AllocError>
-    ensures { IfOk result (λ list. cells_view list ≡ record { start = data_start; size = 8; cells = Value.Word 0 ∷ [] }) }
+    ensures { IfOk result (λ list. cells_view list ≡ record {
+      start = data_start;
+      size = 8;
+      cells = Value.Word 0 ∷ [];
+    }) }
 {
     let cells = vec![in alloc; Value::Word(0)]?;
     Ok(DataCells {
@@ -86,9 +93,16 @@ fn place_items(
     requires aligned { start % 8 ≡ 0 }
     requires within { start ≤ data_start + data_limit }
     requires faultless { first_fault (items_from start (map data_item_view items.now)) ≡ None }
-    ensures list { IfOk result (λ list. cells_view list ≡ static_list (value_in table.now) (record { start = start; end = end_of_items start (map data_item_view items.now); items = items_from start (map data_item_view items.now) })) }
-    ensures symbols { IfOk result (λ _. map symbol_view symbols.new.items ≡ map symbol_view symbols.old.items ++ symbols_among (items_from start (map data_item_view items.now))) }
-    ensures roots { IfOk result (λ _. roots.new.items ≡ roots.old.items ++ roots_among (items_from start (map data_item_view items.now))) }
+    ensures list { IfOk result (λ list. cells_view list ≡ static_list (value_in table.now)
+        (record {
+          start = start;
+          end = end_of_items start (map data_item_view items.now);
+          items = items_from start (map data_item_view items.now);
+        })) }
+    ensures symbols { IfOk result (λ _. map symbol_view symbols.new.items ≡ map symbol_view symbols.old.items ++
+        symbols_among (items_from start (map data_item_view items.now))) }
+    ensures roots { IfOk result (λ _. roots.new.items ≡ roots.old.items ++ roots_among (items_from start
+        (map data_item_view items.now))) }
 {
     let mut filling = Filling::new(alloc);
     let mut address = start;
@@ -114,7 +128,8 @@ fn add_symbol(
     datum: &Datum,
 ) -> Result<(), AllocError>
     requires { address < 2 ^ 32 }
-    ensures { IfOk result (λ _. map symbol_view symbols.new.items ≡ map symbol_view symbols.old.items ++ option_to_list (symbol_at address (datum_view datum.now))) }
+    ensures { IfOk result (λ _. map symbol_view symbols.new.items ≡ map symbol_view symbols.old.items ++
+        option_to_list (symbol_at address (datum_view datum.now))) }
 {
     if let Datum::Define(name) = datum {
         symbols.push(symbol(alloc, name.as_bytes(), address)?)?;
@@ -125,7 +140,8 @@ fn add_symbol(
 /// Adds the address of an item that is written as a `val`.
 fn add_root(roots: &mut Vec<u32>, address: u64, datum: &Datum) -> Result<(), AllocError>
     requires { address < 2 ^ 32 }
-    ensures { IfOk result (λ _. roots.new.items ≡ roots.old.items ++ root_at address (datum_view datum.now)) }
+    ensures { IfOk result (λ _. roots.new.items ≡ roots.old.items ++ root_at address
+        (datum_view datum.now)) }
 {
     if is_root(datum) {
         roots.push(address as u32)?;

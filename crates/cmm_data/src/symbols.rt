@@ -59,7 +59,10 @@ impl<'a> SymbolTable<'a> {
 
     /// Adds a definition. An earlier one of the same name stays.
     fn define(&mut self, name: &'a [u8], value: Value) -> Result<(), AllocError>
-        ensures { IfOk result (λ _. Adds self.old self.new (record { name = name.now; value = value } ∷ [])) }
+        ensures { IfOk result (λ _. Adds self.old self.new (record {
+          name = name.now;
+          value = value;
+        } ∷ [])) }
     {
         if !self.values.contains_key(name) {
             self.values.insert(name, value)?;
@@ -69,7 +72,8 @@ impl<'a> SymbolTable<'a> {
 
     /// Adds the symbol that an item at the address defines, if it does.
     fn define_at(&mut self, address: u64, datum: &'a Datum) -> Result<(), AllocError>
-        ensures { IfOk result (λ _. Adds self.old self.new (map definition_of_data (option_to_list (symbol_at address (datum_view datum.now))))) }
+        ensures { IfOk result (λ _. Adds self.old self.new (map definition_of_data
+            (option_to_list (symbol_at address (datum_view datum.now))))) }
     {
         match datum {
             Datum::Define(name) => self.define(name.as_bytes(), Value::Word(address)),
@@ -81,7 +85,8 @@ impl<'a> SymbolTable<'a> {
     fn define_items(&mut self, start: u64, items: &'a [DataItem]) -> Result<u64, AllocError>
         requires within { start ≤ data_start + data_limit }
         requires faultless { first_fault (items_from start (map data_item_view items.now)) ≡ None }
-        ensures adds { IfOk result (λ _. Adds self.old self.new (defined_at start (map data_item_view items.now))) }
+        ensures adds { IfOk result (λ _. Adds self.old self.new (defined_at start
+            (map data_item_view items.now))) }
         ensures end { IfOk result (λ end. end ≡ end_of_items start (map data_item_view items.now)) }
         ensures within { IfOk result (λ end. end ≤ data_start + data_limit) }
     {

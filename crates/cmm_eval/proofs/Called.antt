@@ -1,5 +1,5 @@
 -- Calls: of functions of the file, and of what lies outside.
-use Rattle.std.proofs.Common.{◌≡◌, ◌∙◌, ℕ, ◌+◌, Bool, true, false, List, [], ◌∷◌, ◌++◌, Option, Some, None, length, map, refl, ap, sym, subst, arith}
+use Rattle.std.proofs.Common.{◌≡◌, ◌≢◌, ◌∙◌, ℕ, zero, suc, ◌+◌, Bool, true, false, cond, List, [], ◌∷◌, ◌++◌, Option, Some, None, length, map, refl, ap, sym, subst, arith}
 use Rattle.std.specs.Prelude.{◌↔◌, IsTrue, option_copied, option_map, slice_get}
 use Rattle.std.proofs.lemmas.List.{map-append}
 use Rattle.std.proofs.lemmas.Option.{slice_get-map}
@@ -8,6 +8,9 @@ use Rattle.bs_words.specs.Observed.{Made}
 use Rattle.bs_words.specs.declared.types.Ret.{Ret}
 use Rattle.bs_words.specs.declared.types.Ret.TheVariants as ret
 use Rattle.bs_words.specs.declared.types.Comp.{Comp}
+use Rattle.bs_words.specs.Fits.{fits, misfit}
+use Rattle.bs_words.specs.declared.types.Ty.TheVariants as ty
+use Rattle.bs_words.specs.declared.values.Kind.{Kind}
 use Rattle.bs_words.specs.declared.values.Call.{Call}
 use Rattle.bs_words.specs.declared.values.Obs.{Obs}
 use Rattle.bs_words.specs.declared.values.Value.{Value}
@@ -21,8 +24,9 @@ use Rattle.cmm_tree.specs.declared.expr.Form.{Form}
 use Rattle.cmm_tree.specs.declared.file.Function.{Function}
 use Rattle.std.specs.Borrow.{Bor}
 use Rattle.cmm_meaning.specs.State.{World, Here, bound, deepened}
-use Rattle.cmm_meaning.specs.Evaluation.{NoAnswer, Evaluation, Gives, Stops, Surroundings, and_then, back_from_call, as_written, stack_below, fit_parameters, scoped_parameter}
-use Rattle.cmm_meaning.specs.Run.{answered, outside}
+use Rattle.cmm_meaning.specs.Evaluation.{NoAnswer, NotProper, Evaluation, Gives, Raises, Stops, Surroundings, and_then, back_from_call, as_written, stack_below, fit_parameters, scoped_parameter, tested}
+use Rattle.cmm_meaning.specs.Run.{nobody, answered, frame_answered, answered_as, given_back, made}
+use Rattle.cmm_eval.specs.Outside.{call_seen, returned}
 use Rattle.cmm_eval.specs.Views.{call_view, here_view}
 use Rattle.cmm_eval.specs.Filled.{expression, resume}
 use Rattle.cmm_eval.specs.Annotated.{FitsFunction, FitsEntry}
@@ -39,85 +43,127 @@ pub none_left : (xs : List ℕ) → length xs ≡ 0 → xs ≡ []
 none_left [] e = refl
 none_left (x ∷ xs) e = cc
 
-abbrev the_call : List ℕ → List Obs → Made
-the_call name shown = record { name = name; shown = shown }
+-- the call of the code is the one that is observed
+pub call_is : (c : Call) (layout : Layout) (name : List ℕ) (arguments : List Value) → c.name ≡ name →
+    contents c.args ≡ map (observed layout) arguments → call_view c ≡ call_seen layout name arguments
+call_is c layout name arguments p q =
+    let of : List ℕ → List Obs → Made = λ n l. record { name = n; shown = l } in ap (λ (n : List ℕ). of n (contents c.args)) p ∙ ap (of name) q
 
-pub call_is : (c : Call) (name : List ℕ) (shown : List Obs) → c.name ≡ name → contents c.args ≡ shown → call_view c ≡ the_call name shown
-call_is c name shown p q = ap (λ (n : List ℕ). the_call n (contents c.args)) p ∙ ap (the_call name) q
+-- a call that is made comes last
+pub calls_more : (calls new : List Call) (c : Call) → new ≡ calls ++ c ∷ [] → map call_view new ≡ map call_view calls ++ call_view c ∷ []
+calls_more calls new c p = ap (map call_view) p ∙ map-append call_view calls (c ∷ [])
 
-pub made_more : (calls new : List Call) (c : Call) (name : List ℕ) (shown : List Obs) → new ≡ calls ++ c ∷ [] → c.name ≡ name → contents c.args ≡ shown →
-    map call_view new ≡ map call_view calls ++ the_call name shown ∷ []
-made_more calls new c name shown p q r =
-    ap (map call_view) p ∙ map-append call_view calls (c ∷ []) ∙ ap (λ (m : Made). map call_view calls ++ m ∷ []) (call_is c name shown q r)
+-- an external call without a result takes no answer
+pub answered_none : (s : Surroundings) (frames : List Frame) (end : ℕ) (written : Ret) (call : Made) (h : Here) (w : World)
+    (calls : List Made) → written ≡ ret.Unit → calls ≡ w.made ++ call ∷ [] →
+    resume s frames (Gives None h (record w { made = calls }))
+    ≡ resume s frames (returned written h (answered_as false end written call w.answers w))
+answered_none s frames end ret.Unit call h w calls p q = ap (λ (m : List Made). resume s frames (Gives None h (record w { made = m }))) q
+answered_none s frames end (ret.Comp c) call h w calls p q = cc
 
--- what a call of what lies outside does in its caller
-abbrev called_outside : Layout → List ℕ → Ret → List Value → Here → World → Evaluation
-called_outside layout name written arguments h w =
-    and_then (back_from_call h (outside layout name written arguments w)) (λ v h w. as_written written v h w)
-
-pub answered_none : (s : Surroundings) (frames : List Frame) (layout : Layout) (name : List ℕ) (written : Ret) (arguments : List Value) (h : Here) (w : World)
-    (made : List Made) → written ≡ ret.Unit → made ≡ w.made ++ the_call name (map (observed layout) arguments) ∷ [] →
-    resume s frames (Gives None h (record w { made = made })) ≡ resume s frames (called_outside layout name written arguments h w)
-answered_none s frames layout name ret.Unit arguments h w made p q = ap (λ (m : List Made). resume s frames (Gives None h (record w { made = m }))) q
-answered_none s frames layout name (ret.Comp c) arguments h w made p q = cc
-
-pub answered_word : (s : Surroundings) (frames : List Frame) (layout : Layout) (name : List ℕ) (written : Ret) (c : Comp) (arguments : List Value) (h : Here) (w : World)
-    (made : List Made) (a : ℕ) (left : List ℕ) → written ≡ ret.Comp c → w.answers ≡ a ∷ left →
-    made ≡ w.made ++ the_call name (map (observed layout) arguments) ∷ [] →
-    resume s frames (Gives (Some (Word a)) h (record w { made = made; answers = left })) ≡ resume s frames (called_outside layout name written arguments h w)
-answered_word s frames layout name ret.Unit c arguments h w made a left p e q = cc
-answered_word s frames layout name (ret.Comp d) c arguments h w made a left p e q =
-    let call : Made = the_call name (map (observed layout) arguments) in
+-- each other one takes the next
+pub answered_word : (s : Surroundings) (frames : List Frame) (end : ℕ) (written : Ret) (c : Comp) (call : Made) (h : Here) (w : World)
+    (calls : List Made) (a : ℕ) (left : List ℕ) → written ≡ ret.Comp c → w.answers ≡ a ∷ left → calls ≡ w.made ++ call ∷ [] →
+    resume s frames (Gives (Some (Word a)) h (record w { made = calls; answers = left }))
+    ≡ resume s frames (returned written h (answered_as false end written call w.answers w))
+answered_word s frames end ret.Unit c call h w calls a left p e q = cc
+answered_word s frames end (ret.Comp d) c call h w calls a left p e q =
     ap (λ (m : List Made). resume s frames (Gives (Some (Word a)) h (record w { made = m; answers = left }))) q
-    ∙ sym (ap (λ (l : List ℕ). resume s frames (and_then (back_from_call h (answered (ret.Comp d) call l w)) (λ v h w. as_written (ret.Comp d) v h w))) e)
+    ∙ sym (ap (λ (l : List ℕ). resume s frames (returned (ret.Comp d) h (answered (ret.Comp d) call l w))) e)
 
-pub answered_asks : (s : Surroundings) (frames : List Frame) (layout : Layout) (name : List ℕ) (written : Ret) (c : Comp) (arguments : List Value) (h : Here) (w : World)
-    (call : Made) → written ≡ ret.Comp c → w.answers ≡ [] → call ≡ the_call name (map (observed layout) arguments) →
-    resume s frames (Stops (NoAnswer call) w) ≡ resume s frames (called_outside layout name written arguments h w)
-answered_asks s frames layout name ret.Unit c arguments h w call p e q = cc
-answered_asks s frames layout name (ret.Comp d) c arguments h w call p e q =
-    ap (λ (m : Made). resume s frames (Stops (NoAnswer m) w)) q
-    ∙ sym (ap (λ (l : List ℕ). resume s frames (and_then (back_from_call h (answered (ret.Comp d) (the_call name (map (observed layout) arguments)) l w))
-    (λ v h w. as_written (ret.Comp d) v h w))) e)
+-- where none is left it asks
+pub answered_asks : (s : Surroundings) (frames : List Frame) (end : ℕ) (written : Ret) (c : Comp) (call : Made) (h : Here) (w : World) →
+    written ≡ ret.Comp c → w.answers ≡ [] →
+    resume s frames (Stops (NoAnswer call) w) ≡ resume s frames (returned written h (answered_as false end written call w.answers w))
+answered_asks s frames end ret.Unit c call h w p e = cc
+answered_asks s frames end (ret.Comp d) c call h w p e =
+    sym (ap (λ (l : List ℕ). resume s frames (returned (ret.Comp d) h (answered (ret.Comp d) call l w))) e)
+
+-- a frame call takes two answers, or asks
+pub frame_asks : (s : Surroundings) (frames : List Frame) (end : ℕ) (written : Ret) (call : Made) (h : Here) (w : World) →
+    w.answers ≡ [] → resume s frames (Stops (NoAnswer call) w) ≡ resume s frames (returned written h (answered_as true end written call w.answers w))
+frame_asks s frames end written call h w e =
+    sym (ap (λ (l : List ℕ). resume s frames (returned written h (frame_answered end written call l w))) e)
+
+one_asks : (end : ℕ) (written : Ret) (call : Made) (a : ℕ) (w : World) → frame_answered end written call (a ∷ []) w ≡ Stops (NoAnswer call) w
+one_asks end written call zero w = refl
+one_asks end written call (suc n) w = refl
+
+pub frame_asks_one : (s : Surroundings) (frames : List Frame) (end : ℕ) (written : Ret) (call : Made) (h : Here) (w : World) (a : ℕ) (left : List ℕ) →
+    w.answers ≡ a ∷ left → left ≡ [] →
+    resume s frames (Stops (NoAnswer call) w) ≡ resume s frames (returned written h (answered_as true end written call w.answers w))
+frame_asks_one s frames end written call h w a left e none =
+    sym (ap (λ (l : List ℕ). resume s frames (returned written h (frame_answered end written call l w))) (e ∙ ap (λ l. a ∷ l) none)
+    ∙ ap (λ x. resume s frames (returned written h x)) (one_asks end written call a w))
+
+-- a first answer of 0 gives the second
+pub frame_gives : (end : ℕ) (written : Ret) (call : Made) (first second : ℕ) (answers : List ℕ) (h : Here) (w : World) → first ≡ 0 →
+    Gives (given_back written second) h (made call answers w)
+    ≡ returned written h (frame_answered end written call (first ∷ second ∷ answers) w)
+frame_gives end ret.Unit call zero second answers h w e = refl
+frame_gives end (ret.Comp c) call zero second answers h w e = refl
+frame_gives end written call (suc n) second answers h w e = absurd (omega arith)
+
+raise_returns : (b : Bool) (written : Ret) (v : Value) (kind : Kind) (h : Here) (w : World) →
+    cond b (Raises v h w) (Stops (NotProper kind) w)
+    ≡ returned written h (cond b (Raises v nobody w) (Stops (NotProper kind) w))
+raise_returns true written v kind h w = refl
+raise_returns false written v kind h w = refl
+
+-- another one raises it
+pub frame_raises : (end : ℕ) (written : Ret) (call : Made) (first second : ℕ) (answers : List ℕ) (h : Here) (w : World) → first ≢ 0 →
+    tested end ty.Val (Word second) (made call answers w) (Raises (Word second) h (made call answers w))
+    ≡ returned written h (frame_answered end written call (first ∷ second ∷ answers) w)
+frame_raises end written call zero second answers h w some = absurd (some refl)
+frame_raises end written call (suc n) second answers h w some =
+    raise_returns (fits end ty.Val (Word second)) written (Word second) (misfit ty.Val) h (made call answers w)
+
+-- the call has been made, and what it gives or raises stands
+pub frame_taken : (s : Surroundings) (frames : List Frame) (end : ℕ) (written : Ret) (call : Made) (h : Here) (w : World) (first second : ℕ)
+    (rest left : List ℕ) (calls : List Made) (now : World → Evaluation) → w.answers ≡ first ∷ rest → rest ≡ second ∷ left →
+    calls ≡ w.made ++ call ∷ [] →
+    now (made call left w) ≡ returned written h (frame_answered end written call (first ∷ second ∷ left) w) →
+    resume s frames (now (record w { made = calls; answers = left })) ≡ resume s frames (returned written h (answered_as true end written call w.answers w))
+frame_taken s frames end written call h w first second rest left calls now e f q is =
+    ap (λ (m : List Made). resume s frames (now (record w { made = m; answers = left }))) q
+    ∙ ap (resume s frames) is
+    ∙ sym (ap (λ (l : List ℕ). resume s frames (returned written h (frame_answered end written call l w))) (e ∙ ap (λ l. first ∷ l) f))
 
 -- ---- functions of the file
 
 -- the activation of a callee, and the frame that keeps its caller's
 pub activated_is : (s : Surroundings) (frames new : List Frame) (form : Bor Form) (tail : Bool) (kept : here.Here) (written : Ret) (f : Function)
-    (frame : ℕ) (arguments : List Value) (below taken : ℕ) (h inner : Here) (w world : World) →
+    (frame : ℕ) (arguments : List Value) (below : ℕ) (h inner : Here) (w world : World) →
     new ≡ frames ++ record { form = form; tail = tail; step = step.Return kept written } ∷ [] →
-    here_view kept ≡ h → below ≡ stack_below tail h → taken ≡ below + frame →
-    inner ≡ record { names = bound (map scoped_parameter (params_view (contents f.params))) arguments []; below = below; taken = taken } →
-    world ≡ deepened taken w →
+    here_view kept ≡ h → below ≡ stack_below tail h →
+    inner ≡ record { names = bound (map scoped_parameter (params_view (contents f.params))) arguments []; below = below; frame = frame; tries = 0 } →
+    world ≡ deepened (below + frame) w →
     resume s new (expression s f.body true inner world)
     ≡ resume s frames
     (and_then (back_from_call h (activated_held s frame (Some f) arguments (stack_below tail h) w)) (λ v h w. as_written written v h w))
-activated_is s frames new form tail kept written f frame arguments below taken h inner w world is-new is-kept is-below is-taken is-inner is-world =
-    let here : ℕ → ℕ → Here =
-    λ b t. record { names = bound (map scoped_parameter (params_view (contents f.params))) arguments []; below = b; taken = t } in
-    let body : ℕ → ℕ → Evaluation = λ b t. expression s f.body true (here b t) (deepened t w) in
-    let behind : Here → Evaluation → Evaluation = λ i e. and_then (back_from_call i e) (λ v h w. as_written written v h w) in
-    let one : expression s f.body true inner world ≡ body below taken =
-    ap (λ (i : Here). expression s f.body true i world) is-inner ∙ ap (λ (v : World). expression s f.body true (here below taken) v) is-world in
-    let two : body below taken ≡ body (stack_below tail h) (stack_below tail h + frame) =
-    ap (body below) is-taken ∙ ap (λ (b : ℕ). body b (b + frame)) is-below in
+activated_is s frames new form tail kept written f frame arguments below h inner w world is-new is-kept is-below is-inner is-world =
+    let here : ℕ → Here =
+    λ b. record { names = bound (map scoped_parameter (params_view (contents f.params))) arguments []; below = b; frame = frame; tries = 0 } in
+    let body : ℕ → Evaluation = λ b. expression s f.body true (here b) (deepened (b + frame) w) in
+    let one : expression s f.body true inner world ≡ body below =
+    ap (λ (i : Here). expression s f.body true i world) is-inner ∙ ap (λ (v : World). expression s f.body true (here below) v) is-world in
     pushed s frames new (record { form = form; tail = tail; step = step.Return kept written }) (expression s f.body true inner world)
-    (behind h (body (stack_below tail h) (stack_below tail h + frame))) is-new
-    (ap (λ (i : Here). behind i (expression s f.body true inner world)) is-kept ∙ ap (behind h) (one ∙ two))
+    (returned written h (body (stack_below tail h))) is-new
+    (ap (λ (i : Here). returned written i (expression s f.body true inner world)) is-kept ∙ ap (returned written h) (one ∙ ap body is-below))
 
 -- the first activation of a run
-pub first_stands : (s : Surroundings) (frames : List Frame) (f : Function) (frame taken : ℕ) (arguments : List Value) (here : Here) (world w : World) →
-    frames ≡ [] → taken ≡ frame →
-    here ≡ record { names = bound (map scoped_parameter (params_view (contents f.params))) arguments []; below = 0; taken = taken } →
-    world ≡ deepened taken w →
+pub first_stands : (s : Surroundings) (frames : List Frame) (f : Function) (frame : ℕ) (arguments : List Value) (here : Here) (world w : World) →
+    frames ≡ [] →
+    here ≡ record { names = bound (map scoped_parameter (params_view (contents f.params))) arguments []; below = 0; frame = frame; tries = 0 } →
+    world ≡ deepened frame w →
     resume s frames (expression s f.body true here world) ≡ activated_held s frame (Some f) arguments 0 w
-first_stands s frames f frame taken arguments here world w is-frames is-taken is-here is-world =
-    let at : ℕ → Here = λ t. record { names = bound (map scoped_parameter (params_view (contents f.params))) arguments []; below = 0; taken = t } in
-    let whole : taken ≡ 0 + frame = omega (arith, is-taken) in
+first_stands s frames f frame arguments here world w is-frames is-here is-world =
+    let at : Here = record { names = bound (map scoped_parameter (params_view (contents f.params))) arguments []; below = 0; frame = frame; tries = 0 } in
+    let whole : frame ≡ 0 + frame = omega arith in
     ap (λ (l : List Frame). resume s l (expression s f.body true here world)) is-frames
     ∙ ap (λ (i : Here). expression s f.body true i world) is-here
-    ∙ ap (λ (v : World). expression s f.body true (at taken) v) is-world
-    ∙ ap (λ (t : ℕ). expression s f.body true (at t) (deepened t w)) whole
+    ∙ ap (λ (v : World). expression s f.body true at v) is-world
+    ∙ ap (λ (t : ℕ). expression s f.body true at (deepened t w)) whole
 
 copied_is : {X : Type 0} (o : Option (Bor X)) → option_copied o ≡ option_map (λ x. x.now) o
 copied_is None = refl

@@ -17,7 +17,8 @@ use Rattle.cmm_tree.specs.declared.expr.Form.{Form}
 use Rattle.cmm_tree.specs.declared.expr.Form as form
 use Rattle.cmm_types.specs.Types.{Scoped}
 use Rattle.cmm_meaning.specs.State.{World, Here, back_in}
-use Rattle.cmm_meaning.specs.Evaluation.{NotProper, Evaluation, Gives, Raises, Stops, Surroundings, with_value, proper, tested, with_bound, back, Chosen, case_for, chosen}
+use Rattle.cmm_meaning.specs.Evaluation.{Body, NotProper, Evaluation, Gives, Raises, Stops, Surroundings, with_value, proper, tested, with_bound, back, chosen}
+use Rattle.cmm_meaning.specs.Choices.{Chosen, case_for}
 use Rattle.cmm_eval.specs.Held.{choices_held}
 use Rattle.cmm_eval.specs.Filled.{or_improper, expression, taken_by, left_of, right_of, joined_by, operated_by, scoped_binding, bindings_from, first_bound, handler_of, cases_ready, does, resume}
 use Rattle.cmm_eval.specs.declared.frame.Frame.{Frame}
@@ -39,10 +40,10 @@ if_ok_then P Q (Err e) f p = p
 
 -- a raise goes through all frames but those of a try and of a callee
 pub raise_passes : (s : Surroundings) (st : Step) (f : Form) (tail : Bool) (v : Value) (h : Here) (w : World) →
-    ((level taken : ℕ) → st ≡ step.Try level taken → ⊥) → ((here : here.Here) (written : Ret) → st ≡ step.Return here written → ⊥) →
+    ((level tries : ℕ) → st ≡ step.Try level tries → ⊥) → ((here : here.Here) (written : Ret) → st ≡ step.Return here written → ⊥) →
     does s st f tail (Raises v h w) ≡ Raises v h w
 raise_passes s (step.Typed type) f tail v h w p q = refl
-raise_passes s (step.Scope level taken) f tail v h w p q = refl
+raise_passes s (step.Scope level tries) f tail v h w p q = refl
 raise_passes s step.Operand f tail v h w p q = refl
 raise_passes s (step.First true) f tail v h w p q = refl
 raise_passes s (step.First false) f tail v h w p q = refl
@@ -50,14 +51,14 @@ raise_passes s (step.Second first true) f tail v h w p q = refl
 raise_passes s (step.Second first false) f tail v h w p q = refl
 raise_passes s (step.Elements rest) f tail v h w p q = refl
 raise_passes s (step.Bindings bindings) f tail v h w p q = refl
-raise_passes s (step.Bound level taken) f tail v h w p q = refl
+raise_passes s (step.Bound level tries) f tail v h w p q = refl
 raise_passes s (step.Waiting rest values) f tail v h w p q = refl
 raise_passes s (step.Callee waited) f tail v h w p q = refl
 raise_passes s (step.Filling callee rest waited values) f tail v h w p q = refl
 raise_passes s (step.LateCallee values) f tail v h w p q = refl
-raise_passes s (step.Catch within zero level taken) f tail v h w p q = refl
-raise_passes s (step.Catch within (suc turns) level taken) f tail v h w p q = refl
-raise_passes s (step.Try level taken) f tail v h w p q = absurd (p level taken refl)
+raise_passes s (step.Catch within zero level tries) f tail v h w p q = refl
+raise_passes s (step.Catch within (suc turns) level tries) f tail v h w p q = refl
+raise_passes s (step.Try level tries) f tail v h w p q = absurd (p level tries refl)
 raise_passes s (step.Return here written) f tail v h w p q = absurd (q here written refl)
 
 -- the name that a handler of a try binds
@@ -65,23 +66,23 @@ abbrev pub raised : List ℕ → Scoped
 raised name = record { name = name; type = ty.Val; mutable = false }
 
 -- a try handles a raise
-pub try_handles : (s : Surroundings) (frames new : List Frame) (form : Bor Form) (tail : Bool) (level taken length' : ℕ) (v : Value) (h inner here : Here) (w : World)
+pub try_handles : (s : Surroundings) (frames new : List Frame) (form : Bor Form) (tail : Bool) (level tries length' : ℕ) (v : Value) (h inner here : Here) (w : World)
     (name : List ℕ) (handler expr : Expr) →
-    new ≡ frames ++ record { form = form; tail = tail; step = step.Scope length' taken } ∷ [] →
-    inner ≡ back_in level taken h → length' ≡ length inner.names → here ≡ with_bound (raised name ∷ []) (v ∷ []) inner → expr ≡ handler →
+    new ≡ frames ++ record { form = form; tail = tail; step = step.Scope length' tries } ∷ [] →
+    inner ≡ back_in level tries h → length' ≡ length inner.names → here ≡ with_bound (raised name ∷ []) (v ∷ []) inner → expr ≡ handler →
     ((h : Here) (w : World) →
-    handler_of s form.now tail v h w ≡ back (length h.names) h.taken (expression s handler tail (with_bound (raised name ∷ []) (v ∷ []) h) w)) →
-    resume s new (expression s expr tail here w) ≡ resume s frames (does s (step.Try level taken) form.now tail (Raises v h w))
-try_handles s frames new form tail level taken length' v h inner here w name handler expr is-new is-inner is-length is-here is-expr is-handler =
+    handler_of s form.now tail v h w ≡ back (length h.names) h.tries (expression s handler tail (with_bound (raised name ∷ []) (v ∷ []) h) w)) →
+    resume s new (expression s expr tail here w) ≡ resume s frames (does s (step.Try level tries) form.now tail (Raises v h w))
+try_handles s frames new form tail level tries length' v h inner here w name handler expr is-new is-inner is-length is-here is-expr is-handler =
     let body : Here → Evaluation = λ i. expression s handler tail i w in
     let bind : Here → Here = λ i. with_bound (raised name ∷ []) (v ∷ []) i in
-    pushed s frames new (record { form = form; tail = tail; step = step.Scope length' taken }) (expression s expr tail here w)
-    (handler_of s form.now tail v (back_in level taken h) w) is-new
-    (ap (λ (e : Expr). back length' taken (expression s e tail here w)) is-expr
-    ∙ ap (λ (i : Here). back length' taken (body i)) is-here
-    ∙ ap (λ (n : ℕ). back n taken (body (bind inner))) is-length
-    ∙ ap (λ (i : Here). back (length i.names) taken (body (bind i))) is-inner
-    ∙ sym (is-handler (back_in level taken h) w))
+    pushed s frames new (record { form = form; tail = tail; step = step.Scope length' tries }) (expression s expr tail here w)
+    (handler_of s form.now tail v (back_in level tries h) w) is-new
+    (ap (λ (e : Expr). back length' tries (expression s e tail here w)) is-expr
+    ∙ ap (λ (i : Here). back length' tries (body i)) is-here
+    ∙ ap (λ (n : ℕ). back n tries (body (bind inner))) is-length
+    ∙ ap (λ (i : Here). back (length i.names) tries (body (bind i))) is-inner
+    ∙ sym (is-handler (back_in level tries h) w))
 
 -- the second of two operands is evaluated
 pub second_begins : (s : Surroundings) (f : Form) (left_first tail : Bool) (first : Value) (left right expr : Expr) →
@@ -118,10 +119,10 @@ pub switch_chooses : (s : Surroundings) (size_at size : ℕ) (selector : Box Exp
     taken_by s (form.Switch size_at size selector cases) tail v h w ≡ chosen (case_for (cases_ready s tail cases.items) k) h w
 switch_chooses s size_at size selector cases tail v h w k e lt =
     let f : Form = form.Switch size_at size selector cases in
-    let choose : List Chosen → ℕ → Evaluation = λ l n. cond (nat_lt n size) (chosen (case_for l n) h w) (Stops (NotProper SwitchRange) w) in
+    let choose : List (Chosen Body) → ℕ → Evaluation = λ l n. cond (nat_lt n size) (chosen (case_for l n) h w) (Stops (NotProper SwitchRange) w) in
     ap (λ (r : Result ℕ Kind). proper r w (choose (choices_held s (cases_in f).1 tail))) e
     ∙ ap (λ (b : Bool). cond b (chosen (case_for (choices_held s (cases_in f).1 tail) k) h w) (Stops (NotProper SwitchRange) w)) lt
-    ∙ ap (λ (l : List Chosen). chosen (case_for l k) h w)
+    ∙ ap (λ (l : List (Chosen Body)). chosen (case_for l k) h w)
     (choices_is s (cases_in f).0 (cases_in f).1 tail ∙ ap (cases_ready s tail) (form.items_hidden-the_row-Case-2 cases))
 
 -- ---- calls

@@ -21,10 +21,10 @@ use Rattle.cmm_data.specs.Placement.{data_end}
 use Rattle.cmm_types.specs.Types.{with_parameters}
 use Rattle.cmm_types.specs.Typing.{IsFunctionAnnotated, AreItemsAnnotated}
 use Rattle.cmm_meaning.specs.Layout.{Layout}
-use Rattle.cmm_meaning.specs.State.{World, Here, bound, deepened}
-use Rattle.cmm_meaning.specs.Evaluation.{NotProper, Evaluation, Stops, Surroundings, and_then, fit_parameters, back_from_call, as_written, stack_below, called_with, applied, scoped_parameter}
+use Rattle.cmm_meaning.specs.State.{World, Here, Called, bound, deepened}
+use Rattle.cmm_meaning.specs.Evaluation.{NotProper, Evaluation, Stops, Surroundings, and_then, fit_parameters, back_from_call, as_written, stack_below, call_from, called_with, applied, scoped_parameter}
 use Rattle.cmm_meaning.specs.Run.{activated, first_world, finished, cmm_run}
-use Rattle.cmm_fuel.proofs.Depth.{whole_call, whole_run}
+use Rattle.meaning_fuel.proofs.Depth.{whole_call, whole_run}
 use Rattle.cmm_eval.specs.Annotated.{IsTyped, FitsFunction, FitsEntry}
 use Rattle.cmm_eval.specs.Stands.{functions_in, activated_held, whole}
 use Rattle.cmm_eval.proofs.Same.{scope_bound}
@@ -82,7 +82,7 @@ pub activated_same : (s : Surroundings) (frame : ℕ) (f : Function) → IsFunct
     activated_held s frame (Some f) arguments below w ≡ activated s frame (Some (function_view f)) arguments below w
 activated_same s frame f t end arguments e below w =
     let params : List Parameter = params_view (contents f.params) in
-    let here : Here = record { names = bound (map scoped_parameter params) arguments []; below = below; taken = below + frame } in
+    let here : Here = record { names = bound (map scoped_parameter params) arguments []; below = below; frame = frame; tries = 0 } in
     let as_many : length params ≡ length arguments =
     sym (length-map params (λ (p : Parameter). p.comp)) ∙ fit_length end (comps_of (function_view f)) arguments e in
     let same = same_held s (with_parameters params []) f.body.form t.below f.body.at f.body.ty t.type true here (deepened (below + frame) w)
@@ -92,16 +92,18 @@ activated_same s frame f t end arguments e below w =
 -- ---- calls
 
 -- a call of a function of the file on arguments that fit it
-pub whole_call_held : (file : File) (layout : Layout) → IsTyped file → (k : ℕ) (f : Function) →
-    slice_get (functions_in (contents file.items)) k ≡ Some f → (end : ℕ) (arguments : List Value) →
-    fit_parameters end (comps_of (function_view f)) arguments ≡ true → (below : ℕ) (w : World) →
-    (whole file layout).call k arguments below w ≡ activated_held (whole file layout) (slice_index layout.frames k) (Some f) arguments below w
-whole_call_held file layout t k f e end arguments fit below w =
+pub whole_call_held : (file : File) (layout : Layout) → IsTyped file → (call : Called) (f : Function) →
+    slice_get (functions_in (contents file.items)) call.function ≡ Some f → (end : ℕ) →
+    fit_parameters end (comps_of (function_view f)) call.arguments ≡ true → (w : World) →
+    (whole file layout).call call w
+    ≡ activated_held (whole file layout) (slice_index layout.frames call.function) (Some f) call.arguments call.below w
+whole_call_held file layout t call f e end fit w =
     let s : Surroundings = whole file layout in
+    let k : ℕ = call.function in
     let frame : ℕ = slice_index layout.frames k in
-    whole_call (file_view file) layout k arguments below w
-    ∙ ap (λ (o : Option FunctionTree). activated s frame o arguments below w) (function_seen file k ∙ ap (option_map function_view) e)
-    ∙ sym (activated_same s frame f (function_typed (contents file.items) t k f e) end arguments fit below w)
+    whole_call (file_view file) layout call w
+    ∙ ap (λ (o : Option FunctionTree). activated s frame o call.arguments call.below w) (function_seen file k ∙ ap (option_map function_view) e)
+    ∙ sym (activated_same s frame f (function_typed (contents file.items) t k f e) end call.arguments fit call.below w)
 
 -- a call of this function by the types that its nodes hold
 abbrev pub called_held : Surroundings → ℕ → Option Function → List Value → Ret → Bool → Here → World → Evaluation
@@ -125,9 +127,9 @@ called_option file layout t k (Some f) e arguments result tail h w =
     let frame : ℕ = slice_index layout.frames k in
     let written : Evaluation → Evaluation = λ x. and_then (back_from_call h x) (λ v h w. as_written result v h w) in
     cond_where (fit_parameters s.end (comps_of (function_view f)) arguments)
-    (written (s.call k arguments (stack_below tail h) w)) (written (activated_held s frame (Some f) arguments (stack_below tail h) w))
+    (written (s.call (call_from k arguments tail h) w)) (written (activated_held s frame (Some f) arguments (stack_below tail h) w))
     (Stops (NotProper BadCall) w)
-    (λ fit. ap written (whole_call_held file layout t k f e s.end arguments fit (stack_below tail h) w))
+    (λ fit. ap written (whole_call_held file layout t (call_from k arguments tail h) f e s.end fit w))
 
 -- a call of the function of a number, whether it is there and the arguments fit it or not
 pub applied_held : (file : File) (layout : Layout) → IsTyped file → (k : ℕ) (arguments : List Value) (result : Ret) (tail : Bool)

@@ -1,10 +1,12 @@
 -- The evaluation by the types that nodes hold is that of the definition, where each node holds the type of its
 -- scope.
-use Rattle.std.proofs.Common.{◌≡◌, ◌∙◌, ℕ, suc, ◌+◌, Bool, false, List, [], ◌∷◌, Option, Some, None, length, refl, ap, subst, sym}
+use Rattle.std.proofs.Common.{◌≡◌, ◌∙◌, ℕ, suc, Bool, false, List, [], ◌∷◌, Option, Some, None, length, refl, ap, subst, sym}
 use Rattle.std.specs.Prelude.{option_map, nat_lt}
 use Rattle.bs_words.specs.Memory.{sizes, loaded, stored, allocated, next_block}
 use Rattle.bs_words.specs.Operators.{apply, condition_of, word_in}
 use Rattle.bs_words.specs.declared.values.Value.TheVariants as value
+use Rattle.bs_words.specs.declared.types.Comp.{Comp}
+use Rattle.bs_words.specs.declared.types.Ret.{Ret}
 use Rattle.bs_words.specs.declared.types.Ty.{Ty}
 use Rattle.bs_words.specs.declared.types.Ty.TheVariants as ty
 use Rattle.bs_words.specs.declared.values.Value.{Value}
@@ -16,11 +18,32 @@ use Rattle.cmm_tree.specs.declared.expr.Form as form
 use Rattle.cmm_types.specs.Annotated.{PartsTyped, RowTyped, BindingsTyped, CasesTyped, HandlersTyped}
 use Rattle.cmm_types.specs.Light.{is_light_address}
 use Rattle.cmm_types.specs.Types.{Scoped, type_of, type_named, type_bound, with_bindings, with_parameters}
-use Rattle.cmm_meaning.specs.State.{World, Here, scope, value_of, assigned, deepened}
-use Rattle.cmm_meaning.specs.Evaluation.{NotProper, Surroundings, tested, is_left_first, bound_error, rest_of, first_of, with_bound, evaluated, waiting, filled, entering, in_order, choices, readied}
-use Rattle.cmm_eval.specs.Held.{held, waiting_held, filled_held, bindings_held, in_order_held, choices_held, readied_held}
+use Rattle.cmm_meaning.specs.State.{World, Here, taken, within_try, scope, value_of, assigned, deepened}
+use Rattle.cmm_meaning.specs.Evaluation.{NotProper, Surroundings, tested, is_left_first, bound_error, rest_of, first_of, with_bound, comp_of_argument, comps_of_arguments, row_of_call, back_from_call, as_written, and_then, evaluated, waiting, filled, entering, in_order, choices, readied}
+use Rattle.cmm_eval.specs.Held.{comps_held, row_held, held, waiting_held, filled_held, bindings_held, in_order_held, choices_held, readied_held}
 use Rattle.cmm_eval.proofs.Same.{Same, bound_as, same_node, same_then, same_widen, same_value, same_cond, same_both, same_unless, same_now, same_gives, same_raises, same_exits, same_stops, same_looked, same_tested, same_proper, same_back, same_written, same_applied, level_of, scope_assigned, within_bindings}
 use Rattle.cmm_eval.proofs.HeldChosen.{AllChosenSame, AllReadySame, same_case, same_caught, same_tried}
+
+-- the types that arguments hold are those of the scope
+same_comps : {m : _} (names : List Scoped) (row : form.Row_of-Expr m) → RowTyped names row → comps_held row ≡ comps_of_arguments names (row_view row)
+same_comps names form.end_of-Expr t = refl
+same_comps names (form.more_of-Expr at type e rest) t =
+    ap (λ c. c ∷ comps_held rest) (ap comp_of_argument t.0.type)
+    ∙ ap (λ l. comp_of_argument (type_of names (form_view at e)) ∷ l) (same_comps names rest t.1)
+
+-- an external call
+same_outside : {m : _} (s : Surroundings) (names : List Scoped) (name : List ℕ) (row : form.Row_of-Expr m) → RowTyped names row →
+    (result : Ret) (frame : Bool) (values : List Value) (h : Here) (w : World) → scope h ≡ names →
+    Same names names
+    (and_then (back_from_call h (s.external (row_held name row result) frame values w)) (λ v h w. as_written result v h w))
+    (and_then (back_from_call h (s.external (row_of_call (scope h) name (row_view row) result) frame values w)) (λ v h w. as_written result v h w))
+same_outside s names name row t result frame values h w e =
+    let P : List Comp → Type 0 =
+    λ params. Same names names
+    (and_then (back_from_call h (s.external (row_held name row result) frame values w)) (λ v h w. as_written result v h w))
+    (and_then (back_from_call h (s.external (record { name = name; params = params; result = result }) frame values w)) (λ v h w. as_written result v h w)) in
+    subst P (same_comps names row t ∙ ap (λ n. comps_of_arguments n (row_view row)) (sym e))
+    (same_written result h (s.external (row_held name row result) frame values w) e)
 
 mutual
   pub same_held : (s : Surroundings) (names : List Scoped) (f : Form) → PartsTyped names f → (at : ℕ) (type : Ty) →
@@ -45,7 +68,7 @@ mutual
   same_held s names (form.Let' shape bindings p body_at body_type body) t at type due tail h w e =
       same_node s names (form_view at (form.Let' shape bindings p body_at body_type body)) type h w due e (λ w.
       same_then (same_bindings s names bindings t.0 h w e) (λ _ inner w k.
-      same_back (length h.names) h.taken (level_of names h e) (within_bindings names (bindings_view bindings))
+      same_back (length h.names) h.tries (level_of names h e) (within_bindings names (bindings_view bindings))
       (same_held s (with_bindings names (bindings_view bindings)) body t.1.below body_at body_type t.1.type tail inner w k)))
   same_held s names (form.Assign' name_at name p value_at value_type value) t at type due tail h w e =
       same_node s names (form_view at (form.Assign' name_at name p value_at value_type value)) type h w due e (λ w.
@@ -82,11 +105,11 @@ mutual
       same_then (same_filled s names arguments t.1 before h w e) (λ values h w e.
       same_now f h w e (λ h w e. same_held s names callee t.0.below callee_at callee_type t.0.type false h w e) (λ f h w e.
       same_applied s f values result tail h w e)))))
-  same_held s names (form.Extcall' name shape arguments result result_at) t at type due tail h w e =
-      same_node s names (form_view at (form.Extcall' name shape arguments result result_at)) type h w due e (λ w.
+  same_held s names (form.Extcall' frame name shape arguments result result_at) t at type due tail h w e =
+      same_node s names (form_view at (form.Extcall' frame name shape arguments result result_at)) type h w due e (λ w.
       same_then (same_waiting s names arguments t h w e) (λ before h w e.
       same_then (same_filled s names arguments t before h w e) (λ values h w e.
-      same_written result h (s.external name result values w) e)))
+      same_outside s names name arguments t result frame values h w e)))
   same_held s names (form.Checkbound' p bound_at bound_type bound q index_at index_type index) t at type due tail h w e =
       same_node s names (form_view at (form.Checkbound' p bound_at bound_type bound q index_at index_type index)) type h w due e (λ w.
       same_both (is_left_first (scope h) (form_view bound_at bound) (form_view index_at index)) h w e
@@ -120,7 +143,7 @@ mutual
   same_held s names (form.Catch' p body_at body_type body shape handlers) t at type due tail h w e =
       same_node s names (form_view at (form.Catch' p body_at body_type body shape handlers)) type h w due e (λ w.
       same_caught names s.end (suc w.left) false (readied_held s handlers tail) (readied s (handlers_view handlers) tail)
-      (same_readied s names handlers t.1 tail) (length h.names) h.taken (level_of names h e) _ _
+      (same_readied s names handlers t.1 tail) (length h.names) h.tries (level_of names h e) _ _
       (same_held s names body t.0.below body_at body_type t.0.type tail h w e))
   same_held s names (form.Exit' label_at label shape arguments) t at type due tail h w e =
       same_node s names (form_view at (form.Exit' label_at label shape arguments)) type h w due e (λ w.
@@ -130,9 +153,9 @@ mutual
   same_held s names (form.Try' p body_at body_type body name_at name q handler_at handler_type handler) t at type due tail h w e =
       same_node s names (form_view at (form.Try' p body_at body_type body name_at name q handler_at handler_type handler)) type h w due e (λ w.
       let raised : Scoped = record { name = name; type = ty.Val; mutable = false } in
-      same_tried names _ _ (length h.names) h.taken (level_of names h e) _ _
-      (same_held s names body t.0.below body_at body_type t.0.type false (record h { taken = h.taken + 16 }) (deepened (h.taken + 16) w) e)
-      (λ v h w e. same_back (length h.names) h.taken (level_of names h e) (record { extra = raised ∷ []; is = refl })
+      same_tried names _ _ (length h.names) h.tries (level_of names h e) _ _
+      (same_held s names body t.0.below body_at body_type t.0.type false (within_try h) (deepened (taken (within_try h)) w) e)
+      (λ v h w e. same_back (length h.names) h.tries (level_of names h e) (record { extra = raised ∷ []; is = refl })
       (same_held s (raised ∷ names) handler t.1.below handler_at handler_type t.1.type tail (with_bound (raised ∷ []) (v ∷ []) h) w
       (ap (λ l. raised ∷ l) e))))
 

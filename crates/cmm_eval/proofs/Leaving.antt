@@ -7,7 +7,8 @@ use Rattle.cmm_tree.specs.View.{params_view}
 use Rattle.cmm_tree.specs.declared.expr.Form.{Form}
 use Rattle.cmm_tree.specs.declared.expr.Handler.{Handler}
 use Rattle.cmm_meaning.specs.State.{World, Here, back_in}
-use Rattle.cmm_meaning.specs.Evaluation.{NotProper, Stop, Evaluation, Exits, Stops, Surroundings, Ready, ready_for, entered, scoped_parameter, with_bound, back, handled, caught}
+use Rattle.cmm_meaning.specs.Evaluation.{Body, NotProper, Stop, Evaluation, Exits, Stops, Surroundings, entered, scoped_parameter, with_bound, back, handled, caught}
+use Rattle.cmm_meaning.specs.Choices.{Ready, ready_for}
 use Rattle.cmm_eval.specs.Filled.{expression, handlers_of, handler_ready, does}
 use Rattle.cmm_eval.specs.declared.frame.Step.TheVariants as step
 
@@ -15,51 +16,51 @@ pub none_of : {A : Type 0} (o : Option A) → ((a : A) → o ≡ Some a → ⊥)
 none_of None h = refl
 none_of (Some a) h = absurd (h a refl)
 
-caught_stops : (end turns : ℕ) (within : Bool) (handlers : List Ready) (level taken : ℕ) (why : Stop) (w : World) →
-    caught end turns within handlers level taken (Stops why w) ≡ Stops why w
-caught_stops end zero within handlers level taken why w = refl
-caught_stops end (suc turns) within handlers level taken why w = refl
+caught_stops : (end turns : ℕ) (within : Bool) (handlers : List (Ready Body)) (level tries : ℕ) (why : Stop) (w : World) →
+    caught end turns within handlers level tries (Stops why w) ≡ Stops why w
+caught_stops end zero within handlers level tries why w = refl
+caught_stops end (suc turns) within handlers level tries why w = refl
 
 -- no exit is handled any more
-pub no_turn : (s : Surroundings) (f : Form) (tail within : Bool) (turns level taken : ℕ) (label : LabelTree) (values : List Value) (h : Here) (w : World) →
-    turns ≡ 0 → Exits label values h w ≡ does s (step.Catch within turns level taken) f tail (Exits label values h w)
-no_turn s f tail within zero level taken label values h w e = refl
-no_turn s f tail within (suc turns) level taken label values h w e = absurd (omega arith)
+pub no_turn : (s : Surroundings) (f : Form) (tail within : Bool) (turns level tries : ℕ) (label : LabelTree) (values : List Value) (h : Here) (w : World) →
+    turns ≡ 0 → Exits label values h w ≡ does s (step.Catch within turns level tries) f tail (Exits label values h w)
+no_turn s f tail within zero level tries label values h w e = refl
+no_turn s f tail within (suc turns) level tries label values h w e = absurd (omega arith)
 
-leaves_by : (s : Surroundings) (f : Form) (tail within : Bool) (turns level taken : ℕ) (label : LabelTree) (values : List Value) (h : Here) (w : World) →
-    turns ≢ 0 → (o : Option Ready) → ready_for within label (handlers_of s f tail) ≡ o →
-    does s (step.Catch within turns level taken) f tail (Exits label values h w)
-    ≡ handled s.end o label values level taken h w (caught s.end (turns - 1) true (handlers_of s f tail) level taken)
-leaves_by s f tail within zero level taken label values h w some o e = absurd (some refl)
-leaves_by s f tail within (suc n) level taken label values h w some o e =
+leaves_by : (s : Surroundings) (f : Form) (tail within : Bool) (turns level tries : ℕ) (label : LabelTree) (values : List Value) (h : Here) (w : World) →
+    turns ≢ 0 → (o : Option (Ready Body)) → ready_for within label (handlers_of s f tail) ≡ o →
+    does s (step.Catch within turns level tries) f tail (Exits label values h w)
+    ≡ handled s.end o label values level tries h w (caught s.end (turns - 1) true (handlers_of s f tail) level tries)
+leaves_by s f tail within zero level tries label values h w some o e = absurd (some refl)
+leaves_by s f tail within (suc n) level tries label values h w some o e =
     let less : n ≡ suc n - 1 = omega arith in
-    ap (λ o. handled s.end o label values level taken h w (caught s.end n true (handlers_of s f tail) level taken)) e
-    ∙ ap (λ k. handled s.end o label values level taken h w (caught s.end k true (handlers_of s f tail) level taken)) less
+    ap (λ o. handled s.end o label values level tries h w (caught s.end n true (handlers_of s f tail) level tries)) e
+    ∙ ap (λ k. handled s.end o label values level tries h w (caught s.end k true (handlers_of s f tail) level tries)) less
 
-module _ (s : Surroundings) (f : Form) (tail within : Bool) (turns level taken : ℕ) (label : LabelTree) (values : List Value) (h : Here) (w : World)
+module _ (s : Surroundings) (f : Form) (tail within : Bool) (turns level tries : ℕ) (label : LabelTree) (values : List Value) (h : Here) (w : World)
     (some : turns ≢ 0) where
   -- the label has no handler here
   pub no_handler : ready_for within label (handlers_of s f tail) ≡ None →
-      Exits label values h w ≡ does s (step.Catch within turns level taken) f tail (Exits label values h w)
-  no_handler e = sym (leaves_by s f tail within turns level taken label values h w some None e)
+      Exits label values h w ≡ does s (step.Catch within turns level tries) f tail (Exits label values h w)
+  no_handler e = sym (leaves_by s f tail within turns level tries label values h w some None e)
 
   -- a value does not fit the handler's parameter
   pub misfits : (x : Handler) (kind : Kind) → ready_for within label (handlers_of s f tail) ≡ Some (handler_ready s tail x) →
       ((go : Evaluation) → Stops (NotProper kind) w ≡ entered s.end (params_view x.params.items) values w go) →
-      Stops (NotProper kind) w ≡ does s (step.Catch within turns level taken) f tail (Exits label values h w)
+      Stops (NotProper kind) w ≡ does s (step.Catch within turns level tries) f tail (Exits label values h w)
   misfits x kind e enters =
-      let again : Evaluation → Evaluation = caught s.end (turns - 1) true (handlers_of s f tail) level taken in
-      sym (leaves_by s f tail within turns level taken label values h w some (Some (handler_ready s tail x)) e
-      ∙ ap again (sym (enters (back level taken (expression s x.body tail (with_bound (map scoped_parameter (params_view x.params.items)) values (back_in level taken h)) w))))
-      ∙ caught_stops s.end (turns - 1) true (handlers_of s f tail) level taken (NotProper kind) w)
+      let again : Evaluation → Evaluation = caught s.end (turns - 1) true (handlers_of s f tail) level tries in
+      sym (leaves_by s f tail within turns level tries label values h w some (Some (handler_ready s tail x)) e
+      ∙ ap again (sym (enters (back level tries (expression s x.body tail (with_bound (map scoped_parameter (params_view x.params.items)) values (back_in level tries h)) w))))
+      ∙ caught_stops s.end (turns - 1) true (handlers_of s f tail) level tries (NotProper kind) w)
 
   -- the handler begins
   pub handler_begins : (x : Handler) → ready_for within label (handlers_of s f tail) ≡ Some (handler_ready s tail x) →
       ((go : Evaluation) → go ≡ entered s.end (params_view x.params.items) values w go) →
-      caught s.end (turns - 1) true (handlers_of s f tail) level taken
-      (back level taken (expression s x.body tail (with_bound (map scoped_parameter (params_view x.params.items)) values (back_in level taken h)) w))
-      ≡ does s (step.Catch within turns level taken) f tail (Exits label values h w)
+      caught s.end (turns - 1) true (handlers_of s f tail) level tries
+      (back level tries (expression s x.body tail (with_bound (map scoped_parameter (params_view x.params.items)) values (back_in level tries h)) w))
+      ≡ does s (step.Catch within turns level tries) f tail (Exits label values h w)
   handler_begins x e enters =
-      let again : Evaluation → Evaluation = caught s.end (turns - 1) true (handlers_of s f tail) level taken in
-      ap again (enters (back level taken (expression s x.body tail (with_bound (map scoped_parameter (params_view x.params.items)) values (back_in level taken h)) w)))
-      ∙ sym (leaves_by s f tail within turns level taken label values h w some (Some (handler_ready s tail x)) e)
+      let again : Evaluation → Evaluation = caught s.end (turns - 1) true (handlers_of s f tail) level tries in
+      ap again (enters (back level tries (expression s x.body tail (with_bound (map scoped_parameter (params_view x.params.items)) values (back_in level tries h)) w)))
+      ∙ sym (leaves_by s f tail within turns level tries label values h w some (Some (handler_ready s tail x)) e)

@@ -13,7 +13,8 @@ use Rattle.cmm_tree.specs.declared.expr.Handler.{Handler}
 use Rattle.cmm_tree.specs.declared.expr.Form.{Form}
 use Rattle.cmm_tree.specs.declared.expr.Form as form
 use Rattle.cmm_meaning.specs.State.{World, Here}
-use Rattle.cmm_meaning.specs.Evaluation.{Evaluated, Evaluation, Gives, Exits, Raises, Stops, Surroundings, and_then, with_value, tested, with_bound, Chosen, is_named, last_naming, first_case, ready_for}
+use Rattle.cmm_meaning.specs.Evaluation.{Body, Evaluated, Evaluation, Gives, Exits, Raises, Stops, Surroundings, and_then, with_value, tested, with_bound}
+use Rattle.cmm_meaning.specs.Choices.{Chosen, is_named, last_naming, first_case, ready_for}
 use Rattle.cmm_eval.specs.Held.{inside, in_order_held, bindings_held, choices_held, readied_held}
 use Rattle.cmm_eval.specs.Filled.{expression, elements_from, scoped_binding, bindings_from, first_bound, body_of, case_ready, cases_ready, handler_ready, handlers_ready, handlers_of}
 
@@ -83,9 +84,9 @@ bindings_is s n (form.more_of-Binding at name declared value_at type f rest) h w
 -- the bindings of a let, and then its body
 pub let_is : (s : Surroundings) (v : Vec Binding Global) (b : Box Expr Global) (tail : Bool) (h : Here) (w : World) →
     inside s (form.Let v b) tail h w
-    ≡ and_then (bindings_from s v.items h w) (λ _ inner w. body_of s (form.Let v b) tail (length h.names) h.taken inner w)
+    ≡ and_then (bindings_from s v.items h w) (λ _ inner w. body_of s (form.Let v b) tail (length h.names) h.tries inner w)
 let_is s v b tail h w =
-    ap (λ e. and_then e (λ _ inner w. body_of s (form.Let v b) tail (length h.names) h.taken inner w))
+    ap (λ e. and_then e (λ _ inner w. body_of s (form.Let v b) tail (length h.names) h.tries inner w))
     (bindings_is s (bindings_in (form.Let v b)).0 (bindings_in (form.Let v b)).1 h w ∙ ap (λ l. bindings_from s l h w) (form.items_hidden-the_row-Binding-1 v))
 
 -- the value of the first binding, and then the others
@@ -115,12 +116,12 @@ pub first_is : (s : Surroundings) (tail : Bool) (xs : List Case) → option_map 
 first_is s tail [] = refl
 first_is s tail (x ∷ xs) = refl
 
-pub naming_turn : (s : Surroundings) (tail : Bool) (xs : List Case) (i : ℕ) (x : Case) (number : ℕ) (so_far : Option Chosen) → i < length xs → x ≡ get_or xs i x →
+pub naming_turn : (s : Surroundings) (tail : Bool) (xs : List Case) (i : ℕ) (x : Case) (number : ℕ) (so_far : Option (Chosen Body)) → i < length xs → x ≡ get_or xs i x →
     last_naming (cases_ready s tail (drop i xs)) number so_far
     ≡ last_naming (cases_ready s tail (drop (i + 1) xs)) number (cond (is_named (map index_view x.indexes.items) number) (Some (case_ready s tail x)) so_far)
 naming_turn s tail xs i x number so_far lt this = ap (λ l. last_naming (cases_ready s tail l) number so_far) (from_here xs i x lt this)
 
-pub naming_end : (s : Surroundings) (tail : Bool) (xs : List Case) (i number : ℕ) (so_far : Option Chosen) → length xs ≤ i →
+pub naming_end : (s : Surroundings) (tail : Bool) (xs : List Case) (i number : ℕ) (so_far : Option (Chosen Body)) → length xs ≤ i →
     last_naming (cases_ready s tail (drop i xs)) number so_far ≡ so_far
 naming_end s tail xs i number so_far le = ap (λ l. last_naming (cases_ready s tail l) number so_far) (drop_all i xs le)
 

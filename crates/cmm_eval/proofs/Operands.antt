@@ -209,8 +209,8 @@ row_waits s (form.App' p at type callee shape arguments result result_at) tail h
     (λ before h w long. light_alike (is_light_address (scope h) (form_view at callee)) (held s type callee false) h w
     (λ c h w. fills_in s f tail c (reverse (form.items-the_row-Expr _ arguments)) (reverse before) [] h w) (λ c h w. called c before h w)
     (λ c h w. rest_row s f tail c _ arguments before h w long))
-row_waits s (form.Extcall' name shape arguments result result_at) tail h w e =
-    plain_row s (form.Extcall' name shape arguments result result_at) tail _ arguments h w (λ before h w. refl)
+row_waits s (form.Extcall' frame name shape arguments result result_at) tail h w e =
+    plain_row s (form.Extcall' frame name shape arguments result result_at) tail _ arguments h w (λ before h w. refl)
 row_waits s (form.Checkbound' p bound_at bound_type bound q index_at index_type index) tail h w e = cc
 row_waits s (form.Raise' p at type value) tail h w e = cc
 row_waits s (form.Seq' shape elements) tail h w e = cc

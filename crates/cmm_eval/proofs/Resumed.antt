@@ -18,7 +18,7 @@ resume_push s (g ∷ frames) f e = ap (fills s g) (resume_push s frames f e)
 
 pub does_stops : (s : Surroundings) (st : Step) (f : Form) (tail : Bool) (why : Stop) (w : World) → does s st f tail (Stops why w) ≡ Stops why w
 does_stops s (step.Typed type) f tail why w = refl
-does_stops s (step.Scope level taken) f tail why w = refl
+does_stops s (step.Scope level tries) f tail why w = refl
 does_stops s step.Operand f tail why w = refl
 does_stops s (step.First true) f tail why w = refl
 does_stops s (step.First false) f tail why w = refl
@@ -26,14 +26,14 @@ does_stops s (step.Second first true) f tail why w = refl
 does_stops s (step.Second first false) f tail why w = refl
 does_stops s (step.Elements rest) f tail why w = refl
 does_stops s (step.Bindings bindings) f tail why w = refl
-does_stops s (step.Bound level taken) f tail why w = refl
+does_stops s (step.Bound level tries) f tail why w = refl
 does_stops s (step.Waiting rest values) f tail why w = refl
 does_stops s (step.Callee waited) f tail why w = refl
 does_stops s (step.Filling callee rest waited values) f tail why w = refl
 does_stops s (step.LateCallee values) f tail why w = refl
-does_stops s (step.Catch within zero level taken) f tail why w = refl
-does_stops s (step.Catch within (suc turns) level taken) f tail why w = refl
-does_stops s (step.Try level taken) f tail why w = refl
+does_stops s (step.Catch within zero level tries) f tail why w = refl
+does_stops s (step.Catch within (suc turns) level tries) f tail why w = refl
+does_stops s (step.Try level tries) f tail why w = refl
 does_stops s (step.Return here written) f tail why w = refl
 
 pub resume_stops : (s : Surroundings) (frames : List Frame) (why : Stop) (w : World) → resume s frames (Stops why w) ≡ Stops why w

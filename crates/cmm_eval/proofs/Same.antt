@@ -15,7 +15,7 @@ use Rattle.bs_words.specs.declared.values.Value.TheVariants as value
 use Rattle.cmm_tree.specs.Tree.{Expression, Parameter, LabelTree, Bindings, NoBinding, Bind, Declaration}
 use Rattle.cmm_types.specs.Types.{Scoped, type_of, with_parameters, with_bindings, type_bound, is_mutable}
 use Rattle.cmm_meaning.specs.State.{World, Here, Binding, scope, assigned, assigned_first, bound, back_in}
-use Rattle.cmm_meaning.specs.Evaluation.{Stop, NotProper, Evaluated, Evaluation, Gives, Exits, Raises, Stops, Surroundings, and_then, only_value, with_value, proper, spend, of_type, tested, typed, both, unless_light, now_or_before, fit_parameters, back_from_call, as_written, stack_below, called_with, applied, scoped_parameter, looked_up, node, back}
+use Rattle.cmm_meaning.specs.Evaluation.{Stop, NotProper, Evaluated, Evaluation, Gives, Exits, Raises, Stops, Surroundings, and_then, only_value, with_value, proper, spend, of_type, tested, typed, both, unless_light, now_or_before, fit_parameters, back_from_call, as_written, call_from, called_with, applied, scoped_parameter, looked_up, node, back}
 use Rattle.cmm_eval.specs.Held.{node_held}
 
 -- these names are the outermost of those
@@ -138,9 +138,9 @@ abbrev pub bound_as : List ℕ → Option Declaration → Ty → Scoped
 bound_as name declared type = record { name = name; type = type_bound declared type; mutable = is_mutable declared }
 
 -- a scope that was entered is left again
-pub scope_back : (names : List Scoped) (h : Here) (level taken : ℕ) → level ≡ length names → Within names (scope h) →
-    scope (back_in level taken h) ≡ names
-scope_back names h level taken e r =
+pub scope_back : (names : List Scoped) (h : Here) (level tries : ℕ) → level ≡ length names → Within names (scope h) →
+    scope (back_in level tries h) ≡ names
+scope_back names h level tries e r =
     let of : Binding → Scoped = λ b. b.scoped in
     let sizes : length (scope h) ≡ length h.names = length-map h.names of in
     let all : length (scope h) ≡ length r.extra + length names = ap length r.is ∙ length-append r.extra names in
@@ -154,10 +154,10 @@ level_of names h e =
     let sizes : length (scope h) ≡ length h.names = length-map h.names (λ (b : Binding). b.scoped) in sym sizes ∙ ap length e
 
 -- an evaluation in an inner scope is left
-pub same_back : {i o : List Scoped} {x y : Evaluation} (level taken : ℕ) → level ≡ length o → Within o i → Same i i x y →
-    Same o o (back level taken x) (back level taken y)
-same_back {o = o} level taken e r p =
-    same_then (same_widen r p) (λ v h w k. record { is = refl; keeps = scope_back o h level taken e (record { extra = r.extra; is = k ∙ r.is }) })
+pub same_back : {i o : List Scoped} {x y : Evaluation} (level tries : ℕ) → level ≡ length o → Within o i → Same i i x y →
+    Same o o (back level tries x) (back level tries y)
+same_back {o = o} level tries e r p =
+    same_then (same_widen r p) (λ v h w k. record { is = refl; keeps = scope_back o h level tries e (record { extra = r.extra; is = k ∙ r.is }) })
 
 -- parameters that are bound to as many values
 pub scope_bound : (params : List Parameter) (values : List Value) (names : List Binding) → length params ≡ length values →
@@ -253,7 +253,7 @@ same_called : {names : List Scoped} (s : Surroundings) (o : Option (List Comp)) 
     Same names names (called_with s o f arguments result tail h w) (called_with s o f arguments result tail h w)
 same_called s None f arguments result tail h w e = record { is = refl; keeps = tt }
 same_called s (Some comps) f arguments result tail h w e =
-    same_cond (fit_parameters s.end comps arguments) (same_written result h (s.call f arguments (stack_below tail h) w) e)
+    same_cond (fit_parameters s.end comps arguments) (same_written result h (s.call (call_from f arguments tail h) w) e)
     (record { is = refl; keeps = tt })
 
 pub same_applied : {names : List Scoped} (s : Surroundings) (f : Value) (arguments : List Value) (result : Ret) (tail : Bool) (h : Here) (w : World) →

@@ -16,8 +16,9 @@ use Rattle.cmm_tree.specs.declared.expr.Form as form
 use Rattle.cmm_types.specs.Light.{is_light_address}
 use Rattle.cmm_types.specs.Types.{Scoped, type_named, type_bound, is_mutable}
 use Rattle.cmm_meaning.specs.State.{World, Here, scope, assigned}
-use Rattle.cmm_meaning.specs.Evaluation.{NotProper, Evaluation, Gives, Exits, Raises, Stops, Surroundings, and_then, with_value, proper, tested, typed, unless_light, now_or_before, first_of, rest_of, back_from_call, as_written, applied, Ready, with_bound, back, caught, tried, Chosen, case_for, chosen, bound_error}
-use Rattle.cmm_eval.specs.Held.{held, choices_held, readied_held}
+use Rattle.cmm_meaning.specs.Evaluation.{Body, NotProper, Evaluation, Gives, Exits, Raises, Stops, Surroundings, and_then, with_value, proper, tested, typed, unless_light, now_or_before, first_of, rest_of, back_from_call, as_written, applied, with_bound, back, caught, tried, chosen, bound_error}
+use Rattle.cmm_meaning.specs.Choices.{Ready, Chosen, case_for}
+use Rattle.cmm_eval.specs.Held.{row_held, held, choices_held, readied_held}
 use Rattle.cmm_eval.specs.Views.{here_view, stop_view}
 use Rattle.cmm_eval.specs.declared.frame.Frame.{Frame}
 use Rattle.cmm_eval.specs.declared.frame.Now.{Now}
@@ -80,7 +81,7 @@ joined_by s _ a b h w = improper w
 abbrev pub operands_of : Form → List Expr
 operands_of (form.Alloc' header_at header shape operands) = form.items-the_row-Expr _ operands
 operands_of (form.App' p at type callee shape arguments result result_at) = form.items-the_row-Expr _ arguments
-operands_of (form.Extcall' name shape arguments result result_at) = form.items-the_row-Expr _ arguments
+operands_of (form.Extcall' frame name shape arguments result result_at) = form.items-the_row-Expr _ arguments
 operands_of (form.Exit' label_at label shape arguments) = form.items-the_row-Expr _ arguments
 operands_of _ = []
 
@@ -90,8 +91,8 @@ operated_by s (form.Alloc' header_at header shape operands) tail callee values h
     proper (allocated w.memory header values) w (λ memory. Gives (Some (next_block w.memory)) h (record w { memory = memory }))
 operated_by s (form.App' p at type late shape arguments result result_at) tail callee values h w =
     now_or_before callee (held s type late false) h w (λ f h w. applied s f values result tail h w)
-operated_by s (form.Extcall' name shape arguments result result_at) tail callee values h w =
-    and_then (back_from_call h (s.external name result values w)) (λ v h w. as_written result v h w)
+operated_by s (form.Extcall' frame name shape arguments result result_at) tail callee values h w =
+    and_then (back_from_call h (s.external (row_held name arguments result) frame values w)) (λ v h w. as_written result v h w)
 operated_by s (form.Exit' label_at label shape arguments) tail callee values h w = Exits (label_view label) values h w
 operated_by s _ tail callee values h w = improper w
 
@@ -151,38 +152,38 @@ first_bound s (b ∷ rest) v h w =
     tested s.end (scoped_binding b).type v w (bindings_from s rest (with_bound (scoped_binding b ∷ []) (v ∷ []) h) w)
 
 abbrev pub body_of : Surroundings → Form → Bool → ℕ → ℕ → Here → World → Evaluation
-body_of s (form.Let' shape bindings p at type body) tail level taken h w = back level taken (held s type body tail h w)
-body_of s _ tail level taken h w = improper w
+body_of s (form.Let' shape bindings p at type body) tail level tries h w = back level tries (held s type body tail h w)
+body_of s _ tail level tries h w = improper w
 
-abbrev pub handlers_of : Surroundings → Form → Bool → List Ready
+abbrev pub handlers_of : Surroundings → Form → Bool → List (Ready Body)
 handlers_of s (form.Catch' p at type body shape handlers) tail = readied_held s handlers tail
 handlers_of s _ tail = []
 
 abbrev pub handler_of : Surroundings → Form → Bool → Value → Here → World → Evaluation
 handler_of s (form.Try' p at type body name_at name q handler_at handler_type handler) tail v h w =
     let raised : Scoped = record { name = name; type = ty.Val; mutable = false } in
-    back (length h.names) h.taken (held s handler_type handler tail (with_bound (raised ∷ []) (v ∷ []) h) w)
+    back (length h.names) h.tries (held s handler_type handler tail (with_bound (raised ∷ []) (v ∷ []) h) w)
 handler_of s _ tail v h w = improper w
 
 -- ---- cases and handlers
 
-abbrev pub case_ready : Surroundings → Bool → Case → Chosen
+abbrev pub case_ready : Surroundings → Bool → Case → Chosen Body
 case_ready s tail c = record { indexes = map index_view c.indexes.items; body = expression s c.body tail }
 
-abbrev pub cases_ready : Surroundings → Bool → List Case → List Chosen
+abbrev pub cases_ready : Surroundings → Bool → List Case → List (Chosen Body)
 cases_ready s tail cases = map (case_ready s tail) cases
 
-abbrev pub handler_ready : Surroundings → Bool → Handler → Ready
+abbrev pub handler_ready : Surroundings → Bool → Handler → Ready Body
 handler_ready s tail r = record { label = label_view r.label; params = params_view r.params.items; body = expression s r.body tail }
 
-abbrev pub handlers_ready : Surroundings → Bool → List Handler → List Ready
+abbrev pub handlers_ready : Surroundings → Bool → List Handler → List (Ready Body)
 handlers_ready s tail handlers = map (handler_ready s tail) handlers
 
 -- ---- frames
 
 abbrev pub does : Surroundings → Step → Form → Bool → Evaluation → Evaluation
 does s (step.Typed type) f tail e = typed s.end type e
-does s (step.Scope level taken) f tail e = back level taken e
+does s (step.Scope level tries) f tail e = back level tries e
 does s step.Operand f tail e = with_value e (λ v h w. taken_by s f tail v h w)
 does s (step.First false) f tail e =
     with_value e (λ b h w. with_value (left_of s f h w) (λ a h w. joined_by s f a b h w))
@@ -192,7 +193,7 @@ does s (step.Second first false) f tail e = with_value e (λ a h w. joined_by s 
 does s (step.Second first true) f tail e = with_value e (λ b h w. joined_by s f first b h w)
 does s (step.Elements rest) f tail e = and_then e (λ _ h w. elements_from s rest.now tail h w)
 does s (step.Bindings bindings) f tail e = with_value e (λ v h w. first_bound s bindings.now v h w)
-does s (step.Bound level taken) f tail e = and_then e (λ _ h w. body_of s f tail level taken h w)
+does s (step.Bound level tries) f tail e = and_then e (λ _ h w. body_of s f tail level tries h w)
 does s (step.Waiting rest values) f tail e =
     with_value e (λ v h w. waits_for s f tail (reverse rest.now) (Some v ∷ reverse values.items) h w)
 does s (step.Callee waited) f tail e =
@@ -201,27 +202,27 @@ does s (step.Filling callee rest waited values) f tail e =
     with_value e (λ v h w. fills_in s f tail callee (reverse rest.now) (reverse waited.items) (v ∷ reverse values.items) h w)
 does s (step.LateCallee values) f tail e =
     with_value e (λ c h w. operated_by s f tail (Some c) (reverse values.items) h w)
-does s (step.Catch within turns level taken) f tail e = caught s.end turns within (handlers_of s f tail) level taken e
-does s (step.Try level taken) f tail e = tried (handler_of s f tail) level taken e
+does s (step.Catch within turns level tries) f tail e = caught s.end turns within (handlers_of s f tail) level tries e
+does s (step.Try level tries) f tail e = tried (handler_of s f tail) level tries e
 does s (step.Return here written) f tail e =
     and_then (back_from_call (here_view here) e) (λ v h w. as_written written v h w)
 
 -- a step that goes on with a value, and with nothing else
 abbrev pub WantsValue : Step → Type 0
 WantsValue (step.Typed type) = ⊥
-WantsValue (step.Scope level taken) = ⊥
+WantsValue (step.Scope level tries) = ⊥
 WantsValue step.Operand = Unit {0}
 WantsValue (step.First left_first) = Unit {0}
 WantsValue (step.Second first left_first) = Unit {0}
 WantsValue (step.Elements rest) = ⊥
 WantsValue (step.Bindings bindings) = Unit {0}
-WantsValue (step.Bound level taken) = ⊥
+WantsValue (step.Bound level tries) = ⊥
 WantsValue (step.Waiting rest values) = Unit {0}
 WantsValue (step.Callee waited) = Unit {0}
 WantsValue (step.Filling callee rest waited values) = Unit {0}
 WantsValue (step.LateCallee values) = Unit {0}
-WantsValue (step.Catch within turns level taken) = ⊥
-WantsValue (step.Try level taken) = ⊥
+WantsValue (step.Catch within turns level tries) = ⊥
+WantsValue (step.Try level tries) = ⊥
 WantsValue (step.Return here written) = ⊥
 
 -- what a frame makes of the evaluation in it

@@ -1,8 +1,11 @@
 -- The evaluation of the code's tree by the types that its nodes hold. Where they are the types of the
 -- scope, it is that of the definition.
-use Rattle.std.specs.Prelude.{suc, ◌+◌, Bool, true, false, cond, List, [], ◌∷◌, Option, Some, None, length, map, option_map, nat_lt}
+use Rattle.std.specs.Prelude.{ℕ, suc, Bool, true, false, cond, List, [], ◌∷◌, Option, Some, None, length, map, option_map, nat_lt}
 use Rattle.bs_words.specs.Memory.{sizes, loaded, stored, allocated, next_block}
 use Rattle.bs_words.specs.Operators.{apply, condition_of, word_in}
+use Rattle.bs_words.specs.External.{External}
+use Rattle.bs_words.specs.declared.types.Comp.{Comp}
+use Rattle.bs_words.specs.declared.types.Ret.{Ret}
 use Rattle.bs_words.specs.declared.types.Ty.{Ty}
 use Rattle.bs_words.specs.declared.types.Ty.TheVariants as ty
 use Rattle.bs_words.specs.declared.values.Kind.TheVariants.{BadValue, SwitchRange}
@@ -13,8 +16,9 @@ use Rattle.cmm_tree.specs.declared.expr.Form.{Form}
 use Rattle.cmm_tree.specs.declared.expr.Form as form
 use Rattle.cmm_types.specs.Light.{is_light_address}
 use Rattle.cmm_types.specs.Types.{Scoped, type_named, type_bound, is_mutable}
-use Rattle.cmm_meaning.specs.State.{World, Here, scope, value_of, assigned, deepened}
-use Rattle.cmm_meaning.specs.Evaluation.{NotProper, Evaluated, Evaluation, Gives, Exits, Raises, Stops, Surroundings, and_then, with_value, proper, begins, tested, typed, both, is_left_first, unless_light, now_or_before, first_of, rest_of, back_from_call, as_written, applied, Ready, with_bound, back, caught, tried, Chosen, case_for, chosen, bound_error, looked_up}
+use Rattle.cmm_meaning.specs.State.{World, Here, taken, within_try, scope, value_of, assigned, deepened}
+use Rattle.cmm_meaning.specs.Evaluation.{Body, comp_of_argument, NotProper, Evaluated, Evaluation, Gives, Exits, Raises, Stops, Surroundings, and_then, with_value, proper, begins, tested, typed, both, is_left_first, unless_light, now_or_before, first_of, rest_of, back_from_call, as_written, applied, with_bound, back, caught, tried, chosen, bound_error, looked_up}
+use Rattle.cmm_meaning.specs.Choices.{Ready, Chosen, case_for}
 
 -- no accepted text has a float, which begins no node
 abbrev pub is_float_form : Form → Bool
@@ -25,6 +29,14 @@ is_float_form _ = false
 abbrev pub node_held : Surroundings → Bool → Ty → World → (World → Evaluation) → Evaluation
 node_held s true type w go = Stops (NotProper BadValue) w
 node_held s false type w go = begins w (λ w. typed s.end type (go w))
+
+-- the row of an external call, by the types that its arguments hold
+abbrev pub comps_held : {m : _} → form.Row_of-Expr m → List Comp
+comps_held form.end_of-Expr = []
+comps_held (form.more_of-Expr at type e rest) = comp_of_argument type ∷ comps_held rest
+
+abbrev pub row_held : {m : _} → List ℕ → form.Row_of-Expr m → Ret → External
+row_held name arguments result = record { name = name; params = comps_held arguments; result = result }
 
 abbrev mutual
   -- what a node of this form does once it has taken its unit
@@ -37,7 +49,7 @@ abbrev mutual
   inside s (form.Float' word_at shape operands) tail h w = Stops (NotProper BadValue) w
   inside s (form.Let' shape bindings p at type body) tail h w =
       and_then (bindings_held s bindings h w) (λ _ inner w.
-      back (length h.names) h.taken (node_held s (is_float_form body) type w (λ w. inside s body tail inner w)))
+      back (length h.names) h.tries (node_held s (is_float_form body) type w (λ w. inside s body tail inner w)))
   inside s (form.Assign' name_at name p at type e) tail h w =
       with_value (node_held s (is_float_form e) type w (λ w. inside s e false h w)) (λ v h w.
       tested s.end (type_named (scope h) name) v w (Gives None (record h { names = assigned h.names name v }) w))
@@ -65,10 +77,10 @@ abbrev mutual
       and_then (filled_held s arguments before h w) (λ values h w.
       now_or_before f (λ h w. node_held s (is_float_form callee) type w (λ w. inside s callee false h w)) h w (λ f h w.
       applied s f values result tail h w))))
-  inside s (form.Extcall' name shape arguments result result_at) tail h w =
+  inside s (form.Extcall' frame name shape arguments result result_at) tail h w =
       and_then (waiting_held s arguments h w) (λ before h w.
       and_then (filled_held s arguments before h w) (λ values h w.
-      and_then (back_from_call h (s.external name result values w)) (λ v h w. as_written result v h w)))
+      and_then (back_from_call h (s.external (row_held name arguments result) frame values w)) (λ v h w. as_written result v h w)))
   inside s (form.Checkbound' p bound_at bound_type bound q index_at index_type index) tail h w =
       both (is_left_first (scope h) (form_view bound_at bound) (form_view index_at index))
       (λ h w. node_held s (is_float_form bound) bound_type w (λ w. inside s bound false h w))
@@ -90,7 +102,7 @@ abbrev mutual
       proper (word_in v) w (λ k.
       cond (nat_lt k size) (chosen (case_for (choices_held s cases tail) k) h w) (Stops (NotProper SwitchRange) w)))
   inside s (form.Catch' p at type body shape handlers) tail h w =
-      caught s.end (suc w.left) false (readied_held s handlers tail) (length h.names) h.taken
+      caught s.end (suc w.left) false (readied_held s handlers tail) (length h.names) h.tries
       (node_held s (is_float_form body) type w (λ w. inside s body tail h w))
   inside s (form.Exit' label_at label shape arguments) tail h w =
       and_then (waiting_held s arguments h w) (λ before h w.
@@ -100,9 +112,9 @@ abbrev mutual
       (λ v h w.
       let raised : Scoped = record { name = name; type = ty.Val; mutable = false } in
       let inner : Here = with_bound (raised ∷ []) (v ∷ []) h in
-      back (length h.names) h.taken (node_held s (is_float_form handler) handler_type w (λ w. inside s handler tail inner w)))
-      (length h.names) h.taken
-      (node_held s (is_float_form body) type (deepened (h.taken + 16) w) (λ w. inside s body false (record h { taken = h.taken + 16 }) w))
+      back (length h.names) h.tries (node_held s (is_float_form handler) handler_type w (λ w. inside s handler tail inner w)))
+      (length h.names) h.tries
+      (node_held s (is_float_form body) type (deepened (taken (within_try h)) w) (λ w. inside s body false (within_try h) w))
 
   pub waiting_held : {m : _} → Surroundings → form.Row_of-Expr m → Here → World → Evaluated (List (Option Value))
   waiting_held s form.end_of-Expr h w = Gives [] h w
@@ -132,13 +144,13 @@ abbrev mutual
   in_order_held s (form.more_of-Expr at type e rest) tail h w =
       and_then (node_held s (is_float_form e) type w (λ w. inside s e false h w)) (λ _ h w. in_order_held s rest tail h w)
 
-  pub choices_held : {m : _} → Surroundings → form.Row_of-Case m → Bool → List Chosen
+  pub choices_held : {m : _} → Surroundings → form.Row_of-Case m → Bool → List (Chosen Body)
   choices_held s form.end_of-Case tail = []
   choices_held s (form.more_of-Case indexes at type body rest) tail =
       record { indexes = map index_view indexes.items; body = λ h w. node_held s (is_float_form body) type w (λ w. inside s body tail h w) }
       ∷ choices_held s rest tail
 
-  pub readied_held : {m : _} → Surroundings → form.Row_of-Handler m → Bool → List Ready
+  pub readied_held : {m : _} → Surroundings → form.Row_of-Handler m → Bool → List (Ready Body)
   readied_held s form.end_of-Handler tail = []
   readied_held s (form.more_of-Handler at label params body_at type body rest) tail =
       record { label = label_view label; params = params_view params.items; body = λ h w. node_held s (is_float_form body) type w (λ w. inside s body tail h w) }

@@ -3,5 +3,6 @@ pub mod Innermost
 pub mod Groups
 pub mod Held
 pub mod Filled
+pub mod Outside
 pub mod Annotated
 pub mod Stands

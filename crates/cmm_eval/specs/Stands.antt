@@ -1,21 +1,20 @@
 -- The evaluation that a machine stands for.
-use Rattle.std.specs.Prelude.{◌≡◌, ℕ, suc, ◌+◌, true, List, [], ◌∷◌, Option, Some, None, map, option_copied, slice_get}
+use Rattle.std.specs.Prelude.{◌≡◌, ℕ, ◌+◌, true, List, [], ◌∷◌, Option, Some, None, map, option_copied, slice_get}
 use Rattle.bs_words.specs.Contents.{contents}
 use Rattle.bs_words.specs.declared.values.Kind.TheVariants.{BadCall}
 use Rattle.bs_words.specs.declared.values.Value.{Value}
-use Rattle.cmm_tree.specs.Tree.{functions, comps_of}
 use Rattle.cmm_tree.specs.View.{file_view, params_view}
 use Rattle.cmm_tree.specs.declared.file.File.{File}
 use Rattle.cmm_tree.specs.declared.file.Item.{Item}
 use Rattle.cmm_tree.specs.declared.file.Item.TheVariants as item
 use Rattle.cmm_tree.specs.declared.file.Function.{Function}
-use Rattle.cmm_data.specs.Placement.{data_end, value_of_symbol}
+use Rattle.cmm_data.specs.Placement.{data_end}
 use Rattle.cmm_data.specs.Symbols.{IsTableOf}
 use Rattle.cmm_meaning.specs.Layout.{Layout}
 use Rattle.cmm_meaning.specs.State.{World, Here, bound, deepened}
 use Rattle.cmm_meaning.specs.Evaluation.{Evaluation, Stops, NotProper, scoped_parameter}
 use Rattle.cmm_meaning.specs.Evaluation as evaluation
-use Rattle.cmm_meaning.specs.Run.{outside, callees}
+use Rattle.meaning_fuel.specs.Whole as fuel
 use Rattle.cmm_eval.specs.Annotated.{IsTyped}
 use Rattle.cmm_eval.specs.Filled.{expression, resume, standing}
 use Rattle.cmm_eval.specs.Views.{layout_view, here_view, world_view}
@@ -33,23 +32,12 @@ functions_in (item.Data d ∷ items) = functions_in items
 abbrev pub activated_held : evaluation.Surroundings → ℕ → Option Function → List Value → ℕ → World → Evaluation
 activated_held s frame None arguments below w = Stops (NotProper BadCall) w
 activated_held s frame (Some f) arguments below w =
-    let here : Here = record { names = bound (map scoped_parameter (params_view (contents f.params))) arguments []; below = below; taken = below + frame } in
+    let here : Here = record { names = bound (map scoped_parameter (params_view (contents f.params))) arguments []; below = below; frame = frame; tries = 0 } in
     expression s f.body true here (deepened (below + frame) w)
 
-abbrev pub around_of : File → Layout → (ℕ → List Value → ℕ → World → Evaluation) → evaluation.Surroundings
-around_of file layout call =
-    record {
-      end = data_end (file_view file);
-      symbol = value_of_symbol (file_view file);
-      parameters = map comps_of (functions (file_view file));
-      call = call;
-      external = outside layout;
-    }
-
--- what stands round a run of a file, where calls nest as deep as the units that are left allow
+-- what stands round a run of a file
 abbrev pub whole : File → Layout → evaluation.Surroundings
-whole file layout =
-    around_of file layout (λ f arguments below w. callees (file_view file) layout (suc w.left) f arguments below w)
+whole file layout = fuel.whole (file_view file) layout
 
 abbrev pub around_view : Surroundings → evaluation.Surroundings
 around_view a = whole a.file.now (layout_view a.layout.now)

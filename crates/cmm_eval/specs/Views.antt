@@ -32,7 +32,7 @@ abbrev pub bounds_view : List Bound → List Binding
 bounds_view bounds = map bound_view (reverse bounds)
 
 abbrev pub here_view : here.Here → Here
-here_view h = record { names = bounds_view h.names.items; below = h.below; taken = h.taken }
+here_view h = record { names = bounds_view h.names.items; below = h.below; frame = h.frame; tries = h.tries }
 
 abbrev pub world_view : world.World → World
 world_view w =

@@ -26,7 +26,9 @@ impl<'a> Machine<'a> {
         tail: bool,
         bindings: &'a [Binding],
     ) -> Result<Now<'a>, AllocError>
-        ensures { IfOk result (λ now. (s : evaluation.Surroundings) → stands_in s self.new now ≡ goes_on_in s self.old (λ h w. bindings_from s bindings.entry.now h w)) }
+        ensures { IfOk result (λ now. (s : evaluation.Surroundings) →
+            stands_in s self.new now ≡ goes_on_in s self.old (λ h w.
+            bindings_from s bindings.entry.now h w)) }
     {
         match bindings.split_first() {
             None => Ok(Now::Gives(None)),
@@ -48,7 +50,10 @@ pub(crate) fn bind_value<'a>(
     binding: &'a Binding,
     value: Value,
 ) -> Result<Option<Kind>, AllocError>
-    ensures { IfOk result (λ kind. (w : state.World) → (go : state.Here → Evaluation) → or_improper kind w (go (here_view here.new)) ≡ tested end (scoped_binding binding.entry.now).type value w (go (with_bound (scoped_binding binding.entry.now ∷ []) (value ∷ []) (here_view here.old)))) }
+    ensures { IfOk result (λ kind. (w : state.World) → (go : state.Here → Evaluation) →
+        or_improper kind w (go (here_view here.new)) ≡ tested end
+        (scoped_binding binding.entry.now).type value w (go (with_bound
+        (scoped_binding binding.entry.now ∷ []) (value ∷ []) (here_view here.old)))) }
 {
     let ty = type_bound(&binding.declared, binding.value.ty);
     if !fits(end, ty, value) {
@@ -78,7 +83,8 @@ fn is_mutable(declared: &Option<Declared>) -> bool
 
 /// Whether values fit parameters, in number and type.
 pub(crate) fn fit_parameters(end: u64, params: &[Param], values: &[Value]) -> bool
-    ensures { result ≡ fit_parameters end (map (λ (p : Parameter). p.comp) (params_view params.now)) values.now }
+    ensures { result ≡ fit_parameters end (map (λ (p : Parameter).
+        p.comp) (params_view params.now)) values.now }
 {
     if params.len() != values.len() {
         return false;
@@ -94,7 +100,8 @@ pub(crate) fn fit_parameters(end: u64, params: &[Param], values: &[Value]) -> bo
 /// Why the first value that does not fit its parameter does not, if there is one.
 /// Values of another number are no call.
 pub(crate) fn first_misfit(end: u64, params: &[Param], values: &[Value]) -> Option<Kind>
-    ensures { (w : state.World) → (go : Evaluation) → or_improper result w go ≡ entered end (params_view params.now) values.now w go }
+    ensures { (w : state.World) → (go : Evaluation) →
+        or_improper result w go ≡ entered end (params_view params.now) values.now w go }
 {
     for (param, value) in params.iter().zip(values) {
         let ty = type_of_comp(param.comp);
@@ -114,7 +121,8 @@ pub(crate) fn bind_params<'a>(
     params: &'a [Param],
     values: &[Value],
 ) -> Result<(), AllocError>
-    ensures { IfOk result (λ _. here_view here.new ≡ with_bound (map scoped_parameter (params_view params.entry.now)) values.now (here_view here.old)) }
+    ensures { IfOk result (λ _. here_view here.new ≡ with_bound (map scoped_parameter
+        (params_view params.entry.now)) values.now (here_view here.old)) }
 {
     for (param, value) in params.iter().zip(values) {
         here.bind(&param.name, type_of_comp(param.comp), false, *value)?;

@@ -1,15 +1,18 @@
 //! What a node does once all its operands are there: calls among others.
-ghost use Rattle.std.specs.Prelude.{◌≡◌, [], IfOk, Some, reverse, map};
+ghost use Rattle.std.specs.Prelude.{◌≡◌, [], ℕ, true, false, IfOk, Some, reverse, map};
+ghost use Rattle.bs_words.specs.declared.types.Ty.TheVariants as ty;
 ghost use Rattle.bs_words.specs.Contents.{contents};
 ghost use Rattle.bs_words.specs.Memory.{allocated, next_block};
 ghost use Rattle.cmm_tree.specs.View.{params_view};
 ghost use Rattle.cmm_meaning.specs.Layout as meaning;
+ghost use Rattle.cmm_meaning.specs.State as state;
 ghost use Rattle.cmm_meaning.specs.State.{bound};
 ghost use Rattle.cmm_meaning.specs.Evaluation as evaluation;
-ghost use Rattle.cmm_meaning.specs.Evaluation.{Gives, and_then, proper, applied, back_from_call, as_written, stack_below, scoped_parameter};
-ghost use Rattle.cmm_meaning.specs.Run.{outside};
-ghost use Rattle.cmm_eval.specs.Filled.{operated_by};
-ghost use Rattle.cmm_eval.specs.Views.{here_view, layout_view};
+ghost use Rattle.cmm_meaning.specs.Evaluation.{Gives, Raises, and_then, proper, tested, applied, back_from_call, as_written, stack_below, scoped_parameter};
+ghost use Rattle.cmm_meaning.specs.Run.{answered_as, given_back};
+ghost use Rattle.cmm_eval.specs.Outside.{EndsFrameCall, call_seen, returned};
+ghost use Rattle.cmm_eval.specs.Filled.{operated_by, standing};
+ghost use Rattle.cmm_eval.specs.Views.{here_view, layout_view, call_view};
 ghost use Rattle.cmm_eval.specs.Stands.{IsAround, around_view, stands, goes_on, stands_in, goes_on_in, activated_held};
 
 use crate::around::Surroundings;
@@ -19,8 +22,9 @@ use crate::here::Here;
 use crate::layout::Layout;
 use crate::machine::{Machine, not_proper};
 use crate::world::Stop;
-use bs_words::{Call, Kind, List, Name, Obs, Ret, Value};
+use bs_words::{Call, Kind, List, Name, Obs, Ret, Ty, Value};
 use cmm_tree::{Form, Function};
+use cmm_values::{fits, misfit};
 use std::alloc::{AllocError, Global};
 
 impl<'a> Machine<'a> {
@@ -34,7 +38,9 @@ impl<'a> Machine<'a> {
         mut values: Vec<Value>,
     ) -> Result<Now<'a>, AllocError>
         requires { IsAround around.now }
-        ensures { IfOk result (λ now. stands around.now self.new now ≡ goes_on around.now self.old (λ h w. operated_by (around_view around.now) form.entry.now tail callee (reverse values.items) h w)) }
+        ensures { IfOk result (λ now. stands around.now self.new now ≡ goes_on around.now self.old
+            (λ h w. operated_by (around_view around.now) form.entry.now tail callee
+            (reverse values.items) h w)) }
     {
         match form {
             Form::Alloc { header, .. } => {
@@ -59,9 +65,14 @@ impl<'a> Machine<'a> {
                     })
                 }
             },
-            Form::Extcall { name, result, .. } => {
+            Form::Extcall {
+                frame,
+                name,
+                result,
+                ..
+            } => {
                 values.reverse();
-                self.call_outside(around, name, values.as_slice(), *result)
+                self.call_outside(around, *frame, name, values.as_slice(), *result)
             }
             Form::Exit { label, .. } => {
                 values.reverse();
@@ -72,7 +83,10 @@ impl<'a> Machine<'a> {
     }
 
     fn allocate(&mut self, header: u64, cells: Vec<Value>) -> Result<Now<'a>, AllocError>
-        ensures { IfOk result (λ now. (s : evaluation.Surroundings) → stands_in s self.new now ≡ goes_on_in s self.old (λ h w. proper (allocated w.memory header cells.items) w (λ memory. Gives (Some (next_block w.memory)) h (record w { memory = memory })))) }
+        ensures { IfOk result (λ now. (s : evaluation.Surroundings) →
+            stands_in s self.new now ≡ goes_on_in s self.old (λ h w.
+            proper (allocated w.memory header cells.items) w (λ memory.
+            Gives (Some (next_block w.memory)) h (record w { memory = memory })))) }
     {
         match self.world.memory.allocate(header, cells)? {
             Ok(pointer) => Ok(Now::Gives(Some(pointer))),
@@ -91,7 +105,8 @@ impl<'a> Machine<'a> {
         written: Ret,
     ) -> Result<Now<'a>, AllocError>
         requires { IsAround around.now }
-        ensures { IfOk result (λ now. stands around.now self.new now ≡ goes_on around.now self.old (λ h w. applied (around_view around.now) callee arguments.items written tail h w)) }
+        ensures { IfOk result (λ now. stands around.now self.new now ≡ goes_on around.now self.old
+            (λ h w. applied (around_view around.now) callee arguments.items written tail h w)) }
     {
         let Value::Function(number) = callee else {
             return Ok(not_proper(Kind::BadCall));
@@ -115,6 +130,17 @@ impl<'a> Machine<'a> {
         )
     }
 
+    /// The stack bytes below a callee: in tail position it takes the place of its caller.
+    fn stack_below(&self, tail: bool) -> Result<u64, AllocError>
+        ensures { IfOk result (λ bytes. bytes ≡ stack_below tail (here_view self.now.here)) }
+    {
+        if tail {
+            Ok(self.here.below)
+        } else {
+            self.here.taken()
+        }
+    }
+
     /// A call of a function with a frame of so many bytes. In tail position it takes the place of its
     /// caller.
     fn activate(
@@ -127,15 +153,15 @@ impl<'a> Machine<'a> {
         arguments: &[Value],
         written: Ret,
     ) -> Result<Now<'a>, AllocError>
-        ensures { IfOk result (λ now. (s : evaluation.Surroundings) → stands_in s self.new now ≡ goes_on_in s self.old (λ h w. and_then (back_from_call h (activated_held s frame (Some function.entry.now) arguments.now (stack_below tail h) w)) (λ v h w. as_written written v h w))) }
+        ensures { IfOk result (λ now. (s : evaluation.Surroundings) →
+            stands_in s self.new now ≡ goes_on_in s self.old (λ h w.
+            and_then (back_from_call h (activated_held s frame
+            (Some function.entry.now) arguments.now (stack_below tail h) w))
+            (λ v h w. as_written written v h w))) }
     {
-        let below = if tail {
-            self.here.below
-        } else {
-            self.here.taken
-        };
+        let below = self.stack_below(tail)?;
         let taken = below.checked_add(frame).ok_or(AllocError)?;
-        let inner = activation(alloc, function, below, taken, arguments)?;
+        let inner = activation(alloc, function, below, frame, arguments)?;
         self.world.deepen(taken);
         let here = std::mem::replace(&mut self.here, inner);
         self.push(
@@ -152,20 +178,38 @@ impl<'a> Machine<'a> {
         })
     }
 
-    /// A call of what lies outside. One without a result takes no answer; each other one takes the next.
+    /// An external call.
     fn call_outside(
         &mut self,
         around: &Surroundings<'a>,
+        frame: bool,
         name: &'a Name,
         arguments: &[Value],
         written: Ret,
     ) -> Result<Now<'a>, AllocError>
-        ensures { IfOk result (λ now. stands around.now self.new now ≡ goes_on around.now self.old (λ h w. and_then (back_from_call h (outside (layout_view around.now.layout.now) name.entry.now written arguments.now w)) (λ v h w. as_written written v h w))) }
+        requires { IsAround around.now }
+        ensures { IfOk result (λ now. stands around.now self.new now ≡ goes_on around.now self.old
+            (λ h w. returned written h (answered_as frame
+            (around_view around.now).end written (call_seen
+            (layout_view around.now.layout.now) name.entry.now arguments.now) w.answers w))) }
     {
         let call = Call {
             name: Name::from_vec(Vec::from_slice(around.alloc, name.as_bytes())?),
             args: shown(around.alloc, around.layout, arguments)?,
         };
+        if frame {
+            self.frame_call(around.end, call, written)
+        } else {
+            self.plain_call(call, written)
+        }
+    }
+
+    /// A call that is no frame call: one without a result takes no answer, each other one the next.
+    fn plain_call(&mut self, call: Call, written: Ret) -> Result<Now<'a>, AllocError>
+        ensures { IfOk result (λ now. (s : evaluation.Surroundings) → (end : ℕ) →
+            stands_in s self.new now ≡ goes_on_in s self.old (λ h w.
+            returned written h (answered_as false end written (call_view call) w.answers w))) }
+    {
         match written {
             Ret::Unit => {
                 self.world.made.push(call)?;
@@ -181,6 +225,58 @@ impl<'a> Machine<'a> {
             },
         }
     }
+
+    /// A frame call takes two answers. It has been made before a value that it raises is tested.
+    fn frame_call(&mut self, end: u64, call: Call, written: Ret) -> Result<Now<'a>, AllocError>
+        ensures { IfOk result (λ now. (s : evaluation.Surroundings) →
+            stands_in s self.new now ≡ goes_on_in s self.old (λ h w.
+            returned written h (answered_as true end written (call_view call) w.answers w))) }
+    {
+        let Some((first, rest)) = self.world.answers.split_first() else {
+            return Ok(Now::Stops(Stop::NoAnswer(call)));
+        };
+        let Some((second, left)) = rest.split_first() else {
+            return Ok(Now::Stops(Stop::NoAnswer(call)));
+        };
+        self.world.made.push(call)?;
+        self.world.answers = left;
+        Ok(frame_ended(end, written, *first, *second))
+    }
+}
+
+/// How a frame call with these two answers ends: where the first is 0 the second is its value, and else
+/// it is raised.
+#[tactic(auto, using(crate::proofs::Called::frame_gives, crate::proofs::Called::frame_raises))]
+fn frame_ended<'a>(end: u64, written: Ret, first: u64, second: u64) -> Now<'a>
+    ensures { EndsFrameCall end written first second result }
+{
+    if first == 0 {
+        Now::Gives(given_back(written, second))
+    } else {
+        raised(end, Value::Word(second))
+    }
+}
+
+/// What a frame call gives of its second answer: with no result, nothing.
+fn given_back(written: Ret, answer: u64) -> Option<Value>
+    ensures { result ≡ given_back written answer }
+{
+    match written {
+        Ret::Unit => None,
+        Ret::Comp(_) => Some(Value::Word(answer)),
+    }
+}
+
+/// A value is raised, which must fit val.
+pub(crate) fn raised<'a>(end: u64, value: Value) -> Now<'a>
+    ensures { (s : evaluation.Surroundings) → (h : state.Here) → (w : state.World) →
+        standing s result h w ≡ tested end ty.Val value w (Raises value h w) }
+{
+    if fits(end, Ty::Val, value) {
+        Now::Raises(value)
+    } else {
+        not_proper(misfit(Ty::Val))
+    }
 }
 
 /// An activation of a function on these arguments.
@@ -188,15 +284,23 @@ pub(crate) fn activation<'a>(
     alloc: Global,
     function: &'a Function,
     below: u64,
-    taken: u64,
+    frame: u64,
     arguments: &[Value],
 ) -> Result<Here<'a>, AllocError>
-    ensures { IfOk result (λ here. here_view here ≡ record { names = bound (map scoped_parameter (params_view (contents function.entry.now.params))) arguments.now []; below = below; taken = taken }) }
+    ensures { IfOk result (λ here. here_view here ≡ record {
+      names = bound
+          (map scoped_parameter (params_view (contents function.entry.now.params))) arguments.now
+          [];
+      below = below;
+      frame = frame;
+      tries = 0;
+    }) }
 {
     let mut here = Here {
         names: Vec::new(alloc),
         below,
-        taken,
+        frame,
+        tries: 0,
     };
     bind_params(&mut here, function.params.as_slice(), arguments)?;
     Ok(here)
@@ -214,7 +318,8 @@ pub(crate) fn observed(layout: &Layout, value: Value) -> Obs
 }
 
 fn shown(alloc: Global, layout: &Layout, values: &[Value]) -> Result<List<Obs>, AllocError>
-    ensures { IfOk result (λ seen. contents seen ≡ map (meaning.observed (layout_view layout.now)) values.now) }
+    ensures { IfOk result (λ seen. contents seen ≡ map (meaning.observed
+        (layout_view layout.now)) values.now) }
 {
     let mut seen = Vec::new(alloc);
     for value in values {

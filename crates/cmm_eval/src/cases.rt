@@ -2,7 +2,9 @@
 ghost use Rattle.std.specs.Prelude.{◌≡◌, ◌&&◌, Bool, not, IfOk, option_map, option_copied, map};
 ghost use Rattle.cmm_tree.specs.View.{index_view, label_view};
 ghost use Rattle.cmm_meaning.specs.Evaluation as evaluation;
-ghost use Rattle.cmm_meaning.specs.Evaluation.{Exits, Raises, same_label, is_bare, ready_for, case_for, is_named};
+ghost use Rattle.cmm_meaning.specs.Evaluation.{Exits, Raises};
+ghost use Rattle.cmm_meaning.specs.Choices.{ready_for, case_for, is_named};
+ghost use Rattle.cmm_tree.specs.Tree.{same_label, is_bare};
 ghost use Rattle.cmm_eval.specs.Filled.{fills, case_ready, cases_ready, handler_ready, handlers_ready, handlers_of};
 ghost use Rattle.cmm_eval.specs.Stands.{IsAround, around_view, stands, goes_on, stands_in, goes_on_in};
 
@@ -16,7 +18,9 @@ use std::alloc::AllocError;
 
 /// The last case that names the number, and else the first.
 pub(crate) fn case_for(cases: &[Case], number: u64) -> Option<&Case>
-    ensures { (s : evaluation.Surroundings) → (tail : Bool) → option_map (case_ready s tail) (option_copied result) ≡ case_for (cases_ready s tail cases.now) number }
+    ensures { (s : evaluation.Surroundings) → (tail : Bool) →
+        option_map (case_ready s tail) (option_copied result) ≡ case_for
+        (cases_ready s tail cases.now) number }
 {
     let mut found = cases.first();
     for case in cases {
@@ -41,7 +45,9 @@ fn is_named(case: &Case, number: u64) -> bool
 /// The handler of a label; where it was left from a handler of the same catch, the bare one is not
 /// visible.
 fn handler_for<'a>(within: bool, label: &Label, handlers: &'a [Handler]) -> Option<&'a Handler>
-    ensures { (s : evaluation.Surroundings) → (tail : Bool) → option_map (handler_ready s tail) (option_copied result) ≡ ready_for within (label_view label.now) (handlers_ready s tail handlers.entry.now) }
+    ensures { (s : evaluation.Surroundings) → (tail : Bool) →
+        option_map (handler_ready s tail) (option_copied result) ≡ ready_for within
+        (label_view label.now) (handlers_ready s tail handlers.entry.now) }
 {
     for handler in handlers {
         if takes(handler, within, label) {
@@ -53,7 +59,8 @@ fn handler_for<'a>(within: bool, label: &Label, handlers: &'a [Handler]) -> Opti
 
 /// Whether an exit with this label is one to the handler.
 fn takes(handler: &Handler, within: bool, label: &Label) -> bool
-    ensures { result ≡ (same_label (label_view label.now) (label_view handler.now.label) && not (is_bare (label_view label.now) && within)) }
+    ensures { result ≡ (same_label (label_view label.now) (label_view handler.now.label) && not
+        (is_bare (label_view label.now) && within)) }
 {
     same_label(label, &handler.label) && is_visible(within, label)
 }
@@ -91,7 +98,9 @@ impl<'a> Machine<'a> {
         values: Vec<Value>,
     ) -> Result<Now<'a>, AllocError>
         requires { IsAround around.now }
-        ensures { IfOk result (λ now. stands around.now self.new now ≡ goes_on around.now self.old (λ h w. fills (around_view around.now) frame.entry (Exits (label_view label.entry.now) values.items h w))) }
+        ensures { IfOk result (λ now. stands around.now self.new now ≡ goes_on around.now self.old
+            (λ h w. fills (around_view around.now) frame.entry (Exits
+            (label_view label.entry.now) values.items h w))) }
     {
         let Frame { form, tail, step } = frame;
         match step {
@@ -99,7 +108,7 @@ impl<'a> Machine<'a> {
                 within,
                 turns,
                 level,
-                taken,
+                tries,
             } => {
                 if turns == 0 {
                     return Ok(Now::Exits { label, values });
@@ -118,11 +127,11 @@ impl<'a> Machine<'a> {
                         within: true,
                         turns: turns - 1,
                         level,
-                        taken,
+                        tries,
                     },
                 )?;
-                self.push(form, tail, Step::Scope { level, taken })?;
-                self.here.back_in(level, taken);
+                self.push(form, tail, Step::Scope { level, tries })?;
+                self.here.back_in(level, tries);
                 bind_params(&mut self.here, params, values.as_slice())?;
                 Ok(Now::Begins {
                     expr: &handler.body,
@@ -137,15 +146,17 @@ impl<'a> Machine<'a> {
 
     /// What a frame makes of a raise.
     pub(crate) fn raise(&mut self, frame: Frame<'a>, value: Value) -> Result<Now<'a>, AllocError>
-        ensures { IfOk result (λ now. (s : evaluation.Surroundings) → stands_in s self.new now ≡ goes_on_in s self.old (λ h w. fills s frame.entry (Raises value h w))) }
+        ensures { IfOk result (λ now. (s : evaluation.Surroundings) →
+            stands_in s self.new now ≡ goes_on_in s self.old (λ h w.
+            fills s frame.entry (Raises value h w))) }
     {
         let Frame { form, tail, step } = frame;
         match step {
-            Step::Try { level, taken } => match form {
+            Step::Try { level, tries } => match form {
                 Form::Try { name, handler, .. } => {
-                    self.here.back_in(level, taken);
+                    self.here.back_in(level, tries);
                     let level = self.here.names.len();
-                    self.push(form, tail, Step::Scope { level, taken })?;
+                    self.push(form, tail, Step::Scope { level, tries })?;
                     self.here.bind(name, Ty::Val, false, value)?;
                     Ok(Now::Begins {
                         expr: handler,
@@ -164,7 +175,8 @@ impl<'a> Machine<'a> {
 }
 
 fn handlers_of(form: &Form) -> &[Handler]
-    ensures { (s : evaluation.Surroundings) → (tail : Bool) → handlers_of s form.now tail ≡ handlers_ready s tail result.now }
+    ensures { (s : evaluation.Surroundings) → (tail : Bool) →
+        handlers_of s form.now tail ≡ handlers_ready s tail result.now }
 {
     match form {
         Form::Catch(_, handlers) => handlers.as_slice(),

@@ -40,7 +40,8 @@ pub fn eval(
     requires data { data_fault_of (file_view file.now) ≡ None }
     requires typed { IsTyped file.now }
     requires entry { FitsEntry (file_view file.now) entry args.now }
-    ensures { IfOk result (λ told. eval_view told ≡ cmm_run (file_view file.now) (layout_view layout.now) entry args.now answers.now fuel) }
+    ensures { IfOk result (λ told. eval_view told ≡ cmm_run (file_view file.now)
+        (layout_view layout.now) entry args.now answers.now fuel) }
 {
     let functions = functions_of(alloc, file)?;
     let memory = Memory::of_file(alloc, file)?;
@@ -56,8 +57,8 @@ pub fn eval(
         return Err(AllocError);
     };
     let arguments = words(alloc, args)?;
-    let taken = layout.frame_of(entry);
-    let here = activation(alloc, function, 0, taken, arguments.as_slice())?;
+    let frame = layout.frame_of(entry);
+    let here = activation(alloc, function, 0, frame, arguments.as_slice())?;
     let mut world = World {
         left: fuel,
         stack_need: 0,
@@ -65,7 +66,7 @@ pub fn eval(
         made: Vec::new(alloc),
         answers,
     };
-    world.deepen(taken);
+    world.deepen(frame);
     let mut machine = Machine {
         here,
         world,
@@ -116,7 +117,9 @@ pub fn fits_entry(alloc: Global, file: &File, entry: u32, args: &[u64]) -> Resul
 
 fn finished(layout: &Layout, end: Now<'_>) -> Outcome
     requires { HasEnded end }
-    ensures { (s : evaluation.Surroundings) → (h : state.Here) → (w : state.World) → finished (layout_view layout.now) (standing s end.entry h w) ≡ told (outcome_view result) w }
+    ensures { (s : evaluation.Surroundings) → (h : state.Here) → (w : state.World) →
+        finished (layout_view layout.now) (standing s end.entry h w) ≡ told
+        (outcome_view result) w }
 {
     match end {
         Now::Gives(None) => Outcome::Returned(None),
@@ -131,7 +134,8 @@ fn finished(layout: &Layout, end: Now<'_>) -> Outcome
 }
 
 fn functions_of(alloc: Global, file: &File) -> Result<Vec<&Function>, AllocError>
-    ensures { IfOk result (λ functions. map (λ f. f.now) functions.items ≡ functions_in (contents file.now.items)) }
+    ensures { IfOk result (λ functions. map (λ f.
+        f.now) functions.items ≡ functions_in (contents file.now.items)) }
 {
     let mut functions = Vec::new(alloc);
     for item in file.items.as_slice() {

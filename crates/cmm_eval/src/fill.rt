@@ -10,6 +10,7 @@ ghost use Rattle.cmm_eval.specs.Stands.{IsAround, around_view, stands, goes_on, 
 
 use crate::around::Surroundings;
 use crate::bind::bind_value;
+use crate::calls::raised;
 use crate::cases::case_for;
 use crate::frame::{Frame, Now, Step};
 use crate::group::{Group, group_of};
@@ -30,22 +31,23 @@ impl<'a> Machine<'a> {
         value: Option<Value>,
     ) -> Result<Now<'a>, AllocError>
         requires { IsAround around.now }
-        ensures { IfOk result (λ now. stands around.now self.new now ≡ goes_on around.now self.old (λ h w. fills (around_view around.now) frame.entry (Gives value h w))) }
+        ensures { IfOk result (λ now. stands around.now self.new now ≡ goes_on around.now self.old
+            (λ h w. fills (around_view around.now) frame.entry (Gives value h w))) }
     {
         let Frame { form, tail, step } = frame;
         match step {
             Step::Typed(ty) => Ok(of_type(around.end, ty, value)),
-            Step::Scope { level, taken } => {
-                self.here.back_in(level, taken);
+            Step::Scope { level, tries } => {
+                self.here.back_in(level, tries);
                 Ok(Now::Gives(value))
             }
-            Step::Try { level, taken } => {
-                self.here.back_in(level, taken);
+            Step::Try { level, tries } => {
+                self.here.back_in(level, tries);
                 Ok(Now::Gives(value))
             }
             Step::Catch { .. } => Ok(Now::Gives(value)),
             Step::Elements(rest) => self.elements(form, tail, rest),
-            Step::Bound { level, taken } => self.body(form, tail, level, taken),
+            Step::Bound { level, tries } => self.body(form, tail, level, tries),
             Step::Return {
                 here,
                 result: written,
@@ -69,7 +71,8 @@ impl<'a> Machine<'a> {
     ) -> Result<Now<'a>, AllocError>
         requires around { IsAround around.now }
         requires wants { WantsValue frame.step }
-        ensures { IfOk result (λ now. stands around.now self.new now ≡ goes_on around.now self.old (λ h w. fills (around_view around.now) frame.entry (Gives (Some value) h w))) }
+        ensures { IfOk result (λ now. stands around.now self.new now ≡ goes_on around.now self.old
+            (λ h w. fills (around_view around.now) frame.entry (Gives (Some value) h w))) }
     {
         let Frame { form, tail, step } = frame;
         match step {
@@ -115,7 +118,8 @@ impl<'a> Machine<'a> {
         value: Value,
     ) -> Result<Now<'a>, AllocError>
         requires { IsAround around.now }
-        ensures { IfOk result (λ now. stands around.now self.new now ≡ goes_on around.now self.old (λ h w. taken_by (around_view around.now) form.entry.now tail value h w)) }
+        ensures { IfOk result (λ now. stands around.now self.new now ≡ goes_on around.now self.old
+            (λ h w. taken_by (around_view around.now) form.entry.now tail value h w)) }
     {
         match form {
             Form::Assign { name, .. } => {
@@ -127,12 +131,7 @@ impl<'a> Machine<'a> {
                 Ok(Now::Gives(None))
             }
             Form::Load(chunk, _) => Ok(given(self.world.memory.load(*chunk, value))),
-            Form::Raise(_) => {
-                if !fits(around.end, Ty::Val, value) {
-                    return Ok(not_proper(misfit(Ty::Val)));
-                }
-                Ok(Now::Raises(value))
-            }
+            Form::Raise(_) => Ok(raised(around.end, value)),
             Form::If(_, on_true, on_false) => {
                 match condition_of(&self.world.memory, value) {
                     Ok(true) => Ok(Now::Begins {
@@ -173,7 +172,9 @@ impl<'a> Machine<'a> {
         left_first: bool,
         first: Value,
     ) -> Result<Now<'a>, AllocError>
-        ensures { IfOk result (λ now. (s : evaluation.Surroundings) → stands_in s self.new now ≡ goes_on_in s self.old (λ h w. does s (Step.First left_first) form.entry.now tail (Gives (Some first) h w))) }
+        ensures { IfOk result (λ now. (s : evaluation.Surroundings) →
+            stands_in s self.new now ≡ goes_on_in s self.old (λ h w.
+            does s (Step.First left_first) form.entry.now tail (Gives (Some first) h w))) }
     {
         if group_of(form) != Group::Two {
             return Ok(not_proper(Kind::BadValue));
@@ -186,7 +187,9 @@ impl<'a> Machine<'a> {
 
     // What a node with two operands does with their values.
     fn join(&mut self, form: &'a Form, left: Value, right: Value) -> Result<Now<'a>, AllocError>
-        ensures { IfOk result (λ now. (s : evaluation.Surroundings) → stands_in s self.new now ≡ goes_on_in s self.old (λ h w. joined_by s form.entry.now left right h w)) }
+        ensures { IfOk result (λ now. (s : evaluation.Surroundings) →
+            stands_in s self.new now ≡ goes_on_in s self.old (λ h w.
+            joined_by s form.entry.now left right h w)) }
     {
         match form {
             Form::Operator(op, _, _) => Ok(given(apply(*op, &self.world.memory, left, right))),
@@ -209,7 +212,8 @@ impl<'a> Machine<'a> {
         value: Value,
     ) -> Result<Now<'a>, AllocError>
         requires { IsAround around.now }
-        ensures { IfOk result (λ now. stands around.now self.new now ≡ goes_on around.now self.old (λ h w. first_bound (around_view around.now) bindings.entry.now value h w)) }
+        ensures { IfOk result (λ now. stands around.now self.new now ≡ goes_on around.now self.old
+            (λ h w. first_bound (around_view around.now) bindings.entry.now value h w)) }
     {
         match bindings.split_first() {
             None => Ok(not_proper(Kind::BadValue)),
@@ -228,13 +232,15 @@ impl<'a> Machine<'a> {
         form: &'a Form,
         tail: bool,
         level: usize,
-        taken: u64,
+        tries: u64,
     ) -> Result<Now<'a>, AllocError>
-        ensures { IfOk result (λ now. (s : evaluation.Surroundings) → stands_in s self.new now ≡ goes_on_in s self.old (λ h w. body_of s form.entry.now tail level taken h w)) }
+        ensures { IfOk result (λ now. (s : evaluation.Surroundings) →
+            stands_in s self.new now ≡ goes_on_in s self.old (λ h w.
+            body_of s form.entry.now tail level tries h w)) }
     {
         match form {
             Form::Let(_, body) => {
-                self.push(form, tail, Step::Scope { level, taken })?;
+                self.push(form, tail, Step::Scope { level, tries })?;
                 Ok(Now::Begins { expr: body, tail })
             }
             _ => Ok(not_proper(Kind::BadValue)),
@@ -243,7 +249,8 @@ impl<'a> Machine<'a> {
 }
 
 fn given<'a>(value: Result<Value, Kind>) -> Now<'a>
-    ensures { (s : evaluation.Surroundings) → (h : state.Here) → (w : state.World) → standing s result h w ≡ proper value w (λ v. Gives (Some v) h w) }
+    ensures { (s : evaluation.Surroundings) → (h : state.Here) → (w : state.World) →
+        standing s result h w ≡ proper value w (λ v. Gives (Some v) h w) }
 {
     match value {
         Ok(value) => Now::Gives(Some(value)),
@@ -253,7 +260,8 @@ fn given<'a>(value: Result<Value, Kind>) -> Now<'a>
 
 // A value comes where the call is written with a type.
 fn as_written<'a>(written: Ret, value: Option<Value>) -> Now<'a>
-    ensures { (s : evaluation.Surroundings) → (h : state.Here) → (w : state.World) → standing s result h w ≡ as_written written value h w }
+    ensures { (s : evaluation.Surroundings) → (h : state.Here) → (w : state.World) →
+        standing s result h w ≡ as_written written value h w }
 {
     match written {
         Ret::Unit => Now::Gives(None),
@@ -266,7 +274,10 @@ fn as_written<'a>(written: Ret, value: Option<Value>) -> Now<'a>
 
 // A test of an index, which raises the address of the built-in symbol where it fails.
 fn checked<'a>(bound: Value, index: Value) -> Now<'a>
-    ensures { (s : evaluation.Surroundings) → (h : state.Here) → (w : state.World) → standing s result h w ≡ proper (word_in bound) w (λ bound. proper (word_in index) w (λ index. cond (nat_lt index bound) (Gives None h w) (Raises bound_error h w))) }
+    ensures { (s : evaluation.Surroundings) → (h : state.Here) → (w : state.World) →
+        standing s result h w ≡ proper (word_in bound) w (λ bound.
+        proper (word_in index) w (λ index.
+        cond (nat_lt index bound) (Gives None h w) (Raises bound_error h w))) }
 {
     match word_in(bound) {
         Err(kind) => not_proper(kind),

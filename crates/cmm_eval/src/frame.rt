@@ -22,7 +22,7 @@ pub(crate) enum Step<'a> {
     /// The last part: the scope before it comes back.
     Scope {
         level: usize,
-        taken: u64,
+        tries: u64,
     },
     /// The only operand.
     Operand,
@@ -42,7 +42,7 @@ pub(crate) enum Step<'a> {
     /// The bindings of a let; the scope is the one before them.
     Bound {
         level: usize,
-        taken: u64,
+        tries: u64,
     },
     /// An operand behind these, whose values came before, last to first.
     Waiting {
@@ -70,12 +70,12 @@ pub(crate) enum Step<'a> {
         within: bool,
         turns: u64,
         level: usize,
-        taken: u64,
+        tries: u64,
     },
     /// The body of a try.
     Try {
         level: usize,
-        taken: u64,
+        tries: u64,
     },
     /// The body of a callee; the activation is the caller's.
     Return {

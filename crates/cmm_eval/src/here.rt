@@ -2,7 +2,7 @@
 ghost use Rattle.std.specs.Prelude.{◌≡◌, ◌∷◌, [], IfOk, option_map, option_copied};
 ghost use Rattle.cmm_types.specs.Types.{type_named};
 ghost use Rattle.cmm_types.specs.Light.{is_immutable};
-ghost use Rattle.cmm_meaning.specs.State.{scope, value_of, assigned, back_in};
+ghost use Rattle.cmm_meaning.specs.State.{scope, value_of, assigned, back_in, taken};
 ghost use Rattle.cmm_meaning.specs.Evaluation.{with_bound};
 ghost use Rattle.cmm_eval.specs.Views.{bound_view, bounds_view, here_view};
 ghost use Rattle.cmm_eval.specs.Innermost.{innermost};
@@ -26,8 +26,10 @@ pub(crate) struct Here<'a> {
     pub(crate) names: Vec<Bound<'a>>,
     /// The stack bytes of the activations and tries that called this one.
     pub(crate) below: u64,
-    /// Those bytes with this activation's frame and active tries.
-    pub(crate) taken: u64,
+    /// The bytes of this activation's frame.
+    pub(crate) frame: u64,
+    /// How many tries it has entered and not left.
+    pub(crate) tries: u64,
 }
 
 /// The innermost binding of a name, which stands last among those of its name.
@@ -46,6 +48,15 @@ fn innermost<'b, 'a>(names: &'b [Bound<'a>], name: &Name) -> Option<&'b Bound<'a
 }
 
 impl<'a> Here<'a> {
+    /// The stack bytes up to here: a try takes 16. No memory holds as many bytes as would pass a `u64`.
+    pub(crate) fn taken(&self) -> Result<u64, AllocError>
+        ensures { IfOk result (λ bytes. bytes ≡ taken (here_view self.now)) }
+    {
+        let activation = self.below.checked_add(self.frame).ok_or(AllocError)?;
+        let tries = self.tries.checked_mul(16).ok_or(AllocError)?;
+        activation.checked_add(tries).ok_or(AllocError)
+    }
+
     /// The value of the innermost binding of a name.
     #[tactic(auto, using(crate::proofs::Bounds::value_some, crate::proofs::Bounds::value_none))]
     pub(crate) fn value_of(&self, name: &Name) -> Option<Value>
@@ -81,7 +92,10 @@ impl<'a> Here<'a> {
 
     /// Gives the innermost binding of a name a new value.
     pub(crate) fn assign(&mut self, name: &Name, value: Value)
-        ensures { here_view self.new ≡ record (here_view self.old) { names = assigned (here_view self.old).names name.now value } }
+        ensures { here_view self.new ≡ record (here_view self.old) {
+          names = assigned
+              (here_view self.old).names name.now value;
+        } }
     {
         let mut index = self.names.len();
         while index > 0 {
@@ -103,7 +117,11 @@ impl<'a> Here<'a> {
         mutable: bool,
         value: Value,
     ) -> Result<(), AllocError>
-        ensures { IfOk result (λ _. here_view self.new ≡ with_bound (record { name = name.now; type = ty; mutable = mutable } ∷ []) (value ∷ []) (here_view self.old)) }
+        ensures { IfOk result (λ _. here_view self.new ≡ with_bound (record {
+          name = name.now;
+          type = ty;
+          mutable = mutable;
+        } ∷ []) (value ∷ []) (here_view self.old)) }
     {
         self.names.push(Bound {
             name,
@@ -116,10 +134,10 @@ impl<'a> Here<'a> {
 
     /// Goes back to a scope that had been entered.
     #[tactic(auto, using(crate::proofs::Bounds::bounds_take))]
-    pub(crate) fn back_in(&mut self, level: usize, taken: u64)
-        ensures { here_view self.new ≡ back_in level taken (here_view self.old) }
+    pub(crate) fn back_in(&mut self, level: usize, tries: u64)
+        ensures { here_view self.new ≡ back_in level tries (here_view self.old) }
     {
         self.names.truncate(level);
-        self.taken = taken;
+        self.tries = tries;
     }
 }

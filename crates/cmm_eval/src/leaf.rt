@@ -25,7 +25,9 @@ impl<'a> Machine<'a> {
     pub(crate) fn leaf(&self, around: &Surroundings<'a>, form: &'a Form) -> Now<'a>
         requires around { IsAround around.now }
         requires leaf { group_of form.now ≡ Group.Leaf }
-        ensures { standing (around_view around.now) result (here_view self.now.here) (world_view self.now.world) ≡ inside (around_view around.now) form.entry.now false (here_view self.now.here) (world_view self.now.world) }
+        ensures { standing (around_view around.now) result (here_view self.now.here)
+            (world_view self.now.world) ≡ inside (around_view around.now) form.entry.now false
+            (here_view self.now.here) (world_view self.now.world) }
     {
         match form {
             Form::Integer(word) => Now::Gives(Some(Value::Word(*word))),
@@ -46,7 +48,8 @@ impl<'a> Machine<'a> {
         tail: bool,
     ) -> Result<Now<'a>, AllocError>
         requires { group_of form.now ≡ Group.One }
-        ensures { IfOk result (λ now. stands around.now self.new now ≡ goes_on around.now self.old (λ h w. inside (around_view around.now) form.entry.now tail h w)) }
+        ensures { IfOk result (λ now. stands around.now self.new now ≡ goes_on around.now self.old
+            (λ h w. inside (around_view around.now) form.entry.now tail h w)) }
     {
         let expr = operand_of(form);
         self.push(form, tail, Step::Operand)?;
@@ -62,7 +65,8 @@ impl<'a> Machine<'a> {
         tail: bool,
     ) -> Result<Now<'a>, AllocError>
         requires { group_of form.now ≡ Group.Two }
-        ensures { IfOk result (λ now. stands around.now self.new now ≡ goes_on around.now self.old (λ h w. inside (around_view around.now) form.entry.now tail h w)) }
+        ensures { IfOk result (λ now. stands around.now self.new now ≡ goes_on around.now self.old
+            (λ h w. inside (around_view around.now) form.entry.now tail h w)) }
     {
         let (left, right) = both_operands(form);
         let left_first = is_left_first(&self.here, left, right);
@@ -84,7 +88,9 @@ pub(crate) fn earlier<'a>(left_first: bool, left: &'a Expr, right: &'a Expr) -> 
 /// The operand of a node with one.
 fn operand_of(form: &Form) -> &Expr
     requires { group_of form.now ≡ Group.One }
-    ensures { (s : evaluation.Surroundings) → (tail : Bool) → (h : state.Here) → (w : state.World) → inside s form.now tail h w ≡ with_value (expression s result.now false h w) (λ v h w. taken_by s form.now tail v h w) }
+    ensures { (s : evaluation.Surroundings) → (tail : Bool) → (h : state.Here) →
+        (w : state.World) → inside s form.now tail h w ≡ with_value
+        (expression s result.now false h w) (λ v h w. taken_by s form.now tail v h w) }
 {
     match form {
         Form::Assign { value, .. } => value,
@@ -99,9 +105,14 @@ fn operand_of(form: &Form) -> &Expr
 /// The operands of a node with two, the left one first.
 pub(crate) fn both_operands(form: &Form) -> (&Expr, &Expr)
     requires { group_of form.now ≡ Group.Two }
-    ensures left { (s : evaluation.Surroundings) → (h : state.Here) → (w : state.World) → left_of s form.now h w ≡ expression s result.0.now false h w }
-    ensures right { (s : evaluation.Surroundings) → (h : state.Here) → (w : state.World) → right_of s form.now h w ≡ expression s result.1.now false h w }
-    ensures whole { (s : evaluation.Surroundings) → (tail : Bool) → (h : state.Here) → (w : state.World) → inside s form.now tail h w ≡ both (is_left_first (scope h) (expr_view result.0.now) (expr_view result.1.now)) (left_of s form.now) (right_of s form.now) h w (λ a b h w. joined_by s form.now a b h w) }
+    ensures left { (s : evaluation.Surroundings) → (h : state.Here) → (w : state.World) →
+        left_of s form.now h w ≡ expression s result.0.now false h w }
+    ensures right { (s : evaluation.Surroundings) → (h : state.Here) → (w : state.World) →
+        right_of s form.now h w ≡ expression s result.1.now false h w }
+    ensures whole { (s : evaluation.Surroundings) → (tail : Bool) → (h : state.Here) →
+        (w : state.World) → inside s form.now tail h w ≡ both (is_left_first
+        (scope h) (expr_view result.0.now) (expr_view result.1.now))
+        (left_of s form.now) (right_of s form.now) h w (λ a b h w. joined_by s form.now a b h w) }
 {
     match form {
         Form::Operator(_, left, right) => (left, right),
@@ -113,7 +124,8 @@ pub(crate) fn both_operands(form: &Form) -> (&Expr, &Expr)
 
 /// The value that is there, or why there must be one.
 fn looked_up<'a>(value: Option<Value>) -> Now<'a>
-    ensures { (s : evaluation.Surroundings) → (h : state.Here) → (w : state.World) → standing s result h w ≡ looked_up value h w }
+    ensures { (s : evaluation.Surroundings) → (h : state.Here) → (w : state.World) →
+        standing s result h w ≡ looked_up value h w }
 {
     match value {
         Some(value) => Now::Gives(Some(value)),

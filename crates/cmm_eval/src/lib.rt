@@ -23,6 +23,3 @@ mod world;
 pub use evaluation::{eval, fits_entry};
 pub use layout::Layout;
 pub use outcome::{Eval, Outcome};
-
-#[cfg(test)]
-mod tests;

@@ -26,7 +26,8 @@ pub(crate) fn is_light_address(here: &Here<'_>, expr: &Expr) -> bool
 
 /// Whether the right operand alone is a light address, so that the left one is evaluated first.
 pub(crate) fn is_left_first(here: &Here<'_>, left: &Expr, right: &Expr) -> bool
-    ensures { result ≡ is_left_first (scope (here_view here.now)) (expr_view left.now) (expr_view right.now) }
+    ensures { result ≡ is_left_first (scope (here_view here.now)) (expr_view left.now)
+        (expr_view right.now) }
 {
     is_light_address(here, right) && !is_light_address(here, left)
 }

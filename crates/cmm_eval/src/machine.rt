@@ -41,7 +41,9 @@ impl<'a> Machine<'a> {
     ) -> Result<Now<'a>, AllocError>
         requires { IsAround around.now }
         ensures ended { IfOk result (λ end. HasEnded end) }
-        ensures end { IfOk result (λ end. standing (around_view around.now) end (here_view self.new.here) (world_view self.new.world) ≡ stands around.now self.old first.entry) }
+        ensures end { IfOk result (λ end. standing (around_view around.now) end
+            (here_view self.new.here) (world_view self.new.world) ≡ stands around.now self.old
+            first.entry) }
     {
         let mut now = first;
         'turns: for _turn in 0..u64::MAX {
@@ -66,7 +68,8 @@ impl<'a> Machine<'a> {
         tail: bool,
     ) -> Result<Now<'a>, AllocError>
         requires { IsAround around.now }
-        ensures { IfOk result (λ now. stands around.now self.new now ≡ goes_on around.now self.old (λ h w. expression (around_view around.now) expr.entry.now tail h w)) }
+        ensures { IfOk result (λ now. stands around.now self.new now ≡ goes_on around.now self.old
+            (λ h w. expression (around_view around.now) expr.entry.now tail h w)) }
     {
         if group_of(&expr.form) == Group::Float {
             return Ok(not_proper(Kind::BadValue));
@@ -88,7 +91,12 @@ impl<'a> Machine<'a> {
     ) -> Result<(), AllocError>
         ensures here { IfOk result (λ _. self.new.here ≡ self.old.here) }
         ensures world { IfOk result (λ _. self.new.world ≡ self.old.world) }
-        ensures frames { IfOk result (λ _. self.new.frames.items ≡ self.old.frames.items ++ record { form = form.entry; tail = tail; step = step.entry } ∷ []) }
+        ensures frames { IfOk result (λ _. self.new.frames.items ≡ self.old.frames.items ++ record {
+          form =
+              form.entry;
+          tail = tail;
+          step = step.entry;
+        } ∷ []) }
     {
         self.frames.push(Frame { form, tail, step })?;
         Ok(())
@@ -102,7 +110,8 @@ impl<'a> Machine<'a> {
         tail: bool,
     ) -> Result<Now<'a>, AllocError>
         requires { IsAround around.now }
-        ensures { IfOk result (λ now. stands around.now self.new now ≡ goes_on around.now self.old (λ h w. inside (around_view around.now) form.entry.now tail h w)) }
+        ensures { IfOk result (λ now. stands around.now self.new now ≡ goes_on around.now self.old
+            (λ h w. inside (around_view around.now) form.entry.now tail h w)) }
     {
         match group_of(form) {
             Group::Float => Ok(not_proper(Kind::BadValue)),
@@ -130,7 +139,9 @@ impl<'a> Machine<'a> {
     ) -> Result<Now<'a>, AllocError>
         requires around { IsAround around.now }
         requires ended { HasEnded ended }
-        ensures { IfOk result (λ now. stands around.now self.new now ≡ goes_on around.now self.old (λ h w. fills (around_view around.now) frame.entry (standing (around_view around.now) ended.entry h w))) }
+        ensures { IfOk result (λ now. stands around.now self.new now ≡ goes_on around.now self.old
+            (λ h w. fills (around_view around.now) frame.entry (standing
+            (around_view around.now) ended.entry h w))) }
     {
         match ended {
             Now::Gives(value) => self.fill(around, frame, value),
@@ -151,7 +162,8 @@ pub(crate) fn not_proper<'a>(kind: Kind) -> Now<'a>
 
 /// What a node of this type gives; where the type is no value, a value is dropped.
 pub(crate) fn of_type<'a>(end: u64, ty: Ty, value: Option<Value>) -> Now<'a>
-    ensures { (s : evaluation.Surroundings) → (h : state.Here) → (w : state.World) → standing s result h w ≡ of_type end ty value h w }
+    ensures { (s : evaluation.Surroundings) → (h : state.Here) → (w : state.World) →
+        standing s result h w ≡ of_type end ty value h w }
 {
     match ty {
         Ty::NoValue => Now::Gives(None),
@@ -164,7 +176,8 @@ pub(crate) fn of_type<'a>(end: u64, ty: Ty, value: Option<Value>) -> Now<'a>
 
 /// The value, which must fit the type.
 fn tested<'a>(end: u64, ty: Ty, value: Value) -> Now<'a>
-    ensures { (s : evaluation.Surroundings) → (h : state.Here) → (w : state.World) → standing s result h w ≡ tested end ty value w (Gives (Some value) h w) }
+    ensures { (s : evaluation.Surroundings) → (h : state.Here) → (w : state.World) →
+        standing s result h w ≡ tested end ty value w (Gives (Some value) h w) }
 {
     if fits(end, ty, value) {
         Now::Gives(Some(value))

@@ -1,9 +1,10 @@
 //! Rows of operands, elements of sequences, and scopes that are entered.
-ghost use Rattle.std.specs.Prelude.{◌≡◌, Bool, List, Option, IfOk, reverse, option_copied};
+ghost use Rattle.std.specs.Prelude.{◌≡◌, Bool, false, List, Option, IfOk, reverse, option_copied};
 ghost use Rattle.bs_words.specs.declared.values.Value.{Value};
 ghost use Rattle.cmm_meaning.specs.State as state;
+ghost use Rattle.cmm_meaning.specs.State.{taken, within_try, deepened};
 ghost use Rattle.cmm_eval.specs.Views.{here_view};
-ghost use Rattle.cmm_eval.specs.Filled.{elements_from, waits_for, after_callee, after_waiting, fills_in, operands_of};
+ghost use Rattle.cmm_eval.specs.Filled.{expression, elements_from, waits_for, after_callee, after_waiting, fills_in, operands_of};
 ghost use Rattle.cmm_eval.specs.Groups.{group_of};
 ghost use Rattle.cmm_eval.specs.Held.{inside};
 ghost use Rattle.cmm_eval.specs.declared.group.Group.{Group};
@@ -23,7 +24,9 @@ impl<'a> Machine<'a> {
     /// A sequence.
     pub(crate) fn sequence(&mut self, form: &'a Form, tail: bool) -> Result<Now<'a>, AllocError>
         requires { group_of form.now ≡ Group.Sequence }
-        ensures { IfOk result (λ now. (s : evaluation.Surroundings) → stands_in s self.new now ≡ goes_on_in s self.old (λ h w. inside s form.entry.now tail h w)) }
+        ensures { IfOk result (λ now. (s : evaluation.Surroundings) →
+            stands_in s self.new now ≡ goes_on_in s self.old (λ h w.
+            inside s form.entry.now tail h w)) }
     {
         match form {
             Form::Seq(elements) => self.elements(form, tail, elements.as_slice()),
@@ -38,7 +41,9 @@ impl<'a> Machine<'a> {
         tail: bool,
         elements: &'a [Expr],
     ) -> Result<Now<'a>, AllocError>
-        ensures { IfOk result (λ now. (s : evaluation.Surroundings) → stands_in s self.new now ≡ goes_on_in s self.old (λ h w. elements_from s elements.entry.now tail h w)) }
+        ensures { IfOk result (λ now. (s : evaluation.Surroundings) →
+            stands_in s self.new now ≡ goes_on_in s self.old (λ h w.
+            elements_from s elements.entry.now tail h w)) }
     {
         match elements.split_first() {
             None => Ok(Now::Gives(None)),
@@ -55,13 +60,15 @@ impl<'a> Machine<'a> {
     /// A let, a catch or a try.
     pub(crate) fn enter_scope(&mut self, form: &'a Form, tail: bool) -> Result<Now<'a>, AllocError>
         requires { group_of form.now ≡ Group.Scope }
-        ensures { IfOk result (λ now. (s : evaluation.Surroundings) → stands_in s self.new now ≡ goes_on_in s self.old (λ h w. inside s form.entry.now tail h w)) }
+        ensures { IfOk result (λ now. (s : evaluation.Surroundings) →
+            stands_in s self.new now ≡ goes_on_in s self.old (λ h w.
+            inside s form.entry.now tail h w)) }
     {
         let level = self.here.names.len();
-        let taken = self.here.taken;
+        let tries = self.here.tries;
         match form {
             Form::Let(bindings, _) => {
-                self.push(form, tail, Step::Bound { level, taken })?;
+                self.push(form, tail, Step::Bound { level, tries })?;
                 self.bind_next(form, tail, bindings.as_slice())
             }
             Form::Catch(body, _) => {
@@ -74,23 +81,34 @@ impl<'a> Machine<'a> {
                         within,
                         turns,
                         level,
-                        taken,
+                        tries,
                     },
                 )?;
                 Ok(Now::Begins { expr: body, tail })
             }
             Form::Try { body, .. } => {
-                self.push(form, tail, Step::Try { level, taken })?;
-                let deeper = taken.checked_add(16).ok_or(AllocError)?;
-                self.here.taken = deeper;
-                self.world.deepen(deeper);
-                Ok(Now::Begins {
-                    expr: body,
-                    tail: false,
-                })
+                self.push(form, tail, Step::Try { level, tries })?;
+                self.begin_try(body)
             }
             _ => Ok(not_proper(Kind::BadValue)),
         }
+    }
+
+    /// The body of a try begins.
+    fn begin_try(&mut self, body: &'a Expr) -> Result<Now<'a>, AllocError>
+        ensures { IfOk result (λ now. (s : evaluation.Surroundings) →
+            stands_in s self.new now ≡ goes_on_in s self.old (λ h w.
+            expression s body.entry.now false (within_try h) (deepened (taken
+            (within_try h)) w))) }
+    {
+        let tries = self.here.tries.checked_add(1).ok_or(AllocError)?;
+        self.here.tries = tries;
+        let bytes = self.here.taken()?;
+        self.world.deepen(bytes);
+        Ok(Now::Begins {
+            expr: body,
+            tail: false,
+        })
     }
 
     /// The operands that are no light addresses, right to left; the others wait. The values so far are
@@ -104,7 +122,9 @@ impl<'a> Machine<'a> {
         mut values: Vec<Option<Value>>,
     ) -> Result<Now<'a>, AllocError>
         requires { IsAround around.now }
-        ensures { IfOk result (λ now. stands around.now self.new now ≡ goes_on around.now self.old (λ h w. waits_for (around_view around.now) form.entry.now tail (reverse operands.entry.now) (reverse values.items) h w)) }
+        ensures { IfOk result (λ now. stands around.now self.new now ≡ goes_on around.now self.old
+            (λ h w. waits_for (around_view around.now) form.entry.now tail
+            (reverse operands.entry.now) (reverse values.items) h w)) }
     {
         let mut left = operands.len();
         while left > 0 {
@@ -130,7 +150,9 @@ impl<'a> Machine<'a> {
         waited: Vec<Option<Value>>,
     ) -> Result<Now<'a>, AllocError>
         requires { IsAround around.now }
-        ensures { IfOk result (λ now. stands around.now self.new now ≡ goes_on around.now self.old (λ h w. after_waiting (around_view around.now) form.entry.now tail waited.items h w)) }
+        ensures { IfOk result (λ now. stands around.now self.new now ≡ goes_on around.now self.old
+            (λ h w. after_waiting (around_view around.now) form.entry.now tail waited.items h
+            w)) }
     {
         match prompt_callee(&self.here, form) {
             Some(expr) => {
@@ -157,7 +179,9 @@ impl<'a> Machine<'a> {
         mut values: Vec<Value>,
     ) -> Result<Now<'a>, AllocError>
         requires { IsAround around.now }
-        ensures { IfOk result (λ now. stands around.now self.new now ≡ goes_on around.now self.old (λ h w. fills_in (around_view around.now) form.entry.now tail callee (reverse operands.entry.now) (reverse waited.items) (reverse values.items) h w)) }
+        ensures { IfOk result (λ now. stands around.now self.new now ≡ goes_on around.now self.old
+            (λ h w. fills_in (around_view around.now) form.entry.now tail callee
+            (reverse operands.entry.now) (reverse waited.items) (reverse values.items) h w)) }
     {
         let mut left = operands.len();
         while left > 0 {
@@ -189,7 +213,10 @@ impl<'a> Machine<'a> {
 
 /// The callee of a call, unless it waits.
 fn prompt_callee<'a>(here: &Here<'_>, form: &'a Form) -> Option<&'a Expr>
-    ensures { (s : evaluation.Surroundings) → (tail : Bool) → (before : List (Option Value)) → (w : state.World) → after_waiting s form.entry.now tail before (here_view here.now) w ≡ after_callee s form.entry.now tail (option_copied result) before (here_view here.now) w }
+    ensures { (s : evaluation.Surroundings) → (tail : Bool) → (before : List (Option Value)) →
+        (w : state.World) → after_waiting s form.entry.now tail before
+        (here_view here.now) w ≡ after_callee s form.entry.now tail
+        (option_copied result) before (here_view here.now) w }
 {
     match form {
         Form::App { callee, .. } => {

@@ -4,7 +4,8 @@ use Rattle.bs_fault.specs.declared.fault.Fault.{Fault}
 use Rattle.bs_fault.specs.declared.fault.Fault.TheVariants.{AddrLive}
 use Rattle.cmm_lex.proofs.Languages.{AreBytes}
 use Rattle.cmm_tree.specs.Tree.{FileTree}
-use Rattle.cmm_types.specs.Faults.{TypeFault, IsLeftmost}
+use Rattle.cmm_types.specs.Faults.{TypeFault}
+use Rattle.bs_fault.specs.Order.{IsLeftmost}
 use Rattle.cmm_walks.specs.AddrLive.{IsLive, Before, IsToldLive}
 use Rattle.cmm_front.specs.FileOf.{IsFileOf, HasFault, unread, untyped, unsettled}
 use Rattle.cmm_front.proofs.Told.{one_leftmost}
@@ -51,7 +52,7 @@ one_fault text _ _ are (unread a h) (untyped file b read left) = absurd (read_or
 one_fault text _ _ are (unread a h) (unsettled file bound point used read typed live) = absurd (read_or_told text file a are read h)
 one_fault text _ _ are (untyped file a read left) (unread b g) = absurd (read_or_told text file b are read g)
 one_fault text _ _ are (untyped file a read left) (untyped other b read' left') =
-    one_leftmost other a b (subst (λ (v : FileTree). IsLeftmost v a) (one_file_read text file other are read read') left) left'
+    one_leftmost other a b (subst (λ (v : FileTree). IsLeftmost (TypeFault v) a) (one_file_read text file other are read read') left) left'
 one_fault text _ _ are (untyped file a read left) (unsettled other bound point used read' typed live) =
     absurd (typed a (subst (λ (v : FileTree). TypeFault v a) (one_file_read text file other are read read') left.is_fault))
 one_fault text _ _ are (unsettled file bound point used read typed live) (unread b g) = absurd (read_or_told text file b are read g)

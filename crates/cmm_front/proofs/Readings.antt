@@ -5,11 +5,12 @@ use Rattle.cmm_grammar.specs.Reading.{Outcome, Read, Stops, items_at}
 use Rattle.cmm_lex.specs.Lexing.{Splits, first_range}
 use Rattle.cmm_lex.specs.Token.{TokenTree}
 use Rattle.cmm_lex.proofs.Languages.{AreBytes}
-use Rattle.cmm_limits.specs.Leftmost.{Faultless, one_of, here, second}
+use Rattle.bs_fault.specs.Reported.{Faultless, one_of, here, second}
 use Rattle.cmm_tree.specs.Tree.{ItemTree, FileTree}
 use Rattle.cmm_grammar.specs.Spelling.{nesting}
 use Rattle.cmm_data.specs.Faults.{data_fault_of}
-use Rattle.cmm_reader.specs.Text.{longest, file_faults, ReadsAs}
+use Rattle.bs_fault.specs.Limits.{longest_text}
+use Rattle.cmm_reader.specs.Text.{file_faults, ReadsAs}
 use Rattle.cmm_reader.specs.Telling.{Tells, IsReading, too_long, by_tokens}
 use Rattle.cmm_reader.proofs.One.{one-reading}
 use Rattle.cmm_reader.proofs.Telling.{said_reading}
@@ -31,7 +32,7 @@ one_fault_told text a b are h g =
 
 -- What is known of a text that is read as a file.
 pub record IsRead (text : List ℕ) (file : FileTree) : Type 0 where
-  pub short : length text ≤ longest
+  pub short : length text ≤ longest_text
   pub tokens : List TokenTree
   pub rest : List TokenTree
   pub cut : Splits 0 text tokens None
@@ -39,7 +40,7 @@ pub record IsRead (text : List ℕ) (file : FileTree) : Type 0 where
   pub faultless : Faultless (file_faults (first_range tokens) file)
 
 read_by : (text : List ℕ) (tokens : List TokenTree) (lexing : Option Fault) (file : FileTree) (o : Outcome (List ItemTree))
-    → length text ≤ longest
+    → length text ≤ longest_text
     → Splits 0 text tokens lexing
     → items_at nesting tokens ≡ o
     → Tells (length text) tokens lexing o (Ok file)

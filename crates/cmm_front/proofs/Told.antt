@@ -5,10 +5,11 @@ use Rattle.bs_fault.specs.declared.fault.Fault.{Fault}
 use Rattle.bs_fault.specs.declared.fault.Fault.TheVariants as fault
 use Rattle.cmm_tree.specs.Tree.{Expression, FileTree}
 use Rattle.cmm_types.specs.Standing.{Visible}
-use Rattle.cmm_types.specs.Symbols.{DefinedSymbol}
+use Rattle.cmm_tree.specs.Symbols.{DefinedSymbol}
 use Rattle.cmm_types.specs.Types.{Scoped}
 use Rattle.cmm_types.specs.Faults as types
-use Rattle.cmm_types.specs.Faults.{FaultOf, TypeFault, fault_number, IsLeftmost}
+use Rattle.cmm_types.specs.Faults.{FaultOf, TypeFault}
+use Rattle.bs_fault.specs.Order.{fault_number, Precedes, IsLeftmost}
 
 -- the fault of a number at a place
 abbrev decoded : ℕ → ℕ → Fault
@@ -56,8 +57,8 @@ node_placed _ _ _ _ _ (types.float_form at word_at operands) = record { same = r
 node_placed _ _ _ _ _ (types.declared_float at bindings body there h) = record { same = refl }
 node_placed _ _ _ _ _ (types.FaultOf.float_parameter at body handlers params e p h g i) = record { same = refl }
 node_placed _ _ _ _ _ (types.float_result at called arguments result_at) = record { same = refl }
-node_placed _ _ _ _ _ (types.outer_float_result at name arguments result_at) = record { same = refl }
-node_placed _ _ _ _ _ (types.address_argument at name arguments result result_at e h g) = record { same = refl }
+node_placed _ _ _ _ _ (types.outer_float_result at frame name arguments result_at) = record { same = refl }
+node_placed _ _ _ _ _ (types.address_argument at frame name arguments result result_at e h g) = record { same = refl }
 
 type_placed : (file : FileTree) (told : Fault) → TypeFault file told → IsPlaced told
 type_placed file _ (types.of_node f names labels e told h g i) = node_placed _ names labels e told i
@@ -74,13 +75,13 @@ not_less : (p q : ℕ) → (p < q → ⊥) → (q < p → ⊥) → p ≡ q
 not_less p q h g = omega (arith, h, g)
 
 -- of two placed faults of which none precedes the other, each is the other
-same_told : (a b : Fault) → IsPlaced a → IsPlaced b → ¬ types.Precedes a b → ¬ types.Precedes b a → a ≡ b
+same_told : (a b : Fault) → IsPlaced a → IsPlaced b → ¬ Precedes a b → ¬ Precedes b a → a ≡ b
 same_told a b p q h g =
     let place : fault_place a ≡ fault_place b = not_less _ _ (λ less. h (inl less)) (λ less. g (inl less)) in
     let number : fault_number a ≡ fault_number b = not_less _ _ (λ less. h (inr (place, less))) (λ less. g (inr (sym place, less))) in
     sym p.same ∙ ap (λ (n : ℕ). decoded n (fault_place a)) number ∙ ap (λ (at : ℕ). decoded (fault_number b) at) place ∙ q.same
 
 -- one fault of types and symbols is told
-pub one_leftmost : (file : FileTree) (a b : Fault) → IsLeftmost file a → IsLeftmost file b → a ≡ b
+pub one_leftmost : (file : FileTree) (a b : Fault) → IsLeftmost (TypeFault file) a → IsLeftmost (TypeFault file) b → a ≡ b
 one_leftmost file a b h g =
     same_told a b (type_placed file a h.is_fault) (type_placed file b g.is_fault) (g.none_before a h.is_fault) (h.none_before b g.is_fault)

@@ -5,7 +5,8 @@ use Rattle.bs_fault.specs.declared.fault.Fault.TheVariants.{AddrLive}
 use Rattle.bs_fault.specs.declared.fault.FrontError.{FrontError}
 use Rattle.bs_fault.specs.declared.fault.FrontError.TheVariants as error
 use Rattle.cmm_tree.specs.Tree.{FileTree}
-use Rattle.cmm_types.specs.Faults.{TypeFault, IsLeftmost}
+use Rattle.cmm_types.specs.Faults.{TypeFault}
+use Rattle.bs_fault.specs.Order.{IsLeftmost}
 use Rattle.cmm_walks.specs.AddrLive.{IsLive, IsToldLive}
 use Rattle.cmm_reader.specs.Text.{ReadsAs}
 
@@ -20,7 +21,7 @@ pub record IsFileOf (text : List ℕ) (file : FileTree) : Type 0 where
 -- of types or symbols; and of one without these, the first address that is used so.
 pub data HasFault (text : List ℕ) : Fault → Type 0 where
   unread : (told : Fault) → ReadsAs text (Err told) → HasFault text told
-  untyped : (file : FileTree) (told : Fault) → ReadsAs text (Ok file) → IsLeftmost file told → HasFault text told
+  untyped : (file : FileTree) (told : Fault) → ReadsAs text (Ok file) → IsLeftmost (TypeFault file) told → HasFault text told
   unsettled : (file : FileTree) (bound point used : ℕ)
       → ReadsAs text (Ok file)
       → ((told : Fault) → ¬ TypeFault file told)

@@ -12,7 +12,7 @@ use Rattle.cmm_data.specs.Placement.{data_end, value_of_symbol}
 use Rattle.cmm_tree.specs.Tree.{Expression, Expressions, Symbol, Name, Let, App, NoMore, More, NoBinding, Bind, FunctionTree, FileTree, functions, comps_of}
 use Rattle.cmm_types.specs.Types.{first_type, type_named, type_of}
 use Rattle.cmm_meaning.specs.Layout.{Layout}
-use Rattle.cmm_meaning.specs.State.{World, Binding, Here, scope, found, value_of}
+use Rattle.cmm_meaning.specs.State.{World, Binding, Called, Here, scope, found, value_of}
 use Rattle.cmm_meaning.specs.Evaluation.{OutOfFuel, Evaluated, Evaluation, Gives, Stops, Surroundings, and_then, with_value, spend, typed, tested, looked_up, applied, called_with, back_from_call, as_written, stack_below, back, with_bound, evaluated, waiting, filled}
 use Rattle.cmm_meaning.specs.Run.{activated, callees, outside}
 use Rattle.cmm_gen.specs.Drawn.{Drawn, DrawnFunction, symbol_of}
@@ -28,11 +28,16 @@ pub data IsEnd : Evaluation → Type 0 where
   gives : (v : ℕ) (h : Here) (w : World) → IsEnd (Gives (Some (Word v)) h w)
   out : (w : World) → IsEnd (Stops OutOfFuel w)
 
+-- the call of function i on two words
+abbrev pub call_on : (i u v below : ℕ) (tail : Bool) (tries : ℕ) → Called
+call_on i u v below tail tries =
+    record { function = i; arguments = Word u ∷ Word v ∷ []; below = below; tail = tail; tries = tries }
+
 -- function i can be called by its symbol, on two words
 pub record CanCall (s : Surroundings) (i : ℕ) : Type 0 where
   pub symbol : s.symbol (symbol_of i) ≡ Some (Function i)
   pub parameters : slice_get s.parameters i ≡ Some (comp.Int ∷ comp.Int ∷ [])
-  pub ends : (u v below : ℕ) (w : World) → IsEnd (s.call i (Word u ∷ Word v ∷ []) below w)
+  pub ends : (u v below tries : ℕ) (tail : Bool) (w : World) → IsEnd (s.call (call_on i u v below tail tries) w)
 
 -- `p` and `q` are bound to words as well
 pub record HasFour (names : List Binding) : Type 0 where
@@ -63,7 +68,7 @@ module _ (s : Surroundings) (names : List Binding) where
     on_words u v tail h w same =
         let P : Option (List Comp) → Type 0 =
         λ x. IsFine false names (called_with s x i (Word u ∷ Word v ∷ []) (ret.Comp comp.Int) tail h w) in
-        subst P (sym can.parameters) (of_end names h _ same (can.ends u v (stack_below tail h) w))
+        subst P (sym can.parameters) (of_end names h _ same (can.ends u v (stack_below tail h) h.tries tail w))
 
     by_symbol : (u v : ℕ) (tail : Bool) (h : Here) (left : ℕ) (w : World) (o : Option Value) → o ≡ Some (Function i) → h.names ≡ names → IsFine false names (with_value (spend left w (λ w. typed s.end ty.Val (looked_up o h w))) (λ f h w. applied s f (Word u ∷ Word v ∷ []) (ret.Comp comp.Int) tail h w))
     by_symbol u v tail h zero w o found same = WordsGiven.spent w
@@ -97,16 +102,16 @@ bound_as name t v h w = Gives None (with_bound (record { name = name; type = t; 
 
 module _ (s : Surroundings) (names : List Binding) (name : List ℕ) (value body : Expression) (fine_value : FineAt s names value) (fine_body : (v : ℕ) → FineAt s (bound_word name v ∷ names) body) where
   inside : (v : ℕ) (t : Ty) (h here : Here) (w : World) (tail : Bool) → t ≡ ty.Int → h.names ≡ names → here.names ≡ names
-      → IsFine false names (and_then (tested s.end t (Word v) w (bound_as name t (Word v) h w)) (λ _ inner w. back (length here.names) here.taken (evaluated s body tail inner w)))
+      → IsFine false names (and_then (tested s.end t (Word v) w (bound_as name t (Word v) h w)) (λ _ inner w. back (length here.names) here.tries (evaluated s body tail inner w)))
   inside v t h here w tail int same known =
       let P : Ty → Type 0 =
-      λ t. IsFine false names (and_then (tested s.end t (Word v) w (bound_as name t (Word v) h w)) (λ _ inner w. back (length here.names) here.taken (evaluated s body tail inner w))) in
+      λ t. IsFine false names (and_then (tested s.end t (Word v) w (bound_as name t (Word v) h w)) (λ _ inner w. back (length here.names) here.tries (evaluated s body tail inner w))) in
       let inner : Here = with_bound (bound_int name ∷ []) (Word v ∷ []) h in
       let entered : inner.names ≡ (bound_word name v ∷ names) = ap (λ (bs : List Binding). bound_word name v ∷ bs) same in
       subst P (sym int) (of_back names (bound_word name v) here (evaluated s body tail inner w) known (fine_body v tail inner w entered))
 
   entered_with : (e : Evaluation) (here : Here) (tail : Bool) → ((h : Here) → h.names ≡ names → type_of (scope h) value ≡ ty.Int) → here.names ≡ names → IsFine false names e
-      → IsFine false names (and_then (with_value e (λ v h w. tested s.end (type_of (scope h) value) v w (bound_as name (type_of (scope h) value) v h w))) (λ _ inner w. back (length here.names) here.taken (evaluated s body tail inner w)))
+      → IsFine false names (and_then (with_value e (λ v h w. tested s.end (type_of (scope h) value) v w (bound_as name (type_of (scope h) value) v h w))) (λ _ inner w. back (length here.names) here.tries (evaluated s body tail inner w)))
   entered_with _ here tail int known (WordsGiven.a_word v h w same) = inside v (type_of (scope h) value) h here w tail (int h same) same known
   entered_with _ here tail int known (WordsGiven.a_raise v h w never same) = absurd (cc never)
   entered_with _ here tail int known (WordsGiven.spent w) = WordsGiven.spent w
@@ -190,15 +195,15 @@ module _ (fs : List DrawnFunction) (file : FileTree) (are : AreItemsOf 0 fs file
   function_number j less = function_at 0 fs file.items are j j less (omega arith)
 
   -- a call of one of its functions, on two words
-  pub callee_ends : (depth j : ℕ) → j < length fs → (a b below : ℕ) (w : World) → IsEnd (callees file layout depth j (Word a ∷ Word b ∷ []) below w)
-  callee_ends zero j less a b below w = out w
-  callee_ends (suc depth) j less a b below w =
+  pub callee_ends : (depth j : ℕ) → j < length fs → (a b below tries : ℕ) (tail : Bool) (w : World) → IsEnd (callees file layout depth (call_on j a b below tail tries) w)
+  callee_ends zero j less a b below tries tail w = out w
+  callee_ends (suc depth) j less a b below tries tail w =
       let s : Surroundings = record {
         end = data_end file;
         symbol = value_of_symbol file;
         parameters = map comps_of (functions file);
         call = callees file layout depth;
-        external = outside layout;
+        external = outside (data_end file) layout;
       } in
       let here : HasFunction file.items j j = function_number j less in
       let can : (i : ℕ) → suc i ≡ j → CanCall s i =
@@ -208,7 +213,7 @@ module _ (fs : List DrawnFunction) (file : FileTree) (are : AreItemsOf 0 fs file
       record {
         symbol = function_symbol fs file are i within (omega arith);
         parameters = slice_get-map comps_of (functions file) i ∙ ap (option_map comps_of) other.found ∙ ap Some (comps_are i other.f other.tree other.is);
-        ends = λ u v below w. callee_ends depth i within u v below w;
+        ends = λ u v below tries tail w. callee_ends depth i within u v below tries tail w;
       } in
       let P : Option FunctionTree → Type 0 = λ x. IsEnd (activated s (slice_index layout.frames j) x (Word a ∷ Word b ∷ []) below w) in
       subst P (sym here.found) (activated_ends s j here.f here.tree here.is can a b (slice_index layout.frames j) below w)

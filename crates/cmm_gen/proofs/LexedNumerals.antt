@@ -11,7 +11,8 @@ use Rattle.cmm_lex.specs.declared.token.TokenKind.TheVariants as kind
 use Rattle.cmm_lex.specs.Automaton.{run, after, after_start, after_number, after_decimal, after_operator, accepts, accepts_number, is_dead}
 use Rattle.cmm_lex.specs.Integers.{integer_value}
 use Rattle.cmm_lex.specs.Scanning.{kind_of}
-use Rattle.cmm_lex.specs.Strings.{IsInside, closing, plain, unescaped, string_bytes, is_symbol}
+use Rattle.cmm_lex.specs.Strings.{IsInside, closing, plain, unescaped, string_bytes}
+use Rattle.bs_words.specs.Symbol.{is_symbol}
 use Rattle.cmm_lex.proofs.Languages.{AreBytes}
 use Rattle.cmm_lex.proofs.Spelled.{token-found}
 use Rattle.cmm_gen.specs.Drawn.{number_text, symbol_of}

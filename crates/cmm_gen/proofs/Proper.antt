@@ -1,5 +1,5 @@
 -- The runs of what is drawn are proper.
-use Rattle.std.proofs.Common.{◌≡◌, ℕ, suc, ◌<◌, ◌^◌, List, [], ◌∷◌, length, refl, ap, arith}
+use Rattle.std.proofs.Common.{◌≡◌, ℕ, suc, ◌<◌, ◌^◌, false, List, [], ◌∷◌, length, refl, ap, arith}
 use Rattle.std.proofs.lemmas.Option.{slice_get_within}
 use Rattle.bs_words.specs.declared.values.Value.TheVariants.{Word}
 use Rattle.cmm_tree.specs.Tree.{FunctionTree, ItemTree, FileTree, functions, functions_among}
@@ -11,7 +11,7 @@ use Rattle.cmm_gen.proofs.Trees
 use Rattle.cmm_gen.proofs.Trees.{IsFunctionTreeOf, AreItemsOf}
 use Rattle.cmm_gen.specs.Generated.{IsProper, RunsProperly}
 use Rattle.cmm_gen.proofs.Symbols.{HasFunction, function_at, two_parameters}
-use Rattle.cmm_gen.proofs.Calls.{IsEnd, gives, out, callee_ends}
+use Rattle.cmm_gen.proofs.Calls.{IsEnd, gives, out, call_on, callee_ends}
 
 of_end : (layout : Layout) (e : Evaluation) → IsEnd e → IsProper (finished layout e).outcome
 of_end layout _ (gives v h w) = tt
@@ -24,7 +24,7 @@ count_of _ _ _ (Trees.more k f fs tree items is rest) = ap suc (count_of (suc k)
 -- a run on two words
 on_two : (fs : List DrawnFunction) (file : FileTree) → AreItemsOf 0 fs file.items → length fs < 2 ^ 64 → (layout : Layout) (entry : ℕ) → entry < length fs → (arguments answers : List ℕ) (n : ℕ) → length arguments ≡ 2 → IsProper (cmm_run file layout entry arguments answers n).outcome
 on_two fs file are few layout entry less (a ∷ b ∷ []) answers n e =
-    of_end layout (callees file layout (suc n) entry (Word a ∷ Word b ∷ []) 0 (first_world file answers n)) (callee_ends fs file are few layout (suc n) entry less a b 0 (first_world file answers n))
+    of_end layout (callees file layout (suc n) (call_on entry a b 0 false 0) (first_world file answers n)) (callee_ends fs file are few layout (suc n) entry less a b 0 0 false (first_world file answers n))
 on_two fs file are few layout entry less [] answers n e = absurd (omega arith)
 on_two fs file are few layout entry less (a ∷ []) answers n e = absurd (omega arith)
 on_two fs file are few layout entry less (a ∷ b ∷ c ∷ more) answers n e = absurd (omega arith)

@@ -10,14 +10,16 @@ use Rattle.cmm_lex.specs.declared.token.Sign.TheVariants as sign
 use Rattle.cmm_lex.specs.declared.token.TokenKind.TheVariants as kind
 use Rattle.cmm_lex.specs.Token.{TokenTree}
 use Rattle.cmm_tree.specs.Tree.{Expression, Operator, Let, Bind, NoBinding, Parameter, ItemTree, FileTree, data_among}
-use Rattle.cmm_limits.specs.Leftmost.{Both, one_if, one_of, Faultless}
+use Rattle.bs_fault.specs.Reported.{Both, one_if, one_of, Faultless}
+use Rattle.bs_fault.specs.Limits.{most_tokens}
 use Rattle.cmm_limits.specs.Limits.{item_faults, items_faults}
 use Rattle.cmm_grammar.specs.Grammar.{an_item}
 use Rattle.cmm_grammar.specs.Parts.{FunctionPart, FunctionItem, item_of}
 use Rattle.cmm_grammar.specs.Rule.{AnItem}
 use Rattle.cmm_grammar.specs.Spelling.{Spells, AreItems, none, more, nesting}
 use Rattle.cmm_grammar.specs.Words.{is_symbol_token}
-use Rattle.cmm_lex.specs.Strings.{string_bytes, is_symbol}
+use Rattle.cmm_lex.specs.Strings.{string_bytes}
+use Rattle.bs_words.specs.Symbol.{is_symbol}
 use Rattle.cmm_gen.specs.Drawn.{Drawn, DrawnFunction, drawn_text, symbol_of, body_text, function_text, text_from, text_of}
 use Rattle.cmm_gen.proofs.Within.{IsWithin}
 use Rattle.cmm_gen.proofs.Trees as tree
@@ -139,8 +141,8 @@ symbol-token j at is = string-symbol (quoted j) (symbol_of j) is.value is.symbol
     string-symbol : (text name : List ℕ) → string_bytes text ≡ name → is_symbol name ≡ true → is_symbol (string_bytes text) ≡ true
     string-symbol text name value h = rw value h
 
-few-tokens : (tokens at : ℕ) → tokens ≤ 4000 → Faultless (one_if (not (nat_le tokens 4000)) (FunctionTooLong at))
-few-tokens tokens at h = rw (le-leb tokens 4000 h) none-fine
+few-tokens : (tokens at : ℕ) → tokens ≤ most_tokens → Faultless (one_if (not (nat_le tokens most_tokens)) (FunctionTooLong at))
+few-tokens tokens at h = rw (le-leb tokens most_tokens h) none-fine
 
 pub function-reads : (j : ℕ) (f : DrawnFunction) (at : ℕ) → j < 1000 → IsFunctionWithin f → ReadingFunction j f at
 function-reads j f at small h =

@@ -8,10 +8,11 @@ use Rattle.cmm_lex.specs.declared.token.Sign.TheVariants as sign
 use Rattle.cmm_lex.specs.declared.token.TokenKind.{TokenKind}
 use Rattle.cmm_lex.specs.declared.token.TokenKind.TheVariants as kind
 use Rattle.cmm_lex.specs.Scanning.{is_star_first}
-use Rattle.cmm_lex.specs.Strings.{string_bytes, is_symbol}
+use Rattle.cmm_lex.specs.Strings.{string_bytes}
+use Rattle.bs_words.specs.Symbol.{is_symbol}
 use Rattle.cmm_lex.specs.Token.{TokenTree}
 use Rattle.cmm_tree.specs.Tree.{Expression, Name, Operator, Load, Alloc, Raise, If, Try, Let, Bind, NoBinding, App, Symbol, NoMore, More}
-use Rattle.cmm_limits.specs.Leftmost.{Faults, NoFault, Both, first, second, Faultless}
+use Rattle.bs_fault.specs.Reported.{Faults, NoFault, Both, first, second, Faultless}
 use Rattle.cmm_limits.specs.Limits.{faults_in}
 use Rattle.cmm_grammar.specs.declared.word.Head.TheVariants as head
 use Rattle.cmm_grammar.specs.declared.word.Pair.TheVariants as pair

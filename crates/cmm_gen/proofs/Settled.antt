@@ -178,23 +178,40 @@ are_entering scope slot name_at name value body p word q =
 
 -- ---- walks
 
+-- what a step of a walk leaves
+record Stepped (events : List Event) (left : List Task) : Type 0 where
+  plain : ArePlain events
+  tasks : AreTasks left
+
+quiet : (left : List Task) → AreTasks left → Stepped [] left
+quiet left ts = record { plain = none; tasks = ts }
+
+plain_step : (tasks left : List Task) (events : List Event) → Walks.Next tasks events left → AreTasks tasks → Stepped events left
+plain_step _ _ _ (Walks.does event tasks) (more _ _ (does _ p) ps) = record { plain = more event [] p none; tasks = ps }
+plain_step _ _ _ (Walks.evaluates scope slot e tasks) (more _ _ (evaluates _ _ _ p) ps) =
+    quiet _ (joined _ _ (are_tasks scope slot e p) ps)
+plain_step _ _ _ (Walks.enters scope slot _ body tasks) (more _ _ (enters _ _ name_at name value _ p word q) ps) =
+    quiet _ (joined _ _ (are_entering scope slot name_at name value body p word q) ps)
+plain_step _ _ _ (Walks.enters scope slot _ body tasks) (more _ _ (enters_body _ _ _ p) ps) =
+    quiet _ (more _ _ (evaluates scope slot body p) ps)
+plain_step _ _ _ (Walks.one_of scope slot es e tasks c) (more _ _ (one_of _ _ _ p) ps) =
+    quiet _ (more _ _ (evaluates scope slot e (p e c)) ps)
+plain_step _ _ _ (Walks.goes_on tasks) (more _ _ p ps) = quiet tasks ps
+plain_step _ _ _ (Walks.may_raise tasks) (more _ _ p ps) = quiet _ (more _ _ raises ps)
+plain_step _ _ _ (Walks.raises tasks handler e) (more _ _ p ps) = quiet handler (behind tasks handler ps e)
+plain_step _ _ _ (Walks.exits label tasks handler e) (more _ _ p ps) = elim p [ ]
+plain_step _ _ _ (Walks.leaves_catch scope slot in_handler handlers tasks) (more _ _ p ps) = elim p [ ]
+plain_step _ _ _ (Walks.leaves_try scope slot name_at name handler tasks) (more _ _ p ps) = quiet tasks ps
+
+plain_joined : (es events : List Event) → ArePlain es → ArePlain events → ArePlain (es ++ events)
+plain_joined _ events none q = q
+plain_joined _ events (more e es p ps) q = more e (es ++ events) p (plain_joined es events ps q)
+
 plain_walk : (tasks : List Task) (events : List Event) → Walk tasks events → AreTasks tasks → ArePlain events
 plain_walk _ _ (Walks.stops tasks) p = none
-plain_walk _ _ (Walks.does event tasks events walk) (more _ _ (does _ p) ps) = more event events p (plain_walk tasks events walk ps)
-plain_walk _ _ (Walks.evaluates scope slot e tasks events walk) (more _ _ (evaluates _ _ _ p) ps) =
-    plain_walk _ events walk (joined _ _ (are_tasks scope slot e p) ps)
-plain_walk _ _ (Walks.enters scope slot _ body tasks events walk) (more _ _ (enters _ _ name_at name value _ p word q) ps) =
-    plain_walk _ events walk (joined _ _ (are_entering scope slot name_at name value body p word q) ps)
-plain_walk _ _ (Walks.enters scope slot _ body tasks events walk) (more _ _ (enters_body _ _ _ p) ps) =
-    plain_walk _ events walk (more _ _ (evaluates scope slot body p) ps)
-plain_walk _ _ (Walks.one_of scope slot es e tasks events c walk) (more _ _ (one_of _ _ _ p) ps) =
-    plain_walk _ events walk (more _ _ (evaluates scope slot e (p e c)) ps)
-plain_walk _ _ (Walks.goes_on tasks events walk) (more _ _ p ps) = plain_walk tasks events walk ps
-plain_walk _ _ (Walks.may_raise tasks events walk) (more _ _ p ps) = plain_walk _ events walk (more _ _ raises ps)
-plain_walk _ _ (Walks.raises tasks handler events e walk) (more _ _ p ps) = plain_walk handler events walk (behind tasks handler ps e)
-plain_walk _ _ (Walks.exits label tasks handler events e walk) (more _ _ p ps) = elim p [ ]
-plain_walk _ _ (Walks.leaves_catch scope slot in_handler handlers tasks events walk) (more _ _ p ps) = elim p [ ]
-plain_walk _ _ (Walks.leaves_try scope slot name_at name handler tasks events walk) (more _ _ p ps) = plain_walk tasks events walk ps
+plain_walk _ _ (Walks.goes tasks left es events step walk) p =
+    let now = plain_step tasks left es step p in
+    plain_joined es events now.plain (plain_walk left events walk now.tasks)
 
 -- ---- what is drawn
 

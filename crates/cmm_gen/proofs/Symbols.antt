@@ -6,7 +6,8 @@ use Rattle.std.proofs.lemmas.Slice.Eq.{bytes_eq-Decides}
 use Rattle.bs_words.specs.Fits.{data_start}
 use Rattle.bs_words.specs.declared.values.Value.TheVariants.{Word, Function}
 use Rattle.cmm_tree.specs.Tree.{FunctionTree, ItemTree, FileTree, functions_among}
-use Rattle.cmm_data.specs.Placement.{bound_error, built_in, end_behind, defined_from, value_among, value_of_symbol}
+use Rattle.cmm_data.specs.Placement.{built_in, end_behind, defined_from, value_among, value_of_symbol}
+use Rattle.bs_words.specs.Symbol.{caml_bound_error}
 use Rattle.cmm_gen.specs.Drawn.{DrawnFunction, symbol_of}
 use Rattle.cmm_gen.proofs.Trees.{IsFunctionTreeOf, function, AreItemsOf, none, more}
 
@@ -28,9 +29,8 @@ other_symbol m n less small =
     omega arith)
 
 -- the built-in symbol is none of them
-pub not_built_in : (n : ℕ) → bytes_eq bound_error (symbol_of n) ≡ false
-unfolding bound_error
-not_built_in n = false-unless (bytes_eq bound_error (symbol_of n)) (λ e. let same : bound_error ≡ symbol_of n = (bytes_eq-Decides bound_error (symbol_of n)).0 e in cc)
+pub not_built_in : (n : ℕ) → bytes_eq caml_bound_error (symbol_of n) ≡ false
+not_built_in n = false-unless (bytes_eq caml_bound_error (symbol_of n)) (λ e. let same : caml_bound_error ≡ symbol_of n = (bytes_eq-Decides caml_bound_error (symbol_of n)).0 e in cc)
 
 -- ---- functions
 

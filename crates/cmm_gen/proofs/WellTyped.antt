@@ -10,10 +10,11 @@ use Rattle.bs_words.specs.declared.types.Ty.TheVariants as ty
 use Rattle.cmm_tree.specs.Place.{place_of}
 use Rattle.cmm_tree.specs.Tree.{Expression, Symbol, Name, App, Operator, Alloc, More, NoMore, NoBinding, Bind, Let, FunctionTree, ItemTree, FileTree}
 use Rattle.cmm_types.specs.Types.{Scoped, first_type, type_named, unless_float, type_of}
-use Rattle.cmm_types.specs.Standing.{Visible, binding_of, first_found}
-use Rattle.cmm_types.specs.Symbols.{DefinedSymbol, built_in, symbols_among, definition_of}
+use Rattle.cmm_types.specs.Standing.{Visible, binding_of}
+use Rattle.cmm_tree.specs.Symbols.{first_found, DefinedSymbol, built_in, symbols_among, definition_of}
 use Rattle.cmm_types.specs.Faults.{TypeFault}
-use Rattle.cmm_types.specs.Gathered.{Faults, arity_faults, parameters_of, NoFault, Both, one_if, role_faults, used_as, faults_in, function_faults, items_faults, symbol_faults, added, first_symbols, file_faults, is_address}
+use Rattle.cmm_types.specs.Gathered.{arity_faults, parameters_of, role_faults, used_as, faults_in, function_faults, items_faults, symbol_faults, added, first_symbols, file_faults, is_address}
+use Rattle.bs_fault.specs.Reported.{Faults, NoFault, Both, one_if}
 use Rattle.cmm_types.specs.declared.role.Role.TheVariants as role
 use Rattle.cmm_types.proofs.Among.{Among, first, second}
 use Rattle.cmm_types.proofs.Exact.{below}

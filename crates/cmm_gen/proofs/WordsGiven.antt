@@ -16,7 +16,7 @@ use Rattle.bs_words.specs.declared.values.Value.TheVariants.{Word, Block}
 use Rattle.cmm_tree.specs.Tree.{Expression, Integer, Name, Operator, Load, Alloc, If, Raise, Try, NoMore, More}
 use Rattle.cmm_types.specs.Light.{is_light_address}
 use Rattle.cmm_types.specs.Types.{Scoped, type_named, holds_float, unless_float, type_of}
-use Rattle.cmm_meaning.specs.State.{World, Binding, Here, scope, value_of, outermost, back_in, deepened}
+use Rattle.cmm_meaning.specs.State.{World, Binding, Here, scope, value_of, outermost, back_in, deepened, taken, within_try}
 use Rattle.cmm_meaning.specs.Evaluation.{OutOfFuel, Evaluated, Evaluation, Gives, Raises, Stops, Surroundings, and_then, with_value, spend, typed, both, unless_light, is_left_first, proper, tested, with_bound, looked_up, back, tried, node, evaluated, waiting, filled}
 use Rattle.cmm_gen.specs.Drawn.{Drawn}
 use Rattle.cmm_gen.proofs.Trees.{number_word, IsTreeOf, number, variable, sum, difference, product, choice, cell, attempt}
@@ -116,23 +116,23 @@ may r names _ (a_word v h w same) = a_word v h w same
 may r names _ (a_raise v h w never same) = absurd (cc never)
 may r names _ (spent w) = spent w
 
-pub of_back : (names : List Binding) (b : Binding) (here : Here) (e : Evaluation) → here.names ≡ names → IsFine false (b ∷ names) e → IsFine false names (back (length here.names) here.taken e)
+pub of_back : (names : List Binding) (b : Binding) (here : Here) (e : Evaluation) → here.names ≡ names → IsFine false (b ∷ names) e → IsFine false names (back (length here.names) here.tries e)
 of_back names b here _ known (a_word v h w same) =
     let left : outermost (length here.names) h.names ≡ names =
     ap (λ (bs : List Binding). outermost (length bs) h.names) known ∙ ap (outermost (length names)) same ∙ without_last names b in
-    a_word v (back_in (length here.names) here.taken h) w left
+    a_word v (back_in (length here.names) here.tries h) w left
 of_back names b here _ known (a_raise v h w never same) = absurd (cc never)
 of_back names b here _ known (spent w) = spent w
 
-of_tried : (names : List Binding) (handler : Value → Here → World → Evaluation) (here : Here) (e : Evaluation) → here.names ≡ names → IsFine true names e → GoesOn false names handler → IsFine false names (tried handler (length here.names) here.taken e)
+of_tried : (names : List Binding) (handler : Value → Here → World → Evaluation) (here : Here) (e : Evaluation) → here.names ≡ names → IsFine true names e → GoesOn false names handler → IsFine false names (tried handler (length here.names) here.tries e)
 of_tried names handler here _ known (a_word v h w same) f =
     let left : outermost (length here.names) h.names ≡ names =
     ap (λ (bs : List Binding). outermost (length bs) h.names) known ∙ ap (outermost (length names)) same ∙ unchanged names in
-    a_word v (back_in (length here.names) here.taken h) w left
+    a_word v (back_in (length here.names) here.tries h) w left
 of_tried names handler here _ known (a_raise v h w may same) f =
     let left : outermost (length here.names) h.names ≡ names =
     ap (λ (bs : List Binding). outermost (length bs) h.names) known ∙ ap (outermost (length names)) same ∙ unchanged names in
-    f v (back_in (length here.names) here.taken h) w left
+    f v (back_in (length here.names) here.tries h) w left
 of_tried names handler here _ known (spent w) f = spent w
 
 -- ---- a block of two words
@@ -320,11 +320,11 @@ module _ (s : Surroundings) (names : List Binding) where
   of_try at body name_at handler tail h w int f g same =
       at_node s false names (Try at body name_at (codes "z") handler) h w _ int (λ w.
       of_tried names
-      (λ v h w. back (length h.names) h.taken (evaluated s handler tail (with_bound (raised ∷ []) (v ∷ []) h) w))
+      (λ v h w. back (length h.names) h.tries (evaluated s handler tail (with_bound (raised ∷ []) (v ∷ []) h) w))
       h
-      (evaluated s body false (record h { taken = h.taken + 16 }) (deepened (h.taken + 16) w))
+      (evaluated s body false (within_try h) (deepened (taken (within_try h)) w))
       same
-      (f (record h { taken = h.taken + 16 }) (deepened (h.taken + 16) w) same)
+      (f (within_try h) (deepened (taken (within_try h)) w) same)
       (λ v h w same. of_back names (record { scoped = raised; value = Word v }) h (evaluated s handler tail (with_bound (raised ∷ []) (Word v ∷ []) h) w) same (g v (with_bound (raised ∷ []) (Word v ∷ []) h) w (ap (λ (bs : List Binding). record { scoped = raised; value = Word v } ∷ bs) same))))
 
 -- behind the name of a raised value

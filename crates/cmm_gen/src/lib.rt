@@ -4,6 +4,3 @@
 mod texts;
 
 pub use texts::generate;
-
-#[cfg(test)]
-mod tests;

@@ -1,5 +1,5 @@
 -- The rules of the grammar can always be finished, and the next token always decides in them.
-use Rattle.std.proofs.Common.{ℕ, ◌≤◌, zero, suc, Bool, true, false, List, [], ◌∷◌, ◌++◌, Option, Some, None, refl, arith}
+use Rattle.std.proofs.Common.{ℕ, ◌≤◌, zero, suc, Bool, true, false, List, [], ◌∷◌, ◌++◌, Option, Some, None, is_some, refl, arith}
 use Rattle.bs_words.specs.declared.types.Chunk.{Chunk}
 use Rattle.cmm_lex.specs.Token.{TokenTree}
 use Rattle.cmm_lex.specs.declared.token.TokenKind.TheVariants as kind
@@ -19,7 +19,7 @@ use Rattle.cmm_grammar.specs.declared.word.Width.TheVariants as width
 use Rattle.cmm_grammar.specs.Parts.{ResultPart, BindingPart, CasePart, HandlerPart, HeadPart, sequence}
 use Rattle.cmm_grammar.specs.Words.{is_close, is_colon, is_name, is_integer, is_float, is_string, is_with, is_case, is_no_case, is_and, is_symbol_token, is_ret, is_data, is_function, ends_case, ends_handler}
 use Rattle.cmm_grammar.specs.Rule.{AToken, AnExpression, AResult, ABinding, AnIndex, ACase, AHandler, ALabel, AParameter, ADataItem, AnItem, Listed, Rule, Expr, Inside}
-use Rattle.cmm_grammar.specs.Grammar.{a_token, close, a_comp, a_result, operands, sequence_to_close, sequence_to_with, a_binding, a_mutable_binding, bindings_to_close, let_body, let_form, assign_form, arguments_of, app_form, extcall_form, alloc_form, load_rest, store_rest, chunk_rest, chunked, load_form, store_form, raise_form, pair_form, triple_form, float_form, seq_form, while_form, case_number, another_number, case_body, a_case, switch_form, a_parameter, parameters, label_rest, handler_rest, a_label, next_handler, more_handlers, labelled_handlers, bare_handler, catch_form, exit_rest, exit_form, try_form, form_of, form, a_data_integer, datum_of, a_data_item, data_items, data_list, a_function, item_rest, an_item}
+use Rattle.cmm_grammar.specs.Grammar.{a_token, close, a_comp, a_result, operands, sequence_to_close, sequence_to_with, a_binding, a_mutable_binding, bindings_to_close, let_body, let_form, assign_form, arguments_of, app_form, extcall_rest, extcall_form, alloc_form, load_rest, store_rest, chunk_rest, chunked, load_form, store_form, raise_form, pair_form, triple_form, float_form, seq_form, while_form, case_number, another_number, case_body, a_case, switch_form, a_parameter, parameters, label_rest, handler_rest, a_label, next_handler, more_handlers, labelled_handlers, bare_handler, catch_form, exit_rest, exit_form, try_form, form_of, form, a_data_integer, datum_of, a_data_item, data_items, data_list, a_function, item_rest, an_item}
 use Rattle.cmm_grammar.specs.Spelling.{Spells, nothing, token, both, inside, ended}
 use Rattle.cmm_grammar.proofs.Fine.{Solid, Fine, Starts, Ends, is_no_open}
 use Rattle.cmm_grammar.proofs.Finish.{finish, of_kind, a_name, an_open, a_name_leaf, leaf_spells, starts_then, starts_leaf, starts_token, token_spells, token_fine, token_solid, the, two, three, until_fine}
@@ -156,9 +156,19 @@ app_fine : (at d : ℕ) → Fine (app_form at) d
 unfolding app_form
 app_fine at d = two tt (λ e. arguments_fine _ d)
 
+extcall_rest_fine : (at : ℕ) (frame : Bool) (d : ℕ) → Fine (extcall_rest at frame) d
+unfolding extcall_rest
+extcall_rest_fine at frame d = two (symbol_fine d) (λ n. arguments_fine _ d)
+
+extcall_rest_solid : (at : ℕ) (frame : Bool) → Solid (extcall_rest at frame)
+unfolding extcall_rest
+extcall_rest_solid at frame = token_solid is_symbol_token
+
 extcall_fine : (at d : ℕ) → Fine (extcall_form at) d
 unfolding extcall_form
-extcall_fine at d = two (symbol_fine d) (λ n. arguments_fine _ d)
+extcall_fine at d =
+    three (record { token = of_kind (kind.Keyword word.Alloc); value = _; gives = refl }) (extcall_rest_solid at false)
+    (λ mark. extcall_rest_fine at (is_some mark) d)
 
 -- ---- memory
 

@@ -12,3 +12,7 @@ pub mod Halting
 pub mod Items
 pub mod Places
 pub mod Apart
+pub mod Fitting
+pub mod Measured
+pub mod Paid
+pub mod Covered

@@ -2,10 +2,9 @@
 --
 -- A star in a comment is any number, a plus at least one. A rule that stands behind a parenthesis holds the
 -- one that closes it too.
-use Rattle.std.specs.Prelude.{ℕ, ◌+◌, Bool, true, false, List, [], ◌∷◌, Option, Some, None, map, option_map}
+use Rattle.std.specs.Prelude.{ℕ, Bool, true, false, List, [], ◌∷◌, Option, Some, None, option_map, is_some}
 use Rattle.bs_words.specs.declared.types.Chunk.{Chunk}
 use Rattle.bs_words.specs.declared.types.Chunk.TheVariants as chunk
-use Rattle.bs_words.specs.declared.types.Ret.{Ret}
 use Rattle.cmm_lex.specs.Token.{TokenTree}
 use Rattle.cmm_lex.specs.Integers.{integer_value}
 use Rattle.cmm_lex.specs.Strings.{string_bytes}
@@ -22,10 +21,10 @@ use Rattle.cmm_grammar.specs.declared.word.ChunkWord.{ChunkWord}
 use Rattle.cmm_grammar.specs.declared.word.ChunkWord.TheVariants as starts
 use Rattle.cmm_grammar.specs.declared.word.DataWord.{DataWord}
 use Rattle.cmm_grammar.specs.declared.word.DataWord.TheVariants as item
-use Rattle.cmm_grammar.specs.Parts.{ResultPart, BindingPart, CasePart, HandlerPart, HeadPart, FunctionPart, FunctionItem, DataItem, expressions, bindings, cases, handlers, sequence_at, sequence}
+use Rattle.cmm_grammar.specs.Parts.{ResultPart, BindingPart, CasePart, HandlerPart, HeadPart, FunctionItem, DataItem, expressions, bindings, cases, handlers, sequence_at, sequence}
 use Rattle.cmm_grammar.specs.Rewriting.{array_load, array_store, while_loop}
-use Rattle.cmm_grammar.specs.Words.{is_close, is_colon, is_name, is_integer, is_float, is_string, is_with, is_case, is_no_case, is_and, is_data, is_function, is_symbol_token, is_ret, ends_case, ends_handler, is_open, passing, marked, word_of, comp_of, ret_of, head_of, chunk_word_of, width_of, unsigned_chunk, signed_chunk, data_word_of, val_of}
-use Rattle.cmm_grammar.specs.Rule.{Sort, AToken, AnExpression, AParameter, ADeclaration, AResult, ABinding, AnIndex, ACase, AHandler, ALabel, AHead, AChunkWord, AWidth, ADataWord, ADatum, ADataItem, AnItem, Listed, Both, Rule, Give, One, Then, Expr, Inside, ◌>>=◌, ◌>>◌, give, inside_or, labelled_or, maybe, until, repeat}
+use Rattle.cmm_grammar.specs.Words.{is_close, is_colon, is_name, is_integer, is_float, is_string, is_with, is_case, is_no_case, is_and, is_data, is_function, is_alloc, is_symbol_token, is_ret, ends_case, ends_handler, passing, marked, word_of, comp_of, ret_of, head_of, chunk_word_of, width_of, unsigned_chunk, signed_chunk, data_word_of, val_of}
+use Rattle.cmm_grammar.specs.Rule.{AToken, AnExpression, AParameter, ADeclaration, AResult, ABinding, AnIndex, ACase, AHandler, ALabel, AHead, AChunkWord, AWidth, ADataWord, ADatum, ADataItem, AnItem, Listed, Both, Rule, One, Expr, Inside, ◌>>=◌, ◌>>◌, give, inside_or, labelled_or, maybe, until, repeat}
 
 -- ---- one token
 
@@ -126,10 +125,14 @@ app_form at = do
   arguments_of (λ es result. App at callee es result.ret result.at)
 
 -- symbol expr* result )
-unfoldable pub extcall_form : ℕ → Rule AnExpression
-extcall_form at = do
+unfoldable pub extcall_rest : ℕ → Bool → Rule AnExpression
+extcall_rest at frame = do
   name ← a_token is_symbol_token
-  arguments_of (λ es result. Extcall at (string_bytes name.text) es result.ret result.at)
+  arguments_of (λ es result. Extcall at frame (string_bytes name.text) es result.ret result.at)
+
+-- [alloc] symbol expr* result ), with `alloc` a frame call
+unfoldable pub extcall_form : ℕ → Rule AnExpression
+extcall_form at = maybe AToken (passing is_alloc) (λ mark. extcall_rest at (is_some mark))
 
 -- ---- memory
 

@@ -6,3 +6,4 @@ pub mod Grammar
 pub mod Spelling
 pub mod Reading
 pub mod Faults
+pub mod Covered

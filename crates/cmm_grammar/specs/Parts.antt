@@ -1,5 +1,5 @@
 -- The parts of trees that the grammar puts together.
-use Rattle.std.specs.Prelude.{ℕ, Bool, List, [], ◌∷◌, Option, Some}
+use Rattle.std.specs.Prelude.{ℕ, Bool, List, [], ◌∷◌, Option}
 use Rattle.bs_words.specs.declared.types.Ret.{Ret}
 use Rattle.cmm_tree.specs.Tree.{Parameter, Declaration, Index, LabelTree, Expression, Expressions, Bindings, Cases, Handlers, NoMore, More, NoBinding, Bind, NoCase, Choose, NoHandler, Handle, Seq, DataListTree, ItemTree, AFunction, AData}
 use Rattle.cmm_tree.specs.Place.{place_of}

@@ -1,10 +1,10 @@
 -- Reading from left to right: what each rule reads at the front of tokens, and where it stops.
-use Rattle.std.specs.Prelude.{◌≡◌, ℕ, ◌-◌, zero, suc, Bool, true, false, cond, ◌&&◌, List, [], ◌∷◌, ◌++◌, length, Option, Some, None}
+use Rattle.std.specs.Prelude.{ℕ, ◌-◌, zero, suc, Bool, cond, ◌&&◌, List, [], ◌∷◌, length, Option, Some, None}
 use Rattle.cmm_lex.specs.Token.{TokenTree}
 use Rattle.cmm_tree.specs.Tree.{Expression, Nothing, ItemTree}
 use Rattle.cmm_grammar.specs.Parts.{ItemPart, item_of}
 use Rattle.cmm_grammar.specs.Words.{is_open, is_open_bracket, is_close_bracket, is_name, leaf_of}
-use Rattle.cmm_grammar.specs.Rule.{Sort, Value, AnExpression, AnItem, Listed, Rule, Give, One, Then, Expr, Inside, InsideOr, LabelledOr, Until, Maybe, Repeat}
+use Rattle.cmm_grammar.specs.Rule.{Sort, Value, Rule, Give, One, Then, Expr, Inside, InsideOr, LabelledOr, Until, Maybe, Repeat}
 use Rattle.cmm_grammar.specs.Grammar.{form, an_item}
 
 -- Why reading stops: no text goes on so, or a parenthesis is one level too deep.

@@ -1,9 +1,8 @@
 -- The forms that stand for others. Every node that a rewriting makes stands at the `(` of its form.
-use Rattle.std.specs.Prelude.{ℕ, ◌*◌, ◌%◌, ◌^◌, zero, suc, List, [], ◌∷◌}
+use Rattle.std.specs.Prelude.{ℕ, ◌*◌, ◌%◌, ◌^◌, zero, suc, []}
 use Rattle.bs_words.specs.declared.operators.IntOp.TheVariants as op
 use Rattle.bs_words.specs.declared.types.Chunk.{Chunk}
-use Rattle.bs_words.specs.declared.types.Chunk.TheVariants as chunk
-use Rattle.cmm_tree.specs.Tree.{Expression, Expressions, NoMore, More, Handlers, NoHandler, Handle, LabelTree, Done, Again, Integer, Operator, Load, Store, Catch, Exit, Seq, If, Nothing}
+use Rattle.cmm_tree.specs.Tree.{Expression, NoMore, More, NoHandler, Handle, LabelTree, Done, Again, Integer, Operator, Load, Store, Catch, Exit, Seq, If, Nothing}
 
 -- ---- arrays: the address of element i is the array's where i is the integer 0, lies a known offset behind it
 -- where i is another integer, and else an offset that is computed

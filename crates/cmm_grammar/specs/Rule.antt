@@ -1,6 +1,5 @@
 -- Rules of a grammar: what stands one after the other, and what it gives.
 use Rattle.std.specs.Prelude.{ℕ, Bool, List, Option}
-use Rattle.bs_words.specs.declared.types.Chunk.{Chunk}
 use Rattle.cmm_lex.specs.Token.{TokenTree}
 use Rattle.cmm_tree.specs.Tree.{Expression, Parameter, Declaration, Index, DatumTree, DataItemTree}
 use Rattle.cmm_grammar.specs.Parts.{ResultPart, BindingPart, CasePart, HandlerPart, HeadPart, ItemPart}

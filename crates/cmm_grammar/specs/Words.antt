@@ -1,6 +1,5 @@
 -- What a token may be, and what it gives there.
-use Rattle.std.specs.Prelude.{ℕ, Bool, true, false, cond, ◌&&◌, ◌||◌, is_some, not, option_map, List, [], ◌∷◌, Option, Some, None}
-use Rattle.bs_words.specs.declared.operators.IntOp.{IntOp}
+use Rattle.std.specs.Prelude.{ℕ, Bool, true, false, cond, ◌&&◌, ◌||◌, is_some, not, option_map, List, ◌∷◌, Option, Some, None}
 use Rattle.bs_words.specs.declared.operators.IntOp.TheVariants as op
 use Rattle.bs_words.specs.declared.types.Comp.{Comp}
 use Rattle.bs_words.specs.declared.types.Comp.TheVariants as comp
@@ -11,12 +10,12 @@ use Rattle.bs_words.specs.declared.types.Chunk.TheVariants as chunk
 use Rattle.cmm_tree.specs.Tree.{Expression, NoMore, Integer, Pointer, Symbol, Name, Float, Exit, Bare, DatumTree, Address, Val}
 use Rattle.cmm_lex.specs.Token.{TokenTree}
 use Rattle.cmm_lex.specs.Integers.{integer_value}
-use Rattle.cmm_lex.specs.Strings.{string_bytes, is_symbol}
+use Rattle.cmm_lex.specs.Strings.{string_bytes}
+use Rattle.bs_words.specs.Symbol.{is_symbol}
 use Rattle.cmm_lex.specs.declared.token.TokenKind.{TokenKind}
 use Rattle.cmm_lex.specs.declared.token.TokenKind.TheVariants as kind
 use Rattle.cmm_lex.specs.declared.token.Keyword.{Keyword}
 use Rattle.cmm_lex.specs.declared.token.Keyword.TheVariants as word
-use Rattle.cmm_lex.specs.declared.token.Sign.{Sign}
 use Rattle.cmm_lex.specs.declared.token.Sign.TheVariants as sign
 use Rattle.cmm_grammar.specs.declared.word.Head.{Head}
 use Rattle.cmm_grammar.specs.declared.word.Head.TheVariants as head
@@ -114,6 +113,10 @@ abbrev pub is_function_kind : TokenKind → Bool
 is_function_kind (kind.Keyword word.Function) = true
 is_function_kind _ = false
 
+abbrev pub is_alloc_kind : TokenKind → Bool
+is_alloc_kind (kind.Keyword word.Alloc) = true
+is_alloc_kind _ = false
+
 abbrev pub is_with : TokenTree → Bool
 is_with t = is_with_kind t.kind
 
@@ -128,6 +131,9 @@ is_data t = is_data_kind t.kind
 
 abbrev pub is_function : TokenTree → Bool
 is_function t = is_function_kind t.kind
+
+abbrev pub is_alloc : TokenTree → Bool
+is_alloc t = is_alloc_kind t.kind
 
 -- a string whose bytes are a symbol
 abbrev pub is_symbol_token : TokenTree → Bool

@@ -227,10 +227,6 @@ decimal_of text = if_fits (number_after 10 0 (decimal_digits text))
 
 -- ---- the front of a text
 
--- a text of more bytes is not read
-abbrev pub longest_text : ℕ
-longest_text = 16777216
-
 pub record GapTo (bytes tail : List ℕ) : Type 0 where
   pub text : List ℕ
   pub whole : bytes ≡ text ++ tail

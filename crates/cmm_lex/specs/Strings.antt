@@ -1,7 +1,6 @@
 -- Strings: their escapes, and the bytes that they stand for.
 use Rattle.std.specs.Prelude.{◌≡◌, ℕ, ◌+◌, ◌-◌, ◌*◌, Bool, true, cond, ◌&&◌, ◌==◌, nat_le, List, [], ◌∷◌, ◌++◌, length, Contains}
-use Rattle.std.specs.List.{list_all}
-use Rattle.std.specs.Char.{is_ascii_digit, is_ascii_graphic}
+use Rattle.std.specs.Char.{is_ascii_digit}
 use Rattle.cmm_lex.specs.Enclosed.{BeginsWith}
 
 -- ---- escapes
@@ -61,7 +60,3 @@ abbrev mutual
 abbrev pub string_bytes : List ℕ → List ℕ
 string_bytes [] = []
 string_bytes (b ∷ bs) = unescaped bs
-
--- a symbol: 1 to 255 bytes, each 0x21 to 0x7E
-abbrev pub is_symbol : List ℕ → Bool
-is_symbol bytes = nat_le 1 (length bytes) && (nat_le (length bytes) 255 && list_all is_ascii_graphic bytes)

@@ -1,7 +1,8 @@
 //! What a text begins with.
 ghost use Rattle.std.specs.Prelude.{◌≡◌, ◌∷◌, ◌<◌, ◌≤◌, length, None};
 ghost use Rattle.cmm_lex.specs.Automaton.{scan};
-ghost use Rattle.cmm_lex.specs.Scanning.{IsFront, FirstToken, opening_of, longest_text};
+ghost use Rattle.cmm_lex.specs.Scanning.{IsFront, FirstToken, opening_of};
+ghost use Rattle.bs_fault.specs.Limits.{longest_text};
 ghost use Rattle.cmm_lex.specs.declared.state.State.TheVariants.{Start};
 
 use crate::enclosed::{behind_braces, behind_comment, behind_string};

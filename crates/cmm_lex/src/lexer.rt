@@ -3,7 +3,8 @@ ghost use Rattle.std.specs.Prelude.{◌≡◌, ◌≤◌, length, take, drop, If
 ghost use Rattle.bs_words.specs.Contents.{contents};
 ghost use Rattle.cmm_lex.specs.Integers.{integer_value};
 ghost use Rattle.cmm_lex.specs.Lexing.{IsLexed};
-ghost use Rattle.cmm_lex.specs.Scanning.{range_of, longest_text};
+ghost use Rattle.cmm_lex.specs.Scanning.{range_of};
+ghost use Rattle.bs_fault.specs.Limits.{longest_text};
 ghost use Rattle.cmm_lex.specs.Strings.{string_bytes};
 ghost use Rattle.cmm_lex.specs.Token.{token_view};
 
@@ -134,7 +135,8 @@ pub fn integer_word(source: &[u8], token: &Token) -> Option<u64>
 
 /// The bytes that a string of this source stands for: those between its quotes, each escape replaced.
 pub fn string_of(alloc: Global, source: &[u8], token: &Token) -> Result<List<u8>, AllocError>
-    ensures { IfOk result (λ bytes. contents bytes ≡ string_bytes (token_view source.now token.now).text) }
+    ensures { let text = (token_view source.now token.now).text in IfOk result (λ bytes.
+        contents bytes ≡ string_bytes text) }
 {
     string_value(alloc, text_of(source, token))
 }

@@ -13,6 +13,3 @@ mod words;
 pub use lexer::{Lexed, integer_word, lex, string_of, text_of};
 pub use strings::is_symbol;
 pub use token::{Keyword, Sign, Token, TokenKind};
-
-#[cfg(test)]
-mod tests;

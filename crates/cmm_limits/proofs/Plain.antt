@@ -6,7 +6,8 @@ use Rattle.bs_fault.specs.declared.fault.Fault.{Fault}
 use Rattle.bs_fault.specs.declared.fault.Fault.TheVariants.{TooLong, BadToken, Unclosed, Unexpected, TooDeep, IntRange, TooManyParams, FunctionTooLong, DataTooLarge, DataItem, Unbound, UnknownSymbol, DuplicateSymbol, Arity, NoValue, NotMutable, AllocHeader, UnknownLabel, AddrLive, AddrArgument, SwitchSize}
 use Rattle.bs_fault.specs.declared.fault.Fault.TheVariants as fault
 use Rattle.cmm_tree.specs.Tree.{Expression, Integer, Pointer, Symbol, Name, Nothing, Float, Let, Assign, Operator, Load, Store, Alloc, App, Extcall, Checkbound, Raise, Seq, If, Switch, Catch, Exit, Try, Expressions, NoMore, More, Bindings, NoBinding, Bind, Cases, NoCase, Choose, Handlers, NoHandler, Handle, Index, ItemTree, AFunction, AData, FileTree}
-use Rattle.cmm_limits.specs.Leftmost.{Faults, NoFault, One, Both, Among, here, first, second, one_if, one_of, fault_number, Precedes, IsLeftmost}
+use Rattle.bs_fault.specs.Order.{fault_number, Precedes}
+use Rattle.bs_fault.specs.Reported.{Faults, NoFault, One, Both, Among, here, first, second, one_if, one_of, IsFirst}
 use Rattle.cmm_limits.specs.Limits.{too_many_at, index_faults, faults_in, row_faults, binding_faults, case_faults, handler_faults, items_faults, limit_faults}
 
 -- a fault of one place
@@ -61,7 +62,7 @@ mutual
   faults-plain (Alloc at header_at header operands) = row-plain operands
   faults-plain (App at callee arguments result result_at) =
       plain-both _ _ (too-many-plain _) (plain-both _ _ (faults-plain callee) (row-plain arguments))
-  faults-plain (Extcall at name arguments result result_at) = plain-both _ _ (too-many-plain _) (row-plain arguments)
+  faults-plain (Extcall at frame name arguments result result_at) = plain-both _ _ (too-many-plain _) (row-plain arguments)
   faults-plain (Checkbound at bound index) = plain-both _ _ (faults-plain bound) (faults-plain index)
   faults-plain (Raise at value) = faults-plain value
   faults-plain (Seq at elements) = row-plain elements
@@ -171,7 +172,7 @@ same-number f g h k =
     ]
 
 -- one fault is told
-pub one-leftmost : (faults : Faults) (f g : Fault) → AllPlain faults → IsLeftmost faults f → IsLeftmost faults g → f ≡ g
+pub one-leftmost : (faults : Faults) (f g : Fault) → AllPlain faults → IsFirst faults f → IsFirst faults g → f ≡ g
 one-leftmost faults f g p h k =
     let before = k.none_before f h.is_fault in
     let behind = h.none_before g k.is_fault in

@@ -1,18 +1,20 @@
 -- The rows inside expressions, as lists, and what is noted of lists one by one.
-use Rattle.std.proofs.Common.{◌≡◌, ℕ, List, [], ◌∷◌, Some, None, map, option_map, refl, ap, ◌∙◌}
+use Rattle.std.proofs.Common.{◌≡◌, ℕ, Bool, List, [], ◌∷◌, Some, None, map, option_map, refl, ap, ◌∙◌}
 use Rattle.std.specs.List.{slice_get}
 use Rattle.std.proofs.lemmas.Option.{slice_get-map}
-use Rattle.cmm_tree.specs.Tree.{Parameter, Expressions, More, Bindings, Bind, Cases, Choose, Handlers, Handle}
+use Rattle.cmm_tree.specs.Tree.{Parameter}
 use Rattle.cmm_tree.specs.declared.expr.Expr.{Expr}
 use Rattle.cmm_tree.specs.declared.file.Param.{Param}
-use Rattle.cmm_tree.specs.View.{param_view, expr_view, form_view, row_view, bindings_view, cases_view, handlers_view, declared_view, index_view, label_view, params_view}
+use Rattle.cmm_tree.specs.View.{param_view, expr_view, form_view, params_view}
 use Rattle.cmm_tree.specs.declared.expr.Form.{Row_of-Expr, end_of-Expr, more_of-Expr, items-the_row-Expr, items_hidden-the_row-Expr-0, items_hidden-the_row-Binding-1, items_hidden-the_row-Case-2, items_hidden-the_row-Handler-3, Row_of-Binding, end_of-Binding, more_of-Binding, items-the_row-Binding, Row_of-Case, end_of-Case, more_of-Case, items-the_row-Case, Row_of-Handler, end_of-Handler, more_of-Handler, items-the_row-Handler}
 use Rattle.cmm_tree.specs.declared.expr.Form.{Form}
 use Rattle.cmm_tree.specs.declared.expr.Form as form
 use Rattle.cmm_tree.specs.Place.{place_of}
-use Rattle.cmm_limits.specs.Rows.{row_of, bindings_of, cases_of, handlers_of}
-use Rattle.cmm_limits.specs.Limits.{places, most_params, too_many, size_faults, faults_in, row_faults, binding_faults, case_faults, handler_faults}
-use Rattle.cmm_limits.specs.Leftmost.{Both}
+use Rattle.cmm_tree.specs.Rows.{row_of, bindings_of, cases_of, handlers_of}
+use Rattle.cmm_tree.proofs.Rows.{place_view, row_items, bindings_items, cases_items, handlers_items}
+use Rattle.cmm_limits.specs.Limits.{places, too_many, size_faults, faults_in, row_faults, binding_faults, case_faults, handler_faults}
+use Rattle.bs_fault.specs.Limits.{most_params}
+use Rattle.bs_fault.specs.Reported.{Both}
 use Rattle.bs_words.specs.declared.types.Ret.{Ret}
 use Rattle.cmm_tree.specs.declared.expr.Binding.{Binding}
 use Rattle.cmm_tree.specs.declared.expr.Case.{Case}
@@ -21,54 +23,10 @@ use Rattle.cmm_tree.specs.declared.expr.Label.{Label}
 use Rattle.std.proofs.Common.{Vec, Global}
 use Rattle.std.specs.Prelude.{Box}
 
-pub row_is : (n : _) (row : Row_of-Expr n) → row_view row ≡ row_of (items-the_row-Expr n row)
-row_is n end_of-Expr = refl
-row_is n (more_of-Expr at ty f rest) = ap (λ (v : Expressions). More (form_view at f) v) (row_is _ rest)
-
-pub binding_row_is : (n : _) (row : Row_of-Binding n) → bindings_view row ≡ bindings_of (items-the_row-Binding n row)
-binding_row_is n end_of-Binding = refl
-binding_row_is n (more_of-Binding at name declared value_at value_ty value rest) =
-    ap (λ (v : Bindings). Bind at name (option_map declared_view declared) (form_view value_at value) v) (binding_row_is _ rest)
-
-pub case_row_is : (n : _) (row : Row_of-Case n) → cases_view row ≡ cases_of (items-the_row-Case n row)
-case_row_is n end_of-Case = refl
-case_row_is n (more_of-Case indexes body_at body_ty body rest) =
-    ap (λ (v : Cases). Choose (map index_view indexes.items) (form_view body_at body) v) (case_row_is _ rest)
-
-pub handler_row_is : (n : _) (row : Row_of-Handler n) → handlers_view row ≡ handlers_of (items-the_row-Handler n row)
-handler_row_is n end_of-Handler = refl
-handler_row_is n (more_of-Handler at label params body_at body_ty body rest) =
-    ap (λ (v : Handlers). Handle at (label_view label) (params_view params.items) (form_view body_at body) v) (handler_row_is _ rest)
-
--- an expression stands at its place
-pub place-is : (at : ℕ) (f : Form) → place_of (form_view at f) ≡ at
-place-is at (form.Integer word) = refl
-place-is at (form.Pointer word) = refl
-place-is at (form.Symbol name) = refl
-place-is at (form.Name name) = refl
-place-is at (form.Nothing) = refl
-place-is at (form.Float' word_at shape operands) = refl
-place-is at (form.Let' shape bindings p body_at body_ty body) = refl
-place-is at (form.Assign' name_at name p value_at value_ty value) = refl
-place-is at (form.Operator' op p left_at left_ty left q right_at right_ty right) = refl
-place-is at (form.Load' chunk p address_at address_ty address) = refl
-place-is at (form.Store' chunk p address_at address_ty address q value_at value_ty value) = refl
-place-is at (form.Alloc' header_at header shape operands) = refl
-place-is at (form.App' p callee_at callee_ty callee shape arguments result result_at) = refl
-place-is at (form.Extcall' name shape arguments result result_at) = refl
-place-is at (form.Checkbound' p bound_at bound_ty bound q index_at index_ty index) = refl
-place-is at (form.Raise' p value_at value_ty value) = refl
-place-is at (form.Seq' shape elements) = refl
-place-is at (form.If' p condition_at condition_ty condition q true_at true_ty on_true r false_at false_ty on_false) = refl
-place-is at (form.Switch' size_at size p selector_at selector_ty selector shape cases) = refl
-place-is at (form.Catch' p body_at body_ty body shape handlers) = refl
-place-is at (form.Exit' label_at label shape arguments) = refl
-place-is at (form.Try' p body_at body_ty body name_at name q handler_at handler_ty handler) = refl
-
 -- the places of a row
 pub places-are : (es : List Expr) → places (row_of es) ≡ map (λ (e : Expr). e.at) es
 places-are [] = refl
-places-are (e ∷ es) = ap (λ (v : List ℕ). place_of (expr_view e) ∷ v) (places-are es) ∙ ap (λ v. v ∷ map (λ (e : Expr). e.at) es) (place-is e.at e.form)
+places-are (e ∷ es) = ap (λ (v : List ℕ). place_of (expr_view e) ∷ v) (places-are es) ∙ ap (λ v. v ∷ map (λ (e : Expr). e.at) es) (place_view e.at e.form)
 
 pub argument-some : (es : List Expr) (e : Expr) → slice_get es most_params ≡ Some e → slice_get (places (row_of es)) most_params ≡ Some e.at
 argument-some es e h =
@@ -95,7 +53,7 @@ abbrev exprs_in : Form → (n : _) × Row_of-Expr n
 exprs_in (form.Float' word_at shape row) = (_, row)
 exprs_in (form.Alloc' header_at header shape row) = (_, row)
 exprs_in (form.App' p callee_at callee_ty callee shape row result result_at) = (_, row)
-exprs_in (form.Extcall' name shape row result result_at) = (_, row)
+exprs_in (form.Extcall' frame name shape row result result_at) = (_, row)
 exprs_in (form.Seq' shape row) = (_, row)
 exprs_in (form.Exit' label_at label shape row) = (_, row)
 exprs_in _ = (_, end_of-Expr)
@@ -116,55 +74,55 @@ pub float-faults : (at word_at : ℕ) (operands : Vec Expr Global)
     → faults_in (form_view at (form.Float word_at operands)) ≡ row_faults (row_of operands.items)
 float-faults at word_at operands =
     let r = exprs_in (form.Float word_at operands) in
-    ap row_faults (row_is r.0 r.1 ∙ ap row_of (items_hidden-the_row-Expr-0 operands))
+    ap row_faults (row_items r.0 r.1 ∙ ap row_of (items_hidden-the_row-Expr-0 operands))
 
 pub alloc-faults : (at header_at header : ℕ) (operands : Vec Expr Global)
     → faults_in (form_view at (form.Alloc header_at header operands)) ≡ row_faults (row_of operands.items)
 alloc-faults at header_at header operands =
     let r = exprs_in (form.Alloc header_at header operands) in
-    ap row_faults (row_is r.0 r.1 ∙ ap row_of (items_hidden-the_row-Expr-0 operands))
+    ap row_faults (row_items r.0 r.1 ∙ ap row_of (items_hidden-the_row-Expr-0 operands))
 
 pub seq-faults : (at : ℕ) (elements : Vec Expr Global)
     → faults_in (form_view at (form.Seq elements)) ≡ row_faults (row_of elements.items)
 seq-faults at elements =
     let r = exprs_in (form.Seq elements) in
-    ap row_faults (row_is r.0 r.1 ∙ ap row_of (items_hidden-the_row-Expr-0 elements))
+    ap row_faults (row_items r.0 r.1 ∙ ap row_of (items_hidden-the_row-Expr-0 elements))
 
 pub exit-faults : (at label_at : ℕ) (label : Label) (arguments : Vec Expr Global)
     → faults_in (form_view at (form.Exit label_at label arguments)) ≡ row_faults (row_of arguments.items)
 exit-faults at label_at label arguments =
     let r = exprs_in (form.Exit label_at label arguments) in
-    ap row_faults (row_is r.0 r.1 ∙ ap row_of (items_hidden-the_row-Expr-0 arguments))
+    ap row_faults (row_items r.0 r.1 ∙ ap row_of (items_hidden-the_row-Expr-0 arguments))
 
-pub extcall-faults : (at : ℕ) (name : List ℕ) (arguments : Vec Expr Global) (result : Ret) (result_at : ℕ)
-    → faults_in (form_view at (form.Extcall name arguments result result_at))
+pub extcall-faults : (at : ℕ) (frame : Bool) (name : List ℕ) (arguments : Vec Expr Global) (result : Ret) (result_at : ℕ)
+    → faults_in (form_view at (form.Extcall frame name arguments result result_at))
     ≡ Both (too_many (places (row_of arguments.items))) (row_faults (row_of arguments.items))
-extcall-faults at name arguments result result_at =
-    let r = exprs_in (form.Extcall name arguments result result_at) in
-    ap (λ v. Both (too_many (places v)) (row_faults v)) (row_is r.0 r.1 ∙ ap row_of (items_hidden-the_row-Expr-0 arguments))
+extcall-faults at frame name arguments result result_at =
+    let r = exprs_in (form.Extcall frame name arguments result result_at) in
+    ap (λ v. Both (too_many (places v)) (row_faults v)) (row_items r.0 r.1 ∙ ap row_of (items_hidden-the_row-Expr-0 arguments))
 
 pub app-faults : (at : ℕ) (callee : Box Expr Global) (arguments : Vec Expr Global) (result : Ret) (result_at : ℕ)
     → faults_in (form_view at (form.App callee arguments result result_at))
     ≡ Both (too_many (places (row_of arguments.items))) (Both (faults_in (expr_view callee.value)) (row_faults (row_of arguments.items)))
 app-faults at callee arguments result result_at =
     let r = exprs_in (form.App callee arguments result result_at) in
-    ap (λ v. Both (too_many (places v)) (Both (faults_in (expr_view callee.value)) (row_faults v))) (row_is r.0 r.1 ∙ ap row_of (items_hidden-the_row-Expr-0 arguments))
+    ap (λ v. Both (too_many (places v)) (Both (faults_in (expr_view callee.value)) (row_faults v))) (row_items r.0 r.1 ∙ ap row_of (items_hidden-the_row-Expr-0 arguments))
 
 pub let-faults : (at : ℕ) (bindings : Vec Binding Global) (body : Box Expr Global)
     → faults_in (form_view at (form.Let bindings body)) ≡ Both (binding_faults (bindings_of bindings.items)) (faults_in (expr_view body.value))
 let-faults at bindings body =
     let r = bindings_in (form.Let bindings body) in
-    ap (λ v. Both (binding_faults v) (faults_in (expr_view body.value))) (binding_row_is r.0 r.1 ∙ ap bindings_of (items_hidden-the_row-Binding-1 bindings))
+    ap (λ v. Both (binding_faults v) (faults_in (expr_view body.value))) (bindings_items r.0 r.1 ∙ ap bindings_of (items_hidden-the_row-Binding-1 bindings))
 
 pub switch-faults : (at size_at size : ℕ) (selector : Box Expr Global) (cases : Vec Case Global)
     → faults_in (form_view at (form.Switch size_at size selector cases))
     ≡ Both (size_faults size_at size) (Both (faults_in (expr_view selector.value)) (case_faults size (cases_of cases.items)))
 switch-faults at size_at size selector cases =
     let r = cases_in (form.Switch size_at size selector cases) in
-    ap (λ v. Both (size_faults size_at size) (Both (faults_in (expr_view selector.value)) (case_faults size v))) (case_row_is r.0 r.1 ∙ ap cases_of (items_hidden-the_row-Case-2 cases))
+    ap (λ v. Both (size_faults size_at size) (Both (faults_in (expr_view selector.value)) (case_faults size v))) (cases_items r.0 r.1 ∙ ap cases_of (items_hidden-the_row-Case-2 cases))
 
 pub catch-faults : (at : ℕ) (body : Box Expr Global) (handlers : Vec Handler Global)
     → faults_in (form_view at (form.Catch body handlers)) ≡ Both (faults_in (expr_view body.value)) (handler_faults (handlers_of handlers.items))
 catch-faults at body handlers =
     let r = handlers_in (form.Catch body handlers) in
-    ap (λ v. Both (faults_in (expr_view body.value)) (handler_faults v)) (handler_row_is r.0 r.1 ∙ ap handlers_of (items_hidden-the_row-Handler-3 handlers))
+    ap (λ v. Both (faults_in (expr_view body.value)) (handler_faults v)) (handlers_items r.0 r.1 ∙ ap handlers_of (items_hidden-the_row-Handler-3 handlers))

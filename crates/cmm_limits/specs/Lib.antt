@@ -1,3 +1,1 @@
 pub mod Limits
-pub mod Leftmost
-pub mod Rows

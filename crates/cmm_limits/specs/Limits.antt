@@ -1,23 +1,12 @@
--- The limits on sizes in a file: a function has at most 16 parameters and at most 4,000 tokens, a call at
+-- The limits on sizes in a file: a function has at most 16 parameters and at most 32,000 tokens, a call at
 -- most 16 arguments, a switch 1 to 4,096 indexes, and each number of a case is below their number.
 use Rattle.std.specs.Prelude.{ℕ, not, ◌&&◌, nat_lt, nat_le, List, [], ◌∷◌, Option, Some, None, map}
 use Rattle.std.specs.List.{slice_get}
+use Rattle.bs_fault.specs.Limits.{most_params, most_tokens, most_indexes}
 use Rattle.bs_fault.specs.declared.fault.Fault.TheVariants.{TooManyParams, FunctionTooLong, SwitchSize}
 use Rattle.cmm_tree.specs.Tree.{Expression, Integer, Pointer, Symbol, Name, Nothing, Float, Let, Assign, Operator, Load, Store, Alloc, App, Extcall, Checkbound, Raise, Seq, If, Switch, Catch, Exit, Try, Expressions, NoMore, More, Bindings, NoBinding, Bind, Cases, NoCase, Choose, Handlers, NoHandler, Handle, Index, Parameter, FunctionTree, ItemTree, AFunction, AData, FileTree}
 use Rattle.cmm_tree.specs.Place.{place_of}
-use Rattle.cmm_limits.specs.Leftmost.{Faults, NoFault, One, Both, one_if}
-
--- the most parameters of a function, and arguments of a call
-abbrev pub most_params : ℕ
-most_params = 16
-
--- the most tokens of a function, its parentheses counted
-abbrev pub most_tokens : ℕ
-most_tokens = 4000
-
--- the most indexes of a switch
-abbrev pub most_indexes : ℕ
-most_indexes = 4096
+use Rattle.bs_fault.specs.Reported.{Faults, NoFault, One, Both, one_if}
 
 abbrev pub too_many_at : Option ℕ → Faults
 too_many_at None = NoFault
@@ -31,6 +20,10 @@ too_many places = too_many_at (slice_get places most_params)
 abbrev pub places : Expressions → List ℕ
 places NoMore = []
 places (More e rest) = place_of e ∷ places rest
+
+-- the places of parameters
+abbrev pub parameter_places : List Parameter → List ℕ
+parameter_places params = map (λ (p : Parameter). p.at) params
 
 -- a number of indexes
 abbrev pub size_faults : ℕ → ℕ → Faults
@@ -58,7 +51,7 @@ abbrev mutual
   faults_in (Alloc at header_at header operands) = row_faults operands
   faults_in (App at callee arguments result result_at) =
       Both (too_many (places arguments)) (Both (faults_in callee) (row_faults arguments))
-  faults_in (Extcall at name arguments result result_at) = Both (too_many (places arguments)) (row_faults arguments)
+  faults_in (Extcall at frame name arguments result result_at) = Both (too_many (places arguments)) (row_faults arguments)
   faults_in (Checkbound at bound index) = Both (faults_in bound) (faults_in index)
   faults_in (Raise at value) = faults_in value
   faults_in (Seq at elements) = row_faults elements
@@ -87,7 +80,7 @@ abbrev mutual
 
 abbrev pub function_faults : FunctionTree → Faults
 function_faults f =
-    Both (too_many (map (λ (p : Parameter). p.at) f.params))
+    Both (too_many (parameter_places f.params))
     (Both (one_if (not (nat_le f.tokens most_tokens)) (FunctionTooLong f.at)) (faults_in f.body))
 
 abbrev pub item_faults : ItemTree → Faults

@@ -1,8 +1,6 @@
-//! The limits on sizes in a file, and which of several faults is told.
+//! The limits on sizes in a file.
 #![tactic(auto)]
 
-mod leftmost;
 mod limits;
 
-pub use leftmost::{noted, noted_optional};
 pub use limits::limit_fault;

@@ -3,19 +3,18 @@ ghost use Rattle.std.specs.Prelude.{◌≡◌, map, None, slice_get, option_copi
 ghost use Rattle.bs_words.specs.Contents.{contents};
 ghost use Rattle.cmm_tree.specs.View.{expr_view, index_view, params_view, function_view, item_view, file_view};
 ghost use Rattle.cmm_tree.specs.Tree.{Parameter};
-ghost use Rattle.cmm_limits.specs.Leftmost.{noted_all, IsTold};
-ghost use Rattle.cmm_limits.specs.Limits.{too_many, places, index_faults, size_faults, faults_in, row_faults, binding_faults, case_faults, handler_faults, function_faults, item_faults, items_faults, limit_faults};
-ghost use Rattle.cmm_limits.specs.Rows.{row_of, bindings_of, cases_of, handlers_of};
+ghost use Rattle.bs_fault.specs.Reported.{noted_all, IsReported};
+ghost use Rattle.cmm_limits.specs.Limits.{too_many, places, parameter_places, index_faults, size_faults, faults_in, row_faults, binding_faults, case_faults, handler_faults, function_faults, item_faults, items_faults, limit_faults};
+ghost use Rattle.cmm_tree.specs.Rows.{row_of, bindings_of, cases_of, handlers_of};
 
-use crate::leftmost::{noted, noted_if};
-use bs_fault::Fault;
+use bs_fault::{Fault, noted, noted_if};
 use cmm_tree::{Binding, Case, CaseIndex, Expr, File, Form, Function, Handler, Item, Param};
 
 /// The most parameters of a function, and arguments of a call.
 const MOST_PARAMS: usize = 16;
 
 /// The most tokens of a function, its parentheses counted.
-const MOST_TOKENS: u32 = 4_000;
+const MOST_TOKENS: u32 = 32_000;
 
 /// The most indexes of a switch.
 const MOST_INDEXES: u64 = 4_096;
@@ -39,7 +38,7 @@ fn in_arguments(arguments: &[Expr], found: Option<Fault>) -> Option<Fault>
 
 /// A parameter more than a function may have.
 fn in_params(params: &[Param], found: Option<Fault>) -> Option<Fault>
-    ensures { result ≡ noted_all (too_many (map (λ (p : Parameter). p.at) (params_view params.now))) found }
+    ensures { result ≡ noted_all (too_many (parameter_places (params_view params.now))) found }
 {
     match nth(params, MOST_PARAMS) {
         Some(param) => noted(Fault::TooManyParams { at: param.at }, found),
@@ -191,11 +190,11 @@ fn in_file(file: &File) -> Option<Fault>
 /// The fault of a file that passes a limit, if it does: the leftmost; of two on one place the one of the
 /// lower number.
 ///
-/// A function has at most 16 parameters and at most 4,000 tokens, a call at most 16 arguments, a switch 1
+/// A function has at most 16 parameters and at most 32,000 tokens, a call at most 16 arguments, a switch 1
 /// to 4,096 indexes, and each number of a case is below their number.
 pub fn limit_fault(file: &File) -> Option<Fault>
     ensures found { result ≡ noted_all (limit_faults (file_view file.now)) None }
-    ensures told { IsTold (limit_faults (file_view file.now)) result }
+    ensures reported { IsReported (limit_faults (file_view file.now)) result }
 {
     in_file(file)
 }

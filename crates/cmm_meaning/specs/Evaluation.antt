@@ -4,11 +4,13 @@
 -- evaluation of one function alone. Each node of the tree costs one unit of fuel when its evaluation
 -- begins, and a value is tested against the type of its node. Operands are evaluated right to left, but
 -- light addresses after all others.
-use Rattle.std.specs.Prelude.{ℕ, zero, suc, ◌+◌, Bool, true, false, not, cond, ◌&&◌, ◌==◌, nat_lt, List, [], ◌∷◌, Option, Some, None, Result, Ok, Err, length, map, slice_get, bytes_eq}
+use Rattle.std.specs.Prelude.{ℕ, zero, suc, Bool, true, false, not, cond, ◌&&◌, nat_lt, List, [], ◌∷◌, Option, Some, None, Result, Ok, Err, length, map, slice_get}
 use Rattle.bs_words.specs.Fits.{fits, misfit, type_of_comp, data_start}
+use Rattle.bs_words.specs.External.{External}
 use Rattle.bs_words.specs.Memory.{sizes, loaded, stored, allocated, next_block}
 use Rattle.bs_words.specs.Operators.{apply, condition_of, word_in}
 use Rattle.bs_words.specs.declared.types.Comp.{Comp}
+use Rattle.bs_words.specs.declared.types.Comp.TheVariants as comp
 use Rattle.bs_words.specs.declared.types.Ret.{Ret}
 use Rattle.bs_words.specs.declared.types.Ret.TheVariants as ret
 use Rattle.bs_words.specs.declared.types.Ty.{Ty}
@@ -17,11 +19,12 @@ use Rattle.bs_words.specs.declared.values.Kind.{Kind}
 use Rattle.bs_words.specs.declared.values.Kind.TheVariants.{BadValue, BadCall, SwitchRange}
 use Rattle.bs_words.specs.declared.values.Value.{Value}
 use Rattle.bs_words.specs.declared.values.Value.TheVariants as value
-use Rattle.cmm_tree.specs.Tree.{LabelTree, Named, Bare, Done, Again, Parameter, Index, Expression, Integer, Pointer, Symbol, Name, Nothing, Float, Let, Assign, Operator, Load, Store, Alloc, App, Extcall, Checkbound, Raise, Seq, If, Switch, Catch, Exit, Try, Expressions, NoMore, More, Bindings, NoBinding, Bind, Cases, NoCase, Choose, Handlers, NoHandler, Handle}
+use Rattle.cmm_tree.specs.Tree.{LabelTree, Parameter, Expression, Integer, Pointer, Symbol, Name, Nothing, Float, Let, Assign, Operator, Load, Store, Alloc, App, Extcall, Checkbound, Raise, Seq, If, Switch, Catch, Exit, Try, Expressions, NoMore, More, Bindings, NoBinding, Bind, Cases, NoCase, Choose, Handlers, NoHandler, Handle}
 use Rattle.cmm_types.specs.Light.{is_light_address}
 use Rattle.cmm_types.specs.Types.{Scoped, type_of, type_named, type_bound, is_mutable}
 use Rattle.bs_words.specs.Observed.{Made}
-use Rattle.cmm_meaning.specs.State.{Asked, World, Here, scope, value_of, assigned, bound, back_in, deepened}
+use Rattle.cmm_meaning.specs.Choices.{Ready, ready_for, Chosen, case_for}
+use Rattle.cmm_meaning.specs.State.{Asked, Called, World, Here, taken, within_try, scope, value_of, assigned, bound, back_in, deepened}
 
 -- Why a run stops before its end.
 pub data Stop : Type 0 where
@@ -51,10 +54,10 @@ pub record Surroundings : Type 0 where
   pub symbol : List ℕ → Option Value
   -- the components of the parameters of each function of the file, in order
   pub parameters : List (List Comp)
-  -- what a call does: the function's number, its arguments, the stack bytes below it, and the world
-  pub call : ℕ → List Value → ℕ → World → Evaluation
-  -- what an external call does: its name, its result, its arguments, and the world
-  pub external : List ℕ → Ret → List Value → World → Evaluation
+  -- what a call of a function does, in a world
+  pub call : Called → World → Evaluation
+  -- what an external call does: its row, whether it is a frame call, its arguments, and the world
+  pub external : External → Bool → List Value → World → Evaluation
 
 -- ---- steps
 
@@ -150,13 +153,18 @@ as_written (ret.Comp c) None h w = Stops (NotProper BadCall) w
 -- in tail position the callee takes the place of its caller
 abbrev pub stack_below : Bool → Here → ℕ
 stack_below true h = h.below
-stack_below false h = h.taken
+stack_below false h = taken h
+
+-- the call of a function from an activation
+abbrev pub call_from : ℕ → List Value → Bool → Here → Called
+call_from f arguments tail h =
+    record { function = f; arguments = arguments; below = stack_below tail h; tail = tail; tries = h.tries }
 
 abbrev pub called_with : Surroundings → Option (List Comp) → ℕ → List Value → Ret → Bool → Here → World → Evaluation
 called_with s None f arguments result tail h w = Stops (NotProper BadCall) w
 called_with s (Some comps) f arguments result tail h w =
     cond (fit_parameters s.end comps arguments)
-    (and_then (back_from_call h (s.call f arguments (stack_below tail h) w)) (λ v h w. as_written result v h w))
+    (and_then (back_from_call h (s.call (call_from f arguments tail h) w)) (λ v h w. as_written result v h w))
     (Stops (NotProper BadCall) w)
 
 -- the callee is a function with as many parameters as arguments, which fit them
@@ -165,34 +173,24 @@ applied s (value.Function f) arguments result tail h w =
     called_with s (slice_get s.parameters f) f arguments result tail h w
 applied s _ arguments result tail h w = Stops (NotProper BadCall) w
 
+-- ---- external calls
+
+-- the component in which an external call takes an argument of this type; an argument that never comes counts as an
+-- int, and no accepted text has one of another type than int, val and never
+abbrev pub comp_of_argument : Ty → Comp
+comp_of_argument ty.Val = comp.Val
+comp_of_argument _ = comp.Int
+
+abbrev pub comps_of_arguments : List Scoped → Expressions → List Comp
+comps_of_arguments names NoMore = []
+comps_of_arguments names (More e rest) = comp_of_argument (type_of names e) ∷ comps_of_arguments names rest
+
+-- the row of an external call, where these names are in scope
+abbrev pub row_of_call : List Scoped → List ℕ → Expressions → Ret → External
+row_of_call names name arguments result =
+    record { name = name; params = comps_of_arguments names arguments; result = result }
+
 -- ---- handlers
-
--- A handler, ready to be entered.
-pub record Ready : Type 0 where
-  pub label : LabelTree
-  pub params : List Parameter
-  pub body : Here → World → Evaluation
-
-abbrev pub same_label : LabelTree → LabelTree → Bool
-same_label (Named x) (Named y) = bytes_eq x y
-same_label Bare Bare = true
-same_label Done Done = true
-same_label Again Again = true
-same_label _ _ = false
-
-abbrev pub is_bare : LabelTree → Bool
-is_bare Bare = true
-is_bare _ = false
-
-abbrev pub first_ready : Bool → Ready → Option Ready → Option Ready
-first_ready true r others = Some r
-first_ready false r others = others
-
--- the handler of a label; where it was left from a handler of the same catch, the bare one is not visible
-abbrev pub ready_for : Bool → LabelTree → List Ready → Option Ready
-ready_for within label [] = None
-ready_for within label (r ∷ handlers) =
-    first_ready (same_label label r.label && not (is_bare label && within)) r (ready_for within label handlers)
 
 -- the arguments of an exit fit the handler's parameters, tested in their order; no accepted text has an exit
 -- with another number of arguments than its handler has parameters
@@ -209,52 +207,35 @@ with_bound names values h = record h { names = bound names values h.names }
 
 -- the scope that a catch, or a let, was entered in, where what it gives is taken
 abbrev pub back : ℕ → ℕ → Evaluation → Evaluation
-back level taken e = and_then e (λ v h w. Gives v (back_in level taken h) w)
+back level tries e = and_then e (λ v h w. Gives v (back_in level tries h) w)
 
-abbrev pub handled : ℕ → Option Ready → LabelTree → List Value → ℕ → ℕ → Here → World → (Evaluation → Evaluation) → Evaluation
-handled end None label values level taken h w again = Exits label values h w
-handled end (Some r) label values level taken h w again =
-    let inside = back_in level taken h in
-    again (entered end r.params values w (back level taken (r.body (with_bound (map scoped_parameter r.params) values inside) w)))
+-- the body of a handler or of a case, ready to be evaluated
+abbrev pub Body : Type 0
+Body = Here → World → Evaluation
+
+abbrev pub handled : ℕ → Option (Ready Body) → LabelTree → List Value → ℕ → ℕ → Here → World → (Evaluation → Evaluation) → Evaluation
+handled end None label values level tries h w again = Exits label values h w
+handled end (Some r) label values level tries h w again =
+    let inside = back_in level tries h in
+    again (entered end r.params values w (back level tries (r.body (with_bound (map scoped_parameter r.params) values inside) w)))
 
 -- what a catch with these handlers makes of an evaluation of its body, or of one of its handlers; an exit
 -- costs a unit each time, so that so many turns are enough
-abbrev pub caught : ℕ → ℕ → Bool → List Ready → ℕ → ℕ → Evaluation → Evaluation
-caught end zero within handlers level taken e = e
-caught end (suc turns) within handlers level taken (Exits label values h w) =
-    handled end (ready_for within label handlers) label values level taken h w (caught end turns true handlers level taken)
-caught end (suc turns) within handlers level taken e = e
+abbrev pub caught : ℕ → ℕ → Bool → List (Ready Body) → ℕ → ℕ → Evaluation → Evaluation
+caught end zero within handlers level tries e = e
+caught end (suc turns) within handlers level tries (Exits label values h w) =
+    handled end (ready_for within label handlers) label values level tries h w (caught end turns true handlers level tries)
+caught end (suc turns) within handlers level tries e = e
 
 -- what a try makes of an evaluation of its body
 abbrev pub tried : (Value → Here → World → Evaluation) → ℕ → ℕ → Evaluation → Evaluation
-tried handler level taken (Gives v h w) = Gives v (back_in level taken h) w
-tried handler level taken (Raises v h w) = handler v (back_in level taken h) w
-tried handler level taken e = e
+tried handler level tries (Gives v h w) = Gives v (back_in level tries h) w
+tried handler level tries (Raises v h w) = handler v (back_in level tries h) w
+tried handler level tries e = e
 
 -- ---- switches
 
--- A case, ready to be chosen.
-pub record Chosen : Type 0 where
-  pub indexes : List Index
-  pub body : Here → World → Evaluation
-
-abbrev pub is_named : List Index → ℕ → Bool
-is_named [] k = false
-is_named (i ∷ indexes) k = cond (i.index == k) true (is_named indexes k)
-
-abbrev pub last_naming : List Chosen → ℕ → Option Chosen → Option Chosen
-last_naming [] k so_far = so_far
-last_naming (c ∷ cases) k so_far = last_naming cases k (cond (is_named c.indexes k) (Some c) so_far)
-
-abbrev pub first_case : List Chosen → Option Chosen
-first_case [] = None
-first_case (c ∷ cases) = Some c
-
--- the last case that names the number, and else the first
-abbrev pub case_for : List Chosen → ℕ → Option Chosen
-case_for cases k = last_naming cases k (first_case cases)
-
-abbrev pub chosen : Option Chosen → Here → World → Evaluation
+abbrev pub chosen : Option (Chosen Body) → Here → World → Evaluation
 chosen None h w = Stops (NotProper SwitchRange) w
 chosen (Some c) h w = c.body h w
 
@@ -286,7 +267,7 @@ abbrev mutual
   evaluated s (Float at word_at operands) tail h w = Stops (NotProper BadValue) w
   evaluated s (Let at bindings body) tail h w =
       node s (Let at bindings body) h w (λ w.
-      and_then (entering s bindings h w) (λ _ inner w. back (length h.names) h.taken (evaluated s body tail inner w)))
+      and_then (entering s bindings h w) (λ _ inner w. back (length h.names) h.tries (evaluated s body tail inner w)))
   evaluated s (Assign at name_at name e) tail h w =
       node s (Assign at name_at name e) h w (λ w.
       with_value (evaluated s e false h w) (λ v h w.
@@ -313,11 +294,11 @@ abbrev mutual
       unless_light (is_light_address (scope h) callee) (evaluated s callee false) h w (λ f h w.
       and_then (filled s arguments before h w) (λ values h w.
       now_or_before f (evaluated s callee false) h w (λ f h w. applied s f values result tail h w)))))
-  evaluated s (Extcall at name arguments result result_at) tail h w =
-      node s (Extcall at name arguments result result_at) h w (λ w.
+  evaluated s (Extcall at frame name arguments result result_at) tail h w =
+      node s (Extcall at frame name arguments result result_at) h w (λ w.
       and_then (waiting s arguments h w) (λ before h w.
       and_then (filled s arguments before h w) (λ values h w.
-      and_then (back_from_call h (s.external name result values w)) (λ v h w. as_written result v h w))))
+      and_then (back_from_call h (s.external (row_of_call (scope h) name arguments result) frame values w)) (λ v h w. as_written result v h w))))
   evaluated s (Checkbound at bound index) tail h w =
       node s (Checkbound at bound index) h w (λ w.
       both (is_left_first (scope h) bound index) (evaluated s bound false) (evaluated s index false) h w (λ a b h w.
@@ -339,7 +320,7 @@ abbrev mutual
       cond (nat_lt k size) (chosen (case_for (choices s cases tail) k) h w) (Stops (NotProper SwitchRange) w))))
   evaluated s (Catch at body handlers) tail h w =
       node s (Catch at body handlers) h w (λ w.
-      caught s.end (suc w.left) false (readied s handlers tail) (length h.names) h.taken (evaluated s body tail h w))
+      caught s.end (suc w.left) false (readied s handlers tail) (length h.names) h.tries (evaluated s body tail h w))
   evaluated s (Exit at label_at label arguments) tail h w =
       node s (Exit at label_at label arguments) h w (λ w.
       and_then (waiting s arguments h w) (λ before h w.
@@ -349,9 +330,9 @@ abbrev mutual
       tried
       (λ v h w.
       let raised : Scoped = record { name = name; type = ty.Val; mutable = false } in
-      back (length h.names) h.taken (evaluated s handler tail (with_bound (raised ∷ []) (v ∷ []) h) w))
-      (length h.names) h.taken
-      (evaluated s body false (record h { taken = h.taken + 16 }) (deepened (h.taken + 16) w)))
+      back (length h.names) h.tries (evaluated s handler tail (with_bound (raised ∷ []) (v ∷ []) h) w))
+      (length h.names) h.tries
+      (evaluated s body false (within_try h) (deepened (taken (within_try h)) w)))
 
   -- the operands that are no light addresses, right to left; the others wait
   pub waiting : Surroundings → Expressions → Here → World → Evaluated (List (Option Value))
@@ -381,12 +362,12 @@ abbrev mutual
   in_order s (More e NoMore) tail h w = evaluated s e tail h w
   in_order s (More e rest) tail h w = and_then (evaluated s e false h w) (λ _ h w. in_order s rest tail h w)
 
-  pub choices : Surroundings → Cases → Bool → List Chosen
+  pub choices : Surroundings → Cases → Bool → List (Chosen Body)
   choices s NoCase tail = []
   choices s (Choose indexes body rest) tail =
       record { indexes = indexes; body = λ h w. evaluated s body tail h w } ∷ choices s rest tail
 
-  pub readied : Surroundings → Handlers → Bool → List Ready
+  pub readied : Surroundings → Handlers → Bool → List (Ready Body)
   readied s NoHandler tail = []
   readied s (Handle at label params body rest) tail =
       record { label = label; params = params; body = λ h w. evaluated s body tail h w } ∷ readied s rest tail

@@ -1,27 +1,49 @@
 -- What a run of a text keeps: one part never goes back, the other belongs to one activation.
-use Rattle.std.specs.Prelude.{ℕ, ◌-◌, Bool, true, false, List, [], ◌∷◌, Option, Some, None, bytes_eq, max, map, length, drop}
+use Rattle.std.specs.Prelude.{ℕ, suc, ◌+◌, ◌-◌, ◌*◌, Bool, true, false, List, [], ◌∷◌, Option, Some, None, bytes_eq, max, map, length, drop}
+use Rattle.bs_words.specs.External.{External}
 use Rattle.bs_words.specs.Memory.{Memory}
 use Rattle.bs_words.specs.Observed.{Made}
 use Rattle.bs_words.specs.declared.values.Value.{Value}
 use Rattle.cmm_types.specs.Types.{Scoped}
 
 -- What a function or an external call did, where that is handed in: it gave a value or none, or raised. A
--- function left this memory; an external call leaves the memory as it was.
+-- function left this memory; an external call leaves the memory as it was, and raises only where it is a frame call.
 pub data Doing : Type 0 where
   Gave : (value : Option Value) (memory : Memory) → Doing
   Threw : (value : Value) (memory : Memory) → Doing
 
--- Who is called: a function of the file, or what lies outside.
+-- A call of a function of the file: which, on what, on how many stack bytes, whether the callee takes the place of its
+-- caller (a tail call), and round how many tries that the caller has entered.
+pub record Called : Type 0 where
+  pub function : ℕ
+  pub arguments : List Value
+  pub below : ℕ
+  pub tail : Bool
+  pub tries : ℕ
+
+-- Who is called: a function of the file, or what lies outside, by its row and whether it is a frame call.
 pub data Callee : Type 0 where
   Inside : (function : ℕ) → Callee
-  Outside : (name : List ℕ) → Callee
+  Outside : (row : External) (frame : Bool) → Callee
 
--- A call that one function makes: whom, with what, in which memory, and on how many stack bytes.
+-- A call that one function makes: whom, with what, in which memory, and, of a function, on how many stack bytes, whether
+-- as a tail call, and round how many tries.
 pub record Asked : Type 0 where
   pub callee : Callee
   pub arguments : List Value
   pub memory : Memory
   pub below : ℕ
+  pub tail : Bool
+  pub tries : ℕ
+
+-- the call of a function, and an external call, as they are asked
+abbrev pub asked_inside : Called → Memory → Asked
+asked_inside c memory =
+    record { callee = Inside c.function; arguments = c.arguments; memory = memory; below = c.below; tail = c.tail; tries = c.tries }
+
+abbrev pub asked_outside : External → Bool → List Value → Memory → Asked
+asked_outside row frame arguments memory =
+    record { callee = Outside row frame; arguments = arguments; memory = memory; below = 0; tail = false; tries = 0 }
 
 -- The world of a run.
 pub record World : Type 0 where
@@ -49,8 +71,18 @@ pub record Here : Type 0 where
   pub names : List Binding
   -- stack bytes of the activations and tries that called this one
   pub below : ℕ
-  -- those bytes with this activation's frame and active tries
-  pub taken : ℕ
+  -- the bytes of this activation's frame
+  pub frame : ℕ
+  -- how many tries it has entered and not left
+  pub tries : ℕ
+
+-- the stack bytes with this activation's frame and its active tries, 16 bytes each
+abbrev pub taken : Here → ℕ
+taken h = h.below + h.frame + 16 * h.tries
+
+-- the activation where it has entered one try more
+abbrev pub within_try : Here → Here
+within_try h = record h { tries = suc h.tries }
 
 -- the names in scope
 abbrev pub scope : Here → List Scoped
@@ -83,9 +115,9 @@ bound _ _ names = names
 abbrev pub outermost : ℕ → List Binding → List Binding
 outermost level names = drop (length names - level) names
 
--- the activation back in a scope that it had entered: with so many bindings, and so many stack bytes
+-- the activation back in a scope that it had entered: with so many bindings, and so many active tries
 abbrev pub back_in : ℕ → ℕ → Here → Here
-back_in level taken h = record h { names = outermost level h.names; taken = taken }
+back_in level tries h = record h { names = outermost level h.names; tries = tries }
 
 -- the world where the stack has come to so many bytes
 abbrev pub deepened : ℕ → World → World

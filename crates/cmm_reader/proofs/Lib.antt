@@ -1,13 +1,4 @@
-pub mod Forms
-pub mod Lengths
-pub mod Lists
-pub mod Loops
 pub mod Texts
-pub mod Readings
-pub mod Repeats
-pub mod Rows
-pub mod Steps
-pub mod Symbols
-pub mod Takings
 pub mod One
 pub mod Telling
+pub mod Measured

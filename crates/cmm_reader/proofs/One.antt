@@ -10,10 +10,11 @@ use Rattle.cmm_tree.specs.Tree.{ItemTree, FileTree}
 use Rattle.cmm_data.specs.Placement.{PlacedItem, placed_items}
 use Rattle.cmm_data.specs.Faults.{data_fault_of, first_fault, or_later, fault_on, passes_limit, keeps_rule}
 use Rattle.cmm_limits.proofs.Plain.{Plain, AllPlain, plain-both, plain-of, limits-plain, one-leftmost}
-use Rattle.cmm_limits.specs.Leftmost.{Faultless, IsLeftmost}
+use Rattle.bs_fault.specs.Reported.{Faultless, IsFirst}
 use Rattle.cmm_grammar.specs.Reading.{Outcome, Read, Stops, items_at}
 use Rattle.cmm_grammar.specs.Spelling.{nesting}
-use Rattle.cmm_reader.specs.Text.{longest, file_faults, ReadsAs}
+use Rattle.cmm_reader.specs.Text.{file_faults, ReadsAs}
+use Rattle.bs_fault.specs.Limits.{longest_text}
 use Rattle.cmm_reader.specs.Telling.{TellsFile, TellsItems, Tells, IsReading, too_long, by_tokens}
 use Rattle.cmm_reader.proofs.Telling.{said_reading}
 

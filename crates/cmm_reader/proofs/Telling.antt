@@ -17,7 +17,8 @@ use Rattle.cmm_grammar.specs.Spelling.{AreItems, Begins, nesting}
 use Rattle.cmm_grammar.proofs.Apart.{unexpected_stops, deep_stops, inside_stops}
 use Rattle.cmm_grammar.proofs.Places.{begins_less, items_begin, read_items, items_read, stuck_end, stuck_token, deep_token}
 use Rattle.cmm_reader.specs.Text as said
-use Rattle.cmm_reader.specs.Text.{longest, file_faults, ReadsAs, IsRefused}
+use Rattle.cmm_reader.specs.Text.{file_faults, ReadsAs, IsRefused}
+use Rattle.bs_fault.specs.Limits.{longest_text}
 use Rattle.cmm_reader.specs.Telling as telling
 use Rattle.cmm_reader.specs.Telling.{stop_fault, place_with, TellsFile, TellsItems, Tells, IsReading, IsStopOf}
 
@@ -47,7 +48,7 @@ none_left tokens =
 
 -- ---- from reading to what is said
 
-module _ (text : List ℕ) (tokens : List TokenTree) (short : length text ≤ longest) where
+module _ (text : List ℕ) (tokens : List TokenTree) (short : length text ≤ longest_text) where
   at_end : (lexing : Option Fault) → Splits 0 text tokens lexing → items_at nesting tokens ≡ Stops Stuck 0 → ReadsAs text (Err (stop_fault None Stuck lexing (length text)))
   at_end None cut p = said.ends_inside tokens short cut (stuck_end tokens p)
   at_end (Some f) cut p = said.no_token tokens f short cut (stuck_end tokens p).so_far
@@ -126,7 +127,7 @@ broken_tells size tokens f begins (Stops Deep n) p =
 
 -- reading tells this where its outcome is known
 by_known : (text : List ℕ) (tokens : List TokenTree) (lexing : Option Fault) (o : Outcome (List ItemTree)) (result : Result FileTree Fault)
-    → length text ≤ longest
+    → length text ≤ longest_text
     → Splits 0 text tokens lexing
     → items_at nesting tokens ≡ o
     → Tells (length text) tokens lexing o result

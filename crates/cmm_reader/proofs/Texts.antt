@@ -17,13 +17,14 @@ use Rattle.bs_words.specs.Contents.{contents}
 use Rattle.cmm_tree.specs.Tree.{ItemTree}
 use Rattle.cmm_tree.specs.View.{file_view}
 use Rattle.cmm_tree.specs.declared.file.File.{File}
-use Rattle.cmm_limits.specs.Leftmost.{IsLeftmost, Faultless}
+use Rattle.bs_fault.specs.Reported.{IsFirst, Faultless}
 use Rattle.cmm_grammar.specs.Reading.{Outcome, Read, Stops, Why, Stuck, Deep, items_at}
-use Rattle.cmm_reader.specs.declared.stop.Stop.{Stop}
-use Rattle.cmm_reader.specs.declared.stop.Stop.TheVariants as stop
-use Rattle.cmm_reader.specs.Results.{trees, Fails}
+use Rattle.cmm_exprs.specs.declared.stop.Stop.{Stop}
+use Rattle.cmm_exprs.specs.declared.stop.Stop.TheVariants as stop
+use Rattle.cmm_exprs.specs.Results.{trees, Fails}
 use Rattle.cmm_grammar.specs.Spelling.{nesting}
-use Rattle.cmm_reader.specs.Text.{longest, file_faults}
+use Rattle.cmm_reader.specs.Text.{file_faults}
+use Rattle.bs_fault.specs.Limits.{longest_text}
 use Rattle.cmm_reader.specs.Telling.{place_with, token_place, stop_fault, Tells, IsReading, too_long, by_tokens, IsStopOf, IsStopped, IsFinished}
 
 -- a text has no more tokens than bytes
@@ -50,11 +51,11 @@ place-of-view source tokens left =
     same None = refl
     same (Some t) = refl
 
-pub too-long : (text : List ℕ) → longest < length text → IsReading text (Err (TooLong longest))
+pub too-long : (text : List ℕ) → longest_text < length text → IsReading text (Err (TooLong longest_text))
 too-long text h = too_long h
 
 pub refused-lexing : (text : List ℕ) (tokens : List TokenTree) (f : Fault) (items : List ItemTree)
-    → length text ≤ longest
+    → length text ≤ longest_text
     → Splits 0 text tokens (Some f)
     → items_at nesting tokens ≡ Read items []
     → IsReading text (Err f)
@@ -63,7 +64,7 @@ refused-lexing text tokens f items short cut e =
     by_tokens tokens (Some f) (Err f) short cut (subst P (sym e) refl)
 
 pub read-finished : (text : List ℕ) (tokens : List TokenTree) (range : Option Fault) (items : List ItemTree) (result : Result File FrontError)
-    → length text ≤ longest
+    → length text ≤ longest_text
     → Splits 0 text tokens None
     → items_at nesting tokens ≡ Read items []
     → range ≡ first_range tokens
@@ -75,12 +76,12 @@ read-finished text tokens range items (Ok file) short cut e r h =
     by_tokens tokens None (Ok (file_view file)) short cut (subst P (sym e) (subst Q r h))
 read-finished text tokens range items (Err (error.Fault told)) short cut e r h =
     let P : Outcome (List ItemTree) → Type 0 = λ o. Tells (length text) tokens None o (Err told) in
-    let Q : Option Fault → Type 0 = λ v. IsLeftmost (file_faults v (record { items = items })) told in
+    let Q : Option Fault → Type 0 = λ v. IsFirst (file_faults v (record { items = items })) told in
     by_tokens tokens None (Err told) short cut (subst P (sym e) (subst Q r h))
 read-finished text tokens range items (Err error.OutOfMemory) short cut e r h = absurd h
 
 stopped-by : (text : List ℕ) (tokens : List declared.Token) (lexing : Option Fault) (why : Why) (left : ℕ)
-    → length text ≤ longest
+    → length text ≤ longest_text
     → Splits 0 text (trees text tokens) lexing
     → items_at nesting (trees text tokens) ≡ Stops why left
     → IsReading text (Err (stop_fault (token_place left tokens) why lexing (length text)))
@@ -91,7 +92,7 @@ stopped-by text tokens lexing why left short cut h =
     (subst P (sym h) (ap (λ p. Err (stop_fault p why lexing (length text))) (sym (place-of-view text tokens left))))
 
 pub read-stopped : (text : List ℕ) (tokens : List declared.Token) (lexing : Option Fault) (s : Stop) (e : FrontError)
-    → length text ≤ longest
+    → length text ≤ longest_text
     → Splits 0 text (trees text tokens) lexing
     → Fails s (items_at nesting (trees text tokens))
     → IsStopped (length text) tokens lexing s e

@@ -1,3 +1,2 @@
-pub mod Results
 pub mod Text
 pub mod Telling

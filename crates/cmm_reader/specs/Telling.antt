@@ -10,14 +10,15 @@ use Rattle.cmm_lex.specs.Token.{TokenTree}
 use Rattle.cmm_lex.specs.declared.token.Token as declared
 use Rattle.cmm_tree.specs.View.{file_view}
 use Rattle.cmm_tree.specs.declared.file.File.{File}
-use Rattle.cmm_reader.specs.declared.stop.Stop.{Stop}
-use Rattle.cmm_reader.specs.declared.stop.Stop.TheVariants as stop
+use Rattle.cmm_exprs.specs.declared.stop.Stop.{Stop}
+use Rattle.cmm_exprs.specs.declared.stop.Stop.TheVariants as stop
 use Rattle.cmm_lex.specs.Lexing.{Splits, first_range}
 use Rattle.cmm_tree.specs.Tree.{ItemTree, FileTree}
-use Rattle.cmm_limits.specs.Leftmost.{IsLeftmost, Faultless}
+use Rattle.bs_fault.specs.Reported.{IsFirst, Faultless}
 use Rattle.cmm_grammar.specs.Reading.{Outcome, Read, Stops, Why, Stuck, Deep, items_at}
 use Rattle.cmm_grammar.specs.Spelling.{nesting}
-use Rattle.cmm_reader.specs.Text.{longest, file_faults}
+use Rattle.cmm_reader.specs.Text.{file_faults}
+use Rattle.bs_fault.specs.Limits.{longest_text}
 
 -- What is told where reading stops: at a token, that no text goes on with it, or that it opens a level too
 -- many; behind all tokens, what is wrong there with the text, or else that the text ends inside a form.
@@ -34,7 +35,7 @@ place_with left tokens = option_map (λ (t : TokenTree). t.at) (slice_get tokens
 -- What a file that was read tells: the file, or the leftmost of its faults.
 abbrev pub TellsFile : Option Fault → FileTree → Result FileTree Fault → Type 0
 TellsFile range file (Ok told) = (told ≡ file) × Faultless (file_faults range file)
-TellsFile range file (Err told) = IsLeftmost (file_faults range file) told
+TellsFile range file (Err told) = IsFirst (file_faults range file) told
 
 -- What items of all tokens tell. What the lexer found behind the tokens comes first.
 abbrev pub TellsItems : List TokenTree → Option Fault → List ItemTree → Result FileTree Fault → Type 0
@@ -48,9 +49,9 @@ Tells size tokens lexing (Read items rest) result = TellsItems tokens lexing ite
 
 -- What reading a text tells.
 pub data IsReading (text : List ℕ) : Result FileTree Fault → Type 0 where
-  too_long : longest < length text → IsReading text (Err (TooLong longest))
+  too_long : longest_text < length text → IsReading text (Err (TooLong longest_text))
   by_tokens : (tokens : List TokenTree) (lexing : Option Fault) (result : Result FileTree Fault)
-      → length text ≤ longest
+      → length text ≤ longest_text
       → Splits 0 text tokens lexing
       → Tells (length text) tokens lexing (items_at nesting tokens) result
       → IsReading text result
@@ -75,5 +76,5 @@ IsStopped size tokens lexing stop.OutOfMemory e = e ≡ error.OutOfMemory
 -- a file, or the fault that is told of it
 abbrev pub IsFinished : Option Fault → FileTree → Result File FrontError → Type 0
 IsFinished range file (Ok f) = (file_view f ≡ file) × Faultless (file_faults range file)
-IsFinished range file (Err (error.Fault told)) = IsLeftmost (file_faults range file) told
+IsFinished range file (Err (error.Fault told)) = IsFirst (file_faults range file) told
 IsFinished range file (Err error.OutOfMemory) = ⊥

@@ -8,14 +8,11 @@ use Rattle.cmm_lex.specs.Token.{TokenTree}
 use Rattle.cmm_lex.specs.Lexing.{Splits, first_range}
 use Rattle.cmm_tree.specs.Tree.{ItemTree, FileTree}
 use Rattle.cmm_data.specs.Faults.{data_fault_of}
-use Rattle.cmm_limits.specs.Leftmost.{Faults, Both, one_of, IsLeftmost, Faultless}
+use Rattle.bs_fault.specs.Limits.{longest_text}
+use Rattle.bs_fault.specs.Reported.{Faults, Both, one_of, IsFirst, Faultless}
 use Rattle.cmm_limits.specs.Limits.{limit_faults}
 use Rattle.cmm_grammar.specs.Spelling.{AreItems, Begins, nesting}
 use Rattle.cmm_grammar.specs.Faults as places
-
--- the most bytes of a text
-abbrev pub longest : ℕ
-longest = 16777216
 
 -- the faults of a file that was read of tokens: integers out of range, of which the first one counts, limits
 -- on sizes, and its static data
@@ -24,43 +21,43 @@ file_faults range file = Both (limit_faults file) (Both (one_of range) (one_of (
 
 -- What reading a text gives. A text is cut into tokens, up to its end or to what is wrong there.
 pub data ReadsAs (text : List ℕ) : Result FileTree Fault → Type 0 where
-  too_long : longest < length text → ReadsAs text (Err (fault.TooLong longest))
+  too_long : longest_text < length text → ReadsAs text (Err (fault.TooLong longest_text))
   -- a text of the grammar begins with the tokens, and behind them no token begins, or one is not closed
   no_token : (tokens : List TokenTree) (told : Fault)
-      → length text ≤ longest
+      → length text ≤ longest_text
       → Splits 0 text tokens (Some told)
       → Begins nesting tokens
       → ReadsAs text (Err told)
   -- a text of the grammar begins with the tokens before, and none goes on with this one
   unexpected : (tokens before behind : List TokenTree) (bad : TokenTree) (broken : Option Fault)
-      → length text ≤ longest
+      → length text ≤ longest_text
       → Splits 0 text tokens broken
       → tokens ≡ before ++ (bad ∷ behind)
       → places.Unexpected before bad
       → ReadsAs text (Err (fault.Unexpected bad.at))
   -- or none does whose parentheses nest at most 250 deep
   too_deep : (tokens before behind : List TokenTree) (bad : TokenTree) (broken : Option Fault)
-      → length text ≤ longest
+      → length text ≤ longest_text
       → Splits 0 text tokens broken
       → tokens ≡ before ++ (bad ∷ behind)
       → places.TooDeep before bad
       → ReadsAs text (Err (fault.TooDeep bad.at))
   -- a text of the grammar begins with all tokens, and none ends there
   ends_inside : (tokens : List TokenTree)
-      → length text ≤ longest
+      → length text ≤ longest_text
       → Splits 0 text tokens None
       → places.EndsInside tokens
       → ReadsAs text (Err (fault.Unexpected (length text)))
   -- the tokens are these items, and the file has a fault of sizes, integers or data: the leftmost is told
   unruly : (tokens : List TokenTree) (items : List ItemTree) (told : Fault)
-      → length text ≤ longest
+      → length text ≤ longest_text
       → Splits 0 text tokens None
       → AreItems nesting items tokens
-      → IsLeftmost (file_faults (first_range tokens) (record { items = items })) told
+      → IsFirst (file_faults (first_range tokens) (record { items = items })) told
       → ReadsAs text (Err told)
   -- or it has none
   file : (tokens : List TokenTree) (items : List ItemTree)
-      → length text ≤ longest
+      → length text ≤ longest_text
       → Splits 0 text tokens None
       → AreItems nesting items tokens
       → Faultless (file_faults (first_range tokens) (record { items = items }))

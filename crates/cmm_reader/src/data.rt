@@ -9,14 +9,11 @@ ghost use Rattle.cmm_tree.specs.Tree.{Val};
 ghost use Rattle.cmm_grammar.specs.Grammar.{a_data_integer, datum_of, a_data_item, data_items, data_list};
 ghost use Rattle.cmm_grammar.specs.Reading.{many, reading, forms_below, reads};
 ghost use Rattle.cmm_tree.specs.View.{datum_view, data_item_view};
-ghost use Rattle.cmm_reader.specs.Results.{trees, Fails, Gives, number_datum, item_part, marked_with};
-ghost use Rattle.cmm_reader.specs.declared.stop.Stop.TheVariants.{OutOfMemory};
+ghost use Rattle.cmm_exprs.specs.Results.{trees, Fails, Gives, number_datum, item_part, marked_with};
+ghost use Rattle.cmm_exprs.specs.declared.stop.Stop.TheVariants.{OutOfMemory};
 
-use crate::parts::symbol;
-use crate::stop::Stop;
-use crate::token::{Test, passes, symbol_of, token};
-use crate::words;
 use bs_words::{List, Name};
+use cmm_exprs::{Stop, Test, data_keyword, passes, symbol, symbol_of, token};
 use cmm_grammar::DataWord;
 use cmm_lex::{Keyword, Token, TokenKind, integer_word, string_of};
 use cmm_tree::{DataItem, DataList, Datum, Item};
@@ -24,18 +21,20 @@ use std::alloc::Global;
 
 /// What a token begins: a definition, where it is a symbol, or what its keyword begins.
 fn data_word(alloc: Global, source: &[u8], token: &Token) -> Result<Option<DataWord>, Stop>
-    ensures word { IfOk result (λ o. marked_with (token_view source.now token.now) o ≡ data_word_of (token_view source.now token.now)) }
+    ensures word { IfOk result (λ o. marked_with (token_view source.now token.now) o ≡ data_word_of
+        (token_view source.now token.now)) }
     ensures error { IfErr result (λ e. e ≡ OutOfMemory) }
 {
     match symbol_of(alloc, source, token)? {
         Some(_) => Ok(Some(DataWord::Define)),
-        None => Ok(words::data_keyword(token.kind)),
+        None => Ok(data_keyword(token.kind)),
     }
 }
 
 /// A symbol or an integer as a value, if the token is one.
 fn value_of(alloc: Global, source: &[u8], token: &Token) -> Result<Option<Datum>, Stop>
-    ensures datum { IfOk result (λ o. option_map datum_view o ≡ val_of (token_view source.now token.now)) }
+    ensures datum { IfOk result (λ o. option_map datum_view o ≡ val_of
+        (token_view source.now token.now)) }
     ensures error { IfErr result (λ e. e ≡ OutOfMemory) }
 {
     match symbol_of(alloc, source, token)? {
@@ -50,7 +49,8 @@ fn value_of(alloc: Global, source: &[u8], token: &Token) -> Result<Option<Datum>
 
 /// An integer as a value, if the token is one.
 fn number_of(source: &[u8], token: &Token) -> Option<Datum>
-    ensures { option_map datum_view result ≡ cond (is_integer (token_view source.now token.now)) (Some (Val (integer_value (token_view source.now token.now).text))) None }
+    ensures { option_map datum_view result ≡ cond (is_integer (token_view source.now token.now))
+        (Some (Val (integer_value (token_view source.now token.now).text))) None }
 {
     if matches!(token.kind, TokenKind::Integer) {
         Some(Datum::Val(integer_word(source, token)))
@@ -67,7 +67,8 @@ fn number_item<'t>(
     depth: u32,
     word: DataWord,
 ) -> Result<(Datum, &'t [Token]), Stop>
-    ensures { Gives (λ x. datum_view x.0) (λ x. trees source.now x.1.now) result (reads (a_data_integer (number_datum word)) depth (trees source.now tokens.now)) }
+    ensures { Gives (λ x. datum_view x.0) (λ x. trees source.now x.1.now) result
+        (reads (a_data_integer (number_datum word)) depth (trees source.now tokens.now)) }
 {
     let (number, rest) = token(source, tokens, Test::Integer)?;
     let value = integer_word(source, &number);
@@ -83,7 +84,8 @@ fn number_item<'t>(
 
 /// The bytes of a string.
 fn bytes_of(alloc: Global, source: &[u8], token: &Token) -> Result<List<u8>, Stop>
-    ensures bytes { IfOk result (λ b. contents b ≡ string_bytes (token_view source.now token.now).text) }
+    ensures bytes { IfOk result (λ b. contents b ≡ string_bytes
+        (token_view source.now token.now).text) }
     ensures error { IfErr result (λ e. e ≡ OutOfMemory) }
 {
     Ok(string_of(alloc, source, token)?)
@@ -98,7 +100,9 @@ fn definition<'t>(
     depth: u32,
     first: &Token,
 ) -> Result<(Datum, &'t [Token]), Stop>
-    ensures { Gives (λ x. datum_view x.0) (λ x. trees source.now x.1.now) result (reads (datum_of (token_view source.now first.now) DataWord.Define) depth (trees source.now tokens.now)) }
+    ensures { Gives (λ x. datum_view x.0) (λ x. trees source.now x.1.now) result
+        (reads (datum_of (token_view source.now first.now) DataWord.Define) depth
+        (trees source.now tokens.now)) }
 {
     let (_, rest) = token(source, tokens, Test::Colon)?;
     let name = Name::from_vec(bytes_of(alloc, source, first)?.into_vec());
@@ -114,7 +118,9 @@ fn value_item<'t>(
     depth: u32,
     word: &Token,
 ) -> Result<(Datum, &'t [Token]), Stop>
-    ensures { Gives (λ x. datum_view x.0) (λ x. trees source.now x.1.now) result (reads (datum_of (token_view source.now word.now) DataWord.Val) depth (trees source.now tokens.now)) }
+    ensures { Gives (λ x. datum_view x.0) (λ x. trees source.now x.1.now) result
+        (reads (datum_of (token_view source.now word.now) DataWord.Val) depth
+        (trees source.now tokens.now)) }
 {
     let Some((first, rest)) = tokens.split_first() else {
         return Err(Stop::Unexpected { left: 0 });
@@ -134,7 +140,9 @@ fn address_item<'t>(
     depth: u32,
     word: &Token,
 ) -> Result<(Datum, &'t [Token]), Stop>
-    ensures { Gives (λ x. datum_view x.0) (λ x. trees source.now x.1.now) result (reads (datum_of (token_view source.now word.now) DataWord.Addr) depth (trees source.now tokens.now)) }
+    ensures { Gives (λ x. datum_view x.0) (λ x. trees source.now x.1.now) result
+        (reads (datum_of (token_view source.now word.now) DataWord.Addr) depth
+        (trees source.now tokens.now)) }
 {
     let (token, name, rest) = symbol(alloc, source, tokens)?;
     let datum = Datum::Address {
@@ -154,7 +162,9 @@ fn global_item<'t>(
     depth: u32,
     word: &Token,
 ) -> Result<(Datum, &'t [Token]), Stop>
-    ensures { Gives (λ x. datum_view x.0) (λ x. trees source.now x.1.now) result (reads (datum_of (token_view source.now word.now) DataWord.Global) depth (trees source.now tokens.now)) }
+    ensures { Gives (λ x. datum_view x.0) (λ x. trees source.now x.1.now) result
+        (reads (datum_of (token_view source.now word.now) DataWord.Global) depth
+        (trees source.now tokens.now)) }
 {
     let (token, name, rest) = symbol(alloc, source, tokens)?;
     let datum = Datum::Global {
@@ -173,7 +183,9 @@ fn text_item<'t>(
     depth: u32,
     word: &Token,
 ) -> Result<(Datum, &'t [Token]), Stop>
-    ensures { Gives (λ x. datum_view x.0) (λ x. trees source.now x.1.now) result (reads (datum_of (token_view source.now word.now) DataWord.Text) depth (trees source.now tokens.now)) }
+    ensures { Gives (λ x. datum_view x.0) (λ x. trees source.now x.1.now) result
+        (reads (datum_of (token_view source.now word.now) DataWord.Text) depth
+        (trees source.now tokens.now)) }
 {
     let (text, rest) = token(source, tokens, Test::String)?;
     Ok((Datum::Text(bytes_of(alloc, source, &text)?), rest))
@@ -187,7 +199,9 @@ fn float_item<'t>(
     depth: u32,
     word: &Token,
 ) -> Result<(Datum, &'t [Token]), Stop>
-    ensures { Gives (λ x. datum_view x.0) (λ x. trees source.now x.1.now) result (reads (datum_of (token_view source.now word.now) DataWord.Float) depth (trees source.now tokens.now)) }
+    ensures { Gives (λ x. datum_view x.0) (λ x. trees source.now x.1.now) result
+        (reads (datum_of (token_view source.now word.now) DataWord.Float) depth
+        (trees source.now tokens.now)) }
 {
     let (_, rest) = token(source, tokens, Test::Float)?;
     Ok((Datum::Float, rest))
@@ -203,7 +217,9 @@ fn datum<'t>(
     first: &Token,
     word: DataWord,
 ) -> Result<(Datum, &'t [Token]), Stop>
-    ensures { Gives (λ x. datum_view x.0) (λ x. trees source.now x.1.now) result (reads (datum_of (token_view source.now first.now) word) depth (trees source.now tokens.now)) }
+    ensures { Gives (λ x. datum_view x.0) (λ x. trees source.now x.1.now) result
+        (reads (datum_of (token_view source.now first.now) word) depth
+        (trees source.now tokens.now)) }
 {
     match word {
         DataWord::Define => definition(alloc, source, tokens, depth, first),
@@ -228,7 +244,8 @@ fn data_item<'t>(
     tokens: &'t [Token],
     depth: u32,
 ) -> Result<(DataItem, &'t [Token]), Stop>
-    ensures { Gives (λ x. data_item_view x.0) (λ x. trees source.now x.1.now) result (reads a_data_item depth (trees source.now tokens.now)) }
+    ensures { Gives (λ x. data_item_view x.0) (λ x. trees source.now x.1.now) result
+        (reads a_data_item depth (trees source.now tokens.now)) }
 {
     let Some((first, rest)) = tokens.split_first() else {
         return Err(Stop::Unexpected { left: 0 });
@@ -255,7 +272,9 @@ fn data_item_list<'t>(
     tokens: &'t [Token],
     depth: u32,
 ) -> Result<(Vec<DataItem>, &'t [Token]), Stop>
-    ensures { Gives (λ x. map data_item_view x.0.items) (λ x. trees source.now x.1.now) result (many is_close (reading a_data_item depth (forms_below depth)) (length (trees source.now tokens.now)) (trees source.now tokens.now)) }
+    ensures { Gives (λ x. map data_item_view x.0.items) (λ x. trees source.now x.1.now) result
+        (many is_close (reading a_data_item depth (forms_below depth))
+        (length (trees source.now tokens.now)) (trees source.now tokens.now)) }
 {
     let mut items = Vec::new(alloc);
     let mut rest = tokens;
@@ -279,7 +298,8 @@ fn data_items<'t>(
     depth: u32,
     at: u32,
 ) -> Result<(Item, &'t [Token]), Stop>
-    ensures { Gives (λ x. item_part x.0) (λ x. trees source.now x.1.now) result (reads (data_items at) depth (trees source.now tokens.now)) }
+    ensures { Gives (λ x. item_part x.0) (λ x. trees source.now x.1.now) result
+        (reads (data_items at) depth (trees source.now tokens.now)) }
 {
     let (items, rest) = data_item_list(alloc, source, tokens, depth)?;
     let (_, rest) = token(source, rest, Test::Close)?;
@@ -299,7 +319,8 @@ pub fn data_list<'t>(
     depth: u32,
     at: u32,
 ) -> Result<(Item, &'t [Token]), Stop>
-    ensures { Gives (λ x. item_part x.0) (λ x. trees source.now x.1.now) result (reads (data_list at) depth (trees source.now tokens.now)) }
+    ensures { Gives (λ x. item_part x.0) (λ x. trees source.now x.1.now) result
+        (reads (data_list at) depth (trees source.now tokens.now)) }
 {
     let Some((first, rest)) = tokens.split_first() else {
         return Err(Stop::Unexpected { left: 0 });

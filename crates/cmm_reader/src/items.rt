@@ -6,14 +6,11 @@ ghost use Rattle.cmm_grammar.specs.Words.{is_function, passing};
 ghost use Rattle.cmm_grammar.specs.Grammar.{parameters, a_function, item_rest, an_item};
 ghost use Rattle.cmm_grammar.specs.Reading.{reads, items_at};
 ghost use Rattle.cmm_tree.specs.View.{param_view, item_view};
-ghost use Rattle.cmm_reader.specs.Results.{trees, Fails, Gives, item_part};
+ghost use Rattle.cmm_exprs.specs.Results.{trees, Fails, Gives, item_part};
 
 use crate::data::data_list;
-use crate::expression::function_body;
-use crate::parts::{parameters, symbol};
-use crate::stop::Stop;
-use crate::words;
 use bs_words::List;
+use cmm_exprs::{Stop, function_body, is_open, parameters, symbol};
 use cmm_lex::{Keyword, Token, TokenKind};
 use cmm_tree::{Function, Item, Param};
 use std::alloc::Global;
@@ -25,12 +22,13 @@ fn inner_parameters<'t>(
     tokens: &'t [Token],
     depth: u32,
 ) -> Result<(Vec<Param>, &'t [Token]), Stop>
-    ensures { Gives (λ x. map param_view x.0.items) (λ x. trees source.now x.1.now) result (reads (Inside (Listed AParameter) (λ _. parameters)) depth (trees source.now tokens.now)) }
+    ensures { Gives (λ x. map param_view x.0.items) (λ x. trees source.now x.1.now) result
+        (reads (Inside (Listed AParameter) (λ _. parameters)) depth (trees source.now tokens.now)) }
 {
     let Some((first, rest)) = tokens.split_first() else {
         return Err(Stop::Unexpected { left: 0 });
     };
-    if !words::is_open(first.kind) {
+    if !is_open(first.kind) {
         return Err(Stop::Unexpected { left: tokens.len() });
     }
     if depth == 0 {
@@ -48,7 +46,8 @@ fn function<'t>(
     depth: u32,
     at: u32,
 ) -> Result<(Item, &'t [Token]), Stop>
-    ensures { Gives (λ x. item_part x.0) (λ x. trees source.now x.1.now) result (reads (a_function at) depth (trees source.now tokens.now)) }
+    ensures { Gives (λ x. item_part x.0) (λ x. trees source.now x.1.now) result
+        (reads (a_function at) depth (trees source.now tokens.now)) }
 {
     let (token, name, rest) = symbol(alloc, source, tokens)?;
     let (params, rest) = inner_parameters(alloc, source, rest, depth)?;
@@ -73,7 +72,9 @@ fn item_inside<'t>(
     depth: u32,
     at: u32,
 ) -> Result<(Item, &'t [Token]), Stop>
-    ensures { Gives (λ x. item_part x.0) (λ x. trees source.now x.1.now) result (reads (maybe AToken (passing is_function) (item_rest at)) depth (trees source.now tokens.now)) }
+    ensures { Gives (λ x. item_part x.0) (λ x. trees source.now x.1.now) result
+        (reads (maybe AToken (passing is_function) (item_rest at)) depth
+        (trees source.now tokens.now)) }
 {
     let Some((first, rest)) = tokens.split_first() else {
         return Err(Stop::Unexpected { left: 0 });
@@ -93,12 +94,13 @@ fn item<'t>(
     tokens: &'t [Token],
     depth: u32,
 ) -> Result<(Item, &'t [Token]), Stop>
-    ensures { Gives (λ x. item_part x.0) (λ x. trees source.now x.1.now) result (reads an_item depth (trees source.now tokens.now)) }
+    ensures { Gives (λ x. item_part x.0) (λ x. trees source.now x.1.now) result
+        (reads an_item depth (trees source.now tokens.now)) }
 {
     let Some((first, rest)) = tokens.split_first() else {
         return Err(Stop::Unexpected { left: 0 });
     };
-    if !words::is_open(first.kind) {
+    if !is_open(first.kind) {
         return Err(Stop::Unexpected { left: tokens.len() });
     }
     if depth == 0 {
@@ -123,7 +125,8 @@ fn counted(item: Item, tokens: u32) -> Item
 /// The items of all these tokens.
 pub fn items(alloc: Global, source: &[u8], tokens: &[Token], depth: u32) -> Result<Vec<Item>, Stop>
     requires { length tokens.now < 2 ^ 32 }
-    ensures { Gives (λ v. map item_view v.items) (λ _. []) result (items_at depth (trees source.now tokens.now)) }
+    ensures { Gives (λ v. map item_view v.items) (λ _. []) result
+        (items_at depth (trees source.now tokens.now)) }
 {
     let mut items = Vec::new(alloc);
     let mut rest = tokens;

@@ -1,22 +1,24 @@
 //! Texts.
-ghost use Rattle.std.specs.Prelude.{◌≡◌, Ok, None, MatchResult};
+ghost use Rattle.std.specs.Prelude.{◌≡◌, Ok, None, IfOk, MatchResult};
 ghost use Rattle.bs_words.specs.Contents.{contents};
 ghost use Rattle.cmm_lex.specs.Token.{token_view};
 ghost use Rattle.cmm_lex.specs.Lexing.{IsLexed};
 ghost use Rattle.cmm_tree.specs.View.{file_view};
-ghost use Rattle.cmm_limits.specs.Leftmost.{IsTold};
+ghost use Rattle.bs_fault.specs.Reported.{IsReported};
+ghost use Rattle.cmm_grammar.specs.Covered.{IsMeasured};
 ghost use Rattle.cmm_grammar.specs.Reading.{Stuck};
-ghost use Rattle.cmm_reader.specs.Results.{trees, Fails};
-ghost use Rattle.cmm_reader.specs.Text.{longest, file_faults, ReadsAs, IsRefused};
+ghost use Rattle.cmm_exprs.specs.Results.{trees, Fails};
+ghost use Rattle.cmm_reader.specs.Text.{file_faults, ReadsAs, IsRefused};
+ghost use Rattle.bs_fault.specs.Limits.{longest_text};
 ghost use Rattle.cmm_reader.specs.Telling.{IsReading, IsStopOf, IsStopped, IsFinished, stop_fault};
 
 use crate::items::items;
-use crate::stop::Stop;
-use bs_fault::{Fault, FrontError};
+use bs_fault::{Fault, FrontError, noted_optional};
 use bs_words::List;
 use cmm_data::data_fault;
+use cmm_exprs::Stop;
 use cmm_lex::{Lexed, Token, lex};
-use cmm_limits::{limit_fault, noted_optional};
+use cmm_limits::limit_fault;
 use cmm_tree::File;
 use std::alloc::Global;
 
@@ -28,7 +30,7 @@ const NESTING: u32 = 250;
 
 /// The fault that is told of a file that was read, if there is one.
 fn file_fault(file: &File, range: Option<Fault>) -> Option<Fault>
-    ensures { IsTold (file_faults range (file_view file.now)) result }
+    ensures { IsReported (file_faults range (file_view file.now)) result }
 {
     let found = noted_optional(range, limit_fault(file));
     noted_optional(data_fault(file), found)
@@ -89,14 +91,17 @@ fn stopped(size: u32, tokens: &[Token], lexing: Option<Fault>, stop: Stop) -> Fr
 /// `Fault` exactly where the text has a fault, with the one that is told, and `OutOfMemory` where memory ran
 /// out before that is known.
 pub fn read_file(alloc: Global, text: &[u8]) -> Result<File, FrontError>
-    ensures { MatchResult result (λ file. ReadsAs text.now (Ok (file_view file))) (IsRefused text.now) }
+    ensures read { MatchResult result (λ file. ReadsAs text.now (Ok (file_view file)))
+        (IsRefused text.now) }
+    ensures measured { IfOk result (λ file. IsMeasured (file_view file)) }
 {
     read_text(alloc, text)
 }
 
 /// The same, by what reading the tokens from left to right tells.
 fn read_text(alloc: Global, text: &[u8]) -> Result<File, FrontError>
-    ensures { MatchResult result (λ file. IsReading text.now (Ok (file_view file))) (IsStopOf text.now) }
+    ensures { MatchResult result (λ file. IsReading text.now (Ok (file_view file)))
+        (IsStopOf text.now) }
 {
     if text.len() > LONGEST_TEXT {
         return Err(FrontError::Fault(Fault::TooLong { at: 16_777_216 }));

@@ -1,7 +1,7 @@
 -- The tree of a text, after the reader's rewriting, as definitions see it: no memory, no pointer.
 --
 -- Each node begins with `at`, the place of its first byte, in bytes from the start of the text.
-use Rattle.std.specs.Prelude.{ℕ, Bool, List, [], ◌∷◌, Option, map}
+use Rattle.std.specs.Prelude.{ℕ, Bool, true, false, List, [], ◌∷◌, Option, map, bytes_eq}
 use Rattle.bs_words.specs.declared.operators.IntOp.{IntOp}
 use Rattle.bs_words.specs.declared.types.Chunk.{Chunk}
 use Rattle.bs_words.specs.declared.types.Comp.{Comp}
@@ -32,6 +32,18 @@ pub data LabelTree : Type 0 where
   Done : LabelTree
   Again : LabelTree
 
+-- whether two labels are the same
+abbrev pub same_label : LabelTree → LabelTree → Bool
+same_label (Named x) (Named y) = bytes_eq x y
+same_label Bare Bare = true
+same_label Done Done = true
+same_label Again Again = true
+same_label _ _ = false
+
+abbrev pub is_bare : LabelTree → Bool
+is_bare Bare = true
+is_bare _ = false
+
 mutual
   -- An expression: one constructor for each form of the grammar. Integers are words of 64 bits.
   pub data Expression : Type 0 where
@@ -54,7 +66,9 @@ mutual
     Store : (at : ℕ) (chunk : Chunk) (address value : Expression) → Expression
     Alloc : (at header_at header : ℕ) (operands : Expressions) → Expression
     App : (at : ℕ) (callee : Expression) (arguments : Expressions) (result : Ret) (result_at : ℕ) → Expression
-    Extcall : (at : ℕ) (name : List ℕ) (arguments : Expressions) (result : Ret) (result_at : ℕ) → Expression
+    -- a call of what lies outside the file, by its name; a frame call is one at which the mover may move every block,
+    -- and which may raise
+    Extcall : (at : ℕ) (frame : Bool) (name : List ℕ) (arguments : Expressions) (result : Ret) (result_at : ℕ) → Expression
     Checkbound : (at : ℕ) (bound index : Expression) → Expression
     Raise : (at : ℕ) (value : Expression) → Expression
     -- two or more expressions, one after the other

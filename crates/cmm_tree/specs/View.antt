@@ -54,7 +54,7 @@ abbrev mutual
   form_view at (form.Store' chunk p address_at address_ty address q value_at value_ty value) = tree.Store at chunk (form_view address_at address) (form_view value_at value)
   form_view at (form.Alloc' header_at header shape operands) = tree.Alloc at header_at header (row_view operands)
   form_view at (form.App' p callee_at callee_ty callee shape arguments result result_at) = tree.App at (form_view callee_at callee) (row_view arguments) result result_at
-  form_view at (form.Extcall' name shape arguments result result_at) = tree.Extcall at name (row_view arguments) result result_at
+  form_view at (form.Extcall' frame name shape arguments result result_at) = tree.Extcall at frame name (row_view arguments) result result_at
   form_view at (form.Checkbound' p bound_at bound_ty bound q index_at index_ty index) = tree.Checkbound at (form_view bound_at bound) (form_view index_at index)
   form_view at (form.Raise' p value_at value_ty value) = tree.Raise at (form_view value_at value)
   form_view at (form.Seq' shape elements) = tree.Seq at (row_view elements)

@@ -61,8 +61,10 @@ pub enum Form {
         result: Ret,
         result_at: u32,
     },
-    /// A call of what lies outside the file, by its name.
+    /// A call of what lies outside the file, by its name. A frame call, marked by `frame`, is one at
+    /// which the mover may move every block, and which may raise.
     Extcall {
+        frame: bool,
         name: Name,
         arguments: Vec<Expr>,
         result: Ret,

@@ -3,8 +3,8 @@ use Rattle.std.proofs.Common.{◌≡◌, ◌<◌, ◌≤◌, Bool, true, false, 
 use Rattle.std.proofs.lemmas.Bool.Decides.{nat_tests}
 use Rattle.bs_fault.specs.FaultLines.{fault_place}
 use Rattle.bs_fault.specs.declared.fault.Fault.{Fault}
-use Rattle.cmm_types.specs.Faults.{fault_number, Precedes}
-use Rattle.cmm_types.specs.Gathered.{Faults, NoFault, One, Both, one_if, precedes, chosen, noted, noted_all}
+use Rattle.bs_fault.specs.Order.{fault_number, Precedes}
+use Rattle.bs_fault.specs.Reported.{Faults, NoFault, One, Both, one_if, precedes, chosen, noted, noted_all}
 
 pub data Among (told : Fault) : Faults → Type 0 where
   here : Among told (One told)

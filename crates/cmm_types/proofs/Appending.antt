@@ -1,8 +1,9 @@
 -- The symbols of a list of items, and their faults, gathered item by item.
 use Rattle.std.proofs.Common.{◌≡◌, List, [], ◌∷◌, ◌++◌, Option, refl}
 use Rattle.bs_fault.specs.declared.fault.Fault.{Fault}
-use Rattle.cmm_types.specs.Symbols.{DefinedSymbol}
-use Rattle.cmm_types.specs.Gathered.{noted_all, with_symbol, with_symbols, symbol_faults}
+use Rattle.cmm_tree.specs.Symbols.{DefinedSymbol}
+use Rattle.cmm_types.specs.Gathered.{with_symbol, with_symbols, symbol_faults}
+use Rattle.bs_fault.specs.Reported.{noted_all}
 
 pub with_symbols-append : (known a b : List DefinedSymbol) → with_symbols known (a ++ b) ≡ with_symbols (with_symbols known a) b
 with_symbols-append known [] b = refl

@@ -14,10 +14,11 @@ use Rattle.cmm_tree.specs.declared.expr.Label.{Label}
 use Rattle.cmm_tree.specs.declared.expr.Form as form
 use Rattle.cmm_types.specs.Types.{Scoped, with_parameters, with_bindings, type_without_float, holds_float}
 use Rattle.cmm_types.specs.Standing.{Visible}
-use Rattle.cmm_types.specs.Symbols.{DefinedSymbol}
+use Rattle.cmm_tree.specs.Symbols.{DefinedSymbol}
 use Rattle.cmm_types.specs.Faults.{row_length}
-use Rattle.cmm_types.specs.Gathered.{noted_all, faults_in}
-use Rattle.cmm_types.specs.Rows.{row_of, bindings_of, cases_of, handlers_of}
+use Rattle.cmm_types.specs.Gathered.{faults_in}
+use Rattle.bs_fault.specs.Reported.{noted_all}
+use Rattle.cmm_tree.specs.Rows.{row_of, bindings_of, cases_of, handlers_of}
 use Rattle.cmm_types.specs.Annotated.{IsAnnotated, PartsTyped}
 use Rattle.cmm_types.specs.Lists.{AreAnnotated, AreBindingsAnnotated, AreCasesAnnotated, AreHandlersAnnotated}
 use Rattle.cmm_types.proofs.Views.{seq_view, exit_view, alloc_view, float_view, extcall_view, app_view, let_view, switch_view, catch_view, let_typed}
@@ -84,14 +85,15 @@ exit_kept at a0 a label0 label v old new ha hl same view =
     ∙ ap (tree.Exit at a (label_view label)) (view ∙ row_same same)
     ∙ sym (exit_view at a label v)
 
-pub extcall_kept : (at : ℕ) (name0 name : List ℕ) (g0 g : Ret) (a0 a : ℕ) (v old new : Vec Expr Global) → name0 ≡ name → g0 ≡ g → a0 ≡ a → old ≡ v → row_of new.items ≡ row_of old.items → form_view at (form.Extcall name0 new g0 a0) ≡ form_view at (form.Extcall name v g a)
-extcall_kept at name0 name g0 g a0 a v old new hn hg ha same view =
-    extcall_view at name0 new g0 a0
-    ∙ ap (λ p. tree.Extcall at p (row_of new.items) g0 a0) hn
-    ∙ ap (λ p. tree.Extcall at name (row_of new.items) p a0) hg
-    ∙ ap (λ p. tree.Extcall at name (row_of new.items) g p) ha
-    ∙ ap (λ (r : Expressions). tree.Extcall at name r g a) (view ∙ row_same same)
-    ∙ sym (extcall_view at name v g a)
+pub extcall_kept : (at : ℕ) (f0 f : Bool) (name0 name : List ℕ) (g0 g : Ret) (a0 a : ℕ) (v old new : Vec Expr Global) → f0 ≡ f → name0 ≡ name → g0 ≡ g → a0 ≡ a → old ≡ v → row_of new.items ≡ row_of old.items → form_view at (form.Extcall f0 name0 new g0 a0) ≡ form_view at (form.Extcall f name v g a)
+extcall_kept at f0 f name0 name g0 g a0 a v old new hf hn hg ha same view =
+    extcall_view at f0 name0 new g0 a0
+    ∙ ap (λ p. tree.Extcall at p name0 (row_of new.items) g0 a0) hf
+    ∙ ap (λ p. tree.Extcall at f p (row_of new.items) g0 a0) hn
+    ∙ ap (λ p. tree.Extcall at f name (row_of new.items) p a0) hg
+    ∙ ap (λ p. tree.Extcall at f name (row_of new.items) g p) ha
+    ∙ ap (λ (r : Expressions). tree.Extcall at f name r g a) (view ∙ row_same same)
+    ∙ sym (extcall_view at f name v g a)
 
 pub app_kept : (at : ℕ) (g0 g : Ret) (a0 a : ℕ) (b : Box Expr Global) (e : Expr) (v old new : Vec Expr Global) → g0 ≡ g → a0 ≡ a → expr_view e ≡ expr_view b.value → old ≡ v → row_of new.items ≡ row_of old.items → form_view at (form.App (record b { value = e }) new g0 a0) ≡ form_view at (form.App b v g a)
 app_kept at g0 g a0 a b e v old new hg ha first same view =

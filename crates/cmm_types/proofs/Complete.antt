@@ -11,10 +11,11 @@ use Rattle.cmm_tree.specs.Place.{place_of}
 use Rattle.cmm_types.specs.Types.{Scoped, is_float, with_parameters, with_bindings, type_of}
 use Rattle.cmm_types.specs.Standing
 use Rattle.cmm_types.specs.Standing.{Visible, Stands, Takes, PartOf, InRow, InCases, InHandlers, InBindings, binding_of, handler_of, labels_of, lasting_labels_of}
-use Rattle.cmm_types.specs.Symbols.{DefinedSymbol, definition_of}
+use Rattle.cmm_tree.specs.Symbols.{DefinedSymbol, definition_of}
 use Rattle.cmm_types.specs.Faults
 use Rattle.cmm_types.specs.Faults.{FaultOf, Labelled, Repeated, DeclaresFloat, row_length, is_header}
-use Rattle.cmm_types.specs.Gathered.{Faults, Both, role_faults, comp_faults, params_faults, labelled_faults, repeated_faults, used_as, faults_in, row_faults, bindings_faults, cases_faults, handlers_faults}
+use Rattle.cmm_types.specs.Gathered.{role_faults, comp_faults, params_faults, labelled_faults, repeated_faults, used_as, faults_in, row_faults, bindings_faults, cases_faults, handlers_faults}
+use Rattle.bs_fault.specs.Reported.{Faults, Both}
 use Rattle.cmm_types.specs.declared.role.Role.{Role}
 use Rattle.cmm_types.specs.declared.role.Role.TheVariants as role
 use Rattle.cmm_types.proofs.Containing.{contains_none, contains_cases}
@@ -55,7 +56,7 @@ module _ (told : Fault) (d : List ℕ → Option DefinedSymbol) where
   takes_below names labels _ _ (Standing.cell at header_at header operands e i) m = second (row_below role.Taken names labels e operands i m)
   takes_below names labels _ _ (Standing.callee at called arguments result result_at) m = second (first m)
   takes_below names labels _ _ (Standing.argument at called arguments result result_at e i) m = second (second (row_below role.Taken names labels e arguments i m))
-  takes_below names labels _ _ (Standing.outer_argument at name arguments result result_at e i) m = second (row_below role.Outer names labels e arguments i (outer m))
+  takes_below names labels _ _ (Standing.outer_argument at frame name arguments result result_at e i) m = second (row_below role.Outer names labels e arguments i (outer m))
     where
       outer_role : (t : Ty) → Among told (role_faults role.Taken (place_of e) t) → Among told (role_faults role.Outer (place_of e) t)
       outer_role ty.NoValue m = m
@@ -156,5 +157,5 @@ module _ (defined : List DefinedSymbol) where
   fault_below names labels _ _ (Faults.declared_float at bindings body there l) = first (declared_below (definition_of defined) names labels bindings there l)
   fault_below names labels _ _ (Faults.float_parameter at body handlers params e p i c f) = second (second (handlers_below (fault.Float p.comp_at) (definition_of defined) names _ params e handlers i (first (params_below (definition_of defined) params p c f))))
   fault_below names labels _ _ (Faults.float_result at called arguments result_at) = first (second here)
-  fault_below names labels _ _ (Faults.outer_float_result at name arguments result_at) = first here
-  fault_below names labels _ _ (Faults.address_argument at name arguments result result_at e i a) = second (row_below (fault.AddrArgument (place_of e)) (definition_of defined) role.Outer names labels e arguments i (address_below (definition_of defined) names e _ a))
+  fault_below names labels _ _ (Faults.outer_float_result at frame name arguments result_at) = first here
+  fault_below names labels _ _ (Faults.address_argument at frame name arguments result result_at e i a) = second (row_below (fault.AddrArgument (place_of e)) (definition_of defined) role.Outer names labels e arguments i (address_below (definition_of defined) names e _ a))

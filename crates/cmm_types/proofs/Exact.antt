@@ -10,10 +10,12 @@ use Rattle.cmm_tree.specs.Tree.{FunctionTree, Parameter, DatumTree, DataItemTree
 use Rattle.cmm_tree.specs.Tree as tree
 use Rattle.cmm_types.specs.Types.{with_parameters, body_type}
 use Rattle.cmm_types.specs.Standing
-use Rattle.cmm_types.specs.Symbols.{DefinedSymbol, built_in, definition_of, symbols, symbols_among}
+use Rattle.cmm_tree.specs.Symbols.{DefinedSymbol, built_in, definition_of, symbols, symbols_among}
 use Rattle.cmm_types.specs.Faults
-use Rattle.cmm_types.specs.Faults.{FaultOf, TypeFault, IsLeftmost, Precedes}
-use Rattle.cmm_types.specs.Gathered.{noted_all, is_address, function_faults, datum_faults, data_faults, items_faults, first_symbols, file_faults}
+use Rattle.cmm_types.specs.Faults.{FaultOf, TypeFault}
+use Rattle.bs_fault.specs.Order.{IsLeftmost, Precedes}
+use Rattle.cmm_types.specs.Gathered.{is_address, function_faults, datum_faults, data_faults, items_faults, first_symbols, file_faults}
+use Rattle.bs_fault.specs.Reported.{noted_all}
 use Rattle.cmm_types.proofs.Among.{Among, here, first, second, one_if-from, one_if-among, one-from, noted_all-meets, noted_all-from, ToldBy, AtMost-not}
 use Rattle.cmm_types.proofs.Containing.{contains_none, contains_cases, contains_head, contains_tail}
 use Rattle.cmm_types.proofs.Complete.{stands_below, fault_below, params_below, is_none-of}
@@ -144,7 +146,7 @@ module _ (file : FileTree) where
       from_items told file.items (λ f c. c) (λ l c. c) (subst P lookups m)
 
   -- what is told is exact
-  pub told_is_leftmost : (told : Fault) → noted_all (file_faults file) None ≡ Some told → IsLeftmost file told
+  pub told_is_leftmost : (told : Fault) → noted_all (file_faults file) None ≡ Some told → IsLeftmost (TypeFault file) told
   told_is_leftmost told e =
       record {
         is_fault = from told (gathered (noted_all-from (file_faults file) None told e));

@@ -4,8 +4,7 @@ use Rattle.std.proofs.Common.{◌≡◌, ℕ, Bool, true, false, List, [], ◌�
 use Rattle.std.proofs.lemmas.Slice.Eq.{bytes_eq-Decides}
 use Rattle.bs_fault.specs.declared.fault.Fault.{Fault}
 use Rattle.bs_fault.specs.declared.fault.Fault.TheVariants as fault
-use Rattle.cmm_types.specs.Standing.{first_found}
-use Rattle.cmm_types.specs.Symbols.{DefinedSymbol, definition_of}
+use Rattle.cmm_tree.specs.Symbols.{first_found, DefinedSymbol, definition_of}
 use Rattle.cmm_types.specs.Gathered.{added, with_symbol, with_symbols, symbol_faults}
 use Rattle.cmm_types.proofs.Among.{Among, first, second, one_if-from, one_if-among}
 

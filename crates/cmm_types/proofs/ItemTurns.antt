@@ -5,8 +5,9 @@ use Rattle.bs_fault.specs.declared.fault.Fault.{Fault}
 use Rattle.cmm_tree.specs.View.{item_view, data_item_view}
 use Rattle.cmm_tree.specs.declared.file.Item.{Item}
 use Rattle.cmm_tree.specs.declared.file.DataItem.{DataItem}
-use Rattle.cmm_types.specs.Symbols.{DefinedSymbol, item_symbols, symbols_among, datum_symbols, data_symbols}
-use Rattle.cmm_types.specs.Gathered.{noted_all, item_faults, items_faults, with_symbols, symbol_faults}
+use Rattle.cmm_tree.specs.Symbols.{DefinedSymbol, item_symbols, symbols_among, datum_symbols, data_symbols}
+use Rattle.cmm_types.specs.Gathered.{item_faults, items_faults, with_symbols, symbol_faults}
+use Rattle.bs_fault.specs.Reported.{noted_all}
 use Rattle.cmm_types.specs.Typing.{IsItemAnnotated, AreItemsAnnotated}
 use Rattle.cmm_types.proofs.Turns.{drop_here}
 use Rattle.cmm_types.proofs.Appending.{with_symbols-append, symbol_faults-append}

@@ -6,8 +6,7 @@ use Rattle.std.proofs.lemmas.Bool.Decides.{same_from_decides}
 use Rattle.std.proofs.lemmas.Slice.Eq.{bytes_eq-Decides}
 use Rattle.indexmap.specs.IndexMap.{IndexMap, get, insert_entry}
 use Rattle.indexmap.proofs.CallerLemmas.{insert_entry-new}
-use Rattle.cmm_types.specs.Standing.{first_found}
-use Rattle.cmm_types.specs.Symbols.{DefinedSymbol, definition_of}
+use Rattle.cmm_tree.specs.Symbols.{first_found, DefinedSymbol, definition_of}
 use Rattle.cmm_types.specs.SymbolEntries.{entry_view}
 use Rattle.cmm_types.specs.Definitions.{defined, definition}
 use Rattle.cmm_types.specs.Gathered.{with_symbol, added}

@@ -3,7 +3,7 @@ use Rattle.std.proofs.Common.{◌≡◌, List}
 use Rattle.bs_words.specs.declared.types.Ty.{Ty}
 use Rattle.cmm_tree.specs.Tree.{Expressions, NoMore, More}
 use Rattle.cmm_types.specs.Types.{Scoped, type_without_float}
-use Rattle.cmm_types.specs.Gathered.{Faults, noted_all}
+use Rattle.bs_fault.specs.Reported.{Faults, noted_all}
 use Rattle.cmm_types.specs.declared.checker.Checker.{Checker}
 
 -- what stands round is as before, and what is left to note gives from here what all gives from the start

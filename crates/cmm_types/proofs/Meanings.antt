@@ -3,7 +3,8 @@ use Rattle.std.proofs.Common.{◌≡◌, ℕ, Bool, true, false, List, [], ◌�
 use Rattle.bs_words.specs.declared.types.Ty.{Ty}
 use Rattle.bs_words.specs.declared.types.Ty.TheVariants.{Never}
 use Rattle.cmm_types.specs.Types.{Scoped, type_named, first_type}
-use Rattle.cmm_types.specs.Standing.{binding_of, first_found}
+use Rattle.cmm_types.specs.Standing.{binding_of}
+use Rattle.cmm_tree.specs.Symbols.{first_found}
 use Rattle.cmm_types.specs.Scopes.{meaning_of}
 use Rattle.cmm_types.specs.declared.names.Meaning.{Meaning}
 

@@ -9,15 +9,16 @@ use Rattle.bs_words.specs.declared.types.Ty.{Ty}
 use Rattle.bs_words.specs.declared.types.Ty.TheVariants as ty
 use Rattle.bs_fault.specs.declared.fault.Fault.{Fault}
 use Rattle.bs_fault.specs.declared.fault.Fault.TheVariants as fault
-use Rattle.cmm_tree.specs.Tree.{Expression, Integer, Pointer, Symbol, Name, Nothing, Float, Let, Assign, Operator, Load, Store, Alloc, App, Extcall, Checkbound, Raise, Seq, If, Switch, Catch, Exit, Try, Expressions, NoMore, More, Bindings, NoBinding, Bind, Declaration, Cases, NoCase, Choose, Handlers, NoHandler, Handle, Parameter, FunctionTree, LabelTree}
+use Rattle.cmm_tree.specs.Tree.{Expression, Integer, Pointer, Symbol, Name, Nothing, Float, Let, Assign, Operator, Load, Store, Alloc, App, Extcall, Checkbound, Raise, Seq, If, Switch, Catch, Exit, Try, Expressions, NoMore, More, Bindings, NoBinding, Bind, Declaration, Cases, NoCase, Choose, Handlers, NoHandler, Handle, Parameter, FunctionTree, LabelTree, same_label}
 use Rattle.cmm_tree.specs.Place.{place_of}
 use Rattle.cmm_types.specs.Types.{Scoped, is_float, with_parameters, with_bindings, type_of}
 use Rattle.cmm_types.specs.Standing
-use Rattle.cmm_types.specs.Standing.{Visible, Stands, Takes, PartOf, InRow, InCases, InHandlers, InBindings, binding_of, handler_of, label_eq, labels_of, lasting_labels_of}
-use Rattle.cmm_types.specs.Symbols.{DefinedSymbol, definition_of}
+use Rattle.cmm_types.specs.Standing.{Visible, Stands, Takes, PartOf, InRow, InCases, InHandlers, InBindings, binding_of, handler_of, labels_of, lasting_labels_of}
+use Rattle.cmm_tree.specs.Symbols.{DefinedSymbol, definition_of}
 use Rattle.cmm_types.specs.Faults
 use Rattle.cmm_types.specs.Faults.{FaultOf, Labelled, Repeated, DeclaresFloat, row_length, is_header}
-use Rattle.cmm_types.specs.Gathered.{One, one_if, role_faults, target_faults, arity_faults, parameters_of, call_faults, exit_faults, result_faults, declared_faults, params_faults, labelled_faults, repeated_faults, used_as, faults_in, row_faults, bindings_faults, cases_faults, handlers_faults}
+use Rattle.cmm_types.specs.Gathered.{role_faults, target_faults, arity_faults, parameters_of, call_faults, exit_faults, result_faults, declared_faults, params_faults, labelled_faults, repeated_faults, used_as, faults_in, row_faults, bindings_faults, cases_faults, handlers_faults}
+use Rattle.bs_fault.specs.Reported.{One, one_if}
 use Rattle.cmm_types.specs.declared.role.Role.{Role}
 use Rattle.cmm_types.specs.declared.role.Role.TheVariants as role
 use Rattle.cmm_types.proofs.Containing.{contains_head, contains_tail}
@@ -84,7 +85,7 @@ pub record Placed (kind : ℕ → Fault) (P : ℕ → Type 0) (told : Fault) : T
 labelled-from : (label : LabelTree) (handlers : Handlers) (told : Fault) → Among told (labelled_faults label handlers) → Placed (λ at. fault.DuplicateSymbol at) (Labelled label handlers) told
 labelled-from label NoHandler told m = elim m [ ]
 labelled-from label (Handle at other params body rest) told (first m) =
-    let both = one_if-from (label_eq label other) (fault.DuplicateSymbol at) told m in
+    let both = one_if-from (same_label label other) (fault.DuplicateSymbol at) told m in
     record { there = at; holds = Faults.first at other params body rest both.0; is = both.1 }
 labelled-from label (Handle at other params body rest) told (second m) =
     let p = labelled-from label rest told m in
@@ -158,19 +159,19 @@ module _ (told : Fault) (defined : List DefinedSymbol) (f : FunctionTree) (Goal 
   at_result names labels at callee arguments (ret.Comp comp.Val) result_at n m = elim m [ ]
   at_result names labels at callee arguments (ret.Comp comp.Addr) result_at n m = elim m [ ]
 
-  at_outer_result : (names : List Scoped) (labels : List Visible) (at : ℕ) (name : List ℕ) (arguments : Expressions) (result : Ret) (result_at : ℕ) → Node names labels (Extcall at name arguments result result_at) → Among told (result_faults result result_at) → Goal
-  at_outer_result names labels at name arguments ret.Unit result_at n m = elim m [ ]
-  at_outer_result names labels at name arguments (ret.Comp comp.Float) result_at n m = fault_of names labels (Extcall at name arguments (ret.Comp comp.Float) result_at) (fault.Float result_at) n (one-from told _ m) (Faults.outer_float_result at name arguments result_at)
-  at_outer_result names labels at name arguments (ret.Comp comp.Int) result_at n m = elim m [ ]
-  at_outer_result names labels at name arguments (ret.Comp comp.Val) result_at n m = elim m [ ]
-  at_outer_result names labels at name arguments (ret.Comp comp.Addr) result_at n m = elim m [ ]
+  at_outer_result : (names : List Scoped) (labels : List Visible) (at : ℕ) (frame : Bool) (name : List ℕ) (arguments : Expressions) (result : Ret) (result_at : ℕ) → Node names labels (Extcall at frame name arguments result result_at) → Among told (result_faults result result_at) → Goal
+  at_outer_result names labels at frame name arguments ret.Unit result_at n m = elim m [ ]
+  at_outer_result names labels at frame name arguments (ret.Comp comp.Float) result_at n m = fault_of names labels (Extcall at frame name arguments (ret.Comp comp.Float) result_at) (fault.Float result_at) n (one-from told _ m) (Faults.outer_float_result at frame name arguments result_at)
+  at_outer_result names labels at frame name arguments (ret.Comp comp.Int) result_at n m = elim m [ ]
+  at_outer_result names labels at frame name arguments (ret.Comp comp.Val) result_at n m = elim m [ ]
+  at_outer_result names labels at frame name arguments (ret.Comp comp.Addr) result_at n m = elim m [ ]
 
-  at_outer : (names : List Scoped) (labels : List Visible) (at : ℕ) (name : List ℕ) (arguments : Expressions) (result : Ret) (result_at : ℕ) → Node names labels (Extcall at name arguments result result_at) → (e : Expression) → InRow e arguments → Among told (role_faults role.Outer (place_of e) (type_of names e)) → Goal
-  at_outer names labels at name arguments result result_at n e i m = go (role-from role.Outer (place_of e) (type_of names e) told m)
+  at_outer : (names : List Scoped) (labels : List Visible) (at : ℕ) (frame : Bool) (name : List ℕ) (arguments : Expressions) (result : Ret) (result_at : ℕ) → Node names labels (Extcall at frame name arguments result result_at) → (e : Expression) → InRow e arguments → Among told (role_faults role.Outer (place_of e) (type_of names e)) → Goal
+  at_outer names labels at frame name arguments result result_at n e i m = go (role-from role.Outer (place_of e) (type_of names e) told m)
     where
       go : RoleFault role.Outer (place_of e) (type_of names e) told → Goal
-      go (no_value v same) = fault_of names labels _ (fault.NoValue (place_of e)) n same (Faults.no_value (Extcall at name arguments result result_at) e (Standing.outer_argument at name arguments result result_at e i) v)
-      go (is_address r a same) = fault_of names labels (Extcall at name arguments result result_at) (fault.AddrArgument (place_of e)) n same (Faults.address_argument at name arguments result result_at e i a)
+      go (no_value v same) = fault_of names labels _ (fault.NoValue (place_of e)) n same (Faults.no_value (Extcall at frame name arguments result result_at) e (Standing.outer_argument at frame name arguments result result_at e i) v)
+      go (is_address r a same) = fault_of names labels (Extcall at frame name arguments result result_at) (fault.AddrArgument (place_of e)) n same (Faults.address_argument at frame name arguments result result_at e i a)
 
   declared_in : (at : ℕ) (name : List ℕ) (declared : Option Declaration) (value : Expression) (rest : Bindings) → Among told (declared_faults declared) → Placed (λ w. fault.Float w) (DeclaresFloat (Bind at name declared value rest)) told
   declared_in at name None value rest m = elim m [ ]
@@ -248,11 +249,11 @@ module _ (told : Fault) (defined : List DefinedSymbol) (f : FunctionTree) (Goal 
         taken_from names labels (App at callee arguments result result_at) callee n (Standing.callee at callee arguments result result_at) (node_from names labels callee (taken_node names labels (App at callee arguments result result_at) callee n (Standing.callee at callee arguments result result_at))) m
     node_from names labels (App at callee arguments result result_at) n (second (second m)) =
         row_from names labels (App at callee arguments result result_at) arguments n (λ e i. Standing.argument at callee arguments result result_at e i) m
-    node_from names labels (Extcall at name arguments result result_at) n (first m) = at_outer_result names labels at name arguments result result_at n m
-    node_from names labels (Extcall at name arguments result result_at) n (second m) =
+    node_from names labels (Extcall at frame name arguments result result_at) n (first m) = at_outer_result names labels at frame name arguments result result_at n m
+    node_from names labels (Extcall at frame name arguments result result_at) n (second m) =
         outer_from names labels arguments
-        (λ e i. Standing.part names labels (Extcall at name arguments result result_at) e n (Standing.taken (Extcall at name arguments result result_at) e (Standing.outer_argument at name arguments result result_at e i)))
-        (at_outer names labels at name arguments result result_at n) m
+        (λ e i. Standing.part names labels (Extcall at frame name arguments result result_at) e n (Standing.taken (Extcall at frame name arguments result result_at) e (Standing.outer_argument at frame name arguments result result_at e i)))
+        (at_outer names labels at frame name arguments result result_at n) m
     node_from names labels (Checkbound at a b) n (first m) = taken_from names labels (Checkbound at a b) a n (Standing.bound at a b) (node_from names labels a (taken_node names labels (Checkbound at a b) a n (Standing.bound at a b))) m
     node_from names labels (Checkbound at a b) n (second m) = taken_from names labels (Checkbound at a b) b n (Standing.index at a b) (node_from names labels b (taken_node names labels (Checkbound at a b) b n (Standing.index at a b))) m
     node_from names labels (Raise at value) n m = taken_from names labels (Raise at value) value n (Standing.raised at value) (node_from names labels value (taken_node names labels (Raise at value) value n (Standing.raised at value))) m

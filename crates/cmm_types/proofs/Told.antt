@@ -9,10 +9,11 @@ use Rattle.cmm_tree.specs.declared.expr.Expr.{Expr}
 use Rattle.cmm_types.specs.declared.role.Role.TheVariants as roles
 use Rattle.cmm_types.specs.Types.{Scoped, with_bindings, holds_float, row_holds_float, is_float_result}
 use Rattle.cmm_types.specs.Standing.{Visible, handler_of, labels_of, lasting_labels_of}
-use Rattle.cmm_types.specs.Symbols.{DefinedSymbol}
+use Rattle.cmm_tree.specs.Symbols.{DefinedSymbol}
 use Rattle.cmm_types.specs.Faults.{row_length, is_header}
-use Rattle.cmm_types.specs.Gathered.{noted, noted_all, one_if, call_faults, exit_faults, result_faults, repeated_faults, used_as, faults_in, row_faults, bindings_faults, cases_faults, handlers_faults}
-use Rattle.cmm_types.specs.Rows.{row_of}
+use Rattle.cmm_types.specs.Gathered.{call_faults, exit_faults, result_faults, repeated_faults, used_as, faults_in, row_faults, bindings_faults, cases_faults, handlers_faults}
+use Rattle.bs_fault.specs.Reported.{noted, noted_all, one_if}
+use Rattle.cmm_tree.specs.Rows.{row_of}
 use Rattle.cmm_types.proofs.Arms.{row_length_of}
 
 pub count_is : (v : Vec Expr Global) → vec_len v ≡ row_length (row_of v.items)
@@ -71,10 +72,10 @@ module _ (d : List ℕ → Option DefinedSymbol) (n : List Scoped) (l : List Vis
       ∙ ap (λ p. noted_all (row_faults roles.Taken d n p r0) a3) (hl3 ∙ hl2 ∙ hl1)
       ∙ ap (λ p. noted_all (row_faults roles.Taken d n l p) a3) hr
 
-  pub extcall_found : (name : List ℕ) (r : Expressions) (g : Ret) (ga : ℕ) {ga0 : ℕ} {g0 : Ret} {r0 : Expressions} {n1 : List Scoped} {l1 : List Visible} {f1 f2 : Option Fault} → n1 ≡ n → l1 ≡ l → r0 ≡ r → g0 ≡ g → ga0 ≡ ga
+  pub extcall_found : (frame : Bool) (name : List ℕ) (r : Expressions) (g : Ret) (ga : ℕ) {ga0 : ℕ} {g0 : Ret} {r0 : Expressions} {n1 : List Scoped} {l1 : List Visible} {f1 f2 : Option Fault} → n1 ≡ n → l1 ≡ l → r0 ≡ r → g0 ≡ g → ga0 ≡ ga
       → f1 ≡ noted_all (result_faults g0 ga0) f0 → f2 ≡ noted_all (row_faults roles.Outer d n1 l1 r0) f1
-      → f2 ≡ noted_all (faults_in d n l (tree.Extcall at name r g ga)) f0
-  extcall_found name r g ga {ga0} {g0} {r0} {n1} {l1} {f1} {f2} hn hl hr hg hga h1 h2 =
+      → f2 ≡ noted_all (faults_in d n l (tree.Extcall at frame name r g ga)) f0
+  extcall_found frame name r g ga {ga0} {g0} {r0} {n1} {l1} {f1} {f2} hn hl hr hg hga h1 h2 =
       let a1 = noted_all (result_faults g ga) f0 in
       let e1 : f1 ≡ a1 = h1 ∙ ap (λ p. noted_all (result_faults p ga0) f0) hg ∙ ap (λ p. noted_all (result_faults g p) f0) hga in
       h2 ∙ ap (noted_all (row_faults roles.Outer d n1 l1 r0)) e1

@@ -12,14 +12,15 @@ use Rattle.bs_words.specs.declared.types.Ty.TheVariants.{Never, NoValue, Int, Va
 use Rattle.cmm_types.specs.declared.role.Role.{Role}
 use Rattle.cmm_types.specs.declared.role.Role.TheVariants as roles
 use Rattle.cmm_types.specs.declared.checker.Checker.{Checker}
-use Rattle.cmm_types.specs.Symbols.{DefinedSymbol}
+use Rattle.cmm_tree.specs.Symbols.{DefinedSymbol}
 use Rattle.cmm_types.specs.Types.{Scoped, with_parameters, with_bindings, holds_float, row_holds_float, bindings_hold_float, cases_hold_float, handlers_hold_float, is_declared_float, has_float_parameter, type_without_float, type_of_last, type_of_cases, type_of_handlers, join}
-use Rattle.cmm_types.specs.Gathered.{Faults, noted_all, used_as, faults_in, row_faults, bindings_faults, cases_faults, handlers_faults, params_faults, declared_faults}
+use Rattle.cmm_types.specs.Gathered.{used_as, faults_in, row_faults, bindings_faults, cases_faults, handlers_faults, params_faults, declared_faults}
+use Rattle.bs_fault.specs.Reported.{Faults, noted_all}
 use Rattle.cmm_types.proofs.Loops.{Noting, last_or}
 use Rattle.cmm_types.proofs.Joining.{join_assoc}
 use Rattle.std.proofs.Math.Bool.{or_assoc}
 use Rattle.cmm_types.specs.Annotated.{IsAnnotated}
-use Rattle.cmm_types.specs.Rows.{row_of, bindings_of, cases_of, handlers_of}
+use Rattle.cmm_tree.specs.Rows.{row_of, bindings_of, cases_of, handlers_of}
 use Rattle.cmm_types.specs.Lists.{AreAnnotated, AreBindingsAnnotated, AreCasesAnnotated, AreHandlersAnnotated, with_binding}
 
 -- what is left begins with the item at the index, and the rest stays as it is

@@ -1,5 +1,5 @@
 -- What the views of forms with rows are, by the lists that the code holds.
-use Rattle.std.proofs.Common.{◌≡◌, ℕ, List, map, option_map, refl, ap, sym, ◌∙◌, subst, Vec, Box, Global}
+use Rattle.std.proofs.Common.{◌≡◌, ℕ, Bool, List, map, option_map, refl, ap, sym, ◌∙◌, subst, Vec, Box, Global}
 use mathlib.Core.Former.{Count}
 use Rattle.cmm_tree.specs.declared.expr.Expr.{Expr}
 use Rattle.cmm_tree.specs.declared.expr.Binding.{Binding}
@@ -10,7 +10,7 @@ use Rattle.cmm_tree.specs.declared.expr.Form as form
 use Rattle.cmm_tree.specs.Tree as tree
 use Rattle.cmm_tree.specs.Place.{place_of}
 use Rattle.cmm_tree.specs.View.{expr_view, form_view, row_view, bindings_view, cases_view, handlers_view, declared_view, index_view, label_view, params_view}
-use Rattle.cmm_types.specs.Rows.{row_of, bindings_of, cases_of, handlers_of}
+use Rattle.cmm_tree.specs.Rows.{row_of, bindings_of, cases_of, handlers_of}
 use Rattle.bs_words.specs.declared.types.Ret.{Ret}
 use Rattle.cmm_tree.specs.declared.expr.Label.{Label}
 use Rattle.cmm_types.specs.Types.{Scoped, with_bindings}
@@ -32,7 +32,7 @@ place_view at (form.Load' chunk p address_at address_ty address) = refl
 place_view at (form.Store' chunk p address_at address_ty address q value_at value_ty value) = refl
 place_view at (form.Alloc' header_at header shape operands) = refl
 place_view at (form.App' p callee_at callee_ty callee shape arguments result result_at) = refl
-place_view at (form.Extcall' name shape arguments result result_at) = refl
+place_view at (form.Extcall' frame name shape arguments result result_at) = refl
 place_view at (form.Checkbound' p bound_at bound_ty bound q index_at index_ty index) = refl
 place_view at (form.Raise' p value_at value_ty value) = refl
 place_view at (form.Seq' shape elements) = refl
@@ -131,11 +131,11 @@ exit_typed names label_at label v t = row-typed names v t
 pub alloc_typed : (names : List Scoped) (header_at header : ℕ) (v : Vec Expr Global) → AreAnnotated names v.items → PartsTyped names (form.Alloc header_at header v)
 alloc_typed names header_at header v t = row-typed names v t
 
-pub extcall_view : (at : ℕ) (name : List ℕ) (v : Vec Expr Global) (result : Ret) (result_at : ℕ) → form_view at (form.Extcall name v result result_at) ≡ tree.Extcall at name (row_of v.items) result result_at
-extcall_view at name v result result_at = ap (λ (r : tree.Expressions). tree.Extcall at name r result result_at) (row-is v)
+pub extcall_view : (at : ℕ) (frame : Bool) (name : List ℕ) (v : Vec Expr Global) (result : Ret) (result_at : ℕ) → form_view at (form.Extcall frame name v result result_at) ≡ tree.Extcall at frame name (row_of v.items) result result_at
+extcall_view at frame name v result result_at = ap (λ (r : tree.Expressions). tree.Extcall at frame name r result result_at) (row-is v)
 
-pub extcall_typed : (names : List Scoped) (name : List ℕ) (v : Vec Expr Global) (result : Ret) (result_at : ℕ) → AreAnnotated names v.items → PartsTyped names (form.Extcall name v result result_at)
-extcall_typed names name v result result_at t = row-typed names v t
+pub extcall_typed : (names : List Scoped) (frame : Bool) (name : List ℕ) (v : Vec Expr Global) (result : Ret) (result_at : ℕ) → AreAnnotated names v.items → PartsTyped names (form.Extcall frame name v result result_at)
+extcall_typed names frame name v result result_at t = row-typed names v t
 
 pub app_view : (at : ℕ) (b : Box Expr Global) (v : Vec Expr Global) (result : Ret) (result_at : ℕ) → form_view at (form.App b v result result_at) ≡ tree.App at (expr_view b.value) (row_of v.items) result result_at
 app_view at b v result result_at = ap (λ (r : tree.Expressions). tree.App at (expr_view b.value) r result result_at) (row-is v)

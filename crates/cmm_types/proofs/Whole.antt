@@ -2,8 +2,9 @@
 use Rattle.std.proofs.Common.{◌≡◌, List, [], ◌∷◌, Option, None, ap, sym, ◌∙◌}
 use Rattle.bs_fault.specs.declared.fault.Fault.{Fault}
 use Rattle.cmm_tree.specs.Tree.{ItemTree}
-use Rattle.cmm_types.specs.Symbols.{DefinedSymbol, built_in, definition_of, symbols_among}
-use Rattle.cmm_types.specs.Gathered.{noted_all, with_symbols, symbol_faults, items_faults, file_faults}
+use Rattle.cmm_tree.specs.Symbols.{DefinedSymbol, built_in, definition_of, symbols_among}
+use Rattle.cmm_types.specs.Gathered.{with_symbols, symbol_faults, items_faults, file_faults}
+use Rattle.bs_fault.specs.Reported.{noted_all}
 
 pub found_of_file : (items first second : List ItemTree) (known : List DefinedSymbol) (found after : Option Fault) → first ≡ items → second ≡ items
     → known ≡ with_symbols (built_in ∷ []) (symbols_among first)

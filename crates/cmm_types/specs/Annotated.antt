@@ -43,7 +43,7 @@ abbrev mutual
   PartsTyped names (form.Alloc' header_at header shape operands) = RowTyped names operands
   PartsTyped names (form.App' p callee_at callee_ty callee shape arguments result result_at) =
       Node names callee_at callee_ty callee (PartsTyped names callee) × RowTyped names arguments
-  PartsTyped names (form.Extcall' name shape arguments result result_at) = RowTyped names arguments
+  PartsTyped names (form.Extcall' frame name shape arguments result result_at) = RowTyped names arguments
   PartsTyped names (form.Checkbound' p bound_at bound_ty bound q index_at index_ty index) =
       Node names bound_at bound_ty bound (PartsTyped names bound)
       × Node names index_at index_ty index (PartsTyped names index)

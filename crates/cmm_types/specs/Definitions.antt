@@ -1,6 +1,6 @@
 -- Symbols that are defined, as the code holds them.
 use Rattle.std.specs.Prelude.{ℕ, List}
-use Rattle.cmm_types.specs.Symbols.{DefinedSymbol}
+use Rattle.cmm_tree.specs.Symbols.{DefinedSymbol}
 use Rattle.cmm_types.specs.declared.symbols.Definition.{Definition}
 
 -- a symbol with this definition

@@ -1,18 +1,17 @@
 -- The faults of types and symbols, F11 to F19 and F21: one condition on a node or an item each.
-use Rattle.std.specs.Prelude.{◌≡◌, ℕ, ◌+◌, ◌<◌, ◌/◌, ◌%◌, Bool, true, false, not, ◌&&◌, ◌==◌, nat_le, List, ◌∷◌, ◌++◌, Option, Some, None, ◌⊎◌}
+use Rattle.std.specs.Prelude.{◌≡◌, ℕ, ◌+◌, ◌/◌, ◌%◌, Bool, true, false, not, ◌&&◌, ◌==◌, nat_le, List, ◌∷◌, ◌++◌, Option, Some, None}
 use Rattle.std.specs.List.{Contains}
 use Rattle.bs_words.specs.declared.types.Comp.TheVariants as comp
 use Rattle.bs_words.specs.declared.types.Ret.TheVariants as ret
 use Rattle.bs_words.specs.declared.types.Ty.TheVariants as ty
-use Rattle.bs_fault.specs.FaultLines.{fault_place}
 use Rattle.bs_fault.specs.declared.fault.Fault as faults
 use Rattle.bs_fault.specs.declared.fault.Fault.TheVariants as fault
-use Rattle.cmm_tree.specs.Tree.{Expression, Symbol, Name, Float, Let, Assign, Alloc, App, Extcall, Catch, Exit, Expressions, NoMore, More, Bindings, Bind, Declaration, Handlers, NoHandler, Handle, Parameter, FunctionTree, LabelTree, DataItemTree, DataListTree, FileTree, functions, data_lists}
+use Rattle.cmm_tree.specs.Tree.{Expression, Symbol, Name, Float, Let, Assign, Alloc, App, Extcall, Catch, Exit, Expressions, NoMore, More, Bindings, Bind, Declaration, Handlers, NoHandler, Handle, Parameter, FunctionTree, LabelTree, DataItemTree, DataListTree, FileTree, functions, data_lists, same_label}
 use Rattle.cmm_tree.specs.Tree as tree
 use Rattle.cmm_tree.specs.Place.{place_of}
 use Rattle.cmm_types.specs.Types.{Scoped, type_of, body_type}
-use Rattle.cmm_types.specs.Standing.{Visible, Stands, Takes, InBindings, InRow, InHandlers, binding_of, handler_of, label_eq}
-use Rattle.cmm_types.specs.Symbols.{DefinedSymbol, symbols, definition_of}
+use Rattle.cmm_types.specs.Standing.{Visible, Stands, Takes, InBindings, InRow, InHandlers, binding_of, handler_of}
+use Rattle.cmm_tree.specs.Symbols.{DefinedSymbol, symbols, definition_of}
 
 -- the number of expressions in a row
 abbrev pub row_length : Expressions → ℕ
@@ -27,7 +26,7 @@ is_header header cells =
 
 -- a handler of this label stands here
 pub data Labelled (label : LabelTree) : Handlers → ℕ → Type 0 where
-  first : (at : ℕ) (other : LabelTree) (params : List Parameter) (body : Expression) (rest : Handlers) → label_eq label other ≡ true → Labelled label (Handle at other params body rest) at
+  first : (at : ℕ) (other : LabelTree) (params : List Parameter) (body : Expression) (rest : Handlers) → same_label label other ≡ true → Labelled label (Handle at other params body rest) at
   later : (at : ℕ) (other : LabelTree) (params : List Parameter) (body : Expression) (rest : Handlers) (there : ℕ) → Labelled label rest there → Labelled label (Handle at other params body rest) there
 
 -- the handler that stands here has the label of an earlier one
@@ -68,9 +67,9 @@ pub data FaultOf (defined : List DefinedSymbol) (names : List Scoped) (labels : 
   declared_float : (at : ℕ) (bindings : Bindings) (body : Expression) (there : ℕ) → DeclaresFloat bindings there → FaultOf defined names labels (Let at bindings body) (fault.Float there)
   float_parameter : (at : ℕ) (body : Expression) (handlers : Handlers) (params : List Parameter) (e : Expression) (p : Parameter) → InHandlers params e handlers → Contains params p → p.comp ≡ comp.Float → FaultOf defined names labels (Catch at body handlers) (fault.Float p.comp_at)
   float_result : (at : ℕ) (called : Expression) (arguments : Expressions) (result_at : ℕ) → FaultOf defined names labels (App at called arguments (ret.Comp comp.Float) result_at) (fault.Float result_at)
-  outer_float_result : (at : ℕ) (name : List ℕ) (arguments : Expressions) (result_at : ℕ) → FaultOf defined names labels (Extcall at name arguments (ret.Comp comp.Float) result_at) (fault.Float result_at)
+  outer_float_result : (at : ℕ) (frame : Bool) (name : List ℕ) (arguments : Expressions) (result_at : ℕ) → FaultOf defined names labels (Extcall at frame name arguments (ret.Comp comp.Float) result_at) (fault.Float result_at)
   -- F21: an address as an argument of an external call
-  address_argument : (at : ℕ) (name : List ℕ) (arguments : Expressions) (result : _) (result_at : ℕ) (e : Expression) → InRow e arguments → type_of names e ≡ ty.Addr → FaultOf defined names labels (Extcall at name arguments result result_at) (fault.AddrArgument (place_of e))
+  address_argument : (at : ℕ) (frame : Bool) (name : List ℕ) (arguments : Expressions) (result : _) (result_at : ℕ) (e : Expression) → InRow e arguments → type_of names e ≡ ty.Addr → FaultOf defined names labels (Extcall at frame name arguments result result_at) (fault.AddrArgument (place_of e))
 
 -- `TypeFault file fault`: the file has the fault, one of F11 to F19 and F21
 pub data TypeFault (file : FileTree) : faults.Fault → Type 0 where
@@ -87,37 +86,3 @@ pub data TypeFault (file : FileTree) : faults.Fault → Type 0 where
   unknown_global : (d : DataListTree) (i : DataItemTree) (name_at : ℕ) (name : List ℕ) → Contains (data_lists file) d → Contains d.items i → i.datum ≡ tree.Global name_at name → definition_of (symbols file) name ≡ None → TypeFault file (fault.UnknownSymbol name_at)
   -- F19: a float as static data
   float_item : (d : DataListTree) (i : DataItemTree) → Contains (data_lists file) d → Contains d.items i → i.datum ≡ tree.AFloat → TypeFault file (fault.Float i.at)
-
--- the number of a fault: 11 for F11
-abbrev pub fault_number : faults.Fault → ℕ
-fault_number (fault.TooLong at) = 1
-fault_number (fault.BadToken at) = 2
-fault_number (fault.Unclosed at) = 3
-fault_number (fault.Unexpected at) = 4
-fault_number (fault.TooDeep at) = 5
-fault_number (fault.IntRange at) = 6
-fault_number (fault.TooManyParams at) = 7
-fault_number (fault.FunctionTooLong at) = 8
-fault_number (fault.DataTooLarge at) = 9
-fault_number (fault.DataItem at) = 10
-fault_number (fault.Unbound at) = 11
-fault_number (fault.UnknownSymbol at) = 12
-fault_number (fault.DuplicateSymbol at) = 13
-fault_number (fault.Arity at) = 14
-fault_number (fault.NoValue at) = 15
-fault_number (fault.NotMutable at) = 16
-fault_number (fault.AllocHeader at) = 17
-fault_number (fault.UnknownLabel at) = 18
-fault_number (fault.Float at) = 19
-fault_number (fault.AddrLive bound point used) = 20
-fault_number (fault.AddrArgument at) = 21
-fault_number (fault.SwitchSize at) = 22
-
--- one fault comes before another: it stands further left, or at the same place and has the lower number
-abbrev pub Precedes : faults.Fault → faults.Fault → Type 0
-Precedes a b = (fault_place a < fault_place b) ⊎ ((fault_place a ≡ fault_place b) × (fault_number a < fault_number b))
-
--- the fault of the file that is told: no other comes before it
-pub record IsLeftmost (file : FileTree) (told : faults.Fault) : Type 0 where
-  pub is_fault : TypeFault file told
-  pub none_before : (other : faults.Fault) → TypeFault file other → ¬ Precedes other told

@@ -1,53 +1,23 @@
 -- The faults of a file, gathered node by node, and the least among them. Private contracts cite it: that it
 -- has exactly the faults of `TypeFault` is proved.
-use Rattle.std.specs.Prelude.{ℕ, Bool, true, false, not, ◌&&◌, ◌||◌, ◌==◌, nat_lt, List, [], ◌∷◌, ◌++◌, Option, Some, None, is_none, is_some}
+use Rattle.std.specs.Prelude.{ℕ, Bool, true, false, not, ◌&&◌, ◌||◌, ◌==◌, List, [], ◌∷◌, ◌++◌, Option, Some, None, is_none, is_some}
 use Rattle.bs_words.specs.declared.types.Comp.{Comp}
 use Rattle.bs_words.specs.declared.types.Ret.{Ret}
 use Rattle.bs_words.specs.declared.types.Ret.TheVariants as ret
 use Rattle.bs_words.specs.declared.types.Ty.{Ty}
 use Rattle.bs_words.specs.declared.types.Ty.TheVariants as ty
-use Rattle.bs_fault.specs.FaultLines.{fault_place}
+use Rattle.bs_fault.specs.Reported.{Faults, NoFault, One, Both, one_if}
 use Rattle.bs_fault.specs.declared.fault.Fault.{Fault}
 use Rattle.bs_fault.specs.declared.fault.Fault.TheVariants as fault
-use Rattle.cmm_tree.specs.Tree.{Expression, Integer, Pointer, Symbol, Name, Nothing, Float, Let, Assign, Operator, Load, Store, Alloc, App, Extcall, Checkbound, Raise, Seq, If, Switch, Catch, Exit, Try, Expressions, NoMore, More, Bindings, NoBinding, Bind, Declaration, Cases, NoCase, Choose, Handlers, NoHandler, Handle, Parameter, FunctionTree, LabelTree, DatumTree, DataItemTree, DataListTree, ItemTree, AFunction, AData, FileTree}
+use Rattle.cmm_tree.specs.Tree.{Expression, Integer, Pointer, Symbol, Name, Nothing, Float, Let, Assign, Operator, Load, Store, Alloc, App, Extcall, Checkbound, Raise, Seq, If, Switch, Catch, Exit, Try, Expressions, NoMore, More, Bindings, NoBinding, Bind, Declaration, Cases, NoCase, Choose, Handlers, NoHandler, Handle, Parameter, FunctionTree, LabelTree, DatumTree, DataItemTree, DataListTree, ItemTree, AFunction, AData, FileTree, same_label}
 use Rattle.cmm_tree.specs.Tree as tree
 use Rattle.cmm_tree.specs.Place.{place_of}
 use Rattle.cmm_types.specs.Types.{Scoped, is_float, with_parameters, with_bindings, type_of, body_type}
-use Rattle.cmm_types.specs.Standing.{Visible, binding_of, handler_of, label_eq, labels_of, lasting_labels_of}
-use Rattle.cmm_types.specs.Symbols.{DefinedSymbol, built_in, definition_of, symbols_among}
-use Rattle.cmm_types.specs.Faults.{row_length, is_header, fault_number}
+use Rattle.cmm_types.specs.Standing.{Visible, binding_of, handler_of, labels_of, lasting_labels_of}
+use Rattle.cmm_tree.specs.Symbols.{DefinedSymbol, built_in, definition_of, symbols_among}
+use Rattle.cmm_types.specs.Faults.{row_length, is_header}
 use Rattle.cmm_types.specs.declared.role.Role.{Role}
 use Rattle.cmm_types.specs.declared.role.Role.TheVariants as role
-
--- ---- faults in the order in which they are met
-
-pub data Faults : Type 0 where
-  NoFault : Faults
-  One : (told : Fault) → Faults
-  Both : (a b : Faults) → Faults
-
-abbrev pub one_if : Bool → Fault → Faults
-one_if true told = One told
-one_if false told = NoFault
-
--- whether a fault is told before another
-abbrev pub precedes : Fault → Fault → Bool
-precedes a b = nat_lt (fault_place a) (fault_place b) || (fault_place a == fault_place b && nat_lt (fault_number a) (fault_number b))
-
-abbrev pub chosen : Bool → Fault → Fault → Fault
-chosen true a b = a
-chosen false a b = b
-
--- the one that is told of what was found before and a further fault
-abbrev pub noted : Fault → Option Fault → Option Fault
-noted told None = Some told
-noted told (Some found) = Some (chosen (precedes told found) told found)
-
--- the same for all of these
-abbrev pub noted_all : Faults → Option Fault → Option Fault
-noted_all NoFault found = found
-noted_all (One told) found = noted told found
-noted_all (Both a b) found = noted_all b (noted_all a found)
 
 -- ---- of the parts of a node
 
@@ -98,7 +68,7 @@ params_faults (p ∷ params) = Both (comp_faults p.comp p.comp_at) (params_fault
 abbrev pub labelled_faults : LabelTree → Handlers → Faults
 labelled_faults label NoHandler = NoFault
 labelled_faults label (Handle at other params body rest) =
-    Both (one_if (label_eq label other) (fault.DuplicateSymbol at)) (labelled_faults label rest)
+    Both (one_if (same_label label other) (fault.DuplicateSymbol at)) (labelled_faults label rest)
 
 -- the handlers whose label an earlier one has
 abbrev pub repeated_faults : Handlers → Faults
@@ -145,7 +115,7 @@ abbrev mutual
       (Both
       (used_as role.Taken names callee (faults_in d names labels callee))
       (row_faults role.Taken d names labels arguments))
-  faults_in d names labels (Extcall at name arguments result result_at) =
+  faults_in d names labels (Extcall at frame name arguments result result_at) =
       Both (result_faults result result_at) (row_faults role.Outer d names labels arguments)
   faults_in d names labels (Checkbound at bound index) =
       Both
@@ -240,7 +210,7 @@ added false known s = known ++ s ∷ []
 abbrev pub with_symbol : List DefinedSymbol → DefinedSymbol → List DefinedSymbol
 with_symbol known s = added (is_some (definition_of known s.name)) known s
 
--- the first definitions among these, behind those that are known
+-- the first definitions among these, after those that are known
 abbrev pub with_symbols : List DefinedSymbol → List DefinedSymbol → List DefinedSymbol
 with_symbols known [] = known
 with_symbols known (s ∷ rest) = with_symbols (with_symbol known s) rest

@@ -1,12 +1,10 @@
 pub mod Types
 pub mod Standing
-pub mod Symbols
 pub mod Faults
 pub mod Annotated
 pub mod Gathered
 pub mod Scopes
 pub mod Entries
-pub mod Rows
 pub mod Lists
 pub mod VisibleLabels
 pub mod SymbolEntries

@@ -13,7 +13,7 @@ abbrev pub AreAnnotated : List Scoped → List Expr → Type 0
 AreAnnotated names [] = Unit {0}
 AreAnnotated names (e ∷ rest) = IsAnnotated names e × AreAnnotated names rest
 
--- the names in scope behind a binding
+-- the names in scope after a binding
 abbrev pub with_binding : List Scoped → Binding → List Scoped
 with_binding names b = with_bindings names (Bind b.at b.name (option_map declared_view b.declared) (expr_view b.value) NoBinding)
 

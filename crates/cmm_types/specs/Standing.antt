@@ -1,14 +1,11 @@
 -- Which nodes stand in a function, and which names and labels are visible there.
-use Rattle.std.specs.Prelude.{ℕ, Bool, true, false, List, [], ◌∷◌, ◌++◌, Option, Some, None, length, bytes_eq}
+use Rattle.std.specs.Prelude.{ℕ, Bool, false, List, [], ◌∷◌, ◌++◌, Option, Some, None, length, bytes_eq}
 use Rattle.bs_words.specs.declared.types.Ty.TheVariants.{Val}
-use Rattle.cmm_tree.specs.Tree.{Expression, Float, Let, Assign, Operator, Load, Store, Alloc, App, Extcall, Checkbound, Raise, Seq, If, Switch, Catch, Exit, Try, Expressions, More, Bindings, NoBinding, Bind, Cases, Choose, Handlers, NoHandler, Handle, Parameter, FunctionTree, LabelTree, Named, Bare, Done, Again}
+use Rattle.cmm_tree.specs.Tree.{Expression, Float, Let, Assign, Operator, Load, Store, Alloc, App, Extcall, Checkbound, Raise, Seq, If, Switch, Catch, Exit, Try, Expressions, More, Bindings, NoBinding, Bind, Cases, Choose, Handlers, NoHandler, Handle, Parameter, FunctionTree, LabelTree, Bare, same_label}
+use Rattle.cmm_tree.specs.Symbols.{first_found}
 use Rattle.cmm_types.specs.Types.{Scoped, with_parameters, with_bindings}
 
 -- ---- names
-
-abbrev pub first_found : {A : Type 0} → Bool → A → Option A → Option A
-first_found true found others = Some found
-first_found false found others = others
 
 -- the innermost binding of a name, which stands first
 abbrev pub binding_of : List Scoped → List ℕ → Option Scoped
@@ -22,17 +19,10 @@ pub record Visible : Type 0 where
   pub label : LabelTree
   pub parameters : ℕ
 
-abbrev pub label_eq : LabelTree → LabelTree → Bool
-label_eq (Named a) (Named b) = bytes_eq a b
-label_eq Bare Bare = true
-label_eq Done Done = true
-label_eq Again Again = true
-label_eq _ _ = false
-
 -- the innermost handler of a label, which stands first; of handlers of one catch with one label the first
 abbrev pub handler_of : List Visible → LabelTree → Option Visible
 handler_of [] label = None
-handler_of (v ∷ rest) label = first_found (label_eq v.label label) v (handler_of rest label)
+handler_of (v ∷ rest) label = first_found (same_label v.label label) v (handler_of rest label)
 
 -- the labels of these handlers: all are visible in the body of their catch
 abbrev pub labels_of : Handlers → List Visible
@@ -84,7 +74,7 @@ pub data Takes : Expression → Expression → Type 0 where
   cell : (at header_at header : ℕ) (operands : Expressions) (e : Expression) → InRow e operands → Takes (Alloc at header_at header operands) e
   callee : (at : ℕ) (called : Expression) (arguments : Expressions) (result : _) (result_at : ℕ) → Takes (App at called arguments result result_at) called
   argument : (at : ℕ) (called : Expression) (arguments : Expressions) (result : _) (result_at : ℕ) (e : Expression) → InRow e arguments → Takes (App at called arguments result result_at) e
-  outer_argument : (at : ℕ) (name : List ℕ) (arguments : Expressions) (result : _) (result_at : ℕ) (e : Expression) → InRow e arguments → Takes (Extcall at name arguments result result_at) e
+  outer_argument : (at : ℕ) (frame : Bool) (name : List ℕ) (arguments : Expressions) (result : _) (result_at : ℕ) (e : Expression) → InRow e arguments → Takes (Extcall at frame name arguments result result_at) e
   bound : (at : ℕ) (a b : Expression) → Takes (Checkbound at a b) a
   index : (at : ℕ) (a b : Expression) → Takes (Checkbound at a b) b
   raised : (at : ℕ) (value : Expression) → Takes (Raise at value) value
@@ -113,7 +103,7 @@ pub data Stands (f : FunctionTree) : List Scoped → List Visible → Expression
   part : (names : List Scoped) (labels : List Visible) (node e : Expression) → Stands f names labels node → PartOf node e → Stands f names labels e
   -- what a binding binds
   binding : (names : List Scoped) (labels : List Visible) (at : ℕ) (bindings : Bindings) (body : Expression) (inner : List Scoped) (value : Expression) → Stands f names labels (Let at bindings body) → InBindings value inner names bindings → Stands f inner labels value
-  -- the body of a let, behind all bindings
+  -- the body of a let, after all bindings
   let_body : (names : List Scoped) (labels : List Visible) (at : ℕ) (bindings : Bindings) (body : Expression) → Stands f names labels (Let at bindings body) → Stands f (with_bindings names bindings) labels body
   -- the body of a catch, with all of its labels
   catch_body : (names : List Scoped) (labels : List Visible) (at : ℕ) (body : Expression) (handlers : Handlers) → Stands f names labels (Catch at body handlers) → Stands f names (labels_of handlers ++ labels) body

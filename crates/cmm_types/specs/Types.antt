@@ -85,7 +85,7 @@ abbrev mutual
   holds_float (Alloc at header_at header operands) = row_holds_float operands
   holds_float (App at callee arguments result result_at) =
       holds_float callee || row_holds_float arguments || is_float_result result
-  holds_float (Extcall at name arguments result result_at) = row_holds_float arguments || is_float_result result
+  holds_float (Extcall at frame name arguments result result_at) = row_holds_float arguments || is_float_result result
   holds_float (Checkbound at bound index) = holds_float bound || holds_float index
   holds_float (Raise at value) = holds_float value
   holds_float (Seq at elements) = row_holds_float elements
@@ -146,7 +146,7 @@ abbrev mutual
   type_without_float scope (Store at chunk address value) = NoValue
   type_without_float scope (Alloc at header_at header operands) = Val
   type_without_float scope (App at callee arguments result result_at) = type_of_result result
-  type_without_float scope (Extcall at name arguments result result_at) = type_of_result result
+  type_without_float scope (Extcall at frame name arguments result result_at) = type_of_result result
   type_without_float scope (Checkbound at bound index) = NoValue
   type_without_float scope (Raise at value) = Never
   type_without_float scope (Seq at elements) = type_of_last scope elements
@@ -166,7 +166,7 @@ abbrev mutual
   type_of_last scope (More e NoMore) = type_without_float scope e
   type_of_last scope (More e rest) = type_of_last scope rest
 
-  -- the names in scope behind these bindings
+  -- the names in scope after these bindings
   pub with_bindings : List Scoped → Bindings → List Scoped
   with_bindings scope NoBinding = scope
   with_bindings scope (Bind at name declared value rest) =

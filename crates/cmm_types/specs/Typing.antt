@@ -10,9 +10,10 @@ use Rattle.cmm_tree.specs.declared.file.Function.{Function}
 use Rattle.cmm_tree.specs.declared.file.Item.{Item}
 use Rattle.cmm_tree.specs.declared.file.Item.TheVariants as item
 use Rattle.cmm_types.specs.Types.{with_parameters}
-use Rattle.cmm_types.specs.Symbols.{DefinedSymbol}
-use Rattle.cmm_types.specs.Faults.{IsLeftmost}
+use Rattle.cmm_tree.specs.Symbols.{DefinedSymbol}
+use Rattle.bs_fault.specs.Order.{IsLeftmost}
 use Rattle.cmm_types.specs.Annotated.{IsAnnotated}
+use Rattle.cmm_types.specs.Faults.{TypeFault}
 use Rattle.cmm_types.specs.declared.typed.Typed.{Typed}
 
 -- the body of a function and all below it hold their types, in the scope of the parameters
@@ -33,7 +34,7 @@ file_of typed = typed.file
 abbrev pub symbols_of : Typed → List DefinedSymbol
 symbols_of typed = typed.symbols
 
--- the fault of the error is the one that is told; want of memory says nothing of the file
+-- the fault of the error is the one that is reported; want of memory says nothing of the file
 abbrev pub IsFaultTold : FileTree → FrontError → Type 0
-IsFaultTold file (error.Fault told) = IsLeftmost file told
+IsFaultTold file (error.Fault told) = IsLeftmost (TypeFault file) told
 IsFaultTold file error.OutOfMemory = Unit {0}

@@ -1,25 +1,25 @@
-//! What stands round a node, and the fault that is told so far.
+//! What stands round a node, and the fault that is reported so far.
 ghost use Rattle.std.specs.Prelude.{◌≡◌, is_none, option_map, OnOk};
 ghost use Rattle.bs_fault.specs.declared.fault.Fault.TheVariants as faults;
 ghost use Rattle.cmm_tree.specs.View.{expr_view, label_view, params_view, declared_view};
-ghost use Rattle.cmm_types.specs.Rows.{handlers_of};
+ghost use Rattle.cmm_tree.specs.Rows.{handlers_of};
 ghost use Rattle.cmm_types.specs.Standing.{binding_of, handler_of};
-ghost use Rattle.cmm_types.specs.Symbols.{definition_of};
+ghost use Rattle.cmm_tree.specs.Symbols.{definition_of};
 ghost use Rattle.cmm_types.specs.Types.{is_float, type_named, with_parameters};
-ghost use Rattle.cmm_types.specs.Gathered.{noted, noted_all, one_if, role_faults, target_faults, arity_faults, call_faults, exit_faults, comp_faults, result_faults, params_faults, declared_faults, labelled_faults, repeated_faults, parameters_of};
+ghost use Rattle.cmm_types.specs.Gathered.{role_faults, target_faults, arity_faults, call_faults, exit_faults, comp_faults, result_faults, params_faults, declared_faults, labelled_faults, repeated_faults, parameters_of};
+ghost use Rattle.bs_fault.specs.Reported.{noted, noted_all, one_if};
 
-use crate::found::noted;
 use crate::labels::{Labels, is_same};
 use crate::names::{Meaning, Names};
 use crate::role::Role;
 use crate::seen::{is_float, ty_of_comp};
 use crate::symbols::Symbols;
-use bs_fault::Fault;
+use bs_fault::{Fault, noted};
 use bs_words::{Comp, Name, Ret, Ty};
 use cmm_tree::{Declared, Expr, Form, Handler, Label, Param};
 use std::alloc::{AllocError, Global};
 
-/// The names and labels that are visible where a node stands, and the fault that is told so far.
+/// The names and labels that are visible where a node stands, and the fault that is reported so far.
 #[derive(Drop)]
 pub struct Checker {
     pub names: Names,
@@ -34,7 +34,7 @@ impl Checker {
         ensures labels { self.new.labels ≡ self.old.labels }
         ensures found { self.new.found ≡ noted told self.old.found }
     {
-        self.found = noted(self.found, told);
+        self.found = noted(told, self.found);
     }
 
     /// Notes the fault where the test holds.
@@ -66,7 +66,8 @@ impl Checker {
     pub fn note_name(&mut self, name: &Name, at: u32) -> Ty
         ensures names { self.new.names ≡ self.old.names }
         ensures labels { self.new.labels ≡ self.old.labels }
-        ensures found { self.new.found ≡ noted_all (one_if (is_none (binding_of self.old.names name.now)) (faults.Unbound at)) self.old.found }
+        ensures found { self.new.found ≡ noted_all (one_if (is_none
+            (binding_of self.old.names name.now)) (faults.Unbound at)) self.old.found }
         ensures ty { result ≡ type_named self.old.names name.now }
     {
         match self.names.find(name) {
@@ -82,7 +83,8 @@ impl Checker {
     pub fn note_target(&mut self, name: &Name, name_at: u32)
         ensures names { self.new.names ≡ self.old.names }
         ensures labels { self.new.labels ≡ self.old.labels }
-        ensures found { self.new.found ≡ noted_all (target_faults (binding_of self.old.names name.now) name_at) self.old.found }
+        ensures found { self.new.found ≡ noted_all (target_faults
+            (binding_of self.old.names name.now) name_at) self.old.found }
     {
         match self.names.find(name) {
             None => self.note(Fault::Unbound { at: name_at }),
@@ -105,7 +107,8 @@ impl Checker {
     pub fn note_call(&mut self, symbols: &Symbols, callee: &Expr, at: u32, arguments: usize)
         ensures names { self.new.names ≡ self.old.names }
         ensures labels { self.new.labels ≡ self.old.labels }
-        ensures found { self.new.found ≡ noted_all (call_faults (definition_of symbols.now) (expr_view callee.now) at arguments) self.old.found }
+        ensures found { self.new.found ≡ noted_all (call_faults (definition_of symbols.now)
+            (expr_view callee.now) at arguments) self.old.found }
     {
         if let Form::Symbol(name) = &callee.form {
             let parameters = symbols.parameters(name);
@@ -117,7 +120,8 @@ impl Checker {
     pub fn note_exit(&mut self, label: &Label, at: u32, label_at: u32, arguments: usize)
         ensures names { self.new.names ≡ self.old.names }
         ensures labels { self.new.labels ≡ self.old.labels }
-        ensures found { self.new.found ≡ noted_all (exit_faults (handler_of self.old.labels (label_view label.now)) at label_at arguments) self.old.found }
+        ensures found { self.new.found ≡ noted_all (exit_faults (handler_of self.old.labels
+            (label_view label.now)) at label_at arguments) self.old.found }
     {
         match self.labels.find(label) {
             None => self.note(Fault::UnknownLabel { at: label_at }),
@@ -138,7 +142,8 @@ impl Checker {
     pub fn note_declared(&mut self, declared: Option<Declared>)
         ensures names { self.new.names ≡ self.old.names }
         ensures labels { self.new.labels ≡ self.old.labels }
-        ensures found { self.new.found ≡ noted_all (declared_faults (option_map declared_view declared)) self.old.found }
+        ensures found { self.new.found ≡ noted_all (declared_faults
+            (option_map declared_view declared)) self.old.found }
     {
         if let Some(declared) = declared {
             self.note_comp(declared.comp, declared.at);
@@ -171,7 +176,8 @@ impl Checker {
     fn note_labelled(&mut self, label: &Label, handlers: &[Handler])
         ensures names { self.new.names ≡ self.old.names }
         ensures labels { self.new.labels ≡ self.old.labels }
-        ensures found { self.new.found ≡ noted_all (labelled_faults (label_view label.now) (handlers_of handlers.now)) self.old.found }
+        ensures found { self.new.found ≡ noted_all (labelled_faults (label_view label.now)
+            (handlers_of handlers.now)) self.old.found }
     {
         for handler in handlers {
             self.note_if(

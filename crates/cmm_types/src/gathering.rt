@@ -4,19 +4,19 @@ ghost use Rattle.bs_fault.specs.declared.fault.Fault.TheVariants as faults;
 ghost use Rattle.bs_words.specs.Contents.{contents};
 ghost use Rattle.cmm_tree.specs.View.{item_view, data_item_view, datum_view};
 ghost use Rattle.cmm_types.specs.Definitions.{defined};
-ghost use Rattle.cmm_types.specs.Symbols.{built_in, definition_of, symbols_among, item_symbols, data_symbols, datum_symbols};
-ghost use Rattle.cmm_types.specs.Gathered.{noted_all, one_if, with_symbol, with_symbols, symbol_faults};
+ghost use Rattle.cmm_tree.specs.Symbols.{built_in, definition_of, symbols_among, item_symbols, data_symbols, datum_symbols};
+ghost use Rattle.cmm_types.specs.Gathered.{with_symbol, with_symbols, symbol_faults};
+ghost use Rattle.bs_fault.specs.Reported.{noted_all, one_if};
 
-use crate::found::noted;
 use crate::symbols::{Definition, Symbols};
-use bs_fault::Fault;
+use bs_fault::{Fault, noted};
 use cmm_tree::{DataItem, Datum, Item};
 use std::alloc::{AllocError, Global};
 
 /// The symbol of the built-in data.
 const BUILT_IN: &[u8] = b"caml_bound_error";
 
-/// The symbols that are defined so far, and the fault that is told of them.
+/// The symbols that are defined so far, and the fault that is reported of them.
 #[derive(Drop)]
 pub struct Gathering {
     pub symbols: Symbols,
@@ -25,8 +25,10 @@ pub struct Gathering {
 
 /// The symbols that the items define.
 pub fn gather(alloc: Global, items: &[Item]) -> Result<Gathering, AllocError>
-    ensures symbols { IfOk result (λ all. all.symbols ≡ with_symbols (built_in ∷ []) (symbols_among (map item_view items.now))) }
-    ensures found { IfOk result (λ all. all.found ≡ noted_all (symbol_faults (built_in ∷ []) (symbols_among (map item_view items.now))) None) }
+    ensures symbols { IfOk result (λ all. all.symbols ≡ with_symbols (built_in ∷ []) (symbols_among
+        (map item_view items.now))) }
+    ensures found { IfOk result (λ all. all.found ≡ noted_all (symbol_faults (built_in ∷ []) (symbols_among
+        (map item_view items.now))) None) }
 {
     let mut symbols = Symbols::new(alloc);
     let definition = Definition {
@@ -52,19 +54,24 @@ impl Gathering {
         name: &[u8],
         definition: Definition,
     ) -> Result<(), AllocError>
-        ensures symbols { OnOk result (self.new.symbols ≡ with_symbol self.old.symbols (defined name.now definition)) }
-        ensures found { OnOk result (self.new.found ≡ noted_all (one_if (is_some (definition_of self.old.symbols name.now)) (faults.DuplicateSymbol definition.at)) self.old.found) }
+        ensures symbols { OnOk result (self.new.symbols ≡ with_symbol self.old.symbols
+            (defined name.now definition)) }
+        ensures found { OnOk result (self.new.found ≡ noted_all (one_if (is_some
+            (definition_of self.old.symbols name.now))
+            (faults.DuplicateSymbol definition.at)) self.old.found) }
     {
         if self.symbols.define(alloc, name, definition)?.is_some() {
-            self.found = noted(self.found, Fault::DuplicateSymbol { at: definition.at });
+            self.found = noted(Fault::DuplicateSymbol { at: definition.at }, self.found);
         }
         Ok(())
     }
 
     /// Defines the symbols of the item.
     fn add_item(&mut self, alloc: Global, item: &Item) -> Result<(), AllocError>
-        ensures symbols { OnOk result (self.new.symbols ≡ with_symbols self.old.symbols (item_symbols (item_view item.now))) }
-        ensures found { OnOk result (self.new.found ≡ noted_all (symbol_faults self.old.symbols (item_symbols (item_view item.now))) self.old.found) }
+        ensures symbols { OnOk result (self.new.symbols ≡ with_symbols self.old.symbols (item_symbols
+            (item_view item.now))) }
+        ensures found { OnOk result (self.new.found ≡ noted_all (symbol_faults self.old.symbols
+            (item_symbols (item_view item.now))) self.old.found) }
     {
         match item {
             Item::Function(function) => {
@@ -80,8 +87,10 @@ impl Gathering {
 
     /// Defines the symbols of static data.
     fn add_data(&mut self, alloc: Global, items: &[DataItem]) -> Result<(), AllocError>
-        ensures symbols { OnOk result (self.new.symbols ≡ with_symbols self.old.symbols (data_symbols (map data_item_view items.now))) }
-        ensures found { OnOk result (self.new.found ≡ noted_all (symbol_faults self.old.symbols (data_symbols (map data_item_view items.now))) self.old.found) }
+        ensures symbols { OnOk result (self.new.symbols ≡ with_symbols self.old.symbols (data_symbols
+            (map data_item_view items.now))) }
+        ensures found { OnOk result (self.new.found ≡ noted_all (symbol_faults self.old.symbols
+            (data_symbols (map data_item_view items.now))) self.old.found) }
     {
         for item in items {
             self.add_datum(alloc, item.at, &item.datum)?;
@@ -91,8 +100,10 @@ impl Gathering {
 
     /// Defines the symbol of an item of static data, if it defines one.
     fn add_datum(&mut self, alloc: Global, at: u32, datum: &Datum) -> Result<(), AllocError>
-        ensures symbols { OnOk result (self.new.symbols ≡ with_symbols self.old.symbols (datum_symbols at (datum_view datum.now))) }
-        ensures found { OnOk result (self.new.found ≡ noted_all (symbol_faults self.old.symbols (datum_symbols at (datum_view datum.now))) self.old.found) }
+        ensures symbols { OnOk result (self.new.symbols ≡ with_symbols self.old.symbols
+            (datum_symbols at (datum_view datum.now))) }
+        ensures found { OnOk result (self.new.found ≡ noted_all (symbol_faults self.old.symbols
+            (datum_symbols at (datum_view datum.now))) self.old.found) }
     {
         match datum {
             Datum::Define(name) => {

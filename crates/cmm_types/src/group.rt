@@ -55,6 +55,7 @@ pub fn group_of_form(form: &Form) -> Group
             result_at: _,
         } => Group::Call,
         Form::Extcall {
+            frame: _,
             name: _,
             arguments: _,
             result: _,

@@ -3,8 +3,9 @@ ghost use Rattle.std.specs.Prelude.{◌≡◌, ◌-◌, ◌∷◌, ◌++◌, len
 ghost use Rattle.cmm_types.specs.VisibleLabels.{visible_view};
 ghost use Rattle.std.specs.Option.{option_map};
 ghost use Rattle.cmm_tree.specs.View.{label_view};
-ghost use Rattle.cmm_types.specs.Standing.{Visible, label_eq, handler_of, labels_of, lasting_labels_of};
-ghost use Rattle.cmm_types.specs.Rows.{handlers_of};
+ghost use Rattle.cmm_types.specs.Standing.{Visible, handler_of, labels_of, lasting_labels_of};
+ghost use Rattle.cmm_tree.specs.Tree.{same_label};
+ghost use Rattle.cmm_tree.specs.Rows.{handlers_of};
 ghost use Rattle.cmm_types.specs.Scopes.{parameters_of_label};
 
 use bs_words::Name;
@@ -37,7 +38,7 @@ impl Model for Labels {
 
 /// Whether the labels are the same.
 pub fn is_same(a: &Label, b: &Label) -> bool
-    ensures { result ≡ label_eq (label_view a.now) (label_view b.now) }
+    ensures { result ≡ same_label (label_view a.now) (label_view b.now) }
 {
     match (a, b) {
         (Label::Named(first), Label::Named(second)) => first.as_bytes() == second.as_bytes(),
@@ -64,7 +65,8 @@ fn copy_of(alloc: Global, label: &Label) -> Result<Label, AllocError>
 
 /// The number of parameters at the last of these that has the label.
 fn innermost(visible: &[VisibleLabel], label: &Label) -> Option<usize>
-    ensures { result ≡ option_map parameters_of_label (handler_of (map visible_view (reverse visible.now)) (label_view label.now)) }
+    ensures { result ≡ option_map parameters_of_label (handler_of (map visible_view
+        (reverse visible.now)) (label_view label.now)) }
 {
     let mut left = visible.len();
     while left > 0 {
@@ -95,7 +97,10 @@ impl Labels {
     }
 
     fn add(&mut self, alloc: Global, handler: &Handler) -> Result<(), AllocError>
-        ensures ok { OnOk result (self.new ≡ record { label = label_view handler.now.label; parameters = length handler.now.params.items } ∷ self.old) }
+        ensures ok { OnOk result (self.new ≡ record {
+          label = label_view handler.now.label;
+          parameters = length handler.now.params.items;
+        } ∷ self.old) }
     {
         let label = copy_of(alloc, &handler.label)?;
         let parameters = handler.params.len();

@@ -2,7 +2,6 @@
 #![tactic(auto)]
 
 mod checker;
-mod found;
 mod gathering;
 mod group;
 mod labels;
@@ -15,6 +14,3 @@ mod typed;
 
 pub use symbols::{Definition, Symbols};
 pub use typed::{Typed, check_types};
-
-#[cfg(test)]
-mod tests;

@@ -6,10 +6,11 @@ ghost use Rattle.cmm_types.specs.declared.role.Role.TheVariants as roles;
 ghost use Rattle.cmm_types.specs.Groups.{group_of};
 ghost use Rattle.cmm_types.specs.declared.group.Group.TheVariants as groups;
 ghost use Rattle.cmm_types.specs.Lists.{AreAnnotated, AreBindingsAnnotated, AreCasesAnnotated, AreHandlersAnnotated, with_binding};
-ghost use Rattle.cmm_types.specs.Rows.{row_of, bindings_of, cases_of, handlers_of};
-ghost use Rattle.cmm_types.specs.Symbols.{definition_of};
+ghost use Rattle.cmm_tree.specs.Rows.{row_of, bindings_of, cases_of, handlers_of};
+ghost use Rattle.cmm_tree.specs.Symbols.{definition_of};
 ghost use Rattle.cmm_types.specs.Types.{with_bindings, with_parameters, type_without_float, holds_float, row_holds_float, type_of_last, bindings_hold_float, is_declared_float, type_of_cases, cases_hold_float, type_of_handlers, handlers_hold_float, has_float_parameter};
-ghost use Rattle.cmm_types.specs.Gathered.{noted_all, faults_in, used_as, row_faults, declared_faults, params_faults, bindings_faults, cases_faults, handlers_faults};
+ghost use Rattle.cmm_types.specs.Gathered.{faults_in, used_as, row_faults, declared_faults, params_faults, bindings_faults, cases_faults, handlers_faults};
+ghost use Rattle.bs_fault.specs.Reported.{noted_all};
 
 use crate::checker::Checker;
 use crate::group::{Group, group_of_form};
@@ -38,8 +39,11 @@ impl Checker {
         ensures typed { OnOk result (IsAnnotated self.old.names expr.new) }
         ensures names { OnOk result (self.new.names ≡ self.old.names) }
         ensures labels { OnOk result (self.new.labels ≡ self.old.labels) }
-        ensures found { OnOk result (self.new.found ≡ noted_all (faults_in (definition_of symbols.now) self.old.names self.old.labels (expr_view expr.old)) self.old.found) }
-        ensures plain { IfOk result (λ seen. seen.plain ≡ type_without_float self.old.names (expr_view expr.old)) }
+        ensures found { OnOk result (self.new.found ≡ noted_all (faults_in
+            (definition_of symbols.now) self.old.names self.old.labels
+            (expr_view expr.old)) self.old.found) }
+        ensures plain { IfOk result (λ seen. seen.plain ≡ type_without_float self.old.names
+            (expr_view expr.old)) }
         ensures float { IfOk result (λ seen. seen.float ≡ holds_float (expr_view expr.old)) }
     {
         let seen = self.visit_form(alloc, symbols, expr.at, &mut expr.form)?;
@@ -60,8 +64,11 @@ impl Checker {
         ensures typed { OnOk result (PartsTyped self.old.names form.new) }
         ensures names { OnOk result (self.new.names ≡ self.old.names) }
         ensures labels { OnOk result (self.new.labels ≡ self.old.labels) }
-        ensures found { OnOk result (self.new.found ≡ noted_all (faults_in (definition_of symbols.now) self.old.names self.old.labels (form_view at form.old)) self.old.found) }
-        ensures plain { IfOk result (λ seen. seen.plain ≡ type_without_float self.old.names (form_view at form.old)) }
+        ensures found { OnOk result (self.new.found ≡ noted_all (faults_in
+            (definition_of symbols.now) self.old.names self.old.labels
+            (form_view at form.old)) self.old.found) }
+        ensures plain { IfOk result (λ seen. seen.plain ≡ type_without_float self.old.names
+            (form_view at form.old)) }
         ensures float { IfOk result (λ seen. seen.float ≡ holds_float (form_view at form.old)) }
     {
         match group_of_form(form) {
@@ -88,8 +95,11 @@ impl Checker {
         ensures typed { OnOk result (PartsTyped self.old.names form.new) }
         ensures names { OnOk result (self.new.names ≡ self.old.names) }
         ensures labels { OnOk result (self.new.labels ≡ self.old.labels) }
-        ensures found { OnOk result (self.new.found ≡ noted_all (faults_in (definition_of symbols.now) self.old.names self.old.labels (form_view at form.old)) self.old.found) }
-        ensures plain { IfOk result (λ seen. seen.plain ≡ type_without_float self.old.names (form_view at form.old)) }
+        ensures found { OnOk result (self.new.found ≡ noted_all (faults_in
+            (definition_of symbols.now) self.old.names self.old.labels
+            (form_view at form.old)) self.old.found) }
+        ensures plain { IfOk result (λ seen. seen.plain ≡ type_without_float self.old.names
+            (form_view at form.old)) }
         ensures float { IfOk result (λ seen. seen.float ≡ holds_float (form_view at form.old)) }
     {
         match form {
@@ -163,8 +173,11 @@ impl Checker {
         ensures typed { OnOk result (PartsTyped self.old.names form.new) }
         ensures names { OnOk result (self.new.names ≡ self.old.names) }
         ensures labels { OnOk result (self.new.labels ≡ self.old.labels) }
-        ensures found { OnOk result (self.new.found ≡ noted_all (faults_in (definition_of symbols.now) self.old.names self.old.labels (form_view at form.old)) self.old.found) }
-        ensures plain { IfOk result (λ seen. seen.plain ≡ type_without_float self.old.names (form_view at form.old)) }
+        ensures found { OnOk result (self.new.found ≡ noted_all (faults_in
+            (definition_of symbols.now) self.old.names self.old.labels
+            (form_view at form.old)) self.old.found) }
+        ensures plain { IfOk result (λ seen. seen.plain ≡ type_without_float self.old.names
+            (form_view at form.old)) }
         ensures float { IfOk result (λ seen. seen.float ≡ holds_float (form_view at form.old)) }
     {
         match form {
@@ -226,8 +239,11 @@ impl Checker {
         ensures typed { OnOk result (PartsTyped self.old.names form.new) }
         ensures names { OnOk result (self.new.names ≡ self.old.names) }
         ensures labels { OnOk result (self.new.labels ≡ self.old.labels) }
-        ensures found { OnOk result (self.new.found ≡ noted_all (faults_in (definition_of symbols.now) self.old.names self.old.labels (form_view at form.old)) self.old.found) }
-        ensures plain { IfOk result (λ seen. seen.plain ≡ type_without_float self.old.names (form_view at form.old)) }
+        ensures found { OnOk result (self.new.found ≡ noted_all (faults_in
+            (definition_of symbols.now) self.old.names self.old.labels
+            (form_view at form.old)) self.old.found) }
+        ensures plain { IfOk result (λ seen. seen.plain ≡ type_without_float self.old.names
+            (form_view at form.old)) }
         ensures float { IfOk result (λ seen. seen.float ≡ holds_float (form_view at form.old)) }
     {
         match form {
@@ -247,6 +263,7 @@ impl Checker {
                 })
             }
             Form::Extcall {
+                frame: _,
                 name: _,
                 arguments,
                 result: given,
@@ -277,8 +294,11 @@ impl Checker {
         ensures typed { OnOk result (PartsTyped self.old.names form.new) }
         ensures names { OnOk result (self.new.names ≡ self.old.names) }
         ensures labels { OnOk result (self.new.labels ≡ self.old.labels) }
-        ensures found { OnOk result (self.new.found ≡ noted_all (faults_in (definition_of symbols.now) self.old.names self.old.labels (form_view at form.old)) self.old.found) }
-        ensures plain { IfOk result (λ seen. seen.plain ≡ type_without_float self.old.names (form_view at form.old)) }
+        ensures found { OnOk result (self.new.found ≡ noted_all (faults_in
+            (definition_of symbols.now) self.old.names self.old.labels
+            (form_view at form.old)) self.old.found) }
+        ensures plain { IfOk result (λ seen. seen.plain ≡ type_without_float self.old.names
+            (form_view at form.old)) }
         ensures float { IfOk result (λ seen. seen.float ≡ holds_float (form_view at form.old)) }
     {
         match form {
@@ -322,8 +342,11 @@ impl Checker {
         ensures typed { OnOk result (PartsTyped self.old.names form.new) }
         ensures names { OnOk result (self.new.names ≡ self.old.names) }
         ensures labels { OnOk result (self.new.labels ≡ self.old.labels) }
-        ensures found { OnOk result (self.new.found ≡ noted_all (faults_in (definition_of symbols.now) self.old.names self.old.labels (form_view at form.old)) self.old.found) }
-        ensures plain { IfOk result (λ seen. seen.plain ≡ type_without_float self.old.names (form_view at form.old)) }
+        ensures found { OnOk result (self.new.found ≡ noted_all (faults_in
+            (definition_of symbols.now) self.old.names self.old.labels
+            (form_view at form.old)) self.old.found) }
+        ensures plain { IfOk result (λ seen. seen.plain ≡ type_without_float self.old.names
+            (form_view at form.old)) }
         ensures float { IfOk result (λ seen. seen.float ≡ holds_float (form_view at form.old)) }
     {
         match form {
@@ -381,7 +404,8 @@ impl Checker {
         ensures typed { PartsTyped self.old.names form.now }
         ensures names { self.new.names ≡ self.old.names }
         ensures labels { self.new.labels ≡ self.old.labels }
-        ensures found { self.new.found ≡ noted_all (faults_in (definition_of symbols.now) self.old.names self.old.labels (form_view at form.now)) self.old.found }
+        ensures found { self.new.found ≡ noted_all (faults_in (definition_of symbols.now) self.old.names
+            self.old.labels (form_view at form.now)) self.old.found }
         ensures plain { result.plain ≡ type_without_float self.old.names (form_view at form.now) }
         ensures float { result.float ≡ holds_float (form_view at form.now) }
     {
@@ -412,8 +436,11 @@ impl Checker {
         ensures typed { OnOk result (IsAnnotated self.old.names expr.new) }
         ensures names { OnOk result (self.new.names ≡ self.old.names) }
         ensures labels { OnOk result (self.new.labels ≡ self.old.labels) }
-        ensures found { OnOk result (self.new.found ≡ noted_all (used_as role self.old.names (expr_view expr.old) (faults_in (definition_of symbols.now) self.old.names self.old.labels (expr_view expr.old))) self.old.found) }
-        ensures plain { IfOk result (λ seen. seen.plain ≡ type_without_float self.old.names (expr_view expr.old)) }
+        ensures found { OnOk result (self.new.found ≡ noted_all (used_as role self.old.names
+            (expr_view expr.old) (faults_in (definition_of symbols.now) self.old.names
+            self.old.labels (expr_view expr.old))) self.old.found) }
+        ensures plain { IfOk result (λ seen. seen.plain ≡ type_without_float self.old.names
+            (expr_view expr.old)) }
         ensures float { IfOk result (λ seen. seen.float ≡ holds_float (expr_view expr.old)) }
     {
         let seen = self.visit(alloc, symbols, expr)?;
@@ -434,7 +461,9 @@ impl Checker {
         ensures typed { OnOk result (AreAnnotated self.old.names exprs.new.items) }
         ensures names { OnOk result (self.new.names ≡ self.old.names) }
         ensures labels { OnOk result (self.new.labels ≡ self.old.labels) }
-        ensures found { OnOk result (self.new.found ≡ noted_all (row_faults role (definition_of symbols.now) self.old.names self.old.labels (row_of exprs.old.items)) self.old.found) }
+        ensures found { OnOk result (self.new.found ≡ noted_all (row_faults role
+            (definition_of symbols.now) self.old.names self.old.labels
+            (row_of exprs.old.items)) self.old.found) }
         ensures plain { IfOk result (λ seen. seen.plain ≡ type_of_last self.old.names (row_of exprs.old.items)) }
         ensures float { IfOk result (λ seen. seen.float ≡ row_holds_float (row_of exprs.old.items)) }
     {
@@ -456,7 +485,9 @@ impl Checker {
         ensures typed { OnOk result (AreAnnotated self.old.names exprs.new) }
         ensures names { OnOk result (self.new.names ≡ self.old.names) }
         ensures labels { OnOk result (self.new.labels ≡ self.old.labels) }
-        ensures found { OnOk result (self.new.found ≡ noted_all (row_faults role (definition_of symbols.now) self.old.names self.old.labels (row_of exprs.old)) self.old.found) }
+        ensures found { OnOk result (self.new.found ≡ noted_all (row_faults role
+            (definition_of symbols.now) self.old.names self.old.labels
+            (row_of exprs.old)) self.old.found) }
         ensures plain { IfOk result (λ seen. seen.plain ≡ type_of_last self.old.names (row_of exprs.old)) }
         ensures float { IfOk result (λ seen. seen.float ≡ row_holds_float (row_of exprs.old)) }
     {
@@ -480,9 +511,12 @@ impl Checker {
     ) -> Result<bool, AllocError>
         ensures view { OnOk result (bindings_of bindings.new.items ≡ bindings_of bindings.old.items) }
         ensures typed { OnOk result (AreBindingsAnnotated self.old.names bindings.new.items) }
-        ensures names { OnOk result (self.new.names ≡ with_bindings self.old.names (bindings_of bindings.old.items)) }
+        ensures names { OnOk result (self.new.names ≡ with_bindings self.old.names
+            (bindings_of bindings.old.items)) }
         ensures labels { OnOk result (self.new.labels ≡ self.old.labels) }
-        ensures found { OnOk result (self.new.found ≡ noted_all (bindings_faults (definition_of symbols.now) self.old.names self.old.labels (bindings_of bindings.old.items)) self.old.found) }
+        ensures found { OnOk result (self.new.found ≡ noted_all (bindings_faults
+            (definition_of symbols.now) self.old.names self.old.labels
+            (bindings_of bindings.old.items)) self.old.found) }
         ensures float { IfOk result (λ float. float ≡ bindings_hold_float (bindings_of bindings.old.items)) }
     {
         let held = self.bind_all(alloc, symbols, bindings.as_mut_slice())?;
@@ -502,7 +536,9 @@ impl Checker {
         ensures typed { OnOk result (AreBindingsAnnotated self.old.names bindings.new) }
         ensures names { OnOk result (self.new.names ≡ with_bindings self.old.names (bindings_of bindings.old)) }
         ensures labels { OnOk result (self.new.labels ≡ self.old.labels) }
-        ensures found { OnOk result (self.new.found ≡ noted_all (bindings_faults (definition_of symbols.now) self.old.names self.old.labels (bindings_of bindings.old)) self.old.found) }
+        ensures found { OnOk result (self.new.found ≡ noted_all (bindings_faults
+            (definition_of symbols.now) self.old.names self.old.labels
+            (bindings_of bindings.old)) self.old.found) }
         ensures float { IfOk result (λ float. float ≡ bindings_hold_float (bindings_of bindings.old)) }
     {
         let mut float = false;
@@ -526,8 +562,14 @@ impl Checker {
         ensures typed { OnOk result (IsAnnotated self.old.names binding.new.value) }
         ensures names { OnOk result (self.new.names ≡ with_binding self.old.names binding.old) }
         ensures labels { OnOk result (self.new.labels ≡ self.old.labels) }
-        ensures found { OnOk result (self.new.found ≡ noted_all (used_as roles.Taken self.old.names (expr_view binding.old.value) (faults_in (definition_of symbols.now) self.old.names self.old.labels (expr_view binding.old.value))) (noted_all (declared_faults (option_map declared_view binding.old.declared)) self.old.found)) }
-        ensures float { IfOk result (λ float. float ≡ (is_declared_float (option_map declared_view binding.old.declared) || holds_float (expr_view binding.old.value))) }
+        ensures found { OnOk result (self.new.found ≡ noted_all (used_as roles.Taken self.old.names
+            (expr_view binding.old.value) (faults_in
+            (definition_of symbols.now) self.old.names self.old.labels
+            (expr_view binding.old.value))) (noted_all (declared_faults
+            (option_map declared_view binding.old.declared)) self.old.found)) }
+        ensures float { IfOk result (λ float. float ≡ (is_declared_float
+            (option_map declared_view binding.old.declared) || holds_float
+            (expr_view binding.old.value))) }
     {
         self.note_declared(binding.declared);
         let seen = self.operand(alloc, symbols, Role::Taken, &mut binding.value)?;
@@ -548,8 +590,11 @@ impl Checker {
         ensures typed { OnOk result (AreCasesAnnotated self.old.names cases.new.items) }
         ensures names { OnOk result (self.new.names ≡ self.old.names) }
         ensures labels { OnOk result (self.new.labels ≡ self.old.labels) }
-        ensures found { OnOk result (self.new.found ≡ noted_all (cases_faults (definition_of symbols.now) self.old.names self.old.labels (cases_of cases.old.items)) self.old.found) }
-        ensures plain { IfOk result (λ seen. seen.plain ≡ type_of_cases self.old.names (cases_of cases.old.items)) }
+        ensures found { OnOk result (self.new.found ≡ noted_all (cases_faults
+            (definition_of symbols.now) self.old.names self.old.labels
+            (cases_of cases.old.items)) self.old.found) }
+        ensures plain { IfOk result (λ seen. seen.plain ≡ type_of_cases self.old.names
+            (cases_of cases.old.items)) }
         ensures float { IfOk result (λ seen. seen.float ≡ cases_hold_float (cases_of cases.old.items)) }
     {
         let seen = self.visit_cases(alloc, symbols, cases.as_mut_slice())?;
@@ -568,7 +613,9 @@ impl Checker {
         ensures typed { OnOk result (AreCasesAnnotated self.old.names cases.new) }
         ensures names { OnOk result (self.new.names ≡ self.old.names) }
         ensures labels { OnOk result (self.new.labels ≡ self.old.labels) }
-        ensures found { OnOk result (self.new.found ≡ noted_all (cases_faults (definition_of symbols.now) self.old.names self.old.labels (cases_of cases.old)) self.old.found) }
+        ensures found { OnOk result (self.new.found ≡ noted_all (cases_faults
+            (definition_of symbols.now) self.old.names self.old.labels
+            (cases_of cases.old)) self.old.found) }
         ensures plain { IfOk result (λ seen. seen.plain ≡ type_of_cases self.old.names (cases_of cases.old)) }
         ensures float { IfOk result (λ seen. seen.float ≡ cases_hold_float (cases_of cases.old)) }
     {
@@ -594,8 +641,11 @@ impl Checker {
         ensures typed { OnOk result (AreHandlersAnnotated self.old.names handlers.new.items) }
         ensures names { OnOk result (self.new.names ≡ self.old.names) }
         ensures labels { OnOk result (self.new.labels ≡ self.old.labels) }
-        ensures found { OnOk result (self.new.found ≡ noted_all (handlers_faults (definition_of symbols.now) self.old.names self.old.labels (handlers_of handlers.old.items)) self.old.found) }
-        ensures plain { IfOk result (λ seen. seen.plain ≡ type_of_handlers self.old.names (handlers_of handlers.old.items)) }
+        ensures found { OnOk result (self.new.found ≡ noted_all (handlers_faults
+            (definition_of symbols.now) self.old.names self.old.labels
+            (handlers_of handlers.old.items)) self.old.found) }
+        ensures plain { IfOk result (λ seen. seen.plain ≡ type_of_handlers self.old.names
+            (handlers_of handlers.old.items)) }
         ensures float { IfOk result (λ seen. seen.float ≡ handlers_hold_float (handlers_of handlers.old.items)) }
     {
         let seen = self.visit_handlers(alloc, symbols, handlers.as_mut_slice())?;
@@ -614,8 +664,11 @@ impl Checker {
         ensures typed { OnOk result (AreHandlersAnnotated self.old.names handlers.new) }
         ensures names { OnOk result (self.new.names ≡ self.old.names) }
         ensures labels { OnOk result (self.new.labels ≡ self.old.labels) }
-        ensures found { OnOk result (self.new.found ≡ noted_all (handlers_faults (definition_of symbols.now) self.old.names self.old.labels (handlers_of handlers.old)) self.old.found) }
-        ensures plain { IfOk result (λ seen. seen.plain ≡ type_of_handlers self.old.names (handlers_of handlers.old)) }
+        ensures found { OnOk result (self.new.found ≡ noted_all (handlers_faults
+            (definition_of symbols.now) self.old.names self.old.labels
+            (handlers_of handlers.old)) self.old.found) }
+        ensures plain { IfOk result (λ seen. seen.plain ≡ type_of_handlers self.old.names
+            (handlers_of handlers.old)) }
         ensures float { IfOk result (λ seen. seen.float ≡ handlers_hold_float (handlers_of handlers.old)) }
     {
         let mut plain = Ty::Never;
@@ -638,12 +691,19 @@ impl Checker {
     ) -> Result<Seen, AllocError>
         ensures view { OnOk result (handler.new ≡ record handler.old { body = handler.new.body }) }
         ensures body_view { OnOk result (expr_view handler.new.body ≡ expr_view handler.old.body) }
-        ensures typed { OnOk result (IsAnnotated (with_parameters (params_view handler.old.params.items) self.old.names) handler.new.body) }
+        ensures typed { OnOk result (IsAnnotated (with_parameters
+            (params_view handler.old.params.items) self.old.names) handler.new.body) }
         ensures names { OnOk result (self.new.names ≡ self.old.names) }
         ensures labels { OnOk result (self.new.labels ≡ self.old.labels) }
-        ensures found { OnOk result (self.new.found ≡ noted_all (faults_in (definition_of symbols.now) (with_parameters (params_view handler.old.params.items) self.old.names) self.old.labels (expr_view handler.old.body)) (noted_all (params_faults (params_view handler.old.params.items)) self.old.found)) }
-        ensures plain { IfOk result (λ seen. seen.plain ≡ type_without_float (with_parameters (params_view handler.old.params.items) self.old.names) (expr_view handler.old.body)) }
-        ensures float { IfOk result (λ seen. seen.float ≡ (has_float_parameter (params_view handler.old.params.items) || holds_float (expr_view handler.old.body))) }
+        ensures found { OnOk result (self.new.found ≡ noted_all (faults_in
+            (definition_of symbols.now) (with_parameters
+            (params_view handler.old.params.items) self.old.names) self.old.labels
+            (expr_view handler.old.body)) (noted_all (params_faults
+            (params_view handler.old.params.items)) self.old.found)) }
+        ensures plain { IfOk result (λ seen. seen.plain ≡ type_without_float (with_parameters
+            (params_view handler.old.params.items) self.old.names) (expr_view handler.old.body)) }
+        ensures float { IfOk result (λ seen. seen.float ≡ (has_float_parameter
+            (params_view handler.old.params.items) || holds_float (expr_view handler.old.body))) }
     {
         let params = handler.params.as_slice();
         self.note_params(params);

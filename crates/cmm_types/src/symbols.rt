@@ -1,7 +1,7 @@
 //! The symbols that a file defines.
 ghost use Rattle.std.specs.Prelude.{◌≡◌, [], ◌∷◌, length, is_some, IfOk, OnOk};
 ghost use Rattle.std.specs.Option.{option_map};
-ghost use Rattle.cmm_types.specs.Symbols.{DefinedSymbol, definition_of};
+ghost use Rattle.cmm_tree.specs.Symbols.{DefinedSymbol, definition_of};
 ghost use Rattle.cmm_types.specs.Gathered.{with_symbol, parameters_of};
 ghost use Rattle.cmm_types.specs.Definitions.{defined, definition};
 
@@ -25,7 +25,7 @@ pub struct Symbols {
 
 impl Model for Symbols {
     ghost use Rattle.std.specs.Prelude.{List, map};
-    ghost use Rattle.cmm_types.specs.Symbols.{DefinedSymbol};
+    ghost use Rattle.cmm_tree.specs.Symbols.{DefinedSymbol};
     ghost use Rattle.cmm_types.specs.SymbolEntries.{entry_view};
 
     ghost Value = { List DefinedSymbol };
@@ -84,7 +84,7 @@ impl Symbols {
     }
 
     /// Defines the symbol, unless it is defined already. It answers the definition that stood before.
-    pub fn define(
+    pub(crate) fn define(
         &mut self,
         alloc: Global,
         name: &[u8],

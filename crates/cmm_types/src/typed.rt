@@ -3,9 +3,10 @@ ghost use Rattle.std.specs.Prelude.{◌≡◌, [], map, IfOk, IfErr, OnOk};
 ghost use Rattle.bs_words.specs.Contents.{contents};
 ghost use Rattle.bs_fault.specs.declared.fault.Fault.{Fault};
 ghost use Rattle.cmm_tree.specs.View.{function_view, item_view, datum_view, data_item_view, file_view};
-ghost use Rattle.cmm_types.specs.Symbols.{symbols, definition_of};
+ghost use Rattle.cmm_tree.specs.Symbols.{symbols, definition_of};
 ghost use Rattle.cmm_types.specs.Faults.{TypeFault};
-ghost use Rattle.cmm_types.specs.Gathered.{noted_all, function_faults, datum_faults, data_faults, item_faults, items_faults};
+ghost use Rattle.cmm_types.specs.Gathered.{function_faults, datum_faults, data_faults, item_faults, items_faults};
+ghost use Rattle.bs_fault.specs.Reported.{noted_all};
 ghost use Rattle.cmm_types.specs.Typing.{IsFunctionAnnotated, IsItemAnnotated, AreItemsAnnotated, IsFaultTold, file_of, symbols_of};
 
 use crate::checker::Checker;
@@ -85,7 +86,8 @@ impl Checker {
         requires labels { self.old.labels ≡ [] }
         ensures view { OnOk result (map item_view items.new ≡ map item_view items.old) }
         ensures typed { OnOk result (AreItemsAnnotated items.new) }
-        ensures found { OnOk result (self.new.found ≡ noted_all (items_faults (definition_of symbols.now) (map item_view items.old)) self.old.found) }
+        ensures found { OnOk result (self.new.found ≡ noted_all (items_faults (definition_of symbols.now)
+            (map item_view items.old)) self.old.found) }
     {
         for index in 0..items.len() {
             self.check_item(alloc, symbols, &mut items[index])?;
@@ -106,7 +108,8 @@ impl Checker {
         ensures typed { OnOk result (IsItemAnnotated item.new) }
         ensures names { OnOk result (self.new.names ≡ []) }
         ensures labels { OnOk result (self.new.labels ≡ []) }
-        ensures found { OnOk result (self.new.found ≡ noted_all (item_faults (definition_of symbols.now) (item_view item.old)) self.old.found) }
+        ensures found { OnOk result (self.new.found ≡ noted_all (item_faults
+            (definition_of symbols.now) (item_view item.old)) self.old.found) }
     {
         match item {
             Item::Function(function) => {
@@ -133,7 +136,8 @@ impl Checker {
         ensures typed { OnOk result (IsFunctionAnnotated function.new) }
         ensures names { OnOk result (self.new.names ≡ []) }
         ensures labels { OnOk result (self.new.labels ≡ []) }
-        ensures found { OnOk result (self.new.found ≡ noted_all (function_faults (definition_of symbols.now) (function_view function.old)) self.old.found) }
+        ensures found { OnOk result (self.new.found ≡ noted_all (function_faults
+            (definition_of symbols.now) (function_view function.old)) self.old.found) }
     {
         let params = function.params.as_slice();
         self.note_params(params);
@@ -151,7 +155,8 @@ impl Checker {
     fn note_data(&mut self, symbols: &Symbols, items: &[DataItem])
         ensures names { self.new.names ≡ self.old.names }
         ensures labels { self.new.labels ≡ self.old.labels }
-        ensures found { self.new.found ≡ noted_all (data_faults (definition_of symbols.now) (map data_item_view items.now)) self.old.found }
+        ensures found { self.new.found ≡ noted_all (data_faults (definition_of symbols.now)
+            (map data_item_view items.now)) self.old.found }
     {
         for item in items {
             self.note_datum(symbols, item.at, &item.datum);
@@ -162,7 +167,8 @@ impl Checker {
     fn note_datum(&mut self, symbols: &Symbols, at: u32, datum: &Datum)
         ensures names { self.new.names ≡ self.old.names }
         ensures labels { self.new.labels ≡ self.old.labels }
-        ensures found { self.new.found ≡ noted_all (datum_faults (definition_of symbols.now) at (datum_view datum.now)) self.old.found }
+        ensures found { self.new.found ≡ noted_all (datum_faults (definition_of symbols.now) at
+            (datum_view datum.now)) self.old.found }
     {
         match datum {
             Datum::Address {

@@ -101,7 +101,8 @@ pub(crate) fn in_statics(lists: &[StaticCells], address: u64, bytes: u64) -> Opt
 }
 
 fn is_in_list(list: &StaticCells, address: u64, bytes: u64) -> bool
-    ensures { result ≡ (nat_le list.now.start address && nat_le (address + bytes) (list.now.start + list.now.size)) }
+    ensures { result ≡ (nat_le list.now.start address && nat_le (address + bytes)
+        (list.now.start + list.now.size)) }
 {
     u64::from(list.start) <= address
         && u128::from(address) + u128::from(bytes) <= u128::from(list.start) + u128::from(list.size)
@@ -186,7 +187,12 @@ pub(crate) fn replaced(word: u64, offset: u64, bytes: u64, new: u64) -> u64
 
 /// The block with a value in one of its cells. A place behind the last cell changes nothing.
 pub(crate) fn put_in_block(blocks: &mut Vec<HeapCells>, serial: u64, index: u64, value: Value)
-    ensures { map block_view blocks.new.items ≡ (let block = slice_index_or (map block_view blocks.old.items) serial (record { header = 0; cells = [] }) in slice_set (map block_view blocks.old.items) serial (record block { cells = slice_set block.cells index value })) }
+    ensures { map block_view blocks.new.items ≡ (let block = slice_index_or
+        (map block_view blocks.old.items) serial (record {
+          header = 0;
+          cells = [];
+        }) in slice_set (map block_view blocks.old.items) serial
+        (record block { cells = slice_set block.cells index value })) }
 {
     let serial = serial as usize;
     if serial < blocks.len() {
@@ -197,7 +203,13 @@ pub(crate) fn put_in_block(blocks: &mut Vec<HeapCells>, serial: u64, index: u64,
 
 /// The static data with a value in one of its cells.
 pub(crate) fn put_in_list(lists: &mut Vec<StaticCells>, list: u64, index: u64, value: Value)
-    ensures { map list_view lists.new.items ≡ (let statics = slice_index_or (map list_view lists.old.items) list (record { start = 0; size = 0; cells = [] }) in slice_set (map list_view lists.old.items) list (record statics { cells = slice_set statics.cells index value })) }
+    ensures { map list_view lists.new.items ≡ (let statics = slice_index_or
+        (map list_view lists.old.items) list (record {
+          start = 0;
+          size = 0;
+          cells = [];
+        }) in slice_set (map list_view lists.old.items) list
+        (record statics { cells = slice_set statics.cells index value })) }
 {
     let list = list as usize;
     if list < lists.len() {

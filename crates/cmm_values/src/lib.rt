@@ -13,6 +13,3 @@ mod operators;
 pub use fit::{fits, misfit, type_of_comp};
 pub use memory::Memory;
 pub use operators::{apply, condition_of, word_in};
-
-#[cfg(test)]
-mod tests;

@@ -40,9 +40,21 @@ impl Model for Memory {
 
     ghost Value = { memory.Memory };
 
-    ghost view = { λ m. record { blocks = map block_view m.blocks.items; statics = map list_view m.statics.items; roots = contents m.roots } };
+    ghost view = { λ m. record {
+      blocks = map block_view m.blocks.items;
+      statics = map list_view m.statics.items;
+      roots = contents m.roots;
+    } };
 
-    ghost invariant = { λ m. record { need : m.heap_need ≡ memory.heap_need (record { blocks = map block_view m.blocks.items; statics = map list_view m.statics.items; roots = contents m.roots }); end : m.end ≡ memory.end_of_statics data_start (map list_view m.statics.items) } };
+    ghost invariant = { λ m. record {
+      need : m.heap_need ≡ memory.heap_need
+          (record {
+            blocks = map block_view m.blocks.items;
+            statics = map list_view m.statics.items;
+            roots = contents m.roots;
+          });
+      end : m.end ≡ memory.end_of_statics data_start (map list_view m.statics.items);
+    } };
 }
 
 impl Memory {
@@ -245,7 +257,8 @@ impl Memory {
     fn store_at(&mut self, chunk: Chunk, cell: Cell, offset: u64, value: Value) -> Result<(), Kind>
         requires offset { offset < 8 }
         requires aligned { offset % width chunk ≡ 0 }
-        ensures { IsStored result self.old self.new (stored_in chunk self.old offset (Some (cell_view cell)) value) }
+        ensures { IsStored result self.old self.new (stored_in chunk self.old offset (Some
+            (cell_view cell)) value) }
     {
         match cell {
             Cell::Header { .. } => Err(Kind::HeaderWrite),
@@ -261,7 +274,8 @@ impl Memory {
     fn store_in(&mut self, chunk: Chunk, cell: Cell, offset: u64, value: Value) -> Result<(), Kind>
         requires offset { offset < 8 }
         requires aligned { offset % width chunk ≡ 0 }
-        ensures { IsStored result self.old self.new (stored_as chunk (end_of_data self.old) self.old (cell_view cell) offset value) }
+        ensures { IsStored result self.old self.new (stored_as chunk
+            (end_of_data self.old) self.old (cell_view cell) offset value) }
     {
         match chunk {
             Chunk::Int => self.put_whole(Ty::Int, cell, value),
@@ -271,7 +285,8 @@ impl Memory {
     }
 
     fn put_whole(&mut self, ty: Ty, cell: Cell, value: Value) -> Result<(), Kind>
-        ensures { IsStored result self.old self.new (put_whole ty (end_of_data self.old) self.old (cell_view cell) value) }
+        ensures { IsStored result self.old self.new (put_whole ty
+            (end_of_data self.old) self.old (cell_view cell) value) }
     {
         if fits(self.end, ty, value) {
             self.put_in(cell, value)
@@ -284,7 +299,8 @@ impl Memory {
         requires width { IsWidth bytes }
         requires offset { offset < 8 }
         requires aligned { offset % bytes ≡ 0 }
-        ensures { IsStored result self.old self.new (put_part (end_of_data self.old) self.old (cell_view cell) offset bytes (value_in self.old (cell_view cell)) value) }
+        ensures { IsStored result self.old self.new (put_part (end_of_data self.old) self.old
+            (cell_view cell) offset bytes (value_in self.old (cell_view cell)) value) }
     {
         match (self.value_in(cell), value) {
             (Value::Word(old), Value::Word(new)) => {
@@ -295,7 +311,8 @@ impl Memory {
     }
 
     fn put_in(&mut self, cell: Cell, value: Value) -> Result<(), Kind>
-        ensures { IsStored result self.old self.new (put_in (end_of_data self.old) self.old (cell_view cell) value) }
+        ensures { IsStored result self.old self.new (put_in (end_of_data self.old) self.old
+            (cell_view cell) value) }
     {
         let ty = self.type_in(cell);
         if fits(self.end, ty, value) {
@@ -323,7 +340,8 @@ impl Memory {
         header: u64,
         cells: Vec<Value>,
     ) -> Result<Result<Value, Kind>, AllocError>
-        ensures { IfOk result (λ r. IsAllocated r self.old self.new (allocated self.old header cells.items)) }
+        ensures { IfOk result (λ r. IsAllocated r self.old self.new
+            (allocated self.old header cells.items)) }
     {
         let ty = type_of_cells(header);
         if !all_fit(self.end, ty, cells.as_slice()) {

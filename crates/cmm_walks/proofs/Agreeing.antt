@@ -17,9 +17,8 @@ use Rattle.cmm_walks.specs.Cells.{item_at, scope_at, tasks_at, tasks_in}
 use Rattle.cmm_walks.specs.First.{IsFirst}
 use Rattle.cmm_walks.specs.Made.{Filled}
 use Rattle.cmm_walks.specs.Sound.{IsBelow, IsHeld, IsSound, IsScope, Extends, GoesAs, Steps}
-use Rattle.cmm_walks.specs.Steps.{Next}
+use Rattle.cmm_walks.specs.Walks.{Task, Evaluates, names, with_slots, parameters_bound, walk_tasks, Next}
 use Rattle.cmm_walks.specs.Table.{shown, step_at, next_at, AreLinked, IsLinked, LeadsToBinding}
-use Rattle.cmm_walks.specs.Walks.{Task, Evaluates, names, with_slots, parameters_bound, walk_tasks}
 use Rattle.cmm_walks.specs.Refusal.{ToldIn}
 use Rattle.cmm_walks.specs.declared.decide.Limits.{Limits}
 use Rattle.cmm_walks.specs.declared.items.Item.{Item}

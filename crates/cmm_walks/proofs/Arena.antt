@@ -9,7 +9,7 @@ use Rattle.cmm_tree.specs.View.{expr_view, label_view, params_view}
 use Rattle.cmm_tree.specs.declared.expr.Handler.{Handler}
 use Rattle.cmm_types.specs.Annotated.{IsAnnotated}
 use Rattle.cmm_types.specs.Lists.{AreBindingsAnnotated, AreCasesAnnotated, AreHandlersAnnotated}
-use Rattle.cmm_types.specs.Rows.{bindings_of, cases_of, handlers_of}
+use Rattle.cmm_tree.specs.Rows.{bindings_of, cases_of, handlers_of}
 use Rattle.cmm_types.specs.Types.{with_bindings, with_parameters}
 use Rattle.cmm_walks.specs.Cells.{item_at, scope_at, tasks_at, scope_in, tasks_in, handler_tasks, event_of}
 use Rattle.cmm_walks.specs.Sound.{IsBelow, HandlersAt, IsHeld}

@@ -1,11 +1,11 @@
 -- The cells of a catch and of a try.
-use Rattle.std.proofs.Common.{◌≡◌, ℕ, suc, ◌<◌, ◌≤◌, ◌⊎◌, Bool, List, [], ◌∷◌, ◌++◌, length, Some, inl, inr, refl, sym, ap, ◌∙◌, subst, arith, append_assoc}
+use Rattle.std.proofs.Common.{◌≡◌, ℕ, suc, ◌<◌, ◌≤◌, ◌⊎◌, Bool, true, false, List, [], ◌∷◌, ◌++◌, length, Some, inl, inr, refl, sym, ap, ◌∙◌, subst, arith, append_assoc}
 use Rattle.std.proofs.lemmas.List.{length-append}
 use Rattle.cmm_tree.specs.View.{expr_view, params_view, label_view}
 use Rattle.cmm_tree.specs.declared.expr.Handler.{Handler}
 use Rattle.cmm_types.specs.Annotated.{IsAnnotated}
 use Rattle.cmm_types.specs.Lists.{AreCasesAnnotated, AreHandlersAnnotated}
-use Rattle.cmm_types.specs.Rows.{cases_of, handlers_of}
+use Rattle.cmm_tree.specs.Rows.{cases_of, handlers_of}
 use Rattle.cmm_types.specs.Types.{with_parameters}
 use Rattle.cmm_walks.specs.Cells.{item_at, scope_at, tasks_at, handler_tasks}
 use Rattle.cmm_walks.specs.Sound.{IsBelow, HandlersAt, IsHeld, IsSound, Extends, IsReady, IsScope, Adds, Each, IsHandlerOf, AddsHandlers}
@@ -14,7 +14,7 @@ use Rattle.cmm_walks.specs.Walks as walk
 use Rattle.cmm_walks.specs.declared.items.Item.{Item}
 use Rattle.cmm_walks.specs.declared.items.Item.TheVariants as item
 use Rattle.cmm_walks.proofs.Arena.{scope-kept, tasks-kept, tasks-here, item-cases, item-within, below-more, held-same}
-use Rattle.cmm_walks.proofs.Pushed.{adds-push, extends-length, tasks-extend}
+use Rattle.cmm_walks.proofs.Pushed.{adds-none, adds-push, extends-length, tasks-extend}
 
 -- ---- choices
 
@@ -248,3 +248,15 @@ adds-handles old new cell scope slot name_at name handler entry rest s pushed r 
     let P : List Slotted → Type 0 = λ l. tasks_at old entry ≡ handling l slot name_at name.now (expr_view handler.now) ++ tasks_at old rest in
     adds-push old new (item.Handles scope slot name_at name handler entry rest) cell rest (walk.Handles s slot name_at name.now (expr_view handler.now) ∷ []) pushed r.sound (within.within, r.within) (below, subst P (sym within.is) is)
     (ap (λ (l : List Slotted). walk.Handles l slot name_at name.now (expr_view handler.now) ∷ tasks_at old rest) within.is)
+
+-- ---- behind the operands of a call
+
+pub called-plain : (old : List Item) (rest at : ℕ) (frame : Bool) → frame ≡ false → IsReady old rest → Adds old old rest (walk.called frame at) rest
+called-plain old rest at frame e r =
+    let P : Bool → Type 0 = λ b. Adds old old rest (walk.called b at) rest in
+    subst P (sym e) (adds-none old rest r)
+
+pub called-frame : {old new : List Item} {cell rest : ℕ} (at : ℕ) (frame : Bool) → frame ≡ true → Adds old new cell (walk.called true at) rest → Adds old new cell (walk.called frame at) rest
+called-frame {old = old} {new = new} {cell = cell} {rest = rest} at frame e h =
+    let P : Bool → Type 0 = λ b. Adds old new cell (walk.called b at) rest in
+    subst P (sym e) h

@@ -4,17 +4,17 @@ use Rattle.std.proofs.Common.{◌≡◌, ℕ, zero, suc, ◌<◌, Bool, true, fa
 use Rattle.std.specs.List.{Contains, All}
 use Rattle.std.proofs.lemmas.List.Elements.{All-cons, All-head, All-tail, Contains-get_or}
 use Rattle.bs_words.specs.Contents.{contents}
-use Rattle.flow.specs.declared.flow.Place as place
-use Rattle.flow.specs.declared.flow.Flow as flow
-use Rattle.flow.specs.Flow.{graph, IsPlace, WellFormed}
+use Rattle.dataflow.specs.declared.flow.Place as place
+use Rattle.dataflow.specs.declared.flow.Flow as flow
+use Rattle.dataflow.specs.Flow.{graph, IsPlace, WellFormed}
 use Rattle.cmm_walks.specs.Table.{step_at, next_at, IsNode, AreNodes, slot_below}
 use Rattle.cmm_walks.specs.Live.{kept, bound_slots, used_slots, live_slots, if_any, passed_slots, told_slots, is_live_in, IsGraphOf}
 use Rattle.cmm_walks.specs.declared.node.Step.{Step}
 use Rattle.cmm_walks.specs.declared.node.Step.TheVariants as step
 use Rattle.cmm_walks.specs.declared.node.Node as node
 use Rattle.bs_bits.specs.Set.{has}
-use Rattle.flow.specs.Rows.{row}
-use Rattle.flow.specs.Live.{IsLiveness}
+use Rattle.dataflow.specs.Rows.{row}
+use Rattle.dataflow.specs.Live.{IsLiveness}
 use Rattle.cmm_walks.specs.Table.{IsWithin}
 use Rattle.cmm_walks.specs.declared.decide.Limits as limits
 use Rattle.cmm_walks.proofs.Runs.{Graphs, slots_below, uses_exact, points_exact, bindings_exact}

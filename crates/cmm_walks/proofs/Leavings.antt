@@ -1,14 +1,14 @@
 -- Where an exit and a raise lead.
 use Rattle.std.proofs.Common.{◌≡◌, ℕ, suc, ◌<◌, Bool, true, false, not, ◌&&◌, List, [], ◌∷◌, ◌++◌, length, Option, Some, None, refl, sym, ap, ◌∙◌, subst}
 use Rattle.std.proofs.lemmas.Option.{same_Some}
-use Rattle.cmm_tree.specs.Tree.{LabelTree, Parameter}
+use Rattle.cmm_tree.specs.Tree.{LabelTree, Parameter, same_label, is_bare}
 use Rattle.cmm_tree.specs.View.{expr_view, label_view, params_view}
 use Rattle.cmm_tree.specs.declared.expr.Handler.{Handler}
-use Rattle.cmm_types.specs.Rows.{handlers_of}
+use Rattle.cmm_tree.specs.Rows.{handlers_of}
 use Rattle.cmm_walks.specs.Cells.{item_at, scope_at, tasks_at, tasks_in, handler_tasks}
 use Rattle.cmm_walks.specs.Leaving.{rest_in, own_handler, exit_rest, raise_rest}
 use Rattle.cmm_walks.specs.Sound.{IsBelow, HandlersAt, IsHeld, IsSound, LeadsTo}
-use Rattle.cmm_walks.specs.Walks.{Slotted, Task, same_label, is_bare, first_found, handler_for, or_else, behind_exit, behind_raise, parameters_bound, handling}
+use Rattle.cmm_walks.specs.Walks.{Slotted, Task, first_found, handler_for, or_else, behind_exit, behind_raise, parameters_bound, handling}
 use Rattle.cmm_walks.specs.declared.items.Item.{Item}
 use Rattle.cmm_walks.specs.declared.items.Item.TheVariants as item
 use Rattle.cmm_walks.proofs.Arena.{item-past, tasks-past}

@@ -4,7 +4,7 @@ use Rattle.std.specs.Str.{bytes_eq}
 use Rattle.std.proofs.lemmas.Slice.Eq.{bytes_eq-Decides}
 use Rattle.bs_words.specs.declared.types.Ty.{Ty}
 use Rattle.bs_words.specs.declared.types.Ty.TheVariants as ty
-use Rattle.cmm_types.specs.Standing.{first_found}
+use Rattle.cmm_tree.specs.Symbols.{first_found}
 use Rattle.cmm_types.specs.Types.{type_named, first_type}
 use Rattle.cmm_types.specs.Light.{is_immutable, first_is_immutable}
 use Rattle.cmm_walks.specs.Cells.{item_at, scope_at, scope_in}

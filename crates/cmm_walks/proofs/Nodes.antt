@@ -13,14 +13,13 @@ use Rattle.cmm_tree.specs.declared.expr.Case.{Case}
 use Rattle.cmm_tree.specs.declared.file.Param.{Param}
 use Rattle.cmm_types.specs.Annotated.{IsAnnotated}
 use Rattle.cmm_types.specs.Lists.{AreCasesAnnotated}
-use Rattle.cmm_types.specs.Rows.{cases_of}
+use Rattle.cmm_tree.specs.Rows.{cases_of}
 use Rattle.cmm_types.specs.Types.{Scoped}
 use Rattle.cmm_walks.specs.Cells.{scope_at, tasks_at, tasks_in}
 use Rattle.cmm_walks.specs.Sound.{IsBelow, IsHeld, Extends, Adds, GoesTo, GoesAs, Steps, BodiesAt, AddsBodies}
-use Rattle.cmm_walks.specs.Steps.{Next}
-use Rattle.cmm_walks.specs.Steps as steps
+use Rattle.cmm_walks.specs.Walks.{Event, Slotted, Task, Does, Binds, is_address, bodies, parameters_bound, Evaluates, Enters, OneOf, MayRaise, Raises, Exits, Catches, Handles, tasks_of, entering, behind_raise, behind_exit, Next}
+use Rattle.cmm_walks.specs.Walks as steps
 use Rattle.cmm_walks.specs.Table.{shown}
-use Rattle.cmm_walks.specs.Walks.{Event, Slotted, Task, Does, Binds, is_address, bodies, parameters_bound, Evaluates, Enters, OneOf, MayRaise, Raises, Exits, Catches, Handles, tasks_of, entering, behind_raise, behind_exit}
 use Rattle.cmm_walks.specs.declared.items.Item.{Item}
 use Rattle.cmm_walks.specs.declared.node.Node as node
 use Rattle.cmm_walks.specs.declared.node.Step.{Step}

@@ -1,12 +1,12 @@
 -- The tasks of operations, by their parts.
-use Rattle.std.proofs.Common.{◌≡◌, ℕ, suc, ◌+◌, Bool, List, [], ◌∷◌, ◌++◌, length, Some, None, sym, ap, ◌∙◌, arith, append_assoc}
+use Rattle.std.proofs.Common.{◌≡◌, ℕ, suc, ◌+◌, Bool, true, List, [], ◌∷◌, ◌++◌, length, Some, None, sym, ap, ◌∙◌, arith, append_assoc}
 use Rattle.cmm_tree.specs.Tree.{Expression, More}
 use Rattle.cmm_tree.specs.declared.expr.Expr.{Expr}
 use Rattle.cmm_types.specs.Light.{is_light_address}
-use Rattle.cmm_types.specs.Rows.{row_of}
+use Rattle.cmm_tree.specs.Rows.{row_of}
 use Rattle.cmm_types.specs.Types.{type_named}
 use Rattle.cmm_walks.specs.Found.{found_in}
-use Rattle.cmm_walks.specs.Walks.{Slotted, Task, Does, Binds, Uses, Passes, MayRaise, names, is_address, first_tasks, operand, takes, count, waiting, filled, all_operands, on_one, on_two, used_at, bound_at, slot_of}
+use Rattle.cmm_walks.specs.Walks.{Slotted, Task, Does, Binds, Uses, Passes, called, names, is_address, first_tasks, operand, takes, count, waiting, filled, all_operands, on_one, on_two, used_at, bound_at, slot_of}
 use Rattle.cmm_walks.specs.declared.scopes.Found.{Found}
 use Rattle.cmm_walks.proofs.Names.{type-found, slot-found, type_of_found, slot_of_found}
 use Rattle.cmm_walks.proofs.Parts.{count-is}
@@ -46,23 +46,23 @@ alloc-is s free slot at es q =
     ∙ ap (λ n. waiting s (slot + n) slot (row_of es) ++ (Does (Passes at) ∷ (filled s (slot + n) slot (row_of es) ++ takes at slot n))) (count-is es)
 
 pub calls-is : (slot second at n : ℕ) → second ≡ suc slot
-    → Does (Uses slot at) ∷ (takes at second n ++ (Does (Passes at) ∷ MayRaise ∷ [])) ≡ takes at slot (suc n) ++ (Does (Passes at) ∷ MayRaise ∷ [])
-calls-is slot second at n q = ap (λ m. Does (Uses slot at) ∷ (takes at m n ++ (Does (Passes at) ∷ MayRaise ∷ []))) q
+    → Does (Uses slot at) ∷ (takes at second n ++ called true at) ≡ takes at slot (suc n) ++ called true at
+calls-is slot second at n q = ap (λ m. Does (Uses slot at) ∷ (takes at m n ++ called true at)) q
 
 pub app-is : (s : List Slotted) (free slot second at : ℕ) (callee : Expression) (es : List Expr) → second ≡ suc slot → free ≡ second + length es
     → waiting s free second (row_of es)
     ++ (early s free slot callee
     ++ (filled s free second (row_of es)
-    ++ (late s free slot callee ++ (takes at slot (suc (length es)) ++ (Does (Passes at) ∷ MayRaise ∷ [])))))
-    ≡ all_operands s slot (More callee (row_of es)) ++ (takes at slot (suc (count (row_of es))) ++ (Does (Passes at) ∷ MayRaise ∷ []))
+    ++ (late s free slot callee ++ (takes at slot (suc (length es)) ++ called true at))))
+    ≡ all_operands s slot (More callee (row_of es)) ++ (takes at slot (suc (count (row_of es))) ++ called true at)
 app-is s free slot second at callee es q r =
-    let last : List Task = takes at slot (suc (length es)) ++ (Does (Passes at) ∷ MayRaise ∷ []) in
+    let last : List Task = takes at slot (suc (length es)) ++ called true at in
     let n : ℕ = slot + suc (count (row_of es)) in
     let f : free ≡ slot + suc (count (row_of es)) = omega (arith, q, r, count-is es) in
     ap (λ m. waiting s m second (row_of es) ++ (early s m slot callee ++ (filled s m second (row_of es) ++ (late s m slot callee ++ last)))) f
     ∙ ap (λ m. waiting s n m (row_of es) ++ (early s n slot callee ++ (filled s n m (row_of es) ++ (late s n slot callee ++ last)))) q
     ∙ five (waiting s n (suc slot) (row_of es)) (early s n slot callee) (filled s n (suc slot) (row_of es)) (late s n slot callee) last
-    ∙ ap (λ m. all_operands s slot (More callee (row_of es)) ++ (takes at slot (suc m) ++ (Does (Passes at) ∷ MayRaise ∷ []))) (count-is es)
+    ∙ ap (λ m. all_operands s slot (More callee (row_of es)) ++ (takes at slot (suc m) ++ called true at)) (count-is es)
 
 pub used-none : (s : List Slotted) (at : ℕ) (name : List ℕ) → found_in s name ≡ None → [] ≡ used_at at (slot_of s name)
 used-none s at name e = sym (ap (λ o. used_at at o) (slot-found s name ∙ ap slot_of_found e))

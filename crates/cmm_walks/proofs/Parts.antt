@@ -11,7 +11,7 @@ use Rattle.cmm_types.proofs.Views.{place_view}
 use Rattle.cmm_types.specs.Annotated.{IsAnnotated}
 use Rattle.cmm_types.specs.Light.{is_light_address}
 use Rattle.cmm_types.specs.Lists.{AreAnnotated}
-use Rattle.cmm_types.specs.Rows.{row_of}
+use Rattle.cmm_tree.specs.Rows.{row_of}
 use Rattle.cmm_types.specs.Types.{Scoped, type_of, type_bound, is_mutable}
 use Rattle.cmm_walks.specs.Walks.{Slotted, Does, Evaluates, Enters, Binds, Uses, names, is_address, first_tasks, operand, takes, count, waiting, filled, all_operands, in_order, parameters_bound}
 

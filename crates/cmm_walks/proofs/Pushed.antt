@@ -8,7 +8,7 @@ use Rattle.cmm_tree.specs.View.{params_view, expr_view}
 use Rattle.cmm_tree.specs.declared.file.Param.{Param}
 use Rattle.cmm_types.specs.Annotated.{IsAnnotated}
 use Rattle.cmm_types.specs.Lists.{AreBindingsAnnotated}
-use Rattle.cmm_types.specs.Rows.{bindings_of}
+use Rattle.cmm_tree.specs.Rows.{bindings_of}
 use Rattle.cmm_types.specs.Types.{with_parameters, with_bindings}
 use Rattle.cmm_walks.specs.Cells.{item_at, scope_at, tasks_at, scope_in, tasks_in, event_of}
 use Rattle.cmm_walks.specs.Sound.{IsBelow, IsHeld, IsSound, Extends, IsReady, IsScope, Adds, Opens}

@@ -5,8 +5,8 @@ use Rattle.std.specs.List.{Contains, All}
 use Rattle.std.proofs.lemmas.Bool.Decides.{nat_tests}
 use Rattle.std.proofs.lemmas.List.Elements.{Contains-append_left, Contains-append_right, Contains-append_cases, All-head, All-tail}
 use Rattle.bs_bits.specs.Set.{has}
-use Rattle.flow.specs.Rows.{row}
-use Rattle.flow.specs.Flow.{Graph, LiveBefore}
+use Rattle.dataflow.specs.Rows.{row}
+use Rattle.dataflow.specs.Flow.{Graph, LiveBefore}
 use Rattle.cmm_walks.specs.Table.{step_at, next_at, LeadsToUse, LeadsToPoint, IsWithin, IsNode, slot_below}
 use Rattle.cmm_walks.specs.Live.{kept, bound_slots, used_slots, is_live_in, live_slots, if_any, passed_slots, told_slots}
 use Rattle.cmm_walks.specs.declared.node.Step.{Step}

@@ -1,5 +1,5 @@
 -- Forms that hold lists: what they stand for, and that their parts hold their types.
-use Rattle.std.proofs.Common.{◌≡◌, ℕ, List, option_map, sym, ap, ◌∙◌, subst, Vec, Box, Global}
+use Rattle.std.proofs.Common.{◌≡◌, ℕ, Bool, List, option_map, sym, ap, ◌∙◌, subst, Vec, Box, Global}
 use mathlib.Core.Former.{Count}
 use Rattle.bs_words.specs.declared.types.Ret.{Ret}
 use Rattle.cmm_tree.specs.Tree.{Expression, NoBinding}
@@ -15,7 +15,7 @@ use Rattle.cmm_tree.specs.declared.expr.Label.{Label}
 use Rattle.cmm_types.proofs.Views.{bindings_items, seq_view, exit_view, alloc_view, extcall_view, app_view, let_view, switch_view, catch_view}
 use Rattle.cmm_types.specs.Annotated.{IsAnnotated, RowTyped, BindingsTyped, CasesTyped, HandlersTyped, PartsTyped}
 use Rattle.cmm_types.specs.Lists.{AreAnnotated, AreBindingsAnnotated, AreCasesAnnotated, AreHandlersAnnotated}
-use Rattle.cmm_types.specs.Rows.{row_of, bindings_of, cases_of, handlers_of}
+use Rattle.cmm_tree.specs.Rows.{row_of, bindings_of, cases_of, handlers_of}
 use Rattle.cmm_types.specs.Types.{Scoped, with_bindings}
 use Rattle.cmm_walks.specs.Sound.{Adds}
 use Rattle.cmm_walks.specs.Walks.{Slotted, names, tasks_of}
@@ -105,10 +105,10 @@ alloc-shape ns at header_at header v es e = record {
   parts = λ t. row-typed ns v es e t;
 }
 
-pub extcall-shape : (ns : List Scoped) (at : ℕ) (name : List ℕ) (v : Vec Expr Global) (result : Ret) (result_at : ℕ) (es : List Expr) → es ≡ v.items
-    → Shape ns at (form.Extcall name v result result_at) (tree.Extcall at name (row_of es) result result_at) (AreAnnotated ns es)
-extcall-shape ns at name v result result_at es e = record {
-  view = extcall_view at name v result result_at ∙ ap (λ (l : List Expr). tree.Extcall at name (row_of l) result result_at) (sym e);
+pub extcall-shape : (ns : List Scoped) (at : ℕ) (frame : Bool) (name : List ℕ) (v : Vec Expr Global) (result : Ret) (result_at : ℕ) (es : List Expr) → es ≡ v.items
+    → Shape ns at (form.Extcall frame name v result result_at) (tree.Extcall at frame name (row_of es) result result_at) (AreAnnotated ns es)
+extcall-shape ns at frame name v result result_at es e = record {
+  view = extcall_view at frame name v result result_at ∙ ap (λ (l : List Expr). tree.Extcall at frame name (row_of l) result result_at) (sym e);
   parts = λ t. row-typed ns v es e t;
 }
 

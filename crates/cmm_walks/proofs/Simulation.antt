@@ -2,9 +2,8 @@
 use Rattle.std.proofs.Common.{◌≡◌, ℕ, Bool, true, List, [], ◌∷◌, ◌++◌, sym, ap, refl, subst, append_assoc}
 use Rattle.std.specs.List.{Contains}
 use Rattle.cmm_tree.specs.Tree.{FunctionTree}
-use Rattle.cmm_walks.specs.Walks.{Event, Binds, Uses, Passes, Slotted, Task, Does, Evaluates, Enters, OneOf, MayRaise, Raises, Exits, Catches, Handles, tasks_of, entering, behind_raise, behind_exit, Walk, stops, walk_tasks}
+use Rattle.cmm_walks.specs.Walks.{Event, Binds, Uses, Passes, Slotted, Task, Does, Evaluates, Enters, OneOf, MayRaise, Raises, Exits, Catches, Handles, tasks_of, entering, behind_raise, behind_exit, Walk, stops, walk_tasks, Next, does, evaluates, enters, one_of, goes_on, may_raise, raises, exits, leaves_catch, leaves_try}
 use Rattle.cmm_walks.specs.Walks as walk
-use Rattle.cmm_walks.specs.Steps.{Next, does, evaluates, enters, one_of, goes_on, may_raise, raises, exits, leaves_catch, leaves_try}
 use Rattle.cmm_walks.specs.AddrLive.{IsLiveIn}
 use Rattle.cmm_walks.specs.Table.{shown, step_at, next_at, Trail, here, goes, LeadsToUse, LeadsToPoint, LeadsToBinding}
 use Rattle.cmm_walks.specs.declared.node.Step.{Step}
@@ -13,16 +12,7 @@ use Rattle.cmm_walks.specs.declared.node.Node as node
 
 -- a step before a walk
 before_walk : (tasks tasks' : List Task) (es events : List Event) → Next tasks es tasks' → Walk tasks' events → Walk tasks (es ++ events)
-before_walk _ _ _ events (does event tasks) w = walk.does event tasks events w
-before_walk _ _ _ events (evaluates scope slot e tasks) w = walk.evaluates scope slot e tasks events w
-before_walk _ _ _ events (enters scope slot bindings body tasks) w = walk.enters scope slot bindings body tasks events w
-before_walk _ _ _ events (one_of scope slot es e tasks c) w = walk.one_of scope slot es e tasks events c w
-before_walk _ _ _ events (goes_on tasks) w = walk.goes_on tasks events w
-before_walk _ _ _ events (may_raise tasks) w = walk.may_raise tasks events w
-before_walk _ _ _ events (raises tasks handler is) w = walk.raises tasks handler events is w
-before_walk _ _ _ events (exits label tasks handler is) w = walk.exits label tasks handler events is w
-before_walk _ _ _ events (leaves_catch scope slot in_handler handlers tasks) w = walk.leaves_catch scope slot in_handler handlers tasks events w
-before_walk _ _ _ events (leaves_try scope slot name_at name handler tasks) w = walk.leaves_try scope slot name_at name handler tasks events w
+before_walk tasks tasks' es events next w = walk.goes tasks tasks' es events next w
 
 -- what a step leads to
 pub record StepsTo (nodes : List node.Node) (stands : ℕ → List Task → Type 0) (p : ℕ) (es : List Event) (tasks' : List Task) : Type 0 where
@@ -84,40 +74,40 @@ pub split : (nodes : List node.Node) (stands : ℕ → List Task → Type 0) →
     → (tasks : List Task) (events : List Event) → Walk tasks events
     → (p : ℕ) (es : List Event) (event : Event) (rest : List Event) → stands p tasks → events ≡ es ++ (event ∷ rest) → Reached nodes stands p es event rest
 split nodes stands a _ _ (walk.stops tasks) p es event rest at e = absurd (not_none es event rest e)
-split nodes stands a _ _ (walk.does x tasks events w) p [] event rest at e =
+split nodes stands a _ _ (walk.goes _ _ _ events (does x tasks) w) p [] event rest at e =
     let P : Event → Type 0 = λ y. stands p (Does y ∷ tasks) in
     let W : List Event → Type 0 = λ l. Walk tasks l in
     record { node = p; left = tasks; way = here p; at = subst P (first_is x event events rest e) at; behind = subst W (rest_is x event events rest e) w }
-split nodes stands a _ _ (walk.does x tasks events w) p (y ∷ es) event rest at e =
+split nodes stands a _ _ (walk.goes _ _ _ events (does x tasks) w) p (y ∷ es) event rest at e =
     let s = a.forth p (Does x ∷ tasks) tasks (x ∷ []) at (does x tasks) in
     let R : Event → Type 0 = λ z. Reached nodes stands p (z ∷ es) event rest in
     subst R (first_is x y events (es ++ (event ∷ rest)) e)
     (reached_behind nodes stands p (x ∷ []) es event rest tasks s (split nodes stands a tasks events w s.to es event rest s.at (rest_is x y events (es ++ (event ∷ rest)) e)))
-split nodes stands a _ _ (walk.evaluates scope slot e' tasks events w) p es event rest at e =
+split nodes stands a _ _ (walk.goes _ _ _ events (evaluates scope slot e' tasks) w) p es event rest at e =
     let s = a.forth p (Evaluates scope slot e' ∷ tasks) (tasks_of scope slot e' ++ tasks) [] at (evaluates scope slot e' tasks) in
     reached_behind nodes stands p [] es event rest (tasks_of scope slot e' ++ tasks) s (split nodes stands a (tasks_of scope slot e' ++ tasks) events w s.to es event rest s.at e)
-split nodes stands a _ _ (walk.enters scope slot bindings body tasks events w) p es event rest at e =
+split nodes stands a _ _ (walk.goes _ _ _ events (enters scope slot bindings body tasks) w) p es event rest at e =
     let s = a.forth p (Enters scope slot bindings body ∷ tasks) (entering scope slot bindings body ++ tasks) [] at (enters scope slot bindings body tasks) in
     reached_behind nodes stands p [] es event rest (entering scope slot bindings body ++ tasks) s (split nodes stands a (entering scope slot bindings body ++ tasks) events w s.to es event rest s.at e)
-split nodes stands a _ _ (walk.one_of scope slot all one tasks events c w) p es event rest at e =
+split nodes stands a _ _ (walk.goes _ _ _ events (one_of scope slot all one tasks c) w) p es event rest at e =
     let s = a.forth p (OneOf scope slot all ∷ tasks) (Evaluates scope slot one ∷ tasks) [] at (one_of scope slot all one tasks c) in
     reached_behind nodes stands p [] es event rest (Evaluates scope slot one ∷ tasks) s (split nodes stands a (Evaluates scope slot one ∷ tasks) events w s.to es event rest s.at e)
-split nodes stands a _ _ (walk.goes_on tasks events w) p es event rest at e =
+split nodes stands a _ _ (walk.goes _ _ _ events (goes_on tasks) w) p es event rest at e =
     let s = a.forth p (MayRaise ∷ tasks) tasks [] at (goes_on tasks) in
     reached_behind nodes stands p [] es event rest tasks s (split nodes stands a tasks events w s.to es event rest s.at e)
-split nodes stands a _ _ (walk.may_raise tasks events w) p es event rest at e =
+split nodes stands a _ _ (walk.goes _ _ _ events (may_raise tasks) w) p es event rest at e =
     let s = a.forth p (MayRaise ∷ tasks) (Raises ∷ tasks) [] at (may_raise tasks) in
     reached_behind nodes stands p [] es event rest (Raises ∷ tasks) s (split nodes stands a (Raises ∷ tasks) events w s.to es event rest s.at e)
-split nodes stands a _ _ (walk.raises tasks handler events is w) p es event rest at e =
+split nodes stands a _ _ (walk.goes _ _ _ events (raises tasks handler is) w) p es event rest at e =
     let s = a.forth p (Raises ∷ tasks) handler [] at (raises tasks handler is) in
     reached_behind nodes stands p [] es event rest handler s (split nodes stands a handler events w s.to es event rest s.at e)
-split nodes stands a _ _ (walk.exits label tasks handler events is w) p es event rest at e =
+split nodes stands a _ _ (walk.goes _ _ _ events (exits label tasks handler is) w) p es event rest at e =
     let s = a.forth p (Exits label ∷ tasks) handler [] at (exits label tasks handler is) in
     reached_behind nodes stands p [] es event rest handler s (split nodes stands a handler events w s.to es event rest s.at e)
-split nodes stands a _ _ (walk.leaves_catch scope slot in_handler handlers tasks events w) p es event rest at e =
+split nodes stands a _ _ (walk.goes _ _ _ events (leaves_catch scope slot in_handler handlers tasks) w) p es event rest at e =
     let s = a.forth p (Catches scope slot in_handler handlers ∷ tasks) tasks [] at (leaves_catch scope slot in_handler handlers tasks) in
     reached_behind nodes stands p [] es event rest tasks s (split nodes stands a tasks events w s.to es event rest s.at e)
-split nodes stands a _ _ (walk.leaves_try scope slot name_at name handler tasks events w) p es event rest at e =
+split nodes stands a _ _ (walk.goes _ _ _ events (leaves_try scope slot name_at name handler tasks) w) p es event rest at e =
     let s = a.forth p (Handles scope slot name_at name handler ∷ tasks) tasks [] at (leaves_try scope slot name_at name handler tasks) in
     reached_behind nodes stands p [] es event rest tasks s (split nodes stands a tasks events w s.to es event rest s.at e)
 
@@ -187,7 +177,7 @@ led_on nodes stands a p q event tasks at e next =
 alone : (tasks : List Task) (event : Event) → IsDoing tasks event → Walk tasks (event ∷ [])
 alone tasks event d =
     let P : List Task → Type 0 = λ l. Walk l (event ∷ []) in
-    subst P (sym d.is) (walk.does event d.left [] (walk.stops d.left))
+    subst P (sym d.is) (walk.goes (Does event ∷ d.left) d.left (event ∷ []) [] (does event d.left) (walk.stops d.left))
 
 -- an address that is live in the table is live on some walk of the function
 pub live_on_walk : (nodes : List node.Node) (stands : ℕ → List Task → Type 0) (f : FunctionTree) (entry bound point used : ℕ)

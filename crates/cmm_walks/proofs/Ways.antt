@@ -1,7 +1,7 @@
 -- What a graph over nodes reads, as ways over the nodes.
 use Rattle.std.proofs.Common.{◌≡◌, ℕ, zero, suc, List, [], ◌++◌, sym, inl, inr, subst}
 use Rattle.std.specs.List.{Contains}
-use Rattle.flow.specs.Flow.{Graph, ReadsIn, LiveBefore}
+use Rattle.dataflow.specs.Flow.{Graph, ReadsIn, LiveBefore}
 use Rattle.cmm_walks.specs.Walks.{Event}
 use Rattle.cmm_walks.specs.AddrLive.{Unbound}
 use Rattle.cmm_walks.specs.Table.{shown, step_at, next_at, Trail, here, goes}

@@ -29,7 +29,7 @@ abbrev pub Before : ℕ → ℕ → ℕ → ℕ → ℕ → ℕ → Type 0
 Before bound point used bound' point' used' =
     (used < used') ⊎ (((used ≡ used') × (point < point')) ⊎ ((used ≡ used') × (point ≡ point') × (bound ≤ bound')))
 
--- The address that is told: no other comes before it.
+-- The address that is reported: no other comes before it.
 pub record IsToldLive (file : FileTree) (bound point used : ℕ) : Type 0 where
   pub live : IsLive file bound point used
   pub least : (b p u : ℕ) → IsLive file b p u → Before bound point used b p u

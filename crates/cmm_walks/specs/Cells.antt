@@ -2,7 +2,7 @@
 use Rattle.std.specs.Prelude.{ℕ, ◌+◌, ◌==◌, cond, true, List, [], ◌∷◌, ◌++◌, length, reverse, Option, Some, None}
 use Rattle.cmm_tree.specs.View.{expr_view, label_view, params_view}
 use Rattle.cmm_tree.specs.declared.expr.Handler.{Handler}
-use Rattle.cmm_types.specs.Rows.{bindings_of, cases_of, handlers_of}
+use Rattle.cmm_tree.specs.Rows.{bindings_of, cases_of, handlers_of}
 use Rattle.cmm_walks.specs.Walks.{Event, Slotted, Task, bodies, with_slots, parameters_bound}
 use Rattle.cmm_walks.specs.Walks as walk
 use Rattle.cmm_walks.specs.declared.items.Action.{Action}
@@ -31,7 +31,7 @@ scope_in scopes (item.Named name type mutable slot outer) =
     record { scoped = record { name = name.now; type = type; mutable = mutable }; slot = slot } ∷ scopes outer
 scope_in scopes _ = []
 
--- what a handler does, and then what is behind its catch
+-- what a handler does, and then what is after its catch
 abbrev pub handler_tasks : List Slotted → ℕ → List Handler → List Task → Handler → List Task
 handler_tasks scope slot all behind h =
     parameters_bound slot (params_view h.params.items)

@@ -29,7 +29,7 @@ abbrev pub binds_address : Step → Bool
 binds_address (step.Binds slot address at) = address
 binds_address _ = false
 
--- an address is live with these three places, and each other comes behind it
+-- an address is live with these three places, and each other comes after it
 pub record IsFirst (nodes : List node.Node) (entry : ℕ) (l : limits.Limits) : Type 0 where
   pub leads : LeadsToBinding nodes l.bound l.point l.used entry
   pub least : (b p u : ℕ) → LeadsToBinding nodes b p u entry → Before l.bound l.point l.used b p u

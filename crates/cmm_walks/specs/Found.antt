@@ -1,6 +1,6 @@
 -- What is found of a name in scope.
 use Rattle.std.specs.Prelude.{ℕ, List, [], ◌∷◌, Option, None, bytes_eq}
-use Rattle.cmm_types.specs.Standing.{first_found}
+use Rattle.cmm_tree.specs.Symbols.{first_found}
 use Rattle.cmm_walks.specs.Walks.{Slotted}
 use Rattle.cmm_walks.specs.declared.scopes.Found.{Found}
 

@@ -1,12 +1,12 @@
 -- Where an exit and a raise lead, cell by cell.
 use Rattle.std.specs.Prelude.{ℕ, true, List, Option, Some, None}
 use Rattle.cmm_tree.specs.Tree.{LabelTree}
-use Rattle.cmm_types.specs.Rows.{handlers_of}
+use Rattle.cmm_tree.specs.Rows.{handlers_of}
 use Rattle.cmm_walks.specs.Walks.{Slotted, Task, handler_for, behind_exit, behind_raise}
 use Rattle.cmm_walks.specs.declared.items.Item.{Item}
 use Rattle.cmm_walks.specs.declared.items.Item.TheVariants as item
 
--- the cell behind a task
+-- the cell after a task
 abbrev pub rest_in : Item → Option ℕ
 rest_in item.Empty = None
 rest_in (item.Named name type mutable slot outer) = None

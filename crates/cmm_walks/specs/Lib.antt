@@ -4,7 +4,6 @@ pub mod Table
 pub mod Live
 pub mod First
 pub mod Cells
-pub mod Steps
 pub mod Sound
 pub mod Found
 pub mod Leaving

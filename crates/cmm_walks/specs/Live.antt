@@ -3,8 +3,8 @@ use Rattle.std.specs.Prelude.{◌≡◌, ℕ, zero, suc, Bool, true, false, ◌&
 use Rattle.std.specs.List.{list_any}
 use Rattle.bs_words.specs.Contents.{contents}
 use Rattle.bs_bits.specs.Set.{has}
-use Rattle.flow.specs.Rows.{row}
-use Rattle.flow.specs.declared.flow.Place as place
+use Rattle.dataflow.specs.Rows.{row}
+use Rattle.dataflow.specs.declared.flow.Place as place
 use Rattle.cmm_walks.specs.declared.node.Step.{Step}
 use Rattle.cmm_walks.specs.declared.node.Step.TheVariants as step
 use Rattle.cmm_walks.specs.declared.node.Node as node

@@ -1,4 +1,4 @@
--- What is told of functions, and of a file.
+-- What is reported of functions, and of a file.
 use Rattle.std.specs.Prelude.{ℕ, List, Option, Some, None, Contains}
 use Rattle.bs_fault.specs.declared.fault.Fault.{Fault}
 use Rattle.bs_fault.specs.declared.fault.Fault.TheVariants.{AddrLive}
@@ -29,11 +29,11 @@ abbrev pub ToldAmong : List FunctionTree → Option Limits → Type 0
 ToldAmong fs None = (g : FunctionTree) → Contains fs g → (b p u : ℕ) → IsLiveIn g b p u → ⊥
 ToldAmong fs (Some l) = IsFirstAmong fs l
 
-abbrev pub is_told : FileTree → Fault → Type 0
-is_told file (AddrLive bound point used) = IsToldLive file bound point used
-is_told file _ = ⊥
+abbrev pub IsReported : FileTree → Fault → Type 0
+IsReported file (AddrLive bound point used) = IsToldLive file bound point used
+IsReported file _ = ⊥
 
--- the address that is told of the file, or want of memory
+-- the address that is reported of the file, or want of memory
 abbrev pub IsRefusal : FileTree → FrontError → Type 0
-IsRefusal file (error.Fault fault) = is_told file fault
+IsRefusal file (error.Fault fault) = IsReported file fault
 IsRefusal file error.OutOfMemory = Unit {0}

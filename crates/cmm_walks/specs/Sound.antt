@@ -7,18 +7,17 @@ use Rattle.cmm_tree.specs.View.{expr_view, params_view}
 use Rattle.cmm_tree.specs.declared.expr.Handler.{Handler}
 use Rattle.cmm_types.specs.Annotated.{IsAnnotated}
 use Rattle.cmm_types.specs.Lists.{AreBindingsAnnotated, AreCasesAnnotated, AreHandlersAnnotated}
-use Rattle.cmm_types.specs.Rows.{bindings_of}
+use Rattle.cmm_tree.specs.Rows.{bindings_of}
 use Rattle.cmm_types.specs.Types.{with_bindings, with_parameters}
 use Rattle.cmm_walks.specs.Cells.{item_at, scope_at, tasks_at, handler_tasks}
-use Rattle.cmm_walks.specs.Steps.{Next}
+use Rattle.cmm_walks.specs.Walks.{Event, Slotted, Task, Does, Evaluates, names, handling, Next}
 use Rattle.cmm_walks.specs.Table.{shown}
-use Rattle.cmm_walks.specs.Walks.{Event, Slotted, Task, Does, Evaluates, names, handling}
 use Rattle.cmm_walks.specs.declared.items.Item.{Item}
 use Rattle.cmm_walks.specs.declared.items.Item.TheVariants as item
 use Rattle.cmm_walks.specs.declared.node.Node as node
 use Rattle.cmm_walks.specs.declared.node.Step.{Step}
 
--- the cells that it names as its scope, and as what is behind it, come before this number
+-- the cells that it names as its scope, and as what is after it, come before this number
 abbrev pub IsBelow : ℕ → Item → Type 0
 IsBelow c item.Empty = Unit {0}
 IsBelow c (item.Named name type mutable slot outer) = outer < c
@@ -69,7 +68,7 @@ pub record Extends (old new : List Item) : Type 0 where
   pub more : List Item
   pub is : new ≡ more ++ old
 
--- this cell may be behind a further one
+-- this cell may be after a further one
 pub record IsReady (items : List Item) (rest : ℕ) : Type 0 where
   pub sound : IsSound items
   pub within : rest < length items
@@ -145,7 +144,7 @@ BodiesAt items s slot behind [] [] = Unit {0}
 BodiesAt items s slot behind (q ∷ qs) (e ∷ es) = (q < length items) × (tasks_at items q ≡ Evaluates s slot e ∷ behind) × BodiesAt items s slot behind qs es
 BodiesAt items s slot behind _ _ = ⊥
 
--- further cells, which are such cells, and their numbers behind former ones
+-- further cells, which are such cells, and their numbers after former ones
 pub record AddsBodies (old new : List Item) (s : List Slotted) (slot : ℕ) (behind : List Task) (former next : List ℕ) (es : List Expression) : Type 0 where
   pub extends : Extends old new
   pub sound : IsSound new

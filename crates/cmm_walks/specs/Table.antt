@@ -21,7 +21,7 @@ shown (step.Passes at) = event.Passes at ∷ []
 abbrev pub step_at : List node.Node → ℕ → Step
 step_at nodes p = slice_index_or (map (λ (n : node.Node). n.step) nodes) p step.Quiet
 
--- the nodes that may come behind it
+-- the nodes that may come after it
 abbrev pub next_at : List node.Node → ℕ → List ℕ
 next_at nodes p = slice_index_or (map (λ (n : node.Node). contents n.next) nodes) p []
 

@@ -8,7 +8,7 @@ use Rattle.bs_words.specs.Fits.{type_of_comp}
 use Rattle.bs_words.specs.declared.types.Ty.{Ty}
 use Rattle.bs_words.specs.declared.types.Ty.TheVariants as ty
 use Rattle.cmm_tree.specs.Place.{place_of}
-use Rattle.cmm_tree.specs.Tree.{LabelTree, Named, Bare, Done, Again, Parameter, Expression, Integer, Pointer, Symbol, Name, Nothing, Float, Let, Assign, Operator, Load, Store, Alloc, App, Extcall, Checkbound, Raise, Seq, If, Switch, Catch, Exit, Try, Expressions, NoMore, More, Bindings, NoBinding, Bind, Cases, NoCase, Choose, Handlers, NoHandler, Handle, FunctionTree}
+use Rattle.cmm_tree.specs.Tree.{same_label, is_bare, LabelTree, Named, Bare, Done, Again, Parameter, Expression, Integer, Pointer, Symbol, Name, Nothing, Float, Let, Assign, Operator, Load, Store, Alloc, App, Extcall, Checkbound, Raise, Seq, If, Switch, Catch, Exit, Try, Expressions, NoMore, More, Bindings, NoBinding, Bind, Cases, NoCase, Choose, Handlers, NoHandler, Handle, FunctionTree}
 use Rattle.cmm_types.specs.Light.{is_light_address}
 use Rattle.cmm_types.specs.Types.{Scoped, type_of, type_named, type_bound, is_mutable}
 
@@ -65,14 +65,14 @@ pub data Task : Type 0 where
   Enters : (scope : List Slotted) (slot : ℕ) (bindings : Bindings) (body : Expression) → Task
   -- one of these is evaluated, with these names in scope
   OneOf : (scope : List Slotted) (slot : ℕ) (es : List Expression) → Task
-  -- a call or a test, which may raise
+  -- an app, a frame call or a test of a bound, which may raise
   MayRaise : Task
   Raises : Task
   Exits : (label : LabelTree) → Task
-  -- behind the body of a catch, or one of its handlers: what an exit finds. A bare handler is not visible
+  -- after the body of a catch, or one of its handlers: what an exit finds. A bare handler is not visible
   -- in the handlers.
   Catches : (scope : List Slotted) (slot : ℕ) (in_handler : Bool) (handlers : Handlers) → Task
-  -- behind the body of a try: what a raise finds
+  -- after the body of a try: what a raise finds
   Handles : (scope : List Slotted) (slot : ℕ) (name_at : ℕ) (name : List ℕ) (handler : Expression) → Task
 
 abbrev pub first_tasks : Bool → List Task → List Task → List Task
@@ -93,7 +93,7 @@ abbrev pub takes : ℕ → ℕ → ℕ → List Task
 takes at slot zero = []
 takes at slot (suc count) = Does (Uses slot at) ∷ takes at (suc slot) count
 
--- ---- operands: the first stands in `slot`, the next in the slot behind, and `free` is behind the last
+-- ---- operands: the first stands in `slot`, the next in the slot after, and `free` is after the last
 
 abbrev pub count : Expressions → ℕ
 count NoMore = 0
@@ -144,8 +144,14 @@ abbrev pub bodies : Cases → List Expression
 bodies NoCase = []
 bodies (Choose indexes body rest) = body ∷ bodies rest
 
--- an app uses its operands before its frame point, an alloc behind it; a light address of an alloc is
--- evaluated behind it, too
+-- after the operands of a call: an app and a frame call are a frame point, at their parenthesis, and may raise
+-- there; another external call is none, and does not
+abbrev pub called : Bool → ℕ → List Task
+called true at = Does (Passes at) ∷ MayRaise ∷ []
+called false at = []
+
+-- an app and a frame call use their operands before their frame point, an alloc after it; a light address of an
+-- alloc is evaluated after it, too
 abbrev pub tasks_of : List Slotted → ℕ → Expression → List Task
 tasks_of scope slot (Integer at word) = []
 tasks_of scope slot (Pointer at word) = []
@@ -164,9 +170,9 @@ tasks_of scope slot (Alloc at header_at header operands) =
     ++ (Does (Passes at) ∷ (filled scope (slot + count operands) slot operands ++ takes at slot (count operands)))
 tasks_of scope slot (App at callee arguments result result_at) =
     all_operands scope slot (More callee arguments)
-    ++ (takes at slot (suc (count arguments)) ++ (Does (Passes at) ∷ MayRaise ∷ []))
-tasks_of scope slot (Extcall at name arguments result result_at) =
-    all_operands scope slot arguments ++ takes at slot (count arguments)
+    ++ (takes at slot (suc (count arguments)) ++ called true at)
+tasks_of scope slot (Extcall at frame name arguments result result_at) =
+    all_operands scope slot arguments ++ (takes at slot (count arguments) ++ called frame at)
 tasks_of scope slot (Checkbound at bound index) = on_two scope slot at bound index ++ (MayRaise ∷ [])
 tasks_of scope slot (Raise at value) = on_one scope slot at value ++ (Raises ∷ [])
 tasks_of scope slot (Seq at elements) = in_order scope slot elements
@@ -196,18 +202,7 @@ parameters_bound slot [] = []
 parameters_bound slot (p ∷ params) =
     Does (Binds slot (is_address (type_of_comp p.comp)) p.at) ∷ parameters_bound (suc slot) params
 
-abbrev pub same_label : LabelTree → LabelTree → Bool
-same_label (Named x) (Named y) = bytes_eq x y
-same_label Bare Bare = true
-same_label Done Done = true
-same_label Again Again = true
-same_label _ _ = false
-
-abbrev pub is_bare : LabelTree → Bool
-is_bare Bare = true
-is_bare _ = false
-
--- the handler of a label, and what is behind it, if it is one of these
+-- the handler of a label, and what is after it, if it is one of these
 abbrev pub handler_for : LabelTree → List Slotted → ℕ → Bool → Handlers → List Task → Handlers → Option (List Task)
 handler_for label scope slot in_handler all behind NoHandler = None
 handler_for label scope slot in_handler all behind (Handle at own params body rest) =
@@ -240,40 +235,28 @@ behind_raise (_ ∷ rest) = behind_raise rest
 
 -- ---- walks
 
+-- One step of a walk, with its event, if it has one.
+pub data Next : List Task → List Event → List Task → Type 0 where
+  does : (event : Event) (tasks : List Task) → Next (Does event ∷ tasks) (event ∷ []) tasks
+  evaluates : (scope : List Slotted) (slot : ℕ) (e : Expression) (tasks : List Task)
+      → Next (Evaluates scope slot e ∷ tasks) [] (tasks_of scope slot e ++ tasks)
+  enters : (scope : List Slotted) (slot : ℕ) (bindings : Bindings) (body : Expression) (tasks : List Task)
+      → Next (Enters scope slot bindings body ∷ tasks) [] (entering scope slot bindings body ++ tasks)
+  one_of : (scope : List Slotted) (slot : ℕ) (es : List Expression) (e : Expression) (tasks : List Task)
+      → Contains es e → Next (OneOf scope slot es ∷ tasks) [] (Evaluates scope slot e ∷ tasks)
+  goes_on : (tasks : List Task) → Next (MayRaise ∷ tasks) [] tasks
+  may_raise : (tasks : List Task) → Next (MayRaise ∷ tasks) [] (Raises ∷ tasks)
+  raises : (tasks handler : List Task) → behind_raise tasks ≡ Some handler → Next (Raises ∷ tasks) [] handler
+  exits : (label : LabelTree) (tasks handler : List Task) → behind_exit label tasks ≡ Some handler → Next (Exits label ∷ tasks) [] handler
+  leaves_catch : (scope : List Slotted) (slot : ℕ) (in_handler : Bool) (handlers : Handlers) (tasks : List Task)
+      → Next (Catches scope slot in_handler handlers ∷ tasks) [] tasks
+  leaves_try : (scope : List Slotted) (slot name_at : ℕ) (name : List ℕ) (handler : Expression) (tasks : List Task)
+      → Next (Handles scope slot name_at name handler ∷ tasks) [] tasks
+
 -- What may happen where these tasks are left, up to any point.
 pub data Walk : List Task → List Event → Type 0 where
   stops : (tasks : List Task) → Walk tasks []
-  does : (event : Event) (tasks : List Task) (events : List Event)
-      → Walk tasks events
-      → Walk (Does event ∷ tasks) (event ∷ events)
-  evaluates : (scope : List Slotted) (slot : ℕ) (e : Expression) (tasks : List Task) (events : List Event)
-      → Walk (tasks_of scope slot e ++ tasks) events
-      → Walk (Evaluates scope slot e ∷ tasks) events
-  enters : (scope : List Slotted) (slot : ℕ) (bindings : Bindings) (body : Expression) (tasks : List Task) (events : List Event)
-      → Walk (entering scope slot bindings body ++ tasks) events
-      → Walk (Enters scope slot bindings body ∷ tasks) events
-  one_of : (scope : List Slotted) (slot : ℕ) (es : List Expression) (e : Expression) (tasks : List Task) (events : List Event)
-      → Contains es e
-      → Walk (Evaluates scope slot e ∷ tasks) events
-      → Walk (OneOf scope slot es ∷ tasks) events
-  -- behind a call or a test a walk goes on, or raises
-  goes_on : (tasks : List Task) (events : List Event) → Walk tasks events → Walk (MayRaise ∷ tasks) events
-  may_raise : (tasks : List Task) (events : List Event) → Walk (Raises ∷ tasks) events → Walk (MayRaise ∷ tasks) events
-  raises : (tasks handler : List Task) (events : List Event)
-      → behind_raise tasks ≡ Some handler
-      → Walk handler events
-      → Walk (Raises ∷ tasks) events
-  exits : (label : LabelTree) (tasks handler : List Task) (events : List Event)
-      → behind_exit label tasks ≡ Some handler
-      → Walk handler events
-      → Walk (Exits label ∷ tasks) events
-  -- a body or a handler that is left by neither goes on behind the whole
-  leaves_catch : (scope : List Slotted) (slot : ℕ) (in_handler : Bool) (handlers : Handlers) (tasks : List Task) (events : List Event)
-      → Walk tasks events
-      → Walk (Catches scope slot in_handler handlers ∷ tasks) events
-  leaves_try : (scope : List Slotted) (slot name_at : ℕ) (name : List ℕ) (handler : Expression) (tasks : List Task) (events : List Event)
-      → Walk tasks events
-      → Walk (Handles scope slot name_at name handler ∷ tasks) events
+  goes : (tasks left : List Task) (es events : List Event) → Next tasks es left → Walk left events → Walk tasks (es ++ events)
 
 -- a walk of a function binds its parameters, and evaluates its body
 abbrev pub walk_tasks : FunctionTree → List Task

@@ -31,7 +31,8 @@ fn in_order(one: Limits, other: Limits) -> bool
 
 /// The one of two that comes first, if there is one.
 fn first(one: Option<Limits>, other: Option<Limits>) -> Option<Limits>
-    ensures { (fs gs : List FunctionTree) → ToldAmong fs one → ToldAmong gs other → ToldAmong (fs ++ gs) result }
+    ensures { (fs gs : List FunctionTree) → ToldAmong fs one → ToldAmong gs other →
+        ToldAmong (fs ++ gs) result }
 {
     match one {
         None => other,
@@ -70,7 +71,7 @@ fn told_in_item(alloc: Global, item: &Item) -> Result<Option<Limits>, AllocError
     }
 }
 
-/// The address that is told of the items, if there is one.
+/// The address that is reported of the items, if there is one.
 fn told_in_items(alloc: Global, items: &[Item]) -> Result<Option<Limits>, AllocError>
     requires { AreItemsAnnotated items.now }
     ensures { IfOk result (λ told. ToldAmong (functions_among (map item_view items.now)) told) }
@@ -83,7 +84,7 @@ fn told_in_items(alloc: Global, items: &[Item]) -> Result<Option<Limits>, AllocE
     Ok(least)
 }
 
-/// Refuses a file with an address that is used after a frame point that it was bound before. It tells the
+/// Refuses a file with an address that is used after a frame point that it was bound before. It reports the
 /// first use, of its frame points the first, and of its bindings the first. Each node of the functions has
 /// to hold its type.
 pub(crate) fn check_file(alloc: Global, file: &File) -> Result<(), FrontError>

@@ -37,7 +37,8 @@ impl Checked {
 pub fn check_addresses(alloc: Global, typed: Typed) -> Result<Checked, FrontError>
     requires { AreItemsAnnotated (contents (file_of typed).items) }
     ensures same { IfOk result (λ checked. typed_of checked ≡ typed) }
-    ensures settled { IfOk result (λ _. (bound point used : ℕ) → IsLive (file_view (file_of typed)) bound point used → ⊥) }
+    ensures settled { IfOk result (λ _. (bound point used : ℕ) →
+        IsLive (file_view (file_of typed)) bound point used → ⊥) }
     ensures fault { IfErr result (λ e. IsRefusal (file_view (file_of typed)) e) }
 {
     check_file(alloc, typed.file())?;

@@ -6,7 +6,7 @@ ghost use Rattle.cmm_walks.specs.Table.{IsWithin, AreNodes};
 
 use crate::node::{Node, Step};
 use bs_words::List;
-use flow::{Flow, Place, Rows, live};
+use dataflow::{Flow, Place, Rows, live_in_any_order};
 use std::alloc::{AllocError, Global};
 
 /// The greatest places that are asked for.
@@ -79,7 +79,7 @@ fn live_slots(alloc: Global, rows: &Rows, next: &[u32], bound: u32) -> Result<Li
     Ok(List::from_vec(slots))
 }
 
-/// The slots that are live behind a node, if it is a frame point at a place up to the limit.
+/// The slots that are live after a node, if it is a frame point at a place up to the limit.
 fn passed_slots(
     alloc: Global,
     rows: &Rows,
@@ -88,7 +88,8 @@ fn passed_slots(
     next: &[u32],
     step: Step,
 ) -> Result<List<u32>, AllocError>
-    ensures { IfOk result (λ slots. contents slots ≡ passed_slots rows.now.rows.items bound limit next.now step) }
+    ensures { IfOk result (λ slots. contents slots ≡ passed_slots rows.now.rows.items bound limit next.now
+        step) }
 {
     match step {
         Step::Passes { at } => {
@@ -102,7 +103,7 @@ fn passed_slots(
     }
 }
 
-/// 0, if a node binds an address at a place up to the limit, whose slot is live behind it.
+/// 0, if a node binds an address at a place up to the limit, whose slot is live after it.
 fn told_slots(
     alloc: Global,
     rows: &Rows,
@@ -123,7 +124,8 @@ fn told_slots(
 
 /// Where uses of slots may come.
 fn uses_flow(alloc: Global, nodes: &[Node], bound: u32, limit: u32) -> Result<Flow, AllocError>
-    ensures { IfOk result (λ f. (f.bound ≡ bound) × IsGraphOf (λ n. used_slots limit n.step) (λ n. bound_slots n.step) nodes.now (contents f.places)) }
+    ensures { IfOk result (λ f. (f.bound ≡ bound) × IsGraphOf (λ n.
+        used_slots limit n.step) (λ n. bound_slots n.step) nodes.now (contents f.places)) }
 {
     let mut places = Vec::new(alloc);
     for node in nodes {
@@ -140,7 +142,7 @@ fn uses_flow(alloc: Global, nodes: &[Node], bound: u32, limit: u32) -> Result<Fl
     })
 }
 
-/// Where frame points may come that slots are live behind.
+/// Where frame points may come that slots are live after.
 fn points_flow(
     alloc: Global,
     nodes: &[Node],
@@ -148,7 +150,9 @@ fn points_flow(
     limit: u32,
     uses: &Rows,
 ) -> Result<Flow, AllocError>
-    ensures { IfOk result (λ f. (f.bound ≡ bound) × IsGraphOf (λ n. passed_slots uses.now.rows.items bound limit (contents n.next) n.step) (λ n. bound_slots n.step) nodes.now (contents f.places)) }
+    ensures { IfOk result (λ f. (f.bound ≡ bound) × IsGraphOf (λ n.
+        passed_slots uses.now.rows.items bound limit (contents n.next) n.step) (λ n.
+        bound_slots n.step) nodes.now (contents f.places)) }
 {
     let mut places = Vec::new(alloc);
     for node in nodes {
@@ -173,7 +177,9 @@ fn bindings_flow(
     limit: u32,
     points: &Rows,
 ) -> Result<Flow, AllocError>
-    ensures { IfOk result (λ f. (f.bound ≡ 1) × IsGraphOf (λ n. told_slots points.now.rows.items limit (contents n.next) n.step) (λ n. []) nodes.now (contents f.places)) }
+    ensures { IfOk result (λ f. (f.bound ≡ 1) × IsGraphOf (λ n.
+        told_slots points.now.rows.items limit (contents n.next) n.step) (λ n.
+        []) nodes.now (contents f.places)) }
 {
     let mut places = Vec::new(alloc);
     for node in nodes {
@@ -204,10 +210,10 @@ pub fn is_live_within(
     ensures { IfOk result (λ told. IsTrue told ↔ IsWithin nodes.now limits entry) }
 {
     let uses_graph = uses_flow(alloc, nodes, bound, limits.used)?;
-    let uses = live(alloc, &uses_graph)?;
+    let uses = live_in_any_order(alloc, &uses_graph)?;
     let points_graph = points_flow(alloc, nodes, bound, limits.point, &uses)?;
-    let points = live(alloc, &points_graph)?;
+    let points = live_in_any_order(alloc, &points_graph)?;
     let bindings_graph = bindings_flow(alloc, nodes, limits.bound, &points)?;
-    let bindings = live(alloc, &bindings_graph)?;
+    let bindings = live_in_any_order(alloc, &bindings_graph)?;
     Ok(bindings.contains(entry as usize, 0))
 }

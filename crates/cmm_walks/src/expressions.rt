@@ -5,8 +5,8 @@ ghost use Rattle.cmm_tree.specs.Tree.{More};
 ghost use Rattle.cmm_tree.specs.View.{expr_view, label_view};
 ghost use Rattle.cmm_types.specs.Annotated.{IsAnnotated};
 ghost use Rattle.cmm_types.specs.Lists.{AreAnnotated, AreBindingsAnnotated, AreCasesAnnotated, AreHandlersAnnotated};
-ghost use Rattle.cmm_types.specs.Rows.{row_of, bindings_of, cases_of, handlers_of};
-ghost use Rattle.cmm_walks.specs.Walks.{Slotted, Does, Evaluates, Enters, Passes, OneOf, MayRaise, Raises, Exits, Catches, Handles, names, used_at, bound_at, slot_of, takes, count, waiting, filled, all_operands, on_one, on_two, bodies, handling, tasks_of};
+ghost use Rattle.cmm_tree.specs.Rows.{row_of, bindings_of, cases_of, handlers_of};
+ghost use Rattle.cmm_walks.specs.Walks.{Slotted, Does, Evaluates, Enters, Passes, OneOf, MayRaise, Raises, Exits, Catches, Handles, names, used_at, bound_at, slot_of, takes, count, waiting, filled, all_operands, on_one, on_two, bodies, handling, called, tasks_of};
 ghost use Rattle.cmm_types.specs.Types.{type_named, with_bindings};
 ghost use Rattle.cmm_walks.specs.Cells.{cells};
 ghost use Rattle.cmm_walks.specs.Sound.{IsReady, IsScope, Adds, AddsHandlers};
@@ -20,7 +20,8 @@ use std::alloc::AllocError;
 impl<'a> Cells<'a> {
     /// A call or a test, which may raise.
     fn may_raise(&mut self, rest: u32) -> Result<u32, AllocError>
-        ensures { IfOk result (λ cell. IsReady (cells self.old) rest → Adds (cells self.old) (cells self.new) cell (MayRaise ∷ []) rest) }
+        ensures { IfOk result (λ cell. IsReady (cells self.old) rest →
+            Adds (cells self.old) (cells self.new) cell (MayRaise ∷ []) rest) }
     {
         let cell = self.push(Item::MayRaise { rest })?;
         Ok(cell)
@@ -28,7 +29,8 @@ impl<'a> Cells<'a> {
 
     /// A raise.
     pub fn raises(&mut self, rest: u32) -> Result<u32, AllocError>
-        ensures { IfOk result (λ cell. IsReady (cells self.old) rest → Adds (cells self.old) (cells self.new) cell (Raises ∷ []) rest) }
+        ensures { IfOk result (λ cell. IsReady (cells self.old) rest →
+            Adds (cells self.old) (cells self.new) cell (Raises ∷ []) rest) }
     {
         let cell = self.push(Item::Raises { rest })?;
         Ok(cell)
@@ -43,7 +45,10 @@ impl<'a> Cells<'a> {
         expr: &'a Expr,
         rest: u32,
     ) -> Result<u32, AllocError>
-        ensures { IfOk result (λ cell. (s : List Slotted) → IsReady (cells self.old) rest → IsScope (cells self.old) scope s → IsAnnotated (names s) expr.now → Adds (cells self.old) (cells self.new) cell (on_one s slot at (expr_view expr.now)) rest) }
+        ensures { IfOk result (λ cell. (s : List Slotted) → IsReady (cells self.old) rest →
+            IsScope (cells self.old) scope s → IsAnnotated (names s) expr.now →
+            Adds (cells self.old) (cells self.new) cell (on_one s slot at
+            (expr_view expr.now)) rest) }
     {
         let free = behind(slot, 1)?;
         let taken = self.takes(at, slot, 1, rest)?;
@@ -62,7 +67,11 @@ impl<'a> Cells<'a> {
         right: &'a Expr,
         rest: u32,
     ) -> Result<u32, AllocError>
-        ensures { IfOk result (λ cell. (s : List Slotted) → IsReady (cells self.old) rest → IsScope (cells self.old) scope s → IsAnnotated (names s) left.now → IsAnnotated (names s) right.now → Adds (cells self.old) (cells self.new) cell (on_two s slot at (expr_view left.now) (expr_view right.now)) rest) }
+        ensures { IfOk result (λ cell. (s : List Slotted) → IsReady (cells self.old) rest →
+            IsScope (cells self.old) scope s → IsAnnotated (names s) left.now →
+            IsAnnotated (names s) right.now →
+            Adds (cells self.old) (cells self.new) cell (on_two s slot at
+            (expr_view left.now) (expr_view right.now)) rest) }
     {
         let free = behind(slot, 2)?;
         let second = after(slot)?;
@@ -83,14 +92,17 @@ impl<'a> Cells<'a> {
         exprs: &'a [Expr],
         rest: u32,
     ) -> Result<u32, AllocError>
-        ensures { IfOk result (λ cell. (s : List Slotted) → IsReady (cells self.old) rest → IsScope (cells self.old) scope s → AreAnnotated (names s) exprs.now → Adds (cells self.old) (cells self.new) cell (all_operands s slot (row_of exprs.now) ++ takes at slot (count (row_of exprs.now))) rest) }
+        ensures { IfOk result (λ cell. (s : List Slotted) → IsReady (cells self.old) rest →
+            IsScope (cells self.old) scope s → AreAnnotated (names s) exprs.now →
+            Adds (cells self.old) (cells self.new) cell (all_operands s slot
+            (row_of exprs.now) ++ takes at slot (count (row_of exprs.now))) rest) }
     {
         let taken = self.takes(at, slot, exprs.len(), rest)?;
         let cell = self.all_operands(scope, slot, exprs, taken)?;
         Ok(cell)
     }
 
-    /// An allocation. It takes its operands behind its frame point.
+    /// An allocation. It takes its operands after its frame point.
     fn alloc(
         &mut self,
         scope: u32,
@@ -99,7 +111,12 @@ impl<'a> Cells<'a> {
         exprs: &'a [Expr],
         rest: u32,
     ) -> Result<u32, AllocError>
-        ensures { IfOk result (λ cell. (s : List Slotted) → IsReady (cells self.old) rest → IsScope (cells self.old) scope s → AreAnnotated (names s) exprs.now → Adds (cells self.old) (cells self.new) cell (waiting s (slot + count (row_of exprs.now)) slot (row_of exprs.now) ++ (Does (Passes at) ∷ (filled s (slot + count (row_of exprs.now)) slot (row_of exprs.now) ++ takes at slot (count (row_of exprs.now))))) rest) }
+        ensures { IfOk result (λ cell. (s : List Slotted) → IsReady (cells self.old) rest →
+            IsScope (cells self.old) scope s → AreAnnotated (names s) exprs.now →
+            Adds (cells self.old) (cells self.new) cell (waiting s (slot + count
+            (row_of exprs.now)) slot (row_of exprs.now) ++ (Does (Passes at) ∷ (filled s
+            (slot + count (row_of exprs.now)) slot (row_of exprs.now) ++ takes at slot
+            (count (row_of exprs.now))))) rest) }
     {
         let free = behind(slot, exprs.len())?;
         let taken = self.takes(at, slot, exprs.len(), rest)?;
@@ -109,14 +126,50 @@ impl<'a> Cells<'a> {
         Ok(cell)
     }
 
-    /// The frame point of a call, and a raise out of it.
+    /// What is after the operands of a call: the frame point of an app or a frame call, and a raise out of it.
+    fn called(&mut self, frame: bool, at: u32, rest: u32) -> Result<u32, AllocError>
+        ensures { IfOk result (λ cell. IsReady (cells self.old) rest →
+            Adds (cells self.old) (cells self.new) cell (called frame at) rest) }
+    {
+        if frame {
+            let may_raise = self.may_raise(rest)?;
+            let cell = self.does(Action::Passes { at }, may_raise)?;
+            Ok(cell)
+        } else {
+            Ok(rest)
+        }
+    }
+
+    /// An external call.
+    fn extcall(
+        &mut self,
+        scope: u32,
+        slot: u32,
+        at: u32,
+        frame: bool,
+        exprs: &'a [Expr],
+        rest: u32,
+    ) -> Result<u32, AllocError>
+        ensures { IfOk result (λ cell. (s : List Slotted) → IsReady (cells self.old) rest →
+            IsScope (cells self.old) scope s → AreAnnotated (names s) exprs.now →
+            Adds (cells self.old) (cells self.new) cell (all_operands s slot
+            (row_of exprs.now) ++ (takes at slot (count
+            (row_of exprs.now)) ++ called frame at)) rest) }
+    {
+        let called = self.called(frame, at, rest)?;
+        let cell = self.on_all(scope, slot, at, exprs, called)?;
+        Ok(cell)
+    }
+
+    /// The operands of an app, and what is after them.
     fn calls(&mut self, slot: u32, at: u32, arguments: usize, rest: u32) -> Result<u32, AllocError>
-        ensures { IfOk result (λ cell. IsReady (cells self.old) rest → Adds (cells self.old) (cells self.new) cell (takes at slot (suc arguments) ++ (Does (Passes at) ∷ MayRaise ∷ [])) rest) }
+        ensures { IfOk result (λ cell. IsReady (cells self.old) rest →
+            Adds (cells self.old) (cells self.new) cell (takes at slot
+            (suc arguments) ++ called true at) rest) }
     {
         let second = after(slot)?;
-        let may_raise = self.may_raise(rest)?;
-        let passed = self.does(Action::Passes { at }, may_raise)?;
-        let others = self.takes(at, second, arguments, passed)?;
+        let called = self.called(true, at, rest)?;
+        let others = self.takes(at, second, arguments, called)?;
         let cell = self.does(Action::Uses { slot, at }, others)?;
         Ok(cell)
     }
@@ -131,7 +184,12 @@ impl<'a> Cells<'a> {
         exprs: &'a [Expr],
         rest: u32,
     ) -> Result<u32, AllocError>
-        ensures { IfOk result (λ cell. (s : List Slotted) → IsReady (cells self.old) rest → IsScope (cells self.old) scope s → IsAnnotated (names s) callee.now → AreAnnotated (names s) exprs.now → Adds (cells self.old) (cells self.new) cell (all_operands s slot (More (expr_view callee.now) (row_of exprs.now)) ++ (takes at slot (suc (count (row_of exprs.now))) ++ (Does (Passes at) ∷ MayRaise ∷ []))) rest) }
+        ensures { IfOk result (λ cell. (s : List Slotted) → IsReady (cells self.old) rest →
+            IsScope (cells self.old) scope s → IsAnnotated (names s) callee.now →
+            AreAnnotated (names s) exprs.now →
+            Adds (cells self.old) (cells self.new) cell (all_operands s slot (More
+            (expr_view callee.now) (row_of exprs.now)) ++ (takes at slot (suc (count
+            (row_of exprs.now))) ++ called true at)) rest) }
     {
         let second = after(slot)?;
         let free = behind(second, exprs.len())?;
@@ -145,7 +203,9 @@ impl<'a> Cells<'a> {
 
     /// A use of a name.
     fn used(&mut self, scope: u32, at: u32, name: &Name, rest: u32) -> Result<u32, AllocError>
-        ensures { IfOk result (λ cell. (s : List Slotted) → IsReady (cells self.old) rest → IsScope (cells self.old) scope s → Adds (cells self.old) (cells self.new) cell (used_at at (slot_of s name.now)) rest) }
+        ensures { IfOk result (λ cell. (s : List Slotted) → IsReady (cells self.old) rest →
+            IsScope (cells self.old) scope s →
+            Adds (cells self.old) (cells self.new) cell (used_at at (slot_of s name.now)) rest) }
     {
         match self.find(scope, name) {
             None => Ok(rest),
@@ -158,7 +218,10 @@ impl<'a> Cells<'a> {
 
     /// A binding by an assignment.
     fn assigned(&mut self, scope: u32, at: u32, name: &Name, rest: u32) -> Result<u32, AllocError>
-        ensures { IfOk result (λ cell. (s : List Slotted) → IsReady (cells self.old) rest → IsScope (cells self.old) scope s → Adds (cells self.old) (cells self.new) cell (bound_at at (type_named (names s) name.now) (slot_of s name.now)) rest) }
+        ensures { IfOk result (λ cell. (s : List Slotted) → IsReady (cells self.old) rest →
+            IsScope (cells self.old) scope s →
+            Adds (cells self.old) (cells self.new) cell (bound_at at (type_named
+            (names s) name.now) (slot_of s name.now)) rest) }
     {
         match self.find(scope, name) {
             None => Ok(rest),
@@ -180,7 +243,11 @@ impl<'a> Cells<'a> {
         value: &'a Expr,
         rest: u32,
     ) -> Result<u32, AllocError>
-        ensures { IfOk result (λ cell. (s : List Slotted) → IsReady (cells self.old) rest → IsScope (cells self.old) scope s → IsAnnotated (names s) value.now → Adds (cells self.old) (cells self.new) cell (Evaluates s slot (expr_view value.now) ∷ bound_at at (type_named (names s) name.now) (slot_of s name.now)) rest) }
+        ensures { IfOk result (λ cell. (s : List Slotted) → IsReady (cells self.old) rest →
+            IsScope (cells self.old) scope s → IsAnnotated (names s) value.now →
+            Adds (cells self.old) (cells self.new) cell (Evaluates s slot
+            (expr_view value.now) ∷ bound_at at (type_named (names s) name.now)
+            (slot_of s name.now)) rest) }
     {
         let bound = self.assigned(scope, at, name, rest)?;
         let cell = self.eval(scope, slot, value, bound)?;
@@ -197,7 +264,11 @@ impl<'a> Cells<'a> {
         index: &'a Expr,
         rest: u32,
     ) -> Result<u32, AllocError>
-        ensures { IfOk result (λ cell. (s : List Slotted) → IsReady (cells self.old) rest → IsScope (cells self.old) scope s → IsAnnotated (names s) bound.now → IsAnnotated (names s) index.now → Adds (cells self.old) (cells self.new) cell (on_two s slot at (expr_view bound.now) (expr_view index.now) ++ (MayRaise ∷ [])) rest) }
+        ensures { IfOk result (λ cell. (s : List Slotted) → IsReady (cells self.old) rest →
+            IsScope (cells self.old) scope s → IsAnnotated (names s) bound.now →
+            IsAnnotated (names s) index.now →
+            Adds (cells self.old) (cells self.new) cell (on_two s slot at
+            (expr_view bound.now) (expr_view index.now) ++ (MayRaise ∷ [])) rest) }
     {
         let may_raise = self.may_raise(rest)?;
         let cell = self.on_two(scope, slot, at, bound, index, may_raise)?;
@@ -213,7 +284,10 @@ impl<'a> Cells<'a> {
         value: &'a Expr,
         rest: u32,
     ) -> Result<u32, AllocError>
-        ensures { IfOk result (λ cell. (s : List Slotted) → IsReady (cells self.old) rest → IsScope (cells self.old) scope s → IsAnnotated (names s) value.now → Adds (cells self.old) (cells self.new) cell (on_one s slot at (expr_view value.now) ++ (Raises ∷ [])) rest) }
+        ensures { IfOk result (λ cell. (s : List Slotted) → IsReady (cells self.old) rest →
+            IsScope (cells self.old) scope s → IsAnnotated (names s) value.now →
+            Adds (cells self.old) (cells self.new) cell (on_one s slot at
+            (expr_view value.now) ++ (Raises ∷ [])) rest) }
     {
         let raises = self.raises(rest)?;
         let cell = self.on_one(scope, slot, at, value, raises)?;
@@ -231,7 +305,12 @@ impl<'a> Cells<'a> {
         on_false: &'a Expr,
         rest: u32,
     ) -> Result<u32, AllocError>
-        ensures { IfOk result (λ cell. (s : List Slotted) → IsReady (cells self.old) rest → IsScope (cells self.old) scope s → IsAnnotated (names s) condition.now → IsAnnotated (names s) on_true.now → IsAnnotated (names s) on_false.now → Adds (cells self.old) (cells self.new) cell (on_one s slot at (expr_view condition.now) ++ (OneOf s slot (expr_view on_true.now ∷ expr_view on_false.now ∷ []) ∷ [])) rest) }
+        ensures { IfOk result (λ cell. (s : List Slotted) → IsReady (cells self.old) rest →
+            IsScope (cells self.old) scope s → IsAnnotated (names s) condition.now →
+            IsAnnotated (names s) on_true.now → IsAnnotated (names s) on_false.now →
+            Adds (cells self.old) (cells self.new) cell (on_one s slot at
+            (expr_view condition.now) ++ (OneOf s slot
+            (expr_view on_true.now ∷ expr_view on_false.now ∷ []) ∷ [])) rest) }
     {
         let either = self.push(Item::Either {
             scope,
@@ -254,7 +333,11 @@ impl<'a> Cells<'a> {
         cases: &'a [Case],
         rest: u32,
     ) -> Result<u32, AllocError>
-        ensures { IfOk result (λ cell. (s : List Slotted) → IsReady (cells self.old) rest → IsScope (cells self.old) scope s → IsAnnotated (names s) selector.now → AreCasesAnnotated (names s) cases.now → Adds (cells self.old) (cells self.new) cell (on_one s slot at (expr_view selector.now) ++ (OneOf s slot (bodies (cases_of cases.now)) ∷ [])) rest) }
+        ensures { IfOk result (λ cell. (s : List Slotted) → IsReady (cells self.old) rest →
+            IsScope (cells self.old) scope s →
+            IsAnnotated (names s) selector.now → AreCasesAnnotated (names s) cases.now →
+            Adds (cells self.old) (cells self.new) cell (on_one s slot at
+            (expr_view selector.now) ++ (OneOf s slot (bodies (cases_of cases.now)) ∷ [])) rest) }
     {
         let one_of = self.push(Item::OneOf {
             scope,
@@ -276,7 +359,11 @@ impl<'a> Cells<'a> {
         exprs: &'a [Expr],
         rest: u32,
     ) -> Result<u32, AllocError>
-        ensures { IfOk result (λ cell. (s : List Slotted) → IsReady (cells self.old) rest → IsScope (cells self.old) scope s → AreAnnotated (names s) exprs.now → Adds (cells self.old) (cells self.new) cell (all_operands s slot (row_of exprs.now) ++ (takes at slot (count (row_of exprs.now)) ++ (Exits (label_view label.now) ∷ []))) rest) }
+        ensures { IfOk result (λ cell. (s : List Slotted) → IsReady (cells self.old) rest →
+            IsScope (cells self.old) scope s → AreAnnotated (names s) exprs.now →
+            Adds (cells self.old) (cells self.new) cell (all_operands s slot
+            (row_of exprs.now) ++ (takes at slot (count (row_of exprs.now)) ++
+            (Exits (label_view label.now) ∷ []))) rest) }
     {
         let exits = self.push(Item::Exits { label, rest })?;
         let cell = self.on_all(scope, slot, at, exprs, exits)?;
@@ -293,7 +380,11 @@ impl<'a> Cells<'a> {
         first: u32,
         rest: u32,
     ) -> Result<(), AllocError>
-        ensures { IfOk result (λ _. (s : List Slotted) → rest < length (cells self.old) → IsScope (cells self.old) scope s → AreHandlersAnnotated (names s) left.now → AddsHandlers (cells self.old) (cells self.new) scope slot handlers.now first rest s left.now) }
+        ensures { IfOk result (λ _. (s : List Slotted) → rest < length (cells self.old) →
+            IsScope (cells self.old) scope s →
+            AreHandlersAnnotated (names s) left.now →
+            AddsHandlers (cells self.old) (cells self.new) scope slot handlers.now first rest s
+            left.now) }
     {
         match left {
             [] => Ok(()),
@@ -321,7 +412,11 @@ impl<'a> Cells<'a> {
         handlers: &'a [Handler],
         rest: u32,
     ) -> Result<u32, AllocError>
-        ensures { IfOk result (λ cell. (s : List Slotted) → IsReady (cells self.old) rest → IsScope (cells self.old) scope s → IsAnnotated (names s) body.now → AreHandlersAnnotated (names s) handlers.now → Adds (cells self.old) (cells self.new) cell (Evaluates s slot (expr_view body.now) ∷ Catches s slot false (handlers_of handlers.now) ∷ []) rest) }
+        ensures { IfOk result (λ cell. (s : List Slotted) → IsReady (cells self.old) rest →
+            IsScope (cells self.old) scope s →
+            IsAnnotated (names s) body.now → AreHandlersAnnotated (names s) handlers.now →
+            Adds (cells self.old) (cells self.new) cell (Evaluates s slot
+            (expr_view body.now) ∷ Catches s slot false (handlers_of handlers.now) ∷ []) rest) }
     {
         let first = number_of(self.len())?;
         self.handlers(scope, slot, handlers, handlers, first, rest)?;
@@ -348,7 +443,14 @@ impl<'a> Cells<'a> {
         handler: &'a Expr,
         rest: u32,
     ) -> Result<u32, AllocError>
-        ensures { IfOk result (λ cell. (s : List Slotted) → IsReady (cells self.old) rest → IsScope (cells self.old) scope s → IsAnnotated (record { name = name.now; type = ty.Val; mutable = false } ∷ names s) handler.now → Adds (cells self.old) (cells self.new) cell (handling s slot name_at name.now (expr_view handler.now)) rest) }
+        ensures { IfOk result (λ cell. (s : List Slotted) → IsReady (cells self.old) rest →
+            IsScope (cells self.old) scope s → IsAnnotated (record {
+              name = name.now;
+              type = ty.Val;
+              mutable = false;
+            } ∷ names s) handler.now →
+            Adds (cells self.old) (cells self.new) cell
+            (handling s slot name_at name.now (expr_view handler.now)) rest) }
     {
         let next = after(slot)?;
         let inner = self.bind(scope, name, Ty::Val, false, slot)?;
@@ -370,7 +472,16 @@ impl<'a> Cells<'a> {
         handler: &'a Expr,
         rest: u32,
     ) -> Result<u32, AllocError>
-        ensures { IfOk result (λ cell. (s : List Slotted) → IsReady (cells self.old) rest → IsScope (cells self.old) scope s → IsAnnotated (names s) body.now → IsAnnotated (record { name = name.now; type = ty.Val; mutable = false } ∷ names s) handler.now → Adds (cells self.old) (cells self.new) cell (Evaluates s slot (expr_view body.now) ∷ Handles s slot name_at name.now (expr_view handler.now) ∷ []) rest) }
+        ensures { IfOk result (λ cell. (s : List Slotted) → IsReady (cells self.old) rest →
+            IsScope (cells self.old) scope s → IsAnnotated (names s) body.now →
+            IsAnnotated (record {
+              name = name.now;
+              type = ty.Val;
+              mutable = false;
+            } ∷ names s) handler.now →
+            Adds (cells self.old) (cells self.new) cell (Evaluates s slot
+            (expr_view body.now) ∷ Handles s slot name_at name.now
+            (expr_view handler.now) ∷ []) rest) }
     {
         let entry = self.handling(scope, slot, name_at, name, handler, rest)?;
         let behind_body = self.push(Item::Handles {
@@ -395,7 +506,12 @@ impl<'a> Cells<'a> {
         body: &'a Expr,
         rest: u32,
     ) -> Result<u32, AllocError>
-        ensures { IfOk result (λ cell. (s : List Slotted) → IsReady (cells self.old) rest → IsScope (cells self.old) scope s → AreBindingsAnnotated (names s) bindings.now → IsAnnotated (with_bindings (names s) (bindings_of bindings.now)) body.now → Adds (cells self.old) (cells self.new) cell (Enters s slot (bindings_of bindings.now) (expr_view body.now) ∷ []) rest) }
+        ensures { IfOk result (λ cell. (s : List Slotted) → IsReady (cells self.old) rest →
+            IsScope (cells self.old) scope s →
+            AreBindingsAnnotated (names s) bindings.now →
+            IsAnnotated (with_bindings (names s) (bindings_of bindings.now)) body.now →
+            Adds (cells self.old) (cells self.new) cell (Enters s slot
+            (bindings_of bindings.now) (expr_view body.now) ∷ []) rest) }
     {
         let cell = self.push(Item::Enters {
             scope,
@@ -415,7 +531,10 @@ impl<'a> Cells<'a> {
         expr: &'a Expr,
         rest: u32,
     ) -> Result<u32, AllocError>
-        ensures { IfOk result (λ cell. (s : List Slotted) → IsReady (cells self.old) rest → IsScope (cells self.old) scope s → IsAnnotated (names s) expr.now → Adds (cells self.old) (cells self.new) cell (tasks_of s slot (expr_view expr.now)) rest) }
+        ensures { IfOk result (λ cell. (s : List Slotted) → IsReady (cells self.old) rest →
+            IsScope (cells self.old) scope s → IsAnnotated (names s) expr.now →
+            Adds (cells self.old) (cells self.new) cell (tasks_of s slot
+            (expr_view expr.now)) rest) }
     {
         let at = expr.at;
         match &expr.form {
@@ -435,9 +554,11 @@ impl<'a> Cells<'a> {
                 arguments,
                 ..
             } => self.app(scope, slot, at, callee, arguments.as_slice(), rest),
-            Form::Extcall { arguments, .. } => {
-                self.on_all(scope, slot, at, arguments.as_slice(), rest)
-            }
+            Form::Extcall {
+                frame,
+                arguments,
+                ..
+            } => self.extcall(scope, slot, at, *frame, arguments.as_slice(), rest),
             Form::Checkbound(bound, index) => {
                 self.checkbound(scope, slot, at, bound, index, rest)
             }

@@ -185,7 +185,8 @@ fn least_of_all(
 /// `None` where none is.
 pub fn first_live(alloc: Global, nodes: &[Node], entry: u32) -> Result<Option<Limits>, AllocError>
     requires { AreLinked nodes.now }
-    ensures { IfOk result (λ told. MatchOption told ((b p u : ℕ) → LeadsToBinding nodes.now b p u entry → ⊥) (λ l. IsFirst nodes.now entry l)) }
+    ensures { IfOk result (λ told. MatchOption told ((b p u : ℕ) →
+        LeadsToBinding nodes.now b p u entry → ⊥) (λ l. IsFirst nodes.now entry l)) }
 {
     if !some_address(nodes) {
         return Ok(None);

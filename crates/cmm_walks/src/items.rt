@@ -17,7 +17,7 @@ pub enum Action {
     Passes { at: u32 },
 }
 
-/// A name and the scope around it, or a task and the cell of those behind it.
+/// A name and the scope around it, or a task and the cell of those after it.
 #[derive(Clone, Copy)]
 pub enum Item<'a> {
     /// No name, and nothing left to do.
@@ -73,7 +73,7 @@ pub enum Item<'a> {
         label: &'a Label,
         rest: u32,
     },
-    /// Behind the body of a catch, or one of its handlers, which begin at the cells from `first` on.
+    /// After the body of a catch, or one of its handlers, which begin at the cells from `first` on.
     Catches {
         scope: u32,
         slot: u32,
@@ -82,7 +82,7 @@ pub enum Item<'a> {
         first: u32,
         rest: u32,
     },
-    /// A handler of a catch, and what is behind the catch.
+    /// A handler of a catch, and what is after the catch.
     Handler {
         scope: u32,
         slot: u32,
@@ -91,7 +91,7 @@ pub enum Item<'a> {
         first: u32,
         rest: u32,
     },
-    /// Behind the body of a try, whose handler begins at the cell `entry`.
+    /// After the body of a try, whose handler begins at the cell `entry`.
     Handles {
         scope: u32,
         slot: u32,
@@ -128,7 +128,8 @@ impl<'a> Cells<'a> {
 
     /// A further cell. That no number is left for it counts as want of memory.
     pub fn push(&mut self, item: Item<'a>) -> Result<u32, AllocError>
-        ensures { IfOk result (λ cell. (cell ≡ length (cells self.old)) × (cells self.new ≡ item.entry ∷ cells self.old)) }
+        ensures { IfOk result (λ cell. (cell ≡ length (cells self.old)) ×
+            (cells self.new ≡ item.entry ∷ cells self.old)) }
     {
         let cell = self.items.len();
         if cell >= u32::MAX as usize {

@@ -2,8 +2,9 @@
 ghost use Rattle.std.specs.Prelude.{◌≡◌, ◌&&◌, not, ℕ, List, Some, length, IfOk, bytes_eq};
 ghost use Rattle.cmm_tree.specs.View.{label_view};
 ghost use Rattle.cmm_tree.specs.declared.expr.Handler as declared_handler;
-ghost use Rattle.cmm_types.specs.Rows.{handlers_of};
-ghost use Rattle.cmm_walks.specs.Walks.{Slotted, Task, same_label, is_bare, handler_for, behind_exit, behind_raise};
+ghost use Rattle.cmm_tree.specs.Rows.{handlers_of};
+ghost use Rattle.cmm_walks.specs.Walks.{Slotted, Task, handler_for, behind_exit, behind_raise};
+ghost use Rattle.cmm_tree.specs.Tree.{same_label, is_bare};
 ghost use Rattle.cmm_walks.specs.Cells.{cells, item_at, scope_at, tasks_at};
 ghost use Rattle.cmm_walks.specs.Sound.{IsSound, IsHeld, HandlersAt, LeadsTo};
 ghost use Rattle.cmm_walks.specs.Leaving.{rest_in, own_handler, exit_rest, raise_rest};
@@ -44,7 +45,8 @@ fn is_bare(label: &Label) -> bool
 /// Whether an exit of this label finds the handler of the other one. A bare one is not visible in the
 /// handlers.
 fn finds(label: &Label, own: &Label, in_handler: bool) -> bool
-    ensures { result ≡ (same_label (label_view label.now) (label_view own.now) && not (is_bare (label_view label.now) && in_handler)) }
+    ensures { result ≡ (same_label (label_view label.now) (label_view own.now) && not (is_bare
+        (label_view label.now) && in_handler)) }
 {
     let same = same_label(label, own);
     let bare = is_bare(label);
@@ -58,7 +60,12 @@ fn find_handler(
     handlers: &[Handler],
     first: u32,
 ) -> Result<Option<u32>, AllocError>
-    ensures { IfOk result (λ found. (count : ℕ) (tasks : ℕ → List Task) (s : List Slotted) (slot : ℕ) (all : List declared_handler.Handler) (behind : List Task) → HandlersAt count tasks first s slot all behind handlers.now → LeadsTo count tasks found (handler_for (label_view label.now) s slot in_handler (handlers_of all) behind (handlers_of handlers.now))) }
+    ensures { IfOk result (λ found. (count : ℕ) (tasks : ℕ →
+        List Task) (s : List Slotted) (slot : ℕ) (all : List declared_handler.Handler)
+        (behind : List Task) → HandlersAt count tasks first s slot all behind handlers.now →
+        LeadsTo count tasks found (handler_for
+        (label_view label.now) s slot in_handler (handlers_of all) behind
+        (handlers_of handlers.now))) }
 {
     match handlers {
         [] => Ok(None),
@@ -75,7 +82,9 @@ fn find_handler(
 
 /// The handler that the catch of this cell has for the label.
 fn own_handler(label: &Label, item: Item<'_>) -> Result<Option<u32>, AllocError>
-    ensures { IfOk result (λ found. (count : ℕ) (scopes : ℕ → List Slotted) (tasks : ℕ → List Task) → IsHeld count scopes tasks item.entry → LeadsTo count tasks found (own_handler (label_view label.now) scopes tasks item.entry)) }
+    ensures { IfOk result (λ found. (count : ℕ) (scopes : ℕ → List Slotted) (tasks : ℕ →
+        List Task) → IsHeld count scopes tasks item.entry →
+        LeadsTo count tasks found (own_handler (label_view label.now) scopes tasks item.entry)) }
 {
     match item {
         Item::Catches {
@@ -93,7 +102,7 @@ fn own_handler(label: &Label, item: Item<'_>) -> Result<Option<u32>, AllocError>
     }
 }
 
-/// The cell behind the task of this one.
+/// The cell after the task of this one.
 fn rest_of(item: Item<'_>) -> Option<u32>
     ensures { result ≡ rest_in item.entry }
 {
@@ -118,7 +127,9 @@ impl<'a> Cells<'a> {
     /// The cell to which an exit leads from this one, if a handler of its label is visible.
     #[cycle(exit)]
     pub fn exit(&self, label: &Label, cell: u32) -> Result<Option<u32>, AllocError>
-        ensures { IfOk result (λ found. IsSound (cells self.now) → LeadsTo (length (cells self.now)) (tasks_at (cells self.now)) found (behind_exit (label_view label.now) (tasks_at (cells self.now) cell))) }
+        ensures { IfOk result (λ found. IsSound (cells self.now) →
+            LeadsTo (length (cells self.now)) (tasks_at (cells self.now)) found
+            (behind_exit (label_view label.now) (tasks_at (cells self.now) cell))) }
     {
         match self.get(cell) {
             None => Ok(None),
@@ -128,7 +139,10 @@ impl<'a> Cells<'a> {
 
     #[cycle(exit)]
     fn exit_in(&self, label: &Label, cell: u32, item: Item<'a>) -> Result<Option<u32>, AllocError>
-        ensures { IfOk result (λ found. IsSound (cells self.now) → item_at (cells self.now) cell ≡ Some item.entry → LeadsTo (length (cells self.now)) (tasks_at (cells self.now)) found (behind_exit (label_view label.now) (tasks_at (cells self.now) cell))) }
+        ensures { IfOk result (λ found. IsSound (cells self.now) →
+            item_at (cells self.now) cell ≡ Some item.entry →
+            LeadsTo (length (cells self.now)) (tasks_at (cells self.now)) found
+            (behind_exit (label_view label.now) (tasks_at (cells self.now) cell))) }
     {
         let own = own_handler(label, item)?;
         match own {
@@ -144,7 +158,10 @@ impl<'a> Cells<'a> {
         cell: u32,
         item: Item<'a>,
     ) -> Result<Option<u32>, AllocError>
-        ensures { IfOk result (λ found. IsSound (cells self.now) → item_at (cells self.now) cell ≡ Some item.entry → LeadsTo (length (cells self.now)) (tasks_at (cells self.now)) found (exit_rest (label_view label.now) (tasks_at (cells self.now)) (rest_in item.entry))) }
+        ensures { IfOk result (λ found. IsSound (cells self.now) →
+            item_at (cells self.now) cell ≡ Some item.entry →
+            LeadsTo (length (cells self.now)) (tasks_at (cells self.now)) found
+            (exit_rest (label_view label.now) (tasks_at (cells self.now)) (rest_in item.entry))) }
     {
         match rest_of(item) {
             None => Ok(None),
@@ -160,7 +177,8 @@ impl<'a> Cells<'a> {
     /// The cell to which a raise leads from this one, if a try of the function is active.
     #[cycle(raise)]
     pub fn raise(&self, cell: u32) -> Option<u32>
-        ensures { IsSound (cells self.now) → LeadsTo (length (cells self.now)) (tasks_at (cells self.now)) result (behind_raise (tasks_at (cells self.now) cell)) }
+        ensures { IsSound (cells self.now) → LeadsTo (length (cells self.now)) (tasks_at
+            (cells self.now)) result (behind_raise (tasks_at (cells self.now) cell)) }
     {
         match self.get(cell) {
             None => None,
@@ -170,7 +188,9 @@ impl<'a> Cells<'a> {
 
     #[cycle(raise)]
     fn raise_in(&self, cell: u32, item: Item<'a>) -> Option<u32>
-        ensures { IsSound (cells self.now) → item_at (cells self.now) cell ≡ Some item.entry → LeadsTo (length (cells self.now)) (tasks_at (cells self.now)) result (behind_raise (tasks_at (cells self.now) cell)) }
+        ensures { IsSound (cells self.now) → item_at (cells self.now) cell ≡ Some item.entry →
+            LeadsTo (length (cells self.now)) (tasks_at (cells self.now)) result
+            (behind_raise (tasks_at (cells self.now) cell)) }
     {
         match item {
             Item::Handles { entry, .. } => Some(entry),
@@ -180,7 +200,9 @@ impl<'a> Cells<'a> {
 
     #[cycle(raise)]
     fn raise_behind(&self, cell: u32, item: Item<'a>) -> Option<u32>
-        ensures { IsSound (cells self.now) → item_at (cells self.now) cell ≡ Some item.entry → LeadsTo (length (cells self.now)) (tasks_at (cells self.now)) result (raise_rest (tasks_at (cells self.now)) (rest_in item.entry)) }
+        ensures { IsSound (cells self.now) → item_at (cells self.now) cell ≡ Some item.entry →
+            LeadsTo (length (cells self.now)) (tasks_at (cells self.now)) result
+            (raise_rest (tasks_at (cells self.now)) (rest_in item.entry)) }
     {
         match rest_of(item) {
             None => None,

@@ -12,7 +12,7 @@ use std::alloc::{AllocError, Global};
 /// What a walk does at a node.
 #[derive(Clone, Copy, PartialEq, Eq, Debug)]
 pub enum Step {
-    /// Nothing that tells.
+    /// No event.
     Quiet,
     /// Something is bound to a slot, at this place: an address or not.
     Binds { slot: u32, address: bool, at: u32 },
@@ -39,9 +39,10 @@ fn step_of(action: Action) -> Step
     }
 }
 
-/// A node that tells this, with one node behind it.
+/// A node with this event, with one node after it.
 pub fn telling(alloc: Global, action: Action, cell: u32) -> Result<Node, AllocError>
-    ensures { IfOk result (λ node. (shown node.step ≡ event_of action ∷ []) × (contents node.next ≡ cell ∷ [])) }
+    ensures { IfOk result (λ node. (shown node.step ≡ event_of action ∷ []) ×
+        (contents node.next ≡ cell ∷ [])) }
 {
     let mut next = Vec::new(alloc);
     next.push(cell)?;
@@ -51,7 +52,7 @@ pub fn telling(alloc: Global, action: Action, cell: u32) -> Result<Node, AllocEr
     })
 }
 
-/// A node that tells nothing, with no node behind it.
+/// A node without an event, with no node after it.
 pub fn last(alloc: Global) -> Node
     ensures { (result.step ≡ steps.Quiet) × (contents result.next ≡ []) }
 {
@@ -61,7 +62,7 @@ pub fn last(alloc: Global) -> Node
     }
 }
 
-/// A node that tells nothing, with one node behind it.
+/// A node without an event, with one node after it.
 pub fn quiet(alloc: Global, cell: u32) -> Result<Node, AllocError>
     ensures { IfOk result (λ node. (node.step ≡ steps.Quiet) × (contents node.next ≡ cell ∷ [])) }
 {
@@ -73,7 +74,7 @@ pub fn quiet(alloc: Global, cell: u32) -> Result<Node, AllocError>
     })
 }
 
-/// The same with two nodes behind it.
+/// The same with two nodes after it.
 pub fn forked(alloc: Global, first: u32, second: u32) -> Result<Node, AllocError>
     ensures { IfOk result (λ node. (node.step ≡ steps.Quiet) × (contents node.next ≡ first ∷ second ∷ [])) }
 {
@@ -86,7 +87,7 @@ pub fn forked(alloc: Global, first: u32, second: u32) -> Result<Node, AllocError
     })
 }
 
-/// A node that tells nothing, with these nodes behind it.
+/// A node without an event, with these nodes after it.
 pub fn any_of(next: Vec<u32>) -> Node
     ensures { (result.step ≡ steps.Quiet) × (contents result.next ≡ next.items) }
 {

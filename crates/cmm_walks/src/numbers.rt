@@ -10,7 +10,7 @@ use bs_words::{Comp, Ty};
 use cmm_tree::Declared;
 use std::alloc::AllocError;
 
-/// The number behind this one. That there is none counts as want of memory.
+/// The number after this one. That there is none counts as want of memory.
 pub fn after(number: u32) -> Result<u32, AllocError>
     ensures { IfOk result (λ next. next ≡ suc number) }
 {
@@ -20,7 +20,7 @@ pub fn after(number: u32) -> Result<u32, AllocError>
     Ok(number + 1)
 }
 
-/// The slot that lies `count` behind this one.
+/// The slot that lies `count` after this one.
 pub fn behind(slot: u32, count: usize) -> Result<u32, AllocError>
     ensures { IfOk result (λ next. next ≡ slot + count) }
 {

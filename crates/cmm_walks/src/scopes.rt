@@ -31,7 +31,13 @@ impl<'a> Cells<'a> {
         mutable: bool,
         slot: u32,
     ) -> Result<u32, AllocError>
-        ensures { IfOk result (λ cell. (s : List Slotted) → IsSound (cells self.old) → IsScope (cells self.old) outer s → Opens (cells self.old) (cells self.new) cell (record { scoped = record { name = name.now; type = ty; mutable = mutable }; slot = slot } ∷ s)) }
+        ensures { IfOk result (λ cell. (s : List Slotted) → IsSound (cells self.old) →
+            IsScope (cells self.old) outer s →
+            Opens (cells self.old) (cells self.new) cell
+            (record {
+              scoped = record { name = name.now; type = ty; mutable = mutable };
+              slot = slot;
+            } ∷ s)) }
     {
         let cell = self.push(Item::Named {
             name,
@@ -50,7 +56,10 @@ impl<'a> Cells<'a> {
         slot: u32,
         params: &'a [Param],
     ) -> Result<u32, AllocError>
-        ensures { IfOk result (λ cell. (s : List Slotted) → IsSound (cells self.old) → IsScope (cells self.old) scope s → Opens (cells self.old) (cells self.new) cell (with_slots slot (params_view params.now) s)) }
+        ensures { IfOk result (λ cell. (s : List Slotted) → IsSound (cells self.old) →
+            IsScope (cells self.old) scope s →
+            Opens (cells self.old) (cells self.new) cell (with_slots slot
+            (params_view params.now) s)) }
     {
         match params {
             [] => Ok(scope),
@@ -67,7 +76,8 @@ impl<'a> Cells<'a> {
     /// The innermost binding of the name.
     #[cycle(find)]
     pub fn find(&self, scope: u32, name: &Name) -> Option<Found>
-        ensures { (s : List Slotted) → IsSound (cells self.now) → IsScope (cells self.now) scope s → result ≡ found_in s name.now }
+        ensures { (s : List Slotted) → IsSound (cells self.now) →
+            IsScope (cells self.now) scope s → result ≡ found_in s name.now }
     {
         match self.get(scope) {
             None => None,
@@ -78,7 +88,9 @@ impl<'a> Cells<'a> {
     /// The innermost binding of the name, in the scope that this cell is.
     #[cycle(find)]
     fn find_in(&self, scope: u32, item: Item<'a>, name: &Name) -> Option<Found>
-        ensures { (s : List Slotted) → IsSound (cells self.now) → IsScope (cells self.now) scope s → item_at (cells self.now) scope ≡ Some item.entry → result ≡ found_in s name.now }
+        ensures { (s : List Slotted) → IsSound (cells self.now) →
+            IsScope (cells self.now) scope s →
+            item_at (cells self.now) scope ≡ Some item.entry → result ≡ found_in s name.now }
     {
         match item {
             Item::Named {
@@ -102,7 +114,8 @@ impl<'a> Cells<'a> {
 
     /// Whether it is a name that is not mutable.
     fn is_immutable(&self, scope: u32, name: &Name) -> bool
-        ensures { (s : List Slotted) → IsSound (cells self.now) → IsScope (cells self.now) scope s → result ≡ is_immutable (names s) name.now }
+        ensures { (s : List Slotted) → IsSound (cells self.now) →
+            IsScope (cells self.now) scope s → result ≡ is_immutable (names s) name.now }
     {
         match self.find(scope, name) {
             None => false,
@@ -112,7 +125,8 @@ impl<'a> Cells<'a> {
 
     /// Whether it is an integer, a symbol, an immutable name, or an operator over two light expressions.
     fn is_light(&self, scope: u32, expr: &Expr) -> bool
-        ensures { (s : List Slotted) → IsSound (cells self.now) → IsScope (cells self.now) scope s → result ≡ is_light (names s) (expr_view expr.now) }
+        ensures { (s : List Slotted) → IsSound (cells self.now) →
+            IsScope (cells self.now) scope s → result ≡ is_light (names s) (expr_view expr.now) }
     {
         match &expr.form {
             Form::Integer(_) => true,
@@ -129,7 +143,9 @@ impl<'a> Cells<'a> {
 
     /// Whether it is a light expression whose outermost operator is `+a`.
     pub fn is_light_address(&self, scope: u32, expr: &Expr) -> bool
-        ensures { (s : List Slotted) → IsSound (cells self.now) → IsScope (cells self.now) scope s → result ≡ is_light_address (names s) (expr_view expr.now) }
+        ensures { (s : List Slotted) → IsSound (cells self.now) →
+            IsScope (cells self.now) scope s →
+            result ≡ is_light_address (names s) (expr_view expr.now) }
     {
         match &expr.form {
             Form::Operator(IntOp::AddA, left, right) => {

@@ -3,7 +3,7 @@ ghost use Rattle.std.specs.Prelude.{◌+◌, ◌∷◌, ◌++◌, [], List, leng
 ghost use Rattle.cmm_tree.specs.View.{expr_view, params_view, label_view};
 ghost use Rattle.cmm_types.specs.Annotated.{IsAnnotated};
 ghost use Rattle.cmm_types.specs.Lists.{AreBindingsAnnotated, AreCasesAnnotated, AreHandlersAnnotated};
-ghost use Rattle.cmm_types.specs.Rows.{bindings_of, cases_of};
+ghost use Rattle.cmm_tree.specs.Rows.{bindings_of, cases_of};
 ghost use Rattle.cmm_types.specs.Types.{with_bindings, with_parameters};
 ghost use Rattle.cmm_walks.specs.Walks.{Slotted, Evaluates, Enters, OneOf, MayRaise, Raises, Exits, names, bodies, parameters_bound};
 ghost use Rattle.cmm_walks.specs.Cells.{cells, scope_at, tasks_at, tasks_in, handler_tasks};
@@ -25,7 +25,10 @@ impl<'a> Cells<'a> {
         expr: &'a Expr,
         rest: u32,
     ) -> Result<Node, AllocError>
-        ensures { IfOk result (λ node. (s : List Slotted) → IsReady (cells self.old) rest → IsScope (cells self.old) scope s → IsAnnotated (names s) expr.now → Steps (cells self.old) (cells self.new) (Evaluates s slot (expr_view expr.now) ∷ tasks_at (cells self.old) rest) node) }
+        ensures { IfOk result (λ node. (s : List Slotted) → IsReady (cells self.old) rest →
+            IsScope (cells self.old) scope s → IsAnnotated (names s) expr.now →
+            Steps (cells self.old) (cells self.new) (Evaluates s slot
+            (expr_view expr.now) ∷ tasks_at (cells self.old) rest) node) }
     {
         let cell = self.form(scope, slot, expr, rest)?;
         let node = quiet(alloc, cell)?;
@@ -42,7 +45,13 @@ impl<'a> Cells<'a> {
         body: &'a Expr,
         rest: u32,
     ) -> Result<Node, AllocError>
-        ensures { IfOk result (λ node. (s : List Slotted) → IsReady (cells self.old) rest → IsScope (cells self.old) scope s → AreBindingsAnnotated (names s) bindings.now → IsAnnotated (with_bindings (names s) (bindings_of bindings.now)) body.now → Steps (cells self.old) (cells self.new) (Enters s slot (bindings_of bindings.now) (expr_view body.now) ∷ tasks_at (cells self.old) rest) node) }
+        ensures { IfOk result (λ node. (s : List Slotted) → IsReady (cells self.old) rest →
+            IsScope (cells self.old) scope s →
+            AreBindingsAnnotated (names s) bindings.now →
+            IsAnnotated (with_bindings (names s) (bindings_of bindings.now)) body.now →
+            Steps (cells self.old) (cells self.new) (Enters s slot
+            (bindings_of bindings.now) (expr_view body.now) ∷ tasks_at
+            (cells self.old) rest) node) }
     {
         let cell = self.entering(scope, slot, bindings, body, rest)?;
         let node = quiet(alloc, cell)?;
@@ -59,7 +68,12 @@ impl<'a> Cells<'a> {
         on_false: &'a Expr,
         rest: u32,
     ) -> Result<Node, AllocError>
-        ensures { IfOk result (λ node. (s : List Slotted) → IsReady (cells self.old) rest → IsScope (cells self.old) scope s → IsAnnotated (names s) on_true.now → IsAnnotated (names s) on_false.now → Steps (cells self.old) (cells self.new) (OneOf s slot (expr_view on_true.now ∷ expr_view on_false.now ∷ []) ∷ tasks_at (cells self.old) rest) node) }
+        ensures { IfOk result (λ node. (s : List Slotted) → IsReady (cells self.old) rest →
+            IsScope (cells self.old) scope s → IsAnnotated (names s) on_true.now →
+            IsAnnotated (names s) on_false.now →
+            Steps (cells self.old) (cells self.new) (OneOf s slot
+            (expr_view on_true.now ∷ expr_view on_false.now ∷ []) ∷ tasks_at
+            (cells self.old) rest) node) }
     {
         let first = self.eval(scope, slot, on_true, rest)?;
         let second = self.eval(scope, slot, on_false, rest)?;
@@ -67,7 +81,7 @@ impl<'a> Cells<'a> {
         Ok(node)
     }
 
-    /// Cells for the bodies of the cases, each with `rest` behind it.
+    /// Cells for the bodies of the cases, each with `rest` after it.
     fn bodies(
         &mut self,
         scope: u32,
@@ -76,7 +90,11 @@ impl<'a> Cells<'a> {
         rest: u32,
         next: &mut Vec<u32>,
     ) -> Result<(), AllocError>
-        ensures { IfOk result (λ _. (s : List Slotted) → IsReady (cells self.old) rest → IsScope (cells self.old) scope s → AreCasesAnnotated (names s) cases.now → AddsBodies (cells self.old) (cells self.new) s slot (tasks_at (cells self.old) rest) next.old.items next.new.items (bodies (cases_of cases.now))) }
+        ensures { IfOk result (λ _. (s : List Slotted) → IsReady (cells self.old) rest →
+            IsScope (cells self.old) scope s →
+            AreCasesAnnotated (names s) cases.now →
+            AddsBodies (cells self.old) (cells self.new) s slot (tasks_at
+            (cells self.old) rest) next.old.items next.new.items (bodies (cases_of cases.now))) }
     {
         match cases {
             [] => Ok(()),
@@ -98,7 +116,10 @@ impl<'a> Cells<'a> {
         cases: &'a [Case],
         rest: u32,
     ) -> Result<Node, AllocError>
-        ensures { IfOk result (λ node. (s : List Slotted) → IsReady (cells self.old) rest → IsScope (cells self.old) scope s → AreCasesAnnotated (names s) cases.now → Steps (cells self.old) (cells self.new) (OneOf s slot (bodies (cases_of cases.now)) ∷ tasks_at (cells self.old) rest) node) }
+        ensures { IfOk result (λ node. (s : List Slotted) → IsReady (cells self.old) rest →
+            IsScope (cells self.old) scope s → AreCasesAnnotated (names s) cases.now →
+            Steps (cells self.old) (cells self.new) (OneOf s slot (bodies
+            (cases_of cases.now)) ∷ tasks_at (cells self.old) rest) node) }
     {
         let mut next = Vec::new(alloc);
         self.bodies(scope, slot, cases, rest, &mut next)?;
@@ -107,7 +128,9 @@ impl<'a> Cells<'a> {
 
     /// The node of a call or a test.
     fn go_on_or_raise(&mut self, alloc: Global, rest: u32) -> Result<Node, AllocError>
-        ensures { IfOk result (λ node. IsReady (cells self.old) rest → Steps (cells self.old) (cells self.new) (MayRaise ∷ tasks_at (cells self.old) rest) node) }
+        ensures { IfOk result (λ node. IsReady (cells self.old) rest →
+            Steps (cells self.old) (cells self.new) (MayRaise ∷ tasks_at
+            (cells self.old) rest) node) }
     {
         let raises = self.raises(rest)?;
         let node = forked(alloc, rest, raises)?;
@@ -116,7 +139,9 @@ impl<'a> Cells<'a> {
 
     /// The node of a raise.
     fn leave_by_raise(&self, alloc: Global, rest: u32) -> Result<Node, AllocError>
-        ensures { IfOk result (λ node. IsSound (cells self.now) → Steps (cells self.now) (cells self.now) (Raises ∷ tasks_at (cells self.now) rest) node) }
+        ensures { IfOk result (λ node. IsSound (cells self.now) →
+            Steps (cells self.now) (cells self.now) (Raises ∷ tasks_at
+            (cells self.now) rest) node) }
     {
         match self.raise(rest) {
             None => Ok(last(alloc)),
@@ -129,7 +154,9 @@ impl<'a> Cells<'a> {
 
     /// The node of an exit.
     fn leave_by_exit(&self, alloc: Global, label: &Label, rest: u32) -> Result<Node, AllocError>
-        ensures { IfOk result (λ node. IsSound (cells self.now) → Steps (cells self.now) (cells self.now) (Exits (label_view label.now) ∷ tasks_at (cells self.now) rest) node) }
+        ensures { IfOk result (λ node. IsSound (cells self.now) →
+            Steps (cells self.now) (cells self.now) (Exits
+            (label_view label.now) ∷ tasks_at (cells self.now) rest) node) }
     {
         let found = self.exit(label, rest)?;
         match found {
@@ -153,7 +180,11 @@ impl<'a> Cells<'a> {
         body: &'a Expr,
         caught: u32,
     ) -> Result<Node, AllocError>
-        ensures { IfOk result (λ node. (s : List Slotted) → IsReady (cells self.old) caught → IsScope (cells self.old) inner s → IsAnnotated (names s) body.now → Steps (cells self.old) (cells self.new) (parameters_bound slot (params_view (param.now ∷ others.now)) ++ (Evaluates s free (expr_view body.now) ∷ tasks_at (cells self.old) caught)) node) }
+        ensures { IfOk result (λ node. (s : List Slotted) → IsReady (cells self.old) caught →
+            IsScope (cells self.old) inner s → IsAnnotated (names s) body.now →
+            Steps (cells self.old) (cells self.new) (parameters_bound slot
+            (params_view (param.now ∷ others.now)) ++ (Evaluates s free
+            (expr_view body.now) ∷ tasks_at (cells self.old) caught)) node) }
     {
         let next = after(slot)?;
         let evaluated = self.eval(inner, free, body, caught)?;
@@ -174,7 +205,12 @@ impl<'a> Cells<'a> {
         body: &'a Expr,
         caught: u32,
     ) -> Result<Node, AllocError>
-        ensures { IfOk result (λ node. (s : List Slotted) → IsReady (cells self.old) caught → IsScope (cells self.old) inner s → IsAnnotated (names s) body.now → Steps (cells self.old) (cells self.new) (parameters_bound slot (params_view params.now) ++ (Evaluates s (slot + length (params_view params.now)) (expr_view body.now) ∷ tasks_at (cells self.old) caught)) node) }
+        ensures { IfOk result (λ node. (s : List Slotted) → IsReady (cells self.old) caught →
+            IsScope (cells self.old) inner s → IsAnnotated (names s) body.now →
+            Steps (cells self.old) (cells self.new) (parameters_bound slot
+            (params_view params.now) ++ (Evaluates s (slot + length
+            (params_view params.now)) (expr_view body.now) ∷ tasks_at
+            (cells self.old) caught)) node) }
     {
         let free = behind(slot, params.len())?;
         match params {
@@ -196,7 +232,15 @@ impl<'a> Cells<'a> {
         first: u32,
         rest: u32,
     ) -> Result<Node, AllocError>
-        ensures { IfOk result (λ node. (s : List Slotted) → IsReady (cells self.old) rest → IsScope (cells self.old) scope s → AreHandlersAnnotated (names s) handlers.now → HandlersAt (length (cells self.old)) (tasks_at (cells self.old)) first s slot handlers.now (tasks_at (cells self.old) rest) handlers.now → IsAnnotated (with_parameters (params_view own.now.params.items) (names s)) own.now.body → Steps (cells self.old) (cells self.new) (handler_tasks s slot handlers.now (tasks_at (cells self.old) rest) own.now) node) }
+        ensures { IfOk result (λ node. (s : List Slotted) → IsReady (cells self.old) rest →
+            IsScope (cells self.old) scope s →
+            AreHandlersAnnotated (names s) handlers.now →
+            HandlersAt (length (cells self.old)) (tasks_at
+            (cells self.old)) first s slot handlers.now (tasks_at
+            (cells self.old) rest) handlers.now →
+            IsAnnotated (with_parameters (params_view own.now.params.items)
+            (names s)) own.now.body → Steps (cells self.old) (cells self.new)
+            (handler_tasks s slot handlers.now (tasks_at (cells self.old) rest) own.now) node) }
     {
         let in_handler = true;
         let caught = self.push(Item::Catches {
@@ -215,7 +259,12 @@ impl<'a> Cells<'a> {
 
     /// The node of a cell.
     pub fn step(&mut self, alloc: Global, item: Item<'a>) -> Result<Node, AllocError>
-        ensures { IfOk result (λ node. IsSound (cells self.old) → IsBelow (length (cells self.old)) item.entry → IsHeld (length (cells self.old)) (scope_at (cells self.old)) (tasks_at (cells self.old)) item.entry → Steps (cells self.old) (cells self.new) (tasks_in (scope_at (cells self.old)) (tasks_at (cells self.old)) item.entry) node) }
+        ensures { IfOk result (λ node. IsSound (cells self.old) →
+            IsBelow (length (cells self.old)) item.entry →
+            IsHeld (length (cells self.old)) (scope_at (cells self.old)) (tasks_at
+            (cells self.old)) item.entry →
+            Steps (cells self.old) (cells self.new) (tasks_in (scope_at
+            (cells self.old)) (tasks_at (cells self.old)) item.entry) node) }
     {
         match item {
             Item::Empty => Ok(last(alloc)),

@@ -27,7 +27,10 @@ pub struct Table {
 impl<'a> Cells<'a> {
     /// The cell at which a walk of the function begins.
     fn begin(&mut self, function: &'a Function) -> Result<u32, AllocError>
-        ensures { IfOk result (λ cell. cells self.old ≡ [] → IsAnnotated (with_parameters (params_view (contents function.now.params)) []) function.now.body → Begins (cells self.new) cell (walk_tasks (function_view function.now))) }
+        ensures { IfOk result (λ cell. cells self.old ≡ [] →
+            IsAnnotated (with_parameters (params_view
+            (contents function.now.params)) []) function.now.body →
+            Begins (cells self.new) cell (walk_tasks (function_view function.now))) }
     {
         let params = function.params.as_slice();
         let end = self.push(Item::Empty)?;
@@ -40,7 +43,8 @@ impl<'a> Cells<'a> {
 
     /// The nodes of all cells, and of those that come with them.
     fn nodes(&mut self, alloc: Global) -> Result<Vec<Node>, AllocError>
-        ensures { IfOk result (λ nodes. IsSound (cells self.old) → Filled (cells self.old) (cells self.new) nodes.items (length (cells self.new))) }
+        ensures { IfOk result (λ nodes. IsSound (cells self.old) →
+            Filled (cells self.old) (cells self.new) nodes.items (length (cells self.new))) }
     {
         let mut nodes = Vec::new(alloc);
         let mut done: u32 = 0;
@@ -55,9 +59,12 @@ impl<'a> Cells<'a> {
 
 /// The table of a function whose nodes hold their types.
 pub fn make_table(alloc: Global, function: &Function) -> Result<Table, AllocError>
-    requires { IsAnnotated (with_parameters (params_view (contents function.now.params)) []) function.now.body }
+    requires { IsAnnotated (with_parameters (params_view
+        (contents function.now.params)) []) function.now.body }
     ensures linked { IfOk result (λ table. AreLinked table.nodes.items) }
-    ensures live { IfOk result (λ table. (bound point used : ℕ) → IsLiveIn (function_view function.now) bound point used ↔ LeadsToBinding table.nodes.items bound point used table.entry) }
+    ensures live { IfOk result (λ table. (bound point used : ℕ) →
+        IsLiveIn (function_view function.now) bound point used ↔ LeadsToBinding
+        table.nodes.items bound point used table.entry) }
 {
     let mut cells = Cells::new(alloc);
     let entry = cells.begin(function)?;

@@ -4,7 +4,7 @@ ghost use Rattle.cmm_tree.specs.View.{expr_view, params_view};
 ghost use Rattle.cmm_types.specs.Annotated.{IsAnnotated};
 ghost use Rattle.cmm_types.specs.Light.{is_light_address};
 ghost use Rattle.cmm_types.specs.Lists.{AreAnnotated, AreBindingsAnnotated};
-ghost use Rattle.cmm_types.specs.Rows.{row_of, bindings_of};
+ghost use Rattle.cmm_tree.specs.Rows.{row_of, bindings_of};
 ghost use Rattle.cmm_types.specs.Types.{with_bindings};
 ghost use Rattle.cmm_walks.specs.Walks.{Slotted, Does, Evaluates, names, first_tasks, operand, takes, waiting, filled, all_operands, in_order, parameters_bound, entering};
 ghost use Rattle.cmm_walks.specs.Cells.{cells, event_of};
@@ -18,7 +18,8 @@ use std::alloc::AllocError;
 impl<'a> Cells<'a> {
     /// The event comes.
     pub fn does(&mut self, action: Action, rest: u32) -> Result<u32, AllocError>
-        ensures { IfOk result (λ cell. IsReady (cells self.old) rest → Adds (cells self.old) (cells self.new) cell (Does (event_of action) ∷ []) rest) }
+        ensures { IfOk result (λ cell. IsReady (cells self.old) rest →
+            Adds (cells self.old) (cells self.new) cell (Does (event_of action) ∷ []) rest) }
     {
         let cell = self.push(Item::Does { action, rest })?;
         Ok(cell)
@@ -32,7 +33,10 @@ impl<'a> Cells<'a> {
         expr: &'a Expr,
         rest: u32,
     ) -> Result<u32, AllocError>
-        ensures { IfOk result (λ cell. (s : List Slotted) → IsReady (cells self.old) rest → IsScope (cells self.old) scope s → IsAnnotated (names s) expr.now → Adds (cells self.old) (cells self.new) cell (Evaluates s slot (expr_view expr.now) ∷ []) rest) }
+        ensures { IfOk result (λ cell. (s : List Slotted) → IsReady (cells self.old) rest →
+            IsScope (cells self.old) scope s → IsAnnotated (names s) expr.now →
+            Adds (cells self.old) (cells self.new) cell (Evaluates s slot
+            (expr_view expr.now) ∷ []) rest) }
     {
         let cell = self.push(Item::Evaluates {
             scope,
@@ -52,7 +56,10 @@ impl<'a> Cells<'a> {
         expr: &'a Expr,
         rest: u32,
     ) -> Result<u32, AllocError>
-        ensures { IfOk result (λ cell. (s : List Slotted) → IsReady (cells self.old) rest → IsScope (cells self.old) scope s → IsAnnotated (names s) expr.now → Adds (cells self.old) (cells self.new) cell (operand s free slot (expr_view expr.now)) rest) }
+        ensures { IfOk result (λ cell. (s : List Slotted) → IsReady (cells self.old) rest →
+            IsScope (cells self.old) scope s → IsAnnotated (names s) expr.now →
+            Adds (cells self.old) (cells self.new) cell (operand s free slot
+            (expr_view expr.now)) rest) }
     {
         let address = is_address(expr.ty);
         let at = expr.at;
@@ -63,7 +70,8 @@ impl<'a> Cells<'a> {
 
     /// The operation at this place takes so many operands, the first of them in this slot.
     pub fn takes(&mut self, at: u32, slot: u32, count: usize, rest: u32) -> Result<u32, AllocError>
-        ensures { IfOk result (λ cell. IsReady (cells self.old) rest → Adds (cells self.old) (cells self.new) cell (takes at slot count) rest) }
+        ensures { IfOk result (λ cell. IsReady (cells self.old) rest →
+            Adds (cells self.old) (cells self.new) cell (takes at slot count) rest) }
     {
         if count == 0 {
             return Ok(rest);
@@ -83,7 +91,10 @@ impl<'a> Cells<'a> {
         expr: &'a Expr,
         rest: u32,
     ) -> Result<u32, AllocError>
-        ensures { IfOk result (λ cell. (s : List Slotted) → IsReady (cells self.old) rest → IsScope (cells self.old) scope s → IsAnnotated (names s) expr.now → Adds (cells self.old) (cells self.new) cell (first_tasks (is_light_address (names s) (expr_view expr.now)) [] (operand s free slot (expr_view expr.now))) rest) }
+        ensures { IfOk result (λ cell. (s : List Slotted) → IsReady (cells self.old) rest →
+            IsScope (cells self.old) scope s → IsAnnotated (names s) expr.now →
+            Adds (cells self.old) (cells self.new) cell (first_tasks (is_light_address
+            (names s) (expr_view expr.now)) [] (operand s free slot (expr_view expr.now))) rest) }
     {
         if self.is_light_address(scope, expr) {
             return Ok(rest);
@@ -101,7 +112,10 @@ impl<'a> Cells<'a> {
         expr: &'a Expr,
         rest: u32,
     ) -> Result<u32, AllocError>
-        ensures { IfOk result (λ cell. (s : List Slotted) → IsReady (cells self.old) rest → IsScope (cells self.old) scope s → IsAnnotated (names s) expr.now → Adds (cells self.old) (cells self.new) cell (first_tasks (is_light_address (names s) (expr_view expr.now)) (operand s free slot (expr_view expr.now)) []) rest) }
+        ensures { IfOk result (λ cell. (s : List Slotted) → IsReady (cells self.old) rest →
+            IsScope (cells self.old) scope s → IsAnnotated (names s) expr.now →
+            Adds (cells self.old) (cells self.new) cell (first_tasks (is_light_address
+            (names s) (expr_view expr.now)) (operand s free slot (expr_view expr.now)) []) rest) }
     {
         if self.is_light_address(scope, expr) {
             let cell = self.operand(scope, free, slot, expr, rest)?;
@@ -119,7 +133,10 @@ impl<'a> Cells<'a> {
         exprs: &'a [Expr],
         rest: u32,
     ) -> Result<u32, AllocError>
-        ensures { IfOk result (λ cell. (s : List Slotted) → IsReady (cells self.old) rest → IsScope (cells self.old) scope s → AreAnnotated (names s) exprs.now → Adds (cells self.old) (cells self.new) cell (waiting s free slot (row_of exprs.now)) rest) }
+        ensures { IfOk result (λ cell. (s : List Slotted) → IsReady (cells self.old) rest →
+            IsScope (cells self.old) scope s → AreAnnotated (names s) exprs.now →
+            Adds (cells self.old) (cells self.new) cell (waiting s free slot
+            (row_of exprs.now)) rest) }
     {
         match exprs {
             [] => Ok(rest),
@@ -141,7 +158,10 @@ impl<'a> Cells<'a> {
         exprs: &'a [Expr],
         rest: u32,
     ) -> Result<u32, AllocError>
-        ensures { IfOk result (λ cell. (s : List Slotted) → IsReady (cells self.old) rest → IsScope (cells self.old) scope s → AreAnnotated (names s) exprs.now → Adds (cells self.old) (cells self.new) cell (filled s free slot (row_of exprs.now)) rest) }
+        ensures { IfOk result (λ cell. (s : List Slotted) → IsReady (cells self.old) rest →
+            IsScope (cells self.old) scope s → AreAnnotated (names s) exprs.now →
+            Adds (cells self.old) (cells self.new) cell (filled s free slot
+            (row_of exprs.now)) rest) }
     {
         match exprs {
             [] => Ok(rest),
@@ -162,7 +182,10 @@ impl<'a> Cells<'a> {
         exprs: &'a [Expr],
         rest: u32,
     ) -> Result<u32, AllocError>
-        ensures { IfOk result (λ cell. (s : List Slotted) → IsReady (cells self.old) rest → IsScope (cells self.old) scope s → AreAnnotated (names s) exprs.now → Adds (cells self.old) (cells self.new) cell (all_operands s slot (row_of exprs.now)) rest) }
+        ensures { IfOk result (λ cell. (s : List Slotted) → IsReady (cells self.old) rest →
+            IsScope (cells self.old) scope s → AreAnnotated (names s) exprs.now →
+            Adds (cells self.old) (cells self.new) cell (all_operands s slot
+            (row_of exprs.now)) rest) }
     {
         let free = behind(slot, exprs.len())?;
         let filled = self.fill(scope, free, slot, exprs, rest)?;
@@ -178,7 +201,10 @@ impl<'a> Cells<'a> {
         exprs: &'a [Expr],
         rest: u32,
     ) -> Result<u32, AllocError>
-        ensures { IfOk result (λ cell. (s : List Slotted) → IsReady (cells self.old) rest → IsScope (cells self.old) scope s → AreAnnotated (names s) exprs.now → Adds (cells self.old) (cells self.new) cell (in_order s slot (row_of exprs.now)) rest) }
+        ensures { IfOk result (λ cell. (s : List Slotted) → IsReady (cells self.old) rest →
+            IsScope (cells self.old) scope s → AreAnnotated (names s) exprs.now →
+            Adds (cells self.old) (cells self.new) cell (in_order s slot
+            (row_of exprs.now)) rest) }
     {
         match exprs {
             [] => Ok(rest),
@@ -197,7 +223,9 @@ impl<'a> Cells<'a> {
         params: &[Param],
         rest: u32,
     ) -> Result<u32, AllocError>
-        ensures { IfOk result (λ cell. IsReady (cells self.old) rest → Adds (cells self.old) (cells self.new) cell (parameters_bound slot (params_view params.now)) rest) }
+        ensures { IfOk result (λ cell. IsReady (cells self.old) rest →
+            Adds (cells self.old) (cells self.new) cell (parameters_bound slot
+            (params_view params.now)) rest) }
     {
         match params {
             [] => Ok(rest),
@@ -221,7 +249,12 @@ impl<'a> Cells<'a> {
         body: &'a Expr,
         rest: u32,
     ) -> Result<u32, AllocError>
-        ensures { IfOk result (λ cell. (s : List Slotted) → IsReady (cells self.old) rest → IsScope (cells self.old) scope s → AreBindingsAnnotated (names s) bindings.now → IsAnnotated (with_bindings (names s) (bindings_of bindings.now)) body.now → Adds (cells self.old) (cells self.new) cell (entering s slot (bindings_of bindings.now) (expr_view body.now)) rest) }
+        ensures { IfOk result (λ cell. (s : List Slotted) → IsReady (cells self.old) rest →
+            IsScope (cells self.old) scope s →
+            AreBindingsAnnotated (names s) bindings.now →
+            IsAnnotated (with_bindings (names s) (bindings_of bindings.now)) body.now →
+            Adds (cells self.old) (cells self.new) cell (entering s slot
+            (bindings_of bindings.now) (expr_view body.now)) rest) }
     {
         match bindings {
             [] => {
@@ -245,7 +278,13 @@ impl<'a> Cells<'a> {
         body: &'a Expr,
         rest: u32,
     ) -> Result<u32, AllocError>
-        ensures { IfOk result (λ cell. (s : List Slotted) → IsReady (cells self.old) rest → IsScope (cells self.old) scope s → AreBindingsAnnotated (names s) (first.now ∷ others.now) → IsAnnotated (with_bindings (names s) (bindings_of (first.now ∷ others.now))) body.now → Adds (cells self.old) (cells self.new) cell (entering s slot (bindings_of (first.now ∷ others.now)) (expr_view body.now)) rest) }
+        ensures { IfOk result (λ cell. (s : List Slotted) → IsReady (cells self.old) rest →
+            IsScope (cells self.old) scope s →
+            AreBindingsAnnotated (names s) (first.now ∷ others.now) →
+            IsAnnotated (with_bindings (names s) (bindings_of
+            (first.now ∷ others.now))) body.now →
+            Adds (cells self.old) (cells self.new) cell (entering s slot (bindings_of
+            (first.now ∷ others.now)) (expr_view body.now)) rest) }
     {
         let ty = type_bound(first.declared, first.value.ty);
         let mutable = is_mutable(first.declared);

@@ -1,7 +1,7 @@
 -- How a call of `check` ends.
 use Rattle.std.proofs.Common.{ℕ, ◌<◌, All, List}
 use Rattle.command_line.specs.Command.{IsCommand, CheckCommand, CheckTree}
-use Rattle.cmm_reader.specs.Text.{longest}
+use Rattle.bs_fault.specs.Limits.{longest_text}
 use Rattle.cmmc_core.specs.Compile.{Reads}
 use Rattle.cmmc_core.specs.Effects.{Side, Effects, IsKept, Got, GotPart, IsRead}
 use Rattle.cmmc_core.specs.Ends as ends
@@ -22,7 +22,7 @@ pub Ends-checked-cut : (words : List (List ℕ)) (e : Effects) (check : CheckTre
 Ends-checked-cut words e check lines is r part kept = out_fault lines (checked check lines is r) part kept
 
 -- why nothing is told of the run of a text that was read
-pub check_refusal_read : (check : CheckTree) (s : Side) (read : List ℕ) (r : CheckRefusal) → All (λ b. b < 256) read → IsRead longest s read
+pub check_refusal_read : (check : CheckTree) (s : Side) (read : List ℕ) (r : CheckRefusal) → All (λ b. b < 256) read → IsRead longest_text s read
     → IsCheckRefusal check read r → IsCheckRefusalRead check s r
 check_refusal_read check s read (Fault told) are r why = record { text = read; are_bytes = are; read = r; holds = why }
 check_refusal_read check s read NotBuilt are r why = record { text = read; are_bytes = are; read = r; holds = why }

@@ -5,7 +5,7 @@ use Rattle.bs_fault.specs.declared.fault.Fault.{Fault}
 use Rattle.cmm_front.proofs.OneFile.{one_file, file_or_fault}
 use Rattle.cmm_front.proofs.Readings.{is_read}
 use Rattle.cmm_front.specs.FileOf.{IsFileOf, HasFault}
-use Rattle.cmm_reader.specs.Text.{longest}
+use Rattle.bs_fault.specs.Limits.{longest_text}
 use Rattle.cmm_lex.proofs.Languages.{AreBytes}
 use Rattle.cmm_tree.specs.Built.{not_built}
 use Rattle.cmm_tree.specs.Tree.{FileTree}
@@ -124,14 +124,14 @@ module _ (words : List (List ℕ)) (source : Side) where
     of_file : (P : List ℕ → Type 0) (file : FileTree) → IsFileOf text file → Reads P source → AreBytes text × P text
     of_file P file f r =
         let short = (is_read text file f.read).short in
-        elim (IsRead-known longest source text r.text known r.read) [ all same ↦ (subst AreBytes (sym same) (bytes_of r.text r.are_bytes), subst P (sym same) r.holds) | too_long long cut ↦ absurd (omega (arith, long, short)) ]
+        elim (IsRead-known longest_text source text r.text known r.read) [ all same ↦ (subst AreBytes (sym same) (bytes_of r.text r.are_bytes), subst P (sym same) r.holds) | too_long long cut ↦ absurd (omega (arith, long, short)) ]
 
     -- and where what was read has a file, it is the text
     of_read_file : (P : List ℕ → Type 0) (r : Reads P source) (file : FileTree) → IsFileOf r.text file → AreBytes text × IsFileOf text file
     of_read_file P r file f =
         let short = (is_read r.text file f.read).short in
         let same_text : List ℕ → Type 0 = λ t. IsFileOf t file in
-        elim (IsRead-known longest source text r.text known r.read) [ all same ↦ (subst AreBytes (sym same) (bytes_of r.text r.are_bytes), subst same_text (sym same) f) | too_long long cut ↦ absurd (omega (arith, cut, short)) ]
+        elim (IsRead-known longest_text source text r.text known r.read) [ all same ↦ (subst AreBytes (sym same) (bytes_of r.text r.are_bytes), subst same_text (sym same) f) | too_long long cut ↦ absurd (omega (arith, cut, short)) ]
 
     -- a text with a file has no fault
     no_fault : (file : FileTree) (told : Fault) → IsFileOf text file → Reads (λ t. HasFault t told) source → ⊥

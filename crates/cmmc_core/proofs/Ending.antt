@@ -9,7 +9,7 @@ use Rattle.bs_words.specs.Contents.{contents}
 use Rattle.bs_words.specs.declared.list.List as code
 use Rattle.command_line.specs.Command.{IsCommand, CompileCommand, RunCommand, RunTree}
 use Rattle.image_form.specs.Tables.{Tables}
-use Rattle.cmm_reader.specs.Text.{longest}
+use Rattle.bs_fault.specs.Limits.{longest_text}
 use Rattle.cmmc_core.specs.Effects.{Side, Effects, IsKept, Got, GotPart, Tells, IsRead}
 use Rattle.cmmc_core.specs.Ends.{Output, spelling, outcome, Cause, fault, not_built, too_large, no_memory, Ends, written, refused, out_fault, err_fault}
 use Rattle.cmmc_core.specs.Compile.{Reads}
@@ -78,7 +78,7 @@ pub Ends-cut : (words : List (List ℕ)) (e : Effects) (bytes : List ℕ) → Is
 Ends-cut words e bytes is r part kept = out_fault bytes (spells words e.source bytes is r) part kept
 
 -- what a text that was read is refused for
-pub refusal_read : (s : Side) (read : List ℕ) (r : text.Refusal) → All (λ b. b < 256) read → IsRead longest s read → IsRefusalOf read r → IsRefusalRead s r
+pub refusal_read : (s : Side) (read : List ℕ) (r : text.Refusal) → All (λ b. b < 256) read → IsRead longest_text s read → IsRefusalOf read r → IsRefusalRead s r
 refusal_read s read (Fault told) are r why = record { text = read; are_bytes = are; read = r; holds = why }
 refusal_read s read NotBuilt are r why = record { text = read; are_bytes = are; read = r; holds = why }
 refusal_read s read (TooLarge large) are r why = record { text = read; are_bytes = are; read = r; holds = why }

@@ -6,3 +6,4 @@ pub mod Ending
 pub mod Spelled
 pub mod Complete
 mod Checking
+mod Refused

@@ -5,7 +5,7 @@ use Rattle.std.specs.List.{flat_map}
 use Rattle.bs_fault.specs.declared.image.ImageRefusal.{ImageRefusal}
 use Rattle.image_form.proofs.ImageLaws.{is_read}
 use Rattle.image_form.proofs.Lengths.{length-le32, length-words}
-use Rattle.image_form.specs.Image.{AreTables, tables_bytes, section_bytes, table_bytes, func_bytes, sym_bytes, ext_bytes, desc_bytes, le32, magic, version, table_limit, code_limit, data_limit}
+use Rattle.image_form.specs.Image.{AreTables, tables_bytes, section_bytes, table_bytes, func_bytes, sym_bytes, ext_bytes, desc_bytes, le32, magic, table_limit, code_limit, data_limit}
 use Rattle.image_form.specs.Reading.{reading, NoImage}
 use Rattle.image_form.specs.Tables.{Tables}
 use Rattle.cmmc_core.specs.Run.{IsSpelling, IsNoImage, longest_image}
@@ -41,21 +41,21 @@ code_short code h = omega (arith, length-words code)
 tables_short : (t : Tables) → AreTables t → length (tables_bytes t) ≤ longest_image
 unfolding tables_bytes
 tables_short t h =
-    let x7 = section_bytes (codes "DESC") (table_bytes desc_bytes t.descs) in
+    let x7 = section_bytes (codes "DESC") (table_bytes (desc_bytes t.version) t.descs) in
     let x6 = section_bytes (codes "EXTC") (table_bytes ext_bytes t.extcs) ++ x7 in
     let x5 = section_bytes (codes "ROOT") (table_bytes le32 t.roots) ++ x6 in
     let x4 = section_bytes (codes "SYMS") (table_bytes sym_bytes t.syms) ++ x5 in
     let x3 = section_bytes (codes "DATA") t.bytes ++ x4 in
     let x2 = section_bytes (codes "CODE") (flat_map le32 t.code) ++ x3 in
     let x1 = section_bytes (codes "FUNC") (table_bytes func_bytes t.funcs) ++ x2 in
-    let l7 : length x7 ≤ 67108872 = last_section (codes "DESC") (table_bytes desc_bytes t.descs) table_limit refl h.descs.short in
+    let l7 : length x7 ≤ 67108872 = last_section (codes "DESC") (table_bytes (desc_bytes t.version) t.descs) table_limit refl h.descs.short in
     let l6 : length x6 ≤ 134217744 = section_then (codes "EXTC") (table_bytes ext_bytes t.extcs) x7 table_limit 67108872 refl h.extcs.short l7 in
     let l5 : length x5 ≤ 201326616 = section_then (codes "ROOT") (table_bytes le32 t.roots) x6 table_limit 134217744 refl h.roots.short l6 in
     let l4 : length x4 ≤ 268435488 = section_then (codes "SYMS") (table_bytes sym_bytes t.syms) x5 table_limit 201326616 refl h.syms.short l5 in
     let l3 : length x3 ≤ 285212712 = section_then (codes "DATA") t.bytes x4 data_limit 268435488 refl h.bytes.short l4 in
     let l2 : length x2 ≤ 553582640 = section_then (codes "CODE") (flat_map le32 t.code) x3 code_limit 285212712 refl (code_short t.code h.code.short) l3 in
     let l1 : length x1 ≤ 620691512 = section_then (codes "FUNC") (table_bytes func_bytes t.funcs) x2 table_limit 553582640 refl h.funcs.short l2 in
-    length-two magic (version ++ x1) 8 620691516 refl (length-two version x1 4 620691512 refl l1)
+    length-two magic (le32 t.version ++ x1) 8 620691516 refl (length-two (le32 t.version) x1 4 620691512 (length-le32 t.version) l1)
 
 pub spelling_short : (bytes : List ℕ) (image : Tables) → IsSpelling bytes image → length bytes ≤ longest_image
 spelling_short bytes image s =

@@ -1,11 +1,11 @@
 -- What the commands `compile` and `check` read.
 use Rattle.std.specs.Prelude.{ℕ, ◌<◌, List, All}
-use Rattle.cmm_reader.specs.Text.{longest}
+use Rattle.bs_fault.specs.Limits.{longest_text}
 use Rattle.cmmc_core.specs.Effects.{Side, IsRead}
 
 -- The text that was read from a source, bytes all of them, holds this.
 pub record Reads (Holds : List ℕ → Type 0) (source : Side) : Type 0 where
   pub text : List ℕ
   pub are_bytes : All (λ b. b < 256) text
-  pub read : IsRead longest source text
+  pub read : IsRead longest_text source text
   pub holds : Holds text

@@ -7,7 +7,7 @@ use Rattle.command_line.specs.declared.command.Moves.TheVariants.{Never, Every, 
 use Rattle.image_form.specs.Image.{AreTables, tables_bytes}
 use Rattle.image_form.specs.Reading.{reading}
 use Rattle.image_form.specs.Tables.{Tables, Func}
-use Rattle.mover_schedule.specs.Schedules.{never, every, seeded}
+use Rattle.mover_plans.specs.Schedules.{never, every, seeded}
 use Rattle.rv_machine.specs.Loading.{func_named, word_of_arg, before, words_of_args}
 use Rattle.rv_machine.specs.Run.{Schedule, machine_run}
 use Rattle.rv_machine.specs.Text.{outcome_text}

@@ -9,6 +9,3 @@ mod text;
 mod top;
 
 pub use top::cmmc;
-
-#[cfg(test)]
-mod tests;

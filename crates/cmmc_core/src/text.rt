@@ -1,7 +1,7 @@
 //! Reading the text of a source.
 ghost use Rattle.std.specs.Prelude.{IfOk, IfErr};
 ghost use Rattle.bs_words.specs.Contents.{contents};
-ghost use Rattle.cmm_reader.specs.Text.{longest};
+ghost use Rattle.bs_fault.specs.Limits.{longest_text};
 ghost use Rattle.cmmc_core.specs.Effects.{side, IsRead};
 ghost use Rattle.cmmc_core.specs.Refusal.{IsTextUnread};
 
@@ -21,7 +21,7 @@ pub enum Unread {
 
 /// The bytes that a source holds, up to one past the longest text, which no text has.
 pub fn read_text<S: Source>(alloc: Global, source: &mut S) -> Result<List<u8>, Unread>
-    ensures read { IfOk result (λ bytes. IsRead longest (side (S.left source.old) (S.left source.new) (S.faults source.old) (S.faults source.new)) (contents bytes)) }
+    ensures read { IfOk result (λ bytes. IsRead longest_text (side (S.left source.old) (S.left source.new) (S.faults source.old) (S.faults source.new)) (contents bytes)) }
     ensures unread { IfErr result (λ r. IsTextUnread (side (S.left source.old) (S.left source.new) (S.faults source.old) (S.faults source.new)) r) }
 {
     match read_all(alloc, source, LONGEST_TEXT) {

@@ -14,6 +14,3 @@ mod values;
 pub use command::{CheckWords, Command, Moves, RunWords, WordsError};
 pub use read::read_words;
 pub use rv_machine::Arg;
-
-#[cfg(test)]
-mod tests;

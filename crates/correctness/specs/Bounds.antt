@@ -3,16 +3,16 @@ use Rattle.std.specs.Prelude.{◌≡◌, ℕ, ◌+◌, ◌*◌, ◌≤◌, Bool,
 use Rattle.std.specs.List.{AllZip}
 use Rattle.cmm_tree.specs.Tree.{FunctionTree, FileTree, functions}
 use Rattle.correctness.specs.Measures.{frame_points, switch_indexes, tries}
-use Rattle.image_form.specs.Image.{end_of}
+use Rattle.image_form.specs.Image.{end_of, stub}
 use Rattle.image_form.specs.Tables.{Tables, Func, Desc}
 
 -- the most words of a function's code
 abbrev pub most_words : FunctionTree → ℕ
 most_words f = 2048 * f.tokens + 8 * switch_indexes f
 
--- the most bytes of a function's descriptors
+-- the most bytes of a function's descriptors: one for each frame point, of at most 8 bytes for each token and 156 more
 abbrev pub most_desc_bytes : FunctionTree → ℕ
-most_desc_bytes f = frame_points f * (4 * f.tokens + 80)
+most_desc_bytes f = frame_points f * (8 * f.tokens + 156)
 
 -- ---- an image and its file
 
@@ -31,11 +31,6 @@ pub record IsWithinText (described : List Desc) (f : FunctionTree) (row : Func) 
 abbrev pub FillCode : ℕ → ℕ → List Func → Type 0
 FillCode from to [] = from ≡ to
 FillCode from to (row ∷ rows) = (row.offset ≡ from) × FillCode (end_of row) to rows
-
--- the words with which the code of every image begins: a return to the first asks for the service that
--- ends the run, and 8 bytes on is the service of an uncaught raise
-abbrev pub stub : List ℕ
-stub = 0x00000393 ∷ 0x00000073 ∷ 0x00100393 ∷ 0x00000073 ∷ []
 
 -- An image is as small as the text of its file asks: each function keeps to its own text, and the code
 -- is the stub and the functions' words, with no other words.

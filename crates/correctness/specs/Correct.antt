@@ -3,8 +3,9 @@ use Rattle.std.specs.Prelude.{◌≡◌, ⊤, ℕ, ◌+◌, ◌*◌, ◌<◌, �
 use Rattle.bs_words.specs.Observed.{Made}
 use Rattle.cmm_meaning.specs.Run.{Outcome, Returned, Raised, Asks, More, Improper, Run, cmm_run}
 use Rattle.cmm_tree.specs.Tree.{FunctionTree, FileTree, functions}
-use Rattle.correctness.specs.Setting.{layout_of, AreRowsOf, Entered, IsRoom}
+use Rattle.correctness.specs.Setting.{layout_of, AreRowsOf, Entered}
 use Rattle.image_form.specs.Tables.{Tables, Func}
+use Rattle.rv_machine.specs.Loading.{IsRoom}
 use Rattle.rv_machine.specs.Run.{Schedule, Seen, machine_run}
 use Rattle.rv_machine.specs.Services.{End, Running, StackOut, HeapOut, Stopped}
 use Rattle.rv_machine.specs.Services as machine

@@ -1,5 +1,5 @@
 -- Measures of a text, by which an image is bounded.
-use Rattle.std.specs.Prelude.{ℕ, ◌+◌, max}
+use Rattle.std.specs.Prelude.{ℕ, ◌+◌, max, true}
 use Rattle.cmm_tree.specs.Tree.{Expression, Integer, Pointer, Symbol, Name, Nothing, Float, Let, Assign, Operator, Load, Store, Alloc, App, Extcall, Checkbound, Raise, Seq, If, Switch, Catch, Exit, Try, Expressions, NoMore, More, Bindings, NoBinding, Bind, Cases, NoCase, Choose, Handlers, NoHandler, Handle, FunctionTree}
 
 -- the sum over the nodes of an expression of what each counts for
@@ -19,8 +19,8 @@ abbrev mutual
   total own (Alloc at header_at header operands) = own (Alloc at header_at header operands) + row_total own operands
   total own (App at callee arguments result result_at) =
       own (App at callee arguments result result_at) + (total own callee + row_total own arguments)
-  total own (Extcall at name arguments result result_at) =
-      own (Extcall at name arguments result result_at) + row_total own arguments
+  total own (Extcall at frame name arguments result result_at) =
+      own (Extcall at frame name arguments result result_at) + row_total own arguments
   total own (Checkbound at bound index) = own (Checkbound at bound index) + (total own bound + total own index)
   total own (Raise at value) = own (Raise at value) + total own value
   total own (Seq at elements) = own (Seq at elements) + row_total own elements
@@ -49,10 +49,11 @@ abbrev mutual
   handlers_total own NoHandler = 0
   handlers_total own (Handle at label params body rest) = total own body + handlers_total own rest
 
--- a frame point is an application or an allocation
+-- a frame point is an application, an allocation or a frame call
 abbrev pub is_frame_point : Expression → ℕ
 is_frame_point (App at callee arguments result result_at) = 1
 is_frame_point (Alloc at header_at header operands) = 1
+is_frame_point (Extcall at true name arguments result result_at) = 1
 is_frame_point _ = 0
 
 -- the number of indexes of a switch
@@ -89,7 +90,7 @@ abbrev mutual
   tries_in (Store at chunk address value) = max (tries_in address) (tries_in value)
   tries_in (Alloc at header_at header operands) = tries_in_row operands
   tries_in (App at callee arguments result result_at) = max (tries_in callee) (tries_in_row arguments)
-  tries_in (Extcall at name arguments result result_at) = tries_in_row arguments
+  tries_in (Extcall at frame name arguments result result_at) = tries_in_row arguments
   tries_in (Checkbound at bound index) = max (tries_in bound) (tries_in index)
   tries_in (Raise at value) = tries_in value
   tries_in (Seq at elements) = tries_in_row elements

@@ -44,11 +44,6 @@ FitParameters end (c ∷ cs) (a ∷ args) = IsWord a × IsTrue (fits end (type_o
 FitParameters end [] (a ∷ args) = ⊥
 FitParameters end (c ∷ cs) [] = ⊥
 
--- the bytes of stack, and of each half of the heap, that a run may have
-pub record IsRoom (bytes : ℕ) : Type 0 where
-  pub aligned : bytes % 16 ≡ 0
-  pub most : bytes ≤ 67108864
-
 -- Function `entry` of the file, its row in the image, and the words that are handed to it.
 pub record Entered (file : FileTree) (image : Tables) (entry : ℕ) (f : FunctionTree) (row : Func) (args answers : List ℕ) : Type 0 where
   pub of_file : slice_get (functions file) entry ≡ Some f

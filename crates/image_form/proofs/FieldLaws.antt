@@ -3,7 +3,7 @@ use Rattle.std.proofs.Common.{◌≡◌, ℕ, ◌^◌, ◌<◌, ◌≤◌, Bool,
 use Rattle.std.specs.Bool.{Decides}
 use Rattle.std.specs.Prelude.{nat_le}
 use Rattle.std.specs.List.{flat_map, AllByRecursion, list_all}
-use Rattle.std.specs.Int.{Width, w16, w32, byte_len, from_le_bytes}
+use Rattle.std.specs.Int.{Width, w16, w32, byte_len, from_le_bytes, to_le_bytes}
 use Rattle.std.proofs.lemmas.Bool.{ltb-false, le-ltb, leb-true, le-leb, eqb-true, and_parts, and_from}
 use Rattle.std.proofs.lemmas.List.{take_at, drop_at, take-append-drop, length-append, length-take}
 use Rattle.std.proofs.lemmas.Nat.{le_bytes_2, le_bytes_4, from_le_bytes-to_le_bytes_2, from_le_bytes-to_le_bytes_4}
@@ -11,9 +11,9 @@ use Rattle.bs_words.specs.declared.types.Comp.{Comp}
 use Rattle.bs_words.specs.declared.types.Comp.TheVariants.{Int, Val, Addr, Float}
 use Rattle.bs_words.specs.declared.types.Ret.{Ret}
 use Rattle.bs_words.specs.declared.types.Ret.TheVariants as returns
-use Rattle.image_form.specs.Image.{le16, le32, comp_byte, ret_byte, name_bytes, params_bytes, IsName, IsParam, IsResult, IsArgument, IsExtResult}
+use Rattle.image_form.specs.Image.{le16, le32, le_entry, entry_width, entry_limit, comp_byte, ret_byte, name_bytes, params_bytes, IsName, IsParam, IsResult, IsArgument, IsExtResult}
 use Rattle.image_form.specs.Seen.{has}
-use Rattle.image_form.specs.Fields.{byte_at, number_at, kept, text_at, is_name, name_at, new_name_at, decoded, comp_of, result_of, ext_result_of, type_at, rows_at, params_at}
+use Rattle.image_form.specs.Fields.{byte_at, number_at, wide_at, kept, text_at, is_name, name_at, new_name_at, decoded, comp_of, result_of, ext_result_of, type_at, rows_at, params_at}
 use Rattle.image_form.proofs.Takes.{IsBytes, IsBytes-drop, IsBytes-take, IsBytes-rest, bind_ok, guard_ok, ok_is, Takes, Takes-then, IsField, alike, kept_field, rows_take, rows_again, AllAfter}
 
 -- ---- bytes and numbers
@@ -80,6 +80,15 @@ u16_field = number_field w16 le16 (2 ^ 16) wide16
 
 pub u32_field : IsField (number_at w32) le32 (λ n. n < 2 ^ 32)
 u32_field = number_field w32 le32 (2 ^ 32) wide32
+
+-- by the width of a version's fields
+wide_by : (old : Bool) → IsWide (cond old w16 w32) (to_le_bytes (cond old w16 w32)) (cond old (2 ^ 16) (2 ^ 32))
+wide_by true = unfold le16 in wide16
+wide_by false = unfold le32 in wide32
+
+pub wide_field : (version : ℕ) → IsField (wide_at version) (le_entry version) (λ n. n < entry_limit version)
+unfolding wide_at le_entry
+wide_field version = number_field (entry_width version) (to_le_bytes (entry_width version)) (entry_limit version) (wide_by (eqb version 1))
 
 -- ---- names
 

@@ -1,15 +1,16 @@
 -- The spelling of known images, computed.
-use Rattle.std.proofs.Common.{◌≡◌, refl, codes, replicate, List, [], ◌∷◌}
+use Rattle.std.proofs.Common.{◌≡◌, refl, codes, replicate, ℕ, List, [], ◌∷◌}
 use Rattle.bs_words.specs.declared.types.Comp.TheVariants.{Int, Val, Addr}
 use Rattle.bs_words.specs.declared.types.Ret.TheVariants as returns
 use Rattle.image_form.specs.Tables.{Tables}
-use Rattle.image_form.specs.Image.{le16, le32, name_bytes, params_bytes, func_bytes, sym_bytes, ext_bytes, desc_bytes, table_bytes, section_bytes, tables_bytes}
+use Rattle.image_form.specs.Image.{le16, le32, le_entry, stub, name_bytes, params_bytes, func_bytes, sym_bytes, ext_bytes, desc_bytes, table_bytes, section_bytes, tables_bytes}
 
 -- the image of a text without functions: the stub, and the built-in data
-abbrev least : Tables
-least = record {
+abbrev least : ℕ → Tables
+least version = record {
+  version = version;
   funcs = [];
-  code = 0x00000393 ∷ 0x00000073 ∷ 0x00100393 ∷ 0x00000073 ∷ [];
+  code = stub;
   bytes = replicate 8 0;
   syms = record { name = codes "caml_bound_error"; offset = 0 } ∷ [];
   roots = [];
@@ -18,8 +19,9 @@ least = record {
 }
 
 -- 134 bytes, a line for each section
-least_bytes : tables_bytes least ≡
-    0x43 ∷ 0x4D ∷ 0x4D ∷ 0x52 ∷ 0x56 ∷ 0x36 ∷ 0x34 ∷ 0x0A ∷ 0x01 ∷ 0x00 ∷ 0x00 ∷ 0x00 ∷
+abbrev least_spelled : ℕ → List ℕ
+least_spelled version =
+    0x43 ∷ 0x4D ∷ 0x4D ∷ 0x52 ∷ 0x56 ∷ 0x36 ∷ 0x34 ∷ 0x0A ∷ version ∷ 0x00 ∷ 0x00 ∷ 0x00 ∷
     0x46 ∷ 0x55 ∷ 0x4E ∷ 0x43 ∷ 0x04 ∷ 0x00 ∷ 0x00 ∷ 0x00 ∷ 0x00 ∷ 0x00 ∷ 0x00 ∷ 0x00 ∷
     0x43 ∷ 0x4F ∷ 0x44 ∷ 0x45 ∷ 0x10 ∷ 0x00 ∷ 0x00 ∷ 0x00 ∷ 0x93 ∷ 0x03 ∷ 0x00 ∷ 0x00 ∷ 0x73 ∷ 0x00 ∷ 0x00 ∷ 0x00 ∷ 0x93 ∷ 0x03 ∷ 0x10 ∷ 0x00 ∷ 0x73 ∷ 0x00 ∷ 0x00 ∷ 0x00 ∷
     0x44 ∷ 0x41 ∷ 0x54 ∷ 0x41 ∷ 0x08 ∷ 0x00 ∷ 0x00 ∷ 0x00 ∷ 0x00 ∷ 0x00 ∷ 0x00 ∷ 0x00 ∷ 0x00 ∷ 0x00 ∷ 0x00 ∷ 0x00 ∷
@@ -27,27 +29,38 @@ least_bytes : tables_bytes least ≡
     0x52 ∷ 0x4F ∷ 0x4F ∷ 0x54 ∷ 0x04 ∷ 0x00 ∷ 0x00 ∷ 0x00 ∷ 0x00 ∷ 0x00 ∷ 0x00 ∷ 0x00 ∷
     0x45 ∷ 0x58 ∷ 0x54 ∷ 0x43 ∷ 0x04 ∷ 0x00 ∷ 0x00 ∷ 0x00 ∷ 0x00 ∷ 0x00 ∷ 0x00 ∷ 0x00 ∷
     0x44 ∷ 0x45 ∷ 0x53 ∷ 0x43 ∷ 0x04 ∷ 0x00 ∷ 0x00 ∷ 0x00 ∷ 0x00 ∷ 0x00 ∷ 0x00 ∷ 0x00 ∷ []
-unfolding tables_bytes section_bytes table_bytes func_bytes sym_bytes ext_bytes desc_bytes name_bytes params_bytes le16 le32
-least_bytes = refl
+
+least_bytes : (tables_bytes (least 1) ≡ least_spelled 1) × (tables_bytes (least 2) ≡ least_spelled 2)
+unfolding tables_bytes section_bytes table_bytes func_bytes sym_bytes ext_bytes desc_bytes name_bytes params_bytes le16 le32 le_entry
+least_bytes = (refl, refl)
 
 -- a function's name, offset, words, frame, number of parameters, their types, and result
 func : func_bytes (record { name = codes "ab"; offset = 0x30; words = 7; frame = 0x12340; params = Int ∷ Val ∷ Addr ∷ []; result = returns.Comp Val }) ≡ 0x02 ∷ 0x00 ∷ 0x61 ∷ 0x62 ∷ 0x30 ∷ 0x00 ∷ 0x00 ∷ 0x00 ∷ 0x07 ∷ 0x00 ∷ 0x00 ∷ 0x00 ∷ 0x40 ∷ 0x23 ∷ 0x01 ∷ 0x00 ∷ 0x03 ∷ 0x00 ∷ 0x01 ∷ 0x02 ∷ 0x01 ∷ []
-unfolding func_bytes sym_bytes ext_bytes desc_bytes name_bytes params_bytes le16 le32
+unfolding func_bytes sym_bytes ext_bytes desc_bytes name_bytes params_bytes le16 le32 le_entry
 func = refl
 
 no_result : func_bytes (record { name = codes "m"; offset = 16; words = 8; frame = 16; params = []; result = returns.Unit }) ≡ 0x01 ∷ 0x00 ∷ 0x6D ∷ 0x10 ∷ 0x00 ∷ 0x00 ∷ 0x00 ∷ 0x08 ∷ 0x00 ∷ 0x00 ∷ 0x00 ∷ 0x10 ∷ 0x00 ∷ 0x00 ∷ 0x00 ∷ 0x00 ∷ 0x03 ∷ []
-unfolding func_bytes sym_bytes ext_bytes desc_bytes name_bytes params_bytes le16 le32
+unfolding func_bytes sym_bytes ext_bytes desc_bytes name_bytes params_bytes le16 le32 le_entry
 no_result = refl
 
 sym : sym_bytes (record { name = codes "d"; offset = 11 }) ≡ 0x01 ∷ 0x00 ∷ 0x64 ∷ 0x0B ∷ 0x00 ∷ 0x00 ∷ 0x00 ∷ []
-unfolding func_bytes sym_bytes ext_bytes desc_bytes name_bytes params_bytes le16 le32
+unfolding func_bytes sym_bytes ext_bytes desc_bytes name_bytes params_bytes le16 le32 le_entry
 sym = refl
 
 ext : ext_bytes (record { name = codes "f"; params = Int ∷ Val ∷ []; result = returns.Comp Addr }) ≡ 0x01 ∷ 0x00 ∷ 0x66 ∷ 0x02 ∷ 0x00 ∷ 0x01 ∷ 0x02 ∷ []
-unfolding func_bytes sym_bytes ext_bytes desc_bytes name_bytes params_bytes le16 le32
+unfolding func_bytes sym_bytes ext_bytes desc_bytes name_bytes params_bytes le16 le32 le_entry
 ext = refl
 
 -- a descriptor that names registers 10 and 11 and the slot 16 bytes above sp
-desc : desc_bytes (record { after = 44; size = 32; entries = 21 ∷ 23 ∷ 16 ∷ [] }) ≡ 0x2C ∷ 0x00 ∷ 0x00 ∷ 0x00 ∷ 0x20 ∷ 0x00 ∷ 0x03 ∷ 0x00 ∷ 0x15 ∷ 0x00 ∷ 0x17 ∷ 0x00 ∷ 0x10 ∷ 0x00 ∷ []
-unfolding func_bytes sym_bytes ext_bytes desc_bytes name_bytes params_bytes le16 le32
+desc : desc_bytes 1 (record { after = 44; size = 32; entries = 21 ∷ 23 ∷ 16 ∷ [] }) ≡ 0x2C ∷ 0x00 ∷ 0x00 ∷ 0x00 ∷ 0x20 ∷ 0x00 ∷ 0x03 ∷ 0x00 ∷ 0x15 ∷ 0x00 ∷ 0x17 ∷ 0x00 ∷ 0x10 ∷ 0x00 ∷ []
+unfolding func_bytes sym_bytes ext_bytes desc_bytes name_bytes params_bytes le16 le32 le_entry
 desc = refl
+
+-- the same in version 2, and one that only version 2 can spell
+wide_desc : desc_bytes 2 (record { after = 44; size = 32; entries = 21 ∷ 16 ∷ [] }) ≡ 0x2C ∷ 0x00 ∷ 0x00 ∷ 0x00 ∷ 0x20 ∷ 0x00 ∷ 0x00 ∷ 0x00 ∷ 0x02 ∷ 0x00 ∷ 0x00 ∷ 0x00 ∷ 0x15 ∷ 0x00 ∷ 0x00 ∷ 0x00 ∷ 0x10 ∷ 0x00 ∷ 0x00 ∷ 0x00 ∷ []
+unfolding desc_bytes le_entry le32
+wide_desc = refl
+
+large_desc : desc_bytes 2 (record { after = 44; size = 0x20000; entries = 0x10008 ∷ [] }) ≡ 0x2C ∷ 0x00 ∷ 0x00 ∷ 0x00 ∷ 0x00 ∷ 0x00 ∷ 0x02 ∷ 0x00 ∷ 0x01 ∷ 0x00 ∷ 0x00 ∷ 0x00 ∷ 0x08 ∷ 0x00 ∷ 0x01 ∷ 0x00 ∷ []
+unfolding desc_bytes le_entry le32
+large_desc = refl

@@ -1,8 +1,8 @@
 -- How long the parts of an image are, and what holds of each row.
-use Rattle.std.proofs.Common.{◌≡◌, ℕ, zero, suc, ◌*◌, ◌^◌, ◌<◌, ◌≤◌, List, [], ◌∷◌, ◌++◌, length, get_or, map, refl, ap, subst, arith, inl, inr, length-append}
+use Rattle.std.proofs.Common.{◌≡◌, ℕ, zero, suc, ◌*◌, ◌^◌, ◌<◌, ◌≤◌, Bool, true, false, cond, eqb, List, [], ◌∷◌, ◌++◌, length, get_or, map, refl, ap, subst, arith, inl, inr, length-append}
 use Rattle.std.specs.List.{flat_map, AllByRecursion}
 use Rattle.image_form.specs.Tables.{Desc}
-use Rattle.image_form.specs.Image.{le16, le32, name_bytes, func_bytes, sym_bytes, ext_bytes, desc_bytes, table_bytes, table_limit, IsEntry, IsDesc}
+use Rattle.image_form.specs.Image.{le16, le32, name_bytes, func_bytes, sym_bytes, ext_bytes, desc_bytes, table_bytes, table_limit, entry_limit, IsEntry, IsDesc}
 
 -- what holds of each row's view holds of the row at an index
 pub each_at : {X Y : Type 0} (P : Y → Type 0) (view : X → Y) (xs : List X) (i : ℕ) (d : X) → AllByRecursion P (map view xs) → i < length xs → P (view (get_or xs i d))
@@ -65,22 +65,29 @@ pub ext_nonempty : Nonempty ext_bytes
 unfolding ext_bytes
 ext_nonempty e = first_nonempty (name_bytes e.name) _ (name_nonempty e.name)
 
-pub desc_nonempty : Nonempty desc_bytes
+pub desc_nonempty : (version : ℕ) → Nonempty (desc_bytes version)
 unfolding desc_bytes
-desc_nonempty d = first_nonempty (le32 d.after) _ (omega (arith, length-le32 d.after))
+desc_nonempty version d = first_nonempty (le32 d.after) _ (omega (arith, length-le32 d.after))
 
 pub le32_nonempty : Nonempty le32
 le32_nonempty n = omega (arith, length-le32 n)
 
--- ---- the entries of a descriptor fit 16 bits
+-- ---- the entries of a descriptor fit their fields
 
-entry_fits : (size e : ℕ) → size < 2 ^ 16 → IsEntry size e → e < 2 ^ 16
-entry_fits size e fits (inl odd) = omega arith
-entry_fits size e fits (inr even) = omega arith
+pub wide_enough : (version : ℕ) → (64 ≤ entry_limit version) × (entry_limit version ≤ 2 ^ 32)
+wide_enough version = by (eqb version 1)
+  where
+    by : (old : Bool) → (64 ≤ cond old (2 ^ 16) (2 ^ 32)) × (cond old (2 ^ 16) (2 ^ 32) ≤ 2 ^ 32)
+    by true = (omega arith, omega arith)
+    by false = (omega arith, omega arith)
 
-entries_fit' : (size : ℕ) (es : List ℕ) → size < 2 ^ 16 → AllByRecursion (IsEntry size) es → AllByRecursion (λ e. e < 2 ^ 16) es
-entries_fit' size [] fits all = tt
-entries_fit' size (e ∷ es) fits all = (entry_fits size e fits all.0, entries_fit' size es fits all.1)
+pub entry_fits : (version size e : ℕ) → size < entry_limit version → IsEntry size e → e < entry_limit version
+entry_fits version size e fits (inl odd) = let wide = (wide_enough version).0 in omega arith
+entry_fits version size e fits (inr even) = omega arith
 
-pub entries_fit : (limit : ℕ) (d : Desc) → IsDesc limit d → AllByRecursion (λ e. e < 2 ^ 16) d.entries
-entries_fit limit d is = entries_fit' d.size d.entries is.size_fits is.entries
+entries_fit' : (version size : ℕ) (es : List ℕ) → size < entry_limit version → AllByRecursion (IsEntry size) es → AllByRecursion (λ e. e < entry_limit version) es
+entries_fit' version size [] fits all = tt
+entries_fit' version size (e ∷ es) fits all = (entry_fits version size e fits all.0, entries_fit' version size es fits all.1)
+
+pub entries_fit : (version limit : ℕ) (d : Desc) → IsDesc version limit d → AllByRecursion (λ e. e < entry_limit version) d.entries
+entries_fit version limit d is = entries_fit' version d.size d.entries is.size_fits is.entries

@@ -1,11 +1,11 @@
 -- Each body and each section reads what is spelled so, and nothing else.
-use Rattle.std.proofs.Common.{◌≡◌, ℕ, ◌/◌, ◌%◌, ◌^◌, ◌<◌, ◌≤◌, true, false, ltb, eqb, List, [], ◌∷◌, ◌++◌, length, take, drop, max, fold, Result, Ok, Err, refl, sym, ap, subst, ◌∙◌, append_assoc, arith}
+use Rattle.std.proofs.Common.{◌≡◌, ℕ, ◌/◌, ◌%◌, ◌^◌, ◌<◌, ◌≤◌, true, false, ltb, eqb, List, [], ◌∷◌, ◌++◌, length, take, drop, max, fold, Result, Ok, Err, refl, sym, ap, subst, ◌∙◌, append_assoc, arith, inl, inr}
 use Rattle.std.specs.Bool.{Decides}
 use Rattle.std.specs.List.{flat_map, AllByRecursion}
 use Rattle.std.specs.Int.{w32, from_le_bytes}
 use Rattle.std.specs.Str.{bytes_eq}
 use Rattle.std.proofs.lemmas.Bool.{ltb-false, le-ltb, eqb-true, leb-true, le-leb}
-use Rattle.std.proofs.lemmas.Bool.Decides.{Decides-and, Decides-eqb}
+use Rattle.std.proofs.lemmas.Bool.Decides.{Decides-and, Decides-or, Decides-eqb}
 use Rattle.std.proofs.lemmas.List.{take_at, drop_at, take-append-drop, length-append, length-take, append-nil, nil_from_length}
 use Rattle.std.proofs.lemmas.Nat.{le_bytes_4, from_le_bytes-to_le_bytes_4}
 use Rattle.std.proofs.lemmas.Slice.Eq.{bytes_eq-Decides}
@@ -14,9 +14,9 @@ use Rattle.bs_fault.specs.declared.image.ImageFault.TheVariants as faults
 use Rattle.bs_fault.specs.declared.image.ImageRefusal.{ImageRefusal}
 use Rattle.image_form.specs.declared.reading.Limits.{Limits}
 use Rattle.image_form.specs.Tables.{Func}
-use Rattle.image_form.specs.Image.{le32, table_bytes, section_bytes, end_of}
+use Rattle.image_form.specs.Image.{le32, table_bytes, section_bytes, end_of, IsVersion}
 use Rattle.image_form.specs.Fields.{number_at, rows_at, table_at, words_at}
-use Rattle.image_form.specs.Reading.{refused, whole_at, mark_at, is_within, length_at, section_at, placed, part_at, code_least, code_limits}
+use Rattle.image_form.specs.Reading.{refused, whole_at, mark_at, is_version, version_at, is_within, length_at, section_at, placed, part_at, code_least, code_limits}
 use Rattle.image_form.proofs.Lengths.{length-le32, length-words}
 use Rattle.image_form.proofs.Takes.{IsBytes, IsBytes-drop, IsBytes-take, bind_ok, guard_ok, passed_ok, ok_is, Takes, Takes-then, IsField, AllAfter, rows_take, rows_again}
 use Rattle.image_form.proofs.FieldLaws.{u32_field, each_from, each_to}
@@ -129,6 +129,18 @@ pub mark_again : (total : ℕ) (fault : ImageFault) (mark rest : List ℕ) → m
 unfolding mark_at
 mark_again total fault mark rest = rw (whole_again total (length mark) mark rest refl, (bytes_eq-Decides mark mark).1 refl) refl
 
+version_decides : (n : ℕ) → Decides (is_version n) (IsVersion n)
+version_decides n = Decides-or _ _ (Decides-eqb n 1) (Decides-eqb n 2)
+
+pub version_takes : (total : ℕ) (bytes : List ℕ) (n : ℕ) (rest : List ℕ) → IsBytes bytes → version_at total bytes ≡ Ok (n, rest) → Takes bytes (le32 n) rest × IsVersion n
+unfolding version_at le32
+version_takes total bytes n rest fits e =
+    let a = bind_ok (whole_at total 4 bytes) _ (n, rest) e in
+    let t = whole_takes total 4 bytes a.0.0 a.0.1 fits a.1 in
+    let g = passed_ok (is_version (from_le_bytes w32 a.0.0)) (refused faults.Version total bytes) (from_le_bytes w32 a.0.0, a.0.1) (n, rest) a.2 in
+    let text : a.0.0 ≡ le32 (from_le_bytes w32 a.0.0) = sym (le_bytes_4 a.0.0 _ t.1.0 t.1.1 refl) in
+    subst (λ (p : ℕ × List ℕ). Takes bytes (le32 p.0) p.1 × IsVersion p.0) g.1 (subst (λ (m : List ℕ). Takes bytes m a.0.1) text t.0, (version_decides _).0 g.0)
+
 length_takes : (total : ℕ) (limits : Limits) (bytes : List ℕ) (n : ℕ) (rest : List ℕ) → IsBytes bytes → length_at total limits bytes ≡ Ok (n, rest) → Takes bytes (le32 n) rest × (is_within limits n ≡ true)
 unfolding length_at le32
 length_takes total limits bytes n rest fits e =
@@ -141,6 +153,15 @@ length_takes total limits bytes n rest fits e =
 number_back : (n : ℕ) → n < 2 ^ 32 → from_le_bytes w32 (le32 n) ≡ n
 unfolding le32
 number_back n lt = from_le_bytes-to_le_bytes_4 n lt
+
+version_small : (n : ℕ) → IsVersion n → n < 2 ^ 32
+version_small n (inl one) = omega arith
+version_small n (inr two) = omega arith
+
+pub version_again : (total n : ℕ) (rest : List ℕ) → IsVersion n → version_at total (le32 n ++ rest) ≡ Ok (n, rest)
+unfolding version_at
+version_again total n rest is =
+    rw (whole_again total 4 (le32 n) rest (length-le32 n), number_back n (version_small n is), (version_decides n).1 is) refl
 
 length_again : (total : ℕ) (limits : Limits) (n : ℕ) (rest : List ℕ) → n < 2 ^ 32 → is_within limits n ≡ true → length_at total limits (le32 n ++ rest) ≡ Ok (n, rest)
 unfolding length_at

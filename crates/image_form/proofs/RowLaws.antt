@@ -1,18 +1,18 @@
 -- Each row reads what is spelled so and keeps the rules in view of the rows before it, and nothing else.
-use Rattle.std.proofs.Common.{◌≡◌, ℕ, ◌+◌, ◌-◌, ◌%◌, ◌^◌, ◌<◌, ◌≤◌, Bool, false, not, ltb, leb, eqb, ◌&&◌, List, [], ◌∷◌, ◌++◌, length, map, Option, Some, None, Result, Ok, refl, sym, ap, subst, ◌∙◌, append_assoc, arith}
+use Rattle.std.proofs.Common.{◌≡◌, ℕ, ◌+◌, ◌-◌, ◌%◌, ◌^◌, ◌<◌, ◌≤◌, Bool, false, not, ltb, leb, eqb, ◌&&◌, List, [], ◌∷◌, ◌++◌, length, map, Option, Some, None, Result, Ok, refl, sym, ap, subst, ◌∙◌, append_assoc}
 use Rattle.std.specs.Bool.{Decides}
 use Rattle.std.specs.List.{flat_map, slice_get}
-use Rattle.std.specs.Int.{w16, w32}
+use Rattle.std.specs.Int.{w32}
 use Rattle.std.proofs.lemmas.Bool.{leb-true, le-leb}
 use Rattle.std.proofs.lemmas.Bool.Decides.{Decides-and, Decides-or, Decides-eqb, Decides-ltb}
 use Rattle.bs_words.specs.declared.types.Comp.{Comp}
 use Rattle.bs_words.specs.declared.types.Ret.{Ret}
 use Rattle.image_form.specs.Tables.{Func, Sym, Ext, Desc, func_names, sym_names}
-use Rattle.image_form.specs.Image.{le16, le32, ret_byte, name_bytes, params_bytes, func_bytes, sym_bytes, ext_bytes, desc_bytes, IsName, IsParam, IsResult, IsArgument, IsExtResult, IsRoot, IsEntry, IsNextEntry, end_of}
+use Rattle.image_form.specs.Image.{le32, le_entry, entry_limit, ret_byte, name_bytes, params_bytes, func_bytes, sym_bytes, ext_bytes, desc_bytes, IsName, IsParam, IsResult, IsArgument, IsExtResult, IsRoot, IsEntry, IsNextEntry, end_of}
 use Rattle.image_form.specs.Seen.{has}
-use Rattle.image_form.specs.Fields.{◌>>=◌, number_at, kept, name_at, new_name_at, result_of, ext_result_of, type_at, rows_at, params_at, at_some, at_last, func_offset_at, frame_at, func_at, sym_offset_at, sym_at, root_at, ext_at, is_entry, is_next_entry, entry_at, after_at, size_at, desc_at}
+use Rattle.image_form.specs.Fields.{◌>>=◌, number_at, wide_at, kept, name_at, new_name_at, result_of, ext_result_of, type_at, rows_at, params_at, at_some, at_last, func_offset_at, frame_at, func_at, sym_offset_at, sym_at, root_at, ext_at, is_entry, is_next_entry, entry_at, after_at, size_at, desc_at}
 use Rattle.image_form.proofs.Takes.{IsBytes, bind_ok, ok_is, Takes, Takes-then, IsField, alike, kept_field, rows_take, rows_again, AllAfter}
-use Rattle.image_form.proofs.FieldLaws.{some_is, u16_field, u32_field, IsNew, name_field, new_name_field, new_decides, result_field, ext_result_field, AreParams, func_params_field, ext_params_field}
+use Rattle.image_form.proofs.FieldLaws.{some_is, u32_field, wide_field, IsNew, name_field, new_name_field, new_decides, result_field, ext_result_field, AreParams, func_params_field, ext_params_field}
 
 -- ---- the row before
 
@@ -215,17 +215,17 @@ unfolding is_next_entry
 next_entry_decides a b =
     Decides-or _ _ (Decides-and _ _ (Decides-eqb (a % 2) (b % 2)) (Decides-ltb a b)) (Decides-and _ _ (Decides-eqb (a % 2) 1) (Decides-eqb (b % 2) 0))
 
-pub record EntryRule (size : ℕ) (before : List ℕ) (e : ℕ) : Type 0 where
-  pub fits : e < 2 ^ 16
+pub record EntryRule (version size : ℕ) (before : List ℕ) (e : ℕ) : Type 0 where
+  pub fits : e < entry_limit version
   pub is : IsEntry size e
   pub in_order : Last (λ (p : ℕ). IsNextEntry p e) before
 
-entry_field : (size : ℕ) (before : List ℕ) → IsField (entry_at size before) le16 (EntryRule size before)
+entry_field : (version size : ℕ) (before : List ℕ) → IsField (entry_at version size before) (le_entry version) (EntryRule version size before)
 unfolding entry_at
-entry_field size before =
-    alike (entry_at size before) le16 _ (kept_field (number_at w16) le16 _ u16_field _ (λ e. IsEntry size e × Last (λ (p : ℕ). IsNextEntry p e) before)
+entry_field version size before =
+    alike (entry_at version size before) (le_entry version) _ (kept_field (wide_at version) (le_entry version) _ (wide_field version) _ (λ e. IsEntry size e × Last (λ (p : ℕ). IsNextEntry p e) before)
     (λ e. Decides-and _ _ (entry_decides size e) (last_decides (λ (p : ℕ). is_next_entry p e) (λ (p : ℕ). IsNextEntry p e) (λ p. next_entry_decides p e) before)))
-    (EntryRule size before) (λ x h. record { fits = h.0; is = h.1.0; in_order = h.1.1 }) (λ x h. (h.fits, (h.is, h.in_order)))
+    (EntryRule version size before) (λ x h. record { fits = h.0; is = h.1.0; in_order = h.1.1 }) (λ x h. (h.fits, (h.is, h.in_order)))
 
 pub record AfterRule (code_len : ℕ) (before : List Desc) (n : ℕ) : Type 0 where
   pub fits : n < 2 ^ 32
@@ -241,48 +241,48 @@ after_field code_len before =
     (λ n. Decides-and _ _ (Decides-and _ _ (Decides-eqb (n % 4) 0) (Decides-and _ _ (leb_decides 20 n) (leb_decides n code_len))) (last_decides (λ (d : Desc). ltb d.after n) (λ (d : Desc). d.after < n) (λ d. Decides-ltb d.after n) before)))
     (AfterRule code_len before) (λ x h. record { fits = h.0; aligned = h.1.0.0; behind_stub = h.1.0.1.0; in_code = h.1.0.1.1; rises = h.1.1 }) (λ x h. (h.fits, ((h.aligned, (h.behind_stub, h.in_code)), h.rises)))
 
-pub record SizeRule (n : ℕ) : Type 0 where
-  pub fits : n < 2 ^ 16
+pub record SizeRule (version n : ℕ) : Type 0 where
+  pub fits : n < entry_limit version
   pub aligned : n % 16 ≡ 0
   pub nonempty : 16 ≤ n
 
-size_field : IsField size_at le16 SizeRule
+size_field : (version : ℕ) → IsField (size_at version) (le_entry version) (SizeRule version)
 unfolding size_at
-size_field =
-    alike size_at le16 _ (kept_field (number_at w16) le16 _ u16_field _ (λ n. (n % 16 ≡ 0) × (16 ≤ n)) (λ n. Decides-and _ _ (Decides-eqb (n % 16) 0) (leb_decides 16 n)))
-    SizeRule (λ x h. record { fits = h.0; aligned = h.1.0; nonempty = h.1.1 }) (λ x h. (h.fits, (h.aligned, h.nonempty)))
+size_field version =
+    alike (size_at version) (le_entry version) _ (kept_field (wide_at version) (le_entry version) _ (wide_field version) _ (λ n. (n % 16 ≡ 0) × (16 ≤ n)) (λ n. Decides-and _ _ (Decides-eqb (n % 16) 0) (leb_decides 16 n)))
+    (SizeRule version) (λ x h. record { fits = h.0; aligned = h.1.0; nonempty = h.1.1 }) (λ x h. (h.fits, (h.aligned, h.nonempty)))
 
-pub record DescRule (code_len : ℕ) (before : List Desc) (d : Desc) : Type 0 where
+pub record DescRule (version code_len : ℕ) (before : List Desc) (d : Desc) : Type 0 where
   pub after : AfterRule code_len before d.after
-  pub size : SizeRule d.size
-  pub few : length d.entries < 2 ^ 16
-  pub entries : AllAfter (EntryRule d.size) [] d.entries
+  pub size : SizeRule version d.size
+  pub few : length d.entries < entry_limit version
+  pub entries : AllAfter (EntryRule version d.size) [] d.entries
 
-desc_takes : (code_len : ℕ) (before : List Desc) (bytes : List ℕ) (x : Desc) (rest : List ℕ) → IsBytes bytes → desc_at code_len before bytes ≡ Ok (x, rest) → Takes bytes (desc_bytes x) rest × DescRule code_len before x
+desc_takes : (version code_len : ℕ) (before : List Desc) (bytes : List ℕ) (x : Desc) (rest : List ℕ) → IsBytes bytes → desc_at version code_len before bytes ≡ Ok (x, rest) → Takes bytes (desc_bytes version x) rest × DescRule version code_len before x
 unfolding desc_at desc_bytes
-desc_takes code_len before bytes x rest fits e =
+desc_takes version code_len before bytes x rest fits e =
     let a = step (after_at code_len before) le32 _ (after_field code_len before) bytes _ (x, rest) fits e in
-    let b = step size_at le16 _ size_field a.rest _ (x, rest) a.takes.rest_fits a.then in
-    let c = step (number_at w16) le16 _ u16_field b.rest _ (x, rest) b.takes.rest_fits b.then in
-    let d = bind_ok (rows_at (entry_at b.value) [] c.value c.rest) _ (x, rest) c.then in
-    let r = rows_take (entry_at b.value) le16 (EntryRule b.value) (entry_field b.value) [] c.value c.rest d.0.0 d.0.1 c.takes.rest_fits d.1 in
+    let b = step (size_at version) (le_entry version) _ (size_field version) a.rest _ (x, rest) a.takes.rest_fits a.then in
+    let c = step (wide_at version) (le_entry version) _ (wide_field version) b.rest _ (x, rest) b.takes.rest_fits b.then in
+    let d = bind_ok (rows_at (entry_at version b.value) [] c.value c.rest) _ (x, rest) c.then in
+    let r = rows_take (entry_at version b.value) (le_entry version) (EntryRule version b.value) (entry_field version b.value) [] c.value c.rest d.0.0 d.0.1 c.takes.rest_fits d.1 in
     let made : Desc × List ℕ = (record { after = a.value; size = b.value; entries = d.0.0 }, d.0.1) in
     let all-is : d.0.0 ≡ r.rows = r.all_is in
-    let t2 = Takes-then b.rest (le16 c.value) c.rest (flat_map le16 r.rows) d.0.1 c.takes r.takes in
-    let t1 = Takes-then a.rest (le16 b.value) b.rest _ d.0.1 b.takes t2 in
+    let t2 = Takes-then b.rest (le_entry version c.value) c.rest (flat_map (le_entry version) r.rows) d.0.1 c.takes r.takes in
+    let t1 = Takes-then a.rest (le_entry version b.value) b.rest _ d.0.1 b.takes t2 in
     let t0 = Takes-then bytes (le32 a.value) a.rest _ d.0.1 a.takes t1 in
-    let t0' = subst (λ (n : ℕ). Takes bytes (le32 a.value ++ (le16 b.value ++ (le16 n ++ flat_map le16 r.rows))) d.0.1) (sym r.count) t0 in
-    let rows-fit : (length r.rows < 2 ^ 16) × AllAfter (EntryRule b.value) [] r.rows = (omega (arith, r.count, c.fits), r.rules) in
-    let both = subst (λ (es : List ℕ). Takes bytes (le32 a.value ++ (le16 b.value ++ (le16 (length es) ++ flat_map le16 es))) d.0.1 × ((length es < 2 ^ 16) × AllAfter (EntryRule b.value) [] es)) (sym all-is) (t0', rows-fit) in
-    subst (λ (y : Desc × List ℕ). Takes bytes (le32 y.0.after ++ (le16 y.0.size ++ (le16 (length y.0.entries) ++ flat_map le16 y.0.entries))) y.1 × DescRule code_len before y.0) (ok_is made (x, rest) d.2)
+    let t0' = subst (λ (n : ℕ). Takes bytes (le32 a.value ++ (le_entry version b.value ++ (le_entry version n ++ flat_map (le_entry version) r.rows))) d.0.1) (sym r.count) t0 in
+    let rows-fit : (length r.rows < entry_limit version) × AllAfter (EntryRule version b.value) [] r.rows = (subst (λ (n : ℕ). n < entry_limit version) (sym r.count) c.fits, r.rules) in
+    let both = subst (λ (es : List ℕ). Takes bytes (le32 a.value ++ (le_entry version b.value ++ (le_entry version (length es) ++ flat_map (le_entry version) es))) d.0.1 × ((length es < entry_limit version) × AllAfter (EntryRule version b.value) [] es)) (sym all-is) (t0', rows-fit) in
+    subst (λ (y : Desc × List ℕ). Takes bytes (le32 y.0.after ++ (le_entry version y.0.size ++ (le_entry version (length y.0.entries) ++ flat_map (le_entry version) y.0.entries))) y.1 × DescRule version code_len before y.0) (ok_is made (x, rest) d.2)
     (both.0, record { after = a.fits; size = b.fits; few = both.1.0; entries = both.1.1 })
 
-desc_again : (code_len : ℕ) (before : List Desc) (x : Desc) (rest : List ℕ) → DescRule code_len before x → desc_at code_len before (desc_bytes x ++ rest) ≡ Ok (x, rest)
+desc_again : (version code_len : ℕ) (before : List Desc) (x : Desc) (rest : List ℕ) → DescRule version code_len before x → desc_at version code_len before (desc_bytes version x ++ rest) ≡ Ok (x, rest)
 unfolding desc_at desc_bytes
-desc_again code_len before x rest rule =
-    let regrouped : (le32 x.after ++ (le16 x.size ++ (le16 (length x.entries) ++ flat_map le16 x.entries))) ++ rest ≡ le32 x.after ++ (le16 x.size ++ (le16 (length x.entries) ++ (flat_map le16 x.entries ++ rest))) = simp append_assoc in
-    ap (desc_at code_len before) regrouped
-    ∙ rw ((after_field code_len before).again x.after _ rule.after, size_field.again x.size _ rule.size, u16_field.again (length x.entries) _ rule.few, rows_again (entry_at x.size) le16 (EntryRule x.size) (entry_field x.size) [] x.entries rest rule.entries) refl
+desc_again version code_len before x rest rule =
+    let regrouped : (le32 x.after ++ (le_entry version x.size ++ (le_entry version (length x.entries) ++ flat_map (le_entry version) x.entries))) ++ rest ≡ le32 x.after ++ (le_entry version x.size ++ (le_entry version (length x.entries) ++ (flat_map (le_entry version) x.entries ++ rest))) = simp append_assoc in
+    ap (desc_at version code_len before) regrouped
+    ∙ rw ((after_field code_len before).again x.after _ rule.after, (size_field version).again x.size _ rule.size, (wide_field version).again (length x.entries) _ rule.few, rows_again (entry_at version x.size) (le_entry version) (EntryRule version x.size) (entry_field version x.size) [] x.entries rest rule.entries) refl
 
-pub desc_field : (code_len : ℕ) (before : List Desc) → IsField (desc_at code_len before) desc_bytes (DescRule code_len before)
-desc_field code_len before = record { takes = desc_takes code_len before; again = desc_again code_len before }
+pub desc_field : (version code_len : ℕ) (before : List Desc) → IsField (desc_at version code_len before) (desc_bytes version) (DescRule version code_len before)
+desc_field version code_len before = record { takes = desc_takes version code_len before; again = desc_again version code_len before }

@@ -1,14 +1,15 @@
 -- The rules of a table, from those of each row in view of the rows before it, and back.
-use Rattle.std.proofs.Common.{◌≡◌, ◌≢◌, ℕ, suc, ◌-◌, ◌^◌, ◌<◌, ◌≤◌, Bool, true, false, List, [], ◌∷◌, ◌++◌, length, map, Some, refl, sym, ap, subst, ◌∙◌, append_assoc, arith, inl, inr}
+use Rattle.std.proofs.Common.{◌≡◌, ◌≢◌, ℕ, suc, ◌-◌, ◌^◌, ◌<◌, ◌≤◌, Bool, true, false, List, [], ◌∷◌, ◌++◌, length, map, Some, refl, sym, ap, subst, ◌∙◌, append_assoc, arith}
 use Rattle.std.specs.List.{AllByRecursion, slice_get}
 use Rattle.std.specs.Str.{bytes_eq}
 use Rattle.std.proofs.lemmas.Bool.{or_parts, or_from, false_from_ne_true}
 use Rattle.std.proofs.lemmas.List.{append-nil, map_push}
 use Rattle.std.proofs.lemmas.Slice.Eq.{bytes_eq-Decides}
 use Rattle.image_form.specs.Tables.{Func, Sym, Ext, Desc, func_names, sym_names}
-use Rattle.image_form.specs.Image.{First, EachNext, AllDiffer, IsFunc, IsBehind, IsSym, IsRoot, IsExt, IsDesc, IsEntry, IsNextEntry, end_of, ext_bytes}
+use Rattle.image_form.specs.Image.{First, EachNext, AllDiffer, IsFunc, IsBehind, IsSym, IsRoot, IsExt, IsDesc, IsEntry, IsNextEntry, entry_limit, end_of, ext_bytes}
 use Rattle.image_form.specs.Seen.{has}
 use Rattle.image_form.specs.Fields.{ext_at}
+use Rattle.image_form.proofs.Lengths.{entry_fits}
 use Rattle.image_form.proofs.Texts.{has_more}
 use Rattle.image_form.proofs.Takes.{AllAfter, ok_is}
 use Rattle.image_form.proofs.FieldLaws.{some_is, each_from, each_to}
@@ -245,45 +246,41 @@ extcs_to extcs read =
 
 -- ---- descriptors
 
-entries_from : (size : ℕ) (es : List ℕ) → AllAfter (EntryRule size) [] es → AllByRecursion (IsEntry size) es × EachNext IsNextEntry es
-entries_from size es all = (
-  each_from (IsEntry size) [] es (weaker (EntryRule size) (λ _ e. IsEntry size e) (λ b e r. r.is) [] es all),
-  (order_from IsNextEntry [] es (weaker (EntryRule size) (λ b e. Last (λ p. IsNextEntry p e) b) (λ b e r. r.in_order) [] es all)).1,
+entries_from : (version size : ℕ) (es : List ℕ) → AllAfter (EntryRule version size) [] es → AllByRecursion (IsEntry size) es × EachNext IsNextEntry es
+entries_from version size es all = (
+  each_from (IsEntry size) [] es (weaker (EntryRule version size) (λ _ e. IsEntry size e) (λ b e r. r.is) [] es all),
+  (order_from IsNextEntry [] es (weaker (EntryRule version size) (λ b e. Last (λ p. IsNextEntry p e) b) (λ b e r. r.in_order) [] es all)).1,
 )
 
-entry_fits : (size e : ℕ) → size < 2 ^ 16 → IsEntry size e → e < 2 ^ 16
-entry_fits size e fits (inl odd) = omega arith
-entry_fits size e fits (inr even) = omega arith
-
-entries_to : (size : ℕ) (es : List ℕ) → size < 2 ^ 16 → AllByRecursion (IsEntry size) es → EachNext IsNextEntry es → AllAfter (EntryRule size) [] es
-entries_to size es small all next =
-    weaker _ (EntryRule size) (λ b e h. record { fits = entry_fits size e small h.0; is = h.0; in_order = h.1 }) [] es
+entries_to : (version size : ℕ) (es : List ℕ) → size < entry_limit version → AllByRecursion (IsEntry size) es → EachNext IsNextEntry es → AllAfter (EntryRule version size) [] es
+entries_to version size es small all next =
+    weaker _ (EntryRule version size) (λ b e h. record { fits = entry_fits version size e small h.0; is = h.0; in_order = h.1 }) [] es
     (both (λ _ e. IsEntry size e) (λ b e. Last (λ p. IsNextEntry p e) b) [] es (each_to (IsEntry size) [] es all) (order_to IsNextEntry [] es (no_last _) next))
 
-pub record DescsRead (code_len : ℕ) (descs : List Desc) : Type 0 where
-  pub each : AllByRecursion (IsDesc code_len) descs
+pub record DescsRead (version code_len : ℕ) (descs : List Desc) : Type 0 where
+  pub each : AllByRecursion (IsDesc version code_len) descs
   pub rising : EachNext (λ a b. a.after < b.after) descs
 
-desc_from : (code_len : ℕ) (before : List Desc) (d : Desc) → DescRule code_len before d → IsDesc code_len d
-desc_from code_len before d r =
-    let es = entries_from d.size d.entries r.entries in
+desc_from : (version code_len : ℕ) (before : List Desc) (d : Desc) → DescRule version code_len before d → IsDesc version code_len d
+desc_from version code_len before d r =
+    let es = entries_from version d.size d.entries r.entries in
     record { aligned = r.after.aligned; behind_stub = r.after.behind_stub; in_code = r.after.in_code; size_aligned = r.size.aligned; nonempty = r.size.nonempty; size_fits = r.size.fits; few = r.few; entries = es.0; in_order = es.1 }
 
-pub descs_from : (code_len : ℕ) (descs : List Desc) → AllAfter (DescRule code_len) [] descs → DescsRead code_len descs
-descs_from code_len descs all = record {
-  each = each_from (IsDesc code_len) [] descs (weaker (DescRule code_len) (λ _ d. IsDesc code_len d) (desc_from code_len) [] descs all);
-  rising = (order_from (λ (a b : Desc). a.after < b.after) [] descs (weaker (DescRule code_len) (λ b d. Last (λ (p : Desc). p.after < d.after) b) (λ b d r. r.after.rises) [] descs all)).1;
+pub descs_from : (version code_len : ℕ) (descs : List Desc) → AllAfter (DescRule version code_len) [] descs → DescsRead version code_len descs
+descs_from version code_len descs all = record {
+  each = each_from (IsDesc version code_len) [] descs (weaker (DescRule version code_len) (λ _ d. IsDesc version code_len d) (desc_from version code_len) [] descs all);
+  rising = (order_from (λ (a b : Desc). a.after < b.after) [] descs (weaker (DescRule version code_len) (λ b d. Last (λ (p : Desc). p.after < d.after) b) (λ b d r. r.after.rises) [] descs all)).1;
 }
 
-desc_rule : (code_len : ℕ) → code_len < 2 ^ 32 → (before : List Desc) (d : Desc) → IsDesc code_len d × Last (λ (p : Desc). p.after < d.after) before → DescRule code_len before d
-desc_rule code_len small before d h = record {
+desc_rule : (version code_len : ℕ) → code_len < 2 ^ 32 → (before : List Desc) (d : Desc) → IsDesc version code_len d × Last (λ (p : Desc). p.after < d.after) before → DescRule version code_len before d
+desc_rule version code_len small before d h = record {
   after = record { fits = omega (arith, h.0.in_code); aligned = h.0.aligned; behind_stub = h.0.behind_stub; in_code = h.0.in_code; rises = h.1 };
   size = record { fits = h.0.size_fits; aligned = h.0.size_aligned; nonempty = h.0.nonempty };
   few = h.0.few;
-  entries = entries_to d.size d.entries h.0.size_fits h.0.entries h.0.in_order;
+  entries = entries_to version d.size d.entries h.0.size_fits h.0.entries h.0.in_order;
 }
 
-pub descs_to : (code_len : ℕ) (descs : List Desc) → code_len < 2 ^ 32 → DescsRead code_len descs → AllAfter (DescRule code_len) [] descs
-descs_to code_len descs small read =
-    weaker _ (DescRule code_len) (desc_rule code_len small) [] descs
-    (both (λ _ d. IsDesc code_len d) (λ b d. Last (λ (p : Desc). p.after < d.after) b) [] descs (each_to (IsDesc code_len) [] descs read.each) (order_to (λ (a b : Desc). a.after < b.after) [] descs (no_last _) read.rising))
+pub descs_to : (version code_len : ℕ) (descs : List Desc) → code_len < 2 ^ 32 → DescsRead version code_len descs → AllAfter (DescRule version code_len) [] descs
+descs_to version code_len descs small read =
+    weaker _ (DescRule version code_len) (desc_rule version code_len small) [] descs
+    (both (λ _ d. IsDesc version code_len d) (λ b d. Last (λ (p : Desc). p.after < d.after) b) [] descs (each_to (IsDesc version code_len) [] descs read.each) (order_to (λ (a b : Desc). a.after < b.after) [] descs (no_last _) read.rising))

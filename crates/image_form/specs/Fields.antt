@@ -11,7 +11,7 @@ use Rattle.bs_words.specs.declared.types.Ret.TheVariants as returns
 use Rattle.image_form.specs.declared.fault.Stop.{Stop}
 use Rattle.image_form.specs.declared.fault.Stop.TheVariants as stops
 use Rattle.image_form.specs.Tables.{Func, Sym, Ext, Desc, func_names, sym_names}
-use Rattle.image_form.specs.Image.{end_of, ext_bytes}
+use Rattle.image_form.specs.Image.{end_of, ext_bytes, entry_width}
 use Rattle.image_form.specs.Seen.{has}
 
 infixl 10 ◌>>=◌
@@ -145,8 +145,13 @@ is_entry size e = ((e % 2 == 1) && nat_le e 63) || ((e % 8 == 0) && nat_lt e siz
 unfoldable pub is_next_entry : ℕ → ℕ → Bool
 is_next_entry a b = ((a % 2 == b % 2) && nat_lt a b) || ((a % 2 == 1) && (b % 2 == 0))
 
-unfoldable pub entry_at : ℕ → List ℕ → List ℕ → Result (ℕ × List ℕ) ℕ
-entry_at size before = kept (λ e. is_entry size e && at_last (λ p. is_next_entry p e) before) (number_at w16)
+-- a size, a number of entries or an entry
+unfoldable pub wide_at : ℕ → List ℕ → Result (ℕ × List ℕ) ℕ
+wide_at version = number_at (entry_width version)
+
+unfoldable pub entry_at : ℕ → ℕ → List ℕ → List ℕ → Result (ℕ × List ℕ) ℕ
+entry_at version size before =
+    kept (λ e. is_entry size e && at_last (λ p. is_next_entry p e) before) (wide_at version)
 
 -- where a call in the code can return to: behind the stub and a word
 abbrev pub is_return : ℕ → ℕ → Bool
@@ -155,15 +160,15 @@ is_return code_len n = (n % 4 == 0) && (nat_le 20 n && nat_le n code_len)
 unfoldable pub after_at : ℕ → List Desc → List ℕ → Result (ℕ × List ℕ) ℕ
 after_at code_len before = kept (λ n. is_return code_len n && at_last (λ d. nat_lt d.after n) before) (number_at w32)
 
-unfoldable pub size_at : List ℕ → Result (ℕ × List ℕ) ℕ
-size_at = kept (λ n. (n % 16 == 0) && nat_le 16 n) (number_at w16)
+unfoldable pub size_at : ℕ → List ℕ → Result (ℕ × List ℕ) ℕ
+size_at version = kept (λ n. (n % 16 == 0) && nat_le 16 n) (wide_at version)
 
-unfoldable pub desc_at : ℕ → List Desc → List ℕ → Result (Desc × List ℕ) ℕ
-desc_at code_len before bytes = do
+unfoldable pub desc_at : ℕ → ℕ → List Desc → List ℕ → Result (Desc × List ℕ) ℕ
+desc_at version code_len before bytes = do
   after ← after_at code_len before bytes
-  size ← size_at after.1
-  count ← number_at w16 size.1
-  entries ← rows_at (entry_at size.0) [] count.0 count.1
+  size ← size_at version after.1
+  count ← wide_at version size.1
+  entries ← rows_at (entry_at version size.0) [] count.0 count.1
   Ok (record { after = after.0; size = size.0; entries = entries.0 }, entries.1)
 
 -- ---- bodies

@@ -1,7 +1,7 @@
 -- The rules that each image keeps, and the one spelling of an image in bytes.
-use Rattle.std.specs.Prelude.{◌≡◌, ◌≢◌, ⊤, ℕ, ◌+◌, ◌*◌, ◌%◌, ◌^◌, ◌<◌, ◌≤◌, List, [], ◌∷◌, ◌++◌, length, map, ◌⊎◌, codes}
+use Rattle.std.specs.Prelude.{◌≡◌, ◌≢◌, ⊤, ℕ, ◌+◌, ◌*◌, ◌%◌, ◌^◌, ◌<◌, ◌≤◌, List, [], ◌∷◌, ◌++◌, length, map, ◌⊎◌, codes, cond, ◌==◌}
 use Rattle.std.specs.List.{flat_map, AllByRecursion}
-use Rattle.std.specs.Int.{w16, w32, to_le_bytes}
+use Rattle.std.specs.Int.{Width, w16, w32, to_le_bytes}
 use Rattle.bs_words.specs.declared.types.Comp.{Comp}
 use Rattle.bs_words.specs.declared.types.Comp.TheVariants.{Int, Val, Addr, Float}
 use Rattle.bs_words.specs.declared.types.Ret.{Ret}
@@ -26,6 +26,13 @@ abbrev pub AllDiffer : {A : Type 0} → List A → Type 0
 AllDiffer [] = ⊤
 AllDiffer (x ∷ xs) = AllByRecursion (λ y. x ≢ y) xs × AllDiffer xs
 
+-- ---- what every image has
+
+-- the words with which the code of each compiled image begins: the return service, and then the uncaught
+-- raise
+abbrev pub stub : List ℕ
+stub = 0x00000393 ∷ 0x00000073 ∷ 0x00100393 ∷ 0x00000073 ∷ []
+
 -- the most bytes of a section's body
 abbrev pub table_limit : ℕ
 table_limit = 67108864
@@ -43,6 +50,17 @@ le16 n = to_le_bytes w16 n
 
 unfoldable pub le32 : ℕ → List ℕ
 le32 n = to_le_bytes w32 n
+
+-- The size, the number of entries and the entries of a descriptor have 16 bits in version 1, and 32 in
+-- version 2.
+abbrev pub entry_width : ℕ → Width
+entry_width version = cond (version == 1) w16 w32
+
+abbrev pub entry_limit : ℕ → ℕ
+entry_limit version = cond (version == 1) (2 ^ 16) (2 ^ 32)
+
+unfoldable pub le_entry : ℕ → ℕ → List ℕ
+le_entry version n = to_le_bytes (entry_width version) n
 
 -- the byte of a type; no image has the last
 abbrev pub comp_byte : Comp → ℕ
@@ -72,8 +90,10 @@ sym_bytes s = name_bytes s.name ++ le32 s.offset
 unfoldable pub ext_bytes : Ext → List ℕ
 ext_bytes e = name_bytes e.name ++ (params_bytes e.params ++ ret_byte e.result ∷ [])
 
-unfoldable pub desc_bytes : Desc → List ℕ
-desc_bytes d = le32 d.after ++ (le16 d.size ++ (le16 (length d.entries) ++ flat_map le16 d.entries))
+unfoldable pub desc_bytes : ℕ → Desc → List ℕ
+desc_bytes version d =
+    le32 d.after
+    ++ (le_entry version d.size ++ (le_entry version (length d.entries) ++ flat_map (le_entry version) d.entries))
 
 -- the number of rows, and the rows
 unfoldable pub table_bytes : {A : Type 0} → (A → List ℕ) → List A → List ℕ
@@ -83,29 +103,29 @@ table_bytes row rows = le32 (length rows) ++ flat_map row rows
 unfoldable pub section_bytes : List ℕ → List ℕ → List ℕ
 section_bytes name body = name ++ (le32 (length body) ++ body)
 
--- the first eight bytes, and the version 1
+-- the first eight bytes, before the version
 abbrev pub magic : List ℕ
 magic = codes "CMMRV64\n"
 
-abbrev pub version : List ℕ
-version = 1 ∷ 0 ∷ 0 ∷ 0 ∷ []
-
 unfoldable pub tables_bytes : Tables → List ℕ
 tables_bytes t =
-    magic ++ (version
+    magic ++ (le32 t.version
     ++ (section_bytes (codes "FUNC") (table_bytes func_bytes t.funcs)
     ++ (section_bytes (codes "CODE") (flat_map le32 t.code)
     ++ (section_bytes (codes "DATA") t.bytes
     ++ (section_bytes (codes "SYMS") (table_bytes sym_bytes t.syms)
     ++ (section_bytes (codes "ROOT") (table_bytes le32 t.roots)
     ++ (section_bytes (codes "EXTC") (table_bytes ext_bytes t.extcs)
-    ++ section_bytes (codes "DESC") (table_bytes desc_bytes t.descs))))))))
+    ++ section_bytes (codes "DESC") (table_bytes (desc_bytes t.version) t.descs))))))))
 
 -- The one spelling of an image.
 abbrev pub image_bytes : declared.Image → List ℕ
 image_bytes image = tables_bytes (tables image)
 
 -- ---- the rules
+
+abbrev pub IsVersion : ℕ → Type 0
+IsVersion version = (version ≡ 1) ⊎ (version ≡ 2)
 
 pub record IsName (name : List ℕ) : Type 0 where
   pub nonempty : 0 < length name
@@ -207,24 +227,25 @@ IsEntry size e = ((e % 2 ≡ 1) × (e ≤ 63)) ⊎ ((e % 8 ≡ 0) × (e < size))
 abbrev pub IsNextEntry : ℕ → ℕ → Type 0
 IsNextEntry a b = ((a % 2 ≡ b % 2) × (a < b)) ⊎ ((a % 2 ≡ 1) × (b % 2 ≡ 0))
 
-pub record IsDesc (code_len : ℕ) (d : Desc) : Type 0 where
+pub record IsDesc (version code_len : ℕ) (d : Desc) : Type 0 where
   pub aligned : d.after % 4 ≡ 0
   pub behind_stub : 20 ≤ d.after
   pub in_code : d.after ≤ code_len
   pub size_aligned : d.size % 16 ≡ 0
   pub nonempty : 16 ≤ d.size
-  pub size_fits : d.size < 2 ^ 16
-  pub few : length d.entries < 2 ^ 16
+  pub size_fits : d.size < entry_limit version
+  pub few : length d.entries < entry_limit version
   pub entries : AllByRecursion (IsEntry d.size) d.entries
   pub in_order : EachNext IsNextEntry d.entries
 
-pub record AreDescs (code_len : ℕ) (descs : List Desc) : Type 0 where
-  pub each : AllByRecursion (IsDesc code_len) descs
+pub record AreDescs (version code_len : ℕ) (descs : List Desc) : Type 0 where
+  pub each : AllByRecursion (IsDesc version code_len) descs
   pub rising : EachNext (λ a b. a.after < b.after) descs
-  pub short : length (table_bytes desc_bytes descs) ≤ table_limit
+  pub short : length (table_bytes (desc_bytes version) descs) ≤ table_limit
 
 -- The lengths of the code and of the data are in bytes.
 pub record AreTables (t : Tables) : Type 0 where
+  pub version : IsVersion t.version
   pub funcs : AreFuncs (4 * length t.code) t.funcs
   pub code : IsCode t.code
   pub bytes : IsData t.bytes
@@ -232,7 +253,7 @@ pub record AreTables (t : Tables) : Type 0 where
   pub names_differ : AllDiffer (func_names t.funcs ++ sym_names t.syms)
   pub roots : AreRoots (length t.bytes) t.roots
   pub extcs : AreExtcs t.extcs
-  pub descs : AreDescs (4 * length t.code) t.descs
+  pub descs : AreDescs t.version (4 * length t.code) t.descs
 
 -- The image keeps every rule. Each image that a call takes or gives does.
 abbrev pub IsImage : declared.Image → Type 0

@@ -1,7 +1,7 @@
 -- Reading the bytes of an image from the first on: the image, or the first fault. Until the bytes of a
 -- field or of a body are all there, nothing else is asked of them. A section's length is tested once
 -- its four bytes are there, before its body is wanted.
-use Rattle.std.specs.Prelude.{◌≡◌, ℕ, ◌-◌, ◌*◌, ◌%◌, Bool, ◌&&◌, max, fold, List, length, take, drop, Result, Ok, Err, nat_lt, nat_le, ◌==◌, if◌then◌else◌, codes}
+use Rattle.std.specs.Prelude.{◌≡◌, ℕ, ◌-◌, ◌*◌, ◌%◌, Bool, ◌&&◌, ◌||◌, max, fold, List, length, take, drop, Result, Ok, Err, nat_lt, nat_le, ◌==◌, if◌then◌else◌, codes}
 use Rattle.std.specs.Int.{w32, from_le_bytes}
 use Rattle.std.specs.Str.{bytes_eq}
 use Rattle.bs_fault.specs.declared.image.ImageFault.{ImageFault}
@@ -14,7 +14,7 @@ use Rattle.image_form.specs.declared.fault.ImageError.TheVariants as errors
 use Rattle.image_form.specs.declared.reading.Limits.{Limits}
 use Rattle.image_form.specs.Tables.{Func, Tables, func_names}
 use Rattle.image_form.specs.declared.image.Image as declared
-use Rattle.image_form.specs.Image.{IsImage, image_bytes, end_of, magic, version, table_limit, code_limit, data_limit}
+use Rattle.image_form.specs.Image.{IsImage, image_bytes, end_of, magic, table_limit, code_limit, data_limit}
 use Rattle.image_form.specs.Fields.{◌>>=◌, func_at, sym_at, root_at, ext_at, desc_at, table_at, words_at}
 
 -- What a function of the code returned, seen by view, is what reading gives, unless memory ran out.
@@ -39,6 +39,15 @@ unfoldable pub mark_at : ℕ → ImageFault → List ℕ → List ℕ → Result
 mark_at total fault mark bytes = do
   front ← whole_at total (length mark) bytes
   if bytes_eq front.0 mark then Ok front.1 else Err (refused fault total bytes)
+
+-- the version, 1 or 2
+abbrev pub is_version : ℕ → Bool
+is_version n = (n == 1) || (n == 2)
+
+unfoldable pub version_at : ℕ → List ℕ → Result (ℕ × List ℕ) ImageRefusal
+version_at total bytes = do
+  front ← whole_at total 4 bytes
+  if is_version (from_le_bytes w32 front.0) then Ok (from_le_bytes w32 front.0, front.1) else Err (refused faults.Version total bytes)
 
 -- the length of a body, within its limits
 abbrev pub is_within : Limits → ℕ → Bool
@@ -95,15 +104,15 @@ code_limits funcs = record { least = code_least funcs; most = code_limit; step =
 unfoldable pub reading : List ℕ → Result Tables ImageRefusal
 reading bytes = do
   behind_magic ← mark_at (length bytes) faults.Magic magic bytes
-  front ← mark_at (length bytes) faults.Version version behind_magic
-  funcs ← part_at (length bytes) (codes "FUNC") table_limits (table_at func_at) front
+  front ← version_at (length bytes) behind_magic
+  funcs ← part_at (length bytes) (codes "FUNC") table_limits (table_at func_at) front.1
   code ← part_at (length bytes) (codes "CODE") (code_limits funcs.0) words_at funcs.1
   data_ ← part_at (length bytes) (codes "DATA") data_limits Ok code.1
   syms ← part_at (length bytes) (codes "SYMS") table_limits (table_at (sym_at (func_names funcs.0) (length data_.0))) data_.1
   roots ← part_at (length bytes) (codes "ROOT") table_limits (table_at (root_at (length data_.0))) syms.1
   extcs ← part_at (length bytes) (codes "EXTC") table_limits (table_at ext_at) roots.1
-  descs ← part_at (length bytes) (codes "DESC") table_limits (table_at (desc_at (4 * length code.0))) extcs.1
-  if length descs.1 == 0 then Ok (record { funcs = funcs.0; code = code.0; bytes = data_.0; syms = syms.0; roots = roots.0; extcs = extcs.0; descs = descs.0 }) else Err (refused faults.Trailing (length bytes) descs.1)
+  descs ← part_at (length bytes) (codes "DESC") table_limits (table_at (desc_at front.0 (4 * length code.0))) extcs.1
+  if length descs.1 == 0 then Ok (record { version = front.0; funcs = funcs.0; code = code.0; bytes = data_.0; syms = syms.0; roots = roots.0; extcs = extcs.0; descs = descs.0 }) else Err (refused faults.Trailing (length bytes) descs.1)
 
 -- no image has these bytes
 abbrev pub NoImage : List ℕ → Type 0

@@ -32,6 +32,7 @@ pub record Desc : Type 0 where
   pub entries : List ℕ
 
 pub record Tables : Type 0 where
+  pub version : ℕ
   pub funcs : List Func
   pub code : List ℕ
   pub bytes : List ℕ
@@ -56,6 +57,7 @@ desc d = record { after = d.after; size = d.size; entries = contents d.entries }
 
 abbrev pub tables : declared.Image → Tables
 tables image = record {
+  version = image.version;
   funcs = map func (contents image.funcs);
   code = contents image.code;
   bytes = contents image.bytes;

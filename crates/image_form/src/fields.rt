@@ -7,6 +7,7 @@ ghost use Rattle.image_form.specs.Fields.{
   Gives,
   byte_at,
   number_at,
+  wide_at,
   text_at,
   is_name,
   name_at,
@@ -55,6 +56,19 @@ pub(crate) fn u32_from(bytes: &[u8]) -> Result<(u32, &[u8]), Stop>
     let (front, rest) = bytes.split_at(4);
     let number = u32::from_le_bytes([front[0], front[1], front[2], front[3]]);
     Ok((number, rest))
+}
+
+/// A size, a number of entries or an entry of a descriptor: 16 bits in version 1, and 32 in version 2.
+#[tactic(auto, unfolding(crate::specs::Fields::wide_at))]
+pub(crate) fn wide_from(version: u32, bytes: &[u8]) -> Result<(u32, &[u8]), Stop>
+    ensures { Gives (λ x. (x.0, x.1.now)) result (wide_at version bytes.now) }
+{
+    if version == 1 {
+        let (number, rest) = u16_from(bytes)?;
+        Ok((u32::from(number), rest))
+    } else {
+        u32_from(bytes)
+    }
 }
 
 #[tactic(auto, unfolding(crate::specs::Fields::text_at))]

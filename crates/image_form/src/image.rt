@@ -5,6 +5,9 @@ use bs_words::{Comp, List, Name, Ret};
 /// A compiled program.
 #[derive(Debug, Drop)]
 pub struct Image {
+    /// How wide the fields of its descriptors are when it is written: 16 bits in version 1, and 32 in
+    /// version 2. No run depends on it.
+    pub version: u32,
     /// The functions, in the order of their code.
     pub funcs: List<FuncRow>,
     /// The words of the code region.

@@ -8,6 +8,7 @@
 mod fault;
 mod fields;
 mod image;
+pub mod limits;
 mod reading;
 mod rows;
 mod seen;
@@ -17,6 +18,3 @@ pub use fault::ImageError;
 pub use image::{DescRow, ExtRow, FuncRow, Image, SymRow};
 pub use reading::read_image;
 pub use writing::write_image;
-
-#[cfg(test)]
-mod tests;

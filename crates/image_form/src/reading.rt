@@ -10,6 +10,7 @@ ghost use Rattle.image_form.specs.Reading.{
   refused,
   whole_at,
   mark_at,
+  version_at,
   is_within,
   length_at,
   section_at,
@@ -25,6 +26,7 @@ ghost use Rattle.image_form.specs.declared.fault.ImageError.TheVariants.{Refused
 
 use crate::fault::{ImageError, Stop};
 use crate::image::{DescRow, ExtRow, FuncRow, Image, SymRow};
+use crate::limits::{CODE_LIMIT, DATA_LIMIT, TABLE_LIMIT};
 use crate::rows::{desc_table, end_of, ext_table, func_table, root_table, sym_table, words};
 use crate::seen::Seen;
 use bs_fault::{ImageFault, ImageRefusal};
@@ -41,13 +43,13 @@ pub(crate) struct Limits {
 
 const TABLE: Limits = Limits {
     least: 0,
-    most: 67_108_864,
+    most: TABLE_LIMIT,
     step: 1,
 };
 
 const DATA: Limits = Limits {
     least: 8,
-    most: 16_777_216,
+    most: DATA_LIMIT,
     step: 1,
 };
 
@@ -88,6 +90,20 @@ fn mark_from<'a>(
         Ok(rest)
     } else {
         Err(refusal(fault, total, bytes))
+    }
+}
+
+/// The version, 1 or 2.
+#[tactic(auto, unfolding(crate::specs::Reading::version_at))]
+fn version_from(total: usize, bytes: &[u8]) -> Result<(u32, &[u8]), ImageError>
+    ensures { Reads (λ x. (x.0, x.1.now)) result (version_at total bytes.now) }
+{
+    let (front, rest) = whole_from(total, 4, bytes)?;
+    let version = u32::from_le_bytes([front[0], front[1], front[2], front[3]]);
+    if version == 1 || version == 2 {
+        Ok((version, rest))
+    } else {
+        Err(refusal(ImageFault::Version, total, bytes))
     }
 }
 
@@ -187,7 +203,7 @@ fn code_part<'a>(
 {
     let limits = Limits {
         least: code_least(funcs),
-        most: 268_369_920,
+        most: CODE_LIMIT,
         step: 4,
     };
     let (body, rest) = section_from(total, b"CODE", limits, bytes)?;
@@ -245,13 +261,14 @@ fn ext_part(alloc: Global, total: usize, bytes: &[u8]) -> Result<(Vec<ExtRow>, &
 fn desc_part(
     alloc: Global,
     total: usize,
+    version: u32,
     code_len: usize,
     bytes: &[u8],
 ) -> Result<(Vec<DescRow>, &[u8]), ImageError>
-    ensures { Reads (λ x. (map desc x.0.items, x.1.now)) result (part_at total (codes "DESC") table_limits (table_at (desc_at code_len)) bytes.now) }
+    ensures { Reads (λ x. (map desc x.0.items, x.1.now)) result (part_at total (codes "DESC") table_limits (table_at (desc_at version code_len)) bytes.now) }
 {
     let (body, rest) = section_from(total, b"DESC", TABLE, bytes)?;
-    let rows = placed(total, rest, desc_table(alloc, code_len, body))?;
+    let rows = placed(total, rest, desc_table(alloc, version, code_len, body))?;
     Ok((rows, rest))
 }
 
@@ -261,7 +278,7 @@ fn image_from(alloc: Global, bytes: &[u8]) -> Result<Image, ImageError>
 {
     let total = bytes.len();
     let rest = mark_from(total, ImageFault::Magic, b"CMMRV64\n", bytes)?;
-    let rest = mark_from(total, ImageFault::Version, &[1, 0, 0, 0], rest)?;
+    let (version, rest) = version_from(total, rest)?;
     let mut seen = Seen::new(alloc);
     let (funcs, rest) = func_part(alloc, total, &mut seen, rest)?;
     let (code, rest) = code_part(alloc, total, &funcs, rest)?;
@@ -269,11 +286,12 @@ fn image_from(alloc: Global, bytes: &[u8]) -> Result<Image, ImageError>
     let (syms, rest) = sym_part(alloc, total, &mut seen, data.len(), rest)?;
     let (roots, rest) = root_part(alloc, total, data.len(), rest)?;
     let (extcs, rest) = ext_part(alloc, total, rest)?;
-    let (descs, rest) = desc_part(alloc, total, 4 * code.len(), rest)?;
+    let (descs, rest) = desc_part(alloc, total, version, 4 * code.len(), rest)?;
     if !rest.is_empty() {
         return Err(refusal(ImageFault::Trailing, total, rest));
     }
     Ok(Image {
+        version,
         funcs: bs_words::List::from_vec(funcs),
         code: bs_words::List::from_vec(code),
         bytes: bs_words::List::from_vec(data),

@@ -29,7 +29,7 @@ ghost use Rattle.image_form.specs.Fields.{
 
 use crate::fault::Stop;
 use crate::fields::{
-    ext_result_from, name_from, new_name_from, params_from, result_from, u16_from, u32_from,
+    ext_result_from, name_from, new_name_from, params_from, result_from, u32_from, wide_from,
 };
 use crate::image::{DescRow, ExtRow, FuncRow, SymRow};
 use crate::seen::Seen;
@@ -366,7 +366,7 @@ pub(crate) fn ext_table(alloc: Global, body: &[u8]) -> Result<Vec<ExtRow>, Stop>
 
 /// Whether the entry names a register, or a place in a frame of that size.
 #[tactic(auto, unfolding(crate::specs::Fields::is_entry))]
-fn is_entry(size: u16, entry: u16) -> bool
+fn is_entry(size: u32, entry: u32) -> bool
     ensures { result ≡ is_entry size entry }
 {
     entry % 2 == 1 && entry <= 63 || entry % 8 == 0 && entry < size
@@ -390,28 +390,34 @@ fn continues(before: &[u32], entry: u32) -> bool
 }
 
 #[tactic(auto, unfolding(crate::specs::Fields::entry_at, crate::specs::Fields::kept))]
-fn entry_from<'a>(size: u16, before: &[u32], bytes: &'a [u8]) -> Result<(u32, &'a [u8]), Stop>
-    ensures { Gives (λ x. (x.0, x.1.now)) result (entry_at size before.now bytes.now) }
+fn entry_from<'a>(
+    version: u32,
+    size: u32,
+    before: &[u32],
+    bytes: &'a [u8],
+) -> Result<(u32, &'a [u8]), Stop>
+    ensures { Gives (λ x. (x.0, x.1.now)) result (entry_at version size before.now bytes.now) }
 {
-    let (entry, rest) = u16_from(bytes)?;
-    if !is_entry(size, entry) || !continues(before, entry as u32) {
+    let (entry, rest) = wide_from(version, bytes)?;
+    if !is_entry(size, entry) || !continues(before, entry) {
         return Err(Stop::Left(bytes.len()));
     }
-    Ok((entry as u32, rest))
+    Ok((entry, rest))
 }
 
 fn entries_from(
     alloc: Global,
-    size: u16,
-    count: u16,
+    version: u32,
+    size: u32,
+    count: u32,
     bytes: &[u8],
 ) -> Result<(Vec<u32>, &[u8]), Stop>
-    ensures { Gives (λ x. (x.0.items, x.1.now)) result (rows_at (entry_at size) [] count bytes.now) }
+    ensures { Gives (λ x. (x.0.items, x.1.now)) result (rows_at (entry_at version size) [] count bytes.now) }
 {
     let mut entries = Vec::new(alloc);
     let mut rest = bytes;
     for _ in 0..count {
-        let (entry, after) = entry_from(size, &entries, rest)?;
+        let (entry, after) = entry_from(version, size, &entries, rest)?;
         entries.push(entry)?;
         rest = after;
     }
@@ -451,10 +457,10 @@ fn after_from<'a>(
 }
 
 #[tactic(auto, unfolding(crate::specs::Fields::size_at, crate::specs::Fields::kept))]
-fn size_from(bytes: &[u8]) -> Result<(u16, &[u8]), Stop>
-    ensures { Gives (λ x. (x.0, x.1.now)) result (size_at bytes.now) }
+fn size_from(version: u32, bytes: &[u8]) -> Result<(u32, &[u8]), Stop>
+    ensures { Gives (λ x. (x.0, x.1.now)) result (size_at version bytes.now) }
 {
-    let (size, rest) = u16_from(bytes)?;
+    let (size, rest) = wide_from(version, bytes)?;
     if size % 16 != 0 || size < 16 {
         return Err(Stop::Left(bytes.len()));
     }
@@ -464,19 +470,20 @@ fn size_from(bytes: &[u8]) -> Result<(u16, &[u8]), Stop>
 #[tactic(auto, unfolding(crate::specs::Fields::desc_at))]
 fn desc_from<'a>(
     alloc: Global,
+    version: u32,
     code_len: usize,
     before: &[DescRow],
     bytes: &'a [u8],
 ) -> Result<(DescRow, &'a [u8]), Stop>
-    ensures { Gives (λ x. (desc x.0, x.1.now)) result (desc_at code_len (map desc before.now) bytes.now) }
+    ensures { Gives (λ x. (desc x.0, x.1.now)) result (desc_at version code_len (map desc before.now) bytes.now) }
 {
     let (after, rest) = after_from(code_len, before, bytes)?;
-    let (size, rest) = size_from(rest)?;
-    let (count, rest) = u16_from(rest)?;
-    let (entries, rest) = entries_from(alloc, size, count, rest)?;
+    let (size, rest) = size_from(version, rest)?;
+    let (count, rest) = wide_from(version, rest)?;
+    let (entries, rest) = entries_from(alloc, version, size, count, rest)?;
     let row = DescRow {
         after,
-        size: u32::from(size),
+        size,
         entries: bs_words::List::from_vec(entries),
     };
     Ok((row, rest))
@@ -484,16 +491,17 @@ fn desc_from<'a>(
 
 fn descs_from(
     alloc: Global,
+    version: u32,
     code_len: usize,
     count: u32,
     bytes: &[u8],
 ) -> Result<(Vec<DescRow>, &[u8]), Stop>
-    ensures { Gives (λ x. (map desc x.0.items, x.1.now)) result (rows_at (desc_at code_len) [] count bytes.now) }
+    ensures { Gives (λ x. (map desc x.0.items, x.1.now)) result (rows_at (desc_at version code_len) [] count bytes.now) }
 {
     let mut rows = Vec::new(alloc);
     let mut rest = bytes;
     for _ in 0..count {
-        let (row, after) = desc_from(alloc, code_len, &rows, rest)?;
+        let (row, after) = desc_from(alloc, version, code_len, &rows, rest)?;
         rows.push(row)?;
         rest = after;
     }
@@ -502,11 +510,16 @@ fn descs_from(
 
 /// The descriptors, of all of a body.
 #[tactic(auto, unfolding(crate::specs::Fields::table_at))]
-pub(crate) fn desc_table(alloc: Global, code_len: usize, body: &[u8]) -> Result<Vec<DescRow>, Stop>
-    ensures { Gives (λ rows. map desc rows.items) result (table_at (desc_at code_len) body.now) }
+pub(crate) fn desc_table(
+    alloc: Global,
+    version: u32,
+    code_len: usize,
+    body: &[u8],
+) -> Result<Vec<DescRow>, Stop>
+    ensures { Gives (λ rows. map desc rows.items) result (table_at (desc_at version code_len) body.now) }
 {
     let (count, rest) = u32_from(body)?;
-    let (rows, rest) = descs_from(alloc, code_len, count, rest)?;
+    let (rows, rest) = descs_from(alloc, version, code_len, count, rest)?;
     if !rest.is_empty() {
         return Err(Stop::Left(rest.len()));
     }

@@ -12,6 +12,8 @@ ghost use Rattle.image_form.specs.Image.{
   image_bytes,
   le16,
   le32,
+  le_entry,
+  entry_limit,
   comp_byte,
   ret_byte,
   name_bytes,
@@ -40,6 +42,19 @@ fn put_u32(out: &mut Vec<u8>, number: u32) -> Result<(), AllocError>
     ensures { OnOk result (out.new.items ≡ out.old.items ++ le32 number) }
 {
     out.extend_from_slice(&number.to_le_bytes())
+}
+
+/// A size, a number of entries or an entry of a descriptor: 16 bits in version 1, and 32 in version 2.
+#[tactic(auto, unfolding(crate::specs::Image::le_entry, crate::specs::Image::le16, crate::specs::Image::le32))]
+fn put_wide(out: &mut Vec<u8>, version: u32, number: u32) -> Result<(), AllocError>
+    requires { number < entry_limit version }
+    ensures { OnOk result (out.new.items ≡ out.old.items ++ le_entry version number) }
+{
+    if version == 1 {
+        put_u16(out, number as u16)
+    } else {
+        put_u32(out, number)
+    }
 }
 
 #[tactic(auto, unfolding(crate::specs::Image::name_bytes))]
@@ -131,27 +146,28 @@ pub(crate) fn ext_text(alloc: Global, row: &ExtRow) -> Result<Vec<u8>, AllocErro
     Ok(out)
 }
 
-fn put_entries(out: &mut Vec<u8>, entries: &[u32]) -> Result<(), AllocError>
-    requires { AllByRecursion (λ e. e < 2 ^ 16) entries.now }
-    ensures { OnOk result (out.new.items ≡ out.old.items ++ flat_map le16 entries.now) }
+fn put_entries(out: &mut Vec<u8>, version: u32, entries: &[u32]) -> Result<(), AllocError>
+    requires { AllByRecursion (λ e. e < entry_limit version) entries.now }
+    ensures { OnOk result (out.new.items ≡ out.old.items ++ flat_map (le_entry version) entries.now) }
 {
     for entry in entries {
-        put_u16(out, *entry as u16)?;
+        put_wide(out, version, *entry)?;
     }
     Ok(())
 }
 
 #[tactic(auto, unfolding(crate::specs::Image::desc_bytes))]
-fn put_desc(out: &mut Vec<u8>, row: &DescRow) -> Result<(), AllocError>
-    requires size { row.now.size < 2 ^ 16 }
-    requires few { length (contents row.now.entries) < 2 ^ 16 }
-    requires entries { AllByRecursion (λ e. e < 2 ^ 16) (contents row.now.entries) }
-    ensures { OnOk result (out.new.items ≡ out.old.items ++ desc_bytes (desc row.now)) }
+fn put_desc(out: &mut Vec<u8>, version: u32, row: &DescRow) -> Result<(), AllocError>
+    requires size { row.now.size < entry_limit version }
+    requires few { length (contents row.now.entries) < entry_limit version }
+    requires fits { entry_limit version ≤ 2 ^ 32 }
+    requires entries { AllByRecursion (λ e. e < entry_limit version) (contents row.now.entries) }
+    ensures { OnOk result (out.new.items ≡ out.old.items ++ desc_bytes version (desc row.now)) }
 {
     put_u32(out, row.after)?;
-    put_u16(out, row.size as u16)?;
-    put_u16(out, row.entries.len() as u16)?;
-    put_entries(out, row.entries.as_slice())
+    put_wide(out, version, row.size)?;
+    put_wide(out, version, row.entries.len() as u32)?;
+    put_entries(out, version, row.entries.as_slice())
 }
 
 #[tactic(auto, unfolding(crate::specs::Image::table_bytes))]
@@ -220,15 +236,15 @@ fn ext_table(alloc: Global, rows: &[ExtRow]) -> Result<Vec<u8>, AllocError>
 }
 
 #[tactic(auto, unfolding(crate::specs::Image::table_bytes))]
-fn desc_table(alloc: Global, rows: &[DescRow]) -> Result<Vec<u8>, AllocError>
+fn desc_table(alloc: Global, version: u32, rows: &[DescRow]) -> Result<Vec<u8>, AllocError>
     requires few { length rows.now < 2 ^ 32 }
-    requires each { (limit : ℕ) × AllByRecursion (IsDesc limit) (map desc rows.now) }
-    ensures { IfOk result (λ body. body.items ≡ table_bytes desc_bytes (map desc rows.now)) }
+    requires each { (limit : ℕ) × AllByRecursion (IsDesc version limit) (map desc rows.now) }
+    ensures { IfOk result (λ body. body.items ≡ table_bytes (desc_bytes version) (map desc rows.now)) }
 {
     let mut out = Vec::new(alloc);
     put_u32(&mut out, rows.len() as u32)?;
     for row in rows {
-        put_desc(&mut out, row)?;
+        put_desc(&mut out, version, row)?;
     }
     Ok(out)
 }
@@ -249,7 +265,8 @@ pub fn write_image(alloc: Global, image: &Image) -> Result<List<u8>, AllocError>
     requires { IsImage image.now }
     ensures { IfOk result (λ bytes. contents bytes ≡ image_bytes image.now) }
 {
-    let mut out = Vec::from_slice(alloc, b"CMMRV64\n\x01\0\0\0")?;
+    let mut out = Vec::from_slice(alloc, b"CMMRV64\n")?;
+    put_u32(&mut out, image.version)?;
     put_section(
         &mut out,
         b"FUNC",
@@ -271,7 +288,7 @@ pub fn write_image(alloc: Global, image: &Image) -> Result<List<u8>, AllocError>
     put_section(
         &mut out,
         b"DESC",
-        &desc_table(alloc, image.descs.as_slice())?,
+        &desc_table(alloc, image.version, image.descs.as_slice())?,
     )?;
     Ok(List::from_vec(out))
 }

@@ -1,13 +1,12 @@
 -- The asks of a schedule, one after the other.
-use Rattle.std.proofs.Common.{◌≡◌, ℕ, zero, suc, ◌%◌, Bool, true, false, List, [], ◌∷◌, ◌||◌, Bor, refl, sym, ap, ◌∙◌, subst}
+use Rattle.std.proofs.Common.{◌≡◌, ℕ, suc, ◌%◌, Bool, List, [], ◌∷◌, ◌||◌, Bor, refl, ap, ◌∙◌, subst}
 use Rattle.std.specs.Prelude.{◌==◌}
 use Rattle.std.specs.List.{list_any}
-use Rattle.bs_words.specs.Contents.{contents}
 use Rattle.rand_pcg.specs.Lcg.{Lcg}
 use Rattle.rand_pcg.specs.Pcg.{pcg32}
 use Rattle.rv_machine.specs.Run.{is_among}
-use Rattle.mover_schedule.specs.Words.{generator, word}
-use Rattle.mover_schedule.proofs.Drawing.{generator-more}
+use Rattle.mover_plans.specs.Words.{generator, word}
+use Rattle.mover_plans.proofs.Drawing.{generator-more}
 use Rattle.mover_runtime.specs.Schedules.{schedule_of}
 use Rattle.mover_runtime.specs.Standing.{StandsAt}
 use Rattle.mover_runtime.specs.declared.schedule.Asks.{Asks}

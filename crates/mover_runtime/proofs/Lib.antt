@@ -5,3 +5,4 @@ pub mod Rows
 pub mod Runs
 pub mod Shown
 pub mod Writing
+mod FrameCalls

@@ -1,15 +1,18 @@
 -- A run, instruction by instruction, and the text that it has told.
-use Rattle.std.proofs.Common.{◌≡◌, ℕ, zero, suc, ◌+◌, ◌-◌, ◌<◌, ◌≤◌, Bool, List, [], ◌∷◌, ◌++◌, Option, Some, None, refl, ap, arith, ◌∙◌, sym, append_assoc, append-nil}
-use Rattle.std.specs.Prelude.{codes, slice_get}
+use Rattle.std.proofs.Common.{◌≡◌, ℕ, zero, suc, ◌+◌, ◌-◌, ◌<◌, ◌≤◌, Bool, true, false, cond, List, [], ◌∷◌, ◌++◌, Option, Some, None, refl, ap, arith, ◌∙◌, sym, append_assoc, append-nil}
+use Rattle.std.specs.Prelude.{codes}
 use Rattle.bs_words.specs.Observed.{Made}
 use Rattle.bs_words.specs.declared.types.Ret.{Ret}
 use Rattle.bs_words.specs.declared.types.Ret.TheVariants as returns
 use Rattle.image_form.specs.Tables.{Ext}
-use Rattle.rv_machine.specs.Allocation.{Allocated, Goes, NoHeap, Refused, allocated}
+use Rattle.rv_machine.specs.Allocation.{allocated}
+use Rattle.rv_machine.specs.Relocation.{Serviced, Goes, NoHeap, Refused}
 use Rattle.rv_machine.specs.Hart.{Hart, Placed, Next, hart, register}
 use Rattle.rv_machine.specs.Hart as next
 use Rattle.rv_machine.specs.Run.{Schedule, after, after_next, one, seen, perhaps_asked}
-use Rattle.rv_machine.specs.Services.{End, Machine, Now, Going, Over, Running, Asks, StackOut, HeapOut, Stopped, after_allocation, service, served, external, answered, call_made}
+use Rattle.rv_machine.specs.Services.{End, Machine, Now, Going, Over, Running, Asks, StackOut, HeapOut, Stopped, after_allocation, after_collection, answered, call_made, called, cleared, concluded, external, external_at, frame_answered, frame_call, service, served}
+use Rattle.rv_machine.specs.FrameCalls.{collected, has_trap_frame, raised}
+use Rattle.rv_machine.specs.declared.cause.Cause.TheVariants.{BadFrame}
 use Rattle.rv_machine.specs.Text.{calls_text, made_text, end_text, outcome_text}
 use Rattle.mover_runtime.specs.Outcome.{allocation_text, asked_if, calling_none, progress_text, last_line}
 
@@ -37,11 +40,38 @@ external_behind : (e : Option Ext) (h : Hart) (result : Ret) (answers : List ℕ
 external_behind None h result answers cs = over_behind cs _
 external_behind (Some e) h result answers cs = answered_behind e.result (call_made e h) h result answers answers cs
 
-allocation_behind : (a : Allocated) (h : Hart) (result : Ret) (answers : List ℕ) (cs : List Made)
+allocation_behind : (a : Serviced) (h : Hart) (result : Ret) (answers : List ℕ) (cs : List Made)
     → after_allocation a (state h result answers cs) ≡ behind cs (after_allocation a (state h result answers []))
 allocation_behind (Goes g) h result answers cs = ap (λ (calls : List Made). Going (state g result answers calls)) (sym (append-nil cs))
 allocation_behind NoHeap h result answers cs = over_behind cs HeapOut
 allocation_behind (Refused cause) h result answers cs = over_behind cs (Stopped cause)
+
+either_behind : (cs : List Made) (b : Bool) (x y x' y' : Now) → x ≡ behind cs x' → y ≡ behind cs y' → cond b x y ≡ behind cs (cond b x' y')
+either_behind cs true x y x' y' p q = p
+either_behind cs false x y x' y' p q = q
+
+concluded_behind : (ret : Ret) (call : Made) (first value : ℕ) (left : List ℕ) (g h : Hart) (result : Ret) (all : List ℕ) (cs : List Made)
+    → concluded ret call first value left g (state h result all cs) ≡ behind cs (concluded ret call first value left g (state h result all []))
+concluded_behind ret call zero value left g h result all cs = refl
+concluded_behind ret call (suc first) value left g h result all cs =
+    either_behind cs (has_trap_frame g) (called call (raised value (cleared g)) left (state h result all cs)) (Over cs (Stopped BadFrame)) _ (Over [] (Stopped BadFrame)) refl (over_behind cs (Stopped BadFrame))
+
+collection_behind : (ret : Ret) (call : Made) (first value : ℕ) (left : List ℕ) (a : Serviced) (h : Hart) (result : Ret) (all : List ℕ) (cs : List Made)
+    → after_collection ret call first value left a (state h result all cs) ≡ behind cs (after_collection ret call first value left a (state h result all []))
+collection_behind ret call first value left (Goes g) h result all cs = concluded_behind ret call first value left g h result all cs
+collection_behind ret call first value left NoHeap h result all cs = over_behind cs HeapOut
+collection_behind ret call first value left (Refused cause) h result all cs = over_behind cs (Stopped cause)
+
+frame_behind : (plan : List Placed → List ℕ) (ret : Ret) (call : Made) (answers : List ℕ) (h : Hart) (result : Ret) (all : List ℕ) (cs : List Made)
+    → frame_answered plan ret call answers (state h result all cs) ≡ behind cs (frame_answered plan ret call answers (state h result all []))
+frame_behind plan ret call [] h result all cs = over_behind cs (Asks call)
+frame_behind plan ret call (first ∷ []) h result all cs = over_behind cs (Asks call)
+frame_behind plan ret call (first ∷ value ∷ left) h result all cs = collection_behind ret call first value left (collected plan h) h result all cs
+
+call_behind : (plan : List Placed → List ℕ) (e : Option Ext) (h : Hart) (result : Ret) (answers : List ℕ) (cs : List Made)
+    → frame_call plan e (state h result answers cs) ≡ behind cs (frame_call plan e (state h result answers []))
+call_behind plan None h result answers cs = over_behind cs _
+call_behind plan (Some e) h result answers cs = frame_behind plan e.result (call_made e h) answers h result answers cs
 
 abbrev pub Plans : Type 0
 Plans = ℕ → List Placed → List ℕ
@@ -50,9 +80,10 @@ served_behind : (plans : Plans) (n : ℕ) (h : Hart) (result : Ret) (answers : L
     → served plans n (state h result answers cs) ≡ behind cs (served plans n (state h result answers []))
 served_behind plans zero h result answers cs = over_behind cs _
 served_behind plans (suc zero) h result answers cs = over_behind cs _
-served_behind plans (suc (suc zero)) h result answers cs = external_behind (slice_get h.image.extcs (register h 5)) h result answers cs
+served_behind plans (suc (suc zero)) h result answers cs = external_behind (external_at h) h result answers cs
 served_behind plans (suc (suc (suc zero))) h result answers cs = allocation_behind (allocated (plans h.services) h) h result answers cs
-served_behind plans (suc (suc (suc (suc n)))) h result answers cs = over_behind cs _
+served_behind plans (suc (suc (suc (suc zero)))) h result answers cs = call_behind (plans h.services) (external_at h) h result answers cs
+served_behind plans (suc (suc (suc (suc (suc n))))) h result answers cs = over_behind cs _
 
 pub service_behind : (plans : Plans) (h : Hart) (result : Ret) (answers : List ℕ) (cs : List Made)
     → service plans (state h result answers cs) ≡ behind cs (service plans (calling_none h result answers))
@@ -153,7 +184,7 @@ pub stands_so : (schedule : Schedule) (limit k : ℕ) (m : Machine) → limit �
 stands_so schedule limit k m h = let n : limit - k ≡ 0 = omega arith in ap (λ (j : ℕ). after schedule j (Going m)) n
 
 -- what an allocation service writes, where no call was made before
-pub allocation_progress : (a : Allocated) (h : Hart) (result : Ret) (answers : List ℕ) → allocation_text a ≡ progress_text (after_allocation a (calling_none h result answers))
+pub allocation_progress : (a : Serviced) (h : Hart) (result : Ret) (answers : List ℕ) → allocation_text a ≡ progress_text (after_allocation a (calling_none h result answers))
 allocation_progress (Goes g) h result answers = refl
 allocation_progress NoHeap h result answers = refl
 allocation_progress (Refused cause) h result answers = refl

@@ -1,3 +1,4 @@
+pub mod Calling
 pub mod Outcome
 pub mod Schedules
 pub mod Standing

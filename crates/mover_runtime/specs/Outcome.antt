@@ -4,7 +4,7 @@ use Rattle.bs_words.specs.Observed.{Made}
 use Rattle.bs_words.specs.declared.types.Ret.{Ret}
 use Rattle.bs_words.specs.declared.types.Ret.TheVariants.{Unit}
 use Rattle.image_form.specs.Tables.{Func}
-use Rattle.rv_machine.specs.Allocation.{Allocated, Goes, NoHeap, Refused}
+use Rattle.rv_machine.specs.Relocation.{Serviced, Goes, NoHeap, Refused}
 use Rattle.rv_machine.specs.Hart.{Hart}
 use Rattle.rv_machine.specs.Memory.{code_start}
 use Rattle.rv_machine.specs.Run.{Seen, after, asked, seen}
@@ -52,7 +52,7 @@ progress_text (Going m) = calls_text m.calls
 progress_text (Over calls end) = outcome_text (record { calls = calls; end = end })
 
 -- what an allocation service writes: the last line of a run that it ends
-abbrev pub allocation_text : Allocated → List ℕ
+abbrev pub allocation_text : Serviced → List ℕ
 allocation_text (Goes h) = []
 allocation_text NoHeap = end_text ends.HeapOut ++ codes "\n"
 allocation_text (Refused cause) = end_text (ends.Stopped cause) ++ codes "\n"

@@ -1,7 +1,7 @@
 -- What a schedule of the code stands for.
-use Rattle.std.specs.Prelude.{ℕ, List, map}
+use Rattle.std.specs.Prelude.{map}
 use Rattle.bs_words.specs.Contents.{contents}
-use Rattle.mover_schedule.specs.Schedules.{never, every, seeded}
+use Rattle.mover_plans.specs.Schedules.{never, every, seeded}
 use Rattle.mover_runtime.specs.declared.schedule.Schedule.{Schedule}
 use Rattle.mover_runtime.specs.declared.schedule.Schedule.TheVariants.{Never, Every, Seed, Lists}
 use Rattle.rv_machine.specs.Run as runs

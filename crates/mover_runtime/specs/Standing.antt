@@ -1,7 +1,9 @@
--- Where the asks of a schedule stand during a run.
-use Rattle.std.specs.Prelude.{◌≡◌, ℕ}
+-- Where the asks of a schedule stand during a run, and where a machine stands at a service.
+use Rattle.std.specs.Prelude.{◌≡◌, ◌<◌, ◌^◌, ◌⊎◌, ℕ, length}
+use Rattle.rv_isa.specs.Registers.{t0, t2}
+use Rattle.rv_machine.specs.Hart.{Hart, register}
 use Rattle.bs_words.specs.Contents.{contents}
-use Rattle.mover_schedule.specs.Words.{generator}
+use Rattle.mover_plans.specs.Words.{generator}
 use Rattle.mover_runtime.specs.declared.schedule.Asks.{Asks}
 use Rattle.mover_runtime.specs.declared.schedule.Asks.TheVariants as drawn
 use Rattle.mover_runtime.specs.declared.schedule.Schedule.{Schedule}
@@ -14,3 +16,8 @@ StandsAt Every k drawn.Every = Unit {0}
 StandsAt (Seed seed) k (drawn.Seeded words) = words ≡ generator seed k
 StandsAt (Lists asks plans) k (drawn.Among numbers) = numbers.now ≡ contents asks
 StandsAt _ k _ = ⊥
+
+-- The machine is before the ECALL of an allocation service, or of a frame call that the image has.
+pub record MovesBlocks (h : Hart) : Type 0 where
+  pub near : h.pc < 2 ^ 32
+  pub which : (register h t2 ≡ 3) ⊎ ((register h t2 ≡ 4) × (register h t0 < length h.image.extcs))

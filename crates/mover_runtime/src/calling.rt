@@ -1,24 +1,28 @@
 //! External calls.
-ghost use Rattle.std.specs.Prelude.{◌≡◌, ◌≤◌, ◌<◌, ◌-◌, ◌^◌, [], ◌∷◌, length, drop, IfOk, None, slice_get};
+ghost use Rattle.std.specs.Prelude.{◌≡◌, ◌≤◌, ◌<◌, ◌-◌, ◌^◌, ℕ, List, [], ◌∷◌, length, drop, IfOk, None, slice_get};
 ghost use Rattle.bs_words.specs.Contents.{contents};
 ghost use Rattle.image_form.specs.Tables.{ext};
 ghost use Rattle.mover_runtime.specs.Written.{Writes, Counts};
+ghost use Rattle.bs_words.specs.declared.types.Ret.{Ret};
+ghost use Rattle.mover_runtime.specs.Calling.{AreNext, made, wanted};
 ghost use Rattle.mover_runtime.specs.Outcome.{Serves, calling_none, progress_text};
-ghost use Rattle.rv_machine.specs.Hart.{register};
-ghost use Rattle.rv_machine.specs.Services.{external, answered, past_ecall, call_made};
+ghost use Rattle.mover_runtime.specs.Schedules.{schedule_of};
+ghost use Rattle.rv_machine.specs.Hart.{Hart, past_ecall, register};
+ghost use Rattle.rv_machine.specs.Services.{external, answered, call_made, concluded, frame_answered, frame_call};
 ghost use Rattle.rv_machine.specs.Step.{registers_after};
 ghost use Rattle.rv_machine.specs.Text.{calls_text};
 
+use crate::counting;
 use crate::outcome::RunEnd;
-use crate::serving::end_stopped;
-use crate::text::write_made_line;
+use crate::schedule::Schedule;
+use crate::serving::{end_heap_out, end_stopped};
+use crate::text::{observe_arguments, write_call_line, write_made_line};
+use alloc_service::ServiceEnd;
 use bs_io::{OutFault, Sink};
-use bs_words::Ret;
+use bs_words::{Obs, Ret};
 use image_form::ExtRow;
+use rv_isa::Register;
 use rv_machine::{Cause, Machine};
-
-// t0, which has the number of the call.
-const NUMBER: u8 = 5;
 
 /// Makes the external call before which the machine stands, or ends the run where there is no such call
 /// or no answer for it.
@@ -37,7 +41,7 @@ pub fn call<K: Sink>(
     ensures counts { Counts result (K.faults out.old) (K.faults out.new) }
     ensures left { taken.new ≤ length answers.now }
 {
-    let number = machine.register(NUMBER) as usize;
+    let number = machine.register(Register::T0 as u8) as usize;
     match machine.image().extcs.get(number) {
         Some(row) => answer_call(machine, row, returns, answers, taken, out),
         None => {
@@ -80,7 +84,7 @@ fn answer_call<K: Sink>(
     }
 }
 
-// Tells of the call, and goes on behind it with its answer.
+// Writes the line of the call, and goes on after it with its answer.
 fn finish<K: Sink>(
     machine: &mut Machine<'_>,
     row: &ExtRow,
@@ -95,6 +99,137 @@ fn finish<K: Sink>(
     ensures counts { Counts result (K.faults out.old) (K.faults out.new) }
 {
     write_made_line(b"call ", machine, row, out)?;
-    machine.finish_call(answer);
+    counting::finish_call(machine, answer);
     Ok(None)
+}
+
+/// Makes the frame call before which the machine is, or ends the run: where there is no such call, fewer
+/// than two answers, no whole blocks or frames, no room in the heap, or no trap frame for what it raises.
+pub fn frame_call<K: Sink>(
+    machine: &mut Machine<'_>,
+    schedule: &Schedule,
+    returns: Ret,
+    answers: &[u64],
+    taken: &mut usize,
+    out: &mut K,
+) -> Result<Option<RunEnd>, OutFault>
+    requires near { machine.old.pc < 2 ^ 32 }
+    requires room { machine.old.retired < 2 ^ 64 - 1 }
+    requires services { machine.old.services < 2 ^ 64 - 1 }
+    requires within { taken.old ≤ length answers.now }
+    ensures told { IfOk result (λ told. Serves told (frame_call ((schedule_of schedule.now).plan machine.old.services) (slice_get machine.old.image.extcs (register machine.old 5)) (calling_none machine.old returns (drop taken.old answers.now))) machine.new returns (drop taken.new answers.now)) }
+    ensures text { Writes result (K.held out.old) (K.held out.new) (progress_text (frame_call ((schedule_of schedule.now).plan machine.old.services) (slice_get machine.old.image.extcs (register machine.old 5)) (calling_none machine.old returns (drop taken.old answers.now)))) }
+    ensures counts { Counts result (K.faults out.old) (K.faults out.new) }
+    ensures left { taken.new ≤ length answers.now }
+{
+    let number = machine.register(Register::T0 as u8) as usize;
+    match machine.image().extcs.get(number) {
+        Some(row) => answer_frame_call(machine, row, schedule, returns, answers, taken, out),
+        None => {
+            let told = end_stopped(Cause::BadService, out)?;
+            Ok(Some(told))
+        }
+    }
+}
+
+// Makes the frame call of that row.
+fn answer_frame_call<K: Sink>(
+    machine: &mut Machine<'_>,
+    row: &ExtRow,
+    schedule: &Schedule,
+    returns: Ret,
+    answers: &[u64],
+    taken: &mut usize,
+    out: &mut K,
+) -> Result<Option<RunEnd>, OutFault>
+    requires near { machine.old.pc < 2 ^ 32 }
+    requires room { machine.old.retired < 2 ^ 64 - 1 }
+    requires services { machine.old.services < 2 ^ 64 - 1 }
+    requires within { taken.old ≤ length answers.now }
+    requires few { length (contents row.now.params) ≤ 16 }
+    ensures told { IfOk result (λ told. Serves told (frame_answered ((schedule_of schedule.now).plan machine.old.services) row.now.result (call_made (ext row.now) machine.old) (drop taken.old answers.now) (calling_none machine.old returns (drop taken.old answers.now))) machine.new returns (drop taken.new answers.now)) }
+    ensures text { Writes result (K.held out.old) (K.held out.new) (progress_text (frame_answered ((schedule_of schedule.now).plan machine.old.services) row.now.result (call_made (ext row.now) machine.old) (drop taken.old answers.now) (calling_none machine.old returns (drop taken.old answers.now)))) }
+    ensures counts { Counts result (K.faults out.old) (K.faults out.new) }
+    ensures left { taken.new ≤ length answers.now }
+{
+    let Some(answer) = next_two(answers, *taken) else {
+        write_made_line(b"asks ", machine, row, out)?;
+        return Ok(Some(RunEnd::Asks));
+    };
+    let shown = observe_arguments(machine, &row.params);
+    let plan = schedule.plan(machine.services());
+    match counting::collect(machine, plan) {
+        ServiceEnd::Goes => {
+            *taken += 2;
+            conclude(machine, row, &shown[..row.params.len()], answer, out)
+        }
+        ServiceEnd::HeapOut => {
+            let told = end_heap_out(out)?;
+            Ok(Some(told))
+        }
+        ServiceEnd::Stopped(cause) => {
+            let told = end_stopped(cause, out)?;
+            Ok(Some(told))
+        }
+    }
+}
+
+/// The two answers of a frame call: whether it raises, and the value.
+#[derive(Clone, Copy)]
+pub(crate) struct Answer {
+    pub raises: u64,
+    pub value: u64,
+}
+
+// The next two answers, where they are left.
+fn next_two(answers: &[u64], taken: usize) -> Option<Answer>
+    requires { taken ≤ length answers.now }
+    ensures { AreNext result (drop taken answers.now) }
+{
+    match &answers[taken..] {
+        [raises, value, ..] => Some(Answer {
+            raises: *raises,
+            value: *value,
+        }),
+        _ => None,
+    }
+}
+
+// Goes on after a frame call whose blocks have moved, or ends the run where it raises and there is no trap
+// frame.
+fn conclude<K: Sink>(
+    machine: &mut Machine<'_>,
+    row: &ExtRow,
+    shown: &[Obs],
+    answer: Answer,
+    out: &mut K,
+) -> Result<Option<RunEnd>, OutFault>
+    requires near { machine.old.pc < 2 ^ 32 }
+    requires room { machine.old.retired < 2 ^ 64 - 1 }
+    ensures told { IfOk result (λ told. (h : Hart) (returns : Ret) (all left : List ℕ) → Serves told (concluded row.now.result (made row.now.name shown.now) answer.raises answer.value left machine.old (calling_none h returns all)) machine.new returns left) }
+    ensures text { (h : Hart) (returns : Ret) (all left : List ℕ) → Writes result (K.held out.old) (K.held out.new) (progress_text (concluded row.now.result (made row.now.name shown.now) answer.raises answer.value left machine.old (calling_none h returns all))) }
+    ensures counts { Counts result (K.faults out.old) (K.faults out.new) }
+{
+    if answer.raises == 0 {
+        write_call_line(&row.name, shown, out)?;
+        counting::finish_call(machine, wanted(row.result, answer.value));
+        return Ok(None);
+    }
+    if !machine.has_trap_frame() {
+        let told = end_stopped(Cause::BadFrame, out)?;
+        return Ok(Some(told));
+    }
+    write_call_line(&row.name, shown, out)?;
+    counting::raise(machine, answer.value);
+    Ok(None)
+}
+
+// The value, where the result type has one.
+fn wanted(returns: Ret, value: u64) -> Option<u64>
+    ensures { result ≡ wanted returns value }
+{
+    match returns {
+        Ret::Unit => None,
+        Ret::Comp(_) => Some(value),
+    }
 }

@@ -2,6 +2,7 @@
 #![tactic(auto)]
 
 mod calling;
+mod counting;
 pub mod outcome;
 pub mod run;
 pub mod schedule;
@@ -11,6 +12,4 @@ pub mod text;
 pub use outcome::RunEnd;
 pub use run::run_image;
 pub use schedule::Schedule;
-
-#[cfg(test)]
-mod tests;
+pub use serving::service;

@@ -7,6 +7,7 @@ ghost use Rattle.rv_machine.specs.Hart.{hart};
 ghost use Rattle.rv_machine.specs.Run.{after_next};
 ghost use Rattle.rv_machine.specs.Text.{outcome_text};
 
+use crate::counting;
 use crate::outcome::RunEnd;
 use crate::schedule::Schedule;
 use crate::serving::{end_more, end_stack_out, end_stopped, serve};
@@ -17,8 +18,8 @@ use rv_machine::{CODE_START, Machine, StepEnd};
 /// Runs the machine to an end, or until `limit` instructions have retired, and writes the outcome text:
 /// a line for each external call when it is answered, and one line for the end. It takes no memory.
 ///
-/// Before each instruction the mover asks where the schedule says so, and each allocation service moves the
-/// blocks where it says.
+/// Before each instruction the mover asks where the schedule says so, and each allocation service and frame call
+/// moves the blocks where it says.
 ///
 /// The machine was just loaded. A write fault ends the run; the sink then holds a part of the text, from
 /// its front.
@@ -29,7 +30,8 @@ pub fn run_image<K: Sink>(
     limit: u64,
     out: &mut K,
 ) -> Result<RunEnd, OutFault>
-    requires { machine.old.retired ≡ 0 }
+    requires fresh { machine.old.retired ≡ 0 }
+    requires unmoved { machine.old.services ≡ 0 }
     ensures told { IfOk result (λ told. told ≡ end_told (run_of machine.old answers.now schedule.now limit).end) }
     ensures text { Writes result (K.held out.old) (K.held out.new) (outcome_text (run_of machine.old answers.now schedule.now limit)) }
     ensures counts { Counts result (K.faults out.old) (K.faults out.new) }
@@ -61,6 +63,7 @@ fn one<K: Sink>(
     out: &mut K,
 ) -> Result<Option<RunEnd>, OutFault>
     requires room { machine.old.retired < 2 ^ 64 - 1 }
+    requires services { machine.old.services < 2 ^ 64 - 1 }
     requires within { taken.old ≤ length answers.now }
     ensures told { IfOk result (λ told. Serves told (after_next (schedule_of schedule.now) (hart (asked_if asks machine.old)) (calling_none machine.old returns (drop taken.old answers.now))) machine.new returns (drop taken.new answers.now)) }
     ensures text { Writes result (K.held out.old) (K.held out.new) (progress_text (after_next (schedule_of schedule.now) (hart (asked_if asks machine.old)) (calling_none machine.old returns (drop taken.old answers.now)))) }
@@ -68,7 +71,7 @@ fn one<K: Sink>(
     ensures left { taken.new ≤ length answers.now }
 {
     ask_if(machine, asks);
-    match machine.step() {
+    match counting::step(machine) {
         StepEnd::Retired => Ok(None),
         StepEnd::Service => serve(machine, schedule, returns, answers, taken, out),
         StepEnd::StackOut => {

@@ -7,7 +7,7 @@ ghost use Rattle.mover_runtime.specs.Standing.{StandsAt};
 
 use alloc_service::Plan;
 use bs_words::List;
-use mover_schedule::{SeededAsks, plan_word};
+use mover_plans::{SeededAsks, plan_word};
 
 /// When the mover asks, and where it moves blocks.
 #[derive(Debug, Drop)]

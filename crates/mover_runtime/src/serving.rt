@@ -3,7 +3,10 @@ ghost use Rattle.std.specs.Prelude.{◌≡◌, ◌≤◌, ◌<◌, ◌-◌, ◌^
 ghost use Rattle.image_form.specs.Tables.{tables, ext};
 ghost use Rattle.image_form.specs.Image.{IsImage, IsExt};
 ghost use Rattle.mover_runtime.specs.Written.{Writes, Counts};
-ghost use Rattle.alloc_service.specs.Plan.{plan_of};
+ghost use Rattle.alloc_service.specs.Plan.{Keeps, both_counted, plan_of, services_counted, with_counts};
+ghost use Rattle.alloc_service.specs.Plan.{Serves as ServesBy};
+ghost use Rattle.mover_runtime.specs.Standing.{MovesBlocks};
+ghost use Rattle.rv_machine.specs.FrameCalls.{collected};
 ghost use Rattle.bs_words.specs.declared.types.Ret.{Ret};
 ghost use Rattle.mover_runtime.specs.Outcome.{Serves, allocation_text, calling_none, progress_text, last_line};
 ghost use Rattle.mover_runtime.specs.Schedules.{schedule_of};
@@ -13,7 +16,8 @@ ghost use Rattle.rv_machine.specs.Services.{after_allocation, service, value_ret
 ghost use Rattle.rv_machine.specs.Services as ends;
 ghost use Rattle.rv_machine.specs.Observation.{observed};
 
-use crate::calling::call;
+use crate::calling::{call, frame_call};
+use crate::counting;
 use crate::outcome::RunEnd;
 use crate::schedule::Schedule;
 use crate::text::{write_line, write_made_line, write_obs_line, write_stopped};
@@ -21,13 +25,8 @@ use alloc_service::{Plan, ServiceEnd};
 use bs_io::{OutFault, Sink};
 use bs_words::{Comp, Obs, Ret};
 use image_form::ExtRow;
+use rv_isa::Register;
 use rv_machine::{Cause, Machine};
-
-// t2 and a0.
-
-const SERVICE: u8 = 7;
-
-const VALUE: u8 = 10;
 
 /// Does the service before which the machine stands, and writes what is told of it: a line for an external
 /// call that is answered, or the last line of the run. `taken` answers were taken before.
@@ -41,13 +40,14 @@ pub fn serve<K: Sink>(
 ) -> Result<Option<RunEnd>, OutFault>
     requires near { machine.old.pc < 2 ^ 32 }
     requires room { machine.old.retired < 2 ^ 64 - 1 }
+    requires services { machine.old.services < 2 ^ 64 - 1 }
     requires within { taken.old ≤ length answers.now }
     ensures told { IfOk result (λ told. Serves told (service (schedule_of schedule.now).plan (calling_none machine.old returns (drop taken.old answers.now))) machine.new returns (drop taken.new answers.now)) }
     ensures text { Writes result (K.held out.old) (K.held out.new) (progress_text (service (schedule_of schedule.now).plan (calling_none machine.old returns (drop taken.old answers.now)))) }
     ensures counts { Counts result (K.faults out.old) (K.faults out.new) }
     ensures left { taken.new ≤ length answers.now }
 {
-    match machine.register(SERVICE) {
+    match machine.register(Register::T2 as u8) {
         0 => {
             let told = end_returned(machine, returns, out)?;
             Ok(Some(told))
@@ -61,10 +61,28 @@ pub fn serve<K: Sink>(
             let plan = schedule.plan(machine.services());
             allocate(machine, plan, out)
         }
+        4 => frame_call(machine, schedule, returns, answers, taken, out),
         _ => {
             let told = end_stopped(Cause::BadService, out)?;
             Ok(Some(told))
         }
+    }
+}
+
+/// Moves the blocks at the allocation service or the frame call before which the machine is, where the
+/// schedule plans. An allocation service is then done. Of a frame call, the blocks have moved, the young
+/// area is empty and the mover asks no more.
+pub fn service(machine: &mut Machine<'_>, schedule: &Schedule) -> ServiceEnd
+    requires { MovesBlocks machine.old }
+    ensures allocates { register machine.old 7 ≡ 3 → ServesBy result (with_counts both_counted (allocated ((schedule_of schedule.now).plan machine.old.services) machine.old)) machine.new }
+    ensures collects { register machine.old 7 ≡ 4 → ServesBy result (with_counts services_counted (collected ((schedule_of schedule.now).plan machine.old.services) machine.old)) machine.new }
+    ensures kept { Keeps result machine.old machine.new }
+{
+    let plan = schedule.plan(machine.services());
+    if machine.register(Register::T2 as u8) == 3 {
+        alloc_service::allocate(machine, plan)
+    } else {
+        alloc_service::collect(machine, plan)
     }
 }
 
@@ -76,11 +94,12 @@ fn allocate<K: Sink>(
 ) -> Result<Option<RunEnd>, OutFault>
     requires near { machine.old.pc < 2 ^ 32 }
     requires room { machine.old.retired < 2 ^ 64 - 1 }
+    requires services { machine.old.services < 2 ^ 64 - 1 }
     ensures told { IfOk result (λ told. (returns : Ret) (answers : List ℕ) → Serves told (after_allocation (allocated (plan_of plan.entry) machine.old) (calling_none machine.old returns answers)) machine.new returns answers) }
     ensures text { Writes result (K.held out.old) (K.held out.new) (allocation_text (allocated (plan_of plan.entry) machine.old)) }
     ensures counts { Counts result (K.faults out.old) (K.faults out.new) }
 {
-    match alloc_service::service(machine, plan) {
+    match counting::allocate(machine, plan) {
         ServiceEnd::Goes => Ok(None),
         ServiceEnd::HeapOut => {
             let told = end_heap_out(out)?;
@@ -109,7 +128,7 @@ fn end_returned<K: Sink>(
             Ok(RunEnd::Returned(None))
         }
         Ret::Comp(comp) => {
-            let obs = machine.observe(comp, machine.register(VALUE));
+            let obs = machine.observe(comp, machine.register(Register::A0 as u8));
             write_obs_line(b"returned ", obs, out)?;
             Ok(RunEnd::Returned(Some(obs)))
         }
@@ -122,7 +141,7 @@ fn end_raised<K: Sink>(machine: &Machine<'_>, out: &mut K) -> Result<RunEnd, Out
     ensures text { Writes result (K.held out.old) (K.held out.new) (last_line (ends.Raised (observed machine.now Comp.Val (register machine.now 10)))) }
     ensures counts { Counts result (K.faults out.old) (K.faults out.new) }
 {
-    let obs = machine.observe(Comp::Val, machine.register(VALUE));
+    let obs = machine.observe(Comp::Val, machine.register(Register::A0 as u8));
     write_obs_line(b"raised ", obs, out)?;
     Ok(RunEnd::Raised(obs))
 }
@@ -148,7 +167,7 @@ pub fn end_stack_out<K: Sink>(out: &mut K) -> Result<RunEnd, OutFault>
 }
 
 /// The blocks do not fit half of the heap.
-fn end_heap_out<K: Sink>(out: &mut K) -> Result<RunEnd, OutFault>
+pub fn end_heap_out<K: Sink>(out: &mut K) -> Result<RunEnd, OutFault>
     ensures told { IfOk result (λ told. told ≡ RunEnd.HeapOut) }
     ensures text { Writes result (K.held out.old) (K.held out.new) (last_line ends.HeapOut) }
     ensures counts { Counts result (K.faults out.old) (K.faults out.new) }

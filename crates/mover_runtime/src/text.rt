@@ -1,5 +1,5 @@
 //! Writing the outcome text piece by piece, with no memory taken.
-ghost use Rattle.std.specs.Prelude.{◌≡◌, ◌≤◌, ◌<◌, ◌+◌, ◌++◌, codes, length, drop};
+ghost use Rattle.std.specs.Prelude.{◌≡◌, ◌≤◌, ◌<◌, ◌+◌, ◌++◌, codes, length, drop, take};
 ghost use Rattle.std.specs.Fmt.{decimal, signed_decimal};
 ghost use Rattle.bs_words.specs.Word.{signed_of};
 ghost use Rattle.bs_words.specs.Contents.{contents};
@@ -9,13 +9,14 @@ ghost use Rattle.rv_machine.specs.Services.{arguments_from, call_made};
 ghost use Rattle.rv_machine.specs.Text.{obs_text, shown_text, made_text, cause_text};
 
 use bs_io::{OutFault, Sink, write_all};
-use bs_words::{Comp, List, Obs};
+use bs_words::{Comp, List, Name, Obs};
 use image_form::ExtRow;
 use itoa::Buffer;
+use rv_isa::Register;
 use rv_machine::{Cause, Machine};
 
-// a0, the first argument register.
-const FIRST_ARGUMENT: u8 = 10;
+// The first argument register; the others come after it.
+const FIRST_ARGUMENT: u8 = Register::A0 as u8;
 
 /// Writes bytes.
 pub fn put<K: Sink>(bytes: &[u8], out: &mut K) -> Result<(), OutFault>
@@ -94,6 +95,59 @@ pub fn write_made<K: Sink>(machine: &Machine<'_>, row: &ExtRow, out: &mut K) -> 
 {
     put(row.name.as_bytes(), out)?;
     write_shown(machine, &row.params, out)
+}
+
+/// What the arguments of an external call show before which the machine is, each by its parameter's type,
+/// in the first of sixteen places.
+pub fn observe_arguments(machine: &Machine<'_>, comps: &List<Comp>) -> [Obs; 16]
+    requires { length (contents comps.now) ≤ 16 }
+    ensures shown { take (length (contents comps.now)) result ≡ arguments_from 10 (contents comps.now) machine.now }
+    ensures len { length result ≡ 16 }
+{
+    let mut shown = [Obs::Word(0); 16];
+    for (k, comp) in comps.as_slice().iter().enumerate() {
+        let word = machine.register(FIRST_ARGUMENT + k as u8);
+        shown[k] = machine.observe(*comp, word);
+    }
+    shown
+}
+
+// Writes observations, each after a space.
+fn write_seen<K: Sink>(shown: &[Obs], out: &mut K) -> Result<(), OutFault>
+    ensures text { Writes result (K.held out.old) (K.held out.new) (shown_text shown.now) }
+    ensures counts { Counts result (K.faults out.old) (K.faults out.new) }
+{
+    for obs in shown {
+        put_obs(b" ", *obs, out)?;
+    }
+    Ok(())
+}
+
+// Writes a text and a name.
+fn put_name<K: Sink>(text: &[u8], name: &Name, out: &mut K) -> Result<(), OutFault>
+    ensures text { Writes result (K.held out.old) (K.held out.new) (text.now ++ name.now) }
+    ensures counts { Counts result (K.faults out.old) (K.faults out.new) }
+{
+    put(text, out)?;
+    put(name.as_bytes(), out)
+}
+
+// Writes the front of a line on a call.
+fn put_call<K: Sink>(name: &Name, shown: &[Obs], out: &mut K) -> Result<(), OutFault>
+    ensures text { Writes result (K.held out.old) (K.held out.new) ((codes "call " ++ name.now) ++ shown_text shown.now) }
+    ensures counts { Counts result (K.faults out.old) (K.faults out.new) }
+{
+    put_name(b"call ", name, out)?;
+    write_seen(shown, out)
+}
+
+/// Writes the line of a call of that name that showed so.
+pub fn write_call_line<K: Sink>(name: &Name, shown: &[Obs], out: &mut K) -> Result<(), OutFault>
+    ensures text { Writes result (K.held out.old) (K.held out.new) (((codes "call " ++ name.now) ++ shown_text shown.now) ++ codes "\n") }
+    ensures counts { Counts result (K.faults out.old) (K.faults out.new) }
+{
+    put_call(name, shown, out)?;
+    put(b"\n", out)
 }
 
 /// Writes a line of that text.

@@ -5,5 +5,6 @@ pub mod Effects
 pub mod Members
 pub mod PendingRows
 pub mod Places
+pub mod Known
 pub mod Turns
 pub mod Whole

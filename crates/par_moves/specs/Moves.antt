@@ -1,5 +1,5 @@
 -- What moves that are done one after the other do to the values that places hold.
-use Rattle.std.specs.Prelude.{◌≡◌, ◌≢◌, ◌+◌, ◌≤◌, ◌==◌, ◌⊎◌, Bool, true, false, cond, List, [], ◌∷◌, ◌++◌, length, All, AllPairs, Contains}
+use Rattle.std.specs.Prelude.{◌≡◌, ◌≢◌, ◌+◌, ◌≤◌, ◌==◌, ◌⊎◌, Bool, true, false, cond, List, [], ◌∷◌, ◌++◌, map, length, All, AllPairs, Contains}
 use Rattle.bs_words.specs.declared.types.Loc.{Loc}
 use Rattle.bs_words.specs.declared.types.Loc.TheVariants.{Unset, Machine, Slot}
 use Rattle.par_moves.specs.declared.moves.Move.{Move}
@@ -87,3 +87,14 @@ pub record OneMoreForEachCycle (moves done : Moves) : Type 0 where
   pub among : All (Contains (needed moves)) (joined cycles)
   pub apart : AllPairs (λ a b. a.to ≢ b.to) (joined cycles)
   pub few : length done ≤ length (needed moves) + length cycles
+
+-- ---- what they read
+
+-- Each move reads one of the places known, or one that a move before it wrote.
+abbrev pub ReadsKnown : List Loc → Moves → Type 0
+ReadsKnown known [] = Unit
+ReadsKnown known (m ∷ ms) = Contains known m.from × ReadsKnown (m.to ∷ known) ms
+
+-- each move reads a source, or what an earlier move wrote, t0 included
+abbrev pub ReadsSources : Moves → Moves → Type 0
+ReadsSources moves done = ReadsKnown (map (λ m. m.from) moves) done

@@ -13,6 +13,3 @@ mod walk;
 
 pub use moves::Move;
 pub use resolving::resolve;
-
-#[cfg(test)]
-mod tests;

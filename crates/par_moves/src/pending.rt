@@ -38,7 +38,8 @@ impl Pending {
 
     /// Adds a move, unless its source is its target. It is the next among those with its source.
     pub fn add(&mut self, alloc: Global, planned: Move) -> Result<(), AllocError>
-        ensures { (moves : Moves) → Holds self.old.readers moves → OnOk result (Holds self.new.readers (added planned moves)) }
+        ensures { (moves : Moves) → Holds self.old.readers moves →
+            OnOk result (Holds self.new.readers (added planned moves)) }
     {
         if is_same(planned.from, planned.to) {
             return Ok(());
@@ -52,8 +53,10 @@ impl Pending {
 
     /// Takes the next move that reads `source`, if there is one.
     pub fn take(&mut self, source: Loc) -> Result<Option<Move>, AllocError>
-        ensures taken { (moves : Moves) → Holds self.old.readers moves → IfOk result (λ found. (found ≡ first_reader source moves) × Holds self.new.readers (others source moves)) }
-        ensures fewer { IfOk result (λ found. MatchOption found (held self.new.readers ≡ held self.old.readers) (λ _. held self.new.readers + 1 ≡ held self.old.readers)) }
+        ensures taken { (moves : Moves) → Holds self.old.readers moves → IfOk result (λ found.
+            (found ≡ first_reader source moves) × Holds self.new.readers (others source moves)) }
+        ensures fewer { IfOk result (λ found. MatchOption found (held self.new.readers ≡ held self.old.readers)
+            (λ _. held self.new.readers + 1 ≡ held self.old.readers)) }
     {
         let key = key(source);
         let Some(mut row) = self.readers.remove(&key) else {

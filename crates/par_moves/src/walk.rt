@@ -41,8 +41,10 @@ pub fn walk(
     pending: &mut Pending,
     made: &mut Vec<Move>,
 ) -> Result<(), AllocError>
-    ensures moves { (moves : Moves) → Holds pending.old.readers moves → OnOk result (made.new.items ≡ made.old.items ++ (walk_from root moves).made) }
-    ensures left { (moves : Moves) → Holds pending.old.readers moves → OnOk result (Holds pending.new.readers (walk_from root moves).left) }
+    ensures moves { (moves : Moves) → Holds pending.old.readers moves →
+        OnOk result (made.new.items ≡ made.old.items ++ (walk_from root moves).made) }
+    ensures left { (moves : Moves) → Holds pending.old.readers moves →
+        OnOk result (Holds pending.new.readers (walk_from root moves).left) }
     ensures fewer { OnOk result (held pending.new.readers ≤ held pending.old.readers) }
 {
     let mut root = root;

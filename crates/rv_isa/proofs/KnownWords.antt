@@ -1,8 +1,7 @@
 -- What given words decode to, as an assembler makes them: each row is computed.
-use Rattle.std.proofs.Common.{◌≡◌, ◌-◌, ◌^◌, refl, Some, None}
+use Rattle.std.proofs.Common.{◌≡◌, refl, Some, None}
 use Rattle.rv_isa.specs.Decoding.{decoded}
 use Rattle.rv_isa.specs.Encoding.{encoded}
-use Rattle.rv_isa.specs.Immediate.{imm_i, imm_b, imm_j, imm_u}
 use Rattle.rv_isa.specs.declared.instr.Instr.TheVariants.{Lui, Jal, Jalr, Branch, Load, Store, OpImm, Shift, ShiftWord, OpWord, Ecall}
 use Rattle.rv_isa.specs.declared.instr.AluWordOp.TheVariants.{Mulw}
 use Rattle.rv_isa.specs.declared.instr.AluImmOp.TheVariants.{Addi}
@@ -21,9 +20,6 @@ small_constant = refl
 lowers_sp : decoded 0xFF010113 ≡ Some (OpImm Addi 2 2 0xFF0)
 unfolding decoded
 lowers_sp = refl
-
-minus_sixteen : imm_i 0xFF0 ≡ 2 ^ 64 - 16
-minus_sixteen = refl
 
 -- sd ra, 8(sp)
 saves_ra : decoded 0x00113423 ≡ Some (Store Sd 2 1 8)
@@ -69,9 +65,6 @@ back_by_one : decoded 0xFEB50EE3 ≡ Some (Branch Beq 10 11 0x1FFC)
 unfolding decoded
 back_by_one = refl
 
-minus_four : imm_b 0x1FFC ≡ 2 ^ 64 - 4
-minus_four = refl
-
 -- bne a0, a1, 4094
 farthest_branch : decoded 0x7EB51FE3 ≡ Some (Branch Bne 10 11 0xFFE)
 unfolding decoded
@@ -91,9 +84,6 @@ farthest_back : decoded 0x800000EF ≡ Some (Jal 1 0x100000)
 unfolding decoded
 farthest_back = refl
 
-minus_a_megabyte : imm_j 0x100000 ≡ 2 ^ 64 - 1048576
-minus_a_megabyte = refl
-
 -- jal ra, 1048574
 farthest_on : decoded 0x7FFFF0EF ≡ Some (Jal 1 0xFFFFE)
 unfolding decoded
@@ -112,9 +102,6 @@ jump_bit_twelve = refl
 upper : decoded 0x80000537 ≡ Some (Lui 10 0x80000)
 unfolding decoded
 upper = refl
-
-upper_has_sign : imm_u 0x80000 ≡ 0xFFFFFFFF80000000
-upper_has_sign = refl
 
 -- ---- shifts
 

@@ -1,5 +1,5 @@
--- The immediates of the manual's formats: as bits of the fields, and as 64-bit words.
-use Rattle.std.specs.Prelude.{ℕ, ◌+◌, ◌-◌, ◌*◌, ◌/◌, ◌%◌, ◌^◌, nat_lt, if◌then◌else◌}
+-- The immediates of the manual's formats, as bits of the fields.
+use Rattle.std.specs.Prelude.{ℕ, ◌+◌, ◌*◌, ◌/◌, ◌%◌}
 use Rattle.rv_isa.specs.declared.word.Fields.{Fields}
 
 -- I: imm[11:5] is funct7, imm[4:0] is rs2
@@ -27,20 +27,3 @@ j_raw f =
 -- the amount of a 64-bit shift: imm[5] is the lowest bit of funct7, imm[4:0] is rs2
 abbrev pub amount_raw : Fields → ℕ
 amount_raw f = f.rs2 + 32 * (f.funct7 % 2)
-
--- the 64-bit word of a number of that many bits, extended by its sign
-abbrev pub sext : ℕ → ℕ → ℕ
-sext bits x = if nat_lt x (2 ^ (bits - 1)) then x else x + 2 ^ 64 - 2 ^ bits
-
--- the 64-bit words of the immediates: 12 bits of I and S, 13 of B, 21 of J, and the upper 20 of 32 bits of U
-abbrev pub imm_i : ℕ → ℕ
-imm_i x = sext 12 x
-
-abbrev pub imm_b : ℕ → ℕ
-imm_b x = sext 13 x
-
-abbrev pub imm_j : ℕ → ℕ
-imm_j x = sext 21 x
-
-abbrev pub imm_u : ℕ → ℕ
-imm_u x = sext 32 (4096 * x)

@@ -3,3 +3,4 @@ pub mod Immediate
 pub mod Rows
 pub mod Encoding
 pub mod Decoding
+pub mod Registers

@@ -9,6 +9,7 @@ pub mod decoding;
 pub mod encoding;
 pub mod instr;
 pub mod opcodes;
+pub mod register;
 pub mod rows;
 pub mod word;
 
@@ -17,6 +18,4 @@ pub use encoding::encode;
 pub use instr::{
     AluImmOp, AluOp, AluWordOp, Condition, Instr, LoadWidth, ShiftOp, ShiftWordOp, StoreWidth,
 };
-
-#[cfg(test)]
-mod tests;
+pub use register::Register;

@@ -1,38 +1,69 @@
 -- The signed reading of a low half, and what the rows on 32 bits leave.
-use Rattle.std.proofs.Common.{◌≡◌, ◌≢◌, ℕ, ◌-◌, ◌*◌, ◌/◌, ◌%◌, ◌^◌, ◌<◌, refl, ap, arith, ◌∙◌, sym, subst}
+use Rattle.std.proofs.Common.{◌≡◌, ◌≢◌, ℕ, ◌+◌, ◌-◌, ◌*◌, ◌/◌, ◌%◌, ◌^◌, ◌<◌, ◌≤◌, Bool, true, false, cond, ltb, refl, ap, arith, ◌∙◌, sym, subst}
 use Rattle.std.specs.Prelude.{ℤ, pos, negsuc, ◌*ℤ◌, int_div, int_rem, FitsSigned}
 use Rattle.std.specs.Int.{w64, w128, cast_unsigned, cast_signed, int_div_euclid}
 use Rattle.std.specs.Int.Signed.{mag, shr_z, nat_abs-le}
+use Rattle.std.proofs.lemmas.Bool.{cond-true, lt-ltb}
 use Rattle.std.proofs.lemmas.Int.{to_z-of_z, fits_signed_mul}
-use Rattle.std.proofs.Math.Pow.{mod-mod-pow}
-use Rattle.std.proofs.Math.Nat.{mod-lt}
-use Rattle.bs_words.specs.Word.{word_of, signed_of, signed_in, sar_word, shl_word, shr_word, mul_word, div_word, rem_word}
+use Rattle.std.proofs.Math.Pow.{mod-mod-pow, pow_mono}
+use Rattle.std.proofs.Math.Nat.{mod-lt, mod-mod, mod-eq_of_lt}
+use Rattle.bs_words.specs.Word.{word_of, signed_of, signed_in, sar_word, shl_word, shr_word, mul_word, div_word, rem_word, sext_word}
 use Rattle.bs_words.proofs.Word.{word_of-bits}
-use Rattle.rv_isa.specs.Immediate.{sext}
 use Rattle.rv_machine.specs.Arithmetic.{low, extended, low_signed, sar_low}
 
+-- a number of so many bits, extended by its sign
+abbrev pub with_sign : ℕ → ℕ → ℕ
+with_sign bits x = cond (ltb x (2 ^ (bits - 1))) x (x + 2 ^ 64 - 2 ^ bits)
+
+pub sext_is : (bits x : ℕ) → bits ≤ 64 → x < 2 ^ bits → sext_word x bits ≡ with_sign bits x
+unfolding sext_word signed_in word_of
+sext_is bits x few small =
+    let same : x % 2 ^ bits ≡ x = mod-eq_of_lt small in
+    rw same (by (ltb x (2 ^ (bits - 1))))
+  where
+    by : (b : Bool) → word_of (cond b (pos x) (negsuc (2 ^ bits - 1 - x))) ≡ cond b x (x + 2 ^ 64 - 2 ^ bits)
+    by true = let within : 2 ^ bits ≤ 2 ^ 64 = pow_mono few in mod-eq_of_lt (omega arith)
+    by false =
+        let within : 2 ^ bits ≤ 2 ^ 64 = pow_mono few in
+        let e : (2 ^ bits - 1 - x) % 2 ^ 64 ≡ 2 ^ bits - 1 - x = mod-eq_of_lt (omega arith) in
+        omega arith
+
+pub sext_small : (bits x : ℕ) → bits ≤ 64 → 0 < bits → x < 2 ^ (bits - 1) → sext_word x bits ≡ x
+sext_small bits x few some small =
+    let within : 2 ^ (bits - 1) ≤ 2 ^ bits = (let le : bits - 1 ≤ bits = omega arith in pow_mono le) in
+    sext_is bits x few (omega arith) ∙ cond-true _ _ _ (lt-ltb x (2 ^ (bits - 1)) small)
+
+extended_is : (a : ℕ) → extended a ≡ with_sign 32 (low a)
+unfolding sext_word
+extended_is a =
+    let some : 0 < 2 ^ 32 = omega arith in
+    ap (λ n. word_of (signed_in 32 n)) (sym (mod-mod a (2 ^ 32))) ∙ sext_is 32 (low a) (omega arith) (mod-lt a some)
+
 -- 32 bits extended by their sign read as the number that they are with their sign
-signed_sext : (x : ℕ) → x < 2 ^ 32 → signed_of (sext 32 x) ≡ signed_in 32 x
+signed_sext : (x : ℕ) → x < 2 ^ 32 → signed_of (with_sign 32 x) ≡ signed_in 32 x
 unfolding signed_of signed_in
 signed_sext x h = grind arith
 
 pub signed_low : (a : ℕ) → signed_of (extended a) ≡ low_signed a
-signed_low a = let some : 0 < 2 ^ 32 = omega arith in signed_sext (a % 2 ^ 32) (mod-lt a some)
+signed_low a = let some : 0 < 2 ^ 32 = omega arith in ap signed_of (extended_is a) ∙ signed_sext (a % 2 ^ 32) (mod-lt a some)
 
 -- a low half is 0 where its extension is
+with_sign_zero : (x : ℕ) → x < 2 ^ 32 → with_sign 32 x ≡ 0 → x ≡ 0
+with_sign_zero x small h = grind arith
+
 pub low_zero : (a : ℕ) → extended a ≡ 0 → low a ≡ 0
-low_zero a h = let some : 0 < 2 ^ 32 = omega arith in let small = mod-lt a some in grind arith
+low_zero a h = let some : 0 < 2 ^ 32 = omega arith in with_sign_zero (low a) (mod-lt a some) (sym (extended_is a) ∙ h)
 
 pub low_nonzero : (a : ℕ) → extended a ≢ 0 → low a ≢ 0
-low_nonzero a h e = let some : 0 < 2 ^ 32 = omega arith in let small = mod-lt a some in h (ap (sext 32) e)
+low_nonzero a h e = h (extended_is a ∙ ap (with_sign 32) e)
 
 pub shl_extended : (a k : ℕ) → extended (shl_word a k) ≡ extended (a * 2 ^ k)
-unfolding shl_word
-shl_extended a k = ap (sext 32) (mod-mod-pow (a * 2 ^ k) 32 32)
+unfolding shl_word sext_word
+shl_extended a k = ap (λ n. word_of (signed_in 32 n)) (mod-mod-pow (a * 2 ^ k) 32 32)
 
 pub mul_extended : (a b : ℕ) → extended (mul_word a b) ≡ extended (a * b)
-unfolding mul_word
-mul_extended a b = ap (sext 32) (mod-mod-pow (a * b) 32 32)
+unfolding mul_word sext_word
+mul_extended a b = ap (λ n. word_of (signed_in 32 n)) (mod-mod-pow (a * b) 32 32)
 
 pub shr_extended : (a k : ℕ) → extended (shr_word (low a) k) ≡ extended (low a / 2 ^ k)
 unfolding shr_word

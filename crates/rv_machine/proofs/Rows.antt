@@ -1,13 +1,13 @@
 -- What rows of the instruction table compute on given numbers: each row is computed.
 use Rattle.std.proofs.Common.{◌≡◌, ℕ, ◌-◌, ◌^◌, true, false, refl, Some, None, List, [], ◌∷◌}
-use Rattle.bs_words.specs.Word.{signed_of, signed_in, word_of, add_word, sub_word, mulh_word, div_word, rem_word, shl_word, shr_word, sar_word}
+use Rattle.bs_words.specs.Word.{signed_of, signed_in, word_of, sext_word, add_word, sub_word, mulh_word, div_word, rem_word, shl_word, shr_word, sar_word}
 use Rattle.rv_isa.specs.declared.instr.AluOp.TheVariants.{Add, Sll, Slt, Sltu, Srl, Sra, Mulh, Mulhsu, Mulhu, Div, Divu, Rem, Remu}
 use Rattle.rv_isa.specs.declared.instr.AluWordOp.TheVariants.{Addw, Subw, Sllw, Srlw, Sraw, Mulw, Divw, Divuw, Remw, Remuw}
 use Rattle.rv_isa.specs.declared.instr.AluImmOp.TheVariants.{Addi, Slti, Sltiu, Xori}
 use Rattle.rv_isa.specs.declared.instr.ShiftOp.TheVariants.{Slli, Srai}
 use Rattle.rv_isa.specs.declared.instr.ShiftWordOp.TheVariants.{Slliw, Srliw, Sraiw}
 use Rattle.rv_isa.specs.declared.instr.Condition.TheVariants.{Blt, Bge, Bltu, Bgeu}
-use Rattle.rv_machine.specs.Arithmetic.{alu, alu_imm, shift, alu_word, shift_word, is_taken}
+use Rattle.rv_machine.specs.Arithmetic.{imm_i, imm_b, imm_j, imm_u, alu, alu_imm, shift, alu_word, shift_word, is_taken}
 use Rattle.rv_machine.specs.Memory.{Region, loaded, stored}
 
 -- the word of -n, the least number, and the least number of 32 bits
@@ -107,83 +107,109 @@ remainder_of_dividend = refl
 -- ---- the low 32 bits
 
 low_sum_has_sign : alu_word Addw 0x7FFFFFFF 1 ≡ least_low
-unfolding add_word
+unfolding add_word sext_word signed_in word_of
 low_sum_has_sign = refl
 
 low_difference : alu_word Subw 0 1 ≡ minus 1
-unfolding sub_word
+unfolding sub_word sext_word signed_in word_of
 low_difference = refl
 
 -- only the lowest five bits of the amount count
 amount_of_five_bits : alu_word Sllw 1 63 ≡ least_low
+unfolding sext_word signed_in word_of
 amount_of_five_bits = refl
 
 high_half_is_dropped : alu_word Srlw 0x1FFFFFFFF 31 ≡ 1
+unfolding sext_word signed_in word_of
 high_half_is_dropped = refl
 
 low_signs_come_in : alu_word Sraw 0x80000000 31 ≡ minus 1
-unfolding signed_in word_of
+unfolding signed_in word_of sext_word
 low_signs_come_in = refl
 
 low_product : alu_word Mulw 0x10000 0x8000 ≡ least_low
+unfolding sext_word signed_in word_of
 low_product = refl
 
 -- a divisor whose low half is 0
 low_quotient_by_zero : alu_word Divw 7 0x100000000 ≡ minus 1
-unfolding signed_in word_of
+unfolding signed_in word_of sext_word
 low_quotient_by_zero = refl
 
 low_unsigned_quotient_by_zero : alu_word Divuw 7 0 ≡ minus 1
+unfolding sext_word signed_in word_of
 low_unsigned_quotient_by_zero = refl
 
 low_remainder_by_zero : alu_word Remw 0x180000000 0 ≡ least_low
-unfolding signed_in word_of
+unfolding signed_in word_of sext_word
 low_remainder_by_zero = refl
 
 low_unsigned_remainder_by_zero : alu_word Remuw 0x80000000 0 ≡ least_low
+unfolding sext_word signed_in word_of
 low_unsigned_remainder_by_zero = refl
 
 low_quotient_overflows : alu_word Divw 0x80000000 (minus 1) ≡ least_low
-unfolding signed_in word_of
+unfolding signed_in word_of sext_word
 low_quotient_overflows = refl
 
 low_remainder_overflows : alu_word Remw 0x80000000 (minus 1) ≡ 0
-unfolding signed_in word_of
+unfolding signed_in word_of sext_word
 low_remainder_overflows = refl
 
 low_unsigned_quotient : alu_word Divuw (minus 1) 1 ≡ minus 1
+unfolding sext_word signed_in word_of
 low_unsigned_quotient = refl
 
 -- the result has its sign also where nothing was shifted
 low_shift_zeros : shift_word Srliw (minus 1) 0 ≡ minus 1
+unfolding sext_word signed_in word_of
 low_shift_zeros = refl
 
 low_shift_left : shift_word Slliw 3 31 ≡ least_low
+unfolding sext_word signed_in word_of
 low_shift_left = refl
 
 low_shift_sign : shift_word Sraiw 0x80000000 31 ≡ minus 1
-unfolding signed_in word_of
+unfolding signed_in word_of sext_word
 low_shift_sign = refl
 
--- ---- immediates of 12 bits
+-- ---- immediates
+
+minus_sixteen : imm_i 0xFF0 ≡ 2 ^ 64 - 16
+unfolding sext_word signed_in word_of
+minus_sixteen = refl
+
+minus_four : imm_b 0x1FFC ≡ 2 ^ 64 - 4
+unfolding sext_word signed_in word_of
+minus_four = refl
+
+minus_a_megabyte : imm_j 0x100000 ≡ 2 ^ 64 - 1048576
+unfolding sext_word signed_in word_of
+minus_a_megabyte = refl
+
+upper_has_sign : imm_u 0x80000 ≡ 0xFFFFFFFF80000000
+unfolding sext_word signed_in word_of
+upper_has_sign = refl
 
 immediate_has_sign : alu_imm Addi 0 0x800 ≡ minus 2048
-unfolding add_word
+unfolding add_word sext_word signed_in word_of
 immediate_has_sign = refl
 
 greatest_immediate : alu_imm Addi 0 0x7FF ≡ 2047
-unfolding add_word
+unfolding add_word sext_word signed_in word_of
 greatest_immediate = refl
 
 signed_with_immediate : alu_imm Slti (minus 2) 0xFFF ≡ 1
-unfolding signed_of
+unfolding signed_of sext_word signed_in word_of
 signed_with_immediate = refl
 
 -- the immediate is extended by its sign and compared as unsigned
 unsigned_with_immediate : alu_imm Sltiu 5 0xFFF ≡ 1
+unfolding sext_word signed_in word_of
 unsigned_with_immediate = refl
 
 complement : alu_imm Xori 0 0xFFF ≡ minus 1
+unfolding sext_word signed_in word_of
 complement = refl
 
 shift_of_63 : shift Slli 3 63 ≡ least

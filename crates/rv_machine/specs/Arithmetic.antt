@@ -1,8 +1,7 @@
 -- What the rows of the instruction table compute (RISC-V Unprivileged ISA manual, "RV64I" and "M").
 use Rattle.std.specs.Prelude.{ℕ, ◌-◌, ◌*◌, ◌/◌, ◌%◌, ◌^◌, Bool, cond, not, ◌==◌, nat_lt, ℤ, pos, ◌*ℤ◌, int_div, int_rem, int_lt, bit_and, bit_or, bit_xor}
 use Rattle.std.specs.Int.{int_div_euclid}
-use Rattle.bs_words.specs.Word.{signed_of, signed_in, word_of, add_word, sub_word, mul_word, mulh_word, div_word, rem_word, shl_word, shr_word, sar_word}
-use Rattle.rv_isa.specs.Immediate.{sext, imm_i}
+use Rattle.bs_words.specs.Word.{signed_of, signed_in, word_of, add_word, sub_word, mul_word, mulh_word, div_word, rem_word, shl_word, shr_word, sar_word, sext_word}
 use Rattle.rv_isa.specs.declared.instr.AluOp.{AluOp}
 use Rattle.rv_isa.specs.declared.instr.AluOp.TheVariants.{Add, Sub, Sll, Slt, Sltu, Xor, Srl, Sra, Or, And, Mul, Mulh, Mulhsu, Mulhu, Div, Divu, Rem, Remu}
 use Rattle.rv_isa.specs.declared.instr.AluWordOp.{AluWordOp}
@@ -22,6 +21,20 @@ bit_of b = cond b 1 0
 -- a word of all ones
 abbrev pub ones : ℕ
 ones = 2 ^ 64 - 1
+
+-- ---- immediates, extended by their sign: 12 bits of I and S, 13 of B, 21 of J, and the upper 20 of 32 bits of U
+
+abbrev pub imm_i : ℕ → ℕ
+imm_i x = sext_word x 12
+
+abbrev pub imm_b : ℕ → ℕ
+imm_b x = sext_word x 13
+
+abbrev pub imm_j : ℕ → ℕ
+imm_j x = sext_word x 21
+
+abbrev pub imm_u : ℕ → ℕ
+imm_u x = sext_word (4096 * x) 32
 
 -- ---- on 64 bits
 
@@ -73,7 +86,7 @@ low a = a % 2 ^ 32
 
 -- the lowest 32 bits of a number, extended by their sign
 abbrev pub extended : ℕ → ℕ
-extended n = sext 32 (low n)
+extended n = sext_word n 32
 
 -- the low half, read with its sign
 abbrev pub low_signed : ℕ → ℤ

@@ -3,6 +3,7 @@ use Rattle.std.specs.Prelude.{ℕ, zero, suc, ◌+◌, ◌-◌, ◌/◌, ◌%◌
 use Rattle.std.specs.List.{list_any, list_all}
 use Rattle.bs_words.specs.Word.{add_word}
 use Rattle.image_form.specs.Tables.{Desc}
+use Rattle.rv_isa.specs.Registers.{sp}
 use Rattle.rv_machine.specs.Hart.{Hart, register}
 use Rattle.rv_machine.specs.Memory.{Region, word, code_start}
 use Rattle.rv_machine.specs.Places.{stack_end}
@@ -68,9 +69,9 @@ frames_from (suc most) descs base memory first address at =
 abbrev pub most_frames : ℕ → ℕ
 most_frames base = suc ((stack_end - base) / 16)
 
--- the frames of a machine that stands at a service: the innermost one returns behind the ECALL
+-- the frames of a machine that stands at a service: the innermost one returns after the ECALL
 abbrev pub frames : Hart → Option (List Frame)
-frames h = frames_from (most_frames h.stack_base) h.image.descs h.stack_base h.memory true (h.pc + 4) (register h 2)
+frames h = frames_from (most_frames h.stack_base) h.image.descs h.stack_base h.memory true (h.pc + 4) (register h sp)
 
 -- ---- the locations that frames name
 

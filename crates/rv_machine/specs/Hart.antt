@@ -1,16 +1,16 @@
 -- One instruction of the hart.
 use Rattle.std.specs.Prelude.{ℕ, zero, suc, ◌+◌, ◌-◌, ◌/◌, ◌%◌, cond, ◌&&◌, ◌==◌, nat_lt, nat_le, List, ◌∷◌, Option, Some, None, slice_get, slice_index, slice_set}
-use Rattle.bs_words.specs.Word.{add_word}
+use Rattle.bs_words.specs.Word.{add_word, sext_word}
 use Rattle.image_form.specs.Tables.{Tables}
 use Rattle.rv_isa.specs.Decoding.{decoded}
-use Rattle.rv_isa.specs.Immediate.{sext, imm_i, imm_b, imm_j, imm_u}
+use Rattle.rv_isa.specs.Registers.{sp}
 use Rattle.rv_isa.specs.declared.instr.Instr.{Instr}
 use Rattle.rv_isa.specs.declared.instr.Instr.TheVariants.{Lui, Auipc, Jal, Jalr, Branch, Load, Store, OpImm, Shift, Op, Addiw, ShiftWord, OpWord, Ecall}
 use Rattle.rv_isa.specs.declared.instr.LoadWidth.{LoadWidth}
 use Rattle.rv_isa.specs.declared.instr.LoadWidth.TheVariants.{Lb, Lh, Lw, Ld, Lbu, Lhu, Lwu}
 use Rattle.rv_isa.specs.declared.instr.StoreWidth.{StoreWidth}
 use Rattle.rv_isa.specs.declared.instr.StoreWidth.TheVariants.{Sb, Sh, Sw, Sd}
-use Rattle.rv_machine.specs.Arithmetic.{alu, alu_imm, alu_word, shift, shift_word, extended, is_taken}
+use Rattle.rv_machine.specs.Arithmetic.{imm_i, imm_b, imm_j, imm_u, alu, alu_imm, alu_word, shift, shift_word, extended, is_taken}
 use Rattle.rv_machine.specs.Memory.{Region, loaded, stored, code_region, code_start}
 use Rattle.rv_machine.specs.declared.cause.Cause.{Cause}
 use Rattle.rv_machine.specs.declared.cause.Cause.TheVariants.{BadFetch, BadWord, BadAccess}
@@ -37,7 +37,7 @@ pub record Hart : Type 0 where
   pub blocks : List Placed
   -- instructions that have retired
   pub retired : ℕ
-  -- allocation services that came to moving blocks
+  -- allocation services and frame calls that came to moving blocks
   pub services : ℕ
 
 -- What comes of an instruction.
@@ -64,11 +64,15 @@ with_register (suc r) value registers = slice_set registers (suc r) value
 abbrev pub goes_to : ℕ → Hart → Next
 goes_to address h = Retired (record h { pc = address; retired = suc h.retired })
 
+-- the ECALL has retired
+abbrev pub past_ecall : Hart → Hart
+past_ecall h = record h { pc = h.pc + 4; retired = suc h.retired }
+
 -- register rd is set and the next instruction is at this address; the run is out of stack where x2 comes
 -- below the stack's base
 abbrev pub sets : ℕ → ℕ → ℕ → Hart → Next
 sets rd value address h =
-    cond ((rd == 2) && nat_lt value h.stack_base) StackOut
+    cond ((rd == sp) && nat_lt value h.stack_base) StackOut
     (goes_to address (record h { registers = with_register rd value h.registers }))
 
 -- a taken target is a multiple of 4; else the machine stops at the jump
@@ -88,9 +92,9 @@ bytes_loaded Lwu = 4
 
 -- what a register gets of the bytes
 abbrev pub register_loaded : LoadWidth → ℕ → ℕ
-register_loaded Lb n = sext 8 n
-register_loaded Lh n = sext 16 n
-register_loaded Lw n = sext 32 n
+register_loaded Lb n = sext_word n 8
+register_loaded Lh n = sext_word n 16
+register_loaded Lw n = sext_word n 32
 register_loaded Ld n = n
 register_loaded Lbu n = n
 register_loaded Lhu n = n

@@ -7,7 +7,9 @@ pub mod Places
 pub mod Frames
 pub mod Placement
 pub mod Moving
+pub mod Relocation
 pub mod Allocation
+pub mod FrameCalls
 pub mod Marks
 pub mod Space
 pub mod Services

@@ -2,6 +2,7 @@
 --
 -- Numbers are little-endian. An access is at a multiple of its width and lies whole inside one region.
 use Rattle.std.specs.Prelude.{ℕ, zero, suc, ◌+◌, ◌-◌, ◌*◌, ◌/◌, ◌%◌, ◌^◌, Bool, cond, ◌&&◌, ◌==◌, nat_le, List, [], ◌∷◌, Option, Some, None, slice_index, slice_set, option_map, length}
+pub use Rattle.bs_words.specs.Memory.{part, replaced}
 
 pub record Region : Type 0 where
   -- the first address, a multiple of 8
@@ -20,16 +21,6 @@ index_in r address = (address - r.start) / 8
 
 abbrev pub byte_in : Region → ℕ → ℕ
 byte_in r address = (address - r.start) % 8
-
--- `width` bytes of a word, from byte `from` up
-abbrev pub part : ℕ → ℕ → ℕ → ℕ
-part word from width = word / 2 ^ (8 * from) % 2 ^ (8 * width)
-
--- the word with those bytes replaced by the lowest bytes of a value
-abbrev pub replaced : ℕ → ℕ → ℕ → ℕ → ℕ
-replaced word from width value =
-    word % 2 ^ (8 * from) + value % 2 ^ (8 * width) * 2 ^ (8 * from)
-    + word / 2 ^ (8 * (from + width)) * 2 ^ (8 * (from + width))
 
 abbrev pub with_written : Region → ℕ → ℕ → ℕ → Region
 with_written r address width value =

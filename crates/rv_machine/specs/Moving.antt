@@ -1,6 +1,6 @@
 -- How a service moves blocks from their old places to new ones. Every word that is moved or rewritten is
 -- read from the old state.
-use Rattle.std.specs.Prelude.{ℕ, suc, ◌+◌, ◌%◌, ◌^◌, Bool, true, false, cond, ◌==◌, nat_lt, List, [], ◌∷◌, map, replicate, slice_index}
+use Rattle.std.specs.Prelude.{ℕ, suc, ◌%◌, ◌^◌, Bool, true, false, cond, ◌==◌, nat_lt, List, [], ◌∷◌, map, replicate, slice_index}
 use Rattle.rv_machine.specs.Hart.{Placed, with_register}
 use Rattle.rv_machine.specs.Memory.{Region, word, write, words_at, put}
 use Rattle.rv_machine.specs.Placement.{header_at}

@@ -4,6 +4,7 @@ use Rattle.bs_words.specs.declared.types.Comp.{Comp}
 use Rattle.bs_words.specs.declared.types.Comp.TheVariants.{Int, Val, Addr, Float}
 use Rattle.bs_words.specs.declared.values.Obs.{Obs}
 use Rattle.bs_words.specs.declared.values.Obs.TheVariants.{Word, Block}
+use Rattle.rv_isa.specs.Registers.{s10}
 use Rattle.rv_machine.specs.Memory.{Region, read}
 use Rattle.rv_machine.specs.Hart.{Hart, Placed, register}
 
@@ -38,14 +39,22 @@ young_blocks memory address =
     cond ((address % 8 == 0) && nat_le young_start address && nat_le address young_top)
     (blocks_from (suc ((young_top - address) / 16)) memory address) None
 
+-- every block by serial, where the lowest young one begins at an address: those of the table, and then the
+-- young ones, the one at the highest address first; none where the words do not read as whole blocks
+abbrev pub blocks_at : Hart → ℕ → Option (List Placed)
+blocks_at h from = option_map (λ young. h.blocks ++ reverse young) (young_blocks h.memory from)
+
 abbrev pub or_none : Option (List Placed) → List Placed
 or_none None = []
-or_none (Some bs) = bs
+or_none (Some blocks) = blocks
 
--- every block by serial: those of the table, and then the young ones from the allocation pointer on,
--- the one at the highest address first
+abbrev pub blocks_or : List Placed → Option (List Placed) → List Placed
+blocks_or table None = table
+blocks_or table (Some blocks) = blocks
+
+-- the blocks that an observer knows: those of the table alone where the young area does not read
 abbrev pub all_blocks : Hart → List Placed
-all_blocks h = h.blocks ++ reverse (or_none (young_blocks h.memory (register h 26)))
+all_blocks h = blocks_or h.blocks (blocks_at h (register h s10))
 
 -- the serial of the block that starts at an address, counted from `k`
 abbrev pub serial_from : ℕ → List Placed → ℕ → Option ℕ

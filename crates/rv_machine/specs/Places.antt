@@ -1,9 +1,7 @@
 -- Where things lie in the machine's memory, and what stands in memory that holds nothing.
 use Rattle.std.specs.Prelude.{ℕ, ◌+◌, ◌*◌}
+pub use Rattle.bs_words.specs.Fits.{data_start}
 use Rattle.rv_machine.specs.Observation.{young_start, young_top}
-
-abbrev pub data_start : ℕ
-data_start = 0x10000000
 
 -- the domain page: its first word is the limit word
 abbrev pub domain_start : ℕ

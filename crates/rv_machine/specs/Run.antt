@@ -4,7 +4,7 @@ use Rattle.bs_words.specs.Observed.{Made}
 use Rattle.image_form.specs.Tables.{Tables, Func}
 use Rattle.rv_machine.specs.Hart.{Hart, Placed, Next, Retired, Service, hart}
 use Rattle.rv_machine.specs.Hart as next
-use Rattle.rv_machine.specs.Memory.{Region, written, memory_or}
+use Rattle.rv_machine.specs.Memory.{written, memory_or}
 use Rattle.rv_machine.specs.Services.{End, Running, StackOut, Stopped, Machine, Now, Going, Over, service}
 use Rattle.rv_machine.specs.Start.{start, domain_start, limit_asked}
 
@@ -12,8 +12,8 @@ use Rattle.rv_machine.specs.Start.{start, domain_start, limit_asked}
 pub record Schedule : Type 0 where
   -- whether it asks before the instruction of this number
   pub asks : ℕ → Bool
-  -- the new starts that it plans, at the allocation service of this number, for the blocks that there then
-  -- are, by serial; a list that is no valid plan means packing
+  -- the new starts that it plans, at the allocation service or frame call of this number, for the blocks that
+  -- there then are, by serial; a list that is no valid plan means packing
   pub plan : ℕ → List Placed → List ℕ
 
 abbrev pub is_among : List ℕ → ℕ → Bool
@@ -24,8 +24,8 @@ abbrev pub plan_or_none : Option (List ℕ) → List ℕ
 plan_or_none None = []
 plan_or_none (Some starts) = starts
 
--- the schedule of these asks and plans, the first plan for the first allocation service; one that is
--- missing means packing
+-- the schedule of these asks and plans, the first plan for the first allocation service or frame call; one
+-- that is missing means packing
 abbrev pub lists : List ℕ → List (List ℕ) → Schedule
 lists asks plans = record { asks = is_among asks; plan = λ number blocks. plan_or_none (slice_get plans number) }
 

@@ -1,5 +1,5 @@
 -- What an ECALL asks for: t2 says which service.
-use Rattle.std.specs.Prelude.{ℕ, zero, suc, ◌+◌, List, [], ◌∷◌, ◌++◌, Option, Some, None, slice_get}
+use Rattle.std.specs.Prelude.{ℕ, zero, suc, cond, List, [], ◌∷◌, ◌++◌, map, Option, Some, None, slice_get}
 use Rattle.bs_words.specs.Observed.{Made}
 use Rattle.bs_words.specs.declared.types.Comp.{Comp}
 use Rattle.bs_words.specs.declared.types.Comp.TheVariants.{Val}
@@ -7,19 +7,22 @@ use Rattle.bs_words.specs.declared.types.Ret.{Ret}
 use Rattle.bs_words.specs.declared.types.Ret.TheVariants as returns
 use Rattle.bs_words.specs.declared.values.Obs.{Obs}
 use Rattle.image_form.specs.Tables.{Ext}
-use Rattle.rv_machine.specs.Allocation.{Allocated, Goes, NoHeap, Refused, allocated}
-use Rattle.rv_machine.specs.Hart.{Hart, Placed, register, with_register}
+use Rattle.rv_isa.specs.Registers.{a0, destroyed_by_external, number, t0, t2}
+use Rattle.rv_machine.specs.Allocation.{allocated}
+use Rattle.rv_machine.specs.FrameCalls.{collected, has_trap_frame, raised, with_answer}
+use Rattle.rv_machine.specs.Hart.{Hart, Placed, past_ecall, register, with_register}
 use Rattle.rv_machine.specs.Observation.{observed}
 pub use Rattle.rv_machine.specs.Places.{filler}
+use Rattle.rv_machine.specs.Relocation.{Serviced, Goes, NoHeap, Refused}
 use Rattle.rv_machine.specs.declared.cause.Cause.{Cause}
-use Rattle.rv_machine.specs.declared.cause.Cause.TheVariants.{BadService}
+use Rattle.rv_machine.specs.declared.cause.Cause.TheVariants.{BadFrame, BadService}
 
 -- How a run of the machine stands.
 pub data End : Type 0 where
   Running : End
   Returned : (value : Option Obs) → End
   Raised : (value : Obs) → End
-  -- an external call wanted an answer, and none was left
+  -- an external call wanted more answers than were left
   Asks : (call : Made) → End
   StackOut : End
   HeapOut : End
@@ -39,45 +42,45 @@ pub data Now : Type 0 where
   Going : (m : Machine) → Now
   Over : (calls : List Made) (end : End) → Now
 
--- the ECALL has retired
-abbrev pub past_ecall : Hart → Hart
-past_ecall h = record h { pc = h.pc + 4; retired = suc h.retired }
-
 -- ---- return and uncaught raise
 
 abbrev pub value_returned : Ret → Hart → Option Obs
 value_returned returns.Unit h = None
-value_returned (returns.Comp c) h = Some (observed h c (register h 10))
+value_returned (returns.Comp c) h = Some (observed h c (register h a0))
 
 -- ---- external calls
 
--- what is seen of the arguments that stand in the argument registers from this one on: a0 to a7 are x10
--- to x17, and s2 to s9 are x18 to x25
+-- what is seen of the arguments, which are in the registers of these numbers and the next ones
 abbrev pub arguments_from : ℕ → List Comp → Hart → List Obs
 arguments_from r [] h = []
 arguments_from r (c ∷ cs) h = observed h c (register h r) ∷ arguments_from (suc r) cs h
 
+-- a0 to a7 and s2 to s9 are x10 to x25, one after the other
 abbrev pub call_made : Ext → Hart → Made
-call_made e h = record { name = e.name; shown = arguments_from 10 e.params h }
+call_made e h = record { name = e.name; shown = arguments_from a0 e.params h }
 
 abbrev pub filled : List ℕ → List ℕ → List ℕ
 filled [] registers = registers
 filled (r ∷ rs) registers = filled rs (with_register r filler registers)
 
--- a0 to a7 and t3 to t6
+-- the registers that an external call destroys
 abbrev pub destroyed : List ℕ
-destroyed = 10 ∷ 11 ∷ 12 ∷ 13 ∷ 14 ∷ 15 ∷ 16 ∷ 17 ∷ 28 ∷ 29 ∷ 30 ∷ 31 ∷ []
+destroyed = map number destroyed_by_external
 
-abbrev pub called : Made → List ℕ → List ℕ → Machine → Now
-called call registers answers m =
-    Going (record m { hart = past_ecall (record (m.hart) { registers = registers }); answers = answers; calls = m.calls ++ call ∷ [] })
+-- the call was made, and the run goes on so, with these answers left
+abbrev pub called : Made → Hart → List ℕ → Machine → Now
+called call h answers m = Going (record m { hart = h; answers = answers; calls = m.calls ++ call ∷ [] })
+
+-- the machine after an external call that left these registers
+abbrev pub returned_with : List ℕ → Hart → Hart
+returned_with registers h = past_ecall (record h { registers = registers })
 
 -- the answer that a call with this result takes
 abbrev pub answered : Ret → Made → List ℕ → Machine → Now
-answered returns.Unit call answers m = called call (filled destroyed m.hart.registers) answers m
+answered returns.Unit call answers m = called call (returned_with (filled destroyed m.hart.registers) m.hart) answers m
 answered (returns.Comp c) call [] m = Over m.calls (Asks call)
 answered (returns.Comp c) call (a ∷ answers) m =
-    called call (with_register 10 a (filled destroyed m.hart.registers)) answers m
+    called call (returned_with (with_register a0 a (filled destroyed m.hart.registers)) m.hart) answers m
 
 abbrev pub external : Option Ext → Machine → Now
 external None m = Over m.calls (Stopped BadService)
@@ -85,21 +88,56 @@ external (Some e) m = answered e.result (call_made e m.hart) m.answers m
 
 -- ---- allocation
 
-abbrev pub after_allocation : Allocated → Machine → Now
+abbrev pub after_allocation : Serviced → Machine → Now
 after_allocation (Goes h) m = Going (record m { hart = h })
 after_allocation NoHeap m = Over m.calls HeapOut
 after_allocation (Refused cause) m = Over m.calls (Stopped cause)
 
--- ---- by the number in t2, x7; t0, x5, has the number of the external call, or the bytes asked for
+-- ---- frame calls
 
--- Plans say, for the number of an allocation service and the blocks that there then are, where each of
--- these is to start.
+-- what a frame call destroys
+abbrev pub cleared : Hart → Hart
+cleared h = record h { registers = filled destroyed h.registers }
+
+-- The call has two answers. Where the first is 0 the second is its value; else the second is raised, where
+-- there is a trap frame.
+abbrev pub concluded : Ret → Made → ℕ → ℕ → List ℕ → Hart → Machine → Now
+concluded result call zero value answers h m =
+    called call (returned_with (with_answer result value (filled destroyed h.registers)) h) answers m
+concluded result call (suc first) value answers h m =
+    cond (has_trap_frame h) (called call (raised value (cleared h)) answers m) (Over m.calls (Stopped BadFrame))
+
+-- the blocks have moved, or the run has ended without the call
+abbrev pub after_collection : Ret → Made → ℕ → ℕ → List ℕ → Serviced → Machine → Now
+after_collection result call first value answers (Goes h) m = concluded result call first value answers h m
+after_collection result call first value answers NoHeap m = Over m.calls HeapOut
+after_collection result call first value answers (Refused cause) m = Over m.calls (Stopped cause)
+
+-- a frame call takes two answers; where they are not left it takes none, and no block moves
+abbrev pub frame_answered : (List Placed → List ℕ) → Ret → Made → List ℕ → Machine → Now
+frame_answered plan result call [] m = Over m.calls (Asks call)
+frame_answered plan result call (first ∷ []) m = Over m.calls (Asks call)
+frame_answered plan result call (first ∷ value ∷ answers) m =
+    after_collection result call first value answers (collected plan m.hart) m
+
+abbrev pub frame_call : (List Placed → List ℕ) → Option Ext → Machine → Now
+frame_call plan None m = Over m.calls (Stopped BadService)
+frame_call plan (Some e) m = frame_answered plan e.result (call_made e m.hart) m.answers m
+
+-- ---- by the number in t2; t0 has the number of the external call, or the bytes asked for
+
+abbrev pub external_at : Hart → Option Ext
+external_at h = slice_get h.image.extcs (register h t0)
+
+-- Plans say, for the number of a service that moves the blocks and the blocks that there then are, where
+-- each of these is to start.
 abbrev pub served : (ℕ → List Placed → List ℕ) → ℕ → Machine → Now
 served plan zero m = Over m.calls (Returned (value_returned m.result m.hart))
-served plan (suc zero) m = Over m.calls (Raised (observed m.hart Val (register m.hart 10)))
-served plan (suc (suc zero)) m = external (slice_get m.hart.image.extcs (register m.hart 5)) m
+served plan (suc zero) m = Over m.calls (Raised (observed m.hart Val (register m.hart a0)))
+served plan (suc (suc zero)) m = external (external_at m.hart) m
 served plan (suc (suc (suc zero))) m = after_allocation (allocated (plan m.hart.services) m.hart) m
+served plan (suc (suc (suc (suc zero)))) m = frame_call (plan m.hart.services) (external_at m.hart) m
 served plan _ m = Over m.calls (Stopped BadService)
 
 abbrev pub service : (ℕ → List Placed → List ℕ) → Machine → Now
-service plan m = served plan (register m.hart 7) m
+service plan m = served plan (register m.hart t2) m

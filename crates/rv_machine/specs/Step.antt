@@ -1,11 +1,25 @@
 -- What a step of the code tells, as what comes of an instruction.
-use Rattle.std.specs.Prelude.{◌≡◌, ◌<◌, ◌^◌, ℕ, Bool, true, false, List, Option, Some, None}
+use Rattle.std.specs.Prelude.{◌≡◌, ◌<◌, ◌-◌, ◌^◌, min, ℕ, Bool, true, false, List, Option, Some, None}
 use Rattle.rv_machine.specs.Memory.{Region}
 use Rattle.rv_machine.specs.Hart.{Hart, Next, with_register}
 use Rattle.rv_machine.specs.Services.{filled, destroyed}
+use Rattle.rv_isa.specs.Registers.{a0}
 use Rattle.rv_machine.specs.Hart as next
 use Rattle.rv_machine.specs.declared.step_end.StepEnd.{StepEnd}
 use Rattle.rv_machine.specs.declared.step_end.StepEnd.TheVariants.{Retired, Service, StackOut, Stopped}
+
+-- A count stays at the end of its type.
+abbrev pub count : ℕ → ℕ
+count n = min n (2 ^ 64 - 1)
+
+abbrev pub counted : Hart → Hart
+counted h = record h { retired = count h.retired }
+
+abbrev pub counted_next : Next → Next
+counted_next (next.Retired h) = next.Retired (counted h)
+counted_next (next.Service h) = next.Service h
+counted_next next.StackOut = next.StackOut
+counted_next (next.Stopped cause) = next.Stopped cause
 
 -- what came of the instruction, where this was told and the machine then stood so
 abbrev pub next_of : StepEnd → Hart → Next
@@ -29,7 +43,7 @@ Stores false after old new = (after ≡ None) × (new ≡ old)
 -- the registers after an external call: some are destroyed, and a0 has the answer where there is one
 abbrev pub registers_after : Option ℕ → List ℕ → List ℕ
 registers_after None registers = filled destroyed registers
-registers_after (Some answer) registers = with_register 10 answer (filled destroyed registers)
+registers_after (Some answer) registers = with_register a0 answer (filled destroyed registers)
 
 -- a machine that stands before a service is at a word of its code
 abbrev pub IsNear : StepEnd → Hart → Type 0

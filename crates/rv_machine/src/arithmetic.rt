@@ -1,8 +1,7 @@
 //! What the rows of the instruction table compute (RISC-V Unprivileged ISA manual, "RV64I" and "M").
 //! Nothing here takes memory or fails.
 ghost use Rattle.std.specs.Prelude.{◌≡◌, ◌*◌, ◌/◌, ◌<◌, ◌^◌};
-ghost use Rattle.rv_isa.specs.Immediate.{imm_i, imm_b, imm_j, imm_u};
-ghost use Rattle.rv_machine.specs.Arithmetic.{alu, alu_imm, alu_word, shift, shift_word, extended, low, is_less, is_taken, sar_low};
+ghost use Rattle.rv_machine.specs.Arithmetic.{imm_i, imm_b, imm_j, imm_u, alu, alu_imm, alu_word, shift, shift_word, extended, low, is_less, is_taken, sar_low};
 ghost use Rattle.rv_machine.specs.Hart.{register_loaded, bytes_loaded, bytes_stored};
 ghost use Rattle.rv_machine.specs.Width.{IsWidth};
 
@@ -15,12 +14,7 @@ pub fn imm_i(imm: u16) -> u64
     requires { imm < 4096 }
     ensures { result ≡ imm_i imm }
 {
-    let imm = u64::from(imm);
-    if imm < 0x800 {
-        imm
-    } else {
-        imm + 0xFFFF_FFFF_FFFF_F000
-    }
+    bs_words::sext(u64::from(imm), 12)
 }
 
 /// The 13 bits of an immediate of B, extended by their sign.
@@ -28,12 +22,7 @@ pub fn imm_b(offset: u16) -> u64
     requires { offset < 8192 }
     ensures { result ≡ imm_b offset }
 {
-    let offset = u64::from(offset);
-    if offset < 0x1000 {
-        offset
-    } else {
-        offset + 0xFFFF_FFFF_FFFF_E000
-    }
+    bs_words::sext(u64::from(offset), 13)
 }
 
 /// The 21 bits of an immediate of J, extended by their sign.
@@ -41,12 +30,7 @@ pub fn imm_j(offset: u32) -> u64
     requires { offset < 2097152 }
     ensures { result ≡ imm_j offset }
 {
-    let offset = u64::from(offset);
-    if offset < 0x10_0000 {
-        offset
-    } else {
-        offset + 0xFFFF_FFFF_FFE0_0000
-    }
+    bs_words::sext(u64::from(offset), 21)
 }
 
 /// The upper 20 of 32 bits, those of an immediate of U, extended by their sign.
@@ -54,12 +38,7 @@ pub fn imm_u(imm: u32) -> u64
     requires { imm < 1048576 }
     ensures { result ≡ imm_u imm }
 {
-    let word = 4096 * u64::from(imm);
-    if word < 0x8000_0000 {
-        word
-    } else {
-        word + 0xFFFF_FFFF_0000_0000
-    }
+    bs_words::sext(4096 * u64::from(imm), 32)
 }
 
 // ---- on 64 bits
@@ -183,12 +162,7 @@ fn low(a: u64) -> u64
 pub fn extended(a: u64) -> u64
     ensures exact { result ≡ extended a }
 {
-    let word = low(a);
-    if word < 0x8000_0000 {
-        word
-    } else {
-        word + 0xFFFF_FFFF_0000_0000
-    }
+    bs_words::sext(a, 32)
 }
 
 /// What a row of OP-32 leaves in `rd`.
@@ -236,6 +210,7 @@ fn mulw(a: u64, b: u64) -> u64
     extended(bs_words::mul(a, b))
 }
 
+#[tactic(auto, using(crate::proofs::LowHalf::low_zero))]
 fn divw(a: u64, b: u64) -> u64
     ensures { result ≡ alu_word AluWordOp.Divw a b }
 {
@@ -258,6 +233,7 @@ fn divuw(a: u64, b: u64) -> u64
     }
 }
 
+#[tactic(auto, using(crate::proofs::LowHalf::low_zero))]
 fn remw(a: u64, b: u64) -> u64
     ensures { result ≡ alu_word AluWordOp.Remw a b }
 {
@@ -324,31 +300,12 @@ pub fn bytes_loaded(width: LoadWidth) -> u64
 
 /// What a load leaves in `rd` of the bytes that it read.
 pub fn register_loaded(width: LoadWidth, bytes: u64) -> u64
-    requires { bytes < 2 ^ (8 * bytes_loaded width) }
     ensures { result ≡ register_loaded width bytes }
 {
     match width {
-        LoadWidth::Lb => {
-            if bytes < 0x80 {
-                bytes
-            } else {
-                bytes + 0xFFFF_FFFF_FFFF_FF00
-            }
-        }
-        LoadWidth::Lh => {
-            if bytes < 0x8000 {
-                bytes
-            } else {
-                bytes + 0xFFFF_FFFF_FFFF_0000
-            }
-        }
-        LoadWidth::Lw => {
-            if bytes < 0x8000_0000 {
-                bytes
-            } else {
-                bytes + 0xFFFF_FFFF_0000_0000
-            }
-        }
+        LoadWidth::Lb => bs_words::sext(bytes, 8),
+        LoadWidth::Lh => bs_words::sext(bytes, 16),
+        LoadWidth::Lw => bs_words::sext(bytes, 32),
         LoadWidth::Ld | LoadWidth::Lbu | LoadWidth::Lhu | LoadWidth::Lwu => bytes,
     }
 }

@@ -31,6 +31,3 @@ pub use setup::{Arg, LoadError, Setup};
 pub use space::Space;
 pub use step_end::StepEnd;
 pub use table::Table;
-
-#[cfg(test)]
-mod tests;

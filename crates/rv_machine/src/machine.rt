@@ -1,5 +1,5 @@
 //! The state of the machine, and what reads and sets it.
-ghost use Rattle.std.specs.Prelude.{◌≡◌, ◌+◌, ◌-◌, ◌*◌, ◌/◌, ◌^◌, ◌<◌, ◌≤◌, [], length, slice_index, IfSome};
+ghost use Rattle.std.specs.Prelude.{◌≡◌, ◌+◌, ◌-◌, ◌*◌, ◌/◌, ◌^◌, ◌<◌, ◌≤◌, [], true, length, slice_index, IfSome};
 ghost use Rattle.bs_words.specs.Contents.{contents};
 ghost use Rattle.image_form.specs.Image.{IsImage};
 ghost use Rattle.image_form.specs.Tables.{tables};
@@ -9,8 +9,9 @@ ghost use Rattle.rv_machine.specs.Memory.{loaded, stored};
 ghost use Rattle.rv_machine.specs.Space.{IsSpace};
 ghost use Rattle.std.specs.Vec.{vec_capacity};
 ghost use Rattle.rv_machine.specs.Width.{IsWidth};
-ghost use Rattle.rv_machine.specs.Step.{next_of, Keeps, Stores, registers_after};
-ghost use Rattle.rv_machine.specs.Services.{past_ecall};
+ghost use Rattle.rv_machine.specs.Step.{counted, counted_next, next_of, Keeps, Stores, registers_after};
+ghost use Rattle.rv_machine.specs.Services.{cleared, returned_with};
+ghost use Rattle.rv_machine.specs.FrameCalls.{has_trap_frame, raised};
 ghost use Rattle.rv_machine.specs.Run.{asked};
 
 use crate::blocks::BlockPlace;
@@ -18,9 +19,10 @@ use crate::code::{self, CODE_START};
 use crate::memory::{Memory, is_aligned};
 use crate::runtime::destroy;
 use crate::space::Space;
-use crate::start::{DOMAIN_START, YOUNG_TOP};
+use crate::start::{DOMAIN_START, STACK_BOTTOM, YOUNG_TOP};
 use crate::step_end::StepEnd;
 use image_form::Image;
+use rv_isa::Register;
 use std::marker::Model;
 
 /// The machine. Contracts see the state of its hart.
@@ -37,7 +39,7 @@ pub struct Machine<'a> {
     /// The blocks by serial. `load` takes the memory of the whole table.
     pub blocks: Vec<BlockPlace>,
     pub retired: u64,
-    /// How many allocation services have moved blocks.
+    /// How many allocation services and frame calls have moved blocks.
     pub services: u64,
     pub space: Space,
 }
@@ -57,7 +59,7 @@ impl<'a> Model for Machine<'a> {
     ghost use Rattle.rv_machine.specs.Space.{IsHeap, IsSpace};
 
     // x0 holds 0, so that it is read as the others are. The stack lies above the heap.
-    ghost invariant = { λ m. (slice_index m.registers 0 ≡ 0) × IsImage m.image.now × IsHeap m.heap m.blocks.items × IsSpace m.heap m.space × (m.heap / 16 ≤ vec_capacity m.blocks) × (0x38010000 ≤ m.stack_base) × (m.stack_base ≤ 0x40000000) × (m.services ≤ m.retired) };
+    ghost invariant = { λ m. (slice_index m.registers 0 ≡ 0) × IsImage m.image.now × IsHeap m.heap m.blocks.items × IsSpace m.heap m.space × (m.heap / 16 ≤ vec_capacity m.blocks) × (0x38010000 ≤ m.stack_base) × (m.stack_base ≤ 0x40000000) };
 }
 
 impl<'a> Machine<'a> {
@@ -104,7 +106,7 @@ impl<'a> Machine<'a> {
         self.retired
     }
 
-    /// How many allocation services have moved blocks.
+    /// How many allocation services and frame calls have moved blocks.
     pub fn services(&self) -> u64
         ensures { result ≡ self.now.services }
     {
@@ -140,30 +142,28 @@ impl<'a> Machine<'a> {
 
     // The next instruction is at `address`, and nothing else changes.
     pub(crate) fn go_to(&mut self, address: u64) -> StepEnd
-        requires { self.old.retired < 2 ^ 64 - 1 }
-        ensures exact { next_of result self.new ≡ goes_to address self.old }
+        ensures exact { next_of result self.new ≡ counted_next (goes_to address self.old) }
         ensures kept { Keeps result self.old self.new }
     {
         self.pc = address;
-        self.retired += 1;
+        self.retired = self.retired.saturating_add(1);
         StepEnd::Retired
     }
 
     // Register `rd` becomes `value`, and the next instruction is at `address`.
     pub(crate) fn set(&mut self, rd: u8, value: u64, address: u64) -> StepEnd
         requires number { rd < 32 }
-        requires room { self.old.retired < 2 ^ 64 - 1 }
-        ensures exact { next_of result self.new ≡ sets rd value address self.old }
+        ensures exact { next_of result self.new ≡ counted_next (sets rd value address self.old) }
         ensures kept { Keeps result self.old self.new }
     {
-        if rd == 2 && value < self.stack_base {
+        if rd == Register::Sp as u8 && value < self.stack_base {
             return StepEnd::StackOut;
         }
         if rd != 0 {
             self.registers[rd as usize] = value;
         }
         self.pc = address;
-        self.retired += 1;
+        self.retired = self.retired.saturating_add(1);
         StepEnd::Retired
     }
 
@@ -218,17 +218,38 @@ impl<'a> Machine<'a> {
         let _ = self.memory.write(DOMAIN_START, 8, YOUNG_TOP);
     }
 
-    /// Goes on behind an external call with its answer, if it has one.
+    /// Goes on after an external call with its answer, if it has one.
     pub fn finish_call(&mut self, answer: Option<u64>)
         requires near { self.old.pc < 2 ^ 32 }
-        requires room { self.old.retired < 2 ^ 64 - 1 }
-        ensures { self.new ≡ past_ecall (record self.old { registers = registers_after answer self.old.registers }) }
+        ensures { self.new ≡ counted (returned_with (registers_after answer self.old.registers) self.old) }
     {
         destroy(&mut self.registers);
         if let Some(answer) = answer {
-            self.registers[10] = answer;
+            self.registers[Register::A0 as usize] = answer;
         }
         self.pc += 4;
-        self.retired += 1;
+        self.retired = self.retired.saturating_add(1);
+    }
+
+    /// Whether s1 points at a trap frame: at two words of the stack's region.
+    pub fn has_trap_frame(&self) -> bool
+        ensures { result ≡ has_trap_frame self.now }
+    {
+        let at = self.registers[Register::S1 as usize];
+        at % 8 == 0 && self.stack_base <= at && at <= STACK_BOTTOM
+    }
+
+    /// Goes on after a frame call that raises a value, at the address in the innermost trap frame.
+    pub fn raise(&mut self, value: u64)
+        requires { has_trap_frame self.old ≡ true }
+        ensures { self.new ≡ counted (raised value (cleared self.old)) }
+    {
+        destroy(&mut self.registers);
+        let at = self.registers[Register::S1 as usize];
+        self.registers[Register::Sp as usize] = at + 16;
+        self.registers[Register::S1 as usize] = self.memory.word(at + 8);
+        self.registers[Register::A0 as usize] = value;
+        self.pc = self.memory.word(at);
+        self.retired = self.retired.saturating_add(1);
     }
 }

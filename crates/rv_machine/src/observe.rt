@@ -8,9 +8,7 @@ use crate::machine::Machine;
 use crate::memory::Memory;
 use crate::start::{YOUNG_START, YOUNG_TOP};
 use bs_words::{Comp, Obs};
-
-/// s10, the allocation pointer.
-pub const ALLOCATION: u8 = 26;
+use rv_isa::Register;
 
 impl<'a> Machine<'a> {
     /// What an observer sees of a word of that type: a val that is a block's start is the block, and
@@ -35,7 +33,11 @@ impl<'a> Machine<'a> {
         match serial_in(table, address) {
             Some(serial) => Some(serial),
             None => {
-                let serial = young_serial(self.memory(), self.register(ALLOCATION), address)?;
+                let serial = young_serial(
+                    self.memory(),
+                    self.register(Register::S10 as u8),
+                    address,
+                )?;
                 Some(table.len() as u64 + serial)
             }
         }

@@ -3,7 +3,7 @@ ghost use Rattle.std.specs.Prelude.{◌≡◌, ◌+◌, ◌-◌, ◌*◌, ◌^�
 ghost use Rattle.rv_isa.specs.Encoding.{InstrFits};
 ghost use Rattle.rv_machine.specs.Hart.{executed, hart, jumps, sets, goes_to, readable};
 ghost use Rattle.rv_machine.specs.Memory.{loaded, code_region, read};
-ghost use Rattle.rv_machine.specs.Step.{next_of, Keeps, IsNear};
+ghost use Rattle.rv_machine.specs.Step.{counted_next, next_of, Keeps, IsNear};
 ghost use Rattle.rv_machine.specs.Width.{IsWidth};
 
 use crate::arithmetic;
@@ -15,10 +15,10 @@ use rv_isa::{Condition, Instr, LoadWidth, StoreWidth, decode};
 impl<'a> Machine<'a> {
     /// Runs the instruction at the program counter. An ECALL is not run: it answers `Service`.
     ///
-    /// It takes no memory. Each word is decoded as it comes.
+    /// It takes no memory. Each word is decoded as it comes. The count of instructions stays at the end of
+    /// its type.
     pub fn step(&mut self) -> StepEnd
-        requires { self.old.retired < 2 ^ 64 - 1 }
-        ensures exact { next_of result self.new ≡ hart self.old }
+        ensures exact { next_of result self.new ≡ counted_next (hart self.old) }
         ensures kept { Keeps result self.old self.new }
         ensures near { IsNear result self.new }
     {
@@ -35,8 +35,7 @@ impl<'a> Machine<'a> {
     fn execute(&mut self, instr: Instr) -> StepEnd
         requires fits { InstrFits instr }
         requires within { self.old.pc < 2 ^ 32 }
-        requires room { self.old.retired < 2 ^ 64 - 1 }
-        ensures exact { next_of result self.new ≡ executed instr self.old }
+        ensures exact { next_of result self.new ≡ counted_next (executed instr self.old) }
         ensures kept { Keeps result self.old self.new }
     {
         let next = self.pc() + 4;
@@ -114,8 +113,7 @@ impl<'a> Machine<'a> {
     fn jump(&mut self, rd: u8, target: u64) -> StepEnd
         requires number { rd < 32 }
         requires within { self.old.pc < 2 ^ 32 }
-        requires room { self.old.retired < 2 ^ 64 - 1 }
-        ensures exact { next_of result self.new ≡ jumps target (sets rd (self.old.pc + 4) target self.old) }
+        ensures exact { next_of result self.new ≡ counted_next (jumps target (sets rd (self.old.pc + 4) target self.old)) }
         ensures kept { Keeps result self.old self.new }
     {
         if target % 4 != 0 {
@@ -128,8 +126,7 @@ impl<'a> Machine<'a> {
     fn branch(&mut self, condition: Condition, rs1: u8, rs2: u8, offset: u16) -> StepEnd
         requires fits { InstrFits (Instr.Branch condition rs1 rs2 offset) }
         requires within { self.old.pc < 2 ^ 32 }
-        requires room { self.old.retired < 2 ^ 64 - 1 }
-        ensures exact { next_of result self.new ≡ executed (Instr.Branch condition rs1 rs2 offset) self.old }
+        ensures exact { next_of result self.new ≡ counted_next (executed (Instr.Branch condition rs1 rs2 offset) self.old) }
         ensures kept { Keeps result self.old self.new }
     {
         if !arithmetic::is_taken(condition, self.register(rs1), self.register(rs2)) {
@@ -146,8 +143,7 @@ impl<'a> Machine<'a> {
     fn load(&mut self, width: LoadWidth, rd: u8, rs1: u8, imm: u16) -> StepEnd
         requires fits { InstrFits (Instr.Load width rd rs1 imm) }
         requires within { self.old.pc < 2 ^ 32 }
-        requires room { self.old.retired < 2 ^ 64 - 1 }
-        ensures exact { next_of result self.new ≡ executed (Instr.Load width rd rs1 imm) self.old }
+        ensures exact { next_of result self.new ≡ counted_next (executed (Instr.Load width rd rs1 imm) self.old) }
         ensures kept { Keeps result self.old self.new }
     {
         let address = bs_words::add(self.register(rs1), arithmetic::imm_i(imm));
@@ -161,8 +157,7 @@ impl<'a> Machine<'a> {
     fn store(&mut self, width: StoreWidth, rs1: u8, rs2: u8, imm: u16) -> StepEnd
         requires fits { InstrFits (Instr.Store width rs1 rs2 imm) }
         requires within { self.old.pc < 2 ^ 32 }
-        requires room { self.old.retired < 2 ^ 64 - 1 }
-        ensures exact { next_of result self.new ≡ executed (Instr.Store width rs1 rs2 imm) self.old }
+        ensures exact { next_of result self.new ≡ counted_next (executed (Instr.Store width rs1 rs2 imm) self.old) }
         ensures kept { Keeps result self.old self.new }
     {
         let address = bs_words::add(self.register(rs1), arithmetic::imm_i(imm));

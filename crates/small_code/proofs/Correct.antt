@@ -11,8 +11,9 @@ use Rattle.small_code.specs.Tree.{SmallFunctionTree, SmallFileTree, Parameter, f
 use Rattle.cmm_data.specs.Placement.{data_end}
 use Rattle.cmm_tree.specs.Tree as whole
 use Rattle.correctness.specs.Correct.{EndsAlike, Alike, Forwards, Backwards, Accounted, IsPrefix, IsCorrect}
-use Rattle.correctness.specs.Setting.{layout_of, IsRoom, Entered, FitParameters}
-use Rattle.image_form.specs.Image.{AreTables}
+use Rattle.correctness.specs.Setting.{layout_of, Entered, FitParameters}
+use Rattle.rv_machine.specs.Loading.{IsRoom}
+use Rattle.image_form.specs.Image.{AreTables, stub}
 use Rattle.image_form.specs.Tables.{Func}
 use Rattle.rv_isa.specs.Encoding.{encoded}
 use Rattle.rv_isa.specs.declared.instr.AluImmOp.TheVariants.{Addi}
@@ -21,7 +22,7 @@ use Rattle.rv_machine.specs.Start.{start}
 use Rattle.rv_machine.specs.Run.{Schedule, Seen, seen, after, begun, machine_run}
 use Rattle.rv_machine.specs.Services.{End, Running, Returned, StackOut, Over}
 use Rattle.small_code.specs.Code.{function_code, frame_bytes, index_of}
-use Rattle.small_code.specs.Compiled.{stub, compiled}
+use Rattle.small_code.specs.Compiled.{compiled}
 use Rattle.small_code.proofs.Functions.{Entry, FewSlots, function_ends, function_out}
 use Rattle.small_code.proofs.Names.{among-is, index_among}
 use Rattle.small_code.proofs.Pieces.{HasAt}

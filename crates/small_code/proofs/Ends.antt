@@ -4,13 +4,13 @@ use Rattle.bs_words.specs.Word.{add_word}
 use Rattle.bs_words.specs.declared.types.Comp.TheVariants as comp
 use Rattle.bs_words.specs.declared.types.Ret.TheVariants as returns
 use Rattle.bs_words.specs.declared.values.Obs.TheVariants.{Word}
-use Rattle.rv_isa.specs.Immediate.{imm_i}
+use Rattle.rv_machine.specs.Arithmetic.{imm_i}
 use Rattle.rv_isa.specs.declared.instr.Instr.TheVariants.{Jalr, Ecall}
 use Rattle.rv_machine.specs.Hart.{register, sets, jumps, goes_to, executed}
 use Rattle.rv_machine.specs.Memory.{code_start}
 use Rattle.rv_machine.specs.Run.{perhaps_asked, after_next, after}
 use Rattle.rv_machine.specs.Services.{Over, Returned, Machine, served, value_returned}
-use Rattle.small_code.proofs.Instructions.{add_small}
+use Rattle.small_code.proofs.Instructions.{add_small, imm_small}
 use Rattle.small_code.proofs.Steps.{Setting, View, Leads, Ends, Instruction, held, register_held, one_step, perhaps_stands, at}
 
 -- a return to the stub
@@ -22,7 +22,7 @@ return_step s v instruction held_there = record {
       let before = perhaps_asked s.schedule h in
       let ready = perhaps_stands s h v stands in
       let there : add_word (register before 1) (imm_i 0) ≡ 65536 =
-      ap (λ a. add_word a (imm_i 0)) (register_held s before v 1 ready ∙ held_there) ∙ add_small 65536 0 (omega arith) in
+      ap (λ a. add_word a (imm_i 0)) (register_held s before v 1 ready ∙ held_there) ∙ ap (λ i. add_word code_start i) (imm_small 0 (omega arith)) ∙ add_small 65536 0 (omega arith) in
       let effect : executed (Jalr 0 1 0) before ≡ goes_to code_start before =
       ap (λ sum. jumps (sum - sum % 2) (sets 0 (before.pc + 4) (sum - sum % 2) before)) there in (
         record before { pc = code_start; retired = suc before.retired },

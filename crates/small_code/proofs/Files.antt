@@ -10,10 +10,10 @@ use Rattle.small_code.specs.Tree.{SmallFunctionTree, comps_of}
 use Rattle.small_code.specs.Code.{frame_bytes}
 use Rattle.small_code.specs.View.{function_view}
 use Rattle.small_code.specs.declared.tree.SmallFunction.{SmallFunction}
-use Rattle.image_form.specs.Image.{func_bytes}
+use Rattle.image_form.specs.Image.{func_bytes, stub}
 use Rattle.image_form.specs.Tables.{Func, func}
 use Rattle.image_form.specs.declared.image.FuncRow.{FuncRow}
-use Rattle.small_code.specs.Compiled.{stub, function_words, row_at, rows_from}
+use Rattle.small_code.specs.Compiled.{function_words, row_at, rows_from}
 use Rattle.small_code.proofs.Sizes.{row-length}
 
 -- the first n functions

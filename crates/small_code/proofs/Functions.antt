@@ -128,7 +128,7 @@ pub record Entry (s : Setting) (room : ℕ) (args : List ℕ) (v : View) : Type 
 -- the frame of a function of few slots
 pub record FewSlots (f : SmallFunctionTree) : Type 0 where
   pub few_params : parameters f ≤ 16
-  pub few_slots : slots f ≤ 4000
+  pub few_slots : slots f ≤ 32000
   pub named : (name : List ℕ) → Contains (names_of f) name → index_of (names_of f) name < parameters f
 
 pub function_out :

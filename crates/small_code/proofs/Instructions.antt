@@ -1,16 +1,15 @@
 -- What each instruction of the code of small functions leads to.
-use Rattle.std.proofs.Common.{◌≡◌, ◌≢◌, ℕ, suc, ◌+◌, ◌*◌, ◌^◌, ◌<◌, ◌≤◌, ◌∷◌, slice_index, slice_set, Some, ap, ap₂, ◌∙◌, arith, mod-eq_of_lt, inl}
+use Rattle.std.proofs.Common.{◌≡◌, ◌≢◌, ℕ, suc, ◌+◌, ◌*◌, ◌%◌, ◌^◌, ◌<◌, ◌≤◌, ◌∷◌, slice_index, slice_set, Some, ap, ap₂, ◌∙◌, arith, mod-eq_of_lt, inl}
 use Rattle.std.proofs.lemmas.Bool.{lt-ltb, cond-true}
-use Rattle.bs_words.specs.Word.{add_word, shl_word}
+use Rattle.bs_words.specs.Word.{add_word, shl_word, sext_word, signed_in, word_of}
 use Rattle.bs_words.proofs.Below.{add_word-below, shl_word-below}
-use Rattle.rv_isa.specs.Immediate.{imm_i}
 use Rattle.rv_isa.specs.declared.instr.AluOp.{AluOp}
 use Rattle.rv_isa.specs.declared.instr.AluImmOp.TheVariants.{Addi}
 use Rattle.rv_isa.specs.declared.instr.Instr.TheVariants.{Load, Store, OpImm, Shift, Op}
 use Rattle.rv_isa.specs.declared.instr.LoadWidth.TheVariants.{Ld}
 use Rattle.rv_isa.specs.declared.instr.ShiftOp.TheVariants.{Slli}
 use Rattle.rv_isa.specs.declared.instr.StoreWidth.TheVariants.{Sd}
-use Rattle.rv_machine.specs.Arithmetic.{alu}
+use Rattle.rv_machine.specs.Arithmetic.{alu, imm_i}
 use Rattle.rv_machine.specs.Hart.{register, sets, executed, loads, stores}
 use Rattle.rv_machine.specs.Memory.{code_region, code_start, loaded, stored}
 use Rattle.rv_machine.specs.Run.{perhaps_asked, after_next, after}
@@ -19,7 +18,10 @@ use Rattle.small_code.proofs.Steps.{Setting, View, Leads, Instruction, AllWords,
 
 -- an immediate whose top bit is clear is itself
 pub imm_small : (imm : ℕ) → imm < 2048 → imm_i imm ≡ imm
-imm_small imm small = cond-true _ _ _ (lt-ltb imm 2048 small)
+unfolding sext_word signed_in word_of
+imm_small imm small =
+    let low : imm % 2 ^ 12 ≡ imm = mod-eq_of_lt (omega arith) in
+    ap (λ n. word_of (signed_in 12 n)) low ∙ ap word_of (cond-true _ _ _ (lt-ltb imm 2048 small)) ∙ mod-eq_of_lt (omega arith)
 
 -- a sum that does not wrap
 pub add_small : (a b : ℕ) → a + b < 2 ^ 64 → add_word a b ≡ a + b

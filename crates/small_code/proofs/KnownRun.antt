@@ -1,6 +1,6 @@
 -- The code of `(function "add3" (x:int y:int) (+ x (+ y 3)))`, run on the machine: each step is computed.
 use Rattle.std.proofs.Common.{◌≡◌, ◌-◌, ◌^◌, refl, codes, Some, [], ◌∷◌}
-use Rattle.bs_words.specs.Word.{add_word, sub_word, shl_word}
+use Rattle.bs_words.specs.Word.{add_word, sub_word, shl_word, sext_word, signed_in, word_of}
 use Rattle.bs_words.specs.declared.operators.IntOp.TheVariants as int
 use Rattle.bs_words.specs.declared.types.Comp.TheVariants as comp
 use Rattle.bs_words.specs.declared.types.Ret.TheVariants as returns
@@ -45,28 +45,28 @@ ends end = record { calls = []; end = end }
 
 -- with 4096 bytes of stack, and no ask: the function's words, and two of the stub
 returns_ten : machine_run (compiled file) row (3 ∷ 4 ∷ []) [] 4096 0 (lists [] []) 80 ≡ ends (Returned (Some (obs.Word 10)))
-unfolding function_code move_sp load_slot store_slot near_slot constant encoded decoded add_word sub_word shl_word uniform data_region domain_region stack_region
+unfolding function_code move_sp load_slot store_slot near_slot constant encoded decoded add_word sub_word shl_word sext_word signed_in word_of uniform data_region domain_region stack_region
 returns_ten = refl
 
 runs_until_then : machine_run (compiled file) row (3 ∷ 4 ∷ []) [] 4096 0 (lists [] []) 79 ≡ ends Running
-unfolding function_code move_sp load_slot store_slot near_slot constant encoded decoded add_word sub_word shl_word uniform data_region domain_region stack_region
+unfolding function_code move_sp load_slot store_slot near_slot constant encoded decoded add_word sub_word shl_word sext_word signed_in word_of uniform data_region domain_region stack_region
 runs_until_then = refl
 
 -- asks change nothing that is seen
 returns_under_asks : machine_run (compiled file) row (3 ∷ 4 ∷ []) [] 4096 0 (lists (0 ∷ 1 ∷ 2 ∷ 40 ∷ 79 ∷ 80 ∷ []) ((1 ∷ []) ∷ [])) 80 ≡ ends (Returned (Some (obs.Word 10)))
-unfolding function_code move_sp load_slot store_slot near_slot constant encoded decoded add_word sub_word shl_word uniform data_region domain_region stack_region
+unfolding function_code move_sp load_slot store_slot near_slot constant encoded decoded add_word sub_word shl_word sext_word signed_in word_of uniform data_region domain_region stack_region
 returns_under_asks = refl
 
 -- the frame fits exactly; 3 - 7 + 3 is the word of -1
 fits_exactly : machine_run (compiled file) row (3 ∷ (2 ^ 64 - 7) ∷ []) [] 64 16 (lists [] []) 80 ≡ ends (Returned (Some (obs.Word (2 ^ 64 - 1))))
-unfolding function_code move_sp load_slot store_slot near_slot constant encoded decoded add_word sub_word shl_word uniform data_region domain_region stack_region
+unfolding function_code move_sp load_slot store_slot near_slot constant encoded decoded add_word sub_word shl_word sext_word signed_in word_of uniform data_region domain_region stack_region
 fits_exactly = refl
 
 -- the fourth instruction sets sp
 out_of_stack : machine_run (compiled file) row (3 ∷ 4 ∷ []) [] 48 0 (lists [] []) 4 ≡ ends StackOut
-unfolding function_code move_sp load_slot store_slot near_slot constant encoded decoded add_word sub_word shl_word uniform data_region domain_region stack_region
+unfolding function_code move_sp load_slot store_slot near_slot constant encoded decoded add_word sub_word shl_word sext_word signed_in word_of uniform data_region domain_region stack_region
 out_of_stack = refl
 
 in_time : machine_run (compiled file) row (3 ∷ 4 ∷ []) [] 48 0 (lists [] []) 3 ≡ ends Running
-unfolding function_code move_sp load_slot store_slot near_slot constant encoded decoded add_word sub_word shl_word uniform data_region domain_region stack_region
+unfolding function_code move_sp load_slot store_slot near_slot constant encoded decoded add_word sub_word shl_word sext_word signed_in word_of uniform data_region domain_region stack_region
 in_time = refl

@@ -2,10 +2,10 @@
 use Rattle.std.proofs.Common.{◌≡◌, ℕ, ◌+◌, ◌<◌, ◌≤◌, List, length, flat_map, Some, None, refl, sym, ap, ◌∙◌, length-append, lt-ltb, le-ltb, arith}
 use Rattle.bs_fault.specs.declared.large.Section.TheVariants as section
 use Rattle.small_code.specs.Tree.{SmallFileTree, functions}
-use Rattle.image_form.specs.Image.{le16, le32, name_bytes, sym_bytes, ext_bytes, desc_bytes, func_bytes, table_bytes, table_limit, code_limit}
+use Rattle.image_form.specs.Image.{le16, le32, name_bytes, sym_bytes, ext_bytes, desc_bytes, func_bytes, table_bytes, table_limit, code_limit, stub}
 use Rattle.image_form.specs.Tables.{Func}
 use Rattle.image_form.proofs.Lengths.{length-le32}
-use Rattle.small_code.specs.Compiled.{compiled, stub, function_words}
+use Rattle.small_code.specs.Compiled.{compiled, function_words}
 use Rattle.small_code.specs.TooLarge.{section_bytes_of, first_too_large}
 
 -- ---- the bytes of sections
@@ -22,7 +22,7 @@ pub bytes_of_extcs : (file : SmallFileTree) → length (table_bytes ext_bytes (c
 unfolding table_bytes le32
 bytes_of_extcs file = refl
 
-pub bytes_of_descs : (file : SmallFileTree) → length (table_bytes desc_bytes (compiled file).descs) ≡ 4
+pub bytes_of_descs : (file : SmallFileTree) → length (table_bytes (desc_bytes 2) (compiled file).descs) ≡ 4
 unfolding table_bytes le32
 bytes_of_descs file = refl
 

@@ -1,15 +1,15 @@
 -- The image of a small file keeps the rules of images, where its sections keep their limits.
-use Rattle.std.proofs.Common.{◌≡◌, ◌≢◌, ℕ, suc, ◌+◌, ◌*◌, ◌%◌, ◌^◌, ◌<◌, ◌≤◌, Bool, true, false, ◌&&◌, leb, leb-true, List, [], ◌∷◌, ◌++◌, length, map, codes, All, AllPairs, flat_map, None, refl, ap, length-append, lit<, lit≤, arith}
+use Rattle.std.proofs.Common.{◌≡◌, ◌≢◌, ℕ, suc, ◌+◌, ◌*◌, ◌%◌, ◌^◌, ◌<◌, ◌≤◌, Bool, true, false, ◌&&◌, leb, leb-true, List, [], ◌∷◌, ◌++◌, length, map, codes, All, AllPairs, flat_map, None, refl, ap, inr, length-append, lit<, lit≤, arith}
 use Rattle.std.proofs.lemmas.List.{length-map}
 use Rattle.std.specs.List.{AllByRecursion}
 use Rattle.bs_words.specs.declared.types.Comp.{Comp}
 use Rattle.bs_words.specs.declared.types.Comp.TheVariants as comp
-use Rattle.small_code.specs.Small.{IsSymbol}
-use Rattle.small_code.specs.Small.{IsSmall, IsSmallFunction, caml_bound_error, names_of_functions}
+use Rattle.bs_words.specs.Symbol.{IsSymbol, caml_bound_error}
+use Rattle.small_code.specs.Small.{IsSmall, IsSmallFunction, names_of_functions}
 use Rattle.small_code.specs.Tree.{SmallFunctionTree, SmallFileTree, Parameter, functions, comps_of}
-use Rattle.image_form.specs.Image.{First, EachNext, AllDiffer, IsName, IsParam, IsFunc, IsBehind, AreTables, end_of}
+use Rattle.image_form.specs.Image.{First, EachNext, AllDiffer, IsName, IsParam, IsFunc, IsBehind, AreTables, end_of, stub}
 use Rattle.image_form.specs.Tables.{func_names}
-use Rattle.small_code.specs.Compiled.{compiled, stub, function_words, row_at, rows_from}
+use Rattle.small_code.specs.Compiled.{compiled, function_words, row_at, rows_from}
 use Rattle.small_code.specs.TooLarge.{first_too_large}
 use Rattle.small_code.proofs.Limits.{bytes_of_syms, bytes_of_roots, bytes_of_extcs, bytes_of_descs, none_passed}
 use Rattle.small_code.proofs.Numbers.{all-append, words_below}
@@ -121,6 +121,7 @@ are_tables file small none =
     let all = by_recursion IsSmallFunction fs small.functions_small in
     let len : length (stub ++ flat_map function_words fs) ≡ 4 + length (flat_map function_words fs) = length-append stub (flat_map function_words fs) in
     record {
+      version = inr refl;
       funcs = record { each = each_func 16 fs refl all; in_order = in_order 16 fs; in_code = in_code (4 * length (stub ++ flat_map function_words fs)) 16 fs (omega (arith, len)); short = limits.0 };
       code = record { words = all-append (λ w. w < 2 ^ 32) stub (flat_map function_words fs) stub_below (words_below fs all); stub = omega (arith, len); short = limits.1 };
       bytes = record { begins = lit≤ tt; short = lit≤ tt };

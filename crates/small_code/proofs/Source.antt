@@ -172,7 +172,7 @@ module _ (file : FileTree) (layout : Layout) (entry : ℕ) (args answers : List 
 
   here : Here
   unfolding frame
-  here = record { names = bound (map scoped_parameter f.params) (map Word args) []; below = 0; taken = 0 + frame }
+  here = record { names = bound (map scoped_parameter f.params) (map Word args) []; below = 0; frame = frame; tries = 0 }
 
   world : World
   unfolding frame
@@ -184,7 +184,7 @@ module _ (file : FileTree) (layout : Layout) (entry : ℕ) (args answers : List 
     symbol = value_of_symbol file;
     parameters = map whole.comps_of (whole.functions file);
     call = callees file layout n;
-    external = outside layout;
+    external = outside (data_end file) layout;
   }
 
   begun :

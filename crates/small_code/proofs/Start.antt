@@ -3,7 +3,8 @@ use Rattle.std.proofs.Common.{◌≡◌, ℕ, zero, suc, ◌+◌, ◌-◌, ◌*�
 use Rattle.std.specs.List.{AllByRecursion}
 use Rattle.std.proofs.lemmas.List.{length-replicate, get_or_append_left}
 use Rattle.bs_words.specs.declared.types.Comp.{Comp}
-use Rattle.correctness.specs.Setting.{IsRoom, FitParameters}
+use Rattle.correctness.specs.Setting.{FitParameters}
+use Rattle.rv_machine.specs.Loading.{IsRoom}
 use Rattle.image_form.specs.Tables.{Tables, Func}
 use Rattle.image_form.specs.Image.{AreTables}
 use Rattle.rv_machine.specs.Memory.{code_region, code_start}

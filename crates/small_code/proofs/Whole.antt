@@ -1,16 +1,19 @@
 -- Whole runs: a run that is over stays over, and its external calls only grow.
-use Rattle.std.proofs.Common.{◌≡◌, ◌⊎◌, ℕ, zero, suc, ◌+◌, ◌-◌, ◌<◌, ◌≤◌, List, [], ◌∷◌, ◌++◌, Option, Some, None, slice_get, refl, sym, ap, ◌∙◌, arith, inl, inr, append_assoc, append-nil}
+use Rattle.std.proofs.Common.{◌≡◌, ◌⊎◌, ℕ, zero, suc, ◌+◌, ◌-◌, ◌<◌, ◌≤◌, Bool, true, false, cond, List, [], ◌∷◌, ◌++◌, Option, Some, None, refl, sym, ap, ◌∙◌, arith, inl, inr, append_assoc, append-nil}
 use Rattle.std.proofs.lemmas.Bool.{cases_lt}
 use Rattle.bs_words.specs.Observed.{Made}
 use Rattle.bs_words.specs.declared.types.Ret.{Ret}
 use Rattle.bs_words.specs.declared.types.Ret.TheVariants as returns
 use Rattle.correctness.specs.Correct.{IsPrefix}
 use Rattle.image_form.specs.Tables.{Ext}
-use Rattle.rv_machine.specs.Allocation.{Allocated, Goes, NoHeap, Refused, allocated}
+use Rattle.rv_machine.specs.Allocation.{allocated}
+use Rattle.rv_machine.specs.FrameCalls.{collected, has_trap_frame, raised}
 use Rattle.rv_machine.specs.Hart.{Hart, Next, Placed, Retired, Service, hart, register}
 use Rattle.rv_machine.specs.Hart as next
+use Rattle.rv_machine.specs.Relocation.{Serviced, Goes, NoHeap, Refused}
 use Rattle.rv_machine.specs.Run.{Schedule, Seen, perhaps_asked, after_next, one, after, seen}
-use Rattle.rv_machine.specs.Services.{End, Running, Machine, Now, Going, Over, after_allocation, answered, call_made, external, served}
+use Rattle.rv_machine.specs.Services.{End, Running, Stopped, Machine, Now, Going, Over, after_allocation, after_collection, answered, call_made, called, cleared, concluded, external, external_at, frame_answered, frame_call, served}
+use Rattle.rv_machine.specs.declared.cause.Cause.TheVariants.{BadFrame}
 
 pub over_stays :
     (schedule : Schedule) (k : ℕ) (calls : List Made) (end : End) → after schedule k (Over calls end) ≡ Over calls end
@@ -45,19 +48,54 @@ external_grows : (e : Option Ext) (m : Machine) → IsPrefix m.calls (seen (exte
 external_grows None m = same_calls m.calls
 external_grows (Some e) m = answered_grows e.result (call_made e m.hart) m.answers m
 
-allocation_grows : (a : Allocated) (m : Machine) → IsPrefix m.calls (seen (after_allocation a m)).calls
+allocation_grows : (a : Serviced) (m : Machine) → IsPrefix m.calls (seen (after_allocation a m)).calls
 allocation_grows (Goes h) m = same_calls m.calls
 allocation_grows NoHeap m = same_calls m.calls
 allocation_grows (Refused cause) m = same_calls m.calls
+
+raising_grows :
+    (call : Made) (h : Hart) (answers : List ℕ) (m : Machine) (there : Bool) →
+    IsPrefix m.calls (seen (cond there (called call h answers m) (Over m.calls (Stopped BadFrame)))).calls
+raising_grows call h answers m true = (call ∷ [], refl)
+raising_grows call h answers m false = same_calls m.calls
+
+concluded_grows :
+    (result : Ret) (call : Made) (first value : ℕ) (answers : List ℕ) (h : Hart) (m : Machine) →
+    IsPrefix m.calls (seen (concluded result call first value answers h m)).calls
+concluded_grows result call zero value answers h m = (call ∷ [], refl)
+concluded_grows result call (suc first) value answers h m =
+    raising_grows call (raised value (cleared h)) answers m (has_trap_frame h)
+
+collection_grows :
+    (result : Ret) (call : Made) (first value : ℕ) (answers : List ℕ) (s : Serviced) (m : Machine) →
+    IsPrefix m.calls (seen (after_collection result call first value answers s m)).calls
+collection_grows result call first value answers (Goes h) m = concluded_grows result call first value answers h m
+collection_grows result call first value answers NoHeap m = same_calls m.calls
+collection_grows result call first value answers (Refused cause) m = same_calls m.calls
+
+frame_answered_grows :
+    (plan : List Placed → List ℕ) (result : Ret) (call : Made) (answers : List ℕ) (m : Machine) →
+    IsPrefix m.calls (seen (frame_answered plan result call answers m)).calls
+frame_answered_grows plan result call [] m = same_calls m.calls
+frame_answered_grows plan result call (first ∷ []) m = same_calls m.calls
+frame_answered_grows plan result call (first ∷ value ∷ answers) m =
+    collection_grows result call first value answers (collected plan m.hart) m
+
+frame_call_grows :
+    (plan : List Placed → List ℕ) (e : Option Ext) (m : Machine) →
+    IsPrefix m.calls (seen (frame_call plan e m)).calls
+frame_call_grows plan None m = same_calls m.calls
+frame_call_grows plan (Some e) m = frame_answered_grows plan e.result (call_made e m.hart) m.answers m
 
 served_grows :
     (plan : ℕ → List Placed → List ℕ) (number : ℕ) (m : Machine) →
     IsPrefix m.calls (seen (served plan number m)).calls
 served_grows plan zero m = same_calls m.calls
 served_grows plan (suc zero) m = same_calls m.calls
-served_grows plan (suc (suc zero)) m = external_grows (slice_get m.hart.image.extcs (register m.hart 5)) m
+served_grows plan (suc (suc zero)) m = external_grows (external_at m.hart) m
 served_grows plan (suc (suc (suc zero))) m = allocation_grows (allocated (plan m.hart.services) m.hart) m
-served_grows plan (suc (suc (suc (suc n)))) m = same_calls m.calls
+served_grows plan (suc (suc (suc (suc zero)))) m = frame_call_grows (plan m.hart.services) (external_at m.hart) m
+served_grows plan (suc (suc (suc (suc (suc n))))) m = same_calls m.calls
 
 next_grows :
     (schedule : Schedule) (next : Next) (m : Machine) → IsPrefix m.calls (seen (after_next schedule next m)).calls

@@ -4,14 +4,10 @@ use Rattle.std.specs.List.{flat_map}
 use Rattle.small_code.specs.Tree.{SmallFunctionTree, SmallFileTree, functions, comps_of}
 use Rattle.bs_words.specs.declared.types.Comp.TheVariants as comp
 use Rattle.bs_words.specs.declared.types.Ret.TheVariants as returns
+use Rattle.image_form.specs.Image.{stub}
 use Rattle.image_form.specs.Tables.{Tables, Func}
 use Rattle.rv_isa.specs.Encoding.{encoded}
 use Rattle.small_code.specs.Code.{function_code, frame_bytes}
-
--- the stub, with which the code of every image begins: a return to it asks for the service that ends
--- the run, and 8 bytes behind it is the service of an uncaught raise
-abbrev pub stub : List ℕ
-stub = 0x00000393 ∷ 0x00000073 ∷ 0x00100393 ∷ 0x00000073 ∷ []
 
 -- the words of a function
 abbrev pub function_words : SmallFunctionTree → List ℕ
@@ -33,9 +29,10 @@ abbrev pub rows_from : ℕ → List SmallFunctionTree → List Func
 rows_from offset [] = []
 rows_from offset (f ∷ fs) = row_at offset f ∷ rows_from (offset + 4 * length (function_words f)) fs
 
--- the image: the stub and the functions in the order of the text, and the built-in data
+-- the image, of version 2: the stub and the functions in the order of the text, and the built-in data
 abbrev pub compiled : SmallFileTree → Tables
 compiled file = record {
+  version = 2;
   funcs = rows_from 16 (functions file);
   code = stub ++ flat_map function_words (functions file);
   bytes = replicate 8 0;

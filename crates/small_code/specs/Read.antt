@@ -3,7 +3,9 @@ use Rattle.std.specs.Prelude.{◌≡◌, ◌≢◌, ⊤, true, ℕ, ◌+◌, ◌
 use Rattle.cmm_tree.specs.Built.{is_built_function}
 use Rattle.cmm_tree.specs.Tree.{Expression, Integer, Name, Operator, FunctionTree, FileTree, functions, names_of}
 use Rattle.correctness.specs.Measures.{nodes}
-use Rattle.small_code.specs.Small.{IsSymbol, AllDiffer, caml_bound_error, longest_text, most_tokens, most_parameters}
+use Rattle.small_code.specs.Small.{AllDiffer}
+use Rattle.bs_words.specs.Symbol.{IsSymbol, caml_bound_error}
+use Rattle.bs_fault.specs.Limits.{longest_text, most_tokens, most_params}
 
 -- every name of an expression that a small file can have is one of these; nothing is said of others
 abbrev pub NamesBound : List (List ℕ) → Expression → Type 0
@@ -21,7 +23,7 @@ IntegersFit _ = ⊤
 pub record IsReadFunction (f : FunctionTree) : Type 0 where
   pub symbol : IsSymbol f.name
   pub not_built_in : f.name ≢ caml_bound_error
-  pub few_params : length f.params ≤ most_parameters
+  pub few_params : length f.params ≤ most_params
   pub bound : NamesBound (names_of f) f.body
   pub integers_fit : is_built_function f ≡ true → IntegersFit f.body
   pub few_tokens : f.tokens ≤ most_tokens

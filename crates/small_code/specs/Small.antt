@@ -1,12 +1,10 @@
 -- What is known of a small file.
 use Rattle.std.specs.Prelude.{◌≡◌, ◌≢◌, ℕ, ◌+◌, ◌*◌, ◌^◌, ◌<◌, ◌≤◌, ◌⊎◌, List, length, map, codes, All, AllPairs, Contains, sum_by}
+use Rattle.bs_fault.specs.Limits.{longest_text, most_params, most_tokens}
+use Rattle.bs_words.specs.Symbol.{IsSymbol, caml_bound_error}
 use Rattle.bs_words.specs.declared.operators.IntOp.TheVariants.{Add, Sub, And}
 use Rattle.bs_words.specs.declared.types.Comp.TheVariants as comp
 use Rattle.small_code.specs.Tree.{SmallExpression, Integer, Name, Operator, SmallFunctionTree, SmallFileTree, functions, names_of, comps_of}
-
--- 1 to 255 bytes, each 0x21 to 0x7E
-abbrev pub IsSymbol : List ℕ → Type 0
-IsSymbol bytes = (1 ≤ length bytes) × (length bytes ≤ 255) × All (λ b. (0x21 ≤ b) × (b ≤ 0x7E)) bytes
 
 -- every name of the expression is one of these
 abbrev pub NamesAmong : List (List ℕ) → SmallExpression → Type 0
@@ -18,22 +16,8 @@ NamesAmong names (Operator at op left right) = NamesAmong names left × NamesAmo
 abbrev pub AllDiffer : List (List ℕ) → Type 0
 AllDiffer names = AllPairs (λ x y. x ≢ y) names
 
--- the symbol of the built-in data
-abbrev pub caml_bound_error : List ℕ
-caml_bound_error = codes "caml_bound_error"
-
 abbrev pub names_of_functions : SmallFileTree → List (List ℕ)
 names_of_functions file = map (λ (f : SmallFunctionTree). f.name) (functions file)
-
--- the bytes of the longest text, and the tokens and parameters of the largest function
-abbrev pub longest_text : ℕ
-longest_text = 16777216
-
-abbrev pub most_tokens : ℕ
-most_tokens = 4000
-
-abbrev pub most_parameters : ℕ
-most_parameters = 16
 
 -- every operator is a sum, a difference or a conjunction
 abbrev pub SmallOperators : SmallExpression → Type 0
@@ -58,7 +42,7 @@ nodes (Operator at op left right) = 1 + (nodes left + nodes right)
 pub record IsSmallFunction (f : SmallFunctionTree) : Type 0 where
   pub symbol : IsSymbol f.name
   pub not_built_in : f.name ≢ caml_bound_error
-  pub few_params : length f.params ≤ most_parameters
+  pub few_params : length f.params ≤ most_params
   pub components : All (λ c. c ≡ comp.Int) (comps_of f)
   pub operators : SmallOperators f.body
   pub bound : NamesAmong (names_of f) f.body

@@ -18,7 +18,7 @@ section_bytes_of t Data = length t.bytes
 section_bytes_of t Syms = length (table_bytes sym_bytes t.syms)
 section_bytes_of t Root = length (table_bytes le32 t.roots)
 section_bytes_of t Extc = length (table_bytes ext_bytes t.extcs)
-section_bytes_of t Desc = length (table_bytes desc_bytes t.descs)
+section_bytes_of t Desc = length (table_bytes (desc_bytes t.version) t.descs)
 section_bytes_of t Imps = 0
 section_bytes_of t Relo = 0
 

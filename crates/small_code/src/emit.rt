@@ -2,7 +2,7 @@
 ghost use Rattle.std.specs.Prelude.{◌≡◌, ◌<◌, ◌^◌, ◌/◌, ◌%◌, [], ◌∷◌, ◌++◌, length, map, IfOk, OnOk};
 ghost use Rattle.rv_isa.specs.Encoding.{InstrFits, encoded};
 ghost use Rattle.small_code.specs.Code.{constant, eleven_more, near_slot, load_slot, store_slot, move_sp};
-ghost use Rattle.small_code.specs.Compiled.{stub};
+ghost use Rattle.image_form.specs.Image.{stub};
 
 use crate::registers::{SP, T1, ZERO};
 use rv_isa::{AluImmOp, AluOp, Instr, LoadWidth, ShiftOp, StoreWidth, encode};

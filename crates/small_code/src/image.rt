@@ -64,6 +64,7 @@ fn image(alloc: Global, file: &SmallFile) -> Result<Image, AllocError>
     let Code { words } = code;
     let syms = vec![in alloc; built_in(alloc)?]?;
     Ok(Image {
+        version: 2,
         funcs: List::from_vec(funcs),
         code: List::from_vec(words),
         bytes: List::from_vec(vec![in alloc; 0u8; 8]?),

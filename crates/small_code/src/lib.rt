@@ -16,6 +16,3 @@ mod tree;
 pub use convert::small_file;
 pub use image::compile_small;
 pub use tree::{SmallExpr, SmallFile, SmallForm, SmallFunction};
-
-#[cfg(test)]
-mod tests;

@@ -19,7 +19,7 @@ const CODE_LIMIT: u64 = 268_369_920;
 
 /// The nodes of an expression: integers, names and operators.
 fn nodes(expr: &SmallExpr) -> u16
-    requires { nodes (expr_view expr.now) ≤ 4000 }
+    requires { nodes (expr_view expr.now) ≤ 32000 }
     ensures { result ≡ nodes (expr_view expr.now) }
 {
     match &expr.form {
@@ -31,7 +31,7 @@ fn nodes(expr: &SmallExpr) -> u16
 
 /// The words of an expression's code. They are as many whatever its slots are.
 fn expression_words(expr: &SmallExpr) -> u32
-    requires { nodes (expr_view expr.now) ≤ 4000 }
+    requires { nodes (expr_view expr.now) ≤ 32000 }
     ensures exact { result ≡ length (expression_code [] 0 (expr_view expr.now)) }
     ensures most { result ≤ 15 * nodes (expr_view expr.now) }
 {
@@ -52,7 +52,7 @@ fn expression_words(expr: &SmallExpr) -> u32
 pub fn function_words(function: &SmallFunction) -> u32
     requires { IsSmallFunction (function_view function.now) }
     ensures exact { result ≡ length (function_words (function_view function.now)) }
-    ensures most { result ≤ 60000 }
+    ensures most { result ≤ 480100 }
 {
     13 + 4 * function.params.len() as u32 + expression_words(&function.body)
 }
@@ -62,7 +62,7 @@ pub fn function_words(function: &SmallFunction) -> u32
 pub fn frame_bytes(function: &SmallFunction) -> u32
     requires { IsSmallFunction (function_view function.now) }
     ensures exact { result ≡ frame_bytes (function_view function.now) }
-    ensures most { result < 32768 }
+    ensures most { result < 262144 }
 {
     let slots = function.params.len() as u32 + u32::from(nodes(&function.body));
     (8 * slots + 15) / 16 * 16

@@ -1,6 +1,5 @@
 -- The small file that is compiled is the text's.
 use Rattle.std.proofs.Common.{◌≡◌, ◌∙◌, ℕ, Bool, false, List, refl, sym, ap, subst}
-use Rattle.cmm_data.specs.Placement as placement
 use Rattle.cmm_front.specs.FileOf.{IsFileOf}
 use Rattle.cmm_tree.specs.Built.{not_built}
 use Rattle.cmm_tree.specs.Tree.{FileTree}
@@ -9,7 +8,6 @@ use Rattle.small_code.specs.Tree.{SmallFileTree, embedded_file}
 use Rattle.text_compile.specs.Compile.{HasBuiltInData, IsSmallFileOf}
 
 pub built_in : (file : SmallFileTree) → HasBuiltInData (compiled file)
-unfolding placement.bound_error
 built_in file = record { bytes = refl; syms = refl; roots = refl; extcs = refl }
 
 pub small_file_of : (text : List ℕ) (file : FileTree) (small : SmallFileTree) (b : Bool)

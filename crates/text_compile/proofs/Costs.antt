@@ -1,11 +1,12 @@
 -- A built expression has at most one node for each of its tokens.
-use Rattle.std.proofs.Common.{◌≡◌, ℕ, ◌+◌, ◌≤◌, zero, suc, Bool, true, false, cond, ◌&&◌, List, [], ◌∷◌, length, Option, Some, None, refl, subst, arith}
+use Rattle.std.proofs.Common.{◌≡◌, ℕ, ◌+◌, ◌≤◌, zero, suc, Bool, true, false, cond, ◌&&◌, List, [], ◌∷◌, length, Option, Some, None, is_some, refl, subst, arith}
 use Rattle.std.proofs.lemmas.Bool.{and_parts}
 use Rattle.bs_words.specs.declared.types.Chunk.{Chunk}
 use Rattle.bs_words.specs.declared.types.Chunk.TheVariants as chunk
 use Rattle.cmm_lex.specs.Token.{TokenTree}
 use Rattle.cmm_lex.specs.Integers.{integer_value}
-use Rattle.cmm_lex.specs.Strings.{string_bytes, is_symbol}
+use Rattle.cmm_lex.specs.Strings.{string_bytes}
+use Rattle.bs_words.specs.Symbol.{is_symbol}
 use Rattle.cmm_lex.specs.declared.token.TokenKind.{TokenKind}
 use Rattle.cmm_lex.specs.declared.token.TokenKind.TheVariants as kind
 use Rattle.cmm_lex.specs.declared.token.Keyword.TheVariants as word
@@ -22,7 +23,7 @@ use Rattle.cmm_grammar.specs.declared.word.ChunkWord.TheVariants as starts
 use Rattle.cmm_grammar.specs.Parts.{sequence_at}
 use Rattle.cmm_grammar.specs.Words.{leaf_of, word_of}
 use Rattle.cmm_grammar.specs.Rule.{Rule, AnExpression, ABinding, Expr}
-use Rattle.cmm_grammar.specs.Grammar.{paired, tripled, loaded, stored, let_form, let_body, assign_form, app_form, extcall_form, arguments_of, alloc_form, load_form, load_rest, store_form, store_rest, chunked, chunk_rest, pair_form, triple_form, raise_form, float_form, seq_form, while_form, switch_form, catch_form, labelled_handlers, bare_handler, exit_form, exit_rest, try_form, form_of, form}
+use Rattle.cmm_grammar.specs.Grammar.{paired, tripled, loaded, stored, let_form, let_body, assign_form, app_form, extcall_rest, extcall_form, arguments_of, alloc_form, load_form, load_rest, store_form, store_rest, chunked, chunk_rest, pair_form, triple_form, raise_form, float_form, seq_form, while_form, switch_form, catch_form, labelled_handlers, bare_handler, exit_form, exit_rest, try_form, form_of, form}
 use Rattle.cmm_grammar.specs.Spelling.{Spells}
 use Rattle.correctness.specs.Measures.{total, counts_one}
 use Rattle.small_code.specs.Read.{IntegersFit}
@@ -81,9 +82,13 @@ app_gives : (at : ℕ) → Gives (app_form at) IsUnbuilt
 unfolding app_form arguments_of
 app_gives at = λ callee es result close. refl
 
+extcall_rest_gives : (at : ℕ) (frame : Bool) → Gives (extcall_rest at frame) IsUnbuilt
+unfolding extcall_rest arguments_of
+extcall_rest_gives at frame = λ name es result close. refl
+
 extcall_gives : (at : ℕ) → Gives (extcall_form at) IsUnbuilt
-unfolding extcall_form arguments_of
-extcall_gives at = λ name es result close. refl
+unfolding extcall_form
+extcall_gives at = λ mark. extcall_rest_gives at (is_some mark)
 
 alloc_gives : (at : ℕ) → Gives (alloc_form at) IsUnbuilt
 unfolding alloc_form

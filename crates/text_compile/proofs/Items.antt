@@ -4,7 +4,8 @@ use Rattle.std.proofs.lemmas.Bool.{and_parts}
 use Rattle.std.proofs.lemmas.List.Elements.{All-nil, All-cons}
 use Rattle.std.proofs.lemmas.List.Sums.{sum_by-cons}
 use Rattle.cmm_lex.specs.Token.{TokenTree}
-use Rattle.cmm_lex.specs.Strings.{string_bytes, is_symbol}
+use Rattle.cmm_lex.specs.Strings.{string_bytes}
+use Rattle.bs_words.specs.Symbol.{is_symbol, IsSymbol}
 use Rattle.cmm_tree.specs.Tree.{Expression, Parameter, FunctionTree, ItemTree, functions_among}
 use Rattle.cmm_tree.specs.Built.{is_built}
 use Rattle.cmm_tree.specs.Place.{place_of}
@@ -16,7 +17,6 @@ use Rattle.cmm_grammar.specs.Spelling.{Spells, AreItems, none, more}
 use Rattle.cmm_grammar.proofs.Basics.{solid_some}
 use Rattle.correctness.specs.Measures.{total, counts_one}
 use Rattle.small_code.specs.Read.{IntegersFit}
-use Rattle.small_code.specs.Small.{IsSymbol}
 use Rattle.text_compile.proofs.Parts.{Gives, gives, OnePart, MaybeParts, with_it, without, shown}
 use Rattle.text_compile.proofs.Words.{symbol_is, passing_is}
 use Rattle.text_compile.proofs.Costs.{Costs, sequence_costs, all_cost}

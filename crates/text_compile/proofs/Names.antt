@@ -8,11 +8,12 @@ use Rattle.bs_fault.specs.declared.fault.Fault.TheVariants as fault
 use Rattle.bs_words.specs.Fits.{type_of_comp}
 use Rattle.cmm_tree.specs.Tree.{Expression, Name, Operator, Parameter, FunctionTree, ItemTree, AFunction, AData, FileTree, functions, functions_among, names_of, names_of_params}
 use Rattle.cmm_types.specs.Types.{Scoped, with_parameters}
-use Rattle.cmm_types.specs.Standing.{Stands, part, taken, left, right, binding_of, first_found}
-use Rattle.cmm_types.specs.Symbols.{DefinedSymbol, built_in, data_symbols, symbols_among, symbols, definition_of}
+use Rattle.cmm_types.specs.Standing.{Stands, part, taken, left, right, binding_of}
+use Rattle.cmm_tree.specs.Symbols.{first_found, DefinedSymbol, built_in, data_symbols, symbols_among, symbols, definition_of}
 use Rattle.cmm_types.specs.Faults.{TypeFault, of_node, repeated_symbol, unbound}
 use Rattle.small_code.specs.Read.{NamesBound}
-use Rattle.small_code.specs.Small.{AllDiffer, caml_bound_error}
+use Rattle.small_code.specs.Small.{AllDiffer}
+use Rattle.bs_words.specs.Symbol.{caml_bound_error}
 
 -- a file without a fault of types
 pub record IsTyped (file : FileTree) : Type 0 where

@@ -11,13 +11,14 @@ use Rattle.cmm_tree.specs.Built.{is_built, all_int}
 use Rattle.cmm_types.specs.Standing.{the_body}
 use Rattle.cmm_grammar.specs.Spelling.{AreItems}
 use Rattle.small_code.specs.Read.{IsReadFunction, IsReadSmall}
-use Rattle.small_code.specs.Small.{caml_bound_error, longest_text, most_tokens, most_parameters}
+use Rattle.bs_words.specs.Symbol.{caml_bound_error}
+use Rattle.bs_fault.specs.Limits.{longest_text, most_tokens, most_params}
 use Rattle.text_compile.proofs.Items.{ReadFunction, items_read}
 use Rattle.text_compile.proofs.Names.{IsTyped, names_bound, names_apart}
 
 -- a function that is not too large
 pub record FewParts (f : FunctionTree) : Type 0 where
-  pub params : length f.params ≤ most_parameters
+  pub params : length f.params ≤ most_params
   pub tokens : f.tokens ≤ most_tokens
 
 -- each token has a byte of its own

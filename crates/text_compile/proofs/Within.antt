@@ -6,8 +6,9 @@ use Rattle.std.proofs.lemmas.Option.{slice_get-get_or}
 use Rattle.std.specs.List.{slice_get}
 use Rattle.bs_fault.specs.declared.fault.Fault.{Fault}
 use Rattle.bs_fault.specs.declared.fault.Fault.TheVariants.{TooManyParams, FunctionTooLong}
-use Rattle.cmm_limits.specs.Leftmost.{Among, here, first, second, one_if}
-use Rattle.cmm_limits.specs.Limits.{most_params, most_tokens, too_many_at, too_many, function_faults, items_faults}
+use Rattle.bs_fault.specs.Reported.{Among, here, first, second, one_if}
+use Rattle.cmm_limits.specs.Limits.{too_many_at, too_many, function_faults, items_faults}
+use Rattle.bs_fault.specs.Limits.{most_params, most_tokens}
 use Rattle.cmm_tree.specs.Tree.{Parameter, FunctionTree, ItemTree, AFunction, AData, FileTree, functions_among}
 use Rattle.small_code.specs.Read.{IsReadSmall}
 use Rattle.cmm_grammar.specs.Spelling.{nesting}

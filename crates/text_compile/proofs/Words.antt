@@ -6,10 +6,9 @@ use Rattle.std.proofs.lemmas.List.Sums.{AllPass-from_list_all}
 use Rattle.std.specs.List.{list_all}
 use Rattle.std.specs.Char.{is_ascii_graphic}
 use Rattle.cmm_lex.specs.Token.{TokenTree}
-use Rattle.cmm_lex.specs.Strings.{is_symbol}
+use Rattle.bs_words.specs.Symbol.{is_symbol, IsSymbol}
 use Rattle.cmm_lex.specs.Integers.{word_up_to, based_word, decimal_word, unsigned_value, integer_value, number_after, decimal_digits}
 use Rattle.cmm_grammar.specs.Words.{word_of, passing}
-use Rattle.small_code.specs.Small.{IsSymbol}
 
 negated_fits : (largest n : ℕ) (b : Bool) → word_of (cond b (Some ((2 ^ 64 - n) % 2 ^ 64)) None) < 2 ^ 64
 negated_fits largest n true = mod-lt (2 ^ 64 - n) (lit< tt)

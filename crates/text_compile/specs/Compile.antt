@@ -2,7 +2,7 @@
 use Rattle.std.specs.Prelude.{◌≡◌, ℕ, true, false, List, [], ◌∷◌, replicate, Some, None}
 use Rattle.std.specs.List.{AllZip}
 use Rattle.bs_fault.specs.declared.large.Large.{Large}
-use Rattle.cmm_data.specs.Placement.{bound_error}
+use Rattle.bs_words.specs.Symbol.{caml_bound_error}
 use Rattle.cmm_front.specs.FileOf.{IsFileOf}
 use Rattle.cmm_tree.specs.Built.{not_built}
 use Rattle.cmm_tree.specs.Tree.{FileTree}
@@ -19,7 +19,7 @@ use Rattle.small_code.specs.Tree.{SmallFileTree, functions, embedded_file}
 -- root cell and no external call.
 pub record HasBuiltInData (image : Tables) : Type 0 where
   pub bytes : image.bytes ≡ replicate 8 0
-  pub syms : image.syms ≡ record { name = bound_error; offset = 0 } ∷ []
+  pub syms : image.syms ≡ record { name = caml_bound_error; offset = 0 } ∷ []
   pub roots : image.roots ≡ []
   pub extcs : image.extcs ≡ []
 

@@ -1,4 +1,4 @@
-use Rattle.std.proofs.Common.{◌≡◌, ◌≢◌, ℕ, zero, suc, ◌+◌, ◌-◌, ◌*◌, ◌%◌, ◌/◌, ◌^◌, ◌<◌, ◌≤◌, ◌⊎◌, inl, inr, ◌++◌, ◌&&◌, ◌==◌, nat_le, Bool, true, false, cond, List, [], ◌∷◌, drop, take, get_or, reverse, map, length, Option, Some, None, option_map, vec_len, replicate, slice_index, refl, ap, arith, ◌∙◌, sym, subst}
+use Rattle.std.proofs.Common.{ℕ, Bool, true, refl, ap, arith, ◌∙◌, sym, subst}
 use Rattle.std.specs.List.{AllByRecursion, list_all}
 use Rattle.image_form.specs.Tables.{tables}
 use Rattle.rv_machine.specs.Frames.{frames_from, most_frames}

@@ -1,25 +1,19 @@
-use Rattle.std.proofs.Common.{◌≡◌, ◌≢◌, ℕ, zero, suc, ◌+◌, ◌-◌, ◌*◌, ◌%◌, ◌/◌, ◌^◌, ◌<◌, ◌≤◌, ◌⊎◌, inl, inr, ◌++◌, ◌&&◌, ◌==◌, nat_le, Bool, true, false, cond, List, [], ◌∷◌, drop, take, get_or, reverse, map, length, Option, Some, None, option_map, vec_len, replicate, slice_index, refl, ap, arith, ◌∙◌, sym, subst}
+use Rattle.std.proofs.Common.{◌≡◌, ℕ, ◌*◌, inl, ◌++◌, true, List, length, refl, ap, arith, ◌∙◌, sym, subst}
 use Rattle.std.specs.List.{AllByRecursion}
-use Rattle.bs_words.specs.Contents.{contents}
-use Rattle.image_form.specs.Tables.{desc, tables}
-use Rattle.rv_machine.specs.Allocation.{root_cells}
-use Rattle.rv_machine.specs.Frames.{Frame, most_frames, registers_of, slots_of}
+use Rattle.image_form.specs.Tables.{tables}
+use Rattle.rv_machine.specs.Relocation.{root_cells}
+use Rattle.rv_machine.specs.Frames.{most_frames, registers_of, slots_of}
 use Rattle.rv_machine.specs.Hart.{Placed}
 use Rattle.rv_machine.specs.Memory.{Region}
-use Rattle.rv_machine.specs.Moving.{copied, moved_memory, redirected, redirected_registers, rewritten, vacated}
+use Rattle.rv_machine.specs.Moving.{moved_memory, redirected_registers, rewritten, vacated}
 use Rattle.rv_machine.specs.Placement.{placed_at}
 use Rattle.rv_machine.specs.Space.{IsKept}
 use Rattle.alloc_service.specs.Attempt.{Parts}
-use Rattle.alloc_service.specs.Forward.{IsLow, forward, poured, redirected_now, redirected_registers_now, words_moved, words_of}
-use Rattle.alloc_service.proofs.Placing.{all_of, copied_is, forward_is, kept_low, length-moved, moved_is, new_kept, new_words, same_function, small_of, words_bound}
+use Rattle.alloc_service.specs.Forward.{IsLow, forward, poured, words_moved, words_of}
+use Rattle.alloc_service.proofs.Placing.{all_of, forward_is, kept_low, length-moved, moved_is, new_kept, new_words, same_function, small_of, words_bound}
 use Rattle.alloc_service.proofs.Walking.{cells_rise, stacked}
-use Rattle.alloc_service.proofs.Words.{Rise, both_now, registers_now, rise_low}
+use Rattle.alloc_service.proofs.Words.{registers_now}
 use Rattle.alloc_service.proofs.attempt.move_all.Goals as goal
-
--- places of frames lie above the domain page
-from_domain : (slots : List ℕ) (at : ℕ) → Rise at 0x40000000 slots → (slots ≡ []) ⊎ (0x20000000 ≤ at) → Rise 0x20000000 0x40000000 slots
-from_domain slots at r (inl n) = subst (Rise 0x20000000 0x40000000) (sym n) tt
-from_domain slots at r (inr h) = rise_low 0x20000000 at 0x40000000 slots h r
 
 pub gather-requires-clause-room : goal.gather-requires-clause-room
 gather-requires-clause-room c =
@@ -56,7 +50,7 @@ returns-clause-moved c = λ fs e.
     let g = forward c.args.space.now.table in
     let f : ℕ → ℕ = rewritten olds news in
     let same : g ≡ f = same_function g f (forward_is c.args.heap c.args.space.now.table olds starts prepared.forward prepared.lengths prepared.inside) in
-    let frames = stacked image.descs (4 * length image.code) c.args.base c.args.memory.now c.requires.image.descs.each c.requires.low (most_frames c.args.base) true c.args.address c.args.sp fs (omega arith) e in
+    let frames = stacked image.descs image.version (4 * length image.code) c.args.base c.args.memory.now c.requires.image.descs.each (most_frames c.args.base) true c.args.address c.args.sp fs (omega arith) e in
     let placed : c.place.new.blocks.items ≡ news = c.place.ensures.placed ∙ ap (placed_at olds) c.deref-5.ensures.value in
     let parts : List ℕ → List Region → List Placed → Parts = λ registers memory blocks. record { registers = registers; memory = memory; blocks = blocks } in
     let registers : c.redirect_first.new.registers ≡ redirected_registers f c.args.registers.now (registers_of fs) c.args.registers.now =
@@ -70,6 +64,6 @@ returns-clause-moved c = λ fs e.
     moved_is g f olds starts c.args.memory.now c.redirect_slots.new.memory c.redirect_roots.new.memory c.vacate.new.memory c.pour.new.memory (slots_of fs) (root_cells image) c.deref-6.result.now 0x10000000 0x20000000 0x40000000
     same refl (c.redirect_slots.ensures.each fs e) c.redirect_roots.ensures (c.vacate.ensures ∙ ap (vacated c.redirect_roots.new.memory) c.deref-2.ensures.value)
     (c.pour.ensures ∙ ap (poured c.vacate.new.memory c.deref-6.result.now) (c.deref-7.ensures.value ∙ placed)) gathered
-    (from_domain (slots_of fs) c.args.sp frames.slots frames.high) (cells_rise image c.requires.image) prepared.lengths in
+    (frames.slots 0x20000000 (inl (omega (arith, c.requires.low)))) (cells_rise image c.requires.image) prepared.lengths in
     ap (λ r. parts r c.pour.new.memory c.place.new.blocks.items) registers ∙ ap (λ m. parts (redirected_registers f c.args.registers.now (registers_of fs) c.args.registers.now) m c.place.new.blocks.items) memory
     ∙ ap (parts (redirected_registers f c.args.registers.now (registers_of fs) c.args.registers.now) (moved_memory olds news c.args.memory.now (slots_of fs ++ root_cells image))) placed

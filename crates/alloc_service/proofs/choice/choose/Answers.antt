@@ -1,7 +1,7 @@
-use Rattle.std.proofs.Common.{◌≡◌, ◌≢◌, ℕ, zero, suc, ◌+◌, ◌-◌, ◌*◌, ◌%◌, ◌/◌, ◌^◌, ◌<◌, ◌≤◌, ◌⊎◌, inl, inr, ◌++◌, ◌&&◌, ◌==◌, Bool, true, false, cond, List, [], ◌∷◌, drop, take, get_or, reverse, map, length, Option, Some, None, option_map, vec_len, replicate, slice_index, refl, ap, arith, ◌∙◌, sym, subst}
+use Rattle.std.proofs.Common.{ℕ, ◌%◌, ◌++◌, List, length, ap, arith, ◌∙◌}
 use Rattle.std.specs.List.{list_all}
 use Rattle.rv_machine.specs.Placement.{is_in_heap, placed_at, spaced}
-use Rattle.alloc_service.proofs.Packing.{length-spaced, packed_inside, valid_good}
+use Rattle.alloc_service.proofs.Packing.{length-spaced, packed_inside}
 use Rattle.alloc_service.proofs.choice.choose.Goals as goal
 
 pub returns-clause-lengths : goal.returns-clause-lengths

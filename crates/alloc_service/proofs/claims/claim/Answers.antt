@@ -1,10 +1,9 @@
 use Rattle.std.specs.List.{list_all}
-use Rattle.std.proofs.Common.{◌≡◌, ◌≢◌, ℕ, zero, suc, ◌+◌, ◌-◌, ◌*◌, ◌%◌, ◌/◌, ◌^◌, ◌<◌, ◌≤◌, ◌⊎◌, inl, inr, ◌++◌, ◌&&◌, Bool, true, false, cond, List, [], ◌∷◌, drop, take, get_or, reverse, map, length, Option, Some, None, option_map, vec_len, replicate, slice_index, refl, ap, arith, ◌∙◌, sym, subst}
-use Rattle.std.proofs.lemmas.Bool.{and_parts, and_from, leb-true, ltb-true, cases_eq}
+use Rattle.std.proofs.Common.{◌≡◌, ℕ, ◌-◌, true, drop, get_or, refl, ap, arith, ◌∙◌, sym, subst}
+use Rattle.std.proofs.lemmas.Bool.{and_from}
 use Rattle.rv_machine.specs.Hart.{Placed}
-use Rattle.rv_machine.specs.Marks.{Marks, mark_at}
-use Rattle.rv_machine.specs.Placement.{are_apart, header_at, end_of, is_apart, is_in_heap, placed_at}
-use Rattle.alloc_service.specs.Forward.{covers, MarksWithin}
+use Rattle.rv_machine.specs.Placement.{are_apart, is_apart, is_in_heap, placed_at}
+use Rattle.alloc_service.specs.Forward.{covers}
 use Rattle.alloc_service.proofs.Apart.{IsClaimed, next, next_is, next_inside, done, done_inside, failed_apart, failed_within, free_apart, claimed_more, claimed_within}
 use Rattle.alloc_service.proofs.claims.claim.Goals as goal
 

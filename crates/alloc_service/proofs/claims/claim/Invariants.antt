@@ -1,6 +1,5 @@
-use Rattle.std.proofs.Common.{◌≡◌, ℕ, zero, suc, ◌+◌, ◌-◌, ◌*◌, ◌%◌, ◌/◌, ◌^◌, ◌<◌, ◌≤◌, ◌⊎◌, ◌++◌, ◌&&◌, Bool, true, false, cond, List, [], drop, take, reverse, map, length, Option, Some, None, option_map, vec_len, replicate, slice_index}
-use Rattle.rv_machine.specs.Placement.{bytes_used, spaced, placed_at, is_in_heap, are_apart, header_at}
-use Rattle.rv_machine.specs.Marks.{mark_at}
+use Rattle.std.proofs.Common.{◌≡◌, ◌≤◌, true, drop, length}
+use Rattle.rv_machine.specs.Placement.{placed_at, are_apart}
 use Rattle.alloc_service.proofs.Apart.{IsClaimed}
 use Rattle.alloc_service.proofs.claims.claim.Given as goal
 

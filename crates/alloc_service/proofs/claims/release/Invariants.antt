@@ -1,7 +1,6 @@
-use Rattle.std.proofs.Common.{◌≡◌, ℕ, zero, suc, ◌+◌, ◌-◌, ◌*◌, ◌%◌, ◌/◌, ◌^◌, ◌<◌, ◌≤◌, ◌⊎◌, ◌++◌, ◌&&◌, Bool, true, false, cond, List, [], drop, take, reverse, map, length, Option, Some, None, option_map, vec_len, replicate, slice_index}
-use Rattle.rv_machine.specs.Placement.{bytes_used, spaced, placed_at, is_in_heap, are_apart, header_at}
-use Rattle.rv_machine.specs.Marks.{mark_at}
-use Rattle.alloc_service.specs.Forward.{forward, IsForward, is_covered, poured, redirected_now, redirected_registers_now, root_by, roots_by, words_moved, words_of, MarksWithin}
+use Rattle.std.proofs.Common.{◌≡◌, drop}
+use Rattle.rv_machine.specs.Placement.{placed_at}
+use Rattle.alloc_service.specs.Forward.{MarksWithin}
 use Rattle.alloc_service.proofs.claims.release.Given as goal
 
 abbrev pub invariant-loop-k : goal.invariant-loop-k

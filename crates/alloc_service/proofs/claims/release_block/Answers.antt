@@ -1,9 +1,7 @@
-use Rattle.std.proofs.Common.{◌≡◌, ◌≢◌, ℕ, zero, suc, ◌+◌, ◌-◌, ◌*◌, ◌%◌, ◌/◌, ◌^◌, ◌<◌, ◌≤◌, ◌⊎◌, inl, inr, ◌++◌, ◌&&◌, Bool, true, false, cond, List, [], ◌∷◌, drop, take, get_or, reverse, map, length, Option, Some, None, option_map, vec_len, replicate, slice_index, refl, ap, arith, ◌∙◌, sym, subst}
-use Rattle.std.proofs.lemmas.Bool.{and_parts, and_from, leb-true, ltb-true, cases_eq}
-use Rattle.rv_machine.specs.Hart.{Placed}
+use Rattle.std.proofs.Common.{◌≡◌, ℕ, ◌+◌, ◌-◌, ◌*◌, ◌%◌, ◌<◌, ◌≤◌, ◌⊎◌, inl, inr, true, arith}
+use Rattle.std.proofs.lemmas.Bool.{and_parts, leb-true, ltb-true, cases_eq}
 use Rattle.rv_machine.specs.Marks.{Marks, mark_at}
-use Rattle.rv_machine.specs.Placement.{are_apart, header_at, end_of, is_apart, is_in_heap, placed_at}
-use Rattle.alloc_service.specs.Forward.{covers, MarksWithin}
+use Rattle.alloc_service.specs.Forward.{covers}
 use Rattle.alloc_service.proofs.InHeap.{ends_below, unaligned}
 use Rattle.alloc_service.proofs.claims.release_block.Goals as goal
 

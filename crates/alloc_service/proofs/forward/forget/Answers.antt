@@ -1,6 +1,6 @@
-use Rattle.std.proofs.Common.{◌≡◌, ◌≢◌, ℕ, zero, suc, ◌+◌, ◌-◌, ◌*◌, ◌%◌, ◌/◌, ◌^◌, ◌<◌, ◌≤◌, ◌⊎◌, inl, inr, ◌++◌, ◌&&◌, ◌==◌, Bool, true, false, cond, List, [], ◌∷◌, drop, take, get_or, reverse, map, length, Option, Some, None, option_map, vec_len, replicate, slice_index, refl, ap, arith, ◌∙◌, sym, subst}
+use Rattle.std.proofs.Common.{◌≡◌, ℕ, ◌==◌, false, List, [], ◌∷◌, refl, ◌∙◌, sym}
 use Rattle.std.proofs.lemmas.Bool.{eqb-false, ne_eqb, or_parts, cond-false}
-use Rattle.rv_machine.specs.Allocation.{is_start}
+use Rattle.rv_machine.specs.Relocation.{is_start}
 use Rattle.rv_machine.specs.Hart.{Placed}
 use Rattle.alloc_service.specs.Forward.{forwarded}
 use Rattle.alloc_service.proofs.forward.forget.Goals as goal

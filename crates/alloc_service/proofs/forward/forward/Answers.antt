@@ -1,4 +1,4 @@
-use Rattle.std.proofs.Common.{◌≡◌, ℕ, zero, suc, refl, ap, arith, ◌∙◌, sym}
+use Rattle.std.proofs.Common.{◌≡◌, ℕ, zero, suc, refl, ap, ◌∙◌, sym}
 use Rattle.rv_machine.specs.Marks.{mark_at}
 use Rattle.alloc_service.specs.Forward.{forward, mark_or}
 use Rattle.alloc_service.proofs.forward.forward.Goals as goal

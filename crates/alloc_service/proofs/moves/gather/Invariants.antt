@@ -1,6 +1,6 @@
-use Rattle.std.proofs.Common.{◌≡◌, ℕ, zero, suc, ◌+◌, ◌-◌, ◌*◌, ◌%◌, ◌/◌, ◌^◌, ◌<◌, ◌≤◌, ◌⊎◌, ◌++◌, ◌&&◌, Bool, true, false, cond, List, [], drop, take, reverse, map, length, Option, Some, None, option_map, vec_len, replicate, slice_index}
+use Rattle.std.proofs.Common.{◌≡◌, ◌+◌, ◌≤◌, ◌++◌, drop, vec_len}
 use Rattle.std.specs.Vec.{vec_capacity}
-use Rattle.alloc_service.specs.Forward.{forward, IsForward, is_covered, poured, redirected_now, redirected_registers_now, root_by, roots_by, words_moved, words_of, MarksWithin}
+use Rattle.alloc_service.specs.Forward.{forward, words_moved, words_of}
 use Rattle.alloc_service.proofs.moves.gather.Given as goal
 
 abbrev pub invariant-loop-block : goal.invariant-loop-block

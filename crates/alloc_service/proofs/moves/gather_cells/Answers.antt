@@ -1,4 +1,4 @@
-use Rattle.std.proofs.Common.{◌≡◌, ◌≢◌, ℕ, zero, suc, ◌+◌, ◌-◌, ◌*◌, ◌%◌, ◌/◌, ◌^◌, ◌<◌, ◌≤◌, ◌⊎◌, inl, inr, ◌++◌, ◌&&◌, ◌==◌, Bool, true, false, cond, List, [], ◌∷◌, drop, take, get_or, reverse, map, length, Option, Some, None, option_map, vec_len, replicate, slice_index, refl, ap, arith, ◌∙◌, sym, subst}
+use Rattle.std.proofs.Common.{◌++◌, cond, [], ◌∷◌, vec_len, ap, arith, ◌∙◌}
 use Rattle.alloc_service.specs.Forward.{forward}
 use Rattle.alloc_service.proofs.Gathered.{one_cell, pushed, pushed_len}
 use Rattle.alloc_service.proofs.moves.gather_cells.Goals as goal

@@ -1,4 +1,4 @@
-use Rattle.std.proofs.Common.{◌≡◌, ◌+◌, ◌-◌, ◌*◌, ◌^◌, ◌<◌, ◌≤◌, ◌++◌, drop, length, vec_len}
+use Rattle.std.proofs.Common.{◌≡◌, ◌+◌, ◌*◌, ◌^◌, ◌<◌, ◌≤◌, ◌++◌, vec_len}
 use Rattle.std.specs.Vec.{vec_capacity}
 use Rattle.rv_machine.specs.Memory.{words_at}
 use Rattle.rv_machine.specs.Moving.{rewritten_cells}

@@ -1,4 +1,4 @@
-use Rattle.std.proofs.Common.{◌≡◌, ◌≢◌, ℕ, zero, suc, ◌+◌, ◌-◌, ◌*◌, ◌%◌, ◌/◌, ◌^◌, ◌<◌, ◌≤◌, ◌⊎◌, inl, inr, ◌++◌, ◌&&◌, ◌==◌, Bool, true, false, cond, List, [], ◌∷◌, drop, take, get_or, reverse, map, length, Option, Some, None, option_map, vec_len, replicate, slice_index, refl, ap, arith, ◌∙◌, sym, subst}
+use Rattle.std.proofs.Common.{◌≡◌, ℕ, ◌+◌, ◌/◌, Bool, true, false, cond, List, ◌∷◌, drop, get_or, slice_index, refl, ap, ◌∙◌, sym}
 use Rattle.rv_machine.specs.Frames.{is_register, registers_named}
 use Rattle.rv_machine.specs.Hart.{with_register}
 use Rattle.alloc_service.specs.Forward.{forward, redirected_registers_now}

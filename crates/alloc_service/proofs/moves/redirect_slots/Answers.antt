@@ -1,7 +1,7 @@
-use Rattle.std.proofs.Common.{◌≡◌, ◌≢◌, ℕ, zero, suc, ◌+◌, ◌-◌, ◌*◌, ◌%◌, ◌/◌, ◌^◌, ◌<◌, ◌≤◌, ◌⊎◌, inl, inr, ◌++◌, ◌&&◌, ◌==◌, nat_le, Bool, true, false, cond, List, [], ◌∷◌, drop, take, get_or, reverse, map, length, Option, Some, None, option_map, vec_len, replicate, slice_index, refl, ap, arith, ◌∙◌, sym, subst}
+use Rattle.std.proofs.Common.{◌≡◌, ℕ, suc, ◌+◌, ◌-◌, ◌*◌, ◌/◌, true, false, List, [], map, length, refl, ap, arith, ◌∙◌, sym, subst}
 use Rattle.bs_words.specs.Contents.{contents}
 use Rattle.bs_words.specs.Word.{add_word}
-use Rattle.image_form.specs.Tables.{Desc, desc}
+use Rattle.image_form.specs.Tables.{desc}
 use Rattle.rv_machine.specs.Frames.{Frame, frames_from, return_slot, slots_named, slots_of}
 use Rattle.rv_machine.specs.Memory.{Region, word}
 use Rattle.alloc_service.specs.Forward.{forward, redirected_now}
@@ -18,6 +18,7 @@ loop-most-init c =
           found = ap (λ k. frames_from k (map desc (contents c.args.image.now.descs)) c.args.base c.args.memory.now true c.args.address c.args.sp) n ∙ e;
           redirected = refl;
           above = λ b h. refl;
+          low = tt;
         };
       },
       omega arith,
@@ -57,8 +58,8 @@ loop-most-preserved c =
     let f = forward c.args.table.now in
     let d = desc c.in-Some.row.now in
     let rules = desc_rules c.args.image.now c.loop-most.address c.in-Some.row.now c.requires.image c.in-Some.ensures in
-    let more = walks_more f descs c.args.base c.args.memory.now c.loop-most.memory c.redirect_frame.new.memory c.args.address c.args.sp c.loop-most.most w.0 c.loop-most.address c.loop-most.at d (4 * length (contents c.args.image.now.code))
-    c.loop-most-test.true c.if-address-eq-CODE_START.false (sym c.in-Some.ensures) rules w.2 c.requires.above
+    let more = walks_more f descs c.args.base c.args.memory.now c.loop-most.memory c.redirect_frame.new.memory c.args.address c.args.sp c.loop-most.most w.0 c.loop-most.address c.loop-most.at d c.args.image.now.version (4 * length (contents c.args.image.now.code))
+    c.loop-most-test.true c.if-address-eq-CODE_START.false (sym c.in-Some.ensures) rules w.2
     (c.redirect_frame.ensures ∙ ap (λ es. redirected_now f c.loop-most.memory (slots_named c.loop-most.at es)) c.as_slice.ensures) w.1 in
     let address : c.word-address.result ≡ word c.loop-most.memory (return_slot c.loop-most.at d) =
     c.word-address.ensures ∙ ap (word c.loop-most.memory) (c.add.ensures ∙ ap (λ s. add_word c.loop-most.at (s - 8)) c.from-size.ensures) in

@@ -1,9 +1,7 @@
-use Rattle.std.proofs.Common.{◌≡◌, ℕ, zero, suc, ◌+◌, ◌-◌, ◌*◌, ◌%◌, ◌/◌, ◌^◌, ◌<◌, ◌≤◌, ◌⊎◌, ◌++◌, ◌&&◌, Bool, true, false, cond, List, [], drop, take, reverse, map, length, Option, Some, None, option_map, vec_len, replicate, slice_index}
+use Rattle.std.proofs.Common.{◌^◌, ◌<◌, Bool, map}
 use Rattle.bs_words.specs.Contents.{contents}
-use Rattle.image_form.specs.Tables.{desc, tables}
-use Rattle.rv_machine.specs.Frames.{Frame, frames_from, most_frames, slots_of, slots_named, registers_named}
-use Rattle.alloc_service.specs.Forward.{forward, IsForward, is_covered, poured, redirected_now, redirected_registers_now, root_by, roots_by, words_moved, words_of, MarksWithin}
-use Rattle.rv_machine.specs.Memory.{word}
+use Rattle.image_form.specs.Tables.{desc}
+use Rattle.alloc_service.specs.Forward.{forward}
 use Rattle.alloc_service.proofs.Walking.{Walks}
 use Rattle.alloc_service.proofs.moves.redirect_slots.Given as goal
 

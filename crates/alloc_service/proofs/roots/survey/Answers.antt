@@ -1,8 +1,8 @@
-use Rattle.std.proofs.Common.{◌≡◌, ◌≢◌, ℕ, zero, suc, ◌+◌, ◌-◌, ◌*◌, ◌%◌, ◌/◌, ◌^◌, ◌<◌, ◌≤◌, ◌⊎◌, inl, inr, ◌++◌, ◌&&◌, ◌==◌, Bool, true, false, cond, List, [], ◌∷◌, drop, take, get_or, reverse, map, length, Option, Some, None, option_map, vec_len, replicate, slice_index, refl, ap, arith, ◌∙◌, sym, subst}
+use Rattle.std.proofs.Common.{ℕ, ◌-◌, ◌&&◌, Bool, false, List, map, option_map, ap, arith, ◌∙◌, sym}
 use Rattle.std.proofs.lemmas.Bool.{cond-true}
 use Rattle.bs_words.specs.Contents.{contents}
-use Rattle.image_form.specs.Tables.{Desc, desc, tables}
-use Rattle.rv_machine.specs.Frames.{Frame, frames_from, frame_then, is_frame, return_slot}
+use Rattle.image_form.specs.Tables.{desc, tables}
+use Rattle.rv_machine.specs.Frames.{Frame, frames_from, is_frame, return_slot}
 use Rattle.rv_machine.specs.Memory.{word}
 use Rattle.bs_words.specs.Word.{add_word}
 use Rattle.alloc_service.specs.Forward.{root_by, roots_by}

@@ -1,8 +1,8 @@
-use Rattle.std.proofs.Common.{◌≡◌, ℕ, zero, suc, ◌+◌, ◌-◌, ◌*◌, ◌%◌, ◌/◌, ◌^◌, ◌<◌, ◌≤◌, ◌⊎◌, ◌++◌, ◌&&◌, Bool, true, false, cond, List, [], drop, take, reverse, map, length, Option, Some, None, option_map, vec_len, replicate, slice_index}
+use Rattle.std.proofs.Common.{◌≡◌, ◌&&◌, true, List, map, option_map}
 use Rattle.bs_words.specs.Contents.{contents}
 use Rattle.image_form.specs.Tables.{desc, tables}
-use Rattle.rv_machine.specs.Frames.{Frame, frames_from, most_frames, slots_of, slots_named, registers_named}
-use Rattle.alloc_service.specs.Forward.{forward, IsForward, is_covered, poured, redirected_now, redirected_registers_now, root_by, roots_by, words_moved, words_of, MarksWithin}
+use Rattle.rv_machine.specs.Frames.{Frame, frames_from, most_frames}
+use Rattle.alloc_service.specs.Forward.{root_by, roots_by}
 use Rattle.alloc_service.proofs.roots.survey.Given as goal
 
 abbrev pub invariant-loop-most : goal.invariant-loop-most

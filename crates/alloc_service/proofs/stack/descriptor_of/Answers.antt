@@ -1,6 +1,5 @@
 use Rattle.std.proofs.lemmas.Bool.{cases_lt}
-use Rattle.std.proofs.Common.{◌≡◌, ◌≢◌, ◌⊎◌, inl, inr, ℕ, ◌+◌, ◌-◌, ◌/◌, ◌<◌, ◌≤◌, List, get_or, length, map, arith, ap, ◌∙◌, sym, subst}
-use Rattle.bs_words.specs.Contents.{contents}
+use Rattle.std.proofs.Common.{◌≢◌, ◌⊎◌, inl, inr, ℕ, ◌+◌, ◌-◌, ◌/◌, ◌<◌, ◌≤◌, List, get_or, length, map, arith, ap, ◌∙◌, sym, subst}
 use Rattle.image_form.specs.Tables.{desc}
 use Rattle.image_form.specs.declared.image.DescRow.{DescRow}
 use Rattle.rv_machine.specs.Frames.{descriptor_at}

@@ -1,5 +1,5 @@
-use Rattle.std.proofs.Common.{◌≡◌, ◌≢◌, ℕ, zero, suc, ◌+◌, ◌-◌, ◌*◌, ◌%◌, ◌/◌, ◌^◌, ◌<◌, ◌≤◌, ◌⊎◌, inl, inr, ◌++◌, ◌&&◌, ◌==◌, nat_le, Bool, true, false, cond, List, [], ◌∷◌, drop, take, get_or, reverse, map, length, Option, Some, None, option_map, vec_len, replicate, slice_index, refl, ap, arith, ◌∙◌, sym, subst}
-use Rattle.rv_machine.specs.Placement.{bytes_of, bytes_used, spaced}
+use Rattle.std.proofs.Common.{◌+◌, ◌-◌, ◌*◌, ◌++◌, take, reverse, ap, arith, ◌∙◌}
+use Rattle.rv_machine.specs.Placement.{spaced}
 use Rattle.alloc_service.proofs.Falling.{bytes_step, spaced_step}
 use Rattle.alloc_service.proofs.Gathered.{pushed}
 use Rattle.alloc_service.proofs.starts.fill_falling.Goals as goal

@@ -1,6 +1,6 @@
-use Rattle.std.proofs.Common.{◌≡◌, ℕ, zero, suc, ◌+◌, ◌-◌, ◌*◌, ◌%◌, ◌/◌, ◌^◌, ◌<◌, ◌≤◌, ◌⊎◌, ◌++◌, ◌&&◌, Bool, true, false, cond, List, [], drop, take, reverse, map, length, Option, Some, None, option_map, vec_len, replicate, slice_index}
+use Rattle.std.proofs.Common.{◌≡◌, ◌+◌, ◌*◌, ◌^◌, ◌≤◌, ◌++◌, take, reverse, length, vec_len}
 use Rattle.std.specs.Vec.{vec_capacity}
-use Rattle.rv_machine.specs.Placement.{bytes_used, spaced, placed_at, is_in_heap, are_apart, header_at}
+use Rattle.rv_machine.specs.Placement.{bytes_used, spaced}
 use Rattle.alloc_service.proofs.starts.fill_falling.Given as goal
 
 abbrev pub invariant-loop-left : goal.invariant-loop-left

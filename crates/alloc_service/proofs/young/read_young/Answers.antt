@@ -1,7 +1,7 @@
-use Rattle.std.proofs.Common.{◌≡◌, ◌≢◌, ℕ, zero, suc, ◌+◌, ◌-◌, ◌*◌, ◌%◌, ◌/◌, ◌^◌, ◌<◌, ◌≤◌, ◌⊎◌, inl, inr, ◌++◌, ◌&&◌, ◌==◌, nat_le, Bool, true, false, cond, List, [], ◌∷◌, drop, take, get_or, reverse, map, length, Option, Some, None, option_map, vec_len, replicate, slice_index, refl, ap, arith, ◌∙◌, sym, subst}
+use Rattle.std.proofs.Common.{◌≡◌, ◌+◌, ◌-◌, ◌*◌, ◌/◌, ◌++◌, ◌&&◌, nat_le, true, List, [], ◌∷◌, option_map, ap, arith, ◌∙◌, sym}
 use Rattle.std.proofs.lemmas.Bool.{and_from, le-leb}
 use Rattle.rv_machine.specs.Hart.{Placed}
-use Rattle.rv_machine.specs.Observation.{blocks_from, cells_of}
+use Rattle.rv_machine.specs.Observation.{blocks_from}
 use Rattle.rv_machine.proofs.Young.{one_block}
 use Rattle.alloc_service.proofs.Chain.{one_more}
 use Rattle.alloc_service.proofs.Gathered.{pushed}

@@ -1,9 +1,6 @@
-use Rattle.std.proofs.Common.{◌≡◌, ◌≢◌, ℕ, zero, suc, ◌+◌, ◌-◌, ◌*◌, ◌%◌, ◌/◌, ◌^◌, ◌<◌, ◌≤◌, ◌⊎◌, inl, inr, ◌++◌, ◌&&◌, ◌==◌, nat_le, Bool, true, false, cond, List, [], ◌∷◌, drop, take, get_or, reverse, map, length, Option, Some, None, option_map, vec_len, replicate, slice_index, refl, ap, arith, ◌∙◌, sym, subst}
-use Rattle.std.specs.List.{AllByRecursion}
+use Rattle.std.proofs.Common.{◌≡◌, ℕ, ◌+◌, ◌-◌, ◌++◌, List, reverse, refl, ap, arith, ◌∙◌}
 use Rattle.rv_machine.specs.Hart.{Placed}
-use Rattle.rv_machine.specs.Observation.{young_blocks}
 use Rattle.rv_machine.specs.Placement.{bytes_used}
-use Rattle.alloc_service.specs.Young.{HasCells}
 use Rattle.alloc_service.proofs.Chain.{IsChain, bytes-append, bytes-reverse, count_bound, young_chain, young_cells}
 use Rattle.alloc_service.proofs.young.take_young.Goals as goal
 

@@ -1,5 +1,5 @@
 use Rattle.std.proofs.Common.{◌+◌, Some, cond, drop, option_map, option_copied, sym, ap, ◌∙◌}
-use Rattle.cmm_meaning.specs.Evaluation.{last_naming}
+use Rattle.cmm_meaning.specs.Choices.{last_naming}
 use Rattle.cmm_eval.specs.Filled.{case_ready, cases_ready}
 use Rattle.cmm_eval.proofs.Listed.{first_is, naming_turn, naming_end}
 use Rattle.cmm_eval.proofs.cases.case_for.Goals as goal

@@ -1,5 +1,6 @@
 use Rattle.std.proofs.Common.{◌≡◌, Bool, drop, option_map, option_copied}
-use Rattle.cmm_meaning.specs.Evaluation.{Surroundings, last_naming, first_case}
+use Rattle.cmm_meaning.specs.Evaluation.{Surroundings}
+use Rattle.cmm_meaning.specs.Choices.{last_naming, first_case}
 use Rattle.cmm_eval.specs.Filled.{case_ready, cases_ready}
 use Rattle.cmm_eval.proofs.cases.case_for.Given as goal
 

@@ -1,6 +1,6 @@
-use Rattle.std.proofs.Common.{◌+◌, drop, sym, ap, ◌∙◌}
+use Rattle.std.proofs.Common.{◌+◌, Some, cond, drop, sym, ap, ◌∙◌}
 use Rattle.cmm_tree.specs.View.{label_view}
-use Rattle.cmm_meaning.specs.Evaluation.{first_ready, ready_for}
+use Rattle.cmm_meaning.specs.Choices.{ready_for}
 use Rattle.cmm_eval.specs.Filled.{handler_ready, handlers_ready}
 use Rattle.cmm_eval.proofs.Listed.{ready_turn, ready_end}
 use Rattle.cmm_eval.proofs.cases.handler_for.Goals as goal
@@ -12,7 +12,7 @@ returns-then-takes c s tail =
     let x = c.handler-item.result in
     let label = label_view c.args.label.now in
     let others = ready_for c.args.within label (handlers_ready s tail (drop (i + 1) xs)) in
-    ap (λ t. first_ready t (handler_ready s tail x) others) c.if-takes.ensures
+    ap (λ t. cond t (Some (handler_ready s tail x)) others) c.if-takes.ensures
     ∙ sym (ready_turn s tail c.args.within label xs i x c.loop-handler-test.true c.handler-item.is)
     ∙ c.loop-handler.invariant s tail
 
@@ -23,7 +23,7 @@ loop-handler-preserved c s tail =
     let x = c.handler-item.result in
     let label = label_view c.args.label.now in
     let others = ready_for c.args.within label (handlers_ready s tail (drop (i + 1) xs)) in
-    ap (λ t. first_ready t (handler_ready s tail x) others) c.if-takes.ensures
+    ap (λ t. cond t (Some (handler_ready s tail x)) others) c.if-takes.ensures
     ∙ sym (ready_turn s tail c.args.within label xs i x c.loop-handler-test.true c.handler-item.is)
     ∙ c.loop-handler.invariant s tail
 

@@ -1,6 +1,7 @@
 use Rattle.std.proofs.Common.{◌≡◌, Bool, drop}
 use Rattle.cmm_tree.specs.View.{label_view}
-use Rattle.cmm_meaning.specs.Evaluation.{Surroundings, ready_for}
+use Rattle.cmm_meaning.specs.Evaluation.{Surroundings}
+use Rattle.cmm_meaning.specs.Choices.{ready_for}
 use Rattle.cmm_eval.specs.Filled.{handlers_ready}
 use Rattle.cmm_eval.proofs.cases.handler_for.Given as goal
 

@@ -3,7 +3,7 @@ use Rattle.std.proofs.lemmas.Bool.{ne_eqb}
 use Rattle.std.proofs.lemmas.List.{get_or_default}
 use Rattle.cmm_tree.specs.View.{index_view}
 use Rattle.cmm_tree.specs.declared.expr.CaseIndex.{CaseIndex}
-use Rattle.cmm_meaning.specs.Evaluation.{is_named}
+use Rattle.cmm_meaning.specs.Choices.{is_named}
 use Rattle.cmm_eval.proofs.Listed.{named_turn}
 use Rattle.cmm_eval.proofs.cases.is_named.Goals as goal
 

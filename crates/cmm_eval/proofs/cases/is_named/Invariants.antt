@@ -1,6 +1,6 @@
 use Rattle.std.proofs.Common.{◌≡◌, map, drop}
 use Rattle.cmm_tree.specs.View.{index_view}
-use Rattle.cmm_meaning.specs.Evaluation.{is_named}
+use Rattle.cmm_meaning.specs.Choices.{is_named}
 use Rattle.cmm_eval.proofs.cases.is_named.Given as goal
 
 -- the indexes that are left say it

@@ -52,11 +52,13 @@ returns c =
     ap (λ (l : List Made). record world { made = l }) is-made ∙ ap (λ (memory : Memory). record begun { memory = memory }) is-memory in
     let is-arguments : c.as_slice.result.now ≡ arguments = c.as_slice.ensures.value ∙ c.in_ok-arguments.ensures in
     let here : List Value → Here =
-    λ l. record { names = bound (map scoped_parameter (params_view (contents f.now.params))) l []; below = 0; taken = c.frame_of-taken.result } in
+    λ l. record { names = bound (map scoped_parameter (params_view (contents f.now.params))) l []; below = 0; frame = c.frame_of-frame.result; tries = 0 } in
     let is-here : here_view c.in_ok-here.here ≡ here arguments = c.in_ok-here.ensures ∙ ap here is-arguments in
-    let is-world : world_view c.deepen.new.self ≡ deepened c.frame_of-taken.result begun = c.deepen.ensures ∙ ap (deepened c.frame_of-taken.result) is-begun in
-    let stood = first_stands s c.new-2.result.items f.now frame c.frame_of-taken.result arguments (here_view c.in_ok-here.here) (world_view c.deepen.new.self) begun
-    c.new-2.ensures.items c.frame_of-taken.ensures is-here is-world in
+    let is-world : world_view c.deepen.new.self ≡ deepened c.frame_of-frame.result begun = c.deepen.ensures ∙ ap (deepened c.frame_of-frame.result) is-begun in
+    let here-at : ℕ → Here =
+    λ b. record { names = bound (map scoped_parameter (params_view (contents f.now.params))) arguments []; below = 0; frame = b; tries = 0 } in
+    let stood = first_stands s c.new-2.result.items f.now frame arguments (here_view c.in_ok-here.here) (world_view c.deepen.new.self) begun
+    c.new-2.ensures.items (is-here ∙ ap here-at c.frame_of-frame.ensures) (is-world ∙ ap (λ (b : ℕ). deepened b begun) c.frame_of-frame.ensures) in
     ap (λ (n : ℕ). record { outcome = outcome_view c.finished-outcome.result; calls = w.made; stack_need = w.stack_need; heap_need = n; left = w.left }) c.heap_need.ensures
     ∙ sym (c.finished-outcome.ensures s h w)
     ∙ ap (finished layout) (c.in_ok-end.ensures.end ∙ stood)

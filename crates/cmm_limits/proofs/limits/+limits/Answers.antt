@@ -1,7 +1,7 @@
 use Rattle.std.proofs.Common.{sym, ap, ◌∙◌}
 use Rattle.cmm_tree.specs.View.{form_view}
 use Rattle.cmm_tree.specs.declared.expr.Form.{Form}
-use Rattle.cmm_limits.specs.Leftmost.{noted_all}
+use Rattle.bs_fault.specs.Reported.{noted_all}
 use Rattle.cmm_limits.specs.Limits.{faults_in}
 use Rattle.cmm_limits.proofs.Rows.{float-faults, alloc-faults, seq-faults, exit-faults, extcall-faults, app-faults, let-faults, switch-faults, catch-faults}
 use Rattle.cmm_limits.proofs.limits.+limits.Goals as goal
@@ -39,7 +39,7 @@ in_expr-returns-in-Extcall t c =
     let at = c.args.expr.now.at in
     let found = c.args.found in
     rw (c.in_row-in-Extcall.ensures, c.as_slice-in-Extcall-2.ensures.value, c.in_arguments-told.ensures, c.as_slice-in-Extcall.ensures.value)
-    (sym (ap (λ (f : Form). noted_all (faults_in (form_view at f)) found) c.in-Extcall.is ∙ ap (λ v. noted_all v found) (extcall-faults at c.in-Extcall.name c.in-Extcall.arguments c.in-Extcall.result c.in-Extcall.result_at)))
+    (sym (ap (λ (f : Form). noted_all (faults_in (form_view at f)) found) c.in-Extcall.is ∙ ap (λ v. noted_all v found) (extcall-faults at c.in-Extcall.frame c.in-Extcall.name c.in-Extcall.arguments c.in-Extcall.result c.in-Extcall.result_at)))
 
 pub in_expr-returns-in-Seq : goal.in_expr-returns-in-Seq
 in_expr-returns-in-Seq t c =

@@ -1,7 +1,7 @@
 use Rattle.std.proofs.Common.{◌≡◌, drop}
-use Rattle.cmm_limits.specs.Leftmost.{noted_all}
+use Rattle.bs_fault.specs.Reported.{noted_all}
 use Rattle.cmm_limits.specs.Limits.{row_faults, binding_faults, case_faults, handler_faults}
-use Rattle.cmm_limits.specs.Rows.{row_of, bindings_of, cases_of, handlers_of}
+use Rattle.cmm_tree.specs.Rows.{row_of, bindings_of, cases_of, handlers_of}
 use Rattle.cmm_limits.proofs.limits.+limits.Given as goal
 
 -- what is left of each list goes on to all of it

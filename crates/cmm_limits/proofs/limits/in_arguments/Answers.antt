@@ -1,5 +1,5 @@
 use Rattle.std.proofs.Common.{sym, ap, ◌∙◌}
-use Rattle.cmm_limits.specs.Leftmost.{noted_all}
+use Rattle.bs_fault.specs.Reported.{noted_all}
 use Rattle.cmm_limits.specs.Limits.{too_many_at}
 use Rattle.cmm_limits.proofs.Rows.{argument-some, argument-none}
 use Rattle.cmm_limits.proofs.limits.in_arguments.Goals as goal

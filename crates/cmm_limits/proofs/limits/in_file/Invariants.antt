@@ -1,6 +1,6 @@
 use Rattle.std.proofs.Common.{◌≡◌, drop, map, None}
 use Rattle.cmm_tree.specs.View.{item_view}
-use Rattle.cmm_limits.specs.Leftmost.{noted_all}
+use Rattle.bs_fault.specs.Reported.{noted_all}
 use Rattle.cmm_limits.specs.Limits.{items_faults}
 use Rattle.bs_words.specs.Contents.{contents}
 use Rattle.cmm_limits.proofs.limits.in_file.Given as goal

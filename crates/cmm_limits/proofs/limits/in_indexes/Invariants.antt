@@ -1,6 +1,6 @@
 use Rattle.std.proofs.Common.{◌≡◌, drop, map}
 use Rattle.cmm_tree.specs.View.{index_view}
-use Rattle.cmm_limits.specs.Leftmost.{noted_all}
+use Rattle.bs_fault.specs.Reported.{noted_all}
 use Rattle.cmm_limits.specs.Limits.{index_faults}
 use Rattle.cmm_limits.proofs.limits.in_indexes.Given as goal
 

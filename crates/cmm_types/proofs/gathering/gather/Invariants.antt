@@ -1,7 +1,8 @@
 use Rattle.std.proofs.Common.{◌≡◌, [], ◌∷◌, map, drop, None}
 use Rattle.cmm_tree.specs.View.{item_view}
-use Rattle.cmm_types.specs.Symbols.{built_in, symbols_among}
-use Rattle.cmm_types.specs.Gathered.{noted_all, with_symbols, symbol_faults}
+use Rattle.cmm_tree.specs.Symbols.{built_in, symbols_among}
+use Rattle.cmm_types.specs.Gathered.{with_symbols, symbol_faults}
+use Rattle.bs_fault.specs.Reported.{noted_all}
 use Rattle.cmm_types.proofs.gathering.gather.Given as goal
 
 abbrev pub invariant-loop-item : goal.invariant-loop-item

@@ -1,5 +1,7 @@
+use Rattle.command_line.specs.View.{run_view}
 use Rattle.bs_words.specs.Contents.{contents}
 use Rattle.cmmc_core.proofs.Ending.{Keeps-same}
+use Rattle.cmmc_core.proofs.Refused.{refused_so}
 use Rattle.cmmc_core.proofs.Spelled.{no_spelling}
 use Rattle.cmmc_core.proofs.run.run_source.Goals as goal
 
@@ -13,3 +15,8 @@ returns-in-Err-Refused-clause-refused g c =
         no_image = no_spelling _ _ (rw (c.in-Err-Refused.field-0-is, c.as_slice.ensures) at c.in-Err-Refused.ensures.refused);
       },
     )
+
+pub returns-in-Ok-read_image-clause-refused : goal.returns-in-Ok-read_image-clause-refused
+returns-in-Ok-read_image-clause-refused g c =
+    refused_so {T = Unit {0}} (run_view c.args.run) _ _ _ _ _ c.in-Ok.ensures.read c.as_slice.ensures c.in-Ok-read_image.ensures.found.0
+    c.in-Ok-read_image.ensures.found.1 c.run_on.result c.run_on.ensures.refused

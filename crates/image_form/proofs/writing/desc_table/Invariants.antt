@@ -5,4 +5,4 @@ use Rattle.image_form.specs.Image.{le32, desc_bytes}
 use Rattle.image_form.proofs.writing.desc_table.Given as goal
 
 abbrev pub invariant-loop-row : goal.invariant-loop-row
-invariant-loop-row l = l.out.items ≡ le32 (length l.rows) ++ flat_map desc_bytes (map desc (take l.row-index l.rows))
+invariant-loop-row l = l.out.items ≡ le32 (length l.rows) ++ flat_map (desc_bytes l.version) (map desc (take l.row-index l.rows))

@@ -20,7 +20,7 @@ pub ext_table-requires-clause-few : goal.ext_table-requires-clause-few
 ext_table-requires-clause-few c = rw c.as_slice-6.ensures (few_rows ext ext_bytes _ ext_nonempty c.requires.extcs.short)
 
 pub desc_table-requires-clause-few : goal.desc_table-requires-clause-few
-desc_table-requires-clause-few c = rw c.as_slice-7.ensures (few_rows desc desc_bytes _ desc_nonempty c.requires.descs.short)
+desc_table-requires-clause-few c = rw c.as_slice-7.ensures (few_rows desc (desc_bytes c.args.image.now.version) _ (desc_nonempty c.args.image.now.version) c.requires.descs.short)
 
 pub desc_table-requires-clause-each : goal.desc_table-requires-clause-each
 desc_table-requires-clause-each c = (4 * length c.args.image.now.code.items.items, rw c.as_slice-7.ensures c.requires.descs.each)

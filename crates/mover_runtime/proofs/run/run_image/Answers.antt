@@ -24,7 +24,8 @@ loop-count-preserved g c =
     let a : asks ≡ schedule.asks h.retired = c.next-asked.ensures.asks c.args.schedule.now inv.5 ∙ ap schedule.asks (sym inv.2) in
     let now : Now = after_next schedule (hart (asked_if asks h)) (calling_none c.loop-count.machine c.entry_result-returns.result answers) in
     let s : Serves None now c.one.new.machine c.entry_result-returns.result (drop c.one.new.taken c.args.answers.now) =
-    subst (λ (o : Option RunEnd). Serves o now c.one.new.machine c.entry_result-returns.result (drop c.one.new.taken c.args.answers.now)) c.in_default.is c.in_ok-told.ensures.told in (
+    subst (λ (o : Option RunEnd). Serves o now c.one.new.machine c.entry_result-returns.result (drop c.one.new.taken c.args.answers.now)) c.in_default.is c.in_ok-told.ensures.told in
+    let kept = retires schedule asks h c.one.new.machine c.entry_result-returns.result answers (drop c.one.new.taken c.args.answers.now) s.0 s.1 in (
       (
         inv.0.0 ++ s.0,
         subst (Appends (g.K.Sink.held c.args.out.now) (g.K.Sink.held c.one.new.out))
@@ -35,10 +36,11 @@ loop-count-preserved g c =
             ∙ goes_on schedule (c.args.limit - (c.loop-count.count + 1)) inv.0.0 s.0 now c.one.new.machine c.entry_result-returns.result (drop c.one.new.taken c.args.answers.now) s.1,
       ),
       omega arith,
-      retires schedule asks h c.one.new.machine c.entry_result-returns.result answers (drop c.one.new.taken c.args.answers.now) s.0 s.1 ∙ ap suc inv.2 ∙ sym (add-one c.loop-count.count),
+      kept.0 ∙ ap suc inv.2 ∙ sym (add-one c.loop-count.count),
       c.in_ok-told.ensures.left,
       omega (arith, inv.4, c.in_ok-told.ensures.counts),
       subst (λ (n : ℕ). StandsAt c.args.schedule.now n c.next-asked.new.self) (sym (add-one c.loop-count.count)) (c.next-asked.ensures.on c.args.schedule.now inv.5),
+      omega (arith, kept.1, inv.6),
     )
 
 pub returns-in-Some-clause-told : goal.returns-in-Some-clause-told

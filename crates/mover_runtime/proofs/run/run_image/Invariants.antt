@@ -16,7 +16,7 @@ invariant-loop-count g l =
     × (after (schedule_of l.schedule) l.limit (Going (calling_none l.fn.machine (entry_result l.fn.machine) l.answers))
     ≡ after (schedule_of l.schedule) (l.limit - l.count) (Going (state l.machine l.returns (drop l.taken l.answers) calls))))
     × (l.count ≤ l.limit) × (l.machine.retired ≡ l.count) × (l.taken ≤ length l.answers) × (g.K.Sink.faults l.fn.out ≤ g.K.Sink.faults l.out)
-    × StandsAt l.schedule l.count l.asks
+    × StandsAt l.schedule l.count l.asks × (l.machine.services ≤ l.count)
 
 abbrev pub decreases-loop-count : goal.decreases-loop-count
 decreases-loop-count g l = l.limit - l.count

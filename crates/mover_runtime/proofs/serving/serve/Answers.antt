@@ -27,19 +27,20 @@ returns-in_ok-told-in-1-clause-told g c = (
   c.in_ok-told-in-1.ensures.told,
 )
 
-other : (plans : Plans) (n : ℕ) (m : Machine) → (n ≡ 0 → ⊥) → (n ≡ 1 → ⊥) → (n ≡ 2 → ⊥) → (n ≡ 3 → ⊥) → served plans n m ≡ Over m.calls (Stopped BadService)
-other plans zero m a b d e = absurd (a refl)
-other plans (suc zero) m a b d e = absurd (b refl)
-other plans (suc (suc zero)) m a b d e = absurd (d refl)
-other plans (suc (suc (suc zero))) m a b d e = absurd (e refl)
-other plans (suc (suc (suc (suc n)))) m a b d e = refl
+other : (plans : Plans) (n : ℕ) (m : Machine) → (n ≡ 0 → ⊥) → (n ≡ 1 → ⊥) → (n ≡ 2 → ⊥) → (n ≡ 3 → ⊥) → (n ≡ 4 → ⊥) → served plans n m ≡ Over m.calls (Stopped BadService)
+other plans zero m a b d e f = absurd (a refl)
+other plans (suc zero) m a b d e f = absurd (b refl)
+other plans (suc (suc zero)) m a b d e f = absurd (d refl)
+other plans (suc (suc (suc zero))) m a b d e f = absurd (e refl)
+other plans (suc (suc (suc (suc zero)))) m a b d e f = absurd (f refl)
+other plans (suc (suc (suc (suc (suc n))))) m a b d e f = refl
 
 pub returns-in_ok-told-in_default-clause-told : goal.returns-in_ok-told-in_default-clause-told
 returns-in_ok-told-in_default-clause-told g c = (
   [],
   Stopped BadService,
   (ap (λ (n : ℕ). served (schedule_of c.args.schedule.now).plan n (calling_none c.args.machine.now c.args.returns (drop c.args.taken.now c.args.answers.now))) (sym c.register.ensures)
-      ∙ other (schedule_of c.args.schedule.now).plan c.register.result (calling_none c.args.machine.now c.args.returns (drop c.args.taken.now c.args.answers.now)) (search rules) (search rules) (search rules) (search rules)),
+      ∙ other (schedule_of c.args.schedule.now).plan c.register.result (calling_none c.args.machine.now c.args.returns (drop c.args.taken.now c.args.answers.now)) (search rules) (search rules) (search rules) (search rules) (search rules)),
   c.in_ok-told-in_default.ensures.told,
 )
 

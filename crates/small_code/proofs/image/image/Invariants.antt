@@ -1,7 +1,8 @@
 use Rattle.std.proofs.Common.{◌≡◌, ◌++◌, map, flat_map}
 use Rattle.bs_words.specs.Contents.{contents}
 use Rattle.image_form.specs.Tables.{func}
-use Rattle.small_code.specs.Compiled.{function_words, rows_from, stub}
+use Rattle.small_code.specs.Compiled.{function_words, rows_from}
+use Rattle.image_form.specs.Image.{stub}
 use Rattle.small_code.proofs.Files.{functions_first}
 use Rattle.small_code.proofs.image.image.Given as goal
 

@@ -3,7 +3,8 @@ use Rattle.bs_words.specs.declared.values.Value.{Value}
 use Rattle.bs_words.specs.declared.values.Value.TheVariants as value
 use Rattle.cmm_tree.specs.Tree.{ItemTree, AFunction, AData, data_among}
 use Rattle.cmm_tree.specs.View.{item_view, function_view, data_list_view}
-use Rattle.cmm_data.specs.Placement.{Definition, start_behind, items_from, end_behind, lists_behind, items_of_lists, defined_from, defined_by_list, value_among, bound_error}
+use Rattle.cmm_data.specs.Placement.{Definition, start_behind, items_from, end_behind, lists_behind, items_of_lists, defined_from, defined_by_list, value_among}
+use Rattle.bs_words.specs.Symbol.{caml_bound_error}
 use Rattle.cmm_data.specs.Faults.{first_fault}
 use Rattle.cmm_data.specs.Symbols.{value_in, or_else, Adds}
 use Rattle.cmm_data.proofs.Items.{map_drop-cons}
@@ -13,19 +14,18 @@ use Rattle.cmm_data.proofs.symbols.SymbolTable.of_file.Goals as goal
 use Rattle.cmm_data.proofs.symbols.SymbolTable.of_file.Goals.{in-Function+in_ok-define-in-Function+in_ok-functions-in-Function, in-Data+in_ok-end-in-Data}
 
 pub loop-item-init : goal.loop-item-init
-unfolding bound_error
 loop-item-init c =
-    let first : Adds (record { values = c.new.result }) c.define.new.self (record { name = bound_error; value = value.Word 268435456 } ∷ []) = c.in_ok-define.ensures in
+    let first : Adds (record { values = c.new.result }) c.define.new.self (record { name = caml_bound_error; value = value.Word 268435456 } ∷ []) = c.in_ok-define.ensures in
     record {
       within = omega arith;
       faultless = rw c.as_slice-item-items.ensures c.requires;
       has = λ name.
           let rest = defined_from 0 268435464 (map item_view c.args.file.now.items.items.items) in
-          let whole : or_else (value_in (record { values = c.new.result }) name) (value_among (record { name = bound_error; value = value.Word 268435456 } ∷ rest) name)
+          let whole : or_else (value_in (record { values = c.new.result }) name) (value_among (record { name = caml_bound_error; value = value.Word 268435456 } ∷ rest) name)
           ≡ or_else (value_in c.define.new.self name) (value_among rest name) =
-          adds-later (record { values = c.new.result }) c.define.new.self (record { name = bound_error; value = value.Word 268435456 } ∷ []) rest first name in
+          adds-later (record { values = c.new.result }) c.define.new.self (record { name = caml_bound_error; value = value.Word 268435456 } ∷ []) rest first name in
           let none : value_in (record { values = c.new.result }) name ≡ None = value_in-empty (record { values = c.new.result }) c.new.ensures.empty name in
-          sym (ap (λ (v : Option Value). or_else v (value_among (record { name = bound_error; value = value.Word 268435456 } ∷ rest) name)) none)
+          sym (ap (λ (v : Option Value). or_else v (value_among (record { name = caml_bound_error; value = value.Word 268435456 } ∷ rest) name)) none)
           ∙ whole
           ∙ rw c.as_slice-item-items.ensures refl;
     }

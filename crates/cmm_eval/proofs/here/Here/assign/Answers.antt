@@ -18,7 +18,7 @@ returns-then-same c =
     let same = rw (← one) at c.same.ensures in
     let is = assigned_here xs i b c.args.name.now c.same.result some within c.index_mut-bound.ensures.value same c.args.value _ c.if-same.true c.loop-index.invariant.behind in
     rw (← c.loop-index.invariant.same)
-    (ap (λ (names : List Binding). let h : Here = record { names = names; below = c.loop-index.self.below; taken = c.loop-index.self.taken } in h) is)
+    (ap (λ (names : List Binding). let h : Here = record { names = names; below = c.loop-index.self.below; frame = c.loop-index.self.frame; tries = c.loop-index.self.tries } in h) is)
 
 pub loop-index-preserved : goal.loop-index-preserved
 loop-index-preserved c = record {

@@ -12,8 +12,8 @@ returns-in_ok-push-in-Let c s =
     let p = c.in_ok-push-in-Let.ensures in
     let tail = c.args.tail in
     let level = c.args.level in
-    let taken = c.args.taken in
-    stands_pushed s c.args.self.now c.push.new.self (record { form = c.args.form; tail = tail; step = step.Scope level taken })
-    (expression s c.deref.result.now tail) (λ h w. body_of s c.args.form.now tail level taken h w) p.here p.world p.frames
-    (λ h w. ap (λ (e : Expr). back level taken (expression s e tail h w)) c.deref.ensures
-    ∙ subst (λ (f : Form). back level taken (expression s c.in-Let.body.value tail h w) ≡ body_of s f tail level taken h w) (sym c.in-Let.is) refl)
+    let tries = c.args.tries in
+    stands_pushed s c.args.self.now c.push.new.self (record { form = c.args.form; tail = tail; step = step.Scope level tries })
+    (expression s c.deref.result.now tail) (λ h w. body_of s c.args.form.now tail level tries h w) p.here p.world p.frames
+    (λ h w. ap (λ (e : Expr). back level tries (expression s e tail h w)) c.deref.ensures
+    ∙ subst (λ (f : Form). back level tries (expression s c.in-Let.body.value tail h w) ≡ body_of s f tail level tries h w) (sym c.in-Let.is) refl)

@@ -1,36 +1,51 @@
-use Rattle.std.proofs.Common.{◌∙◌, map}
+use Rattle.std.proofs.Common.{◌≡◌, ◌∙◌, ℕ, Bool, true, false, ap, sym}
+use Rattle.bs_words.specs.Observed.{Made}
 use Rattle.bs_words.specs.declared.values.Call.{Call}
-use Rattle.cmm_meaning.specs.Layout.{observed}
+use Rattle.cmm_meaning.specs.Evaluation.{Evaluation}
+use Rattle.cmm_meaning.specs.Run.{answered_as}
+use Rattle.cmm_eval.specs.Filled.{resume}
+use Rattle.cmm_eval.specs.Outside.{call_seen, returned}
 use Rattle.cmm_eval.specs.Stands.{around_view}
 use Rattle.cmm_eval.specs.Views.{layout_view, here_view, world_view, call_view}
-use Rattle.cmm_eval.proofs.Called.{none_left, call_is, made_more, answered_none, answered_word, answered_asks}
+use Rattle.cmm_eval.proofs.Called.{call_is}
+use Rattle.cmm_eval.proofs.Ended.{if_ok_then}
 use Rattle.cmm_eval.proofs.machine.Machine.call_outside.Goals as goal
 
-pub returns-in_ok-push-in-Unit : goal.returns-in_ok-push-in-Unit
-returns-in_ok-push-in-Unit c =
+pub returns-then-frame : goal.returns-then-frame
+returns-then-frame c =
+    let a = c.args.around.now in
+    let s = around_view a in
     let m = c.args.self.now in
-    let l = layout_view c.args.around.now.layout.now in
+    let h = here_view m.here in
+    let w = world_view m.world in
+    let layout = layout_view a.layout.now in
+    let written = c.args.written in
+    let seen : Made = call_seen layout c.args.name.now c.args.arguments.now in
     let call : Call = record { name = c.from_vec.result; args = c.in_ok-shown.field-0 } in
-    answered_none (around_view c.args.around.now) m.frames.items l c.args.name.now c.args.written c.args.arguments.now (here_view m.here) (world_view m.world)
-    (map call_view c.push.new.self.items) c.in-Unit.is
-    (made_more m.world.made.items c.push.new.self.items call c.args.name.now (map (observed l) c.args.arguments.now) c.in_ok-push-in-Unit.ensures.items
-    (c.from_vec.ensures ∙ c.in_ok-from_slice.ensures.items ∙ c.as_bytes.ensures) c.in_ok-shown.ensures)
+    let is : call_view call ≡ seen =
+    call_is call layout c.args.name.now c.args.arguments.now (c.from_vec.ensures ∙ c.in_ok-from_slice.ensures.items ∙ c.as_bytes.ensures) c.in_ok-shown.ensures in
+    let ended : Bool → ℕ → Made → Evaluation = λ b end k. returned written h (answered_as b end written k w.answers w) in
+    if_ok_then _ _ c.frame_call.result (λ now p. p s
+    ∙ ap (resume s m.frames.items)
+    (ap (λ (end : ℕ). ended true end (call_view call)) c.requires.end
+    ∙ ap (λ (k : Made). ended true s.end k) is
+    ∙ ap (λ (b : Bool). ended b s.end seen) (sym c.if-frame.true))) c.frame_call.ensures
 
-pub returns-in-None : goal.returns-in-None
-returns-in-None c =
+pub returns-else-frame : goal.returns-else-frame
+returns-else-frame c =
+    let a = c.args.around.now in
+    let s = around_view a in
     let m = c.args.self.now in
-    let l = layout_view c.args.around.now.layout.now in
+    let h = here_view m.here in
+    let w = world_view m.world in
+    let layout = layout_view a.layout.now in
+    let written = c.args.written in
+    let seen : Made = call_seen layout c.args.name.now c.args.arguments.now in
     let call : Call = record { name = c.from_vec.result; args = c.in_ok-shown.field-0 } in
-    answered_asks (around_view c.args.around.now) m.frames.items l c.args.name.now c.args.written c.in-Comp.field-0 c.args.arguments.now (here_view m.here) (world_view m.world)
-    (call_view call) c.in-Comp.is (none_left m.world.answers.now c.in-None.ensures.cases)
-    (call_is call c.args.name.now (map (observed l) c.args.arguments.now) (c.from_vec.ensures ∙ c.in_ok-from_slice.ensures.items ∙ c.as_bytes.ensures) c.in_ok-shown.ensures)
-
-pub returns-in_ok-push-in-Some : goal.returns-in_ok-push-in-Some
-returns-in_ok-push-in-Some c =
-    let m = c.args.self.now in
-    let l = layout_view c.args.around.now.layout.now in
-    let call : Call = record { name = c.from_vec.result; args = c.in_ok-shown.field-0 } in
-    answered_word (around_view c.args.around.now) m.frames.items l c.args.name.now c.args.written c.in-Comp.field-0 c.args.arguments.now (here_view m.here) (world_view m.world)
-    (map call_view c.push-in-Some.new.self.items) c.in-Some.answer.now c.in-Some.left.now c.in-Comp.is c.in-Some.ensures.cases.0
-    (made_more m.world.made.items c.push-in-Some.new.self.items call c.args.name.now (map (observed l) c.args.arguments.now) c.in_ok-push-in-Some.ensures.items
-    (c.from_vec.ensures ∙ c.in_ok-from_slice.ensures.items ∙ c.as_bytes.ensures) c.in_ok-shown.ensures)
+    let is : call_view call ≡ seen =
+    call_is call layout c.args.name.now c.args.arguments.now (c.from_vec.ensures ∙ c.in_ok-from_slice.ensures.items ∙ c.as_bytes.ensures) c.in_ok-shown.ensures in
+    let ended : Bool → ℕ → Made → Evaluation = λ b end k. returned written h (answered_as b end written k w.answers w) in
+    if_ok_then _ _ c.plain_call.result (λ now p. p s s.end
+    ∙ ap (resume s m.frames.items)
+    (ap (λ (k : Made). ended false s.end k) is
+    ∙ ap (λ (b : Bool). ended b s.end seen) (sym c.if-frame.false))) c.plain_call.ensures

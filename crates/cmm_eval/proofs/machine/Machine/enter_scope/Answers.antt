@@ -1,8 +1,8 @@
 use Rattle.std.proofs.Common.{◌≡◌, ℕ, ◌+◌, suc, false, length, vec_len, ap, sym, subst, ◌∙◌, refl, add-one, arith}
 use Rattle.cmm_tree.specs.declared.expr.Form.{Form}
 use Rattle.cmm_tree.specs.declared.expr.Expr.{Expr}
-use Rattle.cmm_meaning.specs.State.{World, Here, deepened}
-use Rattle.cmm_meaning.specs.Evaluation.{Evaluation, and_then, caught, tried}
+use Rattle.cmm_meaning.specs.State.{World, Here, taken, within_try, deepened}
+use Rattle.cmm_meaning.specs.Evaluation.{Evaluation, Surroundings, and_then, caught, tried}
 use Rattle.cmm_eval.specs.Filled.{expression, bindings_from, body_of, handlers_of, handler_of, resume}
 use Rattle.cmm_eval.specs.Held.{inside}
 use Rattle.cmm_eval.specs.Views.{here_view, world_view}
@@ -26,11 +26,11 @@ returns-in_ok-push-in-Let c =
     let count : vec_len m.here.names ≡ length m.here.names.items = omega (arith, m.here.names.ok.0) in
     let level_is : level ≡ length h.names = c.len-level.ensures ∙ count ∙ bounds_count m.here.names.items in
     if_ok_then _ _ c.bind_next.result (λ now q s. q s
-    ∙ stands_pushed_at s m c.push.new.self (record { form = c.args.form; tail = tail; step = step.Bound level m.here.taken })
+    ∙ stands_pushed_at s m c.push.new.self (record { form = c.args.form; tail = tail; step = step.Bound level m.here.tries })
     (bindings_from s c.as_slice.result.now) (inside s c.args.form.now tail) p.here p.world p.frames
-    (ap (λ l. and_then (bindings_from s l h w) (λ _ h w. body_of s c.args.form.now tail level m.here.taken h w)) c.as_slice.ensures.value
-    ∙ ap (λ n. and_then (bindings_from s v.items h w) (λ _ h w. body_of s c.args.form.now tail n m.here.taken h w)) level_is
-    ∙ subst (λ (f : Form). and_then (bindings_from s v.items h w) (λ _ i w. body_of s f tail (length h.names) h.taken i w) ≡ inside s f tail h w) (sym c.in-Let.is)
+    (ap (λ l. and_then (bindings_from s l h w) (λ _ h w. body_of s c.args.form.now tail level m.here.tries h w)) c.as_slice.ensures.value
+    ∙ ap (λ n. and_then (bindings_from s v.items h w) (λ _ h w. body_of s c.args.form.now tail n m.here.tries h w)) level_is
+    ∙ subst (λ (f : Form). and_then (bindings_from s v.items h w) (λ _ i w. body_of s f tail (length h.names) h.tries i w) ≡ inside s f tail h w) (sym c.in-Let.is)
     (sym (let_is s v b tail h w)))) c.bind_next.ensures
 
 pub returns-in_ok-push-in-Catch : goal.returns-in_ok-push-in-Catch
@@ -42,23 +42,23 @@ returns-in_ok-push-in-Catch c s =
     let h = here_view m.here in
     let w = world_view m.world in
     let level = c.len-level.result in
-    let taken = m.here.taken in
+    let tries = m.here.tries in
     let turns = c.in_ok-turns-in-Catch.turns in
     let body = c.in-Catch.body.value in
     let count : vec_len m.here.names ≡ length m.here.names.items = omega (arith, m.here.names.ok.0) in
     let level_is : level ≡ length h.names = c.len-level.ensures ∙ count ∙ bounds_count m.here.names.items in
     let more : turns ≡ suc w.left =
     sum_is c.checked_add.result turns (m.world.left + 1) _ c.checked_add.ensures c.in_ok-turns-in-Catch.ensures.ok_part ∙ add-one m.world.left in
-    stands_pushed_at s m c.push-in-Catch.new.self (record { form = c.args.form; tail = tail; step = step.Catch false turns level taken })
+    stands_pushed_at s m c.push-in-Catch.new.self (record { form = c.args.form; tail = tail; step = step.Catch false turns level tries })
     (expression s c.deref.result.now tail) (inside s f tail) p.here p.world p.frames
-    (ap (λ (e : Expr). caught s.end turns false (handlers_of s f tail) level taken (expression s e tail h w)) c.deref.ensures
-    ∙ ap (λ n. caught s.end n false (handlers_of s f tail) level taken (expression s body tail h w)) more
-    ∙ ap (λ n. caught s.end (suc w.left) false (handlers_of s f tail) n taken (expression s body tail h w)) level_is
-    ∙ subst (λ (f : Form). caught s.end (suc w.left) false (handlers_of s f tail) (length h.names) taken (expression s body tail h w) ≡ inside s f tail h w)
+    (ap (λ (e : Expr). caught s.end turns false (handlers_of s f tail) level tries (expression s e tail h w)) c.deref.ensures
+    ∙ ap (λ n. caught s.end n false (handlers_of s f tail) level tries (expression s body tail h w)) more
+    ∙ ap (λ n. caught s.end (suc w.left) false (handlers_of s f tail) n tries (expression s body tail h w)) level_is
+    ∙ subst (λ (f : Form). caught s.end (suc w.left) false (handlers_of s f tail) (length h.names) tries (expression s body tail h w) ≡ inside s f tail h w)
     (sym c.in-Catch.is) refl)
 
-pub returns-in_ok-deeper-in-Try : goal.returns-in_ok-deeper-in-Try
-returns-in_ok-deeper-in-Try c s =
+pub returns-in_ok-push-in-Try : goal.returns-in_ok-push-in-Try
+returns-in_ok-push-in-Try c =
     let p = c.in_ok-push-in-Try.ensures in
     let m = c.args.self.now in
     let n = c.push-in-Try.new.self in
@@ -67,18 +67,15 @@ returns-in_ok-deeper-in-Try c s =
     let h = here_view m.here in
     let w = world_view m.world in
     let level = c.len-level.result in
-    let taken = m.here.taken in
-    let deeper = c.in_ok-deeper-in-Try.deeper in
+    let tries = m.here.tries in
     let body = c.in-Try.body.value in
     let count : vec_len m.here.names ≡ length m.here.names.items = omega (arith, m.here.names.ok.0) in
     let level_is : level ≡ length h.names = c.len-level.ensures ∙ count ∙ bounds_count m.here.names.items in
-    let more : deeper ≡ taken + 16 = sum_is c.checked_add-in-Try.result deeper (taken + 16) _ c.checked_add-in-Try.ensures c.in_ok-deeper-in-Try.ensures.ok_part in
-    let begun : Expr → ℕ → Here → World → Evaluation = λ e k h w. expression s e false (record h { taken = k }) (deepened k w) in
-    ap (λ (w : World). resume s n.frames.items (expression s c.deref-in-Try.result.now false (record (here_view n.here) { taken = deeper }) w)) c.deepen.ensures
-    ∙ stands_pushed_at s m n (record { form = c.args.form; tail = tail; step = step.Try level taken })
-    (begun c.deref-in-Try.result.now deeper) (inside s f tail) p.here p.world p.frames
-    (ap (λ (e : Expr). tried (handler_of s f tail) level taken (begun e deeper h w)) c.deref-in-Try.ensures
-    ∙ ap (λ k. tried (handler_of s f tail) level taken (begun body k h w)) more
-    ∙ ap (λ k. tried (handler_of s f tail) k taken (begun body (taken + 16) h w)) level_is
-    ∙ subst (λ (f : Form). tried (handler_of s f tail) (length h.names) taken (begun body (taken + 16) h w) ≡ inside s f tail h w)
-    (sym c.in-Try.is) refl)
+    let begun : Surroundings → Expr → Here → World → Evaluation = λ s e h w. expression s e false (within_try h) (deepened (taken (within_try h)) w) in
+    if_ok_then _ _ c.begin_try.result (λ now q s. q s
+    ∙ stands_pushed_at s m n (record { form = c.args.form; tail = tail; step = step.Try level tries })
+    (begun s c.deref-in-Try.result.now) (inside s f tail) p.here p.world p.frames
+    (ap (λ (e : Expr). tried (handler_of s f tail) level tries (begun s e h w)) c.deref-in-Try.ensures
+    ∙ ap (λ k. tried (handler_of s f tail) k tries (begun s body h w)) level_is
+    ∙ subst (λ (f : Form). tried (handler_of s f tail) (length h.names) tries (begun s body h w) ≡ inside s f tail h w)
+    (sym c.in-Try.is) refl)) c.begin_try.ensures

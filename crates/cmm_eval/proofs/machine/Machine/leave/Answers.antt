@@ -1,7 +1,8 @@
 use Rattle.std.proofs.Common.{◌≡◌, ◌-◌, true, Some, option_map, option_copied, map, refl, ap, sym, ◌∙◌}
 use Rattle.cmm_tree.specs.View.{label_view, params_view}
 use Rattle.cmm_meaning.specs.State.{Here, back_in}
-use Rattle.cmm_meaning.specs.Evaluation.{NotProper, Evaluation, Exits, Stops, ready_for, entered, scoped_parameter, with_bound, back, caught}
+use Rattle.cmm_meaning.specs.Evaluation.{NotProper, Evaluation, Exits, Stops, entered, scoped_parameter, with_bound, back, caught}
+use Rattle.cmm_meaning.specs.Choices.{ready_for}
 use Rattle.cmm_eval.specs.Filled.{or_improper, expression, handlers_of, handler_ready, does, resume}
 use Rattle.cmm_eval.specs.Stands.{around_view, stands}
 use Rattle.cmm_eval.specs.Views.{here_view, world_view}
@@ -36,7 +37,7 @@ returns-in-Some-first_misfit c =
     ∙ ap (λ l. entered s.end (params_view x.params.items) l w go) c.as_slice.ensures.value in
     ap (λ n. stands c.args.around.now m n) c.not_proper.ensures
     ∙ ap (resume s m.frames.items)
-    (misfits s f tail within c.in-Catch.turns c.in-Catch.level c.in-Catch.taken label values h w c.if-turns-eq0.false x kind ready enters
+    (misfits s f tail within c.in-Catch.turns c.in-Catch.level c.in-Catch.tries label values h w c.if-turns-eq0.false x kind ready enters
     ∙ ap (λ st. does s st f tail (Exits label values h w)) (sym c.in-Catch.is))
 
 pub returns-in-Catch : goal.returns-in-Catch
@@ -48,7 +49,7 @@ returns-in-Catch c =
     let within = c.in-Catch.within in
     let turns = c.in-Catch.turns in
     let level = c.in-Catch.level in
-    let taken = c.in-Catch.taken in
+    let tries = c.in-Catch.tries in
     let label = label_view c.args.label.now in
     let values = c.args.values.items in
     let x = c.in-Some.handler.now in
@@ -69,16 +70,16 @@ returns-in-Catch c =
     ∙ ap (λ l. entered s.end (params_view l) c.as_slice.result.now w go) c.as_slice-params.ensures.value
     ∙ ap (λ l. entered s.end (params_view x.params.items) l w go) c.as_slice.ensures.value in
     let bind = λ (i : Here). with_bound (map scoped_parameter (params_view x.params.items)) values i in
-    let inner : here_view c.bind_params.new.here ≡ bind (back_in level taken h) =
+    let inner : here_view c.bind_params.new.here ≡ bind (back_in level tries h) =
     c.in_ok-bind_params-in-Catch.ensures
     ∙ ap (λ l. with_bound (map scoped_parameter (params_view l)) c.as_slice-in-Catch.result.now (here_view c.back_in.new.self)) c.as_slice-params.ensures.value
     ∙ ap (λ l. with_bound (map scoped_parameter (params_view x.params.items)) l (here_view c.back_in.new.self)) c.as_slice-in-Catch.ensures.value
-    ∙ ap bind (c.back_in.ensures ∙ ap (λ (i : here.Here). back_in level taken (here_view i)) (q.here ∙ p.here)) in
-    let body = expression s x.body tail (bind (back_in level taken h)) w in
+    ∙ ap bind (c.back_in.ensures ∙ ap (λ (i : here.Here). back_in level tries (here_view i)) (q.here ∙ p.here)) in
+    let body = expression s x.body tail (bind (back_in level tries h)) w in
     ap (λ (o : world.World). resume s new (expression s x.body tail (here_view c.bind_params.new.here) (world_view o))) (q.world ∙ p.world)
     ∙ ap (λ (i : Here). resume s new (expression s x.body tail i w)) inner
-    ∙ pushed s n new _ body (back level taken body) q.frames refl
-    ∙ pushed s m.frames.items n _ (back level taken body) (caught s.end (turns - 1) true (handlers_of s f tail) level taken (back level taken body)) p.frames refl
+    ∙ pushed s n new _ body (back level tries body) q.frames refl
+    ∙ pushed s m.frames.items n _ (back level tries body) (caught s.end (turns - 1) true (handlers_of s f tail) level tries (back level tries body)) p.frames refl
     ∙ ap (resume s m.frames.items)
-    (handler_begins s f tail within turns level taken label values h w c.if-turns-eq0.false x ready enters
+    (handler_begins s f tail within turns level tries label values h w c.if-turns-eq0.false x ready enters
     ∙ ap (λ st. does s st f tail (Exits label values h w)) (sym c.in-Catch.is))

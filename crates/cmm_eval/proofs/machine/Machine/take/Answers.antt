@@ -2,7 +2,8 @@ use Rattle.std.proofs.Common.{◌∙◌, List, ap, sym}
 use Rattle.std.proofs.lemmas.Bool.{lt-ltb}
 use Rattle.cmm_tree.specs.declared.expr.Case.{Case}
 use Rattle.cmm_tree.specs.declared.expr.Form.{Form}
-use Rattle.cmm_meaning.specs.Evaluation.{case_for, chosen}
+use Rattle.cmm_meaning.specs.Evaluation.{chosen}
+use Rattle.cmm_meaning.specs.Choices.{case_for}
 use Rattle.cmm_eval.specs.Filled.{resume, taken_by, cases_ready}
 use Rattle.cmm_eval.specs.Stands.{around_view, stands}
 use Rattle.cmm_eval.specs.Views.{here_view, world_view}

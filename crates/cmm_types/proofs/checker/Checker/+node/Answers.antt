@@ -1,13 +1,14 @@
 use Rattle.std.proofs.Common.{◌≡◌, ◌≢◌, ◌+◌, ◌<◌, ◌||◌, drop, get_or, set, length, refl, ap, sym, subst, ◌∙◌, arith, length-set, get_or-set_other, vec_len}
 use Rattle.std.proofs.lemmas.List.{at_drop_all, take_all}
 use Rattle.cmm_types.specs.Types.{with_bindings, with_parameters, type_without_float, type_of_last, row_holds_float, bindings_hold_float, cases_hold_float, handlers_hold_float, type_of_cases, type_of_handlers, join}
-use Rattle.cmm_types.specs.Symbols.{definition_of}
+use Rattle.cmm_tree.specs.Symbols.{definition_of}
 use Rattle.cmm_tree.specs.View.{expr_view, params_view, label_view}
 use Rattle.cmm_types.specs.declared.role.Role.TheVariants as roles
-use Rattle.cmm_types.specs.Rows.{row_of, bindings_of, cases_of, handlers_of}
+use Rattle.cmm_tree.specs.Rows.{row_of, bindings_of, cases_of, handlers_of}
 use Rattle.cmm_types.specs.Annotated.{IsAnnotated}
 use Rattle.cmm_types.specs.Lists.{AreAnnotated, AreBindingsAnnotated, AreCasesAnnotated, AreHandlersAnnotated, with_binding}
-use Rattle.cmm_types.specs.Gathered.{noted_all, row_faults, bindings_faults, cases_faults, handlers_faults}
+use Rattle.cmm_types.specs.Gathered.{row_faults, bindings_faults, cases_faults, handlers_faults}
+use Rattle.bs_fault.specs.Reported.{noted_all}
 use Rattle.cmm_types.proofs.Loops.{Noting, last_or}
 use Rattle.cmm_types.proofs.Turns.{drop_behind, row_of-set, annotated-set, row_turn, row_float_turn, last_turn, last_is, cases_of-set, cases-set, cases_turn, cases_float_turn, cases_join_turn, handlers_of-set, handlers-set, handlers_turn, handlers_float_turn, handlers_join_turn, bindings_of-set, bindings-set, names-set, names_turn, bindings_turn, bindings_float_turn, or_false, join_never, handler_typed, with_binding-same}
 use Rattle.cmm_tree.specs.View.{form_view}
@@ -364,24 +365,26 @@ visit_call-returns-in_ok-passed-in-App-clause-float t c =
 
 pub visit_call-returns-in_ok-passed-in-Extcall-clause-view : goal.visit_call-returns-in_ok-passed-in-Extcall-clause-view
 visit_call-returns-in_ok-passed-in-Extcall-clause-view t c =
-    let name : (values_d enum 13 (c.in-Extcall.name, (c.in-Extcall.arguments, (c.in-Extcall.given, (c.in-Extcall.result_at, tt {0})))) c.args.form.now).0 ≡ c.in-Extcall.name =
-    ap (λ (f : Form). (values_d enum 13 (c.in-Extcall.name, (c.in-Extcall.arguments, (c.in-Extcall.given, (c.in-Extcall.result_at, tt {0})))) f).0) c.in-Extcall.is ∙ (λ i. (values_d_at enum 13 (c.in-Extcall.name, (c.in-Extcall.arguments, (c.in-Extcall.given, (c.in-Extcall.result_at, tt {0})))) (c.in-Extcall.name, (c.in-Extcall.arguments, (c.in-Extcall.given, (c.in-Extcall.result_at, tt {0})))) i).0) in
-    extcall_kept c.args.at _ c.in-Extcall.name _ c.in-Extcall.given _ c.in-Extcall.result_at c.in-Extcall.arguments _ c.row-in-Extcall.new.exprs name c.in-Extcall.given-is c.in-Extcall.result_at-is c.in-Extcall.arguments-is c.in_ok-passed-in-Extcall.ensures.view ∙ sym (ap (form_view c.args.at) c.in-Extcall.is)
+    let frame : (values_d enum 13 (c.in-Extcall.frame, (c.in-Extcall.name, (c.in-Extcall.arguments, (c.in-Extcall.given, (c.in-Extcall.result_at, tt {0}))))) c.args.form.now).0 ≡ c.in-Extcall.frame =
+    ap (λ (f : Form). (values_d enum 13 (c.in-Extcall.frame, (c.in-Extcall.name, (c.in-Extcall.arguments, (c.in-Extcall.given, (c.in-Extcall.result_at, tt {0}))))) f).0) c.in-Extcall.is ∙ (λ i. (values_d_at enum 13 (c.in-Extcall.frame, (c.in-Extcall.name, (c.in-Extcall.arguments, (c.in-Extcall.given, (c.in-Extcall.result_at, tt {0}))))) (c.in-Extcall.frame, (c.in-Extcall.name, (c.in-Extcall.arguments, (c.in-Extcall.given, (c.in-Extcall.result_at, tt {0}))))) i).0) in
+    let name : (values_d enum 13 (c.in-Extcall.frame, (c.in-Extcall.name, (c.in-Extcall.arguments, (c.in-Extcall.given, (c.in-Extcall.result_at, tt {0}))))) c.args.form.now).1.0 ≡ c.in-Extcall.name =
+    ap (λ (f : Form). (values_d enum 13 (c.in-Extcall.frame, (c.in-Extcall.name, (c.in-Extcall.arguments, (c.in-Extcall.given, (c.in-Extcall.result_at, tt {0}))))) f).1.0) c.in-Extcall.is ∙ (λ i. (values_d_at enum 13 (c.in-Extcall.frame, (c.in-Extcall.name, (c.in-Extcall.arguments, (c.in-Extcall.given, (c.in-Extcall.result_at, tt {0}))))) (c.in-Extcall.frame, (c.in-Extcall.name, (c.in-Extcall.arguments, (c.in-Extcall.given, (c.in-Extcall.result_at, tt {0}))))) i).1.0) in
+    extcall_kept c.args.at _ c.in-Extcall.frame _ c.in-Extcall.name _ c.in-Extcall.given _ c.in-Extcall.result_at c.in-Extcall.arguments _ c.row-in-Extcall.new.exprs frame name c.in-Extcall.given-is c.in-Extcall.result_at-is c.in-Extcall.arguments-is c.in_ok-passed-in-Extcall.ensures.view ∙ sym (ap (form_view c.args.at) c.in-Extcall.is)
 
 pub visit_call-returns-in_ok-passed-in-Extcall-clause-typed : goal.visit_call-returns-in_ok-passed-in-Extcall-clause-typed
 visit_call-returns-in_ok-passed-in-Extcall-clause-typed t c =
-    extcall_typed c.args.self.now.names c.in-Extcall.name c.row-in-Extcall.new.exprs c.in-Extcall.given 0 (annotated_in c.row-in-Extcall.new.exprs.items c.note_result-in-Extcall.ensures.names c.in_ok-passed-in-Extcall.ensures.typed)
+    extcall_typed c.args.self.now.names c.in-Extcall.frame c.in-Extcall.name c.row-in-Extcall.new.exprs c.in-Extcall.given 0 (annotated_in c.row-in-Extcall.new.exprs.items c.note_result-in-Extcall.ensures.names c.in_ok-passed-in-Extcall.ensures.typed)
 
 pub visit_call-returns-in_ok-passed-in-Extcall-clause-found : goal.visit_call-returns-in_ok-passed-in-Extcall-clause-found
 visit_call-returns-in_ok-passed-in-Extcall-clause-found t c =
     told (definition_of c.args.symbols.now) c.args.self.now.names c.args.self.now.labels c.args.self.now.found c.row-in-Extcall.new.self.found
-    (ap (form_view c.args.at) c.in-Extcall.is ∙ extcall_view c.args.at c.in-Extcall.name c.in-Extcall.arguments c.in-Extcall.given c.in-Extcall.result_at)
-    (extcall_found (definition_of c.args.symbols.now) c.args.self.now.names c.args.self.now.labels c.args.self.now.found c.args.at c.in-Extcall.name (row_of c.in-Extcall.arguments.items) c.in-Extcall.given c.in-Extcall.result_at c.note_result-in-Extcall.ensures.names c.note_result-in-Extcall.ensures.labels (row_same c.in-Extcall.arguments-is) c.in-Extcall.given-is c.in-Extcall.result_at-is c.note_result-in-Extcall.ensures.found c.in_ok-passed-in-Extcall.ensures.found)
+    (ap (form_view c.args.at) c.in-Extcall.is ∙ extcall_view c.args.at c.in-Extcall.frame c.in-Extcall.name c.in-Extcall.arguments c.in-Extcall.given c.in-Extcall.result_at)
+    (extcall_found (definition_of c.args.symbols.now) c.args.self.now.names c.args.self.now.labels c.args.self.now.found c.args.at c.in-Extcall.frame c.in-Extcall.name (row_of c.in-Extcall.arguments.items) c.in-Extcall.given c.in-Extcall.result_at c.note_result-in-Extcall.ensures.names c.note_result-in-Extcall.ensures.labels (row_same c.in-Extcall.arguments-is) c.in-Extcall.given-is c.in-Extcall.result_at-is c.note_result-in-Extcall.ensures.found c.in_ok-passed-in-Extcall.ensures.found)
 
 pub visit_call-returns-in_ok-passed-in-Extcall-clause-float : goal.visit_call-returns-in_ok-passed-in-Extcall-clause-float
 visit_call-returns-in_ok-passed-in-Extcall-clause-float t c =
     let same = row_same c.in-Extcall.arguments-is in
-    float_by _ (ap (form_view c.args.at) c.in-Extcall.is ∙ extcall_view c.args.at c.in-Extcall.name c.in-Extcall.arguments c.in-Extcall.given c.in-Extcall.result_at) (cc (c.in_ok-passed-in-Extcall.ensures.float, c.either-in-Extcall.ensures, c.is_float_ret-in-Extcall.ensures, c.in-Extcall.given-is, same))
+    float_by _ (ap (form_view c.args.at) c.in-Extcall.is ∙ extcall_view c.args.at c.in-Extcall.frame c.in-Extcall.name c.in-Extcall.arguments c.in-Extcall.given c.in-Extcall.result_at) (cc (c.in_ok-passed-in-Extcall.ensures.float, c.either-in-Extcall.ensures, c.is_float_ret-in-Extcall.ensures, c.in-Extcall.given-is, same))
 
 pub visit_branch-returns-in_ok-seen-in-Switch-clause-view : goal.visit_branch-returns-in_ok-seen-in-Switch-clause-view
 visit_branch-returns-in_ok-seen-in-Switch-clause-view t c =

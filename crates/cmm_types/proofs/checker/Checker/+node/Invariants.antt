@@ -1,9 +1,10 @@
 use Rattle.std.proofs.Common.{◌≡◌, ◌||◌, drop, take}
 use Rattle.cmm_types.specs.Types.{with_bindings, row_holds_float, type_of_cases, type_of_handlers, bindings_hold_float, cases_hold_float, handlers_hold_float, join}
-use Rattle.cmm_types.specs.Symbols.{definition_of}
-use Rattle.cmm_types.specs.Rows.{row_of, bindings_of, cases_of, handlers_of}
+use Rattle.cmm_tree.specs.Symbols.{definition_of}
+use Rattle.cmm_tree.specs.Rows.{row_of, bindings_of, cases_of, handlers_of}
 use Rattle.cmm_types.specs.Lists.{AreAnnotated, AreBindingsAnnotated, AreCasesAnnotated, AreHandlersAnnotated}
-use Rattle.cmm_types.specs.Gathered.{noted_all, row_faults, bindings_faults, cases_faults, handlers_faults}
+use Rattle.cmm_types.specs.Gathered.{row_faults, bindings_faults, cases_faults, handlers_faults}
+use Rattle.bs_fault.specs.Reported.{noted_all}
 use Rattle.cmm_types.proofs.Loops.{Noting, last_or}
 use Rattle.cmm_types.proofs.checker.Checker.+node.Given as goal
 

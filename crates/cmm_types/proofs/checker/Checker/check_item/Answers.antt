@@ -1,7 +1,8 @@
 use Rattle.std.proofs.Common.{ap, sym, ◌∙◌}
 use Rattle.cmm_tree.specs.View.{function_view, item_view}
-use Rattle.cmm_types.specs.Symbols.{definition_of}
-use Rattle.cmm_types.specs.Gathered.{noted_all, function_faults, item_faults}
+use Rattle.cmm_tree.specs.Symbols.{definition_of}
+use Rattle.cmm_types.specs.Gathered.{function_faults, item_faults}
+use Rattle.bs_fault.specs.Reported.{noted_all}
 use Rattle.cmm_types.proofs.checker.Checker.check_item.Goals as goal
 
 pub returns-in_ok-check_function-in-Function-clause-found : goal.returns-in_ok-check_function-in-Function-clause-found

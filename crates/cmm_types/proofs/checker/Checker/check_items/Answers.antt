@@ -1,7 +1,8 @@
 use Rattle.std.proofs.Common.{◌≡◌, ◌<◌, map, get_or, length, ap, ◌∙◌, arith}
 use Rattle.cmm_tree.specs.View.{item_view}
-use Rattle.cmm_types.specs.Symbols.{definition_of}
-use Rattle.cmm_types.specs.Gathered.{noted_all, items_faults}
+use Rattle.cmm_tree.specs.Symbols.{definition_of}
+use Rattle.cmm_types.specs.Gathered.{items_faults}
+use Rattle.bs_fault.specs.Reported.{noted_all}
 use Rattle.cmm_types.proofs.Turns.{drop_behind}
 use Rattle.cmm_types.proofs.ItemTurns.{items_view-set, items-set, items_turn}
 use Rattle.cmm_types.proofs.checker.Checker.check_items.Goals as goal

@@ -1,7 +1,8 @@
 use Rattle.std.proofs.Common.{◌≡◌, [], drop, take, map}
 use Rattle.cmm_tree.specs.View.{item_view}
-use Rattle.cmm_types.specs.Symbols.{definition_of}
-use Rattle.cmm_types.specs.Gathered.{noted_all, items_faults}
+use Rattle.cmm_tree.specs.Symbols.{definition_of}
+use Rattle.cmm_types.specs.Gathered.{items_faults}
+use Rattle.bs_fault.specs.Reported.{noted_all}
 use Rattle.cmm_types.specs.Typing.{AreItemsAnnotated}
 use Rattle.cmm_types.proofs.checker.Checker.check_items.Given as goal
 

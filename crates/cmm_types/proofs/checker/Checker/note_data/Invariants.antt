@@ -1,6 +1,6 @@
 use Rattle.std.proofs.Common.{drop, map}
 use Rattle.cmm_tree.specs.View.{data_item_view}
-use Rattle.cmm_types.specs.Symbols.{definition_of}
+use Rattle.cmm_tree.specs.Symbols.{definition_of}
 use Rattle.cmm_types.specs.Gathered.{data_faults}
 use Rattle.cmm_types.proofs.Loops.{Noting}
 use Rattle.cmm_types.proofs.checker.Checker.note_data.Given as goal

@@ -1,6 +1,6 @@
 use Rattle.std.proofs.Common.{drop}
 use Rattle.cmm_tree.specs.View.{label_view}
-use Rattle.cmm_types.specs.Rows.{handlers_of}
+use Rattle.cmm_tree.specs.Rows.{handlers_of}
 use Rattle.cmm_types.specs.Gathered.{labelled_faults}
 use Rattle.cmm_types.proofs.Loops.{Noting}
 use Rattle.cmm_types.proofs.checker.Checker.note_labelled.Given as goal

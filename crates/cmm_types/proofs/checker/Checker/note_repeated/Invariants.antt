@@ -1,5 +1,5 @@
 use Rattle.std.proofs.Common.{drop}
-use Rattle.cmm_types.specs.Rows.{handlers_of}
+use Rattle.cmm_tree.specs.Rows.{handlers_of}
 use Rattle.cmm_types.specs.Gathered.{repeated_faults}
 use Rattle.cmm_types.proofs.Loops.{Noting}
 use Rattle.cmm_types.proofs.checker.Checker.note_repeated.Given as goal

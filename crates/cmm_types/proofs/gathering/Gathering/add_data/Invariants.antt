@@ -1,7 +1,8 @@
 use Rattle.std.proofs.Common.{◌≡◌, map, drop}
 use Rattle.cmm_tree.specs.View.{data_item_view}
-use Rattle.cmm_types.specs.Symbols.{data_symbols}
-use Rattle.cmm_types.specs.Gathered.{noted_all, with_symbols, symbol_faults}
+use Rattle.cmm_tree.specs.Symbols.{data_symbols}
+use Rattle.cmm_types.specs.Gathered.{with_symbols, symbol_faults}
+use Rattle.bs_fault.specs.Reported.{noted_all}
 use Rattle.cmm_types.proofs.gathering.Gathering.add_data.Given as goal
 
 abbrev pub invariant-loop-item : goal.invariant-loop-item

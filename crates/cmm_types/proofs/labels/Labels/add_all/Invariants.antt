@@ -1,5 +1,5 @@
 use Rattle.std.proofs.Common.{◌≡◌, ◌≤◌, ◌++◌, length, drop}
-use Rattle.cmm_types.specs.Rows.{handlers_of}
+use Rattle.cmm_tree.specs.Rows.{handlers_of}
 use Rattle.cmm_types.specs.Standing.{labels_of}
 use Rattle.cmm_types.proofs.labels.Labels.add_all.Given as goal
 

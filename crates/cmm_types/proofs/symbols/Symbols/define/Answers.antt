@@ -1,5 +1,5 @@
 use Rattle.std.proofs.Common.{map, option_map, ap, sym, ◌∙◌}
-use Rattle.cmm_types.specs.Symbols.{definition_of}
+use Rattle.cmm_tree.specs.Symbols.{definition_of}
 use Rattle.cmm_types.specs.SymbolEntries.{entry_view}
 use Rattle.cmm_types.specs.Definitions.{defined, definition}
 use Rattle.cmm_types.specs.Gathered.{with_symbol}

@@ -1,5 +1,5 @@
 use Rattle.std.proofs.Common.{option_map, ap, ◌∙◌}
-use Rattle.cmm_types.specs.Symbols.{definition_of}
+use Rattle.cmm_tree.specs.Symbols.{definition_of}
 use Rattle.cmm_types.specs.Definitions.{definition}
 use Rattle.cmm_types.proofs.Lookups.{looked_up}
 use Rattle.cmm_types.proofs.symbols.Symbols.find_bytes.Goals as goal

@@ -1,5 +1,5 @@
 use Rattle.cmm_tree.specs.View.{expr_view}
-use Rattle.cmm_types.specs.Rows.{bindings_of}
+use Rattle.cmm_tree.specs.Rows.{bindings_of}
 use Rattle.cmm_walks.specs.Cells.{cells, tasks_at}
 use Rattle.cmm_walks.proofs.Nodes.{goes-enters}
 use Rattle.cmm_walks.proofs.items.Cells.enter.Goals as goal

@@ -1,4 +1,4 @@
-use Rattle.cmm_types.specs.Rows.{bindings_of}
+use Rattle.cmm_tree.specs.Rows.{bindings_of}
 use Rattle.cmm_tree.specs.View.{expr_view}
 use Rattle.cmm_walks.specs.Cells.{cells}
 use Rattle.cmm_walks.proofs.Pushed.{then, ready, kept-scope, kept-within, adds-as, adds-inside, adds-enters, opens-as}

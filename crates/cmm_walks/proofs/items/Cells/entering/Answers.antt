@@ -3,7 +3,7 @@ use Rattle.cmm_tree.specs.View.{expr_view}
 use Rattle.cmm_tree.specs.declared.expr.Binding.{Binding}
 use Rattle.cmm_types.specs.Annotated.{IsAnnotated}
 use Rattle.cmm_types.specs.Lists.{AreBindingsAnnotated}
-use Rattle.cmm_types.specs.Rows.{bindings_of}
+use Rattle.cmm_tree.specs.Rows.{bindings_of}
 use Rattle.cmm_types.specs.Types.{with_bindings}
 use Rattle.cmm_walks.specs.Cells.{cells}
 use Rattle.cmm_walks.specs.Sound.{Adds}

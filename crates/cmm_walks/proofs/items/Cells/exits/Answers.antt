@@ -1,6 +1,6 @@
 use Rattle.std.proofs.Common.{append_assoc, ◌∷◌, []}
 use Rattle.cmm_tree.specs.View.{label_view}
-use Rattle.cmm_types.specs.Rows.{row_of}
+use Rattle.cmm_tree.specs.Rows.{row_of}
 use Rattle.cmm_walks.specs.Cells.{cells}
 use Rattle.cmm_walks.specs.Walks.{all_operands, takes, count, Exits}
 use Rattle.cmm_walks.proofs.Pushed.{then, ready, kept-scope, adds-as}

@@ -23,9 +23,9 @@ returns-in-App c =
 
 pub returns-in-Extcall : goal.returns-in-Extcall
 returns-in-Extcall c =
-    IfOk-weaker c.on_all.result _ _
-    (λ cell h. λ s r scope typed. by-shape s c.args.slot c.args.expr.now _ _ _ c.in-Extcall.is (extcall-shape (names s) c.args.expr.now.at c.in-Extcall.name c.in-Extcall.arguments c.in-Extcall.result c.in-Extcall.result_at c.as_slice-in-Extcall.result.now c.as_slice-in-Extcall.ensures.value) typed (λ q. h s r scope q))
-    c.on_all.ensures
+    IfOk-weaker c.extcall.result _ _
+    (λ cell h. λ s r scope typed. by-shape s c.args.slot c.args.expr.now _ _ _ c.in-Extcall.is (extcall-shape (names s) c.args.expr.now.at c.in-Extcall.frame c.in-Extcall.name c.in-Extcall.arguments c.in-Extcall.result c.in-Extcall.result_at c.as_slice-in-Extcall.result.now c.as_slice-in-Extcall.ensures.value) typed (λ q. h s r scope q))
+    c.extcall.ensures
 
 pub returns-in-Seq : goal.returns-in-Seq
 returns-in-Seq c =

@@ -2,7 +2,7 @@ use Rattle.std.proofs.Common.{List, ◌∷◌, ◌++◌, ◌+◌, length, true, 
 use Rattle.cmm_tree.specs.View.{expr_view, params_view}
 use Rattle.cmm_tree.specs.declared.file.Param.{Param}
 use Rattle.cmm_types.specs.Annotated.{IsAnnotated}
-use Rattle.cmm_types.specs.Rows.{handlers_of}
+use Rattle.cmm_tree.specs.Rows.{handlers_of}
 use Rattle.cmm_types.specs.Types.{Scoped}
 use Rattle.cmm_walks.specs.Cells.{cells, tasks_at}
 use Rattle.cmm_walks.specs.Sound.{Steps}

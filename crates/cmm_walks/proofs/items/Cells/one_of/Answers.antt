@@ -1,4 +1,4 @@
-use Rattle.cmm_types.specs.Rows.{cases_of}
+use Rattle.cmm_tree.specs.Rows.{cases_of}
 use Rattle.cmm_walks.specs.Cells.{cells, tasks_at}
 use Rattle.cmm_walks.specs.Walks.{bodies}
 use Rattle.cmm_walks.proofs.Nodes.{goes-one_of, bodies-of-none}

@@ -1,4 +1,4 @@
-use Rattle.std.proofs.Common.{ℕ, Bool, true, false, List, Option, Some, None, ◌≡◌, refl, ◌∙◌, sym, ap}
+use Rattle.std.proofs.Common.{Bool, true, false, List, Option, ◌≡◌, ◌∙◌, sym, ap}
 use Rattle.rv_machine.specs.Memory.{Region, memory_or, write}
 use Rattle.rv_machine.specs.Width.{Writes}
 use Rattle.rv_machine.proofs.memory.Memory.put.Goals as goal

@@ -1,4 +1,4 @@
-use Rattle.std.proofs.Common.{ℕ, Option, Some, None, ◌≡◌, refl, ◌∙◌, sym, ap}
+use Rattle.std.proofs.Common.{ℕ, Option, Some, None, ◌≡◌, refl, ◌∙◌, ap}
 use Rattle.std.specs.Prelude.{unwrap_or}
 use Rattle.rv_machine.specs.Memory.{or_zero, word}
 use Rattle.rv_machine.proofs.memory.Memory.word.Goals as goal

@@ -1,5 +1,5 @@
-use Rattle.std.proofs.Common.{ℕ, ◌==◌, cond, Option, ap, sym, ◌∙◌, arith}
-use Rattle.rv_machine.specs.Marks.{Marks, mark_at, mark_by}
+use Rattle.std.proofs.Common.{◌==◌, cond, ap, sym, ◌∙◌, arith}
+use Rattle.rv_machine.specs.Marks.{Marks, mark_at}
 use Rattle.rv_machine.proofs.Marks.{marked}
 use Rattle.rv_machine.proofs.table.Table.mark.Goals as goal
 

@@ -1,4 +1,4 @@
-use Rattle.std.proofs.Common.{ℕ, ◌≡◌, Option, ap, sym, ◌∙◌, arith}
+use Rattle.std.proofs.Common.{◌≡◌, ap, sym, ◌∙◌, arith}
 use Rattle.std.proofs.lemmas.List.{get_or_read}
 use Rattle.rv_machine.specs.Marks.{Marks, mark_at, mark_by, place_of}
 use Rattle.rv_machine.proofs.table.Table.mark_of.Goals as goal

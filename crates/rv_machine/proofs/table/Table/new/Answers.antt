@@ -1,4 +1,4 @@
-use Rattle.std.proofs.Common.{ℕ, zero, suc, ◌+◌, ◌/◌, ◌≡◌, Option, Some, None, List, replicate, slice_index, refl, ◌∙◌, ap}
+use Rattle.std.proofs.Common.{ℕ, zero, suc, ◌≡◌, Option, Some, None, List, replicate, slice_index, refl, ◌∙◌, ap}
 use Rattle.rv_machine.specs.Marks.{mark_at, mark_by, place_of}
 use Rattle.rv_machine.proofs.table.Table.new.Goals as goal
 

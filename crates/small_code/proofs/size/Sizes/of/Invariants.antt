@@ -11,5 +11,5 @@ invariant-loop-function l = record {
   funcs : l.sizes.funcs ≡ 4 + length (flat_map func_bytes (rows_from 16 (functions_first l.function-index l.function-items)));
   code : l.sizes.code ≡ 16 + 4 * length (flat_map function_words (functions_first l.function-index l.function-items));
   funcs_most : l.sizes.funcs ≤ 4 + 287 * l.function-index;
-  code_most : l.sizes.code ≤ 16 + 240000 * l.function-index;
+  code_most : l.sizes.code ≤ 16 + 1920400 * l.function-index;
 }

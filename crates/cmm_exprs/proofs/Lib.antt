@@ -1,0 +1,10 @@
+pub mod Forms
+pub mod Lengths
+pub mod Lists
+pub mod Loops
+pub mod Readings
+pub mod Repeats
+pub mod Rows
+pub mod Steps
+pub mod Symbols
+pub mod Takings

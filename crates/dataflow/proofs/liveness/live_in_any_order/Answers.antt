@@ -1,0 +1,5 @@
+use Rattle.dataflow.proofs.Sweeps.{solved}
+use Rattle.dataflow.proofs.liveness.live_in_any_order.Goals as goal
+
+pub returns : goal.returns
+returns c = solved c.args.flow.now _ _ _ c.loop-grew-test.false c.loop-grew.invariant

@@ -1,0 +1,33 @@
+//! A set of numbers for each place.
+ghost use Rattle.std.specs.Prelude.{◌≡◌, ◌<◌, length};
+ghost use Rattle.bs_bits.specs.Set.{has};
+ghost use Rattle.dataflow.specs.Rows.{row};
+
+use bs_bits::Bits;
+
+/// A set of numbers for each place of a graph.
+#[derive(Debug, Drop)]
+pub struct Rows {
+    pub rows: Vec<Bits>,
+}
+
+impl Rows {
+    /// The set of the place.
+    pub fn at(&self, place: usize) -> &Bits
+        requires { place < length self.now.rows.items }
+        ensures { result.now ≡ row self.now.rows.items place }
+    {
+        &self.rows[place]
+    }
+
+    /// Whether the number is in the set of the place. There is none past the last place, or from the
+    /// bound on.
+    pub fn contains(&self, place: usize, number: u32) -> bool
+        ensures { result ≡ has (row self.now.rows.items place) number }
+    {
+        match self.rows.get(place) {
+            None => false,
+            Some(set) => number < set.size() && set.contains(number),
+        }
+    }
+}

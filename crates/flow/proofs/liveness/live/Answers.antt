@@ -1,5 +1,0 @@
-use Rattle.flow.proofs.Sweeps.{solved}
-use Rattle.flow.proofs.liveness.live.Goals as goal
-
-pub returns : goal.returns
-returns c = solved c.args.flow.now _ _ _ c.loop-grew-test.false c.loop-grew.invariant

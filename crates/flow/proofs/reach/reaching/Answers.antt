@@ -1,5 +1,0 @@
-use Rattle.flow.proofs.Moves.{solved_on}
-use Rattle.flow.proofs.reach.reaching.Goals as goal
-
-pub returns : goal.returns
-returns c = solved_on c.args.flow.now _ _ _ c.requires c.loop-grew-test.false c.loop-grew.invariant

@@ -1,6 +1,0 @@
-use Rattle.std.proofs.Common.{take}
-use Rattle.flow.proofs.Loops.{TakesOut}
-use Rattle.flow.proofs.sweep.take_out.Given as goal
-
-abbrev pub invariant-loop-k : goal.invariant-loop-k
-invariant-loop-k l = TakesOut l.initial.set l.set (take l.k-index l.numbers)

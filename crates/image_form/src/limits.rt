@@ -1,0 +1,14 @@
+//! What every image has, and how long its sections may be.
+
+/// The words with which the code of each compiled image begins: the return service, and then the uncaught
+/// raise.
+pub const STUB: [u32; 4] = [0x0000_0393, 0x0000_0073, 0x0010_0393, 0x0000_0073];
+
+/// The most bytes of the body of a table.
+pub const TABLE_LIMIT: u64 = 67_108_864;
+
+/// The most bytes of code.
+pub const CODE_LIMIT: u64 = 268_369_920;
+
+/// The most bytes of data.
+pub const DATA_LIMIT: u64 = 16_777_216;

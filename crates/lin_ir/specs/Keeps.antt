@@ -1,0 +1,53 @@
+-- When a Linear function does what a Mach function does.
+use Rattle.std.specs.Prelude.{◌≡◌, ℕ, List, Some, Contains}
+use Rattle.bs_words.specs.External.{External}
+use Rattle.bs_words.specs.Memory.{Memory}
+use Rattle.bs_words.specs.declared.values.Value.{Value}
+use Rattle.cmm_meaning.specs.State.{Doing, Asked}
+use Rattle.mach_ir.specs.Runs.{Place, Tally, Run, Running, Asking, Ended, first_tally}
+use Rattle.mach_ir.specs.Meaning as mach
+use Rattle.mach_ir.specs.Keeps.{Proper, NamesSymbol, NamesExternal}
+use Rattle.mach_ir.specs.Keeps as kept
+use Rattle.mach_ir.specs.Walks as walks
+use Rattle.mach_ir.specs.declared.mach.MachOp.{MachOp}
+use Rattle.mach_ir.specs.declared.mach.MachOp.TheVariants as instr
+use Rattle.mach_ir.specs.declared.mach.Mach.{Mach}
+use Rattle.lin_ir.specs.Meaning.{Names, State, start, run}
+use Rattle.lin_ir.specs.Descriptors.{NoAddrLive}
+use Rattle.lin_ir.specs.declared.lin.LinOp.TheVariants as lin
+use Rattle.lin_ir.specs.declared.lin.Line.{Line}
+use Rattle.lin_ir.specs.declared.lin.Lin.{Lin}
+
+-- The Linear run tells what the Mach run does: calls and their memories, blocks, tries, end, units, and stack bytes.
+pub data Same : Run mach.State → Run State → Type 0 where
+  both_running : {s : mach.State} {u : State} {t : Tally} → s.around ≡ u.around → Same (Running s t) (Running u t)
+  both_asking : {call : Asked} {t : Tally} → Same (Asking call t) (Asking call t)
+  both_ended : {doing : Doing} {t : Tally} → Same (Ended doing t) (Ended doing t)
+
+-- some number of steps of the Linear function tells what a run does
+pub record Told (c : Place) (named : Names) (m : Lin) (r : Run mach.State) (s : State) (t : Tally) : Type 0 where
+  pub steps : ℕ
+  pub same : Same r (run c named m steps s t)
+
+pub record Begins (c : Place) (p : Mach) (q : Lin) (named : Names) (arguments : List Value) (memory : Memory) (doings : List Doing) (s : mach.State) : Type 0 where
+  pub state : State
+  pub begins : start c q arguments memory ≡ Some state
+  pub follows : (n : ℕ) → Proper c p n s (first_tally c doings) →
+      Told c named q (mach.run c p n s (first_tally c doings)) state (first_tally c doings)
+
+-- some line of the function has an operation that names it
+pub record NamedIn (Named : MachOp → Type 0) (m : Lin) : Type 0 where
+  pub line : Line
+  pub among : Contains m.code line
+  pub op : _
+  pub is : line.op ≡ lin.Op op
+  pub named : Named (instr.Op op)
+
+-- With these names at its frame points, a Linear function does what a Mach function does wherever that is not stuck, so
+-- it never reads poison there.
+pub record Keeps (p : Mach) (q : Lin) (named : Names) : Type 0 where
+  pub does : (c : Place) (arguments : List Value) (memory : Memory) (doings : List Doing) (s : mach.State) →
+      mach.start c p arguments memory ≡ Some s → Begins c p q named arguments memory doings s
+  pub symbols : (name : List ℕ) → NamedIn (NamesSymbol name) q → kept.Names (NamesSymbol name) p
+  pub externals : (row : External) → NamedIn (NamesExternal row) q → kept.Names (NamesExternal row) p
+  pub addrs : walks.NoAddrLive p → NoAddrLive q

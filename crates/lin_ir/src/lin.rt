@@ -1,0 +1,55 @@
+//! The instructions of Linear.
+
+use bs_words::{Comp, Loc, Name, Ret};
+use mach_ir::{Op, Seq, Test};
+
+/// A location, with the component as which it is read or written.
+#[derive(Clone, Copy, PartialEq, Eq, Debug)]
+pub struct Spot {
+    pub loc: Loc,
+    pub comp: Comp,
+}
+
+/// How control goes. A label is that of the place after the line that has it.
+#[derive(Clone, Drop)]
+pub enum Flow {
+    Label(u32),
+    Jump(u32),
+    /// A jump that is an exit of the text: it costs a unit.
+    Exit(u32),
+    /// To the label where the test holds, else on.
+    Branch { test: Test, label: u32 },
+    /// For each index from 0 on, its label.
+    Switch(Seq<u32>),
+    /// Pushes a trap whose handler is at the label.
+    PushTrap(u32),
+    PopTrap,
+    /// The entry of a handler, right after its label. The result is the raised value.
+    EnterTrap,
+}
+
+/// What an instruction of Linear does.
+#[derive(Clone, Drop)]
+pub enum LinOp {
+    Op(Op),
+    Flow(Flow),
+}
+
+/// An instruction: its operands and results are locations.
+#[derive(Clone, Drop)]
+pub struct Line {
+    pub op: LinOp,
+    pub args: Seq<Spot>,
+    pub results: Seq<Spot>,
+}
+
+/// One function.
+#[derive(Clone, Drop)]
+pub struct Lin {
+    pub name: Name,
+    pub params: Seq<Spot>,
+    pub result: Ret,
+    /// Its slots are those below this number.
+    pub slots: u32,
+    pub code: Seq<Line>,
+}

@@ -1,0 +1,147 @@
+-- When one Mach function does what another does.
+use Rattle.std.specs.Prelude.{◌≡◌, ◌≢◌, ◌⊎◌, ℕ, suc, ◌<◌, Bool, true, List, [], ◌∷◌, Option, Some, None, Contains}
+use Rattle.bs_words.specs.External.{External}
+use Rattle.bs_words.specs.Memory.{Memory}
+use Rattle.bs_words.specs.declared.types.Comp.TheVariants as comp
+use Rattle.bs_words.specs.declared.types.Loc.TheVariants as loc
+use Rattle.bs_words.specs.declared.values.Value.{Value}
+use Rattle.cmm_meaning.specs.State.{Doing, Asked}
+use Rattle.mach_ir.specs.Acts.{Around, with_block, row_of}
+use Rattle.mach_ir.specs.Runs.{Place, Tally, Run, Running, Asking, Ended, Wrong, first_tally}
+use Rattle.mach_ir.specs.Meaning.{Held, State, start, run, passes_frame, written}
+use Rattle.mach_ir.specs.Walks.{Among, Live, LiveAcross, IsRegister, NoAddrLive}
+use Rattle.mach_ir.specs.declared.blocks.NewBlock.{NewBlock}
+use Rattle.mach_ir.specs.declared.op.External as declared
+use Rattle.mach_ir.specs.declared.op.Op.TheVariants as op
+use Rattle.mach_ir.specs.declared.op.Pure.TheVariants as pure
+use Rattle.mach_ir.specs.declared.op.Callee.TheVariants as callee
+use Rattle.mach_ir.specs.declared.op.Calling.TheVariants as calling
+use Rattle.mach_ir.specs.declared.reg.Reg.{Reg}
+use Rattle.mach_ir.specs.declared.mach.MachOp.{MachOp}
+use Rattle.mach_ir.specs.declared.mach.MachOp.TheVariants as mach
+use Rattle.mach_ir.specs.declared.mach.Instr.{Instr}
+use Rattle.mach_ir.specs.declared.mach.Mach.{Mach}
+
+-- ---- where a function is not stuck
+--
+-- A step that ends in `Wrong` is stuck. So is one at a frame point where a val that is live after it has not been
+-- written, and one that comes to a place where registers of one origin differ. These two speak of walks, and no step
+-- computes them.
+
+-- At a frame point each val register that is live after it has been written.
+pub record ValsWritten (m : Mach) (s : State) : Type 0 where
+  pub written : (i : Instr) (next : List Instr) → s.rest ≡ i ∷ next → passes_frame i.op ≡ true →
+      (r : Reg) → IsRegister m r → r.comp ≡ comp.Val → LiveAcross m r.number i next → s.file r.number ≢ None
+
+-- Two registers of one origin, each live here or just written, hold no different values.
+pub record OriginsAgree (m : Mach) (just_written : List Reg) (s : State) : Type 0 where
+  pub agree : (r q : Reg) → IsRegister m r → IsRegister m q → r.origin ≡ q.origin →
+      Live m r.number s.rest ⊎ Among r.number just_written → Live m q.number s.rest ⊎ Among q.number just_written →
+      (x y : Held) → s.file r.number ≡ Some x → s.file q.number ≡ Some y → x.value ≡ y.value
+
+-- what the step from one state to another has written: nothing on the way to a handler
+abbrev pub wrote_unless : Option Value → List Reg → List Reg
+wrote_unless None rs = rs
+wrote_unless (Some raised) rs = []
+
+abbrev pub wrote_at : Mach → List Instr → List Reg
+wrote_at m [] = []
+wrote_at m (i ∷ next) = written m i
+
+abbrev pub just_written : Mach → State → State → List Reg
+just_written m s u = wrote_unless u.around.raised (wrote_at m s.rest)
+
+-- A run of n steps from a state is nowhere stuck.
+pub record Proper (c : Place) (m : Mach) (n : ℕ) (s : State) (t : Tally) : Type 0 where
+  pub goes : run c m n s t ≢ Wrong
+  pub vals : (k : ℕ) → k < n → (u : State) (y : Tally) → run c m k s t ≡ Running u y → ValsWritten m u
+  pub origins : (k : ℕ) → k < n → (u v : State) (y z : Tally) → run c m k s t ≡ Running u y →
+      run c m (suc k) s t ≡ Running v z → OriginsAgree m (just_written m u v) v
+
+-- ---- the same
+
+-- these blocks are allocated, the first one first
+abbrev pub ahead : List NewBlock → Around → Around
+ahead [] a = a
+ahead (b ∷ blocks) a = ahead blocks (with_block b a)
+
+-- The second has allocated blocks that the first has not yet, after all that the first has. So it is between calls
+-- only: at a call nothing is unwritten, and the memories are the same.
+pub record Ahead (x y : Around) : Type 0 where
+  pub blocks : List NewBlock
+  pub same : y ≡ ahead blocks x
+
+-- The second run tells what the first does: calls and their memories, blocks, tries, end, units, and stack bytes.
+pub data Same : Run State → Run State → Type 0 where
+  both_running : {s u : State} {t : Tally} → Ahead s.around u.around → Same (Running s t) (Running u t)
+  both_asking : {call : Asked} {t : Tally} → Same (Asking call t) (Asking call t)
+  both_ended : {doing : Doing} {t : Tally} → Same (Ended doing t) (Ended doing t)
+
+-- some number of steps of a function tells what a run does, and is nowhere stuck
+pub record Told (c : Place) (m : Mach) (r : Run State) (s : State) (t : Tally) : Type 0 where
+  pub steps : ℕ
+  pub same : Same r (run c m steps s t)
+  pub proper : Proper c m steps s t
+
+-- the second begins where the first does, and from there tells what the first does, wherever that is not stuck
+pub record Begins (c : Place) (p q : Mach) (arguments : List Value) (memory : Memory) (doings : List Doing) (s : State) : Type 0 where
+  pub state : State
+  pub begins : start c q arguments memory ≡ Some state
+  pub follows : (n : ℕ) → Proper c p n s (first_tally c doings) →
+      Told c q (run c p n s (first_tally c doings)) state (first_tally c doings)
+
+abbrev pub Does : Mach → Mach → Type 0
+Does p q = (c : Place) (arguments : List Value) (memory : Memory) (doings : List Doing) (s : State) →
+    start c p arguments memory ≡ Some s → Begins c p q arguments memory doings s
+
+-- ---- the static parts
+
+-- a register whose place is open, or a slot
+pub data IsLoose (r : Reg) : Type 0 where
+  is_open : r.loc ≡ loc.Unset → IsLoose r
+  is_slot : {k : ℕ} → r.loc ≡ loc.Slot k → IsLoose r
+
+-- some loose register has this origin
+pub record HasOrigin (m : Mach) (origin : ℕ) : Type 0 where
+  pub register : Reg
+  pub among : IsRegister m register
+  pub loose : IsLoose register
+  pub same : register.origin ≡ origin
+
+-- some register of this origin stands in this slot
+pub record HasSlot (m : Mach) (slot origin : ℕ) : Type 0 where
+  pub register : Reg
+  pub among : IsRegister m register
+  pub stands : register.loc ≡ loc.Slot slot
+  pub same : register.origin ≡ origin
+
+-- an operation names a symbol
+pub data NamesSymbol (name : List ℕ) : MachOp → Type 0 where
+  its_value : NamesSymbol name (mach.Op (op.Pure (pure.Symbol name)))
+  calls : {result : _} → NamesSymbol name (mach.Op (op.Calling (calling.Call (callee.Symbol name) result)))
+  tail_calls : {result : _} → NamesSymbol name (mach.Op (op.Calling (calling.TailCall (callee.Symbol name) result)))
+
+-- or an external call, by its row
+pub data NamesExternal (row : External) : MachOp → Type 0 where
+  calls_out : {e : declared.External} {frame : Bool} → row_of e ≡ row →
+      NamesExternal row (mach.Op (op.Calling (calling.External e frame)))
+
+-- some instruction of the function names it
+pub record Names (Named : MachOp → Type 0) (m : Mach) : Type 0 where
+  pub instr : Instr
+  pub among : Contains m.code instr
+  pub named : Named instr.op
+
+-- ---- keeps
+
+pub record Keeps (p q : Mach) : Type 0 where
+  -- calls, memories, blocks, tries, end and units are the same wherever the first is not stuck
+  pub does : Does p q
+  -- no new origin among the registers that are open or stand in slots
+  pub origins : (r : Reg) → IsRegister q r → IsLoose r → HasOrigin p r.origin
+  -- a new slot is numbered as its register's origin; so is one that the first has for other origins alone
+  pub slots : (r : Reg) (k : ℕ) → IsRegister q r → r.loc ≡ loc.Slot k → HasSlot p k r.origin ⊎ (k ≡ r.origin)
+  -- no new symbol, and no new external call
+  pub symbols : (name : List ℕ) → Names (NamesSymbol name) q → Names (NamesSymbol name) p
+  pub externals : (row : External) → Names (NamesExternal row) q → Names (NamesExternal row) p
+  pub addrs : NoAddrLive p → NoAddrLive q

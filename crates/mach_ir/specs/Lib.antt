@@ -1,0 +1,10 @@
+pub mod Blocks
+pub mod Acts
+pub mod Runs
+pub mod Meaning
+pub mod Walks
+pub mod Placed
+pub mod Formed
+pub mod Keeps
+pub mod Words
+pub mod Text

@@ -1,0 +1,263 @@
+-- What one Mach function does, from a memory and registers, on what is handed in for its calls.
+--
+-- A state holds the code that is left, from the next instruction on, and not the number of a place.
+use Rattle.std.specs.Prelude.{ℕ, Bool, true, false, cond, ◌&&◌, ◌||◌, not, nat_eq, nat_le, List, [], ◌∷◌, ◌++◌, Option, Some, None}
+use Rattle.bs_words.specs.Fits.{fits, type_of_comp}
+use Rattle.bs_words.specs.Memory.{Memory, sizes}
+use Rattle.bs_words.specs.declared.types.Comp.{Comp}
+use Rattle.bs_words.specs.declared.types.Comp.TheVariants as comp
+use Rattle.bs_words.specs.declared.types.Loc.{Loc}
+use Rattle.bs_words.specs.declared.types.Loc.TheVariants as loc
+use Rattle.bs_words.specs.declared.values.Value.{Value}
+use Rattle.mach_ir.specs.Acts.{Setting, Around, Target, On, At, Landing, AtLabel, AtHandler, Act, Goes, Pushes, Jumps, Flies, Asks, Ends, EndsRaising, Stuck, act, truth_of, turned, switched, drop_tries, takes_raised}
+use Rattle.mach_ir.specs.Acts as acts
+use Rattle.mach_ir.specs.Runs.{Place, taken, asked, Step, Walks, Leaps, Deepens, Waits, Over, OverRaising, Halts, Tally, Run, runs, entered}
+use Rattle.mach_ir.specs.declared.op.Op.{Op}
+use Rattle.mach_ir.specs.declared.op.Op.TheVariants as op
+use Rattle.mach_ir.specs.declared.op.Calling.TheVariants as calling
+use Rattle.mach_ir.specs.declared.reg.Reg.{Reg}
+use Rattle.mach_ir.specs.declared.mach.Mark.{Mark}
+use Rattle.mach_ir.specs.declared.mach.Mark.TheVariants as mark
+use Rattle.mach_ir.specs.declared.mach.MachOp.{MachOp}
+use Rattle.mach_ir.specs.declared.mach.MachOp.TheVariants as mach
+use Rattle.mach_ir.specs.declared.mach.Instr.{Instr}
+use Rattle.mach_ir.specs.declared.mach.Mach.{Mach}
+
+-- ---- registers
+
+-- what a register holds: a value that was written with this component
+pub record Held : Type 0 where
+  pub comp : Comp
+  pub value : Value
+
+-- by number; one that has not been written holds nothing
+abbrev pub File : Type 0
+File = ℕ → Option Held
+
+abbrev pub put : Reg → Value → File → File
+put r v f = λ n. cond (nat_eq r.number n) (Some (record { comp = r.comp; value = v })) (f n)
+
+abbrev pub clear : List Reg → File → File
+clear [] f = f
+clear (r ∷ rs) f = λ n. cond (nat_eq r.number n) None (clear rs f n)
+
+-- a write that does not fit is stuck
+abbrev pub put_if : Bool → Reg → Value → Option File → Option File
+put_if true r v (Some f) = Some (put r v f)
+put_if true r v None = None
+put_if false r v o = None
+
+-- a value for each register
+abbrev pub put_all : ℕ → List Reg → List Value → File → Option File
+put_all end [] [] f = Some f
+put_all end (r ∷ rs) (v ∷ vs) f = put_if (fits end (type_of_comp r.comp) v) r v (put_all end rs vs f)
+put_all end _ _ f = None
+
+abbrev pub with_held : Option Held → Option (List Value) → Option (List Value)
+with_held (Some h) (Some vs) = Some (h.value ∷ vs)
+with_held _ _ = None
+
+-- what registers hold; a read of one that has not been written is stuck
+abbrev pub values : File → List Reg → Option (List Value)
+values f [] = Some []
+values f (r ∷ rs) = with_held (f r.number) (values f rs)
+
+abbrev pub is_addr : Comp → Bool
+is_addr comp.Addr = true
+is_addr _ = false
+
+abbrev pub unless_addr : Option Held → Option Held
+unless_addr None = None
+unless_addr (Some h) = cond (is_addr h.comp) None (Some h)
+
+-- at a frame point each addr is lost, so that a read of one that was bound before is stuck
+abbrev pub past_frame : Bool → File → File
+past_frame false f = f
+past_frame true f = λ n. unless_addr (f n)
+
+-- ---- colours that operations destroy
+
+-- Which registers of the machine an operation destroys: none; those of an external call, a0 to a7 and t3 to t6; or
+-- every colour.
+pub data Destroyed : Type 0 where
+  Nothing : Destroyed
+  Temporaries : Destroyed
+  Everything : Destroyed
+
+abbrev pub destroyed : Op → Destroyed
+destroyed (op.Calling (calling.External row frame)) = Temporaries
+destroyed (op.Calling (calling.Call whom result)) = Everything
+destroyed (op.Calling (calling.TailCall whom result)) = Everything
+destroyed (op.Pure f) = Nothing
+destroyed (op.Access f) = Nothing
+destroyed (op.Leaving f) = Nothing
+
+-- so does the entry of a handler
+abbrev pub destroyed_by : MachOp → Destroyed
+destroyed_by (mach.Op f) = destroyed f
+destroyed_by (mach.Mark (mark.Handler label)) = Everything
+destroyed_by (mach.Mark _) = Nothing
+
+-- a0 to a7 are x10 to x17, t3 to t6 are x28 to x31
+abbrev pub is_temporary : ℕ → Bool
+is_temporary n = (nat_le 10 n && nat_le n 17) || nat_le 28 n
+
+abbrev pub is_destroyed : Destroyed → Loc → Bool
+is_destroyed Everything (loc.Machine n) = true
+is_destroyed Temporaries (loc.Machine n) = is_temporary n
+is_destroyed _ _ = false
+
+abbrev pub same_colour : Loc → Loc → Bool
+same_colour (loc.Machine a) (loc.Machine b) = nat_eq a b
+same_colour _ _ = false
+
+abbrev pub is_at_one_of : Loc → List Reg → Bool
+is_at_one_of l [] = false
+is_at_one_of l (r ∷ rs) = same_colour l r.loc || is_at_one_of l rs
+
+-- those among the registers of the colours that stand at a destroyed one, but where a result stands
+abbrev pub killed_among : List Reg → Destroyed → List Reg → List Reg
+killed_among [] d results = []
+killed_among (r ∷ rs) d results =
+    let others : List Reg = killed_among rs d results in
+    cond (is_destroyed d r.loc && not (is_at_one_of r.loc results)) (r ∷ others) others
+
+abbrev pub killed_by : List Reg → Destroyed → List Reg → List Reg
+killed_by rs Nothing results = []
+killed_by rs d results = killed_among rs d results
+
+-- the registers that an instruction writes with no value
+abbrev pub killed : Mach → Instr → List Reg
+killed m i = killed_by m.colours (destroyed_by i.op) i.results
+
+-- every register that it writes
+abbrev pub written : Mach → Instr → List Reg
+written m i = i.results ++ killed m i
+
+abbrev pub passes_frame : MachOp → Bool
+passes_frame (mach.Op f) = acts.is_frame_point f
+passes_frame (mach.Mark f) = false
+
+-- ---- marks
+
+abbrev pub mark_act : Mark → List Value → Around → Act
+mark_act (mark.Exit l n) [] a = Jumps (AtLabel l) (record a { tries = drop_tries n a.tries })
+mark_act (mark.If t l) vs a = turned a On (At l) (truth_of (sizes a.memory) t vs)
+mark_act (mark.Else l end) [] a = Goes [] (At end) a
+mark_act (mark.Switch labels) vs a = switched a labels vs
+mark_act (mark.Case indexes l end) [] a = Goes [] (At end) a
+mark_act mark.Catch [] a = Goes [] On a
+mark_act (mark.With l end) [] a = Goes [] (At end) a
+mark_act (mark.Try l) [] a = Pushes (record a { tries = l ∷ a.tries })
+mark_act (mark.Leave l end) [] a = Goes [] (At end) (record a { tries = drop_tries 1 a.tries })
+mark_act (mark.Handler l) [] a = takes_raised a
+mark_act (mark.End l) [] a = Goes [] On a
+mark_act _ _ a = Stuck
+
+abbrev pub mach_act : Setting → MachOp → List Value → Around → Act
+mach_act c (mach.Op f) vs a = act c f vs a
+mach_act c (mach.Mark f) vs a = mark_act f vs a
+
+-- ---- places
+
+-- whether a mark has this label
+abbrev pub has_label : ℕ → Mark → Bool
+has_label l (mark.Else k end) = nat_eq k l
+has_label l (mark.Case indexes k end) = nat_eq k l
+has_label l (mark.With k end) = nat_eq k l
+has_label l (mark.End k) = nat_eq k l
+has_label l _ = false
+
+abbrev pub labels : ℕ → MachOp → Bool
+labels l (mach.Mark f) = has_label l f
+labels l (mach.Op f) = false
+
+abbrev pub handles : ℕ → MachOp → Bool
+handles l (mach.Mark (mark.Handler k)) = nat_eq k l
+handles l _ = false
+
+-- the code from the mark of a handler on
+abbrev pub onto : ℕ → List Instr → List Instr
+onto l [] = []
+onto l (i ∷ is) = cond (handles l i.op) (i ∷ is) (onto l is)
+
+-- the code after the mark that has a label
+abbrev pub after_label : ℕ → List Instr → List Instr
+after_label l [] = []
+after_label l (i ∷ is) = cond (labels l i.op) is (after_label l is)
+
+abbrev pub code_at : List Instr → List Instr → Target → List Instr
+code_at code next On = next
+code_at code next (At l) = after_label l code
+
+abbrev pub tries_past : MachOp → List ℕ → List ℕ
+tries_past (mach.Mark (mark.Try l)) tries = drop_tries 1 tries
+tries_past (mach.Mark (mark.Leave l end)) tries = l ∷ tries
+tries_past _ tries = tries
+
+-- the handlers of the tries round a place, by the text, the innermost first: those that are left before they are pushed
+abbrev pub tries_at : List Instr → List ℕ
+tries_at [] = []
+tries_at (i ∷ is) = tries_past i.op (tries_at is)
+
+abbrev pub at_handler : List Instr → List ℕ → List Instr
+at_handler code [] = []
+at_handler code (l ∷ tries) = onto l code
+
+-- where a jump from here comes to
+abbrev pub code_land : List Instr → List Instr → Landing → List Instr
+code_land code here (AtLabel l) = after_label l code
+code_land code here AtHandler = at_handler code (tries_at here)
+
+-- ---- steps
+
+pub record State : Type 0 where
+  -- the code that is left
+  pub rest : List Instr
+  pub file : File
+  pub around : Around
+
+abbrev pub wrote : List Instr → Around → Option File → Step State
+wrote rest a None = Halts
+wrote rest a (Some f) = Walks (record { rest = rest; file = f; around = a })
+
+-- what an instruction does, before this code, by what its operation does
+abbrev pub on_act : Place → Mach → Instr → List Instr → File → Around → Act → Step State
+on_act c m i next f a (Goes vs to after) =
+    wrote (code_at m.code next to) after (put_all c.setting.end i.results vs (clear (killed m i) f))
+on_act c m i next f a (Pushes after) = Deepens (taken c after) (record { rest = next; file = f; around = after })
+on_act c m i next f a (Jumps to after) =
+    Leaps (record { rest = code_land m.code (i ∷ next) to; file = f; around = after })
+on_act c m i next f a (Flies after) =
+    Walks (record { rest = code_land m.code (i ∷ next) AtHandler; file = f; around = after })
+on_act c m i next f a (Asks callee vs tail go) =
+    Waits (asked c callee vs tail a) (λ d. on_act c m i next f a (go d))
+on_act c m i next f a (Ends d) = Over d
+on_act c m i next f a (EndsRaising d) = OverRaising d
+on_act c m i next f a Stuck = Halts
+
+abbrev pub on_values : Place → Mach → Instr → List Instr → File → Around → Option (List Value) → Step State
+on_values c m i next f a None = Halts
+on_values c m i next f a (Some vs) =
+    on_act c m i next (past_frame (passes_frame i.op) f) a (mach_act c.setting i.op vs a)
+
+abbrev pub at_code : Place → Mach → List Instr → File → Around → Step State
+at_code c m [] f a = Halts
+at_code c m (i ∷ next) f a = on_values c m i next f a (values f i.args)
+
+-- reads, then the operation, then writes, then where control goes
+abbrev pub step : Place → Mach → State → Step State
+step c m s = at_code c m s.rest s.file s.around
+
+abbrev pub run : Place → Mach → ℕ → State → Tally → Run State
+run c m = runs (step c m)
+
+-- ---- a function
+
+abbrev pub begun : Mach → Memory → Option File → Option State
+begun m memory None = None
+begun m memory (Some f) = Some (record { rest = m.code; file = f; around = entered memory })
+
+-- its arguments stand in its parameters; where they do not fit it does not begin
+abbrev pub start : Place → Mach → List Value → Memory → Option State
+start c m arguments memory = begun m memory (put_all c.setting.end m.params arguments (λ n. None))

@@ -1,0 +1,61 @@
+//! The blocks of an allocation.
+ghost use Rattle.std.specs.Prelude.{◌≡◌, ◌<◌, ◌+◌, ◌++◌, [], ◌∷◌, IfOk};
+ghost use Rattle.mach_ir.specs.Blocks.{block_bytes, bytes_of};
+
+use std::alloc::{AllocError, Global};
+use std::marker::Model;
+
+/// A block that is allocated: the header word that it is to have, and the number of its cells.
+#[derive(Clone, Copy, PartialEq, Eq, Debug)]
+pub struct NewBlock {
+    pub header: u64,
+    pub cells: u32,
+}
+
+/// The blocks of one allocation, first to last. Contracts see them as a list. Their bytes are below 2^32.
+#[derive(Clone, Drop)]
+pub struct Blocks {
+    items: Vec<NewBlock>,
+    bytes: u32,
+}
+
+impl Model for Blocks {
+    ghost use Rattle.std.specs.Prelude.{◌≡◌, List};
+    ghost use Rattle.mach_ir.specs.Blocks.{bytes_of};
+    ghost use Rattle.mach_ir.specs.declared.blocks.NewBlock.{NewBlock};
+
+    ghost Value = { List NewBlock };
+
+    ghost view = { λ blocks. blocks.items.items };
+
+    ghost invariant = { λ blocks. blocks.bytes ≡ bytes_of blocks.items.items };
+}
+
+impl Blocks {
+    /// The one block.
+    pub fn one(alloc: Global, block: NewBlock) -> Result<Self, AllocError>
+        requires { block_bytes block < 4294967296 }
+        ensures { IfOk result (λ blocks. blocks ≡ block ∷ []) }
+    {
+        let mut items = Vec::new(alloc);
+        items.push(block)?;
+        Ok(Blocks {
+            items,
+            bytes: 8 * (block.cells + 1),
+        })
+    }
+
+    /// The blocks, in order.
+    pub fn as_slice(&self) -> &[NewBlock]
+        ensures { result.now ≡ self.now }
+    {
+        self.items.as_slice()
+    }
+
+    /// The bytes of all of them together, a header word for each among them.
+    pub fn bytes(&self) -> u32
+        ensures { result ≡ bytes_of self.now }
+    {
+        self.bytes
+    }
+}

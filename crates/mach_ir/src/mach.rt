@@ -1,0 +1,102 @@
+//! The instructions of Mach.
+//!
+//! The code of a function is one list in the order of the text. The structures of the text (if, switch,
+//! catch, try) are told by marks in it. A label is that of the place after the mark that has it first.
+
+use crate::op::{Op, Right};
+use crate::reg::Reg;
+use crate::seq::Seq;
+use bs_words::{CmpOp, Name, Ret};
+
+/// What an `if` tests.
+#[derive(Clone, Copy, PartialEq, Eq, Debug)]
+pub enum Test {
+    /// Its operand holds as a condition.
+    Holds,
+    /// Its operand fails as a condition.
+    Fails,
+    /// A signed comparison.
+    Signed(CmpOp, Right),
+    /// An unsigned comparison.
+    Unsigned(CmpOp, Right),
+}
+
+/// The marks of structures, and exits.
+///
+/// A body that comes to its end goes on at the next mark: an `else`, `case` or `with` takes it to the end
+/// of the structure.
+#[derive(Clone, Drop)]
+pub enum Mark {
+    /// An exit to a handler, which ends so many tries. Moves before it have put the values of the
+    /// handler's parameters there.
+    Exit {
+        label: u32,
+        tries: u32,
+    },
+    /// Goes on where the test holds, else at the label `otherwise`.
+    If {
+        test: Test,
+        otherwise: u32,
+    },
+    Else {
+        label: u32,
+        end: u32,
+    },
+    /// For each index from 0 on, the label of its case.
+    Switch(Seq<u32>),
+    /// `indexes` are those for which the switch comes here.
+    Case {
+        indexes: Seq<u32>,
+        label: u32,
+        end: u32,
+    },
+    Catch,
+    With {
+        label: u32,
+        end: u32,
+    },
+    /// Pushes the trap of its handler.
+    Try {
+        handler: u32,
+    },
+    /// The end of the body of the try with this handler: pops its trap, and goes on at the end.
+    Leave {
+        handler: u32,
+        end: u32,
+    },
+    /// What is raised comes here. The result is the raised value.
+    Handler {
+        label: u32,
+    },
+    End {
+        label: u32,
+    },
+}
+
+/// What an instruction of Mach does.
+#[derive(Clone, Drop)]
+pub enum MachOp {
+    Op(Op),
+    Mark(Mark),
+}
+
+/// An instruction: its operands and results are registers.
+#[derive(Clone, Drop)]
+pub struct Instr {
+    pub op: MachOp,
+    pub args: Seq<Reg>,
+    pub results: Seq<Reg>,
+}
+
+/// One function.
+#[derive(Clone, Drop)]
+pub struct Mach {
+    pub name: Name,
+    pub params: Seq<Reg>,
+    pub result: Ret,
+    /// Each label is below this number.
+    pub labels: u32,
+    /// For each of the colours the register of least number that is placed there.
+    pub colours: Seq<Reg>,
+    pub code: Seq<Instr>,
+}

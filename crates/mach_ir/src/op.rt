@@ -1,0 +1,91 @@
+//! The operations that Mach and Linear have in common, by families.
+//!
+//! Operands and results stand in the instruction. What an operation holds itself is what it is known by
+//! beside them: a constant, a symbol, a chunk, an offset, a row.
+
+use crate::blocks::Blocks;
+use crate::seq::Seq;
+use bs_words::{Chunk, Comp, IntOp, Name, Ret};
+
+/// How a value is copied: between registers, into a slot, or out of one. The three mean the same.
+#[derive(Clone, Copy, PartialEq, Eq, Debug)]
+pub enum CopyKind {
+    Move,
+    Spill,
+    Reload,
+}
+
+/// The right operand of an operator, a comparison or a bound test: the last register among the
+/// operands, or a constant that the machine has an immediate for.
+#[derive(Clone, Copy, PartialEq, Eq, Debug)]
+pub enum Right {
+    Register,
+    Constant(u64),
+}
+
+/// What reads registers alone, and writes one.
+#[derive(Clone, Drop)]
+pub enum Pure {
+    Copy(CopyKind),
+    /// A word.
+    Constant(u64),
+    /// The value of a symbol.
+    Symbol(Name),
+    /// An integer operator on two operands, a comparison that gives 1 or 0 among them.
+    Operator(IntOp, Right),
+}
+
+/// What reads or changes memory. An offset is in bytes, a word that wraps.
+#[derive(Clone, Drop)]
+pub enum Access {
+    /// From an address.
+    Load { chunk: Chunk, offset: u64 },
+    /// To an address: the first operand; the second is the value.
+    Store { chunk: Chunk, offset: u64 },
+    /// At least one block, and a result for each. The first gets the next serial, and lies at the highest address.
+    Alloc(Blocks),
+}
+
+/// Whom a call calls: a function by its symbol, or by the value of the first operand.
+#[derive(Clone, Drop)]
+pub enum Callee {
+    Symbol(Name),
+    Register,
+}
+
+/// What an external call is known by: its name, the component of each argument, and what it answers.
+#[derive(Clone, Drop)]
+pub struct External {
+    pub name: Name,
+    pub params: Seq<Comp>,
+    pub result: Ret,
+}
+
+/// Calls. `result` is what the call is written with; where it is no value, what the callee gives is dropped.
+#[derive(Clone, Drop)]
+pub enum Calling {
+    Call { callee: Callee, result: Ret },
+    /// The callee takes the place of this function.
+    TailCall { callee: Callee, result: Ret },
+    /// With `frame` set it is a frame point, and may raise.
+    External { row: External, frame: bool },
+}
+
+/// What may leave a straight run with no mark.
+#[derive(Clone, Copy, PartialEq, Eq, Debug)]
+pub enum Leaving {
+    /// The first operand is the bound, the second the index. It raises where the index is not below the bound.
+    Checkbound(Right),
+    Raise,
+    /// With the value of the function, or none.
+    Return,
+}
+
+/// An operation of both languages.
+#[derive(Clone, Drop)]
+pub enum Op {
+    Pure(Pure),
+    Access(Access),
+    Calling(Calling),
+    Leaving(Leaving),
+}

@@ -1,0 +1,4 @@
+//! Laws of runs of the machine: its run is that of its steps, one that is over stays over, and no call is forgotten.
+//!
+//! The crate holds definitions and laws alone.
+#![tactic(auto)]

@@ -1,5 +1,0 @@
-use Rattle.mover_schedule.proofs.Drawing.{generator-first}
-use Rattle.mover_schedule.proofs.asks.SeededAsks.new.Goals as goal
-
-pub returns : goal.returns
-returns c = generator-first c.args.seed _ c.seed_from_u64.ensures

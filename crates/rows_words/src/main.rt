@@ -1,0 +1,66 @@
+//! What the arithmetic on words and the sets of bits give for each line of standard input.
+//!
+//! A line is an operation with its operands: `add 1 2`, `sar 5 1` or `sext 255 8`, words being written without a sign;
+//! or `bits`, a size, and what is done with two sets `a` and `b` of numbers below that size: `a3` and `b3` put 3 in,
+//! `-3` takes it out of `a`, `|` puts all of `b` into `a`, `0` empties `a`, `?3` asks whether `a` has it and `>3` which
+//! is the first member of `a` from 3 on. The lines in `stdout` are those of the RISC-V manual's tables and of a script
+//! with integers of any size.
+#![tactic(auto)]
+
+mod sets;
+
+use anyhow::Result;
+use bs_words::{add, div, mul, mulh, rem, sar, sext, shl, shr, signed, sub};
+use sets::told_of_sets;
+use std::alloc::Global;
+use std::io::{self, BufRead, BufReader, BufWriter, Write};
+
+fn main(rt: HostRuntime) -> Result<()> {
+    let alloc = rt.alloc();
+    let mut out = BufWriter::new(alloc, rt.stdout())?;
+    for line in BufReader::new(alloc, rt.stdin())?.lines(alloc) {
+        let line = line?;
+        let told = match line.as_str().strip_prefix("bits ") {
+            Some(words) => told_of_sets(alloc, words)?,
+            None => told_of_words(alloc, line.as_str())?,
+        };
+        out.write_all(told.as_bytes())?;
+    }
+    out.flush()?;
+    Ok(())
+}
+
+/// What an operation gives, or `no row` where it is none or has no value on these operands.
+fn told_of_words(alloc: Global, line: &str) -> Result<String> {
+    let Some((operation, operands)) = line.split_once(' ') else {
+        return Ok(String::from_str(alloc, "no row\n")?);
+    };
+    let (left, right) = match operands.split_once(' ') {
+        Some((left, right)) => (left.parse::<u64>()?, right.parse::<u64>()?),
+        None => (operands.parse::<u64>()?, 0),
+    };
+    if operation == "signed" {
+        let value = signed(left);
+        return Ok(format!(in alloc; "{value}\n")?);
+    }
+    match given(operation, left, right) {
+        Some(word) => Ok(format!(in alloc; "{word}\n")?),
+        None => Ok(String::from_str(alloc, "no row\n")?),
+    }
+}
+
+fn given(operation: &str, a: u64, b: u64) -> Option<u64> {
+    match operation {
+        "add" => Some(add(a, b)),
+        "sub" => Some(sub(a, b)),
+        "mul" => Some(mul(a, b)),
+        "mulh" => Some(mulh(a, b)),
+        "div" if b != 0 => Some(div(a, b)),
+        "rem" if b != 0 => Some(rem(a, b)),
+        "shl" if b < 64 => Some(shl(a, b as u32)),
+        "shr" if b < 64 => Some(shr(a, b as u32)),
+        "sar" if b < 64 => Some(sar(a, b as u32)),
+        "sext" if 0 < b && b <= 64 => Some(sext(a, b as u32)),
+        _ => None,
+    }
+}

@@ -1,0 +1,170 @@
+//! The integer registers and what compiled code keeps in them.
+//!
+//! Their names are those of the calling convention (RISC-V ELF psABI, "Register Convention"). What they are
+//! used for is the convention of this compiler.
+
+/// An integer register, x0 to x31, in the order of their numbers.
+#[derive(Copy, Clone, PartialEq, Eq, Debug)]
+pub enum Register {
+    /// Reads 0, and takes nothing.
+    Zero,
+    /// The return address.
+    Ra,
+    /// The stack pointer.
+    Sp,
+    /// Not used.
+    Gp,
+    /// Not used.
+    Tp,
+    /// Scratch; the number of an external call, or the bytes asked for.
+    T0,
+    /// Scratch.
+    T1,
+    /// Scratch; the number of a service.
+    T2,
+    S0,
+    /// The trap pointer: the address of the innermost trap frame.
+    S1,
+    /// The first argument, the result, and the value that is raised.
+    A0,
+    A1,
+    A2,
+    A3,
+    A4,
+    A5,
+    A6,
+    A7,
+    S2,
+    S3,
+    S4,
+    S5,
+    S6,
+    S7,
+    S8,
+    S9,
+    /// The allocation pointer.
+    S10,
+    /// The address of the domain page.
+    S11,
+    T3,
+    T4,
+    T5,
+    T6,
+}
+
+/// The registers of the arguments of a call, in order.
+pub const ARGUMENT_REGISTERS: [Register; 16] = [
+    Register::A0,
+    Register::A1,
+    Register::A2,
+    Register::A3,
+    Register::A4,
+    Register::A5,
+    Register::A6,
+    Register::A7,
+    Register::S2,
+    Register::S3,
+    Register::S4,
+    Register::S5,
+    Register::S6,
+    Register::S7,
+    Register::S8,
+    Register::S9,
+];
+
+/// The twenty-one registers that hold the values of a function.
+pub const COLOURS: [Register; 21] = [
+    Register::A0,
+    Register::A1,
+    Register::A2,
+    Register::A3,
+    Register::A4,
+    Register::A5,
+    Register::A6,
+    Register::A7,
+    Register::S2,
+    Register::S3,
+    Register::S4,
+    Register::S5,
+    Register::S6,
+    Register::S7,
+    Register::S8,
+    Register::S9,
+    Register::T3,
+    Register::T4,
+    Register::T5,
+    Register::T6,
+    Register::S0,
+];
+
+/// What an external call destroys.
+pub const DESTROYED_BY_EXTERNAL: [Register; 12] = [
+    Register::A0,
+    Register::A1,
+    Register::A2,
+    Register::A3,
+    Register::A4,
+    Register::A5,
+    Register::A6,
+    Register::A7,
+    Register::T3,
+    Register::T4,
+    Register::T5,
+    Register::T6,
+];
+
+/// What a call keeps. It destroys every other register.
+pub const KEPT_BY_CALL: [Register; 4] = [Register::Sp, Register::S1, Register::S10, Register::S11];
+
+impl Register {
+    ghost use Rattle.std.specs.Prelude.{◌≡◌, ◌<◌};
+    ghost use Rattle.rv_isa.specs.Registers.{machine_name, number};
+
+    /// Its number, as the fields of an instruction have it.
+    pub fn number(self) -> u8
+        ensures exact { result ≡ number self }
+        ensures below { result < 32 }
+    {
+        self as u8
+    }
+
+    /// Its name in the calling convention.
+    pub fn name(self) -> &'static str
+        ensures { result.now ≡ machine_name self }
+    {
+        match self {
+            Register::Zero => "zero",
+            Register::Ra => "ra",
+            Register::Sp => "sp",
+            Register::Gp => "gp",
+            Register::Tp => "tp",
+            Register::T0 => "t0",
+            Register::T1 => "t1",
+            Register::T2 => "t2",
+            Register::S0 => "s0",
+            Register::S1 => "s1",
+            Register::A0 => "a0",
+            Register::A1 => "a1",
+            Register::A2 => "a2",
+            Register::A3 => "a3",
+            Register::A4 => "a4",
+            Register::A5 => "a5",
+            Register::A6 => "a6",
+            Register::A7 => "a7",
+            Register::S2 => "s2",
+            Register::S3 => "s3",
+            Register::S4 => "s4",
+            Register::S5 => "s5",
+            Register::S6 => "s6",
+            Register::S7 => "s7",
+            Register::S8 => "s8",
+            Register::S9 => "s9",
+            Register::S10 => "s10",
+            Register::S11 => "s11",
+            Register::T3 => "t3",
+            Register::T4 => "t4",
+            Register::T5 => "t5",
+            Register::T6 => "t6",
+        }
+    }
+}
