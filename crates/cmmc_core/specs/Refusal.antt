@@ -57,7 +57,8 @@ IsCheckRefusalRead check source (checked.Fault told) = Reads (λ text. HasFault 
 IsCheckRefusalRead check source checked.NotBuilt = Reads IsNotBuilt source
 IsCheckRefusalRead check source checked.UnknownEntry = Reads (HasNoEntry check) source
 IsCheckRefusalRead check source checked.ArgumentUnfit = Reads (IsUnfitFor check) source
-IsCheckRefusalRead check source (checked.TooLarge large) = Reads (λ text. IsTooLargeToCheck check text large) source
+IsCheckRefusalRead check source (checked.TooLarge large) =
+    Reads (λ text. IsTooLargeToCheck check text large) source
 IsCheckRefusalRead check source checked.OutOfMemory = ⊤
 
 -- why nothing is told of a source
@@ -99,7 +100,8 @@ pub record CutsRun (run : RunTree) (image : Tables) (out : Side) : Type 0 where
 abbrev pub IsRunRefusal : RunTree → Tables → Side → RunRefusal → Type 0
 IsRunRefusal run image out refusal.ReadFault = ⊥
 IsRunRefusal run image out (refusal.Image why) = ⊥
-IsRunRefusal run image out refusal.UnknownEntry = IsKept out × (func_named run.entry image.funcs ≡ None)
+IsRunRefusal run image out refusal.UnknownEntry =
+    IsKept out × (func_named run.entry image.funcs ≡ None)
 IsRunRefusal run image out refusal.ArgumentUnfit = IsKept out × IsUnfit run image
 IsRunRefusal run image out refusal.WriteFault = CutsRun run image out
 IsRunRefusal run image out refusal.OutOfMemory = IsKept out

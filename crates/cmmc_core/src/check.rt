@@ -33,7 +33,12 @@ pub fn check<S: Source, K: Sink, E: Sink>(
     out: &mut K,
     err: &mut E,
 ) -> u8
-    ensures { (line : List (List ℕ)) → IsCommand line (CheckCommand (check_view words.now)) → Ends line (effects (side (S.left source.old) (S.left source.new) (S.faults source.old) (S.faults source.new)) (side (K.held out.old) (K.held out.new) (K.faults out.old) (K.faults out.new)) (side (E.held err.old) (E.held err.new) (E.faults err.old) (E.faults err.new))) result }
+    ensures { (line : List (List ℕ))
+        → IsCommand line (CheckCommand (check_view words.now))
+        → Ends line
+        (effects (side S.left S.faults source.old source.new)
+        (side K.held K.faults out.old out.new) (side E.held E.faults err.old err.new))
+        result }
 {
     match check_source(alloc, words, source) {
         Ok(told) => match write_all(out, told.as_slice()) {
@@ -51,8 +56,12 @@ fn check_source<S: Source>(
     words: &CheckWords,
     source: &mut S,
 ) -> Result<bs_words::List<u8>, CheckFailure>
-    ensures told { IfOk result (λ lines. Reads (λ text. IsCheckOf (check_view words.now) text (contents lines)) (side (S.left source.old) (S.left source.new) (S.faults source.old) (S.faults source.new))) }
-    ensures failed { IfErr result (λ r. IsCheckFailure (check_view words.now) (side (S.left source.old) (S.left source.new) (S.faults source.old) (S.faults source.new)) r) }
+    ensures told { IfOk result (λ lines.
+        Reads (λ text. IsCheckOf (check_view words.now) text (contents lines))
+        (side S.left S.faults source.old source.new)) }
+    ensures failed { IfErr result (λ r.
+        IsCheckFailure (check_view words.now) (side S.left S.faults source.old source.new)
+        r) }
 {
     match read_text(alloc, source) {
         Ok(text) => match check_bytes(alloc, text.as_slice(), words) {

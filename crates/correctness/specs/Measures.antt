@@ -11,25 +11,32 @@ abbrev mutual
   total own (Name at name) = own (Name at name)
   total own (Nothing at) = own (Nothing at)
   total own (Float at word_at operands) = own (Float at word_at operands) + row_total own operands
-  total own (Let at bindings body) = own (Let at bindings body) + (bindings_total own bindings + total own body)
+  total own (Let at bindings body) =
+      own (Let at bindings body) + (bindings_total own bindings + total own body)
   total own (Assign at name_at name value) = own (Assign at name_at name value) + total own value
-  total own (Operator at op left right) = own (Operator at op left right) + (total own left + total own right)
+  total own (Operator at op left right) =
+      own (Operator at op left right) + (total own left + total own right)
   total own (Load at chunk address) = own (Load at chunk address) + total own address
-  total own (Store at chunk address value) = own (Store at chunk address value) + (total own address + total own value)
-  total own (Alloc at header_at header operands) = own (Alloc at header_at header operands) + row_total own operands
+  total own (Store at chunk address value) =
+      own (Store at chunk address value) + (total own address + total own value)
+  total own (Alloc at header_at header operands) =
+      own (Alloc at header_at header operands) + row_total own operands
   total own (App at callee arguments result result_at) =
       own (App at callee arguments result result_at) + (total own callee + row_total own arguments)
   total own (Extcall at frame name arguments result result_at) =
       own (Extcall at frame name arguments result result_at) + row_total own arguments
-  total own (Checkbound at bound index) = own (Checkbound at bound index) + (total own bound + total own index)
+  total own (Checkbound at bound index) =
+      own (Checkbound at bound index) + (total own bound + total own index)
   total own (Raise at value) = own (Raise at value) + total own value
   total own (Seq at elements) = own (Seq at elements) + row_total own elements
   total own (If at condition on_true on_false) =
       own (If at condition on_true on_false) + (total own condition + (total own on_true + total own on_false))
   total own (Switch at size_at size selector cases) =
       own (Switch at size_at size selector cases) + (total own selector + cases_total own cases)
-  total own (Catch at body handlers) = own (Catch at body handlers) + (total own body + handlers_total own handlers)
-  total own (Exit at label_at label arguments) = own (Exit at label_at label arguments) + row_total own arguments
+  total own (Catch at body handlers) =
+      own (Catch at body handlers) + (total own body + handlers_total own handlers)
+  total own (Exit at label_at label arguments) =
+      own (Exit at label_at label arguments) + row_total own arguments
   total own (Try at body name_at name handler) =
       own (Try at body name_at name handler) + (total own body + total own handler)
 
@@ -89,12 +96,14 @@ abbrev mutual
   tries_in (Load at chunk address) = tries_in address
   tries_in (Store at chunk address value) = max (tries_in address) (tries_in value)
   tries_in (Alloc at header_at header operands) = tries_in_row operands
-  tries_in (App at callee arguments result result_at) = max (tries_in callee) (tries_in_row arguments)
+  tries_in (App at callee arguments result result_at) =
+      max (tries_in callee) (tries_in_row arguments)
   tries_in (Extcall at frame name arguments result result_at) = tries_in_row arguments
   tries_in (Checkbound at bound index) = max (tries_in bound) (tries_in index)
   tries_in (Raise at value) = tries_in value
   tries_in (Seq at elements) = tries_in_row elements
-  tries_in (If at condition on_true on_false) = max (tries_in condition) (max (tries_in on_true) (tries_in on_false))
+  tries_in (If at condition on_true on_false) =
+      max (tries_in condition) (max (tries_in on_true) (tries_in on_false))
   tries_in (Switch at size_at size selector cases) = max (tries_in selector) (tries_in_cases cases)
   tries_in (Catch at body handlers) = max (tries_in body) (tries_in_handlers handlers)
   tries_in (Exit at label_at label arguments) = tries_in_row arguments
@@ -107,7 +116,8 @@ abbrev mutual
 
   pub tries_in_bindings : Bindings → ℕ
   tries_in_bindings NoBinding = 0
-  tries_in_bindings (Bind at name declared value rest) = max (tries_in value) (tries_in_bindings rest)
+  tries_in_bindings (Bind at name declared value rest) =
+      max (tries_in value) (tries_in_bindings rest)
 
   pub tries_in_cases : Cases → ℕ
   tries_in_cases NoCase = 0
@@ -115,7 +125,8 @@ abbrev mutual
 
   pub tries_in_handlers : Handlers → ℕ
   tries_in_handlers NoHandler = 0
-  tries_in_handlers (Handle at label params body rest) = max (tries_in body) (tries_in_handlers rest)
+  tries_in_handlers (Handle at label params body rest) =
+      max (tries_in body) (tries_in_handlers rest)
 
 abbrev pub tries : FunctionTree → ℕ
 tries f = tries_in f.body

@@ -1,9 +1,12 @@
 -- The state in which a run of a small file's image begins.
-use Rattle.std.proofs.Common.{◌≡◌, ℕ, zero, suc, ◌+◌, ◌-◌, ◌*◌, ◌/◌, ◌%◌, ◌^◌, ◌<◌, ◌≤◌, List, [], ◌∷◌, ◌++◌, length, replicate, slice_index, refl, ap, ◌∙◌, arith, length-append}
+use Rattle.std.proofs.Common.{◌≡◌, ℕ, zero, suc, ◌+◌, ◌-◌, ◌*◌, ◌/◌, ◌%◌, ◌^◌, ◌<◌, ◌≤◌, List, [], ◌∷◌, ◌++◌, true, length, map, replicate, slice_index, refl, ap, ◌∙◌, arith, length-append}
 use Rattle.std.specs.List.{AllByRecursion}
+use Rattle.std.proofs.lemmas.Bool.{and_right}
 use Rattle.std.proofs.lemmas.List.{length-replicate, get_or_append_left}
+use Rattle.bs_words.specs.Fits.{fits, type_of_comp}
 use Rattle.bs_words.specs.declared.types.Comp.{Comp}
-use Rattle.correctness.specs.Setting.{FitParameters}
+use Rattle.bs_words.specs.declared.values.Value.TheVariants.{Word}
+use Rattle.cmm_meaning.specs.Evaluation.{fit_parameters}
 use Rattle.rv_machine.specs.Loading.{IsRoom}
 use Rattle.image_form.specs.Tables.{Tables, Func}
 use Rattle.image_form.specs.Image.{AreTables}
@@ -25,7 +28,7 @@ words_first : (x : ℕ) (xs : List ℕ) → x < 2 ^ 64 → AllWords xs → AllWo
 words_first x xs small all zero = small
 words_first x xs small all (suc i) = all i
 
-words_by_parts : (xs : List ℕ) → AllByRecursion (λ x. x < 2 ^ 64) xs → AllWords xs
+pub words_by_parts : (xs : List ℕ) → AllByRecursion (λ x. x < 2 ^ 64) xs → AllWords xs
 words_by_parts [] all = words_none
 words_by_parts (x ∷ xs) all = words_first x xs all.0 (words_by_parts xs all.1)
 
@@ -58,17 +61,12 @@ padded_at (suc count) [] (suc j) lt = padded_at count [] j (omega arith)
 padded_at (suc count) (a ∷ args) zero lt = refl
 padded_at (suc count) (a ∷ args) (suc j) lt = padded_at count args j (omega arith)
 
-pub fit_words : (end : ℕ) (cs : List Comp) (args : List ℕ) → FitParameters end cs args → AllWords args
-fit_words end [] [] fit = words_none
-fit_words end [] (a ∷ args) fit = absurd fit
-fit_words end (c ∷ cs) [] fit = absurd fit
-fit_words end (c ∷ cs) (a ∷ args) fit = words_first a args fit.0 (fit_words end cs args fit.2)
-
-pub fit_length : (end : ℕ) (cs : List Comp) (args : List ℕ) → FitParameters end cs args → length args ≡ length cs
-fit_length end [] [] fit = refl
-fit_length end [] (a ∷ args) fit = absurd fit
-fit_length end (c ∷ cs) [] fit = absurd fit
-fit_length end (c ∷ cs) (a ∷ args) fit = ap suc (fit_length end cs args fit.2)
+pub fit_length : (end : ℕ) (cs : List Comp) (args : List ℕ) → fit_parameters end cs (map Word args) ≡ true → length args ≡ length cs
+fit_length end [] [] e = refl
+fit_length end [] (a ∷ args) e = cc
+fit_length end (c ∷ cs) [] e = cc
+fit_length end (c ∷ cs) (a ∷ args) e =
+    ap suc (fit_length end cs args (and_right (fits end (type_of_comp c) (Word a)) (fit_parameters end cs (map Word args)) e))
 
 -- ---- the registers
 

@@ -37,10 +37,15 @@ pub fn compile_small(alloc: Global, file: &SmallFile) -> Result<Image, BuildErro
     ensures is_image { IfOk result IsImage }
     ensures correct { IfOk result (λ image. IsCorrect (embedded_file (file_view file.now)) (tables image)) }
     ensures bounded { IfOk result (λ image. IsBounded (embedded_file (file_view file.now)) (tables image)) }
-    ensures frames { IfOk result (λ image. AllZip HasLeastFrame (functions (file_view file.now)) (tables image).funcs) }
+    ensures frames { IfOk result
+        (λ image. AllZip HasLeastFrame (functions (file_view file.now)) (tables image).funcs) }
     ensures keeps_limits { IfOk result (λ image. first_too_large (tables image) ≡ None) }
-    ensures large { (large : Large) → result ≡ Err (BuildError.TooLarge large) → first_too_large (compiled (file_view file.now)) ≡ Some large }
-    ensures roomy { IsRoomy (embedded_file (file_view file.now)) → (large : Large) → result ≢ Err (BuildError.TooLarge large) }
+    ensures large { (large : Large)
+        → result ≡ Err (BuildError.TooLarge large)
+        → first_too_large (compiled (file_view file.now)) ≡ Some large }
+    ensures roomy { IsRoomy (embedded_file (file_view file.now))
+        → (large : Large)
+        → result ≢ Err (BuildError.TooLarge large) }
 {
     if let Some(large) = too_large(file) {
         return Err(BuildError::TooLarge(large));

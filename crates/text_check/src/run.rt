@@ -26,7 +26,10 @@ pub fn told_of_run(
     requires data { data_fault_of (file_view file.now) ≡ None }
     requires typed { IsTyped file.now }
     requires fit { FitsEntry (file_view file.now) call.now.entry call.now.args.items }
-    ensures { IfOk result (λ told. contents told ≡ check.told_of_run (file_view file.now) (layout_view layout.now) call.now.entry call.now.args.items call.now.answers.items fuel) }
+    ensures { IfOk result (λ told.
+        contents told
+        ≡ check.told_of_run (file_view file.now) (layout_view layout.now) call.now.entry
+        call.now.args.items call.now.answers.items fuel) }
 {
     let run = eval(
         alloc,

@@ -49,10 +49,13 @@ pub enum Unready {
 /// not compiled yet. `OutOfMemory` where memory ran out before the answer is known.
 pub fn small_text(alloc: Global, text: &[u8]) -> Result<SmallText, Unready>
     ensures file { IfOk result (λ read. IsSmallFileOf text.now (file_view read.small)) }
-    ensures same { IfOk result (λ read. embedded_file (file_view read.small) ≡ whole.file_view (file_of (typed_of read.checked))) }
+    ensures same { IfOk result (λ read.
+        embedded_file (file_view read.small)
+        ≡ whole.file_view (file_of (typed_of read.checked))) }
     ensures small { IfOk result (λ read. IsSmall (file_view read.small)) }
     ensures typed { IfOk result (λ read. AreItemsAnnotated (contents (file_of (typed_of read.checked)).items)) }
-    ensures placed { IfOk result (λ read. data_fault_of (whole.file_view (file_of (typed_of read.checked))) ≡ None) }
+    ensures placed { IfOk result
+        (λ read. data_fault_of (whole.file_view (file_of (typed_of read.checked))) ≡ None) }
     ensures refused { IfErr result (λ r. IsUnready text.now r) }
 {
     let checked = match front(alloc, text) {
