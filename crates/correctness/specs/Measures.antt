@@ -1,60 +1,7 @@
 -- Measures of a text, by which an image is bounded.
 use Rattle.std.specs.Prelude.{ℕ, ◌+◌, max, true}
+use Rattle.cmm_tree.specs.Measures.{total}
 use Rattle.cmm_tree.specs.Tree.{Expression, Integer, Pointer, Symbol, Name, Nothing, Float, Let, Assign, Operator, Load, Store, Alloc, App, Extcall, Checkbound, Raise, Seq, If, Switch, Catch, Exit, Try, Expressions, NoMore, More, Bindings, NoBinding, Bind, Cases, NoCase, Choose, Handlers, NoHandler, Handle, FunctionTree}
-
--- the sum over the nodes of an expression of what each counts for
-abbrev mutual
-  pub total : (Expression → ℕ) → Expression → ℕ
-  total own (Integer at word) = own (Integer at word)
-  total own (Pointer at word) = own (Pointer at word)
-  total own (Symbol at name) = own (Symbol at name)
-  total own (Name at name) = own (Name at name)
-  total own (Nothing at) = own (Nothing at)
-  total own (Float at word_at operands) = own (Float at word_at operands) + row_total own operands
-  total own (Let at bindings body) =
-      own (Let at bindings body) + (bindings_total own bindings + total own body)
-  total own (Assign at name_at name value) = own (Assign at name_at name value) + total own value
-  total own (Operator at op left right) =
-      own (Operator at op left right) + (total own left + total own right)
-  total own (Load at chunk address) = own (Load at chunk address) + total own address
-  total own (Store at chunk address value) =
-      own (Store at chunk address value) + (total own address + total own value)
-  total own (Alloc at header_at header operands) =
-      own (Alloc at header_at header operands) + row_total own operands
-  total own (App at callee arguments result result_at) =
-      own (App at callee arguments result result_at) + (total own callee + row_total own arguments)
-  total own (Extcall at frame name arguments result result_at) =
-      own (Extcall at frame name arguments result result_at) + row_total own arguments
-  total own (Checkbound at bound index) =
-      own (Checkbound at bound index) + (total own bound + total own index)
-  total own (Raise at value) = own (Raise at value) + total own value
-  total own (Seq at elements) = own (Seq at elements) + row_total own elements
-  total own (If at condition on_true on_false) =
-      own (If at condition on_true on_false) + (total own condition + (total own on_true + total own on_false))
-  total own (Switch at size_at size selector cases) =
-      own (Switch at size_at size selector cases) + (total own selector + cases_total own cases)
-  total own (Catch at body handlers) =
-      own (Catch at body handlers) + (total own body + handlers_total own handlers)
-  total own (Exit at label_at label arguments) =
-      own (Exit at label_at label arguments) + row_total own arguments
-  total own (Try at body name_at name handler) =
-      own (Try at body name_at name handler) + (total own body + total own handler)
-
-  pub row_total : (Expression → ℕ) → Expressions → ℕ
-  row_total own NoMore = 0
-  row_total own (More e rest) = total own e + row_total own rest
-
-  pub bindings_total : (Expression → ℕ) → Bindings → ℕ
-  bindings_total own NoBinding = 0
-  bindings_total own (Bind at name declared value rest) = total own value + bindings_total own rest
-
-  pub cases_total : (Expression → ℕ) → Cases → ℕ
-  cases_total own NoCase = 0
-  cases_total own (Choose indexes body rest) = total own body + cases_total own rest
-
-  pub handlers_total : (Expression → ℕ) → Handlers → ℕ
-  handlers_total own NoHandler = 0
-  handlers_total own (Handle at label params body rest) = total own body + handlers_total own rest
 
 -- a frame point is an application, an allocation or a frame call
 abbrev pub is_frame_point : Expression → ℕ
@@ -68,13 +15,7 @@ abbrev pub indexes_of : Expression → ℕ
 indexes_of (Switch at size_at size selector cases) = size
 indexes_of _ = 0
 
-abbrev pub counts_one : Expression → ℕ
-counts_one e = 1
-
--- the nodes of a function's body, the frame points among them, and the sizes of its switches
-abbrev pub nodes : FunctionTree → ℕ
-nodes f = total counts_one f.body
-
+-- the frame points of a function's body, and the sizes of its switches
 abbrev pub frame_points : FunctionTree → ℕ
 frame_points f = total is_frame_point f.body
 

@@ -7,7 +7,8 @@ use Rattle.rv_isa.specs.Encoding.{encoded}
 use Rattle.rv_isa.specs.declared.instr.AluImmOp.TheVariants.{Addi}
 use Rattle.rv_isa.specs.declared.instr.AluOp.TheVariants.{Add, Sub}
 use Rattle.rv_isa.specs.declared.instr.Instr.TheVariants.{Jalr, OpImm}
-use Rattle.small_code.specs.Code.{argument_code, store_slot, is_among, index_of, constant, eleven_more, function_code, move_sp, load_slot, expression_code, frame_bytes, parameters, slots, a0, ra}
+use Rattle.rv_isa.specs.Registers.{a0, ra}
+use Rattle.small_code.specs.Code.{argument_code, store_slot, is_among, index_of, constant, eleven_more, function_code, move_sp, load_slot, expression_code, frame_bytes, parameters, slots}
 use Rattle.small_code.specs.Compiled.{function_words}
 use Rattle.small_code.specs.Names.{names_in}
 

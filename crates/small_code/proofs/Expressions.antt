@@ -7,7 +7,8 @@ use Rattle.small_code.specs.Tree.{SmallExpression, Integer, Name, Operator}
 use Rattle.rv_isa.specs.declared.instr.Instr.{Instr}
 use Rattle.rv_isa.specs.declared.instr.Instr.TheVariants.{Op}
 use Rattle.rv_machine.specs.Arithmetic.{alu}
-use Rattle.small_code.specs.Code.{constant, load_slot, store_slot, expression_code, index_of, row_of, t0, t2}
+use Rattle.rv_isa.specs.Registers.{t0, t2}
+use Rattle.small_code.specs.Code.{constant, load_slot, store_slot, expression_code, index_of, row_of}
 use Rattle.small_code.proofs.Values.{word_in, row-word, some_nodes}
 use Rattle.small_code.proofs.Steps.{Setting, View, Leads, then_leads}
 use Rattle.small_code.proofs.Instructions.{op_step}

@@ -12,7 +12,8 @@ use Rattle.rv_isa.specs.Encoding.{encoded}
 use Rattle.rv_isa.specs.declared.instr.AluOp.{AluOp}
 use Rattle.rv_isa.specs.declared.instr.AluOp.TheVariants.{Add, Sub}
 use Rattle.rv_isa.specs.declared.instr.Instr.TheVariants.{Jalr, Op}
-use Rattle.small_code.specs.Code.{constant, near_slot, load_slot, store_slot, move_sp, expression_code, index_of, row_of, argument_code, function_code, frame_bytes, parameters, slots, t0, t2, a0, ra}
+use Rattle.rv_isa.specs.Registers.{t0, t2, a0, ra}
+use Rattle.small_code.specs.Code.{constant, near_slot, load_slot, store_slot, move_sp, expression_code, index_of, row_of, argument_code, function_code, frame_bytes, parameters, slots}
 use Rattle.small_code.specs.Compiled.{function_words, row_at}
 
 length-constant : (rd word : ℕ) → length (constant rd word) ≡ 11

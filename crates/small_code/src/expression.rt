@@ -4,7 +4,8 @@ ghost use Rattle.small_code.specs.View.{expr_view};
 ghost use Rattle.small_code.specs.Small.{nodes};
 ghost use Rattle.rv_isa.specs.Encoding.{encoded};
 ghost use Rattle.small_code.specs.Emits.{Emits};
-ghost use Rattle.small_code.specs.Code.{expression_code, index_of, row_of, load_slot, store_slot, t0, t2};
+ghost use Rattle.rv_isa.specs.Registers.{t0, t2};
+ghost use Rattle.small_code.specs.Code.{expression_code, index_of, row_of, load_slot, store_slot};
 ghost use Rattle.small_code.specs.Names.{names_in};
 
 use crate::emit::Code;

@@ -4,7 +4,8 @@ ghost use Rattle.small_code.specs.View.{function_view};
 ghost use Rattle.small_code.specs.Small.{IsSmallFunction};
 ghost use Rattle.rv_isa.specs.Encoding.{encoded};
 ghost use Rattle.small_code.specs.Emits.{Emits};
-ghost use Rattle.small_code.specs.Code.{argument_code, a0};
+ghost use Rattle.rv_isa.specs.Registers.{a0};
+ghost use Rattle.small_code.specs.Code.{argument_code};
 ghost use Rattle.small_code.specs.Compiled.{function_words};
 
 use crate::emit::Code;
