@@ -96,7 +96,7 @@ of_body s names _ _ _ (Trees.later i b at app_at symbol_at p_at q_at result_at e
 
 -- ---- lets
 
--- behind a binding
+-- after a binding
 abbrev bound_as : List ℕ → Ty → Value → Here → World → Evaluation
 bound_as name t v h w = Gives None (with_bound (record { name = name; type = t; mutable = false } ∷ []) (v ∷ []) h) w
 

@@ -41,7 +41,7 @@ fn write_variable(text: &mut String, words: &mut Lcg64Xsh32) -> Result<(), Alloc
     }
 }
 
-/// Writes two expressions of this depth, with a space between them, behind what opens their form and before what
+/// Writes two expressions of this depth, with a space between them, after what opens their form and before what
 /// closes it.
 #[cycle(expression)]
 fn write_two(

@@ -48,7 +48,7 @@ pub data CheckCause (check : CheckTree) (source : Side) : ℕ → List ℕ → T
       → Reads (λ text. IsTooLargeToCheck check text large) source
       → CheckCause check source 8 (large_line large)
 
--- Why there is no output: the status that tells it, and the line.
+-- Why there is no output: the status that reports it, and the line.
 pub data Cause (words : List (List ℕ)) (source : Side) : ℕ → List ℕ → Type 0 where
   -- the words do not have the form of a command, or have a value that no command has; nothing was read
   no_command : (WellFormed words → ⊥) → IsKept source → Cause words source 2 (usage_line Words)

@@ -1,4 +1,4 @@
-//! The command `check`: a Cmm text in, what is told of a run of one of its functions out.
+//! The command `check`: a Cmm text in, what is reported of a run of one of its functions out.
 ghost use Rattle.std.specs.Prelude.{◌<◌, ℕ, List, All, IfOk, IfErr};
 ghost use Rattle.bs_words.specs.Contents.{contents};
 ghost use Rattle.command_line.specs.Command.{IsCommand, CheckCommand};
@@ -17,14 +17,14 @@ use command_line::CheckWords;
 use std::alloc::Global;
 use text_check::{CheckRefusal, check_text};
 
-/// Why nothing is told of a source.
+/// Why nothing is reported of a source.
 #[derive(Debug, Drop)]
 pub enum CheckFailure {
     ReadFault,
     Text(CheckRefusal),
 }
 
-/// Writes what is told of the run of the text that a source holds, or the line that tells why there is nothing, and
+/// Writes what is reported of the run of the text that a source holds, or the line that says why there is nothing, and
 /// answers the status.
 pub fn check<S: Source, K: Sink, E: Sink>(
     alloc: Global,
@@ -50,7 +50,7 @@ pub fn check<S: Source, K: Sink, E: Sink>(
     }
 }
 
-/// What is told of the run of the text that a source holds. At most one byte past the longest text is read.
+/// What is reported of the run of the text that a source holds. At most one byte past the longest text is read.
 fn check_source<S: Source>(
     alloc: Global,
     words: &CheckWords,
@@ -73,7 +73,7 @@ fn check_source<S: Source>(
     }
 }
 
-/// What is told of the run of a text, whose bytes are bytes.
+/// What is reported of the run of a text, whose bytes are bytes.
 fn check_bytes(
     alloc: Global,
     text: &[u8],

@@ -77,7 +77,7 @@ pub fn tell_refusal<E: Sink>(alloc: Global, err: &mut E, refusal: &Refusal) -> u
     }
 }
 
-/// Writes the line of a text of whose run nothing is told.
+/// Writes the line of a text of whose run nothing is reported.
 pub fn tell_check_refusal<E: Sink>(alloc: Global, err: &mut E, refusal: &CheckRefusal) -> u8
     ensures { TellsCheckRefusal (side E.held E.faults err.old err.new) refusal.now result }
 {

@@ -14,7 +14,7 @@ use Rattle.small_code.specs.Names.{names_in}
 
 -- ---- pieces
 
--- one piece behind another, where both were appended
+-- one piece after another, where both were appended
 joined : {X Y : Type 0} (f : X → Y) (xs ys : List X) (u v w : List Y) → v ≡ u ++ map f xs → w ≡ v ++ map f ys → w ≡ u ++ map f (xs ++ ys)
 joined f xs ys u v w p q =
     q ∙ ap (λ l. l ++ map f ys) p ∙ append_assoc u (map f xs) (map f ys) ∙ ap (λ l. u ++ l) (sym (map-append f xs ys))

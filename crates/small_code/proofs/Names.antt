@@ -90,7 +90,7 @@ value_behind (p ∷ ps) (v ∷ vs) rest name none =
     value_behind ps vs (parameter_bound p v ∷ rest) name (not_later (bytes_eq p.name name) (is_among (names_of_params ps) name) none)
     ∙ ap (λ b. found b v (value_of rest name)) (not_first (bytes_eq p.name name) (is_among (names_of_params ps) name) none)
 
--- the word of the first parameter, or of one behind it
+-- the word of the first parameter, or of one after it
 abbrev chosen_word : List ℕ → ℕ → Bool → Option Value
 chosen_word args k later = Some (Word (slice_index args (cond later (suc k) 0)))
 

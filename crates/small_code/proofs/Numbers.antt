@@ -17,7 +17,7 @@ use Rattle.small_code.specs.Compiled.{function_words}
 abbrev AllFit : List Instr → Type 0
 AllFit code = AllByRecursion InstrFits code
 
--- what holds of each element of two lists holds behind each other
+-- what holds of each element of two lists holds one after another
 pub all-append : {X : Type 0} (P : X → Type 0) (xs ys : List X) → AllByRecursion P xs → AllByRecursion P ys → AllByRecursion P (xs ++ ys)
 all-append P [] ys all more = more
 all-append P (x ∷ xs) ys all more = (all.0, all-append P xs ys all.1 more)

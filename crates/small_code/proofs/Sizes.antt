@@ -38,7 +38,7 @@ expression_length (Integer at word) = 15
 expression_length (Name at name) = 8
 expression_length (Operator at op left right) = expression_length right + expression_length left + 13
 
--- four pieces behind each other
+-- four pieces one after another
 length_four : {A : Type 0} (xs bs cs ds : List A) (d : A) → length (xs ++ (bs ++ (cs ++ (d ∷ ds)))) ≡ length xs + length bs + length cs + 1 + length ds
 length_four xs bs cs ds d =
     omega (arith, length-append xs (bs ++ (cs ++ (d ∷ ds))), length-append bs (cs ++ (d ∷ ds)), length-append cs (d ∷ ds))

@@ -142,7 +142,7 @@ module _ (s : Surroundings) (names : List (List ℕ)) (holds : List ℕ → ℕ)
                 ∙ ap (λ r. typed s.end (type_of_operator op) (with_value r (λ a h w. proper (apply op (sizes w.memory) a (Word (word_in holds right))) w (λ v. Gives (Some v) h w)))) stops.1,
           )
 
--- What is told of a run that makes no call and allocates nothing.
+-- What is reported of a run that makes no call and allocates nothing.
 pub record Tells (run : Run) (outcome : Outcome) (frame : ℕ) : Type 0 where
   pub outcome_is : run.outcome ≡ outcome
   pub no_calls : run.calls ≡ []

@@ -70,7 +70,7 @@ fit_length end (c ∷ cs) (a ∷ args) e =
 
 -- ---- the registers
 
--- the registers behind the arguments
+-- the registers after the arguments
 last_registers : List ℕ
 last_registers = young_top ∷ domain_start ∷ 0 ∷ 0 ∷ 0 ∷ 0 ∷ []
 

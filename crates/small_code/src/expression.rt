@@ -18,7 +18,7 @@ use std::alloc::AllocError;
 
 impl Code {
     /// The code of an expression whose nodes take the slots from `next` on. It answers the first slot
-    /// behind these; the expression's own value stands in the slot before.
+    /// after these; the expression's own value stands in the slot before.
     pub fn expression(
         &mut self,
         params: &[Param],

@@ -24,7 +24,7 @@ use cmm_tree::Param;
 use image_form::{FuncRow, Image, SymRow};
 use std::alloc::{AllocError, Global};
 
-/// The image of a file of a small text: the stub, the functions one behind the other in the order of the
+/// The image of a file of a small text: the stub, the functions one after the other in the order of the
 /// text, and the built-in data.
 ///
 /// The machine does with it what the text means, for every stack and heap that a run may have.
@@ -80,7 +80,7 @@ fn image(alloc: Global, file: &SmallFile) -> Result<Image, AllocError>
     })
 }
 
-/// The row of a function whose code begins behind so many words.
+/// The row of a function whose code begins after so many words.
 fn row(alloc: Global, function: &SmallFunction, words_before: usize) -> Result<FuncRow, AllocError>
     requires small { IsSmallFunction (function_view function.now) }
     requires fits { 4 * words_before < 2 ^ 32 }

@@ -1,4 +1,4 @@
-//! The text that is told of a run of a text.
+//! The text that is reported of a run of a text.
 ghost use Rattle.std.specs.Prelude.{◌≡◌, codes, map, IfOk};
 ghost use Rattle.std.specs.Fmt.{decimal, signed_decimal};
 ghost use Rattle.bs_words.specs.Contents.{contents};
@@ -13,7 +13,7 @@ use cmm_eval::{Eval, Outcome};
 use itoa::Buffer;
 use std::alloc::{AllocError, Global};
 
-/// What is told of a run of a text, which had so much fuel.
+/// What is reported of a run of a text, which had so much fuel.
 pub(crate) fn told_of(alloc: Global, eval: &Eval, fuel: u64) -> Result<List<u8>, AllocError>
     ensures { IfOk result (λ text. contents text ≡ check_text fuel (eval_view eval.now)) }
 {

@@ -1,4 +1,4 @@
-//! What is told of the run of a call.
+//! What is reported of the run of a call.
 ghost use Rattle.std.specs.Prelude.{◌≡◌, ℕ, None, IfOk};
 ghost use Rattle.bs_words.specs.Contents.{contents};
 ghost use Rattle.cmm_data.specs.Faults.{data_fault_of};
@@ -14,7 +14,7 @@ use cmm_eval::{Layout, eval};
 use cmm_tree::File;
 use std::alloc::{AllocError, Global};
 
-/// What is told of the run of a call with so much fuel: its outcome, and what it needs of stack, heap and fuel. The
+/// What is reported of the run of a call with so much fuel: its outcome, and what it needs of stack, heap and fuel. The
 /// frames and addresses of the file's functions are handed in.
 pub fn told_of_run(
     alloc: Global,

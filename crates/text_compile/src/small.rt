@@ -45,7 +45,7 @@ pub enum Unready {
 ///
 /// # Errors
 ///
-/// `Fault` exactly where the text has a fault, with the one that is told; else `NotBuilt` exactly where its file is
+/// `Fault` exactly where the text has a fault, with the one that is reported; else `NotBuilt` exactly where its file is
 /// not compiled yet. `OutOfMemory` where memory ran out before the answer is known.
 pub fn small_text(alloc: Global, text: &[u8]) -> Result<SmallText, Unready>
     ensures file { IfOk result (λ read. IsSmallFileOf text.now (file_view read.small)) }
