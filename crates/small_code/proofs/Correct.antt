@@ -14,6 +14,7 @@ use Rattle.cmm_data.specs.Placement.{data_end}
 use Rattle.cmm_tree.specs.Tree as whole
 use Rattle.correctness.specs.Correct.{EndsAlike, Alike, Forwards, Backwards, Accounted, IsCorrect}
 use Rattle.correctness.specs.Setting.{layout_of, Entered, AreWords}
+use Rattle.machine_laws.specs.Steps.{IsFrontOf}
 use Rattle.rv_machine.specs.Loading.{IsRoom}
 use Rattle.image_form.specs.Image.{AreTables, stub}
 use Rattle.image_form.specs.Tables.{Func}

@@ -1,7 +1,7 @@
 -- The state in which a run of a small file's image begins.
 use Rattle.std.proofs.Common.{◌≡◌, ℕ, zero, suc, ◌+◌, ◌-◌, ◌*◌, ◌/◌, ◌%◌, ◌^◌, ◌<◌, ◌≤◌, List, [], ◌∷◌, ◌++◌, true, length, map, replicate, slice_index, refl, ap, ◌∙◌, arith, length-append}
 use Rattle.std.specs.List.{AllByRecursion}
-use Rattle.std.proofs.lemmas.Bool.{and_right}
+use Rattle.std.proofs.lemmas.Bool.{and_parts}
 use Rattle.std.proofs.lemmas.List.{length-replicate, get_or_append_left}
 use Rattle.bs_words.specs.Fits.{fits, type_of_comp}
 use Rattle.bs_words.specs.declared.types.Comp.{Comp}
@@ -66,7 +66,7 @@ fit_length end [] [] e = refl
 fit_length end [] (a ∷ args) e = cc
 fit_length end (c ∷ cs) [] e = cc
 fit_length end (c ∷ cs) (a ∷ args) e =
-    ap suc (fit_length end cs args (and_right (fits end (type_of_comp c) (Word a)) (fit_parameters end cs (map Word args)) e))
+    ap suc (fit_length end cs args (and_parts (fits end (type_of_comp c) (Word a)) (fit_parameters end cs (map Word args)) e).1)
 
 -- ---- the registers
 
