@@ -7,7 +7,8 @@ use Rattle.rv_machine.specs.Space.{IsKept}
 use Rattle.alloc_service.specs.Attempt.{IsPrepared, Parts, moved_to}
 use Rattle.alloc_service.specs.Forward.{root_by, roots_by}
 use Rattle.alloc_service.specs.Plan.{plan_of}
-use Rattle.alloc_service.proofs.Placing.{new_bytes, new_kept, roots_are, small_of}
+use Rattle.machine_laws.proofs.Apart.{new_bytes, new_kept}
+use Rattle.alloc_service.proofs.Placing.{cells_of_small, roots_are, small_of}
 use Rattle.alloc_service.proofs.Served.{surveyed_by}
 use Rattle.alloc_service.proofs.attempt.attempt.Goals as goal
 
@@ -44,7 +45,7 @@ returns-clause-kept c = λ _.
     let prepared = subst (λ bs. IsPrepared c.args.heap bs (new_places c.args.heap c.args.number bs (plan_of c.args.plan bs)) c.prepare.new.space) c.deref.ensures.value c.prepare.ensures in
     let inside = ap (list_all (is_in_heap c.args.heap)) prepared.chosen ∙ prepared.inside in
     subst (AllByRecursion (IsKept c.args.heap)) (sym c.move_all.ensures.places)
-    (new_kept c.args.heap olds starts (small_of c.args.heap olds c.requires.placed) prepared.lengths inside)
+    (new_kept c.args.heap olds starts (cells_of_small olds (small_of c.args.heap olds c.requires.placed)) inside)
 
 pub returns-clause-bytes : goal.returns-clause-bytes
 returns-clause-bytes c =

@@ -10,7 +10,8 @@ use Rattle.rv_machine.specs.Placement.{placed_at}
 use Rattle.rv_machine.specs.Space.{IsKept}
 use Rattle.alloc_service.specs.Attempt.{Parts}
 use Rattle.alloc_service.specs.Forward.{IsLow, forward, poured, words_moved, words_of}
-use Rattle.alloc_service.proofs.Placing.{all_of, forward_is, kept_low, length-moved, moved_is, new_kept, new_words, same_function, small_of, words_bound}
+use Rattle.machine_laws.proofs.Apart.{all_of, new_kept}
+use Rattle.alloc_service.proofs.Placing.{cells_of_small, forward_is, kept_low, length-moved, moved_is, new_words, same_function, small_of, words_bound}
 use Rattle.alloc_service.proofs.Walking.{cells_rise, stacked}
 use Rattle.alloc_service.proofs.Words.{registers_now}
 use Rattle.alloc_service.proofs.attempt.move_all.Goals as goal
@@ -28,7 +29,7 @@ pour-requires-clause-small c =
     let placed : c.deref-7.result.now ≡ placed_at olds starts = c.deref-7.ensures.value ∙ c.place.ensures.placed ∙ ap (placed_at olds) c.deref-5.ensures.value in
     subst (AllByRecursion IsLow) (sym placed)
     (all_of (IsKept c.args.heap) IsLow (λ b k. kept_low c.args.heap b c.requires.most k) (placed_at olds starts)
-    (new_kept c.args.heap olds starts (small_of c.args.heap olds c.requires.placed) prepared.lengths prepared.inside))
+    (new_kept c.args.heap olds starts (cells_of_small olds (small_of c.args.heap olds c.requires.placed)) prepared.inside))
 
 pub pour-requires-clause-enough : goal.pour-requires-clause-enough
 pour-requires-clause-enough c =

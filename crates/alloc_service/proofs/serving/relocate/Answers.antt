@@ -10,7 +10,7 @@ use Rattle.rv_machine.specs.declared.cause.Cause.TheVariants.{BadRoot}
 use Rattle.alloc_service.specs.Attempt.{Parts, Tries}
 use Rattle.alloc_service.specs.Forward.{IsLow, IsPlaced}
 use Rattle.alloc_service.specs.Plan.{plan_of, services_counted, with_counts}
-use Rattle.alloc_service.proofs.Chain.{young_chain}
+use Rattle.machine_laws.proofs.Chain.{young_chain}
 use Rattle.alloc_service.proofs.Placing.{all_low, all_placed}
 use Rattle.alloc_service.proofs.Served.{bad_root, goes}
 use Rattle.alloc_service.proofs.serving.relocate.Goals as goal
