@@ -6,7 +6,7 @@ ghost use Rattle.rv_machine.specs.Observation.{blocks_at};
 ghost use Rattle.rv_machine.specs.Relocation.{emptied, with_blocks};
 ghost use Rattle.alloc_service.specs.Plan.{Keeps, Serves, both_counted, plan_of, services_counted, with_counts};
 
-use crate::attempt::attempt;
+use crate::attempt::{Caller, attempt};
 use crate::plan::Plan;
 use crate::service_end::ServiceEnd;
 use crate::young::{Taken, take_young};
@@ -97,18 +97,21 @@ fn relocate(machine: &mut Machine<'_>, plan: Plan<'_>, from: u64) -> ServiceEnd
     let number = machine.services;
     let address = machine.pc + 4;
     let sp = machine.registers[Register::Sp as usize];
+    let caller = Caller {
+        number,
+        base: machine.stack_base,
+        heap: machine.heap,
+        address,
+        sp,
+    };
     let Some(fine) = attempt(
         plan,
-        number,
         machine.image,
-        machine.stack_base,
-        machine.heap,
+        caller,
         &mut machine.registers,
         &mut machine.memory,
         &mut machine.space,
         &mut machine.blocks,
-        address,
-        sp,
     ) else {
         machine.blocks.truncate(count);
         return ServiceEnd::Stopped(Cause::BadFrame);

@@ -1,4 +1,4 @@
--- The chain of young blocks.
+-- The chain of young blocks, and blocks that lie one after the other.
 use Rattle.std.proofs.Common.{◌≡◌, ℕ, zero, suc, ◌+◌, ◌-◌, ◌*◌, ◌/◌, ◌%◌, ◌<◌, ◌≤◌, Bool, true, false, cond, ◌&&◌, ◌==◌, nat_le, List, [], ◌∷◌, ◌++◌, reverse, length, Option, Some, None, option_map, refl, ap, arith, ◌∙◌, sym, subst, append_assoc}
 use Rattle.std.specs.Option.{option_and_then}
 use Rattle.std.specs.List.{AllByRecursion}
@@ -8,7 +8,7 @@ use Rattle.rv_machine.specs.Hart.{Placed}
 use Rattle.rv_machine.specs.Memory.{Region, read}
 use Rattle.rv_machine.specs.Observation.{block_then, blocks_from, cells_of, young_blocks, young_start, young_top}
 use Rattle.rv_machine.specs.Placement.{bytes_of, bytes_used}
-use Rattle.alloc_service.specs.Young.{HasCells}
+use Rattle.rv_machine.specs.Space.{HasCells}
 
 pub one_more : (young : List Placed) (b : Placed) (o : Option (List Placed)) →
     option_map (λ bs. young ++ bs) (option_map (λ bs. b ∷ bs) o) ≡ option_map (λ bs. (young ++ b ∷ []) ++ bs) o
@@ -23,8 +23,15 @@ pub record IsYoung (b : Placed) : Type 0 where
   pub some : 1 ≤ b.words
   pub most : b.words ≤ 256
 
+-- blocks that lie one after the other from an address on
+abbrev pub AreInLine : ℕ → List Placed → Type 0
+AreInLine at [] = Unit {0}
+AreInLine at (b ∷ bs) = (b.start ≡ at + 8) × AreInLine (at + bytes_of b) bs
+
 pub record IsChain (at : ℕ) (bs : List Placed) : Type 0 where
+  pub low : 0x38000000 ≤ at
   pub each : AllByRecursion IsYoung bs
+  pub line : AreInLine at bs
   pub bytes : at + bytes_used bs ≡ young_top
 
 chain_then :
@@ -48,7 +55,9 @@ chain_then most m at header o bs a l later e = by_test (nat_le 1 (cells_of heade
         let rest = later cs refl in
         let total : at + 8 + 8 * cells_of header + bytes_used cs ≡ 0x38010000 = rest.bytes in
         subst (IsChain at) same (record {
+          low = l;
           each = (record { aligned = omega arith; low = omega arith; high = omega (arith, some, total); some = some; most = most' }, rest.each);
+          line = (refl, (let next : at + 8 + 8 * cells_of header ≡ at + (8 + 8 * cells_of header) = omega arith in subst (λ n. AreInLine n cs) next rest.line));
           bytes = omega (arith, total);
         })
 
@@ -64,7 +73,7 @@ chain (suc most) m at bs a l e = by_test (at == young_top) refl (read m at 8) e 
     by_test true t o e later =
         let same : [] ≡ bs = cc in
         let top : at ≡ 0x38010000 = eqb-true at young_top t in
-        subst (IsChain at) same (record { each = tt; bytes = omega (arith, top) })
+        subst (IsChain at) same (record { low = l; each = tt; line = tt; bytes = omega (arith, top) })
     by_test false t None e later = absurd (cc)
     by_test false t (Some header) e later = chain_then most m at header (blocks_from most m (at + 8 + 8 * cells_of header)) bs a l (later header) e
 
