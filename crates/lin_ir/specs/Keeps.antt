@@ -12,42 +12,53 @@ use Rattle.mach_ir.specs.Walks as walks
 use Rattle.mach_ir.specs.declared.mach.MachOp.{MachOp}
 use Rattle.mach_ir.specs.declared.mach.MachOp.TheVariants as instr
 use Rattle.mach_ir.specs.declared.mach.Mach.{Mach}
-use Rattle.lin_ir.specs.Meaning.{Names, State, start, run}
+use Rattle.mach_ir.specs.declared.op.Op.{Op}
+use Rattle.lin_ir.specs.Meaning.{NamedAt, State, start, run}
 use Rattle.lin_ir.specs.Descriptors.{NoAddrLive}
 use Rattle.lin_ir.specs.declared.lin.LinOp.TheVariants as lin
 use Rattle.lin_ir.specs.declared.lin.Line.{Line}
 use Rattle.lin_ir.specs.declared.lin.Lin.{Lin}
 
--- The Linear run tells what the Mach run does: calls and their memories, blocks, tries, end, units, and stack bytes.
+-- The Linear run reports what the Mach run does: calls and their memories, blocks, tries, end,
+-- units, and stack bytes.
 pub data Same : Run mach.State → Run State → Type 0 where
-  both_running : {s : mach.State} {u : State} {t : Tally} → s.around ≡ u.around → Same (Running s t) (Running u t)
+  both_running : {s : mach.State} {u : State} {t : Tally} → s.around ≡ u.around →
+      Same (Running s t) (Running u t)
   both_asking : {call : Asked} {t : Tally} → Same (Asking call t) (Asking call t)
   both_ended : {doing : Doing} {t : Tally} → Same (Ended doing t) (Ended doing t)
 
--- some number of steps of the Linear function tells what a run does
-pub record Told (c : Place) (named : Names) (m : Lin) (r : Run mach.State) (s : State) (t : Tally) : Type 0 where
+-- some number of steps of the Linear function reports what a run does
+pub record Comes (c : Place) (named : NamedAt) (m : Lin) (r : Run mach.State) (s : State)
+    (t : Tally) : Type 0 where
   pub steps : ℕ
   pub same : Same r (run c named m steps s t)
 
-pub record Begins (c : Place) (p : Mach) (q : Lin) (named : Names) (arguments : List Value) (memory : Memory) (doings : List Doing) (s : mach.State) : Type 0 where
+-- the Linear function begins where the Mach function does, and follows it from there
+pub record Begins (c : Place) (p : Mach) (q : Lin) (named : NamedAt) (arguments : List Value)
+    (memory : Memory) (doings : List Doing) (s : mach.State) : Type 0 where
   pub state : State
   pub begins : start c q arguments memory ≡ Some state
   pub follows : (n : ℕ) → Proper c p n s (first_tally c doings) →
-      Told c named q (mach.run c p n s (first_tally c doings)) state (first_tally c doings)
+      Comes c named q (mach.run c p n s (first_tally c doings)) state (first_tally c doings)
 
 -- some line of the function has an operation that names it
-pub record NamedIn (Named : MachOp → Type 0) (m : Lin) : Type 0 where
+pub record IsNamedIn (Named : MachOp → Type 0) (m : Lin) : Type 0 where
   pub line : Line
   pub among : Contains m.code line
-  pub op : _
+  pub op : Op
   pub is : line.op ≡ lin.Op op
   pub named : Named (instr.Op op)
 
--- With these names at its frame points, a Linear function does what a Mach function does wherever that is not stuck, so
--- it never reads poison there.
-pub record Keeps (p : Mach) (q : Lin) (named : Names) : Type 0 where
-  pub does : (c : Place) (arguments : List Value) (memory : Memory) (doings : List Doing) (s : mach.State) →
-      mach.start c p arguments memory ≡ Some s → Begins c p q named arguments memory doings s
-  pub symbols : (name : List ℕ) → NamedIn (NamesSymbol name) q → kept.Names (NamesSymbol name) p
-  pub externals : (row : External) → NamedIn (NamesExternal row) q → kept.Names (NamesExternal row) p
+-- With these names at its frame points, a Linear function does what a Mach function does wherever
+-- that is not stuck, so it never reads poison there.
+pub record Keeps (p : Mach) (q : Lin) (named : NamedAt) : Type 0 where
+  pub name : q.name ≡ p.name
+  pub result : q.result ≡ p.result
+  pub does : (c : Place) (arguments : List Value) (memory : Memory) (doings : List Doing)
+      (s : mach.State) → mach.start c p arguments memory ≡ Some s →
+      Begins c p q named arguments memory doings s
+  pub symbols : (name : List ℕ) → IsNamedIn (NamesSymbol name) q →
+      kept.IsNamedIn (NamesSymbol name) p
+  pub externals : (row : External) → IsNamedIn (NamesExternal row) q →
+      kept.IsNamedIn (NamesExternal row) p
   pub addrs : walks.NoAddrLive p → NoAddrLive q

@@ -1,0 +1,5 @@
+pub mod Simulate
+pub mod Places
+pub mod General
+pub mod Level
+pub mod Walking
