@@ -14,6 +14,7 @@ use Rattle.cmm_data.specs.Placement.{data_end}
 use Rattle.cmm_tree.specs.Tree as whole
 use Rattle.correctness.specs.Correct.{EndsAlike, Alike, Forwards, Backwards, Accounted, IsCorrect}
 use Rattle.correctness.specs.Setting.{layout_of, Entered, AreWords}
+use Rattle.machine_laws.proofs.Words.{words_by_parts}
 use Rattle.machine_laws.specs.Steps.{IsFrontOf}
 use Rattle.rv_machine.specs.Loading.{IsRoom}
 use Rattle.image_form.specs.Image.{AreTables, stub}
@@ -32,7 +33,7 @@ use Rattle.small_code.proofs.Pieces.{HasAt}
 use Rattle.small_code.proofs.Rows.{AtRow, at_row, are_rows}
 use Rattle.small_code.proofs.Source.{Tells, run_returns, run_goes_on}
 use Rattle.small_code.proofs.Types.{all_ints, by_recursion}
-use Rattle.small_code.proofs.Start.{words_by_parts, fit_length, setting, first_view, first_stands, first_entry}
+use Rattle.small_code.proofs.Start.{fit_length, setting, first_view, first_stands, first_entry}
 use Rattle.small_code.proofs.Steps.{Setting, View, Stands, Ends}
 use Rattle.small_code.proofs.Values.{word_in}
 use Rattle.small_code.proofs.Whole.{Comes, comes_at}
