@@ -1,4 +1,4 @@
--- What reading and taking the young blocks tells.
+-- What reading and taking the young blocks reports.
 use Rattle.std.specs.Prelude.{◌≡◌, ℕ, ◌≤◌, ◌<◌, Bool, true, false, List, ◌++◌, reverse, Option, Some, None}
 use Rattle.rv_machine.specs.Hart.{Placed}
 use Rattle.rv_machine.specs.Placement.{bytes_used}

@@ -28,7 +28,8 @@ fn prepare(plan: Plan<'_>, number: u64, heap: u64, space: &mut Space, blocks: &[
     requires most { heap ≤ 67108864 }
     requires placed { AllByRecursion (IsPlaced heap) blocks.now }
     requires fits { bytes_used blocks.now ≤ heap }
-    ensures { IsPrepared heap blocks.now (new_places heap number blocks.now (plan_of plan.entry blocks.now)) space.new }
+    ensures { IsPrepared heap blocks.now
+        (new_places heap number blocks.now (plan_of plan.entry blocks.now)) space.new }
 {
     choose(
         plan,
@@ -66,8 +67,8 @@ pub struct Caller {
     pub sp: u64,
 }
 
-/// Chooses new places for the blocks and moves them there, or reports what is amiss with the stack: nothing
-/// where it does not read as frames, `false` where something may not be where a frame names it. Then
+/// Chooses new places for the blocks and moves them there, or reports what is amiss with the stack:
+/// nothing where it does not read as frames, `false` where a frame names what may not be there. Then
 /// nothing has changed. The space is left as it was.
 pub fn attempt(
     plan: Plan<'_>,
@@ -89,7 +90,9 @@ pub fn attempt(
     requires fits { bytes_used blocks.old.items ≤ caller.heap }
     requires table { caller.heap / 16 ≤ vec_capacity blocks.old }
     requires zero { slice_index registers.old 0 ≡ 0 }
-    ensures tries { Tries result (tables image.now) caller (planned plan.entry caller blocks.old.items) (parts registers.old memory.old blocks.old.items) (parts registers.new memory.new blocks.new.items) }
+    ensures tries { Tries result (tables image.now) caller (planned plan.entry caller blocks.old.items)
+        (parts registers.old memory.old blocks.old.items)
+        (parts registers.new memory.new blocks.new.items) }
     ensures space { IsSpace caller.heap space.new }
     ensures table { caller.heap / 16 ≤ vec_capacity blocks.new }
     ensures zero { slice_index registers.new 0 ≡ 0 }
@@ -128,12 +131,15 @@ fn move_all(
     requires image { IsImage image.now }
     requires low { 0x38010000 ≤ caller.base }
     requires high { caller.base ≤ 0x40000000 }
-    requires prepared { IsPrepared caller.heap blocks.old.items (placed_at blocks.old.items space.old.starts.items) space.old }
+    requires prepared { IsPrepared caller.heap blocks.old.items
+        (placed_at blocks.old.items space.old.starts.items) space.old }
     requires most { caller.heap ≤ 67108864 }
     requires placed { AllByRecursion (IsPlaced caller.heap) blocks.old.items }
     requires far { AllByRecursion IsLow blocks.old.items }
     requires fits { bytes_used blocks.old.items ≤ caller.heap }
-    ensures moved { Moves (tables image.now) caller (placed_at blocks.old.items space.old.starts.items) (parts registers.old memory.old blocks.old.items) (parts registers.new memory.new blocks.new.items) }
+    ensures moved { Moves (tables image.now) caller (placed_at blocks.old.items space.old.starts.items)
+        (parts registers.old memory.old blocks.old.items)
+        (parts registers.new memory.new blocks.new.items) }
     ensures space { IsSpace caller.heap space.new }
     ensures capacity { vec_capacity blocks.new ≡ vec_capacity blocks.old }
     ensures zero { slice_index registers.new 0 ≡ slice_index registers.old 0 }
@@ -167,7 +173,8 @@ fn redirect_first(
     address: u64,
 )
     requires { IsImage image.now }
-    ensures exact { (base : ℕ) (sp : ℕ) → RedirectsFirst (forward table.now) (map desc (contents image.now.descs)) base memory.now registers.old registers.new address sp }
+    ensures exact { (base : ℕ) (sp : ℕ) → RedirectsFirst (forward table.now)
+        (map desc (contents image.now.descs)) base memory.now registers.old registers.new address sp }
     ensures zero { slice_index registers.new 0 ≡ slice_index registers.old 0 }
 {
     if address == CODE_START {

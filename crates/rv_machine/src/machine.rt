@@ -67,13 +67,25 @@ impl<'a> Model for Machine<'a> {
 
     ghost Value = { Hart };
 
-    ghost view = { λ m. record { image = tables m.image.now; registers = m.registers; pc = m.pc; memory = m.memory; stack_base = m.stack_base; heap = m.heap; blocks = m.blocks.items; retired = m.retired; services = m.services } };
+    ghost view = { λ m. record {
+      image = tables m.image.now;
+      registers = m.registers;
+      pc = m.pc;
+      memory = m.memory;
+      stack_base = m.stack_base;
+      heap = m.heap;
+      blocks = m.blocks.items;
+      retired = m.retired;
+      services = m.services;
+    } };
 
     ghost use Rattle.std.specs.Vec.{vec_capacity};
     ghost use Rattle.rv_machine.specs.Space.{IsHeap, IsSpace};
 
     // x0 holds 0, so that it is read as the others are. The stack lies above the heap.
-    ghost invariant = { λ m. (slice_index m.registers 0 ≡ 0) × IsImage m.image.now × IsHeap m.heap m.blocks.items × IsSpace m.heap m.space × (m.heap / 16 ≤ vec_capacity m.blocks) × (0x38010000 ≤ m.stack_base) × (m.stack_base ≤ 0x40000000) };
+    ghost invariant = { λ m. (slice_index m.registers 0 ≡ 0) × IsImage m.image.now
+        × IsHeap m.heap m.blocks.items × IsSpace m.heap m.space × (m.heap / 16 ≤ vec_capacity m.blocks)
+        × (0x38010000 ≤ m.stack_base) × (m.stack_base ≤ 0x40000000) };
 }
 
 impl<'a> Machine<'a> {
