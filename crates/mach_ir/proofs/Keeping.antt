@@ -4,7 +4,7 @@ use Rattle.cmm_meaning.specs.Extends.{shape_of}
 use Rattle.mach_ir.specs.Acts.{Around, with_block}
 use Rattle.mach_ir.specs.Runs.{Place, Tally, Run, Running, Asking, Ended, Wrong, first_tally}
 use Rattle.mach_ir.specs.Meaning.{State, run}
-use Rattle.mach_ir.specs.Keeps.{Proper, ahead, Ahead, Trails, Alike, both_running, both_asking, both_ended, Comes, Follows, Does, HasSlot, Keeps}
+use Rattle.mach_ir.specs.Keeps.{Proper, ahead, Ahead, Trails, Alike, SuitRound, both_running, both_asking, both_ended, Comes, Follows, Does, HasSlot, Keeps}
 use Rattle.mach_ir.specs.declared.blocks.NewBlock.{NewBlock}
 use Rattle.mach_ir.specs.declared.mach.Mach.{Mach}
 
@@ -34,17 +34,17 @@ trails_then x y z e q =
       blocks = e.blocks ∙ ap (λ shapes. shapes ++ e.more) q.blocks ∙ append_assoc (map shape_of z.memory.blocks) q.more e.more;
     }
 
-module _ (Suit : Around → Around → Type 0) where
-  pub alike_then : {x y z : Run State} → ((a b d : Around) → Suit a b → Suit b d → Suit a d) →
-      Alike Suit x y → Alike Suit y z → Alike Suit x z
-  alike_then h (both_running {s = s} {u = u} e) (both_running {u = v} q) = both_running (h s.around u.around v.around e q)
-  alike_then h both_asking both_asking = both_asking
-  alike_then h both_ended both_ended = both_ended
+pub alike_then : {S U V : Type 0} {One : S → U → Type 0} {Two : U → V → Type 0} {Both : S → V → Type 0} {x : Run S} {y : Run U} {z : Run V} →
+    ((a : S) (b : U) (d : V) → One a b → Two b d → Both a d) → Alike One x y → Alike Two y z → Alike Both x z
+alike_then h (both_running {s = s} {u = u} e) (both_running {u = v} q) = both_running (h s u v e q)
+alike_then h both_asking both_asking = both_asking
+alike_then h both_ended both_ended = both_ended
 
-  alike_self : ((a : Around) → Suit a a) → (x r : Run State) → (x ≡ Wrong → ⊥) → x ≡ r → Alike Suit r x
-  alike_self h x (Running u y) goes e = subst (Alike Suit (Running u y)) (sym e) (both_running (h u.around))
-  alike_self h x (Asking call y) goes e = subst (Alike Suit (Asking call y)) (sym e) both_asking
-  alike_self h x (Ended d y) goes e = subst (Alike Suit (Ended d y)) (sym e) both_ended
+module _ (Suit : Around → Around → Type 0) where
+  alike_self : ((a : Around) → Suit a a) → (x r : Run State) → (x ≡ Wrong → ⊥) → x ≡ r → Alike (SuitRound Suit) r x
+  alike_self h x (Running u y) goes e = subst (Alike (SuitRound Suit) (Running u y)) (sym e) (both_running (h u.around))
+  alike_self h x (Asking call y) goes e = subst (Alike (SuitRound Suit) (Asking call y)) (sym e) both_asking
+  alike_self h x (Ended d y) goes e = subst (Alike (SuitRound Suit) (Ended d y)) (sym e) both_ended
   alike_self h x Wrong goes e = absurd (goes e)
 
   comes_self : ((a : Around) → Suit a a) → (c : Place) (m : Mach) (n : ℕ) (s : State) (t : Tally) → Proper c m n s t → Comes Suit (run c m n s t) c m s t
@@ -68,8 +68,8 @@ module _ (c : Place) (p q r : Mach) (s u v : State) (t : Tally) where
       let x = (two less.steps less.proper).no_less in
       let y = (two more.steps more.proper).no_more in
       record {
-        no_less = record { steps = x.steps; alike = alike_then Ahead ahead_then less.alike x.alike; proper = x.proper };
-        no_more = record { steps = y.steps; alike = alike_then Trails trails_then more.alike y.alike; proper = y.proper };
+        no_less = record { steps = x.steps; alike = alike_then (λ a b d. ahead_then a.around b.around d.around) less.alike x.alike; proper = x.proper };
+        no_more = record { steps = y.steps; alike = alike_then (λ a b d. trails_then a.around b.around d.around) more.alike y.alike; proper = y.proper };
       }
 
 does_then : {p q r : Mach} → Does p q → Does q r → Does p r

@@ -82,19 +82,22 @@ pub record Trails (x y : Around) : Type 0 where
   pub more : List Shape
   pub blocks : map shape_of x.memory.blocks ≡ map shape_of y.memory.blocks ++ more
 
--- The second run reports what the first does: calls and their memories, end, units, and stack
--- bytes; and what is round a running function suits.
-pub data Alike (Suit : Around → Around → Type 0) : Run State → Run State → Type 0 where
-  both_running : {s u : State} {t : Tally} → Suit s.around u.around →
-      Alike Suit (Running s t) (Running u t)
+-- The second run, of the same language or the next, reports what the first does: calls and their
+-- memories, end, units, and stack bytes; and running states suit each other.
+pub data Alike {S U : Type 0} (Suit : S → U → Type 0) : Run S → Run U → Type 0 where
+  both_running : {s : S} {u : U} {t : Tally} → Suit s u → Alike Suit (Running s t) (Running u t)
   both_asking : {call : Asked} {t : Tally} → Alike Suit (Asking call t) (Asking call t)
   both_ended : {doing : Doing} {t : Tally} → Alike Suit (Ended doing t) (Ended doing t)
+
+-- what is round two states suits
+abbrev pub SuitRound : (Around → Around → Type 0) → State → State → Type 0
+SuitRound Suit s u = Suit s.around u.around
 
 -- some number of steps of a function comes to such a run, and is nowhere stuck
 pub record Comes (Suit : Around → Around → Type 0) (r : Run State) (c : Place) (m : Mach)
     (s : State) (t : Tally) : Type 0 where
   pub steps : ℕ
-  pub alike : Alike Suit r (run c m steps s t)
+  pub alike : Alike (SuitRound Suit) r (run c m steps s t)
   pub proper : Proper c m steps s t
 
 -- Wherever the first is not stuck in n steps, the second comes to a run that has allocated no less,

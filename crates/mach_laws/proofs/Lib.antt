@@ -3,3 +3,5 @@ pub mod Places
 pub mod General
 pub mod Level
 pub mod Walking
+pub mod Leads
+pub mod Grows

@@ -4,7 +4,7 @@ use Rattle.cmm_meaning.specs.State.{Doing, Asked}
 use Rattle.mach_ir.specs.Acts.{Around}
 use Rattle.mach_ir.specs.Runs.{Place, Step, Continues, Pays, Deepens, Waits, Finishes, FinishesRaising, IsStuck, Tally, Run, Running, Asking, Ended, Wrong, paid, came_back, handed, onward}
 use Rattle.mach_ir.specs.Meaning.{State, step, run}
-use Rattle.mach_ir.specs.Keeps.{ValsWritten, OriginsAgree, wrote_unless, wrote_at, just_written, Proper, Alike, both_running, both_asking, both_ended, Comes}
+use Rattle.mach_ir.specs.Keeps.{ValsWritten, OriginsAgree, wrote_unless, wrote_at, just_written, Proper, Alike, SuitRound, both_running, both_asking, both_ended, Comes}
 use Rattle.mach_ir.specs.declared.reg.Reg.{Reg}
 use Rattle.mach_ir.specs.declared.mach.Mach.{Mach}
 
@@ -63,7 +63,7 @@ ended_wrong d t e = cc
 running_wrong : (s : State) (t : Tally) → Running s t ≡ Wrong → ⊥
 running_wrong s t e = cc
 
-pub alike_goes : (Suit : Around → Around → Type 0) {a b : Run State} → Alike Suit a b → b ≡ Wrong → ⊥
+pub alike_goes : (Suit : Around → Around → Type 0) {a b : Run State} → Alike (SuitRound Suit) a b → b ≡ Wrong → ⊥
 alike_goes Suit (both_running {u = u} {t = t} e) q = running_wrong u t q
 alike_goes Suit (both_asking {call = call} {t = t}) q = asking_wrong call t q
 alike_goes Suit (both_ended {doing = d} {t = t}) q = ended_wrong d t q
@@ -101,12 +101,12 @@ module _ (c : Place) (p q : Mach) (Suit : Around → Around → Type 0) (R : Sta
 
   record Tells (r : Run State) (at : ℕ → Run State) : Type 0 where
     count : ℕ
-    alike : Alike Suit r (at count)
+    alike : Alike (SuitRound Suit) r (at count)
     fine : Fine q count at
 
   record TellsFrom (r : Run State) (xs : List Reg) (at : ℕ → Run State) : Type 0 where
     count : ℕ
-    alike : Alike Suit r (at count)
+    alike : Alike (SuitRound Suit) r (at count)
     fine : FineFrom q count xs at
 
   module _ (closed : Closed) where
