@@ -14,7 +14,9 @@ use Rattle.rv_machine.specs.Hart.{register, sets, executed, loads, stores}
 use Rattle.rv_machine.specs.Memory.{code_region, code_start, loaded, stored}
 use Rattle.rv_machine.specs.Run.{perhaps_asked, after_next, after}
 use Rattle.small_code.proofs.Memory.{loaded_slot, stored_slot}
-use Rattle.small_code.proofs.Steps.{Setting, View, Leads, Instruction, AllWords, SetsRegister, held, register_held, held_word, set_words, with_set, set_step, one_step, perhaps_stands, at}
+use Rattle.rv_machine.specs.Sound.{AllWords}
+use Rattle.machine_laws.proofs.Words.{set_words}
+use Rattle.small_code.proofs.Steps.{Setting, View, Leads, Instruction, SetsRegister, held, register_held, held_word, with_set, set_step, one_step, perhaps_stands, at}
 
 -- an immediate whose top bit is clear is itself
 pub imm_small : (imm : ℕ) → imm < 2048 → imm_i imm ≡ imm
