@@ -13,7 +13,7 @@ use Rattle.rv_machine.specs.Loading.{IsRoom}
 use Rattle.image_form.specs.Tables.{Tables, Func}
 use Rattle.image_form.specs.Image.{AreTables}
 use Rattle.rv_machine.specs.Memory.{code_region, code_start}
-use Rattle.rv_machine.specs.Observation.{young_start, young_top}
+use Rattle.rv_machine.specs.Observation.{young_start}
 use Rattle.rv_machine.specs.Run.{Schedule}
 use Rattle.rv_machine.specs.Services.{filler}
 use Rattle.rv_machine.specs.Sound.{AllWords}

@@ -1,5 +1,5 @@
 -- How the machine goes on from an instruction that stands at its place, under every schedule.
-use Rattle.std.proofs.Common.{◌≡◌, ◌≢◌, ℕ, zero, suc, ◌+◌, ◌-◌, ◌*◌, ◌/◌, ◌%◌, ◌^◌, ◌<◌, ◌≤◌, Bool, true, false, cond, ◌&&◌, List, [], ◌∷◌, slice_get, slice_index, slice_set, Some, refl, sym, ap, ◌∙◌, subst, arith, nat_lt, ◌==◌}
+use Rattle.std.proofs.Common.{◌≡◌, ◌≢◌, ℕ, zero, suc, ◌+◌, ◌-◌, ◌*◌, ◌/◌, ◌%◌, ◌^◌, ◌<◌, ◌≤◌, Bool, true, false, cond, ◌&&◌, List, [], slice_get, slice_index, Some, refl, sym, ap, ◌∙◌, subst, arith, nat_lt, ◌==◌}
 use Rattle.std.proofs.lemmas.Bool.{le-leb, le-ltb, lt-ltb, eq-eqb, ne_eqb, and_from, and_left, and_right, cond-true, cond-false}
 use Rattle.std.proofs.Common.{◌⊎◌, inl, inr}
 use Rattle.bs_words.specs.declared.types.Ret.{Ret}
@@ -11,9 +11,11 @@ use Rattle.machine_laws.proofs.Words.{with_words}
 use Rattle.rv_machine.specs.Hart.{Hart, register, with_register, sets, executed, decoded_next, fetched, fetch, hart}
 use Rattle.rv_machine.specs.Memory.{code_region, code_start}
 use Rattle.rv_machine.specs.Run.{Schedule, asked, perhaps_asked, after_next, after}
+use Rattle.rv_machine.specs.Sound.{AllWords}
 use Rattle.rv_machine.specs.Services.{End, Machine, Going, Over, StackOut}
 use Rattle.rv_machine.specs.Sound.{AllWords}
 use Rattle.rv_machine.specs.Start.{domain_start, limit_asked}
+use Rattle.machine_laws.proofs.Words.{with_words}
 use Rattle.small_code.proofs.Memory.{HasStack, past, memory_asked}
 
 -- What stays during a run: the stack is `bytes` bytes from `base` on.
