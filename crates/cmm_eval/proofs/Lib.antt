@@ -10,6 +10,8 @@ pub mod Listed
 pub mod Operands
 pub mod Ordered
 pub mod Turns
+pub mod Meeting
+pub mod Passing
 pub mod Called
 pub mod Ended
 pub mod Leaving
