@@ -1,5 +1,5 @@
 -- A tail call: what follows in the caller is tests, and so the callee may take its place.
-use Rattle.std.proofs.Common.{◌≡◌, ◌∙◌, ℕ, zero, suc, Bool, true, List, [], ◌∷◌, ◌++◌, Option, Some, None, refl, ap, sym, subst}
+use Rattle.std.proofs.Common.{◌≡◌, ◌∙◌, ℕ, zero, suc, ◌-◌, ◌<◌, ◌≤◌, Bool, true, List, [], ◌∷◌, ◌++◌, Option, Some, None, length, drop, drop-cons, get_or, refl, ap, sym, subst, arith}
 use Rattle.std.specs.Borrow.{Bor}
 use Rattle.bs_words.specs.declared.types.Ret.{Ret}
 use Rattle.bs_words.specs.declared.types.Ty.{Ty}
@@ -132,10 +132,10 @@ catch_passes within turns level tries tests m = record {
 -- ---- frames that only test
 
 -- between a callee and this place there are these tests at first, and all in all those
-pub record Follows (frames : List Frame) (first tests : Tests) : Type 0 where
+pub record Follows (frames : List Frame) (first all : Tests) : Type 0 where
   pub stays : (s : Surroundings) (h : Here) (e : Evaluation) → NeverExits (resume s frames (returns s first h e))
   pub tests : (s : Surroundings) (kept h : Here) (e : Evaluation) →
-      back_from_call kept (resume s frames (returns s first h e)) ≡ returns s tests kept e
+      back_from_call kept (resume s frames (returns s first h e)) ≡ returns s all kept e
 
 pub follows_none : (tests : Tests) → Follows [] tests tests
 follows_none tests = record {
@@ -152,6 +152,14 @@ follows_more f frames first before after tests p q m = record {
       ∙ ap (λ (x : Evaluation). and_then x (λ v h w. meets s.end after v h w)) (p.tests s kept h e)
       ∙ returns_then s before after tests m kept e;
 }
+
+-- one frame before these
+pub frame_at : (xs : List Frame) (left : ℕ) (f : Frame) → 0 < left → left ≤ length xs → f ≡ get_or xs (left - 1) f →
+    drop (left - 1) xs ≡ f ∷ drop left xs
+frame_at xs left f some within at =
+    let lt : left - 1 < length xs = omega arith in
+    let e : suc (left - 1) ≡ left = omega arith in
+    drop-cons xs (left - 1) f lt ∙ ap (λ y. y ∷ drop (suc (left - 1)) xs) (sym at) ∙ ap (λ n. f ∷ drop n xs) e
 
 resume_append : (s : Surroundings) (outer inner : List Frame) (e : Evaluation) → resume s (outer ++ inner) e ≡ resume s outer (resume s inner e)
 resume_append s [] inner e = refl

@@ -157,7 +157,7 @@ impl<'a> Machine<'a> {
     ) -> Result<Now<'a>, AllocError>
         ensures { IfOk result (λ now. (s : evaluation.Surroundings) →
             stands_in s self.new now ≡ goes_on_in s self.old (λ h w.
-            returned written h (activated_held s callee.frame
+            returned written h (activated_held s callee.entry.frame
             (Some callee.entry.function.now) arguments.now (stack_below tail h) w))) }
     {
         let below = self.stack_below(tail)?;
@@ -205,14 +205,16 @@ impl<'a> Machine<'a> {
         let mut left = self.frames.len();
         while left > 0 {
             left -= 1;
-            if let Step::Return { tests: after, .. } = &mut self.frames[left].step {
-                *after = before.then(*after);
-                self.frames.truncate(left + 1);
-                return true;
-            }
             match self.frames[left].step.tests() {
                 Some(after) => before = before.then(after),
-                None => return false,
+                None => {
+                    let Step::Return { tests: after, .. } = &mut self.frames[left].step else {
+                        return false;
+                    };
+                    *after = before.then(*after);
+                    self.frames.truncate(left + 1);
+                    return true;
+                }
             }
         }
         false

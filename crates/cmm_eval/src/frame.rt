@@ -1,5 +1,5 @@
 //! What is still to be done with what an evaluation gives.
-ghost use Rattle.std.specs.Prelude.{MatchOption, Unit};
+ghost use Rattle.std.specs.Prelude.{MatchOption};
 ghost use Rattle.cmm_eval.specs.Passing.{Passes};
 
 use crate::here::Here;
