@@ -24,7 +24,7 @@ use Rattle.cmm_tree.specs.declared.expr.Form.{Form}
 use Rattle.cmm_tree.specs.declared.file.Function.{Function}
 use Rattle.std.specs.Borrow.{Bor}
 use Rattle.cmm_meaning.specs.State.{World, Here, bound, deepened}
-use Rattle.cmm_meaning.specs.Evaluation.{NoAnswer, NotProper, Evaluation, Gives, Raises, Stops, Surroundings, and_then, back_from_call, as_written, stack_below, fit_parameters, scoped_parameter, tested}
+use Rattle.cmm_meaning.specs.Evaluation.{NoAnswer, NotProper, Evaluation, Gives, Raises, Stops, Surroundings, back_from_call, as_written, stack_below, fit_parameters, scoped_parameter, tested}
 use Rattle.cmm_meaning.specs.Run.{nobody, answered, frame_answered, answered_as, given_back, made}
 use Rattle.cmm_eval.specs.Outside.{call_seen, returned}
 use Rattle.cmm_eval.specs.Passing.{ComesBack, TakesPlace}

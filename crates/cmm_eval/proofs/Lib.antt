@@ -10,7 +10,6 @@ pub mod Listed
 pub mod Operands
 pub mod Ordered
 pub mod Turns
-pub mod Meeting
 pub mod Passing
 pub mod Called
 pub mod Ended

@@ -15,6 +15,7 @@ use Rattle.cmm_meaning.specs.Evaluation.{Evaluated, Evaluation, Gives, Exits, Ra
 use Rattle.cmm_eval.specs.declared.group.Group.TheVariants as group
 use Rattle.cmm_eval.specs.Groups.{group_of}
 use Rattle.cmm_eval.specs.Held.{held, inside, waiting_held, filled_held}
+use Rattle.cmm_eval.proofs.Listed.{then_same}
 use Rattle.cmm_eval.specs.Filled.{operands_of, operated_by, fills_in, after_waiting, waits_for}
 
 -- ---- what goes on

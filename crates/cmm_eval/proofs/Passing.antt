@@ -1,22 +1,19 @@
 -- A tail call: what follows in the caller is tests, and so the callee may take its place.
-use Rattle.std.proofs.Common.{◌≡◌, ◌∙◌, ℕ, zero, suc, ◌-◌, ◌<◌, ◌≤◌, Bool, true, List, [], ◌∷◌, ◌++◌, Option, Some, None, length, drop, drop-cons, get_or, refl, ap, sym, subst, arith}
+use Rattle.std.proofs.Common.{◌≡◌, ◌∙◌, ℕ, suc, ◌-◌, ◌<◌, ◌≤◌, Bool, List, [], ◌∷◌, ◌++◌, Option, length, drop, drop-cons, get_or, refl, ap, sym, arith}
 use Rattle.std.specs.Borrow.{Bor}
 use Rattle.bs_words.specs.declared.types.Ret.{Ret}
-use Rattle.bs_words.specs.declared.types.Ty.{Ty}
 use Rattle.bs_words.specs.declared.values.Value.{Value}
 use Rattle.cmm_tree.specs.declared.expr.Form.{Form}
 use Rattle.cmm_meaning.specs.State.{World, Here}
-use Rattle.cmm_meaning.specs.Choices.{Ready}
-use Rattle.cmm_meaning.specs.Evaluation.{Body, Evaluation, Gives, Exits, Raises, Stops, Surroundings, and_then, back_from_call, as_written, of_type, back, caught}
+use Rattle.cmm_meaning.specs.Evaluation.{Evaluation, Gives, Exits, Raises, Stops, Surroundings, and_then, back_from_call, as_written}
 use Rattle.cmm_meaning.specs.Run.{finished}
 use Rattle.cmm_meaning.specs.Layout.{Layout}
 use Rattle.cmm_eval.specs.Outside.{returned}
-use Rattle.cmm_eval.specs.Filled.{does, fills, resume, handlers_of}
+use Rattle.cmm_eval.specs.Filled.{does, fills, resume}
 use Rattle.cmm_eval.specs.Meets.{judged, verdict_on, meets}
 use Rattle.cmm_eval.specs.Passing.{returns, NeverExits, Passes, TakesPlace}
 use Rattle.cmm_eval.specs.Views.{here_view}
 use Rattle.cmm_eval.specs.declared.frame.Frame.{Frame}
-use Rattle.cmm_eval.specs.declared.frame.Step.{Step}
 use Rattle.cmm_eval.specs.declared.frame.Step.TheVariants as step
 use Rattle.cmm_eval.specs.declared.here.Here as here
 use Rattle.cmm_eval.specs.declared.tests.Tests.{Tests}
@@ -77,57 +74,6 @@ returns_written s tests written m h (Gives v i w) = m s.end v h w
 returns_written s tests written m h (Exits label values i w) = refl
 returns_written s tests written m h (Raises v i w) = refl
 returns_written s tests written m h (Stops why w) = refl
-
--- ---- steps that only test
-
-pub typed_passes : (type : Ty) (tests : Tests) → Meets tests (λ end v h w. of_type end type v h w) → Passes (step.Typed type) tests
-typed_passes type tests m = record { stays = typed_stays; tests = typed_tests; }
-  where
-    typed_stays : (s : Surroundings) (f : Form) (tail : Bool) (e : Evaluation) → NeverExits e → NeverExits (does s (step.Typed type) f tail e)
-    typed_stays s f tail (Gives v h w) n = subst NeverExits (m s.end v h w) (never_judged (verdict_on tests s.end v) v h w)
-    typed_stays s f tail (Exits label values h w) n = n
-    typed_stays s f tail (Raises v h w) n = tt
-    typed_stays s f tail (Stops why w) n = tt
-
-    typed_tests : (s : Surroundings) (f : Form) (tail : Bool) (h : Here) (e : Evaluation) → NeverExits e →
-        back_from_call h (does s (step.Typed type) f tail e) ≡ returns s tests h e
-    typed_tests s f tail h (Gives v i w) n = ap (back_from_call h) (sym (m s.end v i w)) ∙ back_judged (verdict_on tests s.end v) v h i w
-    typed_tests s f tail h (Exits label values i w) n = absurd n
-    typed_tests s f tail h (Raises v i w) n = refl
-    typed_tests s f tail h (Stops why w) n = refl
-
-pub scope_passes : (level tries : ℕ) (tests : Tests) → Meets tests (λ end v h w. Gives v h w) → Passes (step.Scope level tries) tests
-scope_passes level tries tests m = record { stays = scope_stays; tests = scope_tests; }
-  where
-    scope_stays : (s : Surroundings) (f : Form) (tail : Bool) (e : Evaluation) → NeverExits e → NeverExits (does s (step.Scope level tries) f tail e)
-    scope_stays s f tail (Gives v h w) n = tt
-    scope_stays s f tail (Exits label values h w) n = n
-    scope_stays s f tail (Raises v h w) n = tt
-    scope_stays s f tail (Stops why w) n = tt
-
-    scope_tests : (s : Surroundings) (f : Form) (tail : Bool) (h : Here) (e : Evaluation) → NeverExits e →
-        back_from_call h (does s (step.Scope level tries) f tail e) ≡ returns s tests h e
-    scope_tests s f tail h (Gives v i w) n = sym (m s.end v h w)
-    scope_tests s f tail h (Exits label values i w) n = absurd n
-    scope_tests s f tail h (Raises v i w) n = refl
-    scope_tests s f tail h (Stops why w) n = refl
-
--- a catch leaves what is no exit as it is
-caught_stays : (end turns : ℕ) (within : Bool) (handlers : List (Ready Body)) (level tries : ℕ) (e : Evaluation) → NeverExits e →
-    caught end turns within handlers level tries e ≡ e
-caught_stays end zero within handlers level tries e n = refl
-caught_stays end (suc turns) within handlers level tries (Gives v h w) n = refl
-caught_stays end (suc turns) within handlers level tries (Exits label values h w) n = absurd n
-caught_stays end (suc turns) within handlers level tries (Raises v h w) n = refl
-caught_stays end (suc turns) within handlers level tries (Stops why w) n = refl
-
-pub catch_passes : (within : Bool) (turns level tries : ℕ) (tests : Tests) → Meets tests (λ end v h w. Gives v h w) →
-    Passes (step.Catch within turns level tries) tests
-catch_passes within turns level tries tests m = record {
-  stays = λ s f tail e n. subst NeverExits (sym (caught_stays s.end turns within (handlers_of s f tail) level tries e n)) n;
-  tests =
-      λ s f tail h e n. ap (back_from_call h) (caught_stays s.end turns within (handlers_of s f tail) level tries e n) ∙ sym (returns_none s tests m h e);
-}
 
 -- ---- frames that only test
 

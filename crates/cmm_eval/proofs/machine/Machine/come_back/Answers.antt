@@ -19,9 +19,9 @@ returns-clause-frames c =
     let old = c.args.self.now.frames.items in
     let added : Frame = record { form = c.args.form; tail = c.args.tail; step = step.Return c.args.here c.written-tests.result } in
     let same : c.else-tail.self.frames.items ≡ old = elim c.else-tail.branch [
-      else-tail-via-then-tail+else-take_place w ↦
+      | else-tail-via-then-tail+else-take_place w ↦
           ap (λ (m : Machine). m.frames.items) w.self-is ∙ w.take_place.ensures.none w.if-take_place.false
-    | else-tail-via-else-tail w ↦ ap (λ (m : Machine). m.frames.items) w.self-is
+      | else-tail-via-else-tail w ↦ ap (λ (m : Machine). m.frames.items) w.self-is
     ] in
     if_ok_then _ (λ x. ComesBack old c.args.written (here_view c.args.here) c.push.new.self.frames.items) c.push.result
     (λ x p. back_pushed old c.push.new.self.frames.items c.args.form c.args.tail c.args.here c.args.written c.written-tests.result c.written-tests.ensures

@@ -1,4 +1,4 @@
-use Rattle.std.proofs.Common.{◌≡◌, ◌∙◌, ℕ, ◌-◌, ◌<◌, ◌≤◌, suc, [], ◌∷◌, ◌++◌, List, length, take, drop, drop-cons, get_or, ap, sym, subst, arith}
+use Rattle.std.proofs.Common.{◌≡◌, ◌∙◌, ◌-◌, ◌<◌, ◌∷◌, ◌++◌, List, length, take, drop, ap, sym, subst, arith}
 use Rattle.std.proofs.lemmas.List.{take-append-drop, take_more_set}
 use Rattle.cmm_eval.specs.Filled.{resume}
 use Rattle.cmm_eval.specs.Passing.{returns}
