@@ -13,9 +13,7 @@ use Rattle.rv_machine.specs.Memory.{code_region, code_start}
 use Rattle.rv_machine.specs.Run.{Schedule, asked, perhaps_asked, after_next, after}
 use Rattle.rv_machine.specs.Sound.{AllWords}
 use Rattle.rv_machine.specs.Services.{End, Machine, Going, Over, StackOut}
-use Rattle.rv_machine.specs.Sound.{AllWords}
 use Rattle.rv_machine.specs.Start.{domain_start, limit_asked}
-use Rattle.machine_laws.proofs.Words.{with_words}
 use Rattle.small_code.proofs.Memory.{HasStack, past, memory_asked}
 
 -- What stays during a run: the stack is `bytes` bytes from `base` on.
