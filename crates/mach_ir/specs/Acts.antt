@@ -212,7 +212,7 @@ abbrev pub callee_raises : Value → Memory → Around → List ℕ → Act
 callee_raises v m a [] = Ends (Threw v m)
 callee_raises v m a (l ∷ tries) = Unwinds (record a { memory = m; tries = tries; raised = Some v })
 
--- so does what an operation of the function itself raises, for a unit
+-- what an operation of the function itself raises goes there too, for a unit
 abbrev pub raised_by : Value → Around → List ℕ → Act
 raised_by v a [] = EndsRaising (Threw v a.memory)
 raised_by v a (l ∷ tries) = Jumps AtHandler (record a { tries = tries; raised = Some v })
