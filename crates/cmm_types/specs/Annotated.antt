@@ -57,7 +57,7 @@ abbrev mutual
       × Node names false_at false_ty on_false (PartsTyped names on_false)
   PartsTyped names (form.Switch' size_at size p selector_at selector_ty selector shape cases) =
       Node names selector_at selector_ty selector (PartsTyped names selector)
-          × CasesTyped names cases
+      × CasesTyped names cases
   PartsTyped names (form.Catch' p body_at body_ty body shape handlers) =
       Node names body_at body_ty body (PartsTyped names body) × HandlersTyped names handlers
   PartsTyped names (form.Exit' label_at label shape arguments) = RowTyped names arguments
@@ -77,7 +77,7 @@ abbrev mutual
       Node names value_at value_ty value (PartsTyped names value)
       × BindingsTyped
       (with_bindings names (Bind at name (option_map declared_view declared)
-          (form_view value_at value) NoBinding))
+      (form_view value_at value) NoBinding))
       rest
 
   pub CasesTyped : {m : _} → List Scoped → form.Row_of-Case m → Type 0

@@ -23,8 +23,8 @@ row_length (More e rest) = row_length rest + 1
 abbrev pub is_header : ℕ → ℕ → Bool
 is_header header cells =
     (header / 1024 == cells) &&
-        (nat_le 1 cells && (nat_le cells 256 && not
-            (nat_le 245 (header % 256) && nat_le (header % 256) 250)))
+    (nat_le 1 cells && (nat_le cells 256 && not
+    (nat_le 245 (header % 256) && nat_le (header % 256) 250)))
 
 -- a handler of this label stands here
 pub data Labelled (label : LabelTree) : Handlers → ℕ → Type 0 where
@@ -52,7 +52,7 @@ pub data Repeated : Handlers → ℕ → Type 0 where
 pub data DeclaresFloat : Bindings → ℕ → Type 0 where
   first : (at : ℕ) (name : List ℕ) (there : ℕ) (value : Expression) (rest : Bindings)
       → DeclaresFloat (Bind at name
-          (Some (record { at = there; comp = comp.Float })) value rest) there
+      (Some (record { at = there; comp = comp.Float })) value rest) there
   later : (at : ℕ) (name : List ℕ) (declared : Option Declaration) (value : Expression)
       (rest : Bindings) (there : ℕ)
       → DeclaresFloat rest there
@@ -87,7 +87,7 @@ pub data FaultOf (defined : List DefinedSymbol) (names : List Scoped)
       → s.parameters ≡ Some parameters
       → (parameters == row_length arguments) ≡ false
       → FaultOf defined names labels (App at (Symbol symbol_at name) arguments result result_at)
-        (fault.Arity at)
+      (fault.Arity at)
   exit_arity : (at label_at : ℕ) (label : LabelTree) (arguments : Expressions) (v : Visible)
       → handler_of labels label ≡ Some v
       → (v.parameters == row_length arguments) ≡ false
@@ -111,12 +111,12 @@ pub data FaultOf (defined : List DefinedSymbol) (names : List Scoped)
   misfit_header : (at header_at header : ℕ) (operands : Expressions)
       → is_header header (row_length operands) ≡ false
       → FaultOf defined names labels (Alloc at header_at header operands)
-        (fault.AllocHeader header_at)
+      (fault.AllocHeader header_at)
   -- F18: a label of no visible handler
   unknown_label : (at label_at : ℕ) (label : LabelTree) (arguments : Expressions)
       → handler_of labels label ≡ None
       → FaultOf defined names labels (Exit at label_at label arguments)
-        (fault.UnknownLabel label_at)
+      (fault.UnknownLabel label_at)
   -- F19: a float form, a declared float, a float as a handler's parameter or as a result
   float_form : (at word_at : ℕ) (operands : Expressions)
       → FaultOf defined names labels (Float at word_at operands) (fault.Float word_at)
@@ -131,18 +131,18 @@ pub data FaultOf (defined : List DefinedSymbol) (names : List Scoped)
       → FaultOf defined names labels (Catch at body handlers) (fault.Float p.comp_at)
   float_result : (at : ℕ) (called : Expression) (arguments : Expressions) (result_at : ℕ)
       → FaultOf defined names labels (App at called arguments (ret.Comp comp.Float) result_at)
-        (fault.Float result_at)
+      (fault.Float result_at)
   outer_float_result : (at : ℕ) (frame : Bool) (name : List ℕ) (arguments : Expressions)
       (result_at : ℕ)
       → FaultOf defined names labels
-          (Extcall at frame name arguments (ret.Comp comp.Float) result_at) (fault.Float result_at)
+      (Extcall at frame name arguments (ret.Comp comp.Float) result_at) (fault.Float result_at)
   -- F21: an address as an argument of an external call
   address_argument : (at : ℕ) (frame : Bool) (name : List ℕ) (arguments : Expressions) (result : _)
       (result_at : ℕ) (e : Expression)
       → InRow e arguments
       → type_of names e ≡ ty.Addr
       → FaultOf defined names labels (Extcall at frame name arguments result result_at)
-        (fault.AddrArgument (place_of e))
+      (fault.AddrArgument (place_of e))
 
 -- `TypeFault file fault`: the file has the fault, one of F11 to F19 and F21
 pub data TypeFault (file : FileTree) : faults.Fault → Type 0 where

@@ -96,7 +96,7 @@ abbrev mutual
       Both (One (fault.Float word_at)) (row_faults role.Visited d names labels operands)
   faults_in d names labels (Let at bindings body) =
       Both (bindings_faults d names labels bindings)
-          (faults_in d (with_bindings names bindings) labels body)
+      (faults_in d (with_bindings names bindings) labels body)
   faults_in d names labels (Assign at name_at name value) =
       Both
       (target_faults (binding_of names name) name_at)
@@ -172,7 +172,7 @@ abbrev mutual
   bindings_faults d names labels (Bind at name declared value rest) =
       Both
       (Both (declared_faults declared)
-          (used_as role.Taken names value (faults_in d names labels value)))
+      (used_as role.Taken names value (faults_in d names labels value)))
       (bindings_faults d (with_bindings names (Bind at name declared value NoBinding)) labels rest)
 
   pub cases_faults : (List ℕ → Option DefinedSymbol) → List Scoped → List Visible → Cases → Faults

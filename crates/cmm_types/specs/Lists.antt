@@ -17,7 +17,7 @@ AreAnnotated names (e ∷ rest) = IsAnnotated names e × AreAnnotated names rest
 abbrev pub with_binding : List Scoped → Binding → List Scoped
 with_binding names b =
     with_bindings names (Bind b.at b.name (option_map declared_view b.declared)
-        (expr_view b.value) NoBinding)
+    (expr_view b.value) NoBinding)
 
 abbrev pub AreBindingsAnnotated : List Scoped → List Binding → Type 0
 AreBindingsAnnotated names [] = Unit {0}
@@ -32,4 +32,4 @@ abbrev pub AreHandlersAnnotated : List Scoped → List Handler → Type 0
 AreHandlersAnnotated names [] = Unit {0}
 AreHandlersAnnotated names (h ∷ rest) =
     IsAnnotated (with_parameters (params_view h.params.items) names) h.body
-        × AreHandlersAnnotated names rest
+    × AreHandlersAnnotated names rest

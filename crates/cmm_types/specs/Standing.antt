@@ -40,7 +40,7 @@ abbrev pub lasting_labels_of : Handlers → List Visible
 lasting_labels_of NoHandler = []
 lasting_labels_of (Handle at label params body rest) =
     unless_bare label (record { label = label; parameters = length params })
-        (lasting_labels_of rest)
+    (lasting_labels_of rest)
 
 -- ---- parts of a node
 

@@ -31,7 +31,7 @@ abbrev pub with_parameters : List Parameter → List Scoped → List Scoped
 with_parameters [] scope = scope
 with_parameters (p ∷ params) scope =
     with_parameters params
-        (record { name = p.name; type = type_of_comp p.comp; mutable = false } ∷ scope)
+    (record { name = p.name; type = type_of_comp p.comp; mutable = false } ∷ scope)
 
 -- what two branches come to: of int, val and addr the greater in this order; a branch that does not come
 -- back says nothing, and one without a value leaves none

@@ -29,7 +29,7 @@ event_of (action.Passes at) = walk.Passes at
 abbrev pub scope_in : (ℕ → List Slotted) → Item → List Slotted
 scope_in scopes (item.Named name type mutable slot outer) =
     record { scoped = record { name = name.now; type = type; mutable = mutable }; slot = slot }
-        ∷ scopes outer
+    ∷ scopes outer
 scope_in scopes _ = []
 
 -- what a handler does, and then what is after its catch
@@ -37,7 +37,7 @@ abbrev pub handler_tasks : List Slotted → ℕ → List Handler → List Task �
 handler_tasks scope slot all behind h =
     parameters_bound slot (params_view h.params.items)
     ++ (walk.Evaluates (with_slots slot (params_view h.params.items) scope)
-        (slot + length (params_view h.params.items)) (expr_view h.body)
+    (slot + length (params_view h.params.items)) (expr_view h.body)
     ∷ walk.Catches scope slot true (handlers_of all)
     ∷ behind)
 
@@ -52,7 +52,7 @@ tasks_in scopes tasks (item.Enters scope slot bindings body rest) =
     walk.Enters (scopes scope) slot (bindings_of bindings.now) (expr_view body.now) ∷ tasks rest
 tasks_in scopes tasks (item.Either scope slot on_true on_false rest) =
     walk.OneOf (scopes scope) slot (expr_view on_true.now ∷ expr_view on_false.now ∷ [])
-        ∷ tasks rest
+    ∷ tasks rest
 tasks_in scopes tasks (item.OneOf scope slot cases rest) =
     walk.OneOf (scopes scope) slot (bodies (cases_of cases.now)) ∷ tasks rest
 tasks_in scopes tasks (item.MayRaise rest) = walk.MayRaise ∷ tasks rest

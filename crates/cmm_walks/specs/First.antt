@@ -92,7 +92,7 @@ pub record AreSlotSeeds (nodes : List node.Node) (goal : Goal) (slot : ℕ)
   pub kept : (s : Seed) → Contains old s → Contains new s
   pub sound : (s : Seed) → Contains new s
       → Contains old s ⊎ ((s.label ≤ own_limit goal) × BindsWithin nodes slot
-          (up_to goal s.label) s.place)
+      (up_to goal s.label) s.place)
   pub complete : (p x : ℕ)
       → x ≤ own_limit goal
       → BindsWithin nodes slot (up_to goal x) p

@@ -76,9 +76,9 @@ pub record Falls (nodes : List node.Node) (slot : ℕ) (old new : Labels) : Type
   pub falls : (p : ℕ) → label_at new.of.items p ≤ label_at old.of.items p
   pub from : (seeds : List Seed)
       → ((p : ℕ) → label_at old.of.items p < unlabelled → LeadsToSeed nodes slot seeds p
-          (label_at old.of.items p))
+      (label_at old.of.items p))
       → (p : ℕ) → label_at new.of.items p < unlabelled → LeadsToSeed nodes slot seeds p
-          (label_at new.of.items p)
+      (label_at new.of.items p)
 
 -- what a worklist has still to do
 abbrev pub weight : Labels → ℕ

@@ -30,10 +30,10 @@ abbrev pub own_handler : LabelTree
     → Option (List Task)
 own_handler label scopes tasks (item.Catches scope slot in_handler handlers first rest) =
     handler_for label (scopes scope) slot in_handler (handlers_of handlers.now) (tasks rest)
-        (handlers_of handlers.now)
+    (handlers_of handlers.now)
 own_handler label scopes tasks (item.Handler scope slot handlers own first rest) =
     handler_for label (scopes scope) slot true (handlers_of handlers.now) (tasks rest)
-        (handlers_of handlers.now)
+    (handlers_of handlers.now)
 own_handler label scopes tasks _ = None
 
 abbrev pub exit_rest : LabelTree → (ℕ → List Task) → Option ℕ → Option (List Task)

@@ -70,11 +70,11 @@ abbrev pub binding_seed : Goal → List ℕ → ℕ → ℕ → Step → ℕ →
 binding_seed goal labels slot place step.Quiet next = None
 binding_seed goal labels slot place (step.Binds own address at) next =
     cond (address && own == slot)
-        (seed_with place (later (known_label labels next) (bound_label goal at))) None
+    (seed_with place (later (known_label labels next) (bound_label goal at))) None
 binding_seed goal labels slot place (step.Uses own at) next = None
 binding_seed goal labels slot place (step.Passes at) next = None
 
 abbrev pub binding_seeds : Goal → List ℕ → List node.Node → ℕ → ℕ → List Seed
 binding_seeds goal labels nodes slot place =
     filter_map (λ (n : ℕ). binding_seed goal labels slot place (step_at nodes place) n)
-        (next_at nodes place)
+    (next_at nodes place)

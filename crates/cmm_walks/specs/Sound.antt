@@ -46,7 +46,7 @@ abbrev pub HandlersAt : ℕ
 HandlersAt count tasks cell scope slot all behind [] = Unit {0}
 HandlersAt count tasks cell scope slot all behind (h ∷ rest) =
     (cell < count) × (tasks cell ≡ handler_tasks scope slot all behind h) × HandlersAt count tasks
-        (suc cell) scope slot all behind rest
+    (suc cell) scope slot all behind rest
 
 -- of so many cells: what is evaluated holds its types, and the handlers are there
 abbrev pub IsHeld : ℕ → (ℕ → List Slotted) → (ℕ → List Task) → Item → Type 0
@@ -66,10 +66,10 @@ IsHeld count scopes tasks (item.Handler scope slot handlers own first rest) =
     AreHandlersAnnotated (names (scopes scope)) handlers.now
     × HandlersAt count tasks first (scopes scope) slot handlers.now (tasks rest) handlers.now
     × IsAnnotated (with_parameters (params_view own.now.params.items)
-        (names (scopes scope))) own.now.body
+    (names (scopes scope))) own.now.body
 IsHeld count scopes tasks (item.Handles scope slot name_at name handler entry rest) =
     (entry < count) × (tasks entry ≡ handling (scopes scope) slot name_at name.now
-        (expr_view handler.now) ++ tasks rest)
+    (expr_view handler.now) ++ tasks rest)
 IsHeld count scopes tasks _ = Unit {0}
 
 pub record IsSound (items : List Item) : Type 0 where

@@ -48,8 +48,10 @@ slot_of (s ∷ rest) name = first_slot (bytes_eq s.scoped.name name) s.slot (slo
 
 abbrev pub slotted_parameter : ℕ → Parameter → Slotted
 slotted_parameter slot p =
-    record { scoped = record { name = p.name; type = type_of_comp p.comp; mutable = false };
-        slot = slot }
+    record {
+      scoped = record { name = p.name; type = type_of_comp p.comp; mutable = false };
+      slot = slot;
+    }
 
 -- parameters in scope, in slots from this one on
 abbrev pub with_slots : ℕ → List Parameter → List Slotted → List Slotted
@@ -90,7 +92,7 @@ first_found false tasks others = others
 abbrev pub operand : List Slotted → ℕ → ℕ → Expression → List Task
 operand scope free slot e =
     Evaluates scope free e ∷ Does (Binds slot (is_address (type_of (names scope) e)) (place_of e))
-        ∷ []
+    ∷ []
 
 -- the operation at this place takes so many operands, the first of them in this slot
 abbrev pub takes : ℕ → ℕ → ℕ → List Task
@@ -108,14 +110,14 @@ abbrev pub waiting : List Slotted → ℕ → ℕ → Expressions → List Task
 waiting scope free slot NoMore = []
 waiting scope free slot (More e rest) =
     waiting scope free (suc slot) rest ++ first_tasks (is_light_address (names scope) e) []
-        (operand scope free slot e)
+    (operand scope free slot e)
 
 -- and then the light addresses, right to left
 abbrev pub filled : List Slotted → ℕ → ℕ → Expressions → List Task
 filled scope free slot NoMore = []
 filled scope free slot (More e rest) =
     filled scope free (suc slot) rest ++ first_tasks (is_light_address (names scope) e)
-        (operand scope free slot e) []
+    (operand scope free slot e) []
 
 abbrev pub all_operands : List Slotted → ℕ → Expressions → List Task
 all_operands scope slot es =
@@ -174,7 +176,7 @@ tasks_of scope slot (Store at chunk address value) = on_two scope slot at addres
 tasks_of scope slot (Alloc at header_at header operands) =
     waiting scope (slot + count operands) slot operands
     ++ (Does (Passes at) ∷
-        (filled scope (slot + count operands) slot operands ++ takes at slot (count operands)))
+    (filled scope (slot + count operands) slot operands ++ takes at slot (count operands)))
 tasks_of scope slot (App at callee arguments result result_at) =
     all_operands scope slot (More callee arguments)
     ++ (takes at slot (suc (count arguments)) ++ called true at)
@@ -201,10 +203,12 @@ entering scope slot NoBinding body = Evaluates scope slot body ∷ []
 entering scope slot (Bind at name declared value rest) body =
     let type = type_bound declared (type_of (names scope) value) in
     let bound : Slotted =
-        record { scoped = record { name = name; type = type; mutable = is_mutable declared };
-            slot = slot } in
+    record {
+      scoped = record { name = name; type = type; mutable = is_mutable declared };
+      slot = slot;
+    } in
     Evaluates scope slot value ∷ Does (Binds slot (is_address type) at) ∷ Enters (bound ∷ scope)
-        (suc slot) rest body ∷ []
+    (suc slot) rest body ∷ []
 
 -- ---- handlers
 
@@ -228,7 +232,7 @@ handler_for label scope slot in_handler all behind (Handle at own params body re
     first_found (same_label label own && not (is_bare label && in_handler))
     (parameters_bound slot params
     ++ (Evaluates (with_slots slot params scope) (slot + length params) body
-        ∷ Catches scope slot true all ∷ behind))
+    ∷ Catches scope slot true all ∷ behind))
     (handler_for label scope slot in_handler all behind rest)
 
 -- where an exit leads, if a handler of its label is visible
@@ -240,13 +244,13 @@ abbrev pub behind_exit : LabelTree → List Task → Option (List Task)
 behind_exit label [] = None
 behind_exit label (Catches scope slot in_handler handlers ∷ rest) =
     or_else (handler_for label scope slot in_handler handlers rest handlers)
-        (behind_exit label rest)
+    (behind_exit label rest)
 behind_exit label (_ ∷ rest) = behind_exit label rest
 
 abbrev pub handling : List Slotted → ℕ → ℕ → List ℕ → Expression → List Task
 handling scope slot name_at name handler =
     let raised : Slotted =
-        record { scoped = record { name = name; type = ty.Val; mutable = false }; slot = slot } in
+    record { scoped = record { name = name; type = ty.Val; mutable = false }; slot = slot } in
     Does (Binds slot false name_at) ∷ Evaluates (raised ∷ scope) (suc slot) handler ∷ []
 
 -- where a raise leads, if a try of the function is active
@@ -266,7 +270,7 @@ pub data Next : List Task → List Event → List Task → Type 0 where
   enters : (scope : List Slotted) (slot : ℕ) (bindings : Bindings) (body : Expression)
       (tasks : List Task)
       → Next (Enters scope slot bindings body ∷ tasks) []
-          (entering scope slot bindings body ++ tasks)
+      (entering scope slot bindings body ++ tasks)
   one_of : (scope : List Slotted) (slot : ℕ) (es : List Expression) (e : Expression)
       (tasks : List Task)
       → Contains es e → Next (OneOf scope slot es ∷ tasks) [] (Evaluates scope slot e ∷ tasks)

@@ -38,8 +38,8 @@ pub record Spread (x : place.Place) (bound : ℕ) (old new : List (List Bool)) (
   pub members : (q r : ℕ)
       → q < length old
       → has (row new q) r ≡
-          (has (row old q) r || arrives (contents x.next) (contents x.aside) (contents x.reads)
-              (contents x.writes) old p q r)
+      (has (row old q) r || arrives (contents x.next) (contents x.aside) (contents x.reads)
+      (contents x.writes) old p q r)
   pub same : grew ≡ false → new ≡ old
   pub fewer : grew ≡ true → missing new < missing old
 

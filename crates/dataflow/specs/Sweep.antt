@@ -12,7 +12,7 @@ use Rattle.dataflow.specs.Rows.{row, HasSizes}
 abbrev pub enters : List ℕ → List ℕ → List ℕ → List ℕ → List (List Bool) → ℕ → Bool
 enters next aside reads writes rows r =
     ((list_any (λ q. has (row rows q) r) next && not (list_any (λ k. k == r) writes)) || list_any
-        (λ q. has (row rows q) r) aside) || list_any (λ k. k == r) reads
+    (λ q. has (row rows q) r) aside) || list_any (λ k. k == r) reads
 
 abbrev pub enters_place : place.Place → List (List Bool) → ℕ → Bool
 enters_place x rows r =
