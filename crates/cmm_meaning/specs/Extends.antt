@@ -17,7 +17,8 @@ pub record Extent : Type 0 where
   pub cells : ℕ
 
 abbrev pub extent_of : StaticList → Extent
-extent_of statics = record { start = statics.start; size = statics.size; cells = length statics.cells }
+extent_of statics =
+    record { start = statics.start; size = statics.size; cells = length statics.cells }
 
 -- The later memory has the blocks of the earlier one, each in its shape, and maybe others after them; its static data
 -- lies as it lay, in as many cells, and its root cells are the same. Nothing is said of what the cells hold.
