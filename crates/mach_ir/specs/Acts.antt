@@ -206,8 +206,7 @@ access_act _ _ a = Stuck
 
 -- ---- raising
 
--- What a callee raised fits val, and goes to the innermost handler, or on to the caller. This is no
--- raise of the function itself, and no unit, after a frame call either.
+-- what a callee raised fits val, and goes to the innermost handler, or on to the caller
 abbrev pub callee_raises : Value → Memory → Around → List ℕ → Act
 callee_raises v m a [] = Ends (Threw v m)
 callee_raises v m a (l ∷ tries) = Unwinds (record a { memory = m; tries = tries; raised = Some v })
@@ -243,11 +242,12 @@ after_call c result a (Gave v m) =
     answered c.end result v (λ v. Goes (as_list v) On (record a { memory = m }))
 after_call c result a (Threw v m) = only_if (fits c.end ty.Val v) (callee_raises v m a a.tries)
 
--- an external call leaves the memory as it was, and raises only where it is a frame call
+-- An external call leaves the memory as it was, and raises only where it is a frame call. It is no
+-- call of a function, so that its raise is one of the function itself: a unit.
 abbrev pub after_external : Setting → Ret → Bool → Around → Doing → Act
 after_external c result frame a (Gave v m) = answered c.end result v (λ v. Goes (as_list v) On a)
 after_external c result true a (Threw v m) =
-    only_if (fits c.end ty.Val v) (callee_raises v a.memory a a.tries)
+    only_if (fits c.end ty.Val v) (raised_by v a a.tries)
 after_external c result false a (Threw v m) = Stuck
 
 -- whatever is then done with a function and its arguments, they fit its parameters
