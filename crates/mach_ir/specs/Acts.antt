@@ -234,10 +234,11 @@ abbrev pub ended : Setting → Ret → Doing → Act
 ended c result (Gave v m) = answered c.end result v (λ v. Ends (Gave v m))
 ended c result (Threw v m) = only_if (fits c.end ty.Val v) (Ends (Threw v m))
 
--- an external call leaves the memory as it was, and raises only where it is a frame call
+-- an external call leaves the memory as it was, and raises only where it is a frame call: a unit, as what an operation
+-- of the function itself raises
 abbrev pub back_outside : Setting → Ret → Bool → Around → Doing → Act
 back_outside c result frame a (Gave v m) = answered c.end result v (λ v. Goes (listed v) On a)
-back_outside c result true a (Threw v m) = only_if (fits c.end ty.Val v) (thrown v a.memory a a.tries)
+back_outside c result true a (Threw v m) = only_if (fits c.end ty.Val v) (raised_by v a a.tries)
 back_outside c result false a (Threw v m) = Stuck
 
 abbrev pub asks : Setting → Option (List Comp) → ℕ → List Value → Bool → Around → (Doing → Act) → Act
