@@ -18,15 +18,16 @@ use Rattle.selection.specs.Kept.{step}
 
 -- what the text knows of the file
 abbrev pub text_of : Place → Setting
-text_of c = record { end = c.setting.end; symbol = c.setting.symbol; parameters = c.setting.parameters }
+text_of c =
+    record { end = c.setting.end; symbol = c.setting.symbol; parameters = c.setting.parameters }
 
 -- what a callee raises fits val
 abbrev pub RaisesVal : Place → Doing → Type 0
 RaisesVal c (Gave v memory) = ⊤
 RaisesVal c (Threw v memory) = fits c.setting.end ty.Val v ≡ true
 
--- The machine, from this step on, does what is said, as long as that is not improper. A machine that halts follows
--- what is improper before it pays a unit.
+-- The machine, from this step on, does what is said, as long as that is not improper. A machine
+-- that halts follows what is improper before it pays a unit.
 pub data Follows (c : Place) (m : Mach) : Does → Step State → Type 0 where
   walks : {d : Does} {s : State} → Follows c m d (step c m s) → Follows c m d (Walks s)
   pays : {memory : Memory} {rest : Does} {s : State} → Follows c m rest (Walks s) →
@@ -35,8 +36,12 @@ pub data Follows (c : Place) (m : Mach) : Does → Step State → Type 0 where
       Follows c m (Ends (Giving v h memory)) (Over (Gave v memory))
   raises : {v : Value} {h : Here} {memory : Memory} →
       Follows c m (Ends (Raising v h memory)) (Over (Threw v memory))
-  jumps : {rest : Does} {s : State} → Follows c m rest (Walks s) → Follows c m (Jumps rest) (Leaps s)
-  raises_out : {rest : Does} {d : Doing} → Follows c m rest (Over d) → Follows c m (Jumps rest) (OverRaising d)
+  jumps : {rest : Does} {s : State}
+      → Follows c m rest (Walks s)
+      → Follows c m (Jumps rest) (Leaps s)
+  raises_out : {rest : Does} {d : Doing}
+      → Follows c m rest (Over d)
+      → Follows c m (Jumps rest) (OverRaising d)
   -- what is improper after a jump is so before it
   jumps_wrong : {rest : Does} {s : Step State} → Follows c m rest Halts → Follows c m (Jumps rest) s
   deepens : {bytes : ℕ} {rest : Does} {s : State} → Follows c m rest (Walks s) →
@@ -47,10 +52,12 @@ pub data Follows (c : Place) (m : Mach) : Does → Step State → Type 0 where
   -- an external call leaves the memory as it was, and raises only where it is a frame call
   calls_out : {row : External} {frame : Bool} {arguments : List Value} {memory : Memory}
       {go : Doing → Does} {next : Doing → Step State} →
-      ((v : Option Value) (after : Memory) → Follows c m (go (Gave v memory)) (next (Gave v after))) →
+      ((v : Option Value) (after : Memory) →
+      Follows c m (go (Gave v memory)) (next (Gave v after))) →
       (frame ≡ true → (v : Value) (after : Memory) → fits c.setting.end ty.Val v ≡ true →
       Follows c m (Jumps (go (Threw v memory))) (next (Threw v after))) →
-      Follows c m (CallsOut row frame arguments memory go) (Waits (asked_outside row frame arguments memory) next)
+      Follows c m (CallsOut row frame arguments memory go)
+      (Waits (asked_outside row frame arguments memory) next)
   -- no exit leaves a function of an accepted text
   exits : {label : LabelTree} {values : List Value} {h : Here} {memory : Memory} {s : Step State} →
       Follows c m (Ends (Exiting label values h memory)) s

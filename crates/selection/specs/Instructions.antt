@@ -9,6 +9,7 @@ use Rattle.mach_ir.specs.declared.op.Access.TheVariants as access
 use Rattle.mach_ir.specs.declared.op.Callee.{Callee}
 use Rattle.mach_ir.specs.declared.op.Calling.TheVariants as calling
 use Rattle.mach_ir.specs.declared.op.CopyKind.TheVariants as copy
+use Rattle.mach_ir.specs.declared.op.External as declared
 use Rattle.mach_ir.specs.declared.op.Leaving.TheVariants as leaving
 use Rattle.mach_ir.specs.declared.op.Op.{Op}
 use Rattle.mach_ir.specs.declared.op.Op.TheVariants as op
@@ -53,7 +54,8 @@ abbrev pub load : Chunk → ℕ → Reg → Reg → Instr
 load k offset address to = operation (op.Access (access.Load k offset)) (address ∷ []) (to ∷ [])
 
 abbrev pub store : Chunk → ℕ → Reg → Reg → Instr
-store k offset address value = operation (op.Access (access.Store k offset)) (address ∷ value ∷ []) []
+store k offset address value =
+    operation (op.Access (access.Store k offset)) (address ∷ value ∷ []) []
 
 abbrev pub alloc : NewBlock → Reg → Instr
 alloc block to = operation (op.Access (access.Alloc (block ∷ []))) [] (to ∷ [])
@@ -68,12 +70,14 @@ tail_call whom result args = operation (op.Calling (calling.TailCall whom result
 
 abbrev pub external : List ℕ → List Comp → Ret → Bool → List Reg → List Reg → Instr
 external name params result frame args results =
-    operation (op.Calling (calling.External (record { name = name; params = params; result = result }) frame)) args results
+    let row : declared.External = record { name = name; params = params; result = result } in
+    operation (op.Calling (calling.External row frame)) args results
 
 -- ---- leaving
 
 abbrev pub checkbound : Right → Reg → Reg → Instr
-checkbound r bound index = operation (op.Leaving (leaving.Checkbound r)) (bound ∷ right_regs r index) []
+checkbound r bound index =
+    operation (op.Leaving (leaving.Checkbound r)) (bound ∷ right_regs r index) []
 
 abbrev pub raising : Reg → Instr
 raising value = operation (op.Leaving leaving.Raise) (value ∷ []) []
@@ -84,10 +88,13 @@ give_back values = operation (op.Leaving leaving.Return) values []
 -- ---- marks with operands or results
 
 abbrev pub branch : Test → ℕ → List Reg → Instr
-branch test otherwise args = record { op = mach.Mark (mark.If test otherwise); args = args; results = [] }
+branch test otherwise args =
+    record { op = mach.Mark (mark.If test otherwise); args = args; results = [] }
 
 abbrev pub choose : List ℕ → Reg → Instr
-choose labels index = record { op = mach.Mark (mark.Switch labels); args = index ∷ []; results = [] }
+choose labels index =
+    record { op = mach.Mark (mark.Switch labels); args = index ∷ []; results = [] }
 
 abbrev pub handler : ℕ → Reg → Instr
-handler label raised = record { op = mach.Mark (mark.Handler label); args = []; results = raised ∷ [] }
+handler label raised =
+    record { op = mach.Mark (mark.Handler label); args = []; results = raised ∷ [] }

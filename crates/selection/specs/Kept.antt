@@ -1,5 +1,5 @@
--- The machine that loses no addr at a frame point. Selection is proved of it: that it does what the true machine does
--- where no addr is live after a frame point is a fact of the code alone.
+-- The machine that loses no addr at a frame point. Selection is proved of it: that it does what the
+-- true machine does, where no addr is live after a frame point, is a fact of the code alone.
 use Rattle.std.specs.Prelude.{ℕ, List, [], ◌∷◌, Option, Some, None}
 use Rattle.bs_words.specs.declared.values.Value.{Value}
 use Rattle.mach_ir.specs.Acts.{Around}
@@ -8,7 +8,8 @@ use Rattle.mach_ir.specs.Meaning.{State, File, values, mach_act, on_act}
 use Rattle.mach_ir.specs.declared.mach.Instr.{Instr}
 use Rattle.mach_ir.specs.declared.mach.Mach.{Mach}
 
-abbrev pub on_values : Place → Mach → Instr → List Instr → File → Around → Option (List Value) → Step State
+abbrev pub on_values : Place → Mach → Instr → List Instr → File → Around → Option (List Value) →
+    Step State
 on_values c m i next f a None = Halts
 on_values c m i next f a (Some vs) = on_act c m i next f a (mach_act c.setting i.op vs a)
 
