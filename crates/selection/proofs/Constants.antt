@@ -1,11 +1,9 @@
 -- Right operands that are constants where the machine has an immediate for them.
 use Rattle.std.proofs.Common.{◌≡◌, ℕ, ◌^◌, ◌<◌, ◌≤◌, Bool, true, false, cond, List, [], ◌∷◌, Some, refl, sym, ap, ◌∙◌, arith}
 use Rattle.std.proofs.lemmas.Bool.{true≢false}
-use Rattle.bs_words.specs.Memory.{Memory, sizes}
-use Rattle.bs_words.specs.Operators.{apply, word_in}
-use Rattle.bs_words.specs.declared.operators.CmpOp.{CmpOp}
+use Rattle.bs_words.specs.Memory.{Memory}
+use Rattle.bs_words.specs.Operators.{word_in}
 use Rattle.bs_words.specs.declared.operators.IntOp.{IntOp}
-use Rattle.bs_words.specs.declared.operators.IntOp.TheVariants as operator
 use Rattle.bs_words.specs.declared.values.Value.{Value}
 use Rattle.bs_words.specs.declared.values.Value.TheVariants as value
 use Rattle.cmm_tree.specs.Tree.{Expression, Integer}
@@ -14,16 +12,14 @@ use Rattle.cmm_meaning.specs.Evaluation.{is_left_first}
 use Rattle.cmm_meaning.specs.State.{Here}
 use Rattle.meaning_laws.specs.Does.{Leaves, Does}
 use Rattle.meaning_laws.specs.Interaction.{Part, with_value, both, does}
-use Rattle.mach_ir.specs.Acts.{Setting, Around, pure_act, leaving_act, one_result, checked, truth_of, as_condition}
+use Rattle.mach_ir.specs.Acts.{Setting, Around, leaving_act, checked}
 use Rattle.mach_ir.specs.Formed.{is_immediate}
 use Rattle.mach_ir.specs.Runs.{Place, Walks}
 use Rattle.mach_ir.specs.Meaning.{State, File, values, with_held}
 use Rattle.mach_ir.specs.declared.reg.Reg.{Reg}
 use Rattle.mach_ir.specs.declared.mach.Instr.{Instr}
 use Rattle.mach_ir.specs.declared.mach.Mach.{Mach}
-use Rattle.mach_ir.specs.declared.mach.Test.TheVariants as test
 use Rattle.mach_ir.specs.declared.op.Leaving.TheVariants as leaving
-use Rattle.mach_ir.specs.declared.op.Pure.TheVariants as pure
 use Rattle.mach_ir.specs.declared.op.Right.{Right}
 use Rattle.mach_ir.specs.declared.op.Right.TheVariants as right
 use Rattle.selection.specs.Select.{Named, Label, scopes, fresh, ordered, width, right_of, unless_constant, select}
@@ -61,25 +57,10 @@ operands_values {x} {y} {v} {w} {f} (in_registers hv hw) =
     ap (λ o. with_held o (with_held (f y.number) (Some []))) hv.is ∙ ap (λ o. with_held (Some (record { comp = x.comp; value = v })) (with_held o (Some []))) hw.is
 operands_values (with_constant hv) = ap (λ o. with_held o (Some [])) hv.is
 
-pub operator_act : {x y : Reg} {v w : Value} {f : File} {r : Right} (c : Setting) (op : IntOp) (a : Around) → Operands x y v f r w →
-    pure_act c (pure.Operator op r) (right_values r v w) a ≡ one_result a (apply op (sizes a.memory) v w)
-operator_act c op a (in_registers hv hw) = refl
-operator_act c op a (with_constant hv) = refl
-
 pub checked_act : {x y : Reg} {v w : Value} {f : File} {r : Right} (c : Setting) (a : Around) → Operands x y v f r w →
     leaving_act c (leaving.Checkbound r) (right_values r v w) a ≡ checked c (word_in v) (word_in w) a
 checked_act c a (in_registers hv hw) = refl
 checked_act c a (with_constant hv) = refl
-
-pub signed_truth : {x y : Reg} {v w : Value} {f : File} {r : Right} (sizes : List ℕ) (q : CmpOp) → Operands x y v f r w →
-    truth_of sizes (test.Signed q r) (right_values r v w) ≡ as_condition sizes (apply (operator.Cmp q) sizes v w)
-signed_truth sizes q (in_registers hv hw) = refl
-signed_truth sizes q (with_constant hv) = refl
-
-pub unsigned_truth : {x y : Reg} {v w : Value} {f : File} {r : Right} (sizes : List ℕ) (q : CmpOp) → Operands x y v f r w →
-    truth_of sizes (test.Unsigned q r) (right_values r v w) ≡ as_condition sizes (apply (operator.CmpU q) sizes v w)
-unsigned_truth sizes q (in_registers hv hw) = refl
-unsigned_truth sizes q (with_constant hv) = refl
 
 module _ (c : Place) (m : Mach) (turns : ℕ) where
   -- a constant as an operand needs no code

@@ -12,7 +12,7 @@ use Rattle.mach_ir.specs.Acts.{drop_tries}
 use Rattle.mach_ir.specs.declared.mach.Test.{Test}
 use Rattle.mach_ir.specs.declared.op.Right.{Right}
 use Rattle.mach_ir.specs.declared.op.Right.TheVariants as right
-use Rattle.selection.specs.Select.{Named, Label, scopes, reg_of, label_of, move_from, move_to, moves_all, exit_to, ordered, only_when, from_seat, symbol_of, unless_symbol, right_of, unless_constant, bound_test, comparison, tested, select_test, is_based, select_base, call_of, regs_of, select, select_waiting, select_filled, select_bound, select_seq, select_cases, select_handlers, deeper, cell_stores}
+use Rattle.selection.specs.Select.{Shape, InRegisters, ConstantRight, ConstantLeft, shape_of, shape_op, shape_right, unless_left, unless_right, Named, Label, scopes, reg_of, label_of, move_from, move_to, moves_all, exit_to, ordered, only_when, from_seat, symbol_of, unless_symbol, right_of, unless_constant, bound_test, comparison, tested, select_test, is_based, select_base, call_of, regs_of, select, select_waiting, select_filled, select_bound, select_seq, select_cases, select_handlers, deeper, cell_stores}
 use Rattle.selection.proofs.Parts.{more, ending_in, Within, inside_all, inside_more, inside_in}
 use Rattle.selection.specs.Instructions as emit
 use Rattle.selection.specs.Instructions.{bare}
@@ -54,13 +54,23 @@ pub ending_constant : (r : Right) (code : List Instr → List Instr) → Ends co
 ending_constant right.Register code e next = e next
 ending_constant (right.Constant w) code e next = inside_all
 
-ending_tested : {next : List Instr} (o : Option (Right → Test)) (fused : (Right → Test) → List Instr) (value : List Instr) → ((of_right : Right → Test) → Within next (fused of_right)) → Within next value → Within next (tested o fused value)
-ending_tested (Some of_right) fused value f v = f of_right
+ending_tested : {next : List Instr} (o : Option Test) (fused : Test → List Instr) (value : List Instr) → ((t : Test) → Within next (fused t)) → Within next value → Within next (tested o fused value)
+ending_tested (Some t) fused value f v = f t
 ending_tested None fused value f v = v
 
 ending_if : (q : Bool) (one other : List Instr → List Instr) → Ends one → Ends other → (next : List Instr) → Within next (cond q (one next) (other next))
 ending_if true one other f g next = f next
 ending_if false one other f g next = g next
+
+ending_left : (s : Shape) (code : List Instr → List Instr) → Ends code → Ends (unless_left s code)
+ending_left InRegisters code e next = e next
+ending_left (ConstantRight i) code e next = e next
+ending_left (ConstantLeft i) code e next = inside_all
+
+ending_right : (s : Shape) (code : List Instr → List Instr) → Ends code → Ends (unless_right s code)
+ending_right InRegisters code e next = e next
+ending_right (ConstantRight i) code e next = inside_all
+ending_right (ConstantLeft i) code e next = e next
 
 pub ending_unless : (o : Option (List ℕ)) (code : List Instr → List Instr) → Ends code → Ends (unless_symbol o code)
 ending_unless (Some name) code e next = inside_all
@@ -91,7 +101,7 @@ mutual
       inside_in (ending_to _ (reg_of env name) next) (ending_select env labels false false _ _ e _)
   ending_select env labels valued tail d b (Operator at op left right) next =
       inside_in (inside_more refl inside_all)
-      (ending_ordered (is_left_first (scopes env) left right) _ _ (ending_select env labels false false _ _ left) (ending_constant (right_of op right) _ (ending_select env labels false false _ _ right)) _)
+      (ending_ordered (is_left_first (scopes env) left right) _ _ (ending_left (shape_of op left right) _ (ending_select env labels false false _ _ left)) (ending_right (shape_of op left right) _ (ending_select env labels false false _ _ right)) _)
   ending_select env labels valued tail d b (App at callee arguments result result_at) next =
       inside_in (inside_in (inside_in (inside_in (inside_in (call_inside tail _ _ _ _ _ _ _ next)
       (ending_moves (regs_of env (suc (suc b)) arguments) _ _))
@@ -136,9 +146,10 @@ mutual
 
   pub ending_test : (env : List Named) (labels : List Label) (l b : ℕ) (e : Expression) (value next : List Instr) → Within next value → Within next (select_test env labels l b e value next)
   ending_test env labels l b (Operator at op left right) value next inside =
-      ending_tested (comparison op) _ value
-      (λ of_right. inside_in (inside_more refl inside_all)
-      (ending_ordered (is_left_first (scopes env) left right) _ _ (ending_select env labels false false _ _ left) (ending_constant (right_of op right) _ (ending_select env labels false false _ _ right)) _))
+      let s = shape_of op left right in
+      ending_tested (comparison (shape_op s op) (shape_right s)) _ value
+      (λ t. inside_in (inside_more refl inside_all)
+      (ending_ordered (is_left_first (scopes env) left right) _ _ (ending_left s _ (ending_select env labels false false _ _ left)) (ending_right s _ (ending_select env labels false false _ _ right)) _))
       inside
   ending_test env labels l b e value next inside = inside
 

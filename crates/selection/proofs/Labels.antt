@@ -18,7 +18,7 @@ use Rattle.mach_ir.specs.declared.mach.Instr.{Instr}
 use Rattle.mach_ir.specs.declared.mach.Mach.{Mach}
 use Rattle.mach_ir.specs.declared.mach.MachOp.{MachOp}
 use Rattle.mach_ir.specs.Meaning.{labels as marks_of, after_label, handles, onto}
-use Rattle.selection.specs.Select.{Named, Label, scopes, fresh, reg_of, label_of, move_from, move_to, moves_all, exit_to, ordered, only_when, seats, from_seat, to_seat, first, params_from, symbol_of, unless_symbol, right_of, unless_constant, bound_test, comparison, tested, select_test, is_based, select_base, call_of, count_of, count_cases, width_cases, select_cases, cell_stores, regs_of, width, width_row, width_bound, width_labels, width_handlers, select, select_waiting, select_filled, select_bound, select_seq, select_handlers, selected}
+use Rattle.selection.specs.Select.{Shape, InRegisters, ConstantRight, ConstantLeft, shape_of, shape_op, shape_right, unless_left, unless_right, Named, Label, scopes, fresh, reg_of, label_of, move_from, move_to, moves_all, exit_to, ordered, only_when, seats, from_seat, to_seat, first, params_from, symbol_of, unless_symbol, right_of, unless_constant, bound_test, comparison, tested, select_test, is_based, select_base, call_of, count_of, count_cases, width_cases, select_cases, cell_stores, regs_of, width, width_row, width_bound, width_labels, width_handlers, select, select_waiting, select_filled, select_bound, select_seq, select_handlers, selected}
 use Rattle.selection.proofs.Parts.{Ending, all, more, WellLabelled}
 use Rattle.selection.specs.Instructions as emit
 
@@ -184,10 +184,20 @@ if_marks : {A : ℕ → Type 0} (q : Bool) (x y : List Instr → List Instr) →
 if_marks true x y f g = f
 if_marks false x y f g = g
 
-tested_marks : {A : ℕ → Type 0} (o : Option (Right → Test)) (fused : (Right → Test) → List Instr → List Instr) (value : List Instr → List Instr) → ((of_right : Right → Test) → Marks A (fused of_right)) → Marks A value →
-    Marks A (λ next. tested o (λ of_right. fused of_right next) (value next))
-tested_marks (Some of_right) fused value f v = f of_right
+tested_marks : {A : ℕ → Type 0} (o : Option Test) (fused : Test → List Instr → List Instr) (value : List Instr → List Instr) → ((t : Test) → Marks A (fused t)) → Marks A value →
+    Marks A (λ next. tested o (λ t. fused t next) (value next))
+tested_marks (Some t) fused value f v = f t
 tested_marks None fused value f v = v
+
+left_marks : {A : ℕ → Type 0} {x : List Instr → List Instr} (s : Shape) → Marks A x → Marks A (unless_left s x)
+left_marks InRegisters m = m
+left_marks (ConstantRight i) m = m
+left_marks (ConstantLeft i) m = quiet_in nothing_marked
+
+right_marks : {A : ℕ → Type 0} {x : List Instr → List Instr} (s : Shape) → Marks A x → Marks A (unless_right s x)
+right_marks InRegisters m = m
+right_marks (ConstantRight i) m = quiet_in nothing_marked
+right_marks (ConstantLeft i) m = m
 
 -- ---- light operands
 
@@ -207,8 +217,8 @@ light_quiet env labels valued tail d b (Operator at op left right) light =
     let both = and_right (is_light_operator op) (is_light (scopes env) left && is_light (scopes env) right) light in
     then_quiet
     (ordered_quiet (is_left_first (scopes env) left right)
-    (light_quiet env labels false false _ _ left (and_left (is_light (scopes env) left) (is_light (scopes env) right) both))
-    (constant_marks (right_of op right) (light_quiet env labels false false _ _ right (and_right (is_light (scopes env) left) (is_light (scopes env) right) both))))
+    (left_marks (shape_of op left right) (light_quiet env labels false false _ _ left (and_left (is_light (scopes env) left) (is_light (scopes env) right) both)))
+    (right_marks (shape_of op left right) (light_quiet env labels false false _ _ right (and_right (is_light (scopes env) left) (is_light (scopes env) right) both))))
     (unmarked _ (λ l. refl))
 light_quiet env labels valued tail d b (Pointer at w) light = absurd (true≢false (sym light))
 light_quiet env labels valued tail d b (Nothing at) light = absurd (true≢false (sym light))
@@ -278,7 +288,7 @@ mutual
   marks_select env labels valued tail d b (Assign at q x e) = then_quiet (widen (omega arith) (omega arith) (marks_select env labels false false _ (suc (suc b)) e)) (to_quiet _ (reg_of env x))
   marks_select env labels valued tail d b (Operator at op left right) =
       then_quiet
-      (ordered_marks (is_left_first (scopes env) left right) (marks_select env labels false false _ (suc (suc (suc b))) left) (constant_marks (right_of op right) (marks_select env labels false false _ (suc (suc (suc b)) + width left) right))
+      (ordered_marks (is_left_first (scopes env) left right) (left_marks (shape_of op left right) (marks_select env labels false false _ (suc (suc (suc b))) left)) (right_marks (shape_of op left right) (marks_select env labels false false _ (suc (suc (suc b)) + width left) right))
       (le_refl (suc (suc (suc b)) + width left)) (omega arith) (omega arith) (omega arith) (omega arith))
       (unmarked _ (λ l. refl))
   marks_select env labels valued tail d b (App at callee arguments result result_at) =
@@ -382,10 +392,11 @@ mutual
   pub marks_test : (env : List Named) (labels : List Label) (l b : ℕ) (e : Expression) (value : List Instr → List Instr) → Marks (Range b (b + width e)) value →
       Marks (Range b (b + width e)) (λ next. select_test env labels l b e (value next) next)
   marks_test env labels l b (Operator at op left right) value v =
-      tested_marks (comparison op) _ value
-      (λ of_right. then_quiet
-      (ordered_marks (is_left_first (scopes env) left right) (marks_select env labels false false _ (suc (suc (suc b))) left)
-      (constant_marks (right_of op right) (marks_select env labels false false _ (suc (suc (suc b)) + width left) right))
+      let s = shape_of op left right in
+      tested_marks (comparison (shape_op s op) (shape_right s)) _ value
+      (λ t. then_quiet
+      (ordered_marks (is_left_first (scopes env) left right) (left_marks s (marks_select env labels false false _ (suc (suc (suc b))) left))
+      (right_marks s (marks_select env labels false false _ (suc (suc (suc b)) + width left) right))
       (le_refl (suc (suc (suc b)) + width left)) (omega arith) (omega arith) (omega arith) (omega arith))
       (unmarked _ (λ l. refl)))
       v

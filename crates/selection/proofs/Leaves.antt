@@ -20,12 +20,12 @@ use Rattle.mach_ir.specs.Runs.{Place, Walks}
 use Rattle.mach_ir.specs.Meaning.{File, with_held, on_act, wrote, put, put_if}
 use Rattle.mach_ir.specs.Acts.{known, one_result}
 use Rattle.selection.specs.Kept.{on_values}
-use Rattle.selection.specs.Select.{Named, Label, scopes, fresh, reg_of, move_from, move_to, inner_valued, inner_dest, width, right_of, select}
+use Rattle.selection.specs.Select.{shape_of, shape_op, shape_right, shape_args, Named, Label, scopes, fresh, reg_of, move_from, move_to, inner_valued, inner_dest, width, select}
 use Rattle.selection.specs.Follow.{Follows, walks, fails}
 use Rattle.selection.proofs.Files.{Holds, Looked, unknown, known as a_known, looked_up as name_stands, Assigns, unbound, assigns, assigning, under_more, named_under, Stands, scope_is}
 use Rattle.selection.proofs.Parts.{lower_more, Stable, stable_inner, stable_same, name as may_name, calm, at, Level, any, nothing as no_value, gone_any, After, after_typed, node_follows, Ready, lands}
 use Rattle.selection.proofs.Operands.{Selected, operand, own_fits, ready_at}
-use Rattle.selection.proofs.Constants.{right_two, right_view, operands_values, operator_act}
+use Rattle.selection.proofs.Shapes.{shape_two, shape_view, operands_values, operator_act}
 use Rattle.selection.proofs.Endings.{ending_select}
 use Rattle.bs_words.specs.declared.types.Ty.TheVariants as ty
 use Rattle.bs_words.specs.declared.values.Value.TheVariants as value
@@ -161,20 +161,22 @@ module _ (c : Place) (m : Mach) (turns : ℕ) (ts : List ℕ) where
       (subst (λ (sc : List Scoped). Follows c m (both (is_left_first sc left right) (does (text_of c) turns left false) (does (text_of c) turns right false) h memory go kk)
       (Walks (at c m turns ts (select env labels valued tail d b (Operator place op left right) next) f memory)))
       (sym (scope_is s))
-      (right_two c m turns ts (is_left_first (scopes env) left right) left right (right_view op right) refl sl sr (omega (arith, fine)) (omega (arith, fine)) (suc b) (suc (suc b)) (suc (suc (suc b))) (suc (suc (suc b)) + width left)
+      (shape_two c m turns ts (is_left_first (scopes env) left right) left right (shape_view op left right) refl sl sr (omega (arith, fine)) (omega (arith, fine)) (suc b) (suc (suc b)) (suc (suc (suc b))) (suc (suc (suc b)) + width left)
       (instr ∷ next) go kk ready.lower ready.under first stable
       (omega arith) (omega arith) (omega arith) (omega arith) (omega arith) (omega arith) (λ z. omega (arith, z))
       (λ rest. ending_select env labels false false _ _ left rest) (λ rest. ending_select env labels false false _ _ right rest) ending a.outs h f memory level s p
       (λ v w h f memory level s p read. walks (
       subst (λ o. Follows c m (go v w h memory kk) (on_values c m instr next f (calm c m turns ts memory) o)) (sym (operands_values read))
-      (subst (λ done. Follows c m (go v w h memory kk) (on_act c m instr next f (calm c m turns ts memory) done)) (sym (operator_act c.setting op (calm c m turns ts memory) read))
+      (subst (λ done. Follows c m (go v w h memory kk) (on_act c m instr next f (calm c m turns ts memory) done)) (sym (operator_act c.setting (calm c m turns ts memory) read))
       (by h f memory level s p (apply op (sizes memory) v w)))))))
     where
       T : Ty
       T = type_of (scopes env) (Operator place op left right)
 
       instr : Instr
-      instr = emit.operator op (right_of op right) (fresh (suc b) (type_of (scopes env) left)) (fresh (suc (suc b)) (type_of (scopes env) right)) (inner_dest T b d)
+      instr =
+          emit.operator (shape_op (shape_of op left right) op) (shape_right (shape_of op left right))
+          (shape_args (shape_of op left right) (fresh (suc b) (type_of (scopes env) left)) (fresh (suc (suc b)) (type_of (scopes env) right))) (inner_dest T b d)
 
       kk : Leaves (Option Value) → Does
       kk = λ l. onward (λ v h memory. of_type c.setting.end (type_of (scopes env) (Operator place op left right)) v h memory) l k

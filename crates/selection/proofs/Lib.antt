@@ -3,6 +3,8 @@ pub mod Files
 pub mod Parts
 pub mod Operands
 pub mod Constants
+pub mod Commuting
+pub mod Shapes
 pub mod Endings
 pub mod Leaves
 pub mod Addresses

@@ -1,9 +1,8 @@
 -- Conditions: where they hold it goes on, and else at a label.
-use Rattle.std.proofs.Common.{◌≡◌, ℕ, suc, ◌+◌, ◌^◌, ◌<◌, ◌≤◌, Bool, false, cond, List, [], ◌∷◌, Option, Some, None, Result, Ok, Err, refl, sym, subst, arith}
+use Rattle.std.proofs.Common.{ℕ, suc, ◌+◌, ◌^◌, ◌<◌, ◌≤◌, Bool, false, cond, List, [], ◌∷◌, Option, Some, None, Result, Ok, Err, refl, sym, subst, arith}
 use Rattle.bs_words.specs.Memory.{Memory, sizes}
 use Rattle.bs_words.specs.Operators.{apply, condition_of}
 use Rattle.bs_words.specs.declared.operators.IntOp.{IntOp}
-use Rattle.bs_words.specs.declared.operators.IntOp.TheVariants as operators
 use Rattle.bs_words.specs.declared.types.Ty.{Ty}
 use Rattle.bs_words.specs.declared.values.Kind.{Kind}
 use Rattle.bs_words.specs.declared.values.Value.{Value}
@@ -22,31 +21,17 @@ use Rattle.mach_ir.specs.declared.mach.Instr.{Instr}
 use Rattle.mach_ir.specs.declared.mach.Mach.{Mach}
 use Rattle.mach_ir.specs.declared.mach.Test.{Test}
 use Rattle.mach_ir.specs.declared.mach.Test.TheVariants as test
-use Rattle.mach_ir.specs.declared.op.Right.{Right}
 use Rattle.mach_ir.specs.declared.reg.Reg.{Reg}
 use Rattle.selection.specs.Instructions.{right_regs}
 use Rattle.selection.specs.Instructions as emit
 use Rattle.selection.specs.Kept.{on_values}
-use Rattle.selection.specs.Select.{Named, Label, scopes, fresh, ordered, width, right_of, unless_constant, comparison, tested, select, select_test}
+use Rattle.selection.specs.Select.{Shape, shape_of, shape_op, shape_right, shape_args, unless_left, unless_right, Named, Label, scopes, fresh, ordered, width, comparison, tested, select, select_test}
 use Rattle.selection.specs.Follow.{text_of, Follows, walks, fails}
 use Rattle.selection.proofs.Files.{Under, Stands, scope_is}
 use Rattle.selection.proofs.Parts.{Placed, Lower, Stable, stable_inner, calm, at, Level, Outs, of_type_some, node_follows}
 use Rattle.selection.proofs.Operands.{Selected, operand, ready_at}
 use Rattle.selection.proofs.Endings.{ending_select}
-use Rattle.selection.proofs.Constants.{right_two, right_view, Operands, right_values, operands_values, signed_truth, unsigned_truth}
-
--- the test says what the comparison gives
-pub record Says (op : IntOp) (of_right : Right → Test) : Type 0 where
-  pub is : {x y : Reg} {v w : Value} {f : File} {r : Right} (sizes : List ℕ) → Operands x y v f r w → truth_of sizes (of_right r) (right_values r v w) ≡ as_condition sizes (apply op sizes v w)
-
-pub data Compared : IntOp → Option (Right → Test) → Type 0 where
-  no_comparison : {op : IntOp} → Compared op None
-  compares : {op : IntOp} {of_right : Right → Test} → Says op of_right → Compared op (Some of_right)
-
-pub compared : (op : IntOp) → Compared op (comparison op)
-compared (operators.Cmp q) = compares (record { is = λ sizes read. signed_truth sizes q read })
-compared (operators.CmpU q) = compares (record { is = λ sizes read. unsigned_truth sizes q read })
-compared op = no_comparison
+use Rattle.selection.proofs.Shapes.{shape_two, shape_view, operands_values, Says, Compared, no_comparison, compares, compared}
 
 module _ (c : Place) (m : Mach) (turns : ℕ) (ts : List ℕ) where
   -- it goes on from a condition
@@ -90,47 +75,44 @@ module _ (c : Place) (m : Mach) (turns : ℕ) (ts : List ℕ) where
       by h f memory level s p (Ok holds) = on holds h f memory level s p
 
   -- a comparison is a test of its own
-  module _ (place : ℕ) (op : IntOp) (left e : Expression) (of_right : Right → Test) (says : Says op of_right) where
-    compare_test : Selected c m turns ts left → Selected c m turns ts e →
-        (env : List Named) (labels : List Label) (l b d i : ℕ) (next : List Instr) (P : File → Type 0) (k : Leaves (Option Value) → Does) (go : Bool → Here → Memory → Part (Option Value)) →
-        width (Operator place op left e) < 2 ^ 60 → Lower b labels → Under b env → 21 ≤ b → b ≤ i → Stable env b d P →
-        Placed m ts (ordered (is_left_first (scopes env) left e) (select env labels false false (fresh (suc i) (type_of (scopes env) left)) (suc (suc (suc i))) left)
-        (unless_constant (right_of op e) (select env labels false false (fresh (suc (suc i)) (type_of (scopes env) e)) (suc (suc (suc i)) + width left) e))
-        (emit.branch (of_right (right_of op e)) l (fresh (suc i) (type_of (scopes env) left) ∷ right_regs (right_of op e) (fresh (suc (suc i)) (type_of (scopes env) e))) ∷ next)) →
+  module _ (place : ℕ) (op : IntOp) (left e : Expression) (env : List Named) (labels : List Label) (l i : ℕ) (next : List Instr) where
+    abbrev x : Reg
+    x = fresh (suc i) (type_of (scopes env) left)
+
+    abbrev y : Reg
+    y = fresh (suc (suc i)) (type_of (scopes env) e)
+
+    abbrev z : Shape
+    z = shape_of op left e
+
+    abbrev mark : Test → Instr
+    mark t = emit.branch t l (shape_args z x y)
+
+    abbrev compare_code : Test → List Instr
+    compare_code t =
+        ordered (is_left_first (scopes env) left e) (unless_left z (select env labels false false x (suc (suc (suc i))) left)) (unless_right z (select env labels false false y (suc (suc (suc i)) + width left) e)) (mark t ∷ next)
+
+    compare_test : (t : Test) → Says op z t → Selected c m turns ts left → Selected c m turns ts e →
+        (b d : ℕ) (P : File → Type 0) (k : Leaves (Option Value) → Does) (go : Bool → Here → Memory → Part (Option Value)) →
+        width (Operator place op left e) < 2 ^ 60 → Lower b labels → Under b env → 21 ≤ b → b ≤ i → Stable env b d P → Placed m ts (compare_code t) →
         Outs c m turns ts env labels P k → (h : Here) (f : File) (memory : Memory) → Level c m turns ts h → Stands env h.names f → P f → Turns env P l next k go →
-        Follows c m (with_value (does (text_of c) turns (Operator place op left e) false h memory) (judged go) k)
-        (Walks (at c m turns ts (ordered (is_left_first (scopes env) left e) (select env labels false false (fresh (suc i) (type_of (scopes env) left)) (suc (suc (suc i))) left)
-        (unless_constant (right_of op e) (select env labels false false (fresh (suc (suc i)) (type_of (scopes env) e)) (suc (suc (suc i)) + width left) e))
-        (emit.branch (of_right (right_of op e)) l (fresh (suc i) (type_of (scopes env) left) ∷ right_regs (right_of op e) (fresh (suc (suc i)) (type_of (scopes env) e))) ∷ next)) f memory))
-    compare_test sl se env labels l b d i next P k go fine lower under first bi stable placed outs h f memory level s p on =
+        Follows c m (with_value (does (text_of c) turns (Operator place op left e) false h memory) (judged go) k) (Walks (at c m turns ts (compare_code t) f memory))
+    compare_test t says sl se b d P k go fine lower under first bi stable placed outs h f memory level s p on =
         node_follows c m turns ts (Operator place op left e) h memory
         (both (is_left_first (scope h) left e) (does (text_of c) turns left false) (does (text_of c) turns e false) h memory step) taking _ s
         (subst (λ (sc : List Scoped). Follows c m (both (is_left_first sc left e) (does (text_of c) turns left false) (does (text_of c) turns e false) h memory step kk)
-        (Walks (at c m turns ts (ordered (is_left_first (scopes env) left e) (select env labels false false x (suc (suc (suc i))) left)
-        (unless_constant r (select env labels false false y (suc (suc (suc i)) + width left) e)) (mark ∷ next)) f memory)))
+        (Walks (at c m turns ts (compare_code t) f memory)))
         (sym (scope_is s))
-        (right_two c m turns ts (is_left_first (scopes env) left e) left e (right_view op e) refl sl se (omega (arith, fine)) (omega (arith, fine)) (suc i) (suc (suc i)) (suc (suc (suc i))) (suc (suc (suc i)) + width left)
-        (mark ∷ next) step kk lower under first stable
+        (shape_two c m turns ts (is_left_first (scopes env) left e) left e (shape_view op left e) refl sl se (omega (arith, fine)) (omega (arith, fine)) (suc i) (suc (suc i)) (suc (suc (suc i))) (suc (suc (suc i)) + width left)
+        (mark t ∷ next) step kk lower under first stable
         (omega (arith, bi)) (omega (arith, bi)) (omega arith) (omega arith) (omega arith) (omega arith) (λ z. omega (arith, z))
         (λ rest. ending_select env labels false false _ _ left rest) (λ rest. ending_select env labels false false _ _ e rest) placed
         (record { exit = λ l values h f memory level r p. outs.exit l values h f memory level r p; raising = λ v fv h f memory level r p. outs.raising v fv h f memory level r p }) h f memory level s p
         (λ v w h f memory level s p read. walks (
-        subst (λ o. Follows c m (step v w h memory kk) (on_values c m mark next f (calm c m turns ts memory) o)) (sym (operands_values read))
-        (subst (λ o. Follows c m (step v w h memory kk) (on_act c m mark next f (calm c m turns ts memory) (turned (calm c m turns ts memory) On (At l) o))) (sym (says.is (sizes memory) read))
+        subst (λ o. Follows c m (step v w h memory kk) (on_values c m (mark t) next f (calm c m turns ts memory) o)) (sym (operands_values read))
+        (subst (λ o. Follows c m (step v w h memory kk) (on_act c m (mark t) next f (calm c m turns ts memory) (turned (calm c m turns ts memory) On (At l) o))) (sym (says.is (sizes memory) read))
         (by h f memory level s p (apply op (sizes memory) v w)))))))
       where
-        x : Reg
-        x = fresh (suc i) (type_of (scopes env) left)
-
-        y : Reg
-        y = fresh (suc (suc i)) (type_of (scopes env) e)
-
-        r : Right
-        r = right_of op e
-
-        mark : Instr
-        mark = emit.branch (of_right (right_of op e)) l (fresh (suc i) (type_of (scopes env) left) ∷ right_regs (right_of op e) (fresh (suc (suc i)) (type_of (scopes env) e)))
-
         T : Ty
         T = type_of (scopes env) (Operator place op left e)
 
@@ -144,31 +126,26 @@ module _ (c : Place) (m : Mach) (turns : ℕ) (ts : List ℕ) where
         step = λ v w h memory. proper (apply op (sizes memory) v w) memory (λ u. part.gives (Some u) h memory)
 
         turn : (h : Here) (f : File) (memory : Memory) → Level c m turns ts h → Stands env h.names f → P f → (o : Result Bool Kind) →
-            Follows c m (proper o memory (λ holds. go holds h memory) k) (on_act c m mark next f (calm c m turns ts memory) (turned (calm c m turns ts memory) On (At l) (acts.proper o)))
+            Follows c m (proper o memory (λ holds. go holds h memory) k) (on_act c m (mark t) next f (calm c m turns ts memory) (turned (calm c m turns ts memory) On (At l) (acts.proper o)))
         turn h f memory level s p (Err kind) = fails
         turn h f memory level s p (Ok holds) = on holds h f memory level s p
 
         by : (h : Here) (f : File) (memory : Memory) → Level c m turns ts h → Stands env h.names f → P f → (o : Result Value Kind) →
-            Follows c m (proper o memory (λ u. part.gives (Some u) h memory) kk) (on_act c m mark next f (calm c m turns ts memory) (turned (calm c m turns ts memory) On (At l) (as_condition (sizes memory) o)))
+            Follows c m (proper o memory (λ u. part.gives (Some u) h memory) kk) (on_act c m (mark t) next f (calm c m turns ts memory) (turned (calm c m turns ts memory) On (At l) (as_condition (sizes memory) o)))
         by h f memory level s p (Err kind) = fails
         by h f memory level s p (Ok u) =
-            of_type_some c m turns ts taking (on_act c m mark next f (calm c m turns ts memory) (turned (calm c m turns ts memory) On (At l) (acts.proper (condition_of (sizes memory) u)))) T u h memory
+            of_type_some c m turns ts taking (on_act c m (mark t) next f (calm c m turns ts memory) (turned (calm c m turns ts memory) On (At l) (acts.proper (condition_of (sizes memory) u)))) T u h memory
             (λ fit'. turn h f memory level s p (condition_of (sizes memory) u)) (λ none'. fails)
 
   pub operator_test : (place : ℕ) (op : IntOp) (left e : Expression) → Selected c m turns ts left → Selected c m turns ts e → Selected c m turns ts (Operator place op left e) → SelectedTest (Operator place op left e)
-  operator_test place op left e sl se so env labels l t b d i next P k go fine lower under first bt ti stable placed outs h f memory level s p on = by (comparison op) (compared op) placed
+  operator_test place op left e sl se so env labels l t b d i next P k go fine lower under first bt ti stable placed outs h f memory level s p on =
+      by (comparison (shape_op (shape_of op left e) op) (shape_right (shape_of op left e))) (compared op (shape_of op left e)) placed
     where
-      code : Option (Right → Test) → List Instr
-      code o =
-          tested o
-          (λ of_right.
-          ordered (is_left_first (scopes env) left e) (select env labels false false (fresh (suc i) (type_of (scopes env) left)) (suc (suc (suc i))) left)
-          (unless_constant (right_of op e) (select env labels false false (fresh (suc (suc i)) (type_of (scopes env) e)) (suc (suc (suc i)) + width left) e))
-          (emit.branch (of_right (right_of op e)) l (fresh (suc i) (type_of (scopes env) left) ∷ right_regs (right_of op e) (fresh (suc (suc i)) (type_of (scopes env) e))) ∷ next))
-          (value_code env labels l t i (Operator place op left e) next)
+      code : Option Test → List Instr
+      code o = tested o (compare_code place op left e env labels l i next) (value_code env labels l t i (Operator place op left e) next)
 
-      by : (o : Option (Right → Test)) → Compared op o → Placed m ts (code o) →
+      by : (o : Option Test) → Compared op (shape_of op left e) o → Placed m ts (code o) →
           Follows c m (with_value (does (text_of c) turns (Operator place op left e) false h memory) (judged go) k) (Walks (at c m turns ts (code o) f memory))
       by None no_comparison placed = value_test (Operator place op left e) so env labels l t b d i next P k go fine lower under first bt ti stable placed outs h f memory level s p on
-      by (Some of_right) (compares says) placed =
-          compare_test place op left e of_right says sl se env labels l b d i next P k go fine lower under first (omega (arith, bt, ti)) stable placed outs h f memory level s p on
+      by (Some q) (compares says) placed =
+          compare_test place op left e env labels l i next q says sl se b d P k go fine lower under first (omega (arith, bt, ti)) stable placed outs h f memory level s p on

@@ -45,8 +45,8 @@ abbrev pub right_regs : Right → Reg → List Reg
 right_regs right.Register y = y ∷ []
 right_regs (right.Constant w) y = []
 
-abbrev pub operator : IntOp → Right → Reg → Reg → Reg → Instr
-operator f r x y to = operation (op.Pure (pure.Operator f r)) (x ∷ right_regs r y) (to ∷ [])
+abbrev pub operator : IntOp → Right → List Reg → Reg → Instr
+operator f r args to = operation (op.Pure (pure.Operator f r)) args (to ∷ [])
 
 -- ---- memory
 

@@ -1,7 +1,8 @@
 -- The code of an expression. It is one definition over the tree: the code that follows is handed
 -- in, and each register and label is numbered from a number that is handed in, too.
-use Rattle.std.specs.Prelude.{ℕ, zero, suc, ◌+◌, ◌*◌, ◌%◌, nat_le, nat_eq, Bool, true, false, not, cond, ◌&&◌, List, [], ◌∷◌, ◌++◌, Option, Some, None, map, length, slice_index_or, bytes_eq}
+use Rattle.std.specs.Prelude.{ℕ, zero, suc, ◌+◌, ◌*◌, ◌%◌, ◌^◌, nat_le, nat_eq, Bool, true, false, not, cond, ◌&&◌, List, [], ◌∷◌, ◌++◌, Option, Some, None, map, length, slice_index_or, bytes_eq}
 use Rattle.bs_words.specs.Fits.{type_of_comp}
+use Rattle.bs_words.specs.declared.operators.CmpOp.{CmpOp}
 use Rattle.bs_words.specs.declared.operators.CmpOp.TheVariants as compare
 use Rattle.bs_words.specs.declared.operators.IntOp.{IntOp}
 use Rattle.bs_words.specs.declared.operators.IntOp.TheVariants as operator
@@ -31,7 +32,7 @@ use Rattle.mach_ir.specs.declared.mach.Test.TheVariants as test
 use Rattle.mach_ir.specs.declared.op.Right.{Right}
 use Rattle.mach_ir.specs.declared.op.Right.TheVariants as right
 use Rattle.mach_ir.specs.declared.reg.Reg.{Reg}
-use Rattle.selection.specs.Instructions.{bare, right_regs}
+use Rattle.selection.specs.Instructions.{bare}
 use Rattle.selection.specs.Instructions as emit
 
 -- a name in scope, and its register
@@ -101,7 +102,108 @@ only_when false code next = next
 
 -- ---- operands
 
--- a right operand that is a constant for which the machine has an immediate needs no register
+-- an operator with a constant as its right operand
+pub record Immediate : Type 0 where
+  pub op : IntOp
+  pub word : ℕ
+
+-- the exponent of a power of two below 2 ^ 64, from this exponent on
+abbrev pub exponent_if : Bool → ℕ → Option ℕ → Option ℕ
+exponent_if true k further = Some k
+exponent_if false k further = further
+
+unfoldable pub exponent_from : ℕ → ℕ → ℕ → Option ℕ
+exponent_from zero k w = None
+exponent_from (suc n) k w = exponent_if (nat_eq (2 ^ k) w) k (exponent_from n (suc k) w)
+
+abbrev pub shift_by : Option ℕ → Option Immediate
+shift_by (Some k) = Some (record { op = operator.Shl; word = k })
+shift_by None = None
+
+abbrev pub immediate_if : Bool → IntOp → ℕ → Option Immediate
+immediate_if true op w = Some (record { op = op; word = w })
+immediate_if false op w = None
+
+-- what the machine has for an operator with this right operand: the operator with an immediate, or
+-- a shift for a product with a power of two
+abbrev pub immediate_of : IntOp → ℕ → Option Immediate
+immediate_of operator.Mul w = shift_by (exponent_from 64 0 w)
+immediate_of op w = immediate_if (is_immediate op w) op w
+
+abbrev pub turned_round : CmpOp → CmpOp
+turned_round compare.Eq = compare.Eq
+turned_round compare.Ne = compare.Ne
+turned_round compare.Lt = compare.Gt
+turned_round compare.Le = compare.Ge
+turned_round compare.Gt = compare.Lt
+turned_round compare.Ge = compare.Le
+
+-- the operator that gives the same where its operands change places
+abbrev pub commuted : IntOp → Option IntOp
+commuted operator.Add = Some operator.Add
+commuted operator.AddV = Some operator.AddV
+commuted operator.AddA = Some operator.AddA
+commuted operator.Mul = Some operator.Mul
+commuted operator.And = Some operator.And
+commuted operator.Or = Some operator.Or
+commuted operator.Xor = Some operator.Xor
+commuted (operator.Cmp f) = Some (operator.Cmp (turned_round f))
+commuted (operator.CmpU f) = Some (operator.CmpU (turned_round f))
+commuted _ = None
+
+abbrev pub right_immediate : IntOp → Expression → Option Immediate
+right_immediate op (Integer at w) = immediate_of op w
+right_immediate op e = None
+
+abbrev pub if_commuted : Option IntOp → ℕ → Option Immediate
+if_commuted (Some op) w = immediate_of op w
+if_commuted None w = None
+
+abbrev pub left_immediate : IntOp → Expression → Option Immediate
+left_immediate op (Integer at w) = if_commuted (commuted op) w
+left_immediate op e = None
+
+-- Where the operands of an operator stand: in registers both, or one of them is a constant that
+-- needs none.
+pub data Shape : Type 0 where
+  InRegisters : Shape
+  ConstantRight : (immediate : Immediate) → Shape
+  ConstantLeft : (immediate : Immediate) → Shape
+
+abbrev pub shape : Option Immediate → Option Immediate → Shape
+shape (Some i) left = ConstantRight i
+shape None (Some i) = ConstantLeft i
+shape None None = InRegisters
+
+abbrev pub shape_of : IntOp → Expression → Expression → Shape
+shape_of op left right = shape (right_immediate op right) (left_immediate op left)
+
+abbrev pub shape_op : Shape → IntOp → IntOp
+shape_op InRegisters op = op
+shape_op (ConstantRight i) op = i.op
+shape_op (ConstantLeft i) op = i.op
+
+abbrev pub shape_right : Shape → Right
+shape_right InRegisters = right.Register
+shape_right (ConstantRight i) = right.Constant i.word
+shape_right (ConstantLeft i) = right.Constant i.word
+
+abbrev pub shape_args : Shape → Reg → Reg → List Reg
+shape_args InRegisters x y = x ∷ y ∷ []
+shape_args (ConstantRight i) x y = x ∷ []
+shape_args (ConstantLeft i) x y = y ∷ []
+
+abbrev pub unless_left : Shape → Code → Code
+unless_left InRegisters code next = code next
+unless_left (ConstantRight i) code next = code next
+unless_left (ConstantLeft i) code next = next
+
+abbrev pub unless_right : Shape → Code → Code
+unless_right InRegisters code next = code next
+unless_right (ConstantRight i) code next = next
+unless_right (ConstantLeft i) code next = code next
+
+-- the index of a bound test is a constant where the machine has an immediate for it
 abbrev pub right_of : IntOp → Expression → Right
 right_of f (Integer at w) = cond (is_immediate f w) (right.Constant w) right.Register
 right_of f _ = right.Register
@@ -130,13 +232,13 @@ base_of (Operator at op base (Integer at' w)) =
 base_of e = e
 
 -- the test that a comparison is, where an `if` takes it
-abbrev pub comparison : IntOp → Option (Right → Test)
-comparison (operator.Cmp f) = Some (test.Signed f)
-comparison (operator.CmpU f) = Some (test.Unsigned f)
-comparison _ = None
+abbrev pub comparison : IntOp → Right → Option Test
+comparison (operator.Cmp f) r = Some (test.Signed f r)
+comparison (operator.CmpU f) r = Some (test.Unsigned f r)
+comparison _ r = None
 
-abbrev pub tested : Option (Right → Test) → ((Right → Test) → List Instr) → Code
-tested (Some of_right) fused value = fused of_right
+abbrev pub tested : Option Test → (Test → List Instr) → Code
+tested (Some t) fused value = fused t
 tested None fused value = value
 
 -- the index of a bound test is below the bound, unsigned
@@ -378,12 +480,13 @@ abbrev mutual
   select env labels valued tail d b (Operator at op left right) next =
       let x = fresh (suc b) (type_of (scopes env) left) in
       let y = fresh (suc (suc b)) (type_of (scopes env) right) in
-      let r = right_of op right in
+      let s = shape_of op left right in
       let type = type_of (scopes env) (Operator at op left right) in
       ordered (is_left_first (scopes env) left right)
-      (select env labels false false x (suc (suc (suc b))) left)
-      (unless_constant r (select env labels false false y (suc (suc (suc b)) + width left) right))
-      (emit.operator op r x y (inner_dest type b d) ∷ next)
+      (unless_left s (select env labels false false x (suc (suc (suc b))) left))
+      (unless_right s (select env labels false false y (suc (suc (suc b)) + width left) right))
+      (emit.operator (shape_op s op) (shape_right s) (shape_args s x y) (inner_dest type b d)
+      ∷ next)
   select env labels valued tail d b (App at callee arguments result result_at) next =
       let type = type_of (scopes env) (App at callee arguments result result_at) in
       let f = fresh (suc b) (type_of (scopes env) callee) in
@@ -528,13 +631,13 @@ abbrev mutual
   select_test env labels l b (Operator at op left right) value next =
       let x = fresh (suc b) (type_of (scopes env) left) in
       let y = fresh (suc (suc b)) (type_of (scopes env) right) in
-      let r = right_of op right in
-      tested (comparison op)
-      (λ of_right.
+      let s = shape_of op left right in
+      tested (comparison (shape_op s op) (shape_right s))
+      (λ t.
       ordered (is_left_first (scopes env) left right)
-      (select env labels false false x (suc (suc (suc b))) left)
-      (unless_constant r (select env labels false false y (suc (suc (suc b)) + width left) right))
-      (emit.branch (of_right r) l (x ∷ right_regs r y) ∷ next))
+      (unless_left s (select env labels false false x (suc (suc (suc b))) left))
+      (unless_right s (select env labels false false y (suc (suc (suc b)) + width left) right))
+      (emit.branch t l (shape_args s x y) ∷ next))
       value
   select_test env labels l b e value next = value
 
