@@ -1,0 +1,4 @@
+pub mod Comes
+pub mod Losing
+pub mod Made
+pub mod Losses
