@@ -6,7 +6,7 @@ use Rattle.rv_machine.specs.Hart.{Placed}
 use Rattle.rv_machine.specs.Marks.{Marks, mark_at}
 use Rattle.rv_machine.specs.Placement.{are_apart, end_of, header_at, is_apart, is_in_heap, placed_at}
 use Rattle.alloc_service.specs.Forward.{MarksWithin, covers, is_covered}
-use Rattle.alloc_service.proofs.InHeap.{in_heap, unaligned}
+use Rattle.machine_laws.proofs.InHeap.{in_heap, unaligned}
 use Rattle.alloc_service.proofs.Steps.{step, step_at}
 
 -- ---- lists of placed blocks

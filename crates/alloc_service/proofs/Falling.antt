@@ -4,7 +4,7 @@ use Rattle.std.proofs.lemmas.List.{reverse-append}
 use Rattle.std.proofs.Math.Seq.{take-suc}
 use Rattle.rv_machine.specs.Hart.{Placed}
 use Rattle.rv_machine.specs.Placement.{bytes_used, spaced}
-use Rattle.alloc_service.proofs.Chain.{bytes-append}
+use Rattle.machine_laws.proofs.Chain.{bytes-append}
 
 last : (bs : List Placed) (left : ℕ) (b : Placed) → 0 < left → left ≤ length bs → b ≡ get_or bs (left - 1) b → take left bs ≡ take (left - 1) bs ++ b ∷ []
 last bs left b h k e =

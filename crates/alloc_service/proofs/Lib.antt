@@ -1,9 +1,6 @@
 pub mod Apart
-pub mod Chain
 pub mod Falling
 pub mod Gathered
-pub mod InHeap
-pub mod Packing
 pub mod Placing
 pub mod Served
 pub mod Sorted

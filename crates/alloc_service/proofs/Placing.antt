@@ -15,9 +15,10 @@ use Rattle.rv_machine.specs.Space.{IsKept}
 use Rattle.rv_machine.specs.Memory.{Region, put, word, words_at}
 use Rattle.alloc_service.specs.Forward.{IsForward, IsLow, IsPlaced, IsSmall, forward, forwarded, mark_or, poured, redirected_now, root_by, words_moved, words_of}
 use Rattle.alloc_service.specs.Young.{HasCells}
-use Rattle.alloc_service.proofs.Chain.{IsYoung}
+use Rattle.machine_laws.proofs.Apart.{all_of, all-append, all-reverse}
+use Rattle.machine_laws.proofs.Chain.{IsYoung}
 use Rattle.alloc_service.proofs.Words.{Rise, both_now}
-use Rattle.alloc_service.proofs.InHeap.{covered_place, ends_below, in_heap, young_place}
+use Rattle.machine_laws.proofs.InHeap.{covered_place, ends_below, in_heap, young_place}
 
 pub kept_low : (heap : ℕ) (b : Placed) → heap ≤ 67108864 → IsKept heap b → IsLow b
 kept_low heap b m k =
@@ -45,18 +46,6 @@ young_low b y = record { low = omega (arith, y.most, y.high); high = omega (arit
 
 -- ---- lists
 
-pub all_of : (P Q : Placed → Type 0) → ((b : Placed) → P b → Q b) → (bs : List Placed) → AllByRecursion P bs → AllByRecursion Q bs
-all_of P Q f [] all = tt
-all_of P Q f (b ∷ bs) all = (f b all.0, all_of P Q f bs all.1)
-
-all-append : (P : Placed → Type 0) (as' bs : List Placed) → AllByRecursion P as' → AllByRecursion P bs → AllByRecursion P (as' ++ bs)
-all-append P [] bs x y = y
-all-append P (a ∷ as') bs x y = (x.0, all-append P as' bs x.1 y)
-
-all-reverse : (P : Placed → Type 0) (bs : List Placed) → AllByRecursion P bs → AllByRecursion P (reverse bs)
-all-reverse P [] all = tt
-all-reverse P (b ∷ bs) all = subst (AllByRecursion P) (sym (reverse-append (b ∷ []) bs)) (all-append P (reverse bs) (b ∷ []) (all-reverse P bs all.1) (all.0, tt))
-
 pub all_placed :
     (heap : ℕ) (old found : List Placed) → heap ≤ 67108864 → AllByRecursion (IsKept heap) old → AllByRecursion IsYoung found →
     AllByRecursion (IsPlaced heap) (old ++ reverse found)
@@ -76,22 +65,6 @@ small_of heap bs all = all_of (IsPlaced heap) IsSmall (λ b k. k.small) bs all
 
 pub cells_of_small : (bs : List Placed) → AllByRecursion IsSmall bs → AllByRecursion HasCells bs
 cells_of_small bs all = all_of IsSmall HasCells (λ b k. k.some) bs all
-
--- ---- blocks at their new places
-
-pub new_kept :
-    (heap : ℕ) (bs : List Placed) (ss : List ℕ) → AllByRecursion IsSmall bs → length ss ≡ length bs → list_all (is_in_heap heap) (placed_at bs ss) ≡ true →
-    AllByRecursion (IsKept heap) (placed_at bs ss)
-new_kept heap [] ss all e h = tt
-new_kept heap (b ∷ bs) [] all e h = absurd (omega arith)
-new_kept heap (b ∷ bs) (s ∷ ss) all e h =
-    let p = and_parts (is_in_heap heap (record b { start = s })) (list_all (is_in_heap heap) (placed_at bs ss)) h in
-    (record { some = all.0.some; inside = p.0 }, new_kept heap bs ss all.1 (omega arith) p.1)
-
-pub new_bytes : (bs : List Placed) (ss : List ℕ) → bytes_used (placed_at bs ss) ≡ bytes_used bs
-new_bytes [] ss = refl
-new_bytes (b ∷ bs) [] = refl
-new_bytes (b ∷ bs) (s ∷ ss) = ap (λ n. 8 + 8 * b.words + n) (new_bytes bs ss)
 
 -- ---- the table and the definition
 

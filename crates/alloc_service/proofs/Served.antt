@@ -15,6 +15,7 @@ use Rattle.rv_machine.specs.declared.cause.Cause.{Cause}
 use Rattle.rv_machine.specs.declared.cause.Cause.TheVariants.{BadRoot}
 use Rattle.alloc_service.specs.Attempt.{Parts, frames_at, moved_to, roots_at}
 use Rattle.alloc_service.specs.Plan.{both_counted, services_counted, with_counts}
+use Rattle.alloc_service.specs.declared.attempt.Caller.{Caller}
 
 -- ---- what a survey has found
 
@@ -28,6 +29,10 @@ surveyed_by None g b e = absurd (cc)
 surveyed_by (Some fs) g b e = record { fs = fs; found = refl; holds = let same : b ≡ g fs = cc in sym same }
 
 -- ---- the steps
+
+-- the caller of a service on a hart
+abbrev pub caller_of : Hart → Caller
+caller_of h = record { number = h.services; base = h.stack_base; heap = h.heap; address = h.pc + 4; sp = slice_index h.registers 2 }
 
 module _ (plan : List Placed → List ℕ) (h : Hart) (found : List Placed) (from : ℕ) (young : young_blocks h.memory from ≡ Some found) (fits : bytes_used (h.blocks ++ reverse found) ≤ h.heap) where
   abbrev pub parts : Parts
@@ -51,7 +56,7 @@ module _ (plan : List Placed → List ℕ) (h : Hart) (found : List Placed) (fro
       (fun_ext (read_by z))
 
   pub bad_root :
-      slice_index h.registers 0 ≡ 0 → (fs : List Frame) → frames_at h.image h.stack_base parts (h.pc + 4) (slice_index h.registers 2) ≡ Some fs →
+      slice_index h.registers 0 ≡ 0 → (fs : List Frame) → frames_at h.image (caller_of h) parts ≡ Some fs →
       roots_at h.image parts fs ≡ false → with_counts services_counted (with_blocks plan h (blocks_at h from)) ≡ Refused BadRoot
   bad_root z fs e r =
       ap (with_counts services_counted)
@@ -59,7 +64,7 @@ module _ (plan : List Placed → List ℕ) (h : Hart) (found : List Placed) (fro
       ∙ cond-false (are_roots entered fs) _ _ (roots_same z fs ∙ r))
 
   pub goes :
-      slice_index h.registers 0 ≡ 0 → (fs : List Frame) → frames_at h.image h.stack_base parts (h.pc + 4) (slice_index h.registers 2) ≡ Some fs →
+      slice_index h.registers 0 ≡ 0 → (fs : List Frame) → frames_at h.image (caller_of h) parts ≡ Some fs →
       roots_at h.image parts fs ≡ true → (new : Parts) →
       new ≡ moved_to h.image (new_places h.heap h.services (h.blocks ++ reverse found) (plan (h.blocks ++ reverse found))) fs parts →
       (services : ℕ) → services ≡ count (suc h.services) →

@@ -5,48 +5,8 @@ use Rattle.std.proofs.lemmas.Bool.{and_parts, leb-true, eqb-true}
 use Rattle.rv_machine.specs.Memory.{Region, byte_in, index_in, is_inside, memory_or, or_zero, part, read, with_written, word, write, written}
 use Rattle.rv_machine.specs.Hart.{with_register}
 use Rattle.rv_machine.specs.Moving.{redirected, redirected_registers}
+use Rattle.machine_laws.proofs.Memory.{other_word}
 use Rattle.alloc_service.specs.Forward.{redirected_now, redirected_registers_now}
-
-inside_low : (r : Region) (a w : ℕ) → is_inside r a w ≡ true → r.start ≤ a
-inside_low r a w h = leb-true r.start a (and_parts (nat_le r.start a) (nat_le (a + w) (r.start + r.bytes)) h).0
-
--- two places of a region have two words
-apart_in : (start a b : ℕ) → a % 8 ≡ 0 → b % 8 ≡ 0 → a ≢ b → start ≤ a → start ≤ b → (b - start) / 8 ≢ (a - start) / 8
-apart_in start a b x y n h k = omega arith
-
-read_here :
-    (r : Region) (rs : List Region) (a b v : ℕ) (t : Bool) → a % 8 ≡ 0 → b % 8 ≡ 0 → a ≢ b → is_inside r a 8 ≡ true → is_inside r b 8 ≡ t →
-    cond t (Some (part (slice_index (with_written r a 8 v).words (index_in r b)) (byte_in r b) 8)) (read rs b 8)
-    ≡ cond t (Some (part (slice_index r.words (index_in r b)) (byte_in r b) 8)) (read rs b 8)
-read_here r rs a b v true x y n h k =
-    ap (λ w. Some (part w (byte_in r b) 8))
-    (get_or-set_other r.words (index_in r a) (index_in r b) _ 0 (apart_in r.start a b x y n (inside_low r a 8 h) (inside_low r b 8 k)))
-read_here r rs a b v false x y n h k = refl
-
-read_by :
-    (r : Region) (rs : List Region) (a b v : ℕ) (t : Bool) (o : Option (List Region)) → a % 8 ≡ 0 → b % 8 ≡ 0 → a ≢ b → is_inside r a 8 ≡ t →
-    read (memory_or rs o) b 8 ≡ read rs b 8 →
-    read (memory_or (r ∷ rs) (cond t (Some (with_written r a 8 v ∷ rs)) (option_map (λ rest. r ∷ rest) o))) b 8 ≡ read (r ∷ rs) b 8
-read_by r rs a b v true o x y n h later = read_here r rs a b v (is_inside r b 8) x y n h refl
-read_by r rs a b v false None x y n h later = refl
-read_by r rs a b v false (Some new) x y n h later =
-    ap (λ (o : Option ℕ). cond (is_inside r b 8) (Some (part (slice_index r.words (index_in r b)) (byte_in r b) 8)) o) later
-
-read_other : (m : List Region) (a b v : ℕ) → a % 8 ≡ 0 → b % 8 ≡ 0 → a ≢ b → read (memory_or m (written m a 8 v)) b 8 ≡ read m b 8
-read_other [] a b v x y n = refl
-read_other (r ∷ rs) a b v x y n = read_by r rs a b v (is_inside r a 8) (written rs a 8 v) x y n refl (read_other rs a b v x y n)
-
-word_by :
-    (m : List Region) (a b v : ℕ) (s t : Bool) → (a % 8 == 0) ≡ s → (b % 8 == 0) ≡ t → a ≢ b →
-    or_zero (cond t (read (memory_or m (cond s (written m a 8 v) None)) b 8) None) ≡ or_zero (cond t (read m b 8) None)
-word_by m a b v s false e k n = refl
-word_by m a b v false true e k n = refl
-word_by m a b v true true e k n = ap or_zero (read_other m a b v (eqb-true (a % 8) 0 e) (eqb-true (b % 8) 0 k) n)
-
--- another word stays
-pub other_word : (m : List Region) (a b v : ℕ) → a ≢ b → word (write m a v) b ≡ word m b
-unfolding word write
-other_word m a b v n = word_by m a b v (a % 8 == 0) (b % 8 == 0) refl refl n
 
 -- ---- words that are rewritten
 

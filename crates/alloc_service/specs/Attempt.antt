@@ -8,9 +8,12 @@ use Rattle.rv_machine.specs.Frames.{Frame, frames_from, most_frames, registers_o
 use Rattle.rv_machine.specs.Hart.{Placed}
 use Rattle.rv_machine.specs.Memory.{Region, word}
 use Rattle.rv_machine.specs.Moving.{moved_memory, redirected_registers, rewritten}
-use Rattle.rv_machine.specs.Placement.{is_in_heap, placed_at}
+use Rattle.rv_machine.specs.Placement.{is_in_heap, new_places, placed_at}
 use Rattle.rv_machine.specs.declared.space.Space.{Space}
 use Rattle.alloc_service.specs.Forward.{IsForward}
+use Rattle.alloc_service.specs.Plan.{plan_of}
+use Rattle.alloc_service.specs.declared.attempt.Caller.{Caller}
+use Rattle.alloc_service.specs.declared.plan.Plan.{Plan}
 
 -- The parts of a machine that a service reads and changes.
 pub record Parts : Type 0 where
@@ -18,9 +21,17 @@ pub record Parts : Type 0 where
   pub memory : List Region
   pub blocks : List Placed
 
--- the frames from a return address and a stack pointer on
-abbrev pub frames_at : Tables → ℕ → Parts → ℕ → ℕ → Option (List Frame)
-frames_at image base p address sp = frames_from (most_frames base) image.descs base p.memory true address sp
+abbrev pub parts : List ℕ → List Region → List Placed → Parts
+parts registers memory blocks = record { registers = registers; memory = memory; blocks = blocks }
+
+-- where the caller's service puts the blocks by a plan
+abbrev pub planned : Plan → Caller → List Placed → List Placed
+planned plan caller blocks = new_places caller.heap caller.number blocks (plan_of plan blocks)
+
+-- the frames of the caller
+abbrev pub frames_at : Tables → Caller → Parts → Option (List Frame)
+frames_at image caller p =
+    frames_from (most_frames caller.base) image.descs caller.base p.memory true caller.address caller.sp
 
 abbrev pub roots_at : Tables → Parts → List Frame → Bool
 roots_at image p fs =
@@ -35,14 +46,20 @@ moved_to image news fs p = record {
   blocks = news;
 }
 
--- what a service comes to from the stack walk on: whether all that the frames name may stand there, where
+-- the blocks have moved, where the caller has frames
+abbrev pub Moves : Tables → Caller → List Placed → Parts → Parts → Type 0
+Moves image caller news old new =
+    (fs : List Frame) → frames_at image caller old ≡ Some fs → new ≡ moved_to image news fs old
+
+-- what a service comes to from the stack walk on: whether all that the frames name may be there, where
 -- there are frames
-abbrev pub Tries : Option Bool → Tables → ℕ → List Placed → ℕ → ℕ → Parts → Parts → Type 0
-Tries None image base news address sp old new = (frames_at image base old address sp ≡ None) × (new ≡ old)
-Tries (Some true) image base news address sp old new =
-    (fs : List Frame) × (frames_at image base old address sp ≡ Some fs) × (roots_at image old fs ≡ true) × (new ≡ moved_to image news fs old)
-Tries (Some false) image base news address sp old new =
-    (fs : List Frame) × (frames_at image base old address sp ≡ Some fs) × (roots_at image old fs ≡ false) × (new ≡ old)
+abbrev pub Tries : Option Bool → Tables → Caller → List Placed → Parts → Parts → Type 0
+Tries None image caller news old new = (frames_at image caller old ≡ None) × (new ≡ old)
+Tries (Some true) image caller news old new =
+    (fs : List Frame) × (frames_at image caller old ≡ Some fs) × (roots_at image old fs ≡ true)
+    × (new ≡ moved_to image news fs old)
+Tries (Some false) image caller news old new =
+    (fs : List Frame) × (frames_at image caller old ≡ Some fs) × (roots_at image old fs ≡ false) × (new ≡ old)
 
 -- The space with the new starts of the blocks, each marked at the block's old start.
 pub record IsPrepared (heap : ℕ) (blocks news : List Placed) (space : Space) : Type 0 where

@@ -1,4 +1,4 @@
--- What a plan asks for, and what a service tells.
+-- What a plan asks for, and what a service reports.
 use Rattle.std.specs.Prelude.{◌≡◌, ℕ, List, []}
 use Rattle.rv_machine.specs.Relocation.{Serviced, Goes, NoHeap, Refused, and_then}
 use Rattle.rv_machine.specs.Step.{count}
@@ -7,7 +7,7 @@ use Rattle.rv_machine.specs.Placement.{drawn_plan}
 use Rattle.alloc_service.specs.declared.plan.Plan.{Plan}
 use Rattle.alloc_service.specs.declared.plan.Plan.TheVariants.{Packed, Starts, Drawn}
 use Rattle.alloc_service.specs.declared.service_end.ServiceEnd.{ServiceEnd}
-use Rattle.alloc_service.specs.declared.service_end.ServiceEnd.TheVariants as told
+use Rattle.alloc_service.specs.declared.service_end.ServiceEnd.TheVariants as reported
 
 -- the new starts that a plan has for these blocks
 abbrev pub plan_of : Plan → List Placed → List ℕ
@@ -26,14 +26,14 @@ both_counted h = record h { retired = count h.retired; services = count h.servic
 abbrev pub with_counts : (Hart → Hart) → Serviced → Serviced
 with_counts counts came = and_then (λ h. Goes (counts h)) came
 
--- what was told is what came of the service, and where it goes on the machine then stands so
+-- the report is what came of the service, and where that goes on, this is the machine then
 abbrev pub Serves : ServiceEnd → Serviced → Hart → Type 0
-Serves told.Goes came new = came ≡ Goes new
-Serves told.HeapOut came new = came ≡ NoHeap
-Serves (told.Stopped cause) came new = came ≡ Refused cause
+Serves reported.Goes came new = came ≡ Goes new
+Serves reported.HeapOut came new = came ≡ NoHeap
+Serves (reported.Stopped cause) came new = came ≡ Refused cause
 
 -- a service that does not go on leaves the machine as it was
 abbrev pub Keeps : ServiceEnd → Hart → Hart → Type 0
-Keeps told.Goes old new = Unit {0}
-Keeps told.HeapOut old new = new ≡ old
-Keeps (told.Stopped cause) old new = new ≡ old
+Keeps reported.Goes old new = Unit {0}
+Keeps reported.HeapOut old new = new ≡ old
+Keeps (reported.Stopped cause) old new = new ≡ old

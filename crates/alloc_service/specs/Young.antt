@@ -1,13 +1,10 @@
--- What reading and taking the young blocks tells.
+-- What reading and taking the young blocks reports.
 use Rattle.std.specs.Prelude.{◌≡◌, ℕ, ◌≤◌, ◌<◌, Bool, true, false, List, ◌++◌, reverse, Option, Some, None}
 use Rattle.rv_machine.specs.Hart.{Placed}
 use Rattle.rv_machine.specs.Placement.{bytes_used}
+pub use Rattle.rv_machine.specs.Space.{HasCells}
 use Rattle.alloc_service.specs.declared.young.Taken.{Taken}
 use Rattle.alloc_service.specs.declared.young.Taken.TheVariants.{Entered, Broken, TooMany}
-
--- a block has a cell
-abbrev pub HasCells : Placed → Type 0
-HasCells b = 1 ≤ b.words
 
 -- whether there are whole blocks, and which
 abbrev pub Reads : Bool → Option (List Placed) → List Placed → Type 0

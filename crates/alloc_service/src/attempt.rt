@@ -7,9 +7,8 @@ ghost use Rattle.bs_words.specs.Contents.{contents};
 ghost use Rattle.image_form.specs.Image.{IsImage};
 ghost use Rattle.image_form.specs.Tables.{desc, tables};
 ghost use Rattle.rv_machine.specs.Placement.{bytes_used, new_places, placed_at};
-ghost use Rattle.rv_machine.specs.Frames.{Frame};
 ghost use Rattle.rv_machine.specs.Space.{IsKept, IsSpace};
-ghost use Rattle.alloc_service.specs.Attempt.{IsPrepared, Tries, frames_at, moved_to};
+ghost use Rattle.alloc_service.specs.Attempt.{IsPrepared, Moves, Tries, parts, planned};
 ghost use Rattle.alloc_service.specs.Forward.{IsLow, IsPlaced, RedirectsFirst, forward};
 ghost use Rattle.alloc_service.specs.Plan.{plan_of};
 
@@ -29,7 +28,8 @@ fn prepare(plan: Plan<'_>, number: u64, heap: u64, space: &mut Space, blocks: &[
     requires most { heap ≤ 67108864 }
     requires placed { AllByRecursion (IsPlaced heap) blocks.now }
     requires fits { bytes_used blocks.now ≤ heap }
-    ensures { IsPrepared heap blocks.now (new_places heap number blocks.now (plan_of plan.entry blocks.now)) space.new }
+    ensures { IsPrepared heap blocks.now
+        (new_places heap number blocks.now (plan_of plan.entry blocks.now)) space.new }
 {
     choose(
         plan,
@@ -52,40 +52,60 @@ fn restore(heap: u64, space: &mut Space, blocks: &[BlockPlace])
     space.starts.clear();
 }
 
-/// Chooses new places for the blocks and moves them there, or tells what is amiss with the stack: nothing
-/// where it does not read as frames, `false` where something may not stand where a frame names it. Then
+/// The caller of a service: the numbers of the machine that the service reads.
+#[derive(Clone, Copy)]
+pub struct Caller {
+    /// How many services have moved blocks before.
+    pub number: u64,
+    /// The lowest address that the stack pointer may have.
+    pub base: u64,
+    /// The bytes of each half of the heap.
+    pub heap: u64,
+    /// The address after the ECALL, to which the innermost frame returns.
+    pub address: u64,
+    /// The stack pointer.
+    pub sp: u64,
+}
+
+/// Chooses new places for the blocks and moves them there, or reports what is amiss with the stack:
+/// nothing where it does not read as frames, `false` where a frame names what may not be there. Then
 /// nothing has changed. The space is left as it was.
 pub fn attempt(
     plan: Plan<'_>,
-    number: u64,
     image: &Image,
-    base: u64,
-    heap: u64,
+    caller: Caller,
     registers: &mut [u64; 32],
     memory: &mut Memory,
     space: &mut Space,
     blocks: &mut Vec<BlockPlace>,
-    address: u64,
-    sp: u64,
 ) -> Option<bool>
     requires image { IsImage image.now }
-    requires low { 0x38010000 ≤ base }
-    requires high { base ≤ 0x40000000 }
-    requires space { IsSpace heap space.old }
-    requires aligned { heap % 16 ≡ 0 }
-    requires most { heap ≤ 67108864 }
-    requires placed { AllByRecursion (IsPlaced heap) blocks.old.items }
+    requires low { 0x38010000 ≤ caller.base }
+    requires high { caller.base ≤ 0x40000000 }
+    requires space { IsSpace caller.heap space.old }
+    requires aligned { caller.heap % 16 ≡ 0 }
+    requires most { caller.heap ≤ 67108864 }
+    requires placed { AllByRecursion (IsPlaced caller.heap) blocks.old.items }
     requires far { AllByRecursion IsLow blocks.old.items }
-    requires fits { bytes_used blocks.old.items ≤ heap }
-    requires table { heap / 16 ≤ vec_capacity blocks.old }
+    requires fits { bytes_used blocks.old.items ≤ caller.heap }
+    requires table { caller.heap / 16 ≤ vec_capacity blocks.old }
     requires zero { slice_index registers.old 0 ≡ 0 }
-    ensures tries { Tries result (tables image.now) base (new_places heap number blocks.old.items (plan_of plan.entry blocks.old.items)) address sp (record { registers = registers.old; memory = memory.old; blocks = blocks.old.items }) (record { registers = registers.new; memory = memory.new; blocks = blocks.new.items }) }
-    ensures space { IsSpace heap space.new }
-    ensures table { heap / 16 ≤ vec_capacity blocks.new }
+    ensures tries { Tries result (tables image.now) caller (planned plan.entry caller blocks.old.items)
+        (parts registers.old memory.old blocks.old.items)
+        (parts registers.new memory.new blocks.new.items) }
+    ensures space { IsSpace caller.heap space.new }
+    ensures table { caller.heap / 16 ≤ vec_capacity blocks.new }
     ensures zero { slice_index registers.new 0 ≡ 0 }
-    ensures kept { result ≡ Some true → AllByRecursion (IsKept heap) blocks.new.items }
-    ensures bytes { bytes_used blocks.new.items ≤ heap }
+    ensures kept { result ≡ Some true → AllByRecursion (IsKept caller.heap) blocks.new.items }
+    ensures bytes { bytes_used blocks.new.items ≤ caller.heap }
 {
+    let Caller {
+        number,
+        base,
+        heap,
+        address,
+        sp,
+    } = caller;
     prepare(plan, number, heap, space, blocks);
     let Some(fine) = survey(image, &space.table, base, registers, memory, address, sp) else {
         restore(heap, space, blocks);
@@ -95,41 +115,46 @@ pub fn attempt(
         restore(heap, space, blocks);
         return Some(false);
     }
-    move_all(
-        image, base, heap, registers, memory, space, blocks, address, sp,
-    );
+    move_all(image, caller, registers, memory, space, blocks);
     Some(true)
 }
 
 // Moves the blocks to the starts in the space, and rewrites all that points to them.
 fn move_all(
     image: &Image,
-    base: u64,
-    heap: u64,
+    caller: Caller,
     registers: &mut [u64; 32],
     memory: &mut Memory,
     space: &mut Space,
     blocks: &mut Vec<BlockPlace>,
-    address: u64,
-    sp: u64,
 )
     requires image { IsImage image.now }
-    requires low { 0x38010000 ≤ base }
-    requires high { base ≤ 0x40000000 }
-    requires prepared { IsPrepared heap blocks.old.items (placed_at blocks.old.items space.old.starts.items) space.old }
-    requires most { heap ≤ 67108864 }
-    requires placed { AllByRecursion (IsPlaced heap) blocks.old.items }
+    requires low { 0x38010000 ≤ caller.base }
+    requires high { caller.base ≤ 0x40000000 }
+    requires prepared { IsPrepared caller.heap blocks.old.items
+        (placed_at blocks.old.items space.old.starts.items) space.old }
+    requires most { caller.heap ≤ 67108864 }
+    requires placed { AllByRecursion (IsPlaced caller.heap) blocks.old.items }
     requires far { AllByRecursion IsLow blocks.old.items }
-    requires fits { bytes_used blocks.old.items ≤ heap }
-    ensures moved { (fs : List Frame) → frames_at (tables image.now) base (record { registers = registers.old; memory = memory.old; blocks = blocks.old.items }) address sp ≡ Some fs → record { registers = registers.new; memory = memory.new; blocks = blocks.new.items } ≡ moved_to (tables image.now) (placed_at blocks.old.items space.old.starts.items) fs (record { registers = registers.old; memory = memory.old; blocks = blocks.old.items }) }
-    ensures space { IsSpace heap space.new }
+    requires fits { bytes_used blocks.old.items ≤ caller.heap }
+    ensures moved { Moves (tables image.now) caller (placed_at blocks.old.items space.old.starts.items)
+        (parts registers.old memory.old blocks.old.items)
+        (parts registers.new memory.new blocks.new.items) }
+    ensures space { IsSpace caller.heap space.new }
     ensures capacity { vec_capacity blocks.new ≡ vec_capacity blocks.old }
     ensures zero { slice_index registers.new 0 ≡ slice_index registers.old 0 }
     ensures places { blocks.new.items ≡ placed_at blocks.old.items space.old.starts.items }
 {
-    redirect_first(image, &space.table, registers, memory, address);
+    redirect_first(image, &space.table, registers, memory, caller.address);
     moves::gather(memory, &space.table, blocks, &mut space.words);
-    moves::redirect_slots(memory, &space.table, image, base, address, sp);
+    moves::redirect_slots(
+        memory,
+        &space.table,
+        image,
+        caller.base,
+        caller.address,
+        caller.sp,
+    );
     moves::redirect_roots(memory, &space.table, image);
     moves::vacate(memory, blocks);
     forget(&mut space.table, blocks, &space.starts);
@@ -148,7 +173,8 @@ fn redirect_first(
     address: u64,
 )
     requires { IsImage image.now }
-    ensures exact { (base : ℕ) (sp : ℕ) → RedirectsFirst (forward table.now) (map desc (contents image.now.descs)) base memory.now registers.old registers.new address sp }
+    ensures exact { (base : ℕ) (sp : ℕ) → RedirectsFirst (forward table.now)
+        (map desc (contents image.now.descs)) base memory.now registers.old registers.new address sp }
     ensures zero { slice_index registers.new 0 ≡ slice_index registers.old 0 }
 {
     if address == CODE_START {

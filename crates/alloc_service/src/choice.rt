@@ -30,7 +30,8 @@ pub fn choose(
     requires empty { starts.old.items ≡ [] }
     requires room { length blocks.now ≤ vec_capacity starts.old }
     ensures lengths { length starts.new.items ≡ length blocks.now }
-    ensures chosen { placed_at blocks.now starts.new.items ≡ new_places heap number blocks.now (plan_of plan.entry blocks.now) }
+    ensures chosen { placed_at blocks.now starts.new.items
+        ≡ new_places heap number blocks.now (plan_of plan.entry blocks.now) }
     ensures inside { list_all (is_in_heap heap) (placed_at blocks.now starts.new.items) ≡ true }
     ensures clean { IsClean table.new }
     ensures same_heap { table.new.heap ≡ heap }
@@ -43,7 +44,7 @@ pub fn choose(
     add_spaced(starts, 0, half_start(number % 2), blocks);
 }
 
-// Fills the plan's starts, or tells that it has not one for each block.
+// Fills the plan's starts, or reports that it has not one for each block.
 fn fill(plan: Plan<'_>, blocks: &[BlockPlace], starts: &mut Vec<u64>) -> bool
     requires empty { starts.old.items ≡ [] }
     requires used { bytes_used blocks.now ≤ 67108864 }

@@ -61,7 +61,7 @@ fn is_in_half(half: u64, heap: u64, start: u64, words: u64) -> bool
     half + 8 <= start && start <= half + heap && start + 8 * words <= half + heap
 }
 
-// Claims the words of each block at its new place, or tells that one was claimed before.
+// Claims the words of each block at its new place, or reports that one was claimed before.
 fn claim(table: &mut Table, heap: u64, blocks: &[BlockPlace], starts: &[u64]) -> bool
     requires clean { IsClean table.old }
     requires of_heap { table.old.heap ≡ heap }
@@ -89,10 +89,14 @@ fn claim_block(table: &mut Table, start: u64, words: u64) -> bool
     requires most { table.old.heap ≤ 67108864 }
     requires small { words ≤ 2 ^ 24 }
     requires inside { is_in_heap table.old.heap (record { start = start; words = words }) ≡ true }
-    ensures free { result ≡ true → (a : ℕ) → covers a (record { start = start; words = words }) ≡ true → mark_at table.old a ≡ 0 }
-    ensures taken { result ≡ false → (a : ℕ) × (a % 8 ≡ 0) × (covers a (record { start = start; words = words }) ≡ true) × (mark_at table.old a ≢ 0) }
-    ensures outside { (a : ℕ) → covers a (record { start = start; words = words }) ≡ false → mark_at table.new a ≡ mark_at table.old a }
-    ensures inside { result ≡ true → (a : ℕ) → a % 8 ≡ 0 → covers a (record { start = start; words = words }) ≡ true → mark_at table.new a ≡ 1 }
+    ensures free { result ≡ true → (a : ℕ)
+        → covers a (record { start = start; words = words }) ≡ true → mark_at table.old a ≡ 0 }
+    ensures taken { result ≡ false → (a : ℕ) × (a % 8 ≡ 0)
+        × (covers a (record { start = start; words = words }) ≡ true) × (mark_at table.old a ≢ 0) }
+    ensures outside { (a : ℕ) → covers a (record { start = start; words = words }) ≡ false
+        → mark_at table.new a ≡ mark_at table.old a }
+    ensures inside { result ≡ true → (a : ℕ) → a % 8 ≡ 0
+        → covers a (record { start = start; words = words }) ≡ true → mark_at table.new a ≡ 1 }
     ensures same_heap { table.new.heap ≡ table.old.heap }
 {
     let end = start + 8 * words;
@@ -127,7 +131,8 @@ fn release_block(table: &mut Table, start: u64, words: u64)
     requires most { table.old.heap ≤ 67108864 }
     requires small { words ≤ 2 ^ 24 }
     requires inside { is_in_heap table.old.heap (record { start = start; words = words }) ≡ true }
-    ensures outside { (a : ℕ) → covers a (record { start = start; words = words }) ≡ false → mark_at table.new a ≡ mark_at table.old a }
+    ensures outside { (a : ℕ) → covers a (record { start = start; words = words }) ≡ false
+        → mark_at table.new a ≡ mark_at table.old a }
     ensures inside { (a : ℕ) → covers a (record { start = start; words = words }) ≡ true → mark_at table.new a ≡ 0 }
     ensures same_heap { table.new.heap ≡ table.old.heap }
 {

@@ -40,7 +40,8 @@ fn gather_block(memory: &Memory, table: &Table, start: u64, count: u64, words: &
     requires high { 8 ≤ start }
     requires room { vec_len words.old + suc count ≤ vec_capacity words.old }
     ensures len { vec_len words.new ≡ vec_len words.old + suc count }
-    ensures gathered { words.new.items ≡ words.old.items ++ rewritten_block (forward table.now) memory.now (record { start = start; words = count }) }
+    ensures gathered { words.new.items ≡ words.old.items
+        ++ rewritten_block (forward table.now) memory.now (record { start = start; words = count }) }
     ensures capacity { vec_capacity words.old ≤ vec_capacity words.new }
 {
     let header = memory.word(start - 8);
@@ -60,7 +61,8 @@ fn gather_cells(
     requires low { start + 8 * count < 2 ^ 63 }
     requires room { vec_len words.old + count ≤ vec_capacity words.old }
     ensures len { vec_len words.new ≡ vec_len words.old + count }
-    ensures gathered { words.new.items ≡ words.old.items ++ rewritten_cells scanned (forward table.now) (words_at memory.now start count) }
+    ensures gathered { words.new.items ≡ words.old.items
+        ++ rewritten_cells scanned (forward table.now) (words_at memory.now start count) }
     ensures capacity { vec_capacity words.old ≤ vec_capacity words.new }
 {
     let mut at = start;
@@ -212,7 +214,9 @@ pub fn redirect_registers(registers: &mut [u64; 32], table: &Table, entries: &[u
 
 // Rewrites the register that an entry names, where it names one.
 fn redirect_entry(registers: &mut [u64; 32], table: &Table, entry: u32)
-    ensures exact { registers.new ≡ cond (is_register entry) (with_register (entry / 2) (forward table.now (slice_index registers.old (entry / 2))) registers.old) registers.old }
+    ensures exact { registers.new ≡ cond (is_register entry)
+        (with_register (entry / 2) (forward table.now (slice_index registers.old (entry / 2))) registers.old)
+        registers.old }
     ensures zero { slice_index registers.new 0 ≡ slice_index registers.old 0 }
 {
     if entry % 2 == 1 {

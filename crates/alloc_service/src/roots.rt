@@ -27,7 +27,9 @@ pub fn survey(
 ) -> Option<bool>
     requires image { IsImage image.now }
     requires base { base ≤ 0x40000000 }
-    ensures { result ≡ option_map (roots_by (root_by (tables image.now) table.now) registers.now memory.now true) (frames_from (most_frames base) (map desc (contents image.now.descs)) base memory.now true address sp) }
+    ensures { result
+        ≡ option_map (roots_by (root_by (tables image.now) table.now) registers.now memory.now true)
+        (frames_from (most_frames base) (map desc (contents image.now.descs)) base memory.now true address sp) }
 {
     let mut most = (STACK_END - base) / 16 + 1;
     let mut first = true;
@@ -70,7 +72,11 @@ fn are_roots(
     row: &DescRow,
 ) -> bool
     requires { IsImage image.now }
-    ensures { result ≡ (cond first (list_all (λ r. root_by (tables image.now) table.now (slice_index registers.now r)) (registers_named (contents row.now.entries))) true && list_all (λ a. root_by (tables image.now) table.now (word memory.now a)) (slots_named at (contents row.now.entries))) }
+    ensures { result
+        ≡ (cond first (list_all (λ r. root_by (tables image.now) table.now (slice_index registers.now r))
+        (registers_named (contents row.now.entries))) true
+        && list_all (λ a. root_by (tables image.now) table.now (word memory.now a))
+        (slots_named at (contents row.now.entries))) }
 {
     let entries = row.entries.as_slice();
     (!first || are_register_roots(image, table, registers, entries))
@@ -79,7 +85,9 @@ fn are_roots(
 
 fn are_register_roots(image: &Image, table: &Table, registers: &[u64; 32], entries: &[u32]) -> bool
     requires { IsImage image.now }
-    ensures { result ≡ list_all (λ r. root_by (tables image.now) table.now (slice_index registers.now r)) (registers_named entries.now) }
+    ensures { result
+        ≡ list_all (λ r. root_by (tables image.now) table.now (slice_index registers.now r))
+        (registers_named entries.now) }
 {
     for entry in entries {
         if entry % 2 == 1 && !is_root(image, table, held(registers, entry / 2)) {
@@ -99,7 +107,9 @@ fn held(registers: &[u64; 32], r: u32) -> u64
 
 fn are_slot_roots(image: &Image, table: &Table, memory: &Memory, at: u64, entries: &[u32]) -> bool
     requires { IsImage image.now }
-    ensures { result ≡ list_all (λ a. root_by (tables image.now) table.now (word memory.now a)) (slots_named at entries.now) }
+    ensures { result
+        ≡ list_all (λ a. root_by (tables image.now) table.now (word memory.now a))
+        (slots_named at entries.now) }
 {
     for entry in entries {
         if entry % 2 == 0

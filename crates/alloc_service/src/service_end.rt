@@ -1,7 +1,7 @@
 //! What comes of a service.
 use rv_machine::Cause;
 
-/// What a service tells.
+/// What a service reports.
 #[derive(Clone, Copy, PartialEq, Eq, Debug)]
 pub enum ServiceEnd {
     /// The blocks have moved, and the program goes on.

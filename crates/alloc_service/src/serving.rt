@@ -6,7 +6,7 @@ ghost use Rattle.rv_machine.specs.Observation.{blocks_at};
 ghost use Rattle.rv_machine.specs.Relocation.{emptied, with_blocks};
 ghost use Rattle.alloc_service.specs.Plan.{Keeps, Serves, both_counted, plan_of, services_counted, with_counts};
 
-use crate::attempt::attempt;
+use crate::attempt::{Caller, attempt};
 use crate::plan::Plan;
 use crate::service_end::ServiceEnd;
 use crate::young::{Taken, take_young};
@@ -25,7 +25,8 @@ use rv_machine::{Cause, Machine};
 /// of its type.
 pub fn allocate(machine: &mut Machine<'_>, plan: Plan<'_>) -> ServiceEnd
     requires near { machine.old.pc < 2 ^ 32 }
-    ensures exact { Serves result (with_counts both_counted (allocated (plan_of plan.entry) machine.old)) machine.new }
+    ensures exact { Serves result
+        (with_counts both_counted (allocated (plan_of plan.entry) machine.old)) machine.new }
     ensures kept { Keeps result machine.old machine.new }
 {
     let bytes = machine.registers[Register::T0 as usize];
@@ -51,7 +52,8 @@ pub fn allocate(machine: &mut Machine<'_>, plan: Plan<'_>) -> ServiceEnd
 /// those of `allocate`.
 pub fn collect(machine: &mut Machine<'_>, plan: Plan<'_>) -> ServiceEnd
     requires near { machine.old.pc < 2 ^ 32 }
-    ensures exact { Serves result (with_counts services_counted (collected (plan_of plan.entry) machine.old)) machine.new }
+    ensures exact { Serves result
+        (with_counts services_counted (collected (plan_of plan.entry) machine.old)) machine.new }
     ensures kept { Keeps result machine.old machine.new }
     ensures place { machine.new.pc ≡ machine.old.pc }
 {
@@ -78,7 +80,8 @@ fn empty(machine: &mut Machine<'_>, bytes: u64)
 // Moves all blocks, the young ones being those from `from` up to the young area's top.
 fn relocate(machine: &mut Machine<'_>, plan: Plan<'_>, from: u64) -> ServiceEnd
     requires near { machine.old.pc < 2 ^ 32 }
-    ensures exact { Serves result (with_counts services_counted (with_blocks (plan_of plan.entry) machine.old (blocks_at machine.old from))) machine.new }
+    ensures exact { Serves result (with_counts services_counted
+        (with_blocks (plan_of plan.entry) machine.old (blocks_at machine.old from))) machine.new }
     ensures kept { Keeps result machine.old machine.new }
     ensures place { machine.new.pc ≡ machine.old.pc }
 {
@@ -97,18 +100,21 @@ fn relocate(machine: &mut Machine<'_>, plan: Plan<'_>, from: u64) -> ServiceEnd
     let number = machine.services;
     let address = machine.pc + 4;
     let sp = machine.registers[Register::Sp as usize];
+    let caller = Caller {
+        number,
+        base: machine.stack_base,
+        heap: machine.heap,
+        address,
+        sp,
+    };
     let Some(fine) = attempt(
         plan,
-        number,
         machine.image,
-        machine.stack_base,
-        machine.heap,
+        caller,
         &mut machine.registers,
         &mut machine.memory,
         &mut machine.space,
         &mut machine.blocks,
-        address,
-        sp,
     ) else {
         machine.blocks.truncate(count);
         return ServiceEnd::Stopped(Cause::BadFrame);

@@ -51,7 +51,7 @@ pub fn take_young(
     Taken::Entered
 }
 
-// Reads the blocks from an address up to the young area's top, the lowest first, or tells that there are no
+// Reads the blocks from an address up to the young area's top, the lowest first, or reports that there are no
 // whole blocks.
 fn read_young(memory: &Memory, from: u64, young: &mut Vec<BlockPlace>) -> bool
     requires empty { young.old.items ≡ [] }

@@ -36,14 +36,22 @@ write_count s size = min (s.room - length s.held) (min size s.most)
 
 -- after a read that moved so many bytes, and after one that failed
 abbrev pub after_read : Reading → ℕ → Reading
-after_read s count = record { left = drop count s.left; fails = s.fails; most = s.most; calls = counted s.calls; faults = s.faults }
+after_read s count =
+    record
+    { left = drop count s.left; fails = s.fails; most = s.most; calls = counted s.calls; faults = s.faults }
 
 abbrev pub after_failed_read : Reading → Reading
-after_failed_read s = record { left = s.left; fails = s.fails; most = s.most; calls = counted s.calls; faults = counted s.faults }
+after_failed_read s =
+    record
+    { left = s.left; fails = s.fails; most = s.most; calls = counted s.calls; faults = counted s.faults }
 
 -- after a write that appended these bytes, and after one that failed
 abbrev pub after_write : Writing → List ℕ → Writing
-after_write s bytes = record { held = s.held ++ bytes; room = s.room; fails = s.fails; most = s.most; calls = counted s.calls; faults = s.faults }
+after_write s bytes =
+    record
+    { held = s.held ++ bytes; room = s.room; fails = s.fails; most = s.most; calls = counted s.calls; faults = s.faults }
 
 abbrev pub after_failed_write : Writing → Writing
-after_failed_write s = record { held = s.held; room = s.room; fails = s.fails; most = s.most; calls = counted s.calls; faults = counted s.faults }
+after_failed_write s =
+    record
+    { held = s.held; room = s.room; fails = s.fails; most = s.most; calls = counted s.calls; faults = counted s.faults }

@@ -12,11 +12,13 @@ TakesAtMost old new most = (bytes : List ℕ) × Consumes old new bytes × (leng
 
 -- some bytes of the piece were appended, from its front, and not all
 abbrev pub AppendsPart : Option (List ℕ) → Option (List ℕ) → List ℕ → Type 0
-AppendsPart old new piece = (count : ℕ) × (count < length piece) × Appends old new (take count piece)
+AppendsPart old new piece =
+    (count : ℕ) × (count < length piece) × Appends old new (take count piece)
 
 -- the bytes that were taken past a limit, one more than it
 abbrev pub PastLimit : Option (List ℕ) → Option (List ℕ) → ℕ → declared.List ℕ → Type 0
-PastLimit old new limit bytes = Consumes old new (contents bytes) × (length (contents bytes) ≡ limit + 1)
+PastLimit old new limit bytes =
+    Consumes old new (contents bytes) × (length (contents bytes) ≡ limit + 1)
 
 -- where a whole read stops short: past the limit with the bytes, else with at most so many taken
 abbrev pub StopsShort : Option (List ℕ) → Option (List ℕ) → ℕ → InFault → Type 0

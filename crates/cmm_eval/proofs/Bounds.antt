@@ -1,5 +1,5 @@
 -- The bindings of an activation, which the code keeps the other way round.
-use Rattle.std.proofs.Common.{◌≡◌, ◌∙◌, ℕ, suc, ◌+◌, ◌-◌, ◌<◌, ◌≤◌, Bool, true, false, List, [], ◌∷◌, ◌++◌, Option, Some, None, length, map, take, drop, get_or, set, refl, ap, sym, append_assoc, arith, length-drop, drop-cons}
+use Rattle.std.proofs.Common.{◌≡◌, ◌∙◌, ℕ, suc, ◌+◌, ◌-◌, ◌<◌, ◌≤◌, Bool, true, false, cond, List, [], ◌∷◌, ◌++◌, Option, Some, None, length, map, take, drop, get_or, set, refl, ap, sym, append_assoc, arith, length-drop, drop-cons}
 use Rattle.std.specs.Prelude.{reverse, bytes_eq, IsTrue, ◌↔◌}
 use Rattle.std.proofs.lemmas.List.{reverse-append, length-reverse, length-map, map-append, take-append-drop, take_more, set_split}
 use Rattle.std.proofs.lemmas.Bool.Decides.{same_from_decides}
@@ -11,8 +11,8 @@ use Rattle.bs_words.specs.declared.values.Value.{Value}
 use Rattle.cmm_types.specs.Types.{type_named, first_type}
 use Rattle.cmm_types.specs.Light.{is_immutable, first_is_immutable}
 use Rattle.std.proofs.Common.{not}
-use Rattle.cmm_meaning.specs.State.{Binding, value_of, found, assigned, assigned_first}
-use Rattle.cmm_eval.specs.Innermost.{innermost, first_of_name}
+use Rattle.cmm_meaning.specs.State.{Binding, value_of, assigned}
+use Rattle.cmm_eval.specs.Innermost.{innermost}
 use Rattle.cmm_eval.specs.Views.{bound_view, bounds_view}
 use Rattle.cmm_eval.specs.declared.here.Bound.{Bound}
 
@@ -49,8 +49,8 @@ bounds_take level xs =
 
 -- ---- the innermost binding of a name
 
-value_pick : (t : Bool) (c b : Binding) (rest : Option Binding) (others : Option Value) → first_of_name t c rest ≡ Some b →
-    (rest ≡ Some b → others ≡ Some b.value) → found t c.value others ≡ Some b.value
+value_pick : (t : Bool) (c b : Binding) (rest : Option Binding) (others : Option Value) → cond t (Some c) rest ≡ Some b →
+    (rest ≡ Some b → others ≡ Some b.value) → cond t (Some c.value) others ≡ Some b.value
 value_pick true c b rest others h k = let e : c ≡ b = cc in ap (λ (b : Binding). Some b.value) e
 value_pick false c b rest others h k = k h
 
@@ -58,8 +58,8 @@ pub value_some : (names : List Binding) (x : List ℕ) (b : Binding) → innermo
 value_some [] x b h = cc
 value_some (c ∷ rest) x b h = value_pick (bytes_eq c.scoped.name x) c b (innermost rest x) (value_of rest x) h (value_some rest x b)
 
-value_skip : (t : Bool) (c : Binding) (rest : Option Binding) (others : Option Value) → first_of_name t c rest ≡ None →
-    (rest ≡ None → others ≡ None) → found t c.value others ≡ None
+value_skip : (t : Bool) (c : Binding) (rest : Option Binding) (others : Option Value) → cond t (Some c) rest ≡ None →
+    (rest ≡ None → others ≡ None) → cond t (Some c.value) others ≡ None
 value_skip true c rest others h k = cc
 value_skip false c rest others h k = k h
 
@@ -67,7 +67,7 @@ pub value_none : (names : List Binding) (x : List ℕ) → innermost names x ≡
 value_none [] x h = refl
 value_none (c ∷ rest) x h = value_skip (bytes_eq c.scoped.name x) c (innermost rest x) (value_of rest x) h (value_none rest x)
 
-type_pick : (t : Bool) (c b : Binding) (rest : Option Binding) (others : Ty) → first_of_name t c rest ≡ Some b →
+type_pick : (t : Bool) (c b : Binding) (rest : Option Binding) (others : Ty) → cond t (Some c) rest ≡ Some b →
     (rest ≡ Some b → others ≡ b.scoped.type) → first_type t c.scoped.type others ≡ b.scoped.type
 type_pick true c b rest others h k = let e : c ≡ b = cc in ap (λ (b : Binding). b.scoped.type) e
 type_pick false c b rest others h k = k h
@@ -78,7 +78,7 @@ type_some [] x b h = cc
 type_some (c ∷ rest) x b h =
     type_pick (bytes_eq c.scoped.name x) c b (innermost rest x) (type_named (map (λ (b : Binding). b.scoped) rest) x) h (type_some rest x b)
 
-type_skip : (t : Bool) (c : Binding) (rest : Option Binding) (others : Ty) → first_of_name t c rest ≡ None →
+type_skip : (t : Bool) (c : Binding) (rest : Option Binding) (others : Ty) → cond t (Some c) rest ≡ None →
     (rest ≡ None → others ≡ Never) → first_type t c.scoped.type others ≡ Never
 type_skip true c rest others h k = cc
 type_skip false c rest others h k = k h
@@ -89,7 +89,7 @@ type_none [] x h = refl
 type_none (c ∷ rest) x h =
     type_skip (bytes_eq c.scoped.name x) c (innermost rest x) (type_named (map (λ (b : Binding). b.scoped) rest) x) h (type_none rest x)
 
-immutable_pick : (t : Bool) (c b : Binding) (rest : Option Binding) (others : Bool) → first_of_name t c rest ≡ Some b →
+immutable_pick : (t : Bool) (c b : Binding) (rest : Option Binding) (others : Bool) → cond t (Some c) rest ≡ Some b →
     (rest ≡ Some b → others ≡ not b.scoped.mutable) → first_is_immutable t c.scoped.mutable others ≡ not b.scoped.mutable
 immutable_pick true c b rest others h k = let e : c ≡ b = cc in ap (λ (b : Binding). not b.scoped.mutable) e
 immutable_pick false c b rest others h k = k h
@@ -100,7 +100,7 @@ immutable_some [] x b h = cc
 immutable_some (c ∷ rest) x b h =
     immutable_pick (bytes_eq c.scoped.name x) c b (innermost rest x) (is_immutable (map (λ (b : Binding). b.scoped) rest) x) h (immutable_some rest x b)
 
-immutable_skip : (t : Bool) (c : Binding) (rest : Option Binding) (others : Bool) → first_of_name t c rest ≡ None →
+immutable_skip : (t : Bool) (c : Binding) (rest : Option Binding) (others : Bool) → cond t (Some c) rest ≡ None →
     (rest ≡ None → others ≡ false) → first_is_immutable t c.scoped.mutable others ≡ false
 immutable_skip true c rest others h k = cc
 immutable_skip false c rest others h k = k h
@@ -124,16 +124,16 @@ module _ (xs : List Bound) (i : ℕ) (b : Bound) (x : List ℕ) (t : Bool) (some
       let e : i ≡ (i - 1) + 1 = omega arith in
       ap (λ n. bounds_view (take n xs)) e ∙ bounds_at xs (i - 1) b lt at
 
-  innermost_is : innermost (bounds_view (take i xs)) x ≡ first_of_name t (bound_view b) (innermost (bounds_view (take (i - 1) xs)) x)
+  innermost_is : innermost (bounds_view (take i xs)) x ≡ cond t (Some (bound_view b)) (innermost (bounds_view (take (i - 1) xs)) x)
   innermost_is =
       ap (λ names. innermost names x) one_less
-      ∙ ap (λ t. first_of_name t (bound_view b) (innermost (bounds_view (take (i - 1) xs)) x)) (sym tested_name)
+      ∙ ap (λ t. cond t (Some (bound_view b)) (innermost (bounds_view (take (i - 1) xs)) x)) (sym tested_name)
 
   pub innermost_here : t ≡ true → innermost (bounds_view (take i xs)) x ≡ Some (bound_view b)
-  innermost_here h = innermost_is ∙ ap (λ t. first_of_name t (bound_view b) (innermost (bounds_view (take (i - 1) xs)) x)) h
+  innermost_here h = innermost_is ∙ ap (λ t. cond t (Some (bound_view b)) (innermost (bounds_view (take (i - 1) xs)) x)) h
 
   pub innermost_below : t ≡ false → innermost (bounds_view (take i xs)) x ≡ innermost (bounds_view (take (i - 1) xs)) x
-  innermost_below h = innermost_is ∙ ap (λ t. first_of_name t (bound_view b) (innermost (bounds_view (take (i - 1) xs)) x)) h
+  innermost_below h = innermost_is ∙ ap (λ t. cond t (Some (bound_view b)) (innermost (bounds_view (take (i - 1) xs)) x)) h
 
   -- ---- an assignment
 
@@ -144,10 +144,10 @@ module _ (xs : List Bound) (i : ℕ) (b : Bound) (x : List ℕ) (t : Bool) (some
       drop-cons xs (i - 1) b lt ∙ ap (λ y. y ∷ drop (suc (i - 1)) xs) (sym at) ∙ ap (λ n. b ∷ drop n xs) e
 
   assigned_is : (v : Value) → assigned (bounds_view (take i xs)) x v
-      ≡ assigned_first t (bound_view b) v (bounds_view (take (i - 1) xs)) (assigned (bounds_view (take (i - 1) xs)) x v)
+      ≡ cond t (record (bound_view b) { value = v } ∷ bounds_view (take (i - 1) xs)) (bound_view b ∷ assigned (bounds_view (take (i - 1) xs)) x v)
   assigned_is v =
       ap (λ names. assigned names x v) one_less
-      ∙ ap (λ t. assigned_first t (bound_view b) v (bounds_view (take (i - 1) xs)) (assigned (bounds_view (take (i - 1) xs)) x v)) (sym tested_name)
+      ∙ ap (λ t. cond t (record (bound_view b) { value = v } ∷ bounds_view (take (i - 1) xs)) (bound_view b ∷ assigned (bounds_view (take (i - 1) xs)) x v)) (sym tested_name)
 
   pub assigned_below : (v : Value) (whole : List Binding) → t ≡ false → whole ≡ bounds_view (drop i xs) ++ assigned (bounds_view (take i xs)) x v →
       whole ≡ bounds_view (drop (i - 1) xs) ++ assigned (bounds_view (take (i - 1) xs)) x v
@@ -155,7 +155,7 @@ module _ (xs : List Bound) (i : ℕ) (b : Bound) (x : List ℕ) (t : Bool) (some
       let d = bounds_view (drop i xs) in
       let rest = assigned (bounds_view (take (i - 1) xs)) x v in
       let a : assigned (bounds_view (take i xs)) x v ≡ bound_view b ∷ rest =
-      assigned_is v ∙ ap (λ t. assigned_first t (bound_view b) v (bounds_view (take (i - 1) xs)) rest) h in
+      assigned_is v ∙ ap (λ t. cond t (record (bound_view b) { value = v } ∷ bounds_view (take (i - 1) xs)) (bound_view b ∷ rest)) h in
       let e : bounds_view (drop (i - 1) xs) ≡ d ++ bound_view b ∷ [] = ap bounds_view behind ∙ bounds_front b (drop i xs) in
       w ∙ ap (λ l. d ++ l) a ∙ sym (append_assoc d (bound_view b ∷ []) rest) ∙ ap (λ l. l ++ rest) (sym e)
 
@@ -168,7 +168,7 @@ module _ (xs : List Bound) (i : ℕ) (b : Bound) (x : List ℕ) (t : Bool) (some
       let d = bounds_view (drop i xs) in
       let rest = bounds_view (take (i - 1) xs) in
       let a : assigned (bounds_view (take i xs)) x v ≡ bound_view new ∷ rest =
-      assigned_is v ∙ ap (λ t. assigned_first t (bound_view b) v rest (assigned rest x v)) h in
+      assigned_is v ∙ ap (λ t. cond t (record (bound_view b) { value = v } ∷ rest) (bound_view b ∷ assigned rest x v)) h in
       let e : bounds_view (set xs (i - 1) new) ≡ bounds_view (new ∷ drop i xs) ++ rest =
       ap bounds_view (set_split xs (i - 1) new lt ∙ ap (λ n. take (i - 1) xs ++ new ∷ drop n xs) s) ∙ bounds_append (take (i - 1) xs) (new ∷ drop i xs) in
       e ∙ ap (λ l. l ++ rest) (bounds_front new (drop i xs)) ∙ append_assoc d (bound_view new ∷ []) rest ∙ ap (λ l. d ++ l) (sym a) ∙ sym w

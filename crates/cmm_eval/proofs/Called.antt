@@ -24,9 +24,10 @@ use Rattle.cmm_tree.specs.declared.expr.Form.{Form}
 use Rattle.cmm_tree.specs.declared.file.Function.{Function}
 use Rattle.std.specs.Borrow.{Bor}
 use Rattle.cmm_meaning.specs.State.{World, Here, bound, deepened}
-use Rattle.cmm_meaning.specs.Evaluation.{NoAnswer, NotProper, Evaluation, Gives, Raises, Stops, Surroundings, and_then, back_from_call, as_written, stack_below, fit_parameters, scoped_parameter, tested}
+use Rattle.cmm_meaning.specs.Evaluation.{NoAnswer, NotProper, Evaluation, Gives, Raises, Stops, Surroundings, back_from_call, as_written, stack_below, fit_parameters, scoped_parameter, tested}
 use Rattle.cmm_meaning.specs.Run.{nobody, answered, frame_answered, answered_as, given_back, made}
 use Rattle.cmm_eval.specs.Outside.{call_seen, returned}
+use Rattle.cmm_eval.specs.Passing.{ComesBack, TakesPlace}
 use Rattle.cmm_eval.specs.Views.{call_view, here_view}
 use Rattle.cmm_eval.specs.Filled.{expression, resume}
 use Rattle.cmm_eval.specs.Annotated.{FitsFunction, FitsEntry}
@@ -35,7 +36,9 @@ use Rattle.cmm_eval.specs.declared.frame.Frame.{Frame}
 use Rattle.cmm_eval.specs.declared.frame.Step.TheVariants as step
 use Rattle.cmm_eval.specs.declared.here.Here as here
 use Rattle.cmm_eval.proofs.HeldCalls.{function_seen}
+use Rattle.cmm_eval.specs.declared.tests.Tests.{Tests}
 use Rattle.cmm_eval.proofs.Turns.{pushed}
+use Rattle.cmm_eval.proofs.Passing.{Meets, returns_none, returns_written}
 
 -- ---- what lies outside
 
@@ -131,39 +134,52 @@ frame_taken s frames end written call h w first second rest left calls now e f q
 
 -- ---- functions of the file
 
--- the activation of a callee, and the frame that keeps its caller's
-pub activated_is : (s : Surroundings) (frames new : List Frame) (form : Bor Form) (tail : Bool) (kept : here.Here) (written : Ret) (f : Function)
-    (frame : ℕ) (arguments : List Value) (below : ℕ) (h inner : Here) (w world : World) →
-    new ≡ frames ++ record { form = form; tail = tail; step = step.Return kept written } ∷ [] →
-    here_view kept ≡ h → below ≡ stack_below tail h →
+-- the activation of a callee, which comes back to its caller
+pub activated_is : (s : Surroundings) (frames new : List Frame) (tail : Bool) (written : Ret) (f : Function) (frame : ℕ) (arguments : List Value)
+    (below : ℕ) (h inner : Here) (w world : World) → ComesBack frames written h new → below ≡ stack_below tail h →
     inner ≡ record { names = bound (map scoped_parameter (params_view (contents f.params))) arguments []; below = below; frame = frame; tries = 0 } →
     world ≡ deepened (below + frame) w →
     resume s new (expression s f.body true inner world)
-    ≡ resume s frames
-    (and_then (back_from_call h (activated_held s frame (Some f) arguments (stack_below tail h) w)) (λ v h w. as_written written v h w))
-activated_is s frames new form tail kept written f frame arguments below h inner w world is-new is-kept is-below is-inner is-world =
+    ≡ resume s frames (returned written h (activated_held s frame (Some f) arguments (stack_below tail h) w))
+activated_is s frames new tail written f frame arguments below h inner w world back is-below is-inner is-world =
     let here : ℕ → Here =
     λ b. record { names = bound (map scoped_parameter (params_view (contents f.params))) arguments []; below = b; frame = frame; tries = 0 } in
     let body : ℕ → Evaluation = λ b. expression s f.body true (here b) (deepened (b + frame) w) in
     let one : expression s f.body true inner world ≡ body below =
     ap (λ (i : Here). expression s f.body true i world) is-inner ∙ ap (λ (v : World). expression s f.body true (here below) v) is-world in
-    pushed s frames new (record { form = form; tail = tail; step = step.Return kept written }) (expression s f.body true inner world)
-    (returned written h (body (stack_below tail h))) is-new
-    (ap (λ (i : Here). returned written i (expression s f.body true inner world)) is-kept ∙ ap (returned written h) (one ∙ ap body is-below))
+    back s (expression s f.body true inner world) ∙ ap (λ (e : Evaluation). resume s frames (returned written h e)) (one ∙ ap body is-below)
 
--- the first activation of a run
-pub first_stands : (s : Surroundings) (frames : List Frame) (f : Function) (frame : ℕ) (arguments : List Value) (here : Here) (world w : World) →
-    frames ≡ [] →
+-- the frame of a callee is added, or it takes the place of its caller
+pub back_pushed : (frames new : List Frame) (form : Bor Form) (tail : Bool) (kept : here.Here) (written : Ret) (tests : Tests) →
+    Meets tests (λ end v h w. as_written written v h w) → new ≡ frames ++ record { form = form; tail = tail; step = step.Return kept tests } ∷ [] →
+    ComesBack frames written (here_view kept) new
+back_pushed frames new form tail kept written tests m is-new s e =
+    pushed s frames new (record { form = form; tail = tail; step = step.Return kept tests }) e (returned written (here_view kept) e) is-new
+    (returns_written s tests written m (here_view kept) e)
+
+pub back_replaced : (frames new : List Frame) (h : Here) (written : Ret) (tests : Tests) →
+    Meets tests (λ end v h w. as_written written v h w) → TakesPlace frames tests new → ComesBack frames written h new
+back_replaced frames new h written tests m place s e = place s h e ∙ ap (resume s frames) (returns_written s tests written m h e)
+
+-- the first activation of a run, which returns to nobody
+pub first_stands : (s : Surroundings) (frames new : List Frame) (form : Bor Form) (tail : Bool) (kept : here.Here) (tests : Tests) (f : Function) (frame : ℕ)
+    (arguments : List Value) (here : Here) (world w : World) → frames ≡ [] →
+    new ≡ frames ++ record { form = form; tail = tail; step = step.Return kept tests } ∷ [] →
+    here_view kept ≡ nobody → Meets tests (λ end v h w. Gives v h w) →
     here ≡ record { names = bound (map scoped_parameter (params_view (contents f.params))) arguments []; below = 0; frame = frame; tries = 0 } →
     world ≡ deepened frame w →
-    resume s frames (expression s f.body true here world) ≡ activated_held s frame (Some f) arguments 0 w
-first_stands s frames f frame arguments here world w is-frames is-here is-world =
+    resume s new (expression s f.body true here world) ≡ back_from_call nobody (activated_held s frame (Some f) arguments 0 w)
+first_stands s frames new form tail kept tests f frame arguments here world w is-frames is-new is-kept m is-here is-world =
     let at : Here = record { names = bound (map scoped_parameter (params_view (contents f.params))) arguments []; below = 0; frame = frame; tries = 0 } in
     let whole : frame ≡ 0 + frame = omega arith in
-    ap (λ (l : List Frame). resume s l (expression s f.body true here world)) is-frames
-    ∙ ap (λ (i : Here). expression s f.body true i world) is-here
+    let body : Evaluation = expression s f.body true here world in
+    pushed s frames new (record { form = form; tail = tail; step = step.Return kept tests }) body (back_from_call nobody body) is-new
+    (returns_none s tests m (here_view kept) body ∙ ap (λ (i : Here). back_from_call i body) is-kept)
+    ∙ ap (λ (l : List Frame). resume s l (back_from_call nobody body)) is-frames
+    ∙ ap (back_from_call nobody)
+    (ap (λ (i : Here). expression s f.body true i world) is-here
     ∙ ap (λ (v : World). expression s f.body true at v) is-world
-    ∙ ap (λ (t : ℕ). expression s f.body true at (deepened t w)) whole
+    ∙ ap (λ (t : ℕ). expression s f.body true at (deepened t w)) whole)
 
 copied_is : {X : Type 0} (o : Option (Bor X)) → option_copied o ≡ option_map (λ x. x.now) o
 copied_is None = refl

@@ -26,6 +26,7 @@ use Rattle.cmm_eval.specs.declared.frame.Step.{Step}
 use Rattle.cmm_eval.specs.declared.frame.Step.TheVariants as step
 use Rattle.cmm_eval.specs.declared.here.Here as here
 use Rattle.cmm_eval.specs.declared.here.Bound.{Bound}
+use Rattle.cmm_eval.specs.declared.tests.Tests.{Tests}
 use Rattle.cmm_eval.specs.Views.{bound_view, bounds_view}
 use Rattle.cmm_eval.proofs.Turns.{pushed}
 use Rattle.cmm_eval.proofs.Listed.{choices_is}
@@ -40,7 +41,7 @@ if_ok_then P Q (Err e) f p = p
 
 -- a raise goes through all frames but those of a try and of a callee
 pub raise_passes : (s : Surroundings) (st : Step) (f : Form) (tail : Bool) (v : Value) (h : Here) (w : World) →
-    ((level tries : ℕ) → st ≡ step.Try level tries → ⊥) → ((here : here.Here) (written : Ret) → st ≡ step.Return here written → ⊥) →
+    ((level tries : ℕ) → st ≡ step.Try level tries → ⊥) → ((here : here.Here) (tests : Tests) → st ≡ step.Return here tests → ⊥) →
     does s st f tail (Raises v h w) ≡ Raises v h w
 raise_passes s (step.Typed type) f tail v h w p q = refl
 raise_passes s (step.Scope level tries) f tail v h w p q = refl
@@ -54,12 +55,12 @@ raise_passes s (step.Bindings bindings) f tail v h w p q = refl
 raise_passes s (step.Bound level tries) f tail v h w p q = refl
 raise_passes s (step.Waiting rest values) f tail v h w p q = refl
 raise_passes s (step.Callee waited) f tail v h w p q = refl
-raise_passes s (step.Filling callee rest waited values) f tail v h w p q = refl
+raise_passes s (step.Filling callee row) f tail v h w p q = refl
 raise_passes s (step.LateCallee values) f tail v h w p q = refl
 raise_passes s (step.Catch within zero level tries) f tail v h w p q = refl
 raise_passes s (step.Catch within (suc turns) level tries) f tail v h w p q = refl
 raise_passes s (step.Try level tries) f tail v h w p q = absurd (p level tries refl)
-raise_passes s (step.Return here written) f tail v h w p q = absurd (q here written refl)
+raise_passes s (step.Return here tests) f tail v h w p q = absurd (q here tests refl)
 
 -- the name that a handler of a try binds
 abbrev pub raised : List ℕ → Scoped

@@ -10,6 +10,7 @@ pub mod Listed
 pub mod Operands
 pub mod Ordered
 pub mod Turns
+pub mod Passing
 pub mod Called
 pub mod Ended
 pub mod Leaving

@@ -15,6 +15,7 @@ use Rattle.cmm_meaning.specs.Evaluation.{Evaluated, Evaluation, Gives, Exits, Ra
 use Rattle.cmm_eval.specs.declared.group.Group.TheVariants as group
 use Rattle.cmm_eval.specs.Groups.{group_of}
 use Rattle.cmm_eval.specs.Held.{held, inside, waiting_held, filled_held}
+use Rattle.cmm_eval.proofs.Listed.{then_same}
 use Rattle.cmm_eval.specs.Filled.{operands_of, operated_by, fills_in, after_waiting, waits_for}
 
 -- ---- what goes on
@@ -32,13 +33,6 @@ then_where P (Gives a h w) f g q p = p a h w q
 then_where P (Exits label values h w) f g q p = refl
 then_where P (Raises v h w) f g q p = refl
 then_where P (Stops why w) f g q p = refl
-
-then_alike : {A B : Type 0} (e : Evaluated A) (f g : A → Here → World → Evaluated B) →
-    ((a : A) (h : Here) (w : World) → f a h w ≡ g a h w) → and_then e f ≡ and_then e g
-then_alike (Gives a h w) f g p = p a h w
-then_alike (Exits label values h w) f g p = refl
-then_alike (Raises v h w) f g p = refl
-then_alike (Stops why w) f g p = refl
 
 then_then : {A B C : Type 0} (e : Evaluated A) (f : A → Here → World → Evaluated B) (g : B → Here → World → Evaluated C) →
     and_then (and_then e f) g ≡ and_then e (λ a h w. and_then (f a h w) g)
@@ -128,7 +122,7 @@ waits_row s f tail n (form.more_of-Expr at type e rest) more after h w =
     let one : List (Option Value) → Here → World → Evaluated (List (Option Value)) =
     λ values h w. unless_light (is_light_address (scope h) (form_view at e)) (held s type e false) h w (λ v h w. Gives (v ∷ values) h w) in
     waits_row s f tail _ rest (x ∷ more) after h w
-    ∙ then_alike (waiting_held s rest h w) (λ before h w. waits_for s f tail (x ∷ more) (before ++ after) h w) (λ before h w. and_then (one before h w) go)
+    ∙ then_same (waiting_held s rest h w) (λ before h w. waits_for s f tail (x ∷ more) (before ++ after) h w) (λ before h w. and_then (one before h w) go)
     (λ before h w. sym (light_then (is_light_address (scope h) (form_view at e)) (held s type e false) h w (λ v h w. Gives (v ∷ before) h w) go))
     ∙ sym (then_then (waiting_held s rest h w) one go)
 
@@ -137,7 +131,7 @@ whole_row : (s : Surroundings) (f : Form) (tail : Bool) (n : Count) (k : form.Ro
     ≡ and_then (waiting_held s k h w) (λ before h w. after_waiting s f tail before h w)
 whole_row s f tail n k h w =
     waits_row s f tail n k [] [] h w
-    ∙ then_alike (waiting_held s k h w) (λ before h w. after_waiting s f tail (before ++ []) h w) (λ before h w. after_waiting s f tail before h w)
+    ∙ then_same (waiting_held s k h w) (λ before h w. after_waiting s f tail (before ++ []) h w) (λ before h w. after_waiting s f tail before h w)
     (λ before h w. ap (λ l. after_waiting s f tail l h w) (append-nil before))
 
 -- ---- and those that have waited
@@ -155,7 +149,7 @@ fills_row s f tail callee n (form.more_of-Expr at type e rest) more (v ∷ befor
     let one : List Value → Here → World → Evaluated (List Value) =
     λ these h w. now_or_before v (held s type e false) h w (λ v h w. Gives (v ∷ these) h w) in
     fills_row s f tail callee _ rest (x ∷ more) before (v ∷ past) values h w long
-    ∙ then_alike (filled_held s rest before h w) (λ these h w. fills_in s f tail callee (x ∷ more) (v ∷ past) (these ++ values) h w)
+    ∙ then_same (filled_held s rest before h w) (λ these h w. fills_in s f tail callee (x ∷ more) (v ∷ past) (these ++ values) h w)
     (λ these h w. and_then (one these h w) go)
     (λ these h w. sym (before_then v (held s type e false) h w (λ v h w. Gives (v ∷ these) h w) go))
     ∙ sym (then_then (filled_held s rest before h w) one go)
@@ -166,7 +160,7 @@ rest_row : (s : Surroundings) (f : Form) (tail : Bool) (callee : Option Value) (
     ≡ and_then (filled_held s k before h w) (λ values h w. operated_by s f tail callee values h w)
 rest_row s f tail callee n k before h w long =
     fills_row s f tail callee n k [] before [] [] h w long
-    ∙ then_alike (filled_held s k before h w) (λ values h w. operated_by s f tail callee (values ++ []) h w) (λ values h w. operated_by s f tail callee values h w)
+    ∙ then_same (filled_held s k before h w) (λ values h w. operated_by s f tail callee (values ++ []) h w) (λ values h w. operated_by s f tail callee values h w)
     (λ values h w. ap (λ l. operated_by s f tail callee l h w) (append-nil values))
 
 -- a node with a row of operands that has nothing before them but those that wait

@@ -29,12 +29,12 @@ does_stops s (step.Bindings bindings) f tail why w = refl
 does_stops s (step.Bound level tries) f tail why w = refl
 does_stops s (step.Waiting rest values) f tail why w = refl
 does_stops s (step.Callee waited) f tail why w = refl
-does_stops s (step.Filling callee rest waited values) f tail why w = refl
+does_stops s (step.Filling callee row) f tail why w = refl
 does_stops s (step.LateCallee values) f tail why w = refl
 does_stops s (step.Catch within zero level tries) f tail why w = refl
 does_stops s (step.Catch within (suc turns) level tries) f tail why w = refl
 does_stops s (step.Try level tries) f tail why w = refl
-does_stops s (step.Return here written) f tail why w = refl
+does_stops s (step.Return here tests) f tail why w = refl
 
 pub resume_stops : (s : Surroundings) (frames : List Frame) (why : Stop) (w : World) → resume s frames (Stops why w) ≡ Stops why w
 resume_stops s [] why w = refl

@@ -14,7 +14,7 @@ use Rattle.bs_words.specs.declared.values.Value.{Value}
 use Rattle.bs_words.specs.declared.values.Value.TheVariants as value
 use Rattle.cmm_tree.specs.Tree.{Expression, Parameter, LabelTree, Bindings, NoBinding, Bind, Declaration}
 use Rattle.cmm_types.specs.Types.{Scoped, type_of, with_parameters, with_bindings, type_bound, is_mutable}
-use Rattle.cmm_meaning.specs.State.{World, Here, Binding, scope, assigned, assigned_first, bound, back_in}
+use Rattle.cmm_meaning.specs.State.{World, Here, Binding, scope, assigned, bound, back_in}
 use Rattle.cmm_meaning.specs.Evaluation.{Stop, NotProper, Evaluated, Evaluation, Gives, Exits, Raises, Stops, Surroundings, and_then, only_value, with_value, proper, spend, of_type, tested, typed, both, unless_light, now_or_before, fit_parameters, back_from_call, as_written, call_from, called_with, applied, scoped_parameter, looked_up, node, back}
 use Rattle.cmm_eval.specs.Held.{node_held}
 
@@ -187,7 +187,7 @@ within_bindings names (Bind at name declared value rest) =
 -- a binding that is assigned keeps its name
 scope_assigned_first : (b : Bool) (binding : Binding) (v : Value) (rest others : List Binding) →
     map (λ (b : Binding). b.scoped) others ≡ map (λ (b : Binding). b.scoped) rest →
-    map (λ (b : Binding). b.scoped) (assigned_first b binding v rest others) ≡ binding.scoped ∷ map (λ (b : Binding). b.scoped) rest
+    map (λ (b : Binding). b.scoped) (cond b (record binding { value = v } ∷ rest) (binding ∷ others)) ≡ binding.scoped ∷ map (λ (b : Binding). b.scoped) rest
 scope_assigned_first true binding v rest others e = refl
 scope_assigned_first false binding v rest others e = ap (λ l. binding.scoped ∷ l) e
 

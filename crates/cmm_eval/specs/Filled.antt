@@ -19,10 +19,12 @@ use Rattle.cmm_meaning.specs.State.{World, Here, scope, assigned}
 use Rattle.cmm_meaning.specs.Evaluation.{Body, NotProper, Evaluation, Gives, Exits, Raises, Stops, Surroundings, and_then, with_value, proper, tested, typed, unless_light, now_or_before, first_of, rest_of, back_from_call, as_written, applied, with_bound, back, caught, tried, chosen, bound_error}
 use Rattle.cmm_meaning.specs.Choices.{Ready, Chosen, case_for}
 use Rattle.cmm_eval.specs.Held.{row_held, held, choices_held, readied_held}
+use Rattle.cmm_eval.specs.Meets.{meets}
 use Rattle.cmm_eval.specs.Views.{here_view, stop_view}
 use Rattle.cmm_eval.specs.declared.frame.Frame.{Frame}
 use Rattle.cmm_eval.specs.declared.frame.Now.{Now}
 use Rattle.cmm_eval.specs.declared.frame.Now.TheVariants as now
+use Rattle.cmm_eval.specs.declared.frame.Row.{Row}
 use Rattle.cmm_eval.specs.declared.frame.Step.{Step}
 use Rattle.cmm_eval.specs.declared.frame.Step.TheVariants as step
 
@@ -92,17 +94,24 @@ operated_by s (form.Alloc' header_at header shape operands) tail callee values h
 operated_by s (form.App' p at type late shape arguments result result_at) tail callee values h w =
     now_or_before callee (held s type late false) h w (λ f h w. applied s f values result tail h w)
 operated_by s (form.Extcall' frame name shape arguments result result_at) tail callee values h w =
-    and_then (back_from_call h (s.external (row_held name arguments result) frame values w)) (λ v h w. as_written result v h w)
+    and_then (back_from_call h (s.external (row_held name arguments result) frame values w))
+    (λ v h w. as_written result v h w)
 operated_by s (form.Exit' label_at label shape arguments) tail callee values h w = Exits (label_view label) values h w
 operated_by s _ tail callee values h w = improper w
 
 -- the operands that are left, last to first, and what they have come to before, last to first; and the values
 -- of those behind them, first to last
-abbrev pub fills_in : Surroundings → Form → Bool → Option Value → List Expr → List (Option Value) → List Value → Here → World → Evaluation
+abbrev pub fills_in : Surroundings → Form → Bool
+    → Option Value → List Expr → List (Option Value) → List Value
+    → Here → World → Evaluation
 fills_in s f tail callee [] before values h w = operated_by s f tail callee values h w
 fills_in s f tail callee (e ∷ operands) before values h w =
     now_or_before (first_of before) (expression s e false) h w (λ v h w.
     fills_in s f tail callee operands (rest_of before) (v ∷ values) h w)
+
+abbrev pub row_fills : Surroundings → Form → Bool → Option Value → Row → Here → World → Evaluation
+row_fills s f tail callee row h w =
+    fills_in s f tail callee (reverse row.operands.now) (reverse row.waited.items) (reverse row.values.items) h w
 
 -- the callee of a call is evaluated before the operands that have waited; or there is none, or it waits too
 abbrev pub after_callee : Surroundings → Form → Bool → Option Expr → List (Option Value) → Here → World → Evaluation
@@ -114,7 +123,8 @@ after_callee s f tail None before h w = fills_in s f tail None (reverse (operand
 abbrev pub after_waiting : Surroundings → Form → Bool → List (Option Value) → Here → World → Evaluation
 after_waiting s (form.App' p at type callee shape arguments result result_at) tail before h w =
     unless_light (is_light_address (scope h) (form_view at callee)) (held s type callee false) h w (λ c h w.
-    fills_in s (form.App' p at type callee shape arguments result result_at) tail c (reverse (form.items-the_row-Expr _ arguments)) (reverse before) [] h w)
+    fills_in s (form.App' p at type callee shape arguments result result_at) tail
+    c (reverse (form.items-the_row-Expr _ arguments)) (reverse before) [] h w)
 after_waiting s f tail before h w = fills_in s f tail None (reverse (operands_of f)) (reverse before) [] h w
 
 -- the operands that are left, last to first, and what those behind them have come to, first to last
@@ -174,7 +184,11 @@ abbrev pub cases_ready : Surroundings → Bool → List Case → List (Chosen Bo
 cases_ready s tail cases = map (case_ready s tail) cases
 
 abbrev pub handler_ready : Surroundings → Bool → Handler → Ready Body
-handler_ready s tail r = record { label = label_view r.label; params = params_view r.params.items; body = expression s r.body tail }
+handler_ready s tail r = record {
+  label = label_view r.label;
+  params = params_view r.params.items;
+  body = expression s r.body tail;
+}
 
 abbrev pub handlers_ready : Surroundings → Bool → List Handler → List (Ready Body)
 handlers_ready s tail handlers = map (handler_ready s tail) handlers
@@ -198,14 +212,15 @@ does s (step.Waiting rest values) f tail e =
     with_value e (λ v h w. waits_for s f tail (reverse rest.now) (Some v ∷ reverse values.items) h w)
 does s (step.Callee waited) f tail e =
     with_value e (λ c h w. fills_in s f tail (Some c) (reverse (operands_of f)) (reverse waited.items) [] h w)
-does s (step.Filling callee rest waited values) f tail e =
-    with_value e (λ v h w. fills_in s f tail callee (reverse rest.now) (reverse waited.items) (v ∷ reverse values.items) h w)
+does s (step.Filling callee row) f tail e =
+    with_value e (λ v h w.
+    fills_in s f tail callee (reverse row.operands.now) (reverse row.waited.items) (v ∷ reverse row.values.items) h w)
 does s (step.LateCallee values) f tail e =
     with_value e (λ c h w. operated_by s f tail (Some c) (reverse values.items) h w)
 does s (step.Catch within turns level tries) f tail e = caught s.end turns within (handlers_of s f tail) level tries e
 does s (step.Try level tries) f tail e = tried (handler_of s f tail) level tries e
-does s (step.Return here written) f tail e =
-    and_then (back_from_call (here_view here) e) (λ v h w. as_written written v h w)
+does s (step.Return here tests) f tail e =
+    and_then (back_from_call (here_view here) e) (λ v h w. meets s.end tests v h w)
 
 -- a step that goes on with a value, and with nothing else
 abbrev pub WantsValue : Step → Type 0
@@ -219,11 +234,11 @@ WantsValue (step.Bindings bindings) = Unit {0}
 WantsValue (step.Bound level tries) = ⊥
 WantsValue (step.Waiting rest values) = Unit {0}
 WantsValue (step.Callee waited) = Unit {0}
-WantsValue (step.Filling callee rest waited values) = Unit {0}
+WantsValue (step.Filling callee row) = Unit {0}
 WantsValue (step.LateCallee values) = Unit {0}
 WantsValue (step.Catch within turns level tries) = ⊥
 WantsValue (step.Try level tries) = ⊥
-WantsValue (step.Return here written) = ⊥
+WantsValue (step.Return here tests) = ⊥
 
 -- what a frame makes of the evaluation in it
 abbrev pub fills : Surroundings → Frame → Evaluation → Evaluation

@@ -80,7 +80,8 @@ abbrev mutual
   inside s (form.Extcall' frame name shape arguments result result_at) tail h w =
       and_then (waiting_held s arguments h w) (λ before h w.
       and_then (filled_held s arguments before h w) (λ values h w.
-      and_then (back_from_call h (s.external (row_held name arguments result) frame values w)) (λ v h w. as_written result v h w)))
+      and_then (back_from_call h (s.external (row_held name arguments result) frame values w))
+      (λ v h w. as_written result v h w)))
   inside s (form.Checkbound' p bound_at bound_type bound q index_at index_type index) tail h w =
       both (is_left_first (scope h) (form_view bound_at bound) (form_view index_at index))
       (λ h w. node_held s (is_float_form bound) bound_type w (λ w. inside s bound false h w))
@@ -134,7 +135,11 @@ abbrev mutual
   bindings_held s form.end_of-Binding h w = Gives None h w
   bindings_held s (form.more_of-Binding at name declared value_at type e rest) h w =
       with_value (node_held s (is_float_form e) type w (λ w. inside s e false h w)) (λ v h w.
-      let scoped : Scoped = record { name = name; type = type_bound (option_map declared_view declared) type; mutable = is_mutable (option_map declared_view declared) } in
+      let scoped : Scoped = record {
+        name = name;
+        type = type_bound (option_map declared_view declared) type;
+        mutable = is_mutable (option_map declared_view declared);
+      } in
       tested s.end scoped.type v w (bindings_held s rest (with_bound (scoped ∷ []) (v ∷ []) h) w))
 
   pub in_order_held : {m : _} → Surroundings → form.Row_of-Expr m → Bool → Here → World → Evaluation
@@ -147,13 +152,20 @@ abbrev mutual
   pub choices_held : {m : _} → Surroundings → form.Row_of-Case m → Bool → List (Chosen Body)
   choices_held s form.end_of-Case tail = []
   choices_held s (form.more_of-Case indexes at type body rest) tail =
-      record { indexes = map index_view indexes.items; body = λ h w. node_held s (is_float_form body) type w (λ w. inside s body tail h w) }
+      record {
+        indexes = map index_view indexes.items;
+        body = λ h w. node_held s (is_float_form body) type w (λ w. inside s body tail h w);
+      }
       ∷ choices_held s rest tail
 
   pub readied_held : {m : _} → Surroundings → form.Row_of-Handler m → Bool → List (Ready Body)
   readied_held s form.end_of-Handler tail = []
   readied_held s (form.more_of-Handler at label params body_at type body rest) tail =
-      record { label = label_view label; params = params_view params.items; body = λ h w. node_held s (is_float_form body) type w (λ w. inside s body tail h w) }
+      record {
+        label = label_view label;
+        params = params_view params.items;
+        body = λ h w. node_held s (is_float_form body) type w (λ w. inside s body tail h w);
+      }
       ∷ readied_held s rest tail
 
 -- a node

@@ -1,16 +1,12 @@
 -- The innermost binding of a name.
-use Rattle.std.specs.Prelude.{ℕ, Bool, true, false, List, [], ◌∷◌, Option, Some, None, bytes_eq}
+use Rattle.std.specs.Prelude.{ℕ, Bool, true, false, cond, List, [], ◌∷◌, Option, Some, None, bytes_eq}
 use Rattle.bs_words.specs.declared.operators.IntOp.{IntOp}
 use Rattle.bs_words.specs.declared.operators.IntOp.TheVariants.{AddA}
 use Rattle.cmm_meaning.specs.State.{Binding}
 
-abbrev pub first_of_name : Bool → Binding → Option Binding → Option Binding
-first_of_name true b others = Some b
-first_of_name false b others = others
-
 abbrev pub innermost : List Binding → List ℕ → Option Binding
 innermost [] name = None
-innermost (b ∷ rest) name = first_of_name (bytes_eq b.scoped.name name) b (innermost rest name)
+innermost (b ∷ rest) name = cond (bytes_eq b.scoped.name name) (Some b) (innermost rest name)
 
 -- the outermost operator of a light address
 abbrev pub is_address_sum : IntOp → Bool

@@ -2,7 +2,9 @@ pub mod Views
 pub mod Innermost
 pub mod Groups
 pub mod Held
+pub mod Meets
 pub mod Filled
 pub mod Outside
+pub mod Passing
 pub mod Annotated
 pub mod Stands

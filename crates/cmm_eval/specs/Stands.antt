@@ -32,7 +32,12 @@ functions_in (item.Data d ∷ items) = functions_in items
 abbrev pub activated_held : evaluation.Surroundings → ℕ → Option Function → List Value → ℕ → World → Evaluation
 activated_held s frame None arguments below w = Stops (NotProper BadCall) w
 activated_held s frame (Some f) arguments below w =
-    let here : Here = record { names = bound (map scoped_parameter (params_view (contents f.params))) arguments []; below = below; frame = frame; tries = 0 } in
+    let here : Here = record {
+      names = bound (map scoped_parameter (params_view (contents f.params))) arguments [];
+      below = below;
+      frame = frame;
+      tries = 0;
+    } in
     expression s f.body true here (deepened (below + frame) w)
 
 -- what stands round a run of a file

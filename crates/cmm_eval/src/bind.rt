@@ -43,7 +43,7 @@ impl<'a> Machine<'a> {
     }
 }
 
-/// Binds a name to a value, or tells why the value does not fit it.
+/// Binds a name to a value, or says why the value does not fit it.
 pub(crate) fn bind_value<'a>(
     end: u64,
     here: &mut Here<'a>,

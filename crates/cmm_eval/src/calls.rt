@@ -1,5 +1,5 @@
 //! What a node does once all its operands are there: calls among others.
-ghost use Rattle.std.specs.Prelude.{◌≡◌, [], ℕ, true, false, IfOk, Some, reverse, map};
+ghost use Rattle.std.specs.Prelude.{◌≡◌, [], ℕ, true, false, IfOk, Some, reverse, map, IsTrue, IsFalse};
 ghost use Rattle.bs_words.specs.declared.types.Ty.TheVariants as ty;
 ghost use Rattle.bs_words.specs.Contents.{contents};
 ghost use Rattle.bs_words.specs.Memory.{allocated, next_block};
@@ -8,10 +8,11 @@ ghost use Rattle.cmm_meaning.specs.Layout as meaning;
 ghost use Rattle.cmm_meaning.specs.State as state;
 ghost use Rattle.cmm_meaning.specs.State.{bound};
 ghost use Rattle.cmm_meaning.specs.Evaluation as evaluation;
-ghost use Rattle.cmm_meaning.specs.Evaluation.{Gives, Raises, and_then, proper, tested, applied, back_from_call, as_written, stack_below, scoped_parameter};
+ghost use Rattle.cmm_meaning.specs.Evaluation.{Gives, Raises, and_then, proper, tested, applied, stack_below, scoped_parameter};
 ghost use Rattle.cmm_meaning.specs.Run.{answered_as, given_back};
 ghost use Rattle.cmm_eval.specs.Outside.{EndsFrameCall, call_seen, returned};
 ghost use Rattle.cmm_eval.specs.Filled.{operated_by, standing};
+ghost use Rattle.cmm_eval.specs.Passing.{ComesBack, TakesPlace};
 ghost use Rattle.cmm_eval.specs.Views.{here_view, layout_view, call_view};
 ghost use Rattle.cmm_eval.specs.Stands.{IsAround, around_view, stands, goes_on, stands_in, goes_on_in, activated_held};
 
@@ -21,11 +22,19 @@ use crate::frame::{Now, Step};
 use crate::here::Here;
 use crate::layout::Layout;
 use crate::machine::{Machine, not_proper};
+use crate::tests::Tests;
 use crate::world::Stop;
 use bs_words::{Call, Kind, List, Name, Obs, Ret, Ty, Value};
 use cmm_tree::{Form, Function};
 use cmm_values::{fits, misfit};
 use std::alloc::{AllocError, Global};
+
+/// A function that is called, and the bytes of its frame.
+#[derive(Clone, Copy)]
+struct Callee<'a> {
+    function: &'a Function,
+    frame: u64,
+}
 
 impl<'a> Machine<'a> {
     /// What a node with a row of operands does with their values, last to first.
@@ -118,16 +127,11 @@ impl<'a> Machine<'a> {
         if !fit_parameters(around.end, function.params.as_slice(), arguments) {
             return Ok(not_proper(Kind::BadCall));
         }
-        let frame = around.layout.frame_of(number);
-        self.activate(
-            around.alloc,
-            form,
-            tail,
+        let callee = Callee {
             function,
-            frame,
-            arguments,
-            written,
-        )
+            frame: around.layout.frame_of(number),
+        };
+        self.activate(around.alloc, form, tail, callee, arguments, written)
     }
 
     /// The stack bytes below a callee: in tail position it takes the place of its caller.
@@ -141,41 +145,79 @@ impl<'a> Machine<'a> {
         }
     }
 
-    /// A call of a function with a frame of so many bytes. In tail position it takes the place of its
-    /// caller.
+    /// A call of a function with a frame of so many bytes.
     fn activate(
         &mut self,
         alloc: Global,
         form: &'a Form,
         tail: bool,
-        function: &'a Function,
-        frame: u64,
+        callee: Callee<'a>,
         arguments: &[Value],
         written: Ret,
     ) -> Result<Now<'a>, AllocError>
         ensures { IfOk result (λ now. (s : evaluation.Surroundings) →
             stands_in s self.new now ≡ goes_on_in s self.old (λ h w.
-            and_then (back_from_call h (activated_held s frame
-            (Some function.entry.now) arguments.now (stack_below tail h) w))
-            (λ v h w. as_written written v h w))) }
+            returned written h (activated_held s callee.entry.frame
+            (Some callee.entry.function.now) arguments.now (stack_below tail h) w))) }
     {
         let below = self.stack_below(tail)?;
-        let taken = below.checked_add(frame).ok_or(AllocError)?;
-        let inner = activation(alloc, function, below, frame, arguments)?;
+        let taken = below.checked_add(callee.frame).ok_or(AllocError)?;
+        let inner = activation(alloc, callee.function, below, callee.frame, arguments)?;
         self.world.deepen(taken);
         let here = std::mem::replace(&mut self.here, inner);
-        self.push(
-            form,
-            tail,
-            Step::Return {
-                here,
-                result: written,
-            },
-        )?;
+        self.come_back(form, tail, here, written)?;
         Ok(Now::Begins {
-            expr: &function.body,
+            expr: &callee.function.body,
             tail: true,
         })
+    }
+
+    /// What comes next is a callee, which comes back to this activation; or it takes the place of its
+    /// caller, and comes back to where that one would.
+    fn come_back(
+        &mut self,
+        form: &'a Form,
+        tail: bool,
+        here: Here<'a>,
+        written: Ret,
+    ) -> Result<(), AllocError>
+        ensures here { IfOk result (λ _. self.new.here ≡ self.old.here) }
+        ensures world { IfOk result (λ _. self.new.world ≡ self.old.world) }
+        ensures frames { IfOk result (λ _. ComesBack self.old.frames.items written
+            (here_view here.entry) self.new.frames.items) }
+    {
+        let tests = Tests::written(written);
+        if tail && self.take_place(tests) {
+            return Ok(());
+        }
+        self.push(form, tail, Step::Return { here, tests })
+    }
+
+    /// Lets a callee take the place of its caller, where only tests would follow in the caller: what it
+    /// gives meets these tests first, and then those of the caller.
+    fn take_place(&mut self, tests: Tests) -> bool
+        ensures here { self.new.here ≡ self.old.here }
+        ensures world { self.new.world ≡ self.old.world }
+        ensures place { IsTrue result → TakesPlace self.old.frames.items tests self.new.frames.items }
+        ensures none { IsFalse result → self.new.frames.items ≡ self.old.frames.items }
+    {
+        let mut before = tests;
+        let mut left = self.frames.len();
+        while left > 0 {
+            left -= 1;
+            match self.frames[left].step.tests() {
+                Some(after) => before = before.then(after),
+                None => {
+                    let Step::Return { tests: after, .. } = &mut self.frames[left].step else {
+                        return false;
+                    };
+                    *after = before.then(*after);
+                    self.frames.truncate(left + 1);
+                    return true;
+                }
+            }
+        }
+        false
     }
 
     /// An external call.

@@ -70,7 +70,7 @@ fn is_visible(within: bool, label: &Label) -> bool
 {
     match label {
         Label::Bare => !within,
-        _ => true,
+        Label::Named(_) | Label::Done | Label::Again => true,
     }
 }
 
@@ -80,7 +80,7 @@ fn same_label(label: &Label, other: &Label) -> bool
     match label {
         Label::Named(name) => match other {
             Label::Named(other) => name.same(other),
-            _ => false,
+            Label::Bare | Label::Done | Label::Again => false,
         },
         Label::Bare => matches!(other, Label::Bare),
         Label::Done => matches!(other, Label::Done),

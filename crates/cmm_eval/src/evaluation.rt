@@ -6,7 +6,7 @@ ghost use Rattle.cmm_tree.specs.View.{file_view};
 ghost use Rattle.cmm_data.specs.Faults.{data_fault_of};
 ghost use Rattle.cmm_meaning.specs.State as state;
 ghost use Rattle.cmm_meaning.specs.Evaluation as evaluation;
-ghost use Rattle.cmm_meaning.specs.Run.{cmm_run, finished, told};
+ghost use Rattle.cmm_meaning.specs.Run.{cmm_run, finished, reported};
 ghost use Rattle.cmm_eval.specs.Annotated.{IsTyped, FitsEntry};
 ghost use Rattle.cmm_eval.specs.Filled.{HasEnded, standing};
 ghost use Rattle.cmm_eval.specs.Stands.{functions_in};
@@ -15,10 +15,12 @@ ghost use Rattle.cmm_eval.specs.Views.{eval_view, layout_view, outcome_view};
 use crate::around::Surroundings;
 use crate::bind::fit_parameters;
 use crate::calls::{activation, observed};
-use crate::frame::Now;
+use crate::frame::{Now, Step};
+use crate::here::Here;
 use crate::layout::Layout;
 use crate::machine::Machine;
 use crate::outcome::{Eval, Outcome};
+use crate::tests::Tests;
 use crate::world::{Stop, World};
 use bs_words::{Kind, Value};
 use cmm_data::SymbolTable;
@@ -40,7 +42,7 @@ pub fn eval(
     requires data { data_fault_of (file_view file.now) ≡ None }
     requires typed { IsTyped file.now }
     requires entry { FitsEntry (file_view file.now) entry args.now }
-    ensures { IfOk result (λ told. eval_view told ≡ cmm_run (file_view file.now)
+    ensures { IfOk result (λ run. eval_view run ≡ cmm_run (file_view file.now)
         (layout_view layout.now) entry args.now answers.now fuel) }
 {
     let functions = functions_of(alloc, file)?;
@@ -72,6 +74,12 @@ pub fn eval(
         world,
         frames: Vec::new(alloc),
     };
+    // The entry returns to nobody; tail calls take its place like that of any other function.
+    let returns = Step::Return {
+        here: Here::nobody(alloc),
+        tests: Tests::none(),
+    };
+    machine.push(&function.body.form, true, returns)?;
     let first = Now::Begins {
         expr: &function.body,
         tail: true,
@@ -118,7 +126,7 @@ pub fn fits_entry(alloc: Global, file: &File, entry: u32, args: &[u64]) -> Resul
 fn finished(layout: &Layout, end: Now<'_>) -> Outcome
     requires { HasEnded end }
     ensures { (s : evaluation.Surroundings) → (h : state.Here) → (w : state.World) →
-        finished (layout_view layout.now) (standing s end.entry h w) ≡ told
+        finished (layout_view layout.now) (standing s end.entry h w) ≡ reported
         (outcome_view result) w }
 {
     match end {

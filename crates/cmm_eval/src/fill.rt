@@ -3,7 +3,7 @@ ghost use Rattle.std.specs.Prelude.{◌≡◌, IfOk, None, Some, cond, nat_lt};
 ghost use Rattle.bs_words.specs.Operators.{word_in};
 ghost use Rattle.cmm_meaning.specs.State as state;
 ghost use Rattle.cmm_meaning.specs.Evaluation as evaluation;
-ghost use Rattle.cmm_meaning.specs.Evaluation.{Gives, Raises, proper, as_written, bound_error};
+ghost use Rattle.cmm_meaning.specs.Evaluation.{Gives, Raises, proper, bound_error};
 ghost use Rattle.cmm_eval.specs.declared.frame.Step.{Step};
 ghost use Rattle.cmm_eval.specs.Filled.{WantsValue, does, fills, standing, taken_by, joined_by, body_of, first_bound};
 ghost use Rattle.cmm_eval.specs.Stands.{IsAround, around_view, stands, goes_on, stands_in, goes_on_in};
@@ -12,18 +12,19 @@ use crate::around::Surroundings;
 use crate::bind::bind_value;
 use crate::calls::raised;
 use crate::cases::case_for;
-use crate::frame::{Frame, Now, Step};
+use crate::frame::{Frame, Now, Row, Step};
 use crate::group::{Group, group_of};
 use crate::leaf::{both_operands, earlier};
 use crate::machine::{Machine, not_proper, of_type};
 use crate::rows::operands_of;
-use bs_words::{Kind, Ret, Ty, Value};
+use bs_words::{Kind, Value};
 use cmm_data::DATA_START;
 use cmm_tree::{Binding, Form};
 use cmm_values::{apply, condition_of, fits, misfit, word_in};
 use std::alloc::AllocError;
 
 impl<'a> Machine<'a> {
+    /// What a frame makes of a value, or of none.
     pub(crate) fn fill(
         &mut self,
         around: &Surroundings<'a>,
@@ -48,12 +49,9 @@ impl<'a> Machine<'a> {
             Step::Catch { .. } => Ok(Now::Gives(value)),
             Step::Elements(rest) => self.elements(form, tail, rest),
             Step::Bound { level, tries } => self.body(form, tail, level, tries),
-            Step::Return {
-                here,
-                result: written,
-            } => {
+            Step::Return { here, tests } => {
                 self.here = here;
-                Ok(as_written(written, value))
+                Ok(tests.meet(around.end, value))
             }
             step => match value {
                 Some(value) => self.fill_value(around, Frame { form, tail, step }, value),
@@ -91,21 +89,25 @@ impl<'a> Machine<'a> {
                 self.wait(around, form, tail, rest, values)
             }
             Step::Callee { waited } => {
-                let values = Vec::new(around.alloc);
-                let operands = operands_of(form);
-                self.fill_in(around, form, tail, Some(value), operands, waited, values)
+                let row = Row {
+                    operands: operands_of(form),
+                    waited,
+                    values: Vec::new(around.alloc),
+                };
+                self.fill_in(around, form, tail, Some(value), row)
             }
-            Step::Filling {
-                callee,
-                rest,
-                waited,
-                mut values,
-            } => {
-                values.push(value)?;
-                self.fill_in(around, form, tail, callee, rest, waited, values)
+            Step::Filling { callee, mut row } => {
+                row.values.push(value)?;
+                self.fill_in(around, form, tail, callee, row)
             }
             Step::LateCallee { values } => { self.operate(around, form, tail, Some(value), values) }
-            _ => unreachable!(),
+            Step::Typed(_) => unreachable!(),
+            Step::Scope { .. } => unreachable!(),
+            Step::Elements(_) => unreachable!(),
+            Step::Bound { .. } => unreachable!(),
+            Step::Catch { .. } => unreachable!(),
+            Step::Try { .. } => unreachable!(),
+            Step::Return { .. } => unreachable!(),
         }
     }
 
@@ -255,20 +257,6 @@ fn given<'a>(value: Result<Value, Kind>) -> Now<'a>
     match value {
         Ok(value) => Now::Gives(Some(value)),
         Err(kind) => not_proper(kind),
-    }
-}
-
-// A value comes where the call is written with a type.
-fn as_written<'a>(written: Ret, value: Option<Value>) -> Now<'a>
-    ensures { (s : evaluation.Surroundings) → (h : state.Here) → (w : state.World) →
-        standing s result h w ≡ as_written written value h w }
-{
-    match written {
-        Ret::Unit => Now::Gives(None),
-        Ret::Comp(_) => match value {
-            Some(value) => Now::Gives(Some(value)),
-            None => not_proper(Kind::BadCall),
-        },
     }
 }
 

@@ -1,7 +1,11 @@
 //! What is still to be done with what an evaluation gives.
+ghost use Rattle.std.specs.Prelude.{MatchOption};
+ghost use Rattle.cmm_eval.specs.Passing.{Passes};
+
 use crate::here::Here;
+use crate::tests::Tests;
 use crate::world::Stop;
-use bs_words::{Ret, Ty, Value};
+use bs_words::{Ty, Value};
 use cmm_tree::{Binding, Expr, Form, Label};
 
 /// What a node does with what one of its parts gives.
@@ -12,6 +16,17 @@ pub(crate) struct Frame<'a> {
     /// Whether it stands in tail position.
     pub(crate) tail: bool,
     pub(crate) step: Step<'a>,
+}
+
+/// A row of operands, those that do not wait evaluated, and of the others those at its end.
+#[derive(Drop)]
+pub(crate) struct Row<'a> {
+    /// The operands that are left.
+    pub(crate) operands: &'a [Expr],
+    /// What these have come to before, first to last: those that wait have no value.
+    pub(crate) waited: Vec<Option<Value>>,
+    /// The values of the operands after these, last to first.
+    pub(crate) values: Vec<Value>,
 }
 
 /// The part of a node that is being evaluated.
@@ -44,7 +59,7 @@ pub(crate) enum Step<'a> {
         level: usize,
         tries: u64,
     },
-    /// An operand behind these, whose values came before, last to first.
+    /// The operand to the right of these; the values of those further right, last to first.
     Waiting {
         rest: &'a [Expr],
         values: Vec<Option<Value>>,
@@ -53,13 +68,10 @@ pub(crate) enum Step<'a> {
     Callee {
         waited: Vec<Option<Value>>,
     },
-    /// An operand that has waited, behind these. Those before it, and what they have come to so far; and
-    /// the values behind it, last to first.
+    /// An operand that has waited, between those of the row that are left and their values.
     Filling {
         callee: Option<Value>,
-        rest: &'a [Expr],
-        waited: Vec<Option<Value>>,
-        values: Vec<Value>,
+        row: Row<'a>,
     },
     /// The callee, after all arguments, last to first.
     LateCallee {
@@ -77,25 +89,56 @@ pub(crate) enum Step<'a> {
         level: usize,
         tries: u64,
     },
-    /// The body of a callee; the activation is the caller's.
+    /// The body of a callee. The activation is the one to which it returns, and the tests are those that
+    /// its value meets before: of the call, and, after tail calls, of all that they have replaced.
     Return {
         here: Here<'a>,
-        result: Ret,
+        tests: Tests,
     },
 }
 
 /// What stands now: an expression that begins, or how an evaluation ended.
 #[derive(Drop)]
 pub(crate) enum Now<'a> {
+    /// An expression begins.
     Begins {
         expr: &'a Expr,
         tail: bool,
     },
+    /// It gave a value, or none.
     Gives(Option<Value>),
+    /// It left to a handler of a catch.
     Exits {
         label: &'a Label,
         values: Vec<Value>,
     },
+    /// It raised a value.
     Raises(Value),
+    /// The run is over before its end.
     Stops(Stop),
+}
+
+impl Step<'_> {
+    /// The tests of a step in tail position, which does nothing else to what a function gives.
+    pub(crate) fn tests(&self) -> Option<Tests>
+        ensures { MatchOption result (Unit {0}) (λ tests. Passes self.now tests) }
+    {
+        match self {
+            Step::Typed(ty) => Some(Tests::of_type(*ty)),
+            Step::Scope { .. } => Some(Tests::none()),
+            Step::Catch { .. } => Some(Tests::none()),
+            Step::Operand => None,
+            Step::First { .. } => None,
+            Step::Second { .. } => None,
+            Step::Elements(_) => None,
+            Step::Bindings(_) => None,
+            Step::Bound { .. } => None,
+            Step::Waiting { .. } => None,
+            Step::Callee { .. } => None,
+            Step::Filling { .. } => None,
+            Step::LateCallee { .. } => None,
+            Step::Try { .. } => None,
+            Step::Return { .. } => None,
+        }
+    }
 }

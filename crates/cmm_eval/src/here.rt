@@ -4,11 +4,12 @@ ghost use Rattle.cmm_types.specs.Types.{type_named};
 ghost use Rattle.cmm_types.specs.Light.{is_immutable};
 ghost use Rattle.cmm_meaning.specs.State.{scope, value_of, assigned, back_in, taken};
 ghost use Rattle.cmm_meaning.specs.Evaluation.{with_bound};
+ghost use Rattle.cmm_meaning.specs.Run.{nobody};
 ghost use Rattle.cmm_eval.specs.Views.{bound_view, bounds_view, here_view};
 ghost use Rattle.cmm_eval.specs.Innermost.{innermost};
 
 use bs_words::{Name, Ty, Value};
-use std::alloc::AllocError;
+use std::alloc::{AllocError, Global};
 
 /// A name in scope and its value.
 #[derive(Drop)]
@@ -48,6 +49,18 @@ fn innermost<'b, 'a>(names: &'b [Bound<'a>], name: &Name) -> Option<&'b Bound<'a
 }
 
 impl<'a> Here<'a> {
+    /// No activation: the entry of a run returns to it.
+    pub(crate) fn nobody(alloc: Global) -> Here<'a>
+        ensures { here_view result ≡ nobody }
+    {
+        Here {
+            names: Vec::new(alloc),
+            below: 0,
+            frame: 0,
+            tries: 0,
+        }
+    }
+
     /// The stack bytes up to here: a try takes 16. No memory holds as many bytes as would pass a `u64`.
     pub(crate) fn taken(&self) -> Result<u64, AllocError>
         ensures { IfOk result (λ bytes. bytes ≡ taken (here_view self.now)) }

@@ -4,7 +4,9 @@ ghost use Rattle.std.specs.Prelude.{◌≡◌, slice_index};
 /// For each function of the file, in order: the bytes of its frame, and its address.
 #[derive(Debug, Drop)]
 pub struct Layout {
+    /// Bytes of the stack that one activation takes.
     pub frames: Vec<u32>,
+    /// The address that a function as a value is observed as.
     pub addresses: Vec<u64>,
 }
 

@@ -18,6 +18,7 @@ mod light;
 mod machine;
 mod outcome;
 mod rows;
+mod tests;
 mod world;
 
 pub use evaluation::{eval, fits_entry};

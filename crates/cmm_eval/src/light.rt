@@ -20,7 +20,27 @@ pub(crate) fn is_light_address(here: &Here<'_>, expr: &Expr) -> bool
         Form::Operator(op, left, right) => {
             is_address_sum(*op) && (is_light(here, left) && is_light(here, right))
         }
-        _ => false,
+        Form::Integer(_)
+        | Form::Pointer(_)
+        | Form::Symbol(_)
+        | Form::Name(_)
+        | Form::Nothing
+        | Form::Float { .. }
+        | Form::Let(_, _)
+        | Form::Assign { .. }
+        | Form::Load(_, _)
+        | Form::Store(_, _, _)
+        | Form::Alloc { .. }
+        | Form::App { .. }
+        | Form::Extcall { .. }
+        | Form::Checkbound(_, _)
+        | Form::Raise(_)
+        | Form::Seq(_)
+        | Form::If(_, _, _)
+        | Form::Switch { .. }
+        | Form::Catch(_, _)
+        | Form::Exit { .. }
+        | Form::Try { .. } => false,
     }
 }
 
@@ -42,7 +62,24 @@ fn is_light(here: &Here<'_>, expr: &Expr) -> bool
         Form::Operator(op, left, right) => {
             is_light_operator(*op) && (is_light(here, left) && is_light(here, right))
         }
-        _ => false,
+        Form::Pointer(_)
+        | Form::Nothing
+        | Form::Float { .. }
+        | Form::Let(_, _)
+        | Form::Assign { .. }
+        | Form::Load(_, _)
+        | Form::Store(_, _, _)
+        | Form::Alloc { .. }
+        | Form::App { .. }
+        | Form::Extcall { .. }
+        | Form::Checkbound(_, _)
+        | Form::Raise(_)
+        | Form::Seq(_)
+        | Form::If(_, _, _)
+        | Form::Switch { .. }
+        | Form::Catch(_, _)
+        | Form::Exit { .. }
+        | Form::Try { .. } => false,
     }
 }
 
@@ -51,7 +88,21 @@ fn is_address_sum(op: IntOp) -> bool
 {
     match op {
         IntOp::AddA => true,
-        _ => false,
+        IntOp::Add
+        | IntOp::Sub
+        | IntOp::Mul
+        | IntOp::Mulh
+        | IntOp::Div
+        | IntOp::Mod
+        | IntOp::And
+        | IntOp::Or
+        | IntOp::Xor
+        | IntOp::Shl
+        | IntOp::Shr
+        | IntOp::Sar
+        | IntOp::Cmp(_)
+        | IntOp::CmpU(_)
+        | IntOp::AddV => false,
     }
 }
 
@@ -59,11 +110,17 @@ fn is_light_operator(op: IntOp) -> bool
     ensures { result ≡ is_light_operator op }
 {
     match op {
-        IntOp::Mulh => false,
-        IntOp::Div => false,
-        IntOp::Mod => false,
-        IntOp::Cmp(_) => false,
-        IntOp::CmpU(_) => false,
-        _ => true,
+        IntOp::Add
+        | IntOp::Sub
+        | IntOp::Mul
+        | IntOp::And
+        | IntOp::Or
+        | IntOp::Xor
+        | IntOp::Shl
+        | IntOp::Shr
+        | IntOp::Sar
+        | IntOp::AddV
+        | IntOp::AddA => true,
+        IntOp::Mulh | IntOp::Div | IntOp::Mod | IntOp::Cmp(_) | IntOp::CmpU(_) => false,
     }
 }

@@ -1,4 +1,4 @@
-//! How a run ends, and what is told of it.
+//! How a run ends, and what is reported of it.
 use bs_words::{Call, Kind, Obs};
 
 /// How a run ends.
@@ -6,17 +6,20 @@ use bs_words::{Call, Kind, Obs};
 pub enum Outcome {
     /// It returned a value, or none.
     Returned(Option<Obs>),
+    /// It raised a value, which no handler took.
     Raised(Obs),
     /// An external call wanted an answer, and none was left.
     Asks(Call),
     /// The units did not suffice.
     More,
+    /// It came to something that has no meaning, for this reason.
     Improper(Kind),
 }
 
-/// What is told of a run.
+/// What is reported of a run.
 #[derive(Debug, Drop)]
 pub struct Eval {
+    /// How it ended.
     pub outcome: Outcome,
     /// The external calls that were made, first to last.
     pub calls: Vec<Call>,

@@ -4,7 +4,7 @@ ghost use Rattle.bs_words.specs.declared.values.Value.{Value};
 ghost use Rattle.cmm_meaning.specs.State as state;
 ghost use Rattle.cmm_meaning.specs.State.{taken, within_try, deepened};
 ghost use Rattle.cmm_eval.specs.Views.{here_view};
-ghost use Rattle.cmm_eval.specs.Filled.{expression, elements_from, waits_for, after_callee, after_waiting, fills_in, operands_of};
+ghost use Rattle.cmm_eval.specs.Filled.{expression, elements_from, waits_for, after_callee, after_waiting, row_fills, operands_of};
 ghost use Rattle.cmm_eval.specs.Groups.{group_of};
 ghost use Rattle.cmm_eval.specs.Held.{inside};
 ghost use Rattle.cmm_eval.specs.declared.group.Group.{Group};
@@ -12,11 +12,11 @@ ghost use Rattle.cmm_eval.specs.Stands.{IsAround, around_view, stands, goes_on, 
 ghost use Rattle.cmm_meaning.specs.Evaluation as evaluation;
 
 use crate::around::Surroundings;
-use crate::frame::{Now, Step};
+use crate::frame::{Now, Row, Step};
 use crate::here::Here;
 use crate::light::is_light_address;
-use crate::machine::{Machine, not_proper};
-use bs_words::{Kind, Value};
+use crate::machine::Machine;
+use bs_words::Value;
 use cmm_tree::{Expr, Form};
 use std::alloc::AllocError;
 
@@ -30,7 +30,7 @@ impl<'a> Machine<'a> {
     {
         match form {
             Form::Seq(elements) => self.elements(form, tail, elements.as_slice()),
-            _ => Ok(not_proper(Kind::BadValue)),
+            _ => unreachable!(),
         }
     }
 
@@ -90,7 +90,7 @@ impl<'a> Machine<'a> {
                 self.push(form, tail, Step::Try { level, tries })?;
                 self.begin_try(body)
             }
-            _ => Ok(not_proper(Kind::BadValue)),
+            _ => unreachable!(),
         }
     }
 
@@ -160,46 +160,46 @@ impl<'a> Machine<'a> {
                 Ok(Now::Begins { expr, tail: false })
             }
             None => {
-                let values = Vec::new(around.alloc);
-                self.fill_in(around, form, tail, None, operands_of(form), waited, values)
+                let row = Row {
+                    operands: operands_of(form),
+                    waited,
+                    values: Vec::new(around.alloc),
+                };
+                self.fill_in(around, form, tail, None, row)
             }
         }
     }
 
-    /// The operands that have waited, right to left. `waited` has what the operands of `operands` have
-    /// come to before, first to last, and `values` those behind them, last to first.
+    /// The operands of the row that have waited, right to left.
     pub(crate) fn fill_in(
         &mut self,
         around: &Surroundings<'a>,
         form: &'a Form,
         tail: bool,
         callee: Option<Value>,
-        operands: &'a [Expr],
-        mut waited: Vec<Option<Value>>,
-        mut values: Vec<Value>,
+        row: Row<'a>,
     ) -> Result<Now<'a>, AllocError>
         requires { IsAround around.now }
         ensures { IfOk result (λ now. stands around.now self.new now ≡ goes_on around.now self.old
-            (λ h w. fills_in (around_view around.now) form.entry.now tail callee
-            (reverse operands.entry.now) (reverse waited.items) (reverse values.items) h w)) }
+            (λ h w. row_fills (around_view around.now) form.entry.now tail callee row.entry h w)) }
     {
+        let Row {
+            operands,
+            mut waited,
+            mut values,
+        } = row;
         let mut left = operands.len();
         while left > 0 {
             left -= 1;
             match waited.pop().flatten() {
                 Some(value) => values.push(value)?,
                 None => {
-                    let rest = &operands[..left];
-                    self.push(
-                        form,
-                        tail,
-                        Step::Filling {
-                            callee,
-                            rest,
-                            waited,
-                            values,
-                        },
-                    )?;
+                    let row = Row {
+                        operands: &operands[..left],
+                        waited,
+                        values,
+                    };
+                    self.push(form, tail, Step::Filling { callee, row })?;
                     return Ok(Now::Begins {
                         expr: &operands[left],
                         tail: false,

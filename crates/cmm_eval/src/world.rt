@@ -9,7 +9,9 @@ use cmm_values::Memory;
 /// Why a run stops before its end.
 #[derive(Debug, Drop)]
 pub(crate) enum Stop {
+    /// No unit of fuel was left.
     OutOfFuel,
+    /// The run is improper.
     NotProper(Kind),
     /// An external call wanted an answer, and none was left.
     NoAnswer(Call),
@@ -30,7 +32,7 @@ pub(crate) struct World<'a> {
 }
 
 impl World<'_> {
-    /// Tells that the stack has come to so many bytes.
+    /// Notes that the stack has come to so many bytes.
     pub(crate) fn deepen(&mut self, bytes: u64)
         ensures { world_view self.new ≡ deepened bytes (world_view self.old) }
     {

@@ -1,10 +1,6 @@
-pub mod Forms
-pub mod Lengths
-pub mod Lists
-pub mod Loops
+pub mod FirstTokens
 pub mod Readings
+pub mod Repeating
 pub mod Repeats
-pub mod Rows
 pub mod Steps
-pub mod Symbols
 pub mod Takings

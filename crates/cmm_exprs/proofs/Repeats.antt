@@ -1,16 +1,17 @@
--- Steps of loops over tokens whose parts tell whether another follows.
+-- Steps of loops over tokens whose parts say whether another follows.
 use Rattle.std.proofs.Common.{◌≡◌, ℕ, ◌<◌, Bool, true, false, List, [], ◌∷◌, ◌++◌, length, map, ap, ◌∙◌, suc, arith}
 use Rattle.std.proofs.lemmas.List.{length-map}
 use Rattle.cmm_lex.specs.Token.{TokenTree, token_view}
 use Rattle.cmm_lex.specs.declared.token.Token as declared
 use Rattle.cmm_grammar.specs.Rule.{Rule, Sort, Value}
 use Rattle.cmm_grammar.specs.Reading.{Read, some_of, reading, reads, forms_below}
-use Rattle.cmm_exprs.specs.Results.{trees, marked_parts}
-use Rattle.cmm_exprs.proofs.Lengths.{Takes}
-use Rattle.cmm_exprs.proofs.Lists.{Repeating}
+use Rattle.cmm_parts.specs.Results.{trees}
+use Rattle.cmm_exprs.specs.Results.{marked_parts}
+use Rattle.cmm_parts.proofs.Lengths.{Takes}
+use Rattle.cmm_exprs.proofs.Repeating.{Repeating}
 use Rattle.cmm_exprs.proofs.Steps.{shortened, repeating_push, repeating_done}
 
--- the rest behind what was read is shorter
+-- what was read leaves fewer tokens
 pub repeat-shorter : {s : Sort} (r : Rule s) → Takes r → (d : ℕ) (source : List ℕ) (tokens behind : List declared.Token) (a : Value s)
     → reads r d (trees source tokens) ≡ Read a (trees source behind)
     → length behind < length tokens

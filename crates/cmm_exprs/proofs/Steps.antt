@@ -5,8 +5,8 @@ use Rattle.cmm_lex.specs.Token.{TokenTree}
 use Rattle.cmm_grammar.specs.Rule.{Sort, Value, Rule, Give, One, Then, Expr, Inside, InsideOr, LabelledOr, Until, Maybe, Repeat}
 use Rattle.cmm_grammar.specs.Reading.{Outcome, Read, Stops, Stuck, Reader, Forms, bind, some_of, reading, forms_below}
 use Rattle.cmm_exprs.specs.Results.{marked_parts}
-use Rattle.cmm_exprs.proofs.Lengths.{Takes, shorter}
-use Rattle.cmm_exprs.proofs.Lists.{Repeating, repeating-on, repeating-last}
+use Rattle.cmm_parts.proofs.Lengths.{Takes, shorter}
+use Rattle.cmm_exprs.proofs.Repeating.{Repeating, repeating-on, repeating-last}
 use Rattle.cmm_exprs.proofs.Readings.{marked-push}
 
 pub takes-none : (s : Sort) (r : Rule s) → Takes r → (d : ℕ) (forms : Forms) → reading r d forms [] ≡ Stops Stuck 0

@@ -1,17 +1,8 @@
 -- Rules that take a token.
 use Rattle.std.specs.Prelude.{Bool, true, false}
-use Rattle.cmm_grammar.specs.Rule.{ABinding}
-use Rattle.cmm_grammar.specs.Grammar.{another_number, a_parameter, a_binding, a_mutable_binding, a_case, case_number, next_handler, a_token}
+use Rattle.cmm_grammar.specs.Grammar.{a_binding, a_mutable_binding, a_case, case_number, next_handler, a_token}
+use Rattle.cmm_parts.proofs.Lengths.{Takes}
 use Rattle.cmm_exprs.specs.Results.{binding_rule}
-use Rattle.cmm_exprs.proofs.Lengths.{Takes}
-
-pub takes-number : Takes another_number
-unfolding another_number a_token
-takes-number = tt
-
-pub takes-parameter : Takes a_parameter
-unfolding a_parameter a_token
-takes-parameter = tt
 
 pub takes-binding : (mutable : Bool) → Takes (binding_rule mutable)
 unfolding a_binding a_mutable_binding a_token

@@ -1,17 +1,12 @@
-//! The reader of expressions, and of the parts of texts that hold none.
+//! The reader of expressions: bindings, control, handlers, and all forms inside forms.
+//!
+//! `forms` and `depth` are as in `cmm_operations`: `forms` reads a form one level deeper. Only
+//! `form_at`, which hands itself on as `forms`, calls itself.
 #![tactic(auto)]
 
-mod build;
-mod expression;
-mod front;
-mod leaf;
-mod node;
-mod parts;
-mod stop;
-mod words;
+mod bindings;
+mod cases;
+mod forms;
+mod handlers;
 
-pub use expression::function_body;
-pub use front::{Test, passes, symbol_of, token};
-pub use parts::{parameters, symbol};
-pub use stop::Stop;
-pub use words::{data_keyword, is_open};
+pub use forms::function_body;

@@ -1,5 +1,5 @@
 -- A function that is drawn gives a word, or stops out of fuel.
-use Rattle.std.proofs.Common.{◌≡◌, ℕ, zero, suc, ◌<◌, ◌^◌, Bool, true, false, List, [], ◌∷◌, Option, Some, None, length, map, codes, bytes_eq, slice_get, slice_index, option_map, refl, ap, sym, ◌∙◌, subst, arith}
+use Rattle.std.proofs.Common.{◌≡◌, ℕ, zero, suc, ◌<◌, ◌^◌, Bool, true, false, cond, List, [], ◌∷◌, Option, Some, None, length, map, codes, bytes_eq, slice_get, slice_index, option_map, refl, ap, sym, ◌∙◌, subst, arith}
 use Rattle.std.proofs.lemmas.Option.{slice_get-map}
 use Rattle.bs_words.specs.declared.types.Comp.{Comp}
 use Rattle.bs_words.specs.declared.types.Comp.TheVariants as comp
@@ -12,7 +12,7 @@ use Rattle.cmm_data.specs.Placement.{data_end, value_of_symbol}
 use Rattle.cmm_tree.specs.Tree.{Expression, Expressions, Symbol, Name, Let, App, NoMore, More, NoBinding, Bind, FunctionTree, FileTree, functions, comps_of}
 use Rattle.cmm_types.specs.Types.{first_type, type_named, type_of}
 use Rattle.cmm_meaning.specs.Layout.{Layout}
-use Rattle.cmm_meaning.specs.State.{World, Binding, Called, Here, scope, found, value_of}
+use Rattle.cmm_meaning.specs.State.{World, Binding, Called, Here, scope, value_of}
 use Rattle.cmm_meaning.specs.Evaluation.{OutOfFuel, Evaluated, Evaluation, Gives, Stops, Surroundings, and_then, with_value, spend, typed, tested, looked_up, applied, called_with, back_from_call, as_written, stack_below, back, with_bound, evaluated, waiting, filled}
 use Rattle.cmm_meaning.specs.Run.{activated, callees, outside}
 use Rattle.cmm_gen.specs.Drawn.{Drawn, DrawnFunction, symbol_of}
@@ -96,7 +96,7 @@ of_body s names _ _ _ (Trees.later i b at app_at symbol_at p_at q_at result_at e
 
 -- ---- lets
 
--- behind a binding
+-- after a binding
 abbrev bound_as : List ℕ → Ty → Value → Here → World → Evaluation
 bound_as name t v h w = Gives None (with_bound (record { name = name; type = t; mutable = false } ∷ []) (v ∷ []) h) w
 
@@ -128,7 +128,7 @@ below : (names : List Binding) (name other : List ℕ) (v : ℕ) → bytes_eq na
 below names name other v differs k =
     record {
       word = k.word;
-      value = ap (λ b. found b (Word v) (value_of names other)) differs ∙ k.value;
+      value = ap (λ b. cond b (Some (Word v)) (value_of names other)) differs ∙ k.value;
       type = ap (λ b. first_type b ty.Int (type_named (map (λ (b : Binding). b.scoped) names) other)) differs ∙ k.type;
     }
 

@@ -22,7 +22,7 @@ use Rattle.cmm_lex.proofs.Spelled.{accepted-token}
 use Rattle.cmm_lex.proofs.Closings.{string-to, inside-ends}
 use Rattle.cmm_lex.proofs.Fronts.{separator-from, string-token}
 
--- ---- bytes behind a token
+-- ---- bytes after a token
 
 -- a byte that goes on with no word, no number and no operator: a space, a line feed, a parenthesis or a colon
 abbrev pub is_end : ℕ → Bool
@@ -60,7 +60,7 @@ pub bytes-append : (xs ys : List ℕ) → AreBytes xs → AreBytes ys → AreByt
 bytes-append [] ys h g = g
 bytes-append (x ∷ xs) ys h g = (h.0, bytes-append xs ys h.1 g)
 
--- no front that is longer is accepted where the automaton halts behind these bytes
+-- no front that is longer is accepted where the automaton halts after these bytes
 none-longer : (s : State) (text rest xs ys : List ℕ) (k : Shape)
     → ((b : ℕ) (bs : List ℕ) → rest ≡ b ∷ bs → after (run s text) b ≡ Dead)
     → text ++ rest ≡ xs ++ ys
@@ -110,7 +110,7 @@ no-comment text rest plain (bs, e) = not-first text rest 40 (42 ∷ bs) plain re
 string-quote : (bytes text rest : List ℕ) → IsString text → bytes ≡ text ++ rest → BeginsWith bytes (34 ∷ [])
 string-quote bytes text rest (inside, e, h) whole = (inside ++ rest, whole ∙ ap (λ (v : List ℕ). v ++ rest) e)
 
--- the longest token, where the automaton halts behind it
+-- the longest token, where the automaton halts after it
 pub longest-there : (text rest : List ℕ)
     → AreBytes (text ++ rest)
     → (BeginsWith (text ++ rest) (34 ∷ []) → ⊥)

@@ -131,7 +131,7 @@ inner_let at q_at q b = Let at (Bind q_at (codes "q") None q NoBinding) b
 abbrev pub whole : ℕ → ℕ → ℕ → ℕ → Expression → Expression → Expression → Expression
 whole at p_at inner_at q_at p q b = Let at (Bind p_at (codes "p") None p NoBinding) (inner_let inner_at q_at q b)
 
--- behind a name more
+-- after a name more
 pub ints_below : (name : List ℕ) (scope : List Scoped) → bytes_eq name (codes "x") ≡ false → bytes_eq name (codes "y") ≡ false → HasInts scope → HasInts (bound_int name ∷ scope)
 ints_below name scope p q i =
     record {

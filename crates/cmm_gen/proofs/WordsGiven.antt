@@ -98,7 +98,7 @@ of_name names n h k same = ap (λ (bs : List Binding). value_of bs n) same ∙ k
 
 -- ---- scopes that are left
 
--- behind one binding more, the names are those before it
+-- after one binding more, the names are those before it
 pub without_last : (names : List Binding) (b : Binding) → outermost (length names) (b ∷ names) ≡ names
 without_last names b =
     let one : length (b ∷ names) - length names ≡ 1 = omega arith in
@@ -327,7 +327,7 @@ module _ (s : Surroundings) (names : List Binding) where
       (f (within_try h) (deepened (taken (within_try h)) w) same)
       (λ v h w same. of_back names (record { scoped = raised; value = Word v }) h (evaluated s handler tail (with_bound (raised ∷ []) (Word v ∷ []) h) w) same (g v (with_bound (raised ∷ []) (Word v ∷ []) h) w (ap (λ (bs : List Binding). record { scoped = raised; value = Word v } ∷ bs) same))))
 
--- behind the name of a raised value
+-- after the name of a raised value
 below_raised : (names : List Binding) (v : ℕ) → HasWords names → HasWords (record { scoped = raised; value = Word v } ∷ names)
 below_raised names v k =
     record {

@@ -5,7 +5,7 @@ use Rattle.rand_pcg.specs.Lcg.{Lcg}
 use Rattle.rand_pcg.specs.Pcg.{pcg32, pcg32_of_seed}
 use Rattle.cmm_gen.specs.Drawn.{Drawn, Number, Variable, Sum, Difference, Product, Choice, Cell, Attempt, DrawnFunction}
 
--- what is drawn, and the generator behind it
+-- what is drawn, and the generator after it
 abbrev pub Draw : Type 0 → Type 0
 Draw A = Lcg → A × Lcg
 

@@ -46,7 +46,8 @@ drawn_text (Product a b) = codes "( * " ++ drawn_text a ++ codes " " ++ drawn_te
 drawn_text (Choice a b c d) =
     codes "(if (< " ++ drawn_text a ++ codes " " ++ drawn_text b ++ codes ") "
     ++ drawn_text c ++ codes " " ++ drawn_text d ++ codes ")"
-drawn_text (Cell a b) = codes "(load int (alloc 2299 " ++ drawn_text a ++ codes " " ++ drawn_text b ++ codes "))"
+drawn_text (Cell a b) =
+    codes "(load int (alloc 2299 " ++ drawn_text a ++ codes " " ++ drawn_text b ++ codes "))"
 drawn_text (Attempt a b c d) =
     codes "(try (if (< " ++ drawn_text a ++ codes " " ++ drawn_text b ++ codes ") (raise 1) "
     ++ drawn_text c ++ codes ") with z " ++ drawn_text d ++ codes ")"
@@ -58,7 +59,8 @@ symbol_of j = codes "g" ++ decimal j
 -- the first function calls none, and each other one the function before it
 abbrev pub body_text : ℕ → Drawn → List ℕ
 body_text zero b = drawn_text b
-body_text (suc i) b = codes "(+ (app \"" ++ symbol_of i ++ codes "\" p q int) " ++ drawn_text b ++ codes ")"
+body_text (suc i) b =
+    codes "(+ (app \"" ++ symbol_of i ++ codes "\" p q int) " ++ drawn_text b ++ codes ")"
 
 -- the line of a function, by its number
 abbrev pub function_text : ℕ → DrawnFunction → List ℕ

@@ -30,7 +30,8 @@ fn write_number(text: &mut String, words: &mut Lcg64Xsh32) -> Result<(), AllocEr
 
 /// Writes the name of a parameter: `x` where a word is even, else `y`.
 fn write_variable(text: &mut String, words: &mut Lcg64Xsh32) -> Result<(), AllocError>
-    ensures text { OnOk result (text.new.bytes.items ≡ text.old.bytes.items ++ drawn_text (variable words.old).0) }
+    ensures text { OnOk result
+        (text.new.bytes.items ≡ text.old.bytes.items ++ drawn_text (variable words.old).0) }
     ensures words { words.new ≡ (variable words.old).1 }
 {
     if words.next_word() % 2 == 0 {
@@ -40,7 +41,7 @@ fn write_variable(text: &mut String, words: &mut Lcg64Xsh32) -> Result<(), Alloc
     }
 }
 
-/// Writes two expressions of this depth, with a space between them, behind what opens their form and before what
+/// Writes two expressions of this depth, with a space between them, after what opens their form and before what
 /// closes it.
 #[cycle(expression)]
 fn write_two(

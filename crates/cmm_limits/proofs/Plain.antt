@@ -1,4 +1,4 @@
--- One fault is told: of faults whose place and number say all, the leftmost is determined.
+-- One fault is reported: of faults whose place and number say all, the leftmost is determined.
 use Rattle.std.proofs.Common.{◌≡◌, ℕ, ◌==◌, Bool, true, false, cond, List, [], ◌∷◌, Option, Some, None, inl, inr, refl, sym, ap, ◌∙◌}
 use Rattle.std.proofs.lemmas.Bool.{cases_order}
 use Rattle.bs_fault.specs.FaultLines.{fault_place}
@@ -171,7 +171,7 @@ same-number f g h k =
       | inr (inr l) ↦ absurd (k (inr (sym (same-place f g h k), l)))
     ]
 
--- one fault is told
+-- one fault is reported
 pub one-leftmost : (faults : Faults) (f g : Fault) → AllPlain faults → IsFirst faults f → IsFirst faults g → f ≡ g
 one-leftmost faults f g p h k =
     let before = k.none_before f h.is_fault in

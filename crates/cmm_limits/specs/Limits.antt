@@ -1,5 +1,6 @@
--- The limits on sizes in a file: a function has at most 16 parameters and at most 32,000 tokens, a call at
--- most 16 arguments, a switch 1 to 4,096 indexes, and each number of a case is below their number.
+-- The limits on sizes in a file: a function has at most 16 parameters and at most 32,000 tokens, a
+-- call at most 16 arguments, a switch 1 to 4,096 indexes, and each number of a case is below their
+-- number.
 use Rattle.std.specs.Prelude.{ℕ, not, ◌&&◌, nat_lt, nat_le, List, [], ◌∷◌, Option, Some, None, map}
 use Rattle.std.specs.List.{slice_get}
 use Rattle.bs_fault.specs.Limits.{most_params, most_tokens, most_indexes}
@@ -8,6 +9,7 @@ use Rattle.cmm_tree.specs.Tree.{Expression, Integer, Pointer, Symbol, Name, Noth
 use Rattle.cmm_tree.specs.Place.{place_of}
 use Rattle.bs_fault.specs.Reported.{Faults, NoFault, One, Both, one_if}
 
+-- a parameter or an argument at this place that is one too many, if there is one
 abbrev pub too_many_at : Option ℕ → Faults
 too_many_at None = NoFault
 too_many_at (Some at) = One (TooManyParams at)
@@ -27,14 +29,16 @@ parameter_places params = map (λ (p : Parameter). p.at) params
 
 -- a number of indexes
 abbrev pub size_faults : ℕ → ℕ → Faults
-size_faults size_at size = one_if (not (nat_le 1 size && nat_le size most_indexes)) (SwitchSize size_at)
+size_faults size_at size =
+    one_if (not (nat_le 1 size && nat_le size most_indexes)) (SwitchSize size_at)
 
 -- the numbers of a case, where there are so many indexes
 abbrev pub index_faults : ℕ → List Index → Faults
 index_faults size [] = NoFault
-index_faults size (i ∷ indexes) = Both (one_if (not (nat_lt i.index size)) (SwitchSize i.at)) (index_faults size indexes)
+index_faults size (i ∷ indexes) =
+    Both (one_if (not (nat_lt i.index size)) (SwitchSize i.at)) (index_faults size indexes)
 
--- an expression, and all that stands in it
+-- an expression, and all that is in it
 abbrev mutual
   pub faults_in : Expression → Faults
   faults_in (Integer at word) = NoFault
@@ -51,11 +55,13 @@ abbrev mutual
   faults_in (Alloc at header_at header operands) = row_faults operands
   faults_in (App at callee arguments result result_at) =
       Both (too_many (places arguments)) (Both (faults_in callee) (row_faults arguments))
-  faults_in (Extcall at frame name arguments result result_at) = Both (too_many (places arguments)) (row_faults arguments)
+  faults_in (Extcall at frame name arguments result result_at) =
+      Both (too_many (places arguments)) (row_faults arguments)
   faults_in (Checkbound at bound index) = Both (faults_in bound) (faults_in index)
   faults_in (Raise at value) = faults_in value
   faults_in (Seq at elements) = row_faults elements
-  faults_in (If at condition on_true on_false) = Both (faults_in condition) (Both (faults_in on_true) (faults_in on_false))
+  faults_in (If at condition on_true on_false) =
+      Both (faults_in condition) (Both (faults_in on_true) (faults_in on_false))
   faults_in (Switch at size_at size selector cases) =
       Both (size_faults size_at size) (Both (faults_in selector) (case_faults size cases))
   faults_in (Catch at body handlers) = Both (faults_in body) (handler_faults handlers)
@@ -72,7 +78,8 @@ abbrev mutual
 
   pub case_faults : ℕ → Cases → Faults
   case_faults size NoCase = NoFault
-  case_faults size (Choose indexes body rest) = Both (index_faults size indexes) (Both (faults_in body) (case_faults size rest))
+  case_faults size (Choose indexes body rest) =
+      Both (index_faults size indexes) (Both (faults_in body) (case_faults size rest))
 
   pub handler_faults : Handlers → Faults
   handler_faults NoHandler = NoFault

@@ -58,15 +58,15 @@ fn in_size(size_at: u32, size: u64, found: Option<Fault>) -> Option<Fault>
 fn in_indexes(size: u64, indexes: &[CaseIndex], found: Option<Fault>) -> Option<Fault>
     ensures { result ≡ noted_all (index_faults size (map index_view indexes.now)) found }
 {
-    let mut told = found;
+    let mut reported = found;
     for index in indexes {
         let fits = index.index < size;
-        told = noted_if(!fits, Fault::SwitchSize { at: index.at }, told);
+        reported = noted_if(!fits, Fault::SwitchSize { at: index.at }, reported);
     }
-    told
+    reported
 }
 
-/// An expression, and all that stands in it.
+/// An expression, and all that is in it.
 #[cycle(limits)]
 fn in_expr(expr: &Expr, found: Option<Fault>) -> Option<Fault>
     ensures { result ≡ noted_all (faults_in (expr_view expr.now)) found }
@@ -86,12 +86,12 @@ fn in_expr(expr: &Expr, found: Option<Fault>) -> Option<Fault>
             arguments,
             ..
         } => {
-            let told = in_expr(callee, in_arguments(arguments.as_slice(), found));
-            in_row(arguments.as_slice(), told)
+            let reported = in_expr(callee, in_arguments(arguments.as_slice(), found));
+            in_row(arguments.as_slice(), reported)
         }
         Form::Extcall { arguments, .. } => {
-            let told = in_arguments(arguments.as_slice(), found);
-            in_row(arguments.as_slice(), told)
+            let reported = in_arguments(arguments.as_slice(), found);
+            in_row(arguments.as_slice(), reported)
         }
         Form::Checkbound(bound, index) => in_expr(index, in_expr(bound, found)),
         Form::Raise(value) => in_expr(value, found),
@@ -105,8 +105,8 @@ fn in_expr(expr: &Expr, found: Option<Fault>) -> Option<Fault>
             selector,
             cases,
         } => {
-            let told = in_expr(selector, in_size(*size_at, *size, found));
-            in_cases(cases.as_slice(), *size, told)
+            let reported = in_expr(selector, in_size(*size_at, *size, found));
+            in_cases(cases.as_slice(), *size, reported)
         }
         Form::Catch(body, handlers) => in_handlers(handlers.as_slice(), in_expr(body, found)),
         Form::Exit { arguments, .. } => in_row(arguments.as_slice(), found),
@@ -118,53 +118,56 @@ fn in_expr(expr: &Expr, found: Option<Fault>) -> Option<Fault>
 fn in_row(exprs: &[Expr], found: Option<Fault>) -> Option<Fault>
     ensures { result ≡ noted_all (row_faults (row_of exprs.now)) found }
 {
-    let mut told = found;
+    let mut reported = found;
     for expr in exprs {
-        told = in_expr(expr, told);
+        reported = in_expr(expr, reported);
     }
-    told
+    reported
 }
 
 #[cycle(limits)]
 fn in_bindings(bindings: &[Binding], found: Option<Fault>) -> Option<Fault>
     ensures { result ≡ noted_all (binding_faults (bindings_of bindings.now)) found }
 {
-    let mut told = found;
+    let mut reported = found;
     for binding in bindings {
-        told = in_expr(&binding.value, told);
+        reported = in_expr(&binding.value, reported);
     }
-    told
+    reported
 }
 
 #[cycle(limits)]
 fn in_cases(cases: &[Case], size: u64, found: Option<Fault>) -> Option<Fault>
     ensures { result ≡ noted_all (case_faults size (cases_of cases.now)) found }
 {
-    let mut told = found;
+    let mut reported = found;
     for case in cases {
-        told = in_expr(&case.body, in_indexes(size, case.indexes.as_slice(), told));
+        reported = in_expr(
+            &case.body,
+            in_indexes(size, case.indexes.as_slice(), reported),
+        );
     }
-    told
+    reported
 }
 
 #[cycle(limits)]
 fn in_handlers(handlers: &[Handler], found: Option<Fault>) -> Option<Fault>
     ensures { result ≡ noted_all (handler_faults (handlers_of handlers.now)) found }
 {
-    let mut told = found;
+    let mut reported = found;
     for handler in handlers {
-        told = in_expr(&handler.body, told);
+        reported = in_expr(&handler.body, reported);
     }
-    told
+    reported
 }
 
 fn in_function(function: &Function, found: Option<Fault>) -> Option<Fault>
     ensures { result ≡ noted_all (function_faults (function_view function.now)) found }
 {
-    let told = in_params(function.params.as_slice(), found);
+    let reported = in_params(function.params.as_slice(), found);
     let fits = function.tokens <= MOST_TOKENS;
-    let told = noted_if(!fits, Fault::FunctionTooLong { at: function.at }, told);
-    in_expr(&function.body, told)
+    let reported = noted_if(!fits, Fault::FunctionTooLong { at: function.at }, reported);
+    in_expr(&function.body, reported)
 }
 
 fn in_item(item: &Item, found: Option<Fault>) -> Option<Fault>
@@ -180,18 +183,18 @@ fn in_item(item: &Item, found: Option<Fault>) -> Option<Fault>
 fn in_file(file: &File) -> Option<Fault>
     ensures { result ≡ noted_all (limit_faults (file_view file.now)) None }
 {
-    let mut told = None;
+    let mut reported = None;
     for item in file.items.as_slice() {
-        told = in_item(item, told);
+        reported = in_item(item, reported);
     }
-    told
+    reported
 }
 
-/// The fault of a file that passes a limit, if it does: the leftmost; of two on one place the one of the
-/// lower number.
+/// The fault of a file that passes a limit, if it does: the leftmost; of two on one place the one of
+/// the lower number.
 ///
-/// A function has at most 16 parameters and at most 32,000 tokens, a call at most 16 arguments, a switch 1
-/// to 4,096 indexes, and each number of a case is below their number.
+/// A function has at most 16 parameters and at most 32,000 tokens, a call at most 16 arguments, a
+/// switch 1 to 4,096 indexes, and each number of a case is below their number.
 pub fn limit_fault(file: &File) -> Option<Fault>
     ensures found { result ≡ noted_all (limit_faults (file_view file.now)) None }
     ensures reported { IsReported (limit_faults (file_view file.now)) result }

@@ -45,9 +45,16 @@ lone_world memory doings n =
 -- the evaluation of one function on these arguments, with so many stack bytes below it: the end of the data,
 -- the values of symbols and the parameters of the file's functions are given, and so is what the calls do,
 -- first to last
-abbrev pub alone : ℕ → (List ℕ → Option Value) → List (List Comp) → ℕ → FunctionTree → List Value → ℕ → Memory → List Doing → ℕ → Evaluation
+abbrev pub alone : ℕ → (List ℕ → Option Value) → List (List Comp)
+    → ℕ → FunctionTree → List Value → ℕ → Memory → List Doing → ℕ → Evaluation
 alone end symbol parameters frame f arguments below memory doings n =
-    let s : Surroundings = record { end = end; symbol = symbol; parameters = parameters; call = call_inside end; external = call_outside end } in
+    let s : Surroundings = record {
+      end = end;
+      symbol = symbol;
+      parameters = parameters;
+      call = call_inside end;
+      external = call_outside end;
+    } in
     activated s frame (Some f) arguments below (lone_world memory doings n)
 
 -- A proper end of one function alone: it gave something, raised, asked a call, or had no units left. An exit out of a

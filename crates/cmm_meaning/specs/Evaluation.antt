@@ -105,7 +105,9 @@ typed end type e = and_then e (λ v h w. of_type end type v h w)
 -- ---- operands
 
 -- two operands: the right one first, but where it alone is a light address
-abbrev pub both : {B : Type 0} → Bool → (Here → World → Evaluation) → (Here → World → Evaluation) → Here → World → (Value → Value → Here → World → Evaluated B) → Evaluated B
+abbrev pub both : {B : Type 0}
+    → Bool → (Here → World → Evaluation) → (Here → World → Evaluation)
+    → Here → World → (Value → Value → Here → World → Evaluated B) → Evaluated B
 both false left right h w go = with_value (right h w) (λ b h w. with_value (left h w) (λ a h w. go a b h w))
 both true left right h w go = with_value (left h w) (λ a h w. with_value (right h w) (λ b h w. go a b h w))
 
@@ -113,12 +115,16 @@ abbrev pub is_left_first : List Scoped → Expression → Expression → Bool
 is_left_first names left right = is_light_address names right && not (is_light_address names left)
 
 -- an operand that is a light address waits, and has no value yet
-abbrev pub unless_light : {B : Type 0} → Bool → (Here → World → Evaluation) → Here → World → (Option Value → Here → World → Evaluated B) → Evaluated B
+abbrev pub unless_light : {B : Type 0}
+    → Bool → (Here → World → Evaluation)
+    → Here → World → (Option Value → Here → World → Evaluated B) → Evaluated B
 unless_light true operand h w go = go None h w
 unless_light false operand h w go = with_value (operand h w) (λ v h w. go (Some v) h w)
 
 -- an operand that has waited is evaluated now
-abbrev pub now_or_before : {B : Type 0} → Option Value → (Here → World → Evaluation) → Here → World → (Value → Here → World → Evaluated B) → Evaluated B
+abbrev pub now_or_before : {B : Type 0}
+    → Option Value → (Here → World → Evaluation)
+    → Here → World → (Value → Here → World → Evaluated B) → Evaluated B
 now_or_before (Some v) operand h w go = go v h w
 now_or_before None operand h w go = with_value (operand h w) go
 
@@ -213,18 +219,22 @@ back level tries e = and_then e (λ v h w. Gives v (back_in level tries h) w)
 abbrev pub Body : Type 0
 Body = Here → World → Evaluation
 
-abbrev pub handled : ℕ → Option (Ready Body) → LabelTree → List Value → ℕ → ℕ → Here → World → (Evaluation → Evaluation) → Evaluation
+abbrev pub handled : ℕ
+    → Option (Ready Body) → LabelTree → List Value → ℕ → ℕ
+    → Here → World → (Evaluation → Evaluation) → Evaluation
 handled end None label values level tries h w again = Exits label values h w
 handled end (Some r) label values level tries h w again =
     let inside = back_in level tries h in
-    again (entered end r.params values w (back level tries (r.body (with_bound (map scoped_parameter r.params) values inside) w)))
+    let bound : Here = with_bound (map scoped_parameter r.params) values inside in
+    again (entered end r.params values w (back level tries (r.body bound w)))
 
 -- what a catch with these handlers makes of an evaluation of its body, or of one of its handlers; an exit
 -- costs a unit each time, so that so many turns are enough
 abbrev pub caught : ℕ → ℕ → Bool → List (Ready Body) → ℕ → ℕ → Evaluation → Evaluation
 caught end zero within handlers level tries e = e
 caught end (suc turns) within handlers level tries (Exits label values h w) =
-    handled end (ready_for within label handlers) label values level tries h w (caught end turns true handlers level tries)
+    handled end (ready_for within label handlers) label values level tries h w
+    (caught end turns true handlers level tries)
 caught end (suc turns) within handlers level tries e = e
 
 -- what a try makes of an evaluation of its body
@@ -287,7 +297,8 @@ abbrev mutual
       node s (Alloc at header_at header operands) h w (λ w.
       and_then (waiting s operands h w) (λ before h w.
       and_then (filled s operands before h w) (λ values h w.
-      proper (allocated w.memory header values) w (λ memory. Gives (Some (next_block w.memory)) h (record w { memory = memory })))))
+      proper (allocated w.memory header values) w (λ memory.
+      Gives (Some (next_block w.memory)) h (record w { memory = memory })))))
   evaluated s (App at callee arguments result result_at) tail h w =
       node s (App at callee arguments result result_at) h w (λ w.
       and_then (waiting s arguments h w) (λ before h w.
@@ -298,7 +309,8 @@ abbrev mutual
       node s (Extcall at frame name arguments result result_at) h w (λ w.
       and_then (waiting s arguments h w) (λ before h w.
       and_then (filled s arguments before h w) (λ values h w.
-      and_then (back_from_call h (s.external (row_of_call (scope h) name arguments result) frame values w)) (λ v h w. as_written result v h w))))
+      and_then (back_from_call h (s.external (row_of_call (scope h) name arguments result) frame values w))
+      (λ v h w. as_written result v h w))))
   evaluated s (Checkbound at bound index) tail h w =
       node s (Checkbound at bound index) h w (λ w.
       both (is_left_first (scope h) bound index) (evaluated s bound false) (evaluated s index false) h w (λ a b h w.
@@ -353,7 +365,11 @@ abbrev mutual
   entering s NoBinding h w = Gives None h w
   entering s (Bind at name declared e rest) h w =
       with_value (evaluated s e false h w) (λ v h w.
-      let scoped : Scoped = record { name = name; type = type_bound declared (type_of (scope h) e); mutable = is_mutable declared } in
+      let scoped : Scoped = record {
+        name = name;
+        type = type_bound declared (type_of (scope h) e);
+        mutable = is_mutable declared;
+      } in
       tested s.end scoped.type v w (entering s rest (with_bound (scoped ∷ []) (v ∷ []) h) w))
 
   -- the elements of a sequence, the last in tail position where the whole is

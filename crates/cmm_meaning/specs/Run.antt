@@ -27,7 +27,7 @@ pub data Outcome : Type 0 where
   More : Outcome
   Improper : (kind : Kind) → Outcome
 
--- What is told of a run of so many units.
+-- What is reported of a run of so many units.
 pub record Run : Type 0 where
   pub outcome : Outcome
   -- the external calls that were made, first to last
@@ -46,7 +46,12 @@ nobody = record { names = []; below = 0; frame = 0; tries = 0 }
 abbrev pub activated : Surroundings → ℕ → Option FunctionTree → List Value → ℕ → World → Evaluation
 activated s frame None arguments below w = Stops (NotProper BadCall) w
 activated s frame (Some f) arguments below w =
-    let here : Here = record { names = bound (map scoped_parameter f.params) arguments []; below = below; frame = frame; tries = 0 } in
+    let here : Here = record {
+      names = bound (map scoped_parameter f.params) arguments [];
+      below = below;
+      frame = frame;
+      tries = 0;
+    } in
     evaluated s f.body true here (deepened (below + frame) w)
 
 -- a call is made, and leaves these answers
@@ -97,26 +102,40 @@ callees file layout (suc depth) c w =
 -- the world in which a run of n units begins
 abbrev pub first_world : FileTree → List ℕ → ℕ → World
 first_world file answers n =
-    record { left = n; stack_need = 0; memory = first_memory file; made = []; answers = answers; asked = []; doings = [] }
+    record {
+      left = n;
+      stack_need = 0;
+      memory = first_memory file;
+      made = [];
+      answers = answers;
+      asked = [];
+      doings = [];
+    }
 
 -- the call of the entry: nothing stands below it
 abbrev pub first_call : ℕ → List ℕ → Called
 first_call entry arguments =
     record { function = entry; arguments = map Word arguments; below = 0; tail = false; tries = 0 }
 
-abbrev pub told : Outcome → World → Run
-told outcome w =
-    record { outcome = outcome; calls = w.made; stack_need = w.stack_need; heap_need = need_of w.memory; left = w.left }
+abbrev pub reported : Outcome → World → Run
+reported outcome w =
+    record {
+      outcome = outcome;
+      calls = w.made;
+      stack_need = w.stack_need;
+      heap_need = need_of w.memory;
+      left = w.left;
+    }
 
 -- no exit leaves a function of an accepted text, and no run of a whole file asks for what a callee does
 abbrev pub finished : Layout → Evaluation → Run
-finished layout (Gives v h w) = told (Returned (option_map (observed layout) v)) w
-finished layout (Exits label values h w) = told (Improper BadCall) w
-finished layout (Raises v h w) = told (Raised (observed layout v)) w
-finished layout (Stops OutOfFuel w) = told More w
-finished layout (Stops (NotProper kind) w) = told (Improper kind) w
-finished layout (Stops (NoAnswer call) w) = told (Asks call) w
-finished layout (Stops (Asking call) w) = told (Improper BadCall) w
+finished layout (Gives v h w) = reported (Returned (option_map (observed layout) v)) w
+finished layout (Exits label values h w) = reported (Improper BadCall) w
+finished layout (Raises v h w) = reported (Raised (observed layout v)) w
+finished layout (Stops OutOfFuel w) = reported More w
+finished layout (Stops (NotProper kind) w) = reported (Improper kind) w
+finished layout (Stops (NoAnswer call) w) = reported (Asks call) w
+finished layout (Stops (Asking call) w) = reported (Improper BadCall) w
 
 -- the run of function `entry` of a file, on argument words, with these answers to external calls and n
 -- units of fuel

@@ -1,5 +1,5 @@
 -- What a run of a text keeps: one part never goes back, the other belongs to one activation.
-use Rattle.std.specs.Prelude.{ℕ, suc, ◌+◌, ◌-◌, ◌*◌, Bool, true, false, List, [], ◌∷◌, Option, Some, None, bytes_eq, max, map, length, drop}
+use Rattle.std.specs.Prelude.{ℕ, suc, ◌+◌, ◌-◌, ◌*◌, Bool, false, cond, List, [], ◌∷◌, Option, Some, None, bytes_eq, max, map, length, drop}
 use Rattle.bs_words.specs.External.{External}
 use Rattle.bs_words.specs.Memory.{Memory}
 use Rattle.bs_words.specs.Observed.{Made}
@@ -39,11 +39,25 @@ pub record Asked : Type 0 where
 -- the call of a function, and an external call, as they are asked
 abbrev pub asked_inside : Called → Memory → Asked
 asked_inside c memory =
-    record { callee = Inside c.function; arguments = c.arguments; memory = memory; below = c.below; tail = c.tail; tries = c.tries }
+    record {
+      callee = Inside c.function;
+      arguments = c.arguments;
+      memory = memory;
+      below = c.below;
+      tail = c.tail;
+      tries = c.tries;
+    }
 
 abbrev pub asked_outside : External → Bool → List Value → Memory → Asked
 asked_outside row frame arguments memory =
-    record { callee = Outside row frame; arguments = arguments; memory = memory; below = 0; tail = false; tries = 0 }
+    record {
+      callee = Outside row frame;
+      arguments = arguments;
+      memory = memory;
+      below = 0;
+      tail = false;
+      tries = 0;
+    }
 
 -- The world of a run.
 pub record World : Type 0 where
@@ -88,23 +102,16 @@ within_try h = record h { tries = suc h.tries }
 abbrev pub scope : Here → List Scoped
 scope h = map (λ (b : Binding). b.scoped) h.names
 
-abbrev pub found : Bool → Value → Option Value → Option Value
-found true value others = Some value
-found false value others = others
-
 -- the value of a name: that of its innermost binding
 abbrev pub value_of : List Binding → List ℕ → Option Value
 value_of [] name = None
-value_of (b ∷ rest) name = found (bytes_eq b.scoped.name name) b.value (value_of rest name)
-
-abbrev pub assigned_first : Bool → Binding → Value → List Binding → List Binding → List Binding
-assigned_first true b value rest others = record b { value = value } ∷ rest
-assigned_first false b value rest others = b ∷ others
+value_of (b ∷ rest) name = cond (bytes_eq b.scoped.name name) (Some b.value) (value_of rest name)
 
 -- the bindings where the innermost one of a name has a new value
 abbrev pub assigned : List Binding → List ℕ → Value → List Binding
 assigned [] name value = []
-assigned (b ∷ rest) name value = assigned_first (bytes_eq b.scoped.name name) b value rest (assigned rest name value)
+assigned (b ∷ rest) name value =
+    cond (bytes_eq b.scoped.name name) (record b { value = value } ∷ rest) (b ∷ assigned rest name value)
 
 -- these names bound to these values, one after the other, round the bindings that are there
 abbrev pub bound : List Scoped → List Value → List Binding → List Binding

@@ -1,4 +1,7 @@
+pub mod Inside
+pub mod ItemLists
 pub mod Texts
 pub mod One
+pub mod Symbols
 pub mod Telling
 pub mod Measured

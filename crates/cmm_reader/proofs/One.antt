@@ -1,4 +1,4 @@
--- A text has one file, or one fault that is told, and not both.
+-- A text has one file, or one fault that is reported, and not both.
 use Rattle.std.proofs.Common.{◌≡◌, ℕ, ◌<◌, ◌≤◌, Bool, true, false, cond, List, [], ◌∷◌, length, Option, Some, None, Result, Ok, Err, refl, sym, ap, ◌∙◌, subst, arith}
 use Rattle.bs_fault.specs.declared.fault.Fault.{Fault}
 use Rattle.bs_fault.specs.declared.fault.Fault.TheVariants.{IntRange, DataTooLarge, DataItem}
@@ -79,7 +79,7 @@ tells-same : (size : ℕ) (tokens : List TokenTree) (lexing : Option Fault) (o :
 tells-same size tokens lexing (Stops why left) r s h k = h ∙ sym k
 tells-same size tokens lexing (Read items rest) r s h k = items-same tokens lexing items r s h k
 
--- reading tells one thing
+-- reading reports one thing
 one-told : (text : List ℕ) (r s : Result FileTree Fault) → AreBytes text → IsReading text r → IsReading text s → r ≡ s
 one-told text _ _ are (too_long l) (too_long m) = refl
 one-told text _ s are (too_long l) (by_tokens tokens lexing _ short cut tells) = absurd (omega (arith, l, short))

@@ -1,4 +1,4 @@
--- What reading tells is what is said of the text, and the other way round.
+-- What reading reports is what is said of the text, and the other way round.
 use Rattle.std.proofs.Common.{◌≡◌, ◌∙◌, ℕ, ◌+◌, ◌-◌, ◌≤◌, zero, suc, List, [], ◌∷◌, ◌++◌, length, Option, Some, None, Result, Ok, Err, MatchResult, refl, sym, ap, subst, arith, length-append, append_assoc}
 use Rattle.std.specs.List.{slice_get}
 use Rattle.std.specs.Option.{option_map}
@@ -125,7 +125,7 @@ broken_tells size tokens f begins (Stops Deep n) p =
     let y = deep_token tokens n p in
     absurd (not_barred tokens y.before y.behind y.bad y.whole y.holds.no_further begins)
 
--- reading tells this where its outcome is known
+-- reading reports this where its outcome is known
 by_known : (text : List ℕ) (tokens : List TokenTree) (lexing : Option Fault) (o : Outcome (List ItemTree)) (result : Result FileTree Fault)
     → length text ≤ longest_text
     → Splits 0 text tokens lexing

@@ -19,9 +19,9 @@ use Rattle.cmm_tree.specs.View.{file_view}
 use Rattle.cmm_tree.specs.declared.file.File.{File}
 use Rattle.bs_fault.specs.Reported.{IsFirst, Faultless}
 use Rattle.cmm_grammar.specs.Reading.{Outcome, Read, Stops, Why, Stuck, Deep, items_at}
-use Rattle.cmm_exprs.specs.declared.stop.Stop.{Stop}
-use Rattle.cmm_exprs.specs.declared.stop.Stop.TheVariants as stop
-use Rattle.cmm_exprs.specs.Results.{trees, Fails}
+use Rattle.cmm_parts.specs.declared.stop.Stop.{Stop}
+use Rattle.cmm_parts.specs.declared.stop.Stop.TheVariants as stop
+use Rattle.cmm_parts.specs.Results.{trees, Fails}
 use Rattle.cmm_grammar.specs.Spelling.{nesting}
 use Rattle.cmm_reader.specs.Text.{file_faults}
 use Rattle.bs_fault.specs.Limits.{longest_text}
@@ -103,7 +103,7 @@ read-stopped text tokens lexing (stop.TooDeep left) e short cut h told =
     subst (IsStopOf text) (sym told) (stopped-by text tokens lexing Deep left short cut h)
 read-stopped text tokens lexing stop.OutOfMemory e short cut h told = subst (IsStopOf text) (sym told) tt
 
--- what the lexer tells of tokens that stand in a slice
+-- what the lexer reports of tokens in a slice
 pub lexed-cut : (text : List ℕ) (lexed : Lexed) (slice : List declared.Token) (fault : Option Fault)
     → IsLexed text lexed
     → contents lexed.tokens ≡ slice

@@ -1,2 +1,3 @@
+pub mod ItemParts
 pub mod Text
 pub mod Telling

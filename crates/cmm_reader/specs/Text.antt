@@ -1,4 +1,4 @@
--- What reading a text gives: its file, or the fault that is told.
+-- What reading a text gives: its file, or the fault that is reported.
 use Rattle.std.specs.Prelude.{◌≡◌, ℕ, ◌<◌, ◌≤◌, List, ◌∷◌, ◌++◌, length, Option, Some, None, Result, Ok, Err}
 use Rattle.bs_fault.specs.declared.fault.Fault.{Fault}
 use Rattle.bs_fault.specs.declared.fault.Fault.TheVariants as fault
@@ -14,20 +14,21 @@ use Rattle.cmm_limits.specs.Limits.{limit_faults}
 use Rattle.cmm_grammar.specs.Spelling.{AreItems, Begins, nesting}
 use Rattle.cmm_grammar.specs.Faults as places
 
--- the faults of a file that was read of tokens: integers out of range, of which the first one counts, limits
--- on sizes, and its static data
+-- the faults of a file that was read of tokens: integers out of range, of which the first one counts,
+-- limits on sizes, and its static data
 abbrev pub file_faults : Option Fault → FileTree → Faults
-file_faults range file = Both (limit_faults file) (Both (one_of range) (one_of (data_fault_of file)))
+file_faults range file =
+    Both (limit_faults file) (Both (one_of range) (one_of (data_fault_of file)))
 
 -- What reading a text gives. A text is cut into tokens, up to its end or to what is wrong there.
 pub data ReadsAs (text : List ℕ) : Result FileTree Fault → Type 0 where
   too_long : longest_text < length text → ReadsAs text (Err (fault.TooLong longest_text))
-  -- a text of the grammar begins with the tokens, and behind them no token begins, or one is not closed
-  no_token : (tokens : List TokenTree) (told : Fault)
+  -- a text of the grammar begins with the tokens, and after them no token begins, or one is not closed
+  no_token : (tokens : List TokenTree) (reported : Fault)
       → length text ≤ longest_text
-      → Splits 0 text tokens (Some told)
+      → Splits 0 text tokens (Some reported)
       → Begins nesting tokens
-      → ReadsAs text (Err told)
+      → ReadsAs text (Err reported)
   -- a text of the grammar begins with the tokens before, and none goes on with this one
   unexpected : (tokens before behind : List TokenTree) (bad : TokenTree) (broken : Option Fault)
       → length text ≤ longest_text
@@ -48,13 +49,14 @@ pub data ReadsAs (text : List ℕ) : Result FileTree Fault → Type 0 where
       → Splits 0 text tokens None
       → places.EndsInside tokens
       → ReadsAs text (Err (fault.Unexpected (length text)))
-  -- the tokens are these items, and the file has a fault of sizes, integers or data: the leftmost is told
-  unruly : (tokens : List TokenTree) (items : List ItemTree) (told : Fault)
+  -- the tokens are these items, and the file has a fault of sizes, integers or data: the leftmost is
+  -- reported
+  unruly : (tokens : List TokenTree) (items : List ItemTree) (reported : Fault)
       → length text ≤ longest_text
       → Splits 0 text tokens None
       → AreItems nesting items tokens
-      → IsFirst (file_faults (first_range tokens) (record { items = items })) told
-      → ReadsAs text (Err told)
+      → IsFirst (file_faults (first_range tokens) (record { items = items })) reported
+      → ReadsAs text (Err reported)
   -- or it has none
   file : (tokens : List TokenTree) (items : List ItemTree)
       → length text ≤ longest_text
@@ -63,7 +65,7 @@ pub data ReadsAs (text : List ℕ) : Result FileTree Fault → Type 0 where
       → Faultless (file_faults (first_range tokens) (record { items = items }))
       → ReadsAs text (Ok (record { items = items }))
 
--- an error tells what reading gives, unless memory ran out
+-- an error reports what reading gives, unless memory ran out
 abbrev pub IsRefused : List ℕ → FrontError → Type 0
-IsRefused text (error.Fault told) = ReadsAs text (Err told)
+IsRefused text (error.Fault reported) = ReadsAs text (Err reported)
 IsRefused text error.OutOfMemory = Unit {0}

@@ -1,5 +1,5 @@
 //! Static data.
-ghost use Rattle.std.specs.Prelude.{◌≡◌, IfOk, IfErr, map, length, option_map, cond, Some, None};
+ghost use Rattle.std.specs.Prelude.{◌≡◌, IfOk, IfErr, map, option_map, cond, Some, None};
 ghost use Rattle.bs_words.specs.Contents.{contents};
 ghost use Rattle.cmm_lex.specs.Strings.{string_bytes};
 ghost use Rattle.cmm_lex.specs.Token.{token_view};
@@ -7,15 +7,16 @@ ghost use Rattle.cmm_grammar.specs.Words.{data_word_of, val_of, is_close, is_int
 ghost use Rattle.cmm_lex.specs.Integers.{integer_value};
 ghost use Rattle.cmm_tree.specs.Tree.{Val};
 ghost use Rattle.cmm_grammar.specs.Grammar.{a_data_integer, datum_of, a_data_item, data_items, data_list};
-ghost use Rattle.cmm_grammar.specs.Reading.{many, reading, forms_below, reads};
+ghost use Rattle.cmm_grammar.specs.Reading.{reads};
 ghost use Rattle.cmm_tree.specs.View.{datum_view, data_item_view};
-ghost use Rattle.cmm_exprs.specs.Results.{trees, Fails, Gives, number_datum, item_part, marked_with};
-ghost use Rattle.cmm_exprs.specs.declared.stop.Stop.TheVariants.{OutOfMemory};
+ghost use Rattle.cmm_parts.specs.Results.{trees, Fails, Gives, many_of};
+ghost use Rattle.cmm_reader.specs.ItemParts.{number_datum, item_part, marked_with};
+ghost use Rattle.cmm_parts.specs.declared.stop.Stop.TheVariants.{OutOfMemory};
 
 use bs_words::{List, Name};
-use cmm_exprs::{Stop, Test, data_keyword, passes, symbol, symbol_of, token};
 use cmm_grammar::DataWord;
 use cmm_lex::{Keyword, Token, TokenKind, integer_word, string_of};
+use cmm_parts::{Stop, Test, data_keyword, passes, symbol, symbol_of, token};
 use cmm_tree::{DataItem, DataList, Datum, Item};
 use std::alloc::Global;
 
@@ -77,7 +78,13 @@ fn number_item<'t>(
         DataWord::Half => Datum::Half(value),
         DataWord::Int => Datum::Int(value),
         DataWord::Skip => Datum::Skip(value),
-        _ => Datum::Align(value),
+        DataWord::Align
+        | DataWord::Define
+        | DataWord::Val
+        | DataWord::Addr
+        | DataWord::Text
+        | DataWord::Global
+        | DataWord::Float => Datum::Align(value),
     };
     Ok((datum, rest))
 }
@@ -207,7 +214,7 @@ fn float_item<'t>(
     Ok((Datum::Float, rest))
 }
 
-/// An item of static data behind its word.
+/// An item of static data after its word.
 #[tactic(auto, unfolding(cmm_grammar::specs::Grammar::datum_of))]
 fn datum<'t>(
     alloc: Global,
@@ -273,8 +280,7 @@ fn data_item_list<'t>(
     depth: u32,
 ) -> Result<(Vec<DataItem>, &'t [Token]), Stop>
     ensures { Gives (λ x. map data_item_view x.0.items) (λ x. trees source.now x.1.now) result
-        (many is_close (reading a_data_item depth (forms_below depth))
-        (length (trees source.now tokens.now)) (trees source.now tokens.now)) }
+        (many_of is_close a_data_item depth (trees source.now tokens.now)) }
 {
     let mut items = Vec::new(alloc);
     let mut rest = tokens;
@@ -310,7 +316,11 @@ fn data_items<'t>(
     Ok((Item::Data(list), rest))
 }
 
-/// A list of static data behind its parenthesis.
+/// A list of static data after its parenthesis.
+///
+/// # Errors
+///
+/// Where reading stops, and why; or `Stop::OutOfMemory`.
 #[tactic(auto, unfolding(cmm_grammar::specs::Grammar::data_list))]
 pub fn data_list<'t>(
     alloc: Global,

@@ -6,12 +6,14 @@ ghost use Rattle.cmm_grammar.specs.Words.{is_function, passing};
 ghost use Rattle.cmm_grammar.specs.Grammar.{parameters, a_function, item_rest, an_item};
 ghost use Rattle.cmm_grammar.specs.Reading.{reads, items_at};
 ghost use Rattle.cmm_tree.specs.View.{param_view, item_view};
-ghost use Rattle.cmm_exprs.specs.Results.{trees, Fails, Gives, item_part};
+ghost use Rattle.cmm_parts.specs.Results.{trees, Fails, Gives};
+ghost use Rattle.cmm_reader.specs.ItemParts.{item_part};
 
 use crate::data::data_list;
 use bs_words::List;
-use cmm_exprs::{Stop, function_body, is_open, parameters, symbol};
+use cmm_exprs::function_body;
 use cmm_lex::{Keyword, Token, TokenKind};
+use cmm_parts::{Stop, is_open, parameters, symbol};
 use cmm_tree::{Function, Item, Param};
 use std::alloc::Global;
 
@@ -37,7 +39,7 @@ fn inner_parameters<'t>(
     parameters(alloc, source, rest, depth - 1)
 }
 
-/// A function behind its word. Its tokens are not counted.
+/// A function after its word. Its tokens are not counted.
 #[tactic(auto, unfolding(cmm_grammar::specs::Grammar::a_function, cmm_grammar::specs::Grammar::a_token))]
 fn function<'t>(
     alloc: Global,
@@ -63,7 +65,7 @@ fn function<'t>(
     Ok((Item::Function(function), rest))
 }
 
-/// An item behind its parenthesis.
+/// An item after its parenthesis.
 #[tactic(auto, unfolding(cmm_grammar::specs::Grammar::item_rest))]
 fn item_inside<'t>(
     alloc: Global,
@@ -123,6 +125,10 @@ fn counted(item: Item, tokens: u32) -> Item
 }
 
 /// The items of all these tokens.
+///
+/// # Errors
+///
+/// Where reading stops, and why; or `Stop::OutOfMemory`.
 pub fn items(alloc: Global, source: &[u8], tokens: &[Token], depth: u32) -> Result<Vec<Item>, Stop>
     requires { length tokens.now < 2 ^ 32 }
     ensures { Gives (λ v. map item_view v.items) (λ _. []) result

@@ -7,7 +7,7 @@ ghost use Rattle.cmm_tree.specs.View.{file_view};
 ghost use Rattle.bs_fault.specs.Reported.{IsReported};
 ghost use Rattle.cmm_grammar.specs.Covered.{IsMeasured};
 ghost use Rattle.cmm_grammar.specs.Reading.{Stuck};
-ghost use Rattle.cmm_exprs.specs.Results.{trees, Fails};
+ghost use Rattle.cmm_parts.specs.Results.{trees, Fails};
 ghost use Rattle.cmm_reader.specs.Text.{file_faults, ReadsAs, IsRefused};
 ghost use Rattle.bs_fault.specs.Limits.{longest_text};
 ghost use Rattle.cmm_reader.specs.Telling.{IsReading, IsStopOf, IsStopped, IsFinished, stop_fault};
@@ -16,9 +16,9 @@ use crate::items::items;
 use bs_fault::{Fault, FrontError, noted_optional};
 use bs_words::List;
 use cmm_data::data_fault;
-use cmm_exprs::Stop;
 use cmm_lex::{Lexed, Token, lex};
 use cmm_limits::limit_fault;
+use cmm_parts::Stop;
 use cmm_tree::File;
 use std::alloc::Global;
 
@@ -28,7 +28,7 @@ const LONGEST_TEXT: usize = 16_777_216;
 /// How deep parentheses may nest.
 const NESTING: u32 = 250;
 
-/// The fault that is told of a file that was read, if there is one.
+/// The fault that is reported of a file that was read, if there is one.
 fn file_fault(file: &File, range: Option<Fault>) -> Option<Fault>
     ensures { IsReported (file_faults range (file_view file.now)) result }
 {
@@ -36,7 +36,7 @@ fn file_fault(file: &File, range: Option<Fault>) -> Option<Fault>
     noted_optional(data_fault(file), found)
 }
 
-/// The file, unless a fault is told of it.
+/// The file, unless a fault is reported of it.
 fn faultless(file: File, range: Option<Fault>) -> Result<File, FrontError>
     ensures { IsFinished range (file_view file) result }
 {
@@ -46,7 +46,8 @@ fn faultless(file: File, range: Option<Fault>) -> Result<File, FrontError>
     }
 }
 
-/// What is told behind all tokens: what the lexer found there, or that the text ends inside a form.
+/// What is reported after all tokens: what the lexer found there, or that the text ends inside a
+/// form.
 fn end_fault(size: u32, lexing: Option<Fault>) -> Fault
     ensures { result ≡ stop_fault None Stuck lexing size }
 {
@@ -56,7 +57,7 @@ fn end_fault(size: u32, lexing: Option<Fault>) -> Fault
     }
 }
 
-/// What is told where reading stops.
+/// What is reported where reading stops.
 fn stopped(size: u32, tokens: &[Token], lexing: Option<Fault>, stop: Stop) -> FrontError
     ensures { IsStopped size tokens.now lexing stop result }
 {
@@ -79,17 +80,17 @@ fn stopped(size: u32, tokens: &[Token], lexing: Option<Fault>, stop: Stop) -> Fr
 
 /// The file that a text is.
 ///
-/// Places in the file are in bytes from the start of the text. One fault is told of a text that is none:
-/// that it has more than 16,777,216 bytes; else the leftmost of a token that does not begin, a text that
-/// is not closed, a token with which no text of the grammar goes on (or the text's end inside a form), and
-/// a parenthesis that opens a level more than 250; else the leftmost of an integer out of range, a
-/// limit on sizes, static data that is too large, and an item of static data that breaks its rule. Of two
-/// on one place it is the one of the lower number.
+/// Places in the file are in bytes from the start of the text. One fault is reported of a text that is
+/// none: that it has more than 16,777,216 bytes; else the leftmost of a token that does not begin, a
+/// text that is not closed, a token with which no text of the grammar goes on (or the text's end
+/// inside a form), and a parenthesis that opens a level more than 250; else the leftmost of an
+/// integer out of range, a limit on sizes, static data that is too large, and an item of static data
+/// that breaks its rule. Of two on one place it is the one of the lower number.
 ///
 /// # Errors
 ///
-/// `Fault` exactly where the text has a fault, with the one that is told, and `OutOfMemory` where memory ran
-/// out before that is known.
+/// `Fault` exactly where the text has a fault, with the one that is reported, and `OutOfMemory` where
+/// memory ran out before that is known.
 pub fn read_file(alloc: Global, text: &[u8]) -> Result<File, FrontError>
     ensures read { MatchResult result (λ file. ReadsAs text.now (Ok (file_view file)))
         (IsRefused text.now) }
@@ -98,7 +99,7 @@ pub fn read_file(alloc: Global, text: &[u8]) -> Result<File, FrontError>
     read_text(alloc, text)
 }
 
-/// The same, by what reading the tokens from left to right tells.
+/// The same, by what reading the tokens from left to right gives.
 fn read_text(alloc: Global, text: &[u8]) -> Result<File, FrontError>
     ensures { MatchResult result (λ file. IsReading text.now (Ok (file_view file)))
         (IsStopOf text.now) }

@@ -24,8 +24,11 @@ pub(crate) struct StaticCells {
 /// The cell that an access lies in.
 #[derive(Clone, Copy, PartialEq, Eq, Debug)]
 pub(crate) enum Cell {
+    /// The header of a block.
     Header { serial: u64 },
+    /// A cell of a block.
     Block { serial: u64, index: u64 },
+    /// A cell of static data.
     Static { list: u64, index: u64 },
 }
 
@@ -70,7 +73,7 @@ pub(crate) fn in_cells(serial: u64, cells: u64, from: u64, bytes: u64) -> Option
     }
 }
 
-// The header, and behind it the cells.
+// The header, and the cells after it.
 fn cell_of_block(serial: u64, number: u64) -> Cell
     ensures { cell_view result ≡ cell_of_block serial number }
 {
@@ -185,7 +188,7 @@ pub(crate) fn replaced(word: u64, offset: u64, bytes: u64, new: u64) -> u64
     word - part(word, offset, bytes) * unit + lowest(new, bytes) * unit
 }
 
-/// The block with a value in one of its cells. A place behind the last cell changes nothing.
+/// The block with a value in one of its cells. A place past the last cell changes nothing.
 pub(crate) fn put_in_block(blocks: &mut Vec<HeapCells>, serial: u64, index: u64, value: Value)
     ensures { map block_view blocks.new.items ≡ (let block = slice_index_or
         (map block_view blocks.old.items) serial (record {

@@ -243,7 +243,7 @@ impl Memory {
         }
     }
 
-    /// Stores a value at an address, or tells why that is improper.
+    /// Stores a value at an address, or says why that is improper.
     pub fn store(&mut self, chunk: Chunk, address: Value, value: Value) -> Result<(), Kind>
         ensures { IsStored result self.old self.new (stored chunk self.old address value) }
     {

@@ -1,7 +1,7 @@
 -- The table that is made agrees with the walks of the function.
 use Rattle.std.proofs.Common.{◌≡◌, ℕ, zero, suc, ◌+◌, ◌<◌, ◌≤◌, ◌⊎◌, ◌↔◌, List, [], ◌∷◌, ◌++◌, length, map, get_or, Option, Some, None, option_map, inl, inr, refl, sym, ap, ◌∙◌, subst, arith, append-nil}
 use Rattle.std.specs.List.{All, Contains, slice_get}
-use Rattle.std.specs.Option.{unwrap_or, MatchOption}
+use Rattle.std.specs.Option.{unwrap_or}
 use Rattle.std.proofs.lemmas.List.Elements.{All-nil, All-weaker, All-contains, All-from_get_or}
 use Rattle.std.proofs.lemmas.Option.{same_Some, none-some, slice_get-map, slice_get-get_or, slice_get_within, unwrap_or-slice_get, get_or_from_slice_get, slice_get_cases}
 use Rattle.std.proofs.lemmas.List.{length-append, length-map}
@@ -14,13 +14,13 @@ use Rattle.cmm_types.specs.Annotated.{IsAnnotated}
 use Rattle.cmm_types.specs.Types.{Scoped, with_parameters}
 use Rattle.cmm_walks.specs.AddrLive.{IsLiveIn}
 use Rattle.cmm_walks.specs.Cells.{item_at, scope_at, tasks_at, tasks_in}
-use Rattle.cmm_walks.specs.First.{IsFirst}
+use Rattle.cmm_walks.specs.First.{IsFirstTold}
 use Rattle.cmm_walks.specs.Made.{Filled}
 use Rattle.cmm_walks.specs.Sound.{IsBelow, IsHeld, IsSound, IsScope, Extends, GoesAs, Steps}
 use Rattle.cmm_walks.specs.Walks.{Task, Evaluates, names, with_slots, parameters_bound, walk_tasks, Next}
 use Rattle.cmm_walks.specs.Table.{shown, step_at, next_at, AreLinked, IsLinked, LeadsToBinding}
 use Rattle.cmm_walks.specs.Refusal.{ToldIn}
-use Rattle.cmm_walks.specs.declared.decide.Limits.{Limits}
+use Rattle.cmm_walks.specs.declared.limits.Limits.{Limits}
 use Rattle.cmm_walks.specs.declared.items.Item.{Item}
 use Rattle.cmm_walks.specs.declared.items.Item.TheVariants as item
 use Rattle.cmm_walks.specs.declared.node.Node as node
@@ -218,7 +218,7 @@ begin-typed ps ps' body e t =
 
 pub told-in : (nodes : List node.Node) (entry : ℕ) (f : FunctionTree) (told : Option Limits)
     → ((bound point used : ℕ) → IsLiveIn f bound point used ↔ LeadsToBinding nodes bound point used entry)
-    → MatchOption told ((b p u : ℕ) → LeadsToBinding nodes b p u entry → ⊥) (λ l. IsFirst nodes entry l)
+    → IsFirstTold nodes entry told
     → ToldIn f told
 told-in nodes entry f None live none = λ b p u h. none b p u ((live b p u).0 h)
 told-in nodes entry f (Some l) live first = record {

@@ -1,18 +1,18 @@
 -- The search for the first address.
-use Rattle.std.specs.Prelude.{◌||◌, ◌↔◌, ◌-◌, ◌/◌}
+use Rattle.std.specs.Prelude.{◌||◌, Option, Some, None}
 use Rattle.std.proofs.Common.{◌≡◌, ◌⊎◌, ℕ, zero, suc, ◌+◌, ◌<◌, ◌≤◌, Bool, true, false, List, [], ◌∷◌, length, take, get_or, sym, ◌∙◌, ap, inl, inr, arith, refl, subst}
 use Rattle.std.specs.List.{All, list_any}
 use Rattle.std.proofs.lemmas.List.{take_all}
 use Rattle.std.proofs.lemmas.List.Elements.{All-head, All-tail, All-weaker, All-more, All-same}
 use Rattle.cmm_walks.specs.AddrLive.{Before}
-use Rattle.cmm_walks.specs.Table.{step_at, IsWithin, LeadsToBinding, slot_below, AreNodes, IsLinked, AreLinked}
-use Rattle.cmm_walks.specs.First.{with_part, IsLeast, place_within, binds_address, IsFirst}
+use Rattle.cmm_walks.specs.Table.{step_at, IsWithin, LeadsToBinding, slot_below, AreNodes, AreLinked}
+use Rattle.cmm_walks.specs.First.{with_part, IsLeast, IsLeastTold, place_within, binds_address, IsFirst}
 use Rattle.cmm_walks.specs.declared.node.Step.{Step}
 use Rattle.cmm_walks.specs.declared.node.Step.TheVariants as step
 use Rattle.cmm_walks.specs.declared.node.Node as node
-use Rattle.cmm_walks.specs.declared.decide.Limits as limits
-use Rattle.cmm_walks.specs.declared.first.Part.{Part}
-use Rattle.cmm_walks.specs.declared.first.Part.TheVariants as part
+use Rattle.cmm_walks.specs.declared.limits.Limits as limits
+use Rattle.cmm_walks.specs.declared.seeds.Goal.{Goal}
+use Rattle.cmm_walks.specs.declared.limits.Part.TheVariants as part
 
 -- what holds of each node's step holds of that at any number
 step_all : (P : Step → Type 0) → P step.Quiet → (nodes : List node.Node) (p : ℕ) → All (λ (n : node.Node). P n.step) nodes → P (step_at nodes p)
@@ -85,30 +85,7 @@ none_within nodes greatest entry all none b p u l =
     let w = within_greatest nodes greatest entry b p u all l in
     none (record { bound = b; point = p; used = u; bound_within = w.0; point_within = w.1; used_within = w.2; leads = l })
 
--- ---- searching
-
-pub within_more : (nodes : List node.Node) (entry : ℕ) (l : limits.Limits) (which : Part) (x y : ℕ) → x ≤ y → IsWithin nodes (with_part l which x) entry → IsWithin nodes (with_part l which y) entry
-within_more nodes entry l part.Used x y le w = record { bound = w.bound; point = w.point; used = w.used; bound_within = w.bound_within; point_within = w.point_within; used_within = omega (arith, w.used_within, le); leads = w.leads }
-within_more nodes entry l part.Point x y le w = record { bound = w.bound; point = w.point; used = w.used; bound_within = w.bound_within; point_within = omega (arith, w.point_within, le); used_within = w.used_within; leads = w.leads }
-within_more nodes entry l part.Bound x y le w = record { bound = w.bound; point = w.point; used = w.used; bound_within = omega (arith, w.bound_within, le); point_within = w.point_within; used_within = w.used_within; leads = w.leads }
-
-pub record Searching (nodes : List node.Node) (entry : ℕ) (l : limits.Limits) (which : Part) (low high : ℕ) : Type 0 where
-  pub order : low ≤ high
-  pub within : IsWithin nodes (with_part l which high) entry
-  pub none_below : (x : ℕ) → x < low → IsWithin nodes (with_part l which x) entry → ⊥
-
-pub search_up : (nodes : List node.Node) (entry : ℕ) (l : limits.Limits) (which : Part) (low middle high : ℕ) → middle < high → Searching nodes entry l which low high → (IsWithin nodes (with_part l which middle) entry → ⊥) → Searching nodes entry l which (middle + 1) high
-search_up nodes entry l which low middle high less s none = record {
-  order = omega arith;
-  within = s.within;
-  none_below = λ x below w. none (within_more nodes entry l which x middle (omega (arith, below)) w);
-}
-
-pub found_least : (nodes : List node.Node) (entry : ℕ) (l : limits.Limits) (which : Part) (low high : ℕ) → (low < high → ⊥) → Searching nodes entry l which low high → IsLeast nodes entry l which high
-found_least nodes entry l which low high done s = record {
-  within = s.within;
-  none_below = λ x below w. s.none_below x (omega (arith, below, done, s.order)) w;
-}
+-- ---- the three searches
 
 not_less : (a b : ℕ) → (a < b → ⊥) → b ≤ a
 not_less a b h = grind arith
@@ -166,18 +143,6 @@ first_found nodes entry greatest used point bound all lu lp lb =
 pub all_taken : (P : node.Node → Type 0) (nodes : List node.Node) (i : ℕ) → length nodes ≤ i → All P (take i nodes) → All P nodes
 all_taken P nodes i done all = All-same P nodes (take i nodes) (sym (take_all i nodes done)) all
 
-pub search_on : (nodes : List node.Node) (entry : ℕ) (l : limits.Limits) (which : Part) (low high : ℕ) (tried : limits.Limits) (told : Bool)
-    → low < high → Searching nodes entry l which low high → tried ≡ with_part l which (low + (high - low) / 2)
-    → ((told ≡ true) ↔ IsWithin nodes tried entry) → told ≡ false
-    → Searching nodes entry l which (low + (high - low) / 2 + 1) high
-search_on nodes entry l which low high tried told less s e is false_told =
-    search_up nodes entry l which low (low + (high - low) / 2) high (omega arith) s
-    (λ w.
-    let P : limits.Limits → Type 0 = λ x. IsWithin nodes x entry in
-    let true_told : told ≡ true = is.1 (subst P (sym e) w) in
-    let f : true ≡ false = sym true_told ∙ false_told in
-    cc)
-
 pub first_of : (nodes : List node.Node) (entry greatest used point bound : ℕ) (of_use of_point told : limits.Limits)
     → All (λ (n : node.Node). place_within greatest n.step) nodes
     → of_use ≡ with_part (record { bound = greatest; point = greatest; used = greatest }) part.Used used
@@ -202,27 +167,12 @@ pub no_address_told : (nodes : List node.Node) (entry : ℕ) (some : Bool) → s
 no_address_told nodes entry true e h b p u l = let f : true ≡ false = h in cc
 no_address_told nodes entry false e h b p u l = no_address nodes entry b p u (sym e) l
 
-pub none_told : (nodes : List node.Node) (greatest entry : ℕ) (told : Bool) → All (λ (n : node.Node). place_within greatest n.step) nodes
-    → ((told ≡ true) ↔ IsWithin nodes (record { bound = greatest; point = greatest; used = greatest }) entry) → told ≡ false
+-- the search for a use finds none
+pub no_first : (nodes : List node.Node) (greatest entry : ℕ) (told : Option ℕ) → All (λ (n : node.Node). place_within greatest n.step) nodes
+    → IsLeastTold nodes entry (record { limits = record { bound = greatest; point = greatest; used = greatest }; part = part.Used }) told → told ≡ None
     → (b p u : ℕ) → LeadsToBinding nodes b p u entry → ⊥
-none_told nodes greatest entry told all is e b p u l =
-    none_within nodes greatest entry all (λ w. let f : true ≡ false = sym (is.1 w) ∙ e in cc) b p u l
+no_first nodes greatest entry None all none is = none_within nodes greatest entry all none
+no_first nodes greatest entry (Some x) all least is = cc
 
--- ---- whether all nodes are linked
-
-pub unlinked : (nodes : List node.Node) (i : ℕ) (n : node.Node) (count : ℕ) (fits : Bool) → count ≡ length nodes → i < length nodes → n ≡ get_or nodes i n → ((fits ≡ true) ↔ IsLinked count n) → fits ≡ false → AreLinked nodes → ⊥
-unlinked nodes i n count fits len within read is e links =
-    let here : IsLinked (length nodes) (get_or nodes i n) = links i n within in
-    let P : node.Node → Type 0 = λ m. IsLinked (length nodes) m in
-    let C : ℕ → Type 0 = λ k. IsLinked k n in
-    let t : fits ≡ true = is.1 (subst C (sym len) (subst P (sym read) here)) in
-    let f : true ≡ false = sym t ∙ e in cc
-
-pub linked_more : (nodes : List node.Node) (i : ℕ) (n : node.Node) (count : ℕ) (fits : Bool) → i < length nodes → n ≡ get_or nodes i n → ((fits ≡ true) ↔ IsLinked count n) → fits ≡ true → All (IsLinked count) (take i nodes) → All (IsLinked count) (take (i + 1) nodes)
-linked_more nodes i n count fits within read is e before =
-    All-more (IsLinked count) nodes i n within before (subst (IsLinked count) read (is.0 e))
-
-pub all_linked : (nodes : List node.Node) (i count : ℕ) → count ≡ length nodes → length nodes ≤ i → All (IsLinked count) (take i nodes) → AreLinked nodes
-all_linked nodes i count len done all =
-    let C : ℕ → Type 0 = λ k. All (IsLinked k) nodes in
-    subst C len (all_taken (IsLinked count) nodes i done all)
+pub told_least : (nodes : List node.Node) (entry limit : ℕ) (goal : Goal) (told : Option ℕ) → IsLeastTold nodes entry goal told → told ≡ Some limit → IsLeast nodes entry goal.limits goal.part limit
+told_least nodes entry limit goal told least is = let P : Option ℕ → Type 0 = λ o. IsLeastTold nodes entry goal o in subst P is least

@@ -8,7 +8,7 @@ use Rattle.cmm_tree.specs.declared.file.Item.{Item}
 use Rattle.cmm_walks.specs.AddrLive.{IsLiveIn, IsLive, IsToldLive, Before}
 use Rattle.cmm_walks.specs.Refusal.{ToldIn, IsFirstAmong, ToldAmong}
 use Rattle.cmm_types.specs.Typing.{IsItemAnnotated, AreItemsAnnotated}
-use Rattle.cmm_walks.specs.declared.decide.Limits.{Limits}
+use Rattle.cmm_walks.specs.declared.limits.Limits.{Limits}
 use Rattle.cmm_walks.proofs.Elements.{no_element, only, itself}
 
 -- ---- the order

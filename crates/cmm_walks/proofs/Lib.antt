@@ -1,7 +1,8 @@
 mod Elements
-mod Ways
-mod Runs
-mod Forms
+mod Grouped
+mod Spreads
+mod Levels
+mod Searches
 mod Firsts
 mod Simulation
 pub mod Arena

@@ -1,7 +1,9 @@
 pub mod Walks
 pub mod AddrLive
 pub mod Table
-pub mod Live
+pub mod Groups
+pub mod Labels
+pub mod Seeds
 pub mod First
 pub mod Cells
 pub mod Sound

@@ -8,7 +8,7 @@ use Rattle.cmm_walks.specs.AddrLive.{Unbound}
 use Rattle.cmm_walks.specs.declared.node.Step.{Step}
 use Rattle.cmm_walks.specs.declared.node.Step.TheVariants as step
 use Rattle.cmm_walks.specs.declared.node.Node as node
-use Rattle.cmm_walks.specs.declared.decide.Limits as limits
+use Rattle.cmm_walks.specs.declared.limits.Limits as limits
 
 -- the event of a node, if it has one
 abbrev pub shown : Step → List Event

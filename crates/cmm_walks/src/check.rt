@@ -7,8 +7,8 @@ ghost use Rattle.cmm_walks.specs.AddrLive.{IsLive, Before};
 ghost use Rattle.cmm_walks.specs.Refusal.{ToldIn, ToldAmong, IsRefusal};
 ghost use Rattle.cmm_types.specs.Typing.{IsFunctionAnnotated, IsItemAnnotated, AreItemsAnnotated};
 
-use crate::decide::Limits;
 use crate::first::first_live;
+use crate::limits::Limits;
 use crate::table::make_table;
 use bs_fault::{Fault, FrontError};
 use cmm_tree::{File, Function, Item};

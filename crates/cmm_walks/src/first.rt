@@ -1,71 +1,17 @@
 //! The first address that is live at a frame point.
-ghost use Rattle.std.specs.Prelude.{◌≡◌, ◌<◌, ◌≤◌, ℕ, IfOk, MatchOption};
+ghost use Rattle.std.specs.Prelude.{◌≡◌, ◌<◌, ◌≤◌, ◌↔◌, ℕ, length, true, Contains, IfOk, MatchOption, IsTrue};
 ghost use Rattle.std.specs.List.{All, list_any};
-ghost use Rattle.cmm_walks.specs.Table.{slot_below, AreLinked, AreNodes, IsWithin, LeadsToBinding};
-ghost use Rattle.cmm_walks.specs.First.{with_part, place_within, binds_address, IsLeast, IsFirst};
+ghost use Rattle.cmm_walks.specs.Groups.{AreBefore, AreMentions};
+ghost use Rattle.cmm_walks.specs.Labels.{unlabelled, IsUnlabelled};
+ghost use Rattle.cmm_walks.specs.Table.{step_at, slot_below, AreLinked, AreNodes, IsWithin, LeadsToBinding};
+ghost use Rattle.cmm_walks.specs.First.{place_within, binds_address, binds_address_to, own_limit, IsSearch, AreSlotSeeds, IsLeastTold, IsFirstTold};
 
-use crate::decide::{Limits, is_live_within};
+use crate::groups::{Group, members, nodes_before, nodes_by_slot};
+use crate::labels::{Labels, Seed, step_of};
+use crate::limits::{Limits, Part, with_part};
 use crate::node::{Node, Step};
+use crate::seeds::{Goal, add_bindings, point_seeds, use_seeds};
 use std::alloc::{AllocError, Global};
-
-/// A place that the search is for.
-#[derive(Clone, Copy, PartialEq, Eq, Debug)]
-pub enum Part {
-    Used,
-    Point,
-    Bound,
-}
-
-/// The limits with another limit for this part.
-fn with_part(limits: Limits, part: Part, limit: u32) -> Limits
-    ensures { result ≡ with_part limits part limit }
-{
-    let Limits { bound, point, used } = limits;
-    match part {
-        Part::Used => Limits {
-            used: limit,
-            point,
-            bound,
-        },
-        Part::Point => Limits {
-            used,
-            point: limit,
-            bound,
-        },
-        Part::Bound => Limits {
-            used,
-            point,
-            bound: limit,
-        },
-    }
-}
-
-/// The least limit for this part within which an address is live.
-fn least(
-    alloc: Global,
-    nodes: &[Node],
-    entry: u32,
-    bound: u32,
-    limits: Limits,
-    part: Part,
-    greatest: u32,
-) -> Result<u32, AllocError>
-    requires nodes { AreNodes bound nodes.now }
-    requires some { IsWithin nodes.now (with_part limits part greatest) entry }
-    ensures { IfOk result (λ limit. IsLeast nodes.now entry limits part limit) }
-{
-    let mut low = 0;
-    let mut high = greatest;
-    while low < high {
-        let middle = low + (high - low) / 2;
-        if is_live_within(alloc, nodes, entry, bound, with_part(limits, part, middle))? {
-            high = middle;
-        } else {
-            low = middle + 1;
-        }
-    }
-    Ok(high)
-}
 
 /// Whether it binds an address.
 fn binds_address(step: Step) -> bool
@@ -77,7 +23,9 @@ fn binds_address(step: Step) -> bool
             address,
             at: _,
         } => address,
-        _ => false,
+        Step::Quiet => false,
+        Step::Uses { slot: _, at: _ } => false,
+        Step::Passes { at: _ } => false,
     }
 }
 
@@ -99,7 +47,8 @@ fn above_slot(step: Step) -> Result<u32, AllocError>
             at: _,
         } => slot,
         Step::Uses { slot, at: _ } => slot,
-        _ => 0,
+        Step::Quiet => 0,
+        Step::Passes { at: _ } => 0,
     };
     if slot == u32::MAX {
         return Err(AllocError);
@@ -154,53 +103,140 @@ fn greatest_place(nodes: &[Node]) -> u32
     greatest
 }
 
-/// Of three limits within which an address is live, the least use, then the least frame point, then the
-/// least binding.
-fn least_of_all(
-    alloc: Global,
-    nodes: &[Node],
-    entry: u32,
-    bound: u32,
-    greatest: u32,
-) -> Result<Limits, AllocError>
-    requires nodes { AreNodes bound nodes.now }
-    requires some { IsWithin nodes.now (record { bound = greatest; point = greatest; used = greatest }) entry }
-    requires places { All (λ n. place_within greatest n.step) nodes.now }
-    ensures { IfOk result (λ told. IsFirst nodes.now entry told) }
+/// Whether it binds an address to the slot.
+fn binds_address_to(step: Step, slot: u32) -> bool
+    ensures { result ≡ binds_address_to slot step }
 {
-    let all = Limits {
-        bound: greatest,
-        point: greatest,
-        used: greatest,
-    };
-    let used = least(alloc, nodes, entry, bound, all, Part::Used, greatest)?;
-    let of_use = with_part(all, Part::Used, used);
-    let point = least(alloc, nodes, entry, bound, of_use, Part::Point, greatest)?;
-    let of_point = with_part(of_use, Part::Point, point);
-    let binding = least(alloc, nodes, entry, bound, of_point, Part::Bound, greatest)?;
-    Ok(with_part(of_point, Part::Bound, binding))
+    match step {
+        Step::Quiet => false,
+        Step::Binds {
+            slot: own,
+            address,
+            at: _,
+        } => address && own == slot,
+        Step::Uses { slot: _, at: _ } => false,
+        Step::Passes { at: _ } => false,
+    }
+}
+
+/// Whether one of the nodes binds an address to the slot.
+fn some_address_to(nodes: &[Node], slot: u32, places: &[u32]) -> bool
+    ensures { result ≡ list_any (λ p. binds_address_to slot (step_at nodes.now p)) places.now }
+{
+    places
+        .iter()
+        .any(|place| binds_address_to(step_of(nodes, *place), slot))
+}
+
+/// The nodes of a function, with those before each and those that name each slot.
+#[derive(Drop)]
+struct Search<'a> {
+    nodes: &'a [Node],
+    before: Vec<Group>,
+    mentions: Vec<Group>,
+    bound: u32,
+}
+
+impl<'a> Search<'a> {
+    /// Adds the seeds of the bindings of addresses to the slot that are live at a frame point.
+    fn search_slot(
+        &self,
+        alloc: Global,
+        goal: Goal,
+        slot: u32,
+        labels: &mut Labels,
+        found: &mut Vec<Seed>,
+    ) -> Result<(), AllocError>
+        requires search { IsSearch self.now }
+        requires fits { own_limit goal < unlabelled }
+        requires unlabelled { IsUnlabelled (length self.now.nodes.now) labels.old }
+        ensures unlabelled { IfOk result (λ _. IsUnlabelled (length self.now.nodes.now) labels.new) }
+        ensures seeds { IfOk result (λ _. AreSlotSeeds self.now.nodes.now goal slot found.old.items found.new.items) }
+    {
+        let places = members(&self.mentions, slot);
+        if !some_address_to(self.nodes, slot, places) {
+            return Ok(());
+        }
+        let mut uses = use_seeds(alloc, self.nodes, goal, slot, places)?;
+        labels.fill(self.nodes, &self.before, slot, &mut uses)?;
+        let mut points = point_seeds(alloc, self.nodes, goal, labels)?;
+        labels.clear();
+        labels.fill(self.nodes, &self.before, slot, &mut points)?;
+        add_bindings(self.nodes, goal, labels, slot, places, found)?;
+        labels.clear();
+        Ok(())
+    }
+
+    /// The least limit for the part of the goal within which an address is live, if there is one.
+    fn least(&self, alloc: Global, entry: u32, goal: Goal) -> Result<Option<u32>, AllocError>
+        requires search { IsSearch self.now }
+        requires fits { own_limit goal < unlabelled }
+        ensures { IfOk result (λ told. IsLeastTold self.now.nodes.now entry goal told) }
+    {
+        let mut labels = Labels::new(alloc, self.nodes.len())?;
+        let mut found = Vec::new(alloc);
+        for slot in 0..self.bound {
+            self.search_slot(alloc, goal, slot, &mut labels, &mut found)?;
+        }
+        labels.fill(self.nodes, &self.before, self.bound, &mut found)?;
+        Ok(labels.get(entry))
+    }
+
+    /// The least use, then the least frame point, then the least binding of an address that is live there, or
+    /// `None` where none is.
+    fn first(&self, alloc: Global, entry: u32, greatest: u32) -> Result<Option<Limits>, AllocError>
+        requires search { IsSearch self.now }
+        requires places { All (λ n. place_within greatest n.step) self.now.nodes.now }
+        ensures { IfOk result (λ told. IsFirstTold self.now.nodes.now entry told) }
+    {
+        let all = Limits {
+            bound: greatest,
+            point: greatest,
+            used: greatest,
+        };
+        let of_all = Goal {
+            limits: all,
+            part: Part::Used,
+        };
+        let Some(used) = self.least(alloc, entry, of_all)? else {
+            return Ok(None);
+        };
+        let of_use = Goal {
+            limits: with_part(all, Part::Used, used),
+            part: Part::Point,
+        };
+        let Some(point) = self.least(alloc, entry, of_use)? else {
+            return Ok(None);
+        };
+        let of_point = Goal {
+            limits: with_part(of_use.limits, Part::Point, point),
+            part: Part::Bound,
+        };
+        let Some(bound) = self.least(alloc, entry, of_point)? else {
+            return Ok(None);
+        };
+        Ok(Some(with_part(of_point.limits, Part::Bound, bound)))
+    }
 }
 
 /// The least use, then the least frame point, then the least binding of an address that is live there, or
 /// `None` where none is.
 pub fn first_live(alloc: Global, nodes: &[Node], entry: u32) -> Result<Option<Limits>, AllocError>
     requires { AreLinked nodes.now }
-    ensures { IfOk result (λ told. MatchOption told ((b p u : ℕ) →
-        LeadsToBinding nodes.now b p u entry → ⊥) (λ l. IsFirst nodes.now entry l)) }
+    ensures { IfOk result (λ told. IsFirstTold nodes.now entry told) }
 {
     if !some_address(nodes) {
         return Ok(None);
     }
     let bound = above_slots(nodes)?;
     let greatest = greatest_place(nodes);
-    let all = Limits {
-        bound: greatest,
-        point: greatest,
-        used: greatest,
+    let before = nodes_before(alloc, nodes)?;
+    let mentions = nodes_by_slot(alloc, nodes, bound)?;
+    let search = Search {
+        nodes,
+        before,
+        mentions,
+        bound,
     };
-    if is_live_within(alloc, nodes, entry, bound, all)? {
-        Ok(Some(least_of_all(alloc, nodes, entry, bound, greatest)?))
-    } else {
-        Ok(None)
-    }
+    search.first(alloc, entry, greatest)
 }

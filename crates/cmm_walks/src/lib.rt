@@ -8,14 +8,17 @@
 
 mod check;
 mod checked;
-mod decide;
 mod expressions;
 mod first;
+mod groups;
 mod items;
+mod labels;
 mod leaving;
+mod limits;
 mod node;
 mod numbers;
 mod scopes;
+mod seeds;
 mod steps;
 mod table;
 mod tasks;

@@ -21,7 +21,7 @@ pub Ends-checked-cut : (words : List (List ℕ)) (e : Effects) (check : CheckTre
     → Reads (λ text. IsCheckOf check text lines) e.source → GotPart e.out lines → IsKept e.err → Ends words e 6
 Ends-checked-cut words e check lines is r part kept = out_fault lines (checked check lines is r) part kept
 
--- why nothing is told of the run of a text that was read
+-- why nothing is reported of the run of a text that was read
 pub check_refusal_read : (check : CheckTree) (s : Side) (read : List ℕ) (r : CheckRefusal) → All (λ b. b < 256) read → IsRead longest_text s read
     → IsCheckRefusal check read r → IsCheckRefusalRead check s r
 check_refusal_read check s read (Fault told) are r why = record { text = read; are_bytes = are; read = r; holds = why }

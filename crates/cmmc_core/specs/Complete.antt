@@ -33,33 +33,90 @@ pub record CompileComplete (text : List ℕ) (status : ℕ) : Type 0 where
   pub fault : (told : Fault) → HasFault text told → Is 3 status
   pub not_built : (file : FileTree) → IsFileOf text file → not_built file ≡ true → Is 3 status
   -- a text whose image fits is compiled
-  pub fits : (file : SmallFileTree) → IsSmallFileOf text file → first_too_large (compiled file) ≡ None → Is 0 status
-  pub roomy : (file : SmallFileTree) → IsSmallFileOf text file → IsRoomy (embedded_file file) → Is 0 status
-  pub too_large : (file : SmallFileTree) (large : Large) → IsSmallFileOf text file → first_too_large (compiled file) ≡ Some large → Is 8 status
+  pub fits : (file : SmallFileTree)
+      → IsSmallFileOf text file
+      → first_too_large (compiled file) ≡ None
+      → Is 0 status
+  pub roomy : (file : SmallFileTree)
+      → IsSmallFileOf text file
+      → IsRoomy (embedded_file file)
+      → Is 0 status
+  pub too_large : (file : SmallFileTree) (large : Large)
+      → IsSmallFileOf text file
+      → first_too_large (compiled file) ≡ Some large
+      → Is 8 status
 
 -- What `run` comes to on bytes that the source tells.
 pub record RunComplete (run : RunTree) (bytes : List ℕ) (status : ℕ) : Type 0 where
   -- an image whose entry, arguments and answers suit is run, whatever becomes of the run
-  pub outcome : (image : Tables) (entry : Func) (args answers : List ℕ) → IsSpelling bytes image → func_named run.entry image.funcs ≡ Some entry → words_of_args image entry.params run.args ≡ Some args → words_of_answers image run.answers ≡ Some answers → Is 0 status
-  pub no_entry : (image : Tables) → IsSpelling bytes image → func_named run.entry image.funcs ≡ None → Is 2 status
-  pub unfit_args : (image : Tables) (entry : Func) → IsSpelling bytes image → func_named run.entry image.funcs ≡ Some entry → words_of_args image entry.params run.args ≡ None → Is 2 status
-  pub unfit_answers : (image : Tables) (entry : Func) → IsSpelling bytes image → func_named run.entry image.funcs ≡ Some entry → words_of_answers image run.answers ≡ None → Is 2 status
+  pub outcome : (image : Tables) (entry : Func) (args answers : List ℕ)
+      → IsSpelling bytes image
+      → func_named run.entry image.funcs ≡ Some entry
+      → words_of_args image entry.params run.args ≡ Some args
+      → words_of_answers image run.answers ≡ Some answers
+      → Is 0 status
+  pub no_entry : (image : Tables)
+      → IsSpelling bytes image
+      → func_named run.entry image.funcs ≡ None
+      → Is 2 status
+  pub unfit_args : (image : Tables) (entry : Func)
+      → IsSpelling bytes image
+      → func_named run.entry image.funcs ≡ Some entry
+      → words_of_args image entry.params run.args ≡ None
+      → Is 2 status
+  pub unfit_answers : (image : Tables) (entry : Func)
+      → IsSpelling bytes image
+      → func_named run.entry image.funcs ≡ Some entry
+      → words_of_answers image run.answers ≡ None
+      → Is 2 status
   pub no_image : ((image : Tables) → IsSpelling bytes image → ⊥) → Is 4 status
 
 -- What `check` comes to on a text that the source tells.
 pub record CheckComplete (check : CheckTree) (text : List ℕ) (status : ℕ) : Type 0 where
   pub fault : (told : Fault) → HasFault text told → Is 3 status
   pub not_built : (file : FileTree) → IsFileOf text file → not_built file ≡ true → Is 3 status
-  pub no_entry : (file : SmallFileTree) → IsSmallFileOf text file → NamesNone (embedded_file file) check.entry → Is 2 status
-  pub unfit : (file : SmallFileTree) → IsSmallFileOf text file → HasUnfit check (embedded_file file) → Is 2 status
+  pub no_entry : (file : SmallFileTree)
+      → IsSmallFileOf text file
+      → NamesNone (embedded_file file) check.entry
+      → Is 2 status
+  pub unfit : (file : SmallFileTree)
+      → IsSmallFileOf text file
+      → HasUnfit check (embedded_file file)
+      → Is 2 status
   -- a call that suits is run, whatever becomes of the run, where the image of its text fits
-  pub fits : (file : SmallFileTree) (entry : ℕ) (args answers : List ℕ) → IsSmallFileOf text file → IsCall check (embedded_file file) entry args answers → first_too_large (compiled file) ≡ None → Is 0 status
-  pub roomy : (file : SmallFileTree) (entry : ℕ) (args answers : List ℕ) → IsSmallFileOf text file → IsCall check (embedded_file file) entry args answers → IsRoomy (embedded_file file) → Is 0 status
-  pub too_large : (file : SmallFileTree) (large : Large) (entry : ℕ) (args answers : List ℕ) → IsSmallFileOf text file → IsCall check (embedded_file file) entry args answers → first_too_large (compiled file) ≡ Some large → Is 8 status
+  pub fits : (file : SmallFileTree) (entry : ℕ) (args answers : List ℕ)
+      → IsSmallFileOf text file
+      → IsCall check (embedded_file file) entry args answers
+      → first_too_large (compiled file) ≡ None
+      → Is 0 status
+  pub roomy : (file : SmallFileTree) (entry : ℕ) (args answers : List ℕ)
+      → IsSmallFileOf text file
+      → IsCall check (embedded_file file) entry args answers
+      → IsRoomy (embedded_file file)
+      → Is 0 status
+  pub too_large : (file : SmallFileTree) (large : Large) (entry : ℕ) (args answers : List ℕ)
+      → IsSmallFileOf text file
+      → IsCall check (embedded_file file) entry args answers
+      → first_too_large (compiled file) ≡ Some large
+      → Is 8 status
 
 pub record Complete (words : List (List ℕ)) (e : Effects) (status : ℕ) : Type 0 where
   pub no_command : (WellFormed words → ⊥) → NoneRose e → Is 2 status
   pub no_value : ((command : CommandTree) → IsCommand words command → ⊥) → NoneRose e → Is 2 status
-  pub compile : IsCommand words CompileCommand → NoneRose e → (text : List ℕ) → e.source.before ≡ Some text → CompileComplete text status
-  pub run : (run : RunTree) → IsCommand words (RunCommand run) → NoneRose e → (bytes : List ℕ) → e.source.before ≡ Some bytes → RunComplete run bytes status
-  pub check : (check : CheckTree) → IsCommand words (CheckCommand check) → NoneRose e → (text : List ℕ) → e.source.before ≡ Some text → CheckComplete check text status
+  pub compile : IsCommand words CompileCommand
+      → NoneRose e
+      → (text : List ℕ)
+      → e.source.before ≡ Some text
+      → CompileComplete text status
+  pub run : (run : RunTree)
+      → IsCommand words (RunCommand run)
+      → NoneRose e
+      → (bytes : List ℕ)
+      → e.source.before ≡ Some bytes
+      → RunComplete run bytes status
+  pub check : (check : CheckTree)
+      → IsCommand words (CheckCommand check)
+      → NoneRose e
+      → (text : List ℕ)
+      → e.source.before ≡ Some text
+      → CheckComplete check text status

@@ -12,9 +12,10 @@ pub record Side : Type 0 where
   pub faults_before : ℕ
   pub faults_after : ℕ
 
-abbrev pub side : Option (List ℕ) → Option (List ℕ) → ℕ → ℕ → Side
-side before after faults_before faults_after =
-    record { before = before; after = after; faults_before = faults_before; faults_after = faults_after }
+-- by what it tells of its bytes and by its count, of its states before the call and after it
+abbrev pub side : {X : Type 0} → (X → Option (List ℕ)) → (X → ℕ) → X → X → Side
+side bytes faults old new =
+    record { before = bytes old; after = bytes new; faults_before = faults old; faults_after = faults new }
 
 -- What the three did.
 pub record Effects : Type 0 where
@@ -48,7 +49,8 @@ pub record GotPart (side : Side) (bytes : List ℕ) : Type 0 where
 
 -- a line was written to it whole, and the status is its own; or not whole, and the status is 6
 abbrev pub Tells : Side → List ℕ → ℕ → ℕ → Type 0
-Tells side line status result = ((result ≡ status) × Got side line) ⊎ ((result ≡ 6) × GotPart side line)
+Tells side line status result =
+    ((result ≡ status) × Got side line) ⊎ ((result ≡ 6) × GotPart side line)
 
 -- These are the bytes that were read: all that there were, up to one past the limit.
 pub record IsRead (limit : ℕ) (source : Side) (bytes : List ℕ) : Type 0 where

@@ -38,7 +38,9 @@ pub data Output (words : List (List ℕ)) (source : Side) : List ℕ → Type 0 
 
 -- Why `check` has no output, in the order in which the causes are looked for.
 pub data CheckCause (check : CheckTree) (source : Side) : ℕ → List ℕ → Type 0 where
-  fault : (told : Fault) → Reads (λ text. HasFault text told) source → CheckCause check source 3 (fault_line told)
+  fault : (told : Fault)
+      → Reads (λ text. HasFault text told) source
+      → CheckCause check source 3 (fault_line told)
   not_built : Reads IsNotBuilt source → CheckCause check source 3 not_built_line
   no_entry : Reads (HasNoEntry check) source → CheckCause check source 2 (usage_line UnknownEntry)
   unfit : Reads (IsUnfitFor check) source → CheckCause check source 2 (usage_line ArgumentUnfit)
@@ -46,7 +48,7 @@ pub data CheckCause (check : CheckTree) (source : Side) : ℕ → List ℕ → T
       → Reads (λ text. IsTooLargeToCheck check text large) source
       → CheckCause check source 8 (large_line large)
 
--- Why there is no output: the status that tells it, and the line.
+-- Why there is no output: the status that reports it, and the line.
 pub data Cause (words : List (List ℕ)) (source : Side) : ℕ → List ℕ → Type 0 where
   -- the words do not have the form of a command, or have a value that no command has; nothing was read
   no_command : (WellFormed words → ⊥) → IsKept source → Cause words source 2 (usage_line Words)
@@ -63,7 +65,9 @@ pub data Cause (words : List (List ℕ)) (source : Side) : ℕ → List ℕ → 
       → IsCommand words CompileCommand
       → Reads (λ text. HasFault text told) source
       → Cause words source 3 (fault_line told)
-  not_built : IsCommand words CompileCommand → Reads IsNotBuilt source → Cause words source 3 not_built_line
+  not_built : IsCommand words CompileCommand
+      → Reads IsNotBuilt source
+      → Cause words source 3 not_built_line
   too_large : (large : Large)
       → IsCommand words CompileCommand
       → Reads (λ text. IsTooLarge text large) source

@@ -51,16 +51,17 @@ IsRefusalFrom source (Text why) = IsRefusalRead source why
 
 -- ---- check
 
--- why nothing is told of a run of the text that was read
+-- why nothing is reported of a run of the text that was read
 abbrev pub IsCheckRefusalRead : CheckTree → Side → check.CheckRefusal → Type 0
 IsCheckRefusalRead check source (checked.Fault told) = Reads (λ text. HasFault text told) source
 IsCheckRefusalRead check source checked.NotBuilt = Reads IsNotBuilt source
 IsCheckRefusalRead check source checked.UnknownEntry = Reads (HasNoEntry check) source
 IsCheckRefusalRead check source checked.ArgumentUnfit = Reads (IsUnfitFor check) source
-IsCheckRefusalRead check source (checked.TooLarge large) = Reads (λ text. IsTooLargeToCheck check text large) source
+IsCheckRefusalRead check source (checked.TooLarge large) =
+    Reads (λ text. IsTooLargeToCheck check text large) source
 IsCheckRefusalRead check source checked.OutOfMemory = ⊤
 
--- why nothing is told of a source
+-- why nothing is reported of a source
 abbrev pub IsCheckFailure : CheckTree → Side → CheckFailure → Type 0
 IsCheckFailure check source failure.ReadFault = Rose source
 IsCheckFailure check source (failure.Text why) = IsCheckRefusalRead check source why
@@ -99,7 +100,8 @@ pub record CutsRun (run : RunTree) (image : Tables) (out : Side) : Type 0 where
 abbrev pub IsRunRefusal : RunTree → Tables → Side → RunRefusal → Type 0
 IsRunRefusal run image out refusal.ReadFault = ⊥
 IsRunRefusal run image out (refusal.Image why) = ⊥
-IsRunRefusal run image out refusal.UnknownEntry = IsKept out × (func_named run.entry image.funcs ≡ None)
+IsRunRefusal run image out refusal.UnknownEntry =
+    IsKept out × (func_named run.entry image.funcs ≡ None)
 IsRunRefusal run image out refusal.ArgumentUnfit = IsKept out × IsUnfit run image
 IsRunRefusal run image out refusal.WriteFault = CutsRun run image out
 IsRunRefusal run image out refusal.OutOfMemory = IsKept out
@@ -135,7 +137,7 @@ IsUnread source refusal.OutOfMemory = ⊤
 
 -- ---- lines for which there may be no memory
 
--- the line was told, or that there is no memory for it
+-- the line was reported, or that there is no memory for it
 abbrev pub TellsOr : Side → List ℕ → ℕ → ℕ → Type 0
 TellsOr err line status result = Tells err line status result ⊎ Tells err no_memory_line 9 result
 
@@ -146,7 +148,7 @@ TellsRefusal err NotBuilt result = Tells err not_built_line 3 result
 TellsRefusal err (TooLarge large) result = TellsOr err (large_line large) 8 result
 TellsRefusal err OutOfMemory result = Tells err no_memory_line 9 result
 
--- the line of a text of whose run nothing is told
+-- the line of a text of whose run nothing is reported
 abbrev pub TellsCheckRefusal : Side → check.CheckRefusal → ℕ → Type 0
 TellsCheckRefusal err (checked.Fault told) result = TellsOr err (fault_line told) 3 result
 TellsCheckRefusal err checked.NotBuilt result = Tells err not_built_line 3 result

@@ -21,7 +21,8 @@ longest_image = 620691524
 -- the words of the answers, where each has one
 abbrev pub words_of_answers : Tables → List Arg → Option (List ℕ)
 words_of_answers image [] = Some []
-words_of_answers image (answer ∷ answers) = before (word_of_arg image answer) (words_of_answers image answers)
+words_of_answers image (answer ∷ answers) =
+    before (word_of_arg image answer) (words_of_answers image answers)
 
 -- when the mover asks, and where it puts the blocks
 abbrev pub schedule_of : Moves → Schedule

@@ -1,4 +1,4 @@
-//! The command `check`: a Cmm text in, what is told of a run of one of its functions out.
+//! The command `check`: a Cmm text in, what is reported of a run of one of its functions out.
 ghost use Rattle.std.specs.Prelude.{◌<◌, ℕ, List, All, IfOk, IfErr};
 ghost use Rattle.bs_words.specs.Contents.{contents};
 ghost use Rattle.command_line.specs.Command.{IsCommand, CheckCommand};
@@ -17,14 +17,14 @@ use command_line::CheckWords;
 use std::alloc::Global;
 use text_check::{CheckRefusal, check_text};
 
-/// Why nothing is told of a source.
+/// Why nothing is reported of a source.
 #[derive(Debug, Drop)]
 pub enum CheckFailure {
     ReadFault,
     Text(CheckRefusal),
 }
 
-/// Writes what is told of the run of the text that a source holds, or the line that tells why there is nothing, and
+/// Writes what is reported of the run of the text that a source holds, or the line that says why there is nothing, and
 /// answers the status.
 pub fn check<S: Source, K: Sink, E: Sink>(
     alloc: Global,
@@ -33,7 +33,12 @@ pub fn check<S: Source, K: Sink, E: Sink>(
     out: &mut K,
     err: &mut E,
 ) -> u8
-    ensures { (line : List (List ℕ)) → IsCommand line (CheckCommand (check_view words.now)) → Ends line (effects (side (S.left source.old) (S.left source.new) (S.faults source.old) (S.faults source.new)) (side (K.held out.old) (K.held out.new) (K.faults out.old) (K.faults out.new)) (side (E.held err.old) (E.held err.new) (E.faults err.old) (E.faults err.new))) result }
+    ensures { (line : List (List ℕ))
+        → IsCommand line (CheckCommand (check_view words.now))
+        → Ends line
+        (effects (side S.left S.faults source.old source.new)
+        (side K.held K.faults out.old out.new) (side E.held E.faults err.old err.new))
+        result }
 {
     match check_source(alloc, words, source) {
         Ok(told) => match write_all(out, told.as_slice()) {
@@ -45,14 +50,18 @@ pub fn check<S: Source, K: Sink, E: Sink>(
     }
 }
 
-/// What is told of the run of the text that a source holds. At most one byte past the longest text is read.
+/// What is reported of the run of the text that a source holds. At most one byte past the longest text is read.
 fn check_source<S: Source>(
     alloc: Global,
     words: &CheckWords,
     source: &mut S,
 ) -> Result<bs_words::List<u8>, CheckFailure>
-    ensures told { IfOk result (λ lines. Reads (λ text. IsCheckOf (check_view words.now) text (contents lines)) (side (S.left source.old) (S.left source.new) (S.faults source.old) (S.faults source.new))) }
-    ensures failed { IfErr result (λ r. IsCheckFailure (check_view words.now) (side (S.left source.old) (S.left source.new) (S.faults source.old) (S.faults source.new)) r) }
+    ensures told { IfOk result (λ lines.
+        Reads (λ text. IsCheckOf (check_view words.now) text (contents lines))
+        (side S.left S.faults source.old source.new)) }
+    ensures failed { IfErr result (λ r.
+        IsCheckFailure (check_view words.now) (side S.left S.faults source.old source.new)
+        r) }
 {
     match read_text(alloc, source) {
         Ok(text) => match check_bytes(alloc, text.as_slice(), words) {
@@ -64,7 +73,7 @@ fn check_source<S: Source>(
     }
 }
 
-/// What is told of the run of a text, whose bytes are bytes.
+/// What is reported of the run of a text, whose bytes are bytes.
 fn check_bytes(
     alloc: Global,
     text: &[u8],

@@ -22,8 +22,10 @@ pub enum Refusal {
 /// The spelling of the image of the text that a source holds. At most one byte past the longest text is
 /// read.
 pub fn compile_source<S: Source>(alloc: Global, source: &mut S) -> Result<List<u8>, Refusal>
-    ensures image { IfOk result (λ bytes. Reads (λ text. SpellsImageOf text (contents bytes)) (side (S.left source.old) (S.left source.new) (S.faults source.old) (S.faults source.new))) }
-    ensures refused { IfErr result (λ r. IsRefusalFrom (side (S.left source.old) (S.left source.new) (S.faults source.old) (S.faults source.new)) r) }
+    ensures image { IfOk result (λ bytes.
+        Reads (λ text. SpellsImageOf text (contents bytes))
+        (side S.left S.faults source.old source.new)) }
+    ensures refused { IfErr result (λ r. IsRefusalFrom (side S.left S.faults source.old source.new) r) }
 {
     match read_text(alloc, source) {
         Ok(text) => match compile_bytes(alloc, text.as_slice()) {

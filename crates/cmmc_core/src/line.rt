@@ -37,7 +37,7 @@ pub const NO_MEMORY: u8 = 9;
 
 /// Writes a whole line to err and answers `status`, or 6 where the line cannot be written whole.
 pub fn tell<E: Sink>(err: &mut E, line: &[u8], status: u8) -> u8
-    ensures { let err_side = side (E.held err.old) (E.held err.new) (E.faults err.old) (E.faults err.new) in Tells err_side line.now status result }
+    ensures { Tells (side E.held E.faults err.old err.new) line.now status result }
 {
     match write_all(err, line) {
         Ok(()) => status,
@@ -47,7 +47,7 @@ pub fn tell<E: Sink>(err: &mut E, line: &[u8], status: u8) -> u8
 
 /// Writes the line of a section that is too large, for which there may be no memory.
 fn tell_large<E: Sink>(alloc: Global, err: &mut E, large: &Large) -> u8
-    ensures { let err_side = side (E.held err.old) (E.held err.new) (E.faults err.old) (E.faults err.new) in TellsOr err_side (large_line large.now) 8 result }
+    ensures { TellsOr (side E.held E.faults err.old err.new) (large_line large.now) 8 result }
 {
     match large_text(alloc, large) {
         Ok(line) => tell(err, line.as_slice(), TOO_LARGE),
@@ -57,7 +57,7 @@ fn tell_large<E: Sink>(alloc: Global, err: &mut E, large: &Large) -> u8
 
 /// Writes the line of a text's fault, for which there may be no memory.
 fn tell_fault<E: Sink>(alloc: Global, err: &mut E, fault: &Fault) -> u8
-    ensures { let err_side = side (E.held err.old) (E.held err.new) (E.faults err.old) (E.faults err.new) in TellsOr err_side (fault_line fault.now) 3 result }
+    ensures { TellsOr (side E.held E.faults err.old err.new) (fault_line fault.now) 3 result }
 {
     match fault_text(alloc, fault) {
         Ok(line) => tell(err, line.as_slice(), TEXT),
@@ -67,7 +67,7 @@ fn tell_fault<E: Sink>(alloc: Global, err: &mut E, fault: &Fault) -> u8
 
 /// Writes the line of a text that has no image.
 pub fn tell_refusal<E: Sink>(alloc: Global, err: &mut E, refusal: &Refusal) -> u8
-    ensures { let err_side = side (E.held err.old) (E.held err.new) (E.faults err.old) (E.faults err.new) in TellsRefusal err_side refusal.now result }
+    ensures { TellsRefusal (side E.held E.faults err.old err.new) refusal.now result }
 {
     match refusal {
         Refusal::Fault(fault) => tell_fault(alloc, err, fault),
@@ -77,9 +77,9 @@ pub fn tell_refusal<E: Sink>(alloc: Global, err: &mut E, refusal: &Refusal) -> u
     }
 }
 
-/// Writes the line of a text of whose run nothing is told.
+/// Writes the line of a text of whose run nothing is reported.
 pub fn tell_check_refusal<E: Sink>(alloc: Global, err: &mut E, refusal: &CheckRefusal) -> u8
-    ensures { let err_side = side (E.held err.old) (E.held err.new) (E.faults err.old) (E.faults err.new) in TellsCheckRefusal err_side refusal.now result }
+    ensures { TellsCheckRefusal (side E.held E.faults err.old err.new) refusal.now result }
 {
     match refusal {
         CheckRefusal::Fault(fault) => tell_fault(alloc, err, fault),
@@ -93,7 +93,7 @@ pub fn tell_check_refusal<E: Sink>(alloc: Global, err: &mut E, refusal: &CheckRe
 
 /// Writes the line of bytes that are no image, for which there may be no memory.
 pub fn tell_image<E: Sink>(alloc: Global, err: &mut E, refusal: &ImageRefusal) -> u8
-    ensures { let err_side = side (E.held err.old) (E.held err.new) (E.faults err.old) (E.faults err.new) in TellsOr err_side (image_line refusal.now) 4 result }
+    ensures { TellsOr (side E.held E.faults err.old err.new) (image_line refusal.now) 4 result }
 {
     match image_text(alloc, refusal) {
         Ok(line) => tell(err, line.as_slice(), NO_IMAGE),

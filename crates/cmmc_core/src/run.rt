@@ -42,8 +42,12 @@ pub fn run_source<S: Source, K: Sink>(
     out: &mut K,
 ) -> Result<(), RunRefusal>
     requires { WithinLimits (run_view run) }
-    ensures written { OnOk result (WritesOutcome (run_view run) (side (S.left source.old) (S.left source.new) (S.faults source.old) (S.faults source.new)) (side (K.held out.old) (K.held out.new) (K.faults out.old) (K.faults out.new))) }
-    ensures refused { IfErr result (λ r. IsRunRefusalFrom (run_view run) (side (S.left source.old) (S.left source.new) (S.faults source.old) (S.faults source.new)) (side (K.held out.old) (K.held out.new) (K.faults out.old) (K.faults out.new)) r) }
+    ensures written { OnOk result
+        (WritesOutcome (run_view run) (side S.left S.faults source.old source.new)
+        (side K.held K.faults out.old out.new)) }
+    ensures refused { IfErr result (λ r.
+        IsRunRefusalFrom (run_view run) (side S.left S.faults source.old source.new)
+        (side K.held K.faults out.old out.new) r) }
 {
     let bytes = match read_whole(alloc, source) {
         Ok(bytes) => bytes,
@@ -58,8 +62,9 @@ pub fn run_source<S: Source, K: Sink>(
 
 /// The bytes that a source holds, up to one past the longest image, which no image has.
 fn read_whole<S: Source>(alloc: Global, source: &mut S) -> Result<List<u8>, RunRefusal>
-    ensures read { IfOk result (λ bytes. IsRead longest_image (side (S.left source.old) (S.left source.new) (S.faults source.old) (S.faults source.new)) (contents bytes)) }
-    ensures refused { IfErr result (λ r. IsUnread (side (S.left source.old) (S.left source.new) (S.faults source.old) (S.faults source.new)) r) }
+    ensures read { IfOk result (λ bytes.
+        IsRead longest_image (side S.left S.faults source.old source.new) (contents bytes)) }
+    ensures refused { IfErr result (λ r. IsUnread (side S.left S.faults source.old source.new) r) }
 {
     match read_all(alloc, source, LONGEST_IMAGE) {
         Ok(bytes) => Ok(bytes),
@@ -78,8 +83,11 @@ fn run_on<K: Sink>(
 ) -> Result<(), RunRefusal>
     requires limits { WithinLimits (run_view run) }
     requires rules { IsImage image.now }
-    ensures written { OnOk result (WritesRun (run_view run) (tables image.now) (side (K.held out.old) (K.held out.new) (K.faults out.old) (K.faults out.new))) }
-    ensures refused { IfErr result (λ r. IsRunRefusal (run_view run) (tables image.now) (side (K.held out.old) (K.held out.new) (K.faults out.old) (K.faults out.new)) r) }
+    ensures written { OnOk result
+        (WritesRun (run_view run) (tables image.now) (side K.held K.faults out.old out.new)) }
+    ensures refused { IfErr result (λ r.
+        IsRunRefusal (run_view run) (tables image.now)
+        (side K.held K.faults out.old out.new) r) }
 {
     let RunWords {
         entry,
@@ -131,7 +139,9 @@ fn answer_words(
     image: &Image,
     answers: &List<Arg>,
 ) -> Result<Option<Vec<u64>>, AllocError>
-    ensures { IfOk result (λ words. option_map (λ w. w.items) words ≡ words_of_answers (tables image.now) (contents answers.now)) }
+    ensures { IfOk result (λ words.
+        option_map (λ w. w.items) words
+        ≡ words_of_answers (tables image.now) (contents answers.now)) }
 {
     let mut words = Vec::new(alloc);
     for answer in answers.as_slice() {

@@ -21,8 +21,9 @@ pub enum Unread {
 
 /// The bytes that a source holds, up to one past the longest text, which no text has.
 pub fn read_text<S: Source>(alloc: Global, source: &mut S) -> Result<List<u8>, Unread>
-    ensures read { IfOk result (λ bytes. IsRead longest_text (side (S.left source.old) (S.left source.new) (S.faults source.old) (S.faults source.new)) (contents bytes)) }
-    ensures unread { IfErr result (λ r. IsTextUnread (side (S.left source.old) (S.left source.new) (S.faults source.old) (S.faults source.new)) r) }
+    ensures read { IfOk result (λ bytes.
+        IsRead longest_text (side S.left S.faults source.old source.new) (contents bytes)) }
+    ensures unread { IfErr result (λ r. IsTextUnread (side S.left S.faults source.old source.new) r) }
 {
     match read_all(alloc, source, LONGEST_TEXT) {
         Ok(text) => Ok(text),

@@ -28,8 +28,14 @@ pub fn cmmc<S: Source, K: Sink, E: Sink>(
     out: &mut K,
     err: &mut E,
 ) -> u8
-    ensures ends { Ends (texts words.now) (effects (side (S.left source.old) (S.left source.new) (S.faults source.old) (S.faults source.new)) (side (K.held out.old) (K.held out.new) (K.faults out.old) (K.faults out.new)) (side (E.held err.old) (E.held err.new) (E.faults err.old) (E.faults err.new))) result }
-    ensures complete { Complete (texts words.now) (effects (side (S.left source.old) (S.left source.new) (S.faults source.old) (S.faults source.new)) (side (K.held out.old) (K.held out.new) (K.faults out.old) (K.faults out.new)) (side (E.held err.old) (E.held err.new) (E.faults err.old) (E.faults err.new))) result }
+    ensures ends { Ends (texts words.now)
+        (effects (side S.left S.faults source.old source.new)
+        (side K.held K.faults out.old out.new) (side E.held E.faults err.old err.new))
+        result }
+    ensures complete { Complete (texts words.now)
+        (effects (side S.left S.faults source.old source.new)
+        (side K.held K.faults out.old out.new) (side E.held E.faults err.old err.new))
+        result }
 {
     dispatch(alloc, words, source, out, err)
 }
@@ -42,7 +48,10 @@ fn dispatch<S: Source, K: Sink, E: Sink>(
     out: &mut K,
     err: &mut E,
 ) -> u8
-    ensures { Ends (texts words.now) (effects (side (S.left source.old) (S.left source.new) (S.faults source.old) (S.faults source.new)) (side (K.held out.old) (K.held out.new) (K.faults out.old) (K.faults out.new)) (side (E.held err.old) (E.held err.new) (E.faults err.old) (E.faults err.new))) result }
+    ensures { Ends (texts words.now)
+        (effects (side S.left S.faults source.old source.new)
+        (side K.held K.faults out.old out.new) (side E.held E.faults err.old err.new))
+        result }
 {
     match read_words(alloc, words) {
         Ok(Command::Compile) => match compile_source(alloc, source) {

@@ -45,8 +45,13 @@ default_moves = Never
 
 -- The words set the slot to x: x is read from the value that they give, or they give none and x is the default.
 pub data Sets {X : Type 0} (others : List (List ℕ)) (slot : Slot) (Reads : List ℕ → X → Type 0) (default x : X) : Type 0 where
-  given : (value : List ℕ) → Gives others slot value → Reads value x → Sets others slot Reads default x
-  left_out : ((value : List ℕ) → Gives others slot value → ⊥) → x ≡ default → Sets others slot Reads default x
+  given : (value : List ℕ)
+      → Gives others slot value
+      → Reads value x
+      → Sets others slot Reads default x
+  left_out : ((value : List ℕ) → Gives others slot value → ⊥)
+      → x ≡ default
+      → Sets others slot Reads default x
 
 -- The words after `run` are this run.
 pub record IsRun (others : List (List ℕ)) (run : RunTree) : Type 0 where

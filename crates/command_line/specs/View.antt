@@ -15,7 +15,8 @@ run_view r =
     record { entry = r.entry; args = contents r.args; answers = contents r.answers; steps = r.steps; stack = r.stack; heap = r.heap; moves = r.moves }
 
 abbrev pub check_view : CheckWords → CheckTree
-check_view c = record { entry = c.entry; args = contents c.args; answers = contents c.answers; fuel = c.fuel }
+check_view c =
+    record { entry = c.entry; args = contents c.args; answers = contents c.answers; fuel = c.fuel }
 
 abbrev pub view : Command → CommandTree
 view Compile = CompileCommand

@@ -61,4 +61,5 @@ pub record WellFormed (words : List (List ℕ)) : Type 0 where
 
 -- one of the words gives the slot this value
 abbrev pub Gives : List (List ℕ) → Slot → List ℕ → Type 0
-Gives others slot value = Contains others (prefix_of slot ++ value) × (fills slot (prefix_of slot ++ value) ≡ true)
+Gives others slot value =
+    Contains others (prefix_of slot ++ value) × (fills slot (prefix_of slot ++ value) ≡ true)

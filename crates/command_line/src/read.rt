@@ -27,7 +27,8 @@ fn entry(alloc: Global, others: &[String]) -> Result<Name, WordsError>
     requires some { 1 ≤ count_by (fills Slot.Plain) (texts others.now) }
     requires once { count_by (fills Slot.Plain) (texts others.now) ≤ 1 }
     ensures value { IfOk result (λ name. Gives (texts others.now) Slot.Plain name × IsName name) }
-    ensures bad { IsErrOf result WordsError.ValueText → Nothing (λ name. Gives (texts others.now) Slot.Plain name × IsName name) }
+    ensures bad { IsErrOf result WordsError.ValueText
+        → Nothing (λ name. Gives (texts others.now) Slot.Plain name × IsName name) }
     ensures formed { ¬ IsErrOf result WordsError.Words }
 {
     match Slot::Plain.value_among(others) {

@@ -27,7 +27,7 @@ pub record IsWithinText (described : List Desc) (f : FunctionTree) (row : Func) 
   pub words : row.words ≤ most_words f
   pub descs : count_by (is_called_in row) described ≤ frame_points f
 
--- the functions' words lie one behind the other, and fill the code from one byte to another
+-- the functions' words lie one after the other, and fill the code from one byte to another
 abbrev pub FillCode : ℕ → ℕ → List Func → Type 0
 FillCode from to [] = from ≡ to
 FillCode from to (row ∷ rows) = (row.offset ≡ from) × FillCode (end_of row) to rows

@@ -1,10 +1,10 @@
 -- An image is correct for a file: the machine does what the text means.
-use Rattle.std.specs.Prelude.{◌≡◌, ⊤, ℕ, ◌+◌, ◌*◌, ◌<◌, ◌≤◌, List, ◌++◌, length}
-use Rattle.bs_words.specs.Observed.{Made}
+use Rattle.std.specs.Prelude.{◌≡◌, ⊤, ℕ, ◌+◌, ◌*◌, ◌<◌, ◌≤◌, List, length}
 use Rattle.cmm_meaning.specs.Run.{Outcome, Returned, Raised, Asks, More, Improper, Run, cmm_run}
 use Rattle.cmm_tree.specs.Tree.{FunctionTree, FileTree, functions}
 use Rattle.correctness.specs.Setting.{layout_of, AreRowsOf, Entered}
 use Rattle.image_form.specs.Tables.{Tables, Func}
+use Rattle.machine_laws.specs.Steps.{IsFrontOf}
 use Rattle.rv_machine.specs.Loading.{IsRoom}
 use Rattle.rv_machine.specs.Run.{Schedule, Seen, machine_run}
 use Rattle.rv_machine.specs.Services.{End, Running, StackOut, HeapOut, Stopped}
@@ -40,10 +40,9 @@ pub record IsGiven (run : Run) (stack heap : ℕ) : Type 0 where
 -- Forwards: whatever the text's run does with n units, the machine does, and within so many
 -- instructions.
 pub record Forwards (run : ℕ → Run) (machine : ℕ → Seen) (stack heap words : ℕ) : Type 0 where
-  pub does : (n : ℕ) → IsGiven (run n) stack heap → (m : ℕ) × (m ≤ 2 * (n + 1) * words) × Alike (run n) (machine m)
-
-abbrev pub IsPrefix : List Made → List Made → Type 0
-IsPrefix calls more = (rest : List Made) × (more ≡ calls ++ rest)
+  pub does : (n : ℕ)
+      → IsGiven (run n) stack heap
+      → (m : ℕ) × (m ≤ 2 * (n + 1) * words) × Alike (run n) (machine m)
 
 -- how the machine stands is accounted for by runs of the text
 abbrev pub Accounted : (ℕ → Run) → ℕ → ℕ → Seen → End → Type 0
@@ -57,16 +56,27 @@ Accounted run stack heap now (Stopped cause) = ⊥
 
 -- Backwards: where no run of the text is improper, the machine does nothing that no such run does.
 pub record Backwards (run : ℕ → Run) (machine : ℕ → Seen) (stack heap : ℕ) : Type 0 where
-  pub calls : ((n : ℕ) → IsProper (run n).outcome) → (m : ℕ) → (n : ℕ) × IsPrefix (machine m).calls (run n).calls
-  pub end : ((n : ℕ) → IsProper (run n).outcome) → (m : ℕ) → Accounted run stack heap (machine m) (machine m).end
+  pub calls : ((n : ℕ) → IsProper (run n).outcome)
+      → (m : ℕ)
+      → (n : ℕ) × IsFrontOf (machine m).calls (run n).calls
+  pub end : ((n : ℕ) → IsProper (run n).outcome)
+      → (m : ℕ)
+      → Accounted run stack heap (machine m) (machine m).end
 
 -- ---- the whole
 
 -- Both directions, for every function of the file, words that fit it, answers, and schedule of the mover.
 pub record Correct (file : FileTree) (image : Tables) (stack heap : ℕ) : Type 0 where
   pub rows : AreRowsOf (functions file) image.funcs
-  pub forwards : (entry : ℕ) (f : FunctionTree) (row : Func) (args answers : List ℕ) (schedule : Schedule) → Entered file image entry f row args answers → Forwards (cmm_run file (layout_of image) entry args answers) (machine_run image row args answers stack heap schedule) stack heap (length image.code)
-  pub backwards : (entry : ℕ) (f : FunctionTree) (row : Func) (args answers : List ℕ) (schedule : Schedule) → Entered file image entry f row args answers → Backwards (cmm_run file (layout_of image) entry args answers) (machine_run image row args answers stack heap schedule) stack heap
+  pub forwards : (entry : ℕ) (f : FunctionTree) (row : Func) (args answers : List ℕ) (schedule : Schedule)
+      → Entered file image entry f row args answers
+      → Forwards (cmm_run file (layout_of image) entry args answers)
+      (machine_run image row args answers stack heap schedule) stack heap
+      (length image.code)
+  pub backwards : (entry : ℕ) (f : FunctionTree) (row : Func) (args answers : List ℕ) (schedule : Schedule)
+      → Entered file image entry f row args answers
+      → Backwards (cmm_run file (layout_of image) entry args answers)
+      (machine_run image row args answers stack heap schedule) stack heap
 
 -- for every stack and heap that a run may have
 abbrev pub IsCorrect : FileTree → Tables → Type 0

@@ -1,9 +1,8 @@
 -- The setting of two runs: a function of the file, and what both runs are given.
-use Rattle.std.specs.Prelude.{◌≡◌, ⊤, ℕ, ◌+◌, ◌%◌, ◌^◌, ◌<◌, ◌≤◌, List, [], ◌∷◌, Some, slice_get, map, IsTrue}
+use Rattle.std.specs.Prelude.{◌≡◌, ⊤, ℕ, ◌+◌, ◌^◌, ◌<◌, true, List, [], ◌∷◌, Some, slice_get, map}
 use Rattle.std.specs.List.{AllByRecursion}
-use Rattle.bs_words.specs.Fits.{fits, type_of_comp}
-use Rattle.bs_words.specs.declared.types.Comp.{Comp}
 use Rattle.bs_words.specs.declared.values.Value.TheVariants.{Word}
+use Rattle.cmm_meaning.specs.Evaluation.{fit_parameters}
 use Rattle.cmm_meaning.specs.Layout.{Layout}
 use Rattle.cmm_data.specs.Placement.{data_end}
 use Rattle.cmm_tree.specs.Tree.{FunctionTree, FileTree, functions, comps_of}
@@ -37,16 +36,12 @@ IsWord w = w < 2 ^ 64
 abbrev pub AreWords : List ℕ → Type 0
 AreWords words = AllByRecursion IsWord words
 
--- words that fit parameters of these components in number and type, `end` being the end of the data
-abbrev pub FitParameters : ℕ → List Comp → List ℕ → Type 0
-FitParameters end [] [] = ⊤
-FitParameters end (c ∷ cs) (a ∷ args) = IsWord a × IsTrue (fits end (type_of_comp c) (Word a)) × FitParameters end cs args
-FitParameters end [] (a ∷ args) = ⊥
-FitParameters end (c ∷ cs) [] = ⊥
-
--- Function `entry` of the file, its row in the image, and the words that are handed to it.
-pub record Entered (file : FileTree) (image : Tables) (entry : ℕ) (f : FunctionTree) (row : Func) (args answers : List ℕ) : Type 0 where
+-- Function `entry` of the file, its row in the image, and the words that are handed to it: its arguments, which
+-- fit its parameters in number and type, and the answers of external calls.
+pub record Entered (file : FileTree) (image : Tables) (entry : ℕ) (f : FunctionTree) (row : Func) (args answers : List ℕ)
+    : Type 0 where
   pub of_file : slice_get (functions file) entry ≡ Some f
   pub of_image : slice_get image.funcs entry ≡ Some row
-  pub arguments : FitParameters (data_end file) (comps_of f) args
+  pub args_are_words : AreWords args
+  pub args_fit : fit_parameters (data_end file) (comps_of f) (map Word args) ≡ true
   pub answers_are_words : AreWords answers

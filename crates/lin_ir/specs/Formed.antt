@@ -1,35 +1,66 @@
 -- What holds of every Linear function that the back end takes, whatever it does.
-use Rattle.std.specs.Prelude.{◌≡◌, ◌≢◌, ◌⊎◌, ℕ, ◌<◌, List, [], ◌∷◌, ◌++◌, All, AllPairs, Contains}
+use Rattle.std.specs.Prelude.{◌≡◌, ◌≢◌, ◌⊎◌, ℕ, ◌<◌, Bool, true, false, List, [], ◌∷◌, ◌++◌, map, All, AllPairs, Contains}
 use Rattle.bs_words.specs.declared.types.Comp.{Comp}
+use Rattle.bs_words.specs.declared.types.Comp.TheVariants as comp
 use Rattle.bs_words.specs.declared.types.Loc.{Loc}
 use Rattle.bs_words.specs.declared.types.Loc.TheVariants as loc
 use Rattle.mach_ir.specs.Acts.{At}
+use Rattle.mach_ir.specs.Forms.{HasForm, IsTested, results_of}
 use Rattle.mach_ir.specs.Placed.{colours}
+use Rattle.mach_ir.specs.Seats.{Seats, Anywhere, InOrder, AreSeated, argument_places, result_places, operand_seats, result_seats}
 use Rattle.mach_ir.specs.Walks.{OneOf}
 use Rattle.mach_ir.specs.declared.op.CopyKind.{CopyKind}
 use Rattle.mach_ir.specs.declared.op.Pure.TheVariants as pure
 use Rattle.mach_ir.specs.declared.op.Access.TheVariants as access
+use Rattle.mach_ir.specs.declared.op.Leaving.TheVariants as leaving
+use Rattle.mach_ir.specs.declared.op.Op.{Op}
 use Rattle.mach_ir.specs.declared.op.Op.TheVariants as op
-use Rattle.lin_ir.specs.Walks.{targets, Writes, Live, LiveAfter, Stands, Traps, OneDepth}
+use Rattle.mach_ir.specs.declared.mach.Test.{Test}
+use Rattle.lin_ir.specs.Walks.{targets, may_raise, Live, LiveAfter, Stands, Reached, Traps, OneDepth}
 use Rattle.lin_ir.specs.declared.lin.Spot.{Spot}
+use Rattle.lin_ir.specs.declared.lin.Flow.{Flow}
 use Rattle.lin_ir.specs.declared.lin.Flow.TheVariants as flow
 use Rattle.lin_ir.specs.declared.lin.LinOp.{LinOp}
 use Rattle.lin_ir.specs.declared.lin.LinOp.TheVariants as lin
 use Rattle.lin_ir.specs.declared.lin.Line.{Line}
 use Rattle.lin_ir.specs.declared.lin.Lin.{Lin}
 
--- t0, the one scratch register that code may name
-abbrev pub spare : Loc
-spare = loc.Machine 5
+-- ---- forms of lines
+
+abbrev pub comps : List Spot → List Comp
+comps spots = map (λ (s : Spot). s.comp) spots
+
+-- the components of the operands and of the results that go with a line that is Linear's own
+pub data FlowHasForm : Flow → List Comp → List Comp → Type 0 where
+  label_form : {l : ℕ} → FlowHasForm (flow.Label l) [] []
+  jump_form : {l : ℕ} → FlowHasForm (flow.Jump l) [] []
+  exit_form : {l : ℕ} → FlowHasForm (flow.Exit l) [] []
+  branch_form : {t : Test} {l : ℕ} {args : List Comp} → IsTested t args →
+      FlowHasForm (flow.Branch t l) args []
+  switch_form : {labels : List ℕ} {index : Comp} →
+      FlowHasForm (flow.Switch labels) (index ∷ []) []
+  push_form : {l : ℕ} → FlowHasForm (flow.PushTrap l) [] []
+  pop_form : FlowHasForm flow.PopTrap [] []
+  enter_form : FlowHasForm flow.EnterTrap [] (comp.Val ∷ [])
+
+pub data IsFormed : Line → Type 0 where
+  formed_op : {f : Op} {args results : List Spot} → HasForm f (comps args) (comps results) →
+      IsFormed (record { op = lin.Op f; args = args; results = results })
+  formed_flow : {f : Flow} {args results : List Spot} →
+      FlowHasForm f (comps args) (comps results) →
+      IsFormed (record { op = lin.Flow f; args = args; results = results })
 
 -- ---- moves from a location to itself
 
 -- they emit nothing
 pub data IsSelfMove : Line → Spot → Spot → Type 0 where
   is_self_move : {kind : CopyKind} {from to : Spot} → from.loc ≡ to.loc →
-      IsSelfMove (record { op = lin.Op (op.Pure (pure.Copy kind)); args = from ∷ []; results = to ∷ [] }) from to
+      IsSelfMove
+      (record { op = lin.Op (op.Pure (pure.Copy kind)); args = from ∷ []; results = to ∷ [] })
+      from to
 
--- what such a move must be for: it changes the type, and its target is read later before it is written
+-- what such a move must be for: it changes the type, and its target is read later before it is
+-- written
 pub record IsForType (m : Lin) (i : Line) (next : List Line) (from to : Spot) : Type 0 where
   pub changes : from.comp ≢ to.comp
   pub type : Comp
@@ -39,16 +70,24 @@ pub record IsForType (m : Lin) (i : Line) (next : List Line) (from to : Spot) : 
 
 -- A function is tight where each move from a location to itself is for a type.
 pub record IsTight (m : Lin) : Type 0 where
-  pub tight : (i : Line) (next : List Line) → Stands i next m.code → (from to : Spot) → IsSelfMove i from to →
-      IsForType m i next from to
+  pub tight : (i : Line) (next : List Line) → Stands i next m.code → (from to : Spot) →
+      IsSelfMove i from to → IsForType m i next from to
 
 -- ---- locations
 
--- a colour, t0, or one of the function's slots
-pub data IsLocation (m : Lin) : Loc → Type 0 where
-  is_colour : {n : ℕ} → Contains colours n → IsLocation m (loc.Machine n)
-  is_spare : IsLocation m spare
-  is_slot : {k : ℕ} → k < m.slots → IsLocation m (loc.Slot k)
+-- t0, the one scratch register that code may name
+abbrev pub spare : Loc
+spare = loc.Machine 5
+
+-- a colour, or one of the function's slots
+pub data IsHome (m : Lin) : Loc → Type 0 where
+  is_colour : {n : ℕ} → Contains colours n → IsHome m (loc.Machine n)
+  is_slot : {k : ℕ} → k < m.slots → IsHome m (loc.Slot k)
+
+-- or t0
+pub data IsLocation (m : Lin) (l : Loc) : Type 0 where
+  is_home : IsHome m l → IsLocation m l
+  is_spare : l ≡ spare → IsLocation m l
 
 abbrev pub Locates : Lin → List Spot → Type 0
 Locates m spots = All (λ (s : Spot). IsLocation m s.loc) spots
@@ -62,14 +101,42 @@ pub data IsQuiet : LinOp → Type 0 where
 pub data IsCopy : LinOp → Type 0 where
   is_copy : {kind : CopyKind} → IsCopy (lin.Op (op.Pure (pure.Copy kind)))
 
--- T0 stands in moves, spills and reloads alone, and each walk that reads it has written it before, with only quiet
--- lines between.
+-- the line has the location as a result
+abbrev pub Sets : Line → Loc → Type 0
+Sets i l = (t : Comp) × Contains i.results (record { loc = l; comp = t })
+
+-- T0 stands in moves, spills and reloads alone, and each walk that reads it has written it before,
+-- with only quiet lines between.
 pub record SpareIsPassing (m : Lin) : Type 0 where
   pub copies : (i : Line) → Contains m.code i → (t : Comp) →
       Contains (i.args ++ i.results) (record { loc = spare; comp = t }) → IsCopy i.op
   pub entry : (t : Comp) → Live m spare t m.code [] → ⊥
-  pub written : (i : Line) (next : List Line) (tries : List ℕ) → Stands i next m.code → Traps m (i ∷ next) tries →
-      (t : Comp) → LiveAfter m spare t i next tries → Writes i spare ⊎ IsQuiet i.op
+  pub written : (i : Line) (next : List Line) (tries : List ℕ) → Stands i next m.code →
+      Traps m (i ∷ next) tries → (t : Comp) → LiveAfter m spare t i next tries →
+      Sets i spare ⊎ IsQuiet i.op
+
+-- ---- seats
+
+abbrev pub places_of : List Spot → List Loc
+places_of spots = map (λ (s : Spot). s.loc) spots
+
+abbrev pub lin_operand_seats : LinOp → Seats
+lin_operand_seats (lin.Op f) = operand_seats f
+lin_operand_seats (lin.Flow f) = Anywhere
+
+-- a handler takes the raised value from where a result stands
+abbrev pub lin_result_seats : LinOp → Seats
+lin_result_seats (lin.Op f) = result_seats f
+lin_result_seats (lin.Flow flow.EnterTrap) = InOrder result_places
+lin_result_seats (lin.Flow _) = Anywhere
+
+-- Parameters, and operands and results that the conventions put at fixed places, stand there.
+pub record Seated (m : Lin) : Type 0 where
+  pub params : AreSeated (InOrder argument_places) (places_of m.params)
+  pub operands : (i : Line) → Contains m.code i →
+      AreSeated (lin_operand_seats i.op) (places_of i.args)
+  pub results : (i : Line) → Contains m.code i →
+      AreSeated (lin_result_seats i.op) (places_of i.results)
 
 -- ---- labels
 
@@ -88,18 +155,38 @@ pub data NamesLabel (l : ℕ) (f : LinOp) : Type 0 where
 
 -- right after the label of a handler its entry stands
 pub data EntersAt (l : ℕ) : List Line → Type 0 where
-  enters_here : {i j : Line} {is : List Line} → i.op ≡ lin.Flow (flow.Label l) → j.op ≡ lin.Flow flow.EnterTrap →
-      EntersAt l (i ∷ j ∷ is)
+  enters_here : {i j : Line} {is : List Line} → i.op ≡ lin.Flow (flow.Label l) →
+      j.op ≡ lin.Flow flow.EnterTrap → EntersAt l (i ∷ j ∷ is)
   enters_below : {i : Line} {is : List Line} → EntersAt l is → EntersAt l (i ∷ is)
+
+abbrev pub is_exit : LinOp → Bool
+is_exit (lin.Flow (flow.Exit l)) = true
+is_exit _ = false
+
+-- Only an exit, which is a unit, leads back: any other label that a line names comes later, and so
+-- does the handler of a raise.
+pub record GoesForward (m : Lin) : Type 0 where
+  pub labels : (i : Line) (next : List Line) → Stands i next m.code → is_exit i.op ≡ false →
+      (l : ℕ) → NamesLabel l i.op → Contains (labels_in next) l
+  pub handlers : (i : Line) (next : List Line) (l : ℕ) (tries : List ℕ) →
+      Reached m (i ∷ next) (l ∷ tries) → may_raise i.op ≡ true → Contains (labels_in next) l
 
 -- ---- whole
 
--- each place is found by one number of pushed traps, each label that is named stands once, and locations are in bounds
 pub record WellFormed (m : Lin) : Type 0 where
-  pub params : Locates m m.params
+  pub forms : All IsFormed m.code
+  -- a return gives what the function is written with
+  pub returns : (i : Line) → Contains m.code i → i.op ≡ lin.Op (op.Leaving leaving.Return) →
+      comps i.args ≡ results_of m.result
+  pub params : All (λ (s : Spot). IsHome m s.loc) m.params
   pub locations : All (λ (i : Line). Locates m i.args × Locates m i.results) m.code
   pub spare : SpareIsPassing m
+  -- each label that is named stands once
   pub labels : AllPairs (λ k l. k ≢ l) (labels_in m.code)
-  pub named : (i : Line) → Contains m.code i → (l : ℕ) → NamesLabel l i.op → Contains (labels_in m.code) l
-  pub handlers : (i : Line) → Contains m.code i → (l : ℕ) → i.op ≡ lin.Flow (flow.PushTrap l) → EntersAt l m.code
+  pub named : (i : Line) → Contains m.code i → (l : ℕ) → NamesLabel l i.op →
+      Contains (labels_in m.code) l
+  pub handlers : (i : Line) → Contains m.code i → (l : ℕ) →
+      i.op ≡ lin.Flow (flow.PushTrap l) → EntersAt l m.code
+  -- each place is found by one number of pushed traps
   pub depth : OneDepth m
+  pub forward : GoesForward m

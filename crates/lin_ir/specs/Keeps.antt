@@ -6,48 +6,67 @@ use Rattle.bs_words.specs.declared.values.Value.{Value}
 use Rattle.cmm_meaning.specs.State.{Doing, Asked}
 use Rattle.mach_ir.specs.Runs.{Place, Tally, Run, Running, Asking, Ended, first_tally}
 use Rattle.mach_ir.specs.Meaning as mach
-use Rattle.mach_ir.specs.Keeps.{Proper, NamesSymbol, NamesExternal}
+use Rattle.mach_ir.specs.Acts.{Around}
+use Rattle.mach_ir.specs.Keeps.{Proper, Ahead, Trails, Alike, NamesSymbol, NamesExternal}
 use Rattle.mach_ir.specs.Keeps as kept
 use Rattle.mach_ir.specs.Walks as walks
 use Rattle.mach_ir.specs.declared.mach.MachOp.{MachOp}
 use Rattle.mach_ir.specs.declared.mach.MachOp.TheVariants as instr
 use Rattle.mach_ir.specs.declared.mach.Mach.{Mach}
-use Rattle.lin_ir.specs.Meaning.{Names, State, start, run}
+use Rattle.mach_ir.specs.declared.op.Op.{Op}
+use Rattle.lin_ir.specs.Meaning.{NamedAt, State, start, run}
 use Rattle.lin_ir.specs.Descriptors.{NoAddrLive}
 use Rattle.lin_ir.specs.declared.lin.LinOp.TheVariants as lin
 use Rattle.lin_ir.specs.declared.lin.Line.{Line}
 use Rattle.lin_ir.specs.declared.lin.Lin.{Lin}
 
--- The Linear run tells what the Mach run does: calls and their memories, blocks, tries, end, units, and stack bytes.
-pub data Same : Run mach.State → Run State → Type 0 where
-  both_running : {s : mach.State} {u : State} {t : Tally} → s.around ≡ u.around → Same (Running s t) (Running u t)
-  both_asking : {call : Asked} {t : Tally} → Same (Asking call t) (Asking call t)
-  both_ended : {doing : Doing} {t : Tally} → Same (Ended doing t) (Ended doing t)
+-- what is round a state of each suits
+abbrev pub SuitRound : (Around → Around → Type 0) → mach.State → State → Type 0
+SuitRound Suit s u = Suit s.around u.around
 
--- some number of steps of the Linear function tells what a run does
-pub record Told (c : Place) (named : Names) (m : Lin) (r : Run mach.State) (s : State) (t : Tally) : Type 0 where
+-- some number of steps of the Linear function comes to a run that reports the same
+pub record Comes (Suit : Around → Around → Type 0) (r : Run mach.State) (c : Place)
+    (named : NamedAt) (m : Lin) (s : State) (t : Tally) : Type 0 where
   pub steps : ℕ
-  pub same : Same r (run c named m steps s t)
+  pub alike : Alike (SuitRound Suit) r (run c named m steps s t)
 
-pub record Begins (c : Place) (p : Mach) (q : Lin) (named : Names) (arguments : List Value) (memory : Memory) (doings : List Doing) (s : mach.State) : Type 0 where
+-- The Linear function comes to a run that has allocated no less, and to one that has allocated no
+-- more: so both allocate the same blocks.
+pub record Follows (c : Place) (p : Mach) (q : Lin) (named : NamedAt) (s : mach.State) (u : State)
+    (t : Tally) (n : ℕ) : Type 0 where
+  pub no_less : Comes Ahead (mach.run c p n s t) c named q u t
+  pub no_more : Comes Trails (mach.run c p n s t) c named q u t
+
+-- the Linear function begins where the Mach function does, and follows it from there
+pub record Begins (c : Place) (p : Mach) (q : Lin) (named : NamedAt) (arguments : List Value)
+    (memory : Memory) (doings : List Doing) (s : mach.State) : Type 0 where
   pub state : State
   pub begins : start c q arguments memory ≡ Some state
   pub follows : (n : ℕ) → Proper c p n s (first_tally c doings) →
-      Told c named q (mach.run c p n s (first_tally c doings)) state (first_tally c doings)
+      Follows c p q named s state (first_tally c doings) n
+
+abbrev pub Does : Mach → Lin → NamedAt → Type 0
+Does p q named =
+    (c : Place) (arguments : List Value) (memory : Memory) (doings : List Doing)
+    (s : mach.State) → mach.start c p arguments memory ≡ Some s →
+    Begins c p q named arguments memory doings s
 
 -- some line of the function has an operation that names it
-pub record NamedIn (Named : MachOp → Type 0) (m : Lin) : Type 0 where
+pub record IsNamedIn (Named : MachOp → Type 0) (m : Lin) : Type 0 where
   pub line : Line
   pub among : Contains m.code line
-  pub op : _
+  pub op : Op
   pub is : line.op ≡ lin.Op op
   pub named : Named (instr.Op op)
 
--- With these names at its frame points, a Linear function does what a Mach function does wherever that is not stuck, so
--- it never reads poison there.
-pub record Keeps (p : Mach) (q : Lin) (named : Names) : Type 0 where
-  pub does : (c : Place) (arguments : List Value) (memory : Memory) (doings : List Doing) (s : mach.State) →
-      mach.start c p arguments memory ≡ Some s → Begins c p q named arguments memory doings s
-  pub symbols : (name : List ℕ) → NamedIn (NamesSymbol name) q → kept.Names (NamesSymbol name) p
-  pub externals : (row : External) → NamedIn (NamesExternal row) q → kept.Names (NamesExternal row) p
+-- With these names at its frame points, a Linear function does what a Mach function does wherever
+-- that is not stuck, so it never reads poison there.
+pub record Keeps (p : Mach) (q : Lin) (named : NamedAt) : Type 0 where
+  pub name : q.name ≡ p.name
+  pub result : q.result ≡ p.result
+  pub does : Does p q named
+  pub symbols : (name : List ℕ) → IsNamedIn (NamesSymbol name) q →
+      kept.IsNamedIn (NamesSymbol name) p
+  pub externals : (row : External) → IsNamedIn (NamesExternal row) q →
+      kept.IsNamedIn (NamesExternal row) p
   pub addrs : walks.NoAddrLive p → NoAddrLive q

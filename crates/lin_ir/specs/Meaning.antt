@@ -1,7 +1,8 @@
--- What one Linear function does over locations, on what is handed in for its calls. Heap pointers that no descriptor
--- names are lost at frame points.
+-- What one Linear function does over locations, on what is handed in for its calls. Heap pointers
+-- that no descriptor names are lost at frame points.
 --
--- A state holds the code that is left, from the next line on. The number of a place is that of the lines after it.
+-- A state holds the code that is left, from the next line on. The number of a place is that of the
+-- lines after it.
 use Rattle.std.specs.Prelude.{ℕ, Bool, true, false, cond, ◌&&◌, ◌||◌, not, nat_eq, List, [], ◌∷◌, Option, Some, None, length}
 use Rattle.bs_words.specs.Fits.{fits, type_of_comp}
 use Rattle.bs_words.specs.Memory.{Memory, sizes}
@@ -11,8 +12,8 @@ use Rattle.bs_words.specs.declared.types.Loc.TheVariants as loc
 use Rattle.bs_words.specs.declared.types.Ty.TheVariants as ty
 use Rattle.bs_words.specs.declared.values.Value.{Value}
 use Rattle.bs_words.specs.declared.values.Value.TheVariants as value
-use Rattle.mach_ir.specs.Acts.{Setting, Around, Target, On, At, Landing, AtLabel, AtHandler, Act, Goes, Pushes, Jumps, Flies, Asks, Ends, EndsRaising, Stuck, act, truth_of, turned, switched, drop_tries, takes_raised, is_frame_point}
-use Rattle.mach_ir.specs.Runs.{Place, taken, asked, Step, Walks, Leaps, Deepens, Waits, Over, OverRaising, Halts, Tally, Run, runs, entered}
+use Rattle.mach_ir.specs.Acts.{Setting, Around, Target, On, At, Landing, AtLabel, AtHandler, Act, Goes, Pushes, Jumps, Unwinds, Asks, Ends, EndsRaising, Stuck, act, truth_of, branches, switched, drop_tries, takes_raised, has_descriptor}
+use Rattle.mach_ir.specs.Runs.{Place, taken, asked, Step, Continues, Pays, Deepens, Waits, Finishes, FinishesRaising, IsStuck, Tally, Run, runs, entered}
 use Rattle.mach_ir.specs.Meaning.{Destroyed, Nothing, Everything, destroyed, is_destroyed}
 use Rattle.lin_ir.specs.declared.lin.Spot.{Spot}
 use Rattle.lin_ir.specs.declared.lin.Flow.{Flow}
@@ -24,7 +25,8 @@ use Rattle.lin_ir.specs.declared.lin.Lin.{Lin}
 
 -- ---- locations
 
--- What a location holds. One that holds nothing is poison, or has not been written: a read of it is stuck.
+-- What a location holds. One that holds nothing is poison, or has not been written: a read of it is
+-- stuck.
 abbrev pub Locations : Type 0
 Locations = Loc → Option Value
 
@@ -44,7 +46,8 @@ put_if false s v o = None
 
 abbrev pub put_all : ℕ → List Spot → List Value → Locations → Option Locations
 put_all end [] [] f = Some f
-put_all end (s ∷ ss) (v ∷ vs) f = put_if (fits end (type_of_comp s.comp) v) s v (put_all end ss vs f)
+put_all end (s ∷ ss) (v ∷ vs) f =
+    put_if (fits end (type_of_comp s.comp) v) s v (put_all end ss vs f)
 put_all end _ _ f = None
 
 abbrev pub as_type : Bool → Value → Option (List Value) → Option (List Value)
@@ -60,7 +63,8 @@ abbrev pub values : ℕ → Locations → List Spot → Option (List Value)
 values end f [] = Some []
 values end f (s ∷ ss) = with_held end s.comp (f s.loc) (values end f ss)
 
--- the registers of the machine that an operation destroys; the entry of a handler destroys every one
+-- the registers of the machine that an operation destroys; the entry of a handler destroys every
+-- one
 abbrev pub destroyed_by : LinOp → Destroyed
 destroyed_by (lin.Op f) = destroyed f
 destroyed_by (lin.Flow flow.EnterTrap) = Everything
@@ -72,11 +76,11 @@ clear d f = λ l. cond (is_destroyed d l) None (f l)
 -- ---- frame points
 
 -- What the descriptor of a frame point names, by the number of lines after it.
-abbrev pub Names : Type 0
-Names = ℕ → List Loc
+abbrev pub NamedAt : Type 0
+NamedAt = ℕ → List Loc
 
 abbrev pub passes_frame : LinOp → Bool
-passes_frame (lin.Op f) = is_frame_point f
+passes_frame (lin.Op f) = has_descriptor f
 passes_frame (lin.Flow f) = false
 
 abbrev pub is_named : Loc → List Loc → Bool
@@ -108,14 +112,14 @@ are_vals end (l ∷ ls) f = is_val end (f l) && are_vals end ls f
 
 -- ---- places
 
-abbrev pub labels : ℕ → LinOp → Bool
-labels l (lin.Flow (flow.Label k)) = nat_eq k l
-labels l _ = false
+abbrev pub has_label : ℕ → LinOp → Bool
+has_label l (lin.Flow (flow.Label k)) = nat_eq k l
+has_label l _ = false
 
 -- the code after the line that has a label
 abbrev pub after_label : ℕ → List Line → List Line
 after_label l [] = []
-after_label l (i ∷ is) = cond (labels l i.op) is (after_label l is)
+after_label l (i ∷ is) = cond (has_label l i.op) is (after_label l is)
 
 abbrev pub code_at : List Line → List Line → Target → List Line
 code_at code next On = next
@@ -126,9 +130,9 @@ abbrev pub at_handler : List Line → List ℕ → List Line
 at_handler code [] = []
 at_handler code (l ∷ tries) = after_label l code
 
-abbrev pub code_land : List Line → List ℕ → Landing → List Line
-code_land code tries (AtLabel l) = after_label l code
-code_land code tries AtHandler = at_handler code tries
+abbrev pub landing_code : List Line → List ℕ → Landing → List Line
+landing_code code tries (AtLabel l) = after_label l code
+landing_code code tries AtHandler = at_handler code tries
 
 -- ---- steps
 
@@ -142,7 +146,7 @@ abbrev pub flow_act : Flow → List Value → Around → Act
 flow_act (flow.Label l) [] a = Goes [] On a
 flow_act (flow.Jump l) [] a = Goes [] (At l) a
 flow_act (flow.Exit l) [] a = Jumps (AtLabel l) a
-flow_act (flow.Branch t l) vs a = turned a (At l) On (truth_of (sizes a.memory) t vs)
+flow_act (flow.Branch t l) vs a = branches a (At l) On (truth_of (sizes a.memory) t vs)
 flow_act (flow.Switch labels) vs a = switched a labels vs
 flow_act (flow.PushTrap l) [] a = Pushes (record a { tries = l ∷ a.tries })
 flow_act flow.PopTrap [] a = Goes [] On (record a { tries = drop_tries 1 a.tries })
@@ -154,45 +158,48 @@ lin_act c (lin.Op f) vs a = act c f vs a
 lin_act c (lin.Flow f) vs a = flow_act f vs a
 
 abbrev pub wrote : List Line → Around → Option Locations → Step State
-wrote rest a None = Halts
-wrote rest a (Some f) = Walks (record { rest = rest; file = f; around = a })
+wrote rest a None = IsStuck
+wrote rest a (Some f) = Continues (record { rest = rest; file = f; around = a })
 
 -- what a line does, before this code, by what its operation does
 abbrev pub on_act : Place → Lin → Line → List Line → Locations → Around → Act → Step State
 on_act c m i next f a (Goes vs to after) =
-    wrote (code_at m.code next to) after (put_all c.setting.end i.results vs (clear (destroyed_by i.op) f))
-on_act c m i next f a (Pushes after) = Deepens (taken c after) (record { rest = next; file = f; around = after })
+    wrote (code_at m.code next to) after
+    (put_all c.setting.end i.results vs (clear (destroyed_by i.op) f))
+on_act c m i next f a (Pushes after) =
+    Deepens (taken c after) (record { rest = next; file = f; around = after })
 on_act c m i next f a (Jumps to after) =
-    Leaps (record { rest = code_land m.code a.tries to; file = f; around = after })
-on_act c m i next f a (Flies after) =
-    Walks (record { rest = code_land m.code a.tries AtHandler; file = f; around = after })
+    Pays (record { rest = landing_code m.code a.tries to; file = f; around = after })
+on_act c m i next f a (Unwinds after) =
+    Continues (record { rest = landing_code m.code a.tries AtHandler; file = f; around = after })
 on_act c m i next f a (Asks callee vs tail go) =
     Waits (asked c callee vs tail a) (λ d. on_act c m i next f a (go d))
-on_act c m i next f a (Ends d) = Over d
-on_act c m i next f a (EndsRaising d) = OverRaising d
-on_act c m i next f a Stuck = Halts
+on_act c m i next f a (Ends d) = Finishes d
+on_act c m i next f a (EndsRaising d) = FinishesRaising d
+on_act c m i next f a Stuck = IsStuck
 
 abbrev pub unless_misnamed : Bool → Step State → Step State
 unless_misnamed true x = x
-unless_misnamed false x = Halts
+unless_misnamed false x = IsStuck
 
 -- a frame point at which a named location does not hold what fits val is stuck
-abbrev pub on_values : Place → List Loc → Lin → Line → List Line → Locations → Around → Option (List Value) → Step State
-on_values c named m i next f a None = Halts
+abbrev pub on_values : Place → List Loc → Lin → Line → List Line → Locations → Around →
+    Option (List Value) → Step State
+on_values c named m i next f a None = IsStuck
 on_values c named m i next f a (Some vs) =
     unless_misnamed (not (passes_frame i.op) || are_vals c.setting.end named f)
     (on_act c m i next (past_frame (passes_frame i.op) named f) a (lin_act c.setting i.op vs a))
 
-abbrev pub at_code : Place → Names → Lin → List Line → Locations → Around → Step State
-at_code c named m [] f a = Halts
+abbrev pub at_code : Place → NamedAt → Lin → List Line → Locations → Around → Step State
+at_code c named m [] f a = IsStuck
 at_code c named m (i ∷ next) f a =
     on_values c (named (length next)) m i next f a (values c.setting.end f i.args)
 
 -- reads, then the operation, then writes, then where control goes
-abbrev pub step : Place → Names → Lin → State → Step State
+abbrev pub step : Place → NamedAt → Lin → State → Step State
 step c named m s = at_code c named m s.rest s.file s.around
 
-abbrev pub run : Place → Names → Lin → ℕ → State → Tally → Run State
+abbrev pub run : Place → NamedAt → Lin → ℕ → State → Tally → Run State
 run c named m = runs (step c named m)
 
 -- ---- a function

@@ -1,6 +1,6 @@
 -- The text of a Linear function: its name, and a line for each instruction.
 use Rattle.std.specs.Prelude.{ℕ, Bool, true, false, List, [], ◌∷◌, ◌++◌, codes}
-use Rattle.mach_ir.specs.Words.{comp_letter, place_text, label_text, mark, op_word, op_text, test_word, test_right, right_text}
+use Rattle.mach_ir.specs.Words.{comp_letter, place_text, label_text, separator, op_word, op_text, test_word, test_right, right_text}
 use Rattle.mach_ir.specs.declared.op.Right.{Right}
 use Rattle.mach_ir.specs.declared.op.Right.TheVariants as right
 use Rattle.lin_ir.specs.declared.lin.Spot.{Spot}
@@ -18,7 +18,7 @@ spot_text s = place_text (codes "r") s.loc ++ codes ":" ++ comp_letter s.comp
 -- each location after its mark, the first of all operands or not
 abbrev pub spots_text : Bool → List Spot → List ℕ
 spots_text first [] = []
-spots_text first (s ∷ ss) = mark first ++ spot_text s ++ spots_text false ss
+spots_text first (s ∷ ss) = separator first ++ spot_text s ++ spots_text false ss
 
 -- results, and that they are results
 abbrev pub results_text : List Spot → List ℕ
@@ -31,7 +31,7 @@ is_first (s ∷ ss) = false
 
 abbrev pub labels_text : Bool → List ℕ → List ℕ
 labels_text first [] = []
-labels_text first (l ∷ ls) = mark first ++ label_text l ++ labels_text false ls
+labels_text first (l ∷ ls) = separator first ++ label_text l ++ labels_text false ls
 
 -- ---- control
 
@@ -52,12 +52,12 @@ stays_first first (right.Constant w) = false
 
 abbrev pub flow_text : Bool → Flow → List ℕ
 flow_text first (flow.Label l) = []
-flow_text first (flow.Jump l) = mark first ++ label_text l
-flow_text first (flow.Exit l) = mark first ++ label_text l
+flow_text first (flow.Jump l) = separator first ++ label_text l
+flow_text first (flow.Exit l) = separator first ++ label_text l
 flow_text first (flow.Branch t l) =
-    right_text first (test_right t) ++ mark (stays_first first (test_right t)) ++ label_text l
+    right_text first (test_right t) ++ separator (stays_first first (test_right t)) ++ label_text l
 flow_text first (flow.Switch ls) = labels_text first ls
-flow_text first (flow.PushTrap l) = mark first ++ label_text l
+flow_text first (flow.PushTrap l) = separator first ++ label_text l
 flow_text first flow.PopTrap = []
 flow_text first flow.EnterTrap = []
 
@@ -79,7 +79,8 @@ indent_of _ = codes "  "
 -- results, the word, operands
 abbrev pub line_text : Line → List ℕ
 line_text i =
-    indent_of i.op ++ results_text i.results ++ lin_word i.op ++ spots_text true i.args ++ lin_op_text (is_first i.args) i.op ++ codes "\n"
+    indent_of i.op ++ results_text i.results ++ lin_word i.op ++ spots_text true i.args
+    ++ lin_op_text (is_first i.args) i.op ++ codes "\n"
 
 abbrev pub lines_text : List Line → List ℕ
 lines_text [] = []

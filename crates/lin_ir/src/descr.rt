@@ -9,7 +9,7 @@ pub struct Descr {
     pub after: u32,
     /// The bytes of the frame, those of the traps that are pushed there among them.
     pub size: u32,
-    /// What is live as val after it: `2 * r + 1` for register r, in rising order, then the offset from sp
-    /// of each slot, in rising order.
+    /// What is live as val after it: `2 * r + 1` for register r, in rising order, then the offset
+    /// from sp of each slot, in rising order.
     pub entries: Seq<u32>,
 }

@@ -1,8 +1,8 @@
 //! Linear: one function as labelled instructions over typed locations.
 //!
-//! Linear is what linearisation makes of a Mach function whose registers have places, as `Linear` is in
-//! OCaml's `asmcomp`. The definitions of what a function does when unnamed pointers are lost at frame
-//! points, of what is live there and of exact frame descriptors are in `specs`.
+//! Linear is what linearisation makes of a Mach function whose registers have places, as `Linear`
+//! is in OCaml's `asmcomp`. The definitions of what a function does when unnamed pointers are lost
+//! at frame points, of what is live there and of exact frame descriptors are in `specs`.
 #![tactic(auto)]
 
 pub mod descr;

@@ -1,58 +1,92 @@
 -- A function keeps itself, and what keeps what keeps another keeps that.
-use Rattle.std.proofs.Common.{◌≡◌, ◌⊎◌, inl, inr, ⊎_elim, ℕ, List, [], ◌∷◌, ◌++◌, refl, sym, ap, ◌∙◌, subst}
+use Rattle.std.proofs.Common.{◌≡◌, ◌⊎◌, inl, inr, ⊎_elim, ℕ, List, [], ◌∷◌, ◌++◌, map, refl, sym, ap, ◌∙◌, subst, append_assoc}
+use Rattle.cmm_meaning.specs.Extends.{shape_of}
 use Rattle.mach_ir.specs.Acts.{Around, with_block}
 use Rattle.mach_ir.specs.Runs.{Place, Tally, Run, Running, Asking, Ended, Wrong, first_tally}
 use Rattle.mach_ir.specs.Meaning.{State, run}
-use Rattle.mach_ir.specs.Keeps.{Proper, ahead, Ahead, Same, both_running, both_asking, both_ended, Does, HasSlot, Keeps}
+use Rattle.mach_ir.specs.Keeps.{Proper, ahead, Ahead, Trails, Alike, SuitRound, both_running, both_asking, both_ended, Comes, Follows, Does, HasSlot, Keeps}
 use Rattle.mach_ir.specs.declared.blocks.NewBlock.{NewBlock}
 use Rattle.mach_ir.specs.declared.mach.Mach.{Mach}
 
-ahead_more : (bs ds : List NewBlock) (a : Around) → ahead (bs ++ ds) a ≡ ahead ds (ahead bs a)
+appended_none : {A : Type 0} (xs : List A) → xs ++ [] ≡ xs
+appended_none [] = refl
+appended_none (x ∷ xs) = ap (λ ys. x ∷ ys) (appended_none xs)
+
+pub ahead_more : (bs ds : List NewBlock) (a : Around) → ahead (bs ++ ds) a ≡ ahead ds (ahead bs a)
 ahead_more [] ds a = refl
 ahead_more (b ∷ bs) ds a = ahead_more bs ds (with_block b a)
 
 pub level : (a : Around) → Ahead a a
 level a = record { blocks = []; same = refl }
 
-pub ahead_then : {x y z : Around} → Ahead x y → Ahead y z → Ahead x z
-ahead_then {x} e q =
+pub ahead_then : (x y z : Around) → Ahead x y → Ahead y z → Ahead x z
+ahead_then x y z e q =
     record { blocks = e.blocks ++ q.blocks; same = q.same ∙ ap (ahead q.blocks) e.same ∙ sym (ahead_more e.blocks q.blocks x) }
 
-pub same_then : {x y z : Run State} → Same x y → Same y z → Same x z
-same_then (both_running e) (both_running q) = both_running (ahead_then e q)
-same_then both_asking both_asking = both_asking
-same_then both_ended both_ended = both_ended
+pub level_trail : (a : Around) → Trails a a
+level_trail a = record { tries = refl; more = []; blocks = sym (appended_none (map shape_of a.memory.blocks)) }
 
-same_self : (c : Place) (m : Mach) (n : ℕ) (s : State) (t : Tally) → Proper c m n s t → (r : Run State) → run c m n s t ≡ r → Same r (run c m n s t)
-same_self c m n s t proper (Running u y) e = subst (Same (Running u y)) (sym e) (both_running (level u.around))
-same_self c m n s t proper (Asking call y) e = subst (Same (Asking call y)) (sym e) both_asking
-same_self c m n s t proper (Ended d y) e = subst (Same (Ended d y)) (sym e) both_ended
-same_self c m n s t proper Wrong e = elim (proper.goes e) [ ]
+pub trails_then : (x y z : Around) → Trails x y → Trails y z → Trails x z
+trails_then x y z e q =
+    record {
+      tries = e.tries ∙ q.tries;
+      more = q.more ++ e.more;
+      blocks = e.blocks ∙ ap (λ shapes. shapes ++ e.more) q.blocks ∙ append_assoc (map shape_of z.memory.blocks) q.more e.more;
+    }
+
+pub alike_then : {S U V : Type 0} {One : S → U → Type 0} {Two : U → V → Type 0} {Both : S → V → Type 0} {x : Run S} {y : Run U} {z : Run V} →
+    ((a : S) (b : U) (d : V) → One a b → Two b d → Both a d) → Alike One x y → Alike Two y z → Alike Both x z
+alike_then h (both_running {s = s} {u = u} e) (both_running {u = v} q) = both_running (h s u v e q)
+alike_then h both_asking both_asking = both_asking
+alike_then h both_ended both_ended = both_ended
+
+module _ (Suit : Around → Around → Type 0) where
+  alike_self : ((a : Around) → Suit a a) → (x r : Run State) → (x ≡ Wrong → ⊥) → x ≡ r → Alike (SuitRound Suit) r x
+  alike_self h x (Running u y) goes e = subst (Alike (SuitRound Suit) (Running u y)) (sym e) (both_running (h u.around))
+  alike_self h x (Asking call y) goes e = subst (Alike (SuitRound Suit) (Asking call y)) (sym e) both_asking
+  alike_self h x (Ended d y) goes e = subst (Alike (SuitRound Suit) (Ended d y)) (sym e) both_ended
+  alike_self h x Wrong goes e = absurd (goes e)
+
+  comes_self : ((a : Around) → Suit a a) → (c : Place) (m : Mach) (n : ℕ) (s : State) (t : Tally) → Proper c m n s t → Comes Suit (run c m n s t) c m s t
+  comes_self h c m n s t proper =
+      record { steps = n; alike = alike_self h (run c m n s t) (run c m n s t) proper.goes refl; proper = proper }
+
+module _ (c : Place) (m : Mach) (n : ℕ) (s : State) (t : Tally) (proper : Proper c m n s t) where
+  pub follows_self : Follows c m m s s t n
+  follows_self =
+      record { no_less = comes_self Ahead level c m n s t proper; no_more = comes_self Trails level_trail c m n s t proper }
 
 does_self : (m : Mach) → Does m m
 does_self m c arguments memory doings s e =
-    record {
-      state = s;
-      begins = e;
-      follows = λ n proper. record { steps = n; same = same_self c m n s (first_tally c doings) proper (run c m n s (first_tally c doings)) refl; proper = proper };
-    }
+    record { state = s; begins = e; follows = λ n proper. follows_self c m n s (first_tally c doings) proper }
+
+module _ (c : Place) (p q r : Mach) (s u v : State) (t : Tally) where
+  pub follows_then : (n : ℕ) → Follows c p q s u t n → ((k : ℕ) → Proper c q k u t → Follows c q r u v t k) → Follows c p r s v t n
+  follows_then n one two =
+      let less = one.no_less in
+      let more = one.no_more in
+      let x = (two less.steps less.proper).no_less in
+      let y = (two more.steps more.proper).no_more in
+      record {
+        no_less = record { steps = x.steps; alike = alike_then (λ a b d. ahead_then a.around b.around d.around) less.alike x.alike; proper = x.proper };
+        no_more = record { steps = y.steps; alike = alike_then (λ a b d. trails_then a.around b.around d.around) more.alike y.alike; proper = y.proper };
+      }
 
 does_then : {p q r : Mach} → Does p q → Does q r → Does p r
-does_then one two c arguments memory doings s e =
+does_then {p} {q} {r} one two c arguments memory doings s e =
     let u = one c arguments memory doings s e in
     let v = two c arguments memory doings u.state u.begins in
     record {
       state = v.state;
       begins = v.begins;
-      follows = λ n proper.
-          let x = u.follows n proper in
-          let y = v.follows x.steps x.proper in
-          record { steps = y.steps; same = same_then x.same y.same; proper = y.proper };
+      follows = λ n proper. follows_then c p q r s u.state v.state (first_tally c doings) n (u.follows n proper) v.follows;
     }
 
 pub keeps_itself : (m : Mach) → Keeps m m
 keeps_itself m =
     record {
+      name = refl;
+      result = refl;
       does = does_self m;
       origins = λ r i l. record { register = r; among = i; loose = l; same = refl };
       slots = λ r k i e. inl (record { register = r; among = i; stands = e; same = refl });
@@ -64,6 +98,8 @@ keeps_itself m =
 pub keeps_then : {p q r : Mach} → Keeps p q → Keeps q r → Keeps p r
 keeps_then {p} {q} {r} one two =
     record {
+      name = two.name ∙ one.name;
+      result = two.result ∙ one.result;
       does = does_then one.does two.does;
       origins = λ x i l.
           let y = two.origins x i l in let z = one.origins y.register y.among y.loose in

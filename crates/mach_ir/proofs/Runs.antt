@@ -1,7 +1,7 @@
 -- More steps tell the same once a run is over.
 use Rattle.std.proofs.Common.{◌≡◌, ℕ, zero, suc, ◌+◌, List, [], ◌∷◌, refl, ap, ◌∙◌, subst, arith}
 use Rattle.cmm_meaning.specs.State.{Doing, Asked}
-use Rattle.mach_ir.specs.Runs.{Step, Walks, Leaps, Deepens, Waits, Over, OverRaising, Halts, Tally, Run, Running, Asking, Ended, Wrong, paid, came_back, handed, onward, runs}
+use Rattle.mach_ir.specs.Runs.{Step, Continues, Pays, Deepens, Waits, Finishes, FinishesRaising, IsStuck, Tally, Run, Running, Asking, Ended, Wrong, paid, came_back, handed, onward, runs}
 
 module _ {S : Type 0} (step : S → Step S) where
   -- so many more steps from where a run stands
@@ -34,13 +34,13 @@ module _ {S : Type 0} (step : S → Step S) where
 
   after_step : (m k n : ℕ) → After m k n → (x : Step S) (t : Tally) →
       onward (runs step m) x t ≡ goes_on n (onward (runs step k) x t)
-  after_step m k n ih (Walks s) t = ih s t
-  after_step m k n ih (Leaps s) t = ih s (paid t)
+  after_step m k n ih (Continues s) t = ih s t
+  after_step m k n ih (Pays s) t = ih s (paid t)
   after_step m k n ih (Deepens bytes s) t = ih s _
   after_step m k n ih (Waits call next) t = after_handed m k n call next (λ d t. after_step m k n ih (next d) t) t.doings t
-  after_step m k n ih (Over d) t = refl
-  after_step m k n ih (OverRaising d) t = refl
-  after_step m k n ih Halts t = refl
+  after_step m k n ih (Finishes d) t = refl
+  after_step m k n ih (FinishesRaising d) t = refl
+  after_step m k n ih IsStuck t = refl
 
   after_added : (k n : ℕ) → After (added k n) k n
   after_added zero n = λ s t. refl

@@ -1,5 +1,6 @@
--- What an operation does to values and to what is round a function. Registers, places and colours do not occur here, so
--- that Mach and Linear have this in common, and a pass treats what it leaves alone once.
+-- What an operation does to values and to what is round a function. Registers, places and colours
+-- do not occur here, so that Mach and Linear have this in common, and a pass treats what it leaves
+-- alone once.
 use Rattle.std.specs.Prelude.{ℕ, zero, suc, ◌+◌, ◌%◌, ◌^◌, Bool, true, false, cond, ◌&&◌, ◌||◌, not, nat_eq, nat_lt, List, [], ◌∷◌, ◌++◌, Option, Some, None, Result, Ok, Err, length, replicate, slice_get}
 use Rattle.bs_words.specs.External.{External}
 use Rattle.bs_words.specs.Fits.{fits, type_of_comp}
@@ -100,7 +101,7 @@ pub data Act : Type 0 where
   -- an exit, or a raise of its own to a handler of the function: a unit; it writes nothing
   Jumps : (to : Landing) (after : Around) → Act
   -- to the handler, since its callee raised; it writes nothing
-  Flies : (after : Around) → Act
+  Unwinds : (after : Around) → Act
   -- a call, and what it does with what that did
   Asks : (callee : state.Callee) (arguments : List Value) (tail : Bool) (go : Doing → Act) → Act
   -- the function is over
@@ -119,16 +120,18 @@ abbrev pub one_result : Around → Result Value Kind → Act
 one_result a (Ok v) = Goes (v ∷ []) On a
 one_result a (Err kind) = Stuck
 
-abbrev pub known : Around → Option Value → Act
-known a (Some v) = Goes (v ∷ []) On a
-known a None = Stuck
+abbrev pub if_known : Around → Option Value → Act
+if_known a (Some v) = Goes (v ∷ []) On a
+if_known a None = Stuck
 
 abbrev pub pure_act : Setting → Pure → List Value → Around → Act
 pure_act c (pure.Copy kind) (v ∷ []) a = Goes (v ∷ []) On a
 pure_act c (pure.Constant w) [] a = Goes (value.Word w ∷ []) On a
-pure_act c (pure.Symbol name) [] a = known a (c.symbol name)
-pure_act c (pure.Operator f right.Register) (x ∷ y ∷ []) a = one_result a (apply f (sizes a.memory) x y)
-pure_act c (pure.Operator f (right.Constant w)) (x ∷ []) a = one_result a (apply f (sizes a.memory) x (value.Word w))
+pure_act c (pure.Symbol name) [] a = if_known a (c.symbol name)
+pure_act c (pure.Operator f right.Register) (x ∷ y ∷ []) a =
+    one_result a (apply f (sizes a.memory) x y)
+pure_act c (pure.Operator f (right.Constant w)) (x ∷ []) a =
+    one_result a (apply f (sizes a.memory) x (value.Word w))
 pure_act c _ _ a = Stuck
 
 -- ---- memory
@@ -152,20 +155,23 @@ after_store a unwritten (Err kind) = Stuck
 -- the first write of a header is none of an improper kind; it is the word that the allocation says
 abbrev pub header_written : Chunk → Around → ℕ → Value → Value → Act
 header_written chunk.Int a s (value.Word header) (value.Word w) =
-    only_if (nat_eq w header) (Goes [] On (record a { unwritten = without (InHeader s) a.unwritten }))
+    only_if (nat_eq w header)
+    (Goes [] On (record a { unwritten = without (InHeader s) a.unwritten }))
 header_written k a s old new = Stuck
 
 -- a cell is first written as a whole, since a smaller store would read it
 abbrev pub first_written : Chunk → Around → Cell → Value → Value → Act
 first_written k a (InHeader s) x v = header_written k a s (value_in a.memory (InHeader s)) v
 first_written k a (InBlock s n) x v =
-    only_if (nat_eq (width k) 8) (after_store a (without (InBlock s n) a.unwritten) (stored k a.memory x v))
+    only_if (nat_eq (width k) 8)
+    (after_store a (without (InBlock s n) a.unwritten) (stored k a.memory x v))
 first_written k a (InStatic l n) x v = Stuck
 
 abbrev pub stored_act : Chunk → Around → Option Cell → Value → Value → Act
 stored_act k a None x v = Stuck
 stored_act k a (Some cell) x v =
-    cond (is_among cell a.unwritten) (first_written k a cell x v) (after_store a a.unwritten (stored k a.memory x v))
+    cond (is_among cell a.unwritten) (first_written k a cell x v)
+    (after_store a a.unwritten (stored k a.memory x v))
 
 -- a block as it is allocated: it will have this header, and its cells hold nothing yet
 abbrev pub fresh_block : NewBlock → HeapBlock
@@ -187,7 +193,8 @@ new_blocks (b ∷ blocks) so_far a =
 
 abbrev pub access_act : Access → List Value → Around → Act
 access_act (access.Load k offset) (x ∷ []) a =
-    let at : Value = moved_by offset x in loaded_act a (cell_at a.memory (width k) at) (loaded k a.memory at)
+    let at : Value = moved_by offset x in
+    loaded_act a (cell_at a.memory (width k) at) (loaded k a.memory at)
 access_act (access.Store k offset) (x ∷ v ∷ []) a =
     let at : Value = moved_by offset x in stored_act k a (cell_at a.memory (width k) at) at v
 access_act (access.Alloc blocks) [] a = only_if (is_complete a) (new_blocks blocks [] a)
@@ -196,9 +203,9 @@ access_act _ _ a = Stuck
 -- ---- raising
 
 -- what a callee raised fits val, and goes to the innermost handler, or on to the caller
-abbrev pub thrown : Value → Memory → Around → List ℕ → Act
-thrown v m a [] = Ends (Threw v m)
-thrown v m a (l ∷ tries) = Flies (record a { memory = m; tries = tries; raised = Some v })
+abbrev pub callee_raises : Value → Memory → Around → List ℕ → Act
+callee_raises v m a [] = Ends (Threw v m)
+callee_raises v m a (l ∷ tries) = Unwinds (record a { memory = m; tries = tries; raised = Some v })
 
 -- so does what an operation of the function itself raises, for a unit
 abbrev pub raised_by : Value → Around → List ℕ → Act
@@ -214,40 +221,47 @@ raises c v a = only_if (is_complete a && fits c.end ty.Val v) (raised_by v a a.t
 abbrev pub row_of : declared.External → External
 row_of e = record { name = e.name; params = e.params; result = e.result }
 
--- what a call that is written so gives: a value that fits comes where it is written with a type, and else it is dropped
+-- what a call that is written so gives: a value that fits comes where it is written with a type,
+-- and else it is dropped
 abbrev pub answered : ℕ → Ret → Option Value → (Option Value → Act) → Act
 answered end ret.Unit v go = go None
 answered end (ret.Comp t) (Some v) go = only_if (fits end (type_of_comp t) v) (go (Some v))
 answered end (ret.Comp t) None go = Stuck
 
-abbrev pub listed : Option Value → List Value
-listed None = []
-listed (Some v) = v ∷ []
+abbrev pub as_list : Option Value → List Value
+as_list None = []
+as_list (Some v) = v ∷ []
 
 -- a call of a function
-abbrev pub back : Setting → Ret → Around → Doing → Act
-back c result a (Gave v m) = answered c.end result v (λ v. Goes (listed v) On (record a { memory = m }))
-back c result a (Threw v m) = only_if (fits c.end ty.Val v) (thrown v m a a.tries)
+abbrev pub after_call : Setting → Ret → Around → Doing → Act
+after_call c result a (Gave v m) =
+    answered c.end result v (λ v. Goes (as_list v) On (record a { memory = m }))
+after_call c result a (Threw v m) = only_if (fits c.end ty.Val v) (callee_raises v m a a.tries)
 
 -- a tail call ends with what its callee did
-abbrev pub ended : Setting → Ret → Doing → Act
-ended c result (Gave v m) = answered c.end result v (λ v. Ends (Gave v m))
-ended c result (Threw v m) = only_if (fits c.end ty.Val v) (Ends (Threw v m))
+abbrev pub after_tail_call : Setting → Ret → Doing → Act
+after_tail_call c result (Gave v m) = answered c.end result v (λ v. Ends (Gave v m))
+after_tail_call c result (Threw v m) = only_if (fits c.end ty.Val v) (Ends (Threw v m))
 
--- an external call leaves the memory as it was, and raises only where it is a frame call: a unit, as what an operation
--- of the function itself raises
-abbrev pub back_outside : Setting → Ret → Bool → Around → Doing → Act
-back_outside c result frame a (Gave v m) = answered c.end result v (λ v. Goes (listed v) On a)
-back_outside c result true a (Threw v m) = only_if (fits c.end ty.Val v) (raised_by v a a.tries)
-back_outside c result false a (Threw v m) = Stuck
+-- An external call leaves the memory as it was, and raises only where it is a frame call. Its raise is a unit, as one
+-- of the function itself is.
+abbrev pub after_external : Setting → Ret → Bool → Around → Doing → Act
+after_external c result frame a (Gave v m) = answered c.end result v (λ v. Goes (as_list v) On a)
+after_external c result true a (Threw v m) =
+    only_if (fits c.end ty.Val v) (raised_by v a a.tries)
+after_external c result false a (Threw v m) = Stuck
 
-abbrev pub asks : Setting → Option (List Comp) → ℕ → List Value → Bool → Around → (Doing → Act) → Act
+
+abbrev pub asks : Setting → Option (List Comp) → ℕ → List Value → Bool → Around →
+    (Doing → Act) → Act
 asks c None f arguments tail a go = Stuck
 asks c (Some comps) f arguments tail a go =
-    only_if (fit_parameters c.end comps arguments && is_complete a) (Asks (Inside f) arguments tail go)
+    only_if (fit_parameters c.end comps arguments && is_complete a)
+    (Asks (Inside f) arguments tail go)
 
 abbrev pub asks_value : Setting → Option Value → List Value → Bool → Around → (Doing → Act) → Act
-asks_value c (Some (value.Function f)) arguments tail a go = asks c (slice_get c.parameters f) f arguments tail a go
+asks_value c (Some (value.Function f)) arguments tail a go =
+    asks c (slice_get c.parameters f) f arguments tail a go
 asks_value c _ arguments tail a go = Stuck
 
 abbrev pub asks_callee : Setting → Callee → List Value → Bool → Around → (Doing → Act) → Act
@@ -256,20 +270,26 @@ asks_callee c callee.Register (v ∷ vs) tail a go = asks_value c (Some v) vs ta
 asks_callee c callee.Register [] tail a go = Stuck
 
 abbrev pub calling_act : Setting → Calling → List Value → Around → Act
-calling_act c (calling.Call whom result) vs a = asks_callee c whom vs false a (back c result a)
-calling_act c (calling.TailCall whom result) vs a = asks_callee c whom vs true a (ended c result)
+calling_act c (calling.Call whom result) vs a =
+    asks_callee c whom vs false a (after_call c result a)
+calling_act c (calling.TailCall whom result) vs a =
+    asks_callee c whom vs true a (after_tail_call c result)
 calling_act c (calling.External row frame) vs a =
-    only_if (is_complete a) (Asks (Outside (row_of row) frame) vs false (back_outside c row.result frame a))
+    only_if (is_complete a)
+    (Asks (Outside (row_of row) frame) vs false (after_external c row.result frame a))
 
 -- ---- leaving
 
 abbrev pub checked : Setting → Result ℕ Kind → Result ℕ Kind → Around → Act
-checked c (Ok bound) (Ok index) a = cond (nat_lt index bound) (Goes [] On a) (raises c bound_error a)
+checked c (Ok bound) (Ok index) a =
+    cond (nat_lt index bound) (Goes [] On a) (raises c bound_error a)
 checked c _ _ a = Stuck
 
 abbrev pub leaving_act : Setting → Leaving → List Value → Around → Act
-leaving_act c (leaving.Checkbound right.Register) (bound ∷ index ∷ []) a = checked c (word_in bound) (word_in index) a
-leaving_act c (leaving.Checkbound (right.Constant w)) (bound ∷ []) a = checked c (word_in bound) (Ok w) a
+leaving_act c (leaving.Checkbound right.Register) (bound ∷ index ∷ []) a =
+    checked c (word_in bound) (word_in index) a
+leaving_act c (leaving.Checkbound (right.Constant w)) (bound ∷ []) a =
+    checked c (word_in bound) (Ok w) a
 leaving_act c leaving.Raise (v ∷ []) a = raises c v a
 leaving_act c leaving.Return [] a = only_if (is_complete a) (Ends (Gave None a.memory))
 leaving_act c leaving.Return (v ∷ []) a = only_if (is_complete a) (Ends (Gave (Some v) a.memory))
@@ -300,28 +320,30 @@ as_condition sizes (Err kind) = None
 abbrev pub truth_of : List ℕ → Test → List Value → Option Bool
 truth_of sizes test.Holds (v ∷ []) = proper (condition_of sizes v)
 truth_of sizes test.Fails (v ∷ []) = opposite (proper (condition_of sizes v))
-truth_of sizes (test.Signed f right.Register) (x ∷ y ∷ []) = as_condition sizes (apply (operator.Cmp f) sizes x y)
+truth_of sizes (test.Signed f right.Register) (x ∷ y ∷ []) =
+    as_condition sizes (apply (operator.Cmp f) sizes x y)
 truth_of sizes (test.Signed f (right.Constant w)) (x ∷ []) =
     as_condition sizes (apply (operator.Cmp f) sizes x (value.Word w))
-truth_of sizes (test.Unsigned f right.Register) (x ∷ y ∷ []) = as_condition sizes (apply (operator.CmpU f) sizes x y)
+truth_of sizes (test.Unsigned f right.Register) (x ∷ y ∷ []) =
+    as_condition sizes (apply (operator.CmpU f) sizes x y)
 truth_of sizes (test.Unsigned f (right.Constant w)) (x ∷ []) =
     as_condition sizes (apply (operator.CmpU f) sizes x (value.Word w))
 truth_of sizes _ _ = None
 
 -- goes to one place where the test holds, and to another where it fails
-abbrev pub turned : Around → Target → Target → Option Bool → Act
-turned a holds fails (Some b) = Goes [] (cond b holds fails) a
-turned a holds fails None = Stuck
+abbrev pub branches : Around → Target → Target → Option Bool → Act
+branches a holds fails (Some b) = Goes [] (cond b holds fails) a
+branches a holds fails None = Stuck
 
 -- goes to the label of an index
-abbrev pub to_case : Around → List ℕ → Result ℕ Kind → Act
-to_case a labels (Err kind) = Stuck
-to_case a [] (Ok n) = Stuck
-to_case a (l ∷ labels) (Ok zero) = Goes [] (At l) a
-to_case a (l ∷ labels) (Ok (suc n)) = to_case a labels (Ok n)
+abbrev pub goes_to_case : Around → List ℕ → Result ℕ Kind → Act
+goes_to_case a labels (Err kind) = Stuck
+goes_to_case a [] (Ok n) = Stuck
+goes_to_case a (l ∷ labels) (Ok zero) = Goes [] (At l) a
+goes_to_case a (l ∷ labels) (Ok (suc n)) = goes_to_case a labels (Ok n)
 
 abbrev pub switched : Around → List ℕ → List Value → Act
-switched a labels (v ∷ []) = to_case a labels (word_in v)
+switched a labels (v ∷ []) = goes_to_case a labels (word_in v)
 switched a labels _ = Stuck
 
 -- ---- tries
@@ -333,20 +355,20 @@ drop_tries (suc n) (l ∷ tries) = drop_tries n tries
 
 -- a handler takes the raised value
 abbrev pub takes_raised : Around → Act
-takes_raised a = known (record a { raised = None }) a.raised
+takes_raised a = if_known (record a { raised = None }) a.raised
 
 -- ---- what operations are
 
--- frame points, tail calls left out
-abbrev pub is_frame_point : Op → Bool
-is_frame_point (op.Calling (calling.Call whom result)) = true
-is_frame_point (op.Calling (calling.TailCall whom result)) = false
-is_frame_point (op.Calling (calling.External row frame)) = frame
-is_frame_point (op.Access (access.Alloc blocks)) = true
-is_frame_point (op.Access (access.Load k offset)) = false
-is_frame_point (op.Access (access.Store k offset)) = false
-is_frame_point (op.Pure f) = false
-is_frame_point (op.Leaving f) = false
+-- the frame points that have a descriptor: all but tail calls
+abbrev pub has_descriptor : Op → Bool
+has_descriptor (op.Calling (calling.Call whom result)) = true
+has_descriptor (op.Calling (calling.TailCall whom result)) = false
+has_descriptor (op.Calling (calling.External row frame)) = frame
+has_descriptor (op.Access (access.Alloc blocks)) = true
+has_descriptor (op.Access (access.Load k offset)) = false
+has_descriptor (op.Access (access.Store k offset)) = false
+has_descriptor (op.Pure f) = false
+has_descriptor (op.Leaving f) = false
 
 -- what leads to the innermost handler: calls, frame calls, raises and bound tests
 abbrev pub may_raise : Op → Bool
@@ -369,3 +391,14 @@ goes_on (op.Leaving leaving.Raise) = false
 goes_on (op.Leaving leaving.Return) = false
 goes_on (op.Access f) = true
 goes_on (op.Pure f) = true
+
+-- whether a function is left by it: returns and tail calls
+abbrev pub leaves_function : Op → Bool
+leaves_function (op.Calling (calling.TailCall whom result)) = true
+leaves_function (op.Calling (calling.Call whom result)) = false
+leaves_function (op.Calling (calling.External row frame)) = false
+leaves_function (op.Leaving leaving.Return) = true
+leaves_function (op.Leaving leaving.Raise) = false
+leaves_function (op.Leaving (leaving.Checkbound r)) = false
+leaves_function (op.Access f) = false
+leaves_function (op.Pure f) = false

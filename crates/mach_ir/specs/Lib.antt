@@ -3,8 +3,13 @@ pub mod Acts
 pub mod Runs
 pub mod Meaning
 pub mod Walks
-pub mod Placed
+pub mod Forms
 pub mod Formed
+pub mod Placed
+pub mod Seats
+pub mod Graph
+pub mod Sizes
 pub mod Keeps
 pub mod Words
+pub mod Pages
 pub mod Text

@@ -9,9 +9,9 @@ use Rattle.bs_words.specs.declared.types.Comp.TheVariants as comp
 use Rattle.bs_words.specs.declared.types.Loc.{Loc}
 use Rattle.bs_words.specs.declared.types.Loc.TheVariants as loc
 use Rattle.bs_words.specs.declared.values.Value.{Value}
-use Rattle.mach_ir.specs.Acts.{Setting, Around, Target, On, At, Landing, AtLabel, AtHandler, Act, Goes, Pushes, Jumps, Flies, Asks, Ends, EndsRaising, Stuck, act, truth_of, turned, switched, drop_tries, takes_raised}
+use Rattle.mach_ir.specs.Acts.{Setting, Around, Target, On, At, Landing, AtLabel, AtHandler, Act, Goes, Pushes, Jumps, Unwinds, Asks, Ends, EndsRaising, Stuck, act, truth_of, branches, switched, drop_tries, takes_raised}
 use Rattle.mach_ir.specs.Acts as acts
-use Rattle.mach_ir.specs.Runs.{Place, taken, asked, Step, Walks, Leaps, Deepens, Waits, Over, OverRaising, Halts, Tally, Run, runs, entered}
+use Rattle.mach_ir.specs.Runs.{Place, taken, asked, Step, Continues, Pays, Deepens, Waits, Finishes, FinishesRaising, IsStuck, Tally, Run, runs, entered}
 use Rattle.mach_ir.specs.declared.op.Op.{Op}
 use Rattle.mach_ir.specs.declared.op.Op.TheVariants as op
 use Rattle.mach_ir.specs.declared.op.Calling.TheVariants as calling
@@ -50,7 +50,8 @@ put_if false r v o = None
 -- a value for each register
 abbrev pub put_all : ℕ → List Reg → List Value → File → Option File
 put_all end [] [] f = Some f
-put_all end (r ∷ rs) (v ∷ vs) f = put_if (fits end (type_of_comp r.comp) v) r v (put_all end rs vs f)
+put_all end (r ∷ rs) (v ∷ vs) f =
+    put_if (fits end (type_of_comp r.comp) v) r v (put_all end rs vs f)
 put_all end _ _ f = None
 
 abbrev pub with_held : Option Held → Option (List Value) → Option (List Value)
@@ -77,8 +78,8 @@ past_frame true f = λ n. unless_addr (f n)
 
 -- ---- colours that operations destroy
 
--- Which registers of the machine an operation destroys: none; those of an external call, a0 to a7 and t3 to t6; or
--- every colour.
+-- Which registers of the machine an operation destroys: none; those of an external call, a0 to a7
+-- and t3 to t6; or every colour.
 pub data Destroyed : Type 0 where
   Nothing : Destroyed
   Temporaries : Destroyed
@@ -115,7 +116,8 @@ abbrev pub is_at_one_of : Loc → List Reg → Bool
 is_at_one_of l [] = false
 is_at_one_of l (r ∷ rs) = same_colour l r.loc || is_at_one_of l rs
 
--- those among the registers of the colours that stand at a destroyed one, but where a result stands
+-- Those among the registers of the colours that stand at a destroyed one, but where a result
+-- stands. A function's list of them has each colour once (`HasColours`).
 abbrev pub killed_among : List Reg → Destroyed → List Reg → List Reg
 killed_among [] d results = []
 killed_among (r ∷ rs) d results =
@@ -135,14 +137,14 @@ abbrev pub written : Mach → Instr → List Reg
 written m i = i.results ++ killed m i
 
 abbrev pub passes_frame : MachOp → Bool
-passes_frame (mach.Op f) = acts.is_frame_point f
+passes_frame (mach.Op f) = acts.has_descriptor f
 passes_frame (mach.Mark f) = false
 
 -- ---- marks
 
 abbrev pub mark_act : Mark → List Value → Around → Act
 mark_act (mark.Exit l n) [] a = Jumps (AtLabel l) (record a { tries = drop_tries n a.tries })
-mark_act (mark.If t l) vs a = turned a On (At l) (truth_of (sizes a.memory) t vs)
+mark_act (mark.If t l) vs a = branches a On (At l) (truth_of (sizes a.memory) t vs)
 mark_act (mark.Else l end) [] a = Goes [] (At end) a
 mark_act (mark.Switch labels) vs a = switched a labels vs
 mark_act (mark.Case indexes l end) [] a = Goes [] (At end) a
@@ -161,30 +163,30 @@ mach_act c (mach.Mark f) vs a = mark_act f vs a
 -- ---- places
 
 -- whether a mark has this label
-abbrev pub has_label : ℕ → Mark → Bool
-has_label l (mark.Else k end) = nat_eq k l
-has_label l (mark.Case indexes k end) = nat_eq k l
-has_label l (mark.With k end) = nat_eq k l
-has_label l (mark.End k) = nat_eq k l
-has_label l _ = false
+abbrev pub mark_has_label : ℕ → Mark → Bool
+mark_has_label l (mark.Else k end) = nat_eq k l
+mark_has_label l (mark.Case indexes k end) = nat_eq k l
+mark_has_label l (mark.With k end) = nat_eq k l
+mark_has_label l (mark.End k) = nat_eq k l
+mark_has_label l _ = false
 
-abbrev pub labels : ℕ → MachOp → Bool
-labels l (mach.Mark f) = has_label l f
-labels l (mach.Op f) = false
+abbrev pub has_label : ℕ → MachOp → Bool
+has_label l (mach.Mark f) = mark_has_label l f
+has_label l (mach.Op f) = false
 
-abbrev pub handles : ℕ → MachOp → Bool
-handles l (mach.Mark (mark.Handler k)) = nat_eq k l
-handles l _ = false
+abbrev pub is_handler_of : ℕ → MachOp → Bool
+is_handler_of l (mach.Mark (mark.Handler k)) = nat_eq k l
+is_handler_of l _ = false
 
 -- the code from the mark of a handler on
-abbrev pub onto : ℕ → List Instr → List Instr
-onto l [] = []
-onto l (i ∷ is) = cond (handles l i.op) (i ∷ is) (onto l is)
+abbrev pub from_handler : ℕ → List Instr → List Instr
+from_handler l [] = []
+from_handler l (i ∷ is) = cond (is_handler_of l i.op) (i ∷ is) (from_handler l is)
 
 -- the code after the mark that has a label
 abbrev pub after_label : ℕ → List Instr → List Instr
 after_label l [] = []
-after_label l (i ∷ is) = cond (labels l i.op) is (after_label l is)
+after_label l (i ∷ is) = cond (has_label l i.op) is (after_label l is)
 
 abbrev pub code_at : List Instr → List Instr → Target → List Instr
 code_at code next On = next
@@ -195,19 +197,20 @@ tries_past (mach.Mark (mark.Try l)) tries = drop_tries 1 tries
 tries_past (mach.Mark (mark.Leave l end)) tries = l ∷ tries
 tries_past _ tries = tries
 
--- the handlers of the tries round a place, by the text, the innermost first: those that are left before they are pushed
+-- the handlers of the tries round a place, by the text, the innermost first: those that are left
+-- before they are pushed
 abbrev pub tries_at : List Instr → List ℕ
 tries_at [] = []
 tries_at (i ∷ is) = tries_past i.op (tries_at is)
 
 abbrev pub at_handler : List Instr → List ℕ → List Instr
 at_handler code [] = []
-at_handler code (l ∷ tries) = onto l code
+at_handler code (l ∷ tries) = from_handler l code
 
 -- where a jump from here comes to
-abbrev pub code_land : List Instr → List Instr → Landing → List Instr
-code_land code here (AtLabel l) = after_label l code
-code_land code here AtHandler = at_handler code (tries_at here)
+abbrev pub landing_code : List Instr → List Instr → Landing → List Instr
+landing_code code here (AtLabel l) = after_label l code
+landing_code code here AtHandler = at_handler code (tries_at here)
 
 -- ---- steps
 
@@ -218,31 +221,33 @@ pub record State : Type 0 where
   pub around : Around
 
 abbrev pub wrote : List Instr → Around → Option File → Step State
-wrote rest a None = Halts
-wrote rest a (Some f) = Walks (record { rest = rest; file = f; around = a })
+wrote rest a None = IsStuck
+wrote rest a (Some f) = Continues (record { rest = rest; file = f; around = a })
 
 -- what an instruction does, before this code, by what its operation does
 abbrev pub on_act : Place → Mach → Instr → List Instr → File → Around → Act → Step State
 on_act c m i next f a (Goes vs to after) =
     wrote (code_at m.code next to) after (put_all c.setting.end i.results vs (clear (killed m i) f))
-on_act c m i next f a (Pushes after) = Deepens (taken c after) (record { rest = next; file = f; around = after })
+on_act c m i next f a (Pushes after) =
+    Deepens (taken c after) (record { rest = next; file = f; around = after })
 on_act c m i next f a (Jumps to after) =
-    Leaps (record { rest = code_land m.code (i ∷ next) to; file = f; around = after })
-on_act c m i next f a (Flies after) =
-    Walks (record { rest = code_land m.code (i ∷ next) AtHandler; file = f; around = after })
+    Pays (record { rest = landing_code m.code (i ∷ next) to; file = f; around = after })
+on_act c m i next f a (Unwinds after) =
+    Continues (record { rest = landing_code m.code (i ∷ next) AtHandler; file = f; around = after })
 on_act c m i next f a (Asks callee vs tail go) =
     Waits (asked c callee vs tail a) (λ d. on_act c m i next f a (go d))
-on_act c m i next f a (Ends d) = Over d
-on_act c m i next f a (EndsRaising d) = OverRaising d
-on_act c m i next f a Stuck = Halts
+on_act c m i next f a (Ends d) = Finishes d
+on_act c m i next f a (EndsRaising d) = FinishesRaising d
+on_act c m i next f a Stuck = IsStuck
 
-abbrev pub on_values : Place → Mach → Instr → List Instr → File → Around → Option (List Value) → Step State
-on_values c m i next f a None = Halts
+abbrev pub on_values : Place → Mach → Instr → List Instr → File → Around → Option (List Value) →
+    Step State
+on_values c m i next f a None = IsStuck
 on_values c m i next f a (Some vs) =
     on_act c m i next (past_frame (passes_frame i.op) f) a (mach_act c.setting i.op vs a)
 
 abbrev pub at_code : Place → Mach → List Instr → File → Around → Step State
-at_code c m [] f a = Halts
+at_code c m [] f a = IsStuck
 at_code c m (i ∷ next) f a = on_values c m i next f a (values f i.args)
 
 -- reads, then the operation, then writes, then where control goes

@@ -2,7 +2,9 @@
 use Rattle.std.specs.Prelude.{◌≡◌, ◌≢◌, ◌⊎◌, ℕ, ◌≤◌, Bool, true, false, List, [], ◌∷◌, ◌++◌, All, Contains, map}
 use Rattle.bs_words.specs.declared.types.Loc.{Loc}
 use Rattle.bs_words.specs.declared.types.Loc.TheVariants as loc
-use Rattle.mach_ir.specs.Walks.{IsRegister, Joined}
+use Rattle.mach_ir.specs.Walks.{Among, Writes, Stands, IsRegister, Joined}
+use Rattle.mach_ir.specs.declared.blocks.NewBlock.{NewBlock}
+use Rattle.mach_ir.specs.declared.op.Access.TheVariants as access
 use Rattle.mach_ir.specs.declared.op.Op.TheVariants as op
 use Rattle.mach_ir.specs.declared.reg.Reg.{Reg}
 use Rattle.mach_ir.specs.declared.mach.MachOp.{MachOp}
@@ -13,12 +15,8 @@ use Rattle.mach_ir.specs.declared.mach.Mach.{Mach}
 -- The twenty-one colours: a0 to a7, s2 to s9, t3 to t6 and s0.
 abbrev pub colours : List ℕ
 colours =
-    10 ∷ 11 ∷ 12 ∷ 13 ∷ 14 ∷ 15 ∷ 16 ∷ 17 ∷ 18 ∷ 19 ∷ 20 ∷ 21 ∷ 22 ∷ 23 ∷ 24 ∷ 25 ∷ 28 ∷ 29 ∷ 30 ∷ 31 ∷ 8 ∷ []
-
--- Where arguments stand, in their order. The first is that of a result and of a raised value, too.
-abbrev pub argument_places : List Loc
-argument_places =
-    map loc.Machine (10 ∷ 11 ∷ 12 ∷ 13 ∷ 14 ∷ 15 ∷ 16 ∷ 17 ∷ 18 ∷ 19 ∷ 20 ∷ 21 ∷ 22 ∷ 23 ∷ 24 ∷ 25 ∷ [])
+    10 ∷ 11 ∷ 12 ∷ 13 ∷ 14 ∷ 15 ∷ 16 ∷ 17 ∷ 18 ∷ 19 ∷ 20 ∷ 21 ∷ 22 ∷ 23 ∷ 24 ∷ 25 ∷
+    28 ∷ 29 ∷ 30 ∷ 31 ∷ 8 ∷ []
 
 -- a register stands in a colour, or in the slot that has its origin's number
 pub data IsPlaced (r : Reg) : Type 0 where
@@ -28,19 +26,24 @@ pub data IsPlaced (r : Reg) : Type 0 where
 -- For each colour, the register of least number that is placed there.
 pub record HasColours (m : Mach) : Type 0 where
   pub each : map (λ (r : Reg). r.loc) m.colours ≡ map loc.Machine colours
-  pub least : (r q : Reg) → Contains m.colours r → IsRegister m q → q.loc ≡ r.loc → r.number ≤ q.number
+  pub least : (r q : Reg) → Contains m.colours r → IsRegister m q → q.loc ≡ r.loc →
+      r.number ≤ q.number
 
--- Two registers of one function may have one place where the graph joins them only if they are of one origin and stand
--- in its slot.
+-- Two registers of one function may have one place where the graph joins them only if they are of
+-- one origin and stand in its slot.
 abbrev pub MayShare : Reg → Reg → Type 0
 MayShare r q = (r.origin ≡ q.origin) × (r.loc ≡ loc.Slot r.origin)
 
--- Each fixed place is a colour or the slot of the origin, and joined registers with fixed places stand apart.
+-- Of registers, and of which of them are joined, by number: each fixed place is a colour or the
+-- slot of the origin, and joined registers with fixed places stand apart.
+pub record PlacesAgree (IsOne : Reg → Type 0) (AreJoined : ℕ → ℕ → Type 0) : Type 0 where
+  pub places : (r : Reg) → IsOne r → (r.loc ≡ loc.Unset) ⊎ IsPlaced r
+  pub apart : (r q : Reg) → IsOne r → IsOne q → AreJoined r.number q.number →
+      r.loc ≢ loc.Unset → r.loc ≡ q.loc → MayShare r q
+
 pub record WellPlaced (m : Mach) : Type 0 where
   pub colours : HasColours m
-  pub places : (r : Reg) → IsRegister m r → (r.loc ≡ loc.Unset) ⊎ IsPlaced r
-  pub apart : (r q : Reg) → IsRegister m r → IsRegister m q → Joined m r.number q.number → r.loc ≢ loc.Unset →
-      r.loc ≡ q.loc → MayShare r q
+  pub agree : PlacesAgree (IsRegister m) (Joined m)
 
 -- every register has a place
 pub record FullyPlaced (m : Mach) : Type 0 where
@@ -56,18 +59,22 @@ Colouring = ℕ → Loc
 abbrev pub placed_by : Colouring → Reg → Reg
 placed_by place r = record r { loc = place r.number }
 
--- Fixed places stay, each place is a colour or the slot of the origin, and joined registers stand apart.
-pub record IsColouring (m : Mach) (place : Colouring) : Type 0 where
-  pub fixed : (r : Reg) → IsRegister m r → (r.loc ≡ loc.Unset) ⊎ (place r.number ≡ r.loc)
-  pub places : (r : Reg) → IsRegister m r → IsPlaced (placed_by place r)
-  pub apart : (r q : Reg) → IsRegister m r → IsRegister m q → Joined m r.number q.number →
+-- Of registers, and of which of them are joined: fixed places stay, each place is a colour or the
+-- slot of the origin, and joined registers stand apart.
+pub record IsColouring (IsOne : Reg → Type 0) (AreJoined : ℕ → ℕ → Type 0) (place : Colouring) :
+    Type 0 where
+  pub fixed : (r : Reg) → IsOne r → (r.loc ≡ loc.Unset) ⊎ (place r.number ≡ r.loc)
+  pub places : (r : Reg) → IsOne r → IsPlaced (placed_by place r)
+  pub apart : (r q : Reg) → IsOne r → IsOne q → AreJoined r.number q.number →
       place r.number ≡ place q.number → MayShare (placed_by place r) (placed_by place q)
 
--- A register whose place is open, and which the colouring puts into a slot, has for each colour a neighbour there.
-pub record NoNeedlessSlot (m : Mach) (place : Colouring) : Type 0 where
-  pub full : (r : Reg) → IsRegister m r → r.loc ≡ loc.Unset → (k : ℕ) → place r.number ≡ loc.Slot k →
+-- A register whose place is open, and which the colouring puts into a slot, has for each colour a
+-- neighbour there.
+pub record NoNeedlessSlot (IsOne : Reg → Type 0) (AreJoined : ℕ → ℕ → Type 0) (place : Colouring) :
+    Type 0 where
+  pub full : (r : Reg) → IsOne r → r.loc ≡ loc.Unset → (k : ℕ) → place r.number ≡ loc.Slot k →
       (n : ℕ) → Contains colours n →
-      (q : Reg) × IsRegister m q × Joined m r.number q.number × (place q.number ≡ loc.Machine n)
+      (q : Reg) × IsOne q × AreJoined r.number q.number × (place q.number ≡ loc.Machine n)
 
 -- ---- straight runs
 
@@ -79,9 +86,30 @@ is_straight (mach.Op (op.Calling f)) = false
 is_straight (mach.Op (op.Leaving f)) = false
 is_straight (mach.Mark f) = false
 
+abbrev pub AreStraight : List Instr → Type 0
+AreStraight run = All (λ (i : Instr). is_straight i.op ≡ true) run
+
 -- a sequence of instructions of a function with none but such between
 pub record IsStraightRun (m : Mach) (run : List Instr) : Type 0 where
-  pub straight : All (λ (i : Instr). is_straight i.op ≡ true) run
+  pub straight : AreStraight run
   pub before : List Instr
   pub after : List Instr
   pub within : m.code ≡ before ++ (run ++ after)
+
+-- ---- what combined allocation asks
+
+-- A register that an allocation writes is open, is written nowhere else, shares its origin with no
+-- other, and is not read earlier in the straight run of the allocation.
+pub record IsFresh (m : Mach) (i : Instr) (next : List Instr) (r : Reg) : Type 0 where
+  pub open_place : r.loc ≡ loc.Unset
+  pub once : (j : Instr) (others : List Instr) → Stands j others m.code →
+      Writes m j r.number → others ≡ next
+  pub no_param : Among r.number m.params → ⊥
+  pub own : (q : Reg) → IsRegister m q → q.origin ≡ r.origin → q ≡ r
+  pub unread : (j : Instr) (run : List Instr) → Stands j (run ++ i ∷ next) m.code →
+      AreStraight (j ∷ run) → Among r.number j.args → ⊥
+
+pub record AllocatesFresh (m : Mach) : Type 0 where
+  pub fresh : (i : Instr) (next : List Instr) → Stands i next m.code → (blocks : List NewBlock) →
+      i.op ≡ mach.Op (op.Access (access.Alloc blocks)) → (r : Reg) → Contains i.results r →
+      IsFresh m i next r

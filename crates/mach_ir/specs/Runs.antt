@@ -1,5 +1,5 @@
--- Runs of one function, whatever its states are: Mach and Linear have this in common. What its callees and external calls
--- do is handed in as a list.
+-- Runs of one function, whatever its states are: Mach and Linear have this in common. What its
+-- callees and external calls do is handed in as a list.
 use Rattle.std.specs.Prelude.{ℕ, zero, suc, ◌+◌, ◌*◌, Bool, true, false, max, List, [], ◌∷◌, ◌++◌, length, None}
 use Rattle.bs_words.specs.Memory.{Memory}
 use Rattle.bs_words.specs.declared.values.Value.{Value}
@@ -42,19 +42,19 @@ asked c callee arguments tail a =
 -- What a function does in one step, from a state of kind S.
 pub data Step (S : Type 0) : Type 0 where
   -- on, to a state
-  Walks : (s : S) → Step S
+  Continues : (s : S) → Step S
   -- on, by an exit or a raise of its own: a unit
-  Leaps : (s : S) → Step S
+  Pays : (s : S) → Step S
   -- on, where a try has been pushed, on so many stack bytes
   Deepens : (bytes : ℕ) (s : S) → Step S
   -- a call, and what it does with what that did
   Waits : (call : Asked) (go : Doing → Step S) → Step S
-  Over : (doing : Doing) → Step S
+  Finishes : (doing : Doing) → Step S
   -- by a raise of its own: a unit
-  OverRaising : (doing : Doing) → Step S
-  Halts : Step S
+  FinishesRaising : (doing : Doing) → Step S
+  IsStuck : Step S
 
--- What is told of a run so far.
+-- What is reported of a run so far.
 pub record Tally : Type 0 where
   -- the calls that came back, first to last
   pub asked : List Asked
@@ -89,13 +89,13 @@ handed again call [] t = Asking call t
 handed again call (d ∷ ds) t = again d (came_back call ds t)
 
 abbrev pub onward : {S : Type 0} → (S → Tally → Run S) → Step S → Tally → Run S
-onward go (Walks s) t = go s t
-onward go (Leaps s) t = go s (paid t)
+onward go (Continues s) t = go s t
+onward go (Pays s) t = go s (paid t)
 onward go (Deepens bytes s) t = go s (record t { need = max t.need bytes })
 onward go (Waits call next) t = handed (λ d t. onward go (next d) t) call t.doings t
-onward go (Over d) t = Ended d t
-onward go (OverRaising d) t = Ended d (paid t)
-onward go Halts t = Wrong
+onward go (Finishes d) t = Ended d t
+onward go (FinishesRaising d) t = Ended d (paid t)
+onward go IsStuck t = Wrong
 
 -- at most n steps, by what a step from each state is
 abbrev pub runs : {S : Type 0} → (S → Step S) → ℕ → S → Tally → Run S

@@ -1,7 +1,7 @@
 -- The text of a Mach function: its name, and a line for each instruction.
 use Rattle.std.specs.Prelude.{ℕ, ◌-◌, Bool, true, false, List, [], ◌∷◌, ◌++◌, codes, length, take}
 use Rattle.std.specs.Fmt.{decimal}
-use Rattle.mach_ir.specs.Words.{comp_letter, place_text, label_text, mark, op_word, op_text, test_word, test_right, right_text}
+use Rattle.mach_ir.specs.Words.{comp_letter, place_text, label_text, separator, op_word, op_text, test_word, test_right, right_text}
 use Rattle.mach_ir.specs.declared.lines.Turn.{Turn}
 use Rattle.mach_ir.specs.declared.lines.Turn.TheVariants as turn
 use Rattle.mach_ir.specs.declared.reg.Reg.{Reg}
@@ -19,7 +19,7 @@ reg_text r = place_text (codes "r" ++ decimal r.number) r.loc ++ codes ":" ++ co
 -- each register after its mark, the first of all operands or not
 abbrev pub regs_text : Bool → List Reg → List ℕ
 regs_text first [] = []
-regs_text first (r ∷ rs) = mark first ++ reg_text r ++ regs_text false rs
+regs_text first (r ∷ rs) = separator first ++ reg_text r ++ regs_text false rs
 
 -- results, and that they are results
 abbrev pub results_text : List Reg → List ℕ
@@ -32,7 +32,7 @@ is_first (r ∷ rs) = false
 
 abbrev pub numbers_text : Bool → List ℕ → List ℕ
 numbers_text first [] = []
-numbers_text first (n ∷ ns) = mark first ++ decimal n ++ numbers_text false ns
+numbers_text first (n ∷ ns) = separator first ++ decimal n ++ numbers_text false ns
 
 -- ---- marks
 
@@ -50,10 +50,10 @@ mark_word (marks.Handler l) = codes "with"
 mark_word (marks.End l) = codes "end"
 
 abbrev pub mark_text : Bool → Mark → List ℕ
-mark_text first (marks.Exit l n) = mark first ++ label_text l
+mark_text first (marks.Exit l n) = separator first ++ label_text l
 mark_text first (marks.If t l) = right_text first (test_right t)
 mark_text first (marks.Case indexes l end) = numbers_text first indexes
-mark_text first (marks.With l end) = mark first ++ label_text l
+mark_text first (marks.With l end) = separator first ++ label_text l
 mark_text first (marks.Else l end) = []
 mark_text first (marks.Switch labels) = []
 mark_text first marks.Catch = []
@@ -116,9 +116,10 @@ indent_on turn.Hides indent = indent
 -- results, the word, operands
 abbrev pub line_text : List ℕ → Instr → List ℕ
 line_text indent i =
-    indent ++ results_text i.results ++ instr_word i.op ++ regs_text true i.args ++ instr_text (is_first i.args) i.op ++ codes "\n"
+    indent ++ results_text i.results ++ instr_word i.op ++ regs_text true i.args
+    ++ instr_text (is_first i.args) i.op ++ codes "\n"
 
--- the end of a try's body is told by its `with` alone
+-- the end of a try's body is seen by its `with` alone
 abbrev pub shown : Turn → List ℕ → List ℕ
 shown turn.Hides line = []
 shown turn.Stays line = line

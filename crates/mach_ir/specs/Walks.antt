@@ -3,7 +3,7 @@ use Rattle.std.specs.Prelude.{◌≡◌, ◌≢◌, ℕ, Bool, true, false, List
 use Rattle.bs_words.specs.declared.types.Comp.TheVariants as comp
 use Rattle.mach_ir.specs.Acts.{Target, On, At}
 use Rattle.mach_ir.specs.Acts as acts
-use Rattle.mach_ir.specs.Meaning.{written, passes_frame, code_at, onto, tries_at}
+use Rattle.mach_ir.specs.Meaning.{written, passes_frame, code_at, from_handler, tries_at}
 use Rattle.mach_ir.specs.declared.op.Op.TheVariants as op
 use Rattle.mach_ir.specs.declared.op.CopyKind.TheVariants as copy
 use Rattle.mach_ir.specs.declared.op.Pure.TheVariants as pure
@@ -53,13 +53,16 @@ pub data Leads (m : Mach) (i : Instr) (next : List Instr) : List Instr → Type 
 
 -- a raise edge, to the innermost handler
 pub data Raises (m : Mach) (i : Instr) (next : List Instr) : List Instr → Type 0 where
-  raises : {l : ℕ} {tries : List ℕ} → may_raise i.op ≡ true → tries_at (i ∷ next) ≡ l ∷ tries → Raises m i next (onto l m.code)
+  raises : {l : ℕ} {tries : List ℕ} → may_raise i.op ≡ true → tries_at (i ∷ next) ≡ l ∷ tries →
+      Raises m i next (from_handler l m.code)
 
 -- the code from a place on to which some walk from the entry leads
 pub data Reached (m : Mach) : List Instr → Type 0 where
   at_entry : Reached m m.code
-  by_step : {i : Instr} {next to : List Instr} → Reached m (i ∷ next) → Leads m i next to → Reached m to
-  by_raise : {i : Instr} {next to : List Instr} → Reached m (i ∷ next) → Raises m i next to → Reached m to
+  by_step : {i : Instr} {next to : List Instr} → Reached m (i ∷ next) → Leads m i next to →
+      Reached m to
+  by_raise : {i : Instr} {next to : List Instr} → Reached m (i ∷ next) → Raises m i next to →
+      Reached m to
 
 -- ---- what is live
 
@@ -69,17 +72,20 @@ Writes m i n = Among n (written m i)
 -- Some walk from this code on reads the register before it writes it. A raise edge passes no write.
 pub data Live (m : Mach) (n : ℕ) : List Instr → Type 0 where
   read : {i : Instr} {next : List Instr} → Among n i.args → Live m n (i ∷ next)
-  on : {i : Instr} {next to : List Instr} → (Writes m i n → ⊥) → Leads m i next to → Live m n to → Live m n (i ∷ next)
-  aside : {i : Instr} {next to : List Instr} → Raises m i next to → Live m n to → Live m n (i ∷ next)
+  on : {i : Instr} {next to : List Instr} → (Writes m i n → ⊥) → Leads m i next to → Live m n to →
+      Live m n (i ∷ next)
+  aside : {i : Instr} {next to : List Instr} → Raises m i next to → Live m n to →
+      Live m n (i ∷ next)
 
--- live where an instruction leads to
+-- live where an instruction goes on, once it has written
 pub data LiveAfter (m : Mach) (n : ℕ) (i : Instr) (next : List Instr) : Type 0 where
   after_step : {to : List Instr} → Leads m i next to → Live m n to → LiveAfter m n i next
-  after_raise : {to : List Instr} → Raises m i next to → Live m n to → LiveAfter m n i next
 
--- Live after an instruction, from before it: it does not write it, or a raise edge leads to where it is read.
+-- Live after an instruction, from before it: it does not write it, or a raise edge leads to where
+-- it is read.
 pub data LiveAcross (m : Mach) (n : ℕ) (i : Instr) (next : List Instr) : Type 0 where
-  across_step : {to : List Instr} → (Writes m i n → ⊥) → Leads m i next to → Live m n to → LiveAcross m n i next
+  across_step : {to : List Instr} → (Writes m i n → ⊥) → Leads m i next to → Live m n to →
+      LiveAcross m n i next
   across_raise : {to : List Instr} → Raises m i next to → Live m n to → LiveAcross m n i next
 
 -- ---- registers of a function
@@ -110,12 +116,14 @@ pub record NoAddrLive (m : Mach) : Type 0 where
 -- a move from a register to another
 pub data IsMove (from to : ℕ) : Instr → Type 0 where
   is_move : {r q : Reg} → r.number ≡ from → q.number ≡ to →
-      IsMove from to (record { op = mach.Op (op.Pure (pure.Copy copy.Move)); args = r ∷ []; results = q ∷ [] })
+      IsMove from to
+      (record { op = mach.Op (op.Pure (pure.Copy copy.Move)); args = r ∷ []; results = q ∷ [] })
 
--- One is written while the other is live after the write, a move's source and target excepted. The entry writes the
--- parameters.
+-- One is written while the other is live after the write, a move's source and target excepted. The
+-- entry writes the parameters.
 pub data Meets (m : Mach) (n k : ℕ) : Type 0 where
-  at_write : (i : Instr) (next : List Instr) → Stands i next m.code → Writes m i n → LiveAfter m k i next →
+  at_write : (i : Instr) (next : List Instr) → Stands i next m.code → Writes m i n →
+      LiveAfter m k i next →
       (IsMove k n i → ⊥) → Meets m n k
   at_params : Among n m.params → Live m k m.code → Meets m n k
 

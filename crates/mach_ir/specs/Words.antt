@@ -43,8 +43,8 @@ comp_letter comp.Float = codes "f"
 abbrev pub is_from_to : ℕ → ℕ → ℕ → Bool
 is_from_to low high n = nat_le low n && nat_le n high
 
--- The name of a register of the machine: t0 to t6, s0 to s11 and a0 to a7; the others have their number after an x
--- (RISC-V ABIs specification, "Integer Register Convention").
+-- The name of a register of the machine: t0 to t6, s0 to s11 and a0 to a7; the others have their
+-- number after an x (RISC-V ABIs specification, "Integer Register Convention").
 abbrev pub register_name : ℕ → List ℕ
 register_name n =
     cond (is_from_to 5 7 n) (codes "t" ++ decimal (n - 5))
@@ -54,7 +54,7 @@ register_name n =
     (cond (is_from_to 28 31 n) (codes "t" ++ decimal (n - 25))
     (codes "x" ++ decimal n)))))
 
--- a place; what has none yet prints as told
+-- a place; what has none yet prints as given
 abbrev pub place_text : List ℕ → Loc → List ℕ
 place_text unset loc.Unset = unset
 place_text unset (loc.Machine n) = register_name n
@@ -68,9 +68,9 @@ abbrev pub word_text : ℕ → List ℕ
 word_text w = signed_decimal (signed_of w)
 
 -- what is before an operand: a space before the first, and a comma between
-abbrev pub mark : Bool → List ℕ
-mark true = codes " "
-mark false = codes ", "
+abbrev pub separator : Bool → List ℕ
+separator true = codes " "
+separator false = codes ", "
 
 -- ---- words
 
@@ -164,7 +164,7 @@ test_word (test.Unsigned f r) = codes " " ++ unsigned_word f
 
 abbrev pub right_text : Bool → Right → List ℕ
 right_text first right.Register = []
-right_text first (right.Constant w) = mark first ++ word_text w
+right_text first (right.Constant w) = separator first ++ word_text w
 
 abbrev pub test_right : Test → Right
 test_right test.Holds = right.Register
@@ -174,23 +174,23 @@ test_right (test.Unsigned f r) = r
 
 abbrev pub pure_text : Bool → Pure → List ℕ
 pure_text first (pure.Copy kind) = []
-pure_text first (pure.Constant w) = mark first ++ word_text w
-pure_text first (pure.Symbol name) = mark first ++ name
+pure_text first (pure.Constant w) = separator first ++ word_text w
+pure_text first (pure.Symbol name) = separator first ++ name
 pure_text first (pure.Operator f r) = right_text first r
 
 abbrev pub access_text : Bool → Access → List ℕ
-access_text first (access.Load k offset) = mark first ++ word_text offset
-access_text first (access.Store k offset) = mark first ++ word_text offset
-access_text first (access.Alloc blocks) = mark first ++ decimal (bytes_of blocks)
+access_text first (access.Load k offset) = separator first ++ word_text offset
+access_text first (access.Store k offset) = separator first ++ word_text offset
+access_text first (access.Alloc blocks) = separator first ++ decimal (bytes_of blocks)
 
 abbrev pub callee_text : Bool → Callee → List ℕ
-callee_text first (callee.Symbol name) = mark first ++ name
+callee_text first (callee.Symbol name) = separator first ++ name
 callee_text first callee.Register = []
 
 abbrev pub calling_text : Bool → Calling → List ℕ
 calling_text first (calling.Call whom result) = callee_text first whom
 calling_text first (calling.TailCall whom result) = callee_text first whom
-calling_text first (calling.External row frame) = mark first ++ row.name
+calling_text first (calling.External row frame) = separator first ++ row.name
 
 abbrev pub leaving_text : Bool → Leaving → List ℕ
 leaving_text first (leaving.Checkbound r) = right_text first r

@@ -12,7 +12,8 @@ pub struct NewBlock {
     pub cells: u32,
 }
 
-/// The blocks of one allocation, first to last. Contracts see them as a list. Their bytes are below 2^32.
+/// The blocks of one allocation, first to last. Contracts see them as a list. Their bytes are below
+/// 2^32.
 #[derive(Clone, Drop)]
 pub struct Blocks {
     items: Vec<NewBlock>,
@@ -43,6 +44,17 @@ impl Blocks {
             items,
             bytes: 8 * (block.cells + 1),
         })
+    }
+
+    #[tactic(auto, using(crate::proofs::Sums::bytes_push))]
+    /// Allocates one block more, after the others. Where memory is used up nothing has changed.
+    pub fn push(&mut self, block: NewBlock) -> Result<(), AllocError>
+        requires { bytes_of self.old + block_bytes block < 4294967296 }
+        ensures { IfOk result (λ _. self.new ≡ self.old ++ block ∷ []) }
+    {
+        self.items.push(block)?;
+        self.bytes += 8 * (block.cells + 1);
+        Ok(())
     }
 
     /// The blocks, in order.

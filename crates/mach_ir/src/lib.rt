@@ -1,11 +1,12 @@
 //! Mach: one function as a list of instructions over typed registers.
 //!
 //! Mach is the language of the middle of the compiler, as `Mach` is in OCaml's `asmcomp`. Selection
-//! makes it, the passes over it change it, and linearisation takes it away. The definitions of what a
-//! function does, of what is live and of when one function does what another does are in `specs`.
+//! makes it, the passes over it change it, and linearisation takes it away. The definitions of what
+//! a function does, of what is live and of when one function does what another does are in `specs`.
 #![tactic(auto)]
 
 pub mod blocks;
+pub mod graph;
 mod lines;
 pub mod mach;
 pub mod op;
@@ -14,6 +15,7 @@ pub mod reg;
 pub mod seq;
 
 pub use blocks::{Blocks, NewBlock};
+pub use graph::{Colours, Graph, LiveMap, Node};
 pub use lines::text;
 pub use mach::{Instr, Mach, MachOp, Mark, Test};
 pub use op::{Access, Callee, Calling, CopyKind, External, Leaving, Op, Pure, Right};

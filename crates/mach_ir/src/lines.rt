@@ -2,7 +2,8 @@
 ghost use Rattle.std.specs.Prelude.{◌≡◌, ◌++◌, true, false, codes, IfOk};
 ghost use Rattle.std.specs.Fmt.{decimal};
 ghost use Rattle.bs_words.specs.Contents.{contents};
-ghost use Rattle.mach_ir.specs.Words.{label_text, mark};
+ghost use Rattle.mach_ir.specs.Pages.{Adds};
+ghost use Rattle.mach_ir.specs.Words.{label_text, separator};
 ghost use Rattle.mach_ir.specs.Text.{reg_text, regs_text, results_text, is_first, numbers_text, mark_word, mark_text, instr_word, instr_text, mark_turn, turn_of, indent_at, indent_on, line_text, shown, lines_text, mach_text};
 
 use crate::mach::{Instr, Mach, MachOp, Mark};
@@ -40,7 +41,7 @@ pub fn text(alloc: Global, mach: &Mach) -> Result<List<u8>, AllocError>
 
 impl Page {
     fn put_lines(&mut self, alloc: Global, code: &[Instr]) -> Result<(), AllocError>
-        ensures { IfOk result (λ _. self.new.bytes.items ≡ self.old.bytes.items ++ lines_text (codes "  ") code.now) }
+        ensures { IfOk result (λ _. Adds self.old self.new (lines_text (codes "  ") code.now)) }
     {
         let mut indent = b"  ".to_vec(alloc)?;
         for instr in code {
@@ -53,7 +54,8 @@ impl Page {
     }
 
     fn put_shown(&mut self, turn: Turn, indent: &[u8], instr: &Instr) -> Result<(), AllocError>
-        ensures { IfOk result (λ _. self.new.bytes.items ≡ self.old.bytes.items ++ shown turn (line_text indent.now instr.now)) }
+        ensures { IfOk result (λ _.
+            Adds self.old self.new (shown turn (line_text indent.now instr.now))) }
     {
         match turn {
             Turn::Hides => Ok(()),
@@ -62,7 +64,7 @@ impl Page {
     }
 
     fn put_line(&mut self, indent: &[u8], instr: &Instr) -> Result<(), AllocError>
-        ensures { IfOk result (λ _. self.new.bytes.items ≡ self.old.bytes.items ++ line_text indent.now instr.now) }
+        ensures { IfOk result (λ _. Adds self.old self.new (line_text indent.now instr.now)) }
     {
         let args = instr.args.as_slice();
         self.put(indent)?;
@@ -74,7 +76,7 @@ impl Page {
     }
 
     fn put_reg(&mut self, reg: Reg) -> Result<(), AllocError>
-        ensures { IfOk result (λ _. self.new.bytes.items ≡ self.old.bytes.items ++ reg_text reg) }
+        ensures { IfOk result (λ _. Adds self.old self.new (reg_text reg)) }
     {
         match reg.loc {
             Loc::Unset => {
@@ -89,22 +91,22 @@ impl Page {
 
     /// Registers after others.
     fn put_more(&mut self, regs: &[Reg]) -> Result<(), AllocError>
-        ensures { IfOk result (λ _. self.new.bytes.items ≡ self.old.bytes.items ++ regs_text false regs.now) }
+        ensures { IfOk result (λ _. Adds self.old self.new (regs_text false regs.now)) }
     {
         for reg in regs {
-            self.put_mark(false)?;
+            self.put_separator(false)?;
             self.put_reg(*reg)?;
         }
         Ok(())
     }
 
     fn put_args(&mut self, regs: &[Reg]) -> Result<(), AllocError>
-        ensures { IfOk result (λ _. self.new.bytes.items ≡ self.old.bytes.items ++ regs_text true regs.now) }
+        ensures { IfOk result (λ _. Adds self.old self.new (regs_text true regs.now)) }
     {
         match regs.split_first() {
             None => Ok(()),
             Some((reg, others)) => {
-                self.put_mark(true)?;
+                self.put_separator(true)?;
                 self.put_reg(*reg)?;
                 self.put_more(others)
             }
@@ -112,7 +114,7 @@ impl Page {
     }
 
     fn put_results(&mut self, regs: &[Reg]) -> Result<(), AllocError>
-        ensures { IfOk result (λ _. self.new.bytes.items ≡ self.old.bytes.items ++ results_text regs.now) }
+        ensures { IfOk result (λ _. Adds self.old self.new (results_text regs.now)) }
     {
         match regs.split_first() {
             None => Ok(()),
@@ -125,7 +127,7 @@ impl Page {
     }
 
     fn put_instr_word(&mut self, op: &MachOp) -> Result<(), AllocError>
-        ensures { IfOk result (λ _. self.new.bytes.items ≡ self.old.bytes.items ++ instr_word op.now) }
+        ensures { IfOk result (λ _. Adds self.old self.new (instr_word op.now)) }
     {
         match op {
             MachOp::Op(op) => self.put_op_word(op),
@@ -134,7 +136,7 @@ impl Page {
     }
 
     fn put_instr(&mut self, first: bool, op: &MachOp) -> Result<(), AllocError>
-        ensures { IfOk result (λ _. self.new.bytes.items ≡ self.old.bytes.items ++ instr_text first op.now) }
+        ensures { IfOk result (λ _. Adds self.old self.new (instr_text first op.now)) }
     {
         match op {
             MachOp::Op(op) => self.put_op(first, op),
@@ -143,7 +145,7 @@ impl Page {
     }
 
     fn put_mark_word(&mut self, mark: &Mark) -> Result<(), AllocError>
-        ensures { IfOk result (λ _. self.new.bytes.items ≡ self.old.bytes.items ++ mark_word mark.now) }
+        ensures { IfOk result (λ _. Adds self.old self.new (mark_word mark.now)) }
     {
         match mark {
             Mark::Exit { label: _, tries: _ } => self.put(b"exit"),
@@ -168,15 +170,15 @@ impl Page {
     }
 
     fn put_marked_label(&mut self, first: bool, label: u32) -> Result<(), AllocError>
-        ensures { IfOk result (λ _. self.new.bytes.items ≡ self.old.bytes.items ++ (mark first ++ label_text label)) }
+        ensures { IfOk result (λ _. Adds self.old self.new (separator first ++ label_text label)) }
     {
-        self.put_mark(first)?;
+        self.put_separator(first)?;
         self.put_label(label)
     }
 
     /// The operands of a mark that are no registers.
     fn put_structure(&mut self, first: bool, mark: &Mark) -> Result<(), AllocError>
-        ensures { IfOk result (λ _. self.new.bytes.items ≡ self.old.bytes.items ++ mark_text first mark.now) }
+        ensures { IfOk result (λ _. Adds self.old self.new (mark_text first mark.now)) }
     {
         match mark {
             Mark::Exit { label, tries: _ } => self.put_marked_label(first, *label),
@@ -199,22 +201,22 @@ impl Page {
 
     /// Numbers after others.
     fn put_more_numbers(&mut self, numbers: &[u32]) -> Result<(), AllocError>
-        ensures { IfOk result (λ _. self.new.bytes.items ≡ self.old.bytes.items ++ numbers_text false numbers.now) }
+        ensures { IfOk result (λ _. Adds self.old self.new (numbers_text false numbers.now)) }
     {
         for number in numbers {
-            self.put_mark(false)?;
+            self.put_separator(false)?;
             self.put_number(u64::from(*number))?;
         }
         Ok(())
     }
 
     fn put_numbers(&mut self, first: bool, numbers: &[u32]) -> Result<(), AllocError>
-        ensures { IfOk result (λ _. self.new.bytes.items ≡ self.old.bytes.items ++ numbers_text first numbers.now) }
+        ensures { IfOk result (λ _. Adds self.old self.new (numbers_text first numbers.now)) }
     {
         match numbers.split_first() {
             None => Ok(()),
             Some((number, others)) => {
-                self.put_mark(first)?;
+                self.put_separator(first)?;
                 self.put_number(u64::from(*number))?;
                 self.put_more_numbers(others)
             }

@@ -1,7 +1,8 @@
 //! The instructions of Mach.
 //!
-//! The code of a function is one list in the order of the text. The structures of the text (if, switch,
-//! catch, try) are told by marks in it. A label is that of the place after the mark that has it first.
+//! The code of a function is one list in the order of the text. The structures of the text (if,
+//! switch, catch, try) are told by marks in it. A label is that of the place after the mark that
+//! has it first.
 
 use crate::op::{Op, Right};
 use crate::reg::Reg;
@@ -23,8 +24,8 @@ pub enum Test {
 
 /// The marks of structures, and exits.
 ///
-/// A body that comes to its end goes on at the next mark: an `else`, `case` or `with` takes it to the end
-/// of the structure.
+/// A body that comes to its end goes on at the next mark: an `else`, `case` or `with` takes it to
+/// the end of the structure.
 #[derive(Clone, Drop)]
 pub enum Mark {
     /// An exit to a handler, which ends so many tries. Moves before it have put the values of the

@@ -1,7 +1,7 @@
 //! The operations that Mach and Linear have in common, by families.
 //!
-//! Operands and results stand in the instruction. What an operation holds itself is what it is known by
-//! beside them: a constant, a symbol, a chunk, an offset, a row.
+//! Operands and results stand in the instruction. What an operation holds itself is what it is
+//! known by beside them: a constant, a symbol, a chunk, an offset, a row.
 
 use crate::blocks::Blocks;
 use crate::seq::Seq;
@@ -42,7 +42,8 @@ pub enum Access {
     Load { chunk: Chunk, offset: u64 },
     /// To an address: the first operand; the second is the value.
     Store { chunk: Chunk, offset: u64 },
-    /// At least one block, and a result for each. The first gets the next serial, and lies at the highest address.
+    /// At least one block, and a result for each. The first gets the next serial, and lies at the
+    /// highest address.
     Alloc(Blocks),
 }
 
@@ -53,7 +54,8 @@ pub enum Callee {
     Register,
 }
 
-/// What an external call is known by: its name, the component of each argument, and what it answers.
+/// What an external call is known by: its name, the component of each argument, and what it
+/// answers.
 #[derive(Clone, Drop)]
 pub struct External {
     pub name: Name,
@@ -61,7 +63,8 @@ pub struct External {
     pub result: Ret,
 }
 
-/// Calls. `result` is what the call is written with; where it is no value, what the callee gives is dropped.
+/// Calls. `result` is what the call is written with; where it is no value, what the callee gives is
+/// dropped.
 #[derive(Clone, Drop)]
 pub enum Calling {
     Call { callee: Callee, result: Ret },
@@ -74,7 +77,8 @@ pub enum Calling {
 /// What may leave a straight run with no mark.
 #[derive(Clone, Copy, PartialEq, Eq, Debug)]
 pub enum Leaving {
-    /// The first operand is the bound, the second the index. It raises where the index is not below the bound.
+    /// The first operand is the bound, the second the index. It raises where the index is not below
+    /// the bound.
     Checkbound(Right),
     Raise,
     /// With the value of the function, or none.

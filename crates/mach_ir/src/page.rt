@@ -2,7 +2,8 @@
 ghost use Rattle.std.specs.Prelude.{◌≡◌, ◌++◌, codes, IfOk};
 ghost use Rattle.std.specs.Fmt.{decimal, signed_decimal};
 ghost use Rattle.bs_words.specs.Word.{signed_of};
-ghost use Rattle.mach_ir.specs.Words.{comp_letter, register_name, label_text, word_text, mark, signed_word, unsigned_word, operator_word, chunk_word, copy_word, pure_word, access_word, calling_word, leaving_word, op_word, test_word, right_text, test_right, pure_text, access_text, callee_text, calling_text, leaving_text, op_text};
+ghost use Rattle.mach_ir.specs.Pages.{Adds};
+ghost use Rattle.mach_ir.specs.Words.{comp_letter, register_name, label_text, word_text, separator, signed_word, unsigned_word, operator_word, chunk_word, copy_word, pure_word, access_word, calling_word, leaving_word, op_word, test_word, right_text, test_right, pure_text, access_text, callee_text, calling_text, leaving_text, op_text};
 
 use crate::mach::Test;
 use crate::op::{Access, Callee, Calling, CopyKind, Leaving, Op, Pure, Right};
@@ -27,14 +28,14 @@ impl Page {
     }
 
     pub fn put(&mut self, piece: &[u8]) -> Result<(), AllocError>
-        ensures { IfOk result (λ _. self.new.bytes.items ≡ self.old.bytes.items ++ piece.now) }
+        ensures { IfOk result (λ _. Adds self.old self.new piece.now) }
     {
         self.bytes.extend_from_slice(piece)?;
         Ok(())
     }
 
     pub fn put_number(&mut self, number: u64) -> Result<(), AllocError>
-        ensures { IfOk result (λ _. self.new.bytes.items ≡ self.old.bytes.items ++ decimal number) }
+        ensures { IfOk result (λ _. Adds self.old self.new (decimal number)) }
     {
         let mut digits = Buffer::new();
         self.put(digits.format(number).as_bytes())
@@ -42,28 +43,28 @@ impl Page {
 
     /// A word by its signed reading.
     pub fn put_word(&mut self, word: u64) -> Result<(), AllocError>
-        ensures { IfOk result (λ _. self.new.bytes.items ≡ self.old.bytes.items ++ word_text word) }
+        ensures { IfOk result (λ _. Adds self.old self.new (word_text word)) }
     {
         let mut digits = Buffer::new();
         self.put(digits.format(signed(word)).as_bytes())
     }
 
     pub fn put_label(&mut self, label: u32) -> Result<(), AllocError>
-        ensures { IfOk result (λ _. self.new.bytes.items ≡ self.old.bytes.items ++ label_text label) }
+        ensures { IfOk result (λ _. Adds self.old self.new (label_text label)) }
     {
         self.put(b"L")?;
         self.put_number(u64::from(label))
     }
 
     /// What is before an operand.
-    pub fn put_mark(&mut self, first: bool) -> Result<(), AllocError>
-        ensures { IfOk result (λ _. self.new.bytes.items ≡ self.old.bytes.items ++ mark first) }
+    pub fn put_separator(&mut self, first: bool) -> Result<(), AllocError>
+        ensures { IfOk result (λ _. Adds self.old self.new (separator first)) }
     {
         self.put(if first { b" " } else { b", " })
     }
 
     fn put_named(&mut self, letter: &[u8], number: u8) -> Result<(), AllocError>
-        ensures { IfOk result (λ _. self.new.bytes.items ≡ self.old.bytes.items ++ (letter.now ++ decimal number)) }
+        ensures { IfOk result (λ _. Adds self.old self.new (letter.now ++ decimal number)) }
     {
         self.put(letter)?;
         self.put_number(u64::from(number))
@@ -71,7 +72,7 @@ impl Page {
 
     /// The name of a register of the machine.
     pub fn put_register(&mut self, number: u8) -> Result<(), AllocError>
-        ensures { IfOk result (λ _. self.new.bytes.items ≡ self.old.bytes.items ++ register_name number) }
+        ensures { IfOk result (λ _. Adds self.old self.new (register_name number)) }
     {
         if 5 <= number && number <= 7 {
             self.put_named(b"t", number - 5)
@@ -90,7 +91,8 @@ impl Page {
 
     /// A slot.
     pub fn put_slot(&mut self, slot: u32) -> Result<(), AllocError>
-        ensures { IfOk result (λ _. self.new.bytes.items ≡ self.old.bytes.items ++ (codes "[" ++ decimal slot ++ codes "]")) }
+        ensures { IfOk result (λ _.
+            Adds self.old self.new (codes "[" ++ decimal slot ++ codes "]")) }
     {
         self.put(b"[")?;
         self.put_number(u64::from(slot))?;
@@ -99,7 +101,7 @@ impl Page {
 
     /// The component of what stands before it.
     pub fn put_comp(&mut self, comp: Comp) -> Result<(), AllocError>
-        ensures { IfOk result (λ _. self.new.bytes.items ≡ self.old.bytes.items ++ (codes ":" ++ comp_letter comp)) }
+        ensures { IfOk result (λ _. Adds self.old self.new (codes ":" ++ comp_letter comp)) }
     {
         self.put(b":")?;
         self.put(letter_of(comp))
@@ -107,7 +109,7 @@ impl Page {
 
     /// The word of an operation.
     pub fn put_op_word(&mut self, op: &Op) -> Result<(), AllocError>
-        ensures { IfOk result (λ _. self.new.bytes.items ≡ self.old.bytes.items ++ op_word op.now) }
+        ensures { IfOk result (λ _. Adds self.old self.new (op_word op.now)) }
     {
         match op {
             Op::Pure(pure) => self.put(word_of_pure(pure)),
@@ -118,7 +120,7 @@ impl Page {
     }
 
     fn put_access_word(&mut self, access: &Access) -> Result<(), AllocError>
-        ensures { IfOk result (λ _. self.new.bytes.items ≡ self.old.bytes.items ++ access_word access.now) }
+        ensures { IfOk result (λ _. Adds self.old self.new (access_word access.now)) }
     {
         match access {
             Access::Load { chunk, offset: _ } => {
@@ -135,7 +137,7 @@ impl Page {
 
     /// The word of a test, after that of what tests.
     pub fn put_test_word(&mut self, test: Test) -> Result<(), AllocError>
-        ensures { IfOk result (λ _. self.new.bytes.items ≡ self.old.bytes.items ++ test_word test) }
+        ensures { IfOk result (λ _. Adds self.old self.new (test_word test)) }
     {
         match test {
             Test::Holds => Ok(()),
@@ -153,33 +155,33 @@ impl Page {
 
     /// A right operand that is a constant.
     pub fn put_right(&mut self, first: bool, right: Right) -> Result<(), AllocError>
-        ensures { IfOk result (λ _. self.new.bytes.items ≡ self.old.bytes.items ++ right_text first right) }
+        ensures { IfOk result (λ _. Adds self.old self.new (right_text first right)) }
     {
         match right {
             Right::Register => Ok(()),
             Right::Constant(word) => {
-                self.put_mark(first)?;
+                self.put_separator(first)?;
                 self.put_word(word)
             }
         }
     }
 
     fn put_name(&mut self, first: bool, name: &[u8]) -> Result<(), AllocError>
-        ensures { IfOk result (λ _. self.new.bytes.items ≡ self.old.bytes.items ++ (mark first ++ name.now)) }
+        ensures { IfOk result (λ _. Adds self.old self.new (separator first ++ name.now)) }
     {
-        self.put_mark(first)?;
+        self.put_separator(first)?;
         self.put(name)
     }
 
     fn put_constant(&mut self, first: bool, word: u64) -> Result<(), AllocError>
-        ensures { IfOk result (λ _. self.new.bytes.items ≡ self.old.bytes.items ++ (mark first ++ word_text word)) }
+        ensures { IfOk result (λ _. Adds self.old self.new (separator first ++ word_text word)) }
     {
-        self.put_mark(first)?;
+        self.put_separator(first)?;
         self.put_word(word)
     }
 
     fn put_pure(&mut self, first: bool, pure: &Pure) -> Result<(), AllocError>
-        ensures { IfOk result (λ _. self.new.bytes.items ≡ self.old.bytes.items ++ pure_text first pure.now) }
+        ensures { IfOk result (λ _. Adds self.old self.new (pure_text first pure.now)) }
     {
         match pure {
             Pure::Copy(_) => Ok(()),
@@ -190,20 +192,20 @@ impl Page {
     }
 
     fn put_access(&mut self, first: bool, access: &Access) -> Result<(), AllocError>
-        ensures { IfOk result (λ _. self.new.bytes.items ≡ self.old.bytes.items ++ access_text first access.now) }
+        ensures { IfOk result (λ _. Adds self.old self.new (access_text first access.now)) }
     {
         match access {
             Access::Load { chunk: _, offset } => self.put_constant(first, *offset),
             Access::Store { chunk: _, offset } => self.put_constant(first, *offset),
             Access::Alloc(blocks) => {
-                self.put_mark(first)?;
+                self.put_separator(first)?;
                 self.put_number(u64::from(blocks.bytes()))
             }
         }
     }
 
     fn put_callee(&mut self, first: bool, callee: &Callee) -> Result<(), AllocError>
-        ensures { IfOk result (λ _. self.new.bytes.items ≡ self.old.bytes.items ++ callee_text first callee.now) }
+        ensures { IfOk result (λ _. Adds self.old self.new (callee_text first callee.now)) }
     {
         match callee {
             Callee::Symbol(name) => self.put_name(first, name.as_bytes()),
@@ -212,7 +214,7 @@ impl Page {
     }
 
     fn put_calling(&mut self, first: bool, calling: &Calling) -> Result<(), AllocError>
-        ensures { IfOk result (λ _. self.new.bytes.items ≡ self.old.bytes.items ++ calling_text first calling.now) }
+        ensures { IfOk result (λ _. Adds self.old self.new (calling_text first calling.now)) }
     {
         match calling {
             Calling::Call { callee, result: _ } => self.put_callee(first, callee),
@@ -222,7 +224,7 @@ impl Page {
     }
 
     fn put_leaving(&mut self, first: bool, leaving: Leaving) -> Result<(), AllocError>
-        ensures { IfOk result (λ _. self.new.bytes.items ≡ self.old.bytes.items ++ leaving_text first leaving) }
+        ensures { IfOk result (λ _. Adds self.old self.new (leaving_text first leaving)) }
     {
         match leaving {
             Leaving::Checkbound(right) => self.put_right(first, right),
@@ -233,7 +235,7 @@ impl Page {
 
     /// The operands of an operation that are no registers.
     pub fn put_op(&mut self, first: bool, op: &Op) -> Result<(), AllocError>
-        ensures { IfOk result (λ _. self.new.bytes.items ≡ self.old.bytes.items ++ op_text first op.now) }
+        ensures { IfOk result (λ _. Adds self.old self.new (op_text first op.now)) }
     {
         match op {
             Op::Pure(pure) => self.put_pure(first, pure),

@@ -1,1 +1,11 @@
+pub mod Apart
+pub mod Chain
+pub mod InHeap
+pub mod Memory
 pub mod Orderly
+pub mod Packing
+pub mod Serving
+pub mod Starting
+pub mod Stepping
+pub mod Values
+pub mod Words

@@ -17,7 +17,8 @@ use Rattle.cmm_meaning.specs.State.{Called, World, Here, deepened, scope, back_i
 use Rattle.cmm_meaning.specs.Evaluation.{Evaluated, Evaluation, Gives, Exits, Raises, Stops, NotProper, Surroundings, and_then, only_value, with_value, proper, tested, of_type, typed, spend, node, both, unless_light, now_or_before, as_written, back_from_call, called_with, applied, call_from, fit_parameters, back, entered, tried}
 use Rattle.meaning_laws.specs.Does.{Leaves, Giving, Exiting, Raising, Does, Ends, Pays, Deepens, Jumps, Calls, CallsOut, Fails, Spent, played, ended, after_call}
 use Rattle.meaning_laws.specs.Interaction as part
-use Rattle.meaning_laws.specs.Interaction.{Part, Operand, setting_of, onward}
+use Rattle.cmm_meaning.specs.Setting.{setting_of}
+use Rattle.meaning_laws.specs.Interaction.{Part, Operand, onward}
 use Rattle.meaning_fuel.proofs.Alike.{Spends, Pays as Fewer}
 use Rattle.meaning_fuel.proofs.Depth.{Spending}
 

@@ -13,7 +13,8 @@ use Rattle.cmm_meaning.specs.State.{World, Here, taken, within_try, scope, value
 use Rattle.cmm_meaning.specs.Evaluation.{Surroundings, is_left_first, first_of, rest_of, row_of_call, with_bound, Body, looked_up, evaluated, waiting, filled, entering, in_order, choices, readied}
 use Rattle.cmm_meaning.specs.Choices.{Chosen, ready_for, is_named, last_naming, first_case}
 use Rattle.meaning_laws.specs.Interaction as part
-use Rattle.meaning_laws.specs.Interaction.{Operand, setting_of}
+use Rattle.cmm_meaning.specs.Setting.{setting_of}
+use Rattle.meaning_laws.specs.Interaction.{Operand}
 use Rattle.meaning_fuel.proofs.Depth.{Spending}
 use Rattle.meaning_laws.proofs.Agreement.{Agrees, agree_gives, agree_leaves, agree_exits, agree_raises, agree_fails, agree_jumps, agree_deepens, agree_and_then, agree_with_value, agree_proper, agree_cond, agree_tested, agree_node, agree_both, agree_unless_light, agree_now_or_before, agree_calls_out, agree_applied, agree_back, agree_tried}
 use Rattle.meaning_laws.proofs.AgreementChoices.{OneReady, neither_ready, both_ready, first_found, agree_caught, OneChosen, neither_chosen, both_chosen, last_chosen, agree_chosen}

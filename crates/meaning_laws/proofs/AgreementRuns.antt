@@ -12,7 +12,8 @@ use Rattle.cmm_meaning.specs.Evaluation.{Evaluation, Gives, Exits, Raises, Stops
 use Rattle.cmm_meaning.specs.Run.{outside, activated, callees}
 use Rattle.cmm_meaning.specs.Alone.{lone_world, alone}
 use Rattle.meaning_laws.specs.Does.{Leaves, Does, Ends, played}
-use Rattle.meaning_laws.specs.Interaction.{setting_of, does, function_does}
+use Rattle.cmm_meaning.specs.Setting.{setting_of}
+use Rattle.meaning_laws.specs.Interaction.{does, function_does}
 use Rattle.meaning_laws.specs.Links.{lonely}
 use Rattle.meaning_fuel.specs.Whole.{whole}
 use Rattle.meaning_fuel.proofs.Alike.{spends_pays}

@@ -15,10 +15,11 @@ use Rattle.cmm_meaning.specs.Evaluation.{Stop, OutOfFuel, NotProper, NoAnswer, A
 use Rattle.cmm_meaning.specs.Run.{nobody}
 use Rattle.cmm_meaning.specs.Alone.{done_inside, done_outside, lone_world, alone}
 use Rattle.meaning_laws.specs.Does.{Giving, Exiting, Raising, Does, after_call, played}
-use Rattle.meaning_laws.specs.Interaction.{Setting, setting_of, function_does}
+use Rattle.cmm_meaning.specs.Setting.{Setting, setting_of}
+use Rattle.meaning_laws.specs.Interaction.{function_does}
 use Rattle.meaning_laws.specs.Links.{doing_of, Linked, lonely}
 use Rattle.meaning_laws.specs.Pace.{Paced, ends, pays, deepens, jumps, calls, calls_out, fails, spent, beats, beats_behind_call, beats_behind_external, beats_behind_unit, pending}
-use Rattle.cmm_meaning.specs.Nodes.{nodes}
+use Rattle.cmm_tree.specs.Measures.{nodes_in}
 use Rattle.meaning_laws.specs.Units.{world_of}
 use Rattle.meaning_fuel.specs.Whole.{whole}
 use Rattle.meaning_laws.proofs.AgreementRuns.{alone_plays}
@@ -188,7 +189,7 @@ lonely_free end symbol parameters =
 -- One function alone spends at most so many units as its body has nodes up to its first beat, and for each beat so
 -- many more; and a bound of all functions of its file serves it.
 pub alone_beats : (most end : ℕ) (symbol : List ℕ → Option Value) (parameters : List (List Comp)) (turns frame : ℕ) (f : FunctionTree)
-    (arguments : List Value) (below : ℕ) (memory : Memory) (doings : List Doing) (n : ℕ) → nodes f.body ≤ most → n ≤ turns →
+    (arguments : List Value) (below : ℕ) (memory : Memory) (doings : List Doing) (n : ℕ) → nodes_in f.body ≤ most → n ≤ turns →
     let c : Setting = record { end = end; symbol = symbol; parameters = parameters } in
     n ≤ (world_of (alone end symbol parameters frame f arguments below memory doings n)).left
     + most * suc (beats (lonely end symbol parameters) (function_does c turns frame f arguments below memory) (lone_world memory doings n))
@@ -218,7 +219,7 @@ alone_paid end symbol parameters turns frame f arguments below memory doings n e
 
 -- So it is with the units of a linked run that are the function's own.
 pub own_beats : {s : Surroundings} {bound : ℕ} (file : FileTree) (layout : Layout) (call : Called) (tree : FunctionTree) (w : World) {run : Evaluation}
-    (l : Linked s bound (function_alone file layout call tree w.memory) w run) (most turns : ℕ) → nodes tree.body ≤ most → l.own ≤ turns →
+    (l : Linked s bound (function_alone file layout call tree w.memory) w run) (most turns : ℕ) → nodes_in tree.body ≤ most → l.own ≤ turns →
     l.own ≤ l.last.left
     + most * suc (beats (lonely (data_end file) (value_of_symbol file) (map comps_of (functions file)))
     (function_does (setting_of (whole file layout)) turns (slice_index layout.frames call.function) tree call.arguments call.below w.memory)

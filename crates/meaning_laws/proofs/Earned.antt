@@ -13,7 +13,8 @@ use Rattle.cmm_types.specs.Types.{Scoped, type_of, type_named, type_bound, is_mu
 use Rattle.cmm_meaning.specs.State.{Here, taken, within_try, scope, value_of, assigned, bound, back_in}
 use Rattle.cmm_meaning.specs.Evaluation.{is_left_first, first_of, rest_of, row_of_call, scoped_parameter, with_bound, bound_error}
 use Rattle.meaning_laws.specs.Does.{Ends}
-use Rattle.meaning_laws.specs.Interaction.{Setting, back, catching, trying, does, waiting, filled, entering, in_order, choices, readied, function_does}
+use Rattle.cmm_meaning.specs.Setting.{Setting}
+use Rattle.meaning_laws.specs.Interaction.{back, catching, trying, does, waiting, filled, entering, in_order, choices, readied, function_does}
 use Rattle.meaning_laws.proofs.Choices.{EachCase, no_case, a_case, EachHandler, no_handler, a_handler}
 use Rattle.meaning_laws.proofs.Covers.{Earned, ends, deepens, earned_more, Covers, Covering, covers_any, covers_applied, covers_back, covers_both, covers_called_out, covers_case, covers_catching, covers_cond, covers_deepens, covers_exits, covers_fails, covers_from, covers_gives, covers_jumps, covers_looked, covers_node, covers_now, covers_proper, covers_raises, covers_tested, covers_then, covers_unless, covers_value}
 

@@ -18,7 +18,8 @@ use Rattle.cmm_meaning.specs.Evaluation.{NotProper, Evaluation, Raises, Stops, S
 use Rattle.meaning_laws.specs.Does.{Does, after_call, played}
 use Rattle.meaning_laws.specs.Fitting.{Activation, Returned, gave, threw, memory_after, Lawful, gives, exits, raises, pays, deepens, jumps, calls, calls_out, fails, spent, gives_fit, exit_fits, raise_fits, stop_fits, raised_fits, given, left_by_exit, stopped}
 use Rattle.meaning_laws.specs.Handed.{IsHanded, function_gave, function_threw, outside_gave, outside_threw, AreHanded, none, more, AreHandedSince, EndsLawful}
-use Rattle.meaning_laws.specs.Interaction.{Setting, function_does}
+use Rattle.cmm_meaning.specs.Setting.{Setting}
+use Rattle.meaning_laws.specs.Interaction.{function_does}
 use Rattle.meaning_laws.specs.Links.{lonely}
 use Rattle.meaning_laws.specs.Units.{world_of, Begins}
 use Rattle.meaning_laws.proofs.AgreementRuns.{alone_plays}

@@ -14,7 +14,8 @@ use Rattle.cmm_types.specs.Types.{Scoped, type_of, type_named, type_bound, is_mu
 use Rattle.cmm_meaning.specs.State.{Here, Binding, taken, within_try, scope, value_of, assigned, bound, back_in}
 use Rattle.cmm_meaning.specs.Evaluation.{is_left_first, first_of, rest_of, row_of_call, fit_parameters, scoped_parameter, with_bound, bound_error}
 use Rattle.meaning_laws.specs.Does.{Leaves, Does, Ends}
-use Rattle.meaning_laws.specs.Interaction.{Setting, back, trying, does, waiting, filled, entering, in_order, choices, readied, function_does}
+use Rattle.cmm_meaning.specs.Setting.{Setting}
+use Rattle.meaning_laws.specs.Interaction.{back, trying, does, waiting, filled, entering, in_order, choices, readied, function_does}
 use Rattle.meaning_laws.specs.Fitting.{Activation, Lawful, deepens, fails}
 use Rattle.meaning_laws.proofs.LinksFirst.{PaysFirst}
 use Rattle.meaning_laws.proofs.LinksFirst as first

@@ -13,7 +13,8 @@ use Rattle.cmm_meaning.specs.State.{Doing, Gave, Threw, Called, World, Here, dee
 use Rattle.cmm_meaning.specs.Evaluation.{OutOfFuel, NotProper, NoAnswer, Evaluation, Gives, Exits, Raises, Stops, Surroundings, spend}
 use Rattle.cmm_meaning.specs.Run.{activated, callees}
 use Rattle.meaning_laws.specs.Does.{Does, Ends, Pays, Deepens, Jumps, Calls, CallsOut, Fails, Spent, Giving, Exiting, Raising, after_call, played}
-use Rattle.meaning_laws.specs.Interaction.{setting_of, function_does}
+use Rattle.cmm_meaning.specs.Setting.{setting_of}
+use Rattle.meaning_laws.specs.Interaction.{function_does}
 use Rattle.meaning_laws.specs.Fitting.{Answered, answered, answered_raise, unfit, unanswered}
 use Rattle.meaning_laws.proofs.AgreementRuns.{function_plays, nested, nested_spending}
 use Rattle.meaning_fuel.proofs.Depth.{Spending}

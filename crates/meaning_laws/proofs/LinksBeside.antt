@@ -9,7 +9,7 @@ use Rattle.bs_words.specs.declared.values.Value.{Value}
 use Rattle.cmm_meaning.specs.State.{Doing, Gave, Threw, Called, World, deepened}
 use Rattle.cmm_meaning.specs.Evaluation.{OutOfFuel, NotProper, NoAnswer, Evaluation, Gives, Exits, Raises, Stops, Surroundings, spend}
 use Rattle.meaning_laws.specs.Does.{Giving, Exiting, Raising, Does, Ends, Deepens, Calls, CallsOut, Fails, Spent, after_call, played}
-use Rattle.meaning_laws.specs.Interaction.{setting_of}
+use Rattle.cmm_meaning.specs.Setting.{setting_of}
 use Rattle.meaning_laws.specs.Fitting.{Returned, memory_after, Activation, FitsCallee, Lawful, RaisedFits, raised_fits, Answered, answered, answered_raise, unfit, unanswered, CallsFitAndGrow}
 use Rattle.meaning_laws.specs.Fitting as fitting
 use Rattle.meaning_laws.specs.Units.{world_of, Later}

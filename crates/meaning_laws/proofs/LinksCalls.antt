@@ -10,7 +10,8 @@ use Rattle.cmm_meaning.specs.Evaluation.{Evaluation, Surroundings}
 use Rattle.cmm_meaning.specs.Run.{callees}
 use Rattle.cmm_meaning.specs.Alone.{alone}
 use Rattle.meaning_laws.specs.Does.{Does}
-use Rattle.meaning_laws.specs.Interaction.{Setting, setting_of, function_does}
+use Rattle.cmm_meaning.specs.Setting.{Setting, setting_of}
+use Rattle.meaning_laws.specs.Interaction.{function_does}
 use Rattle.meaning_laws.specs.Links.{Linked}
 use Rattle.meaning_fuel.specs.Whole.{whole}
 use Rattle.meaning_laws.proofs.AgreementRuns.{nested, nested_plays, whole_plays, alone_plays}

@@ -13,7 +13,8 @@ use Rattle.cmm_meaning.specs.State.{World}
 use Rattle.cmm_meaning.specs.Evaluation.{NotProper, Evaluation, Stops, Surroundings, bound_error}
 use Rattle.cmm_meaning.specs.Run.{activated, callees}
 use Rattle.meaning_laws.specs.Does.{played}
-use Rattle.meaning_laws.specs.Interaction.{setting_of, function_does}
+use Rattle.cmm_meaning.specs.Setting.{setting_of}
+use Rattle.meaning_laws.specs.Interaction.{function_does}
 use Rattle.meaning_laws.specs.Fitting.{Lawful, RaisedFits, stopped, CallsFitAndGrow}
 use Rattle.meaning_laws.specs.Units.{with_more, world_of, Later, Continues, alike, further, CallsContinue}
 use Rattle.meaning_fuel.specs.Whole.{whole}

@@ -18,7 +18,8 @@ use Rattle.cmm_meaning.specs.Evaluation.{OutOfFuel, NotProper, NoAnswer, Asking,
 use Rattle.cmm_meaning.specs.Run.{More, nobody, made, answered, frame_answered, answered_as, outside, activated, callees, first_world, first_call, finished, cmm_run}
 use Rattle.cmm_meaning.specs.Alone.{done_inside, done_outside, lone_world, alone}
 use Rattle.meaning_laws.specs.Does.{played}
-use Rattle.meaning_laws.specs.Interaction.{setting_of, function_does}
+use Rattle.cmm_meaning.specs.Setting.{setting_of}
+use Rattle.meaning_laws.specs.Interaction.{function_does}
 use Rattle.meaning_laws.specs.Links.{Linked, doing_of, lonely}
 use Rattle.meaning_laws.specs.Units.{world_of}
 use Rattle.meaning_fuel.specs.Whole.{whole}

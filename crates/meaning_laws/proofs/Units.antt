@@ -9,7 +9,7 @@ use Rattle.cmm_meaning.specs.State.{Doing, Gave, Threw, World, deepened}
 use Rattle.cmm_meaning.specs.Evaluation.{Evaluation, Gives, Exits, Raises, Stops, Surroundings, spend}
 use Rattle.meaning_laws.specs.Does.{Does, after_call, played}
 use Rattle.meaning_laws.specs.Fitting.{Activation, Returned, memory_after, gave, threw, Lawful, gives, exits, raises, pays, deepens, jumps, calls, calls_out, fails, spent, RaisedFits, raised_fits, given, left_by_exit, stopped, Answered, answered, answered_raise, unfit, unanswered, CallsFitAndGrow}
-use Rattle.meaning_laws.specs.Interaction.{setting_of}
+use Rattle.cmm_meaning.specs.Setting.{setting_of}
 use Rattle.meaning_laws.specs.Units.{world_of, Begins, Onward, Later}
 use Rattle.meaning_laws.proofs.Extends.{extends_same, extends_trans}
 

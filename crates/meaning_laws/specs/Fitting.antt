@@ -18,7 +18,7 @@ use Rattle.cmm_meaning.specs.Extends.{Extends}
 use Rattle.cmm_meaning.specs.State.{Doing, Gave, Threw, Called, World, Here}
 use Rattle.cmm_meaning.specs.Evaluation.{Stop, NotProper, NoAnswer, Evaluation, Gives, Exits, Raises, Stops, Surroundings, fit_parameters}
 use Rattle.meaning_laws.specs.Does.{Does, Ends, Pays, Deepens, Jumps, Calls, CallsOut, Fails, Spent, Giving, Exiting, Raising}
-use Rattle.meaning_laws.specs.Interaction.{Setting}
+use Rattle.cmm_meaning.specs.Setting.{Setting}
 use Rattle.meaning_laws.specs.Units.{world_of, Later}
 
 -- A function while it runs: the file round it, its result, the stack bytes below it, and its frame.

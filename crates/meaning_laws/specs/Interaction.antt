@@ -19,21 +19,10 @@ use Rattle.cmm_tree.specs.Tree.{FunctionTree, LabelTree, Parameter, Expression, 
 use Rattle.cmm_types.specs.Light.{is_light_address}
 use Rattle.cmm_types.specs.Types.{Scoped, type_of, type_named, type_bound, is_mutable}
 use Rattle.cmm_meaning.specs.State.{Doing, Gave, Threw, Called, Here, taken, within_try, scope, value_of, assigned, bound, back_in}
-use Rattle.cmm_meaning.specs.Evaluation.{Surroundings, is_left_first, first_of, rest_of, fit_parameters, call_from, row_of_call, scoped_parameter, with_bound, bound_error}
+use Rattle.cmm_meaning.specs.Evaluation.{is_left_first, first_of, rest_of, fit_parameters, call_from, row_of_call, scoped_parameter, with_bound, bound_error}
+use Rattle.cmm_meaning.specs.Setting.{Setting}
 use Rattle.cmm_meaning.specs.Choices.{Ready, ready_for, Chosen, case_for}
 use Rattle.meaning_laws.specs.Does.{Leaves, Giving, Exiting, Raising, Does, Ends, Pays, Deepens, Jumps, Calls, CallsOut, Fails, Spent}
-
--- What is known of the file round an expression.
-pub record Setting : Type 0 where
-  -- the first address past the data
-  pub end : ℕ
-  -- the value of a symbol
-  pub symbol : List ℕ → Option Value
-  -- the components of the parameters of each function, in order
-  pub parameters : List (List Comp)
-
-abbrev pub setting_of : Surroundings → Setting
-setting_of s = record { end = s.end; symbol = s.symbol; parameters = s.parameters }
 
 -- ---- parts
 
@@ -164,11 +153,14 @@ entered end _ _ m part = fails BadCall m
 abbrev pub back : ℕ → ℕ → Part (Option Value) → Part (Option Value)
 back level tries part = and_then part (λ v h m. gives v (back_in level tries h) m)
 
-abbrev pub handled : ℕ → Option (Ready Operand) → LabelTree → List Value → ℕ → ℕ → Here → Memory → (Leaves (Option Value) → Part (Option Value)) → Part (Option Value)
+abbrev pub handled : ℕ
+    → Option (Ready Operand) → LabelTree → List Value → ℕ → ℕ
+    → Here → Memory → (Leaves (Option Value) → Part (Option Value)) → Part (Option Value)
 handled end None label values level tries h m again = exits label values h m
 handled end (Some r) label values level tries h m again =
     let inside = back_in level tries h in
-    from (entered end r.params values m (back level tries (r.body (with_bound (map scoped_parameter r.params) values inside) m))) again
+    let bound : Here = with_bound (map scoped_parameter r.params) values inside in
+    from (entered end r.params values m (back level tries (r.body bound m))) again
 
 -- where a catch has no turn left, an exit to one of its handlers is still improper where its arguments do not fit
 abbrev pub out_of_turns : ℕ → Option (Ready Operand) → LabelTree → List Value → Here → Memory → Part (Option Value)
@@ -305,7 +297,11 @@ abbrev mutual
   entering c turns NoBinding h m = gives None h m
   entering c turns (Bind at name declared e rest) h m =
       with_value (does c turns e false h m) (λ v h m.
-      let scoped : Scoped = record { name = name; type = type_bound declared (type_of (scope h) e); mutable = is_mutable declared } in
+      let scoped : Scoped = record {
+        name = name;
+        type = type_bound declared (type_of (scope h) e);
+        mutable = is_mutable declared;
+      } in
       tested c.end scoped.type v m (entering c turns rest (with_bound (scoped ∷ []) (v ∷ []) h) m))
 
   -- the elements of a sequence, the last in tail position where the whole is
@@ -328,5 +324,10 @@ abbrev mutual
 -- body stands in tail position
 abbrev pub function_does : Setting → ℕ → ℕ → FunctionTree → List Value → ℕ → Memory → Does
 function_does c turns frame f arguments below m =
-    let here : Here = record { names = bound (map scoped_parameter f.params) arguments []; below = below; frame = frame; tries = 0 } in
+    let here : Here = record {
+      names = bound (map scoped_parameter f.params) arguments [];
+      below = below;
+      frame = frame;
+      tries = 0;
+    } in
     Deepens (below + frame) (does c turns f.body true here m Ends)

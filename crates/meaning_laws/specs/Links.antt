@@ -11,7 +11,7 @@ use Rattle.cmm_meaning.specs.Extends.{Extends}
 use Rattle.cmm_meaning.specs.State.{Doing, Gave, Threw, Called, Asked, asked_inside, asked_outside, World, Here}
 use Rattle.cmm_meaning.specs.Evaluation.{Stop, OutOfFuel, NotProper, Asking, Evaluation, Gives, Exits, Raises, Stops, Surroundings}
 use Rattle.cmm_meaning.specs.Alone.{call_inside, call_outside}
-use Rattle.meaning_laws.specs.Interaction.{setting_of}
+use Rattle.cmm_meaning.specs.Setting.{setting_of}
 use Rattle.meaning_laws.specs.Fitting.{FitsCallee}
 use Rattle.meaning_laws.specs.Units.{world_of, Later}
 

@@ -47,7 +47,7 @@ pub entry_result-start : (image : Tables) (name : List ℕ) (entry : Func) (args
     → entry_result (start image entry args stack heap) ≡ entry.result
 entry_result-start image name entry args stack heap t k = ap result_at (at (λ (f : Func). bytes_eq f.name name) image.funcs entry t.funcs.in_order k)
 
--- what is told of a loaded machine's run is the run of the function from its entry
+-- what is end of a loaded machine's run is the run of the function from its entry
 pub loaded_run : (image : Tables) (name : List ℕ) (entry : Func) (args answers : List ℕ) (stack heap : ℕ) (schedule : Schedule) (limit : ℕ)
     → AreTables image → func_named name image.funcs ≡ Some entry
     → run_of (start image entry args stack heap) answers schedule limit ≡ machine_run image entry args answers stack heap (schedule_of schedule) limit

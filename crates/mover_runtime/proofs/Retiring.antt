@@ -1,5 +1,5 @@
 -- Each instruction that a run goes on after has retired, and no more.
-use Rattle.std.proofs.Common.{◌≡◌, ℕ, zero, suc, ◌+◌, ◌-◌, ◌%◌, ◌^◌, ◌<◌, ◌≤◌, Bool, true, false, cond, List, [], ◌∷◌, Option, Some, None, refl, ap, ◌∙◌, subst, arith}
+use Rattle.std.proofs.Common.{◌≡◌, ℕ, zero, suc, ◌+◌, ◌-◌, ◌%◌, ◌^◌, ◌<◌, ◌≤◌, Bool, true, false, cond, List, [], ◌∷◌, Option, Some, None, refl, ap, sym, ◌∙◌, subst, arith, ◌⊎◌, inl, inr, ⊎_elim}
 use Rattle.std.specs.Prelude.{◌&&◌, ◌==◌, nat_lt, nat_le}
 use Rattle.bs_words.specs.Word.{add_word}
 use Rattle.bs_words.specs.Observed.{Made}
@@ -22,8 +22,13 @@ use Rattle.rv_machine.specs.Memory.{Region}
 use Rattle.rv_machine.specs.Placement.{bytes_used, new_places}
 use Rattle.rv_machine.specs.Run.{Schedule, after_next}
 use Rattle.rv_machine.specs.Services.{Machine, Now, Going, Over, Stopped, after_allocation, after_collection, answered, call_made, called, cleared, concluded, external, external_at, frame_answered, frame_call, service, served}
-use Rattle.rv_machine.specs.Step.{count, counted, counted_next}
-use Rattle.alloc_service.specs.Plan.{both_counted, services_counted, with_counts}
+use Rattle.rv_machine.specs.Step.{count, counted, counted_next, next_of}
+use Rattle.rv_machine.specs.Step as ended
+use Rattle.rv_machine.specs.declared.step_end.StepEnd.{StepEnd}
+use Rattle.rv_machine.specs.declared.step_end.StepEnd.TheVariants as step
+use Rattle.alloc_service.specs.Plan.{Keeps, Serves, both_counted, services_counted, with_counts}
+use Rattle.alloc_service.specs.declared.service_end.ServiceEnd.{ServiceEnd}
+use Rattle.alloc_service.specs.declared.service_end.ServiceEnd.TheVariants as service_end
 use Rattle.rv_machine.specs.declared.cause.Cause.TheVariants.{BadFetch, BadFrame, BadRoot}
 use Rattle.mover_runtime.specs.Outcome.{asked_if, calling_none}
 use Rattle.mover_runtime.proofs.Runs.{Plans, state}
@@ -242,3 +247,32 @@ allocated_counted plan h a b = both_of h.retired h.services (allocated plan h) a
 
 pub collected_counted : (plan : List Placed → List ℕ) (h : Hart) → h.services < 2 ^ 64 - 1 → with_counts services_counted (collected plan h) ≡ collected plan h
 collected_counted plan h b = services_of h.retired h.services (collected plan h) b (collected-moves plan h)
+
+-- ---- what the code reports
+
+-- a step retires one instruction at most
+pub step-most : (end : StepEnd) (h new : Hart) → next_of end new ≡ hart h → ended.Keeps end h new → new.retired ≤ suc h.retired
+step-most end h new e k = by_end end (subst (NextRetires h.retired h.services) (sym e) (hart-retires h)) k
+  where
+    by_end : (end : StepEnd) → NextRetires h.retired h.services (next_of end new) → ended.Keeps end h new → new.retired ≤ suc h.retired
+    by_end step.Retired r k = omega (arith, r.0)
+    by_end step.Service r k = omega (arith, r.0)
+    by_end step.StackOut r k = let same : new.retired ≡ h.retired = ap (λ (g : Hart). g.retired) k in omega (arith, same)
+    by_end (step.Stopped cause) r k = let same : new.retired ≡ h.retired = ap (λ (g : Hart). g.retired) k in omega (arith, same)
+
+-- a service that goes on has retired so many, and another one none
+service-count : (n s : ℕ) (end : ServiceEnd) (came : Serviced) (h new : Hart) → Moves n s came → Serves end came new → Keeps end h new →
+    (new.retired ≡ n) ⊎ (new.retired ≡ h.retired)
+service-count n s service_end.Goes came h new m e k = let r : Moves n s (Goes new) = subst (Moves n s) e m in inl r.0
+service-count n s service_end.HeapOut came h new m e k = inr (ap (λ (g : Hart). g.retired) k)
+service-count n s (service_end.Stopped cause) came h new m e k = inr (ap (λ (g : Hart). g.retired) k)
+
+pub allocated-most : (plan : List Placed → List ℕ) (end : ServiceEnd) (h new : Hart) → Serves end (allocated plan h) new → Keeps end h new →
+    new.retired ≤ suc h.retired
+allocated-most plan end h new e k =
+    ⊎_elim (λ r. omega (arith, r)) (λ r. omega (arith, r)) (service-count (suc h.retired) h.services end (allocated plan h) h new (allocated-moves plan h) e k)
+
+pub collected-none : (plan : List Placed → List ℕ) (end : ServiceEnd) (h new : Hart) → Serves end (collected plan h) new → Keeps end h new →
+    new.retired ≡ h.retired
+collected-none plan end h new e k =
+    ⊎_elim (λ r. r) (λ r. r) (service-count h.retired h.services end (collected plan h) h new (collected-moves plan h) e k)

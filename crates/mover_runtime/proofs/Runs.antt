@@ -1,4 +1,4 @@
--- A run, instruction by instruction, and the text that it has told.
+-- A run, instruction by instruction, and the text that it has end.
 use Rattle.std.proofs.Common.{◌≡◌, ℕ, zero, suc, ◌+◌, ◌-◌, ◌<◌, ◌≤◌, Bool, true, false, cond, List, [], ◌∷◌, ◌++◌, Option, Some, None, refl, ap, arith, ◌∙◌, sym, append_assoc, append-nil}
 use Rattle.std.specs.Prelude.{codes}
 use Rattle.bs_words.specs.Observed.{Made}
@@ -110,7 +110,7 @@ progress_behind cs (Over calls end) = outcome_behind cs calls end
 pub outcome_line : (cs : List Made) (end : End) → outcome_text (record { calls = cs; end = end }) ≡ calls_text cs ++ last_line end
 outcome_line cs end = append_assoc (calls_text cs) (end_text end) (codes "\n")
 
--- what is told grows
+-- what is end grows
 next_grows : (schedule : Schedule) (nx : Next) (m : Machine) → (rest : List ℕ) × (progress_text (after_next schedule nx m) ≡ calls_text m.calls ++ rest)
 next_grows schedule (next.Retired h) m = ([], sym (append-nil (calls_text m.calls)))
 next_grows schedule (next.Service h) m = (
@@ -173,7 +173,7 @@ pub text_on : (cs calls : List Made) (now : Now) (h : Hart) (result : Ret) (answ
     → calls_text cs ++ progress_text now ≡ calls_text (cs ++ calls)
 text_on cs calls now h result answers e = sym (progress_behind cs now) ∙ ap (λ (x : Now). progress_text (behind cs x)) e
 
--- the text of the whole run begins with what was told so far
+-- the text of the whole run begins with what was end so far
 pub text_begins : (schedule : Schedule) (n : ℕ) (cs : List Made) (now : Now)
     → (rest : List ℕ) × (outcome_text (seen (after schedule n (behind cs now))) ≡ calls_text cs ++ (progress_text now ++ rest))
 text_begins schedule n cs now =

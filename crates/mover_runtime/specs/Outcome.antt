@@ -1,14 +1,14 @@
--- How a run of the machine ends, and what is told of it.
-use Rattle.std.specs.Prelude.{◌≡◌, ℕ, ◌+◌, ◌==◌, Bool, cond, List, [], ◌++◌, Option, Some, None, find, codes}
+-- How a run of the machine ends, and what is reported of it.
+use Rattle.std.specs.Prelude.{◌≡◌, ℕ, ◌+◌, ◌==◌, Bool, cond, List, [], ◌++◌, Option, Some, None, Result, IfOk, drop, find, codes}
 use Rattle.bs_words.specs.Observed.{Made}
 use Rattle.bs_words.specs.declared.types.Ret.{Ret}
 use Rattle.bs_words.specs.declared.types.Ret.TheVariants.{Unit}
-use Rattle.image_form.specs.Tables.{Func}
+use Rattle.image_form.specs.Tables.{Ext, Func}
 use Rattle.rv_machine.specs.Relocation.{Serviced, Goes, NoHeap, Refused}
-use Rattle.rv_machine.specs.Hart.{Hart}
+use Rattle.rv_machine.specs.Hart.{Hart, hart}
 use Rattle.rv_machine.specs.Memory.{code_start}
-use Rattle.rv_machine.specs.Run.{Seen, after, asked, seen}
-use Rattle.rv_machine.specs.Services.{End, Machine, Now, Going, Over}
+use Rattle.rv_machine.specs.Run.{Seen, after, after_next, asked, seen}
+use Rattle.rv_machine.specs.Services.{End, Machine, Now, Going, Over, answered, call_made, external, external_at, frame_answered, frame_call, service}
 use Rattle.rv_machine.specs.Services as ends
 use Rattle.rv_machine.specs.Text.{calls_text, end_text, outcome_text}
 use Rattle.mover_runtime.specs.declared.outcome.RunEnd.{RunEnd}
@@ -16,15 +16,15 @@ use Rattle.mover_runtime.specs.declared.outcome.RunEnd.TheVariants.{Returned, Ra
 use Rattle.mover_runtime.specs.declared.schedule.Schedule.{Schedule}
 use Rattle.mover_runtime.specs.Schedules.{schedule_of}
 
--- what is told of how a run stands
-abbrev pub end_told : End → RunEnd
-end_told ends.Running = More
-end_told (ends.Returned value) = Returned value
-end_told (ends.Raised value) = Raised value
-end_told (ends.Asks call) = Asks
-end_told ends.StackOut = StackOut
-end_told ends.HeapOut = HeapOut
-end_told (ends.Stopped cause) = Stopped cause
+-- what is reported of how a run stands
+abbrev pub end_reported : End → RunEnd
+end_reported ends.Running = More
+end_reported (ends.Returned value) = Returned value
+end_reported (ends.Raised value) = Raised value
+end_reported (ends.Asks call) = Asks
+end_reported ends.StackOut = StackOut
+end_reported ends.HeapOut = HeapOut
+end_reported (ends.Stopped cause) = Stopped cause
 
 -- the type of what the function whose code begins at the program counter returns
 abbrev pub result_at : Option Func → Ret
@@ -38,13 +38,47 @@ entry_result h = result_at (find (λ (f : Func). code_start + f.offset == h.pc) 
 abbrev pub calling_none : Hart → Ret → List ℕ → Machine
 calling_none h result answers = record { hart = h; result = result; answers = answers; calls = [] }
 
+-- the run of a machine that has made no call yet, and has taken so many of the answers
+abbrev pub before : Hart → Ret → List ℕ → ℕ → Machine
+before h result answers taken = calling_none h result (drop taken answers)
+
 -- the machine before its next instruction, where the mover asks or does not
 abbrev pub asked_if : Bool → Hart → Hart
 asked_if asks h = cond asks (asked h) h
 
 -- the run of a machine from the state where it stands, after so many instructions
 abbrev pub run_of : Hart → List ℕ → Schedule → ℕ → Seen
-run_of h answers schedule limit = seen (after (schedule_of schedule) limit (Going (calling_none h (entry_result h) answers)))
+run_of h answers schedule limit =
+    seen (after (schedule_of schedule) limit (Going (calling_none h (entry_result h) answers)))
+
+-- ---- what comes of an instruction, of a service and of each kind of call
+
+abbrev pub one_now : Schedule → Bool → Hart → Ret → List ℕ → ℕ → Now
+one_now schedule asks h result answers taken =
+    after_next (schedule_of schedule) (hart (asked_if asks h)) (before h result answers taken)
+
+abbrev pub service_now : Schedule → Hart → Ret → List ℕ → ℕ → Now
+service_now schedule h result answers taken =
+    service (schedule_of schedule).plan (before h result answers taken)
+
+abbrev pub external_now : Hart → Ret → List ℕ → ℕ → Now
+external_now h result answers taken = external (external_at h) (before h result answers taken)
+
+abbrev pub answered_now : Ext → Hart → Ret → List ℕ → ℕ → Now
+answered_now row h result answers taken =
+    answered row.result (call_made row h) (drop taken answers) (before h result answers taken)
+
+abbrev pub frame_call_now : Schedule → Hart → Ret → List ℕ → ℕ → Now
+frame_call_now schedule h result answers taken =
+    frame_call ((schedule_of schedule).plan h.services) (external_at h)
+    (before h result answers taken)
+
+abbrev pub frame_answered_now : Schedule → Ext → Hart → Ret → List ℕ → ℕ → Now
+frame_answered_now schedule row h result answers taken =
+    frame_answered ((schedule_of schedule).plan h.services) row.result (call_made row h)
+    (drop taken answers) (before h result answers taken)
+
+-- ---- the text
 
 -- the text so far: the calls, and the last line of a run that is over
 abbrev pub progress_text : Now → List ℕ
@@ -57,11 +91,18 @@ allocation_text (Goes h) = []
 allocation_text NoHeap = end_text ends.HeapOut ++ codes "\n"
 allocation_text (Refused cause) = end_text (ends.Stopped cause) ++ codes "\n"
 
--- what a service tells: the run goes on, and the machine and the answers left are these; or it has ended
+-- what a service reports: the run goes on, and the machine and the answers left are these; or it has
+-- ended
 abbrev pub Serves : Option RunEnd → Now → Hart → Ret → List ℕ → Type 0
 Serves None now h result answers =
-    (calls : List Made) × (now ≡ Going (record { hart = h; result = result; answers = answers; calls = calls }))
-Serves (Some told) now h result answers = (calls : List Made) × (end : End) × (now ≡ Over calls end) × (told ≡ end_told end)
+    (calls : List Made)
+    × (now ≡ Going (record { hart = h; result = result; answers = answers; calls = calls }))
+Serves (Some reported) now h result answers =
+    (calls : List Made) × (end : End) × (now ≡ Over calls end) × (reported ≡ end_reported end)
+
+-- the same of a function that may have failed to write
+abbrev pub Reports : {E : Type 0} → Result (Option RunEnd) E → Now → Hart → Ret → List ℕ → Type 0
+Reports result now h returns answers = IfOk result (λ end. Serves end now h returns answers)
 
 -- the last line of a run
 abbrev pub last_line : End → List ℕ

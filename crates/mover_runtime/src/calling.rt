@@ -1,14 +1,13 @@
 //! External calls.
-ghost use Rattle.std.specs.Prelude.{◌≡◌, ◌≤◌, ◌<◌, ◌-◌, ◌^◌, ℕ, List, [], ◌∷◌, length, drop, IfOk, None, slice_get};
+ghost use Rattle.std.specs.Prelude.{◌≡◌, ◌≤◌, ◌<◌, ◌-◌, ◌^◌, ℕ, List, [], ◌∷◌, length, drop, IfOk, None, slice_get, suc};
 ghost use Rattle.bs_words.specs.Contents.{contents};
 ghost use Rattle.image_form.specs.Tables.{ext};
 ghost use Rattle.mover_runtime.specs.Written.{Writes, Counts};
 ghost use Rattle.bs_words.specs.declared.types.Ret.{Ret};
 ghost use Rattle.mover_runtime.specs.Calling.{AreNext, made, wanted};
-ghost use Rattle.mover_runtime.specs.Outcome.{Serves, calling_none, progress_text};
-ghost use Rattle.mover_runtime.specs.Schedules.{schedule_of};
-ghost use Rattle.rv_machine.specs.Hart.{Hart, past_ecall, register};
-ghost use Rattle.rv_machine.specs.Services.{external, answered, call_made, concluded, frame_answered, frame_call};
+ghost use Rattle.mover_runtime.specs.Outcome.{Reports, Serves, answered_now, calling_none, external_now, frame_answered_now, frame_call_now, progress_text};
+ghost use Rattle.rv_machine.specs.Hart.{Hart};
+ghost use Rattle.rv_machine.specs.Services.{call_made, concluded, returned_with};
 ghost use Rattle.rv_machine.specs.Step.{registers_after};
 ghost use Rattle.rv_machine.specs.Text.{calls_text};
 
@@ -36,17 +35,20 @@ pub fn call<K: Sink>(
     requires near { machine.old.pc < 2 ^ 32 }
     requires room { machine.old.retired < 2 ^ 64 - 1 }
     requires within { taken.old ≤ length answers.now }
-    ensures told { IfOk result (λ told. Serves told (external (slice_get machine.old.image.extcs (register machine.old 5)) (calling_none machine.old returns (drop taken.old answers.now))) machine.new returns (drop taken.new answers.now)) }
-    ensures text { Writes result (K.held out.old) (K.held out.new) (progress_text (external (slice_get machine.old.image.extcs (register machine.old 5)) (calling_none machine.old returns (drop taken.old answers.now)))) }
+    ensures reported { Reports result (external_now machine.old returns answers.now taken.old)
+        machine.new returns (drop taken.new answers.now) }
+    ensures text { Writes result (K.held out.old) (K.held out.new)
+        (progress_text (external_now machine.old returns answers.now taken.old)) }
     ensures counts { Counts result (K.faults out.old) (K.faults out.new) }
+    ensures retired { machine.new.retired ≤ suc machine.old.retired }
     ensures left { taken.new ≤ length answers.now }
 {
     let number = machine.register(Register::T0 as u8) as usize;
     match machine.image().extcs.get(number) {
         Some(row) => answer_call(machine, row, returns, answers, taken, out),
         None => {
-            let told = end_stopped(Cause::BadService, out)?;
-            Ok(Some(told))
+            let end = end_stopped(Cause::BadService, out)?;
+            Ok(Some(end))
         }
     }
 }
@@ -64,9 +66,12 @@ fn answer_call<K: Sink>(
     requires room { machine.old.retired < 2 ^ 64 - 1 }
     requires within { taken.old ≤ length answers.now }
     requires few { length (contents row.now.params) ≤ 16 }
-    ensures told { IfOk result (λ told. Serves told (answered row.now.result (call_made (ext row.now) machine.old) (drop taken.old answers.now) (calling_none machine.old returns (drop taken.old answers.now))) machine.new returns (drop taken.new answers.now)) }
-    ensures text { Writes result (K.held out.old) (K.held out.new) (progress_text (answered row.now.result (call_made (ext row.now) machine.old) (drop taken.old answers.now) (calling_none machine.old returns (drop taken.old answers.now)))) }
+    ensures reported { Reports result (answered_now (ext row.now) machine.old returns answers.now taken.old)
+        machine.new returns (drop taken.new answers.now) }
+    ensures text { Writes result (K.held out.old) (K.held out.new)
+        (progress_text (answered_now (ext row.now) machine.old returns answers.now taken.old)) }
     ensures counts { Counts result (K.faults out.old) (K.faults out.new) }
+    ensures retired { machine.new.retired ≤ suc machine.old.retired }
     ensures left { taken.new ≤ length answers.now }
 {
     match row.result {
@@ -94,9 +99,12 @@ fn finish<K: Sink>(
     requires near { machine.old.pc < 2 ^ 32 }
     requires room { machine.old.retired < 2 ^ 64 - 1 }
     requires few { length (contents row.now.params) ≤ 16 }
-    ensures told { IfOk result (λ told. (told ≡ None) × (machine.new ≡ past_ecall (record machine.old { registers = registers_after answer machine.old.registers }))) }
-    ensures text { Writes result (K.held out.old) (K.held out.new) (calls_text (call_made (ext row.now) machine.old ∷ [])) }
+    ensures reported { IfOk result (λ end. (end ≡ None)
+        × (machine.new ≡ returned_with (registers_after answer machine.old.registers) machine.old)) }
+    ensures text { Writes result (K.held out.old) (K.held out.new)
+        (calls_text (call_made (ext row.now) machine.old ∷ [])) }
     ensures counts { Counts result (K.faults out.old) (K.faults out.new) }
+    ensures retired { machine.new.retired ≤ suc machine.old.retired }
 {
     write_made_line(b"call ", machine, row, out)?;
     counting::finish_call(machine, answer);
@@ -117,17 +125,20 @@ pub fn frame_call<K: Sink>(
     requires room { machine.old.retired < 2 ^ 64 - 1 }
     requires services { machine.old.services < 2 ^ 64 - 1 }
     requires within { taken.old ≤ length answers.now }
-    ensures told { IfOk result (λ told. Serves told (frame_call ((schedule_of schedule.now).plan machine.old.services) (slice_get machine.old.image.extcs (register machine.old 5)) (calling_none machine.old returns (drop taken.old answers.now))) machine.new returns (drop taken.new answers.now)) }
-    ensures text { Writes result (K.held out.old) (K.held out.new) (progress_text (frame_call ((schedule_of schedule.now).plan machine.old.services) (slice_get machine.old.image.extcs (register machine.old 5)) (calling_none machine.old returns (drop taken.old answers.now)))) }
+    ensures reported { Reports result (frame_call_now schedule.now machine.old returns answers.now taken.old)
+        machine.new returns (drop taken.new answers.now) }
+    ensures text { Writes result (K.held out.old) (K.held out.new)
+        (progress_text (frame_call_now schedule.now machine.old returns answers.now taken.old)) }
     ensures counts { Counts result (K.faults out.old) (K.faults out.new) }
+    ensures retired { machine.new.retired ≤ suc machine.old.retired }
     ensures left { taken.new ≤ length answers.now }
 {
     let number = machine.register(Register::T0 as u8) as usize;
     match machine.image().extcs.get(number) {
         Some(row) => answer_frame_call(machine, row, schedule, returns, answers, taken, out),
         None => {
-            let told = end_stopped(Cause::BadService, out)?;
-            Ok(Some(told))
+            let end = end_stopped(Cause::BadService, out)?;
+            Ok(Some(end))
         }
     }
 }
@@ -147,9 +158,14 @@ fn answer_frame_call<K: Sink>(
     requires services { machine.old.services < 2 ^ 64 - 1 }
     requires within { taken.old ≤ length answers.now }
     requires few { length (contents row.now.params) ≤ 16 }
-    ensures told { IfOk result (λ told. Serves told (frame_answered ((schedule_of schedule.now).plan machine.old.services) row.now.result (call_made (ext row.now) machine.old) (drop taken.old answers.now) (calling_none machine.old returns (drop taken.old answers.now))) machine.new returns (drop taken.new answers.now)) }
-    ensures text { Writes result (K.held out.old) (K.held out.new) (progress_text (frame_answered ((schedule_of schedule.now).plan machine.old.services) row.now.result (call_made (ext row.now) machine.old) (drop taken.old answers.now) (calling_none machine.old returns (drop taken.old answers.now)))) }
+    ensures reported { Reports result
+        (frame_answered_now schedule.now (ext row.now) machine.old returns answers.now taken.old)
+        machine.new returns (drop taken.new answers.now) }
+    ensures text { Writes result (K.held out.old) (K.held out.new)
+        (progress_text
+        (frame_answered_now schedule.now (ext row.now) machine.old returns answers.now taken.old)) }
     ensures counts { Counts result (K.faults out.old) (K.faults out.new) }
+    ensures retired { machine.new.retired ≤ suc machine.old.retired }
     ensures left { taken.new ≤ length answers.now }
 {
     let Some(answer) = next_two(answers, *taken) else {
@@ -164,12 +180,12 @@ fn answer_frame_call<K: Sink>(
             conclude(machine, row, &shown[..row.params.len()], answer, out)
         }
         ServiceEnd::HeapOut => {
-            let told = end_heap_out(out)?;
-            Ok(Some(told))
+            let end = end_heap_out(out)?;
+            Ok(Some(end))
         }
         ServiceEnd::Stopped(cause) => {
-            let told = end_stopped(cause, out)?;
-            Ok(Some(told))
+            let end = end_stopped(cause, out)?;
+            Ok(Some(end))
         }
     }
 }
@@ -206,20 +222,26 @@ fn conclude<K: Sink>(
 ) -> Result<Option<RunEnd>, OutFault>
     requires near { machine.old.pc < 2 ^ 32 }
     requires room { machine.old.retired < 2 ^ 64 - 1 }
-    ensures told { IfOk result (λ told. (h : Hart) (returns : Ret) (all left : List ℕ) → Serves told (concluded row.now.result (made row.now.name shown.now) answer.raises answer.value left machine.old (calling_none h returns all)) machine.new returns left) }
-    ensures text { (h : Hart) (returns : Ret) (all left : List ℕ) → Writes result (K.held out.old) (K.held out.new) (progress_text (concluded row.now.result (made row.now.name shown.now) answer.raises answer.value left machine.old (calling_none h returns all))) }
+    ensures reported { IfOk result (λ end. (h : Hart) (returns : Ret) (all left : List ℕ) → Serves end
+        (concluded row.now.result (made row.now.name shown.now) answer.raises answer.value left
+        machine.old (calling_none h returns all)) machine.new returns left) }
+    ensures text { (h : Hart) (returns : Ret) (all left : List ℕ) → Writes result
+        (K.held out.old) (K.held out.new) (progress_text (concluded row.now.result
+        (made row.now.name shown.now) answer.raises answer.value left machine.old
+        (calling_none h returns all))) }
     ensures counts { Counts result (K.faults out.old) (K.faults out.new) }
+    ensures retired { machine.new.retired ≤ suc machine.old.retired }
 {
     if answer.raises == 0 {
-        write_call_line(&row.name, shown, out)?;
+        write_call_line(b"call ", &row.name, shown, out)?;
         counting::finish_call(machine, wanted(row.result, answer.value));
         return Ok(None);
     }
     if !machine.has_trap_frame() {
-        let told = end_stopped(Cause::BadFrame, out)?;
-        return Ok(Some(told));
+        let end = end_stopped(Cause::BadFrame, out)?;
+        return Ok(Some(end));
     }
-    write_call_line(&row.name, shown, out)?;
+    write_call_line(b"call ", &row.name, shown, out)?;
     counting::raise(machine, answer.value);
     Ok(None)
 }

@@ -1,5 +1,5 @@
 //! What the machine does where its counts are not at their ends.
-ghost use Rattle.std.specs.Prelude.{◌≡◌, ◌<◌, ◌-◌, ◌^◌, true};
+ghost use Rattle.std.specs.Prelude.{◌≡◌, ◌<◌, ◌≤◌, ◌-◌, ◌^◌, suc, true};
 ghost use Rattle.alloc_service.specs.Plan.{Serves, plan_of};
 ghost use Rattle.rv_machine.specs.Allocation.{allocated};
 ghost use Rattle.rv_machine.specs.FrameCalls.{collected, has_trap_frame, raised};
@@ -17,6 +17,7 @@ pub fn step(machine: &mut Machine<'_>) -> StepEnd
     ensures exact { next_of result machine.new ≡ hart machine.old }
     ensures kept { Keeps result machine.old machine.new }
     ensures near { IsNear result machine.new }
+    ensures retired { machine.new.retired ≤ suc machine.old.retired }
 {
     machine.step()
 }
@@ -27,6 +28,7 @@ pub fn allocate(machine: &mut Machine<'_>, plan: Plan<'_>) -> ServiceEnd
     requires room { machine.old.retired < 2 ^ 64 - 1 }
     requires services { machine.old.services < 2 ^ 64 - 1 }
     ensures exact { Serves result (allocated (plan_of plan.entry) machine.old) machine.new }
+    ensures retired { machine.new.retired ≤ suc machine.old.retired }
 {
     alloc_service::allocate(machine, plan)
 }
@@ -37,6 +39,7 @@ pub fn collect(machine: &mut Machine<'_>, plan: Plan<'_>) -> ServiceEnd
     requires services { machine.old.services < 2 ^ 64 - 1 }
     ensures exact { Serves result (collected (plan_of plan.entry) machine.old) machine.new }
     ensures place { machine.new.pc ≡ machine.old.pc }
+    ensures retired { machine.new.retired ≡ machine.old.retired }
 {
     alloc_service::collect(machine, plan)
 }
@@ -45,7 +48,8 @@ pub fn collect(machine: &mut Machine<'_>, plan: Plan<'_>) -> ServiceEnd
 pub fn finish_call(machine: &mut Machine<'_>, answer: Option<u64>)
     requires near { machine.old.pc < 2 ^ 32 }
     requires room { machine.old.retired < 2 ^ 64 - 1 }
-    ensures { machine.new ≡ returned_with (registers_after answer machine.old.registers) machine.old }
+    ensures exact { machine.new ≡ returned_with (registers_after answer machine.old.registers) machine.old }
+    ensures retired { machine.new.retired ≡ suc machine.old.retired }
 {
     machine.finish_call(answer);
 }
@@ -54,7 +58,8 @@ pub fn finish_call(machine: &mut Machine<'_>, answer: Option<u64>)
 pub fn raise(machine: &mut Machine<'_>, value: u64)
     requires trap { has_trap_frame machine.old ≡ true }
     requires room { machine.old.retired < 2 ^ 64 - 1 }
-    ensures { machine.new ≡ raised value (cleared machine.old) }
+    ensures exact { machine.new ≡ raised value (cleared machine.old) }
+    ensures retired { machine.new.retired ≡ suc machine.old.retired }
 {
     machine.raise(value);
 }

@@ -1,10 +1,7 @@
 //! A run of a machine that was just loaded.
-ghost use Rattle.std.specs.Prelude.{◌≡◌, ◌≤◌, ◌<◌, ◌-◌, ◌^◌, length, drop, IfOk};
+ghost use Rattle.std.specs.Prelude.{◌≡◌, ◌≤◌, ◌<◌, ◌-◌, ◌^◌, length, drop, IfOk, suc};
 ghost use Rattle.mover_runtime.specs.Written.{Writes, Counts};
-ghost use Rattle.mover_runtime.specs.Outcome.{Serves, asked_if, calling_none, end_told, entry_result, progress_text, run_of};
-ghost use Rattle.mover_runtime.specs.Schedules.{schedule_of};
-ghost use Rattle.rv_machine.specs.Hart.{hart};
-ghost use Rattle.rv_machine.specs.Run.{after_next};
+ghost use Rattle.mover_runtime.specs.Outcome.{Reports, asked_if, end_reported, entry_result, one_now, progress_text, run_of};
 ghost use Rattle.rv_machine.specs.Text.{outcome_text};
 
 use crate::counting;
@@ -18,8 +15,8 @@ use rv_machine::{CODE_START, Machine, StepEnd};
 /// Runs the machine to an end, or until `limit` instructions have retired, and writes the outcome text:
 /// a line for each external call when it is answered, and one line for the end. It takes no memory.
 ///
-/// Before each instruction the mover asks where the schedule says so, and each allocation service and frame call
-/// moves the blocks where it says.
+/// Before each instruction the mover asks where the schedule says so, and each allocation service and
+/// frame call moves the blocks where it says.
 ///
 /// The machine was just loaded. A write fault ends the run; the sink then holds a part of the text, from
 /// its front.
@@ -32,9 +29,12 @@ pub fn run_image<K: Sink>(
 ) -> Result<RunEnd, OutFault>
     requires fresh { machine.old.retired ≡ 0 }
     requires unmoved { machine.old.services ≡ 0 }
-    ensures told { IfOk result (λ told. told ≡ end_told (run_of machine.old answers.now schedule.now limit).end) }
-    ensures text { Writes result (K.held out.old) (K.held out.new) (outcome_text (run_of machine.old answers.now schedule.now limit)) }
+    ensures reported { IfOk result (λ end.
+        end ≡ end_reported (run_of machine.old answers.now schedule.now limit).end) }
+    ensures text { Writes result (K.held out.old) (K.held out.new)
+        (outcome_text (run_of machine.old answers.now schedule.now limit)) }
     ensures counts { Counts result (K.faults out.old) (K.faults out.new) }
+    ensures retired { machine.new.retired ≤ limit }
 {
     let returns = entry_result(machine);
     let mut asks = schedule.asks();
@@ -42,8 +42,8 @@ pub fn run_image<K: Sink>(
     let mut count = 0;
     while count < limit {
         let asked = asks.next(count);
-        if let Some(told) = one(machine, asked, schedule, returns, answers, &mut taken, out)? {
-            return Ok(told);
+        if let Some(end) = one(machine, asked, schedule, returns, answers, &mut taken, out)? {
+            return Ok(end);
         }
         count += 1;
     }
@@ -65,9 +65,12 @@ fn one<K: Sink>(
     requires room { machine.old.retired < 2 ^ 64 - 1 }
     requires services { machine.old.services < 2 ^ 64 - 1 }
     requires within { taken.old ≤ length answers.now }
-    ensures told { IfOk result (λ told. Serves told (after_next (schedule_of schedule.now) (hart (asked_if asks machine.old)) (calling_none machine.old returns (drop taken.old answers.now))) machine.new returns (drop taken.new answers.now)) }
-    ensures text { Writes result (K.held out.old) (K.held out.new) (progress_text (after_next (schedule_of schedule.now) (hart (asked_if asks machine.old)) (calling_none machine.old returns (drop taken.old answers.now)))) }
+    ensures reported { Reports result (one_now schedule.now asks machine.old returns answers.now taken.old)
+        machine.new returns (drop taken.new answers.now) }
+    ensures text { Writes result (K.held out.old) (K.held out.new)
+        (progress_text (one_now schedule.now asks machine.old returns answers.now taken.old)) }
     ensures counts { Counts result (K.faults out.old) (K.faults out.new) }
+    ensures retired { machine.new.retired ≤ suc machine.old.retired }
     ensures left { taken.new ≤ length answers.now }
 {
     ask_if(machine, asks);
@@ -75,12 +78,12 @@ fn one<K: Sink>(
         StepEnd::Retired => Ok(None),
         StepEnd::Service => serve(machine, schedule, returns, answers, taken, out),
         StepEnd::StackOut => {
-            let told = end_stack_out(out)?;
-            Ok(Some(told))
+            let end = end_stack_out(out)?;
+            Ok(Some(end))
         }
         StepEnd::Stopped(cause) => {
-            let told = end_stopped(cause, out)?;
-            Ok(Some(told))
+            let end = end_stopped(cause, out)?;
+            Ok(Some(end))
         }
     }
 }
@@ -88,7 +91,8 @@ fn one<K: Sink>(
 // The mover asks before the next instruction, or does not.
 #[inline]
 fn ask_if(machine: &mut Machine<'_>, asks: bool)
-    ensures { machine.new ≡ asked_if asks machine.old }
+    ensures exact { machine.new ≡ asked_if asks machine.old }
+    ensures retired { machine.new.retired ≡ machine.old.retired }
 {
     if asks {
         machine.ask();

@@ -1,5 +1,5 @@
 //! The services of the runtime: return, uncaught raise, external calls and allocation.
-ghost use Rattle.std.specs.Prelude.{◌≡◌, ◌≤◌, ◌<◌, ◌-◌, ◌^◌, ℕ, List, [], length, drop, IfOk, slice_get};
+ghost use Rattle.std.specs.Prelude.{◌≡◌, ◌≤◌, ◌<◌, ◌-◌, ◌^◌, ℕ, List, [], length, drop, IfOk, slice_get, suc};
 ghost use Rattle.image_form.specs.Tables.{tables, ext};
 ghost use Rattle.image_form.specs.Image.{IsImage, IsExt};
 ghost use Rattle.mover_runtime.specs.Written.{Writes, Counts};
@@ -8,9 +8,10 @@ ghost use Rattle.alloc_service.specs.Plan.{Serves as ServesBy};
 ghost use Rattle.mover_runtime.specs.Standing.{MovesBlocks};
 ghost use Rattle.rv_machine.specs.FrameCalls.{collected};
 ghost use Rattle.bs_words.specs.declared.types.Ret.{Ret};
-ghost use Rattle.mover_runtime.specs.Outcome.{Serves, allocation_text, calling_none, progress_text, last_line};
+ghost use Rattle.mover_runtime.specs.Outcome.{Reports, Serves, allocation_text, calling_none, progress_text, last_line, service_now};
 ghost use Rattle.mover_runtime.specs.Schedules.{schedule_of};
 ghost use Rattle.rv_machine.specs.Allocation.{allocated};
+ghost use Rattle.rv_isa.specs.Registers.{a0, t2};
 ghost use Rattle.rv_machine.specs.Hart.{register};
 ghost use Rattle.rv_machine.specs.Services.{after_allocation, service, value_returned};
 ghost use Rattle.rv_machine.specs.Services as ends;
@@ -28,7 +29,7 @@ use image_form::ExtRow;
 use rv_isa::Register;
 use rv_machine::{Cause, Machine};
 
-/// Does the service before which the machine stands, and writes what is told of it: a line for an external
+/// Does the service before which the machine is, and writes what is reported of it: a line for an external
 /// call that is answered, or the last line of the run. `taken` answers were taken before.
 pub fn serve<K: Sink>(
     machine: &mut Machine<'_>,
@@ -42,19 +43,22 @@ pub fn serve<K: Sink>(
     requires room { machine.old.retired < 2 ^ 64 - 1 }
     requires services { machine.old.services < 2 ^ 64 - 1 }
     requires within { taken.old ≤ length answers.now }
-    ensures told { IfOk result (λ told. Serves told (service (schedule_of schedule.now).plan (calling_none machine.old returns (drop taken.old answers.now))) machine.new returns (drop taken.new answers.now)) }
-    ensures text { Writes result (K.held out.old) (K.held out.new) (progress_text (service (schedule_of schedule.now).plan (calling_none machine.old returns (drop taken.old answers.now)))) }
+    ensures reported { Reports result (service_now schedule.now machine.old returns answers.now taken.old)
+        machine.new returns (drop taken.new answers.now) }
+    ensures text { Writes result (K.held out.old) (K.held out.new)
+        (progress_text (service_now schedule.now machine.old returns answers.now taken.old)) }
     ensures counts { Counts result (K.faults out.old) (K.faults out.new) }
+    ensures retired { machine.new.retired ≤ suc machine.old.retired }
     ensures left { taken.new ≤ length answers.now }
 {
     match machine.register(Register::T2 as u8) {
         0 => {
-            let told = end_returned(machine, returns, out)?;
-            Ok(Some(told))
+            let end = end_returned(machine, returns, out)?;
+            Ok(Some(end))
         }
         1 => {
-            let told = end_raised(machine, out)?;
-            Ok(Some(told))
+            let end = end_raised(machine, out)?;
+            Ok(Some(end))
         }
         2 => call(machine, returns, answers, taken, out),
         3 => {
@@ -63,8 +67,8 @@ pub fn serve<K: Sink>(
         }
         4 => frame_call(machine, schedule, returns, answers, taken, out),
         _ => {
-            let told = end_stopped(Cause::BadService, out)?;
-            Ok(Some(told))
+            let end = end_stopped(Cause::BadService, out)?;
+            Ok(Some(end))
         }
     }
 }
@@ -74,8 +78,10 @@ pub fn serve<K: Sink>(
 /// area is empty and the mover asks no more.
 pub fn service(machine: &mut Machine<'_>, schedule: &Schedule) -> ServiceEnd
     requires { MovesBlocks machine.old }
-    ensures allocates { register machine.old 7 ≡ 3 → ServesBy result (with_counts both_counted (allocated ((schedule_of schedule.now).plan machine.old.services) machine.old)) machine.new }
-    ensures collects { register machine.old 7 ≡ 4 → ServesBy result (with_counts services_counted (collected ((schedule_of schedule.now).plan machine.old.services) machine.old)) machine.new }
+    ensures allocates { register machine.old t2 ≡ 3 → ServesBy result (with_counts both_counted
+        (allocated ((schedule_of schedule.now).plan machine.old.services) machine.old)) machine.new }
+    ensures collects { register machine.old t2 ≡ 4 → ServesBy result (with_counts services_counted
+        (collected ((schedule_of schedule.now).plan machine.old.services) machine.old)) machine.new }
     ensures kept { Keeps result machine.old machine.new }
 {
     let plan = schedule.plan(machine.services());
@@ -95,19 +101,23 @@ fn allocate<K: Sink>(
     requires near { machine.old.pc < 2 ^ 32 }
     requires room { machine.old.retired < 2 ^ 64 - 1 }
     requires services { machine.old.services < 2 ^ 64 - 1 }
-    ensures told { IfOk result (λ told. (returns : Ret) (answers : List ℕ) → Serves told (after_allocation (allocated (plan_of plan.entry) machine.old) (calling_none machine.old returns answers)) machine.new returns answers) }
-    ensures text { Writes result (K.held out.old) (K.held out.new) (allocation_text (allocated (plan_of plan.entry) machine.old)) }
+    ensures reported { IfOk result (λ end. (returns : Ret) (answers : List ℕ) → Serves end
+        (after_allocation (allocated (plan_of plan.entry) machine.old)
+        (calling_none machine.old returns answers)) machine.new returns answers) }
+    ensures text { Writes result (K.held out.old) (K.held out.new)
+        (allocation_text (allocated (plan_of plan.entry) machine.old)) }
     ensures counts { Counts result (K.faults out.old) (K.faults out.new) }
+    ensures retired { machine.new.retired ≤ suc machine.old.retired }
 {
     match counting::allocate(machine, plan) {
         ServiceEnd::Goes => Ok(None),
         ServiceEnd::HeapOut => {
-            let told = end_heap_out(out)?;
-            Ok(Some(told))
+            let end = end_heap_out(out)?;
+            Ok(Some(end))
         }
         ServiceEnd::Stopped(cause) => {
-            let told = end_stopped(cause, out)?;
-            Ok(Some(told))
+            let end = end_stopped(cause, out)?;
+            Ok(Some(end))
         }
     }
 }
@@ -118,8 +128,9 @@ fn end_returned<K: Sink>(
     returns: Ret,
     out: &mut K,
 ) -> Result<RunEnd, OutFault>
-    ensures told { IfOk result (λ told. told ≡ RunEnd.Returned (value_returned returns machine.now)) }
-    ensures text { Writes result (K.held out.old) (K.held out.new) (last_line (ends.Returned (value_returned returns machine.now))) }
+    ensures reported { IfOk result (λ end. end ≡ RunEnd.Returned (value_returned returns machine.now)) }
+    ensures text { Writes result (K.held out.old) (K.held out.new)
+        (last_line (ends.Returned (value_returned returns machine.now))) }
     ensures counts { Counts result (K.faults out.old) (K.faults out.new) }
 {
     match returns {
@@ -137,8 +148,10 @@ fn end_returned<K: Sink>(
 
 // The run has ended by a raise of a0 that nothing caught.
 fn end_raised<K: Sink>(machine: &Machine<'_>, out: &mut K) -> Result<RunEnd, OutFault>
-    ensures told { IfOk result (λ told. told ≡ RunEnd.Raised (observed machine.now Comp.Val (register machine.now 10))) }
-    ensures text { Writes result (K.held out.old) (K.held out.new) (last_line (ends.Raised (observed machine.now Comp.Val (register machine.now 10)))) }
+    ensures reported { IfOk result (λ end.
+        end ≡ RunEnd.Raised (observed machine.now Comp.Val (register machine.now a0))) }
+    ensures text { Writes result (K.held out.old) (K.held out.new)
+        (last_line (ends.Raised (observed machine.now Comp.Val (register machine.now a0)))) }
     ensures counts { Counts result (K.faults out.old) (K.faults out.new) }
 {
     let obs = machine.observe(Comp::Val, machine.register(Register::A0 as u8));
@@ -148,8 +161,9 @@ fn end_raised<K: Sink>(machine: &Machine<'_>, out: &mut K) -> Result<RunEnd, Out
 
 /// The machine has stopped.
 pub fn end_stopped<K: Sink>(cause: Cause, out: &mut K) -> Result<RunEnd, OutFault>
-    ensures told { IfOk result (λ told. told ≡ RunEnd.Stopped cause) }
-    ensures text { Writes result (K.held out.old) (K.held out.new) (last_line (ends.Stopped cause)) }
+    ensures reported { IfOk result (λ end. end ≡ RunEnd.Stopped cause) }
+    ensures text { Writes result (K.held out.old) (K.held out.new)
+        (last_line (ends.Stopped cause)) }
     ensures counts { Counts result (K.faults out.old) (K.faults out.new) }
 {
     write_stopped(cause, out)?;
@@ -158,7 +172,7 @@ pub fn end_stopped<K: Sink>(cause: Cause, out: &mut K) -> Result<RunEnd, OutFaul
 
 /// The run has no stack left.
 pub fn end_stack_out<K: Sink>(out: &mut K) -> Result<RunEnd, OutFault>
-    ensures told { IfOk result (λ told. told ≡ RunEnd.StackOut) }
+    ensures reported { IfOk result (λ end. end ≡ RunEnd.StackOut) }
     ensures text { Writes result (K.held out.old) (K.held out.new) (last_line ends.StackOut) }
     ensures counts { Counts result (K.faults out.old) (K.faults out.new) }
 {
@@ -168,7 +182,7 @@ pub fn end_stack_out<K: Sink>(out: &mut K) -> Result<RunEnd, OutFault>
 
 /// The blocks do not fit half of the heap.
 pub fn end_heap_out<K: Sink>(out: &mut K) -> Result<RunEnd, OutFault>
-    ensures told { IfOk result (λ told. told ≡ RunEnd.HeapOut) }
+    ensures reported { IfOk result (λ end. end ≡ RunEnd.HeapOut) }
     ensures text { Writes result (K.held out.old) (K.held out.new) (last_line ends.HeapOut) }
     ensures counts { Counts result (K.faults out.old) (K.faults out.new) }
 {
@@ -178,7 +192,7 @@ pub fn end_heap_out<K: Sink>(out: &mut K) -> Result<RunEnd, OutFault>
 
 /// The run goes on past what was allowed.
 pub fn end_more<K: Sink>(out: &mut K) -> Result<RunEnd, OutFault>
-    ensures told { IfOk result (λ told. told ≡ RunEnd.More) }
+    ensures reported { IfOk result (λ end. end ≡ RunEnd.More) }
     ensures text { Writes result (K.held out.old) (K.held out.new) (last_line ends.Running) }
     ensures counts { Counts result (K.faults out.old) (K.faults out.new) }
 {

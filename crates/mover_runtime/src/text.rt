@@ -38,7 +38,8 @@ pub fn write_obs<K: Sink>(obs: Obs, out: &mut K) -> Result<(), OutFault>
 }
 
 fn write_word<K: Sink>(word: u64, out: &mut K) -> Result<(), OutFault>
-    ensures text { Writes result (K.held out.old) (K.held out.new) (signed_decimal (signed_of word)) }
+    ensures text { Writes result (K.held out.old) (K.held out.new)
+        (signed_decimal (signed_of word)) }
     ensures counts { Counts result (K.faults out.old) (K.faults out.new) }
 {
     let mut digits = Buffer::new();
@@ -46,7 +47,8 @@ fn write_word<K: Sink>(word: u64, out: &mut K) -> Result<(), OutFault>
 }
 
 fn write_block<K: Sink>(serial: u64, out: &mut K) -> Result<(), OutFault>
-    ensures text { Writes result (K.held out.old) (K.held out.new) (codes "block " ++ decimal serial) }
+    ensures text { Writes result (K.held out.old) (K.held out.new)
+        (codes "block " ++ decimal serial) }
     ensures counts { Counts result (K.faults out.old) (K.faults out.new) }
 {
     put(b"block ", out)?;
@@ -70,33 +72,6 @@ fn put_obs<K: Sink>(text: &[u8], obs: Obs, out: &mut K) -> Result<(), OutFault>
     write_obs(obs, out)
 }
 
-// Writes what the arguments of an external call show, each after a space.
-fn write_shown<K: Sink>(
-    machine: &Machine<'_>,
-    comps: &List<Comp>,
-    out: &mut K,
-) -> Result<(), OutFault>
-    requires { length (contents comps.now) ≤ 16 }
-    ensures text { Writes result (K.held out.old) (K.held out.new) (shown_text (arguments_from 10 (contents comps.now) machine.now)) }
-    ensures counts { Counts result (K.faults out.old) (K.faults out.new) }
-{
-    for (k, comp) in comps.as_slice().iter().enumerate() {
-        let word = machine.register(FIRST_ARGUMENT + k as u8);
-        put_obs(b" ", machine.observe(*comp, word), out)?;
-    }
-    Ok(())
-}
-
-/// Writes an external call before which the machine stands: its name, and what its arguments show.
-pub fn write_made<K: Sink>(machine: &Machine<'_>, row: &ExtRow, out: &mut K) -> Result<(), OutFault>
-    requires { length (contents row.now.params) ≤ 16 }
-    ensures text { Writes result (K.held out.old) (K.held out.new) (made_text (call_made (ext row.now) machine.now)) }
-    ensures counts { Counts result (K.faults out.old) (K.faults out.new) }
-{
-    put(row.name.as_bytes(), out)?;
-    write_shown(machine, &row.params, out)
-}
-
 /// What the arguments of an external call show before which the machine is, each by its parameter's type,
 /// in the first of sixteen places.
 pub fn observe_arguments(machine: &Machine<'_>, comps: &List<Comp>) -> [Obs; 16]
@@ -113,7 +88,7 @@ pub fn observe_arguments(machine: &Machine<'_>, comps: &List<Comp>) -> [Obs; 16]
 }
 
 // Writes observations, each after a space.
-fn write_seen<K: Sink>(shown: &[Obs], out: &mut K) -> Result<(), OutFault>
+fn write_shown<K: Sink>(shown: &[Obs], out: &mut K) -> Result<(), OutFault>
     ensures text { Writes result (K.held out.old) (K.held out.new) (shown_text shown.now) }
     ensures counts { Counts result (K.faults out.old) (K.faults out.new) }
 {
@@ -133,20 +108,27 @@ fn put_name<K: Sink>(text: &[u8], name: &Name, out: &mut K) -> Result<(), OutFau
 }
 
 // Writes the front of a line on a call.
-fn put_call<K: Sink>(name: &Name, shown: &[Obs], out: &mut K) -> Result<(), OutFault>
-    ensures text { Writes result (K.held out.old) (K.held out.new) ((codes "call " ++ name.now) ++ shown_text shown.now) }
+fn put_call<K: Sink>(text: &[u8], name: &Name, shown: &[Obs], out: &mut K) -> Result<(), OutFault>
+    ensures text { Writes result (K.held out.old) (K.held out.new)
+        ((text.now ++ name.now) ++ shown_text shown.now) }
     ensures counts { Counts result (K.faults out.old) (K.faults out.new) }
 {
-    put_name(b"call ", name, out)?;
-    write_seen(shown, out)
+    put_name(text, name, out)?;
+    write_shown(shown, out)
 }
 
-/// Writes the line of a call of that name that showed so.
-pub fn write_call_line<K: Sink>(name: &Name, shown: &[Obs], out: &mut K) -> Result<(), OutFault>
-    ensures text { Writes result (K.held out.old) (K.held out.new) (((codes "call " ++ name.now) ++ shown_text shown.now) ++ codes "\n") }
+/// Writes a line of a text and a call of that name whose arguments show so.
+pub fn write_call_line<K: Sink>(
+    text: &[u8],
+    name: &Name,
+    shown: &[Obs],
+    out: &mut K,
+) -> Result<(), OutFault>
+    ensures text { Writes result (K.held out.old) (K.held out.new)
+        (((text.now ++ name.now) ++ shown_text shown.now) ++ codes "\n") }
     ensures counts { Counts result (K.faults out.old) (K.faults out.new) }
 {
-    put_call(name, shown, out)?;
+    put_call(text, name, shown, out)?;
     put(b"\n", out)
 }
 
@@ -161,29 +143,16 @@ pub fn write_line<K: Sink>(text: &[u8], out: &mut K) -> Result<(), OutFault>
 
 /// Writes a line of a text and an observation.
 pub fn write_obs_line<K: Sink>(text: &[u8], obs: Obs, out: &mut K) -> Result<(), OutFault>
-    ensures text { Writes result (K.held out.old) (K.held out.new) (text.now ++ obs_text obs ++ codes "\n") }
+    ensures text { Writes result (K.held out.old) (K.held out.new)
+        (text.now ++ obs_text obs ++ codes "\n") }
     ensures counts { Counts result (K.faults out.old) (K.faults out.new) }
 {
     put_obs(text, obs, out)?;
     put(b"\n", out)
 }
 
-// Writes a text and an external call.
-fn put_made<K: Sink>(
-    text: &[u8],
-    machine: &Machine<'_>,
-    row: &ExtRow,
-    out: &mut K,
-) -> Result<(), OutFault>
-    requires { length (contents row.now.params) ≤ 16 }
-    ensures text { Writes result (K.held out.old) (K.held out.new) (text.now ++ made_text (call_made (ext row.now) machine.now)) }
-    ensures counts { Counts result (K.faults out.old) (K.faults out.new) }
-{
-    put(text, out)?;
-    write_made(machine, row, out)
-}
-
-/// Writes a line of a text and the external call before which the machine stands.
+/// Writes a line of a text and the external call before which the machine is: its name, and what its
+/// arguments show.
 pub fn write_made_line<K: Sink>(
     text: &[u8],
     machine: &Machine<'_>,
@@ -191,11 +160,12 @@ pub fn write_made_line<K: Sink>(
     out: &mut K,
 ) -> Result<(), OutFault>
     requires { length (contents row.now.params) ≤ 16 }
-    ensures text { Writes result (K.held out.old) (K.held out.new) (text.now ++ made_text (call_made (ext row.now) machine.now) ++ codes "\n") }
+    ensures text { Writes result (K.held out.old) (K.held out.new)
+        (text.now ++ made_text (call_made (ext row.now) machine.now) ++ codes "\n") }
     ensures counts { Counts result (K.faults out.old) (K.faults out.new) }
 {
-    put_made(text, machine, row, out)?;
-    put(b"\n", out)
+    let shown = observe_arguments(machine, &row.params);
+    write_call_line(text, &row.name, &shown[..row.params.len()], out)
 }
 
 // The text of a machine that has stopped.
@@ -215,7 +185,8 @@ fn stopped_text(cause: Cause) -> &'static str
 
 /// Writes the line of a machine that has stopped.
 pub fn write_stopped<K: Sink>(cause: Cause, out: &mut K) -> Result<(), OutFault>
-    ensures text { Writes result (K.held out.old) (K.held out.new) (codes "stopped " ++ cause_text cause ++ codes "\n") }
+    ensures text { Writes result (K.held out.old) (K.held out.new)
+        (codes "stopped " ++ cause_text cause ++ codes "\n") }
     ensures counts { Counts result (K.faults out.old) (K.faults out.new) }
 {
     write_line(stopped_text(cause).as_bytes(), out)

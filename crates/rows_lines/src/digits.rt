@@ -27,7 +27,7 @@ fn value_of(digit: u8) -> u8 {
     }
 }
 
-/// Puts the digits of the bytes, and the end of a line where there are any, behind what is there.
+/// Puts the digits of the bytes, and the end of a line where there are any, after what is there.
 pub(crate) fn push_digits(
     alloc: Global,
     said: &mut Vec<u8>,

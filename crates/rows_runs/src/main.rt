@@ -39,7 +39,7 @@ fn layout(alloc: Global) -> Result<Layout> {
     Ok(Layout { frames, addresses })
 }
 
-/// What is told of a line.
+/// What is reported of a line.
 fn told(alloc: Global, layout: &Layout, line: &str) -> Result<Vec<u8>> {
     let Some((words, text)) = line.split_once(" | ") else {
         return Ok(b"no bar\n".to_vec(alloc)?);

@@ -16,5 +16,6 @@ pub mod Services
 pub mod Step
 pub mod Start
 pub mod Loading
+pub mod Sound
 pub mod Run
 pub mod Text

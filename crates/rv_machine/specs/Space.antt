@@ -19,6 +19,10 @@ pub record IsSpace (heap : ℕ) (space : Space) : Type 0 where
   pub starts : heap / 16 ≤ vec_capacity space.starts
   pub words : heap / 8 ≤ vec_capacity space.words
 
+-- a block has a cell
+abbrev pub HasCells : Placed → Type 0
+HasCells b = 1 ≤ b.words
+
 -- A block of the table: it has a cell, and lies in the heap.
 pub record IsKept (heap : ℕ) (b : Placed) : Type 0 where
   pub some : 1 ≤ b.words

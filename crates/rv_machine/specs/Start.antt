@@ -40,16 +40,22 @@ start_registers args =
     0 ∷ code_start ∷ stack_bottom ∷ 0 ∷ 0 ∷ 0 ∷ 0 ∷ 0 ∷ 0 ∷ stack_bottom ∷ (padded 16 args
     ++ young_top ∷ domain_start ∷ 0 ∷ 0 ∷ 0 ∷ 0 ∷ [])
 
--- the state at the entry of a function, with argument words and so many bytes of stack and of each half
-abbrev pub start : Tables → Func → List ℕ → ℕ → ℕ → Hart
-start image entry args stack heap = record {
+-- a state in which no instruction has retired and no block lies
+abbrev pub idle : Tables → List ℕ → ℕ → List Region → ℕ → ℕ → Hart
+idle image registers pc memory stack_base heap = record {
   image = image;
-  registers = start_registers args;
-  pc = code_start + entry.offset;
-  memory = start_memory image stack heap;
-  stack_base = stack_bottom - stack;
+  registers = registers;
+  pc = pc;
+  memory = memory;
+  stack_base = stack_base;
   heap = heap;
   blocks = [];
   retired = 0;
   services = 0;
 }
+
+-- the state at the entry of a function, with argument words and so many bytes of stack and of each half
+abbrev pub start : Tables → Func → List ℕ → ℕ → ℕ → Hart
+start image entry args stack heap =
+    idle image (start_registers args) (code_start + entry.offset) (start_memory image stack heap)
+    (stack_bottom - stack) heap

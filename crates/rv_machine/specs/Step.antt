@@ -1,4 +1,4 @@
--- What a step of the code tells, as what comes of an instruction.
+-- What a step of the code reports, as what comes of an instruction.
 use Rattle.std.specs.Prelude.{◌≡◌, ◌<◌, ◌-◌, ◌^◌, min, ℕ, Bool, true, false, List, Option, Some, None}
 use Rattle.rv_machine.specs.Memory.{Region}
 use Rattle.rv_machine.specs.Hart.{Hart, Next, with_register}
@@ -21,7 +21,7 @@ counted_next (next.Service h) = next.Service h
 counted_next next.StackOut = next.StackOut
 counted_next (next.Stopped cause) = next.Stopped cause
 
--- what came of the instruction, where this was told and the machine then stood so
+-- what came of the instruction, where the code reports this and leaves the machine so
 abbrev pub next_of : StepEnd → Hart → Next
 next_of Retired new = next.Retired new
 next_of Service new = next.Service new
@@ -35,7 +35,7 @@ Keeps Service old new = new ≡ old
 Keeps StackOut old new = new ≡ old
 Keeps (Stopped cause) old new = new ≡ old
 
--- a store tells whether there was a place for it, and changes the memory alone
+-- a store reports whether there was a place for it, and changes the memory alone
 abbrev pub Stores : Bool → Option (List Region) → Hart → Hart → Type 0
 Stores true after old new = (memory : List Region) × (after ≡ Some memory) × (new ≡ record old { memory = memory })
 Stores false after old new = (after ≡ None) × (new ≡ old)

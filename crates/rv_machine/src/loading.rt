@@ -8,7 +8,7 @@ ghost use Rattle.rv_machine.specs.Start.{start_memory, padded};
 ghost use Rattle.rv_machine.specs.Loading.{IsRoom, beginning, func_named, sym_named, address_of, word_of_arg, suited, takes, words_of_args, AreStartRegisters, IsStart};
 
 use crate::code::CODE_START;
-use crate::machine::Machine;
+use crate::machine::{Machine, Room};
 use crate::memory::Memory;
 use crate::setup::{Arg, LoadError, Setup};
 use crate::space::Space;
@@ -208,9 +208,11 @@ fn at_entry<'a>(
         start_registers(words),
         pc,
         memory,
-        STACK_BOTTOM - stack,
-        heap,
-        blocks,
-        space,
+        Room {
+            stack_base: STACK_BOTTOM - stack,
+            heap,
+            blocks,
+            space,
+        },
     ))
 }

@@ -7,6 +7,7 @@ ghost use Rattle.rv_machine.specs.Hart.{Hart, register, fetch, readable, sets, g
 ghost use Rattle.rv_machine.specs.Loading.{IsRoom};
 ghost use Rattle.rv_machine.specs.Memory.{loaded, stored};
 ghost use Rattle.rv_machine.specs.Space.{IsSpace};
+ghost use Rattle.rv_machine.specs.Start.{idle};
 ghost use Rattle.std.specs.Vec.{vec_capacity};
 ghost use Rattle.rv_machine.specs.Width.{IsWidth};
 ghost use Rattle.rv_machine.specs.Step.{counted, counted_next, next_of, Keeps, Stores, registers_after};
@@ -24,6 +25,19 @@ use crate::step_end::StepEnd;
 use image_form::Image;
 use rv_isa::Register;
 use std::marker::Model;
+
+/// What a new machine has for its stack and its heap.
+#[derive(Drop)]
+pub(crate) struct Room {
+    /// The lowest address that the stack pointer may have.
+    pub stack_base: u64,
+    /// The bytes of each half of the heap.
+    pub heap: u64,
+    /// Memory for the table of blocks, of which there are none yet. A block has 16 bytes at least.
+    pub blocks: Vec<BlockPlace>,
+    /// What moving blocks needs.
+    pub space: Space,
+}
 
 /// The machine. Contracts see the state of its hart.
 #[derive(Drop)]
@@ -53,49 +67,57 @@ impl<'a> Model for Machine<'a> {
 
     ghost Value = { Hart };
 
-    ghost view = { λ m. record { image = tables m.image.now; registers = m.registers; pc = m.pc; memory = m.memory; stack_base = m.stack_base; heap = m.heap; blocks = m.blocks.items; retired = m.retired; services = m.services } };
+    ghost view = { λ m. record {
+      image = tables m.image.now;
+      registers = m.registers;
+      pc = m.pc;
+      memory = m.memory;
+      stack_base = m.stack_base;
+      heap = m.heap;
+      blocks = m.blocks.items;
+      retired = m.retired;
+      services = m.services;
+    } };
 
     ghost use Rattle.std.specs.Vec.{vec_capacity};
     ghost use Rattle.rv_machine.specs.Space.{IsHeap, IsSpace};
 
     // x0 holds 0, so that it is read as the others are. The stack lies above the heap.
-    ghost invariant = { λ m. (slice_index m.registers 0 ≡ 0) × IsImage m.image.now × IsHeap m.heap m.blocks.items × IsSpace m.heap m.space × (m.heap / 16 ≤ vec_capacity m.blocks) × (0x38010000 ≤ m.stack_base) × (m.stack_base ≤ 0x40000000) };
+    ghost invariant = { λ m. (slice_index m.registers 0 ≡ 0) × IsImage m.image.now
+        × IsHeap m.heap m.blocks.items × IsSpace m.heap m.space × (m.heap / 16 ≤ vec_capacity m.blocks)
+        × (0x38010000 ≤ m.stack_base) × (m.stack_base ≤ 0x40000000) };
 }
 
 impl<'a> Machine<'a> {
-    // A machine in which no instruction has retired and no block lies. `blocks` is empty, with room for the
-    // table; a block has 16 bytes at least.
+    // A machine in which no instruction has retired and no block lies.
     pub(crate) fn new(
         image: &'a Image,
         registers: [u64; 32],
         pc: u64,
         memory: Memory,
-        stack_base: u64,
-        heap: u64,
-        blocks: Vec<BlockPlace>,
-        space: Space,
+        room: Room,
     ) -> Self
         requires zero { slice_index registers 0 ≡ 0 }
         requires rules { IsImage image.now }
-        requires no_block { blocks.items ≡ [] }
-        requires room { heap / 16 ≤ vec_capacity blocks }
-        requires heap { IsRoom heap }
-        requires ready { IsSpace heap space }
-        requires above { 0x38010000 ≤ stack_base }
-        requires below { stack_base ≤ 0x40000000 }
-        ensures { result ≡ record { image = tables image.now; registers = registers; pc = pc; memory = memory; stack_base = stack_base; heap = heap; blocks = []; retired = 0; services = 0 } }
+        requires no_block { room.blocks.items ≡ [] }
+        requires table { room.heap / 16 ≤ vec_capacity room.blocks }
+        requires heap { IsRoom room.heap }
+        requires ready { IsSpace room.heap room.space }
+        requires above { 0x38010000 ≤ room.stack_base }
+        requires below { room.stack_base ≤ 0x40000000 }
+        ensures { result ≡ idle (tables image.now) registers pc memory room.stack_base room.heap }
     {
         Machine {
             image,
             registers,
             pc,
             memory,
-            stack_base,
-            heap,
-            blocks,
+            stack_base: room.stack_base,
+            heap: room.heap,
+            blocks: room.blocks,
             retired: 0,
             services: 0,
-            space,
+            space: room.space,
         }
     }
 
@@ -182,8 +204,8 @@ impl<'a> Machine<'a> {
         self.memory.read(address, width)
     }
 
-    // Writes the lowest `width` bytes of `value` at an address, or tells that it is not aligned or may not
-    // be written.
+    // Writes the lowest `width` bytes of `value` at an address; reports whether it is aligned and may be
+    // written.
     pub(crate) fn stored(&mut self, address: u64, width: u64, value: u64) -> bool
         requires { IsWidth width }
         ensures { Stores result (stored self.old.memory address width value) self.old self.new }

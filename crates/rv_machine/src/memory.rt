@@ -75,7 +75,7 @@ impl Memory {
         None
     }
 
-    /// Writes the lowest `width` bytes of `value` at `address`, or tells that no region has them there.
+    /// Writes the lowest `width` bytes of `value` at `address`; reports whether a region has them there.
     pub fn write(&mut self, address: u64, width: u64, value: u64) -> bool
         requires width { IsWidth width }
         requires aligned { address % width ≡ 0 }

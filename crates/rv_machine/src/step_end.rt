@@ -1,7 +1,7 @@
 //! What comes of an instruction.
 use crate::cause::Cause;
 
-/// What a step tells.
+/// What a step reports.
 #[derive(Clone, Copy, PartialEq, Eq, Debug)]
 pub enum StepEnd {
     /// The instruction has retired.

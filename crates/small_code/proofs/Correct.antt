@@ -1,17 +1,21 @@
 -- The image of a small file is correct.
-use Rattle.std.proofs.Common.{◌≡◌, ◌⊎◌, ℕ, ◌+◌, ◌*◌, ◌<◌, ◌≤◌, List, [], ◌∷◌, ◌++◌, length, map, slice_get, slice_index, Option, Some, None, option_map, refl, sym, ap, ◌∙◌, subst, arith, inl, inr, ⊎_elim}
+use Rattle.std.proofs.Common.{◌≡◌, ◌⊎◌, ℕ, true, ◌+◌, ◌*◌, ◌<◌, ◌≤◌, List, [], ◌∷◌, ◌++◌, length, map, slice_get, slice_index, Option, Some, None, option_map, refl, sym, ap, ◌∙◌, subst, arith, inl, inr, ⊎_elim}
 use Rattle.std.proofs.lemmas.Bool.{cases_lt}
 use Rattle.std.proofs.lemmas.List.{length-map}
 use Rattle.std.proofs.lemmas.Option.{slice_get_within, slice_get-map, get_or_from_slice_get}
 use Rattle.bs_words.specs.declared.values.Obs.TheVariants as obs
+use Rattle.bs_words.specs.declared.values.Value.TheVariants.{Word}
+use Rattle.cmm_meaning.specs.Evaluation.{fit_parameters}
 use Rattle.cmm_meaning.specs.Run.{Outcome, More, Run, cmm_run}
 use Rattle.cmm_meaning.specs.Run as text
 use Rattle.small_code.specs.Small.{IsSmall, IsSmallFunction, nodes}
 use Rattle.small_code.specs.Tree.{SmallFunctionTree, SmallFileTree, Parameter, functions, names_of, comps_of, embedded_function, embedded_item, embedded_file}
 use Rattle.cmm_data.specs.Placement.{data_end}
 use Rattle.cmm_tree.specs.Tree as whole
-use Rattle.correctness.specs.Correct.{EndsAlike, Alike, Forwards, Backwards, Accounted, IsPrefix, IsCorrect}
-use Rattle.correctness.specs.Setting.{layout_of, Entered, FitParameters}
+use Rattle.correctness.specs.Correct.{EndsAlike, Alike, Forwards, Backwards, Accounted, IsCorrect}
+use Rattle.correctness.specs.Setting.{layout_of, Entered, AreWords}
+use Rattle.machine_laws.proofs.Words.{words_by_parts}
+use Rattle.machine_laws.specs.Steps.{IsFrontOf}
 use Rattle.rv_machine.specs.Loading.{IsRoom}
 use Rattle.image_form.specs.Image.{AreTables, stub}
 use Rattle.image_form.specs.Tables.{Func}
@@ -29,7 +33,7 @@ use Rattle.small_code.proofs.Pieces.{HasAt}
 use Rattle.small_code.proofs.Rows.{AtRow, at_row, are_rows}
 use Rattle.small_code.proofs.Source.{Tells, run_returns, run_goes_on}
 use Rattle.small_code.proofs.Types.{all_ints, by_recursion}
-use Rattle.small_code.proofs.Start.{fit_words, fit_length, setting, first_view, first_stands, first_entry}
+use Rattle.small_code.proofs.Start.{fit_length, setting, first_view, first_stands, first_entry}
 use Rattle.small_code.proofs.Steps.{Setting, View, Stands, Ends}
 use Rattle.small_code.proofs.Values.{word_in}
 use Rattle.small_code.proofs.Whole.{Comes, comes_at}
@@ -67,7 +71,7 @@ module _ (run : ℕ → Run) (machine : ℕ → Seen) (stack heap words enough w
   need : (n : ℕ) → (run n).stack_need ≡ frame
   need n = ⊎_elim (λ few. (runs.goes_on n few).stack) (λ more. (runs.ends n more).stack) (cases_lt n enough)
 
-  made : (now : Seen) (end : End) → Comes end now → (n : ℕ) × IsPrefix now.calls (run n).calls
+  made : (now : Seen) (end : End) → Comes end now → (n : ℕ) × IsFrontOf now.calls (run n).calls
   made now end (inl e) = (0, ((run 0).calls, ap (λ (now : Seen). now.calls ++ (run 0).calls) (sym e)))
   made now end (inr e) = (0, ((run 0).calls, ap (λ (now : Seen). now.calls ++ (run 0).calls) (sym e)))
 
@@ -120,7 +124,8 @@ record EnteredSmall (file : SmallFileTree) (entry : ℕ) (f : SmallFunctionTree)
   of_file : slice_get (functions file) entry ≡ Some f
   of_whole : slice_get (whole.functions (embedded_file file)) entry ≡ Some (embedded_function f)
   of_image : slice_get (compiled file).funcs entry ≡ Some row
-  arguments : FitParameters (data_end (embedded_file file)) (comps_of f) args
+  args_are_words : AreWords args
+  args_fit : fit_parameters (data_end (embedded_file file)) (comps_of f) (map Word args) ≡ true
 
 same_some : {A : Type 0} {x y : A} → Some x ≡ Some y → x ≡ y
 same_some e = cc
@@ -147,7 +152,8 @@ small_entered file entry f row args answers entered =
         of_file = g.1;
         of_whole = entered.of_file ∙ ap Some (sym g.2);
         of_image = entered.of_image;
-        arguments = subst (λ (f : whole.FunctionTree). FitParameters (data_end (embedded_file file)) (whole.comps_of f) args) (sym g.2) entered.arguments;
+        args_are_words = entered.args_are_words;
+        args_fit = subst (λ (f : whole.FunctionTree). fit_parameters (data_end (embedded_file file)) (whole.comps_of f) (map Word args) ≡ true) (sym g.2) entered.args_fit;
       },
     )
 
@@ -168,7 +174,7 @@ module _ (file : SmallFileTree) (small : IsSmall file) (tables : AreTables (comp
   }
 
   count : length args ≡ length f.params
-  count = fit_length (data_end (embedded_file file)) (comps_of f) args entered.arguments ∙ length-map f.params (λ (p : Parameter). p.comp)
+  count = fit_length (data_end (embedded_file file)) (comps_of f) args entered.args_fit ∙ length-map f.params (λ (p : Parameter). p.comp)
 
   word : ℕ
   word = word_in (λ name. slice_index args (index_of (names_of f) name)) f.body
@@ -196,7 +202,7 @@ module _ (file : SmallFileTree) (small : IsSmall file) (tables : AreTables (comp
   machine m = machine_run (compiled file) row args answers room heap schedule m
 
   begins_so : Stands during (start (compiled file) row args room heap) view
-  begins_so = first_stands (compiled file) tables row args answers schedule room heap is_room is_heap code_at.place code_at.offset (fit_words (data_end (embedded_file file)) (comps_of f) args entered.arguments)
+  begins_so = first_stands (compiled file) tables row args answers schedule room heap is_room is_heap code_at.place code_at.offset (words_by_parts args entered.args_are_words)
 
   entry_so : Entry during room args view
   entry_so = first_entry (compiled file) tables row args answers schedule room heap is_room is_heap code_at.place

@@ -7,13 +7,14 @@ use Rattle.rv_isa.specs.Encoding.{encoded}
 use Rattle.rv_isa.specs.declared.instr.AluImmOp.TheVariants.{Addi}
 use Rattle.rv_isa.specs.declared.instr.AluOp.TheVariants.{Add, Sub}
 use Rattle.rv_isa.specs.declared.instr.Instr.TheVariants.{Jalr, OpImm}
-use Rattle.small_code.specs.Code.{argument_code, store_slot, is_among, index_of, constant, eleven_more, function_code, move_sp, load_slot, expression_code, frame_bytes, parameters, slots, a0, ra}
+use Rattle.rv_isa.specs.Registers.{a0, ra}
+use Rattle.small_code.specs.Code.{argument_code, store_slot, is_among, index_of, constant, eleven_more, function_code, move_sp, load_slot, expression_code, frame_bytes, parameters, slots}
 use Rattle.small_code.specs.Compiled.{function_words}
 use Rattle.small_code.specs.Names.{names_in}
 
 -- ---- pieces
 
--- one piece behind another, where both were appended
+-- one piece after another, where both were appended
 joined : {X Y : Type 0} (f : X → Y) (xs ys : List X) (u v w : List Y) → v ≡ u ++ map f xs → w ≡ v ++ map f ys → w ≡ u ++ map f (xs ++ ys)
 joined f xs ys u v w p q =
     q ∙ ap (λ l. l ++ map f ys) p ∙ append_assoc u (map f xs) (map f ys) ∙ ap (λ l. u ++ l) (sym (map-append f xs ys))

@@ -7,7 +7,8 @@ use Rattle.small_code.specs.Tree.{SmallExpression, Integer, Name, Operator}
 use Rattle.rv_isa.specs.declared.instr.Instr.{Instr}
 use Rattle.rv_isa.specs.declared.instr.Instr.TheVariants.{Op}
 use Rattle.rv_machine.specs.Arithmetic.{alu}
-use Rattle.small_code.specs.Code.{constant, load_slot, store_slot, expression_code, index_of, row_of, t0, t2}
+use Rattle.rv_isa.specs.Registers.{t0, t2}
+use Rattle.small_code.specs.Code.{constant, load_slot, store_slot, expression_code, index_of, row_of}
 use Rattle.small_code.proofs.Values.{word_in, row-word, some_nodes}
 use Rattle.small_code.proofs.Steps.{Setting, View, Leads, then_leads}
 use Rattle.small_code.proofs.Instructions.{op_step}
@@ -243,7 +244,7 @@ module _ (s : Setting) (sp origin total : ℕ) (frame : Frame s sp origin total)
       let last : List Instr = Op (row_of op) t0 t0 t2 ∷ store_slot t0 k in
       omega (arith, length-append cr (cl ++ (load_slot t0 a ++ (load_slot t2 b ++ last))), length-append cl (load_slot t0 a ++ (load_slot t2 b ++ last)), length-append (load_slot t0 a) (load_slot t2 b ++ last), length-append (load_slot t2 b) last, length-load t0 a, length-load t2 b, length-store t0 k)
 
-  -- the views behind the two operands and behind the whole
+  -- the views after the two operands and after the whole
   operator_ends :
       (names : List (List ℕ)) (holds : List ℕ → ℕ) (at : ℕ) (op : IntOp) (left right : SmallExpression) (next : ℕ) (v w1 w2 w3 : View) →
       Reaches s (length (expression_code names next right)) (origin + next) v w1 →

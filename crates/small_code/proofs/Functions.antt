@@ -195,7 +195,7 @@ module _ (s : Setting) (room : ℕ) (f : SmallFunctionTree) (args : List ℕ) (v
     before = few.named;
   }
 
-  -- behind the body: the value goes to a0, the frame is given back, and the stub ends the run
+  -- after the body: the value goes to a0, the frame is given back, and the stub ends the run
   after_body :
       (w : View) (word : ℕ) → Ready s sp_in w → slice_index w.registers 1 ≡ code_start →
       InSlot s sp_in origin_in (slots f) frame_in w (slots f - 1) word →

@@ -9,12 +9,14 @@ use Rattle.rv_isa.specs.declared.instr.Instr.TheVariants.{Load, Store, OpImm, Sh
 use Rattle.rv_isa.specs.declared.instr.LoadWidth.TheVariants.{Ld}
 use Rattle.rv_isa.specs.declared.instr.ShiftOp.TheVariants.{Slli}
 use Rattle.rv_isa.specs.declared.instr.StoreWidth.TheVariants.{Sd}
+use Rattle.machine_laws.proofs.Words.{set_words}
+use Rattle.rv_machine.specs.Sound.{AllWords}
 use Rattle.rv_machine.specs.Arithmetic.{alu, imm_i}
 use Rattle.rv_machine.specs.Hart.{register, sets, executed, loads, stores}
 use Rattle.rv_machine.specs.Memory.{code_region, code_start, loaded, stored}
 use Rattle.rv_machine.specs.Run.{perhaps_asked, after_next, after}
 use Rattle.small_code.proofs.Memory.{loaded_slot, stored_slot}
-use Rattle.small_code.proofs.Steps.{Setting, View, Leads, Instruction, AllWords, SetsRegister, held, register_held, held_word, set_words, with_set, set_step, one_step, perhaps_stands, at}
+use Rattle.small_code.proofs.Steps.{Setting, View, Leads, Instruction, SetsRegister, held, register_held, held_word, with_set, set_step, one_step, perhaps_stands, at}
 
 -- an immediate whose top bit is clear is itself
 pub imm_small : (imm : ℕ) → imm < 2048 → imm_i imm ≡ imm

@@ -31,7 +31,7 @@ add3 = record {
 abbrev file : SmallFileTree
 file = record { functions = add3 ∷ [] }
 
--- 78 words behind the stub, and a frame of seven slots
+-- 78 words after the stub, and a frame of seven slots
 abbrev row : Func
 row = record { name = codes "add3"; offset = 16; words = 78; frame = 64; params = comp.Int ∷ comp.Int ∷ []; result = returns.Comp comp.Int }
 

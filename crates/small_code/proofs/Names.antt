@@ -8,7 +8,7 @@ use Rattle.bs_words.specs.declared.types.Comp.TheVariants as comp
 use Rattle.bs_words.specs.declared.types.Ty.TheVariants.{Int}
 use Rattle.bs_words.specs.declared.values.Value.{Value}
 use Rattle.bs_words.specs.declared.values.Value.TheVariants.{Word}
-use Rattle.cmm_meaning.specs.State.{Binding, found, value_of, bound}
+use Rattle.cmm_meaning.specs.State.{Binding, value_of, bound}
 use Rattle.small_code.specs.Tree.{Parameter, names_of_params}
 use Rattle.cmm_meaning.specs.Evaluation.{scoped_parameter}
 use Rattle.cmm_types.specs.Types.{Scoped, first_type, type_named, with_parameters}
@@ -88,9 +88,9 @@ value_behind [] vs rest name none = refl
 value_behind (p ∷ ps) [] rest name none = refl
 value_behind (p ∷ ps) (v ∷ vs) rest name none =
     value_behind ps vs (parameter_bound p v ∷ rest) name (not_later (bytes_eq p.name name) (is_among (names_of_params ps) name) none)
-    ∙ ap (λ b. found b v (value_of rest name)) (not_first (bytes_eq p.name name) (is_among (names_of_params ps) name) none)
+    ∙ ap (λ b. cond b (Some v) (value_of rest name)) (not_first (bytes_eq p.name name) (is_among (names_of_params ps) name) none)
 
--- the word of the first parameter, or of one behind it
+-- the word of the first parameter, or of one after it
 abbrev chosen_word : List ℕ → ℕ → Bool → Option Value
 chosen_word args k later = Some (Word (slice_index args (cond later (suc k) 0)))
 
@@ -112,7 +112,7 @@ value_bound (p ∷ ps) (a ∷ args) rest name count among =
     by_later true e more = more e ∙ ap (chosen_word (a ∷ args) (index_of (names_of_params ps) name)) (sym e)
     by_later false e more =
         value_behind ps (map Word args) (parameter_bound p (Word a) ∷ rest) name e
-        ∙ ap (λ b. found b (Word a) (value_of rest name)) (or_first (bytes_eq p.name name) (is_among (names_of_params ps) name) among e)
+        ∙ ap (λ b. cond b (Some (Word a)) (value_of rest name)) (or_first (bytes_eq p.name name) (is_among (names_of_params ps) name) among e)
         ∙ ap (chosen_word (a ∷ args) (index_of (names_of_params ps) name)) (sym e)
 
 -- the names in scope are those of the parameters

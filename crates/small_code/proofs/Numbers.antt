@@ -10,13 +10,14 @@ use Rattle.rv_isa.specs.declared.instr.AluOp.TheVariants.{Add, Sub}
 use Rattle.rv_isa.specs.declared.instr.Instr.{Instr}
 use Rattle.rv_isa.specs.declared.instr.Instr.TheVariants.{Jalr, Op}
 use Rattle.rv_isa.proofs.RoundTrip.{encoded-below}
-use Rattle.small_code.specs.Code.{constant, near_slot, load_slot, store_slot, move_sp, expression_code, is_among, index_of, row_of, argument_code, function_code, frame_bytes, parameters, slots, t0, t2, a0, ra}
+use Rattle.rv_isa.specs.Registers.{t0, t2, a0, ra}
+use Rattle.small_code.specs.Code.{constant, near_slot, load_slot, store_slot, move_sp, expression_code, is_among, index_of, row_of, argument_code, function_code, frame_bytes, parameters, slots}
 use Rattle.small_code.specs.Compiled.{function_words}
 
 abbrev AllFit : List Instr → Type 0
 AllFit code = AllByRecursion InstrFits code
 
--- what holds of each element of two lists holds behind each other
+-- what holds of each element of two lists holds one after another
 pub all-append : {X : Type 0} (P : X → Type 0) (xs ys : List X) → AllByRecursion P xs → AllByRecursion P ys → AllByRecursion P (xs ++ ys)
 all-append P [] ys all more = more
 all-append P (x ∷ xs) ys all more = (all.0, all-append P xs ys all.1 more)

@@ -8,7 +8,7 @@ use Rattle.bs_words.specs.declared.types.Comp.{Comp}
 use Rattle.bs_words.specs.declared.types.Comp.TheVariants as comp
 use Rattle.cmm_tree.specs.Built.{is_built_operator, is_built, is_int, all_int, is_built_function, all_built, not_built}
 use Rattle.cmm_tree.specs.Tree as whole
-use Rattle.correctness.specs.Measures.{total, counts_one}
+use Rattle.cmm_tree.specs.Measures.{total, counts_one}
 use Rattle.small_code.specs.Read.{NamesBound, IntegersFit, IsReadFunction, IsReadSmall}
 use Rattle.small_code.specs.Small.{NamesAmong, WordsFit, SmallOperators, nodes, IsSmallFunction, IsSmall, AllDiffer}
 use Rattle.small_code.specs.Tree.{SmallExpression, Integer, Name, Operator, SmallFunctionTree, SmallFileTree, Parameter, embedded, embedded_function, embedded_item, embedded_file}

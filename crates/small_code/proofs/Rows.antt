@@ -25,7 +25,7 @@ are_rows offset (f ∷ fs) small =
 
 -- ---- the code at a row
 
--- the words of instructions stand behind what comes before them
+-- the words of instructions stand after what comes before them
 words_stand : (is : List Instr) (pre post : List ℕ) → Has (pre ++ (map encoded is ++ post)) (length pre) is
 words_stand [] pre post = tt
 words_stand (i ∷ is) pre post =
@@ -38,7 +38,7 @@ words_stand (i ∷ is) pre post =
     let later' = subst (λ code. Has code (length (pre ++ encoded i ∷ [])) is) (append_assoc pre (encoded i ∷ []) rest) later in
     (here, subst (λ m. Has (pre ++ encoded i ∷ rest) m is) n later')
 
--- What is known of the row of a function: its code stands at its offset, behind `start` words.
+-- What is known of the row of a function: its code stands at its offset, after `start` words.
 pub record AtRow (code : List ℕ) (start : ℕ) (f : SmallFunctionTree) (row : Func) : Type 0 where
   pub place : ℕ
   pub offset : row.offset ≡ 4 * place

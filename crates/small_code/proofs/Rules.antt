@@ -43,7 +43,7 @@ is_func offset f aligned small = record {
   result = tt;
 }
 
--- ---- rows that lie one behind the other
+-- ---- rows that lie one after the other
 
 each_func : (offset : ℕ) (fs : List SmallFunctionTree) → offset % 4 ≡ 0 → AllByRecursion IsSmallFunction fs → AllByRecursion IsFunc (rows_from offset fs)
 each_func offset [] aligned small = tt

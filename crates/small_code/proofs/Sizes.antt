@@ -12,7 +12,8 @@ use Rattle.rv_isa.specs.Encoding.{encoded}
 use Rattle.rv_isa.specs.declared.instr.AluOp.{AluOp}
 use Rattle.rv_isa.specs.declared.instr.AluOp.TheVariants.{Add, Sub}
 use Rattle.rv_isa.specs.declared.instr.Instr.TheVariants.{Jalr, Op}
-use Rattle.small_code.specs.Code.{constant, near_slot, load_slot, store_slot, move_sp, expression_code, index_of, row_of, argument_code, function_code, frame_bytes, parameters, slots, t0, t2, a0, ra}
+use Rattle.rv_isa.specs.Registers.{t0, t2, a0, ra}
+use Rattle.small_code.specs.Code.{constant, near_slot, load_slot, store_slot, move_sp, expression_code, index_of, row_of, argument_code, function_code, frame_bytes, parameters, slots}
 use Rattle.small_code.specs.Compiled.{function_words, row_at}
 
 length-constant : (rd word : ℕ) → length (constant rd word) ≡ 11
@@ -37,7 +38,7 @@ expression_length (Integer at word) = 15
 expression_length (Name at name) = 8
 expression_length (Operator at op left right) = expression_length right + expression_length left + 13
 
--- four pieces behind each other
+-- four pieces one after another
 length_four : {A : Type 0} (xs bs cs ds : List A) (d : A) → length (xs ++ (bs ++ (cs ++ (d ∷ ds)))) ≡ length xs + length bs + length cs + 1 + length ds
 length_four xs bs cs ds d =
     omega (arith, length-append xs (bs ++ (cs ++ (d ∷ ds))), length-append bs (cs ++ (d ∷ ds)), length-append cs (d ∷ ds))

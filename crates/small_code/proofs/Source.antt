@@ -16,7 +16,7 @@ use Rattle.bs_words.specs.declared.values.Value.TheVariants.{Word}
 use Rattle.cmm_data.specs.Placement.{data_end, value_of_symbol}
 use Rattle.cmm_meaning.specs.Evaluation.{Evaluation, Gives, Stops, OutOfFuel, Surroundings, scoped_parameter, with_value, proper, typed, looked_up, both, is_left_first, evaluated}
 use Rattle.cmm_meaning.specs.Layout.{Layout}
-use Rattle.cmm_meaning.specs.Run.{Outcome, Run, Returned, More, activated, callees, outside, first_world, told, finished, cmm_run}
+use Rattle.cmm_meaning.specs.Run.{Outcome, Run, Returned, More, activated, callees, outside, first_world, reported, finished, cmm_run}
 use Rattle.cmm_meaning.specs.State.{World, Here, scope, value_of, bound, deepened}
 use Rattle.cmm_tree.specs.Tree.{FileTree}
 use Rattle.cmm_tree.specs.Tree as whole
@@ -142,7 +142,7 @@ module _ (s : Surroundings) (names : List (List ℕ)) (holds : List ℕ → ℕ)
                 ∙ ap (λ r. typed s.end (type_of_operator op) (with_value r (λ a h w. proper (apply op (sizes w.memory) a (Word (word_in holds right))) w (λ v. Gives (Some v) h w)))) stops.1,
           )
 
--- What is told of a run that makes no call and allocates nothing.
+-- What is reported of a run that makes no call and allocates nothing.
 pub record Tells (run : Run) (outcome : Outcome) (frame : ℕ) : Type 0 where
   pub outcome_is : run.outcome ≡ outcome
   pub no_calls : run.calls ≡ []
@@ -151,7 +151,7 @@ pub record Tells (run : Run) (outcome : Outcome) (frame : ℕ) : Type 0 where
 
 tells :
     (file : FileTree) (run : Run) (outcome : Outcome) (frame k : ℕ) (answers : List ℕ) →
-    run ≡ told outcome (deepened (0 + frame) (first_world file answers k)) → Tells run outcome frame
+    run ≡ reported outcome (deepened (0 + frame) (first_world file answers k)) → Tells run outcome frame
 tells file run outcome frame k answers e =
     let deep : max 0 (0 + frame) ≡ frame = omega arith in
     record {

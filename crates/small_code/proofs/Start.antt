@@ -1,55 +1,28 @@
 -- The state in which a run of a small file's image begins.
-use Rattle.std.proofs.Common.{◌≡◌, ℕ, zero, suc, ◌+◌, ◌-◌, ◌*◌, ◌/◌, ◌%◌, ◌^◌, ◌<◌, ◌≤◌, List, [], ◌∷◌, ◌++◌, length, replicate, slice_index, refl, ap, ◌∙◌, arith, length-append}
+use Rattle.std.proofs.Common.{◌≡◌, ℕ, zero, suc, ◌+◌, ◌-◌, ◌*◌, ◌/◌, ◌%◌, ◌^◌, ◌<◌, ◌≤◌, List, [], ◌∷◌, ◌++◌, true, length, map, replicate, slice_index, lit<, refl, ap, ◌∙◌, arith, length-append}
 use Rattle.std.specs.List.{AllByRecursion}
+use Rattle.std.proofs.lemmas.Bool.{and_parts}
 use Rattle.std.proofs.lemmas.List.{length-replicate, get_or_append_left}
+use Rattle.bs_words.specs.Fits.{fits, type_of_comp}
 use Rattle.bs_words.specs.declared.types.Comp.{Comp}
-use Rattle.correctness.specs.Setting.{FitParameters}
+use Rattle.bs_words.specs.declared.values.Value.TheVariants.{Word}
+use Rattle.cmm_meaning.specs.Evaluation.{fit_parameters}
+use Rattle.machine_laws.proofs.Starting.{count_registers, last_registers, length-padded, start_registers_are}
+use Rattle.machine_laws.proofs.Words.{words_both, words_by_parts, words_repeated}
 use Rattle.rv_machine.specs.Loading.{IsRoom}
 use Rattle.image_form.specs.Tables.{Tables, Func}
 use Rattle.image_form.specs.Image.{AreTables}
 use Rattle.rv_machine.specs.Memory.{code_region, code_start}
-use Rattle.rv_machine.specs.Observation.{young_start, young_top}
+use Rattle.rv_machine.specs.Observation.{young_start}
 use Rattle.rv_machine.specs.Run.{Schedule}
 use Rattle.rv_machine.specs.Services.{filler}
+use Rattle.rv_machine.specs.Sound.{AllWords}
 use Rattle.rv_machine.specs.Start.{data_region, domain_region, uniform, stack_region, half_start, stack_bottom, domain_start, padded, start_registers, start_memory, start}
 use Rattle.small_code.proofs.Functions.{Entry}
 use Rattle.small_code.proofs.Memory.{HasStack, past}
-use Rattle.small_code.proofs.Steps.{Setting, View, Stands, AllWords}
+use Rattle.small_code.proofs.Steps.{Setting, View, Stands}
 
--- ---- lists of words
-
-words_none : AllWords []
-words_none i = omega arith
-
-words_first : (x : ℕ) (xs : List ℕ) → x < 2 ^ 64 → AllWords xs → AllWords (x ∷ xs)
-words_first x xs small all zero = small
-words_first x xs small all (suc i) = all i
-
-words_by_parts : (xs : List ℕ) → AllByRecursion (λ x. x < 2 ^ 64) xs → AllWords xs
-words_by_parts [] all = words_none
-words_by_parts (x ∷ xs) all = words_first x xs all.0 (words_by_parts xs all.1)
-
-words_both : (xs ys : List ℕ) → AllWords xs → AllWords ys → AllWords (xs ++ ys)
-words_both [] ys a b i = b i
-words_both (x ∷ xs) ys a b zero = a zero
-words_both (x ∷ xs) ys a b (suc i) = words_both xs ys (λ k. a (suc k)) b i
-
-words_zeros : (n : ℕ) → AllWords (replicate n 0)
-words_zeros zero i = omega arith
-words_zeros (suc n) zero = omega arith
-words_zeros (suc n) (suc i) = words_zeros n i
-
-words_padded : (count : ℕ) (args : List ℕ) → AllWords args → AllWords (padded count args)
-words_padded zero args all i = omega arith
-words_padded (suc count) [] all zero = omega arith
-words_padded (suc count) [] all (suc i) = words_padded count [] all i
-words_padded (suc count) (a ∷ args) all zero = all zero
-words_padded (suc count) (a ∷ args) all (suc i) = words_padded count args (λ k. all (suc k)) i
-
-length-padded : (count : ℕ) (args : List ℕ) → length (padded count args) ≡ count
-length-padded zero args = refl
-length-padded (suc count) [] = ap suc (length-padded count [])
-length-padded (suc count) (a ∷ args) = ap suc (length-padded count args)
+-- ---- the registers
 
 padded_at : (count : ℕ) (args : List ℕ) (j : ℕ) → j < count → slice_index (padded count args) j ≡ slice_index args j
 padded_at zero args j lt = absurd (omega arith)
@@ -58,52 +31,19 @@ padded_at (suc count) [] (suc j) lt = padded_at count [] j (omega arith)
 padded_at (suc count) (a ∷ args) zero lt = refl
 padded_at (suc count) (a ∷ args) (suc j) lt = padded_at count args j (omega arith)
 
-pub fit_words : (end : ℕ) (cs : List Comp) (args : List ℕ) → FitParameters end cs args → AllWords args
-fit_words end [] [] fit = words_none
-fit_words end [] (a ∷ args) fit = absurd fit
-fit_words end (c ∷ cs) [] fit = absurd fit
-fit_words end (c ∷ cs) (a ∷ args) fit = words_first a args fit.0 (fit_words end cs args fit.2)
-
-pub fit_length : (end : ℕ) (cs : List Comp) (args : List ℕ) → FitParameters end cs args → length args ≡ length cs
-fit_length end [] [] fit = refl
-fit_length end [] (a ∷ args) fit = absurd fit
-fit_length end (c ∷ cs) [] fit = absurd fit
-fit_length end (c ∷ cs) (a ∷ args) fit = ap suc (fit_length end cs args fit.2)
-
--- ---- the registers
-
--- the registers behind the arguments
-last_registers : List ℕ
-last_registers = young_top ∷ domain_start ∷ 0 ∷ 0 ∷ 0 ∷ 0 ∷ []
-
-words_last : AllWords last_registers
-unfolding last_registers
-words_last = words_by_parts (young_top ∷ domain_start ∷ 0 ∷ 0 ∷ 0 ∷ 0 ∷ []) (omega arith, (omega arith, (omega arith, (omega arith, (omega arith, (omega arith, tt))))))
-
--- the registers before the arguments
-first_registers : List ℕ
-first_registers = 0 ∷ code_start ∷ stack_bottom ∷ 0 ∷ 0 ∷ 0 ∷ 0 ∷ 0 ∷ 0 ∷ stack_bottom ∷ []
-
-words_front : AllWords first_registers
-unfolding first_registers
-words_front = words_by_parts (0 ∷ code_start ∷ stack_bottom ∷ 0 ∷ 0 ∷ 0 ∷ 0 ∷ 0 ∷ 0 ∷ stack_bottom ∷ []) (omega arith, (omega arith, (omega arith, (omega arith, (omega arith, (omega arith, (omega arith, (omega arith, (omega arith, (omega arith, tt))))))))))
-
-words_registers : (args : List ℕ) → AllWords args → AllWords (start_registers args)
-unfolding first_registers last_registers
-words_registers args all =
-    words_both first_registers (padded 16 args ++ last_registers) words_front (words_both (padded 16 args) last_registers (words_padded 16 args all) words_last)
+pub fit_length : (end : ℕ) (cs : List Comp) (args : List ℕ) → fit_parameters end cs (map Word args) ≡ true → length args ≡ length cs
+fit_length end [] [] e = refl
+fit_length end [] (a ∷ args) e = cc
+fit_length end (c ∷ cs) [] e = cc
+fit_length end (c ∷ cs) (a ∷ args) e =
+    ap suc (fit_length end cs args (and_parts (fits end (type_of_comp c) (Word a)) (fit_parameters end cs (map Word args)) e).1)
 
 argument_at : (args : List ℕ) (j : ℕ) → j < 16 → slice_index (start_registers args) (10 + j) ≡ slice_index args j
-unfolding last_registers
 argument_at args j lt =
     let e : 10 + j ≡ suc (suc (suc (suc (suc (suc (suc (suc (suc (suc j))))))))) = omega arith in
     ap (slice_index (start_registers args)) e
     ∙ get_or_append_left (padded 16 args) last_registers 0 j (omega (arith, length-padded 16 args))
     ∙ padded_at 16 args j lt
-
-count_registers : (args : List ℕ) → length (start_registers args) ≡ 32
-unfolding last_registers
-count_registers args = omega (arith, length-append (padded 16 args) last_registers, length-padded 16 args)
 
 -- ---- the memory
 
@@ -130,7 +70,7 @@ unfolding stack_region
 stack_is room = refl
 
 words_stack : (room : ℕ) → AllWords (first_stack room)
-words_stack room = words_both (replicate (room / 8) 0) ((code_start + 8) ∷ 0 ∷ []) (words_zeros (room / 8)) (words_by_parts ((code_start + 8) ∷ 0 ∷ []) (omega arith, (omega arith, tt)))
+words_stack room = words_both (replicate (room / 8) 0) ((code_start + 8) ∷ 0 ∷ []) (words_repeated (room / 8) 0 (lit< tt)) (words_by_parts ((code_start + 8) ∷ 0 ∷ []) (omega arith, (omega arith, tt)))
 
 long_stack : (room : ℕ) → room % 16 ≡ 0 → 8 * length (first_stack room) ≡ room + 16
 long_stack room aligned = omega (arith, length-append (replicate (room / 8) 0) ((code_start + 8) ∷ 0 ∷ []), length-replicate {A = ℕ} (room / 8) 0)
@@ -201,7 +141,7 @@ module _ (image : Tables) (tables : AreTables image) (row : Func) (args answers 
     registers = refl;
     memory = has_stack image room heap tables is_room is_heap;
     stack_base = refl;
-    register_words = words_registers args all;
+    register_words = (start_registers_are args all).words;
     stack_words = words_stack room;
   }
 

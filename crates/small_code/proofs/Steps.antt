@@ -1,5 +1,5 @@
 -- How the machine goes on from an instruction that stands at its place, under every schedule.
-use Rattle.std.proofs.Common.{◌≡◌, ◌≢◌, ℕ, zero, suc, ◌+◌, ◌-◌, ◌*◌, ◌/◌, ◌%◌, ◌^◌, ◌<◌, ◌≤◌, Bool, true, false, cond, ◌&&◌, List, [], ◌∷◌, slice_get, slice_index, slice_set, Some, refl, sym, ap, ◌∙◌, subst, arith, nat_lt, ◌==◌}
+use Rattle.std.proofs.Common.{◌≡◌, ◌≢◌, ℕ, zero, suc, ◌+◌, ◌-◌, ◌*◌, ◌/◌, ◌%◌, ◌^◌, ◌<◌, ◌≤◌, Bool, true, false, cond, ◌&&◌, List, [], slice_get, slice_index, Some, refl, sym, ap, ◌∙◌, subst, arith, nat_lt, ◌==◌}
 use Rattle.std.proofs.lemmas.Bool.{le-leb, le-ltb, lt-ltb, eq-eqb, ne_eqb, and_from, and_left, and_right, cond-true, cond-false}
 use Rattle.std.proofs.Common.{◌⊎◌, inl, inr}
 use Rattle.bs_words.specs.declared.types.Ret.{Ret}
@@ -7,9 +7,11 @@ use Rattle.image_form.specs.Tables.{Tables}
 use Rattle.rv_isa.specs.Encoding.{InstrFits, encoded}
 use Rattle.rv_isa.specs.declared.instr.Instr.{Instr}
 use Rattle.rv_isa.proofs.RoundTrip.{decoded-encoded}
+use Rattle.machine_laws.proofs.Words.{with_words}
 use Rattle.rv_machine.specs.Hart.{Hart, register, with_register, sets, executed, decoded_next, fetched, fetch, hart}
 use Rattle.rv_machine.specs.Memory.{code_region, code_start}
 use Rattle.rv_machine.specs.Run.{Schedule, asked, perhaps_asked, after_next, after}
+use Rattle.rv_machine.specs.Sound.{AllWords}
 use Rattle.rv_machine.specs.Services.{End, Machine, Going, Over, StackOut}
 use Rattle.rv_machine.specs.Start.{domain_start, limit_asked}
 use Rattle.small_code.proofs.Memory.{HasStack, past, memory_asked}
@@ -33,10 +35,6 @@ pub record View : Type 0 where
   pub place : ℕ
   pub registers : List ℕ
   pub stack : List ℕ
-
--- every number of the list is a word
-abbrev pub AllWords : List ℕ → Type 0
-AllWords xs = (i : ℕ) → slice_index xs i < 2 ^ 64
 
 -- The machine stands so.
 pub record Stands (s : Setting) (h : Hart) (v : View) : Type 0 where
@@ -145,19 +143,6 @@ register_held s h v (suc r) stands = ap (λ registers. slice_index registers (su
 pub held_word : (registers : List ℕ) (r : ℕ) → AllWords registers → held registers r < 2 ^ 64
 held_word registers zero all = omega arith
 held_word registers (suc r) all = all (suc r)
-
-pub set_words : (xs : List ℕ) (j value : ℕ) → AllWords xs → value < 2 ^ 64 → AllWords (slice_set xs j value)
-set_words [] j value all small i = all i
-set_words (x ∷ xs) zero value all small zero = small
-set_words (x ∷ xs) zero value all small (suc i) = all (suc i)
-set_words (x ∷ xs) (suc j) value all small zero = all zero
-set_words (x ∷ xs) (suc j) value all small (suc i) = set_words xs j value (λ k. all (suc k)) small i
-
-with_words :
-    (registers : List ℕ) (rd value : ℕ) → AllWords registers → value < 2 ^ 64 →
-    AllWords (with_register rd value registers)
-with_words registers zero value all small = all
-with_words registers (suc rd) value all small = set_words registers (suc rd) value all small
 
 -- the next view, with a register set
 abbrev pub with_set : ℕ → ℕ → View → View

@@ -1,19 +1,11 @@
 -- Whole runs: a run that is over stays over, and its external calls only grow.
-use Rattle.std.proofs.Common.{◌≡◌, ◌⊎◌, ℕ, zero, suc, ◌+◌, ◌-◌, ◌<◌, ◌≤◌, Bool, true, false, cond, List, [], ◌∷◌, ◌++◌, Option, Some, None, refl, sym, ap, ◌∙◌, arith, inl, inr, append_assoc, append-nil}
+use Rattle.std.proofs.Common.{◌≡◌, ◌⊎◌, ℕ, zero, suc, ◌+◌, ◌-◌, ◌<◌, ◌≤◌, List, [], ◌∷◌, ◌++◌, refl, sym, ap, ◌∙◌, arith, inl, inr, append_assoc, append-nil}
 use Rattle.std.proofs.lemmas.Bool.{cases_lt}
 use Rattle.bs_words.specs.Observed.{Made}
-use Rattle.bs_words.specs.declared.types.Ret.{Ret}
-use Rattle.bs_words.specs.declared.types.Ret.TheVariants as returns
-use Rattle.correctness.specs.Correct.{IsPrefix}
-use Rattle.image_form.specs.Tables.{Ext}
-use Rattle.rv_machine.specs.Allocation.{allocated}
-use Rattle.rv_machine.specs.FrameCalls.{collected, has_trap_frame, raised}
-use Rattle.rv_machine.specs.Hart.{Hart, Next, Placed, Retired, Service, hart, register}
-use Rattle.rv_machine.specs.Hart as next
-use Rattle.rv_machine.specs.Relocation.{Serviced, Goes, NoHeap, Refused}
-use Rattle.rv_machine.specs.Run.{Schedule, Seen, perhaps_asked, after_next, one, after, seen}
-use Rattle.rv_machine.specs.Services.{End, Running, Stopped, Machine, Now, Going, Over, after_allocation, after_collection, answered, call_made, called, cleared, concluded, external, external_at, frame_answered, frame_call, served}
-use Rattle.rv_machine.specs.declared.cause.Cause.TheVariants.{BadFrame}
+use Rattle.machine_laws.proofs.Orderly.{machine_orderly}
+use Rattle.machine_laws.specs.Steps.{IsFrontOf}
+use Rattle.rv_machine.specs.Run.{Schedule, Seen, one, after, seen}
+use Rattle.rv_machine.specs.Services.{End, Running, Now, Going, Over}
 
 pub over_stays :
     (schedule : Schedule) (k : ℕ) (calls : List Made) (end : End) → after schedule k (Over calls end) ≡ Over calls end
@@ -31,86 +23,19 @@ after_more schedule (suc m) k j (Going machine) e =
 
 -- ---- the external calls only grow
 
-same_calls : (calls : List Made) → IsPrefix calls calls
+same_calls : (calls : List Made) → IsFrontOf calls calls
 same_calls calls = ([], sym (append-nil calls))
 
-then_calls : (a b c : List Made) → IsPrefix a b → IsPrefix b c → IsPrefix a c
+then_calls : (a b c : List Made) → IsFrontOf a b → IsFrontOf b c → IsFrontOf a c
 then_calls a b c p q = (p.0 ++ q.0, q.1 ∙ ap (λ l. l ++ q.0) p.1 ∙ append_assoc a p.0 q.0)
 
-answered_grows :
-    (result : Ret) (call : Made) (answers : List ℕ) (m : Machine) →
-    IsPrefix m.calls (seen (answered result call answers m)).calls
-answered_grows returns.Unit call answers m = (call ∷ [], refl)
-answered_grows (returns.Comp c) call [] m = same_calls m.calls
-answered_grows (returns.Comp c) call (a ∷ answers) m = (call ∷ [], refl)
-
-external_grows : (e : Option Ext) (m : Machine) → IsPrefix m.calls (seen (external e m)).calls
-external_grows None m = same_calls m.calls
-external_grows (Some e) m = answered_grows e.result (call_made e m.hart) m.answers m
-
-allocation_grows : (a : Serviced) (m : Machine) → IsPrefix m.calls (seen (after_allocation a m)).calls
-allocation_grows (Goes h) m = same_calls m.calls
-allocation_grows NoHeap m = same_calls m.calls
-allocation_grows (Refused cause) m = same_calls m.calls
-
-raising_grows :
-    (call : Made) (h : Hart) (answers : List ℕ) (m : Machine) (there : Bool) →
-    IsPrefix m.calls (seen (cond there (called call h answers m) (Over m.calls (Stopped BadFrame)))).calls
-raising_grows call h answers m true = (call ∷ [], refl)
-raising_grows call h answers m false = same_calls m.calls
-
-concluded_grows :
-    (result : Ret) (call : Made) (first value : ℕ) (answers : List ℕ) (h : Hart) (m : Machine) →
-    IsPrefix m.calls (seen (concluded result call first value answers h m)).calls
-concluded_grows result call zero value answers h m = (call ∷ [], refl)
-concluded_grows result call (suc first) value answers h m =
-    raising_grows call (raised value (cleared h)) answers m (has_trap_frame h)
-
-collection_grows :
-    (result : Ret) (call : Made) (first value : ℕ) (answers : List ℕ) (s : Serviced) (m : Machine) →
-    IsPrefix m.calls (seen (after_collection result call first value answers s m)).calls
-collection_grows result call first value answers (Goes h) m = concluded_grows result call first value answers h m
-collection_grows result call first value answers NoHeap m = same_calls m.calls
-collection_grows result call first value answers (Refused cause) m = same_calls m.calls
-
-frame_answered_grows :
-    (plan : List Placed → List ℕ) (result : Ret) (call : Made) (answers : List ℕ) (m : Machine) →
-    IsPrefix m.calls (seen (frame_answered plan result call answers m)).calls
-frame_answered_grows plan result call [] m = same_calls m.calls
-frame_answered_grows plan result call (first ∷ []) m = same_calls m.calls
-frame_answered_grows plan result call (first ∷ value ∷ answers) m =
-    collection_grows result call first value answers (collected plan m.hart) m
-
-frame_call_grows :
-    (plan : List Placed → List ℕ) (e : Option Ext) (m : Machine) →
-    IsPrefix m.calls (seen (frame_call plan e m)).calls
-frame_call_grows plan None m = same_calls m.calls
-frame_call_grows plan (Some e) m = frame_answered_grows plan e.result (call_made e m.hart) m.answers m
-
-served_grows :
-    (plan : ℕ → List Placed → List ℕ) (number : ℕ) (m : Machine) →
-    IsPrefix m.calls (seen (served plan number m)).calls
-served_grows plan zero m = same_calls m.calls
-served_grows plan (suc zero) m = same_calls m.calls
-served_grows plan (suc (suc zero)) m = external_grows (external_at m.hart) m
-served_grows plan (suc (suc (suc zero))) m = allocation_grows (allocated (plan m.hart.services) m.hart) m
-served_grows plan (suc (suc (suc (suc zero)))) m = frame_call_grows (plan m.hart.services) (external_at m.hart) m
-served_grows plan (suc (suc (suc (suc (suc n))))) m = same_calls m.calls
-
-next_grows :
-    (schedule : Schedule) (next : Next) (m : Machine) → IsPrefix m.calls (seen (after_next schedule next m)).calls
-next_grows schedule (Retired h) m = same_calls m.calls
-next_grows schedule (Service h) m = served_grows schedule.plan (register h 7) (record m { hart = h })
-next_grows schedule next.StackOut m = same_calls m.calls
-next_grows schedule (next.Stopped cause) m = same_calls m.calls
-
 pub calls_grow :
-    (schedule : Schedule) (k : ℕ) (now : Now) → IsPrefix (seen now).calls (seen (after schedule k now)).calls
+    (schedule : Schedule) (k : ℕ) (now : Now) → IsFrontOf (seen now).calls (seen (after schedule k now)).calls
 calls_grow schedule zero now = same_calls (seen now).calls
 calls_grow schedule (suc k) (Over calls end) = same_calls calls
 calls_grow schedule (suc k) (Going m) =
     then_calls m.calls (seen (one schedule m)).calls (seen (after schedule k (one schedule m))).calls
-    (next_grows schedule (hart (perhaps_asked schedule m.hart)) m) (calls_grow schedule k (one schedule m))
+    ((machine_orderly schedule).calls (Going m)) (calls_grow schedule k (one schedule m))
 
 no_part : (calls rest : List Made) → calls ++ rest ≡ [] → calls ≡ []
 no_part [] rest e = refl

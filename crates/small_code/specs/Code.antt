@@ -7,6 +7,7 @@ use Rattle.bs_words.specs.declared.operators.IntOp.{IntOp}
 use Rattle.bs_words.specs.declared.operators.IntOp.TheVariants as int
 use Rattle.small_code.specs.Small.{nodes}
 use Rattle.small_code.specs.Tree.{SmallExpression, Integer, Name, Operator, SmallFunctionTree, names_of}
+use Rattle.rv_isa.specs.Registers.{ra, sp, t0, t1, t2, a0}
 use Rattle.rv_isa.specs.declared.instr.AluOp.{AluOp}
 use Rattle.rv_isa.specs.declared.instr.AluOp.TheVariants.{Add, Sub, And}
 use Rattle.rv_isa.specs.declared.instr.AluImmOp.TheVariants.{Addi}
@@ -15,27 +16,6 @@ use Rattle.rv_isa.specs.declared.instr.Instr.TheVariants.{Jalr, Load, Store, OpI
 use Rattle.rv_isa.specs.declared.instr.LoadWidth.TheVariants.{Ld}
 use Rattle.rv_isa.specs.declared.instr.ShiftOp.TheVariants.{Slli}
 use Rattle.rv_isa.specs.declared.instr.StoreWidth.TheVariants.{Sd}
-
--- ---- registers
-
-abbrev pub ra : ℕ
-ra = 1
-
-abbrev pub sp : ℕ
-sp = 2
-
-abbrev pub t0 : ℕ
-t0 = 5
-
-abbrev pub t1 : ℕ
-t1 = 6
-
-abbrev pub t2 : ℕ
-t2 = 7
-
--- a0, where the argument registers begin and a result stands
-abbrev pub a0 : ℕ
-a0 = 10
 
 -- ---- pieces, of a few instructions each
 

@@ -24,7 +24,7 @@ row_at offset f = record {
   result = returns.Comp comp.Int;
 }
 
--- the rows of functions that lie one behind the other
+-- the rows of functions that lie one after the other
 abbrev pub rows_from : ℕ → List SmallFunctionTree → List Func
 rows_from offset [] = []
 rows_from offset (f ∷ fs) = row_at offset f ∷ rows_from (offset + 4 * length (function_words f)) fs

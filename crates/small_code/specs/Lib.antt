@@ -7,3 +7,4 @@ pub mod Frames
 pub mod TooLarge
 pub mod Names
 pub mod Read
+pub mod Emits

@@ -1,8 +1,8 @@
 -- What is known of a whole file that was read and accepted, as far as a small file needs it.
 use Rattle.std.specs.Prelude.{◌≡◌, ◌≢◌, ⊤, true, ℕ, ◌+◌, ◌*◌, ◌^◌, ◌<◌, ◌≤◌, List, length, map, All, Contains, sum_by}
 use Rattle.cmm_tree.specs.Built.{is_built_function}
+use Rattle.cmm_tree.specs.Measures.{nodes_in}
 use Rattle.cmm_tree.specs.Tree.{Expression, Integer, Name, Operator, FunctionTree, FileTree, functions, names_of}
-use Rattle.correctness.specs.Measures.{nodes}
 use Rattle.small_code.specs.Small.{AllDiffer}
 use Rattle.bs_words.specs.Symbol.{IsSymbol, caml_bound_error}
 use Rattle.bs_fault.specs.Limits.{longest_text, most_tokens, most_params}
@@ -28,7 +28,7 @@ pub record IsReadFunction (f : FunctionTree) : Type 0 where
   pub integers_fit : is_built_function f ≡ true → IntegersFit f.body
   pub few_tokens : f.tokens ≤ most_tokens
   -- six of its own, three for each parameter, and where nothing is rewritten at least one for each node
-  pub tokens_cover : is_built_function f ≡ true → 6 + 3 * length f.params + nodes f ≤ f.tokens
+  pub tokens_cover : is_built_function f ≡ true → 6 + 3 * length f.params + nodes_in f.body ≤ f.tokens
 
 -- What is known of a file that was read and accepted.
 pub record IsReadSmall (file : FileTree) : Type 0 where

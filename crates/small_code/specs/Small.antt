@@ -1,5 +1,5 @@
 -- What is known of a small file.
-use Rattle.std.specs.Prelude.{◌≡◌, ◌≢◌, ℕ, ◌+◌, ◌*◌, ◌^◌, ◌<◌, ◌≤◌, ◌⊎◌, List, length, map, codes, All, AllPairs, Contains, sum_by}
+use Rattle.std.specs.Prelude.{◌≡◌, ◌≢◌, ℕ, ◌+◌, ◌*◌, ◌^◌, ◌<◌, ◌≤◌, ◌⊎◌, List, length, map, All, AllPairs, Contains, sum_by}
 use Rattle.bs_fault.specs.Limits.{longest_text, most_params, most_tokens}
 use Rattle.bs_words.specs.Symbol.{IsSymbol, caml_bound_error}
 use Rattle.bs_words.specs.declared.operators.IntOp.TheVariants.{Add, Sub, And}

@@ -35,7 +35,8 @@ pub fn small_file(alloc: Global, file: &File) -> Result<SmallFile, AllocError>
 
 fn small_function(alloc: Global, function: &Function) -> Result<SmallFunction, AllocError>
     requires { is_built_function (whole.function_view function.now) ≡ true }
-    ensures { IfOk result (λ small. embedded_function (function_view small) ≡ whole.function_view function.now) }
+    ensures { IfOk result
+        (λ small. embedded_function (function_view small) ≡ whole.function_view function.now) }
 {
     Ok(SmallFunction {
         at: function.at,

@@ -1,6 +1,7 @@
 //! Code while it is made, and its pieces of a few instructions each.
 ghost use Rattle.std.specs.Prelude.{◌≡◌, ◌<◌, ◌^◌, ◌/◌, ◌%◌, [], ◌∷◌, ◌++◌, length, map, IfOk, OnOk};
 ghost use Rattle.rv_isa.specs.Encoding.{InstrFits, encoded};
+ghost use Rattle.small_code.specs.Emits.{Emits};
 ghost use Rattle.small_code.specs.Code.{constant, eleven_more, near_slot, load_slot, store_slot, move_sp};
 ghost use Rattle.image_form.specs.Image.{stub};
 
@@ -32,7 +33,7 @@ impl Code {
 
     pub fn push(&mut self, instr: Instr) -> Result<(), AllocError>
         requires { InstrFits instr }
-        ensures { OnOk result (self.new.words.items ≡ self.old.words.items ++ encoded instr ∷ []) }
+        ensures { OnOk result (Emits self.old self.new (instr ∷ [])) }
     {
         self.words.push(encode(instr))?;
         Ok(())
@@ -42,7 +43,7 @@ impl Code {
     fn load_small(&mut self, rd: u8, number: u16) -> Result<(), AllocError>
         requires register { rd < 32 }
         requires small { number < 2048 }
-        ensures { OnOk result (self.new.words.items ≡ self.old.words.items ++ encoded (Instr.OpImm AluImmOp.Addi rd 0 number) ∷ []) }
+        ensures { OnOk result (Emits self.old self.new (Instr.OpImm AluImmOp.Addi rd 0 number ∷ [])) }
     {
         self.push(Instr::OpImm {
             op: AluImmOp::Addi,
@@ -56,7 +57,7 @@ impl Code {
     fn eleven_more(&mut self, rd: u8, bits: u16) -> Result<(), AllocError>
         requires register { rd < 32 }
         requires small { bits < 2048 }
-        ensures { OnOk result (self.new.words.items ≡ self.old.words.items ++ map encoded (eleven_more rd bits)) }
+        ensures { OnOk result (Emits self.old self.new (eleven_more rd bits)) }
     {
         self.push(Instr::Shift {
             op: ShiftOp::Slli,
@@ -77,7 +78,7 @@ impl Code {
     #[tactic(auto, unfolding(crate::specs::Code::constant))]
     pub fn constant(&mut self, rd: u8, word: u64) -> Result<(), AllocError>
         requires { rd < 32 }
-        ensures { OnOk result (self.new.words.items ≡ self.old.words.items ++ map encoded (constant rd word)) }
+        ensures { OnOk result (Emits self.old self.new (constant rd word)) }
     {
         self.load_small(rd, (word >> 55) as u16)?;
         self.eleven_more(rd, ((word >> 44) % 2048) as u16)?;
@@ -91,7 +92,7 @@ impl Code {
     /// is reached.
     #[tactic(auto, unfolding(crate::specs::Code::near_slot))]
     fn near_slot(&mut self, slot: u16) -> Result<(), AllocError>
-        ensures { OnOk result (self.new.words.items ≡ self.old.words.items ++ map encoded (near_slot slot)) }
+        ensures { OnOk result (Emits self.old self.new (near_slot slot)) }
     {
         self.load_small(T1, (8 * u32::from(slot) / 2048) as u16)?;
         self.push(Instr::Shift {
@@ -111,7 +112,7 @@ impl Code {
     #[tactic(auto, unfolding(crate::specs::Code::load_slot))]
     pub fn load_slot(&mut self, rd: u8, slot: u16) -> Result<(), AllocError>
         requires { rd < 32 }
-        ensures { OnOk result (self.new.words.items ≡ self.old.words.items ++ map encoded (load_slot rd slot)) }
+        ensures { OnOk result (Emits self.old self.new (load_slot rd slot)) }
     {
         self.near_slot(slot)?;
         self.push(Instr::Load {
@@ -125,7 +126,7 @@ impl Code {
     #[tactic(auto, unfolding(crate::specs::Code::store_slot))]
     pub fn store_slot(&mut self, rs: u8, slot: u16) -> Result<(), AllocError>
         requires { rs < 32 }
-        ensures { OnOk result (self.new.words.items ≡ self.old.words.items ++ map encoded (store_slot rs slot)) }
+        ensures { OnOk result (Emits self.old self.new (store_slot rs slot)) }
     {
         self.near_slot(slot)?;
         self.push(Instr::Store {
@@ -140,7 +141,7 @@ impl Code {
     #[tactic(auto, unfolding(crate::specs::Code::move_sp))]
     pub fn move_sp(&mut self, op: AluOp, bytes: u32) -> Result<(), AllocError>
         requires { bytes < 2 ^ 22 }
-        ensures { OnOk result (self.new.words.items ≡ self.old.words.items ++ map encoded (move_sp op bytes)) }
+        ensures { OnOk result (Emits self.old self.new (move_sp op bytes)) }
     {
         self.load_small(T1, (bytes / 2048) as u16)?;
         self.eleven_more(T1, (bytes % 2048) as u16)?;

@@ -3,7 +3,9 @@ ghost use Rattle.std.specs.Prelude.{◌≡◌, ◌+◌, ◌-◌, ◌<◌, ◌≤
 ghost use Rattle.small_code.specs.View.{expr_view};
 ghost use Rattle.small_code.specs.Small.{nodes};
 ghost use Rattle.rv_isa.specs.Encoding.{encoded};
-ghost use Rattle.small_code.specs.Code.{expression_code, index_of, row_of, load_slot, store_slot, t0, t2};
+ghost use Rattle.small_code.specs.Emits.{Emits};
+ghost use Rattle.rv_isa.specs.Registers.{t0, t2};
+ghost use Rattle.small_code.specs.Code.{expression_code, index_of, row_of, load_slot, store_slot};
 ghost use Rattle.small_code.specs.Names.{names_in};
 
 use crate::emit::Code;
@@ -16,7 +18,7 @@ use std::alloc::AllocError;
 
 impl Code {
     /// The code of an expression whose nodes take the slots from `next` on. It answers the first slot
-    /// behind these; the expression's own value stands in the slot before.
+    /// after these; the expression's own value stands in the slot before.
     pub fn expression(
         &mut self,
         params: &[Param],
@@ -26,7 +28,9 @@ impl Code {
         requires few { length params.now ≤ 16 }
         requires room { next + nodes (expr_view expr.now) < 2 ^ 16 }
         ensures slots { IfOk result (λ end. end ≡ next + nodes (expr_view expr.now)) }
-        ensures code { OnOk result (self.new.words.items ≡ self.old.words.items ++ map encoded (expression_code (names_in params.now) next (expr_view expr.now))) }
+        ensures code { OnOk result
+            (Emits self.old self.new
+            (expression_code (names_in params.now) next (expr_view expr.now))) }
     {
         match &expr.form {
             SmallForm::Integer(word) => {
@@ -52,7 +56,11 @@ impl Code {
     fn operator(&mut self, op: AluOp, left_end: u16, right_end: u16) -> Result<(), AllocError>
         requires left { 0 < left_end }
         requires right { 0 < right_end }
-        ensures { OnOk result (self.new.words.items ≡ self.old.words.items ++ map encoded (load_slot t0 (left_end - 1) ++ (load_slot t2 (right_end - 1) ++ (Instr.Op op t0 t0 t2 ∷ store_slot t0 left_end)))) }
+        ensures { OnOk result
+            (Emits self.old self.new
+            (load_slot t0 (left_end - 1)
+            ++ (load_slot t2 (right_end - 1)
+            ++ (Instr.Op op t0 t0 t2 ∷ store_slot t0 left_end)))) }
     {
         self.load_slot(T0, left_end - 1)?;
         self.load_slot(T2, right_end - 1)?;

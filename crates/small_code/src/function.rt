@@ -3,7 +3,9 @@ ghost use Rattle.std.specs.Prelude.{◌≡◌, ◌≤◌, ◌++◌, map, OnOk};
 ghost use Rattle.small_code.specs.View.{function_view};
 ghost use Rattle.small_code.specs.Small.{IsSmallFunction};
 ghost use Rattle.rv_isa.specs.Encoding.{encoded};
-ghost use Rattle.small_code.specs.Code.{argument_code, a0};
+ghost use Rattle.small_code.specs.Emits.{Emits};
+ghost use Rattle.rv_isa.specs.Registers.{a0};
+ghost use Rattle.small_code.specs.Code.{argument_code};
 ghost use Rattle.small_code.specs.Compiled.{function_words};
 
 use crate::emit::Code;
@@ -19,7 +21,9 @@ impl Code {
     #[tactic(auto, unfolding(crate::specs::Code::function_code))]
     pub fn function(&mut self, function: &SmallFunction) -> Result<(), AllocError>
         requires { IsSmallFunction (function_view function.now) }
-        ensures { OnOk result (self.new.words.items ≡ self.old.words.items ++ function_words (function_view function.now)) }
+        ensures { OnOk result
+            (self.new.words.items
+            ≡ self.old.words.items ++ function_words (function_view function.now)) }
     {
         let frame = frame_bytes(function);
         let params = function.params.as_slice();
@@ -38,7 +42,7 @@ impl Code {
     /// Stores so many arguments into the first slots.
     fn arguments(&mut self, count: u8) -> Result<(), AllocError>
         requires { count ≤ 16 }
-        ensures { OnOk result (self.new.words.items ≡ self.old.words.items ++ map encoded (argument_code count a0 0)) }
+        ensures { OnOk result (Emits self.old self.new (argument_code count a0 0)) }
     {
         for argument in 0..count {
             self.store_slot(A0 + argument, u16::from(argument))?;

@@ -24,7 +24,7 @@ use cmm_tree::Param;
 use image_form::{FuncRow, Image, SymRow};
 use std::alloc::{AllocError, Global};
 
-/// The image of a file of a small text: the stub, the functions one behind the other in the order of the
+/// The image of a file of a small text: the stub, the functions one after the other in the order of the
 /// text, and the built-in data.
 ///
 /// The machine does with it what the text means, for every stack and heap that a run may have.
@@ -37,10 +37,15 @@ pub fn compile_small(alloc: Global, file: &SmallFile) -> Result<Image, BuildErro
     ensures is_image { IfOk result IsImage }
     ensures correct { IfOk result (λ image. IsCorrect (embedded_file (file_view file.now)) (tables image)) }
     ensures bounded { IfOk result (λ image. IsBounded (embedded_file (file_view file.now)) (tables image)) }
-    ensures frames { IfOk result (λ image. AllZip HasLeastFrame (functions (file_view file.now)) (tables image).funcs) }
+    ensures frames { IfOk result
+        (λ image. AllZip HasLeastFrame (functions (file_view file.now)) (tables image).funcs) }
     ensures keeps_limits { IfOk result (λ image. first_too_large (tables image) ≡ None) }
-    ensures large { (large : Large) → result ≡ Err (BuildError.TooLarge large) → first_too_large (compiled (file_view file.now)) ≡ Some large }
-    ensures roomy { IsRoomy (embedded_file (file_view file.now)) → (large : Large) → result ≢ Err (BuildError.TooLarge large) }
+    ensures large { (large : Large)
+        → result ≡ Err (BuildError.TooLarge large)
+        → first_too_large (compiled (file_view file.now)) ≡ Some large }
+    ensures roomy { IsRoomy (embedded_file (file_view file.now))
+        → (large : Large)
+        → result ≢ Err (BuildError.TooLarge large) }
 {
     if let Some(large) = too_large(file) {
         return Err(BuildError::TooLarge(large));
@@ -75,7 +80,7 @@ fn image(alloc: Global, file: &SmallFile) -> Result<Image, AllocError>
     })
 }
 
-/// The row of a function whose code begins behind so many words.
+/// The row of a function whose code begins after so many words.
 fn row(alloc: Global, function: &SmallFunction, words_before: usize) -> Result<FuncRow, AllocError>
     requires small { IsSmallFunction (function_view function.now) }
     requires fits { 4 * words_before < 2 ^ 32 }

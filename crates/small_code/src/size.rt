@@ -68,7 +68,7 @@ pub fn frame_bytes(function: &SmallFunction) -> u32
     (8 * slots + 15) / 16 * 16
 }
 
-/// The bytes of a function's row: its name behind 2 bytes, its types behind 1, three numbers of 4 bytes
+/// The bytes of a function's row: its name after 2 bytes, its types after 1, three numbers of 4 bytes
 /// and the type of its result.
 fn row_bytes(function: &SmallFunction) -> u64
     requires { IsSmallFunction (function_view function.now) }

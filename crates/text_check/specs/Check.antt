@@ -14,11 +14,12 @@ use Rattle.text_compile.specs.Compile.{IsSmallFileOf}
 use Rattle.text_check.specs.Arguments.{NamesNone, IsCall, HasUnfit}
 use Rattle.text_check.specs.Lines.{check_text}
 
--- what is told of a run of a file: of a function on words, with these frames and addresses
+-- what is reported of a run of a file: of a function on words, with these frames and addresses
 abbrev pub told_of_run : FileTree → Layout → ℕ → List ℕ → List ℕ → ℕ → List ℕ
-told_of_run file layout entry args answers fuel = check_text fuel (cmm_run file layout entry args answers fuel)
+told_of_run file layout entry args answers fuel =
+    check_text fuel (cmm_run file layout entry args answers fuel)
 
--- This is told of the run of a text, whose file is compiled so far: of the function on the words, with the frames
+-- This is reported of the run of a text, whose file is compiled so far: of the function on the words, with the frames
 -- and addresses of the image that is made for the file.
 pub record IsCheckOf (check : CheckTree) (text lines : List ℕ) : Type 0 where
   pub file : SmallFileTree

@@ -2,3 +2,4 @@ pub mod Lines
 pub mod Arguments
 pub mod Check
 pub mod Refusal
+pub mod Puts

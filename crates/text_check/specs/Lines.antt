@@ -1,4 +1,4 @@
--- The text that is told of a run of a text.
+-- The text that is reported of a run of a text.
 use Rattle.std.specs.Prelude.{ℕ, ◌-◌, List, ◌++◌, codes}
 use Rattle.std.specs.Fmt.{decimal}
 use Rattle.bs_words.specs.declared.values.Kind.{Kind}

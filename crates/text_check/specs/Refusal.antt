@@ -1,4 +1,4 @@
--- Why nothing is told of a run.
+-- Why nothing is reported of a run.
 use Rattle.std.specs.Prelude.{⊤, ℕ, List}
 use Rattle.cmm_front.specs.FileOf.{HasFault}
 use Rattle.cmm_tree.specs.Tree.{FileTree}
@@ -17,7 +17,7 @@ IsCallRefusal check file call.UnknownEntry = NamesNone file check.entry
 IsCallRefusal check file call.ArgumentUnfit = HasUnfit check file
 IsCallRefusal check file call.OutOfMemory = ⊤
 
--- why nothing is told of a run of a text
+-- why nothing is reported of a run of a text
 abbrev pub IsCheckRefusal : CheckTree → List ℕ → CheckRefusal → Type 0
 IsCheckRefusal check text (Fault told) = HasFault text told
 IsCheckRefusal check text NotBuilt = IsNotBuilt text

@@ -28,7 +28,8 @@ pub(crate) fn words_of(
     table: &SymbolTable<'_>,
     args: &List<Arg>,
 ) -> Result<Option<Vec<u64>>, AllocError>
-    ensures { IfOk result (λ words. option_map (λ w. w.items) words ≡ words_of (value_in table.now) (contents args.now)) }
+    ensures { IfOk result (λ words.
+        option_map (λ w. w.items) words ≡ words_of (value_in table.now) (contents args.now)) }
 {
     let mut words = Vec::new(alloc);
     for arg in args.as_slice() {

@@ -48,7 +48,9 @@ pub enum CallRefusal {
 /// type. `OutOfMemory` where memory ran out before the answer is known.
 pub fn call_of(alloc: Global, file: &File, check: &CheckWords) -> Result<FileCall, CallRefusal>
     requires { data_fault_of (file_view file.now) ≡ None }
-    ensures call { IfOk result (λ c. IsCall (check_view check.now) (file_view file.now) c.entry c.args.items c.answers.items) }
+    ensures call { IfOk result (λ c.
+        IsCall (check_view check.now) (file_view file.now) c.entry c.args.items
+        c.answers.items) }
     ensures refused { IfErr result (λ r. IsCallRefusal (check_view check.now) (file_view file.now) r) }
 {
     let entry = match entry_named(file, &check.entry) {
@@ -84,7 +86,11 @@ fn words_for(
 ) -> Result<Option<Suited>, AllocError>
     requires data { data_fault_of (file_view file.now) ≡ None }
     requires numbered { slice_get (functions (file_view file.now)) number ≡ Some (function_view function.now) }
-    ensures { IfOk result (λ found. MatchOption found (Unfit (file_view file.now) (function_view function.now) (check_view check.now)) (λ s. Suit (file_view file.now) (function_view function.now) (check_view check.now) s.args.items s.answers.items)) }
+    ensures { IfOk result (λ found.
+        MatchOption found
+        (Unfit (file_view file.now) (function_view function.now) (check_view check.now)) (λ s.
+        Suit (file_view file.now) (function_view function.now)
+        (check_view check.now) s.args.items s.answers.items)) }
 {
     let table = SymbolTable::of_file(alloc, file)?;
     let args = match words_of(alloc, &table, &check.args)? {

@@ -1,4 +1,4 @@
-//! What is told of a run of a text.
+//! What is reported of a run of a text.
 ghost use Rattle.std.specs.Prelude.{IfOk, IfErr};
 ghost use Rattle.bs_words.specs.Contents.{contents};
 ghost use Rattle.command_line.specs.View.{check_view};
@@ -16,7 +16,7 @@ use std::alloc::Global;
 use text_compile::{Unready, small_text};
 use thiserror::Error;
 
-/// Why nothing is told of a run of a text.
+/// Why nothing is reported of a run of a text.
 #[derive(Debug, Drop, Error)]
 pub enum CheckRefusal {
     /// The text has a fault.
@@ -37,12 +37,12 @@ pub enum CheckRefusal {
     OutOfMemory,
 }
 
-/// What is told of the run of a text that the words ask for: its outcome, and what it needs of stack, heap and fuel.
+/// What is reported of the run of a text that the words ask for: its outcome, and what it needs of stack, heap and fuel.
 /// The frames and addresses of functions are those of the text's image.
 ///
 /// # Errors
 ///
-/// `Fault` exactly where the text has a fault, with the one that is told; else `NotBuilt` exactly where its file is
+/// `Fault` exactly where the text has a fault, with the one that is reported; else `NotBuilt` exactly where its file is
 /// not compiled yet; else `UnknownEntry` exactly where it has no function of the entry's name; else `ArgumentUnfit`
 /// exactly where the words do not suit that function; else `TooLarge` exactly where a section of its image passes its
 /// limit, with the first that does. `OutOfMemory` where memory ran out before the answer is known.

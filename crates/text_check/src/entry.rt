@@ -16,7 +16,10 @@ pub(crate) struct Entry<'a> {
 
 /// The function of a name.
 pub(crate) fn entry_named<'a>(file: &'a File, name: &Name) -> Result<Option<Entry<'a>>, AllocError>
-    ensures { IfOk result (λ found. MatchOption found (NamesNone (file_view file.now) name.now) (λ e. IsNamed (file_view file.now) name.now e.number (function_view e.function.now))) }
+    ensures { IfOk result (λ found.
+        MatchOption found (NamesNone (file_view file.now) name.now) (λ e.
+        IsNamed (file_view file.now) name.now e.number
+        (function_view e.function.now))) }
 {
     let mut number: u32 = 0;
     for item in file.items.as_slice() {

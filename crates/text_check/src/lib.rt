@@ -1,4 +1,4 @@
-//! From a Cmm text to what is told of a run of one of its functions.
+//! From a Cmm text to what is reported of a run of one of its functions.
 #![tactic(auto)]
 
 mod arguments;

@@ -1,10 +1,11 @@
-//! The text that is told of a run of a text.
-ghost use Rattle.std.specs.Prelude.{◌≡◌, ◌++◌, codes, map, IfOk};
+//! The text that is reported of a run of a text.
+ghost use Rattle.std.specs.Prelude.{◌≡◌, codes, map, IfOk};
 ghost use Rattle.std.specs.Fmt.{decimal, signed_decimal};
 ghost use Rattle.bs_words.specs.Contents.{contents};
 ghost use Rattle.bs_words.specs.Word.{signed_of};
 ghost use Rattle.cmm_eval.specs.Views.{call_view, outcome_view, eval_view};
 ghost use Rattle.rv_machine.specs.Text.{obs_text, shown_text, made_text, calls_text, returned_text};
+ghost use Rattle.text_check.specs.Puts.{Puts};
 ghost use Rattle.text_check.specs.Lines.{kind_text, end_text, need_text, check_text};
 
 use bs_words::{Call, Kind, List, Obs, signed};
@@ -12,7 +13,7 @@ use cmm_eval::{Eval, Outcome};
 use itoa::Buffer;
 use std::alloc::{AllocError, Global};
 
-/// What is told of a run of a text, which had so much fuel.
+/// What is reported of a run of a text, which had so much fuel.
 pub(crate) fn told_of(alloc: Global, eval: &Eval, fuel: u64) -> Result<List<u8>, AllocError>
     ensures { IfOk result (λ text. contents text ≡ check_text fuel (eval_view eval.now)) }
 {
@@ -36,21 +37,21 @@ struct Page {
 
 impl Page {
     fn put(&mut self, piece: &[u8]) -> Result<(), AllocError>
-        ensures { IfOk result (λ _. self.new.bytes.items ≡ self.old.bytes.items ++ piece.now) }
+        ensures { IfOk result (λ _. Puts self.old self.new piece.now) }
     {
         self.bytes.extend_from_slice(piece)?;
         Ok(())
     }
 
     fn put_number(&mut self, number: u64) -> Result<(), AllocError>
-        ensures { IfOk result (λ _. self.new.bytes.items ≡ self.old.bytes.items ++ decimal number) }
+        ensures { IfOk result (λ _. Puts self.old self.new (decimal number)) }
     {
         let mut digits = Buffer::new();
         self.put(digits.format(number).as_bytes())
     }
 
     fn put_word(&mut self, word: u64) -> Result<(), AllocError>
-        ensures { IfOk result (λ _. self.new.bytes.items ≡ self.old.bytes.items ++ signed_decimal (signed_of word)) }
+        ensures { IfOk result (λ _. Puts self.old self.new (signed_decimal (signed_of word))) }
     {
         let mut digits = Buffer::new();
         self.put(digits.format(signed(word)).as_bytes())
@@ -58,7 +59,7 @@ impl Page {
 
     /// An observation: a word as a signed decimal, or a block by its serial.
     fn put_obs(&mut self, obs: Obs) -> Result<(), AllocError>
-        ensures { IfOk result (λ _. self.new.bytes.items ≡ self.old.bytes.items ++ obs_text obs) }
+        ensures { IfOk result (λ _. Puts self.old self.new (obs_text obs)) }
     {
         match obs {
             Obs::Word(word) => self.put_word(word),
@@ -71,7 +72,7 @@ impl Page {
 
     /// Each observation after a space.
     fn put_shown(&mut self, shown: &[Obs]) -> Result<(), AllocError>
-        ensures { IfOk result (λ _. self.new.bytes.items ≡ self.old.bytes.items ++ shown_text shown.now) }
+        ensures { IfOk result (λ _. Puts self.old self.new (shown_text shown.now)) }
     {
         for obs in shown {
             self.put(b" ")?;
@@ -82,7 +83,7 @@ impl Page {
 
     /// An external call: its name, and what its arguments showed.
     fn put_made(&mut self, call: &Call) -> Result<(), AllocError>
-        ensures { IfOk result (λ _. self.new.bytes.items ≡ self.old.bytes.items ++ made_text (call_view call.now)) }
+        ensures { IfOk result (λ _. Puts self.old self.new (made_text (call_view call.now))) }
     {
         self.put(call.name.as_bytes())?;
         self.put_shown(call.args.as_slice())
@@ -90,7 +91,7 @@ impl Page {
 
     /// A line for each external call.
     fn put_calls(&mut self, calls: &[Call]) -> Result<(), AllocError>
-        ensures { IfOk result (λ _. self.new.bytes.items ≡ self.old.bytes.items ++ calls_text (map call_view calls.now)) }
+        ensures { IfOk result (λ _. Puts self.old self.new (calls_text (map call_view calls.now))) }
     {
         for call in calls {
             self.put(b"call ")?;
@@ -101,7 +102,7 @@ impl Page {
     }
 
     fn put_returned(&mut self, value: Option<Obs>) -> Result<(), AllocError>
-        ensures { IfOk result (λ _. self.new.bytes.items ≡ self.old.bytes.items ++ returned_text value) }
+        ensures { IfOk result (λ _. Puts self.old self.new (returned_text value)) }
     {
         match value {
             None => self.put(b"returned"),
@@ -114,7 +115,7 @@ impl Page {
 
     /// How the run ended.
     fn put_end(&mut self, outcome: &Outcome) -> Result<(), AllocError>
-        ensures { IfOk result (λ _. self.new.bytes.items ≡ self.old.bytes.items ++ end_text (outcome_view outcome.now)) }
+        ensures { IfOk result (λ _. Puts self.old self.new (end_text (outcome_view outcome.now))) }
     {
         match outcome {
             Outcome::Returned(value) => self.put_returned(*value),
@@ -136,7 +137,7 @@ impl Page {
 
     /// A word and a number on a line.
     fn put_need(&mut self, name: &[u8], number: u64) -> Result<(), AllocError>
-        ensures { IfOk result (λ _. self.new.bytes.items ≡ self.old.bytes.items ++ need_text name.now number) }
+        ensures { IfOk result (λ _. Puts self.old self.new (need_text name.now number)) }
     {
         self.put(name)?;
         self.put(b" ")?;

@@ -1,4 +1,4 @@
-//! What is told of the run of a call.
+//! What is reported of the run of a call.
 ghost use Rattle.std.specs.Prelude.{◌≡◌, ℕ, None, IfOk};
 ghost use Rattle.bs_words.specs.Contents.{contents};
 ghost use Rattle.cmm_data.specs.Faults.{data_fault_of};
@@ -14,7 +14,7 @@ use cmm_eval::{Layout, eval};
 use cmm_tree::File;
 use std::alloc::{AllocError, Global};
 
-/// What is told of the run of a call with so much fuel: its outcome, and what it needs of stack, heap and fuel. The
+/// What is reported of the run of a call with so much fuel: its outcome, and what it needs of stack, heap and fuel. The
 /// frames and addresses of the file's functions are handed in.
 pub fn told_of_run(
     alloc: Global,
@@ -26,7 +26,10 @@ pub fn told_of_run(
     requires data { data_fault_of (file_view file.now) ≡ None }
     requires typed { IsTyped file.now }
     requires fit { FitsEntry (file_view file.now) call.now.entry call.now.args.items }
-    ensures { IfOk result (λ told. contents told ≡ check.told_of_run (file_view file.now) (layout_view layout.now) call.now.entry call.now.args.items call.now.answers.items fuel) }
+    ensures { IfOk result (λ told.
+        contents told
+        ≡ check.told_of_run (file_view file.now) (layout_view layout.now) call.now.entry
+        call.now.args.items call.now.answers.items fuel) }
 {
     let run = eval(
         alloc,

@@ -12,6 +12,7 @@ use Rattle.cmm_lex.specs.declared.token.TokenKind.TheVariants as kind
 use Rattle.cmm_lex.specs.declared.token.Keyword.TheVariants as word
 use Rattle.cmm_tree.specs.Tree.{Expression, Integer, Pointer, Symbol, Name, Nothing, Float, Exit, Bare, NoMore}
 use Rattle.cmm_tree.specs.Built.{is_built_operator, is_built}
+use Rattle.cmm_grammar.proofs.Fitting.{integer_fits}
 use Rattle.cmm_grammar.specs.declared.word.Head.{Head}
 use Rattle.cmm_grammar.specs.declared.word.Head.TheVariants as head
 use Rattle.cmm_grammar.specs.declared.word.Pair.{Pair}
@@ -25,10 +26,9 @@ use Rattle.cmm_grammar.specs.Words.{leaf_of, word_of}
 use Rattle.cmm_grammar.specs.Rule.{Rule, AnExpression, ABinding, Expr}
 use Rattle.cmm_grammar.specs.Grammar.{paired, tripled, loaded, stored, let_form, let_body, assign_form, app_form, extcall_rest, extcall_form, arguments_of, alloc_form, load_form, load_rest, store_form, store_rest, chunked, chunk_rest, pair_form, triple_form, raise_form, float_form, seq_form, while_form, switch_form, catch_form, labelled_handlers, bare_handler, exit_form, exit_rest, try_form, form_of, form}
 use Rattle.cmm_grammar.specs.Spelling.{Spells}
-use Rattle.correctness.specs.Measures.{total, counts_one}
+use Rattle.cmm_tree.specs.Measures.{total, counts_one}
 use Rattle.small_code.specs.Read.{IntegersFit}
 use Rattle.text_compile.proofs.Parts.{Gives, gives, ExpressionPart, a_leaf, two_brackets, a_form, shown}
-use Rattle.text_compile.proofs.Words.{integer_fits}
 
 -- what a built expression costs, of so many tokens
 pub record Costs (e : Expression) (n : ℕ) : Type 0 where

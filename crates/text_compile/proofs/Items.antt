@@ -15,7 +15,7 @@ use Rattle.cmm_grammar.specs.Rule.{AToken, AnExpression, AParameter, AnItem, Lis
 use Rattle.cmm_grammar.specs.Grammar.{a_token, close, a_comp, operands, sequence_to_close, a_parameter, parameters, a_function, data_items, data_list, item_rest, an_item}
 use Rattle.cmm_grammar.specs.Spelling.{Spells, AreItems, none, more}
 use Rattle.cmm_grammar.proofs.Basics.{solid_some}
-use Rattle.correctness.specs.Measures.{total, counts_one}
+use Rattle.cmm_tree.specs.Measures.{total, counts_one}
 use Rattle.small_code.specs.Read.{IntegersFit}
 use Rattle.text_compile.proofs.Parts.{Gives, gives, OnePart, MaybeParts, with_it, without, shown}
 use Rattle.text_compile.proofs.Words.{symbol_is, passing_is}

@@ -17,7 +17,7 @@ use Rattle.text_compile.proofs.Read.{FewParts, read_small}
 use Rattle.text_compile.proofs.ReadItems.{read_items}
 use Rattle.cmm_front.proofs.Readings.{is_read}
 
--- the tests of the limits, where no fault is told
+-- the tests of the limits, where no fault is reported
 too_many_none : (places : List ℕ) → ((f : Fault) → ¬ Among f (too_many places)) → length places ≤ most_params
 too_many_none places none = at_most (length places) most_params (λ less. some (slice_get places most_params) (get_or places most_params 0) (slice_get-get_or places most_params 0 less) none)
   where

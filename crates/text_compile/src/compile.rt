@@ -31,7 +31,7 @@ pub enum Refusal {
 ///
 /// # Errors
 ///
-/// `Fault` exactly where the text has a fault, with the one that is told; else `NotBuilt` exactly where its file is
+/// `Fault` exactly where the text has a fault, with the one that is reported; else `NotBuilt` exactly where its file is
 /// not compiled yet; else `TooLarge` exactly where a section of its image passes its limit, with the first that does.
 /// `OutOfMemory` where memory ran out before the answer is known.
 pub fn compile_text(alloc: Global, text: &[u8]) -> Result<List<u8>, Refusal>

@@ -45,14 +45,17 @@ pub enum Unready {
 ///
 /// # Errors
 ///
-/// `Fault` exactly where the text has a fault, with the one that is told; else `NotBuilt` exactly where its file is
+/// `Fault` exactly where the text has a fault, with the one that is reported; else `NotBuilt` exactly where its file is
 /// not compiled yet. `OutOfMemory` where memory ran out before the answer is known.
 pub fn small_text(alloc: Global, text: &[u8]) -> Result<SmallText, Unready>
     ensures file { IfOk result (λ read. IsSmallFileOf text.now (file_view read.small)) }
-    ensures same { IfOk result (λ read. embedded_file (file_view read.small) ≡ whole.file_view (file_of (typed_of read.checked))) }
+    ensures same { IfOk result (λ read.
+        embedded_file (file_view read.small)
+        ≡ whole.file_view (file_of (typed_of read.checked))) }
     ensures small { IfOk result (λ read. IsSmall (file_view read.small)) }
     ensures typed { IfOk result (λ read. AreItemsAnnotated (contents (file_of (typed_of read.checked)).items)) }
-    ensures placed { IfOk result (λ read. data_fault_of (whole.file_view (file_of (typed_of read.checked))) ≡ None) }
+    ensures placed { IfOk result
+        (λ read. data_fault_of (whole.file_view (file_of (typed_of read.checked))) ≡ None) }
     ensures refused { IfErr result (λ r. IsUnready text.now r) }
 {
     let checked = match front(alloc, text) {

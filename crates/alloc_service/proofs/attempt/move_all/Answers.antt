@@ -10,7 +10,8 @@ use Rattle.rv_machine.specs.Placement.{placed_at}
 use Rattle.rv_machine.specs.Space.{IsKept}
 use Rattle.alloc_service.specs.Attempt.{Parts}
 use Rattle.alloc_service.specs.Forward.{IsLow, forward, poured, words_moved, words_of}
-use Rattle.alloc_service.proofs.Placing.{all_of, forward_is, kept_low, length-moved, moved_is, new_kept, new_words, same_function, small_of, words_bound}
+use Rattle.machine_laws.proofs.Apart.{all_of, new_kept}
+use Rattle.alloc_service.proofs.Placing.{cells_of_small, forward_is, kept_low, length-moved, moved_is, new_words, same_function, small_of, words_bound}
 use Rattle.alloc_service.proofs.Walking.{cells_rise, stacked}
 use Rattle.alloc_service.proofs.Words.{registers_now}
 use Rattle.alloc_service.proofs.attempt.move_all.Goals as goal
@@ -27,8 +28,8 @@ pour-requires-clause-small c =
     let prepared = c.requires.prepared in
     let placed : c.deref-7.result.now ≡ placed_at olds starts = c.deref-7.ensures.value ∙ c.place.ensures.placed ∙ ap (placed_at olds) c.deref-5.ensures.value in
     subst (AllByRecursion IsLow) (sym placed)
-    (all_of (IsKept c.args.heap) IsLow (λ b k. kept_low c.args.heap b c.requires.most k) (placed_at olds starts)
-    (new_kept c.args.heap olds starts (small_of c.args.heap olds c.requires.placed) prepared.lengths prepared.inside))
+    (all_of (IsKept c.args.caller.heap) IsLow (λ b k. kept_low c.args.caller.heap b c.requires.most k) (placed_at olds starts)
+    (new_kept c.args.caller.heap olds starts (cells_of_small olds (small_of c.args.caller.heap olds c.requires.placed)) prepared.inside))
 
 pub pour-requires-clause-enough : goal.pour-requires-clause-enough
 pour-requires-clause-enough c =
@@ -49,12 +50,12 @@ returns-clause-moved c = λ fs e.
     let news = placed_at olds starts in
     let g = forward c.args.space.now.table in
     let f : ℕ → ℕ = rewritten olds news in
-    let same : g ≡ f = same_function g f (forward_is c.args.heap c.args.space.now.table olds starts prepared.forward prepared.lengths prepared.inside) in
-    let frames = stacked image.descs image.version (4 * length image.code) c.args.base c.args.memory.now c.requires.image.descs.each (most_frames c.args.base) true c.args.address c.args.sp fs (omega arith) e in
+    let same : g ≡ f = same_function g f (forward_is c.args.caller.heap c.args.space.now.table olds starts prepared.forward prepared.lengths prepared.inside) in
+    let frames = stacked image.descs image.version (4 * length image.code) c.args.caller.base c.args.memory.now c.requires.image.descs.each (most_frames c.args.caller.base) true c.args.caller.address c.args.caller.sp fs (omega arith) e in
     let placed : c.place.new.blocks.items ≡ news = c.place.ensures.placed ∙ ap (placed_at olds) c.deref-5.ensures.value in
     let parts : List ℕ → List Region → List Placed → Parts = λ registers memory blocks. record { registers = registers; memory = memory; blocks = blocks } in
     let registers : c.redirect_first.new.registers ≡ redirected_registers f c.args.registers.now (registers_of fs) c.args.registers.now =
-    (c.redirect_first.ensures.exact c.args.base c.args.sp).each fs e
+    (c.redirect_first.ensures.exact c.args.caller.base c.args.caller.sp).each fs e
     ∙ sym (registers_now g c.args.registers.now (registers_of fs) c.args.registers.now 0 32 frames.first (λ b h. refl))
     ∙ ap (λ h. redirected_registers h c.args.registers.now (registers_of fs) c.args.registers.now) same in
     let gathered : c.deref-6.result.now ≡ words_moved g c.args.memory.now olds =

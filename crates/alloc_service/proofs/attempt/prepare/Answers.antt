@@ -1,5 +1,5 @@
 use Rattle.std.proofs.Common.{arith}
-use Rattle.alloc_service.proofs.Chain.{count_bound}
+use Rattle.machine_laws.proofs.Chain.{count_bound}
 use Rattle.alloc_service.proofs.Placing.{cells_of_small, small_of}
 use Rattle.alloc_service.proofs.attempt.prepare.Goals as goal
 

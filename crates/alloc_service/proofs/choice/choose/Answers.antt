@@ -1,7 +1,7 @@
 use Rattle.std.proofs.Common.{ℕ, ◌%◌, ◌++◌, List, length, ap, arith, ◌∙◌}
 use Rattle.std.specs.List.{list_all}
 use Rattle.rv_machine.specs.Placement.{is_in_heap, placed_at, spaced}
-use Rattle.alloc_service.proofs.Packing.{length-spaced, packed_inside}
+use Rattle.machine_laws.proofs.Packing.{length-spaced, packed_inside}
 use Rattle.alloc_service.proofs.choice.choose.Goals as goal
 
 pub returns-clause-lengths : goal.returns-clause-lengths

@@ -2,7 +2,7 @@ use Rattle.std.proofs.Common.{◌≡◌, ℕ, ◌+◌, ◌-◌, ◌*◌, ◌%◌
 use Rattle.std.proofs.lemmas.Bool.{and_parts, leb-true, ltb-true, cases_eq}
 use Rattle.rv_machine.specs.Marks.{Marks, mark_at}
 use Rattle.alloc_service.specs.Forward.{covers}
-use Rattle.alloc_service.proofs.InHeap.{ends_below, unaligned}
+use Rattle.machine_laws.proofs.InHeap.{ends_below, unaligned}
 use Rattle.alloc_service.proofs.claims.release_block.Goals as goal
 
 pub overflow_add-end : goal.overflow_add-end

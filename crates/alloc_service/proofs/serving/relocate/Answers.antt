@@ -10,9 +10,9 @@ use Rattle.rv_machine.specs.declared.cause.Cause.TheVariants.{BadRoot}
 use Rattle.alloc_service.specs.Attempt.{Parts, Tries}
 use Rattle.alloc_service.specs.Forward.{IsLow, IsPlaced}
 use Rattle.alloc_service.specs.Plan.{plan_of, services_counted, with_counts}
-use Rattle.alloc_service.proofs.Chain.{young_chain}
+use Rattle.machine_laws.proofs.Chain.{young_chain}
 use Rattle.alloc_service.proofs.Placing.{all_low, all_placed}
-use Rattle.alloc_service.proofs.Served.{bad_root, goes}
+use Rattle.alloc_service.proofs.Served.{bad_root, caller_of, goes}
 use Rattle.alloc_service.proofs.serving.relocate.Goals as goal
 
 pub attempt-requires-clause-placed : goal.attempt-requires-clause-placed
@@ -40,9 +40,10 @@ returns-then-not-fine-clause-exact c =
     let bs = h.blocks ++ reverse t.0 in
     let young : young_blocks h.memory c.args.from ≡ Some t.0 = t.1 in
     let fits : bytes_used bs ≤ h.heap = subst (λ (xs : List Placed). bytes_used xs ≤ h.heap) t.2 t.3 in
+    let caller = caller_of h in
     let new : Parts = record { registers = c.attempt.new.registers; memory = c.attempt.new.memory; blocks = c.attempt.new.blocks.items } in
-    let first = subst (λ (xs : List Placed). Tries (Some c.in-Some.fine) h.image h.stack_base (new_places h.heap h.services xs (plan xs)) (h.pc + 4) (slice_index h.registers 2) (record { registers = h.registers; memory = h.memory; blocks = xs }) new) t.2 c.in-Some.ensures.tries in
-    let tries = subst (λ (b : Bool). Tries (Some b) h.image h.stack_base (new_places h.heap h.services bs (plan bs)) (h.pc + 4) (slice_index h.registers 2) (record { registers = h.registers; memory = h.memory; blocks = bs }) new) c.if-not-fine.true first in
+    let first = subst (λ (xs : List Placed). Tries (Some c.in-Some.fine) h.image caller (new_places h.heap h.services xs (plan xs)) (record { registers = h.registers; memory = h.memory; blocks = xs }) new) t.2 c.in-Some.ensures.tries in
+    let tries = subst (λ (b : Bool). Tries (Some b) h.image caller (new_places h.heap h.services bs (plan bs)) (record { registers = h.registers; memory = h.memory; blocks = bs }) new) c.if-not-fine.true first in
     subst (λ (x : Hart). with_counts services_counted (with_blocks plan x (blocks_at x c.args.from)) ≡ Refused BadRoot) c.machine.view_is
     (bad_root plan h t.0 c.args.from young fits c.machine.invariant.0 tries.0 tries.1 tries.2)
 
@@ -55,8 +56,9 @@ returns-clause-exact c =
     let bs = h.blocks ++ reverse t.0 in
     let young : young_blocks h.memory c.args.from ≡ Some t.0 = t.1 in
     let fits : bytes_used bs ≤ h.heap = subst (λ (xs : List Placed). bytes_used xs ≤ h.heap) t.2 t.3 in
+    let caller = caller_of h in
     let new : Parts = record { registers = c.attempt.new.registers; memory = c.attempt.new.memory; blocks = c.attempt.new.blocks.items } in
-    let first = subst (λ (xs : List Placed). Tries (Some c.in-Some.fine) h.image h.stack_base (new_places h.heap h.services xs (plan xs)) (h.pc + 4) (slice_index h.registers 2) (record { registers = h.registers; memory = h.memory; blocks = xs }) new) t.2 c.in-Some.ensures.tries in
-    let tries = subst (λ (b : Bool). Tries (Some b) h.image h.stack_base (new_places h.heap h.services bs (plan bs)) (h.pc + 4) (slice_index h.registers 2) (record { registers = h.registers; memory = h.memory; blocks = bs }) new) c.if-not-fine.false first in
+    let first = subst (λ (xs : List Placed). Tries (Some c.in-Some.fine) h.image caller (new_places h.heap h.services xs (plan xs)) (record { registers = h.registers; memory = h.memory; blocks = xs }) new) t.2 c.in-Some.ensures.tries in
+    let tries = subst (λ (b : Bool). Tries (Some b) h.image caller (new_places h.heap h.services bs (plan bs)) (record { registers = h.registers; memory = h.memory; blocks = bs }) new) c.if-not-fine.false first in
     sym (ap (λ (x : Hart). with_counts services_counted (with_blocks plan x (blocks_at x c.args.from))) c.machine.view_is)
     ∙ goes plan h t.0 c.args.from young fits c.machine.invariant.0 tries.0 tries.1 tries.2 new tries.3 c.saturating_add-machine-inside.result (c.saturating_add-machine-inside.ensures ∙ ap count (let n : i.services + 1 ≡ suc i.services = omega arith in n))

@@ -3,7 +3,7 @@ use Rattle.std.proofs.lemmas.Bool.{and_from, le-leb}
 use Rattle.rv_machine.specs.Hart.{Placed}
 use Rattle.rv_machine.specs.Observation.{blocks_from}
 use Rattle.rv_machine.proofs.Young.{one_block}
-use Rattle.alloc_service.proofs.Chain.{one_more}
+use Rattle.machine_laws.proofs.Chain.{one_more}
 use Rattle.alloc_service.proofs.Gathered.{pushed}
 use Rattle.alloc_service.proofs.young.read_young.Goals as goal
 

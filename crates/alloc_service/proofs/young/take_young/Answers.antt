@@ -1,7 +1,7 @@
 use Rattle.std.proofs.Common.{◌≡◌, ℕ, ◌+◌, ◌-◌, ◌++◌, List, reverse, refl, ap, arith, ◌∙◌}
 use Rattle.rv_machine.specs.Hart.{Placed}
 use Rattle.rv_machine.specs.Placement.{bytes_used}
-use Rattle.alloc_service.proofs.Chain.{IsChain, bytes-append, bytes-reverse, count_bound, young_chain, young_cells}
+use Rattle.machine_laws.proofs.Chain.{IsChain, bytes-append, bytes-reverse, count_bound, young_chain, young_cells}
 use Rattle.alloc_service.proofs.young.take_young.Goals as goal
 
 all_bytes : (old found : List Placed) (from : ℕ) → IsChain from found → bytes_used (old ++ reverse found) ≡ bytes_used old + (0x38010000 - from)

@@ -12,10 +12,13 @@ use Rattle.cmm_data.specs.Contents.{first_memory}
 use Rattle.cmm_data.proofs.Laws.{end_of_data-first_memory}
 use Rattle.cmm_meaning.specs.State.{World, Here, bound, deepened}
 use Rattle.cmm_meaning.specs.Evaluation.{scoped_parameter}
-use Rattle.cmm_meaning.specs.Run.{finished, first_world}
+use Rattle.cmm_meaning.specs.Run.{finished, first_world, nobody}
 use Rattle.cmm_eval.specs.Stands.{functions_in, activated_held, whole}
 use Rattle.cmm_eval.specs.Views.{layout_view, here_view, world_view, outcome_view, call_view}
+use Rattle.cmm_eval.specs.declared.here.Here as here
+use Rattle.cmm_eval.specs.declared.world.World as world
 use Rattle.cmm_eval.proofs.Called.{copied_get, first_stands}
+use Rattle.cmm_eval.proofs.Passing.{finished_back}
 use Rattle.cmm_eval.proofs.HeldCalls.{run_held}
 use Rattle.cmm_eval.proofs.evaluation.eval.Goals as goal
 
@@ -45,22 +48,27 @@ returns c =
     sym (copied_get functions k ∙ ap (λ l. slice_get l k) c.in_ok-functions.ensures)
     ∙ ap (λ l. option_copied (slice_get l k)) (sym c.deref.ensures.value)
     ∙ ap option_copied (slice_get-get_or c.deref.result.now k f c.in-Some.ensures.lookup.3.0 ∙ ap Some (sym c.in-Some.ensures.lookup.1)) in
-    let world : World = world_view (record { left = c.args.fuel; stack_need = 0; memory = c.in_ok-memory.memory; made = c.new.result; answers = c.args.answers }) in
+    let first : World = world_view (record { left = c.args.fuel; stack_need = 0; memory = c.in_ok-memory.memory; made = c.new.result; answers = c.args.answers }) in
     let is-memory : c.in_ok-memory.memory ≡ first_memory (file_view file) = c.in_ok-memory.ensures in
     let is-made : map call_view c.new.result.items ≡ [] = ap (map call_view) c.new.ensures.items in
-    let is-begun : world ≡ begun =
-    ap (λ (l : List Made). record world { made = l }) is-made ∙ ap (λ (memory : Memory). record begun { memory = memory }) is-memory in
+    let is-begun : first ≡ begun =
+    ap (λ (l : List Made). record first { made = l }) is-made ∙ ap (λ (memory : Memory). record begun { memory = memory }) is-memory in
     let is-arguments : c.as_slice.result.now ≡ arguments = c.as_slice.ensures.value ∙ c.in_ok-arguments.ensures in
-    let here : List Value → Here =
+    let here-of : List Value → Here =
     λ l. record { names = bound (map scoped_parameter (params_view (contents f.now.params))) l []; below = 0; frame = c.frame_of-frame.result; tries = 0 } in
-    let is-here : here_view c.in_ok-here.here ≡ here arguments = c.in_ok-here.ensures ∙ ap here is-arguments in
+    let is-here : here_view c.in_ok-here.here ≡ here-of arguments = c.in_ok-here.ensures ∙ ap here-of is-arguments in
     let is-world : world_view c.deepen.new.self ≡ deepened c.frame_of-frame.result begun = c.deepen.ensures ∙ ap (deepened c.frame_of-frame.result) is-begun in
     let here-at : ℕ → Here =
     λ b. record { names = bound (map scoped_parameter (params_view (contents f.now.params))) arguments []; below = 0; frame = b; tries = 0 } in
-    let stood = first_stands s c.new-2.result.items f.now frame arguments (here_view c.in_ok-here.here) (world_view c.deepen.new.self) begun
-    c.new-2.ensures.items (is-here ∙ ap here-at c.frame_of-frame.ensures) (is-world ∙ ap (λ (b : ℕ). deepened b begun) c.frame_of-frame.ensures) in
+    let p = c.in_ok-push.ensures in
+    let stood = first_stands s c.new-2.result.items c.push.new.self.frames.items _ _ c.nobody.result c.none.result f.now frame arguments
+    (here_view c.push.new.self.here) (world_view c.push.new.self.world) begun
+    c.new-2.ensures.items p.frames c.nobody.ensures c.none.ensures
+    (ap (λ (h : here.Here). here_view h) p.here ∙ is-here ∙ ap here-at c.frame_of-frame.ensures)
+    (ap (λ (w : world.World). world_view w) p.world ∙ is-world ∙ ap (λ (b : ℕ). deepened b begun) c.frame_of-frame.ensures) in
     ap (λ (n : ℕ). record { outcome = outcome_view c.finished-outcome.result; calls = w.made; stack_need = w.stack_need; heap_need = n; left = w.left }) c.heap_need.ensures
     ∙ sym (c.finished-outcome.ensures s h w)
     ∙ ap (finished layout) (c.in_ok-end.ensures.end ∙ stood)
+    ∙ finished_back layout nobody (activated_held s frame (Some f.now) arguments 0 begun)
     ∙ ap (λ (o : Option Function). finished layout (activated_held s frame o arguments 0 begun)) (sym found)
     ∙ sym (run_held file layout c.requires.typed k c.args.args.now c.args.answers.now c.args.fuel c.requires.entry)

@@ -31,14 +31,14 @@ pub in_expr-returns-in-App : goal.in_expr-returns-in-App
 in_expr-returns-in-App t c =
     let at = c.args.expr.now.at in
     let found = c.args.found in
-    rw (c.in_row-in-App.ensures, c.as_slice-in-App-2.ensures.value, c.in_expr-told.ensures, c.in_arguments.ensures, c.as_slice-in-App.ensures.value, c.deref-in-App.ensures)
+    rw (c.in_row-in-App.ensures, c.as_slice-in-App-2.ensures.value, c.in_expr-reported.ensures, c.in_arguments.ensures, c.as_slice-in-App.ensures.value, c.deref-in-App.ensures)
     (sym (ap (λ (f : Form). noted_all (faults_in (form_view at f)) found) c.in-App.is ∙ ap (λ v. noted_all v found) (app-faults at c.in-App.callee c.in-App.arguments c.in-App.result c.in-App.result_at)))
 
 pub in_expr-returns-in-Extcall : goal.in_expr-returns-in-Extcall
 in_expr-returns-in-Extcall t c =
     let at = c.args.expr.now.at in
     let found = c.args.found in
-    rw (c.in_row-in-Extcall.ensures, c.as_slice-in-Extcall-2.ensures.value, c.in_arguments-told.ensures, c.as_slice-in-Extcall.ensures.value)
+    rw (c.in_row-in-Extcall.ensures, c.as_slice-in-Extcall-2.ensures.value, c.in_arguments-reported.ensures, c.as_slice-in-Extcall.ensures.value)
     (sym (ap (λ (f : Form). noted_all (faults_in (form_view at f)) found) c.in-Extcall.is ∙ ap (λ v. noted_all v found) (extcall-faults at c.in-Extcall.frame c.in-Extcall.name c.in-Extcall.arguments c.in-Extcall.result c.in-Extcall.result_at)))
 
 pub in_expr-returns-in-Seq : goal.in_expr-returns-in-Seq
@@ -52,7 +52,7 @@ pub in_expr-returns-in-Switch : goal.in_expr-returns-in-Switch
 in_expr-returns-in-Switch t c =
     let at = c.args.expr.now.at in
     let found = c.args.found in
-    rw (c.in_cases.ensures, c.as_slice-in-Switch.ensures.value, c.in_expr-told-in-Switch.ensures, c.in_size.ensures, c.deref-in-Switch.ensures)
+    rw (c.in_cases.ensures, c.as_slice-in-Switch.ensures.value, c.in_expr-reported-in-Switch.ensures, c.in_size.ensures, c.deref-in-Switch.ensures)
     (sym (ap (λ (f : Form). noted_all (faults_in (form_view at f)) found) c.in-Switch.is ∙ ap (λ v. noted_all v found) (switch-faults at c.in-Switch.size_at c.in-Switch.size c.in-Switch.selector c.in-Switch.cases)))
 
 pub in_expr-returns-in-Catch : goal.in_expr-returns-in-Catch

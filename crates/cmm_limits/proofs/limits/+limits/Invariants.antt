@@ -6,13 +6,13 @@ use Rattle.cmm_limits.proofs.limits.+limits.Given as goal
 
 -- what is left of each list goes on to all of it
 abbrev pub invariant-in_row-loop-expr : goal.invariant-in_row-loop-expr
-invariant-in_row-loop-expr l = noted_all (row_faults (row_of (drop l.expr-index l.exprs))) l.told ≡ noted_all (row_faults (row_of l.exprs)) l.fn.found
+invariant-in_row-loop-expr l = noted_all (row_faults (row_of (drop l.expr-index l.exprs))) l.reported ≡ noted_all (row_faults (row_of l.exprs)) l.fn.found
 
 abbrev pub invariant-in_bindings-loop-binding : goal.invariant-in_bindings-loop-binding
-invariant-in_bindings-loop-binding l = noted_all (binding_faults (bindings_of (drop l.binding-index l.bindings))) l.told ≡ noted_all (binding_faults (bindings_of l.bindings)) l.fn.found
+invariant-in_bindings-loop-binding l = noted_all (binding_faults (bindings_of (drop l.binding-index l.bindings))) l.reported ≡ noted_all (binding_faults (bindings_of l.bindings)) l.fn.found
 
 abbrev pub invariant-in_cases-loop-case : goal.invariant-in_cases-loop-case
-invariant-in_cases-loop-case l = noted_all (case_faults l.size (cases_of (drop l.case-index l.cases))) l.told ≡ noted_all (case_faults l.size (cases_of l.cases)) l.fn.found
+invariant-in_cases-loop-case l = noted_all (case_faults l.size (cases_of (drop l.case-index l.cases))) l.reported ≡ noted_all (case_faults l.size (cases_of l.cases)) l.fn.found
 
 abbrev pub invariant-in_handlers-loop-handler : goal.invariant-in_handlers-loop-handler
-invariant-in_handlers-loop-handler l = noted_all (handler_faults (handlers_of (drop l.handler-index l.handlers))) l.told ≡ noted_all (handler_faults (handlers_of l.handlers)) l.fn.found
+invariant-in_handlers-loop-handler l = noted_all (handler_faults (handlers_of (drop l.handler-index l.handlers))) l.reported ≡ noted_all (handler_faults (handlers_of l.handlers)) l.fn.found

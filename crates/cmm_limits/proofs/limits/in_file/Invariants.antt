@@ -8,5 +8,5 @@ use Rattle.cmm_limits.proofs.limits.in_file.Given as goal
 -- the items that are left go on to all
 abbrev pub invariant-loop-item : goal.invariant-loop-item
 invariant-loop-item l =
-    noted_all (items_faults (map item_view (drop l.item-index l.item-items))) l.told
+    noted_all (items_faults (map item_view (drop l.item-index l.item-items))) l.reported
     ≡ noted_all (items_faults (map item_view (contents l.file.items))) None

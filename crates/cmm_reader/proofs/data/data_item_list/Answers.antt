@@ -3,9 +3,10 @@ use Rattle.cmm_tree.specs.View.{data_item_view}
 use Rattle.cmm_grammar.specs.Words.{is_close}
 use Rattle.cmm_grammar.specs.Grammar.{a_data_item}
 use Rattle.cmm_grammar.specs.Reading.{reading, forms_below}
-use Rattle.cmm_exprs.specs.Results.{trees}
-use Rattle.cmm_exprs.proofs.Lists.{going-start}
-use Rattle.cmm_exprs.proofs.Loops.{takes-data-item, loop-shorter, loop-on}
+use Rattle.cmm_parts.specs.Results.{trees}
+use Rattle.cmm_parts.proofs.Lists.{going-start}
+use Rattle.cmm_parts.proofs.Loops.{loop-shorter, loop-on}
+use Rattle.cmm_reader.proofs.ItemLists.{takes-data-item}
 use Rattle.cmm_reader.proofs.data.data_item_list.Goals as goal
 
 pub loop-first-init : goal.loop-first-init

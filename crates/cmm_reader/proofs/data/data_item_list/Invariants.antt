@@ -3,8 +3,8 @@ use Rattle.cmm_tree.specs.View.{data_item_view}
 use Rattle.cmm_grammar.specs.Words.{is_close}
 use Rattle.cmm_grammar.specs.Grammar.{a_data_item}
 use Rattle.cmm_grammar.specs.Reading.{reading, forms_below}
-use Rattle.cmm_exprs.specs.Results.{trees}
-use Rattle.cmm_exprs.proofs.Lists.{Going}
+use Rattle.cmm_parts.specs.Results.{trees}
+use Rattle.cmm_parts.proofs.Lists.{Going}
 use Rattle.cmm_reader.proofs.data.data_item_list.Given as goal
 
 -- the items so far stand before those that the rest gives

@@ -1,6 +1,7 @@
 use Rattle.std.proofs.Common.{◌∙◌, sym}
 use Rattle.cmm_lex.specs.Token.{token_view}
-use Rattle.cmm_exprs.proofs.Symbols.{if-some, if-none, word-symbol, word-keyword}
+use Rattle.cmm_parts.proofs.Symbols.{if-some, if-none}
+use Rattle.cmm_reader.proofs.Symbols.{word-symbol, word-keyword}
 use Rattle.cmm_reader.proofs.data.data_word.Goals as goal
 use Rattle.cmm_reader.proofs.data.data_word.Goals.{in-Some, in-None}
 

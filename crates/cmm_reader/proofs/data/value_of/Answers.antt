@@ -1,6 +1,7 @@
 use Rattle.std.proofs.Common.{◌∙◌, sym}
 use Rattle.cmm_lex.specs.Token.{token_view}
-use Rattle.cmm_exprs.proofs.Symbols.{if-some, if-none, val-symbol, val-number}
+use Rattle.cmm_parts.proofs.Symbols.{if-some, if-none}
+use Rattle.cmm_reader.proofs.Symbols.{val-symbol, val-number}
 use Rattle.cmm_reader.proofs.data.value_of.Goals as goal
 
 pub returns-in-Some-clause-datum : goal.returns-in-Some-clause-datum

@@ -3,8 +3,8 @@ use Rattle.cmm_lex.specs.Token.{token_view}
 use Rattle.cmm_grammar.specs.Rule.{AToken, maybe}
 use Rattle.cmm_grammar.specs.Words.{is_function, passing}
 use Rattle.cmm_grammar.specs.Grammar.{an_item, item_rest}
-use Rattle.cmm_exprs.specs.Results.{trees}
-use Rattle.cmm_exprs.proofs.Readings.{inside-one}
+use Rattle.cmm_parts.specs.Results.{trees}
+use Rattle.cmm_reader.proofs.Inside.{inside-one}
 use Rattle.cmm_reader.proofs.items.item.Goals as goal
 
 pub returns : goal.returns

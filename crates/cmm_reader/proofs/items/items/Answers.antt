@@ -3,9 +3,8 @@ use Rattle.std.proofs.lemmas.Result.{err_from_is_err_and}
 use Rattle.cmm_tree.specs.View.{item_view}
 use Rattle.cmm_grammar.specs.Grammar.{an_item}
 use Rattle.cmm_grammar.specs.Reading.{reads}
-use Rattle.cmm_exprs.specs.Results.{trees}
-use Rattle.cmm_exprs.proofs.Lists.{items-start}
-use Rattle.cmm_exprs.proofs.Loops.{item-shorter, item-on, item-out}
+use Rattle.cmm_parts.specs.Results.{trees}
+use Rattle.cmm_reader.proofs.ItemLists.{items-start, item-shorter, item-on, item-out}
 use Rattle.cmm_reader.proofs.items.items.Goals as goal
 
 pub loop-rest-init : goal.loop-rest-init

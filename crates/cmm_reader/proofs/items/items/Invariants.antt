@@ -2,8 +2,8 @@ use Rattle.std.proofs.Common.{◌≤◌, length, map}
 use Rattle.cmm_tree.specs.View.{item_view}
 use Rattle.cmm_grammar.specs.Grammar.{an_item}
 use Rattle.cmm_grammar.specs.Reading.{reads}
-use Rattle.cmm_exprs.specs.Results.{trees}
-use Rattle.cmm_exprs.proofs.Lists.{ItemsGoing}
+use Rattle.cmm_parts.specs.Results.{trees}
+use Rattle.cmm_reader.proofs.ItemLists.{ItemsGoing}
 use Rattle.cmm_reader.proofs.items.items.Given as goal
 
 -- the items so far stand before those that the rest gives

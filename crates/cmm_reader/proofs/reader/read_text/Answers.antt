@@ -5,7 +5,7 @@ use Rattle.cmm_lex.specs.declared.token.Token as declared
 use Rattle.cmm_tree.specs.View.{item_view}
 use Rattle.cmm_tree.specs.declared.file.Item.{Item}
 use Rattle.cmm_grammar.specs.Reading.{items_at}
-use Rattle.cmm_exprs.specs.Results.{trees, Fails}
+use Rattle.cmm_parts.specs.Results.{trees, Fails}
 use Rattle.cmm_grammar.specs.Spelling.{nesting}
 use Rattle.cmm_reader.specs.Telling.{IsFinished}
 use Rattle.cmm_reader.proofs.Texts.{too-long, tokens-few, lexed-cut, lexed-range, refused-lexing, read-finished, read-stopped}

@@ -4,7 +4,7 @@ use Rattle.cmm_tree.specs.Tree.{functions_among}
 use Rattle.cmm_tree.specs.View.{item_view, file_view}
 use Rattle.cmm_tree.specs.declared.file.Item.{Item}
 use Rattle.cmm_walks.specs.Refusal.{ToldAmong}
-use Rattle.cmm_walks.specs.declared.decide.Limits.{Limits}
+use Rattle.cmm_walks.specs.declared.limits.Limits.{Limits}
 use Rattle.cmm_walks.proofs.Least.{told-as, none-live, told-live}
 use Rattle.cmm_walks.proofs.check.check_file.Goals as goal
 

@@ -1,6 +1,6 @@
 use Rattle.std.proofs.Common.{Option, subst}
 use Rattle.cmm_walks.specs.Refusal.{ToldAmong}
-use Rattle.cmm_walks.specs.declared.decide.Limits.{Limits}
+use Rattle.cmm_walks.specs.declared.limits.Limits.{Limits}
 use Rattle.cmm_walks.proofs.Least.{told-second, told-first, told-left, told-right}
 use Rattle.cmm_walks.proofs.check.first.Goals as goal
 

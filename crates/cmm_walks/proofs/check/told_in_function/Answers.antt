@@ -1,8 +1,7 @@
-use Rattle.std.proofs.Common.{List, ℕ, subst, sym}
-use Rattle.std.specs.Option.{MatchOption}
+use Rattle.std.proofs.Common.{List, subst, sym}
 use Rattle.cmm_tree.specs.View.{function_view}
-use Rattle.cmm_walks.specs.First.{IsFirst}
-use Rattle.cmm_walks.specs.Table.{AreLinked, LeadsToBinding}
+use Rattle.cmm_walks.specs.First.{IsFirstTold}
+use Rattle.cmm_walks.specs.Table.{AreLinked}
 use Rattle.cmm_walks.specs.declared.node.Node as node
 use Rattle.cmm_walks.proofs.Agreeing.{told-in}
 use Rattle.cmm_walks.proofs.check.told_in_function.Goals as goal
@@ -15,5 +14,5 @@ first_live-requires c =
 pub returns : goal.returns
 returns c =
     let entry = c.in_ok-table.table.entry in
-    let P : List node.Node → Type 0 = λ l. MatchOption c.in_ok-told.told ((b p u : ℕ) → LeadsToBinding l b p u entry → ⊥) (λ x. IsFirst l entry x) in
+    let P : List node.Node → Type 0 = λ l. IsFirstTold l entry c.in_ok-told.told in
     told-in c.in_ok-table.table.nodes.items entry (function_view c.args.function.now) c.in_ok-told.told c.in_ok-table.ensures.live (subst P c.as_slice.ensures.value c.in_ok-told.ensures)

@@ -5,8 +5,8 @@ use Rattle.mover_runtime.specs.Outcome.{calling_none}
 use Rattle.mover_runtime.proofs.Rows.{none_taken, asks_now}
 use Rattle.mover_runtime.proofs.calling.answer_call.Goals as goal
 
-pub returns-in_ok-write_made_line-in-None-clause-told : goal.returns-in_ok-write_made_line-in-None-clause-told
-returns-in_ok-write_made_line-in-None-clause-told g c = (
+pub returns-in_ok-write_made_line-in-None-clause-reported : goal.returns-in_ok-write_made_line-in-None-clause-reported
+returns-in_ok-write_made_line-in-None-clause-reported g c = (
   [],
   Asks (call_made (ext c.args.row.now) c.args.machine.now),
   asks_now c.args.row.now.result c.in-Comp.field-0 (call_made (ext c.args.row.now) c.args.machine.now) (drop c.args.taken.now c.args.answers.now)

@@ -15,8 +15,8 @@ use Rattle.mover_runtime.proofs.FrameCalls.{asks, comes, ok_then, two_left}
 use Rattle.mover_runtime.proofs.Writing.{writes_fault}
 use Rattle.mover_runtime.proofs.calling.answer_frame_call.Goals as goal
 
-pub returns-in_default-clause-told : goal.returns-in_default-clause-told
-returns-in_default-clause-told g c =
+pub returns-in_default-clause-reported : goal.returns-in_default-clause-reported
+returns-in_default-clause-reported g c =
     let h = c.args.machine.now in
     let schedule = schedule_of c.args.schedule.now in
     let plan : List Placed → List ℕ = schedule.plan h.services in
@@ -26,8 +26,8 @@ returns-in_default-clause-told g c =
     let call = call_made (ext c.args.row.now) h in
     ([], Asks call, asks plan ret call answers m c.in_default.ensures, refl)
 
-pub returns-in_ok-told-in-HeapOut-clause-told : goal.returns-in_ok-told-in-HeapOut-clause-told
-returns-in_ok-told-in-HeapOut-clause-told g c =
+pub returns-in_ok-end-in-HeapOut-clause-reported : goal.returns-in_ok-end-in-HeapOut-clause-reported
+returns-in_ok-end-in-HeapOut-clause-reported g c =
     let h = c.args.machine.now in
     let schedule = schedule_of c.args.schedule.now in
     let plan : List Placed → List ℕ = schedule.plan h.services in
@@ -39,10 +39,10 @@ returns-in_ok-told-in-HeapOut-clause-told g c =
     let two = c.in-Some.ensures in
     let came : collected plan h ≡ NoHeap = ap (λ (p : List Placed → List ℕ). collected p h) (sym planned) ∙ c.in-HeapOut.ensures.exact in
     let is = comes plan ret call answers m c.in-Some.answer.raises c.in-Some.answer.value two.0 two.1 (NoHeap) came in
-    ([], HeapOut, is, c.in_ok-told-in-HeapOut.ensures.told)
+    ([], HeapOut, is, c.in_ok-end-in-HeapOut.ensures.reported)
 
-pub returns-in_ok-told-in-Stopped-clause-told : goal.returns-in_ok-told-in-Stopped-clause-told
-returns-in_ok-told-in-Stopped-clause-told g c =
+pub returns-in_ok-end-in-Stopped-clause-reported : goal.returns-in_ok-end-in-Stopped-clause-reported
+returns-in_ok-end-in-Stopped-clause-reported g c =
     let h = c.args.machine.now in
     let schedule = schedule_of c.args.schedule.now in
     let plan : List Placed → List ℕ = schedule.plan h.services in
@@ -54,10 +54,10 @@ returns-in_ok-told-in-Stopped-clause-told g c =
     let two = c.in-Some.ensures in
     let came : collected plan h ≡ Refused c.in-Stopped.cause = ap (λ (p : List Placed → List ℕ). collected p h) (sym planned) ∙ c.in-Stopped.ensures.exact in
     let is = comes plan ret call answers m c.in-Some.answer.raises c.in-Some.answer.value two.0 two.1 (Refused c.in-Stopped.cause) came in
-    ([], Stopped c.in-Stopped.cause, is, c.in_ok-told-in-Stopped.ensures.told)
+    ([], Stopped c.in-Stopped.cause, is, c.in_ok-end-in-Stopped.ensures.reported)
 
-pub returns-in_ok-told-in-Stopped-clause-text : goal.returns-in_ok-told-in-Stopped-clause-text
-returns-in_ok-told-in-Stopped-clause-text g c =
+pub returns-in_ok-end-in-Stopped-clause-text : goal.returns-in_ok-end-in-Stopped-clause-text
+returns-in_ok-end-in-Stopped-clause-text g c =
     let h = c.args.machine.now in
     let schedule = schedule_of c.args.schedule.now in
     let plan : List Placed → List ℕ = schedule.plan h.services in
@@ -69,10 +69,10 @@ returns-in_ok-told-in-Stopped-clause-text g c =
     let two = c.in-Some.ensures in
     let came : collected plan h ≡ Refused c.in-Stopped.cause = ap (λ (p : List Placed → List ℕ). collected p h) (sym planned) ∙ c.in-Stopped.ensures.exact in
     let is = comes plan ret call answers m c.in-Some.answer.raises c.in-Some.answer.value two.0 two.1 (Refused c.in-Stopped.cause) came in
-    subst (Appends (g.K.Sink.held c.args.out.now) (g.K.Sink.held c.end_stopped.new.out)) (sym (ap progress_text is)) c.in_ok-told-in-Stopped.ensures.text
+    subst (Appends (g.K.Sink.held c.args.out.now) (g.K.Sink.held c.end_stopped.new.out)) (sym (ap progress_text is)) c.in_ok-end-in-Stopped.ensures.text
 
-pub returns-in_err-told-in-Stopped-clause-text : goal.returns-in_err-told-in-Stopped-clause-text
-returns-in_err-told-in-Stopped-clause-text g c =
+pub returns-in_err-end-in-Stopped-clause-text : goal.returns-in_err-end-in-Stopped-clause-text
+returns-in_err-end-in-Stopped-clause-text g c =
     let h = c.args.machine.now in
     let schedule = schedule_of c.args.schedule.now in
     let plan : List Placed → List ℕ = schedule.plan h.services in
@@ -84,16 +84,16 @@ returns-in_err-told-in-Stopped-clause-text g c =
     let two = c.in-Some.ensures in
     let came : collected plan h ≡ Refused c.in-Stopped.cause = ap (λ (p : List Placed → List ℕ). collected p h) (sym planned) ∙ c.in-Stopped.ensures.exact in
     let is = comes plan ret call answers m c.in-Some.answer.raises c.in-Some.answer.value two.0 two.1 (Refused c.in-Stopped.cause) came in
-    subst (Writes c.from_residual-in_err-told-in-Stopped.result (g.K.Sink.held c.args.out.now) (g.K.Sink.held c.end_stopped.new.out)) (sym (ap progress_text is))
-    (writes_fault c.from_residual-in_err-told-in-Stopped.result (g.K.Sink.held c.args.out.now) (g.K.Sink.held c.end_stopped.new.out) (last_line (Stopped c.in-Stopped.cause)) c.from_residual-in_err-told-in-Stopped.ensures.0 c.in_err-told-in-Stopped.ensures.text)
+    subst (Writes c.from_residual-in_err-end-in-Stopped.result (g.K.Sink.held c.args.out.now) (g.K.Sink.held c.end_stopped.new.out)) (sym (ap progress_text is))
+    (writes_fault c.from_residual-in_err-end-in-Stopped.result (g.K.Sink.held c.args.out.now) (g.K.Sink.held c.end_stopped.new.out) (last_line (Stopped c.in-Stopped.cause)) c.from_residual-in_err-end-in-Stopped.ensures.0 c.in_err-end-in-Stopped.ensures.text)
 
 pub returns-in-Goes-clause-left : goal.returns-in-Goes-clause-left
 returns-in-Goes-clause-left g c =
     let two = c.in-Some.ensures in
     (two_left c.args.answers.now c.args.taken.now c.in-Some.answer.raises c.in-Some.answer.value two.0 two.1).1
 
-pub returns-in-Goes-clause-told : goal.returns-in-Goes-clause-told
-returns-in-Goes-clause-told g c =
+pub returns-in-Goes-clause-reported : goal.returns-in-Goes-clause-reported
+returns-in-Goes-clause-reported g c =
     let h = c.args.machine.now in
     let schedule = schedule_of c.args.schedule.now in
     let plan : List Placed → List ℕ = schedule.plan h.services in
@@ -111,7 +111,7 @@ returns-in-Goes-clause-told g c =
     let whole : frame_answered plan ret call answers m ≡ concluded ret (made c.args.row.now.name (take c.len.result c.observe_arguments-shown.result)) c.in-Some.answer.raises c.in-Some.answer.value two.0 c.collect.new.machine m =
     is ∙ ap (λ (k : Made). concluded ret k c.in-Some.answer.raises c.in-Some.answer.value two.0 c.collect.new.machine m) (sym showed) in
     ok_then c.conclude.result _ _
-    (λ told p. subst (λ (now : Now). Serves told now c.conclude.new.machine c.args.returns (drop (c.args.taken.now + 2) c.args.answers.now)) (sym whole)
-    (subst (λ (left : List ℕ). Serves told (concluded ret (made c.args.row.now.name (take c.len.result c.observe_arguments-shown.result)) c.in-Some.answer.raises c.in-Some.answer.value two.0 c.collect.new.machine m) c.conclude.new.machine c.args.returns left) (sym rest)
+    (λ end p. subst (λ (now : Now). Serves end now c.conclude.new.machine c.args.returns (drop (c.args.taken.now + 2) c.args.answers.now)) (sym whole)
+    (subst (λ (left : List ℕ). Serves end (concluded ret (made c.args.row.now.name (take c.len.result c.observe_arguments-shown.result)) c.in-Some.answer.raises c.in-Some.answer.value two.0 c.collect.new.machine m) c.conclude.new.machine c.args.returns left) (sym rest)
     (p h c.args.returns answers two.0)))
-    c.conclude.ensures.told
+    c.conclude.ensures.reported

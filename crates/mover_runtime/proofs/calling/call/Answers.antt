@@ -19,11 +19,11 @@ answer_call-requires-clause-few g c =
     (ext_at c.image.result.now (tables c.image.result.now) c.register-number.result c.register-number.result (Some c.in-Some.row.now) refl refl c.in-Some.ensures) in
     rule.few
 
-pub returns-in-Some-clause-told : goal.returns-in-Some-clause-told
-returns-in-Some-clause-told g c =
+pub returns-in-Some-clause-reported : goal.returns-in-Some-clause-reported
+returns-in-Some-clause-reported g c =
     let at = ext_at c.image.result.now c.args.machine.now.image c.register-number.result (register c.args.machine.now 5) (Some c.in-Some.row.now) c.image.ensures.same c.register-number.ensures c.in-Some.ensures in
-    subst (λ (o : Option Ext). IfOk c.answer_call.result (λ told. Serves told (external o (calling_none c.args.machine.now c.args.returns (drop c.args.taken.now c.args.answers.now))) c.answer_call.new.machine c.args.returns (drop c.answer_call.new.taken c.args.answers.now)))
-    (sym at) c.answer_call.ensures.told
+    subst (λ (o : Option Ext). IfOk c.answer_call.result (λ end. Serves end (external o (calling_none c.args.machine.now c.args.returns (drop c.args.taken.now c.args.answers.now))) c.answer_call.new.machine c.args.returns (drop c.answer_call.new.taken c.args.answers.now)))
+    (sym at) c.answer_call.ensures.reported
 
 pub returns-in-Some-clause-text : goal.returns-in-Some-clause-text
 returns-in-Some-clause-text g c =
@@ -31,20 +31,20 @@ returns-in-Some-clause-text g c =
     subst (λ (o : Option Ext). Writes c.answer_call.result (g.K.Sink.held c.args.out.now) (g.K.Sink.held c.answer_call.new.out) (progress_text (external o (calling_none c.args.machine.now c.args.returns (drop c.args.taken.now c.args.answers.now)))))
     (sym at) c.answer_call.ensures.text
 
-pub returns-in_ok-told-in-None-clause-told : goal.returns-in_ok-told-in-None-clause-told
-returns-in_ok-told-in-None-clause-told g c =
+pub returns-in_ok-end-in-None-clause-reported : goal.returns-in_ok-end-in-None-clause-reported
+returns-in_ok-end-in-None-clause-reported g c =
     let at = ext_at c.image.result.now c.args.machine.now.image c.register-number.result (register c.args.machine.now 5) None c.image.ensures.same c.register-number.ensures c.in-None.ensures in
-    subst (λ (o : Option Ext). Serves (Some c.in_ok-told-in-None.told) (external o (calling_none c.args.machine.now c.args.returns (drop c.args.taken.now c.args.answers.now))) c.args.machine.now c.args.returns (drop c.args.taken.now c.args.answers.now))
-    (sym at) ([], Stopped BadService, refl, c.in_ok-told-in-None.ensures.told)
+    subst (λ (o : Option Ext). Serves (Some c.in_ok-end-in-None.end) (external o (calling_none c.args.machine.now c.args.returns (drop c.args.taken.now c.args.answers.now))) c.args.machine.now c.args.returns (drop c.args.taken.now c.args.answers.now))
+    (sym at) ([], Stopped BadService, refl, c.in_ok-end-in-None.ensures.reported)
 
-pub returns-in_ok-told-in-None-clause-text : goal.returns-in_ok-told-in-None-clause-text
-returns-in_ok-told-in-None-clause-text g c =
+pub returns-in_ok-end-in-None-clause-text : goal.returns-in_ok-end-in-None-clause-text
+returns-in_ok-end-in-None-clause-text g c =
     let at = ext_at c.image.result.now c.args.machine.now.image c.register-number.result (register c.args.machine.now 5) None c.image.ensures.same c.register-number.ensures c.in-None.ensures in
     subst (λ (o : Option Ext). Appends (g.K.Sink.held c.args.out.now) (g.K.Sink.held c.end_stopped.new.out) (progress_text (external o (calling_none c.args.machine.now c.args.returns (drop c.args.taken.now c.args.answers.now)))))
-    (sym at) c.in_ok-told-in-None.ensures.text
+    (sym at) c.in_ok-end-in-None.ensures.text
 
-pub returns-in_err-told-in-None-clause-text : goal.returns-in_err-told-in-None-clause-text
-returns-in_err-told-in-None-clause-text g c =
+pub returns-in_err-end-in-None-clause-text : goal.returns-in_err-end-in-None-clause-text
+returns-in_err-end-in-None-clause-text g c =
     let at = ext_at c.image.result.now c.args.machine.now.image c.register-number.result (register c.args.machine.now 5) None c.image.ensures.same c.register-number.ensures c.in-None.ensures in
     subst (λ (o : Option Ext). Writes c.from_residual.result (g.K.Sink.held c.args.out.now) (g.K.Sink.held c.end_stopped.new.out) (progress_text (external o (calling_none c.args.machine.now c.args.returns (drop c.args.taken.now c.args.answers.now)))))
-    (sym at) (writes_fault c.from_residual.result (g.K.Sink.held c.args.out.now) (g.K.Sink.held c.end_stopped.new.out) (last_line (Stopped BadService)) c.from_residual.ensures.0 c.in_err-told-in-None.ensures.text)
+    (sym at) (writes_fault c.from_residual.result (g.K.Sink.held c.args.out.now) (g.K.Sink.held c.end_stopped.new.out) (last_line (Stopped BadService)) c.from_residual.ensures.0 c.in_err-end-in-None.ensures.text)

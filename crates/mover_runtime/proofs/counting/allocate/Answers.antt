@@ -1,11 +1,13 @@
 use Rattle.std.proofs.Common.{subst}
+use Rattle.rv_machine.specs.Hart.{Hart}
 use Rattle.rv_machine.specs.Relocation.{Serviced}
 use Rattle.alloc_service.specs.Plan.{Serves, plan_of}
-use Rattle.mover_runtime.proofs.Retiring.{allocated_counted}
+use Rattle.mover_runtime.proofs.Retiring.{allocated_counted, allocated-most}
 use Rattle.mover_runtime.proofs.counting.allocate.Goals as goal
 
 pub returns : goal.returns
-returns c = record {
-  exact = subst (λ (a : Serviced). Serves c.allocate.result a c.allocate.new.machine)
-      (allocated_counted (plan_of c.args.plan) c.args.machine.now c.requires.room c.requires.services) c.allocate.ensures.exact;
-}
+returns c =
+    let h : Hart = c.args.machine.now in
+    let exact = subst (λ (a : Serviced). Serves c.allocate.result a c.allocate.new.machine)
+    (allocated_counted (plan_of c.args.plan) h c.requires.room c.requires.services) c.allocate.ensures.exact in
+    record { exact = exact; retired = allocated-most (plan_of c.args.plan) c.allocate.result h c.allocate.new.machine exact c.allocate.ensures.kept }

@@ -11,20 +11,20 @@ use Rattle.mover_runtime.specs.Schedules.{schedule_of}
 use Rattle.mover_runtime.proofs.Runs.{Plans, allocation_progress}
 use Rattle.mover_runtime.proofs.serving.serve.Goals as goal
 
-pub returns-in_ok-told-in-0-clause-told : goal.returns-in_ok-told-in-0-clause-told
-returns-in_ok-told-in-0-clause-told g c = (
+pub returns-in_ok-end-in-0-clause-reported : goal.returns-in_ok-end-in-0-clause-reported
+returns-in_ok-end-in-0-clause-reported g c = (
   [],
   Returned (value_returned c.args.returns c.args.machine.now),
   ap (λ (n : ℕ). served (schedule_of c.args.schedule.now).plan n (calling_none c.args.machine.now c.args.returns (drop c.args.taken.now c.args.answers.now))) (sym c.register.ensures ∙ c.in-0.is),
-  c.in_ok-told-in-0.ensures.told,
+  c.in_ok-end-in-0.ensures.reported,
 )
 
-pub returns-in_ok-told-in-1-clause-told : goal.returns-in_ok-told-in-1-clause-told
-returns-in_ok-told-in-1-clause-told g c = (
+pub returns-in_ok-end-in-1-clause-reported : goal.returns-in_ok-end-in-1-clause-reported
+returns-in_ok-end-in-1-clause-reported g c = (
   [],
   Raised (observed c.args.machine.now Val (register c.args.machine.now 10)),
   ap (λ (n : ℕ). served (schedule_of c.args.schedule.now).plan n (calling_none c.args.machine.now c.args.returns (drop c.args.taken.now c.args.answers.now))) (sym c.register.ensures ∙ c.in-1.is),
-  c.in_ok-told-in-1.ensures.told,
+  c.in_ok-end-in-1.ensures.reported,
 )
 
 other : (plans : Plans) (n : ℕ) (m : Machine) → (n ≡ 0 → ⊥) → (n ≡ 1 → ⊥) → (n ≡ 2 → ⊥) → (n ≡ 3 → ⊥) → (n ≡ 4 → ⊥) → served plans n m ≡ Over m.calls (Stopped BadService)
@@ -35,13 +35,13 @@ other plans (suc (suc (suc zero))) m a b d e f = absurd (e refl)
 other plans (suc (suc (suc (suc zero)))) m a b d e f = absurd (f refl)
 other plans (suc (suc (suc (suc (suc n))))) m a b d e f = refl
 
-pub returns-in_ok-told-in_default-clause-told : goal.returns-in_ok-told-in_default-clause-told
-returns-in_ok-told-in_default-clause-told g c = (
+pub returns-in_ok-end-in_default-clause-reported : goal.returns-in_ok-end-in_default-clause-reported
+returns-in_ok-end-in_default-clause-reported g c = (
   [],
   Stopped BadService,
   (ap (λ (n : ℕ). served (schedule_of c.args.schedule.now).plan n (calling_none c.args.machine.now c.args.returns (drop c.args.taken.now c.args.answers.now))) (sym c.register.ensures)
       ∙ other (schedule_of c.args.schedule.now).plan c.register.result (calling_none c.args.machine.now c.args.returns (drop c.args.taken.now c.args.answers.now)) (search rules) (search rules) (search rules) (search rules) (search rules)),
-  c.in_ok-told-in_default.ensures.told,
+  c.in_ok-end-in_default.ensures.reported,
 )
 
 pub returns-in-3-clause-text : goal.returns-in-3-clause-text

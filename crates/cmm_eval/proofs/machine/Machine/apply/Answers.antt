@@ -74,10 +74,10 @@ returns c =
     resume s m.frames.items (and_then (back_from_call h (activated_held s frame (Some f.now) l (stack_below tail h) w)) (λ v h w. as_written written v h w)) in
     if_ok_then
     (λ now. (s : Surroundings) → stands_in s c.activate.new.self now
-    ≡ goes_on_in s m (λ h w. and_then (back_from_call h (activated_held s c.frame_of-frame.result (Some f.now) c.as_slice-arguments.result.now (stack_below tail h) w)) (λ v h w. as_written written v h w)))
+    ≡ goes_on_in s m (λ h w. and_then (back_from_call h (activated_held s c.frame_of.result (Some f.now) c.as_slice-arguments.result.now (stack_below tail h) w)) (λ v h w. as_written written v h w)))
     (λ now. stands a c.activate.new.self now ≡ goes_on a m (λ h w. applied s c.args.callee values written tail h w)) c.activate.result
     (λ now p. p s
-    ∙ ap (λ (n : ℕ). call n c.as_slice-arguments.result.now) c.frame_of-frame.ensures
+    ∙ ap (λ (n : ℕ). call n c.as_slice-arguments.result.now) c.frame_of.ensures
     ∙ ap (call (slice_index (layout_view a.layout.now).frames k)) c.as_slice-arguments.ensures.value
     ∙ ap (resume s m.frames.items) (sym (call_fit a c.requires k f.now found values fits written tail h w))
     ∙ sym (ap (λ (v : Value). resume s m.frames.items (applied s v values written tail h w)) c.in-Function.is))

@@ -1,9 +1,9 @@
-use Rattle.std.proofs.Common.{◌≡◌, ℕ, ◌+◌, suc, false, length, vec_len, ap, sym, subst, ◌∙◌, refl, add-one, arith}
+use Rattle.std.proofs.Common.{◌≡◌, ◌+◌, suc, false, length, vec_len, ap, sym, subst, ◌∙◌, refl, add-one, arith}
 use Rattle.cmm_tree.specs.declared.expr.Form.{Form}
 use Rattle.cmm_tree.specs.declared.expr.Expr.{Expr}
 use Rattle.cmm_meaning.specs.State.{World, Here, taken, within_try, deepened}
 use Rattle.cmm_meaning.specs.Evaluation.{Evaluation, Surroundings, and_then, caught, tried}
-use Rattle.cmm_eval.specs.Filled.{expression, bindings_from, body_of, handlers_of, handler_of, resume}
+use Rattle.cmm_eval.specs.Filled.{expression, bindings_from, body_of, handlers_of, handler_of}
 use Rattle.cmm_eval.specs.Held.{inside}
 use Rattle.cmm_eval.specs.Views.{here_view, world_view}
 use Rattle.cmm_eval.specs.declared.frame.Step.TheVariants as step

@@ -10,7 +10,7 @@ use Rattle.cmm_eval.proofs.machine.Machine.fill_in.Goals as goal
 
 pub loop-left-preserved : goal.loop-left-preserved
 loop-left-preserved c =
-    let xs = c.args.operands.now in
+    let xs = c.args.row.operands.now in
     let left = c.loop-left.left in
     let v = c.in-Some.value in
     let old = c.loop-left.waited in
@@ -35,7 +35,7 @@ loop-left-preserved c =
 pub returns-in-None : goal.returns-in-None
 returns-in-None c =
     let s = around_view c.args.around.now in
-    let xs = c.args.operands.now in
+    let xs = c.args.row.operands.now in
     let left = c.loop-left.left in
     let m = c.loop-left.self in
     let old = c.loop-left.waited in
@@ -46,7 +46,7 @@ returns-in-None c =
     let before = popped old.items c.pop.new.self.items c.pop.result (vec_len old) c.pop.ensures.items c.pop.ensures.variant count in
     let has : option_flatten c.pop.result ≡ None = sym c.flatten.ensures ∙ c.in-None.is in
     let p = c.in_ok-push-in-None.ensures in
-    let e = fills_in s c.args.form.now c.args.tail c.args.callee (reverse xs) (reverse c.args.waited.items) (reverse c.args.values.items) in
+    let e = fills_in s c.args.form.now c.args.tail c.args.callee (reverse xs) (reverse c.args.row.waited.items) (reverse c.args.row.values.items) in
     let h = here_view m.here in
     let w = world_view m.world in
     stands_pushed_at s m c.push-in-None.new.self _ (expression s x false) e p.here p.world p.frames

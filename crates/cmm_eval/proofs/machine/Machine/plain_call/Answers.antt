@@ -1,6 +1,4 @@
-use Rattle.std.proofs.Common.{◌∙◌, map}
-use Rattle.std.proofs.lemmas.List.{map-append}
-use Rattle.bs_words.specs.declared.values.Call.{Call}
+use Rattle.std.proofs.Common.{map}
 use Rattle.cmm_eval.specs.Views.{here_view, world_view, call_view}
 use Rattle.cmm_eval.proofs.Called.{none_left, calls_more, answered_none, answered_word, answered_asks}
 use Rattle.cmm_eval.proofs.machine.Machine.plain_call.Goals as goal

@@ -6,8 +6,8 @@ use Rattle.cmm_eval.proofs.Ended.{if_ok_then}
 use Rattle.cmm_eval.proofs.Listed.{sequence_is}
 use Rattle.cmm_eval.proofs.machine.Machine.sequence.Goals as goal
 
-pub returns-in-Seq : goal.returns-in-Seq
-returns-in-Seq c =
+pub returns : goal.returns
+returns c =
     let m = c.args.self.now in
     let tail = c.args.tail in
     let h = here_view m.here in

@@ -1,0 +1,24 @@
+-- Forms inside forms: what a reader needs of the function that reads a form one level deeper.
+use Rattle.std.specs.Prelude.{◌<◌, ℕ, List, Result}
+use Rattle.std.specs.Borrow.{Bor}
+use Rattle.cmm_lex.specs.declared.token.Token as declared
+use Rattle.cmm_tree.specs.View.{expr_view}
+use Rattle.cmm_tree.specs.declared.expr.Expr.{Expr}
+use Rattle.cmm_grammar.specs.Grammar.{form}
+use Rattle.cmm_parts.specs.declared.stop.Stop.{Stop}
+use Rattle.cmm_parts.specs.Results.{Part, ReadsBy}
+
+-- what reads a form after its parenthesis, by the tokens there, the depth inside it and its place,
+-- may be called below this depth
+abbrev pub MayRead : (Bor (List declared.Token) → ℕ → ℕ → Type 0) → ℕ → Type 0
+MayRead may_call depth =
+    (tokens : Bor (List declared.Token)) (below at : ℕ) → below < depth → may_call tokens below at
+
+-- and what it then returns is what reading the form gives
+abbrev pub ReadsForms : (Bor (List declared.Token) → ℕ → ℕ → Result (Part Expr) Stop → Type 0)
+    → List ℕ → ℕ → Type 0
+ReadsForms returns source depth =
+    (tokens : Bor (List declared.Token)) (below at : ℕ) (result : Result (Part Expr) Stop)
+    → below < depth
+    → returns tokens below at result
+    → ReadsBy (form at) expr_view below source tokens.now result

@@ -1,0 +1,37 @@
+//! Where reading stops.
+ghost use Rattle.std.specs.Prelude.{◌≡◌};
+ghost use Rattle.cmm_parts.specs.declared.stop.Stop.TheVariants.{OutOfMemory};
+
+use std::alloc::{AllocError, AllocFailed};
+use thiserror::Error;
+
+/// Why a part of a text was not read. `left` is its place: the number of tokens from there to
+/// the end.
+#[derive(Debug, Drop, Error)]
+pub enum Stop {
+    /// No text goes on with this token, or ends here.
+    #[error("no text goes on so")]
+    Unexpected { left: usize },
+    /// This parenthesis is one level too deep.
+    #[error("parentheses nest too deep")]
+    TooDeep { left: usize },
+    /// Memory was wanted and not there.
+    #[error("out of memory")]
+    OutOfMemory,
+}
+
+impl From<AllocError> for Stop {
+    ghost from_gives = { λ _ e. e ≡ OutOfMemory };
+
+    fn from(_e: AllocError) -> Stop {
+        Stop::OutOfMemory
+    }
+}
+
+impl<T: Drop> From<AllocFailed<T>> for Stop {
+    ghost from_gives = { λ _ e. e ≡ OutOfMemory };
+
+    fn from(_e: AllocFailed<T>) -> Stop {
+        Stop::OutOfMemory
+    }
+}

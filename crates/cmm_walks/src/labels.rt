@@ -1,0 +1,179 @@
+//! Labels of nodes: each node gets the least label of the seeds that it leads to.
+ghost use Rattle.std.specs.Prelude.{◌≡◌, ◌<◌, ℕ, [], length, IfOk};
+ghost use Rattle.std.specs.List.{All};
+ghost use Rattle.cmm_walks.specs.Groups.{AreBefore};
+ghost use Rattle.cmm_walks.specs.Table.{step_at};
+ghost use Rattle.cmm_walks.specs.Labels.{label_at, binds_slot, IsUnlabelled, Lowered, IsKept, IsSpreading, LowersBefore, Settles, FirstLabels, known_label};
+
+use crate::groups::{Group, members};
+use crate::node::{Node, Step};
+use std::alloc::{AllocError, Global};
+
+/// What stands for no label: above each.
+const UNLABELLED: u64 = 0x1_0000_0000;
+
+/// A label that a node begins with.
+#[derive(Clone, Copy, PartialEq, Eq, Debug)]
+pub struct Seed {
+    pub label: u32,
+    pub place: u32,
+}
+
+/// The labels of nodes, and the nodes that were labelled, in their order; those before `done` have passed
+/// their labels on.
+#[derive(Debug, Drop)]
+pub struct Labels {
+    pub of: Vec<u64>,
+    pub queue: Vec<u32>,
+    pub done: usize,
+}
+
+/// What a walk does at a node; past the last one nothing.
+pub fn step_of(nodes: &[Node], place: u32) -> Step
+    ensures { result ≡ step_at nodes.now place }
+{
+    match nodes.get(place as usize) {
+        None => Step::Quiet,
+        Some(node) => node.step,
+    }
+}
+
+/// Whether the step binds the slot.
+fn binds(step: Step, slot: u32) -> bool
+    ensures { result ≡ binds_slot slot step }
+{
+    match step {
+        Step::Quiet => false,
+        Step::Binds {
+            slot: own,
+            address: _,
+            at: _,
+        } => own == slot,
+        Step::Uses { slot: _, at: _ } => false,
+        Step::Passes { at: _ } => false,
+    }
+}
+
+impl Labels {
+    /// So many nodes without labels.
+    pub fn new(alloc: Global, count: usize) -> Result<Self, AllocError>
+        ensures { IfOk result (λ labels. IsUnlabelled count labels) }
+    {
+        let mut of = Vec::with_capacity(alloc, count)?;
+        for _node in 0..count {
+            of.push(UNLABELLED)?;
+        }
+        Ok(Labels {
+            of,
+            queue: Vec::new(alloc),
+            done: 0,
+        })
+    }
+
+    /// The label of a node, or `UNLABELLED`.
+    fn at(&self, place: u32) -> u64
+        ensures { result ≡ label_at self.now.of.items place }
+    {
+        match self.of.get(place as usize) {
+            None => UNLABELLED,
+            Some(label) => *label,
+        }
+    }
+
+    /// The label of a node, if it has one.
+    pub fn get(&self, place: u32) -> Option<u32>
+        ensures { result ≡ known_label self.now.of.items place }
+    {
+        let label = self.at(place);
+        if label < UNLABELLED {
+            Some(label as u32)
+        } else {
+            None
+        }
+    }
+
+    /// Gives a node this label, if it is less than that which it has.
+    fn lower(&mut self, place: u32, label: u64) -> Result<(), AllocError>
+        requires { place < length self.old.of.items }
+        ensures { IfOk result (λ _. Lowered self.old self.new place label) }
+    {
+        let former = self.of[place as usize];
+        if label < former {
+            self.of[place as usize] = label;
+            self.queue.push(place)?;
+            Ok(())
+        } else {
+            Ok(())
+        }
+    }
+
+    /// Passes the label of a node on to the nodes before it that do not bind the slot.
+    fn lower_before(
+        &mut self,
+        nodes: &[Node],
+        before: &[Group],
+        slot: u32,
+        place: u32,
+    ) -> Result<(), AllocError>
+        requires before { AreBefore nodes.now before.now }
+        requires spreading { IsSpreading nodes.now slot self.old }
+        ensures { IfOk result (λ _. LowersBefore nodes.now slot place self.old self.new) }
+    {
+        let label = self.at(place);
+        for q in members(before, place) {
+            if !binds(step_of(nodes, *q), slot) {
+                self.lower(*q, label)?;
+            }
+        }
+        Ok(())
+    }
+
+    /// Passes all labels on.
+    fn settle(&mut self, nodes: &[Node], before: &[Group], slot: u32) -> Result<(), AllocError>
+        requires before { AreBefore nodes.now before.now }
+        requires spreading { IsSpreading nodes.now slot self.old }
+        ensures { IfOk result (λ _. Settles nodes.now slot self.old self.new) }
+    {
+        while self.done < self.queue.len() {
+            let place = self.queue[self.done];
+            self.lower_before(nodes, before, slot, place)?;
+            self.done += 1;
+        }
+        Ok(())
+    }
+
+    /// Labels each node with the least label of the seeds that it leads to without binding the slot. It takes
+    /// the seeds from the least label up, so that each node is visited once.
+    pub fn fill(
+        &mut self,
+        nodes: &[Node],
+        before: &[Group],
+        slot: u32,
+        seeds: &mut Vec<Seed>,
+    ) -> Result<(), AllocError>
+        requires before { AreBefore nodes.now before.now }
+        requires unlabelled { IsUnlabelled (length nodes.now) self.old }
+        requires within { All (λ s. s.place < length nodes.now) seeds.old.items }
+        ensures { IfOk result (λ _. FirstLabels nodes.now slot seeds.old.items self.new) }
+    {
+        seeds.sort_unstable_by_key(|seed| seed.label);
+        for seed in seeds.as_slice() {
+            self.lower(seed.place, u64::from(seed.label))?;
+            self.settle(nodes, before, slot)?;
+        }
+        Ok(())
+    }
+
+    /// Takes all labels off.
+    pub fn clear(&mut self)
+        requires { IsKept self.old }
+        ensures { IsUnlabelled (length self.old.of.items) self.new }
+    {
+        for i in 0..self.queue.len() {
+            let place = self.queue[i];
+            self.of[place as usize] = UNLABELLED;
+        }
+        self.queue.clear();
+        self.done = 0;
+    }
+}

@@ -1,0 +1,43 @@
+//! The places up to which addresses are searched for.
+ghost use Rattle.std.specs.Prelude.{◌≡◌};
+ghost use Rattle.cmm_walks.specs.First.{with_part};
+
+/// The greatest places that are asked for.
+#[derive(Clone, Copy, PartialEq, Eq, Debug)]
+pub struct Limits {
+    pub bound: u32,
+    pub point: u32,
+    pub used: u32,
+}
+
+/// A place that the search is for.
+#[derive(Clone, Copy, PartialEq, Eq, Debug)]
+pub enum Part {
+    Used,
+    Point,
+    Bound,
+}
+
+/// The limits with another limit for this part.
+pub fn with_part(limits: Limits, part: Part, limit: u32) -> Limits
+    ensures { result ≡ with_part limits part limit }
+{
+    let Limits { bound, point, used } = limits;
+    match part {
+        Part::Used => Limits {
+            used: limit,
+            point,
+            bound,
+        },
+        Part::Point => Limits {
+            used,
+            point: limit,
+            bound,
+        },
+        Part::Bound => Limits {
+            used,
+            point,
+            bound: limit,
+        },
+    }
+}

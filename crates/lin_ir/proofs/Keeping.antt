@@ -1,0 +1,55 @@
+-- What keeps a Mach function, linearised, keeps what that function was made from.
+use Rattle.std.proofs.Common.{◌≡◌, ℕ, List, ◌∙◌}
+use Rattle.bs_words.specs.Memory.{Memory}
+use Rattle.bs_words.specs.declared.values.Value.{Value}
+use Rattle.cmm_meaning.specs.State.{Doing}
+use Rattle.mach_ir.specs.Runs.{Place, Tally, first_tally}
+use Rattle.mach_ir.specs.Meaning as mach
+use Rattle.mach_ir.specs.Keeps as kept
+use Rattle.mach_ir.specs.Keeps.{Proper}
+use Rattle.mach_ir.proofs.Keeping.{alike_then, ahead_then, trails_then}
+use Rattle.mach_ir.specs.declared.mach.Mach.{Mach}
+use Rattle.lin_ir.specs.Meaning.{NamedAt, State}
+use Rattle.lin_ir.specs.Keeps.{Follows, Does, Keeps}
+use Rattle.lin_ir.specs.declared.lin.Lin.{Lin}
+
+module _ (c : Place) (p q : Mach) (r : Lin) (named : NamedAt) (s u : mach.State) (v : State) (t : Tally) where
+  follows_then : (n : ℕ) → kept.Follows c p q s u t n → ((k : ℕ) → Proper c q k u t → Follows c q r named u v t k) →
+      Follows c p r named s v t n
+  follows_then n one two =
+      let less = one.no_less in
+      let more = one.no_more in
+      let x = (two less.steps less.proper).no_less in
+      let y = (two more.steps more.proper).no_more in
+      record {
+        no_less = record {
+          steps = x.steps;
+          alike = alike_then (λ a b d. ahead_then a.around b.around d.around) less.alike x.alike;
+        };
+        no_more = record {
+          steps = y.steps;
+          alike = alike_then (λ a b d. trails_then a.around b.around d.around) more.alike y.alike;
+        };
+      }
+
+does_then : (p q : Mach) (r : Lin) (named : NamedAt) → kept.Does p q → Does q r named → Does p r named
+does_then p q r named one two c arguments memory doings s e =
+    let u = one c arguments memory doings s e in
+    let v = two c arguments memory doings u.state u.begins in
+    record {
+      state = v.state;
+      begins = v.begins;
+      follows = λ n proper.
+          follows_then c p q r named s u.state v.state (first_tally c doings) n (u.follows n proper) v.follows;
+    }
+
+pub keeps_then : (p q : Mach) (r : Lin) (named : NamedAt) → kept.Keeps p q → Keeps q r named → Keeps p r named
+keeps_then p q r named one two =
+    record {
+      name = two.name ∙ one.name;
+      result = two.result ∙ one.result;
+      does = does_then p q r named one.does two.does;
+      symbols = λ name n. one.symbols name (two.symbols name n);
+      externals = λ row n. one.externals row (two.externals row n);
+      addrs = λ h. two.addrs (one.addrs h);
+    }

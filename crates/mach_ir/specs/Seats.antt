@@ -1,0 +1,82 @@
+-- Where operands and results stand by the conventions of calls, in both languages.
+use Rattle.std.specs.Prelude.{◌≡◌, List, [], ◌∷◌, ◌++◌, map, Contains}
+use Rattle.bs_words.specs.declared.types.Loc.{Loc}
+use Rattle.bs_words.specs.declared.types.Loc.TheVariants as loc
+use Rattle.mach_ir.specs.declared.op.Callee.TheVariants as callee
+use Rattle.mach_ir.specs.declared.op.Calling.TheVariants as calling
+use Rattle.mach_ir.specs.declared.op.Leaving.TheVariants as leaving
+use Rattle.mach_ir.specs.declared.op.Op.{Op}
+use Rattle.mach_ir.specs.declared.op.Op.TheVariants as op
+use Rattle.mach_ir.specs.declared.reg.Reg.{Reg}
+use Rattle.mach_ir.specs.declared.mach.Mark.TheVariants as mark
+use Rattle.mach_ir.specs.declared.mach.MachOp.{MachOp}
+use Rattle.mach_ir.specs.declared.mach.MachOp.TheVariants as mach
+use Rattle.mach_ir.specs.declared.mach.Instr.{Instr}
+use Rattle.mach_ir.specs.declared.mach.Mach.{Mach}
+
+-- the places of arguments, in their order: a0 to a7 and s2 to s9
+abbrev pub argument_places : List Loc
+argument_places =
+    map loc.Machine
+    (10 ∷ 11 ∷ 12 ∷ 13 ∷ 14 ∷ 15 ∷ 16 ∷ 17 ∷ 18 ∷ 19 ∷ 20 ∷ 21 ∷ 22 ∷ 23 ∷ 24 ∷ 25 ∷ [])
+
+-- the place of a result and of a raised value: a0
+abbrev pub result_places : List Loc
+result_places = loc.Machine 10 ∷ []
+
+-- where a list of operands or results stands
+pub data Seats : Type 0 where
+  Anywhere : Seats
+  -- at the first of these places, in order
+  InOrder : (places : List Loc) → Seats
+  -- the first anywhere, the others so
+  AfterFirst : (places : List Loc) → Seats
+
+abbrev pub operand_seats : Op → Seats
+operand_seats (op.Calling (calling.Call (callee.Symbol name) result)) = InOrder argument_places
+operand_seats (op.Calling (calling.Call callee.Register result)) = AfterFirst argument_places
+operand_seats (op.Calling (calling.TailCall (callee.Symbol name) result)) =
+    InOrder argument_places
+operand_seats (op.Calling (calling.TailCall callee.Register result)) =
+    AfterFirst argument_places
+operand_seats (op.Calling (calling.External row frame)) = InOrder argument_places
+operand_seats (op.Leaving leaving.Raise) = InOrder result_places
+operand_seats (op.Leaving leaving.Return) = InOrder result_places
+operand_seats (op.Leaving (leaving.Checkbound r)) = Anywhere
+operand_seats (op.Access f) = Anywhere
+operand_seats (op.Pure f) = Anywhere
+
+abbrev pub result_seats : Op → Seats
+result_seats (op.Calling f) = InOrder result_places
+result_seats (op.Leaving f) = Anywhere
+result_seats (op.Access f) = Anywhere
+result_seats (op.Pure f) = Anywhere
+
+pub data AreSeated : Seats → List Loc → Type 0 where
+  anywhere : {ls : List Loc} → AreSeated Anywhere ls
+  in_order : {places ls : List Loc} (more : List Loc) → ls ++ more ≡ places → AreSeated (InOrder places) ls
+  after_first : {places ls : List Loc} {l : Loc} (more : List Loc) → ls ++ more ≡ places →
+      AreSeated (AfterFirst places) (l ∷ ls)
+
+-- ---- Mach
+
+abbrev pub places_of : List Reg → List Loc
+places_of rs = map (λ (r : Reg). r.loc) rs
+
+-- a handler takes the raised value from where a result stands
+abbrev pub mach_result_seats : MachOp → Seats
+mach_result_seats (mach.Op f) = result_seats f
+mach_result_seats (mach.Mark (mark.Handler l)) = InOrder result_places
+mach_result_seats (mach.Mark _) = Anywhere
+
+abbrev pub mach_operand_seats : MachOp → Seats
+mach_operand_seats (mach.Op f) = operand_seats f
+mach_operand_seats (mach.Mark f) = Anywhere
+
+-- Parameters, and operands and results that the conventions put at fixed places, stand there.
+pub record Seated (m : Mach) : Type 0 where
+  pub params : AreSeated (InOrder argument_places) (places_of m.params)
+  pub operands : (i : Instr) → Contains m.code i →
+      AreSeated (mach_operand_seats i.op) (places_of i.args)
+  pub results : (i : Instr) → Contains m.code i →
+      AreSeated (mach_result_seats i.op) (places_of i.results)

@@ -1,0 +1,42 @@
+-- How large a Mach function is, in the measures by which passes say how it grows.
+use Rattle.std.specs.Prelude.{◌≡◌, ℕ, ◌+◌, ◌<◌, ◌≤◌, List, [], ◌∷◌, length, Contains}
+use Rattle.bs_words.specs.declared.types.Loc.TheVariants as loc
+use Rattle.mach_ir.specs.Walks.{IsRegister}
+use Rattle.mach_ir.specs.declared.reg.Reg.{Reg}
+use Rattle.mach_ir.specs.declared.mach.Instr.{Instr}
+use Rattle.mach_ir.specs.declared.mach.Mach.{Mach}
+
+-- the operands and results of a code: reloading makes at most one register for each
+abbrev pub operands : List Instr → ℕ
+operands [] = 0
+operands (i ∷ is) = length i.args + length i.results + operands is
+
+-- Bounds on a function: how many instructions it has, how many operands and results, below which
+-- number those of its registers and their origins are, and below which its labels.
+pub record Size : Type 0 where
+  pub instrs : ℕ
+  pub operands : ℕ
+  pub registers : ℕ
+  pub labels : ℕ
+
+pub record IsWithin (m : Mach) (s : Size) : Type 0 where
+  pub instrs : length m.code ≤ s.instrs
+  pub operands : operands m.code ≤ s.operands
+  pub numbers : (r : Reg) → IsRegister m r → r.number < s.registers
+  pub origins : (r : Reg) → IsRegister m r → r.origin < s.registers
+  pub labels : m.labels ≤ s.labels
+
+-- every number of a pass fits its type
+abbrev pub number_limit : ℕ
+number_limit = 4294967296
+
+pub record IsSmall (s : Size) : Type 0 where
+  pub instrs : s.instrs < number_limit
+  pub registers : s.registers < number_limit
+  pub labels : s.labels < number_limit
+
+-- At most k registers have an open place.
+pub record OpenAtMost (m : Mach) (k : ℕ) : Type 0 where
+  pub numbers : List ℕ
+  pub few : length numbers ≤ k
+  pub all : (r : Reg) → IsRegister m r → r.loc ≡ loc.Unset → Contains numbers r.number

@@ -1,0 +1,74 @@
+-- The places of code that is replaced instruction by instruction.
+use Rattle.std.proofs.Common.{◌≡◌, ℕ, Bool, true, false, cond, ⊎_elim, List, [], ◌∷◌, ◌++◌, length, refl, sym, ap, ◌∙◌}
+use Rattle.std.proofs.lemmas.Bool.{cases_Bool}
+use Rattle.mach_ir.specs.Acts.{Landing, AtLabel, AtHandler}
+use Rattle.mach_ir.specs.Meaning.{has_label, is_handler_of, after_label, from_handler, at_handler, landing_code, tries_at}
+use Rattle.mach_ir.specs.declared.mach.Instr.{Instr}
+use Rattle.mach_laws.specs.Expand.{expand, NoLabel, no_label, not_labelled, NoHandler, no_handler, not_handled, KeepsMarks, Ending, all, more}
+
+label_past : (l : ℕ) (xs ys : List Instr) → NoLabel l xs → after_label l (xs ++ ys) ≡ after_label l ys
+label_past l [] ys no_label = refl
+label_past l (x ∷ xs) ys (not_labelled e n) =
+    ap (λ b. cond b (xs ++ ys) (after_label l (xs ++ ys))) e ∙ label_past l xs ys n
+
+handler_past : (l : ℕ) (xs ys : List Instr) → NoHandler l xs → from_handler l (xs ++ ys) ≡ from_handler l ys
+handler_past l [] ys no_handler = refl
+handler_past l (x ∷ xs) ys (not_handled e n) =
+    ap (λ b. cond b (x ∷ (xs ++ ys)) (from_handler l (xs ++ ys))) e ∙ handler_past l xs ys n
+
+module _ (f : ℕ → Instr → List Instr) (m : KeepsMarks f) (l : ℕ) where
+  pub label_expand : (code : List Instr) → after_label l (expand f code) ≡ expand f (after_label l code)
+  label_expand [] = refl
+  label_expand (i ∷ is) =
+      ⊎_elim
+      (λ e.
+      let h = m.mark l (length is) i e in
+      ap (λ xs. after_label l (xs ++ expand f is)) h.1
+      ∙ ap (λ b. cond b (expand f is) (after_label l (expand f is))) (ap (has_label l) h.2 ∙ e)
+      ∙ ap (λ b. expand f (cond b is (after_label l is))) (sym e))
+      (λ e.
+      label_past l (f (length is) i) (expand f is) (m.none l (length is) i e)
+      ∙ label_expand is ∙ ap (λ b. expand f (cond b is (after_label l is))) (sym e))
+      (cases_Bool (has_label l i.op))
+
+  pub handler_expand : (code : List Instr) → from_handler l (expand f code) ≡ expand f (from_handler l code)
+  handler_expand [] = refl
+  handler_expand (i ∷ is) =
+      ⊎_elim
+      (λ e.
+      let h = m.handler l (length is) i e in
+      ap (λ xs. from_handler l (xs ++ expand f is)) h.2
+      ∙ ap (λ b. cond b (h.0 ∷ (h.1 ++ expand f is)) (from_handler l (h.1 ++ expand f is)))
+      (ap (is_handler_of l) h.3 ∙ e)
+      ∙ ap (λ xs. xs ++ expand f is) (sym h.2) ∙ ap (λ b. expand f (cond b (i ∷ is) (from_handler l is))) (sym e))
+      (λ e.
+      handler_past l (f (length is) i) (expand f is) (m.no_other l (length is) i e)
+      ∙ handler_expand is ∙ ap (λ b. expand f (cond b (i ∷ is) (from_handler l is))) (sym e))
+      (cases_Bool (is_handler_of l i.op))
+
+-- ---- what a code ends with
+
+pub ending_next : {i : Instr} {rest code : List Instr} → Ending (i ∷ rest) code → Ending rest code
+ending_next all = more all
+ending_next (more e) = more (ending_next e)
+
+ending_cond : {xs ys code : List Instr} (b : Bool) → Ending xs code → Ending ys code → Ending (cond b xs ys) code
+ending_cond true x y = x
+ending_cond false x y = y
+
+pub ending_label : (l : ℕ) (code : List Instr) → Ending (after_label l code) code
+ending_label l [] = all
+ending_label l (i ∷ is) = ending_cond (has_label l i.op) (more all) (more (ending_label l is))
+
+pub ending_from_handler : (l : ℕ) (code : List Instr) → Ending (from_handler l code) code
+ending_from_handler l [] = all
+ending_from_handler l (i ∷ is) = ending_cond (is_handler_of l i.op) all (more (ending_from_handler l is))
+
+pub ending_handler : (tries : List ℕ) (code : List Instr) → Ending (at_handler code tries) code
+ending_handler [] [] = all
+ending_handler [] (i ∷ is) = more (ending_handler [] is)
+ending_handler (l ∷ tries) code = ending_from_handler l code
+
+pub ending_land : (to : Landing) (here code : List Instr) → Ending (landing_code code here to) code
+ending_land (AtLabel l) here code = ending_label l code
+ending_land AtHandler here code = ending_handler (tries_at here) code

@@ -1,0 +1,224 @@
+-- What is live by the flow graph of a function is what is live by its walks.
+use Rattle.std.proofs.Common.{◌≡◌, ◌↔◌, ℕ, zero, suc, ◌-◌, ◌<◌, ◌≤◌, Bool, true, false, ◌⊎◌, inl, inr, ⊎_elim, List, [], ◌∷◌, length, map, drop, refl, sym, ap, ◌∙◌, subst, arith}
+use Rattle.std.specs.List.{Contains}
+use Rattle.std.specs.Prelude.{slice_index_or}
+use Rattle.dataflow.specs.Flow.{Graph, graph, ReadsIn, LiveBefore}
+use Rattle.dataflow.specs.Live.{IsLiveness}
+use Rattle.dataflow.specs.declared.flow.Flow as flow
+use Rattle.mach_ir.specs.Acts.{Target, On, At}
+use Rattle.mach_ir.specs.Graph.{IsLiveMap}
+use Rattle.mach_ir.specs.Meaning.{code_at, from_handler, tries_at, written}
+use Rattle.mach_ir.specs.Walks.{Among, first, later, OneOf, this, other, targets, may_raise, goes, raises, Live, read, on, aside}
+use Rattle.mach_ir.specs.declared.graph.LiveMap.{LiveMap}
+use Rattle.mach_ir.specs.declared.reg.Reg.{Reg}
+use Rattle.mach_ir.specs.declared.mach.Instr.{Instr}
+use Rattle.mach_ir.specs.declared.mach.Mach.{Mach}
+use Rattle.mach_laws.specs.Expand.{Ending, all, more}
+use Rattle.mach_laws.specs.Graph.{place_of, numbers, handler_places, next_places, raise_places, numbers_read, numbers_written, flow_graph, IsFlowOf}
+use Rattle.mach_laws.proofs.Places.{ending_next, ending_label, ending_from_handler}
+
+-- ---- members of lists
+
+none_in : {A : Type 0} (y : A) → Contains [] y → ⊥
+none_in y c = let le = c.1 in absurd (omega (arith, le))
+
+first_in : {A : Type 0} (y : A) (ys : List A) → Contains (y ∷ ys) y
+first_in y ys = (0, omega arith, refl)
+
+later_in : {A : Type 0} (x y : A) (ys : List A) → Contains ys y → Contains (x ∷ ys) y
+later_in x y ys c = let le = c.1 in (suc c.0, omega (arith, le), c.2)
+
+in_cons : {A : Type 0} (x y : A) (ys : List A) → Contains (x ∷ ys) y → (x ≡ y) ⊎ Contains ys y
+in_cons x y ys c = by c.0 c.1 c.2
+  where
+    by : (k : ℕ) → k < length (x ∷ ys) → slice_index_or (x ∷ ys) k y ≡ y → (x ≡ y) ⊎ Contains ys y
+    by zero le e = inl e
+    by (suc k) le e = inr (k, omega (arith, le), e)
+
+-- ---- numbers of places
+
+minus_self : (k : ℕ) → k - k ≡ 0
+minus_self k = omega arith
+
+suc_minus : (a b : ℕ) → b ≤ a → suc a - b ≡ suc (a - b)
+suc_minus a b le = omega (arith, le)
+
+ending_short : {rest code : List Instr} → Ending rest code → length rest ≤ length code
+ending_short all = omega arith
+ending_short (more e) = let le = ending_short e in omega (arith, le)
+
+drop_none : (xs : List Instr) → drop 0 xs ≡ xs
+drop_none [] = refl
+drop_none (x ∷ xs) = refl
+
+drop_suc : (k : ℕ) (x : Instr) (xs : List Instr) → drop (suc k) (x ∷ xs) ≡ drop k xs
+drop_suc k x xs = refl
+
+pub drop_ending : {rest code : List Instr} → Ending rest code → drop (length code - length rest) code ≡ rest
+drop_ending {rest} all = ap (λ k. drop k rest) (minus_self (length rest)) ∙ drop_none rest
+drop_ending {rest} (more {i = i} {code = code} e) =
+    ap (λ k. drop k (i ∷ code)) (suc_minus (length code) (length rest) (ending_short e))
+    ∙ drop_suc (length code - length rest) i code ∙ drop_ending e
+
+pub ending_drop : (p : ℕ) (code : List Instr) → Ending (drop p code) code
+ending_drop zero [] = all
+ending_drop zero (i ∷ is) = all
+ending_drop (suc p) [] = all
+ending_drop (suc p) (i ∷ is) = more (ending_drop p is)
+
+ending_at : {i : Instr} {next code : List Instr} (t : Target) → Ending (i ∷ next) code → Ending (code_at code next t) code
+ending_at On e = ending_next e
+ending_at {code = code} (At l) e = ending_label l code
+
+module _ (m : Mach) where
+  pub place_is : {rest : List Instr} → Ending rest m.code → drop (place_of m rest) m.code ≡ rest
+  place_is e = drop_ending e
+
+  ending_of : (p : ℕ) {rest : List Instr} → drop p m.code ≡ rest → Ending rest m.code
+  ending_of p e = subst (λ rest. Ending rest m.code) e (ending_drop p m.code)
+
+  -- ---- one step
+
+  among_of : (n : ℕ) (rs : List Reg) → Contains (numbers rs) n → Among n rs
+  among_of n [] c = absurd (none_in n c)
+  among_of n (r ∷ rs) c =
+      ⊎_elim (λ e. first e) (λ d. later (among_of n rs d)) (in_cons r.number n (numbers rs) c)
+
+  in_numbers : {n : ℕ} {rs : List Reg} → Among n rs → Contains (numbers rs) n
+  in_numbers {n} (first {r = r} {rs = rs} e) = subst (Contains (r.number ∷ numbers rs)) e (first_in r.number (numbers rs))
+  in_numbers {n} (later {r = r} {rs = rs} a) = later_in r.number n (numbers rs) (in_numbers a)
+
+  target_of : (next : List Instr) (ts : List Target) (q : ℕ) → Contains (map (λ t. place_of m (code_at m.code next t)) ts) q →
+      (t : Target) × OneOf t ts × (place_of m (code_at m.code next t) ≡ q)
+  target_of next [] q c = absurd (none_in q c)
+  target_of next (t ∷ ts) q c =
+      ⊎_elim (λ e. (t, this, e)) (λ d. let g = target_of next ts q d in (g.0, other g.1, g.2))
+      (in_cons (place_of m (code_at m.code next t)) q (map (λ t. place_of m (code_at m.code next t)) ts) c)
+
+  in_targets : (next : List Instr) {t : Target} {ts : List Target} → OneOf t ts →
+      Contains (map (λ t. place_of m (code_at m.code next t)) ts) (place_of m (code_at m.code next t))
+  in_targets next {t} (this {ts = ts}) = first_in (place_of m (code_at m.code next t)) _
+  in_targets next {t} (other {u = u} {ts = ts} o) =
+      later_in (place_of m (code_at m.code next u)) (place_of m (code_at m.code next t)) _ (in_targets next o)
+
+  handler_of : (b : Bool) (tries : List ℕ) (q : ℕ) → Contains (handler_places m b tries) q →
+      (l : ℕ) × (others : List ℕ) × (b ≡ true) × (tries ≡ l ∷ others) × (place_of m (from_handler l m.code) ≡ q)
+  handler_of false tries q c = absurd (none_in q c)
+  handler_of true [] q c = absurd (none_in q c)
+  handler_of true (l ∷ tries) q c =
+      ⊎_elim (λ e. (l, tries, refl, refl, e)) (λ d. absurd (none_in q d))
+      (in_cons (place_of m (from_handler l m.code)) q [] c)
+
+  in_handlers : (b : Bool) (tries : List ℕ) (l : ℕ) (others : List ℕ) → b ≡ true → tries ≡ l ∷ others →
+      Contains (handler_places m b tries) (place_of m (from_handler l m.code))
+  in_handlers b tries l others e h =
+      subst (λ b. Contains (handler_places m b tries) (place_of m (from_handler l m.code))) (sym e)
+      (subst (λ ts. Contains (handler_places m true ts) (place_of m (from_handler l m.code))) (sym h)
+      (first_in (place_of m (from_handler l m.code)) []))
+
+  -- ---- walks
+
+  abbrev g : Graph
+  g = flow_graph m
+
+  -- a walk of n steps from each place, given to what goes one step before it
+  abbrev Known : ℕ → ℕ → Type 0
+  Known r n = (p : ℕ) (rest : List Instr) → drop p m.code ≡ rest → ReadsIn g r n p → Live m r rest
+
+  read_live : (r : ℕ) (rest : List Instr) → Contains (numbers_read rest) r → Live m r rest
+  read_live r [] c = absurd (none_in r c)
+  read_live r (i ∷ next) c = read (among_of r i.args c)
+
+  stepped : (r n p : ℕ) → Known r n → (rest : List Instr) → drop p m.code ≡ rest →
+      (Contains (numbers_written m rest) r → ⊥) → (q : ℕ) → Contains (next_places m rest) q → ReadsIn g r n q →
+      Live m r rest
+  stepped r n p ih [] e w q c h = absurd (none_in q c)
+  stepped r n p ih (i ∷ next) e w q c h =
+      let t = target_of next (targets i.op) q c in
+      on (λ a. w (in_numbers a)) (goes t.0 t.1)
+      (ih q (code_at m.code next t.0)
+      (sym (ap (λ k. drop k m.code) t.2) ∙ place_is (ending_at t.0 (ending_of p e))) h)
+
+  raised : (r n p : ℕ) → Known r n → (rest : List Instr) → drop p m.code ≡ rest → (q : ℕ) →
+      Contains (raise_places m rest) q → ReadsIn g r n q → Live m r rest
+  raised r n p ih [] e q c h = absurd (none_in q c)
+  raised r n p ih (i ∷ next) e q c h =
+      let t = handler_of (may_raise i.op) (tries_at (i ∷ next)) q c in
+      aside (raises t.2 t.3)
+      (ih q (from_handler t.0 m.code)
+      (sym (ap (λ k. drop k m.code) t.4) ∙ place_is (ending_from_handler t.0 m.code)) h)
+
+  to_live : (r n : ℕ) → Known r n
+  to_live r zero = λ p rest e h. read_live r rest (subst (λ xs. Contains (numbers_read xs) r) e h)
+  to_live r (suc n) = λ p rest e h.
+      ⊎_elim
+      (λ s.
+      let q = (s.1).0 in
+      stepped r n p (to_live r n) rest e (subst (λ xs. Contains (numbers_written m xs) r → ⊥) e s.0) q
+      (subst (λ xs. Contains (next_places m xs) q) e (s.1).1) (s.1).2)
+      (λ s. raised r n p (to_live r n) rest e s.0 (subst (λ xs. Contains (raise_places m xs) s.0) e s.1) s.2) h
+
+  from_live : {r : ℕ} {rest : List Instr} → Live m r rest → (p : ℕ) → drop p m.code ≡ rest → LiveBefore g p r
+  from_live {r} (read {i = i} {next = next} a) p e =
+      (0, subst (λ xs. Contains (numbers_read xs) r) (sym e) (in_numbers a))
+  from_live {r} (on {i = i} {next = next} w (goes t o) l) p e =
+      let to = code_at m.code next t in
+      let h = from_live l (place_of m to) (place_is (ending_at t (ending_of p e))) in (
+        suc h.0,
+        inl (
+          subst (λ xs. Contains (numbers_written m xs) r → ⊥) (sym e) (λ c. w (among_of r (written m i) c)),
+          (place_of m to, subst (λ xs. Contains (next_places m xs) (place_of m to)) (sym e) (in_targets next o), h.1),
+        ),
+      )
+  from_live {r} (aside {i = i} {next = next} (raises {l = l} {tries = tries} b t) live) p e =
+      let to = from_handler l m.code in
+      let h = from_live live (place_of m to) (place_is (ending_from_handler l m.code)) in (
+        suc h.0,
+        inr (
+          place_of m to,
+          subst (λ xs. Contains (raise_places m xs) (place_of m to)) (sym e)
+              (in_handlers (may_raise i.op) (tries_at (i ∷ next)) l tries b t),
+          h.1,
+        ),
+      )
+
+  -- What is live before a place by the graph is what some walk from there reads before it writes it.
+  pub live_by_graph : (p r : ℕ) → LiveBefore (flow_graph m) p r ↔ Live m r (drop p m.code)
+  live_by_graph p r = (λ h. to_live r h.0 p (drop p m.code) refl h.1, λ l. from_live l p refl)
+
+  -- ---- tables
+
+  module _ (f : flow.Flow) (is : IsFlowOf m f) (r : ℕ) where
+    to_graph : (n p : ℕ) → ReadsIn (graph f) r n p → ReadsIn g r n p
+    to_graph zero p h = subst (λ xs. Contains xs r) (is.reads p) h
+    to_graph (suc n) p h =
+        ⊎_elim
+        (λ s.
+        inl (
+          subst (λ xs. Contains xs r → ⊥) (is.writes p) s.0,
+          ((s.1).0, subst (λ xs. Contains xs (s.1).0) (is.next p) (s.1).1, to_graph n (s.1).0 (s.1).2),
+        ))
+        (λ s. inr (s.0, subst (λ xs. Contains xs s.0) (is.aside p) s.1, to_graph n s.0 s.2)) h
+
+    from_graph : (n p : ℕ) → ReadsIn g r n p → ReadsIn (graph f) r n p
+    from_graph zero p h = subst (λ xs. Contains xs r) (sym (is.reads p)) h
+    from_graph (suc n) p h =
+        ⊎_elim
+        (λ s.
+        inl (
+          subst (λ xs. Contains xs r → ⊥) (sym (is.writes p)) s.0,
+          ((s.1).0, subst (λ xs. Contains xs (s.1).0) (sym (is.next p)) (s.1).1, from_graph n (s.1).0 (s.1).2),
+        ))
+        (λ s. inr (s.0, subst (λ xs. Contains xs s.0) (sym (is.aside p)) s.1, from_graph n s.0 s.2)) h
+
+  -- The answer of liveness on the table of a function is its live map.
+  pub live_map : (f : flow.Flow) → IsFlowOf m f → (live : LiveMap) → IsLiveness f live.before.rows.items → IsLiveMap m live
+  live_map f is live h =
+      record {
+        len = h.len ∙ is.places;
+        exact = λ p r.
+            let x = h.exact p r in let y = live_by_graph p r in (
+              λ e. let s = x.0 e in y.0 (s.0, to_graph f is r s.0 p s.1),
+              λ l. let s = y.1 l in x.1 (s.0, from_graph f is r s.0 p s.1),
+            );
+      }

@@ -1,0 +1,36 @@
+-- Code in which each instruction of another code has been replaced.
+use Rattle.std.specs.Prelude.{◌≡◌, ℕ, true, false, List, [], ◌∷◌, ◌++◌, length}
+use Rattle.mach_ir.specs.Meaning.{has_label, is_handler_of}
+use Rattle.mach_ir.specs.declared.mach.Instr.{Instr}
+
+-- each instruction, with the number of those after it, replaced
+abbrev pub expand : (ℕ → Instr → List Instr) → List Instr → List Instr
+expand f [] = []
+expand f (i ∷ is) = f (length is) i ++ expand f is
+
+-- no instruction here marks the label
+pub data NoLabel (l : ℕ) : List Instr → Type 0 where
+  no_label : NoLabel l []
+  not_labelled : {i : Instr} {is : List Instr} → has_label l i.op ≡ false → NoLabel l is →
+      NoLabel l (i ∷ is)
+
+-- none here is its handler
+pub data NoHandler (l : ℕ) : List Instr → Type 0 where
+  no_handler : NoHandler l []
+  not_handled : {i : Instr} {is : List Instr} → is_handler_of l i.op ≡ false → NoHandler l is →
+      NoHandler l (i ∷ is)
+
+-- For a mark with a label stands that mark alone, for a handler it comes first, and nothing else
+-- becomes one.
+pub record KeepsMarks (f : ℕ → Instr → List Instr) : Type 0 where
+  pub mark : (l n : ℕ) (i : Instr) → has_label l i.op ≡ true →
+      (j : Instr) × (f n i ≡ j ∷ []) × (j.op ≡ i.op)
+  pub none : (l n : ℕ) (i : Instr) → has_label l i.op ≡ false → NoLabel l (f n i)
+  pub handler : (l n : ℕ) (i : Instr) → is_handler_of l i.op ≡ true →
+      (j : Instr) × (post : List Instr) × (f n i ≡ j ∷ post) × (j.op ≡ i.op)
+  pub no_other : (l n : ℕ) (i : Instr) → is_handler_of l i.op ≡ false → NoHandler l (f n i)
+
+-- the second list ends with the first
+pub data Ending (rest : List Instr) : List Instr → Type 0 where
+  all : Ending rest rest
+  more : {i : Instr} {code : List Instr} → Ending rest code → Ending rest (i ∷ code)

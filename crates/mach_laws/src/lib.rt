@@ -1,0 +1,9 @@
+//! Laws of Mach functions on which every pass over them stands.
+//!
+//! A step is reads, then an operation on values, then writes, then where control goes. So a pass
+//! that puts straight code round an instruction speaks of registers alone, and one relation between
+//! the states of two functions gives that the second does what the first does. The flow graph of a
+//! function has exactly the walks of its definition.
+//!
+//! The crate holds definitions and laws alone.
+#![tactic(auto)]
