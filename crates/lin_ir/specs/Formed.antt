@@ -189,4 +189,3 @@ pub record WellFormed (m : Lin) : Type 0 where
       i.op ≡ lin.Flow (flow.PushTrap l) → EntersAt l m.code
   -- each place is found by one number of pushed traps
   pub depth : OneDepth m
-  pub forward : GoesForward m

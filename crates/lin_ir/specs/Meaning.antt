@@ -12,8 +12,8 @@ use Rattle.bs_words.specs.declared.types.Loc.TheVariants as loc
 use Rattle.bs_words.specs.declared.types.Ty.TheVariants as ty
 use Rattle.bs_words.specs.declared.values.Value.{Value}
 use Rattle.bs_words.specs.declared.values.Value.TheVariants as value
-use Rattle.mach_ir.specs.Acts.{Setting, Around, Target, On, At, Landing, AtLabel, AtHandler, Act, Goes, Pushes, Jumps, Unwinds, Asks, Ends, EndsRaising, Stuck, act, truth_of, branches, switched, drop_tries, takes_raised, has_descriptor}
-use Rattle.mach_ir.specs.Runs.{Place, taken, asked, Step, Continues, Pays, Deepens, Waits, Finishes, FinishesRaising, IsStuck, Tally, Run, runs, entered}
+use Rattle.mach_ir.specs.Acts.{Setting, Around, Target, On, At, Landing, AtLabel, AtHandler, Act, Goes, Pushes, Jumps, Unwinds, Asks, Replaces, Ends, EndsRaising, Stuck, act, truth_of, branches, switched, drop_tries, takes_raised, has_descriptor}
+use Rattle.mach_ir.specs.Runs.{Place, taken, asked, Step, Continues, Pays, Deepens, Waits, FinishesBy, Finishes, FinishesRaising, IsStuck, Tally, Run, runs, entered}
 use Rattle.mach_ir.specs.Meaning.{Destroyed, Nothing, Everything, destroyed, is_destroyed}
 use Rattle.lin_ir.specs.declared.lin.Spot.{Spot}
 use Rattle.lin_ir.specs.declared.lin.Flow.{Flow}
@@ -172,8 +172,9 @@ on_act c m i next f a (Jumps to after) =
     Pays (record { rest = landing_code m.code a.tries to; file = f; around = after })
 on_act c m i next f a (Unwinds after) =
     Continues (record { rest = landing_code m.code a.tries AtHandler; file = f; around = after })
-on_act c m i next f a (Asks callee vs tail go) =
-    Waits (asked c callee vs tail a) (λ d. on_act c m i next f a (go d))
+on_act c m i next f a (Asks callee vs go) =
+    Waits (asked c callee vs false a) (λ d. on_act c m i next f a (go d))
+on_act c m i next f a (Replaces callee vs kept) = FinishesBy (asked c callee vs true a) kept
 on_act c m i next f a (Ends d) = Finishes d
 on_act c m i next f a (EndsRaising d) = FinishesRaising d
 on_act c m i next f a Stuck = IsStuck

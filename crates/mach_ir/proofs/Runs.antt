@@ -1,7 +1,7 @@
 -- More steps tell the same once a run is over.
 use Rattle.std.proofs.Common.{◌≡◌, ℕ, zero, suc, ◌+◌, List, [], ◌∷◌, refl, ap, ◌∙◌, subst, arith}
 use Rattle.cmm_meaning.specs.State.{Doing, Asked}
-use Rattle.mach_ir.specs.Runs.{Step, Continues, Pays, Deepens, Waits, Finishes, FinishesRaising, IsStuck, Tally, Run, Running, Asking, Ended, Wrong, paid, came_back, handed, onward, runs}
+use Rattle.mach_ir.specs.Runs.{Step, Continues, Pays, Deepens, Waits, FinishesBy, Finishes, FinishesRaising, IsStuck, Tally, Run, Running, Asking, Ended, Wrong, paid, came_back, kept_of, handed, onward, runs}
 
 module _ {S : Type 0} (step : S → Step S) where
   -- so many more steps from where a run stands
@@ -32,12 +32,19 @@ module _ {S : Type 0} (step : S → Step S) where
   after_handed m k n call next e [] t = refl
   after_handed m k n call next e (d ∷ ds) t = e d (came_back call ds t)
 
+  after_finished : (n : ℕ) (call : Asked) (end : Doing → Tally → Run S) →
+      ((d : Doing) (t : Tally) → end d t ≡ goes_on n (end d t)) → (ds : List Doing) (t : Tally) →
+      handed end call ds t ≡ goes_on n (handed end call ds t)
+  after_finished n call end e [] t = refl
+  after_finished n call end e (d ∷ ds) t = e d (came_back call ds t)
+
   after_step : (m k n : ℕ) → After m k n → (x : Step S) (t : Tally) →
       onward (runs step m) x t ≡ goes_on n (onward (runs step k) x t)
   after_step m k n ih (Continues s) t = ih s t
   after_step m k n ih (Pays s) t = ih s (paid t)
   after_step m k n ih (Deepens bytes s) t = ih s _
   after_step m k n ih (Waits call next) t = after_handed m k n call next (λ d t. after_step m k n ih (next d) t) t.doings t
+  after_step m k n ih (FinishesBy call kept) t = after_finished n call (λ d t. Ended (kept_of kept d) t) (λ d t. refl) t.doings t
   after_step m k n ih (Finishes d) t = refl
   after_step m k n ih (FinishesRaising d) t = refl
   after_step m k n ih IsStuck t = refl

@@ -103,7 +103,10 @@ pub data Act : Type 0 where
   -- to the handler, since its callee raised; it writes nothing
   Unwinds : (after : Around) → Act
   -- a call, and what it does with what that did
-  Asks : (callee : state.Callee) (arguments : List Value) (tail : Bool) (go : Doing → Act) → Act
+  Asks : (callee : state.Callee) (arguments : List Value) (go : Doing → Act) → Act
+  -- a call that takes the function's place: it ends as that does, but for what its own result
+  -- leaves
+  Replaces : (callee : state.Callee) (arguments : List Value) (kept : Ret) → Act
   -- the function is over
   Ends : (doing : Doing) → Act
   -- it is over by a raise of its own: a unit
@@ -152,7 +155,8 @@ abbrev pub after_store : Around → List Cell → Result Memory Kind → Act
 after_store a unwritten (Ok m) = Goes [] On (record a { memory = m; unwritten = unwritten })
 after_store a unwritten (Err kind) = Stuck
 
--- the first write of a header is none of an improper kind; it is the word that the allocation says
+-- The first write of a header is none of an improper kind. It is the word that the allocation says,
+-- since that word tells which values fit the cells.
 abbrev pub header_written : Chunk → Around → ℕ → Value → Value → Act
 header_written chunk.Int a s (value.Word header) (value.Word w) =
     only_if (nat_eq w header)
@@ -202,12 +206,13 @@ access_act _ _ a = Stuck
 
 -- ---- raising
 
--- what a callee raised fits val, and goes to the innermost handler, or on to the caller
+-- What a function that is called raises fits val, and goes to the innermost handler, or on to the
+-- caller. It is no unit, since its call is one.
 abbrev pub callee_raises : Value → Memory → Around → List ℕ → Act
 callee_raises v m a [] = Ends (Threw v m)
 callee_raises v m a (l ∷ tries) = Unwinds (record a { memory = m; tries = tries; raised = Some v })
 
--- so does what an operation of the function itself raises, for a unit
+-- what an operation of the function itself raises goes there too, for a unit
 abbrev pub raised_by : Value → Around → List ℕ → Act
 raised_by v a [] = EndsRaising (Threw v a.memory)
 raised_by v a (l ∷ tries) = Jumps AtHandler (record a { tries = tries; raised = Some v })
@@ -238,45 +243,41 @@ after_call c result a (Gave v m) =
     answered c.end result v (λ v. Goes (as_list v) On (record a { memory = m }))
 after_call c result a (Threw v m) = only_if (fits c.end ty.Val v) (callee_raises v m a a.tries)
 
--- a tail call ends with what its callee did
-abbrev pub after_tail_call : Setting → Ret → Doing → Act
-after_tail_call c result (Gave v m) = answered c.end result v (λ v. Ends (Gave v m))
-after_tail_call c result (Threw v m) = only_if (fits c.end ty.Val v) (Ends (Threw v m))
-
--- An external call leaves the memory as it was, and raises only where it is a frame call. Its raise is a unit, as one
--- of the function itself is.
+-- An external call leaves the memory as it was, and raises only where it is a frame call. Its raise
+-- is a unit, as one of the function itself is.
 abbrev pub after_external : Setting → Ret → Bool → Around → Doing → Act
 after_external c result frame a (Gave v m) = answered c.end result v (λ v. Goes (as_list v) On a)
 after_external c result true a (Threw v m) =
     only_if (fits c.end ty.Val v) (raised_by v a a.tries)
 after_external c result false a (Threw v m) = Stuck
 
+-- whatever is then done with a function and its arguments, they fit its parameters
+abbrev pub asks : Setting → Option (List Comp) → ℕ → List Value → Around →
+    (state.Callee → List Value → Act) → Act
+asks c None f arguments a call = Stuck
+asks c (Some comps) f arguments a call =
+    only_if (fit_parameters c.end comps arguments && is_complete a) (call (Inside f) arguments)
 
-abbrev pub asks : Setting → Option (List Comp) → ℕ → List Value → Bool → Around →
-    (Doing → Act) → Act
-asks c None f arguments tail a go = Stuck
-asks c (Some comps) f arguments tail a go =
-    only_if (fit_parameters c.end comps arguments && is_complete a)
-    (Asks (Inside f) arguments tail go)
+abbrev pub asks_value : Setting → Option Value → List Value → Around →
+    (state.Callee → List Value → Act) → Act
+asks_value c (Some (value.Function f)) arguments a call =
+    asks c (slice_get c.parameters f) f arguments a call
+asks_value c _ arguments a call = Stuck
 
-abbrev pub asks_value : Setting → Option Value → List Value → Bool → Around → (Doing → Act) → Act
-asks_value c (Some (value.Function f)) arguments tail a go =
-    asks c (slice_get c.parameters f) f arguments tail a go
-asks_value c _ arguments tail a go = Stuck
-
-abbrev pub asks_callee : Setting → Callee → List Value → Bool → Around → (Doing → Act) → Act
-asks_callee c (callee.Symbol name) vs tail a go = asks_value c (c.symbol name) vs tail a go
-asks_callee c callee.Register (v ∷ vs) tail a go = asks_value c (Some v) vs tail a go
-asks_callee c callee.Register [] tail a go = Stuck
+abbrev pub asks_callee : Setting → Callee → List Value → Around →
+    (state.Callee → List Value → Act) → Act
+asks_callee c (callee.Symbol name) vs a call = asks_value c (c.symbol name) vs a call
+asks_callee c callee.Register (v ∷ vs) a call = asks_value c (Some v) vs a call
+asks_callee c callee.Register [] a call = Stuck
 
 abbrev pub calling_act : Setting → Calling → List Value → Around → Act
 calling_act c (calling.Call whom result) vs a =
-    asks_callee c whom vs false a (after_call c result a)
+    asks_callee c whom vs a (λ f arguments. Asks f arguments (after_call c result a))
 calling_act c (calling.TailCall whom result) vs a =
-    asks_callee c whom vs true a (after_tail_call c result)
+    asks_callee c whom vs a (λ f arguments. Replaces f arguments result)
 calling_act c (calling.External row frame) vs a =
     only_if (is_complete a)
-    (Asks (Outside (row_of row) frame) vs false (after_external c row.result frame a))
+    (Asks (Outside (row_of row) frame) vs (after_external c row.result frame a))
 
 -- ---- leaving
 

@@ -43,9 +43,11 @@ pub record IsGraph (m : Mach) (g : Graph) : Type 0 where
   pub registers : (r : Reg) → InGraph g r ↔ IsRegister m r
   pub edges : (r : Reg) → IsRegister m r → (k : ℕ) → JoinedIn g r.number k ↔ Joined m r.number k
 
--- what colouring asks of a graph
+-- what colouring asks of a graph: as that of a function it joins both ways, and nothing with itself
 pub record IsColourable (g : Graph) : Type 0 where
   pub order : IsOrdered g
+  pub symmetric : (n k : ℕ) → JoinedIn g n k → JoinedIn g k n
+  pub apart_from_itself : (n : ℕ) → JoinedIn g n n → ⊥
   pub agree : PlacesAgree (InGraph g) (JoinedIn g)
 
 -- ---- places

@@ -3,7 +3,9 @@
 use Rattle.std.specs.Prelude.{ℕ, zero, suc, ◌+◌, ◌*◌, Bool, true, false, max, List, [], ◌∷◌, ◌++◌, length, None}
 use Rattle.bs_words.specs.Memory.{Memory}
 use Rattle.bs_words.specs.declared.values.Value.{Value}
-use Rattle.cmm_meaning.specs.State.{Doing, Asked, Callee, Inside, Outside}
+use Rattle.bs_words.specs.declared.types.Ret.{Ret}
+use Rattle.bs_words.specs.declared.types.Ret.TheVariants as ret
+use Rattle.cmm_meaning.specs.State.{Doing, Gave, Threw, Asked, Callee, Inside, Outside}
 use Rattle.mach_ir.specs.Acts.{Setting, Around}
 
 -- What stands round a function.
@@ -49,6 +51,8 @@ pub data Step (S : Type 0) : Type 0 where
   Deepens : (bytes : ℕ) (s : S) → Step S
   -- a call, and what it does with what that did
   Waits : (call : Asked) (go : Doing → Step S) → Step S
+  -- by a call that takes its place
+  FinishesBy : (call : Asked) (kept : Ret) → Step S
   Finishes : (doing : Doing) → Step S
   -- by a raise of its own: a unit
   FinishesRaising : (doing : Doing) → Step S
@@ -84,6 +88,12 @@ abbrev pub came_back : Asked → List Doing → Tally → Tally
 came_back call doings t =
     record t { asked = t.asked ++ call ∷ []; doings = doings; units = units_of call.callee t.units }
 
+-- what is left of what a call did that took a function's place
+abbrev pub kept_of : Ret → Doing → Doing
+kept_of ret.Unit (Gave v m) = Gave None m
+kept_of ret.Unit (Threw v m) = Threw v m
+kept_of (ret.Comp t) d = d
+
 abbrev pub handed : {S : Type 0} → (Doing → Tally → Run S) → Asked → List Doing → Tally → Run S
 handed again call [] t = Asking call t
 handed again call (d ∷ ds) t = again d (came_back call ds t)
@@ -93,6 +103,7 @@ onward go (Continues s) t = go s t
 onward go (Pays s) t = go s (paid t)
 onward go (Deepens bytes s) t = go s (record t { need = max t.need bytes })
 onward go (Waits call next) t = handed (λ d t. onward go (next d) t) call t.doings t
+onward go (FinishesBy call kept) t = handed (λ d t. Ended (kept_of kept d) t) call t.doings t
 onward go (Finishes d) t = Ended d t
 onward go (FinishesRaising d) t = Ended d (paid t)
 onward go IsStuck t = Wrong

@@ -54,7 +54,8 @@ result_seats (op.Pure f) = Anywhere
 
 pub data AreSeated : Seats → List Loc → Type 0 where
   anywhere : {ls : List Loc} → AreSeated Anywhere ls
-  in_order : {places ls : List Loc} (more : List Loc) → ls ++ more ≡ places → AreSeated (InOrder places) ls
+  in_order : {places ls : List Loc} (more : List Loc) → ls ++ more ≡ places →
+      AreSeated (InOrder places) ls
   after_first : {places ls : List Loc} {l : Loc} (more : List Loc) → ls ++ more ≡ places →
       AreSeated (AfterFirst places) (l ∷ ls)
 

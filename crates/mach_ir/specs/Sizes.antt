@@ -7,9 +7,9 @@ use Rattle.mach_ir.specs.declared.mach.Instr.{Instr}
 use Rattle.mach_ir.specs.declared.mach.Mach.{Mach}
 
 -- the operands and results of a code: reloading makes at most one register for each
-abbrev pub operands : List Instr → ℕ
-operands [] = 0
-operands (i ∷ is) = length i.args + length i.results + operands is
+abbrev pub operand_count : List Instr → ℕ
+operand_count [] = 0
+operand_count (i ∷ is) = length i.args + length i.results + operand_count is
 
 -- Bounds on a function: how many instructions it has, how many operands and results, below which
 -- number those of its registers and their origins are, and below which its labels.
@@ -19,9 +19,9 @@ pub record Size : Type 0 where
   pub registers : ℕ
   pub labels : ℕ
 
-pub record IsWithin (m : Mach) (s : Size) : Type 0 where
+pub record HasSize (m : Mach) (s : Size) : Type 0 where
   pub instrs : length m.code ≤ s.instrs
-  pub operands : operands m.code ≤ s.operands
+  pub operands : operand_count m.code ≤ s.operands
   pub numbers : (r : Reg) → IsRegister m r → r.number < s.registers
   pub origins : (r : Reg) → IsRegister m r → r.origin < s.registers
   pub labels : m.labels ≤ s.labels

@@ -153,7 +153,8 @@ op_word (op.Access f) = access_word f
 op_word (op.Calling f) = calling_word f
 op_word (op.Leaving f) = leaving_word f
 
--- the word of a test, after that of what tests
+-- The word of a test, after that of what tests: a comparison has its own, since two comparisons of
+-- the same operands must differ.
 abbrev pub test_word : Test → List ℕ
 test_word test.Holds = codes ""
 test_word test.Fails = codes " not"

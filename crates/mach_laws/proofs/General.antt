@@ -1,10 +1,11 @@
 -- A pass that replaces each instruction by straight code, by straight code with one that acts alike in it, or by nothing.
 use Rattle.std.proofs.Common.{◌≡◌, ℕ, ◌+◌, ◌*◌, Bool, true, false, ◌⊎◌, ⊎_elim, List, [], ◌∷◌, ◌++◌, length, Option, Some, None, refl, sym, ap, ◌∙◌, subst, append_assoc}
 use Rattle.bs_words.specs.Memory.{Memory}
+use Rattle.bs_words.specs.declared.types.Ret.{Ret}
 use Rattle.bs_words.specs.declared.values.Value.{Value}
 use Rattle.cmm_meaning.specs.State.{Doing, Callee, Inside, Outside, Asked}
-use Rattle.mach_ir.specs.Acts.{Around, Target, On, At, Landing, AtLabel, AtHandler, Act, Goes, Pushes, Jumps, Unwinds, Asks, Ends, EndsRaising, Stuck}
-use Rattle.mach_ir.specs.Runs.{Place, taken, asked, Step, Continues, Deepens, Waits, Tally}
+use Rattle.mach_ir.specs.Acts.{Around, Target, On, At, Landing, AtLabel, AtHandler, Act, Goes, Pushes, Jumps, Unwinds, Asks, Replaces as TakesPlace, Ends, EndsRaising, Stuck}
+use Rattle.mach_ir.specs.Runs.{Place, taken, asked, Step, Continues, Deepens, Waits, FinishesBy, Tally}
 use Rattle.mach_ir.specs.Meaning.{State, File, put_all, clear, killed, written, past_frame, passes_frame, values, mach_act, after_label, from_handler, at_handler, code_at, tries_at, landing_code, wrote, on_act, on_values, step, run}
 use Rattle.mach_ir.specs.Keeps.{ValsWritten, wrote_at, Proper, Comes}
 use Rattle.mach_ir.specs.declared.reg.Reg.{Reg}
@@ -12,7 +13,7 @@ use Rattle.mach_ir.specs.declared.mach.Instr.{Instr}
 use Rattle.mach_ir.specs.declared.mach.Mach.{Mach}
 use Rattle.mach_laws.specs.Expand.{expand, KeepsMarks, Ending, all}
 use Rattle.mach_laws.proofs.Places.{label_expand, handler_expand, ending_next, ending_label, ending_land}
-use Rattle.mach_laws.proofs.Simulate.{Agrees, ArrivesWell, Arrives, both_continue, both_pay, both_deepen, both_wait, both_finish, both_finish_raising, first_stuck, later, Answers, stays, stuck, steps, Closed, simulates}
+use Rattle.mach_laws.proofs.Simulate.{Agrees, ArrivesWell, Arrives, both_continue, both_pay, both_deepen, both_wait, both_finish_by, both_finish, both_finish_raising, first_stuck, later, Answers, stays, stuck, steps, Closed, simulates}
 
 abbrev pub at : List Instr → File → Around → State
 at rest f a = record { rest = rest; file = f; around = a }
@@ -127,9 +128,11 @@ module _ (c : Place) (p q : Mach) (f : ℕ → Instr → List Instr) (keeps : Ke
         (Agrees p (written p i) (at next a x) →
         Rel next x y a b × Agrees q (written q main) (at (expand f next) b y)) →
         Acts i main next post u w a b (Pushes x) (Pushes y)
-    both_ask : {callee : Callee} {vs : List Value} {tail : Bool} {go so : Doing → Act} → Seen u w →
+    both_ask : {callee : Callee} {vs : List Value} {go so : Doing → Act} → Seen u w →
         ((d : Doing) → Acts i main next post u w a b (go d) (so d)) →
-        Acts i main next post u w a b (Asks callee vs tail go) (Asks callee vs tail so)
+        Acts i main next post u w a b (Asks callee vs go) (Asks callee vs so)
+    both_replace : {callee : Callee} {vs : List Value} {kept : Ret} → Seen u w →
+        Acts i main next post u w a b (TakesPlace callee vs kept) (TakesPlace callee vs kept)
     both_end : {d : Doing} → Acts i main next post u w a b (Ends d) (Ends d)
     both_raise : {d : Doing} → Acts i main next post u w a b (EndsRaising d) (EndsRaising d)
     stuck_first : {act : Act} → Acts i main next post u w a b Stuck act
@@ -197,12 +200,17 @@ module _ (c : Place) (p q : Mach) (f : ℕ → Instr → List Instr) (keeps : Ke
       (λ code. Related (at next a x) (at (code ++ expand f next) b y)
       × Agrees q (written q main) (at (code ++ expand f next) b y))
       (sym none) (related ending g.0, g.1)))
-  acts_alike {i} {main} {next} {post} {a} {b} ending u w one two (both_ask {callee = callee} {vs = vs} {tail = tail} {go = go} {so = so} seen g) =
+  acts_alike {i} {main} {next} {post} {a} {b} ending u w one two (both_ask {callee = callee} {vs = vs} {go = go} {so = so} seen g) =
       subst
-      (λ call. Coming (written p i) (written q main) (on_act c p i next a u (Asks callee vs tail go))
+      (λ call. Coming (written p i) (written q main) (on_act c p i next a u (Asks callee vs go))
       (Waits call (λ d. on_act c q main (post ++ expand f next) b w (so d))))
-      (asked_same c callee vs tail u w seen)
+      (asked_same c callee vs false u w seen)
       (both_wait (λ d. acts_alike ending u w (go d) (so d) (g d)))
+  acts_alike {i} {main} {next} {post} {a} {b} ending u w one two (both_replace {callee = callee} {vs = vs} {kept = kept} seen) =
+      subst
+      (λ call. Coming (written p i) (written q main) (on_act c p i next a u (TakesPlace callee vs kept))
+      (FinishesBy call kept))
+      (asked_same c callee vs true u w seen) both_finish_by
   acts_alike ending u w one two both_end = both_finish
   acts_alike ending u w one two both_raise = both_finish_raising
   acts_alike ending u w one two stuck_first = first_stuck

@@ -1,6 +1,6 @@
 -- What an operation does goes where its targets say, whatever the values are: the second part of a step, free of
 -- registers and places.
-use Rattle.std.proofs.Common.{◌≡◌, ℕ, zero, suc, Bool, true, false, cond, ◌&&◌, List, [], ◌∷◌, map, Option, Some, None, Result, Ok, Err, refl}
+use Rattle.std.proofs.Common.{◌≡◌, ℕ, zero, suc, Bool, true, false, cond, List, [], ◌∷◌, Option, Some, None, Result, Ok, Err, refl}
 use Rattle.std.specs.Prelude.{slice_get}
 use Rattle.bs_words.specs.Memory.{Memory, Cell, InHeader, InBlock, InStatic, sizes, stored, value_in}
 use Rattle.bs_words.specs.Operators.{apply, word_in}
@@ -13,12 +13,11 @@ use Rattle.bs_words.specs.declared.values.Kind.{Kind}
 use Rattle.bs_words.specs.declared.values.Value.{Value}
 use Rattle.bs_words.specs.declared.values.Value.TheVariants as value
 use Rattle.cmm_meaning.specs.Evaluation.{bound_error}
-use Rattle.cmm_meaning.specs.State.{Doing, Gave, Threw, Callee}
+use Rattle.cmm_meaning.specs.State.{Doing, Gave, Threw, Callee, Inside}
 use Rattle.mach_ir.specs.Acts as acts
-use Rattle.mach_ir.specs.Acts.{Setting, Around, Target, On, At, Landing, AtLabel, AtHandler, Act, Goes, Pushes, Jumps, Unwinds, Asks, Ends, EndsRaising, Stuck, only_if}
+use Rattle.mach_ir.specs.Acts.{Setting, Around, Target, On, At, Landing, AtLabel, AtHandler, Act, Goes, Pushes, Jumps, Unwinds, Asks, Replaces, Ends, EndsRaising, Stuck, only_if}
 use Rattle.mach_ir.specs.Meaning.{mark_act, mach_act}
 use Rattle.mach_ir.specs.Walks.{OneOf, this, other, targets, may_raise}
-use Rattle.mach_ir.specs.declared.op.Right.{Right}
 use Rattle.mach_ir.specs.declared.op.Right.TheVariants as right
 use Rattle.mach_ir.specs.declared.op.Pure.{Pure}
 use Rattle.mach_ir.specs.declared.op.Pure.TheVariants as pure
@@ -52,8 +51,9 @@ pub data Within (f : MachOp) : Act → Type 0 where
   pushes_in : {after : Around} → IsTry f → Within f (Pushes after)
   jumps_in : {to : Landing} {after : Around} → MayLand f to → Within f (Jumps to after)
   unwinds_in : {after : Around} → may_raise f ≡ true → Within f (Unwinds after)
-  asks_in : {whom : Callee} {vs : List Value} {tail : Bool} {go : Doing → Act} → ((d : Doing) → Within f (go d)) →
-      Within f (Asks whom vs tail go)
+  asks_in : {whom : Callee} {vs : List Value} {go : Doing → Act} → ((d : Doing) → Within f (go d)) →
+      Within f (Asks whom vs go)
+  replaces_in : {whom : Callee} {vs : List Value} {kept : Ret} → Within f (Replaces whom vs kept)
   ends_in : {d : Doing} → Within f (Ends d)
   raising_in : {d : Doing} → Within f (EndsRaising d)
   stuck_in : Within f Stuck
@@ -174,28 +174,25 @@ call_in : (f : MachOp) → may_raise f ≡ true → (c : Setting) (result : Ret)
 call_in f r c result a o (Gave v m) = answered_in f c.end result v _ (λ v. goes_in o)
 call_in f r c result a o (Threw v m) = only_in f _ _ (thrown_in f r v m a a.tries)
 
-tail_in : (f : MachOp) (c : Setting) (result : Ret) (d : Doing) → Within f (acts.after_tail_call c result d)
-tail_in f c result (Gave v m) = answered_in f c.end result v _ (λ v. ends_in)
-tail_in f c result (Threw v m) = only_in f _ _ ends_in
-
 outside_in : (f : MachOp) (c : Setting) (result : Ret) (frame : Bool) (a : Around) → may_raise f ≡ frame →
     OneOf On (targets f) → (d : Doing) → Within f (acts.after_external c result frame a d)
 outside_in f c result frame a r o (Gave v m) = answered_in f c.end result v _ (λ v. goes_in o)
 outside_in f c result true a r o (Threw v m) = only_in f _ _ (thrown_in f r v a.memory a a.tries)
 outside_in f c result false a r o (Threw v m) = stuck_in
 
-module _ (f : MachOp) (c : Setting) (tail : Bool) (a : Around) (go : Doing → Act) (w : (d : Doing) → Within f (go d)) where
-  comps_in : (comps : Option (List Comp)) (n : ℕ) (vs : List Value) → Within f (acts.asks c comps n vs tail a go)
+module _ (f : MachOp) (c : Setting) (a : Around) (call : Callee → List Value → Act)
+    (w : (whom : Callee) (vs : List Value) → Within f (call whom vs)) where
+  comps_in : (comps : Option (List Comp)) (n : ℕ) (vs : List Value) → Within f (acts.asks c comps n vs a call)
   comps_in None n vs = stuck_in
-  comps_in (Some comps) n vs = only_in f _ _ (asks_in w)
+  comps_in (Some comps) n vs = only_in f _ _ (w (Inside n) vs)
 
-  value_asked_in : (v : Option Value) (vs : List Value) → Within f (acts.asks_value c v vs tail a go)
+  value_asked_in : (v : Option Value) (vs : List Value) → Within f (acts.asks_value c v vs a call)
   value_asked_in None vs = stuck_in
   value_asked_in (Some (value.Word n)) vs = stuck_in
   value_asked_in (Some (value.Block s o)) vs = stuck_in
   value_asked_in (Some (value.Function n)) vs = comps_in (slice_get c.parameters n) n vs
 
-  callee_in : (whom : declared.Callee) (vs : List Value) → Within f (acts.asks_callee c whom vs tail a go)
+  callee_in : (whom : declared.Callee) (vs : List Value) → Within f (acts.asks_callee c whom vs a call)
   callee_in (callee.Symbol name) vs = value_asked_in (c.symbol name) vs
   callee_in callee.Register [] = stuck_in
   callee_in callee.Register (v ∷ vs) = value_asked_in (Some v) vs
@@ -203,11 +200,12 @@ module _ (f : MachOp) (c : Setting) (tail : Bool) (a : Around) (go : Doing → A
 calling_in : (c : Setting) (f : Calling) (vs : List Value) (a : Around) →
     Within (mach.Op (op.Calling f)) (acts.calling_act c f vs a)
 calling_in c (calling.Call whom result) vs a =
-    callee_in (mach.Op (op.Calling (calling.Call whom result))) c false a _
-    (call_in (mach.Op (op.Calling (calling.Call whom result))) refl c result a this) whom vs
+    callee_in (mach.Op (op.Calling (calling.Call whom result))) c a
+    (λ f xs. Asks f xs (acts.after_call c result a))
+    (λ f xs. asks_in (call_in (mach.Op (op.Calling (calling.Call whom result))) refl c result a this)) whom vs
 calling_in c (calling.TailCall whom result) vs a =
-    callee_in (mach.Op (op.Calling (calling.TailCall whom result))) c true a _
-    (tail_in (mach.Op (op.Calling (calling.TailCall whom result))) c result) whom vs
+    callee_in (mach.Op (op.Calling (calling.TailCall whom result))) c a (λ f xs. Replaces f xs result)
+    (λ f xs. replaces_in) whom vs
 calling_in c (calling.External row frame) vs a =
     only_in (mach.Op (op.Calling (calling.External row frame))) _ _
     (asks_in (outside_in (mach.Op (op.Calling (calling.External row frame))) c row.result frame a refl this))
@@ -257,6 +255,7 @@ one_case_more (jumps_in (lands_at_label o)) = jumps_in (lands_at_label (other o)
 one_case_more (jumps_in (lands_at_handler r)) = jumps_in (lands_at_handler r)
 one_case_more (unwinds_in r) = unwinds_in r
 one_case_more (asks_in w) = asks_in (λ d. one_case_more (w d))
+one_case_more replaces_in = replaces_in
 one_case_more ends_in = ends_in
 one_case_more raising_in = raising_in
 one_case_more stuck_in = stuck_in

@@ -3,7 +3,7 @@ use Rattle.std.proofs.Common.{◌≡◌, ℕ, List, [], ◌∷◌, ◌++◌, len
 use Rattle.bs_words.specs.Memory.{Memory}
 use Rattle.bs_words.specs.declared.values.Value.{Value}
 use Rattle.cmm_meaning.specs.State.{Doing}
-use Rattle.mach_ir.specs.Acts.{Around, Target, Landing, AtHandler, Act, Goes, Pushes, Jumps, Unwinds, Asks, Ends, EndsRaising, Stuck}
+use Rattle.mach_ir.specs.Acts.{Around, Target, Landing, AtHandler, Act, Goes, Pushes, Jumps, Unwinds, Asks, Replaces, Ends, EndsRaising, Stuck}
 use Rattle.mach_ir.specs.Runs.{Place, Tally, first_tally, entered}
 use Rattle.mach_ir.specs.Meaning.{State, File, put_all, clear, killed, written, values, past_frame, passes_frame, tries_at, mach_act, start, begun}
 use Rattle.mach_ir.specs.Walks.{OneOf, targets}
@@ -104,8 +104,9 @@ module _ (c : Place) (p q : Mach) (f : ℕ → Instr → List Instr) (keeps : Ke
   acts_same x same (Unwinds after) (unwinds_in r) =
       general.both_unwind same.tries (same.lands after AtHandler (lands_at_handler r))
   acts_same x same (Pushes after) (pushes_in t) = let g = same.pushes t in general.both_push g.0 refl (g.1 after)
-  acts_same x same (Asks whom vs tail go) (asks_in w) =
+  acts_same x same (Asks whom vs go) (asks_in w) =
       general.both_ask (record { memory = refl; tries = refl }) (λ d. acts_same x same (go d) (w d))
+  acts_same x same (Replaces whom vs kept) w = general.both_replace (record { memory = refl; tries = refl })
   acts_same x same (Ends d) w = general.both_end
   acts_same x same (EndsRaising d) w = general.both_raise
   acts_same x same Stuck w = general.stuck_first

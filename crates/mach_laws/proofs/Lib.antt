@@ -5,3 +5,5 @@ pub mod Level
 pub mod Walking
 pub mod Leads
 pub mod Grows
+pub mod Colouring
+pub mod Identity

@@ -1,8 +1,9 @@
 -- A relation between the states of two functions that each step of the first keeps.
 use Rattle.std.proofs.Common.{◌≡◌, ℕ, zero, suc, ◌<◌, List, [], ◌∷◌, refl, subst, arith}
 use Rattle.cmm_meaning.specs.State.{Doing, Asked}
+use Rattle.bs_words.specs.declared.types.Ret.{Ret}
 use Rattle.mach_ir.specs.Acts.{Around}
-use Rattle.mach_ir.specs.Runs.{Place, Step, Continues, Pays, Deepens, Waits, Finishes, FinishesRaising, IsStuck, Tally, Run, Running, Asking, Ended, Wrong, paid, came_back, handed, onward}
+use Rattle.mach_ir.specs.Runs.{Place, Step, Continues, Pays, Deepens, Waits, FinishesBy, Finishes, FinishesRaising, IsStuck, Tally, Run, Running, Asking, Ended, Wrong, paid, came_back, kept_of, handed, onward}
 use Rattle.mach_ir.specs.Meaning.{State, step, run}
 use Rattle.mach_ir.specs.Keeps.{ValsWritten, OriginsAgree, wrote_unless, wrote_at, just_written, Proper, Alike, SuitRound, both_running, both_asking, both_ended, Comes}
 use Rattle.mach_ir.specs.declared.reg.Reg.{Reg}
@@ -18,6 +19,7 @@ ArrivesWell m ws (Continues s) = Agrees m ws s
 ArrivesWell m ws (Pays s) = Agrees m ws s
 ArrivesWell m ws (Deepens bytes s) = Agrees m ws s
 ArrivesWell m ws (Waits call go) = Unit {0}
+ArrivesWell m ws (FinishesBy call kept) = Unit {0}
 ArrivesWell m ws (Finishes d) = Unit {0}
 ArrivesWell m ws (FinishesRaising d) = Unit {0}
 ArrivesWell m ws IsStuck = Unit {0}
@@ -80,6 +82,8 @@ module _ (c : Place) (p q : Mach) (Suit : Around → Around → Type 0) (R : Sta
         Arrives ws xs (Deepens bytes s) (Deepens bytes t)
     both_wait : {xs : List Reg} {call : Asked} {next go : Doing → Step State} →
         ((d : Doing) → Arrives ws xs (next d) (go d)) → Arrives ws xs (Waits call next) (Waits call go)
+    both_finish_by : {xs : List Reg} {call : Asked} {kept : Ret} →
+        Arrives ws xs (FinishesBy call kept) (FinishesBy call kept)
     both_finish : {xs : List Reg} {d : Doing} → Arrives ws xs (Finishes d) (Finishes d)
     both_finish_raising : {xs : List Reg} {d : Doing} → Arrives ws xs (FinishesRaising d) (FinishesRaising d)
     first_stuck : {xs : List Reg} {w : Step State} → Arrives ws xs IsStuck w
@@ -171,6 +175,7 @@ module _ (c : Place) (p q : Mach) (Suit : Around → Around → Type 0) (R : Sta
     arrived (Pays s) y fine = fine.first s (paid y) refl
     arrived (Deepens bytes s) y fine = fine.first s _ refl
     arrived (Waits call go) y fine = tt
+    arrived (FinishesBy call kept) y fine = tt
     arrived (Finishes d) y fine = tt
     arrived (FinishesRaising d) y fine = tt
     arrived IsStuck y fine = tt
@@ -183,6 +188,17 @@ module _ (c : Place) (p q : Mach) (Suit : Around → Around → Type 0) (R : Sta
           fine = record { first = λ v z e. absurd (not_ended d y v z e); fine = nowhere q _ };
         }
 
+    -- where another function takes its place
+    finished_told : (call : Asked) (left : Doing → Doing) (xs : List Reg) (ds : List Doing) (y : Tally) →
+        TellsFrom (handed (λ d y. Ended (left d) y) call ds y) xs (λ k. handed (λ d y. Ended (left d) y) call ds y)
+    finished_told call left xs [] y =
+        record {
+          count = 0;
+          alike = both_asking;
+          fine = record { first = λ v z e. absurd (not_asking call y v z e); fine = nowhere q _ };
+        }
+    finished_told call left xs (d ∷ ds) y = ended_told (left d) (came_back call ds y) xs
+
     answered : (n : ℕ) → Whole n → (ws xs : List Reg) (x w : Step State) → Arrives ws xs x w → Answered n ws xs x w
     answered n ih ws xs x w (both_continue {s = s} {t = t} f) y fine goes =
         let h = f (fine.first s y refl) in came_to h.1 (ih s t y h.0 fine.fine goes)
@@ -192,6 +208,8 @@ module _ (c : Place) (p q : Mach) (Suit : Around → Around → Type 0) (R : Sta
         let h = f (fine.first s _ refl) in came_to h.1 (ih s t _ h.0 fine.fine goes)
     answered n ih ws xs x w (both_wait {call = call} {next = next} {go = go} a) y fine goes =
         handed_told n ws xs call next go (λ d. answered n ih ws xs (next d) (go d) (a d)) y.doings y fine goes
+    answered n ih ws xs x w (both_finish_by {call = call} {kept = kept}) y fine goes =
+        finished_told call (kept_of kept) xs y.doings y
     answered n ih ws xs x w (both_finish {d = d}) y fine goes = ended_told d y xs
     answered n ih ws xs x w (both_finish_raising {d = d}) y fine goes = ended_told d (paid y) xs
     answered n ih ws xs x w first_stuck y fine goes = absurd (goes refl)

@@ -19,16 +19,16 @@ use Rattle.mach_laws.proofs.Places.{ending_next, ending_label, ending_from_handl
 
 -- ---- members of lists
 
-none_in : {A : Type 0} (y : A) → Contains [] y → ⊥
+pub none_in : {A : Type 0} (y : A) → Contains [] y → ⊥
 none_in y c = let le = c.1 in absurd (omega (arith, le))
 
-first_in : {A : Type 0} (y : A) (ys : List A) → Contains (y ∷ ys) y
+pub first_in : {A : Type 0} (y : A) (ys : List A) → Contains (y ∷ ys) y
 first_in y ys = (0, omega arith, refl)
 
-later_in : {A : Type 0} (x y : A) (ys : List A) → Contains ys y → Contains (x ∷ ys) y
+pub later_in : {A : Type 0} (x y : A) (ys : List A) → Contains ys y → Contains (x ∷ ys) y
 later_in x y ys c = let le = c.1 in (suc c.0, omega (arith, le), c.2)
 
-in_cons : {A : Type 0} (x y : A) (ys : List A) → Contains (x ∷ ys) y → (x ≡ y) ⊎ Contains ys y
+pub in_cons : {A : Type 0} (x y : A) (ys : List A) → Contains (x ∷ ys) y → (x ≡ y) ⊎ Contains ys y
 in_cons x y ys c = by c.0 c.1 c.2
   where
     by : (k : ℕ) → k < length (x ∷ ys) → slice_index_or (x ∷ ys) k y ≡ y → (x ≡ y) ⊎ Contains ys y
@@ -66,7 +66,7 @@ ending_drop zero (i ∷ is) = all
 ending_drop (suc p) [] = all
 ending_drop (suc p) (i ∷ is) = more (ending_drop p is)
 
-ending_at : {i : Instr} {next code : List Instr} (t : Target) → Ending (i ∷ next) code → Ending (code_at code next t) code
+pub ending_at : {i : Instr} {next code : List Instr} (t : Target) → Ending (i ∷ next) code → Ending (code_at code next t) code
 ending_at On e = ending_next e
 ending_at {code = code} (At l) e = ending_label l code
 
