@@ -177,7 +177,7 @@ call_in f r c result a o (Threw v m) = only_in f _ _ (thrown_in f r v m a a.trie
 outside_in : (f : MachOp) (c : Setting) (result : Ret) (frame : Bool) (a : Around) → may_raise f ≡ frame →
     OneOf On (targets f) → (d : Doing) → Within f (acts.after_external c result frame a d)
 outside_in f c result frame a r o (Gave v m) = answered_in f c.end result v _ (λ v. goes_in o)
-outside_in f c result true a r o (Threw v m) = only_in f _ _ (thrown_in f r v a.memory a a.tries)
+outside_in f c result true a r o (Threw v m) = only_in f _ _ (raised_in f r v a a.tries)
 outside_in f c result false a r o (Threw v m) = stuck_in
 
 module _ (f : MachOp) (c : Setting) (a : Around) (call : Callee → List Value → Act)

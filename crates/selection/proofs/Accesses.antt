@@ -17,7 +17,7 @@ use Rattle.meaning_laws.specs.Interaction.{Part, onward, of_type, tested, both, 
 use Rattle.mach_ir.specs.declared.reg.Reg.{Reg}
 use Rattle.mach_ir.specs.declared.mach.Instr.{Instr}
 use Rattle.mach_ir.specs.declared.mach.Mach.{Mach}
-use Rattle.mach_ir.specs.Runs.{Place, Walks, Halts}
+use Rattle.mach_ir.specs.Runs.{Place, Continues, IsStuck}
 use Rattle.mach_ir.specs.Meaning.{File, put, put_if, wrote, tries_at, with_held, on_act, at_handler}
 use Rattle.mach_ir.specs.Acts.{Goes, On, moved_by, only_if, one_result, loaded_act, stored_act, after_store, checked, raised_by}
 use Rattle.selection.specs.Kept.{on_values}
@@ -43,7 +43,7 @@ module _ (c : Place) (m : Mach) (turns : ℕ) (ts : List ℕ) where
       Follows c m (Jumps y) (on_act c m i next f (calm c m turns ts memory) (raised_by v (calm c m turns ts memory) us))
   leaps y i next f memory v [] caught follows = raises_out follows
   leaps y i next f memory v (l ∷ us) caught follows =
-      jumps (subst (λ o. Follows c m y (Walks (record { rest = at_handler m.code o; file = f; around = record { memory = memory; unwritten = []; tries = us; raised = Some v } }))) (sym caught) follows)
+      jumps (subst (λ o. Follows c m y (Continues (record { rest = at_handler m.code o; file = f; around = record { memory = memory; unwritten = []; tries = us; raised = Some v } }))) (sym caught) follows)
 
   -- ---- loads
 
@@ -128,7 +128,7 @@ module _ (c : Place) (m : Mach) (turns : ℕ) (ts : List ℕ) where
       node_follows c m turns ts (Store place chunk left right) h memory
       (both (is_left_first (scope h) left right) (does (text_of c) turns left false) (does (text_of c) turns right false) h memory go) k _ s
       (subst (λ (sc : List Scoped). Follows c m (both (is_left_first sc left right) (does (text_of c) turns left false) (does (text_of c) turns right false) h memory go kk)
-      (Walks (at c m turns ts (select env labels valued tail d b (Store place chunk left right) next) f memory)))
+      (Continues (at c m turns ts (select env labels valued tail d b (Store place chunk left right) next) f memory)))
       (sym (scope_is s))
       (address_two c m turns ts (is_left_first (scopes env) left right) left right sl sr (omega (arith, fine)) (omega (arith, fine)) (suc b) (suc (suc b)) (suc (suc (suc b))) (suc (suc (suc b)) + width left) (instr ∷ next) go kk
       ready.lower ready.under first stable (omega arith) (omega arith) (omega arith) (omega arith) (omega arith) (omega arith) (λ z. omega (arith, z))
@@ -165,7 +165,7 @@ module _ (c : Place) (m : Mach) (turns : ℕ) (ts : List ℕ) where
         where
           cells : (o : Option Cell) → cell_at memory (memory_of.width chunk) v ≡ o →
               Follows c m (go v w h memory kk) (on_act c m instr next f (calm c m turns ts memory) (stored_act chunk (calm c m turns ts memory) o v w))
-          cells None e = subst (λ o. Follows c m (proper (stored_in chunk memory (offset_in_cell v) o w) memory (λ after. part.gives None h after) kk) Halts) (sym e) fails
+          cells None e = subst (λ o. Follows c m (proper (stored_in chunk memory (offset_in_cell v) o w) memory (λ after. part.gives None h after) kk) IsStuck) (sym e) fails
           cells (Some x) e = one h f memory level s p (stored chunk memory v w)
 
   -- ---- tests of a bound
@@ -179,7 +179,7 @@ module _ (c : Place) (m : Mach) (turns : ℕ) (ts : List ℕ) where
       node_follows c m turns ts (Checkbound place left right) h memory
       (both (is_left_first (scope h) left right) (does (text_of c) turns left false) (does (text_of c) turns right false) h memory go) k _ s
       (subst (λ (sc : List Scoped). Follows c m (both (is_left_first sc left right) (does (text_of c) turns left false) (does (text_of c) turns right false) h memory go kk)
-      (Walks (at c m turns ts (select env labels valued tail d b (Checkbound place left right) next) f memory)))
+      (Continues (at c m turns ts (select env labels valued tail d b (Checkbound place left right) next) f memory)))
       (sym (scope_is s))
       (right_two c m turns ts (is_left_first (scopes env) left right) left right (right_view bound_test right) refl sl sr (omega (arith, fine)) (omega (arith, fine)) (suc b) (suc (suc b)) (suc (suc (suc b))) (suc (suc (suc b)) + width left)
       (instr ∷ next) go kk ready.lower ready.under first stable

@@ -18,8 +18,8 @@ use Rattle.meaning_laws.specs.Does.{Leaves, Does}
 use Rattle.meaning_laws.specs.Interaction.{Part, onward, of_type, only_value, with_value, both, proper, does}
 use Rattle.meaning_laws.specs.Interaction as part
 use Rattle.mach_ir.specs.Acts.{moved_by}
-use Rattle.mach_ir.specs.Formed.{is_short}
-use Rattle.mach_ir.specs.Runs.{Place, Walks}
+use Rattle.mach_ir.specs.Forms.{is_immediate_12}
+use Rattle.mach_ir.specs.Runs.{Place, Continues}
 use Rattle.mach_ir.specs.Meaning.{File}
 use Rattle.mach_ir.specs.declared.mach.Instr.{Instr}
 use Rattle.mach_ir.specs.declared.mach.Mach.{Mach}
@@ -56,8 +56,8 @@ no_zero true false e = true≢false (sym e)
 no_zero false b e = true≢false (sym e)
 
 pub base_moves : (op : IntOp) (s : List ℕ) (w : ℕ) (u : Value) → is_based op w ≡ true → Moved (moved_by w u) (apply op s u (Word w))
-base_moves op s zero u e = absurd (no_zero (is_address_sum op) (is_short 0) e)
-base_moves op s (suc w) u e = based_sum op s w u (both_true (is_address_sum op) (is_short (suc w) && not (nat_eq (suc w) 0)) e)
+base_moves op s zero u e = absurd (no_zero (is_address_sum op) (is_immediate_12 0) e)
+base_moves op s (suc w) u e = based_sum op s w u (both_true (is_address_sum op) (is_immediate_12 (suc w) && not (nat_eq (suc w) 0)) e)
 
 module _ (c : Place) (m : Mach) (turns : ℕ) (ts : List ℕ) where
   abbrev pub whole_code : List Named → List Label → ℕ → ℕ → Expression → List Instr → List Instr
@@ -70,15 +70,15 @@ module _ (c : Place) (m : Mach) (turns : ℕ) (ts : List ℕ) where
       width e < 2 ^ 60 → Lower b labels → Under b env → 21 ≤ b → b ≤ t → t < i → Stable env i t P → Placed m ts (select_base env labels t i e (whole_code env labels t i e) next) →
       Outs c m turns ts env labels P k → (h : Here) (f : File) (memory : Memory) → Level c m turns ts h → Stands env h.names f → P f →
       ((u : Value) (h : Here) (f : File) (memory : Memory) → Level c m turns ts h → Stands env h.names f → P f → Holds (fresh t (type_of (scopes env) (base_of e))) u f →
-      Follows c m (go (moved_by (offset_of e) u) h memory k) (Walks (at c m turns ts next f memory))) →
-      Follows c m (with_value (does (text_of c) turns e false h memory) go k) (Walks (at c m turns ts (select_base env labels t i e (whole_code env labels t i e) next) f memory))
+      Follows c m (go (moved_by (offset_of e) u) h memory k) (Continues (at c m turns ts next f memory))) →
+      Follows c m (with_value (does (text_of c) turns e false h memory) go k) (Continues (at c m turns ts (select_base env labels t i e (whole_code env labels t i e) next) f memory))
 
   pub whole_address : (e : Expression) → Selected c m turns ts e →
       (B : Type 0) (env : List Named) (labels : List Label) (t b i : ℕ) (next : List Instr) (P : File → Type 0) (go : Value → Here → Memory → Part B) (k : Leaves B → Does) →
       width e < 2 ^ 60 → Lower b labels → Under b env → 21 ≤ b → b ≤ t → t < i → Stable env i t P → Placed m ts (whole_code env labels t i e next) →
       Outs c m turns ts env labels P k → (h : Here) (f : File) (memory : Memory) → Level c m turns ts h → Stands env h.names f → P f →
-      ((u : Value) (h : Here) (f : File) (memory : Memory) → Level c m turns ts h → Stands env h.names f → P f → Holds (fresh t (type_of (scopes env) e)) u f → Follows c m (go u h memory k) (Walks (at c m turns ts next f memory))) →
-      Follows c m (with_value (does (text_of c) turns e false h memory) go k) (Walks (at c m turns ts (whole_code env labels t i e next) f memory))
+      ((u : Value) (h : Here) (f : File) (memory : Memory) → Level c m turns ts h → Stands env h.names f → P f → Holds (fresh t (type_of (scopes env) e)) u f → Follows c m (go u h memory k) (Continues (at c m turns ts next f memory))) →
+      Follows c m (with_value (does (text_of c) turns e false h memory) go k) (Continues (at c m turns ts (whole_code env labels t i e next) f memory))
   whole_address e se B env labels t b i next P go k fine lower under first bt ti stable placed outs h f memory level s p on =
       operand c m turns ts e se fine t i next go k (ready_at c m turns ts (type_of (scopes env) e) t i lower under first bt ti) stable placed outs h f memory level s p
       (λ u h f memory level s p fu hu. on u h f memory level s p hu)
@@ -92,8 +92,8 @@ module _ (c : Place) (m : Mach) (turns : ℕ) (ts : List ℕ) where
         width sum < 2 ^ 60 → Lower b labels → Under b env → 21 ≤ b → b ≤ t → t < i → Stable env i t P → Placed m ts (whole_code env labels t i base next) →
         Outs c m turns ts env labels P k → (h : Here) (f : File) (memory : Memory) → Level c m turns ts h → Stands env h.names f → P f →
         ((u : Value) (h : Here) (f : File) (memory : Memory) → Level c m turns ts h → Stands env h.names f → P f → Holds (fresh t (type_of (scopes env) base)) u f →
-        Follows c m (go (moved_by w u) h memory k) (Walks (at c m turns ts next f memory))) →
-        Follows c m (with_value (does (text_of c) turns sum false h memory) go k) (Walks (at c m turns ts (whole_code env labels t i base next) f memory))
+        Follows c m (go (moved_by w u) h memory k) (Continues (at c m turns ts next f memory))) →
+        Follows c m (with_value (does (text_of c) turns sum false h memory) go k) (Continues (at c m turns ts (whole_code env labels t i base next) f memory))
     based_address is sb B env labels t b i next P go k fine lower under first bt ti stable placed outs h f memory level s p on =
         node_follows c m turns ts sum h memory
         (both (is_left_first (scope h) base (Integer place' w)) (does (text_of c) turns base false) (does (text_of c) turns (Integer place' w) false) h memory step) taking _ s
@@ -113,18 +113,18 @@ module _ (c : Place) (m : Mach) (turns : ℕ) (ts : List ℕ) where
         step = λ v x h memory. proper (apply op (sizes memory) v x) memory (λ u. part.gives (Some u) h memory)
 
         by : (u : Value) (h : Here) (f : File) (memory : Memory) → Level c m turns ts h → Stands env h.names f → P f → Holds (fresh t (type_of (scopes env) base)) u f → (r : Result Value Kind) → Moved (moved_by w u) r →
-            Follows c m (proper r memory (λ v. part.gives (Some v) h memory) kk) (Walks (at c m turns ts next f memory))
+            Follows c m (proper r memory (λ v. part.gives (Some v) h memory) kk) (Continues (at c m turns ts next f memory))
         by u h f memory level s p hu r improper = fails
         by u h f memory level s p hu r moved =
-            of_type_some c m turns ts taking (Walks (at c m turns ts next f memory)) (type_of (scopes env) sum) (moved_by w u) h memory (λ fit'. on u h f memory level s p hu) (λ none'. fails)
+            of_type_some c m turns ts taking (Continues (at c m turns ts next f memory)) (type_of (scopes env) sum) (moved_by w u) h memory (λ fit'. on u h f memory level s p hu) (λ none'. fails)
 
     pub sum_address : Selected c m turns ts base → Selected c m turns ts sum → SelectedAddress sum
     sum_address sb ss B env labels t b i next P go k fine lower under first bt ti stable placed outs h f memory level s p on = by (is_based op w) refl placed on
       where
         by : (q : Bool) → is_based op w ≡ q → Placed m ts (cond q (whole_code env labels t i base next) (whole_code env labels t i sum next)) →
             ((u : Value) (h : Here) (f : File) (memory : Memory) → Level c m turns ts h → Stands env h.names f → P f → Holds (fresh t (type_of (scopes env) (cond q base sum))) u f →
-            Follows c m (go (moved_by (cond q w 0) u) h memory k) (Walks (at c m turns ts next f memory))) →
-            Follows c m (with_value (does (text_of c) turns sum false h memory) go k) (Walks (at c m turns ts (cond q (whole_code env labels t i base next) (whole_code env labels t i sum next)) f memory))
+            Follows c m (go (moved_by (cond q w 0) u) h memory k) (Continues (at c m turns ts next f memory))) →
+            Follows c m (with_value (does (text_of c) turns sum false h memory) go k) (Continues (at c m turns ts (cond q (whole_code env labels t i base next) (whole_code env labels t i sum next)) f memory))
         by true is placed on = based_address is sb B env labels t b i next P go k fine lower under first bt ti stable placed outs h f memory level s p on
         by false is placed on = whole_address sum ss B env labels t b i next P go k fine lower under first bt ti stable placed outs h f memory level s p on
 
@@ -137,9 +137,9 @@ module _ (c : Place) (m : Mach) (turns : ℕ) (ts : List ℕ) where
       Placed m ts (ordered left_first (select_base env labels nx ix left (whole_code env labels nx ix left)) (whole_code env labels ny iy e) next) →
       Outs c m turns ts env labels P k → (h : Here) (f : File) (memory : Memory) → Level c m turns ts h → Stands env h.names f → P f →
       ((u w : Value) (h : Here) (f : File) (memory : Memory) → Level c m turns ts h → Stands env h.names f → P f → Holds (fresh nx (type_of (scopes env) (base_of left))) u f → Holds (fresh ny (type_of (scopes env) e)) w f →
-      Follows c m (go (moved_by (offset_of left) u) w h memory k) (Walks (at c m turns ts next f memory))) →
+      Follows c m (go (moved_by (offset_of left) u) w h memory k) (Continues (at c m turns ts next f memory))) →
       Follows c m (both left_first (does (text_of c) turns left false) (does (text_of c) turns e false) h memory go k)
-      (Walks (at c m turns ts (ordered left_first (select_base env labels nx ix left (whole_code env labels nx ix left)) (whole_code env labels ny iy e) next) f memory))
+      (Continues (at c m turns ts (ordered left_first (select_base env labels nx ix left (whole_code env labels nx ix left)) (whole_code env labels ny iy e) next) f memory))
   address_two {B} {env} {labels} {b} {d} {P} false left e sl se fl fe nx ny ix iy next go k lower under first stable bx by' xx yy xy yx apart el er placed outs h f memory level s p on =
       let y = fresh ny (type_of (scopes env) e) in
       operand c m turns ts e se fe ny iy (select_base env labels nx ix left (whole_code env labels nx ix left) next) (λ w h memory. with_value (does (text_of c) turns left false h memory) (λ v h memory. go v w h memory)) k

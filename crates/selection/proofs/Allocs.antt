@@ -18,7 +18,7 @@ use Rattle.meaning_laws.specs.Interaction.{Part, onward, of_type, proper, does, 
 use Rattle.mach_ir.specs.declared.reg.Reg.{Reg}
 use Rattle.mach_ir.specs.declared.mach.Instr.{Instr}
 use Rattle.mach_ir.specs.declared.mach.Mach.{Mach}
-use Rattle.mach_ir.specs.Runs.{Place, Walks}
+use Rattle.mach_ir.specs.Runs.{Place, Continues}
 use Rattle.mach_ir.specs.Meaning.{File, with_held, on_act, put}
 use Rattle.mach_ir.specs.Acts.{Around, Goes, On, moved_by, access_act, stored_act, first_written, header_written, after_store, only_if, is_among, without, same_cell, cells_from}
 use Rattle.selection.specs.Kept.{on_values}
@@ -159,8 +159,8 @@ module _ (m0 : Memory) (header : ℕ) where
           ∙ ap (λ r. after_store a u r) (stored_is done zs v small less fv)
 
       stores_follow : (rs : List Reg) (vs done : List Value) → Row c.setting.end f rs (map Some vs) → all_fit (end_of_data m0) T vs ≡ true → 8 * (length done + length vs) < 2 ^ 63 →
-          Follows c m x (Walks (record { rest = next; file = f; around = round (done ++ vs) [] })) →
-          Follows c m x (Walks (record { rest = cell_stores k p (length done) rs next; file = f; around = round (done ++ replicate (length vs) (Word 0)) (cells_from s (length done) (length vs)) }))
+          Follows c m x (Continues (record { rest = next; file = f; around = round (done ++ vs) [] })) →
+          Follows c m x (Continues (record { rest = cell_stores k p (length done) rs next; file = f; around = round (done ++ replicate (length vs) (Word 0)) (cells_from s (length done) (length vs)) }))
       stores_follow [] [] done row fit small follows = follows
       stores_follow [] (v ∷ vs) done row fit small follows = elim row [ ]
       stores_follow (r ∷ rs) [] done row fit small follows = elim row [ ]
@@ -170,9 +170,9 @@ module _ (m0 : Memory) (header : ℕ) where
           let done' = done ++ v ∷ [] in
           let longer : length done' ≡ suc (length done) = (let e = length-append done (v ∷ []) in omega (arith, e)) in
           let cells : done' ++ zs ≡ done ++ v ∷ zs = append_assoc done (v ∷ []) zs in
-          let rest : Follows c m x (Walks (record { rest = cell_stores k p (length done') rs next; file = f; around = round (done' ++ zs) (cells_from s (length done') (length vs)) })) =
+          let rest : Follows c m x (Continues (record { rest = cell_stores k p (length done') rs next; file = f; around = round (done' ++ zs) (cells_from s (length done') (length vs)) })) =
           stores_follow rs vs done' row (both_right (fits (end_of_data m0) T v) (all_fit (end_of_data m0) T vs) fit) (omega (arith, small, longer))
-          (subst (λ cs. Follows c m x (Walks (record { rest = next; file = f; around = round cs [] }))) (sym (append_assoc done (v ∷ []) vs)) follows) in
+          (subst (λ cs. Follows c m x (Continues (record { rest = next; file = f; around = round cs [] }))) (sym (append_assoc done (v ∷ []) vs)) follows) in
           let instr : Instr = emit.store k (8 * length done) p r in
           let code = cell_stores k p (suc (length done)) rs next in
           let a = round (done ++ Word 0 ∷ zs) (cells_from s (length done) (suc (length vs))) in
@@ -180,8 +180,8 @@ module _ (m0 : Memory) (header : ℕ) where
           (subst (λ o. Follows c m x (on_values c m instr code f a (with_held (Some (record { comp = p.comp; value = Block s 0 })) (with_held o (Some []))))) (sym hr.is)
           (subst (λ y. Follows c m x (on_act c m instr code f a y))
           (sym (store_act done zs v (length vs) (omega (arith, small, long)) (omega (arith, long)) (both_left (fits (end_of_data m0) T v) (all_fit (end_of_data m0) T vs) fit)))
-          (subst (λ cs. Follows c m x (Walks (record { rest = code; file = f; around = round cs (cells_from s (suc (length done)) (length vs)) }))) cells
-          (subst (λ n. Follows c m x (Walks (record { rest = cell_stores k p n rs next; file = f; around = round (done' ++ zs) (cells_from s n (length vs)) }))) longer rest)))))
+          (subst (λ cs. Follows c m x (Continues (record { rest = code; file = f; around = round cs (cells_from s (suc (length done)) (length vs)) }))) cells
+          (subst (λ n. Follows c m x (Continues (record { rest = cell_stores k p n rs next; file = f; around = round (done' ++ zs) (cells_from s n (length vs)) }))) longer rest)))))
         where
           both_left : (a b : Bool) → a && b ≡ true → a ≡ true
           both_left true b e = refl
@@ -274,7 +274,7 @@ module _ (c : Place) (m : Mach) (turns : ℕ) (ts : List ℕ) where
         8 * count_of operands < 2 ^ 63 → (vs : List Value) (h : Here) (f : File) (memory : Memory) → Level c m turns ts h → Stands env h.names f → P f → Holds p (Block (length memory.blocks) 0) f → Row c.setting.end f regs (map Some vs) →
         length vs ≡ count_of operands → (g : Bool) → all_fit (end_of_data memory) (type_of_cells header) vs ≡ g →
         Follows c m (proper (cond g (Ok (mem memory header vs)) (Err (misfit (type_of_cells header)))) memory (λ after. part.gives (Some (next_block memory)) h after) kk)
-        (Walks (record {
+        (Continues (record {
           rest = cell_stores (chunk_for chosen) p 0 regs last_code;
           file = f;
           around = record { memory = mem memory header (replicate (length vs) (Word 0)); unwritten = cells_from (length memory.blocks) 0 (length vs); tries = ts; raised = None };
@@ -282,11 +282,11 @@ module _ (c : Place) (m : Mach) (turns : ℕ) (ts : List ℕ) where
     cells_follow chosen ct ready stable a small vs h f memory level s z hp row' long false fit = fails
     cells_follow chosen ct ready stable a small vs h f memory level s z hp row' long true fit = by chosen ct
       where
-        landed : Follows c m (kk (Giving (Some (next_block memory)) h (mem memory header vs))) (Walks (record { rest = last_code; file = f; around = record { memory = mem memory header vs; unwritten = []; tries = ts; raised = None } }))
+        landed : Follows c m (kk (Giving (Some (next_block memory)) h (mem memory header vs))) (Continues (record { rest = last_code; file = f; around = record { memory = mem memory header vs; unwritten = []; tries = ts; raised = None } }))
         landed = move_follows c m turns ts hp (lands c m turns ts (ready_inner c m turns ts T ready) (stable_dest c m turns ts d T stable) a (next_block memory) h f (mem memory header vs) level s z any)
 
         by : (chosen : Bool) → type_of_cells header ≡ cond chosen ty.Val ty.Int → Follows c m (kk (Giving (Some (next_block memory)) h (mem memory header vs)))
-            (Walks (record {
+            (Continues (record {
               rest = cell_stores (chunk_for chosen) p 0 regs last_code;
               file = f;
               around = record { memory = mem memory header (replicate (length vs) (Word 0)); unwritten = cells_from (length memory.blocks) 0 (length vs); tries = ts; raised = None };
@@ -302,7 +302,7 @@ module _ (c : Place) (m : Mach) (turns : ℕ) (ts : List ℕ) where
     block_follows : width (Alloc place header_at header operands) < 2 ^ 60 → Ready c m turns ts env labels b d → Stable env b d.number P → After c m turns ts None env labels (inner_valued valued T) tail (inner_dest T b d) next P kk →
         (before : List (Option Value)) (h : Here) (f : File) (memory : Memory) → Level c m turns ts h → Stands env h.names f → P f → Row c.setting.end f regs before → rows.Matches env operands before →
         Follows c m (part.and_then (filled (text_of c) turns operands before h memory) (λ vs h memory. proper (allocated memory header vs) memory (λ after. part.gives (Some (next_block memory)) h after)) kk)
-        (Walks (at c m turns ts alloc_code f memory))
+        (Continues (at c m turns ts alloc_code f memory))
     block_follows fine ready stable a before h f memory level s z row' matches =
         let first : 21 ≤ b = let less = ready.below in let le = ready.first in omega (arith, less, le) in
         let small : 8 * count_of operands < 2 ^ 63 = (let le = count_width operands in omega (arith, le, fine)) in
@@ -320,16 +320,16 @@ module _ (c : Place) (m : Mach) (turns : ℕ) (ts : List ℕ) where
         let a1 : Around = record { memory = mem memory header zeros; unwritten = cells_from (length memory.blocks) 0 n; tries = ts; raised = None } in
         let x : Does = part.and_then (filled (text_of c) turns operands before h memory) (λ vs h memory. proper (allocated memory header vs) memory (λ after. part.gives (Some (next_block memory)) h after)) kk in
         let zl : 8 * length zeros < 2 ^ 63 = (let e = zeros_length n in omega (arith, e, small)) in
-        let from_filled : Follows c m x (Walks (record { rest = filled_part; file = f2; around = a1 })) =
+        let from_filled : Follows c m x (Continues (record { rest = filled_part; file = f2; around = a1 })) =
         light_filled c m turns ts h memory a1 operands env labels row base cells_code (And P p block) _ before (under_more row (omega arith) ready.under) (omega (arith, first))
         (stable_and p block (omega arith) (λ e. omega (arith, e)) (unnamed (suc b) (omega arith)) (omega (arith, first)) (stable_inner row row (omega arith) (omega arith) stable)) (le_refl base)
         f2 s2 (record { rest = z2; holds = hp }) row2 matches
         (λ vs f s y row3.
         let long : length vs ≡ n = row_length vs row3 ∙ regs_length env row operands in
         subst (λ k. Follows c m (proper (allocated memory header vs) memory (λ after. part.gives (Some (next_block memory)) h after) kk)
-        (Walks (record { rest = cells_code; file = f; around = record { memory = mem memory header (replicate k (Word 0)); unwritten = cells_from (length memory.blocks) 0 k; tries = ts; raised = None } }))) long
+        (Continues (record { rest = cells_code; file = f; around = record { memory = mem memory header (replicate k (Word 0)); unwritten = cells_from (length memory.blocks) 0 k; tries = ts; raised = None } }))) long
         (cells_follow (nat_le (header % 256) 250) refl ready stable a small vs h f memory level s y.rest y.holds row3 long (all_fit (end_of_data memory) (type_of_cells header) vs) refl)) in
-        let from_header : Follows c m x (Walks (record {
+        let from_header : Follows c m x (Continues (record {
           rest = emit.store chunk.Int header_offset p q ∷ filled_part;
           file = f2;
           around = record { memory = mem memory header zeros; unwritten = InHeader (length memory.blocks) ∷ cells_from (length memory.blocks) 0 n; tries = ts; raised = None };
@@ -340,13 +340,13 @@ module _ (c : Place) (m : Mach) (turns : ℕ) (ts : List ℕ) where
         (with_held (Some (record { comp = p.comp; value = block })) (with_held o (Some []))))) (sym hq.is)
         (subst (λ y. Follows c m x (on_act c m (emit.store chunk.Int header_offset p q) filled_part f2 (around_of memory header ts (mem memory header zeros) (InHeader (length memory.blocks) ∷ cells_from (length memory.blocks) 0 n)) y))
         (sym (header_act memory header ts zeros n zl)) from_filled))) in
-        walks (walks (subst (λ cs. Follows c m x (Walks (record { rest = emit.store chunk.Int header_offset p q ∷ filled_part; file = f2; around = record { memory = mem memory header zeros; unwritten = InHeader (length memory.blocks) ∷ cs; tries = ts; raised = None } })))
+        walks (walks (subst (λ cs. Follows c m x (Continues (record { rest = emit.store chunk.Int header_offset p q ∷ filled_part; file = f2; around = record { memory = mem memory header zeros; unwritten = InHeader (length memory.blocks) ∷ cs; tries = ts; raised = None } })))
         (sym (append-nil (cells_from (length memory.blocks) 0 n))) from_header))
 
     pub selected_alloc : SelectedWaiting c m turns ts operands → width (Alloc place header_at header operands) < 2 ^ 60 →
         Ready c m turns ts env labels b d → Stable env b d.number P → Placed m ts (select env labels valued tail d b (Alloc place header_at header operands) next) →
         After c m turns ts (Some T) env labels valued tail d next P k → (h : Here) (f : File) (memory : Memory) → Level c m turns ts h → Stands env h.names f → P f →
-        Follows c m (does (text_of c) turns (Alloc place header_at header operands) tail h memory k) (Walks (at c m turns ts (select env labels valued tail d b (Alloc place header_at header operands) next) f memory))
+        Follows c m (does (text_of c) turns (Alloc place header_at header operands) tail h memory k) (Continues (at c m turns ts (select env labels valued tail d b (Alloc place header_at header operands) next) f memory))
     selected_alloc sw fine ready stable ending after h f memory level s z =
         let first : 21 ≤ b = let less = ready.below in let le = ready.first in omega (arith, less, le) in
         let a = after_typed c m turns ts T b after in

@@ -14,7 +14,7 @@ use Rattle.meaning_laws.specs.Interaction.{Part, onward, of_type, tested, proper
 use Rattle.mach_ir.specs.declared.reg.Reg.{Reg}
 use Rattle.mach_ir.specs.declared.mach.Instr.{Instr}
 use Rattle.mach_ir.specs.declared.mach.Mach.{Mach}
-use Rattle.mach_ir.specs.Runs.{Place, Walks}
+use Rattle.mach_ir.specs.Runs.{Place, Continues}
 use Rattle.mach_ir.specs.Meaning.{File, after_label}
 use Rattle.selection.specs.Select.{Named, Label, scopes, fresh, comp_of, inner_valued, inner_dest, width, select}
 use Rattle.selection.specs.Follow.{Follows, walks}
@@ -41,7 +41,7 @@ module _ (c : Place) (m : Mach) (turns : ℕ) (ts : List ℕ) where
 
   -- a part whose code goes on elsewhere, from where the machine comes to the same place
   pub after_through : {env : List Named} {labels : List Label} {valued tail : Bool} {d : Reg} {next there : List Instr} {P : File → Type 0} {k : Leaves (Option Value) → Does} (T : Ty) →
-      ((x : Does) (f : File) (memory : Memory) → Follows c m x (Walks (at c m turns ts next f memory)) → Follows c m x (Walks (at c m turns ts there f memory))) →
+      ((x : Does) (f : File) (memory : Memory) → Follows c m x (Continues (at c m turns ts next f memory)) → Follows c m x (Continues (at c m turns ts there f memory))) →
       After c m turns ts None env labels valued tail d next P k → After c m turns ts (Some T) env labels valued tail d there P k
   after_through T comes a =
       record {
@@ -89,13 +89,13 @@ module _ (c : Place) (m : Mach) (turns : ℕ) (ts : List ℕ) where
         let is : after_label (suc (suc (suc b))) m.code ≡ next = labelled.behind_is (suc (suc (suc b))) (bare (mark.End (suc (suc (suc b))))) next last.ending (eq-eqb (suc (suc (suc b))) (suc (suc (suc b))) refl) in
         st env labels (inner_valued valued T) tail (inner_dest T b d) (base + width condition) else_code P kk ft
         (ready_more (base + width condition) (omega arith) (ready_inner c m turns ts T ready)) (stable_same (base + width condition) (omega arith) (stable_dest c m turns ts d T stable)) ending
-        (after_through (type_of (scopes env) on_true) (λ x f memory follows. walks (subst (λ rest. Follows c m x (Walks (at c m turns ts rest f memory))) (sym is) follows)) a)
+        (after_through (type_of (scopes env) on_true) (λ x f memory follows. walks (subst (λ rest. Follows c m x (Continues (at c m turns ts rest f memory))) (sym is) follows)) a)
         h f memory level s p
     if_follows st sf ft ff ready stable ending a false h f memory level s p =
         let inner = placed_in (ending_select env labels (inner_valued valued T) tail (inner_dest T b d) (base + width condition) on_true else_code) ending in
         let is : after_label (suc (suc b)) m.code ≡ false_code =
         labelled.behind_is (suc (suc b)) (bare (mark.Else (suc (suc b)) (suc (suc (suc b))))) false_code inner.ending (eq-eqb (suc (suc b)) (suc (suc b)) refl) in
-        subst (λ rest. Follows c m (does (text_of c) turns on_false tail h memory kk) (Walks (at c m turns ts rest f memory))) (sym is)
+        subst (λ rest. Follows c m (does (text_of c) turns on_false tail h memory kk) (Continues (at c m turns ts rest f memory))) (sym is)
         (sf env labels (inner_valued valued T) tail (inner_dest T b d) (base + width condition + width on_true) end_code P kk ff
         (ready_more (base + width condition + width on_true) (omega arith) (ready_inner c m turns ts T ready))
         (stable_same (base + width condition + width on_true) (omega arith) (stable_dest c m turns ts d T stable)) (placed_next refl inner)
@@ -106,7 +106,7 @@ module _ (c : Place) (m : Mach) (turns : ℕ) (ts : List ℕ) where
         Ready c m turns ts env labels b d → Stable env b d.number P → Placed m ts (select env labels valued tail d b (If place condition on_true on_false) next) →
         After c m turns ts (Some T) env labels valued tail d next P k →
         (h : Here) (f : File) (memory : Memory) → Level c m turns ts h → Stands env h.names f → P f →
-        Follows c m (does (text_of c) turns (If place condition on_true on_false) tail h memory k) (Walks (at c m turns ts (select env labels valued tail d b (If place condition on_true on_false) next) f memory))
+        Follows c m (does (text_of c) turns (If place condition on_true on_false) tail h memory k) (Continues (at c m turns ts (select env labels valued tail d b (If place condition on_true on_false) next) f memory))
     selected_if sc st sf fine ready stable ending after h f memory level s p =
         let first : 21 ≤ b = let less = ready.below in let le = ready.first in omega (arith, less, le) in
         let a = after_typed c m turns ts T b after in
@@ -126,8 +126,8 @@ module _ (c : Place) (m : Mach) (turns : ℕ) (ts : List ℕ) where
       (n i : ℕ) (next : List Instr) (go : Here → Memory → Part (Option Value)) (k : Leaves (Option Value) → Does) → Ready c m turns ts env labels i (fresh n (type_of (scopes env) e)) → Stable env i n P →
       Placed m ts (select env labels false false (fresh n (type_of (scopes env) e)) i e next) →
       Outs c m turns ts env labels P k → (h : Here) (f : File) (memory : Memory) → Level c m turns ts h → Stands env h.names f → P f →
-      ((h : Here) (f : File) (memory : Memory) → Level c m turns ts h → Stands env h.names f → P f → Follows c m (go h memory k) (Walks (at c m turns ts next f memory))) →
-      Follows c m (part.and_then (does (text_of c) turns e false h memory) (λ _ h memory. go h memory) k) (Walks (at c m turns ts (select env labels false false (fresh n (type_of (scopes env) e)) i e next) f memory))
+      ((h : Here) (f : File) (memory : Memory) → Level c m turns ts h → Stands env h.names f → P f → Follows c m (go h memory k) (Continues (at c m turns ts next f memory))) →
+      Follows c m (part.and_then (does (text_of c) turns e false h memory) (λ _ h memory. go h memory) k) (Continues (at c m turns ts (select env labels false false (fresh n (type_of (scopes env) e)) i e next) f memory))
   ignored {env} {labels} {P} e selected fine n i next go k ready stable ending outs h f memory level s p on =
       selected env labels false false (fresh n (type_of (scopes env) e)) i next P (λ l. onward (λ _ h memory. go h memory) l k) fine ready stable ending
       (record {

@@ -17,12 +17,12 @@ use Rattle.cmm_tree.specs.Tree.{Expression, Symbol, App, Extcall, Expressions}
 use Rattle.cmm_types.specs.Light.{is_light_address}
 use Rattle.cmm_types.specs.Types.{Scoped, type_of, type_of_result, unless_float, holds_float}
 use Rattle.cmm_meaning.specs.Evaluation.{fit_parameters, call_from, row_of_call, comps_of_arguments}
-use Rattle.cmm_meaning.specs.State.{Binding, Doing, Gave, Threw, asked_inside, Inside, Here, scope}
+use Rattle.cmm_meaning.specs.State.{Binding, Doing, Gave, Threw, asked_inside, Callee, Inside, Here, scope}
 use Rattle.meaning_laws.specs.Does.{Leaves, Giving, Raising, Does, Calls, Jumps}
 use Rattle.meaning_laws.specs.Interaction.{onward, of_type, does, waiting, filled, unless_light, now_or_before, as_written, back_from_call, called_with, applied, calls_out, looked_up}
 use Rattle.meaning_laws.specs.Interaction as part
-use Rattle.mach_ir.specs.Acts.{Act, Goes, On, Asks, Ends, answered, listed, back, back_outside, ended, asks, asks_value, thrown, raised_by, only_if}
-use Rattle.mach_ir.specs.Runs.{Place, Step, Walks, Waits, Over, Halts, asked}
+use Rattle.mach_ir.specs.Acts.{Act, Goes, On, Asks, Replaces, answered, as_list, after_call, after_external, asks, asks_value, callee_raises, raised_by, only_if}
+use Rattle.mach_ir.specs.Runs.{Place, Step, Continues, Waits, FinishesBy, Finishes, IsStuck, asked, kept_of}
 use Rattle.mach_ir.specs.Meaning.{State, File, values, with_held, on_act, clear, killed, put, put_if, put_all, wrote, tries_at, at_handler, Temporaries, Everything}
 use Rattle.mach_ir.specs.declared.reg.Reg.{Reg}
 use Rattle.mach_ir.specs.declared.mach.Instr.{Instr}
@@ -30,7 +30,7 @@ use Rattle.mach_ir.specs.declared.mach.Mach.{Mach}
 use Rattle.selection.specs.Instructions as emit
 use Rattle.selection.specs.Kept.{on_values}
 use Rattle.selection.specs.Select.{Named, Label, scopes, fresh, inner_valued, inner_dest, width, width_row, regs_of, count_of, only_when, seat, seats, result_seat, from_seat, moves_all, symbol_of, unless_symbol, callee_of, callee_regs, tail_result, call_of, select, select_filled}
-use Rattle.selection.specs.Follow.{text_of, RaisesVal, Follows, walks, pays, fails, calls}
+use Rattle.selection.specs.Follow.{text_of, RaisesVal, Follows, walks, pays, fails, calls, replaces}
 use Rattle.selection.specs.Follow as follow
 use Rattle.selection.proofs.Files.{Holds, put_same, Low, survives_call, Under, under_more, IsNamed, named_under, Stands, stands_put, stands_survives, scope_is}
 use Rattle.selection.proofs.Parts.{Placed, placed_in, lower_more, Stable, stable_inner, new, And, stable_and, calm, at, Level, Based, based, Reaching, reaching_now, raised_to, Outs, any, nothing, gone_any, any_shape, kept, IsNo, After, after_typed, of_type_some, node_follows, Ready, lands}
@@ -58,14 +58,14 @@ module _ (c : Place) (m : Mach) (turns : ℕ) (ts : List ℕ) (low : Low m.colou
 
   -- what is given that does not fit is improper
   abbrev Unfit : Ret → (Leaves (Option Value) → Does) → Type 0
-  Unfit result k = (q : Comp) → result ≡ ret.Comp q → (v : Value) (h : Here) (memory : Memory) → fits c.setting.end (type_of_comp q) v ≡ false → Follows c m (k (Giving (Some v) h memory)) Halts
+  Unfit result k = (q : Comp) → result ≡ ret.Comp q → (v : Value) (h : Here) (memory : Memory) → fits c.setting.end (type_of_comp q) v ≡ false → Follows c m (k (Giving (Some v) h memory)) IsStuck
 
   -- the value that came back goes from its seat to the destination
   given_follows : {env : List Named} {labels : List Label} {valued tail : Bool} {d : Reg} {next : List Instr} {P : File → Type 0} {k : Leaves (Option Value) → Does} {b : ℕ} (i : Instr) (n : ℕ) (result : Ret) →
       i.results ≡ result_seat n result → Unfit result k → b ≤ n → Ready c m turns ts env labels b d → Stable env b d.number P → After c m turns ts None env labels valued tail d next P k →
       (v : Option Value) (h : Here) (g : File) (x memory : Memory) → Level c m turns ts h → Stands env h.names (clear (killed m i) g) → P (clear (killed m i) g) →
       Follows c m (as_written result v h memory k)
-      (on_act c m i (from_seat n result d next) g (calm c m turns ts x) (answered c.setting.end result v (λ w. Goes (listed w) On (calm c m turns ts memory))))
+      (on_act c m i (from_seat n result d next) g (calm c m turns ts x) (answered c.setting.end result v (λ w. Goes (as_list w) On (calm c m turns ts memory))))
   given_follows {d = d} {next = next} {k = k} i n ret.Unit is unfit' le ready stable a v h g x memory level s p =
       subst (λ rs. Follows c m (k (Giving None h memory)) (wrote next (calm c m turns ts memory) (put_all c.setting.end rs [] (clear (killed m i) g)))) (sym is)
       (a.giving None h (clear (killed m i) g) memory level s p (nothing gone_any))
@@ -92,20 +92,20 @@ module _ (c : Place) (m : Mach) (turns : ℕ) (ts : List ℕ) (low : Low m.colou
 
   -- a callee's raise comes to the handler of the innermost try
   flies : (y : Does) (i : Instr) (next : List Instr) (f : File) (memory : Memory) (v : Value) (x : Memory) (us : List ℕ) → fits c.setting.end ty.Val v ≡ true → tries_at (i ∷ next) ≡ us → Follows c m y (raised_to m us v f x) →
-      Follows c m y (on_act c m i next f (calm c m turns ts memory) (only_if (fits c.setting.end ty.Val v) (thrown v x (calm c m turns ts memory) us)))
-  flies y i next f memory v x us fv caught follows = subst (λ q. Follows c m y (on_act c m i next f (calm c m turns ts memory) (only_if q (thrown v x (calm c m turns ts memory) us)))) (sym fv) (by us caught follows)
+      Follows c m y (on_act c m i next f (calm c m turns ts memory) (only_if (fits c.setting.end ty.Val v) (callee_raises v x (calm c m turns ts memory) us)))
+  flies y i next f memory v x us fv caught follows = subst (λ q. Follows c m y (on_act c m i next f (calm c m turns ts memory) (only_if q (callee_raises v x (calm c m turns ts memory) us)))) (sym fv) (by us caught follows)
     where
-      by : (us : List ℕ) → tries_at (i ∷ next) ≡ us → Follows c m y (raised_to m us v f x) → Follows c m y (on_act c m i next f (calm c m turns ts memory) (thrown v x (calm c m turns ts memory) us))
+      by : (us : List ℕ) → tries_at (i ∷ next) ≡ us → Follows c m y (raised_to m us v f x) → Follows c m y (on_act c m i next f (calm c m turns ts memory) (callee_raises v x (calm c m turns ts memory) us))
       by [] caught follows = follows
       by (l ∷ us) caught follows =
-          subst (λ o. Follows c m y (Walks (record { rest = at_handler m.code o; file = f; around = record { memory = x; unwritten = []; tries = us; raised = Some v } }))) (sym caught) follows
+          subst (λ o. Follows c m y (Continues (record { rest = at_handler m.code o; file = f; around = record { memory = x; unwritten = []; tries = us; raised = Some v } }))) (sym caught) follows
 
   -- ---- arguments go to their seats
 
   seated_follows : {x : Does} {memory : Memory} {env : List Named} {names : List Binding} {P : File → Type 0} {b d : ℕ} (row : ℕ) (es : Expressions) (vs : List Value) (code : List Instr) {f : File} →
       Row c.setting.end f (regs_of env row es) (map Some vs) → b ≤ row → Under b env → Stable env b d P → Stands env names f → P f →
-      ((g : File) → Stands env names g → P g → Row c.setting.end g (seats 0 (row + count_of es) (regs_of env row es)) (map Some vs) → Follows c m x (Walks (at c m turns ts code g memory))) →
-      Follows c m x (Walks (at c m turns ts (moves_all (regs_of env row es) (seats 0 (row + count_of es) (regs_of env row es)) code) f memory))
+      ((g : File) → Stands env names g → P g → Row c.setting.end g (seats 0 (row + count_of es) (regs_of env row es)) (map Some vs) → Follows c m x (Continues (at c m turns ts code g memory))) →
+      Follows c m x (Continues (at c m turns ts (moves_all (regs_of env row es) (seats 0 (row + count_of es) (regs_of env row es)) code) f memory))
   seated_follows {env = env} {b = b} row es vs code {f} stands le under stable s p on =
       let regs = regs_of env row es in
       let n = row + count_of es in
@@ -154,12 +154,12 @@ module _ (c : Place) (m : Mach) (turns : ℕ) (ts : List ℕ) (low : Low m.colou
 
     out_unfit : Unfit result kk
     out_unfit q e v h memory misfit' =
-        subst (λ r. Follows c m (of_type c.setting.end (unless_float (holds_float (Extcall place frame name arguments result result_at)) (type_of_result r)) (Some v) h memory k) Halts) (sym e)
-        (unfit (holds_float (Extcall place frame name arguments result result_at)) q k Halts v h memory misfit')
+        subst (λ r. Follows c m (of_type c.setting.end (unless_float (holds_float (Extcall place frame name arguments result result_at)) (type_of_result r)) (Some v) h memory k) IsStuck) (sym e)
+        (unfit (holds_float (Extcall place frame name arguments result result_at)) q k IsStuck v h memory misfit')
 
     called_out : Ready c m turns ts env labels b d → Stable env b d.number P → tries_at (instr ∷ out_rest) ≡ ts → After c m turns ts None env labels (inner_valued valued T) tail (inner_dest T b d) next P kk →
         (vs : List Value) (h : Here) (f : File) (memory : Memory) → Level c m turns ts h → Stands env h.names f → P f → Row c.setting.end f out_args (map Some vs) →
-        Follows c m (calls_out (row_of_call (scopes env) name arguments result) frame vs h memory kk) (Walks (at c m turns ts (instr ∷ out_rest) f memory))
+        Follows c m (calls_out (row_of_call (scopes env) name arguments result) frame vs h memory kk) (Continues (at c m turns ts (instr ∷ out_rest) f memory))
     called_out ready stable caught a vs h f memory level s p row =
         let survives = survives_call Temporaries (result_seat out_given result) f low in
         let inner = stable_dest c m turns ts d T stable in
@@ -168,7 +168,7 @@ module _ (c : Place) (m : Mach) (turns : ℕ) (ts : List ℕ) (low : Low m.colou
         (λ v after.
         given_follows instr out_given result refl out_unfit (omega arith) (ready_inner c m turns ts T ready) inner a v h f memory memory level (stands_survives ready.under survives s) (inner.calls f (clear (killed m instr) f) survives p))
         (λ e v after fv.
-        subst (λ q. Follows c m (Jumps (kk (Raising v h memory))) (on_act c m instr out_rest f (calm c m turns ts memory) (back_outside c.setting result q (calm c m turns ts memory) (Threw v after)))) (sym e)
+        subst (λ q. Follows c m (Jumps (kk (Raising v h memory))) (on_act c m instr out_rest f (calm c m turns ts memory) (after_external c.setting result q (calm c m turns ts memory) (Threw v after)))) (sym e)
         (subst (λ q. Follows c m (Jumps (kk (Raising v h memory))) (on_act c m instr out_rest f (calm c m turns ts memory) (only_if q (raised_by v (calm c m turns ts memory) ts)))) (sym fv)
         (leaps c m turns ts (kk (Raising v h memory)) instr out_rest f memory v ts caught (let o = a.outs in o.raising v fv h f memory (based c m turns ts level) (reaching_now h s) p))))))
 
@@ -178,7 +178,7 @@ module _ (c : Place) (m : Mach) (turns : ℕ) (ts : List ℕ) (low : Low m.colou
     pub selected_extcall : SelectedWaiting c m turns ts arguments → SelectedFilled c m turns ts arguments → width (Extcall place frame name arguments result result_at) < 2 ^ 60 →
         Ready c m turns ts env labels b d → Stable env b d.number P → Placed m ts (select env labels valued tail d b (Extcall place frame name arguments result result_at) next) →
         After c m turns ts (Some T) env labels valued tail d next P k → (h : Here) (f : File) (memory : Memory) → Level c m turns ts h → Stands env h.names f → P f →
-        Follows c m (does (text_of c) turns (Extcall place frame name arguments result result_at) tail h memory k) (Walks (at c m turns ts (select env labels valued tail d b (Extcall place frame name arguments result result_at) next) f memory))
+        Follows c m (does (text_of c) turns (Extcall place frame name arguments result result_at) tail h memory k) (Continues (at c m turns ts (select env labels valued tail d b (Extcall place frame name arguments result result_at) next) f memory))
     selected_extcall sw sf fine ready stable ending after h f memory level s p =
         let first : 21 ≤ b = let less = ready.below in let le = ready.first in omega (arith, less, le) in
         let a = after_typed c m turns ts T b after in
@@ -195,7 +195,7 @@ module _ (c : Place) (m : Mach) (turns : ℕ) (ts : List ℕ) (low : Low m.colou
         (λ before h f memory level s p row matches.
         sf env labels out_at (suc out_given) out_moves P _ before (omega (arith, fine)) lower under (omega (arith, first)) steady (omega arith) filled_placed (out_of _ a.outs) h f memory level s p row matches
         (λ vs h f memory level s p row.
-        subst (λ sc. Follows c m (calls_out (row_of_call sc name arguments result) frame vs h memory kk) (Walks (at c m turns ts out_moves f memory))) (sym (scope_is s))
+        subst (λ sc. Follows c m (calls_out (row_of_call sc name arguments result) frame vs h memory kk) (Continues (at c m turns ts out_moves f memory))) (sym (scope_is s))
         (seated_follows out_at arguments vs (instr ∷ out_rest) row (omega arith) ready.under stable s p
         (λ g s p row. called_out ready stable call_placed.caught a vs h g memory level s p row)))))
 
@@ -208,7 +208,7 @@ module _ (c : Place) (m : Mach) (turns : ℕ) (ts : List ℕ) (low : Low m.colou
 
   -- a symbol as an operand needs no code
   symbol_operand : {B : Type 0} (e : Expression) (n : List ℕ) → symbol_of e ≡ Some n → (h : Here) (memory : Memory) (go : Value → Here → Memory → part.Part B) (k : Leaves B → Does) (s : State) →
-      ((v : Value) → c.setting.symbol n ≡ Some v → Follows c m (go v h memory k) (Walks s)) → Follows c m (part.with_value (does (text_of c) turns e false h memory) go k) (Walks s)
+      ((v : Value) → c.setting.symbol n ≡ Some v → Follows c m (go v h memory k) (Continues s)) → Follows c m (part.with_value (does (text_of c) turns e false h memory) go k) (Continues s)
   symbol_operand {B} (Symbol place x) n is h memory go k s on = pays (by (c.setting.symbol x) refl)
     where
       kk : Leaves (Option Value) → Does
@@ -217,11 +217,11 @@ module _ (c : Place) (m : Mach) (turns : ℕ) (ts : List ℕ) (low : Low m.colou
       same : x ≡ n
       same = cc
 
-      by : (o : Option Value) → c.setting.symbol x ≡ o → Follows c m (part.typed c.setting.end ty.Val (looked_up o h memory) kk) (Walks s)
+      by : (o : Option Value) → c.setting.symbol x ≡ o → Follows c m (part.typed c.setting.end ty.Val (looked_up o h memory) kk) (Continues s)
       by None e = fails
       by (Some v) e = fitting (fits c.setting.end ty.Val v)
         where
-          fitting : (q : Bool) → Follows c m (cond q (part.gives (Some v) h memory) (part.fails (misfit ty.Val) memory) kk) (Walks s)
+          fitting : (q : Bool) → Follows c m (cond q (part.gives (Some v) h memory) (part.fails (misfit ty.Val) memory) kk) (Continues s)
           fitting true = on v (subst (λ y. c.setting.symbol y ≡ Some v) same e)
           fitting false = fails
   symbol_operand e n is h memory go k s on = absurd (cc)
@@ -266,35 +266,35 @@ module _ (c : Place) (m : Mach) (turns : ℕ) (ts : List ℕ) (low : Low m.colou
 
     unfit_app : Unfit result after_k
     unfit_app q e v h memory misfit' =
-        subst (λ r. Follows c m (of_type c.setting.end (unless_float (holds_float (App place callee arguments result result_at)) (type_of_result r)) (Some v) h memory k) Halts) (sym e)
-        (unfit (holds_float (App place callee arguments result result_at)) q k Halts v h memory misfit')
+        subst (λ r. Follows c m (of_type c.setting.end (unless_float (holds_float (App place callee arguments result result_at)) (type_of_result r)) (Some v) h memory k) IsStuck) (sym e)
+        (unfit (holds_float (App place callee arguments result result_at)) q k IsStuck v h memory misfit')
 
     -- what a tail call leaves after it
-    ended_follows : (w : Bool) → tail ≡ true → wants ≡ w → Followed → (h : Here) (g : File) (i : Instr) (rest : List Instr) (x : Memory) (z : Doing) → RaisesVal c z → Based c m turns ts h → Reaching env h g → P g →
-        Follows c m (back_from_call result h z after_k) (on_act c m i rest g (calm c m turns ts x) (ended c.setting (tail_result w result) z))
-    ended_follows w t is a h g i rest x (Threw v memory) cm lev reach p =
-        subst (λ q. Follows c m (after_k (Raising v h memory)) (on_act c m i rest g (calm c m turns ts x) (only_if q (Ends (Threw v memory))))) (sym cm)
-        (subst (λ (us : List ℕ). Follows c m (after_k (Raising v h memory)) (raised_to m us v g memory)) (a.untried t) (let o = a.outs in o.raising v cm h g memory lev reach p))
-    ended_follows w t is a h g i rest x (Gave v memory) cm lev reach p = by w is result refl v
+    ended_follows : (w : Bool) → tail ≡ true → wants ≡ w → Followed → (h : Here) (g : File) (z : Doing) → RaisesVal c z → Based c m turns ts h → Reaching env h g → P g →
+        Follows c m (back_from_call result h z after_k) (Finishes (kept_of (tail_result w result) z))
+    ended_follows w t is a h g (Threw v memory) cm lev reach p = by (tail_result w result)
       where
-        leaves : (o : Option Value) (w : Bool) → wants ≡ w → Follows c m (after_k (Giving o h memory)) (Over (Gave (kept c m turns ts w o) memory))
-        leaves o w is = subst (λ w. Follows c m (after_k (Giving o h memory)) (Over (Gave (kept c m turns ts w o) memory))) is (a.tailing t o (any_shape c m turns ts o) h memory)
+        raised : Follows c m (after_k (Raising v h memory)) (Finishes (Threw v memory))
+        raised = subst (λ (us : List ℕ). Follows c m (after_k (Raising v h memory)) (raised_to m us v g memory)) (a.untried t) (let o = a.outs in o.raising v cm h g memory lev reach p)
 
-        by : (w : Bool) → wants ≡ w → (r : Ret) → result ≡ r → (v : Option Value) → Follows c m (as_written r v h memory after_k)
-            (on_act c m i rest g (calm c m turns ts x) (answered c.setting.end (tail_result w r) v (λ v. Ends (Gave v memory))))
+        by : (r : Ret) → Follows c m (after_k (Raising v h memory)) (Finishes (kept_of r (Threw v memory)))
+        by ret.Unit = raised
+        by (ret.Comp q) = raised
+    ended_follows w t is a h g (Gave v memory) cm lev reach p = by w is result refl v
+      where
+        leaves : (o : Option Value) (w : Bool) → wants ≡ w → Follows c m (after_k (Giving o h memory)) (Finishes (Gave (kept c m turns ts w o) memory))
+        leaves o w is = subst (λ w. Follows c m (after_k (Giving o h memory)) (Finishes (Gave (kept c m turns ts w o) memory))) is (a.tailing t o (any_shape c m turns ts o) h memory)
+
+        by : (w : Bool) → wants ≡ w → (r : Ret) → result ≡ r → (v : Option Value) → Follows c m (as_written r v h memory after_k) (Finishes (kept_of (tail_result w r) (Gave v memory)))
         by true is ret.Unit e v = leaves None true is
         by false is ret.Unit e v = leaves None false is
         by w is (ret.Comp q) e None = fails
         by false is (ret.Comp q) e (Some v) = leaves (Some v) false is
-        by true is (ret.Comp q) e (Some v) = fitting (fits c.setting.end (type_of_comp q) v) refl
-          where
-            fitting : (f : Bool) → fits c.setting.end (type_of_comp q) v ≡ f → Follows c m (after_k (Giving (Some v) h memory)) (on_act c m i rest g (calm c m turns ts x) (only_if f (Ends (Gave (Some v) memory))))
-            fitting true f = leaves (Some v) true is
-            fitting false f = unfit_app q e v h memory f
+        by true is (ret.Comp q) e (Some v) = leaves (Some v) true is
 
-    abbrev going : Bool → Memory → Doing → Act
-    going true memory = ended c.setting (tail_result wants result)
-    going false memory = back c.setting result (calm c m turns ts memory)
+    abbrev going : Bool → Memory → Callee → List Value → Act
+    going true memory = λ f xs. Replaces f xs (tail_result wants result)
+    going false memory = λ f xs. Asks f xs (after_call c.setting result (calm c m turns ts memory))
 
     abbrev call_instr : Bool → Option (List ℕ) → Instr
     call_instr true name = emit.tail_call (callee_of name) (tail_result wants result) (callee_regs name callee_reg ++ args)
@@ -315,17 +315,17 @@ module _ (c : Place) (m : Mach) (turns : ℕ) (ts : List ℕ) (low : Low m.colou
     called : (t : Bool) → tail ≡ t → (o : Option (List ℕ)) → tries_at (call_instr t o ∷ call_rest t) ≡ ts → Ready c m turns ts env labels b d → Stable env b d.number P → Followed →
         (vs : List Value) (h : Here) (f : File) (memory : Memory) → Level c m turns ts h → Stands env h.names f → P f → (n : ℕ) (g : Bool) →
         Follows c m (cond g (part.calls (call_from n vs t h) result h memory) (part.fails BadCall memory) after_k)
-        (on_act c m (call_instr t o) (call_rest t) f (calm c m turns ts memory) (only_if (g && true) (Asks (Inside n) vs t (going t memory))))
+        (on_act c m (call_instr t o) (call_rest t) f (calm c m turns ts memory) (only_if (g && true) (going t memory (Inside n) vs)))
     called t is o ct ready stable a vs h f memory level s p n false = fails
     called true is o ct ready stable a vs h f memory level s p n true =
-        subst (λ q. Follows c m (Calls (call_from n vs true h) memory (λ z. back_from_call result h z after_k)) (Waits q (λ z. on_act c m (call_instr true o) next f (calm c m turns ts memory) (ended c.setting (tail_result wants result) z))))
+        subst (λ q. Follows c m (Calls (call_from n vs true h) memory (λ z. back_from_call result h z after_k)) (FinishesBy q (tail_result wants result)))
         (sym (asked_is true n vs h memory level))
-        (calls (λ z cm. ended_follows wants is refl a h f (call_instr true o) next memory z cm (based c m turns ts level) (reaching_now h s) p))
+        (replaces (λ z cm. ended_follows wants is refl a h f z cm (based c m turns ts level) (reaching_now h s) p))
     called false is o ct ready stable a vs h f memory level s p n true =
-        subst (λ q. Follows c m (Calls (call_from n vs false h) memory (λ z. back_from_call result h z after_k)) (Waits q (λ z. on_act c m (call_instr false o) (call_rest false) f (calm c m turns ts memory) (back c.setting result (calm c m turns ts memory) z))))
+        subst (λ q. Follows c m (Calls (call_from n vs false h) memory (λ z. back_from_call result h z after_k)) (Waits q (λ z. on_act c m (call_instr false o) (call_rest false) f (calm c m turns ts memory) (after_call c.setting result (calm c m turns ts memory) z))))
         (sym (asked_is false n vs h memory level)) (calls came)
       where
-        came : (z : Doing) → RaisesVal c z → Follows c m (back_from_call result h z after_k) (on_act c m (call_instr false o) (call_rest false) f (calm c m turns ts memory) (back c.setting result (calm c m turns ts memory) z))
+        came : (z : Doing) → RaisesVal c z → Follows c m (back_from_call result h z after_k) (on_act c m (call_instr false o) (call_rest false) f (calm c m turns ts memory) (after_call c.setting result (calm c m turns ts memory) z))
         came (Threw v x) cm = flies (after_k (Raising v h x)) (call_instr false o) (call_rest false) f memory v x ts cm ct (let q = a.outs in q.raising v cm h f x (based c m turns ts level) (reaching_now h s) p)
         came (Gave v x) cm =
             let i = call_instr false o in
@@ -336,14 +336,14 @@ module _ (c : Place) (m : Mach) (turns : ℕ) (ts : List ℕ) (low : Low m.colou
     asked_follows : (t : Bool) → tail ≡ t → (o : Option (List ℕ)) → tries_at (call_instr t o ∷ call_rest t) ≡ ts → Ready c m turns ts env labels b d → Stable env b d.number P → Followed →
         (vs : List Value) (h : Here) (f : File) (memory : Memory) → Level c m turns ts h → Stands env h.names f → P f → (n : ℕ) (comps : Option (List Comp)) →
         Follows c m (called_with (text_of c) comps n vs result t h memory after_k)
-        (on_act c m (call_instr t o) (call_rest t) f (calm c m turns ts memory) (asks c.setting comps n vs t (calm c m turns ts memory) (going t memory)))
+        (on_act c m (call_instr t o) (call_rest t) f (calm c m turns ts memory) (asks c.setting comps n vs (calm c m turns ts memory) (going t memory)))
     asked_follows t is o ct ready stable a vs h f memory level s p n None = fails
     asked_follows t is o ct ready stable a vs h f memory level s p n (Some comps) = called t is o ct ready stable a vs h f memory level s p n (fit_parameters c.setting.end comps vs)
 
     asked_value : (t : Bool) → tail ≡ t → (o : Option (List ℕ)) → tries_at (call_instr t o ∷ call_rest t) ≡ ts → Ready c m turns ts env labels b d → Stable env b d.number P → Followed →
         (v : Value) (vs : List Value) (h : Here) (f : File) (memory : Memory) → Level c m turns ts h → Stands env h.names f → P f →
         Follows c m (applied (text_of c) v vs result t h memory after_k)
-        (on_act c m (call_instr t o) (call_rest t) f (calm c m turns ts memory) (asks_value c.setting (Some v) vs t (calm c m turns ts memory) (going t memory)))
+        (on_act c m (call_instr t o) (call_rest t) f (calm c m turns ts memory) (asks_value c.setting (Some v) vs (calm c m turns ts memory) (going t memory)))
     asked_value t is o ct ready stable a (value.Word w) vs h f memory level s p = fails
     asked_value t is o ct ready stable a (value.Block w z) vs h f memory level s p = fails
     asked_value t is o ct ready stable a (value.Function n) vs h f memory level s p = asked_follows t is o ct ready stable a vs h f memory level s p n (slice_get c.setting.parameters n)
@@ -356,16 +356,16 @@ module _ (c : Place) (m : Mach) (turns : ℕ) (ts : List ℕ) (low : Low m.colou
     -- the call's instruction, where its operands stand
     instruction : (t : Bool) → tail ≡ t → (o : Option (List ℕ)) → tries_at (call_of t wants result o callee_reg args given target next) ≡ ts → Ready c m turns ts env labels b d → Stable env b d.number P → Followed →
         (v : Value) (vs : List Value) (h : Here) (f : File) (memory : Memory) → Level c m turns ts h → Stands env h.names f → P f → Called v f o → values f args ≡ Some vs →
-        Follows c m (applied (text_of c) v vs result t h memory after_k) (Walks (at c m turns ts (call_of t wants result o callee_reg args given target next) f memory))
+        Follows c m (applied (text_of c) v vs result t h memory after_k) (Continues (at c m turns ts (call_of t wants result o callee_reg args given target next) f memory))
     instruction true is (Some n) ct ready stable a v vs h f memory level s p (by_symbol e) row =
         walks (subst (λ o. Follows c m (applied (text_of c) v vs result true h memory after_k) (on_values c m (call_instr true (Some n)) next f (calm c m turns ts memory) o)) (sym row)
         (subst (λ o. Follows c m (applied (text_of c) v vs result true h memory after_k)
-        (on_act c m (call_instr true (Some n)) next f (calm c m turns ts memory) (asks_value c.setting o vs true (calm c m turns ts memory) (going true memory)))) (sym e)
+        (on_act c m (call_instr true (Some n)) next f (calm c m turns ts memory) (asks_value c.setting o vs (calm c m turns ts memory) (going true memory)))) (sym e)
         (asked_value true is (Some n) ct ready stable a v vs h f memory level s p)))
     instruction false is (Some n) ct ready stable a v vs h f memory level s p (by_symbol e) row =
         walks (subst (λ o. Follows c m (applied (text_of c) v vs result false h memory after_k) (on_values c m (call_instr false (Some n)) (call_rest false) f (calm c m turns ts memory) o)) (sym row)
         (subst (λ o. Follows c m (applied (text_of c) v vs result false h memory after_k)
-        (on_act c m (call_instr false (Some n)) (call_rest false) f (calm c m turns ts memory) (asks_value c.setting o vs false (calm c m turns ts memory) (going false memory)))) (sym e)
+        (on_act c m (call_instr false (Some n)) (call_rest false) f (calm c m turns ts memory) (asks_value c.setting o vs (calm c m turns ts memory) (going false memory)))) (sym e)
         (asked_value false is (Some n) ct ready stable a v vs h f memory level s p)))
     instruction true is None ct ready stable a v vs h f memory level s p (by_register holds) row =
         walks (subst (λ o. Follows c m (applied (text_of c) v vs result true h memory after_k) (on_values c m (call_instr true None) next f (calm c m turns ts memory) o))
@@ -396,7 +396,7 @@ module _ (c : Place) (m : Mach) (turns : ℕ) (ts : List ℕ) (low : Low m.colou
     Waited light o =
         (before : List (Option Value)) (h : Here) (f : File) (memory : Memory) → Level c m turns ts h → Stands env h.names f → P f → Row c.setting.end f regs before → Matches env arguments before →
         Follows c m (unless_light light (does (text_of c) turns callee false) h memory (λ o h memory. part.and_then (filled (text_of c) turns arguments before h memory) (λ vs h memory. finish o vs h memory)) after_k)
-        (Walks (at c m turns ts (heavy_code light o) f memory))
+        (Continues (at c m turns ts (heavy_code light o) f memory))
 
     -- after the arguments that do not wait
     app_by : (light : Bool) (o : Option (List ℕ)) → is_light_address (scopes env) callee ≡ light → symbol_of callee ≡ o → Selected c m turns ts callee → SelectedFilled c m turns ts arguments → width callee < 2 ^ 60 →
@@ -450,7 +450,7 @@ module _ (c : Place) (m : Mach) (turns : ℕ) (ts : List ℕ) (low : Low m.colou
     pub selected_app : Selected c m turns ts callee → SelectedWaiting c m turns ts arguments → SelectedFilled c m turns ts arguments → width (App place callee arguments result result_at) < 2 ^ 60 →
         Ready c m turns ts env labels b d → Stable env b d.number P → Placed m ts (select env labels valued tail d b (App place callee arguments result result_at) next) →
         After c m turns ts (Some type) env labels valued tail d next P k → (h : Here) (f : File) (memory : Memory) → Level c m turns ts h → Stands env h.names f → P f →
-        Follows c m (does (text_of c) turns (App place callee arguments result result_at) tail h memory k) (Walks (at c m turns ts (select env labels valued tail d b (App place callee arguments result result_at) next) f memory))
+        Follows c m (does (text_of c) turns (App place callee arguments result result_at) tail h memory k) (Continues (at c m turns ts (select env labels valued tail d b (App place callee arguments result result_at) next) f memory))
     selected_app se sw sf fine ready stable ending after h f memory level s p =
         let first : 21 ≤ b = let less = ready.below in let le = ready.first in omega (arith, less, le) in
         let a = after_typed c m turns ts type b after in
@@ -463,6 +463,6 @@ module _ (c : Place) (m : Mach) (turns : ℕ) (ts : List ℕ) (low : Low m.colou
         (stable_inner row_at row_at (omega arith) (omega arith) stable) (omega arith) ending (app_out_of _ a.outs) h f memory level s p
         (λ before h f memory level s p row matches.
         subst (λ sc. Follows c m (unless_light (is_light_address sc callee) (does (text_of c) turns callee false) h memory (λ o h memory. part.and_then (filled (text_of c) turns arguments before h memory) (λ vs h memory. finish o vs h memory)) after_k)
-        (Walks (at c m turns ts (heavy_code light o) f memory))) (sym (scope_is s))
+        (Continues (at c m turns ts (heavy_code light o) f memory))) (sym (scope_is s))
         (app_by light o refl refl se sf (omega (arith, fine)) (omega (arith, fine)) ready stable a
         (placed_in (ending_waiting env labels row_at (inside + width callee) arguments (heavy_code light o)) ending) before h f memory level s p row matches)))

@@ -18,9 +18,9 @@ use Rattle.mach_ir.specs.declared.reg.Reg.{Reg}
 use Rattle.mach_ir.specs.declared.mach.Instr.{Instr}
 use Rattle.mach_ir.specs.declared.mach.Mach.{Mach}
 use Rattle.mach_ir.specs.Acts.{drop_tries}
-use Rattle.mach_ir.specs.Runs.{Place, Walks}
+use Rattle.mach_ir.specs.Runs.{Place, Continues}
 use Rattle.mach_ir.specs.Meaning.{put, put_if, File, put_all, wrote, after_label}
-use Rattle.selection.specs.Select.{Label, scopes, fresh, comp_of, inner_valued, inner_dest, width, label_of, found_label, params_from, with_params, labels_from, unless_bare, in_handlers, width_labels, select, select_handlers, width_handlers}
+use Rattle.selection.specs.Select.{Label, scopes, fresh, comp_of, inner_valued, inner_dest, width, label_of, params_from, with_params, labels_from, unless_bare, in_handlers, width_labels, select, select_handlers, width_handlers}
 use Rattle.selection.specs.Follow.{Follows, walks, fails, spent}
 use Rattle.selection.proofs.Files.{Under, under_more, IsNamed, here, there, Stands, stands_length}
 use Rattle.selection.proofs.Parts.{Placed, placed_in, placed_next, WellLabelled, AllUnder, Lower, no_label, a_label, lower_more, Stable, stable_same, May, new, dest, name, calm, calm_in, at, arrive, Level, Based, Reaching, reaching_now, reaching_out, any, After, after_typed, node_follows, Ready}
@@ -115,7 +115,7 @@ module _ (c : Place) (m : Mach) (turns : ℕ) (ts : List ℕ) where
 
   -- an exit comes to a handler
   enter_follows : {params : List Parameter} {vs : List Value} {x z : Does} (n : ℕ) (f : File) (memory : Memory) (code : List Instr) → Enters c.setting.end params vs x z →
-      ((g : File) → PutAll c.setting.end (params_from n params) vs f g → Follows c m x (Walks (at c m turns ts code g memory))) →
+      ((g : File) → PutAll c.setting.end (params_from n params) vs f g → Follows c m x (Continues (at c m turns ts code g memory))) →
       Follows c m z (wrote code (calm c m turns ts memory) (put_all c.setting.end (params_from n params) vs f))
   enter_follows n f memory code improper on = fails
   enter_follows {x = x} n f memory code (enters all) on =
@@ -132,7 +132,7 @@ module _ (c : Place) (m : Mach) (turns : ℕ) (ts : List ℕ) where
       pub low : b ≤ first
       pub body : (k : Leaves (Option Value) → Does) → After c m turns ts None (with_params r.params (params_from first r.params) env) (in_handlers own ++ labels) valued tail d next P k →
           (h : Here) (f : File) (memory : Memory) → Level c m turns ts h → Stands (with_params r.params (params_from first r.params) env) h.names f → P f →
-          Follows c m (r.body h memory k) (Walks (at c m turns ts (after_label t.number m.code) f memory))
+          Follows c m (r.body h memory k) (Continues (at c m turns ts (after_label t.number m.code) f memory))
 
     pub data AllOk : List (Handler Operand) → List Label → Type 0 where
       no_ok : AllOk [] []
@@ -142,21 +142,21 @@ module _ (c : Place) (m : Mach) (turns : ℕ) (ts : List ℕ) where
       outside : Found l None (label_of labels l)
       inside : {r : Handler Operand} {t : Label} → HandlerOk r t → Found l (Some r) (Some t)
 
-    found_if : {l : LabelTree} {o : Option (Handler Operand)} {p : Option Label} (q : Bool) (r : Handler Operand) (t : Label) → HandlerOk r t → Found l o p → Found l (cond q (Some r) o) (found_label q t p)
+    found_if : {l : LabelTree} {o : Option (Handler Operand)} {p : Option Label} (q : Bool) (r : Handler Operand) (t : Label) → HandlerOk r t → Found l o p → Found l (cond q (Some r) o) (cond q (Some t) p)
     found_if true r t ok f = inside ok
     found_if false r t ok f = f
 
     found_body : {rs : List (Handler Operand)} {ts : List Label} (l : LabelTree) → AllOk rs ts → Found l (ready_for false l rs) (label_of (ts ++ labels) l)
     found_body l no_ok = outside
     found_body l (an_ok {r = r} {t = t} {rs = rs} {ts = ts} e ok all) =
-        subst (λ q. Found l (cond q (Some r) (ready_for false l rs)) (found_label (same_label l t.label) t (label_of (ts ++ labels) l)))
+        subst (λ q. Found l (cond q (Some r) (ready_for false l rs)) (cond (same_label l t.label) (Some t) (label_of (ts ++ labels) l)))
         (sym (visible_body l r.label ∙ ap (same_label l) e)) (found_if (same_label l t.label) r t ok (found_body l all))
 
     found_among : {o : Option (Handler Operand)} (l : LabelTree) (r : Handler Operand) (t : Label) (ts : List Label) → HandlerOk r t → Found l o (label_of (ts ++ labels) l) → (q : Bool) → is_bare t.label ≡ q →
         Found l (cond (same_label l t.label && not (is_bare l && true)) (Some r) o) (label_of (unless_bare q t ts ++ labels) l)
     found_among {o} l r t ts ok f true e = subst (λ z. Found l (cond z (Some r) o) (label_of (ts ++ labels) l)) (sym (hidden_handler l t.label e)) f
     found_among {o} l r t ts ok f false e =
-        subst (λ z. Found l (cond z (Some r) o) (found_label (same_label l t.label) t (label_of (ts ++ labels) l))) (sym (visible_handler l t.label e)) (found_if (same_label l t.label) r t ok f)
+        subst (λ z. Found l (cond z (Some r) o) (cond (same_label l t.label) (Some t) (label_of (ts ++ labels) l))) (sym (visible_handler l t.label e)) (found_if (same_label l t.label) r t ok f)
 
     found_handler : {rs : List (Handler Operand)} {ts : List Label} (l : LabelTree) → AllOk rs ts → Found l (ready_for true l rs) (label_of (in_handlers ts ++ labels) l)
     found_handler l no_ok = outside
@@ -257,10 +257,10 @@ module _ (c : Place) (m : Mach) (turns : ℕ) (ts : List ℕ) where
     end_code = bare (mark.End end) ∷ next
 
     -- what falls to the next handler, or to the end, goes after the end
-    pub falls : (l i : ℕ) (hs : Handlers) → after_label end m.code ≡ next → (x : Does) (f : File) (memory : Memory) → Follows c m x (Walks (at c m turns ts next f memory)) →
-        Follows c m x (Walks (at c m turns ts (select_handlers env (in_handlers own ++ labels) valued tail d end l i hs end_code) f memory))
+    pub falls : (l i : ℕ) (hs : Handlers) → after_label end m.code ≡ next → (x : Does) (f : File) (memory : Memory) → Follows c m x (Continues (at c m turns ts next f memory)) →
+        Follows c m x (Continues (at c m turns ts (select_handlers env (in_handlers own ++ labels) valued tail d end l i hs end_code) f memory))
     falls l i NoHandler is x f memory follows = walks follows
-    falls l i (Handle place label params body rest) is x f memory follows = walks (subst (λ code. Follows c m x (Walks (at c m turns ts code f memory))) (sym is) follows)
+    falls l i (Handle place label params body rest) is x f memory follows = walks (subst (λ code. Follows c m x (Continues (at c m turns ts code f memory))) (sym is) follows)
 
   module _ (place : ℕ) (label : LabelTree) (params : List Parameter) (body : Expression) (rest : Handlers) (labelled : WellLabelled m) (env : List names.Named) (labels own : List Label) (valued tail : Bool) (d : Reg) (b : ℕ)
       (next : List Instr) (P : File → Type 0) (kk : Leaves (Option Value) → Does) (level tries : ℕ) (end l i : ℕ) where
@@ -290,7 +290,7 @@ module _ (c : Place) (m : Mach) (turns : ℕ) (ts : List ℕ) where
           here = refl;
           low = omega (arith, le);
           body = λ k a h f memory lev s p.
-              subst (λ code. Follows c m (does (text_of c) turns body tail h memory k) (Walks (at c m turns ts code f memory)))
+              subst (λ code. Follows c m (does (text_of c) turns body tail h memory k) (Continues (at c m turns ts code f memory)))
               (sym (labelled.behind_is l (bare (mark.With l end)) body_code ending.ending (eq-eqb l l refl)))
               (sb in_env hidden valued tail d i rest_code P k (omega (arith, fine))
               (record {
@@ -361,7 +361,7 @@ module _ (c : Place) (m : Mach) (turns : ℕ) (ts : List ℕ) where
     pub selected_catch : Selected c m turns ts body → SelectedHandlers handlers → width (Catch place body handlers) < 2 ^ 60 →
         Ready c m turns ts env labels b d → Stable env b d.number P → Placed m ts (select env labels valued tail d b (Catch place body handlers) next) →
         After c m turns ts (Some T) env labels valued tail d next P k → (h : Here) (f : File) (memory : Memory) → Level c m turns ts h → Stands env h.names f → P f →
-        Follows c m (does (text_of c) turns (Catch place body handlers) tail h memory k) (Walks (at c m turns ts (select env labels valued tail d b (Catch place body handlers) next) f memory))
+        Follows c m (does (text_of c) turns (Catch place body handlers) tail h memory k) (Continues (at c m turns ts (select env labels valued tail d b (Catch place body handlers) next) f memory))
     selected_catch sb sh fine ready stable ending after h f memory lev s p =
         let first : 21 ≤ suc b = let less = ready.below in let le = ready.first in omega (arith, less, le) in
         let body_ending = placed_next refl ending in

@@ -13,7 +13,7 @@ use Rattle.bs_words.specs.declared.operators.IntOp.TheVariants as operators
 use Rattle.bs_words.specs.declared.values.Kind.TheVariants.{ShiftRange}
 use Rattle.bs_words.specs.declared.values.Value.{Value}
 use Rattle.bs_words.specs.declared.values.Value.TheVariants.{Word, Block, Function}
-use Rattle.mach_ir.specs.Formed.{is_immediate}
+use Rattle.mach_ir.specs.Forms.{is_immediate}
 use Rattle.selection.specs.Select.{Immediate, immediate_of, immediate_if, shift_by, exponent_from, exponent_if, commuted, turned_round}
 
 -- ---- a product with a power of two

@@ -13,8 +13,8 @@ use Rattle.cmm_meaning.specs.State.{Here}
 use Rattle.meaning_laws.specs.Does.{Leaves, Does}
 use Rattle.meaning_laws.specs.Interaction.{Part, with_value, both, does}
 use Rattle.mach_ir.specs.Acts.{Setting, Around, leaving_act, checked}
-use Rattle.mach_ir.specs.Formed.{is_immediate}
-use Rattle.mach_ir.specs.Runs.{Place, Walks}
+use Rattle.mach_ir.specs.Forms.{is_immediate}
+use Rattle.mach_ir.specs.Runs.{Place, Continues}
 use Rattle.mach_ir.specs.Meaning.{State, File, values, with_held}
 use Rattle.mach_ir.specs.declared.reg.Reg.{Reg}
 use Rattle.mach_ir.specs.declared.mach.Instr.{Instr}
@@ -65,7 +65,7 @@ checked_act c a (with_constant hv) = refl
 module _ (c : Place) (m : Mach) (turns : ℕ) where
   -- a constant as an operand needs no code
   pub constant_operand : {B : Type 0} (place w : ℕ) (h : Here) (memory : Memory) (go : Value → Here → Memory → Part B) (k : Leaves B → Does) (s : State) →
-      Follows c m (go (value.Word w) h memory k) (Walks s) → Follows c m (with_value (does (text_of c) turns (Integer place w) false h memory) go k) (Walks s)
+      Follows c m (go (value.Word w) h memory k) (Continues s) → Follows c m (with_value (does (text_of c) turns (Integer place w) false h memory) go k) (Continues s)
   constant_operand place w h memory go k s on = pays on
 
 module _ (c : Place) (m : Mach) (turns : ℕ) (ts : List ℕ) where
@@ -79,9 +79,9 @@ module _ (c : Place) (m : Mach) (turns : ℕ) (ts : List ℕ) where
       Placed m ts (ordered left_first (select env labels false false (fresh nx (type_of (scopes env) left)) ix left) (unless_constant r (select env labels false false (fresh ny (type_of (scopes env) e)) iy e)) next) →
       Outs c m turns ts env labels P k → (h : Here) (f : File) (memory : Memory) → Level c m turns ts h → Stands env h.names f → P f →
       ((v w : Value) (h : Here) (f : File) (memory : Memory) → Level c m turns ts h → Stands env h.names f → P f →
-      Operands (fresh nx (type_of (scopes env) left)) (fresh ny (type_of (scopes env) e)) v f r w → Follows c m (go v w h memory k) (Walks (at c m turns ts next f memory))) →
+      Operands (fresh nx (type_of (scopes env) left)) (fresh ny (type_of (scopes env) e)) v f r w → Follows c m (go v w h memory k) (Continues (at c m turns ts next f memory))) →
       Follows c m (both left_first (does (text_of c) turns left false) (does (text_of c) turns e false) h memory go k)
-      (Walks (at c m turns ts (ordered left_first (select env labels false false (fresh nx (type_of (scopes env) left)) ix left) (unless_constant r (select env labels false false (fresh ny (type_of (scopes env) e)) iy e)) next) f memory))
+      (Continues (at c m turns ts (ordered left_first (select env labels false false (fresh nx (type_of (scopes env) left)) ix left) (unless_constant r (select env labels false false (fresh ny (type_of (scopes env) e)) iy e)) next) f memory))
   right_two left_first left e by_register is sl sr fl fr nx ny ix iy next go k lower under first stable bx by' xx yy xy yx apart el er ending outs h f memory level s p on =
       two c m turns ts left_first left e sl sr fl fr nx ny ix iy next go k lower under first stable bx by' xx yy xy yx apart el er ending outs h f memory level s p
       (λ v w h f memory level s p fv fw hv hw. on v w h f memory level s p (in_registers hv hw))

@@ -1,5 +1,5 @@
 -- Values moved into the parameters of handlers, and exits.
-use Rattle.std.proofs.Common.{◌≡◌, ℕ, suc, ◌+◌, ◌<◌, ◌≤◌, Bool, true, false, List, [], ◌∷◌, Option, Some, None, map, refl, sym, ap, subst, arith, le_refl, ◌^◌}
+use Rattle.std.proofs.Common.{◌≡◌, ℕ, suc, ◌+◌, ◌<◌, ◌≤◌, Bool, true, false, cond, List, [], ◌∷◌, Option, Some, None, map, refl, sym, ap, subst, arith, le_refl, ◌^◌}
 use Rattle.bs_words.specs.Fits.{fits, type_of_comp}
 use Rattle.bs_words.specs.Memory.{Memory}
 use Rattle.bs_words.specs.declared.types.Ty.{Ty}
@@ -13,10 +13,10 @@ use Rattle.meaning_laws.specs.Interaction.{Part, onward, of_type, does, waiting,
 use Rattle.mach_ir.specs.declared.reg.Reg.{Reg}
 use Rattle.mach_ir.specs.declared.mach.Instr.{Instr}
 use Rattle.mach_ir.specs.declared.mach.Mach.{Mach}
-use Rattle.mach_ir.specs.Runs.{Place, Walks}
+use Rattle.mach_ir.specs.Runs.{Place, Continues}
 use Rattle.mach_ir.specs.Meaning.{File, put_if, put_all, wrote, after_label}
 use Rattle.mach_ir.specs.Acts.{drop_tries}
-use Rattle.selection.specs.Select.{Named, Label, scopes, fresh, width, regs_of, count_of, moves_all, exit_to, label_of, found_label, params_from, with_params, select, select_filled}
+use Rattle.selection.specs.Select.{Named, Label, scopes, fresh, width, regs_of, count_of, moves_all, exit_to, label_of, params_from, with_params, select, select_filled}
 use Rattle.std.specs.Prelude.{length}
 use Rattle.selection.specs.Follow.{Follows, walks, jumps, jumps_wrong}
 use Rattle.selection.proofs.Files.{Under, under_more, named_under, Stands, one, stands_put}
@@ -88,7 +88,7 @@ under_with n i (p ∷ params) first le u = under_with (suc n) i params (omega (a
 module _ (c : Place) (m : Mach) (turns : ℕ) (ts : List ℕ) where
   -- one move after the other
   pub moves_follow : {x : Does} {memory : Memory} (from to : List Reg) (next : List Instr) (vs : List Value) {f g : File} → Row c.setting.end f from (map Some vs) → AllOff to from → PutAll c.setting.end to vs f g →
-      Follows c m x (Walks (at c m turns ts next g memory)) → Follows c m x (Walks (at c m turns ts (moves_all from to next) f memory))
+      Follows c m x (Continues (at c m turns ts next g memory)) → Follows c m x (Continues (at c m turns ts (moves_all from to next) f memory))
   moves_follow [] [] next [] row o nil follows = follows
   moves_follow [] (d ∷ to) next [] row o p follows = elim p [ ]
   moves_follow [] to next (v ∷ vs) row o p follows = elim row [ ]
@@ -106,7 +106,7 @@ module _ (c : Place) (m : Mach) (turns : ℕ) (ts : List ℕ) where
     lower_none : LowerOne b None
     lower_one : {t : Label} → AllUnder b t.params → LowerOne b (Some t)
 
-  lower_found : {b : ℕ} (q : Bool) (t : Label) {o : Option Label} → AllUnder b t.params → LowerOne b o → LowerOne b (found_label q t o)
+  lower_found : {b : ℕ} (q : Bool) (t : Label) {o : Option Label} → AllUnder b t.params → LowerOne b o → LowerOne b (cond q (Some t) o)
   lower_found true t u o = lower_one u
   lower_found false t u o = o
 
@@ -115,11 +115,11 @@ module _ (c : Place) (m : Mach) (turns : ℕ) (ts : List ℕ) where
   lower_label l (a_label {t = t} u lower) = lower_found (same_label l t.label) t u (lower_label l lower)
 
   exit_follows : {b i : ℕ} {x : Does} (o : Option Label) (from : List Reg) (next : List Instr) (vs : List Value) (f : File) (memory : Memory) → LowerOne b o → Between b i from → Row c.setting.end f from (map Some vs) →
-      Follows c m x (arrive c m turns ts o vs f memory) → Follows c m (Jumps x) (Walks (at c m turns ts (exit_to o from next) f memory))
+      Follows c m x (arrive c m turns ts o vs f memory) → Follows c m (Jumps x) (Continues (at c m turns ts (exit_to o from next) f memory))
   exit_follows None from next vs f memory lower l row follows = jumps_wrong follows
   exit_follows {b = b} {x = x} (Some t) from next vs f memory (lower_one u) l row follows = by (put_all c.setting.end t.params vs f) (put_view c.setting.end t.params vs f) follows
     where
-      by : (o : Option File) → PutView c.setting.end t.params vs f o → Follows c m x (wrote (after_label t.number m.code) (calm_in (drop_tries t.tries ts) memory) o) → Follows c m (Jumps x) (Walks (at c m turns ts (exit_to (Some t) from next) f memory))
+      by : (o : Option File) → PutView c.setting.end t.params vs f o → Follows c m x (wrote (after_label t.number m.code) (calm_in (drop_tries t.tries ts) memory) o) → Follows c m (Jumps x) (Continues (at c m turns ts (exit_to (Some t) from next) f memory))
       by o is_stuck follows = jumps_wrong follows
       by o (is_put p) follows = moves_follow from t.params (bare (mark.Exit t.number t.tries) ∷ next) vs row (off_after l u (le_refl b)) p (walks (jumps follows))
 
@@ -136,7 +136,7 @@ module _ (c : Place) (m : Mach) (turns : ℕ) (ts : List ℕ) where
     pub selected_exit : SelectedWaiting c m turns ts arguments → SelectedFilled c m turns ts arguments → width (Exit place label_at label arguments) < 2 ^ 60 →
         Ready c m turns ts env labels b d → Stable env b d.number P → Placed m ts (select env labels valued tail d b (Exit place label_at label arguments) next) →
         After c m turns ts (Some T) env labels valued tail d next P k → (h : Here) (f : File) (memory : Memory) → Level c m turns ts h → Stands env h.names f → P f →
-        Follows c m (does (text_of c) turns (Exit place label_at label arguments) tail h memory k) (Walks (at c m turns ts (select env labels valued tail d b (Exit place label_at label arguments) next) f memory))
+        Follows c m (does (text_of c) turns (Exit place label_at label arguments) tail h memory k) (Continues (at c m turns ts (select env labels valued tail d b (Exit place label_at label arguments) next) f memory))
     selected_exit sw sf fine ready stable ending after h f memory level s p =
         let first : 21 ≤ b = let less = ready.below in let le = ready.first in omega (arith, less, le) in
         let a = after_typed c m turns ts T b after in

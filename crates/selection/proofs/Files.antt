@@ -5,10 +5,10 @@ use Rattle.std.proofs.lemmas.Bool.{eq-eqb, eqb-true}
 use Rattle.bs_words.specs.declared.types.Ty.{Ty}
 use Rattle.bs_words.specs.declared.values.Value.{Value}
 use Rattle.cmm_types.specs.Types.{Scoped, type_named, first_type}
-use Rattle.cmm_meaning.specs.State.{Binding, value_of, assigned, assigned_first, found}
+use Rattle.cmm_meaning.specs.State.{Binding, value_of, assigned}
 use Rattle.mach_ir.specs.declared.reg.Reg.{Reg}
 use Rattle.mach_ir.specs.Meaning.{Held, File, put, clear, killed_among, killed_by, Destroyed, Nothing, Temporaries, Everything, is_destroyed, is_at_one_of}
-use Rattle.selection.specs.Select.{Named, scopes, comp_of, found_reg, reg_of}
+use Rattle.selection.specs.Select.{Named, scopes, comp_of, reg_of}
 use Rattle.bs_words.specs.declared.types.Ty.TheVariants as ty
 
 -- this value stands in a register
@@ -110,7 +110,7 @@ pub data Looked (env : List Named) (f : File) : Option Reg → Option Value → 
   known : {r : Reg} {v : Value} → IsNamed r.number env → Holds r v f → Looked env f (Some r) (Some v)
 
 looked_first : (b : Bool) (x : Named) {env : List Named} (v : Value) {f : File} {o : Option Reg} {p : Option Value} → Holds x.reg v f → Looked env f o p →
-    Looked (x ∷ env) f (found_reg b x.reg o) (found b v p)
+    Looked (x ∷ env) f (cond b (Some x.reg) o) (cond b (Some v) p)
 looked_first true x v h l = known (here refl) h
 looked_first false x v h unknown = unknown
 looked_first false x v h (known i k) = known (there i) k
@@ -118,7 +118,7 @@ looked_first false x v h (known i k) = known (there i) k
 pub looked_up : {env : List Named} {names : List Binding} {f : File} (name : List ℕ) → Stands env names f → Looked env f (reg_of env name) (value_of names name)
 looked_up name none = unknown
 looked_up {f = f} name (one {x = x} {env = env} {n = n} {names = names} e h s) =
-    subst (λ (y : Scoped). Looked (x ∷ env) f (found_reg (bytes_eq x.scoped.name name) x.reg (reg_of env name)) (found (bytes_eq y.name name) n.value (value_of names name)))
+    subst (λ (y : Scoped). Looked (x ∷ env) f (cond (bytes_eq x.scoped.name name) (Some x.reg) (reg_of env name)) (cond (bytes_eq y.name name) (Some n.value) (value_of names name)))
     (sym e) (looked_first (bytes_eq x.scoped.name name) x n.value h (looked_up name s))
 
 -- an assignment writes the register of the innermost binding of its name
@@ -128,7 +128,7 @@ pub data Assigns (env : List Named) (v : Value) (f : File) : Option Reg → List
 
 assigns_first : (b : Bool) (x : Named) {i : ℕ} {env : List Named} (n : Binding) (names : List Binding) {others : List Binding} (v : Value) {f : File} {o : Option Reg} {T : Ty} →
     Under i (x ∷ env) → n.scoped ≡ x.scoped → Holds x.reg n.value f → Stands env names f → Assigns env v f o others T →
-    Assigns (x ∷ env) v f (found_reg b x.reg o) (assigned_first b n v names others) (first_type b x.scoped.type T)
+    Assigns (x ∷ env) v f (cond b (Some x.reg) o) (cond b (record n { value = v } ∷ names) (n ∷ others)) (first_type b x.scoped.type T)
 assigns_first true x n names v {f = f} (one a z q u) e h s a' =
     assigns (here refl) q (one e (put_same x.reg v f) (stands_put x.reg v (λ i. let less = named_under u i in omega (arith, less)) s))
 assigns_first false x n names v u e h s unbound = unbound
@@ -139,8 +139,8 @@ pub assigning : {i : ℕ} {env : List Named} {names : List Binding} {f : File} (
     Assigns env v f (reg_of env name) (assigned names name v) (type_named (scopes env) name)
 assigning name v u none = unbound
 assigning {f = f} name v (one a z q u) (one {x = x} {env = env} {n = n} {names = names} e h s) =
-    subst (λ (y : Scoped). Assigns (x ∷ env) v f (found_reg (bytes_eq x.scoped.name name) x.reg (reg_of env name))
-    (assigned_first (bytes_eq y.name name) n v names (assigned names name v)) (first_type (bytes_eq x.scoped.name name) x.scoped.type (type_named (scopes env) name)))
+    subst (λ (y : Scoped). Assigns (x ∷ env) v f (cond (bytes_eq x.scoped.name name) (Some x.reg) (reg_of env name))
+    (cond (bytes_eq y.name name) (record n { value = v } ∷ names) (n ∷ assigned names name v)) (first_type (bytes_eq x.scoped.name name) x.scoped.type (type_named (scopes env) name)))
     (sym e) (assigns_first (bytes_eq x.scoped.name name) x n names v (one a z q u) e h s (assigning name v u s))
 
 pub stands_length : {env : List Named} {names : List Binding} {f : File} → Stands env names f → length names ≡ length env

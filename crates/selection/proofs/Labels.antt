@@ -17,14 +17,14 @@ use Rattle.mach_ir.specs.declared.reg.Reg.{Reg}
 use Rattle.mach_ir.specs.declared.mach.Instr.{Instr}
 use Rattle.mach_ir.specs.declared.mach.Mach.{Mach}
 use Rattle.mach_ir.specs.declared.mach.MachOp.{MachOp}
-use Rattle.mach_ir.specs.Meaning.{labels as marks_of, after_label, handles, onto}
+use Rattle.mach_ir.specs.Meaning.{has_label as marks_of, after_label, is_handler_of, from_handler}
 use Rattle.selection.specs.Select.{Shape, InRegisters, ConstantRight, ConstantLeft, shape_of, shape_op, shape_right, unless_left, unless_right, Named, Label, scopes, fresh, reg_of, label_of, move_from, move_to, moves_all, exit_to, ordered, only_when, seats, from_seat, to_seat, first, params_from, symbol_of, unless_symbol, right_of, unless_constant, bound_test, comparison, tested, select_test, is_based, select_base, call_of, count_of, count_cases, width_cases, select_cases, cell_stores, regs_of, width, width_row, width_bound, width_labels, width_handlers, select, select_waiting, select_filled, select_bound, select_seq, select_handlers, selected}
 use Rattle.selection.proofs.Parts.{Ending, all, more, WellLabelled}
 use Rattle.selection.specs.Instructions as emit
 
 -- the label of a mark, or of a handler
 abbrev marks : ℕ → MachOp → Bool
-marks l op = handles l op || marks_of l op
+marks l op = is_handler_of l op || marks_of l op
 
 pub data NoMark (l : ℕ) : List Instr → Type 0 where
   none : NoMark l []
@@ -61,14 +61,14 @@ no_handle false y e = refl
 behind_one : (l : ℕ) {i : Instr} {rest code : List Instr} → Ending (i ∷ rest) code → Distinct code → marks_of l i.op ≡ true → after_label l code ≡ rest
 behind_one l {rest = rest} all d m = ap (λ b. cond b rest (after_label l rest)) m
 behind_one l {i} {rest} (more {i = j} {code = code} x) (cons apart d) m =
-    ⊎_elim (λ e. absurd (no_mark_in x (apart l e) (any_mark (handles l i.op) (marks_of l i.op) m)))
-    (λ e. ap (λ b. cond b code (after_label l code)) (no_mark (handles l j.op) (marks_of l j.op) e) ∙ behind_one l x d m) (cases_Bool (marks l j.op))
+    ⊎_elim (λ e. absurd (no_mark_in x (apart l e) (any_mark (is_handler_of l i.op) (marks_of l i.op) m)))
+    (λ e. ap (λ b. cond b code (after_label l code)) (no_mark (is_handler_of l j.op) (marks_of l j.op) e) ∙ behind_one l x d m) (cases_Bool (marks l j.op))
 
-onto_one : (l : ℕ) {i : Instr} {rest code : List Instr} → Ending (i ∷ rest) code → Distinct code → handles l i.op ≡ true → onto l code ≡ i ∷ rest
-onto_one l {i} {rest} all d m = ap (λ b. cond b (i ∷ rest) (onto l rest)) m
+onto_one : (l : ℕ) {i : Instr} {rest code : List Instr} → Ending (i ∷ rest) code → Distinct code → is_handler_of l i.op ≡ true → from_handler l code ≡ i ∷ rest
+onto_one l {i} {rest} all d m = ap (λ b. cond b (i ∷ rest) (from_handler l rest)) m
 onto_one l {i} {rest} (more {i = j} {code = code} x) (cons apart d) m =
-    ⊎_elim (λ e. absurd (no_mark_in x (apart l e) (any_handle (handles l i.op) (marks_of l i.op) m)))
-    (λ e. ap (λ b. cond b (j ∷ code) (onto l code)) (no_handle (handles l j.op) (marks_of l j.op) e) ∙ onto_one l x d m) (cases_Bool (marks l j.op))
+    ⊎_elim (λ e. absurd (no_mark_in x (apart l e) (any_handle (is_handler_of l i.op) (marks_of l i.op) m)))
+    (λ e. ap (λ b. cond b (j ∷ code) (from_handler l code)) (no_handle (is_handler_of l j.op) (marks_of l j.op) e) ∙ onto_one l x d m) (cases_Bool (marks l j.op))
 
 pub well_labelled : (m : Mach) → Distinct m.code → WellLabelled m
 well_labelled m d = record { behind_is = λ l i rest e k. behind_one l e d k; onto_is = λ l i rest e k. onto_one l e d k }
@@ -325,8 +325,8 @@ mutual
       (λ l p q. ⊎_elim (λ q. apart_left (omega arith) p q) (λ q. ⊎_elim (λ q. apart_right (omega arith) p q) (λ q. ⊎_elim (λ q. apart_left (omega arith) p q) (λ q. apart_right (omega arith) p q) q) q) q))
   marks_select env labels valued tail d b (Catch at body handlers) =
       let base = suc (suc b) + width_labels handlers in
-      let mb = marks_select env _ _ tail _ base body in
       let mh = marks_handlers env _ _ tail _ (suc b) (suc (suc b)) (base + width body) handlers (omega arith) in
+      let mb = marks_select env _ _ tail _ base body in
       let me = marked (suc b) _ (λ l. refl) in
       quiet_then (unmarked _ (λ l. refl))
       (wider (λ l z. ⊎_elim (inside (omega arith) (omega arith)) (λ z. ⊎_elim (λ z. ⊎_elim (inside (omega arith) (omega arith)) (inside (omega arith) (omega arith)) z) (inside (omega arith) (omega arith)) z) z)
@@ -360,8 +360,8 @@ mutual
       (unmarked _ (λ l. refl))
   marks_select env labels valued tail d b (Switch at q n e cs) =
       let base = suc (suc (suc b)) + count_cases cs in
-      let ms = marks_select env labels false false _ base e in
       let mc = marks_cases env labels _ tail _ _ (suc (suc b)) (suc (suc (suc b))) (base + width e) cs (omega arith) in
+      let ms = marks_select env labels false false _ base e in
       let me = marked (suc (suc b)) _ (λ l. refl) in
       wider (λ l z. ⊎_elim (inside (omega arith) (omega arith)) (λ z. ⊎_elim (λ z. ⊎_elim (inside (omega arith) (omega arith)) (inside (omega arith) (omega arith)) z) (inside (omega arith) (omega arith)) z) z)
       (seq ms
@@ -406,9 +406,9 @@ mutual
       Marks (λ n. Range l (l + count_cases cs) n ⊎ Range i (i + width_cases cs) n) (select_cases env labels valued tail d places end l i cs)
   marks_cases env labels valued tail d places end l i NoCase le = quiet_in nothing_marked
   marks_cases env labels valued tail d places end l i (Choose indexes body rest) le =
+      let mr = marks_cases env labels valued tail d places end (suc l) (i + width body) rest (omega (arith, le)) in
       let ml = marked l _ (λ n. refl) in
       let mb = marks_select env labels valued tail d i body in
-      let mr = marks_cases env labels valued tail d places end (suc l) (i + width body) rest (omega (arith, le)) in
       wider
       (λ n z. ⊎_elim (λ r. inl (inside (omega arith) (omega arith) r)) (λ z. ⊎_elim (λ r. inr (inside (omega arith) (omega arith) r)) (λ z. ⊎_elim (λ r. inl (inside (omega arith) (omega arith) r)) (λ r. inr (inside (omega arith) (omega arith) r)) z) z) z)
       (seq ml
@@ -436,9 +436,9 @@ mutual
       Marks (λ n. Range l (l + width_labels hs) n ⊎ Range i (i + width_handlers hs) n) (select_handlers env labels valued tail d end l i hs)
   marks_handlers env labels valued tail d end l i NoHandler le = quiet_in nothing_marked
   marks_handlers env labels valued tail d end l i (Handle at label params body rest) le =
+      let mr = marks_handlers env labels valued tail d end (suc l + length params) (i + width body) rest (omega (arith, le)) in
       let ml = marked l _ (λ n. refl) in
       let mb = marks_select _ labels valued tail d i body in
-      let mr = marks_handlers env labels valued tail d end (suc l + length params) (i + width body) rest (omega (arith, le)) in
       wider
       (λ n z. ⊎_elim (λ r. inl (inside (omega arith) (omega arith) r)) (λ z. ⊎_elim (λ r. inr (inside (omega arith) (omega arith) r)) (λ z. ⊎_elim (λ r. inl (inside (omega arith) (omega arith) r)) (λ r. inr (inside (omega arith) (omega arith) r)) z) z) z)
       (seq ml

@@ -16,9 +16,9 @@ use Rattle.meaning_laws.specs.Interaction.{Part, onward, of_type, tested, both, 
 use Rattle.mach_ir.specs.declared.reg.Reg.{Reg}
 use Rattle.mach_ir.specs.declared.mach.Instr.{Instr}
 use Rattle.mach_ir.specs.declared.mach.Mach.{Mach}
-use Rattle.mach_ir.specs.Runs.{Place, Walks}
+use Rattle.mach_ir.specs.Runs.{Place, Continues}
 use Rattle.mach_ir.specs.Meaning.{File, with_held, on_act, wrote, put, put_if}
-use Rattle.mach_ir.specs.Acts.{known, one_result}
+use Rattle.mach_ir.specs.Acts.{if_known, one_result}
 use Rattle.selection.specs.Kept.{on_values}
 use Rattle.selection.specs.Select.{shape_of, shape_op, shape_right, shape_args, Named, Label, scopes, fresh, reg_of, move_from, move_to, inner_valued, inner_dest, width, select}
 use Rattle.selection.specs.Follow.{Follows, walks, fails}
@@ -58,7 +58,7 @@ module _ (c : Place) (m : Mach) (turns : ℕ) (ts : List ℕ) where
   -- a move, where its source holds a value
   pub move_follows : {x : Does} {a d : Reg} {v : Value} {f : File} {next : List Instr} {memory : Memory} → Holds a v f →
       Follows c m x (wrote next (calm c m turns ts memory) (put_if (fits c.setting.end (type_of_comp d.comp) v) d v (Some f))) →
-      Follows c m x (Walks (at c m turns ts (emit.move a d ∷ next) f memory))
+      Follows c m x (Continues (at c m turns ts (emit.move a d ∷ next) f memory))
   move_follows {x} {a} {d} {v} {f} {next} {memory} h follows =
       walks (subst (λ o. Follows c m x (on_values c m (emit.move a d) next f (calm c m turns ts memory) (with_held o (Some [])))) (sym h.is) follows)
 
@@ -90,7 +90,7 @@ module _ (c : Place) (m : Mach) (turns : ℕ) (ts : List ℕ) where
       node_follows c m turns ts e h memory (looked_up (c.setting.symbol name) h memory) k _ s (walks (by (c.setting.symbol name)))
     where
       by : (o : Option Value) → Follows c m (looked_up o h memory (λ l. onward (λ v h memory. of_type c.setting.end (type_of (scopes env) (Symbol place name)) v h memory) l k))
-          (on_act c m (emit.symbol name (inner_dest (type_of (scopes env) (Symbol place name)) b d)) next f (calm c m turns ts memory) (known (calm c m turns ts memory) o))
+          (on_act c m (emit.symbol name (inner_dest (type_of (scopes env) (Symbol place name)) b d)) next f (calm c m turns ts memory) (if_known (calm c m turns ts memory) o))
       by None = fails
       by (Some v) =
           lands c m turns ts (ready_inner (type_of (scopes env) (Symbol place name)) ready) (stable_dest d (type_of (scopes env) (Symbol place name)) stable)
@@ -101,7 +101,7 @@ module _ (c : Place) (m : Mach) (turns : ℕ) (ts : List ℕ) where
       node_follows c m turns ts (Name place x) h memory (looked_up (value_of h.names x) h memory) k _ s (by (reg_of env x) (value_of h.names x) (name_stands x s))
     where
       by : (r : Option Reg) (o : Option Value) → Looked env f r o → Follows c m (looked_up o h memory (λ l. onward (λ v h memory. of_type c.setting.end (type_of (scopes env) (Name place x)) v h memory) l k))
-          (Walks (at c m turns ts (move_from r (inner_dest (type_of (scopes env) (Name place x)) b d) next) f memory))
+          (Continues (at c m turns ts (move_from r (inner_dest (type_of (scopes env) (Name place x)) b d) next) f memory))
       by r o unknown = fails
       by r o (a_known {v = v} i holds) =
           move_follows holds
@@ -122,7 +122,7 @@ module _ (c : Place) (m : Mach) (turns : ℕ) (ts : List ℕ) where
       (λ v h f memory level s p fit' holds.
       subst (λ (sc : List Scoped). Follows c m (tested c.setting.end (type_named sc x) v memory (part.gives None (record h { names = assigned h.names x v }) memory)
       (λ l. onward (λ v h memory. of_type c.setting.end (type_of (scopes env) (Assign place name_at x e)) v h memory) l k))
-      (Walks (at c m turns ts (move_to (fresh (suc b) (type_of (scopes env) e)) (reg_of env x) next) f memory)))
+      (Continues (at c m turns ts (move_to (fresh (suc b) (type_of (scopes env) e)) (reg_of env x) next) f memory)))
       (sym (scope_is s))
       (by v h f memory level p holds (reg_of env x) (assigned h.names x v) (type_named (scopes env) x) (assigning x v under s))))
     where
@@ -130,7 +130,7 @@ module _ (c : Place) (m : Mach) (turns : ℕ) (ts : List ℕ) where
           (r : Option Reg) (names : List Binding) (T : Ty) → Assigns env v f r names T →
           Follows c m (tested c.setting.end T v memory (part.gives None (record h { names = names }) memory)
           (λ l. onward (λ v h memory. of_type c.setting.end (type_of (scopes env) (Assign place name_at x e)) v h memory) l k))
-          (Walks (at c m turns ts (move_to (fresh (suc b) (type_of (scopes env) e)) r next) f memory))
+          (Continues (at c m turns ts (move_to (fresh (suc b) (type_of (scopes env) e)) r next) f memory))
       by v h f memory level p holds o names T unbound = fails
       by v h f memory level p holds o names T (assigns {r = r} i q t) = fitting (fits c.setting.end T v) refl
         where
@@ -141,7 +141,7 @@ module _ (c : Place) (m : Mach) (turns : ℕ) (ts : List ℕ) where
           fitting : (g : Bool) → fits c.setting.end T v ≡ g →
               Follows c m (cond g (part.gives None (record h { names = names }) memory) (part.fails (misfit T) memory)
               (λ l. onward (λ v h memory. of_type c.setting.end (type_of (scopes env) (Assign place name_at x e)) v h memory) l k))
-              (Walks (at c m turns ts (emit.move (fresh (suc b) (type_of (scopes env) e)) r ∷ next) f memory))
+              (Continues (at c m turns ts (emit.move (fresh (suc b) (type_of (scopes env) e)) r ∷ next) f memory))
           fitting false e' = fails
           fitting true e' =
               move_follows holds
@@ -159,7 +159,7 @@ module _ (c : Place) (m : Mach) (turns : ℕ) (ts : List ℕ) where
       node_follows c m turns ts (Operator place op left right) h memory
       (both (is_left_first (scope h) left right) (does (text_of c) turns left false) (does (text_of c) turns right false) h memory go) k _ s
       (subst (λ (sc : List Scoped). Follows c m (both (is_left_first sc left right) (does (text_of c) turns left false) (does (text_of c) turns right false) h memory go kk)
-      (Walks (at c m turns ts (select env labels valued tail d b (Operator place op left right) next) f memory)))
+      (Continues (at c m turns ts (select env labels valued tail d b (Operator place op left right) next) f memory)))
       (sym (scope_is s))
       (shape_two c m turns ts (is_left_first (scopes env) left right) left right (shape_view op left right) refl sl sr (omega (arith, fine)) (omega (arith, fine)) (suc b) (suc (suc b)) (suc (suc (suc b))) (suc (suc (suc b)) + width left)
       (instr ∷ next) go kk ready.lower ready.under first stable

@@ -19,9 +19,9 @@ use Rattle.meaning_laws.specs.Interaction.{Part, onward, of_type, both, proper, 
 use Rattle.mach_ir.specs.declared.reg.Reg.{Reg}
 use Rattle.mach_ir.specs.declared.mach.Instr.{Instr}
 use Rattle.mach_ir.specs.declared.mach.Mach.{Mach}
-use Rattle.mach_ir.specs.Runs.{Place, Walks}
+use Rattle.mach_ir.specs.Runs.{Place, Continues}
 use Rattle.mach_ir.specs.Meaning.{State, File, with_held, on_act, wrote, put, put_if}
-use Rattle.mach_ir.specs.Acts.{Around, known, one_result}
+use Rattle.mach_ir.specs.Acts.{Around, if_known, one_result}
 use Rattle.selection.specs.Kept.{on_values}
 use Rattle.selection.specs.Select.{Shape, InRegisters, shape_of, shape_op, shape_right, shape_args, unless_left, unless_right, Named, Label, scopes, fresh, reg_of, move_from, inner_dest, width, ordered, only_when, count_of, regs_of, select, select_filled}
 use Rattle.selection.specs.Follow.{Follows, walks, fails}
@@ -65,7 +65,7 @@ module _ (c : Place) (m : Mach) (turns : ℕ) (ts : List ℕ) (h : Here) (memory
   taking go k l = onward (λ v h memory. only_value v go h memory) l k
 
   land : {B : Type 0} (T : Ty) (i n : ℕ) (v : Value) (f : File) (next : List Instr) (go : Value → Here → Memory → Part B) (k : Leaves B → Does) →
-      (fits c.setting.end T v ≡ true → Follows c m (go v h memory k) (Walks (now next (put (fresh n T) v f)))) →
+      (fits c.setting.end T v ≡ true → Follows c m (go v h memory k) (Continues (now next (put (fresh n T) v f)))) →
       Follows c m (of_type c.setting.end T (Some v) h memory (taking go k))
       (wrote next a (put_if (fits c.setting.end (type_of_comp (inner_dest T i (fresh n T)).comp) v) (inner_dest T i (fresh n T)) v (Some f)))
   land ty.NoValue i n v f next go k on = fails
@@ -87,12 +87,12 @@ module _ (c : Place) (m : Mach) (turns : ℕ) (ts : List ℕ) (h : Here) (memory
   LightOperand e =
       (B : Type 0) (env : List Named) (labels : List Label) (n i : ℕ) (next : List Instr) (P : File → Type 0) (go : Value → Here → Memory → Part B) (k : Leaves B → Does) →
       is_light (scopes env) e ≡ true → Under n env → n < i → 21 ≤ n → Stable env i n P → (f : File) → Stands env h.names f → P f →
-      ((v : Value) (f : File) → Stands env h.names f → P f → fits c.setting.end (type_of (scopes env) e) v ≡ true → Holds (fresh n (type_of (scopes env) e)) v f → Follows c m (go v h memory k) (Walks (now next f))) →
-      Follows c m (with_value (does (text_of c) turns e false h memory) go k) (Walks (now (select env labels false false (fresh n (type_of (scopes env) e)) i e next) f))
+      ((v : Value) (f : File) → Stands env h.names f → P f → fits c.setting.end (type_of (scopes env) e) v ≡ true → Holds (fresh n (type_of (scopes env) e)) v f → Follows c m (go v h memory k) (Continues (now next f))) →
+      Follows c m (with_value (does (text_of c) turns e false h memory) go k) (Continues (now (select env labels false false (fresh n (type_of (scopes env) e)) i e next) f))
 
   -- what follows a write of the register
   after_write : {env : List Named} {P : File → Type 0} {next : List Instr} {i n : ℕ} {x : Value → Does} (T : Ty) → Under n env → Stable env i n P → (f : File) → Stands env h.names f → P f →
-      ((v : Value) (f : File) → Stands env h.names f → P f → fits c.setting.end T v ≡ true → Holds (fresh n T) v f → Follows c m (x v) (Walks (now next f))) → (v : Value) → fits c.setting.end T v ≡ true → Follows c m (x v) (Walks (now next (put (fresh n T) v f)))
+      ((v : Value) (f : File) → Stands env h.names f → P f → fits c.setting.end T v ≡ true → Holds (fresh n T) v f → Follows c m (x v) (Continues (now next f))) → (v : Value) → fits c.setting.end T v ≡ true → Follows c m (x v) (Continues (now next (put (fresh n T) v f)))
   after_write {n = n} T under stable f s p on v fv =
       on v (put (fresh n T) v f) (stands_put (fresh n T) v (λ q. let small = named_under under q in omega (arith, small)) s) (stable.puts (fresh n T) v f (dest refl) p) fv (put_same (fresh n T) v f)
 
@@ -110,7 +110,7 @@ module _ (c : Place) (m : Mach) (turns : ℕ) (ts : List ℕ) (h : Here) (memory
       T = type_of (scopes env) (Symbol place x)
 
       by : (o : Option Value) → Follows c m (looked_up o h memory (λ l. onward (λ v h memory. of_type c.setting.end T v h memory) l (taking go k)))
-          (on_act c m (emit.symbol x (inner_dest T i (fresh n T))) next f a (known a o))
+          (on_act c m (emit.symbol x (inner_dest T i (fresh n T))) next f a (if_known a o))
       by None = fails
       by (Some v) = land T i n v f next go k (λ q. after_write T under stable f s p on v q)
 
@@ -122,7 +122,7 @@ module _ (c : Place) (m : Mach) (turns : ℕ) (ts : List ℕ) (h : Here) (memory
       T = type_of (scopes env) (Name place x)
 
       by : (r : Option Reg) (o : Option Value) → Looked env f r o → Follows c m (looked_up o h memory (λ l. onward (λ v h memory. of_type c.setting.end T v h memory) l (taking go k)))
-          (Walks (now (move_from r (inner_dest T i (fresh n T)) next) f))
+          (Continues (now (move_from r (inner_dest T i (fresh n T)) next) f))
       by r o unknown = fails
       by r o (a_known {r = q} {v = v} named holds) =
           walks (subst (λ z. Follows c m (of_type c.setting.end T (Some v) h memory (taking go k)) (on_values c m (emit.move q (inner_dest T i (fresh n T))) next f a (with_held z (Some [])))) (sym holds.is)
@@ -134,7 +134,7 @@ module _ (c : Place) (m : Mach) (turns : ℕ) (ts : List ℕ) (h : Here) (memory
         node_follows c m turns ts e h memory (both (is_left_first (scope h) left right) (does (text_of c) turns left false) (does (text_of c) turns right false) h memory (λ v w h memory.
         proper (apply op (sizes memory) v w) memory (λ u. part.gives (Some u) h memory))) (taking go k) _ s
         (subst (λ (sc : List Scoped). Follows c m (both (is_left_first sc left right) (does (text_of c) turns left false) (does (text_of c) turns right false) h memory step kk)
-        (Walks (now (ordered (is_left_first (scopes env) left right) (left_code (shape_of op left right)) (right_code (shape_of op left right)) (instr (shape_of op left right) ∷ next)) f))) (sym (scope_is s)) (by (is_left_first (scopes env) left right) refl refl refl (shape_view op left right)))
+        (Continues (now (ordered (is_left_first (scopes env) left right) (left_code (shape_of op left right)) (right_code (shape_of op left right)) (instr (shape_of op left right) ∷ next)) f))) (sym (scope_is s)) (by (is_left_first (scopes env) left right) refl refl refl (shape_view op left right)))
       where
         e : Expression
         e = Operator place op left right
@@ -171,7 +171,7 @@ module _ (c : Place) (m : Mach) (turns : ℕ) (ts : List ℕ) (h : Here) (memory
         result q f s p (Err kind) = fails
         result q f s p (Ok u) = land T i n u f next go k (λ q. after_write T under stable f s p on u q)
 
-        last : {r : Shape} (v w : Value) (f : File) → Stands env h.names f → P f → Operands op x y f r v w → Follows c m (step v w h memory kk) (Walks (now (instr r ∷ next) f))
+        last : {r : Shape} (v w : Value) (f : File) → Stands env h.names f → P f → Operands op x y f r v w → Follows c m (step v w h memory kk) (Continues (now (instr r ∷ next) f))
         last {r = r} v w f s p read =
             walks (subst (λ o. Follows c m (step v w h memory kk) (on_values c m (instr r) next f a o)) (sym (operands_values read))
             (subst (λ done. Follows c m (step v w h memory kk) (on_act c m (instr r) next f a done)) (sym (operator_act c.setting a read))
@@ -183,18 +183,18 @@ module _ (c : Place) (m : Mach) (turns : ℕ) (ts : List ℕ) (h : Here) (memory
         unnamed j le q = let small = named_under under q in omega (arith, small, le)
 
         by : {r : Shape} {g1 g2 : Expression} (q : Bool) → is_left_first (scopes env) g1 g2 ≡ q → g1 ≡ left → g2 ≡ right → ShapeView op g1 g2 r →
-            Follows c m (both q (does (text_of c) turns left false) (does (text_of c) turns right false) h memory step kk) (Walks (now (ordered q (left_code r) (right_code r) (instr r ∷ next)) f))
+            Follows c m (both q (does (text_of c) turns left false) (does (text_of c) turns right false) h memory step kk) (Continues (now (ordered q (left_code r) (right_code r) (instr r ∷ next)) f))
         by true is same1 same2 (constant_right z) = absurd (true≢false (sym is))
         by {r = r} false is same1 same2 (constant_right {place = place'} {w = w} z) =
             subst (λ g. Follows c m (with_value (does (text_of c) turns g false h memory) (λ w h memory. with_value (does (text_of c) turns left false h memory) (λ v h memory. step v w h memory)) kk)
-            (Walks (now (left_code r (instr r ∷ next)) f))) same2
+            (Continues (now (left_code r (instr r ∷ next)) f))) same2
             (constant_operand c m turns place' w h memory (λ w h memory. with_value (does (text_of c) turns left false h memory) (λ v h memory. step v w h memory)) kk _
             (ll _ env labels (suc i) (suc (suc (suc i))) (instr r ∷ next) P (λ v h memory. step v (value.Word w) h memory) kk (and_left (is_light (scopes env) left) (is_light (scopes env) right) parts)
             (under_more (suc i) (omega (arith, less)) under) (omega arith) (omega (arith, first, less)) (stable_inner (suc i) (suc (suc (suc i))) (omega arith) (omega arith) stable)
             f s p (λ v f s p fv hv. last v (value.Word w) f s p (left_stands z hv))))
         by {r = r} true is same1 same2 (constant_left {place = place'} {w = w} z) =
             subst (λ g. Follows c m (with_value (does (text_of c) turns g false h memory) (λ v h memory. with_value (does (text_of c) turns right false h memory) (λ w h memory. step v w h memory)) kk)
-            (Walks (now (right_code r (instr r ∷ next)) f))) same1
+            (Continues (now (right_code r (instr r ∷ next)) f))) same1
             (constant_operand c m turns place' w h memory (λ v h memory. with_value (does (text_of c) turns right false h memory) (λ w h memory. step v w h memory)) kk _
             (lr _ env labels (suc (suc i)) (suc (suc (suc i)) + width left) (instr r ∷ next) P (λ u h memory. step (value.Word w) u h memory) kk (and_right (is_light (scopes env) left) (is_light (scopes env) right) parts)
             (under_more (suc (suc i)) (omega (arith, less)) under) (omega arith) (omega (arith, first, less)) (stable_inner (suc (suc i)) (suc (suc (suc i)) + width left) (omega arith) (omega arith) stable)
@@ -204,7 +204,7 @@ module _ (c : Place) (m : Mach) (turns : ℕ) (ts : List ℕ) (h : Here) (memory
             (and_right (is_light (scopes env) left) (is_light (scopes env) right) parts)
             (under_more (suc (suc i)) (omega (arith, less)) under) (omega arith) (omega (arith, first, less)) (stable_inner (suc (suc i)) (suc (suc (suc i)) + width left) (omega arith) (omega arith) stable)
             f s p (λ u f s p fu hu.
-            subst (λ g. Follows c m (with_value (does (text_of c) turns g false h memory) (λ v h memory. step v u h memory) kk) (Walks (now (instr r ∷ next) f))) same1
+            subst (λ g. Follows c m (with_value (does (text_of c) turns g false h memory) (λ v h memory. step v u h memory) kk) (Continues (now (instr r ∷ next) f))) same1
             (constant_operand c m turns place' w h memory (λ v h memory. step v u h memory) kk _ (last (value.Word w) u f s p (right_stands z hu))))
         by false is same1 same2 in_registers =
             lr _ env labels (suc (suc i)) (suc (suc (suc i)) + width left) (left_code InRegisters (instr InRegisters ∷ next)) P (λ w h memory. with_value (does (text_of c) turns left false h memory) (λ v h memory. step v w h memory)) kk
@@ -237,8 +237,8 @@ module _ (c : Place) (m : Mach) (turns : ℕ) (ts : List ℕ) (h : Here) (memory
   -- operands that have waited
   pub light_filled : (es : Expressions) (env : List Named) (labels : List Label) (b i : ℕ) (next : List Instr) (P : File → Type 0) (k : Leaves (List Value) → Does) (before : List (Option Value)) →
       Under b env → 21 ≤ b → Stable env b b P → b + count_of es ≤ i → (f : File) → Stands env h.names f → P f → Row c.setting.end f (regs_of env b es) before → Matches env es before →
-      ((vs : List Value) (f : File) → Stands env h.names f → P f → Row c.setting.end f (regs_of env b es) (map Some vs) → Follows c m (k (Giving vs h memory)) (Walks (now next f))) →
-      Follows c m (filled (text_of c) turns es before h memory k) (Walks (now (select_filled env labels b i es next) f))
+      ((vs : List Value) (f : File) → Stands env h.names f → P f → Row c.setting.end f (regs_of env b es) (map Some vs) → Follows c m (k (Giving vs h memory)) (Continues (now next f))) →
+      Follows c m (filled (text_of c) turns es before h memory k) (Continues (now (select_filled env labels b i es next) f))
   light_filled NoMore env labels b i next P k before under first stable le f s p row matches on = on [] f s p rows.none
   light_filled (More e rest) env labels b i next P k before under first stable le f s p row matches on =
       by (λ P k before stable f s p row matches on.
@@ -252,14 +252,14 @@ module _ (c : Place) (m : Mach) (turns : ℕ) (ts : List ℕ) (h : Here) (memory
       r = fresh b (type_of (scopes env) e)
 
       by : ((P : File → Type 0) (k : Leaves (List Value) → Does) (before : List (Option Value)) → Stable env (suc b) (suc b) P → (f : File) → Stands env h.names f → P f → Row c.setting.end f (regs_of env (suc b) rest) before → Matches env rest before →
-          ((vs : List Value) (f : File) → Stands env h.names f → P f → Row c.setting.end f (regs_of env (suc b) rest) (map Some vs) → Follows c m (k (Giving vs h memory)) (Walks (now (code (is_light_address (scopes env) e)) f))) →
-          Follows c m (filled (text_of c) turns rest before h memory k) (Walks (now (select_filled env labels (suc b) (i + width e) rest (code (is_light_address (scopes env) e))) f))) →
+          ((vs : List Value) (f : File) → Stands env h.names f → P f → Row c.setting.end f (regs_of env (suc b) rest) (map Some vs) → Follows c m (k (Giving vs h memory)) (Continues (now (code (is_light_address (scopes env) e)) f))) →
+          Follows c m (filled (text_of c) turns rest before h memory k) (Continues (now (select_filled env labels (suc b) (i + width e) rest (code (is_light_address (scopes env) e))) f))) →
           (before : List (Option Value)) → Row c.setting.end f (regs_of env b (More e rest)) before → Matches env (More e rest) before →
-          Follows c m (filled (text_of c) turns (More e rest) before h memory k) (Walks (now (select_filled env labels b i (More e rest) next) f))
+          Follows c m (filled (text_of c) turns (More e rest) before h memory k) (Continues (now (select_filled env labels b i (More e rest) next) f))
       by ih bs (late row) (rows.late is matches) =
           ih P (λ l. onward (λ vs h memory. part.with_value (does (text_of c) turns e false h memory) (λ v h memory. part.gives (v ∷ vs) h memory)) l k) _ (stable_inner (suc b) (suc b) (omega arith) (omega arith) stable) f s p row matches
           (λ vs f s p row.
-          subst (λ light. Follows c m (part.with_value (does (text_of c) turns e false h memory) (λ v h memory. part.gives (v ∷ vs) h memory) k) (Walks (now (code light) f))) (sym is)
+          subst (λ light. Follows c m (part.with_value (does (text_of c) turns e false h memory) (λ v h memory. part.gives (v ∷ vs) h memory) k) (Continues (now (code light) f))) (sym is)
           (light_follows e _ env labels b i next (WithRow c.setting.end P (regs_of env (suc b) rest) (map Some vs)) (λ v h memory. part.gives (v ∷ vs) h memory) k (address_is_light (scopes env) e is) under (omega (arith, le)) first
           (stable_row (map Some vs) (omega (arith, first)) (between_regs env (suc b) i rest (omega (arith, le))) (λ n low high same. omega (arith, low, same)) (under_more (suc b) (omega arith) under) (stable_same i (omega (arith, le)) stable))
           f s (record { rest = p; row = row }) (λ v f s p fv hv. on (v ∷ vs) f s p.rest (early (own_fits c m turns ts (type_of (scopes env) e) v fv) hv p.row))))
@@ -268,7 +268,7 @@ module _ (c : Place) (m : Mach) (turns : ℕ) (ts : List ℕ) (h : Here) (memory
           (stable_row (Some v ∷ []) first (rows.one (le_refl b) (omega arith) rows.none) (λ n low high same. omega (arith, high, same)) under (stable_inner (suc b) (suc b) (omega arith) (omega arith) stable))
           f s (record { rest = p; row = early fv hv rows.none }) row matches
           (λ vs f s p row.
-          subst (λ light. Follows c m (part.gives (v ∷ vs) h memory k) (Walks (now (code light) f))) (sym is)
+          subst (λ light. Follows c m (part.gives (v ∷ vs) h memory k) (Continues (now (code light) f))) (sym is)
           (on (v ∷ vs) f s p.rest (early fv (first_holds p.row) row)))
         where
           first_holds : {f : File} → Row c.setting.end f (r ∷ []) (Some v ∷ []) → Holds r v f

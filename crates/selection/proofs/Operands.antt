@@ -13,7 +13,7 @@ use Rattle.meaning_laws.specs.Interaction.{Part, onward, only_value, with_value,
 use Rattle.mach_ir.specs.declared.reg.Reg.{Reg}
 use Rattle.mach_ir.specs.declared.mach.Instr.{Instr}
 use Rattle.mach_ir.specs.declared.mach.Mach.{Mach}
-use Rattle.mach_ir.specs.Runs.{Place, Walks}
+use Rattle.mach_ir.specs.Runs.{Place, Continues}
 use Rattle.mach_ir.specs.Meaning.{File}
 use Rattle.selection.specs.Select.{Named, Label, scopes, fresh, comp_of, ordered, select, width}
 use Rattle.selection.specs.Follow.{Follows, fails}
@@ -33,7 +33,7 @@ module _ (c : Place) (m : Mach) (turns : ℕ) (ts : List ℕ) where
       width e < 2 ^ 60 → Ready c m turns ts env labels b d → Stable env b d.number P → Placed m ts (select env labels valued tail d b e next) →
       After c m turns ts (Some (type_of (scopes env) e)) env labels valued tail d next P k →
       (h : Here) (f : File) (memory : Memory) → Level c m turns ts h → Stands env h.names f → P f →
-      Follows c m (does (text_of c) turns e tail h memory k) (Walks (at c m turns ts (select env labels valued tail d b e next) f memory))
+      Follows c m (does (text_of c) turns e tail h memory k) (Continues (at c m turns ts (select env labels valued tail d b e next) f memory))
 
   pub own_fits : (T : Ty) (v : Value) → fits end T v ≡ true → fits end (type_of_comp (comp_of T)) v ≡ true
   own_fits ty.NoValue v e = absurd (true≢false (sym e))
@@ -56,8 +56,8 @@ module _ (c : Place) (m : Mach) (turns : ℕ) (ts : List ℕ) where
       Placed m ts (select env labels false false (fresh n (type_of (scopes env) e)) i e next) →
       Outs c m turns ts env labels P k → (h : Here) (f : File) (memory : Memory) → Level c m turns ts h → Stands env h.names f → P f →
       ((v : Value) (h : Here) (f : File) (memory : Memory) → Level c m turns ts h → Stands env h.names f → P f → fits end (type_of (scopes env) e) v ≡ true →
-      Holds (fresh n (type_of (scopes env) e)) v f → Follows c m (go v h memory k) (Walks (at c m turns ts next f memory))) →
-      Follows c m (with_value (does (text_of c) turns e false h memory) go k) (Walks (at c m turns ts (select env labels false false (fresh n (type_of (scopes env) e)) i e next) f memory))
+      Holds (fresh n (type_of (scopes env) e)) v f → Follows c m (go v h memory k) (Continues (at c m turns ts next f memory))) →
+      Follows c m (with_value (does (text_of c) turns e false h memory) go k) (Continues (at c m turns ts (select env labels false false (fresh n (type_of (scopes env) e)) i e next) f memory))
   operand {B} {env} {labels} {P} e selected fine n i next go k ready stable ending outs h f memory level s p on =
       selected env labels false false (fresh n (type_of (scopes env) e)) i next P (λ l. onward (λ v h memory. only_value v go h memory) l k)
       fine ready stable ending
@@ -71,7 +71,7 @@ module _ (c : Place) (m : Mach) (turns : ℕ) (ts : List ℕ) where
       h f memory level s p
     where
       given : (v : Option Value) (h : Here) (f : File) (memory : Memory) → Level c m turns ts h → Stands env h.names f → P f → Left c m turns ts (Some (type_of (scopes env) e)) (fresh n (type_of (scopes env) e)) f v →
-          Follows c m (only_value v go h memory k) (Walks (at c m turns ts next f memory))
+          Follows c m (only_value v go h memory k) (Continues (at c m turns ts next f memory))
       given None h f memory level s p left = fails
       given (Some v) h f memory level s p (holding (fit x) holds) = on v h f memory level s p x holds
 
@@ -87,9 +87,9 @@ module _ (c : Place) (m : Mach) (turns : ℕ) (ts : List ℕ) where
       Placed m ts (ordered left_first (select env labels false false (fresh nx (type_of (scopes env) left)) ix left) (select env labels false false (fresh ny (type_of (scopes env) right)) iy right) next) →
       Outs c m turns ts env labels P k → (h : Here) (f : File) (memory : Memory) → Level c m turns ts h → Stands env h.names f → P f →
       ((v w : Value) (h : Here) (f : File) (memory : Memory) → Level c m turns ts h → Stands env h.names f → P f → fits end (type_of (scopes env) left) v ≡ true → fits end (type_of (scopes env) right) w ≡ true →
-      Holds (fresh nx (type_of (scopes env) left)) v f → Holds (fresh ny (type_of (scopes env) right)) w f → Follows c m (go v w h memory k) (Walks (at c m turns ts next f memory))) →
+      Holds (fresh nx (type_of (scopes env) left)) v f → Holds (fresh ny (type_of (scopes env) right)) w f → Follows c m (go v w h memory k) (Continues (at c m turns ts next f memory))) →
       Follows c m (both left_first (does (text_of c) turns left false) (does (text_of c) turns right false) h memory go k)
-      (Walks (at c m turns ts (ordered left_first (select env labels false false (fresh nx (type_of (scopes env) left)) ix left) (select env labels false false (fresh ny (type_of (scopes env) right)) iy right) next) f memory))
+      (Continues (at c m turns ts (ordered left_first (select env labels false false (fresh nx (type_of (scopes env) left)) ix left) (select env labels false false (fresh ny (type_of (scopes env) right)) iy right) next) f memory))
   two {B} {env} {labels} {b} {d} {P} false left right sl sr fl fr nx ny ix iy next go k lower under first stable bx by' xx yy xy yx apart el er ending outs h f memory level s p on =
       let x = fresh nx (type_of (scopes env) left) in
       let y = fresh ny (type_of (scopes env) right) in

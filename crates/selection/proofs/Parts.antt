@@ -15,8 +15,8 @@ use Rattle.meaning_laws.specs.Interaction.{Part, onward, and_then, only_value, w
 use Rattle.mach_ir.specs.declared.reg.Reg.{Reg}
 use Rattle.mach_ir.specs.declared.mach.Instr.{Instr}
 use Rattle.mach_ir.specs.declared.mach.Mach.{Mach}
-use Rattle.mach_ir.specs.Runs.{Place, Step, Walks, Over, Halts}
-use Rattle.mach_ir.specs.Meaning.{State, File, put, put_if, put_all, labels as marks, after_label, handles, onto, tries_at, wrote}
+use Rattle.mach_ir.specs.Runs.{Place, Step, Continues, Finishes, IsStuck}
+use Rattle.mach_ir.specs.Meaning.{State, File, put, put_if, put_all, has_label as marks, after_label, is_handler_of, from_handler, tries_at, wrote}
 use Rattle.mach_ir.specs.Acts.{Around, drop_tries}
 use Rattle.selection.specs.Select.{Named, Label, scopes, label_of, inner_valued, inner_dest}
 use Rattle.selection.specs.Follow.{Follows, pays, fails}
@@ -69,7 +69,7 @@ placed_next e p = record { ending = ending_next p.ending; caught = sym e ∙ p.c
 -- each label is that of one mark
 pub record WellLabelled (m : Mach) : Type 0 where
   pub behind_is : (l : ℕ) (i : Instr) (rest : List Instr) → Ending (i ∷ rest) m.code → marks l i.op ≡ true → after_label l m.code ≡ rest
-  pub onto_is : (l : ℕ) (i : Instr) (rest : List Instr) → Ending (i ∷ rest) m.code → handles l i.op ≡ true → onto l m.code ≡ i ∷ rest
+  pub onto_is : (l : ℕ) (i : Instr) (rest : List Instr) → Ending (i ∷ rest) m.code → is_handler_of l i.op ≡ true → from_handler l m.code ≡ i ∷ rest
 
 -- ---- what stays as it is
 
@@ -176,8 +176,8 @@ calm_in ts memory = record { memory = memory; unwritten = []; tries = ts; raised
 
 -- where a raise comes to: the handler of the try that was pushed last, or out of the function
 abbrev pub raised_to : Mach → List ℕ → Value → File → Memory → Step State
-raised_to m [] v f memory = Over (Threw v memory)
-raised_to m (l ∷ ts) v f memory = Walks (record { rest = onto l m.code; file = f; around = record { memory = memory; unwritten = []; tries = ts; raised = Some v } })
+raised_to m [] v f memory = Finishes (Threw v memory)
+raised_to m (l ∷ ts) v f memory = Continues (record { rest = from_handler l m.code; file = f; around = record { memory = memory; unwritten = []; tries = ts; raised = Some v } })
 
 module _ (c : Place) (m : Mach) (turns : ℕ) (ts : List ℕ) where
   abbrev pub end : ℕ
@@ -191,7 +191,7 @@ module _ (c : Place) (m : Mach) (turns : ℕ) (ts : List ℕ) where
 
   -- where an exit comes to: after its label, with its values in the parameters
   abbrev pub arrive : Option Label → List Value → File → Memory → Step State
-  arrive None values f memory = Halts
+  arrive None values f memory = IsStuck
   arrive (Some t) values f memory = wrote (after_label t.number m.code) (calm_in (drop_tries t.tries ts) memory) (put_all end t.params values f)
 
   -- an activation on these stack bytes, in as many tries
@@ -246,12 +246,12 @@ module _ (c : Place) (m : Mach) (turns : ℕ) (ts : List ℕ) where
   -- what follows a part whose code leaves its value in `d` and goes on with `next`
   pub record After (o : Option Ty) (env : List Named) (labels : List Label) (valued tail : Bool) (d : Reg) (next : List Instr) (P : File → Type 0) (k : Leaves (Option Value) → Does) : Type 0 where
     pub outs : Outs env labels P k
-    pub giving : (v : Option Value) (h : Here) (f : File) (memory : Memory) → Level h → Stands env h.names f → P f → Left o d f v → Follows c m (k (Giving v h memory)) (Walks (at next f memory))
+    pub giving : (v : Option Value) (h : Here) (f : File) (memory : Memory) → Level h → Stands env h.names f → P f → Left o d f v → Follows c m (k (Giving v h memory)) (Continues (at next f memory))
     -- a value that does not fit its destination is improper
-    pub lost : (v : Value) (h : Here) (f : File) (memory : Memory) → Stands env h.names f → Fit o v → fits end (type_of_comp d.comp) v ≡ false → Follows c m (k (Giving (Some v) h memory)) Halts
+    pub lost : (v : Value) (h : Here) (f : File) (memory : Memory) → Stands env h.names f → Fit o v → fits end (type_of_comp d.comp) v ≡ false → Follows c m (k (Giving (Some v) h memory)) IsStuck
     -- after a tail call there is nothing left to do, and it stands in no try
     pub untried : tail ≡ true → ts ≡ []
-    pub tailing : tail ≡ true → (v : Option Value) → Shape o v → (h : Here) (memory : Memory) → Follows c m (k (Giving v h memory)) (Over (Gave (kept valued v) memory))
+    pub tailing : tail ≡ true → (v : Option Value) → Shape o v → (h : Here) (memory : Memory) → Follows c m (k (Giving v h memory)) (Finishes (Gave (kept valued v) memory))
 
   -- ---- types of nodes
 
@@ -308,7 +308,7 @@ module _ (c : Place) (m : Mach) (turns : ℕ) (ts : List ℕ) where
         outs = record { exit = λ l values h f memory level r p. let o = a.outs in o.exit l values h f memory level r p; raising = λ v fv h f memory level r p. let o = a.outs in o.raising v fv h f memory level r p };
         giving = λ v h f memory level s p left. given v h f memory level s p left;
         lost = λ v h f memory s x misfit'.
-            of_type_some k Halts T v h memory
+            of_type_some k IsStuck T v h memory
             (λ e. a.lost v h f memory s (fit e) (subst (λ r. fits end (type_of_comp r.comp) v ≡ false) (own_dest T b d v e) misfit'))
             (λ no'. absurd (no_misfits T b d v no' misfit'));
         untried = a.untried;
@@ -316,28 +316,28 @@ module _ (c : Place) (m : Mach) (turns : ℕ) (ts : List ℕ) where
       }
     where
       given : (v : Option Value) (h : Here) (f : File) (memory : Memory) → Level h → Stands env h.names f → P f → Left None (inner_dest T b d) f v →
-          Follows c m (of_type end T v h memory k) (Walks (at next f memory))
-      given None h f memory level s p left = of_type_none k (Walks (at next f memory)) T h memory (λ no'. a.giving None h f memory level s p (nothing (gone no')))
+          Follows c m (of_type end T v h memory k) (Continues (at next f memory))
+      given None h f memory level s p left = of_type_none k (Continues (at next f memory)) T h memory (λ no'. a.giving None h f memory level s p (nothing (gone no')))
       given (Some v) h f memory level s p (holding x holds) =
-          of_type_some k (Walks (at next f memory)) T v h memory
+          of_type_some k (Continues (at next f memory)) T v h memory
           (λ e. a.giving (Some v) h f memory level s p (holding (fit e) (subst (λ r. Holds r v f) (own_dest T b d v e) holds)))
           (λ no'. a.giving None h f memory level s p (nothing (gone no')))
 
-      tailed : tail ≡ true → (v : Option Value) (h : Here) (memory : Memory) → Follows c m (of_type end T v h memory k) (Over (Gave (kept (inner_valued valued T) v) memory))
+      tailed : tail ≡ true → (v : Option Value) (h : Here) (memory : Memory) → Follows c m (of_type end T v h memory k) (Finishes (Gave (kept (inner_valued valued T) v) memory))
       tailed e None h memory =
-          of_type_none k (Over (Gave (kept (inner_valued valued T) None) memory)) T h memory
-          (λ no'. subst (λ o. Follows c m (k (Giving None h memory)) (Over (Gave o memory))) (no_valued T valued None no') (a.tailing e None (no_shape (gone no')) h memory))
+          of_type_none k (Finishes (Gave (kept (inner_valued valued T) None) memory)) T h memory
+          (λ no'. subst (λ o. Follows c m (k (Giving None h memory)) (Finishes (Gave o memory))) (no_valued T valued None no') (a.tailing e None (no_shape (gone no')) h memory))
       tailed e (Some v) h memory =
-          of_type_some k (Over (Gave (kept (inner_valued valued T) (Some v)) memory)) T v h memory
-          (λ q. subst (λ w. Follows c m (k (Giving (Some v) h memory)) (Over (Gave (kept w (Some v)) memory))) (sym (own_valued T valued v q)) (a.tailing e (Some v) (a_shape (fit q)) h memory))
-          (λ no'. subst (λ o. Follows c m (k (Giving None h memory)) (Over (Gave o memory))) (no_valued T valued (Some v) no') (a.tailing e None (no_shape (gone no')) h memory))
+          of_type_some k (Finishes (Gave (kept (inner_valued valued T) (Some v)) memory)) T v h memory
+          (λ q. subst (λ w. Follows c m (k (Giving (Some v) h memory)) (Finishes (Gave (kept w (Some v)) memory))) (sym (own_valued T valued v q)) (a.tailing e (Some v) (a_shape (fit q)) h memory))
+          (λ no'. subst (λ o. Follows c m (k (Giving None h memory)) (Finishes (Gave o memory))) (no_valued T valued (Some v) no') (a.tailing e None (no_shape (gone no')) h memory))
 
   -- a node pays, and its parts follow
   pub node_follows : {env : List Named} {f : File} (e : Expression) (h : Here) (memory : Memory) (p : Part (Option Value)) (k : Leaves (Option Value) → Does) (s : State) → Stands env h.names f →
-      Follows c m (p (λ l. onward (λ v h memory. of_type end (type_of (scopes env) e) v h memory) l k)) (Walks s) →
-      Follows c m (node (text_of c) e h memory p k) (Walks s)
+      Follows c m (p (λ l. onward (λ v h memory. of_type end (type_of (scopes env) e) v h memory) l k)) (Continues s) →
+      Follows c m (node (text_of c) e h memory p k) (Continues s)
   node_follows {env} e h memory p k s stands follows =
-      pays (subst (λ sc. Follows c m (p (λ l. onward (λ v h memory. of_type end (type_of sc e) v h memory) l k)) (Walks s)) (sym (scope_is stands)) follows)
+      pays (subst (λ sc. Follows c m (p (λ l. onward (λ v h memory. of_type end (type_of sc e) v h memory) l k)) (Continues s)) (sym (scope_is stands)) follows)
 
   -- ---- a value comes to its destination
 

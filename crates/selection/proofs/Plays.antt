@@ -14,10 +14,10 @@ use Rattle.meaning_laws.specs.Links.{lonely}
 use Rattle.meaning_laws.specs.Pace.{beats, beats_behind_call, beats_behind_external, beats_behind_unit}
 use Rattle.cmm_meaning.specs.Run.{nobody}
 use Rattle.mach_ir.specs.declared.mach.Mach.{Mach}
-use Rattle.mach_ir.specs.Runs.{Place, Step, Walks, Halts, Tally, Run, Running, Asking, Ended, paid, came_back, handed, onward, units_of}
+use Rattle.mach_ir.specs.Runs.{Place, Step, Continues, Finishes, IsStuck, kept_of, Tally, Run, Running, Asking, Ended, paid, came_back, handed, onward, units_of}
 use Rattle.mach_ir.specs.Meaning.{State}
 use Rattle.selection.specs.Kept.{run}
-use Rattle.selection.specs.Follow.{RaisesVal, Follows, walks, pays, gives, raises, jumps, raises_out, jumps_wrong, deepens, calls, calls_out, exits, fails, spent}
+use Rattle.selection.specs.Follow.{RaisesVal, Follows, walks, pays, gives, raises, jumps, raises_out, jumps_wrong, deepens, calls, replaces, calls_out, exits, fails, spent}
 use Rattle.bs_words.specs.declared.types.Ty.TheVariants as ty
 use Rattle.cmm_meaning.specs.Evaluation as eval
 
@@ -58,7 +58,7 @@ module _ (c : Place) (m : Mach) where
   Plays d x = (w : World) (t : Tally) → Alike t w → Played d w x t
 
   abbrev IsHalts : Step State → Type 0
-  IsHalts Halts = Unit {0}
+  IsHalts IsStuck = Unit {0}
   IsHalts _ = ⊥
 
   -- what a halted machine follows is improper
@@ -72,13 +72,14 @@ module _ (c : Place) (m : Mach) where
   wrong (jumps_wrong f) h w u r = wrong f tt w u r
   wrong (deepens f) h w u r = absurd h
   wrong (calls f) h w u r = absurd h
+  wrong (replaces f) h w u r = absurd h
   wrong (calls_out f g) h w u r = absurd h
   wrong exits h w u r = left_by_exit
   wrong fails h w u r = improper
   wrong spent h w u r = absurd h
 
-  pays_on : (n : ℕ) (rest : Does) (w : World) (x : State) (t : Tally) → Alike t w → ((v : World) → Alike t v → Played rest v (Walks x) t) →
-      (k : ℕ) × Meets (t.units + beats_behind_unit n w (λ v. beats s rest v)) (spend n w (λ v. played s rest v)) (onward (run c m k) (Walks x) t)
+  pays_on : (n : ℕ) (rest : Does) (w : World) (x : State) (t : Tally) → Alike t w → ((v : World) → Alike t v → Played rest v (Continues x) t) →
+      (k : ℕ) × Meets (t.units + beats_behind_unit n w (λ v. beats s rest v)) (spend n w (λ v. played s rest v)) (onward (run c m k) (Continues x) t)
   pays_on zero rest w x t a on = (0, running a (omega arith))
   pays_on (suc n) rest w x t a on =
       let p = on (record w { left = n }) (record { asked = a.asked; doings = a.doings; need = a.need }) in (p.steps, p.meets)
@@ -168,6 +169,16 @@ module _ (c : Place) (m : Mach) where
       record { steps = p.steps; meets = p.meets }
   plays (calls {call = call} {memory = memory} {go = go} {next = next} on) w t a =
       let asks = asked_inside call memory in
+      let p = called t.doings asks go next (record w { memory = memory }) t (record { asked = a.asked; doings = a.doings; need = a.need }) call.function refl (λ d z. plays (on d z)) in
+      record {
+        steps = p.0;
+        meets = subst (λ ds. Meets (t.units + beats_behind_call (λ d v. beats s (go d) v) (done_inside c.setting.end asks ds (record w { memory = memory })))
+            (after_call (λ d v. played s (go d) v) (done_inside c.setting.end asks ds (record w { memory = memory })))
+            (handed (λ d y. onward (run c m p.0) (next d) y) asks t.doings t)) a.doings p.1;
+      }
+  plays (replaces {call = call} {memory = memory} {go = go} {kept = kept} on) w t a =
+      let asks = asked_inside call memory in
+      let next : Doing → Step State = λ d. Finishes (kept_of kept d) in
       let p = called t.doings asks go next (record w { memory = memory }) t (record { asked = a.asked; doings = a.doings; need = a.need }) call.function refl (λ d z. plays (on d z)) in
       record {
         steps = p.0;

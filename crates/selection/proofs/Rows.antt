@@ -12,7 +12,7 @@ use Rattle.meaning_laws.specs.Interaction.{onward, unless_light, now_or_before, 
 use Rattle.mach_ir.specs.declared.reg.Reg.{Reg}
 use Rattle.mach_ir.specs.declared.mach.Instr.{Instr}
 use Rattle.mach_ir.specs.declared.mach.Mach.{Mach}
-use Rattle.mach_ir.specs.Runs.{Place, Walks}
+use Rattle.mach_ir.specs.Runs.{Place, Continues}
 use Rattle.mach_ir.specs.Meaning.{File, put, values, with_held}
 use Rattle.selection.specs.Select.{Named, Label, scopes, fresh, width, regs_of, count_of, seat, seats, only_when, select, select_waiting, select_filled, width_row}
 use Rattle.selection.specs.Follow.{Follows}
@@ -177,8 +177,8 @@ module _ (c : Place) (m : Mach) (turns : ℕ) (ts : List ℕ) where
       width_row es < 2 ^ 60 → Lower b labels → Under b env → 21 ≤ b → Stable env b b P → b + count_of es ≤ i → Placed m ts (select_waiting env labels b i es next) →
       Outs c m turns ts env labels P k → (h : Here) (f : File) (memory : Memory) → Level c m turns ts h → Stands env h.names f → P f →
       ((vs : List (Option Value)) (h : Here) (f : File) (memory : Memory) → Level c m turns ts h → Stands env h.names f → P f → Row c.setting.end f (regs_of env b es) vs → Matches env es vs →
-      Follows c m (k (Giving vs h memory)) (Walks (at c m turns ts next f memory))) →
-      Follows c m (waiting (text_of c) turns es h memory k) (Walks (at c m turns ts (select_waiting env labels b i es next) f memory))
+      Follows c m (k (Giving vs h memory)) (Continues (at c m turns ts next f memory))) →
+      Follows c m (waiting (text_of c) turns es h memory k) (Continues (at c m turns ts (select_waiting env labels b i es next) f memory))
 
   pub waiting_none : SelectedWaiting NoMore
   waiting_none env labels b i next P k fine lower under first stable le ending outs h f memory level s p on = on [] h f memory level s p none none
@@ -190,8 +190,8 @@ module _ (c : Place) (m : Mach) (turns : ℕ) (ts : List ℕ) where
     waiting_by : (light : Bool) → is_light_address (scopes env) e ≡ light → Selected c m turns ts e → width e < 2 ^ 60 → Lower b labels → Under b env → 21 ≤ b → Stable env b b P → suc (b + count_of rest) ≤ i →
         Placed m ts (code_when light) → Outs c m turns ts env labels P k → (vs : List (Option Value)) (h : Here) (f : File) (memory : Memory) → Level c m turns ts h → Stands env h.names f → P f → Row c.setting.end f (regs_of env (suc b) rest) vs → Matches env rest vs →
         ((vs : List (Option Value)) (h : Here) (f : File) (memory : Memory) → Level c m turns ts h → Stands env h.names f → P f → Row c.setting.end f (regs_of env b (More e rest)) vs → Matches env (More e rest) vs →
-        Follows c m (k (Giving vs h memory)) (Walks (at c m turns ts next f memory))) →
-        Follows c m (unless_light light (does (text_of c) turns e false) h memory (λ v h memory. part.gives (v ∷ vs) h memory) k) (Walks (at c m turns ts (code_when light) f memory))
+        Follows c m (k (Giving vs h memory)) (Continues (at c m turns ts next f memory))) →
+        Follows c m (unless_light light (does (text_of c) turns e false) h memory (λ v h memory. part.gives (v ∷ vs) h memory) k) (Continues (at c m turns ts (code_when light) f memory))
     waiting_by true is se few lower under first stable le ending outs vs h f memory level s p row matches on = on (None ∷ vs) h f memory level s p (late row) (late is matches)
     waiting_by false is se few lower under first stable le ending outs vs h f memory level s p row matches on =
         operand c m turns ts {P = WithRow c.setting.end P (regs_of env (suc b) rest) vs} e se few b i next (λ v h memory. part.gives (Some v ∷ vs) h memory) k
@@ -204,8 +204,8 @@ module _ (c : Place) (m : Mach) (turns : ℕ) (ts : List ℕ) where
         width_row (More e rest) < 2 ^ 60 → Lower b labels → Under b env → 21 ≤ b → Stable env b b P → b + count_of (More e rest) ≤ i → Placed m ts (select_waiting env labels b i (More e rest) next) →
         Outs c m turns ts env labels P k → (h : Here) (f : File) (memory : Memory) → Level c m turns ts h → Stands env h.names f → P f →
         ((vs : List (Option Value)) (h : Here) (f : File) (memory : Memory) → Level c m turns ts h → Stands env h.names f → P f → Row c.setting.end f (regs_of env b (More e rest)) vs → Matches env (More e rest) vs →
-        Follows c m (k (Giving vs h memory)) (Walks (at c m turns ts next f memory))) →
-        Follows c m (waiting (text_of c) turns (More e rest) h memory k) (Walks (at c m turns ts (select_waiting env labels b i (More e rest) next) f memory))
+        Follows c m (k (Giving vs h memory)) (Continues (at c m turns ts next f memory))) →
+        Follows c m (waiting (text_of c) turns (More e rest) h memory k) (Continues (at c m turns ts (select_waiting env labels b i (More e rest) next) f memory))
     waiting_more se sr fine lower under first stable le ending outs h f memory level s p on =
         sr env labels (suc b) (i + width e) (code_when (is_light_address (scopes env) e)) P
         (λ l. onward (λ vs h memory. unless_light (is_light_address (scope h) e) (does (text_of c) turns e false) h memory (λ v h memory. part.gives (v ∷ vs) h memory)) l k)
@@ -213,7 +213,7 @@ module _ (c : Place) (m : Mach) (turns : ℕ) (ts : List ℕ) where
         (record { exit = λ l values h f memory level r p. outs.exit l values h f memory level r p; raising = λ v fv h f memory level r p. outs.raising v fv h f memory level r p }) h f memory level s p
         (λ vs h f memory level s p row matches.
         subst (λ sc. Follows c m (unless_light (is_light_address sc e) (does (text_of c) turns e false) h memory (λ v h memory. part.gives (v ∷ vs) h memory) k)
-        (Walks (at c m turns ts (code_when (is_light_address (scopes env) e)) f memory))) (sym (scope_is s))
+        (Continues (at c m turns ts (code_when (is_light_address (scopes env) e)) f memory))) (sym (scope_is s))
         (waiting_by (is_light_address (scopes env) e) refl se (omega (arith, fine)) lower under first stable (omega (arith, le))
         (placed_in (ending_waiting env labels (suc b) (i + width e) rest (code_when (is_light_address (scopes env) e))) ending) outs vs h f memory level s p row matches on))
 
@@ -225,8 +225,8 @@ module _ (c : Place) (m : Mach) (turns : ℕ) (ts : List ℕ) where
       width_row es < 2 ^ 60 → Lower b labels → Under b env → 21 ≤ b → Stable env b b P → b + count_of es ≤ i → Placed m ts (select_filled env labels b i es next) →
       Outs c m turns ts env labels P k → (h : Here) (f : File) (memory : Memory) → Level c m turns ts h → Stands env h.names f → P f → Row c.setting.end f (regs_of env b es) before → Matches env es before →
       ((vs : List Value) (h : Here) (f : File) (memory : Memory) → Level c m turns ts h → Stands env h.names f → P f → Row c.setting.end f (regs_of env b es) (map Some vs) →
-      Follows c m (k (Giving vs h memory)) (Walks (at c m turns ts next f memory))) →
-      Follows c m (filled (text_of c) turns es before h memory k) (Walks (at c m turns ts (select_filled env labels b i es next) f memory))
+      Follows c m (k (Giving vs h memory)) (Continues (at c m turns ts next f memory))) →
+      Follows c m (filled (text_of c) turns es before h memory k) (Continues (at c m turns ts (select_filled env labels b i es next) f memory))
 
   pub filled_none : SelectedFilled NoMore
   filled_none env labels b i next P k before fine lower under first stable le ending outs h f memory level s p row matches on = on [] h f memory level s p none
@@ -242,8 +242,8 @@ module _ (c : Place) (m : Mach) (turns : ℕ) (ts : List ℕ) where
         width_row (More e rest) < 2 ^ 60 → Lower b labels → Under b env → 21 ≤ b → Stable env b b P → b + count_of (More e rest) ≤ i → Placed m ts (select_filled env labels b i (More e rest) next) →
         Outs c m turns ts env labels P k → (h : Here) (f : File) (memory : Memory) → Level c m turns ts h → Stands env h.names f → P f → Row c.setting.end f (regs_of env b (More e rest)) before → Matches env (More e rest) before →
         ((vs : List Value) (h : Here) (f : File) (memory : Memory) → Level c m turns ts h → Stands env h.names f → P f → Row c.setting.end f (regs_of env b (More e rest)) (map Some vs) →
-        Follows c m (k (Giving vs h memory)) (Walks (at c m turns ts next f memory))) →
-        Follows c m (filled (text_of c) turns (More e rest) before h memory k) (Walks (at c m turns ts (select_filled env labels b i (More e rest) next) f memory))
+        Follows c m (k (Giving vs h memory)) (Continues (at c m turns ts next f memory))) →
+        Follows c m (filled (text_of c) turns (More e rest) before h memory k) (Continues (at c m turns ts (select_filled env labels b i (More e rest) next) f memory))
     filled_more se sr before fine lower under first stable le ending outs h f memory level s p row matches on = by before row matches
       where
         inner_ending : Placed m ts (filled_code (is_light_address (scopes env) e))
@@ -253,14 +253,14 @@ module _ (c : Place) (m : Mach) (turns : ℕ) (ts : List ℕ) where
         outer g o = record { exit = λ l values h f memory level r p. o.exit l values h f memory level r p; raising = λ v fv h f memory level r p. o.raising v fv h f memory level r p }
 
         by : (before : List (Option Value)) → Row c.setting.end f (regs_of env b (More e rest)) before → Matches env (More e rest) before →
-            Follows c m (filled (text_of c) turns (More e rest) before h memory k) (Walks (at c m turns ts (select_filled env labels b i (More e rest) next) f memory))
+            Follows c m (filled (text_of c) turns (More e rest) before h memory k) (Continues (at c m turns ts (select_filled env labels b i (More e rest) next) f memory))
         by bs (late row) (late is matches) =
             sr env labels (suc b) (i + width e) (filled_code (is_light_address (scopes env) e)) P
             (λ l. onward (λ vs h memory. part.with_value (does (text_of c) turns e false h memory) (λ v h memory. part.gives (v ∷ vs) h memory)) l k) _
             (omega (arith, fine)) (lower_more (suc b) (omega arith) lower) (under_more (suc b) (omega arith) under) (omega (arith, first)) (stable_inner (suc b) (suc b) (omega arith) (omega arith) stable) (omega (arith, le)) ending
             (outer _ outs) h f memory level s p row matches
             (λ vs h f memory level s p row.
-            subst (λ light. Follows c m (part.with_value (does (text_of c) turns e false h memory) (λ v h memory. part.gives (v ∷ vs) h memory) k) (Walks (at c m turns ts (filled_code light) f memory))) (sym is)
+            subst (λ light. Follows c m (part.with_value (does (text_of c) turns e false h memory) (λ v h memory. part.gives (v ∷ vs) h memory) k) (Continues (at c m turns ts (filled_code light) f memory))) (sym is)
             (operand c m turns ts {P = WithRow c.setting.end P (regs_of env (suc b) rest) (map Some vs)} e se (omega (arith, fine)) b i next (λ v h memory. part.gives (v ∷ vs) h memory) k
             (ready_at c m turns ts (type_of (scopes env) e) b i lower under first (le_refl b) (omega (arith, le)))
             (stable_row (map Some vs) (omega (arith, first)) (between_regs env (suc b) i rest (omega (arith, le))) (λ n low high same. omega (arith, low, same)) (under_more (suc b) (omega arith) under) (stable_same i (omega (arith, le)) stable))
@@ -273,7 +273,7 @@ module _ (c : Place) (m : Mach) (turns : ℕ) (ts : List ℕ) where
             (stable_row (Some v ∷ []) first (one (le_refl b) (omega arith) none) (λ n low high same. omega (arith, high, same)) under (stable_inner (suc b) (suc b) (omega arith) (omega arith) stable)) (omega (arith, le)) ending
             (outer _ (outs_row (r ∷ []) (Some v ∷ []) outs)) h f memory level s (record { rest = p; row = early fv hv none }) row matches
             (λ vs h f memory level s p row.
-            subst (λ light. Follows c m (part.gives (v ∷ vs) h memory k) (Walks (at c m turns ts (filled_code light) f memory))) (sym is)
+            subst (λ light. Follows c m (part.gives (v ∷ vs) h memory k) (Continues (at c m turns ts (filled_code light) f memory))) (sym is)
             (on (v ∷ vs) h f memory level s p.rest (early fv (first_holds p.row) row)))
           where
             first_holds : {f : File} → Row c.setting.end f (r ∷ []) (Some v ∷ []) → Holds r v f

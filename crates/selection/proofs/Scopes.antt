@@ -14,7 +14,7 @@ use Rattle.meaning_laws.specs.Interaction.{onward, of_type, tested, does, in_ord
 use Rattle.mach_ir.specs.declared.reg.Reg.{Reg}
 use Rattle.mach_ir.specs.declared.mach.Instr.{Instr}
 use Rattle.mach_ir.specs.declared.mach.Mach.{Mach}
-use Rattle.mach_ir.specs.Runs.{Place, Step, Walks, Halts}
+use Rattle.mach_ir.specs.Runs.{Place, Step, Continues, IsStuck}
 use Rattle.mach_ir.specs.Meaning.{State, File}
 use Rattle.selection.specs.Select.{Named, Label, scopes, fresh, inner_valued, inner_dest, width, env_after, width_bound, select, select_seq, select_bound, width_row}
 use Rattle.selection.specs.Follow.{Follows, fails}
@@ -33,7 +33,7 @@ module _ (c : Place) (m : Mach) (turns : ℕ) (ts : List ℕ) where
       (env : List Named) (labels : List Label) (valued tail : Bool) (d : Reg) (b : ℕ) (next : List Instr) (P : File → Type 0) (k : Leaves (Option Value) → Does) →
       width_row es < 2 ^ 60 → Ready c m turns ts env labels b d → Stable env b d.number P → Placed m ts (select_seq env labels valued tail d b es next) →
       After c m turns ts None env labels valued tail d next P k → (h : Here) (f : File) (memory : Memory) → Level c m turns ts h → Stands env h.names f → P f →
-      Follows c m (in_order (text_of c) turns es tail h memory k) (Walks (at c m turns ts (select_seq env labels valued tail d b es next) f memory))
+      Follows c m (in_order (text_of c) turns es tail h memory k) (Continues (at c m turns ts (select_seq env labels valued tail d b es next) f memory))
 
   pub selected_no_more : SelectedSeq NoMore
   selected_no_more env labels valued tail d b next P k fine ready stable ending after h f memory level s p = after.giving None h f memory level s p (nothing gone_any)
@@ -69,7 +69,7 @@ module _ (c : Place) (m : Mach) (turns : ℕ) (ts : List ℕ) where
       Placed m ts (select_bound env labels b bindings (select (env_after env b bindings) labels valued tail d base body next)) →
       After c m turns ts None outer labels valued tail d next P k → (h : Here) (f : File) (memory : Memory) → Level c m turns ts h → Stands env h.names f → P f →
       Follows c m (entering (text_of c) turns bindings h memory (λ l. onward (λ _ inner memory. back level tries (does (text_of c) turns body tail inner memory)) l k))
-      (Walks (at c m turns ts (select_bound env labels b bindings (select (env_after env b bindings) labels valued tail d base body next)) f memory))
+      (Continues (at c m turns ts (select_bound env labels b bindings (select (env_after env b bindings) labels valued tail d base body next)) f memory))
 
   forget_left : {o : Option Ty} {d : Reg} {f : File} {v : Option Value} → Left c m turns ts o d f v → Left c m turns ts None d f v
   forget_left (nothing g) = nothing gone_any
@@ -158,7 +158,7 @@ module _ (c : Place) (m : Mach) (turns : ℕ) (ts : List ℕ) where
         Placed m ts (select_bound env labels b (Bind place x declared e rest) (select (env_after env b (Bind place x declared e rest)) labels valued tail d base body next)) →
         After c m turns ts None outer labels valued tail d next P k → (h : Here) (f : File) (memory : Memory) → Level c m turns ts h → Stands env h.names f → P f →
         Follows c m (entering (text_of c) turns (Bind place x declared e rest) h memory deeper)
-        (Walks (at c m turns ts (select_bound env labels b (Bind place x declared e rest) (select (env_after env b (Bind place x declared e rest)) labels valued tail d base body next)) f memory))
+        (Continues (at c m turns ts (select_bound env labels b (Bind place x declared e rest) (select (env_after env b (Bind place x declared e rest)) labels valued tail d base body next)) f memory))
     selected_bind se sr out long deep few fine ready stable le ending after h f memory lev s p =
         let first : 21 ≤ b = let less = ready.below in let le = ready.first in omega (arith, less, le) in
         se env labels false false (fresh b X) (suc b) inner_code P _ (omega (arith, few))
@@ -169,7 +169,7 @@ module _ (c : Place) (m : Mach) (turns : ℕ) (ts : List ℕ) where
             raising = λ v fv h f memory lev r p. let q = after.outs in q.raising v fv h f memory lev (out h f r) p;
           };
           giving = given;
-          lost = λ v h f memory s x misfit'. bind_tested v h f memory Halts s (λ q. absurd (true≢false (sym (own_fits c m turns ts X v q) ∙ misfit')));
+          lost = λ v h f memory s x misfit'. bind_tested v h f memory IsStuck s (λ q. absurd (true≢false (sym (own_fits c m turns ts X v q) ∙ misfit')));
           untried = λ q. absurd (true≢false (sym q));
           tailing = λ q. absurd (true≢false (sym q));
         })
@@ -177,10 +177,10 @@ module _ (c : Place) (m : Mach) (turns : ℕ) (ts : List ℕ) where
       where
         given : (v : Option Value) (h : Here) (f : File) (memory : Memory) → Level c m turns ts h → Stands env h.names f → P f → Left c m turns ts (Some (type_of (scopes env) e)) (fresh b X) f v →
             Follows c m (only_value v (λ v h memory. tested c.setting.end (type_bound declared (type_of (scope h) e)) v memory (entering (text_of c) turns rest (with_bound (scoped_in (scope h) ∷ []) (v ∷ []) h) memory)) h memory deeper)
-            (Walks (at c m turns ts inner_code f memory))
+            (Continues (at c m turns ts inner_code f memory))
         given None h f memory lev s p left = fails
         given (Some v) h f memory lev s p (holding x holds) =
-            bind_tested v h f memory (Walks (at c m turns ts inner_code f memory)) s (λ q.
+            bind_tested v h f memory (Continues (at c m turns ts inner_code f memory)) s (λ q.
             sr outer (named ∷ env) labels valued tail d (suc (b + width e)) base next P k level tries (λ h f r. out h f (reaching_out h r)) long deep (omega (arith, few)) fine
             (bound_in ready stable) (stable_in stable) (omega (arith, le))
             (placed_in (ending_select env labels false false (fresh b X) (suc b) e inner_code) ending) after (with_bound (scoped_in (scopes env) ∷ []) (v ∷ []) h) f memory

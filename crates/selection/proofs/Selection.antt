@@ -8,7 +8,7 @@ use Rattle.cmm_tree.specs.Tree.{FunctionTree, comps_of}
 use Rattle.cmm_meaning.specs.State.{Doing, World, deepened}
 use Rattle.cmm_meaning.specs.Evaluation.{Evaluation, fit_parameters, bound_error}
 use Rattle.cmm_meaning.specs.Alone.{lone_world, alone}
-use Rattle.cmm_meaning.specs.Nodes.{nodes}
+use Rattle.cmm_tree.specs.Measures.{nodes_in}
 use Rattle.meaning_laws.specs.Does.{Does}
 use Rattle.meaning_laws.specs.Interaction.{function_does}
 use Rattle.meaning_laws.specs.Links.{lonely}
@@ -38,7 +38,7 @@ pub record SelectedRun (c : Place) (m : Mach) (f : FunctionTree) (arguments : Li
       units + (pending e + (world_of e).left) ≤ n
   pub enough :
       let e : Evaluation = alone c.setting.end c.setting.symbol c.setting.parameters c.frame f arguments c.below memory doings n in
-      n ≤ (world_of e).left + nodes f.body * suc units
+      n ≤ (world_of e).left + nodes_in f.body * suc units
 
 -- For every list that is handed in, every memory and arguments that fit, and every number of units: some run of the
 -- selected code has the same calls, need and end, and as many units as the function has beats; these are bounded by
@@ -62,5 +62,5 @@ selection_keeps c f still fine arguments memory doings n fitting =
       units = u;
       meets = subst (λ (e : Evaluation). Meets u e (run c m run'.steps (at c m n [] m.code g memory) (first_tally c doings))) is (same_units (omega arith) run'.meets);
       no_more = alone_paid c.setting.end c.setting.symbol c.setting.parameters n c.frame f arguments c.below memory doings n (le_refl n);
-      enough = alone_beats (nodes f.body) c.setting.end c.setting.symbol c.setting.parameters n c.frame f arguments c.below memory doings n (le_refl (nodes f.body)) (le_refl n);
+      enough = alone_beats (nodes_in f.body) c.setting.end c.setting.symbol c.setting.parameters n c.frame f arguments c.below memory doings n (le_refl (nodes_in f.body)) (le_refl n);
     }

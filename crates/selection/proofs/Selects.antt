@@ -15,7 +15,7 @@ use Rattle.meaning_laws.specs.Interaction.{does}
 use Rattle.mach_ir.specs.declared.reg.Reg.{Reg}
 use Rattle.mach_ir.specs.declared.mach.Instr.{Instr}
 use Rattle.mach_ir.specs.declared.mach.Mach.{Mach}
-use Rattle.mach_ir.specs.Runs.{Place, Walks, Over}
+use Rattle.mach_ir.specs.Runs.{Place, Continues, Finishes}
 use Rattle.mach_ir.specs.Meaning.{File, put, put_if, put_all, wrote, tries_at, with_held}
 use Rattle.selection.specs.Kept.{on_values}
 use Rattle.selection.specs.Select.{Named, scopes, fresh, comp_of, params_from, with_params, seat, seats, returns, colour_regs, select, selected, is_no_value, first, width}
@@ -192,20 +192,20 @@ module _ (c : Place) (f : FunctionTree) where
   Anything g = ⊤
 
   module _ (turns : ℕ) where
-    value_returns : (r : Reg) (v : Value) (h : Here) (g : File) (memory : Memory) → Holds r v g → Follows c m (Ends (Giving (Some v) h memory)) (Walks (at c m turns [] (emit.give_back (r ∷ []) ∷ []) g memory))
+    value_returns : (r : Reg) (v : Value) (h : Here) (g : File) (memory : Memory) → Holds r v g → Follows c m (Ends (Giving (Some v) h memory)) (Continues (at c m turns [] (emit.give_back (r ∷ []) ∷ []) g memory))
     value_returns r v h g memory holds =
         walks (subst (λ o. Follows c m (Ends (Giving (Some v) h memory)) (on_values c m (emit.give_back (r ∷ [])) [] g (calm c m turns [] memory) (with_held o (Some [])))) (sym holds.is) gives)
 
     -- a value goes to its seat first
     seat_returns : (r : Reg) (q : Comp) (v : Value) (h : Here) (g : File) (memory : Memory) → fits c.setting.end (type_of_comp q) v ≡ true → Holds r v g →
-        Follows c m (Ends (Giving (Some v) h memory)) (Walks (at c m turns [] (returns r (suc number) (ret.Comp q)) g memory))
+        Follows c m (Ends (Giving (Some v) h memory)) (Continues (at c m turns [] (returns r (suc number) (ret.Comp q)) g memory))
     seat_returns r q v h g memory fv holds =
         let y = seat 0 (suc number) q in
         move_follows c m turns [] holds
         (subst (λ b. Follows c m (Ends (Giving (Some v) h memory)) (wrote (emit.give_back (y ∷ []) ∷ []) (calm c m turns [] memory) (put_if b y v (Some g)))) (sym fv)
         (value_returns y v h (put y v g) memory (put_same y v g)))
 
-    returns_follow : (U : Ty) (v : Option Value) (h : Here) (g : File) (memory : Memory) → Left c m turns [] (Some U) (fresh number U) g v → Follows c m (Ends (Giving v h memory)) (Walks (at c m turns [] (return U) g memory))
+    returns_follow : (U : Ty) (v : Option Value) (h : Here) (g : File) (memory : Memory) → Left c m turns [] (Some U) (fresh number U) g v → Follows c m (Ends (Giving v h memory)) (Continues (at c m turns [] (return U) g memory))
     returns_follow ty.NoValue None h g memory left = walks gives
     returns_follow ty.NoValue (Some v) h g memory (holding (fit x) holds) = absurd (true≢false (sym x))
     returns_follow ty.Never None h g memory (nothing (gone no')) = elim no' [ ]
@@ -217,7 +217,7 @@ module _ (c : Place) (f : FunctionTree) where
     returns_follow ty.Val (Some v) h g memory (holding (fit x) holds) = seat_returns (fresh number ty.Val) comp.Val v h g memory x holds
     returns_follow ty.Addr (Some v) h g memory (holding (fit x) holds) = seat_returns (fresh number ty.Addr) comp.Addr v h g memory x holds
 
-    tails : (U : Ty) (v : Option Value) (h : Here) (memory : Memory) → Shape c m turns [] (Some U) v → Follows c m (Ends (Giving v h memory)) (Over (Gave (kept c m turns [] (not (is_no_value U)) v) memory))
+    tails : (U : Ty) (v : Option Value) (h : Here) (memory : Memory) → Shape c m turns [] (Some U) v → Follows c m (Ends (Giving v h memory)) (Finishes (Gave (kept c m turns [] (not (is_no_value U)) v) memory))
     tails ty.NoValue None h memory shape = gives
     tails ty.NoValue (Some v) h memory (a_shape (fit x)) = absurd (true≢false (sym x))
     tails ty.Never v h memory shape = gives
@@ -256,7 +256,7 @@ module _ (c : Place) (f : FunctionTree) where
 
     pub function_follows : fits c.setting.end ty.Val bound_error ≡ true → width f.body < 2 ^ 60 → (arguments : List Value) (memory : Memory) (g : File) → AllFit c.setting.end f.params arguments →
         PutAll c.setting.end (seats 0 first params) arguments (λ n. None) g →
-        Follows c m (does (text_of c) turns f.body true (begun_with arguments) memory Ends) (Walks (at c m turns [] m.code g memory))
+        Follows c m (does (text_of c) turns f.body true (begun_with arguments) memory Ends) (Continues (at c m turns [] m.code g memory))
     function_follows still fine arguments memory g all put =
         let labelled = selected_labelled f in
         let long = seats_length 0 first params in

@@ -14,7 +14,7 @@ use Rattle.cmm_meaning.specs.State.{Here}
 use Rattle.meaning_laws.specs.Does.{Leaves, Does}
 use Rattle.meaning_laws.specs.Interaction.{Part, with_value, both, does}
 use Rattle.mach_ir.specs.Acts.{Setting, Around, pure_act, one_result, truth_of, as_condition}
-use Rattle.mach_ir.specs.Runs.{Place, Walks}
+use Rattle.mach_ir.specs.Runs.{Place, Continues}
 use Rattle.mach_ir.specs.Meaning.{File, values, with_held}
 use Rattle.mach_ir.specs.declared.reg.Reg.{Reg}
 use Rattle.mach_ir.specs.declared.mach.Instr.{Instr}
@@ -148,9 +148,9 @@ module _ (c : Place) (m : Mach) (turns : ℕ) (ts : List ℕ) where
       Placed m ts (ordered left_first (unless_left s (select env labels false false (fresh nx (type_of (scopes env) left)) ix left)) (unless_right s (select env labels false false (fresh ny (type_of (scopes env) e)) iy e)) next) →
       Outs c m turns ts env labels P k → (h : Here) (f : File) (memory : Memory) → Level c m turns ts h → Stands env h.names f → P f →
       ((v w : Value) (h : Here) (f : File) (memory : Memory) → Level c m turns ts h → Stands env h.names f → P f →
-      Operands op (fresh nx (type_of (scopes env) left)) (fresh ny (type_of (scopes env) e)) f s v w → Follows c m (go v w h memory k) (Walks (at c m turns ts next f memory))) →
+      Operands op (fresh nx (type_of (scopes env) left)) (fresh ny (type_of (scopes env) e)) f s v w → Follows c m (go v w h memory k) (Continues (at c m turns ts next f memory))) →
       Follows c m (both left_first (does (text_of c) turns left false) (does (text_of c) turns e false) h memory go k)
-      (Walks (at c m turns ts (ordered left_first (unless_left s (select env labels false false (fresh nx (type_of (scopes env) left)) ix left)) (unless_right s (select env labels false false (fresh ny (type_of (scopes env) e)) iy e)) next) f memory))
+      (Continues (at c m turns ts (ordered left_first (unless_left s (select env labels false false (fresh nx (type_of (scopes env) left)) ix left)) (unless_right s (select env labels false false (fresh ny (type_of (scopes env) e)) iy e)) next) f memory))
   shape_two left_first left e in_registers is sl sr fl fr nx ny ix iy next go k lower under first stable bx by' xx yy xy yx apart el er ending outs h f memory level s p on =
       two c m turns ts left_first left e sl sr fl fr nx ny ix iy next go k lower under first stable bx by' xx yy xy yx apart el er ending outs h f memory level s p
       (λ v w h f memory level s p fv fw hv hw. on v w h f memory level s p (both_stand hv hw))

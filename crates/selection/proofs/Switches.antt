@@ -17,9 +17,9 @@ use Rattle.meaning_laws.specs.Interaction.{Part, Operand, onward, of_type, prope
 use Rattle.mach_ir.specs.declared.reg.Reg.{Reg}
 use Rattle.mach_ir.specs.declared.mach.Instr.{Instr}
 use Rattle.mach_ir.specs.declared.mach.Mach.{Mach}
-use Rattle.mach_ir.specs.Runs.{Place, Walks}
+use Rattle.mach_ir.specs.Runs.{Place, Continues}
 use Rattle.mach_ir.specs.Meaning.{File, with_held, on_act, after_label}
-use Rattle.mach_ir.specs.Acts.{Around, to_case, Goes, At}
+use Rattle.mach_ir.specs.Acts.{Around, goes_to_case, Goes, At}
 use Rattle.mach_ir.specs.Formed.{indexes_of}
 use Rattle.selection.specs.Kept.{on_values}
 use Rattle.selection.specs.Select.{Named, Label, scopes, fresh, inner_valued, inner_dest, width, count_cases, width_cases, last_label, switch_labels, select, select_cases}
@@ -40,7 +40,7 @@ module _ (c : Place) (m : Mach) (turns : ℕ) (ts : List ℕ) where
   module _ (env : List Named) (tail : Bool) (P : File → Type 0) (kk : Leaves (Option Value) → Does) where
     -- the body of a case follows, after its label
     pub record CaseOk (x : Chosen Operand) (l : ℕ) : Type 0 where
-      pub body : (h : Here) (f : File) (memory : Memory) → Level c m turns ts h → Stands env h.names f → P f → Follows c m (x.body h memory kk) (Walks (at c m turns ts (after_label l m.code) f memory))
+      pub body : (h : Here) (f : File) (memory : Memory) → Level c m turns ts h → Stands env h.names f → P f → Follows c m (x.body h memory kk) (Continues (at c m turns ts (after_label l m.code) f memory))
 
     pub data CasesOk : List (Chosen Operand) → ℕ → Type 0 where
       no_ok : {l : ℕ} → CasesOk [] l
@@ -63,16 +63,16 @@ module _ (c : Place) (m : Mach) (turns : ℕ) (ts : List ℕ) where
     pick_first (Choose indexes body rest) l (an_ok ok all) = picked ok
 
     pub chosen_follows : (cs : Cases) (l k : ℕ) → CasesOk (choices (text_of c) turns cs tail) l → (h : Here) (f : File) (memory : Memory) → Level c m turns ts h → Stands env h.names f → P f →
-        Follows c m (chosen (case_for (choices (text_of c) turns cs tail) k) h memory kk) (Walks (at c m turns ts (after_label (last_label l cs k l) m.code) f memory))
+        Follows c m (chosen (case_for (choices (text_of c) turns cs tail) k) h memory kk) (Continues (at c m turns ts (after_label (last_label l cs k l) m.code) f memory))
     chosen_follows cs l k all h f memory level s p = by (case_for (choices (text_of c) turns cs tail) k) (last_label l cs k l) (pick_last cs l k l (first_case (choices (text_of c) turns cs tail)) all (pick_first cs l all))
       where
-        by : (o : Option (Chosen Operand)) (n : ℕ) → Picked o n → Follows c m (chosen o h memory kk) (Walks (at c m turns ts (after_label n m.code) f memory))
+        by : (o : Option (Chosen Operand)) (n : ℕ) → Picked o n → Follows c m (chosen o h memory kk) (Continues (at c m turns ts (after_label n m.code) f memory))
         by o n picked_none = fails
         by o n (picked ok) = ok.body h f memory level s p
 
   -- the label for a number stands at it
   case_follows : (x : Does) (i : Instr) (next : List Instr) (f : File) (a b : Around) (l : ℕ) (cs : Cases) (j size n : ℕ) → n < size → Follows c m x (on_act c m i next f b (Goes [] (At (last_label l cs (j + n) l)) a)) →
-      Follows c m x (on_act c m i next f b (to_case a (switch_labels l cs j size) (Ok n)))
+      Follows c m x (on_act c m i next f b (goes_to_case a (switch_labels l cs j size) (Ok n)))
   case_follows x i next f a b l cs j zero n less follows = absurd (omega (arith, less))
   case_follows x i next f a b l cs j (suc size) zero less follows =
       let e : j + 0 ≡ j = omega arith in
@@ -93,10 +93,10 @@ module _ (c : Place) (m : Mach) (turns : ℕ) (ts : List ℕ) where
   cases_none labelled env labels valued tail d next P kk places end l i fine is placed ready stable a = no_ok
 
   module _ (env : List Named) (labels : List Label) (valued tail : Bool) (d : Reg) (next : List Instr) (places : List ℕ) (end : ℕ) where
-    case_falls : (l i : ℕ) (cs : Cases) → after_label end m.code ≡ next → (x : Does) (f : File) (memory : Memory) → Follows c m x (Walks (at c m turns ts next f memory)) →
-        Follows c m x (Walks (at c m turns ts (select_cases env labels valued tail d places end l i cs (bare (mark.End end) ∷ next)) f memory))
+    case_falls : (l i : ℕ) (cs : Cases) → after_label end m.code ≡ next → (x : Does) (f : File) (memory : Memory) → Follows c m x (Continues (at c m turns ts next f memory)) →
+        Follows c m x (Continues (at c m turns ts (select_cases env labels valued tail d places end l i cs (bare (mark.End end) ∷ next)) f memory))
     case_falls l i NoCase is x f memory follows = walks follows
-    case_falls l i (Choose indexes body rest) is x f memory follows = walks (subst (λ code. Follows c m x (Walks (at c m turns ts code f memory))) (sym is) follows)
+    case_falls l i (Choose indexes body rest) is x f memory follows = walks (subst (λ code. Follows c m x (Continues (at c m turns ts code f memory))) (sym is) follows)
 
   pub cases_more : (indexes : List Index) (body : Expression) (rest : Cases) → Selected c m turns ts body → SelectedCases rest → SelectedCases (Choose indexes body rest)
   cases_more indexes body rest sb sr labelled env labels valued tail d next P kk places end l i fine is placed ready stable a =
@@ -106,7 +106,7 @@ module _ (c : Place) (m : Mach) (turns : ℕ) (ts : List ℕ) where
       an_ok
       (record {
         body = λ h f memory level s p.
-            subst (λ code. Follows c m (does (text_of c) turns body tail h memory kk) (Walks (at c m turns ts code f memory)))
+            subst (λ code. Follows c m (does (text_of c) turns body tail h memory kk) (Continues (at c m turns ts code f memory)))
             (sym (labelled.behind_is l (bare (mark.Case (indexes_of l 0 places) l end)) body_code placed.ending (eq-eqb l l refl)))
             (sb env labels valued tail d i rest_code P kk (omega (arith, fine)) ready stable inner
             (after_through c m turns ts (type_of (scopes env) body) (λ x f memory follows. case_falls env labels valued tail d next places end (suc l) (i + width body) rest is x f memory follows) a) h f memory level s p);
@@ -146,23 +146,23 @@ module _ (c : Place) (m : Mach) (turns : ℕ) (ts : List ℕ) where
     go n h memory = cond (nat_lt n size) (chosen (case_for (choices (text_of c) turns cases tail) n) h memory) (part.fails SwitchRange memory)
 
     switched : CasesOk env tail P kk (choices (text_of c) turns cases tail) l → (h : Here) (f : File) (memory : Memory) → Level c m turns ts h → Stands env h.names f → P f → (r : Result ℕ Kind) →
-        Follows c m (proper r memory (λ n. go n h memory) kk) (on_act c m instr cases_code f (calm c m turns ts memory) (to_case (calm c m turns ts memory) (switch_labels l cases 0 size) r))
+        Follows c m (proper r memory (λ n. go n h memory) kk) (on_act c m instr cases_code f (calm c m turns ts memory) (goes_to_case (calm c m turns ts memory) (switch_labels l cases 0 size) r))
     switched all h f memory level s p (Err kind) = fails
     switched all h f memory level s p (Ok n) = by (nat_lt n size) refl
       where
         by : (g : Bool) → nat_lt n size ≡ g → Follows c m (cond g (chosen (case_for (choices (text_of c) turns cases tail) n) h memory) (part.fails SwitchRange memory) kk)
-            (on_act c m instr cases_code f (calm c m turns ts memory) (to_case (calm c m turns ts memory) (switch_labels l cases 0 size) (Ok n)))
+            (on_act c m instr cases_code f (calm c m turns ts memory) (goes_to_case (calm c m turns ts memory) (switch_labels l cases 0 size) (Ok n)))
         by false e = fails
         by true e =
             let same : n ≡ 0 + n = omega arith in
             case_follows (chosen (case_for (choices (text_of c) turns cases tail) n) h memory kk) instr cases_code f (calm c m turns ts memory) (calm c m turns ts memory) l cases 0 size n (ltb-true n size e)
-            (subst (λ j. Follows c m (chosen (case_for (choices (text_of c) turns cases tail) n) h memory kk) (Walks (at c m turns ts (after_label (last_label l cases j l) m.code) f memory))) same
+            (subst (λ j. Follows c m (chosen (case_for (choices (text_of c) turns cases tail) n) h memory kk) (Continues (at c m turns ts (after_label (last_label l cases j l) m.code) f memory))) same
             (chosen_follows env tail P kk cases l n all h f memory level s p))
 
     pub selected_switch : Selected c m turns ts selector → SelectedCases cases → width (Switch place size_at size selector cases) < 2 ^ 60 →
         Ready c m turns ts env labels b d → Stable env b d.number P → Placed m ts (select env labels valued tail d b (Switch place size_at size selector cases) next) →
         After c m turns ts (Some T) env labels valued tail d next P k → (h : Here) (f : File) (memory : Memory) → Level c m turns ts h → Stands env h.names f → P f →
-        Follows c m (does (text_of c) turns (Switch place size_at size selector cases) tail h memory k) (Walks (at c m turns ts (select env labels valued tail d b (Switch place size_at size selector cases) next) f memory))
+        Follows c m (does (text_of c) turns (Switch place size_at size selector cases) tail h memory k) (Continues (at c m turns ts (select env labels valued tail d b (Switch place size_at size selector cases) next) f memory))
     selected_switch ss sc fine ready stable placed after h f memory level s p =
         let first : 21 ≤ b = let less = ready.below in let le = ready.first in omega (arith, less, le) in
         let a = after_typed c m turns ts T b after in

@@ -13,9 +13,9 @@ use Rattle.cmm_meaning.specs.State.{Here, scope}
 use Rattle.meaning_laws.specs.Does.{Leaves, Does}
 use Rattle.meaning_laws.specs.Interaction.{Part, onward, of_type, only_value, with_value, both, proper, does}
 use Rattle.meaning_laws.specs.Interaction as part
-use Rattle.mach_ir.specs.Acts.{On, At, turned, truth_of, as_condition}
+use Rattle.mach_ir.specs.Acts.{On, At, branches, truth_of, as_condition}
 use Rattle.mach_ir.specs.Acts as acts
-use Rattle.mach_ir.specs.Runs.{Place, Walks}
+use Rattle.mach_ir.specs.Runs.{Place, Continues}
 use Rattle.mach_ir.specs.Meaning.{File, with_held, on_act, code_at}
 use Rattle.mach_ir.specs.declared.mach.Instr.{Instr}
 use Rattle.mach_ir.specs.declared.mach.Mach.{Mach}
@@ -41,7 +41,7 @@ module _ (c : Place) (m : Mach) (turns : ℕ) (ts : List ℕ) where
   -- where it goes on
   abbrev pub Turns : List Named → (File → Type 0) → ℕ → List Instr → (Leaves (Option Value) → Does) → (Bool → Here → Memory → Part (Option Value)) → Type 0
   Turns env P l next k go =
-      (holds : Bool) (h : Here) (f : File) (memory : Memory) → Level c m turns ts h → Stands env h.names f → P f → Follows c m (go holds h memory k) (Walks (at c m turns ts (code_at m.code next (cond holds On (At l))) f memory))
+      (holds : Bool) (h : Here) (f : File) (memory : Memory) → Level c m turns ts h → Stands env h.names f → P f → Follows c m (go holds h memory k) (Continues (at c m turns ts (code_at m.code next (cond holds On (At l))) f memory))
 
   abbrev pub value_code : List Named → List Label → ℕ → ℕ → ℕ → Expression → List Instr → List Instr
   value_code env labels l t i e next =
@@ -52,14 +52,14 @@ module _ (c : Place) (m : Mach) (turns : ℕ) (ts : List ℕ) where
       (env : List Named) (labels : List Label) (l t b d i : ℕ) (next : List Instr) (P : File → Type 0) (k : Leaves (Option Value) → Does) (go : Bool → Here → Memory → Part (Option Value)) →
       width e < 2 ^ 60 → Lower b labels → Under b env → 21 ≤ b → b ≤ t → t < i → Stable env b d P → Placed m ts (select_test env labels l i e (value_code env labels l t i e next) next) →
       Outs c m turns ts env labels P k → (h : Here) (f : File) (memory : Memory) → Level c m turns ts h → Stands env h.names f → P f → Turns env P l next k go →
-      Follows c m (with_value (does (text_of c) turns e false h memory) (judged go) k) (Walks (at c m turns ts (select_test env labels l i e (value_code env labels l t i e next) next) f memory))
+      Follows c m (with_value (does (text_of c) turns e false h memory) (judged go) k) (Continues (at c m turns ts (select_test env labels l i e (value_code env labels l t i e next) next) f memory))
 
   -- a value is tested
   pub value_test : (e : Expression) → Selected c m turns ts e →
       (env : List Named) (labels : List Label) (l t b d i : ℕ) (next : List Instr) (P : File → Type 0) (k : Leaves (Option Value) → Does) (go : Bool → Here → Memory → Part (Option Value)) →
       width e < 2 ^ 60 → Lower b labels → Under b env → 21 ≤ b → b ≤ t → t < i → Stable env b d P → Placed m ts (value_code env labels l t i e next) →
       Outs c m turns ts env labels P k → (h : Here) (f : File) (memory : Memory) → Level c m turns ts h → Stands env h.names f → P f → Turns env P l next k go →
-      Follows c m (with_value (does (text_of c) turns e false h memory) (judged go) k) (Walks (at c m turns ts (value_code env labels l t i e next) f memory))
+      Follows c m (with_value (does (text_of c) turns e false h memory) (judged go) k) (Continues (at c m turns ts (value_code env labels l t i e next) f memory))
   value_test e se env labels l t b d i next P k go fine lower under first bt ti stable placed outs h f memory level s p on =
       operand c m turns ts e se fine t i (mark ∷ next) (judged go) k
       (ready_at c m turns ts (type_of (scopes env) e) t i lower under first bt ti) (stable_inner t i bt (omega (arith, bt, ti)) stable) placed outs h f memory level s p
@@ -70,7 +70,7 @@ module _ (c : Place) (m : Mach) (turns : ℕ) (ts : List ℕ) where
       mark = emit.branch test.Holds l (fresh t (type_of (scopes env) e) ∷ [])
 
       by : (h : Here) (f : File) (memory : Memory) → Level c m turns ts h → Stands env h.names f → P f → (r : Result Bool Kind) →
-          Follows c m (proper r memory (λ holds. go holds h memory) k) (on_act c m mark next f (calm c m turns ts memory) (turned (calm c m turns ts memory) On (At l) (acts.proper r)))
+          Follows c m (proper r memory (λ holds. go holds h memory) k) (on_act c m mark next f (calm c m turns ts memory) (branches (calm c m turns ts memory) On (At l) (acts.proper r)))
       by h f memory level s p (Err kind) = fails
       by h f memory level s p (Ok holds) = on holds h f memory level s p
 
@@ -96,12 +96,12 @@ module _ (c : Place) (m : Mach) (turns : ℕ) (ts : List ℕ) where
         (b d : ℕ) (P : File → Type 0) (k : Leaves (Option Value) → Does) (go : Bool → Here → Memory → Part (Option Value)) →
         width (Operator place op left e) < 2 ^ 60 → Lower b labels → Under b env → 21 ≤ b → b ≤ i → Stable env b d P → Placed m ts (compare_code t) →
         Outs c m turns ts env labels P k → (h : Here) (f : File) (memory : Memory) → Level c m turns ts h → Stands env h.names f → P f → Turns env P l next k go →
-        Follows c m (with_value (does (text_of c) turns (Operator place op left e) false h memory) (judged go) k) (Walks (at c m turns ts (compare_code t) f memory))
+        Follows c m (with_value (does (text_of c) turns (Operator place op left e) false h memory) (judged go) k) (Continues (at c m turns ts (compare_code t) f memory))
     compare_test t says sl se b d P k go fine lower under first bi stable placed outs h f memory level s p on =
         node_follows c m turns ts (Operator place op left e) h memory
         (both (is_left_first (scope h) left e) (does (text_of c) turns left false) (does (text_of c) turns e false) h memory step) taking _ s
         (subst (λ (sc : List Scoped). Follows c m (both (is_left_first sc left e) (does (text_of c) turns left false) (does (text_of c) turns e false) h memory step kk)
-        (Walks (at c m turns ts (compare_code t) f memory)))
+        (Continues (at c m turns ts (compare_code t) f memory)))
         (sym (scope_is s))
         (shape_two c m turns ts (is_left_first (scopes env) left e) left e (shape_view op left e) refl sl se (omega (arith, fine)) (omega (arith, fine)) (suc i) (suc (suc i)) (suc (suc (suc i))) (suc (suc (suc i)) + width left)
         (mark t ∷ next) step kk lower under first stable
@@ -110,7 +110,7 @@ module _ (c : Place) (m : Mach) (turns : ℕ) (ts : List ℕ) where
         (record { exit = λ l values h f memory level r p. outs.exit l values h f memory level r p; raising = λ v fv h f memory level r p. outs.raising v fv h f memory level r p }) h f memory level s p
         (λ v w h f memory level s p read. walks (
         subst (λ o. Follows c m (step v w h memory kk) (on_values c m (mark t) next f (calm c m turns ts memory) o)) (sym (operands_values read))
-        (subst (λ o. Follows c m (step v w h memory kk) (on_act c m (mark t) next f (calm c m turns ts memory) (turned (calm c m turns ts memory) On (At l) o))) (sym (says.is (sizes memory) read))
+        (subst (λ o. Follows c m (step v w h memory kk) (on_act c m (mark t) next f (calm c m turns ts memory) (branches (calm c m turns ts memory) On (At l) o))) (sym (says.is (sizes memory) read))
         (by h f memory level s p (apply op (sizes memory) v w)))))))
       where
         T : Ty
@@ -126,15 +126,15 @@ module _ (c : Place) (m : Mach) (turns : ℕ) (ts : List ℕ) where
         step = λ v w h memory. proper (apply op (sizes memory) v w) memory (λ u. part.gives (Some u) h memory)
 
         turn : (h : Here) (f : File) (memory : Memory) → Level c m turns ts h → Stands env h.names f → P f → (o : Result Bool Kind) →
-            Follows c m (proper o memory (λ holds. go holds h memory) k) (on_act c m (mark t) next f (calm c m turns ts memory) (turned (calm c m turns ts memory) On (At l) (acts.proper o)))
+            Follows c m (proper o memory (λ holds. go holds h memory) k) (on_act c m (mark t) next f (calm c m turns ts memory) (branches (calm c m turns ts memory) On (At l) (acts.proper o)))
         turn h f memory level s p (Err kind) = fails
         turn h f memory level s p (Ok holds) = on holds h f memory level s p
 
         by : (h : Here) (f : File) (memory : Memory) → Level c m turns ts h → Stands env h.names f → P f → (o : Result Value Kind) →
-            Follows c m (proper o memory (λ u. part.gives (Some u) h memory) kk) (on_act c m (mark t) next f (calm c m turns ts memory) (turned (calm c m turns ts memory) On (At l) (as_condition (sizes memory) o)))
+            Follows c m (proper o memory (λ u. part.gives (Some u) h memory) kk) (on_act c m (mark t) next f (calm c m turns ts memory) (branches (calm c m turns ts memory) On (At l) (as_condition (sizes memory) o)))
         by h f memory level s p (Err kind) = fails
         by h f memory level s p (Ok u) =
-            of_type_some c m turns ts taking (on_act c m (mark t) next f (calm c m turns ts memory) (turned (calm c m turns ts memory) On (At l) (acts.proper (condition_of (sizes memory) u)))) T u h memory
+            of_type_some c m turns ts taking (on_act c m (mark t) next f (calm c m turns ts memory) (branches (calm c m turns ts memory) On (At l) (acts.proper (condition_of (sizes memory) u)))) T u h memory
             (λ fit'. turn h f memory level s p (condition_of (sizes memory) u)) (λ none'. fails)
 
   pub operator_test : (place : ℕ) (op : IntOp) (left e : Expression) → Selected c m turns ts left → Selected c m turns ts e → Selected c m turns ts (Operator place op left e) → SelectedTest (Operator place op left e)
@@ -145,7 +145,7 @@ module _ (c : Place) (m : Mach) (turns : ℕ) (ts : List ℕ) where
       code o = tested o (compare_code place op left e env labels l i next) (value_code env labels l t i (Operator place op left e) next)
 
       by : (o : Option Test) → Compared op (shape_of op left e) o → Placed m ts (code o) →
-          Follows c m (with_value (does (text_of c) turns (Operator place op left e) false h memory) (judged go) k) (Walks (at c m turns ts (code o) f memory))
+          Follows c m (with_value (does (text_of c) turns (Operator place op left e) false h memory) (judged go) k) (Continues (at c m turns ts (code o) f memory))
       by None no_comparison placed = value_test (Operator place op left e) so env labels l t b d i next P k go fine lower under first bt ti stable placed outs h f memory level s p on
       by (Some q) (compares says) placed =
           compare_test place op left e env labels l i next q says sl se b d P k go fine lower under first (omega (arith, bt, ti)) stable placed outs h f memory level s p on

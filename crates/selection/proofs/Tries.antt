@@ -1,5 +1,5 @@
 -- Tries.
-use Rattle.std.proofs.Common.{◌≡◌, ℕ, suc, ◌+◌, ◌<◌, ◌≤◌, Bool, true, false, List, [], ◌∷◌, Option, Some, None, length, refl, sym, ap, ◌∙◌, subst, arith, ◌^◌}
+use Rattle.std.proofs.Common.{◌≡◌, ℕ, suc, ◌+◌, ◌<◌, ◌≤◌, Bool, true, false, cond, List, [], ◌∷◌, Option, Some, None, length, refl, sym, ap, ◌∙◌, subst, arith, ◌^◌}
 use Rattle.std.proofs.lemmas.Bool.{true≢false, eq-eqb}
 use Rattle.bs_words.specs.Fits.{fits}
 use Rattle.bs_words.specs.Memory.{Memory}
@@ -14,10 +14,10 @@ use Rattle.meaning_laws.specs.Interaction.{onward, of_type, does, from, trying, 
 use Rattle.mach_ir.specs.declared.reg.Reg.{Reg}
 use Rattle.mach_ir.specs.declared.mach.Instr.{Instr}
 use Rattle.mach_ir.specs.declared.mach.Mach.{Mach}
-use Rattle.mach_ir.specs.Runs.{Place, Step, Walks}
+use Rattle.mach_ir.specs.Runs.{Place, Step, Continues}
 use Rattle.mach_ir.specs.Acts.{drop_tries}
-use Rattle.mach_ir.specs.Meaning.{Everything, tries_at, File, put, put_if, clear, killed, after_label, onto, wrote}
-use Rattle.selection.specs.Select.{Named, Label, scopes, found_label, label_of, inner_valued, inner_dest, width, seat, deeper, raised_name, select}
+use Rattle.mach_ir.specs.Meaning.{Everything, tries_at, File, put, put_if, clear, killed, after_label, from_handler, wrote}
+use Rattle.selection.specs.Select.{Named, Label, scopes, label_of, inner_valued, inner_dest, width, seat, deeper, raised_name, select}
 use Rattle.selection.specs.Follow.{Follows, walks, deepens}
 use Rattle.selection.proofs.Files.{Low, survives_call, Survives, put_same, under_more, IsNamed, named_under, Stands, stands_put, stands_survives, stands_length}
 use Rattle.selection.proofs.Parts.{ending_in, ending_next, Placed, WellLabelled, Lower, no_label, a_label, lower_more, Stable, stable_same, May, new, dest, name, calm, calm_in, at, arrive, Level, reaching_now, reaching_out, raised_to, any, Left, nothing, gone_any, holding, After, after_typed, node_follows, Ready}
@@ -48,8 +48,8 @@ module _ (c : Place) (m : Mach) (turns : ℕ) (ts : List ℕ) where
   arrive_deeper l (t ∷ labels) x vs f memory = by (same_label x t.label) (arrive_deeper l labels x vs f memory)
     where
       by : (q : Bool) → arrive c m turns (l ∷ ts) (label_of (deeper labels) x) vs f memory ≡ arrive c m turns ts (label_of labels x) vs f memory →
-          arrive c m turns (l ∷ ts) (found_label q (record { label = t.label; params = t.params; number = t.number; tries = suc t.tries }) (label_of (deeper labels) x)) vs f memory
-          ≡ arrive c m turns ts (found_label q t (label_of labels x)) vs f memory
+          arrive c m turns (l ∷ ts) (cond q (Some (record { label = t.label; params = t.params; number = t.number; tries = suc t.tries })) (label_of (deeper labels) x)) vs f memory
+          ≡ arrive c m turns ts (cond q (Some t) (label_of labels x)) vs f memory
       by true e = refl
       by false e = e
 
@@ -139,7 +139,7 @@ module _ (c : Place) (m : Mach) (turns : ℕ) (ts : List ℕ) where
 
     -- the handler's entry
     raise_follows : Selected c m turns ts handler → width handler < 2 ^ 60 → Ready c m turns ts env labels (suc b) target → Stable env (suc b) target.number P → Placed m ts handler_code →
-        onto l m.code ≡ handler_instr ∷ entry_code → Followed → (v : Value) → fits c.setting.end ty.Val v ≡ true → (h : Here) (f : File) (memory : Memory) → Level c m turns ts h → Stands env h.names f → P f →
+        from_handler l m.code ≡ handler_instr ∷ entry_code → Followed → (v : Value) → fits c.setting.end ty.Val v ≡ true → (h : Here) (f : File) (memory : Memory) → Level c m turns ts h → Stands env h.names f → P f →
         Follows c m (caught v h memory kk) (raised_to m (l ∷ ts) v f memory)
     raise_follows sh fine ready stable placed is a v fv h f memory level s p =
         let cleared : File = clear (killed m handler_instr) f in
@@ -150,7 +150,7 @@ module _ (c : Place) (m : Mach) (turns : ℕ) (ts : List ℕ) where
         let p2 = stable.puts y v cleared (new (omega arith)) (stable.calls f cleared survives p) in
         let raised : Scoped = record { name = its_name; type = ty.Val; mutable = false } in
         let here : Here = with_bound (raised ∷ []) (v ∷ []) h in
-        subst (λ code. Follows c m (caught v h memory kk) (Walks (record { rest = code; file = f; around = record { memory = memory; unwritten = []; tries = ts; raised = Some v } }))) (sym is)
+        subst (λ code. Follows c m (caught v h memory kk) (Continues (record { rest = code; file = f; around = record { memory = memory; unwritten = []; tries = ts; raised = Some v } }))) (sym is)
         (walks (
         subst (λ g. Follows c m (caught v h memory kk) (wrote entry_code (calm c m turns ts memory) (put_if g y v (Some cleared)))) (sym fv)
         (move_follows c m turns ts (put_same y v cleared)
@@ -166,7 +166,7 @@ module _ (c : Place) (m : Mach) (turns : ℕ) (ts : List ℕ) where
     pub selected_try : Selected c m turns (l ∷ ts) body → Selected c m turns ts handler → width (Try place body name_at its_name handler) < 2 ^ 60 →
         Ready c m turns ts env labels b d → Stable env b d.number P → Placed m ts (select env labels valued tail d b (Try place body name_at its_name handler) next) →
         After c m turns ts (Some T) env labels valued tail d next P k → (h : Here) (f : File) (memory : Memory) → Level c m turns ts h → Stands env h.names f → P f →
-        Follows c m (does (text_of c) turns (Try place body name_at its_name handler) tail h memory k) (Walks (at c m turns ts (select env labels valued tail d b (Try place body name_at its_name handler) next) f memory))
+        Follows c m (does (text_of c) turns (Try place body name_at its_name handler) tail h memory k) (Continues (at c m turns ts (select env labels valued tail d b (Try place body name_at its_name handler) next) f memory))
     selected_try sb sh fine ready stable placed after h f memory level s p =
         let a = after_typed c m turns ts T b after in
         let inner = ready_inner c m turns ts T ready in
@@ -177,7 +177,7 @@ module _ (c : Place) (m : Mach) (turns : ℕ) (ts : List ℕ) where
         let handler_ending = ending_next (ending_in body_in.ending body_ending) in
         let code_ending = ending_next (ending_next handler_ending) in
         let is_end : after_label end m.code ≡ next = labelled.behind_is end end_instr next (ending_in handler_in.ending code_ending) (eq-eqb end end refl) in
-        let is_handler : onto l m.code ≡ handler_instr ∷ entry_code = labelled.onto_is l handler_instr entry_code handler_ending (eq-eqb l l refl) in
+        let is_handler : from_handler l m.code ≡ handler_instr ∷ entry_code = labelled.onto_is l handler_instr entry_code handler_ending (eq-eqb l l refl) in
         let handler_caught : tries_at handler_code ≡ ts = sym (ap (drop_tries 1) body_in.tries) ∙ placed.caught in
         let body_caught : tries_at body_code ≡ l ∷ ts = body_in.tries ∙ ap (λ us. l ∷ us) handler_caught in
         let handler_placed : Placed m ts handler_code = record { ending = code_ending; caught = handler_caught } in
@@ -211,7 +211,7 @@ module _ (c : Place) (m : Mach) (turns : ℕ) (ts : List ℕ) where
                 (subst (λ n. Stands env (outermost n h'.names) f) (sym long) r) p;
           };
           giving = λ v h' f memory lev s' p left.
-              walks (subst (λ code. Follows c m (kk (Giving v (back_in (length h.names) h.tries h') memory)) (Walks (at c m turns ts code f memory))) (sym is_end)
+              walks (subst (λ code. Follows c m (kk (Giving v (back_in (length h.names) h.tries h') memory)) (Continues (at c m turns ts code f memory))) (sym is_end)
               (a.giving v (back_in (length h.names) h.tries h') f memory (record { below = lev.below; frame = lev.frame; tries = deep }) (subst (λ n. Stands env (outermost n h'.names) f) (sym long) (reaching_now h' s')) p (forget left)));
           lost = λ v h' f memory s' fit' misfit'.
               a.lost v (back_in (length h.names) h.tries h') f memory (subst (λ n. Stands env (outermost n h'.names) f) (sym long) (reaching_now h' s')) any misfit';

@@ -3,18 +3,18 @@
 use Rattle.std.specs.Prelude.{ℕ, List, [], ◌∷◌, Option, Some, None}
 use Rattle.bs_words.specs.declared.values.Value.{Value}
 use Rattle.mach_ir.specs.Acts.{Around}
-use Rattle.mach_ir.specs.Runs.{Place, Step, Halts, Tally, Run, runs}
+use Rattle.mach_ir.specs.Runs.{Place, Step, IsStuck, Tally, Run, runs}
 use Rattle.mach_ir.specs.Meaning.{State, File, values, mach_act, on_act}
 use Rattle.mach_ir.specs.declared.mach.Instr.{Instr}
 use Rattle.mach_ir.specs.declared.mach.Mach.{Mach}
 
 abbrev pub on_values : Place → Mach → Instr → List Instr → File → Around → Option (List Value) →
     Step State
-on_values c m i next f a None = Halts
+on_values c m i next f a None = IsStuck
 on_values c m i next f a (Some vs) = on_act c m i next f a (mach_act c.setting i.op vs a)
 
 abbrev pub at_code : Place → Mach → List Instr → File → Around → Step State
-at_code c m [] f a = Halts
+at_code c m [] f a = IsStuck
 at_code c m (i ∷ next) f a = on_values c m i next f a (values f i.args)
 
 abbrev pub step : Place → Mach → State → Step State

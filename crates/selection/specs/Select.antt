@@ -20,8 +20,10 @@ use Rattle.cmm_types.specs.Light.{is_light_address}
 use Rattle.cmm_types.specs.Types.{Scoped, type_of, type_bound, is_mutable, body_type, result_of}
 use Rattle.cmm_meaning.specs.Choices.{is_named}
 use Rattle.cmm_meaning.specs.Evaluation.{is_left_first, scoped_parameter, comps_of_arguments}
-use Rattle.mach_ir.specs.Formed.{indexes_of, is_immediate, is_short}
-use Rattle.mach_ir.specs.Placed.{colours, argument_places}
+use Rattle.mach_ir.specs.Formed.{indexes_of}
+use Rattle.mach_ir.specs.Forms.{is_immediate, is_immediate_12}
+use Rattle.mach_ir.specs.Placed.{colours}
+use Rattle.mach_ir.specs.Seats.{argument_places}
 use Rattle.mach_ir.specs.declared.op.Callee.{Callee}
 use Rattle.mach_ir.specs.declared.op.Callee.TheVariants as callee
 use Rattle.mach_ir.specs.declared.mach.Instr.{Instr}
@@ -59,21 +61,13 @@ comp_of _ = comp.Int
 abbrev pub fresh : ℕ → Ty → Reg
 fresh n type = record { number = n; comp = comp_of type; loc = loc.Unset; origin = n }
 
-abbrev pub found_reg : Bool → Reg → Option Reg → Option Reg
-found_reg true r others = Some r
-found_reg false r others = others
-
 abbrev pub reg_of : List Named → List ℕ → Option Reg
 reg_of [] name = None
-reg_of (x ∷ env) name = found_reg (bytes_eq x.scoped.name name) x.reg (reg_of env name)
-
-abbrev pub found_label : Bool → Label → Option Label → Option Label
-found_label true t others = Some t
-found_label false t others = others
+reg_of (x ∷ env) name = cond (bytes_eq x.scoped.name name) (Some x.reg) (reg_of env name)
 
 abbrev pub label_of : List Label → LabelTree → Option Label
 label_of [] l = None
-label_of (t ∷ labels) l = found_label (same_label l t.label) t (label_of labels l)
+label_of (t ∷ labels) l = cond (same_label l t.label) (Some t) (label_of labels l)
 
 -- code, before the code that follows
 abbrev pub Code : Type 0
@@ -220,7 +214,7 @@ is_address_sum operator.AddV = true
 is_address_sum _ = false
 
 abbrev pub is_based : IntOp → ℕ → Bool
-is_based op w = is_address_sum op && (is_short w && not (nat_eq w 0))
+is_based op w = is_address_sum op && (is_immediate_12 w && not (nat_eq w 0))
 
 abbrev pub offset_of : Expression → ℕ
 offset_of (Operator at op base (Integer at' w)) = cond (is_based op w) w 0

@@ -1,4 +1,3 @@
-pub mod Comes
 pub mod Losing
 pub mod Made
 pub mod Losses

@@ -9,19 +9,21 @@ use Rattle.bs_words.specs.declared.types.Comp.{Comp}
 use Rattle.bs_words.specs.declared.types.Comp.TheVariants as comp
 use Rattle.bs_words.specs.declared.values.Value.{Value}
 use Rattle.cmm_meaning.specs.State.{Doing, Asked}
-use Rattle.mach_ir.specs.Acts.{Around, Target, On, At, Landing, AtLabel, AtHandler, Act, Goes, Pushes, Jumps, Flies, Asks, Ends, EndsRaising, Stuck}
-use Rattle.mach_ir.specs.Runs.{Place, Step, Walks, Leaps, Deepens, Waits, Over, OverRaising, Halts, Tally, Run, Running, Asking, Ended, Wrong, paid, came_back, handed, onward, first_tally, entered}
-use Rattle.mach_ir.specs.Meaning.{State, File, Held, put, put_if, put_all, clear, killed, killed_by, destroyed_by, values, with_held, is_addr, unless_addr, past_frame, passes_frame, code_at, after_label, onto, handles, tries_at, at_handler, code_land, labels, mach_act, wrote, on_act, on_values, at_code, run, begun, start}
-use Rattle.mach_ir.specs.Walks.{Among, first, later, OneOf, targets, may_raise, goes, raises, Reached, at_entry, by_step, by_raise, Writes, Live, read, on, aside, LiveAcross, across_step, across_raise, InCode, in_results, further, IsRegister, is_param, is_in_code, Stands, here, below, NoAddrLive}
+use Rattle.bs_words.specs.declared.types.Ret.{Ret}
+use Rattle.mach_ir.specs.Acts.{goes_on, Around, Target, On, At, Landing, AtLabel, AtHandler, Act, Goes, Pushes, Jumps, Unwinds, Asks, Replaces, Ends, EndsRaising, Stuck}
+use Rattle.mach_ir.specs.Runs.{Place, Step, Continues, Pays, Deepens, Waits, FinishesBy, Finishes, FinishesRaising, IsStuck, Tally, Run, Running, Asking, Ended, Wrong, paid, came_back, kept_of, handed, onward, first_tally, entered}
+use Rattle.mach_ir.specs.Meaning.{State, File, Held, put, put_if, put_all, clear, killed, killed_by, destroyed_by, values, with_held, is_addr, unless_addr, past_frame, passes_frame, code_at, after_label, from_handler, is_handler_of, tries_at, at_handler, landing_code, has_label, mach_act, wrote, on_act, on_values, at_code, run, begun, start}
+use Rattle.mach_ir.specs.Walks.{Among, first, later, OneOf, this, other, next_if, targets, may_raise, goes, raises, Reached, at_entry, by_step, by_raise, Writes, Live, read, on, aside, LiveAcross, across_step, across_raise, InCode, in_results, further, IsRegister, is_param, is_in_code, Stands, here, below, NoAddrLive}
 use Rattle.mach_ir.specs.declared.mach.Instr.{Instr}
 use Rattle.mach_ir.specs.declared.mach.Mach.{Mach}
 use Rattle.mach_ir.specs.declared.mach.MachOp.{MachOp}
 use Rattle.mach_ir.specs.declared.mach.MachOp.TheVariants as mach
 use Rattle.mach_ir.specs.declared.mach.Mark.TheVariants as mark
+use Rattle.mach_ir.specs.declared.mach.Test.{Test}
 use Rattle.mach_ir.specs.declared.reg.Reg.{Reg}
 use Rattle.selection.specs.Kept as kept
 use Rattle.selection.proofs.Parts.{Ending, all, more, ending_next}
-use Rattle.selection_laws.proofs.Comes.{IsBare, an_exit, a_try, Lands, at_label, at_handler as lands_handler, Comes, goes_in, jumps_in, flies_in, pushes_in, asks_in, act_comes}
+use Rattle.mach_laws.proofs.Leads.{IsTry, is_try, MayLand, lands_at_label, lands_at_handler, Within, goes_in, pushes_in, jumps_in, unwinds_in, asks_in, within}
 
 -- ---- two files that agree where it matters
 
@@ -75,6 +77,46 @@ none_not x e = cc
 some_held : (y x : Held) → Some y ≡ Some x → y ≡ x
 some_held y x q = cc
 
+-- ---- what writes nothing
+
+-- a mark that is none of a handler
+pub data IsBare : MachOp → Type 0 where
+  an_exit : {l n : ℕ} → IsBare (mach.Mark (mark.Exit l n))
+  an_if : {t : Test} {l : ℕ} → IsBare (mach.Mark (mark.If t l))
+  an_else : {l end : ℕ} → IsBare (mach.Mark (mark.Else l end))
+  a_switch : {labels : List ℕ} → IsBare (mach.Mark (mark.Switch labels))
+  a_case : {indexes : List ℕ} {l end : ℕ} → IsBare (mach.Mark (mark.Case indexes l end))
+  a_catch : IsBare (mach.Mark mark.Catch)
+  a_with : {l end : ℕ} → IsBare (mach.Mark (mark.With l end))
+  a_try : {l : ℕ} → IsBare (mach.Mark (mark.Try l))
+  a_leave : {l end : ℕ} → IsBare (mach.Mark (mark.Leave l end))
+  an_end : {l : ℕ} → IsBare (mach.Mark (mark.End l))
+
+-- what may go to a label is such a mark
+bare_at : (f : MachOp) (l : ℕ) → OneOf (At l) (targets f) → IsBare f
+bare_at (mach.Op f) l o = absurd (by (goes_on f) o)
+  where
+    by : (b : Bool) → OneOf (At l) (next_if b) → ⊥
+    by true (other o) = elim o [ ]
+    by false o = elim o [ ]
+bare_at (mach.Mark (mark.Exit k n)) l o = an_exit
+bare_at (mach.Mark (mark.If t k)) l o = an_if
+bare_at (mach.Mark (mark.Else k end)) l o = an_else
+bare_at (mach.Mark (mark.Switch labels)) l o = a_switch
+bare_at (mach.Mark (mark.Case indexes k end)) l o = a_case
+bare_at (mach.Mark mark.Catch) l o = a_catch
+bare_at (mach.Mark (mark.With k end)) l o = a_with
+bare_at (mach.Mark (mark.Try k)) l o = a_try
+bare_at (mach.Mark (mark.Leave k end)) l o = a_leave
+bare_at (mach.Mark (mark.Handler k)) l (other o) = elim o [ ]
+bare_at (mach.Mark (mark.End k)) l o = an_end
+
+bare_try : {f : MachOp} → IsTry f → IsBare f
+bare_try is_try = a_try
+
+next_try : {f : MachOp} → IsTry f → OneOf On (targets f)
+next_try is_try = this
+
 -- ---- places
 
 label_if : (b : Bool) (l : ℕ) (i : Instr) (is : List Instr) → Ending (after_label l is) is → Ending (cond b is (after_label l is)) (i ∷ is)
@@ -83,15 +125,15 @@ label_if false l i is e = more e
 
 ending_label : (l : ℕ) (code : List Instr) → Ending (after_label l code) code
 ending_label l [] = all
-ending_label l (i ∷ is) = label_if (labels l i.op) l i is (ending_label l is)
+ending_label l (i ∷ is) = label_if (has_label l i.op) l i is (ending_label l is)
 
-onto_if : (b : Bool) (l : ℕ) (i : Instr) (is : List Instr) → Ending (onto l is) is → Ending (cond b (i ∷ is) (onto l is)) (i ∷ is)
+onto_if : (b : Bool) (l : ℕ) (i : Instr) (is : List Instr) → Ending (from_handler l is) is → Ending (cond b (i ∷ is) (from_handler l is)) (i ∷ is)
 onto_if true l i is e = all
 onto_if false l i is e = more e
 
-ending_onto : (l : ℕ) (code : List Instr) → Ending (onto l code) code
+ending_onto : (l : ℕ) (code : List Instr) → Ending (from_handler l code) code
 ending_onto l [] = all
-ending_onto l (i ∷ is) = onto_if (handles l i.op) l i is (ending_onto l is)
+ending_onto l (i ∷ is) = onto_if (is_handler_of l i.op) l i is (ending_onto l is)
 
 ending_nothing : (code : List Instr) → Ending [] code
 ending_nothing [] = all
@@ -133,14 +175,15 @@ module _ (c : Place) (m : Mach) where
     pub known : AllKnown a
 
   pub data AgreeStep : Step State → Step State → Type 0 where
-    two_walk : {rest : List Instr} {a b : File} {around : Around} → Agree rest a b → AgreeStep (Walks (record { rest = rest; file = a; around = around })) (Walks (record { rest = rest; file = b; around = around }))
-    two_leap : {rest : List Instr} {a b : File} {around : Around} → Agree rest a b → AgreeStep (Leaps (record { rest = rest; file = a; around = around })) (Leaps (record { rest = rest; file = b; around = around }))
+    two_walk : {rest : List Instr} {a b : File} {around : Around} → Agree rest a b → AgreeStep (Continues (record { rest = rest; file = a; around = around })) (Continues (record { rest = rest; file = b; around = around }))
+    two_leap : {rest : List Instr} {a b : File} {around : Around} → Agree rest a b → AgreeStep (Pays (record { rest = rest; file = a; around = around })) (Pays (record { rest = rest; file = b; around = around }))
     two_deep : {bytes : ℕ} {rest : List Instr} {a b : File} {around : Around} → Agree rest a b →
         AgreeStep (Deepens bytes (record { rest = rest; file = a; around = around })) (Deepens bytes (record { rest = rest; file = b; around = around }))
     two_wait : {call : Asked} {x y : Doing → Step State} → ((d : Doing) → AgreeStep (x d) (y d)) → AgreeStep (Waits call x) (Waits call y)
-    two_over : {d : Doing} → AgreeStep (Over d) (Over d)
-    two_raise : {d : Doing} → AgreeStep (OverRaising d) (OverRaising d)
-    two_halt : AgreeStep Halts Halts
+    two_place : {call : Asked} {kept : Ret} → AgreeStep (FinishesBy call kept) (FinishesBy call kept)
+    two_over : {d : Doing} → AgreeStep (Finishes d) (Finishes d)
+    two_raise : {d : Doing} → AgreeStep (FinishesRaising d) (FinishesRaising d)
+    two_halt : AgreeStep IsStuck IsStuck
 
   among_append : {n : ℕ} (xs : List Reg) {ys : List Reg} → Among n (xs ++ ys) → Among n xs ⊎ Among n ys
   among_append [] a = inr a
@@ -259,27 +302,27 @@ module _ (c : Place) (m : Mach) where
     bare_free is n w = none_killed i.op is (subst (λ rs. Among n (rs ++ killed m i)) (steady.bare i next (stands_of rel.ending) is) w)
       where
         none_killed : (f : MachOp) → IsBare f → Among n (killed_by m.colours (destroyed_by f) i.results) → ⊥
-        none_killed (mach.Mark (mark.Exit l k)) an_exit w = elim w [ ]
-        none_killed (mach.Mark (mark.Try l)) a_try w = elim w [ ]
-        none_killed (mach.Op _) z w = elim z [ ]
-        none_killed (mach.Mark (mark.If _ _)) z w = elim z [ ]
-        none_killed (mach.Mark (mark.Else _ _)) z w = elim z [ ]
-        none_killed (mach.Mark (mark.Switch _)) z w = elim z [ ]
-        none_killed (mach.Mark (mark.Case _ _ _)) z w = elim z [ ]
-        none_killed (mach.Mark mark.Catch) z w = elim z [ ]
-        none_killed (mach.Mark (mark.With _ _)) z w = elim z [ ]
-        none_killed (mach.Mark (mark.Leave _ _)) z w = elim z [ ]
-        none_killed (mach.Mark (mark.Handler _)) z w = elim z [ ]
-        none_killed (mach.Mark (mark.End _)) z w = elim z [ ]
+        none_killed (mach.Op f) z w = elim z [ ]
+        none_killed (mach.Mark (mark.Handler l)) z w = elim z [ ]
+        none_killed (mach.Mark (mark.Exit l k)) z w = elim w [ ]
+        none_killed (mach.Mark (mark.If t l)) z w = elim w [ ]
+        none_killed (mach.Mark (mark.Else l end)) z w = elim w [ ]
+        none_killed (mach.Mark (mark.Switch labels)) z w = elim w [ ]
+        none_killed (mach.Mark (mark.Case indexes l end)) z w = elim w [ ]
+        none_killed (mach.Mark mark.Catch) z w = elim w [ ]
+        none_killed (mach.Mark (mark.With l end)) z w = elim w [ ]
+        none_killed (mach.Mark (mark.Try l)) z w = elim w [ ]
+        none_killed (mach.Mark (mark.Leave l end)) z w = elim w [ ]
+        none_killed (mach.Mark (mark.End l)) z w = elim w [ ]
 
-    land_agree : (to : Landing) → Lands i.op to → Agree (code_land m.code (i ∷ next) to) a b'
+    land_agree : (to : Landing) → MayLand i.op to → Agree (landing_code m.code (i ∷ next) to) a b'
     land_agree to l = record { ending = ends to; reached = comes_to to l; agree = λ n v. stays n (by to l n v); known = rel.known }
       where
         ends_at : (ts : List ℕ) → Ending (at_handler m.code ts) m.code
         ends_at [] = ending_nothing m.code
         ends_at (l ∷ ts) = ending_onto l m.code
 
-        ends : (to : Landing) → Ending (code_land m.code (i ∷ next) to) m.code
+        ends : (to : Landing) → Ending (landing_code m.code (i ∷ next) to) m.code
         ends (AtLabel l) = ending_label l m.code
         ends AtHandler = ends_at (tries_at (i ∷ next))
 
@@ -291,31 +334,33 @@ module _ (c : Place) (m : Mach) where
         caught_at [] e r = at_end refl
         caught_at (l ∷ ts) e r = comes (by_raise reached_here (raises r e))
 
-        comes_to : (to : Landing) → Lands i.op to → Stood (code_land m.code (i ∷ next) to)
-        comes_to (AtLabel l) (at_label z o) = comes (by_step reached_here (goes (At l) o))
-        comes_to AtHandler (lands_handler r) = caught_at (tries_at (i ∷ next)) refl r
+        comes_to : (to : Landing) → MayLand i.op to → Stood (landing_code m.code (i ∷ next) to)
+        comes_to (AtLabel l) (lands_at_label o) = comes (by_step reached_here (goes (At l) o))
+        comes_to AtHandler (lands_at_handler r) = caught_at (tries_at (i ∷ next)) refl r
 
-        by : (to : Landing) → Lands i.op to → (n : ℕ) → Live m n (code_land m.code (i ∷ next) to) → LiveAcross m n i next
-        by (AtLabel l) (at_label z o) n v = across_step (bare_free z n) (goes (At l) o) v
-        by AtHandler (lands_handler r) n v = caught (tries_at (i ∷ next)) refl r n v
+        by : (to : Landing) → MayLand i.op to → (n : ℕ) → Live m n (landing_code m.code (i ∷ next) to) → LiveAcross m n i next
+        by (AtLabel l) (lands_at_label o) n v = across_step (bare_free (bare_at i.op l o) n) (goes (At l) o) v
+        by AtHandler (lands_at_handler r) n v = caught (tries_at (i ∷ next)) refl r n v
 
-    try_agree : IsBare i.op → OneOf On (targets i.op) → Agree next a b'
-    try_agree z o =
-        record { ending = ending_next rel.ending; reached = comes (by_step reached_here (goes On o)); agree = λ n v. stays n (across_step (bare_free z n) (goes On o) v); known = rel.known }
+    try_agree : IsTry i.op → Agree next a b'
+    try_agree z =
+        let o = next_try z in
+        record { ending = ending_next rel.ending; reached = comes (by_step reached_here (goes On o)); agree = λ n v. stays n (across_step (bare_free (bare_try z) n) (goes On o) v); known = rel.known }
 
-    act_agree : (around : Around) (x : Act) → Comes i.op x → AgreeStep (on_act c m i next a around x) (on_act c m i next b' around x)
+    act_agree : (around : Around) (x : Act) → Within i.op x → AgreeStep (on_act c m i next a around x) (on_act c m i next b' around x)
     act_agree around (Goes vs to after) (goes_in o) = put_agree vs to after o
     act_agree around (Jumps to after) (jumps_in l) = two_leap (land_agree to l)
-    act_agree around (Flies after) (flies_in r) = two_walk (land_agree AtHandler (lands_handler r))
-    act_agree around (Pushes after) (pushes_in z o) = two_deep (try_agree z o)
-    act_agree around (Asks whom vs tail go) (asks_in g) = two_wait (λ d. act_agree around (go d) (g d))
+    act_agree around (Unwinds after) (unwinds_in r) = two_walk (land_agree AtHandler (lands_at_handler r))
+    act_agree around (Pushes after) (pushes_in z) = two_deep (try_agree z)
+    act_agree around (Asks whom vs go) (asks_in g) = two_wait (λ d. act_agree around (go d) (g d))
+    act_agree around (Replaces whom vs kept) l = two_place
     act_agree around (Ends d) l = two_over
     act_agree around (EndsRaising d) l = two_raise
     act_agree around Stuck l = two_halt
 
     instr_agree : (around : Around) (o : Option (List Value)) → AgreeStep (kept.on_values c m i next a around o) (on_values c m i next b around o)
     instr_agree around None = two_halt
-    instr_agree around (Some vs) = act_agree around (mach_act c.setting i.op vs around) (act_comes c.setting i.op vs around)
+    instr_agree around (Some vs) = act_agree around (mach_act c.setting i.op vs around) (within c.setting i.op vs around)
 
   step_agree : Steady → (rest : List Instr) (a b : File) (around : Around) → Agree rest a b → AgreeStep (kept.at_code c m rest a around) (at_code c m rest b around)
   step_agree steady [] a b around rel = two_halt
@@ -340,11 +385,16 @@ module _ (c : Place) (m : Mach) where
   handed_runs k call x y [] t more' = both_asking
   handed_runs k call x y (d ∷ ds) t more' = more' d (came_back call ds t)
 
+  placed_runs : (call : Asked) (kept : Ret) (ds : List Doing) (t : Tally) → Twin (handed (λ d t. Ended (kept_of kept d) t) call ds t) (handed (λ d t. Ended (kept_of kept d) t) call ds t)
+  placed_runs call kept [] t = both_asking
+  placed_runs call kept (d ∷ ds) t = both_ended
+
   step_runs : (k : ℕ) → Runs k → {x y : Step State} → AgreeStep x y → (t : Tally) → Twin (onward (kept.run c m k) x t) (onward (run c m k) y t)
   step_runs k ih (two_walk rel) t = ih _ _ _ _ t rel
   step_runs k ih (two_leap rel) t = ih _ _ _ _ (paid t) rel
   step_runs k ih (two_deep rel) t = ih _ _ _ _ _ rel
   step_runs k ih (two_wait {call = call} {x = x} {y = y} g) t = handed_runs k call x y t.doings t (λ d t. step_runs k ih (g d) t)
+  step_runs k ih (two_place {call = call} {kept = kept}) t = placed_runs call kept t.doings t
   step_runs k ih two_over t = both_ended
   step_runs k ih two_raise t = both_ended
   step_runs k ih two_halt t = both_wrong

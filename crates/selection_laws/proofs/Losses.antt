@@ -8,7 +8,7 @@ use Rattle.cmm_tree.specs.Tree.{FunctionTree, comps_of}
 use Rattle.cmm_meaning.specs.State.{Doing}
 use Rattle.cmm_meaning.specs.Evaluation.{Evaluation, fit_parameters, bound_error}
 use Rattle.cmm_meaning.specs.Alone.{alone}
-use Rattle.cmm_meaning.specs.Nodes.{nodes}
+use Rattle.cmm_tree.specs.Measures.{nodes_in}
 use Rattle.meaning_laws.specs.Pace.{pending}
 use Rattle.meaning_laws.specs.Units.{world_of}
 use Rattle.mach_ir.specs.Runs.{Place, Run, first_tally}
@@ -19,8 +19,7 @@ use Rattle.mach_ir.specs.declared.mach.Mach.{Mach}
 use Rattle.selection.specs.Select.{selected, width}
 use Rattle.selection.proofs.Plays.{Meets, returned, threw, running, asking, improper, left_by_exit}
 use Rattle.selection.proofs.Selection.{selection_keeps}
-use Rattle.selection_laws.proofs.Comes.{IsBare}
-use Rattle.selection_laws.proofs.Losing.{Steady, Twin, both_running, both_asking, both_ended, losing}
+use Rattle.selection_laws.proofs.Losing.{IsBare, Steady, Twin, both_running, both_asking, both_ended, losing}
 use Rattle.selection_laws.proofs.Made.{Made, a_move, a_constant, a_symbol, an_operator, a_load, a_store, an_alloc, a_call, a_tail_call, an_external, a_checkbound, a_raise, a_return, a_branch, a_choice, a_handler, an_exit, an_else, a_case, a_catch, a_with, a_try, a_leave, an_end, made_of, selected_made}
 
 -- what jumps or pushes writes nothing
@@ -40,15 +39,15 @@ bare_results an_external z = elim z [ ]
 bare_results (a_checkbound y) z = elim z [ ]
 bare_results a_raise z = elim z [ ]
 bare_results a_return z = elim z [ ]
-bare_results a_branch z = elim z [ ]
-bare_results a_choice z = elim z [ ]
+bare_results a_branch z = refl
+bare_results a_choice z = refl
 bare_results a_handler z = elim z [ ]
-bare_results an_else z = elim z [ ]
-bare_results a_case z = elim z [ ]
-bare_results a_catch z = elim z [ ]
-bare_results a_with z = elim z [ ]
-bare_results a_leave z = elim z [ ]
-bare_results an_end z = elim z [ ]
+bare_results an_else z = refl
+bare_results a_case z = refl
+bare_results a_catch z = refl
+bare_results a_with z = refl
+bare_results a_leave z = refl
+bare_results an_end z = refl
 
 pub selected_steady : (c : Place) (f : FunctionTree) → NoAddrLive (selected f) → Steady c (selected f)
 selected_steady c f live = record { no_addr = live; bare = λ i next s z. bare_results (made_of (selected_made f) s) z }
@@ -74,7 +73,7 @@ pub record SelectedRun (c : Place) (m : Mach) (f : FunctionTree) (arguments : Li
       units + (pending e + (world_of e).left) ≤ n
   pub enough :
       let e : Evaluation = alone c.setting.end c.setting.symbol c.setting.parameters c.frame f arguments c.below memory doings n in
-      n ≤ (world_of e).left + nodes f.body * suc units
+      n ≤ (world_of e).left + nodes_in f.body * suc units
 
 pub selection_keeps_alone : (c : Place) (f : FunctionTree) → fits c.setting.end ty.Val bound_error ≡ true → width f.body < 2 ^ 60 → NoAddrLive (selected f) → (arguments : List Value) (memory : Memory) (doings : List Doing) (n : ℕ) →
     fit_parameters c.setting.end (comps_of f) arguments ≡ true → SelectedRun c (selected f) f arguments memory doings n
