@@ -206,8 +206,7 @@ access_act _ _ a = Stuck
 
 -- ---- raising
 
--- What a function that is called raises fits val, and goes to the innermost handler, or on to the
--- caller. It is no unit, since its call is one.
+-- what a callee raised fits val, and goes to the innermost handler, or on to the caller
 abbrev pub callee_raises : Value → Memory → Around → List ℕ → Act
 callee_raises v m a [] = Ends (Threw v m)
 callee_raises v m a (l ∷ tries) = Unwinds (record a { memory = m; tries = tries; raised = Some v })
@@ -243,8 +242,8 @@ after_call c result a (Gave v m) =
     answered c.end result v (λ v. Goes (as_list v) On (record a { memory = m }))
 after_call c result a (Threw v m) = only_if (fits c.end ty.Val v) (callee_raises v m a a.tries)
 
--- An external call leaves the memory as it was, and raises only where it is a frame call. Its raise
--- is a unit, as one of the function itself is.
+-- An external call leaves the memory as it was, and raises only where it is a frame call. It is no
+-- call of a function, so that its raise is one of the function itself: a unit.
 abbrev pub after_external : Setting → Ret → Bool → Around → Doing → Act
 after_external c result frame a (Gave v m) = answered c.end result v (λ v. Goes (as_list v) On a)
 after_external c result true a (Threw v m) =
