@@ -9,7 +9,9 @@ bit words k = bit_at (slice_index words (k / 64)) (k % 64)
 -- each word has the bits of its two words
 pub record Ors (words others ors : List ℕ) : Type 0 where
   pub len : length ors ≡ length words
-  pub each : (i : ℕ) → i < length words → slice_index ors i ≡ bit_or (slice_index words i) (slice_index others i)
+  pub each : (i : ℕ)
+      → i < length words
+      → slice_index ors i ≡ bit_or (slice_index words i) (slice_index others i)
 
 -- some word is another; both have 64 bits
 pub record Changed (old new : List ℕ) : Type 0 where

@@ -18,4 +18,5 @@ FitsFunction end (Some f) arguments = fit_parameters end (comps_of f) (map Word 
 
 -- the entry is a function of the file, with as many parameters as arguments, which fit them
 abbrev pub FitsEntry : FileTree → ℕ → List ℕ → Type 0
-FitsEntry file entry arguments = FitsFunction (data_end file) (slice_get (functions file) entry) arguments
+FitsEntry file entry arguments =
+    FitsFunction (data_end file) (slice_get (functions file) entry) arguments

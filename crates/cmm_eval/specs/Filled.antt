@@ -45,7 +45,8 @@ expression s e tail h w = held s e.ty e.form tail h w
 abbrev pub taken_by : Surroundings → Form → Bool → Value → Here → World → Evaluation
 taken_by s (form.Assign' name_at name p at type e) tail v h w =
     tested s.end (type_named (scope h) name) v w (Gives None (record h { names = assigned h.names name v }) w)
-taken_by s (form.Load' chunk p at type address) tail a h w = proper (loaded chunk w.memory a) w (λ v. Gives (Some v) h w)
+taken_by s (form.Load' chunk p at type address) tail a h w =
+    proper (loaded chunk w.memory a) w (λ v. Gives (Some v) h w)
 taken_by s (form.Raise' p at type e) tail v h w = tested s.end ty.Val v w (Raises v h w)
 taken_by s (form.If' p at type condition q true_at true_type on_true r false_at false_type on_false) tail c h w =
     proper (condition_of (sizes w.memory) c) w (λ holds.
@@ -57,15 +58,21 @@ taken_by s _ tail v h w = improper w
 
 -- the operands of a node with two, and what it does with their values
 abbrev pub left_of : Surroundings → Form → Here → World → Evaluation
-left_of s (form.Operator' op p left_at left_type left q right_at right_type right) h w = held s left_type left false h w
-left_of s (form.Store' chunk p address_at address_type address q value_at value_type e) h w = held s address_type address false h w
-left_of s (form.Checkbound' p bound_at bound_type bound q index_at index_type index) h w = held s bound_type bound false h w
+left_of s (form.Operator' op p left_at left_type left q right_at right_type right) h w =
+    held s left_type left false h w
+left_of s (form.Store' chunk p address_at address_type address q value_at value_type e) h w =
+    held s address_type address false h w
+left_of s (form.Checkbound' p bound_at bound_type bound q index_at index_type index) h w =
+    held s bound_type bound false h w
 left_of s _ h w = improper w
 
 abbrev pub right_of : Surroundings → Form → Here → World → Evaluation
-right_of s (form.Operator' op p left_at left_type left q right_at right_type right) h w = held s right_type right false h w
-right_of s (form.Store' chunk p address_at address_type address q value_at value_type e) h w = held s value_type e false h w
-right_of s (form.Checkbound' p bound_at bound_type bound q index_at index_type index) h w = held s index_type index false h w
+right_of s (form.Operator' op p left_at left_type left q right_at right_type right) h w =
+    held s right_type right false h w
+right_of s (form.Store' chunk p address_at address_type address q value_at value_type e) h w =
+    held s value_type e false h w
+right_of s (form.Checkbound' p bound_at bound_type bound q index_at index_type index) h w =
+    held s index_type index false h w
 right_of s _ h w = improper w
 
 abbrev pub joined_by : Surroundings → Form → Value → Value → Here → World → Evaluation
@@ -82,8 +89,10 @@ joined_by s _ a b h w = improper w
 
 abbrev pub operands_of : Form → List Expr
 operands_of (form.Alloc' header_at header shape operands) = form.items-the_row-Expr _ operands
-operands_of (form.App' p at type callee shape arguments result result_at) = form.items-the_row-Expr _ arguments
-operands_of (form.Extcall' frame name shape arguments result result_at) = form.items-the_row-Expr _ arguments
+operands_of (form.App' p at type callee shape arguments result result_at) =
+    form.items-the_row-Expr _ arguments
+operands_of (form.Extcall' frame name shape arguments result result_at) =
+    form.items-the_row-Expr _ arguments
 operands_of (form.Exit' label_at label shape arguments) = form.items-the_row-Expr _ arguments
 operands_of _ = []
 
@@ -96,7 +105,8 @@ operated_by s (form.App' p at type late shape arguments result result_at) tail c
 operated_by s (form.Extcall' frame name shape arguments result result_at) tail callee values h w =
     and_then (back_from_call h (s.external (row_held name arguments result) frame values w))
     (λ v h w. as_written result v h w)
-operated_by s (form.Exit' label_at label shape arguments) tail callee values h w = Exits (label_view label) values h w
+operated_by s (form.Exit' label_at label shape arguments) tail callee values h w =
+    Exits (label_view label) values h w
 operated_by s _ tail callee values h w = improper w
 
 -- the operands that are left, last to first, and what they have come to before, last to first; and the values
@@ -117,7 +127,8 @@ row_fills s f tail callee row h w =
 abbrev pub after_callee : Surroundings → Form → Bool → Option Expr → List (Option Value) → Here → World → Evaluation
 after_callee s f tail (Some e) before h w =
     with_value (expression s e false h w) (λ c h w. fills_in s f tail (Some c) (reverse (operands_of f)) (reverse before) [] h w)
-after_callee s f tail None before h w = fills_in s f tail None (reverse (operands_of f)) (reverse before) [] h w
+after_callee s f tail None before h w =
+    fills_in s f tail None (reverse (operands_of f)) (reverse before) [] h w
 
 -- all operands that do not wait have come, first to last: so does the callee of a call, unless it waits
 abbrev pub after_waiting : Surroundings → Form → Bool → List (Option Value) → Here → World → Evaluation
@@ -125,7 +136,8 @@ after_waiting s (form.App' p at type callee shape arguments result result_at) ta
     unless_light (is_light_address (scope h) (form_view at callee)) (held s type callee false) h w (λ c h w.
     fills_in s (form.App' p at type callee shape arguments result result_at) tail
     c (reverse (form.items-the_row-Expr _ arguments)) (reverse before) [] h w)
-after_waiting s f tail before h w = fills_in s f tail None (reverse (operands_of f)) (reverse before) [] h w
+after_waiting s f tail before h w =
+    fills_in s f tail None (reverse (operands_of f)) (reverse before) [] h w
 
 -- the operands that are left, last to first, and what those behind them have come to, first to last
 abbrev pub waits_for : Surroundings → Form → Bool → List Expr → List (Option Value) → Here → World → Evaluation
@@ -139,7 +151,8 @@ waits_for s f tail (e ∷ operands) before h w =
 abbrev pub elements_from : Surroundings → List Expr → Bool → Here → World → Evaluation
 elements_from s [] tail h w = Gives None h w
 elements_from s (e ∷ []) tail h w = expression s e tail h w
-elements_from s (e ∷ rest) tail h w = and_then (expression s e false h w) (λ _ h w. elements_from s rest tail h w)
+elements_from s (e ∷ rest) tail h w =
+    and_then (expression s e false h w) (λ _ h w. elements_from s rest tail h w)
 
 abbrev pub scoped_binding : Binding → Scoped
 scoped_binding b =
@@ -162,7 +175,8 @@ first_bound s (b ∷ rest) v h w =
     tested s.end (scoped_binding b).type v w (bindings_from s rest (with_bound (scoped_binding b ∷ []) (v ∷ []) h) w)
 
 abbrev pub body_of : Surroundings → Form → Bool → ℕ → ℕ → Here → World → Evaluation
-body_of s (form.Let' shape bindings p at type body) tail level tries h w = back level tries (held s type body tail h w)
+body_of s (form.Let' shape bindings p at type body) tail level tries h w =
+    back level tries (held s type body tail h w)
 body_of s _ tail level tries h w = improper w
 
 abbrev pub handlers_of : Surroundings → Form → Bool → List (Ready Body)
@@ -178,7 +192,8 @@ handler_of s _ tail v h w = improper w
 -- ---- cases and handlers
 
 abbrev pub case_ready : Surroundings → Bool → Case → Chosen Body
-case_ready s tail c = record { indexes = map index_view c.indexes.items; body = expression s c.body tail }
+case_ready s tail c =
+    record { indexes = map index_view c.indexes.items; body = expression s c.body tail }
 
 abbrev pub cases_ready : Surroundings → Bool → List Case → List (Chosen Body)
 cases_ready s tail cases = map (case_ready s tail) cases
@@ -217,7 +232,8 @@ does s (step.Filling callee row) f tail e =
     fills_in s f tail callee (reverse row.operands.now) (reverse row.waited.items) (v ∷ reverse row.values.items) h w)
 does s (step.LateCallee values) f tail e =
     with_value e (λ c h w. operated_by s f tail (Some c) (reverse values.items) h w)
-does s (step.Catch within turns level tries) f tail e = caught s.end turns within (handlers_of s f tail) level tries e
+does s (step.Catch within turns level tries) f tail e =
+    caught s.end turns within (handlers_of s f tail) level tries e
 does s (step.Try level tries) f tail e = tried (handler_of s f tail) level tries e
 does s (step.Return here tests) f tail e =
     and_then (back_from_call (here_view here) e) (λ v h w. meets s.end tests v h w)

@@ -22,7 +22,8 @@ group_of (form.Extcall' frame name shape arguments result result_at) = Row
 group_of (form.Checkbound' p bound_at bound_type bound q index_at index_type index) = Two
 group_of (form.Raise' p at type e) = One
 group_of (form.Seq' shape elements) = Sequence
-group_of (form.If' p at type condition q true_at true_type on_true r false_at false_type on_false) = One
+group_of (form.If' p at type condition q true_at true_type on_true r false_at false_type on_false) =
+    One
 group_of (form.Switch' size_at size p at type selector shape cases) = One
 group_of (form.Catch' p at type body shape handlers) = Scope
 group_of (form.Exit' label_at label shape arguments) = Row

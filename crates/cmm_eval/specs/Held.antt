@@ -36,7 +36,8 @@ comps_held form.end_of-Expr = []
 comps_held (form.more_of-Expr at type e rest) = comp_of_argument type ∷ comps_held rest
 
 abbrev pub row_held : {m : _} → List ℕ → form.Row_of-Expr m → Ret → External
-row_held name arguments result = record { name = name; params = comps_held arguments; result = result }
+row_held name arguments result =
+    record { name = name; params = comps_held arguments; result = result }
 
 abbrev mutual
   -- what a node of this form does once it has taken its unit
@@ -117,14 +118,25 @@ abbrev mutual
       (length h.names) h.tries
       (node_held s (is_float_form body) type (deepened (taken (within_try h)) w) (λ w. inside s body false (within_try h) w))
 
-  pub waiting_held : {m : _} → Surroundings → form.Row_of-Expr m → Here → World → Evaluated (List (Option Value))
+  pub waiting_held : {m : _}
+      → Surroundings
+      → form.Row_of-Expr m
+      → Here
+      → World
+      → Evaluated (List (Option Value))
   waiting_held s form.end_of-Expr h w = Gives [] h w
   waiting_held s (form.more_of-Expr at type e rest) h w =
       and_then (waiting_held s rest h w) (λ values h w.
       unless_light (is_light_address (scope h) (form_view at e))
       (λ h w. node_held s (is_float_form e) type w (λ w. inside s e false h w)) h w (λ v h w. Gives (v ∷ values) h w))
 
-  pub filled_held : {m : _} → Surroundings → form.Row_of-Expr m → List (Option Value) → Here → World → Evaluated (List Value)
+  pub filled_held : {m : _}
+      → Surroundings
+      → form.Row_of-Expr m
+      → List (Option Value)
+      → Here
+      → World
+      → Evaluated (List Value)
   filled_held s form.end_of-Expr before h w = Gives [] h w
   filled_held s (form.more_of-Expr at type e rest) before h w =
       and_then (filled_held s rest (rest_of before) h w) (λ values h w.

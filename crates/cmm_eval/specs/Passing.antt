@@ -24,9 +24,12 @@ NeverExits (Stops why w) = Unit {0}
 
 -- To what is no exit the step does nothing but these tests, as its caller sees it.
 pub record Passes (step : Step) (t : Tests) : Type 0 where
-  pub stays : (s : Surroundings) (f : Form) (tail : Bool) (e : Evaluation) → NeverExits e → NeverExits (does s step f tail e)
-  pub tests : (s : Surroundings) (f : Form) (tail : Bool) (h : Here) (e : Evaluation) → NeverExits e →
-      back_from_call h (does s step f tail e) ≡ returns s t h e
+  pub stays : (s : Surroundings) (f : Form) (tail : Bool) (e : Evaluation)
+      → NeverExits e
+      → NeverExits (does s step f tail e)
+  pub tests : (s : Surroundings) (f : Form) (tail : Bool) (h : Here) (e : Evaluation)
+      → NeverExits e
+      → back_from_call h (does s step f tail e) ≡ returns s t h e
 
 -- these frames do to a callee what others do to one that has returned, and met these tests
 abbrev pub TakesPlace : List Frame → Tests → List Frame → Type 0

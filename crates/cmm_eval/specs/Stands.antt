@@ -51,7 +51,9 @@ around_view a = whole a.file.now (layout_view a.layout.now)
 pub record IsAround (a : Surroundings) : Type 0 where
   pub end : a.end ≡ data_end (file_view a.file.now)
   pub symbols : IsTableOf (file_view a.file.now) a.symbols
-  pub functions : (k : ℕ) → option_copied (slice_get a.functions.items k) ≡ slice_get (functions_in (contents a.file.now.items)) k
+  pub functions : (k : ℕ)
+      → option_copied (slice_get a.functions.items k)
+      ≡ slice_get (functions_in (contents a.file.now.items)) k
   pub typed : IsTyped a.file.now
 
 -- the evaluation that stands in the machine, with all that is still to be done

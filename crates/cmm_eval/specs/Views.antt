@@ -25,14 +25,17 @@ abbrev pub layout_view : Layout → meaning.Layout
 layout_view l = record { frames = l.frames.items; addresses = l.addresses.items }
 
 abbrev pub bound_view : Bound → Binding
-bound_view b = record { scoped = record { name = b.name.now; type = b.ty; mutable = b.mutable }; value = b.value }
+bound_view b =
+    record
+    { scoped = record { name = b.name.now; type = b.ty; mutable = b.mutable }; value = b.value }
 
 -- the innermost binding stands last in the code, and first here
 abbrev pub bounds_view : List Bound → List Binding
 bounds_view bounds = map bound_view (reverse bounds)
 
 abbrev pub here_view : here.Here → Here
-here_view h = record { names = bounds_view h.names.items; below = h.below; frame = h.frame; tries = h.tries }
+here_view h =
+    record { names = bounds_view h.names.items; below = h.below; frame = h.frame; tries = h.tries }
 
 abbrev pub world_view : world.World → World
 world_view w =

@@ -1,21 +1,22 @@
 -- What each step of the front tells of a text.
-use Rattle.std.proofs.Common.{◌≡◌, ℕ, List, None, Result, Ok, Err, IfOk, IfErr, sym, subst}
+use Rattle.std.proofs.Common.{◌≡◌, ℕ, List, None, Result, Ok, Err, IfOk, IfErr, sym, subst, ap, ◌∙◌}
 use Rattle.bs_fault.specs.declared.fault.Fault.{Fault}
 use Rattle.bs_fault.specs.declared.fault.Fault.TheVariants.{AddrLive}
 use Rattle.bs_fault.specs.declared.fault.FrontError.{FrontError}
 use Rattle.bs_fault.specs.declared.fault.FrontError.TheVariants as error
 use Rattle.bs_words.specs.Contents.{contents}
 use Rattle.cmm_data.specs.Faults.{data_fault_of}
+use Rattle.cmm_tree.specs.Symbols.{symbols}
 use Rattle.cmm_tree.specs.Tree.{FileTree}
 use Rattle.cmm_tree.specs.View.{file_view}
 use Rattle.cmm_types.specs.Faults.{TypeFault}
 use Rattle.cmm_walks.specs.AddrLive.{IsLive}
-use Rattle.cmm_types.specs.Typing.{IsFaultTold, AreItemsAnnotated, file_of}
+use Rattle.cmm_types.specs.Typing.{IsFaultTold, AreItemsAnnotated, file_of, symbols_of}
 use Rattle.cmm_types.specs.declared.typed.Typed.{Typed}
 use Rattle.cmm_walks.specs.Checked.{typed_of}
 use Rattle.cmm_walks.specs.Refusal.{IsRefusal}
 use Rattle.cmm_walks.specs.declared.checked.Checked.{Checked}
-use Rattle.cmm_front.specs.FileOf.{IsFileOf, unread, untyped, unsettled, IsErrorOf}
+use Rattle.cmm_front.specs.FileOf.{IsFileOf, unread, untyped, unsettled, IsErrorOf, HoldsSymbols}
 use Rattle.cmm_reader.specs.Text.{ReadsAs, IsRefused}
 
 pub unread_told : (text : List ℕ) (e : FrontError) → IsRefused text e → IsErrorOf text e
@@ -70,3 +71,11 @@ pub checked_placed : (typed : Typed) (r : Result Checked FrontError)
     → IfOk r (λ (checked : Checked). data_fault_of (file_view (file_of (typed_of checked))) ≡ None)
 checked_placed typed (Ok checked) is same = subst (λ (v : Typed). data_fault_of (file_view (file_of v)) ≡ None) (sym same) is
 checked_placed typed (Err e) is same = tt
+
+pub checked_symbols : (file : FileTree) (typed : Typed) (r : Result Checked FrontError)
+    → file_view (file_of typed) ≡ file
+    → symbols_of typed ≡ symbols file
+    → IfOk r (λ (checked : Checked). typed_of checked ≡ typed)
+    → IfOk r (λ (checked : Checked). HoldsSymbols (typed_of checked))
+checked_symbols file typed (Ok checked) view are same = subst HoldsSymbols (sym same) (are ∙ ap symbols (sym view))
+checked_symbols file typed (Err e) view are same = tt

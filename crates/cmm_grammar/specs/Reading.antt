@@ -33,7 +33,8 @@ given None ts = Stops Stuck (suc (length ts))
 -- the second of two brackets
 abbrev pub bracket_at : ℕ → Reader Expression
 bracket_at at [] = Stops Stuck 0
-bracket_at at (c ∷ ts) = cond (is_close_bracket c) (Read (Nothing at) ts) (Stops Stuck (suc (length ts)))
+bracket_at at (c ∷ ts) =
+    cond (is_close_bracket c) (Read (Nothing at) ts) (Stops Stuck (suc (length ts)))
 
 -- an expression, whose forms are read so
 abbrev pub expression_by : (ℕ → Reader Expression) → Reader Expression
@@ -62,7 +63,8 @@ inside_by inner (t ∷ ts) = cond (is_open t) (inner t.at ts) (Stops Stuck (suc 
 
 abbrev pub inside_or_by : {A B : Type 0} → (ℕ → Reader A) → (A → Reader B) → Reader B → Reader B
 inside_or_by inner next other [] = Stops Stuck 0
-inside_or_by inner next other (t ∷ ts) = cond (is_open t) (bind (inner t.at ts) next) (other (t ∷ ts))
+inside_or_by inner next other (t ∷ ts) =
+    cond (is_open t) (bind (inner t.at ts) next) (other (t ∷ ts))
 
 abbrev pub labelled_by : {A B : Type 0} → Reader A → (A → Reader B) → Reader Expression → (Expression → Reader B) → Reader B
 labelled_by inner next one other [] = Stops Stuck 0
@@ -104,7 +106,8 @@ form_below (suc d) inner ts = inner ts
 abbrev pub reading : {s : Sort} → Rule s → ℕ → Forms → Reader (Value s)
 reading (Give s a) d forms ts = Read a ts
 reading (One s f) d forms ts = one_by f ts
-reading (Then s t r k) d forms ts = bind (reading r d forms ts) (λ a rest. reading (k a) d forms rest)
+reading (Then s t r k) d forms ts =
+    bind (reading r d forms ts) (λ a rest. reading (k a) d forms rest)
 reading Expr d forms ts = expression_by (λ at. form_below d (forms 0 at)) ts
 reading (Inside s r) d forms ts = inside_by (λ at. deeper d (reading (r at)) forms) ts
 reading (InsideOr s t r k other) d forms ts =

@@ -65,7 +65,11 @@ pub data Rule : Sort → Type 0 where
   -- the same and what follows it, or, where the next token opens no parenthesis, another rule
   InsideOr : (s t : Sort) → (ℕ → Rule s) → (Value s → Rule t) → Rule t → Rule t
   -- the same, where a name follows the parenthesis, or else an expression and what follows that
-  LabelledOr : (s t : Sort) → (TokenTree → Rule s) → (Value s → Rule t) → (Expression → Rule t) → Rule t
+  LabelledOr : (s t : Sort)
+      → (TokenTree → Rule s)
+      → (Value s → Rule t)
+      → (Expression → Rule t)
+      → Rule t
   -- any number, up to a token that passes the test, which begins the rest
   Until : (s t : Sort) → (TokenTree → Bool) → Rule s → (List (Value s) → Rule t) → Rule t
   -- a token that gives a value, if the next one does, and the rest by that

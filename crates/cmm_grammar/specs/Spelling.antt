@@ -18,7 +18,9 @@ pub data Spells : (s : Sort) → ℕ → Rule s → Value s → List TokenTree �
       → Spells t d (k a) b ys
       → Spells t d (Then s t r k) b (xs ++ ys)
   -- an expression of one token
-  leaf : (d : ℕ) (t : TokenTree) (e : Expression) → leaf_of t ≡ Some e → Spells AnExpression d Expr e (t ∷ [])
+  leaf : (d : ℕ) (t : TokenTree) (e : Expression)
+      → leaf_of t ≡ Some e
+      → Spells AnExpression d Expr e (t ∷ [])
   -- `[` `]`
   brackets : (d : ℕ) (o c : TokenTree)
       → is_open_bracket o ≡ true
@@ -92,7 +94,8 @@ pub data AreItems : ℕ → List ItemTree → List TokenTree → Type 0 where
 
 -- Some text begins with these tokens, in which parentheses nest at most so deep.
 abbrev pub Begins : ℕ → List TokenTree → Type 0
-Begins d ts = (items : List ItemTree) × (more_tokens : List TokenTree) × AreItems d items (ts ++ more_tokens)
+Begins d ts =
+    (items : List ItemTree) × (more_tokens : List TokenTree) × AreItems d items (ts ++ more_tokens)
 
 -- how deep parentheses nest at most
 abbrev pub nesting : ℕ

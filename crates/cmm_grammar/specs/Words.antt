@@ -200,7 +200,8 @@ leaf_of t = of_kind t.kind
     of_kind kind.Integer = Some (Integer t.at (word_of (integer_value t.text)))
     of_kind kind.Pointer = Some (Pointer t.at (word_of (integer_value t.text)))
     of_kind kind.Float = Some (Float t.at t.at NoMore)
-    of_kind kind.String = cond (is_symbol (string_bytes t.text)) (Some (Symbol t.at (string_bytes t.text))) None
+    of_kind kind.String =
+        cond (is_symbol (string_bytes t.text)) (Some (Symbol t.at (string_bytes t.text))) None
     of_kind kind.Name = Some (Name t.at t.text)
     of_kind (kind.Keyword word.Exit) = Some (Exit t.at t.at Bare NoMore)
     of_kind _ = None

@@ -18,7 +18,8 @@ done_inside end call [] w = Stops (Asking call) w
 done_inside end call (Gave v memory ∷ doings) w =
     Gives v nobody (record w { memory = memory; asked = w.asked ++ call ∷ []; doings = doings })
 done_inside end call (Threw v memory ∷ doings) w =
-    let after : World = record w { memory = memory; asked = w.asked ++ call ∷ []; doings = doings } in
+    let after : World =
+    record w { memory = memory; asked = w.asked ++ call ∷ []; doings = doings } in
     tested end ty.Val v after (Raises v nobody after)
 
 -- so does an external call, which leaves the memory as it was; only a frame call raises
@@ -35,7 +36,8 @@ abbrev pub call_inside : ℕ → Called → World → Evaluation
 call_inside end c w = done_inside end (asked_inside c w.memory) w.doings w
 
 abbrev pub call_outside : ℕ → External → Bool → List Value → World → Evaluation
-call_outside end row frame arguments w = done_outside end frame (asked_outside row frame arguments w.memory) w.doings w
+call_outside end row frame arguments w =
+    done_outside end frame (asked_outside row frame arguments w.memory) w.doings w
 
 -- the world in which a function is evaluated alone, from this memory, with n units
 abbrev pub lone_world : Memory → List Doing → ℕ → World

@@ -108,8 +108,10 @@ typed end type e = and_then e (λ v h w. of_type end type v h w)
 abbrev pub both : {B : Type 0}
     → Bool → (Here → World → Evaluation) → (Here → World → Evaluation)
     → Here → World → (Value → Value → Here → World → Evaluated B) → Evaluated B
-both false left right h w go = with_value (right h w) (λ b h w. with_value (left h w) (λ a h w. go a b h w))
-both true left right h w go = with_value (left h w) (λ a h w. with_value (right h w) (λ b h w. go a b h w))
+both false left right h w go =
+    with_value (right h w) (λ b h w. with_value (left h w) (λ a h w. go a b h w))
+both true left right h w go =
+    with_value (left h w) (λ a h w. with_value (right h w) (λ b h w. go a b h w))
 
 abbrev pub is_left_first : List Scoped → Expression → Expression → Bool
 is_left_first names left right = is_light_address names right && not (is_light_address names left)
@@ -140,7 +142,8 @@ rest_of (v ∷ values) = values
 
 abbrev pub fit_parameters : ℕ → List Comp → List Value → Bool
 fit_parameters end [] [] = true
-fit_parameters end (c ∷ comps) (v ∷ values) = fits end (type_of_comp c) v && fit_parameters end comps values
+fit_parameters end (c ∷ comps) (v ∷ values) =
+    fits end (type_of_comp c) v && fit_parameters end comps values
 fit_parameters end _ _ = false
 
 -- the activation behind a call, which has changed nothing of it; no exit leaves a function of an accepted text
@@ -189,7 +192,8 @@ comp_of_argument _ = comp.Int
 
 abbrev pub comps_of_arguments : List Scoped → Expressions → List Comp
 comps_of_arguments names NoMore = []
-comps_of_arguments names (More e rest) = comp_of_argument (type_of names e) ∷ comps_of_arguments names rest
+comps_of_arguments names (More e rest) =
+    comp_of_argument (type_of names e) ∷ comps_of_arguments names rest
 
 -- the row of an external call, where these names are in scope
 abbrev pub row_of_call : List Scoped → List ℕ → Expressions → Ret → External
@@ -202,7 +206,8 @@ row_of_call names name arguments result =
 -- with another number of arguments than its handler has parameters
 abbrev pub entered : ℕ → List Parameter → List Value → World → Evaluation → Evaluation
 entered end [] [] w go = go
-entered end (p ∷ params) (v ∷ values) w go = tested end (type_of_comp p.comp) v w (entered end params values w go)
+entered end (p ∷ params) (v ∷ values) w go =
+    tested end (type_of_comp p.comp) v w (entered end params values w go)
 entered end _ _ w go = Stops (NotProper BadCall) w
 
 abbrev pub scoped_parameter : Parameter → Scoped
@@ -268,10 +273,14 @@ node s e h w go = begins w (λ w. typed s.end (type_of (scope h) e) (go w))
 abbrev mutual
   -- the evaluation of an expression; `tail` says whether it stands in tail position
   pub evaluated : Surroundings → Expression → Bool → Here → World → Evaluation
-  evaluated s (Integer at n) tail h w = node s (Integer at n) h w (λ w. Gives (Some (value.Word n)) h w)
-  evaluated s (Pointer at n) tail h w = node s (Pointer at n) h w (λ w. Gives (Some (value.Word n)) h w)
-  evaluated s (Symbol at name) tail h w = node s (Symbol at name) h w (λ w. looked_up (s.symbol name) h w)
-  evaluated s (Name at x) tail h w = node s (Name at x) h w (λ w. looked_up (value_of h.names x) h w)
+  evaluated s (Integer at n) tail h w =
+      node s (Integer at n) h w (λ w. Gives (Some (value.Word n)) h w)
+  evaluated s (Pointer at n) tail h w =
+      node s (Pointer at n) h w (λ w. Gives (Some (value.Word n)) h w)
+  evaluated s (Symbol at name) tail h w =
+      node s (Symbol at name) h w (λ w. looked_up (s.symbol name) h w)
+  evaluated s (Name at x) tail h w =
+      node s (Name at x) h w (λ w. looked_up (value_of h.names x) h w)
   evaluated s (Nothing at) tail h w = node s (Nothing at) h w (λ w. Gives None h w)
   -- no accepted text has a float
   evaluated s (Float at word_at operands) tail h w = Stops (NotProper BadValue) w
@@ -319,7 +328,8 @@ abbrev mutual
   evaluated s (Raise at e) tail h w =
       node s (Raise at e) h w (λ w.
       with_value (evaluated s e false h w) (λ v h w. tested s.end ty.Val v w (Raises v h w)))
-  evaluated s (Seq at elements) tail h w = node s (Seq at elements) h w (λ w. in_order s elements tail h w)
+  evaluated s (Seq at elements) tail h w =
+      node s (Seq at elements) h w (λ w. in_order s elements tail h w)
   evaluated s (If at condition on_true on_false) tail h w =
       node s (If at condition on_true on_false) h w (λ w.
       with_value (evaluated s condition false h w) (λ c h w.
@@ -354,7 +364,12 @@ abbrev mutual
       unless_light (is_light_address (scope h) e) (evaluated s e false) h w (λ v h w. Gives (v ∷ values) h w))
 
   -- and those that have waited, right to left
-  pub filled : Surroundings → Expressions → List (Option Value) → Here → World → Evaluated (List Value)
+  pub filled : Surroundings
+      → Expressions
+      → List (Option Value)
+      → Here
+      → World
+      → Evaluated (List Value)
   filled s NoMore before h w = Gives [] h w
   filled s (More e rest) before h w =
       and_then (filled s rest (rest_of before) h w) (λ values h w.
@@ -376,7 +391,8 @@ abbrev mutual
   pub in_order : Surroundings → Expressions → Bool → Here → World → Evaluation
   in_order s NoMore tail h w = Gives None h w
   in_order s (More e NoMore) tail h w = evaluated s e tail h w
-  in_order s (More e rest) tail h w = and_then (evaluated s e false h w) (λ _ h w. in_order s rest tail h w)
+  in_order s (More e rest) tail h w =
+      and_then (evaluated s e false h w) (λ _ h w. in_order s rest tail h w)
 
   pub choices : Surroundings → Cases → Bool → List (Chosen Body)
   choices s NoCase tail = []

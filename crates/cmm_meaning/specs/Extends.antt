@@ -10,16 +10,18 @@ pub record Shape : Type 0 where
 abbrev pub shape_of : HeapBlock → Shape
 shape_of block = record { header = block.header; cells = length block.cells }
 
--- Where a list of static data lies, and its bytes.
+-- Where a list of static data lies, its bytes, and how many cells it has.
 pub record Extent : Type 0 where
   pub start : ℕ
   pub size : ℕ
+  pub cells : ℕ
 
 abbrev pub extent_of : StaticList → Extent
-extent_of statics = record { start = statics.start; size = statics.size }
+extent_of statics =
+    record { start = statics.start; size = statics.size; cells = length statics.cells }
 
--- The later memory has the blocks of the earlier one, each in its shape, and maybe others behind them; its static data
--- lies as it lay, and its root cells are the same. Nothing is said of what the cells hold.
+-- The later memory has the blocks of the earlier one, each in its shape, and maybe others after them; its static data
+-- lies as it lay, in as many cells, and its root cells are the same. Nothing is said of what the cells hold.
 pub record Extends (earlier later : Memory) : Type 0 where
   pub further : List Shape
   pub blocks : map shape_of later.blocks ≡ map shape_of earlier.blocks ++ further

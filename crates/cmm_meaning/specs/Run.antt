@@ -72,7 +72,8 @@ given_back (ret.Comp c) a = Some (Word a)
 -- a frame call takes two answers: where the first is 0 the second is its value, and else the second is raised, and
 -- must fit val
 abbrev pub frame_answered : ℕ → Ret → Made → List ℕ → World → Evaluation
-frame_answered end result call (zero ∷ a ∷ answers) w = Gives (given_back result a) nobody (made call answers w)
+frame_answered end result call (zero ∷ a ∷ answers) w =
+    Gives (given_back result a) nobody (made call answers w)
 frame_answered end result call (suc n ∷ a ∷ answers) w =
     tested end ty.Val (Word a) (made call answers w) (Raises (Word a) nobody (made call answers w))
 frame_answered end result call _ w = Stops (NoAnswer call) w

@@ -115,7 +115,8 @@ assigned (b ∷ rest) name value =
 
 -- these names bound to these values, one after the other, round the bindings that are there
 abbrev pub bound : List Scoped → List Value → List Binding → List Binding
-bound (s ∷ scoped) (v ∷ values) names = bound scoped values (record { scoped = s; value = v } ∷ names)
+bound (s ∷ scoped) (v ∷ values) names =
+    bound scoped values (record { scoped = s; value = v } ∷ names)
 bound _ _ names = names
 
 -- so many of the outermost bindings

@@ -43,7 +43,8 @@ abbrev mutual
   PartsTyped names (form.Alloc' header_at header shape operands) = RowTyped names operands
   PartsTyped names (form.App' p callee_at callee_ty callee shape arguments result result_at) =
       Node names callee_at callee_ty callee (PartsTyped names callee) × RowTyped names arguments
-  PartsTyped names (form.Extcall' frame name shape arguments result result_at) = RowTyped names arguments
+  PartsTyped names (form.Extcall' frame name shape arguments result result_at) =
+      RowTyped names arguments
   PartsTyped names (form.Checkbound' p bound_at bound_ty bound q index_at index_ty index) =
       Node names bound_at bound_ty bound (PartsTyped names bound)
       × Node names index_at index_ty index (PartsTyped names index)
@@ -55,7 +56,8 @@ abbrev mutual
       × Node names true_at true_ty on_true (PartsTyped names on_true)
       × Node names false_at false_ty on_false (PartsTyped names on_false)
   PartsTyped names (form.Switch' size_at size p selector_at selector_ty selector shape cases) =
-      Node names selector_at selector_ty selector (PartsTyped names selector) × CasesTyped names cases
+      Node names selector_at selector_ty selector (PartsTyped names selector)
+      × CasesTyped names cases
   PartsTyped names (form.Catch' p body_at body_ty body shape handlers) =
       Node names body_at body_ty body (PartsTyped names body) × HandlersTyped names handlers
   PartsTyped names (form.Exit' label_at label shape arguments) = RowTyped names arguments
@@ -66,14 +68,16 @@ abbrev mutual
 
   pub RowTyped : {m : _} → List Scoped → form.Row_of-Expr m → Type 0
   RowTyped names form.end_of-Expr = Unit {0}
-  RowTyped names (form.more_of-Expr at ty f rest) = Node names at ty f (PartsTyped names f) × RowTyped names rest
+  RowTyped names (form.more_of-Expr at ty f rest) =
+      Node names at ty f (PartsTyped names f) × RowTyped names rest
 
   pub BindingsTyped : {m : _} → List Scoped → form.Row_of-Binding m → Type 0
   BindingsTyped names form.end_of-Binding = Unit {0}
   BindingsTyped names (form.more_of-Binding at name declared value_at value_ty value rest) =
       Node names value_at value_ty value (PartsTyped names value)
       × BindingsTyped
-      (with_bindings names (Bind at name (option_map declared_view declared) (form_view value_at value) NoBinding))
+      (with_bindings names (Bind at name (option_map declared_view declared)
+      (form_view value_at value) NoBinding))
       rest
 
   pub CasesTyped : {m : _} → List Scoped → form.Row_of-Case m → Type 0

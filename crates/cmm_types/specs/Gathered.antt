@@ -35,19 +35,22 @@ target_faults (Some s) name_at = one_if (not s.mutable) (fault.NotMutable name_a
 
 abbrev pub arity_faults : Option ℕ → ℕ → ℕ → Faults
 arity_faults None at arguments = NoFault
-arity_faults (Some parameters) at arguments = one_if (not (parameters == arguments)) (fault.Arity at)
+arity_faults (Some parameters) at arguments =
+    one_if (not (parameters == arguments)) (fault.Arity at)
 
 abbrev pub parameters_of : Option DefinedSymbol → Option ℕ
 parameters_of None = None
 parameters_of (Some s) = s.parameters
 
 abbrev pub call_faults : (List ℕ → Option DefinedSymbol) → Expression → ℕ → ℕ → Faults
-call_faults definition (Symbol symbol_at name) at arguments = arity_faults (parameters_of (definition name)) at arguments
+call_faults definition (Symbol symbol_at name) at arguments =
+    arity_faults (parameters_of (definition name)) at arguments
 call_faults definition callee at arguments = NoFault
 
 abbrev pub exit_faults : Option Visible → ℕ → ℕ → ℕ → Faults
 exit_faults None at label_at arguments = One (fault.UnknownLabel label_at)
-exit_faults (Some v) at label_at arguments = one_if (not (v.parameters == arguments)) (fault.Arity at)
+exit_faults (Some v) at label_at arguments =
+    one_if (not (v.parameters == arguments)) (fault.Arity at)
 
 abbrev pub comp_faults : Comp → ℕ → Faults
 comp_faults c at = one_if (is_float c) (fault.Float at)
@@ -73,7 +76,8 @@ labelled_faults label (Handle at other params body rest) =
 -- the handlers whose label an earlier one has
 abbrev pub repeated_faults : Handlers → Faults
 repeated_faults NoHandler = NoFault
-repeated_faults (Handle at label params body rest) = Both (labelled_faults label rest) (repeated_faults rest)
+repeated_faults (Handle at label params body rest) =
+    Both (labelled_faults label rest) (repeated_faults rest)
 
 -- a part with its own faults
 abbrev pub used_as : Role → List Scoped → Expression → Faults → Faults
@@ -85,12 +89,14 @@ abbrev mutual
   faults_in d names labels (Integer at word) = NoFault
   faults_in d names labels (Pointer at word) = NoFault
   faults_in d names labels (Symbol at name) = one_if (is_none (d name)) (fault.UnknownSymbol at)
-  faults_in d names labels (Name at name) = one_if (is_none (binding_of names name)) (fault.Unbound at)
+  faults_in d names labels (Name at name) =
+      one_if (is_none (binding_of names name)) (fault.Unbound at)
   faults_in d names labels (Nothing at) = NoFault
   faults_in d names labels (Float at word_at operands) =
       Both (One (fault.Float word_at)) (row_faults role.Visited d names labels operands)
   faults_in d names labels (Let at bindings body) =
-      Both (bindings_faults d names labels bindings) (faults_in d (with_bindings names bindings) labels body)
+      Both (bindings_faults d names labels bindings)
+      (faults_in d (with_bindings names bindings) labels body)
   faults_in d names labels (Assign at name_at name value) =
       Both
       (target_faults (binding_of names name) name_at)
@@ -121,7 +127,8 @@ abbrev mutual
       Both
       (used_as role.Taken names bound (faults_in d names labels bound))
       (used_as role.Taken names index (faults_in d names labels index))
-  faults_in d names labels (Raise at value) = used_as role.Taken names value (faults_in d names labels value)
+  faults_in d names labels (Raise at value) =
+      used_as role.Taken names value (faults_in d names labels value)
   faults_in d names labels (Seq at elements) = row_faults role.Visited d names labels elements
   faults_in d names labels (If at condition on_true on_false) =
       Both
@@ -146,16 +153,26 @@ abbrev mutual
       (faults_in d names labels body)
       (faults_in d (record { name = name; type = ty.Val; mutable = false } ∷ names) labels handler)
 
-  pub row_faults : Role → (List ℕ → Option DefinedSymbol) → List Scoped → List Visible → Expressions → Faults
+  pub row_faults : Role
+      → (List ℕ → Option DefinedSymbol)
+      → List Scoped
+      → List Visible
+      → Expressions
+      → Faults
   row_faults role d names labels NoMore = NoFault
   row_faults role d names labels (More e rest) =
       Both (used_as role names e (faults_in d names labels e)) (row_faults role d names labels rest)
 
-  pub bindings_faults : (List ℕ → Option DefinedSymbol) → List Scoped → List Visible → Bindings → Faults
+  pub bindings_faults : (List ℕ → Option DefinedSymbol)
+      → List Scoped
+      → List Visible
+      → Bindings
+      → Faults
   bindings_faults d names labels NoBinding = NoFault
   bindings_faults d names labels (Bind at name declared value rest) =
       Both
-      (Both (declared_faults declared) (used_as role.Taken names value (faults_in d names labels value)))
+      (Both (declared_faults declared)
+      (used_as role.Taken names value (faults_in d names labels value)))
       (bindings_faults d (with_bindings names (Bind at name declared value NoBinding)) labels rest)
 
   pub cases_faults : (List ℕ → Option DefinedSymbol) → List Scoped → List Visible → Cases → Faults
@@ -163,7 +180,11 @@ abbrev mutual
   cases_faults d names labels (Choose indexes body rest) =
       Both (faults_in d names labels body) (cases_faults d names labels rest)
 
-  pub handlers_faults : (List ℕ → Option DefinedSymbol) → List Scoped → List Visible → Handlers → Faults
+  pub handlers_faults : (List ℕ → Option DefinedSymbol)
+      → List Scoped
+      → List Visible
+      → Handlers
+      → Faults
   handlers_faults d names labels NoHandler = NoFault
   handlers_faults d names labels (Handle at label params body rest) =
       Both
@@ -185,8 +206,10 @@ function_faults d f =
     (one_if (is_address (body_type f)) (fault.AddrArgument f.at)))
 
 abbrev pub datum_faults : (List ℕ → Option DefinedSymbol) → ℕ → DatumTree → Faults
-datum_faults d at (tree.Address root name_at name) = one_if (is_none (d name)) (fault.UnknownSymbol name_at)
-datum_faults d at (tree.Global name_at name) = one_if (is_none (d name)) (fault.UnknownSymbol name_at)
+datum_faults d at (tree.Address root name_at name) =
+    one_if (is_none (d name)) (fault.UnknownSymbol name_at)
+datum_faults d at (tree.Global name_at name) =
+    one_if (is_none (d name)) (fault.UnknownSymbol name_at)
 datum_faults d at tree.AFloat = One (fault.Float at)
 datum_faults d at _ = NoFault
 

@@ -22,7 +22,8 @@ group_of (form.Extcall' frame name shape arguments result result_at) = Call
 group_of (form.Checkbound' p bound_at bound_ty bound q index_at index_ty index) = Operation
 group_of (form.Raise' p value_at value_ty value) = Operation
 group_of (form.Seq' shape elements) = Row
-group_of (form.If' p condition_at condition_ty condition q true_at true_ty on_true r false_at false_ty on_false) = Branch
+group_of (form.If' p condition_at condition_ty condition q true_at true_ty on_true r false_at false_ty on_false) =
+    Branch
 group_of (form.Switch' size_at size p selector_at selector_ty selector shape cases) = Branch
 group_of (form.Catch' p body_at body_ty body shape handlers) = Scope
 group_of (form.Exit' label_at label shape arguments) = Row

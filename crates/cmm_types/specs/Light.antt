@@ -27,14 +27,16 @@ first_is_immutable false mutable others = others
 -- a name whose innermost binding is not mutable
 abbrev pub is_immutable : List Scoped → List ℕ → Bool
 is_immutable [] name = false
-is_immutable (s ∷ rest) name = first_is_immutable (bytes_eq s.name name) s.mutable (is_immutable rest name)
+is_immutable (s ∷ rest) name =
+    first_is_immutable (bytes_eq s.name name) s.mutable (is_immutable rest name)
 
 -- an integer, a symbol, an immutable name, or one of these operators over two light expressions
 abbrev pub is_light : List Scoped → Expression → Bool
 is_light scope (Integer at word) = true
 is_light scope (Symbol at name) = true
 is_light scope (Name at name) = is_immutable scope name
-is_light scope (Operator at op left right) = is_light_operator op && (is_light scope left && is_light scope right)
+is_light scope (Operator at op left right) =
+    is_light_operator op && (is_light scope left && is_light scope right)
 is_light scope _ = false
 
 -- a light expression whose outermost operator is `+a`: it is evaluated after the other operands of its

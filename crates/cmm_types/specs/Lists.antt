@@ -15,11 +15,14 @@ AreAnnotated names (e ∷ rest) = IsAnnotated names e × AreAnnotated names rest
 
 -- the names in scope after a binding
 abbrev pub with_binding : List Scoped → Binding → List Scoped
-with_binding names b = with_bindings names (Bind b.at b.name (option_map declared_view b.declared) (expr_view b.value) NoBinding)
+with_binding names b =
+    with_bindings names (Bind b.at b.name (option_map declared_view b.declared)
+    (expr_view b.value) NoBinding)
 
 abbrev pub AreBindingsAnnotated : List Scoped → List Binding → Type 0
 AreBindingsAnnotated names [] = Unit {0}
-AreBindingsAnnotated names (b ∷ rest) = IsAnnotated names b.value × AreBindingsAnnotated (with_binding names b) rest
+AreBindingsAnnotated names (b ∷ rest) =
+    IsAnnotated names b.value × AreBindingsAnnotated (with_binding names b) rest
 
 abbrev pub AreCasesAnnotated : List Scoped → List Case → Type 0
 AreCasesAnnotated names [] = Unit {0}
@@ -28,4 +31,5 @@ AreCasesAnnotated names (c ∷ rest) = IsAnnotated names c.body × AreCasesAnnot
 abbrev pub AreHandlersAnnotated : List Scoped → List Handler → Type 0
 AreHandlersAnnotated names [] = Unit {0}
 AreHandlersAnnotated names (h ∷ rest) =
-    IsAnnotated (with_parameters (params_view h.params.items) names) h.body × AreHandlersAnnotated names rest
+    IsAnnotated (with_parameters (params_view h.params.items) names) h.body
+    × AreHandlersAnnotated names rest

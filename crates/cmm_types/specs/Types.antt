@@ -30,7 +30,8 @@ type_named (s ∷ rest) name = first_type (bytes_eq s.name name) s.type (type_na
 abbrev pub with_parameters : List Parameter → List Scoped → List Scoped
 with_parameters [] scope = scope
 with_parameters (p ∷ params) scope =
-    with_parameters params (record { name = p.name; type = type_of_comp p.comp; mutable = false } ∷ scope)
+    with_parameters params
+    (record { name = p.name; type = type_of_comp p.comp; mutable = false } ∷ scope)
 
 -- what two branches come to: of int, val and addr the greater in this order; a branch that does not come
 -- back says nothing, and one without a value leaves none
@@ -85,13 +86,15 @@ abbrev mutual
   holds_float (Alloc at header_at header operands) = row_holds_float operands
   holds_float (App at callee arguments result result_at) =
       holds_float callee || row_holds_float arguments || is_float_result result
-  holds_float (Extcall at frame name arguments result result_at) = row_holds_float arguments || is_float_result result
+  holds_float (Extcall at frame name arguments result result_at) =
+      row_holds_float arguments || is_float_result result
   holds_float (Checkbound at bound index) = holds_float bound || holds_float index
   holds_float (Raise at value) = holds_float value
   holds_float (Seq at elements) = row_holds_float elements
   holds_float (If at condition on_true on_false) =
       holds_float condition || holds_float on_true || holds_float on_false
-  holds_float (Switch at size_at size selector cases) = holds_float selector || cases_hold_float cases
+  holds_float (Switch at size_at size selector cases) =
+      holds_float selector || cases_hold_float cases
   holds_float (Catch at body handlers) = holds_float body || handlers_hold_float handlers
   holds_float (Exit at label_at label arguments) = row_holds_float arguments
   holds_float (Try at body name_at name handler) = holds_float body || holds_float handler
@@ -139,14 +142,16 @@ abbrev mutual
   type_without_float scope (Name at name) = type_named scope name
   type_without_float scope (Nothing at) = NoValue
   type_without_float scope (Float at word_at operands) = Never
-  type_without_float scope (Let at bindings body) = type_without_float (with_bindings scope bindings) body
+  type_without_float scope (Let at bindings body) =
+      type_without_float (with_bindings scope bindings) body
   type_without_float scope (Assign at name_at name value) = NoValue
   type_without_float scope (Operator at op left right) = type_of_operator op
   type_without_float scope (Load at chunk address) = type_of_chunk chunk
   type_without_float scope (Store at chunk address value) = NoValue
   type_without_float scope (Alloc at header_at header operands) = Val
   type_without_float scope (App at callee arguments result result_at) = type_of_result result
-  type_without_float scope (Extcall at frame name arguments result result_at) = type_of_result result
+  type_without_float scope (Extcall at frame name arguments result result_at) =
+      type_of_result result
   type_without_float scope (Checkbound at bound index) = NoValue
   type_without_float scope (Raise at value) = Never
   type_without_float scope (Seq at elements) = type_of_last scope elements
@@ -173,14 +178,16 @@ abbrev mutual
       with_bindings
       (record {
         name = name;
-        type = type_bound declared (unless_float (holds_float value) (type_without_float scope value));
+        type =
+            type_bound declared (unless_float (holds_float value) (type_without_float scope value));
         mutable = is_mutable declared;
       } ∷ scope)
       rest
 
   pub type_of_cases : List Scoped → Cases → Ty
   type_of_cases scope NoCase = Never
-  type_of_cases scope (Choose indexes body rest) = join (type_without_float scope body) (type_of_cases scope rest)
+  type_of_cases scope (Choose indexes body rest) =
+      join (type_without_float scope body) (type_of_cases scope rest)
 
   pub type_of_handlers : List Scoped → Handlers → Ty
   type_of_handlers scope NoHandler = Never

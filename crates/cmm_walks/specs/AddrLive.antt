@@ -14,7 +14,9 @@ pub record IsLiveIn (f : FunctionTree) (bound point used : ℕ) : Type 0 where
   pub before : List Event
   pub until_point : List Event
   pub until_use : List Event
-  pub walk : IsWalkOf f (before ++ Binds slot true bound ∷ (until_point ++ Passes point ∷ (until_use ++ Uses slot used ∷ [])))
+  pub walk : IsWalkOf f
+      (before ++ Binds slot true bound ∷
+      (until_point ++ Passes point ∷ (until_use ++ Uses slot used ∷ [])))
   pub kept_until_point : Unbound slot until_point
   pub kept_until_use : Unbound slot until_use
 
@@ -27,7 +29,8 @@ pub record IsLive (file : FileTree) (bound point used : ℕ) : Type 0 where
 -- the first of two comes before the second: by the use, then by the frame point, then by the binding
 abbrev pub Before : ℕ → ℕ → ℕ → ℕ → ℕ → ℕ → Type 0
 Before bound point used bound' point' used' =
-    (used < used') ⊎ (((used ≡ used') × (point < point')) ⊎ ((used ≡ used') × (point ≡ point') × (bound ≤ bound')))
+    (used < used') ⊎ (((used ≡ used') × (point < point')) ⊎
+    ((used ≡ used') × (point ≡ point') × (bound ≤ bound')))
 
 -- The address that is reported: no other comes before it.
 pub record IsToldLive (file : FileTree) (bound point used : ℕ) : Type 0 where

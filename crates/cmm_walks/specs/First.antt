@@ -19,7 +19,8 @@ with_part l part.Point limit = record { bound = l.bound; point = limit; used = l
 with_part l part.Bound limit = record { bound = limit; point = l.point; used = l.used }
 
 -- within this limit an address is live, and within no lower one
-pub record IsLeast (nodes : List node.Node) (entry : ℕ) (l : limits.Limits) (part : Part) (limit : ℕ) : Type 0 where
+pub record IsLeast (nodes : List node.Node) (entry : ℕ) (l : limits.Limits) (part : Part)
+    (limit : ℕ) : Type 0 where
   pub within : IsWithin nodes (with_part l part limit) entry
   pub none_below : (x : ℕ) → x < limit → IsWithin nodes (with_part l part x) entry → ⊥
 
@@ -65,7 +66,8 @@ abbrev pub own_limit : Goal → ℕ
 own_limit goal = part_of goal.limits goal.part
 
 -- the node binds an address to the slot, and leads on to a frame point and a use, each at a place up to its limit
-pub record BindsWithin (nodes : List node.Node) (slot : ℕ) (l : limits.Limits) (p : ℕ) : Type 0 where
+pub record BindsWithin (nodes : List node.Node) (slot : ℕ) (l : limits.Limits)
+    (p : ℕ) : Type 0 where
   pub bound : ℕ
   pub point : ℕ
   pub used : ℕ
@@ -85,11 +87,16 @@ pub record Seeded (seeds : List Seed) (p label : ℕ) : Type 0 where
   pub below : seed.label ≤ label
 
 -- further seeds, which are those of the bindings of addresses to the slot
-pub record AreSlotSeeds (nodes : List node.Node) (goal : Goal) (slot : ℕ) (old new : List Seed) : Type 0 where
+pub record AreSlotSeeds (nodes : List node.Node) (goal : Goal) (slot : ℕ)
+    (old new : List Seed) : Type 0 where
   pub kept : (s : Seed) → Contains old s → Contains new s
   pub sound : (s : Seed) → Contains new s
-      → Contains old s ⊎ ((s.label ≤ own_limit goal) × BindsWithin nodes slot (up_to goal s.label) s.place)
-  pub complete : (p x : ℕ) → x ≤ own_limit goal → BindsWithin nodes slot (up_to goal x) p → Seeded new p x
+      → Contains old s ⊎ ((s.label ≤ own_limit goal) × BindsWithin nodes slot
+      (up_to goal s.label) s.place)
+  pub complete : (p x : ℕ)
+      → x ≤ own_limit goal
+      → BindsWithin nodes slot (up_to goal x) p
+      → Seeded new p x
 
 -- the least limit for the part of the goal, or that there is none
 abbrev pub IsLeastTold : List node.Node → ℕ → Goal → Option ℕ → Type 0

@@ -10,4 +10,5 @@ found_of s = record { ty = s.scoped.type; mutable = s.scoped.mutable; slot = s.s
 -- the innermost binding of a name, which stands first
 abbrev pub found_in : List Slotted → List ℕ → Option Found
 found_in [] name = None
-found_in (s ∷ rest) name = first_found (bytes_eq s.scoped.name name) (found_of s) (found_in rest name)
+found_in (s ∷ rest) name =
+    first_found (bytes_eq s.scoped.name name) (found_of s) (found_in rest name)

@@ -13,7 +13,8 @@ members groups k = slice_index_or (map (λ (g : group.Group). g.members.items) g
 -- a member was added to a group, and nothing else
 pub record Added (old new : List group.Group) (k member : ℕ) : Type 0 where
   pub len : length new ≡ length old
-  pub exact : (j x : ℕ) → Contains (members new j) x ↔ (Contains (members old j) x ⊎ ((j ≡ k) × (member ≡ x)))
+  pub exact : (j x : ℕ)
+      → Contains (members new j) x ↔ (Contains (members old j) x ⊎ ((j ≡ k) × (member ≡ x)))
 
 -- the step binds the slot, or uses it
 abbrev pub NamesSlot : ℕ → Step → Type 0

@@ -33,7 +33,8 @@ pub record Leads (nodes : List node.Node) (slot p q : ℕ) : Type 0 where
   pub unbound : Unbound slot events
 
 -- a seed with this label that the node leads to
-pub record LeadsToSeed (nodes : List node.Node) (slot : ℕ) (seeds : List Seed) (p label : ℕ) : Type 0 where
+pub record LeadsToSeed (nodes : List node.Node) (slot : ℕ) (seeds : List Seed)
+    (p label : ℕ) : Type 0 where
   pub seed : Seed
   pub among : Contains seeds seed
   pub leads : Leads nodes slot p seed.place
@@ -74,8 +75,10 @@ pub record IsSpreading (nodes : List node.Node) (slot : ℕ) (l : Labels) : Type
 pub record Falls (nodes : List node.Node) (slot : ℕ) (old new : Labels) : Type 0 where
   pub falls : (p : ℕ) → label_at new.of.items p ≤ label_at old.of.items p
   pub from : (seeds : List Seed)
-      → ((p : ℕ) → label_at old.of.items p < unlabelled → LeadsToSeed nodes slot seeds p (label_at old.of.items p))
-      → (p : ℕ) → label_at new.of.items p < unlabelled → LeadsToSeed nodes slot seeds p (label_at new.of.items p)
+      → ((p : ℕ) → label_at old.of.items p < unlabelled → LeadsToSeed nodes slot seeds p
+      (label_at old.of.items p))
+      → (p : ℕ) → label_at new.of.items p < unlabelled → LeadsToSeed nodes slot seeds p
+      (label_at new.of.items p)
 
 -- what a worklist has still to do
 abbrev pub weight : Labels → ℕ
@@ -99,8 +102,15 @@ pub record Settles (nodes : List node.Node) (slot : ℕ) (old new : Labels) : Ty
   pub done : length new.queue.items ≤ new.done
 
 -- each node has the least label of the seeds that it leads to
-pub record FirstLabels (nodes : List node.Node) (slot : ℕ) (seeds : List Seed) (l : Labels) : Type 0 where
+pub record FirstLabels (nodes : List node.Node) (slot : ℕ) (seeds : List Seed)
+    (l : Labels) : Type 0 where
   pub len : length l.of.items ≡ length nodes
   pub kept : IsKept l
-  pub from : (p : ℕ) → label_at l.of.items p < unlabelled → LeadsToSeed nodes slot seeds p (label_at l.of.items p)
-  pub least : (s : Seed) → Contains seeds s → (p : ℕ) → Leads nodes slot p s.place → label_at l.of.items p ≤ s.label
+  pub from : (p : ℕ)
+      → label_at l.of.items p < unlabelled
+      → LeadsToSeed nodes slot seeds p (label_at l.of.items p)
+  pub least : (s : Seed)
+      → Contains seeds s
+      → (p : ℕ)
+      → Leads nodes slot p s.place
+      → label_at l.of.items p ≤ s.label

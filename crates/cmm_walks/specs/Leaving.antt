@@ -23,11 +23,17 @@ rest_in (item.Handler scope slot handlers own first rest) = Some rest
 rest_in (item.Handles scope slot name_at name handler entry rest) = Some rest
 
 -- what its own catch has for the label
-abbrev pub own_handler : LabelTree → (ℕ → List Slotted) → (ℕ → List Task) → Item → Option (List Task)
+abbrev pub own_handler : LabelTree
+    → (ℕ → List Slotted)
+    → (ℕ → List Task)
+    → Item
+    → Option (List Task)
 own_handler label scopes tasks (item.Catches scope slot in_handler handlers first rest) =
-    handler_for label (scopes scope) slot in_handler (handlers_of handlers.now) (tasks rest) (handlers_of handlers.now)
+    handler_for label (scopes scope) slot in_handler (handlers_of handlers.now) (tasks rest)
+    (handlers_of handlers.now)
 own_handler label scopes tasks (item.Handler scope slot handlers own first rest) =
-    handler_for label (scopes scope) slot true (handlers_of handlers.now) (tasks rest) (handlers_of handlers.now)
+    handler_for label (scopes scope) slot true (handlers_of handlers.now) (tasks rest)
+    (handlers_of handlers.now)
 own_handler label scopes tasks _ = None
 
 abbrev pub exit_rest : LabelTree → (ℕ → List Task) → Option ℕ → Option (List Task)

@@ -19,4 +19,6 @@ pub record Filled (old items : List Item) (nodes : List node.Node) (done : ℕ) 
   pub sound : IsSound items
   pub count : length nodes ≡ done
   pub within : done ≤ length items
-  pub goes : (c : ℕ) (n : node.Node) → slice_get nodes c ≡ Some n → GoesAs items (tasks_at items c) n.step (contents n.next)
+  pub goes : (c : ℕ) (n : node.Node)
+      → slice_get nodes c ≡ Some n
+      → GoesAs items (tasks_at items c) n.step (contents n.next)

@@ -23,7 +23,11 @@ pub record IsFirstAmong (fs : List FunctionTree) (l : Limits) : Type 0 where
   pub f : FunctionTree
   pub among : Contains fs f
   pub live : IsLiveIn f l.bound l.point l.used
-  pub least : (g : FunctionTree) → Contains fs g → (b p u : ℕ) → IsLiveIn g b p u → Before l.bound l.point l.used b p u
+  pub least : (g : FunctionTree)
+      → Contains fs g
+      → (b p u : ℕ)
+      → IsLiveIn g b p u
+      → Before l.bound l.point l.used b p u
 
 abbrev pub ToldAmong : List FunctionTree → Option Limits → Type 0
 ToldAmong fs None = (g : FunctionTree) → Contains fs g → (b p u : ℕ) → IsLiveIn g b p u → ⊥

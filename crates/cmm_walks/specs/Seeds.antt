@@ -53,7 +53,8 @@ seed_with place (Some label) = Some (record { label = label; place = place })
 abbrev pub use_seed : Goal → ℕ → ℕ → Step → Option Seed
 use_seed goal slot place step.Quiet = None
 use_seed goal slot place (step.Binds own address at) = None
-use_seed goal slot place (step.Uses own at) = cond (own == slot) (seed_with place (used_label goal at)) None
+use_seed goal slot place (step.Uses own at) =
+    cond (own == slot) (seed_with place (used_label goal at)) None
 use_seed goal slot place (step.Passes at) = None
 
 -- from the label of the frame point itself
@@ -68,10 +69,12 @@ point_seed goal labels place (step.Passes at) =
 abbrev pub binding_seed : Goal → List ℕ → ℕ → ℕ → Step → ℕ → Option Seed
 binding_seed goal labels slot place step.Quiet next = None
 binding_seed goal labels slot place (step.Binds own address at) next =
-    cond (address && own == slot) (seed_with place (later (known_label labels next) (bound_label goal at))) None
+    cond (address && own == slot)
+    (seed_with place (later (known_label labels next) (bound_label goal at))) None
 binding_seed goal labels slot place (step.Uses own at) next = None
 binding_seed goal labels slot place (step.Passes at) next = None
 
 abbrev pub binding_seeds : Goal → List ℕ → List node.Node → ℕ → ℕ → List Seed
 binding_seeds goal labels nodes slot place =
-    filter_map (λ (n : ℕ). binding_seed goal labels slot place (step_at nodes place) n) (next_at nodes place)
+    filter_map (λ (n : ℕ). binding_seed goal labels slot place (step_at nodes place) n)
+    (next_at nodes place)

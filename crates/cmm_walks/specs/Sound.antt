@@ -34,34 +34,49 @@ IsBelow c (item.Handler scope slot handlers own first rest) = (scope < c) × (re
 IsBelow c (item.Handles scope slot name_at name handler entry rest) = (scope < c) × (rest < c)
 
 -- these handlers of a catch stand in a row of cells, from this one on
-abbrev pub HandlersAt : ℕ → (ℕ → List Task) → ℕ → List Slotted → ℕ → List Handler → List Task → List Handler → Type 0
+abbrev pub HandlersAt : ℕ
+    → (ℕ → List Task)
+    → ℕ
+    → List Slotted
+    → ℕ
+    → List Handler
+    → List Task
+    → List Handler
+    → Type 0
 HandlersAt count tasks cell scope slot all behind [] = Unit {0}
 HandlersAt count tasks cell scope slot all behind (h ∷ rest) =
-    (cell < count) × (tasks cell ≡ handler_tasks scope slot all behind h) × HandlersAt count tasks (suc cell) scope slot all behind rest
+    (cell < count) × (tasks cell ≡ handler_tasks scope slot all behind h) × HandlersAt count tasks
+    (suc cell) scope slot all behind rest
 
 -- of so many cells: what is evaluated holds its types, and the handlers are there
 abbrev pub IsHeld : ℕ → (ℕ → List Slotted) → (ℕ → List Task) → Item → Type 0
-IsHeld count scopes tasks (item.Evaluates scope slot expr rest) = IsAnnotated (names (scopes scope)) expr.now
+IsHeld count scopes tasks (item.Evaluates scope slot expr rest) =
+    IsAnnotated (names (scopes scope)) expr.now
 IsHeld count scopes tasks (item.Enters scope slot bindings body rest) =
     AreBindingsAnnotated (names (scopes scope)) bindings.now
     × IsAnnotated (with_bindings (names (scopes scope)) (bindings_of bindings.now)) body.now
 IsHeld count scopes tasks (item.Either scope slot on_true on_false rest) =
     IsAnnotated (names (scopes scope)) on_true.now × IsAnnotated (names (scopes scope)) on_false.now
-IsHeld count scopes tasks (item.OneOf scope slot cases rest) = AreCasesAnnotated (names (scopes scope)) cases.now
+IsHeld count scopes tasks (item.OneOf scope slot cases rest) =
+    AreCasesAnnotated (names (scopes scope)) cases.now
 IsHeld count scopes tasks (item.Catches scope slot in_handler handlers first rest) =
     AreHandlersAnnotated (names (scopes scope)) handlers.now
     × HandlersAt count tasks first (scopes scope) slot handlers.now (tasks rest) handlers.now
 IsHeld count scopes tasks (item.Handler scope slot handlers own first rest) =
     AreHandlersAnnotated (names (scopes scope)) handlers.now
     × HandlersAt count tasks first (scopes scope) slot handlers.now (tasks rest) handlers.now
-    × IsAnnotated (with_parameters (params_view own.now.params.items) (names (scopes scope))) own.now.body
+    × IsAnnotated (with_parameters (params_view own.now.params.items)
+    (names (scopes scope))) own.now.body
 IsHeld count scopes tasks (item.Handles scope slot name_at name handler entry rest) =
-    (entry < count) × (tasks entry ≡ handling (scopes scope) slot name_at name.now (expr_view handler.now) ++ tasks rest)
+    (entry < count) × (tasks entry ≡ handling (scopes scope) slot name_at name.now
+    (expr_view handler.now) ++ tasks rest)
 IsHeld count scopes tasks _ = Unit {0}
 
 pub record IsSound (items : List Item) : Type 0 where
   pub below : (c : ℕ) (x : Item) → item_at items c ≡ Some x → IsBelow c x
-  pub held : (c : ℕ) (x : Item) → item_at items c ≡ Some x → IsHeld (length items) (scope_at items) (tasks_at items) x
+  pub held : (c : ℕ) (x : Item)
+      → item_at items c ≡ Some x
+      → IsHeld (length items) (scope_at items) (tasks_at items) x
 
 -- further cells
 pub record Extends (old new : List Item) : Type 0 where
@@ -107,7 +122,8 @@ Each P [] = Unit {0}
 Each P (x ∷ xs) = P x × Each P xs
 
 -- further cells, which are these handlers of a catch
-pub record AddsHandlers (old new : List Item) (scope slot : ℕ) (all : List Handler) (first rest : ℕ) (s : List Slotted) (left : List Handler) : Type 0 where
+pub record AddsHandlers (old new : List Item) (scope slot : ℕ) (all : List Handler) (first rest : ℕ)
+    (s : List Slotted) (left : List Handler) : Type 0 where
   pub more : List Item
   pub is : new ≡ more ++ old
   pub each : Each (IsHandlerOf scope slot all first rest s) more
@@ -125,12 +141,15 @@ pub record GoesTo (items : List Item) (next : List ℕ) (tasks : List Task) : Ty
   pub is : tasks_at items to ≡ tasks
 
 -- a node with this step and these next nodes goes on as tasks do
-pub record GoesAs (items : List Item) (tasks : List Task) (step : Step) (next : List ℕ) : Type 0 where
+pub record GoesAs (items : List Item) (tasks : List Task) (step : Step)
+    (next : List ℕ) : Type 0 where
   pub shows : (es : List Event) (left : List Task) → Next tasks es left → es ≡ shown step
   pub forth : (es : List Event) (left : List Task) → Next tasks es left → GoesTo items next left
   pub linked : All (λ q. q < length items) next
   pub back : (q : ℕ) → Contains next q → Next tasks (shown step) (tasks_at items q)
-  pub doing : (event : Event) → shown step ≡ event ∷ [] → (left : List Task) × (tasks ≡ Does event ∷ left)
+  pub doing : (event : Event)
+      → shown step ≡ event ∷ []
+      → (left : List Task) × (tasks ≡ Does event ∷ left)
 
 -- further cells, and a node for these tasks
 pub record Steps (old new : List Item) (tasks : List Task) (n : node.Node) : Type 0 where
@@ -141,11 +160,15 @@ pub record Steps (old new : List Item) (tasks : List Task) (n : node.Node) : Typ
 -- cells for the evaluation of each of these, and then for these tasks
 abbrev pub BodiesAt : List Item → List Slotted → ℕ → List Task → List ℕ → List Expression → Type 0
 BodiesAt items s slot behind [] [] = Unit {0}
-BodiesAt items s slot behind (q ∷ qs) (e ∷ es) = (q < length items) × (tasks_at items q ≡ Evaluates s slot e ∷ behind) × BodiesAt items s slot behind qs es
+BodiesAt items s slot behind (q ∷ qs) (e ∷ es) =
+    (q < length items)
+    × (tasks_at items q ≡ Evaluates s slot e ∷ behind)
+    × BodiesAt items s slot behind qs es
 BodiesAt items s slot behind _ _ = ⊥
 
 -- further cells, which are such cells, and their numbers after former ones
-pub record AddsBodies (old new : List Item) (s : List Slotted) (slot : ℕ) (behind : List Task) (former next : List ℕ) (es : List Expression) : Type 0 where
+pub record AddsBodies (old new : List Item) (s : List Slotted) (slot : ℕ) (behind : List Task)
+    (former next : List ℕ) (es : List Expression) : Type 0 where
   pub extends : Extends old new
   pub sound : IsSound new
   pub more : List ℕ

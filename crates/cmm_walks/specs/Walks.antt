@@ -47,7 +47,11 @@ slot_of [] name = None
 slot_of (s ∷ rest) name = first_slot (bytes_eq s.scoped.name name) s.slot (slot_of rest name)
 
 abbrev pub slotted_parameter : ℕ → Parameter → Slotted
-slotted_parameter slot p = record { scoped = record { name = p.name; type = type_of_comp p.comp; mutable = false }; slot = slot }
+slotted_parameter slot p =
+    record {
+      scoped = record { name = p.name; type = type_of_comp p.comp; mutable = false };
+      slot = slot;
+    }
 
 -- parameters in scope, in slots from this one on
 abbrev pub with_slots : ℕ → List Parameter → List Slotted → List Slotted
@@ -73,7 +77,8 @@ pub data Task : Type 0 where
   -- in the handlers.
   Catches : (scope : List Slotted) (slot : ℕ) (in_handler : Bool) (handlers : Handlers) → Task
   -- after the body of a try: what a raise finds
-  Handles : (scope : List Slotted) (slot : ℕ) (name_at : ℕ) (name : List ℕ) (handler : Expression) → Task
+  Handles : (scope : List Slotted) (slot : ℕ) (name_at : ℕ) (name : List ℕ) (handler : Expression)
+      → Task
 
 abbrev pub first_tasks : Bool → List Task → List Task → List Task
 first_tasks true tasks others = tasks
@@ -86,7 +91,8 @@ first_found false tasks others = others
 -- an operand is evaluated, with the slots from `free` on, and its value is bound to its own slot
 abbrev pub operand : List Slotted → ℕ → ℕ → Expression → List Task
 operand scope free slot e =
-    Evaluates scope free e ∷ Does (Binds slot (is_address (type_of (names scope) e)) (place_of e)) ∷ []
+    Evaluates scope free e ∷ Does (Binds slot (is_address (type_of (names scope) e)) (place_of e))
+    ∷ []
 
 -- the operation at this place takes so many operands, the first of them in this slot
 abbrev pub takes : ℕ → ℕ → ℕ → List Task
@@ -103,13 +109,15 @@ count (More e rest) = suc (count rest)
 abbrev pub waiting : List Slotted → ℕ → ℕ → Expressions → List Task
 waiting scope free slot NoMore = []
 waiting scope free slot (More e rest) =
-    waiting scope free (suc slot) rest ++ first_tasks (is_light_address (names scope) e) [] (operand scope free slot e)
+    waiting scope free (suc slot) rest ++ first_tasks (is_light_address (names scope) e) []
+    (operand scope free slot e)
 
 -- and then the light addresses, right to left
 abbrev pub filled : List Slotted → ℕ → ℕ → Expressions → List Task
 filled scope free slot NoMore = []
 filled scope free slot (More e rest) =
-    filled scope free (suc slot) rest ++ first_tasks (is_light_address (names scope) e) (operand scope free slot e) []
+    filled scope free (suc slot) rest ++ first_tasks (is_light_address (names scope) e)
+    (operand scope free slot e) []
 
 abbrev pub all_operands : List Slotted → ℕ → Expressions → List Task
 all_operands scope slot es =
@@ -167,20 +175,23 @@ tasks_of scope slot (Load at chunk address) = on_one scope slot at address
 tasks_of scope slot (Store at chunk address value) = on_two scope slot at address value
 tasks_of scope slot (Alloc at header_at header operands) =
     waiting scope (slot + count operands) slot operands
-    ++ (Does (Passes at) ∷ (filled scope (slot + count operands) slot operands ++ takes at slot (count operands)))
+    ++ (Does (Passes at) ∷
+    (filled scope (slot + count operands) slot operands ++ takes at slot (count operands)))
 tasks_of scope slot (App at callee arguments result result_at) =
     all_operands scope slot (More callee arguments)
     ++ (takes at slot (suc (count arguments)) ++ called true at)
 tasks_of scope slot (Extcall at frame name arguments result result_at) =
     all_operands scope slot arguments ++ (takes at slot (count arguments) ++ called frame at)
-tasks_of scope slot (Checkbound at bound index) = on_two scope slot at bound index ++ (MayRaise ∷ [])
+tasks_of scope slot (Checkbound at bound index) =
+    on_two scope slot at bound index ++ (MayRaise ∷ [])
 tasks_of scope slot (Raise at value) = on_one scope slot at value ++ (Raises ∷ [])
 tasks_of scope slot (Seq at elements) = in_order scope slot elements
 tasks_of scope slot (If at condition on_true on_false) =
     on_one scope slot at condition ++ (OneOf scope slot (on_true ∷ on_false ∷ []) ∷ [])
 tasks_of scope slot (Switch at size_at size selector cases) =
     on_one scope slot at selector ++ (OneOf scope slot (bodies cases) ∷ [])
-tasks_of scope slot (Catch at body handlers) = Evaluates scope slot body ∷ Catches scope slot false handlers ∷ []
+tasks_of scope slot (Catch at body handlers) =
+    Evaluates scope slot body ∷ Catches scope slot false handlers ∷ []
 tasks_of scope slot (Exit at label_at label arguments) =
     all_operands scope slot arguments ++ (takes at slot (count arguments) ++ (Exits label ∷ []))
 tasks_of scope slot (Try at body name_at name handler) =
@@ -191,8 +202,13 @@ abbrev pub entering : List Slotted → ℕ → Bindings → Expression → List 
 entering scope slot NoBinding body = Evaluates scope slot body ∷ []
 entering scope slot (Bind at name declared value rest) body =
     let type = type_bound declared (type_of (names scope) value) in
-    let bound : Slotted = record { scoped = record { name = name; type = type; mutable = is_mutable declared }; slot = slot } in
-    Evaluates scope slot value ∷ Does (Binds slot (is_address type) at) ∷ Enters (bound ∷ scope) (suc slot) rest body ∷ []
+    let bound : Slotted =
+    record {
+      scoped = record { name = name; type = type; mutable = is_mutable declared };
+      slot = slot;
+    } in
+    Evaluates scope slot value ∷ Does (Binds slot (is_address type) at) ∷ Enters (bound ∷ scope)
+    (suc slot) rest body ∷ []
 
 -- ---- handlers
 
@@ -203,12 +219,20 @@ parameters_bound slot (p ∷ params) =
     Does (Binds slot (is_address (type_of_comp p.comp)) p.at) ∷ parameters_bound (suc slot) params
 
 -- the handler of a label, and what is after it, if it is one of these
-abbrev pub handler_for : LabelTree → List Slotted → ℕ → Bool → Handlers → List Task → Handlers → Option (List Task)
+abbrev pub handler_for : LabelTree
+    → List Slotted
+    → ℕ
+    → Bool
+    → Handlers
+    → List Task
+    → Handlers
+    → Option (List Task)
 handler_for label scope slot in_handler all behind NoHandler = None
 handler_for label scope slot in_handler all behind (Handle at own params body rest) =
     first_found (same_label label own && not (is_bare label && in_handler))
     (parameters_bound slot params
-    ++ (Evaluates (with_slots slot params scope) (slot + length params) body ∷ Catches scope slot true all ∷ behind))
+    ++ (Evaluates (with_slots slot params scope) (slot + length params) body
+    ∷ Catches scope slot true all ∷ behind))
     (handler_for label scope slot in_handler all behind rest)
 
 -- where an exit leads, if a handler of its label is visible
@@ -219,18 +243,21 @@ or_else None others = others
 abbrev pub behind_exit : LabelTree → List Task → Option (List Task)
 behind_exit label [] = None
 behind_exit label (Catches scope slot in_handler handlers ∷ rest) =
-    or_else (handler_for label scope slot in_handler handlers rest handlers) (behind_exit label rest)
+    or_else (handler_for label scope slot in_handler handlers rest handlers)
+    (behind_exit label rest)
 behind_exit label (_ ∷ rest) = behind_exit label rest
 
 abbrev pub handling : List Slotted → ℕ → ℕ → List ℕ → Expression → List Task
 handling scope slot name_at name handler =
-    let raised : Slotted = record { scoped = record { name = name; type = ty.Val; mutable = false }; slot = slot } in
+    let raised : Slotted =
+    record { scoped = record { name = name; type = ty.Val; mutable = false }; slot = slot } in
     Does (Binds slot false name_at) ∷ Evaluates (raised ∷ scope) (suc slot) handler ∷ []
 
 -- where a raise leads, if a try of the function is active
 abbrev pub behind_raise : List Task → Option (List Task)
 behind_raise [] = None
-behind_raise (Handles scope slot name_at name handler ∷ rest) = Some (handling scope slot name_at name handler ++ rest)
+behind_raise (Handles scope slot name_at name handler ∷ rest) =
+    Some (handling scope slot name_at name handler ++ rest)
 behind_raise (_ ∷ rest) = behind_raise rest
 
 -- ---- walks
@@ -240,27 +267,41 @@ pub data Next : List Task → List Event → List Task → Type 0 where
   does : (event : Event) (tasks : List Task) → Next (Does event ∷ tasks) (event ∷ []) tasks
   evaluates : (scope : List Slotted) (slot : ℕ) (e : Expression) (tasks : List Task)
       → Next (Evaluates scope slot e ∷ tasks) [] (tasks_of scope slot e ++ tasks)
-  enters : (scope : List Slotted) (slot : ℕ) (bindings : Bindings) (body : Expression) (tasks : List Task)
-      → Next (Enters scope slot bindings body ∷ tasks) [] (entering scope slot bindings body ++ tasks)
-  one_of : (scope : List Slotted) (slot : ℕ) (es : List Expression) (e : Expression) (tasks : List Task)
+  enters : (scope : List Slotted) (slot : ℕ) (bindings : Bindings) (body : Expression)
+      (tasks : List Task)
+      → Next (Enters scope slot bindings body ∷ tasks) []
+      (entering scope slot bindings body ++ tasks)
+  one_of : (scope : List Slotted) (slot : ℕ) (es : List Expression) (e : Expression)
+      (tasks : List Task)
       → Contains es e → Next (OneOf scope slot es ∷ tasks) [] (Evaluates scope slot e ∷ tasks)
   goes_on : (tasks : List Task) → Next (MayRaise ∷ tasks) [] tasks
   may_raise : (tasks : List Task) → Next (MayRaise ∷ tasks) [] (Raises ∷ tasks)
-  raises : (tasks handler : List Task) → behind_raise tasks ≡ Some handler → Next (Raises ∷ tasks) [] handler
-  exits : (label : LabelTree) (tasks handler : List Task) → behind_exit label tasks ≡ Some handler → Next (Exits label ∷ tasks) [] handler
-  leaves_catch : (scope : List Slotted) (slot : ℕ) (in_handler : Bool) (handlers : Handlers) (tasks : List Task)
+  raises : (tasks handler : List Task)
+      → behind_raise tasks ≡ Some handler
+      → Next (Raises ∷ tasks) [] handler
+  exits : (label : LabelTree) (tasks handler : List Task)
+      → behind_exit label tasks ≡ Some handler
+      → Next (Exits label ∷ tasks) [] handler
+  leaves_catch : (scope : List Slotted) (slot : ℕ) (in_handler : Bool) (handlers : Handlers)
+      (tasks : List Task)
       → Next (Catches scope slot in_handler handlers ∷ tasks) [] tasks
-  leaves_try : (scope : List Slotted) (slot name_at : ℕ) (name : List ℕ) (handler : Expression) (tasks : List Task)
+  leaves_try : (scope : List Slotted) (slot name_at : ℕ) (name : List ℕ) (handler : Expression)
+      (tasks : List Task)
       → Next (Handles scope slot name_at name handler ∷ tasks) [] tasks
 
 -- What may happen where these tasks are left, up to any point.
 pub data Walk : List Task → List Event → Type 0 where
   stops : (tasks : List Task) → Walk tasks []
-  goes : (tasks left : List Task) (es events : List Event) → Next tasks es left → Walk left events → Walk tasks (es ++ events)
+  goes : (tasks left : List Task) (es events : List Event)
+      → Next tasks es left
+      → Walk left events
+      → Walk tasks (es ++ events)
 
 -- a walk of a function binds its parameters, and evaluates its body
 abbrev pub walk_tasks : FunctionTree → List Task
-walk_tasks f = parameters_bound 0 f.params ++ (Evaluates (with_slots 0 f.params []) (length f.params) f.body ∷ [])
+walk_tasks f =
+    parameters_bound 0 f.params
+    ++ (Evaluates (with_slots 0 f.params []) (length f.params) f.body ∷ [])
 
 abbrev pub IsWalkOf : FunctionTree → List Event → Type 0
 IsWalkOf f events = Walk (walk_tasks f) events

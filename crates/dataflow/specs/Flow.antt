@@ -17,7 +17,8 @@ pub record Graph : Type 0 where
 abbrev pub ReadsIn : Graph → ℕ → ℕ → ℕ → Type 0
 ReadsIn g r zero p = Contains (g.reads p) r
 ReadsIn g r (suc n) p =
-    ((Contains (g.writes p) r → ⊥) × ((q : ℕ) × Contains (g.next p) q × ReadsIn g r n q)) ⊎ ((q : ℕ) × Contains (g.aside p) q × ReadsIn g r n q)
+    ((Contains (g.writes p) r → ⊥) × ((q : ℕ) × Contains (g.next p) q × ReadsIn g r n q)) ⊎
+    ((q : ℕ) × Contains (g.aside p) q × ReadsIn g r n q)
 
 -- some walk from p reads r before writing it
 abbrev pub LiveBefore : Graph → ℕ → ℕ → Type 0

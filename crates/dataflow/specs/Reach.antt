@@ -12,7 +12,9 @@ use Rattle.dataflow.specs.Rows.{row, HasSizes}
 abbrev pub ComesIn : Graph → ℕ → ℕ → ℕ → Type 0
 ComesIn g r zero p = ⊥
 ComesIn g r (suc n) p =
-    ((o : ℕ) × Contains (g.next o) p × (Contains (g.reads o) r ⊎ ((Contains (g.writes o) r → ⊥) × ComesIn g r n o))) ⊎ ((o : ℕ) × Contains (g.aside o) p × ComesIn g r n o)
+    ((o : ℕ) × Contains (g.next o) p ×
+    (Contains (g.reads o) r ⊎ ((Contains (g.writes o) r → ⊥) × ComesIn g r n o))) ⊎
+    ((o : ℕ) × Contains (g.aside o) p × ComesIn g r n o)
 
 -- some walk brings r to p
 abbrev pub ComesTo : Graph → ℕ → ℕ → Type 0

@@ -11,10 +11,13 @@ use Rattle.dataflow.specs.Rows.{row, HasSizes}
 use Rattle.dataflow.specs.Sweep.{missing}
 
 -- a set was added to the sets of places
-pub record Pushed (marks : List Bool) (old new : List (List Bool)) (places : List ℕ) (grew : Bool) : Type 0 where
+pub record Pushed (marks : List Bool) (old new : List (List Bool)) (places : List ℕ)
+    (grew : Bool) : Type 0 where
   pub len : length new ≡ length old
   pub sizes : HasSizes (length marks) new
-  pub members : (q r : ℕ) → q < length old → has (row new q) r ≡ (has (row old q) r || (list_any (λ k. k == q) places && has marks r))
+  pub members : (q r : ℕ)
+      → q < length old
+      → has (row new q) r ≡ (has (row old q) r || (list_any (λ k. k == q) places && has marks r))
   pub same : grew ≡ false → new ≡ old
   pub most : missing new ≤ missing old
   pub fewer : grew ≡ true → missing new < missing old
@@ -28,10 +31,15 @@ arrives next aside gen kill rows p q r =
     || (list_any (λ k. k == q) next && (kept || list_any (λ k. k == r) gen))
 
 -- what comes to a place was spread from it; what comes to it by its own edges waits for the next time
-pub record Spread (x : place.Place) (bound : ℕ) (old new : List (List Bool)) (p : ℕ) (grew : Bool) : Type 0 where
+pub record Spread (x : place.Place) (bound : ℕ) (old new : List (List Bool)) (p : ℕ)
+    (grew : Bool) : Type 0 where
   pub len : length new ≡ length old
   pub sizes : HasSizes bound new
-  pub members : (q r : ℕ) → q < length old → has (row new q) r ≡ (has (row old q) r || arrives (contents x.next) (contents x.aside) (contents x.reads) (contents x.writes) old p q r)
+  pub members : (q r : ℕ)
+      → q < length old
+      → has (row new q) r ≡
+      (has (row old q) r || arrives (contents x.next) (contents x.aside) (contents x.reads)
+      (contents x.writes) old p q r)
   pub same : grew ≡ false → new ≡ old
   pub fewer : grew ≡ true → missing new < missing old
 
@@ -41,7 +49,10 @@ pub record IsComing (g : Graph) (rows : List (List Bool)) : Type 0 where
 
 -- what arrives from place p is a member
 pub record IsSpreadFrom (g : Graph) (rows : List (List Bool)) (p : ℕ) : Type 0 where
-  pub member : (q r : ℕ) → q < length rows → arrives (g.next p) (g.aside p) (g.reads p) (g.writes p) rows p q r ≡ true → has (row rows q) r ≡ true
+  pub member : (q r : ℕ)
+      → q < length rows
+      → arrives (g.next p) (g.aside p) (g.reads p) (g.writes p) rows p q r ≡ true
+      → has (row rows q) r ≡ true
 
 -- a visit of place p
 pub record Moved (f : flow.Flow) (old new : List (List Bool)) (p : ℕ) (grew : Bool) : Type 0 where

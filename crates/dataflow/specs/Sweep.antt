@@ -11,10 +11,12 @@ use Rattle.dataflow.specs.Rows.{row, HasSizes}
 -- whether r is live before a place, as far as the rows tell what is live before the next ones
 abbrev pub enters : List ℕ → List ℕ → List ℕ → List ℕ → List (List Bool) → ℕ → Bool
 enters next aside reads writes rows r =
-    ((list_any (λ q. has (row rows q) r) next && not (list_any (λ k. k == r) writes)) || list_any (λ q. has (row rows q) r) aside) || list_any (λ k. k == r) reads
+    ((list_any (λ q. has (row rows q) r) next && not (list_any (λ k. k == r) writes)) || list_any
+    (λ q. has (row rows q) r) aside) || list_any (λ k. k == r) reads
 
 abbrev pub enters_place : place.Place → List (List Bool) → ℕ → Bool
-enters_place x rows r = enters (contents x.next) (contents x.aside) (contents x.reads) (contents x.writes) rows r
+enters_place x rows r =
+    enters (contents x.next) (contents x.aside) (contents x.reads) (contents x.writes) rows r
 
 -- each member is live
 pub record IsSound (g : Graph) (rows : List (List Bool)) : Type 0 where
@@ -22,7 +24,9 @@ pub record IsSound (g : Graph) (rows : List (List Bool)) : Type 0 where
 
 -- what enters place p is a member
 pub record IsClosedAt (g : Graph) (rows : List (List Bool)) (p : ℕ) : Type 0 where
-  pub member : (r : ℕ) → enters (g.next p) (g.aside p) (g.reads p) (g.writes p) rows r ≡ true → has (row rows p) r ≡ true
+  pub member : (r : ℕ)
+      → enters (g.next p) (g.aside p) (g.reads p) (g.writes p) rows r ≡ true
+      → has (row rows p) r ≡ true
 
 -- how many numbers are not members of a set
 abbrev pub absent : List Bool → ℕ

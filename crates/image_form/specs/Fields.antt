@@ -35,7 +35,9 @@ byte_at [] = Err 0
 byte_at (b ∷ rest) = Ok (b, rest)
 
 unfoldable pub number_at : Width → List ℕ → Result (ℕ × List ℕ) ℕ
-number_at w bytes = if nat_lt (length bytes) (byte_len w) then Err (length bytes) else Ok (from_le_bytes w (take (byte_len w) bytes), drop (byte_len w) bytes)
+number_at w bytes =
+    if nat_lt (length bytes) (byte_len w) then Err (length bytes) else Ok
+    (from_le_bytes w (take (byte_len w) bytes), drop (byte_len w) bytes)
 
 -- the field, where its value keeps the rule
 unfoldable pub kept : {A : Type 0} → (A → Bool) → (List ℕ → Result (A × List ℕ) ℕ) → List ℕ → Result (A × List ℕ) ℕ
@@ -50,7 +52,9 @@ text_at bytes = do
   if nat_lt (length n.1) n.0 then Err (length bytes) else Ok (take n.0 n.1, drop n.0 n.1)
 
 unfoldable pub is_name : List ℕ → Bool
-is_name name = nat_lt 0 (length name) && (nat_le (length name) 255 && list_all (λ b. nat_le 0x21 b && nat_le b 0x7E) name)
+is_name name =
+    nat_lt 0 (length name)
+    && (nat_le (length name) 255 && list_all (λ b. nat_le 0x21 b && nat_le b 0x7E) name)
 
 unfoldable pub name_at : List ℕ → Result (List ℕ × List ℕ) ℕ
 name_at = kept is_name text_at
@@ -66,10 +70,15 @@ decoded None bytes rest = Err (length bytes)
 
 -- the types up to that byte: 2 for a parameter of a function, 1 for an argument of an external call
 unfoldable pub comp_of : ℕ → ℕ → Option Comp
-comp_of most b = if nat_le b most then (if b == 0 then Some Int else (if b == 1 then Some Val else (if b == 2 then Some Addr else None))) else None
+comp_of most b =
+    if nat_le b most then
+    (if b == 0 then Some Int else
+    (if b == 1 then Some Val else (if b == 2 then Some Addr else None))) else None
 
 unfoldable pub result_of : ℕ → Option Ret
-result_of b = if b == 0 then Some (returns.Comp Int) else (if b == 1 then Some (returns.Comp Val) else (if b == 3 then Some returns.Unit else None))
+result_of b =
+    if b == 0 then Some (returns.Comp Int) else
+    (if b == 1 then Some (returns.Comp Val) else (if b == 3 then Some returns.Unit else None))
 
 unfoldable pub ext_result_of : ℕ → Option Ret
 ext_result_of b = if b == 2 then Some (returns.Comp Addr) else result_of b
@@ -103,7 +112,9 @@ unfoldable pub at_last : {A : Type 0} → (A → Bool) → List A → Bool
 at_last p before = at_some p (slice_get before (length before - 1))
 
 unfoldable pub func_offset_at : List Func → List ℕ → Result (ℕ × List ℕ) ℕ
-func_offset_at before = kept (λ n. (n % 4 == 0) && at_last (λ f. nat_lt f.offset n && nat_le (end_of f) n) before) (number_at w32)
+func_offset_at before =
+    kept (λ n. (n % 4 == 0) && at_last (λ f. nat_lt f.offset n && nat_le (end_of f) n) before)
+    (number_at w32)
 
 unfoldable pub frame_at : List ℕ → Result (ℕ × List ℕ) ℕ
 frame_at = kept (λ n. n % 16 == 0) (number_at w32)
@@ -119,7 +130,8 @@ func_at before bytes = do
   Ok (record { name = name.0; offset = offset.0; words = words.0; frame = frame.0; params = params.0; result = result.0 }, result.1)
 
 unfoldable pub sym_offset_at : ℕ → List Sym → List ℕ → Result (ℕ × List ℕ) ℕ
-sym_offset_at data_len before = kept (λ n. nat_le n data_len && at_last (λ s. nat_le s.offset n) before) (number_at w32)
+sym_offset_at data_len before =
+    kept (λ n. nat_le n data_len && at_last (λ s. nat_le s.offset n) before) (number_at w32)
 
 -- a symbol, whose name is not among the names of the functions either
 unfoldable pub sym_at : List (List ℕ) → ℕ → List Sym → List ℕ → Result (Sym × List ℕ) ℕ
@@ -129,7 +141,9 @@ sym_at names data_len before bytes = do
   Ok (record { name = name.0; offset = offset.0 }, offset.1)
 
 unfoldable pub root_at : ℕ → List ℕ → List ℕ → Result (ℕ × List ℕ) ℕ
-root_at data_len before = kept (λ n. ((n % 8 == 0) && nat_le (n + 8) data_len) && at_last (λ p. nat_lt p n) before) (number_at w32)
+root_at data_len before =
+    kept (λ n. ((n % 8 == 0) && nat_le (n + 8) data_len) && at_last (λ p. nat_lt p n) before)
+    (number_at w32)
 
 -- an entry that is there already is told at its result
 unfoldable pub ext_at : List Ext → List ℕ → Result (Ext × List ℕ) ℕ
@@ -158,7 +172,8 @@ abbrev pub is_return : ℕ → ℕ → Bool
 is_return code_len n = (n % 4 == 0) && (nat_le 20 n && nat_le n code_len)
 
 unfoldable pub after_at : ℕ → List Desc → List ℕ → Result (ℕ × List ℕ) ℕ
-after_at code_len before = kept (λ n. is_return code_len n && at_last (λ d. nat_lt d.after n) before) (number_at w32)
+after_at code_len before =
+    kept (λ n. is_return code_len n && at_last (λ d. nat_lt d.after n) before) (number_at w32)
 
 unfoldable pub size_at : ℕ → List ℕ → Result (ℕ × List ℕ) ℕ
 size_at version = kept (λ n. (n % 16 == 0) && nat_le 16 n) (wide_at version)

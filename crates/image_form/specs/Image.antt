@@ -82,7 +82,10 @@ unfoldable pub params_bytes : List Comp → List ℕ
 params_bytes params = length params ∷ map comp_byte params
 
 unfoldable pub func_bytes : Func → List ℕ
-func_bytes f = name_bytes f.name ++ (le32 f.offset ++ (le32 f.words ++ (le32 f.frame ++ (params_bytes f.params ++ ret_byte f.result ∷ []))))
+func_bytes f =
+    name_bytes f.name
+    ++ (le32 f.offset
+    ++ (le32 f.words ++ (le32 f.frame ++ (params_bytes f.params ++ ret_byte f.result ∷ []))))
 
 unfoldable pub sym_bytes : Sym → List ℕ
 sym_bytes s = name_bytes s.name ++ le32 s.offset

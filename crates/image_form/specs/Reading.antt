@@ -32,7 +32,9 @@ refused fault total bytes = record { fault = fault; at = total - length bytes }
 
 -- the first n bytes; where they are not all there, the fault stands at the end
 unfoldable pub whole_at : ℕ → ℕ → List ℕ → Result (List ℕ × List ℕ) ImageRefusal
-whole_at total n bytes = if nat_lt (length bytes) n then Err (record { fault = faults.Truncated; at = total }) else Ok (take n bytes, drop n bytes)
+whole_at total n bytes =
+    if nat_lt (length bytes) n then Err (record { fault = faults.Truncated; at = total }) else Ok
+    (take n bytes, drop n bytes)
 
 -- the bytes after the mark, which is to stand here
 unfoldable pub mark_at : ℕ → ImageFault → List ℕ → List ℕ → Result (List ℕ) ImageRefusal
@@ -69,13 +71,15 @@ section_at total name limits bytes = do
 -- of the body, behind which these stand
 abbrev pub placed : {A : Type 0} → ℕ → List ℕ → Result A ℕ → Result A ImageRefusal
 placed total behind (Ok x) = Ok x
-placed total behind (Err left) = Err (record { fault = faults.Table; at = total - length behind - left })
+placed total behind (Err left) =
+    Err (record { fault = faults.Table; at = total - length behind - left })
 
 -- the same of what a function of the code read
 abbrev pub placed_result : {X : Type 0} → ℕ → List ℕ → Result X Stop → Result X ImageError
 placed_result total behind (Ok x) = Ok x
 placed_result total behind (Err stops.Memory) = Err errors.OutOfMemory
-placed_result total behind (Err (stops.Left left)) = Err (errors.Refused (record { fault = faults.Table; at = total - length behind - left }))
+placed_result total behind (Err (stops.Left left)) =
+    Err (errors.Refused (record { fault = faults.Table; at = total - length behind - left }))
 
 -- a section, and the bytes after it
 unfoldable pub part_at : {A : Type 0} → ℕ → List ℕ → Limits → (List ℕ → Result A ℕ) → List ℕ → Result (A × List ℕ) ImageRefusal

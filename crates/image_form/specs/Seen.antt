@@ -11,4 +11,5 @@ has texts text = list_any (bytes_eq text) texts
 
 -- the set holds these texts, in whatever order
 unfoldable pub Holds : declared.Seen → List (List ℕ) → Type 0
-Holds seen texts = (text : List ℕ) → has (map (λ v. v.items) (keys seen.texts)) text ≡ has texts text
+Holds seen texts =
+    (text : List ℕ) → has (map (λ v. v.items) (keys seen.texts)) text ≡ has texts text

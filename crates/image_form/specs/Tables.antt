@@ -44,7 +44,9 @@ pub record Tables : Type 0 where
 -- ---- what the code's types hold
 
 abbrev pub func : FuncRow → Func
-func f = record { name = f.name; offset = f.offset; words = f.words; frame = f.frame; params = contents f.params; result = f.result }
+func f =
+    record
+    { name = f.name; offset = f.offset; words = f.words; frame = f.frame; params = contents f.params; result = f.result }
 
 abbrev pub sym : SymRow → Sym
 sym s = record { name = s.name; offset = s.offset }

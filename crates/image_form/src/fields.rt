@@ -124,8 +124,12 @@ pub(crate) fn new_name_from<'a>(
     seen: &mut Seen,
     bytes: &'a [u8],
 ) -> Result<(Vec<u8>, &'a [u8]), Stop>
-    ensures gives { (names : List (List ℕ)) → Holds seen.old names → Gives (λ x. (x.0.items, x.1.now)) result (new_name_at names bytes.now) }
-    ensures seen { (names : List (List ℕ)) → Holds seen.old names → IfOk result (λ x. Holds seen.new (names ++ x.0.items ∷ [])) }
+    ensures gives { (names : List (List ℕ))
+        → Holds seen.old names
+        → Gives (λ x. (x.0.items, x.1.now)) result (new_name_at names bytes.now) }
+    ensures seen { (names : List (List ℕ))
+        → Holds seen.old names
+        → IfOk result (λ x. Holds seen.new (names ++ x.0.items ∷ [])) }
 {
     let (name, rest) = name_from(bytes)?;
     let is_new = seen.insert(Vec::from_slice(alloc, name)?)?;
@@ -208,7 +212,8 @@ pub(crate) fn ext_result_from(bytes: &[u8]) -> Result<(Ret, &[u8]), Stop>
 }
 
 fn comps_from(alloc: Global, most: u8, count: u8, bytes: &[u8]) -> Result<(Vec<Comp>, &[u8]), Stop>
-    ensures gives { Gives (λ x. (x.0.items, x.1.now)) result (rows_at (λ _. type_at (comp_of most)) [] count bytes.now) }
+    ensures gives { Gives (λ x. (x.0.items, x.1.now)) result
+        (rows_at (λ _. type_at (comp_of most)) [] count bytes.now) }
     ensures few { IfOk result (λ x. length x.0.items ≤ count) }
 {
     let mut comps = Vec::new(alloc);

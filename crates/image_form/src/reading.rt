@@ -172,7 +172,8 @@ fn func_part<'a>(
     bytes: &'a [u8],
 ) -> Result<(Vec<FuncRow>, &'a [u8]), ImageError>
     requires { Holds seen.old [] }
-    ensures reads { Reads (λ x. (map func x.0.items, x.1.now)) result (part_at total (codes "FUNC") table_limits (table_at func_at) bytes.now) }
+    ensures reads { Reads (λ x. (map func x.0.items, x.1.now)) result
+        (part_at total (codes "FUNC") table_limits (table_at func_at) bytes.now) }
     ensures seen { IfOk result (λ x. Holds seen.new (func_names (map func x.0.items))) }
 {
     let (body, rest) = section_from(total, b"FUNC", TABLE, bytes)?;
@@ -199,7 +200,8 @@ fn code_part<'a>(
     funcs: &[FuncRow],
     bytes: &'a [u8],
 ) -> Result<(Vec<u32>, &'a [u8]), ImageError>
-    ensures { Reads (λ x. (x.0.items, x.1.now)) result (part_at total (codes "CODE") (code_limits (map func funcs.now)) words_at bytes.now) }
+    ensures { Reads (λ x. (x.0.items, x.1.now)) result
+        (part_at total (codes "CODE") (code_limits (map func funcs.now)) words_at bytes.now) }
 {
     let limits = Limits {
         least: code_least(funcs),
@@ -213,7 +215,8 @@ fn code_part<'a>(
 
 #[tactic(auto, unfolding(crate::specs::Reading::part_at))]
 fn data_part(alloc: Global, total: usize, bytes: &[u8]) -> Result<(Vec<u8>, &[u8]), ImageError>
-    ensures { Reads (λ x. (x.0.items, x.1.now)) result (part_at total (codes "DATA") data_limits Ok bytes.now) }
+    ensures { Reads (λ x. (x.0.items, x.1.now)) result
+        (part_at total (codes "DATA") data_limits Ok bytes.now) }
 {
     let (body, rest) = section_from(total, b"DATA", DATA, bytes)?;
     Ok((Vec::from_slice(alloc, body)?, rest))
@@ -227,7 +230,11 @@ fn sym_part<'a>(
     data_len: usize,
     bytes: &'a [u8],
 ) -> Result<(Vec<SymRow>, &'a [u8]), ImageError>
-    ensures { (names : List (List ℕ)) → Holds seen.old names → Reads (λ x. (map sym x.0.items, x.1.now)) result (part_at total (codes "SYMS") table_limits (table_at (sym_at names data_len)) bytes.now) }
+    ensures { (names : List (List ℕ))
+        → Holds seen.old names
+        → Reads (λ x. (map sym x.0.items, x.1.now)) result
+        (part_at total (codes "SYMS") table_limits (table_at (sym_at names data_len))
+        bytes.now) }
 {
     let (body, rest) = section_from(total, b"SYMS", TABLE, bytes)?;
     let rows = placed(total, rest, sym_table(alloc, seen, data_len, body))?;
@@ -241,7 +248,8 @@ fn root_part(
     data_len: usize,
     bytes: &[u8],
 ) -> Result<(Vec<u32>, &[u8]), ImageError>
-    ensures { Reads (λ x. (x.0.items, x.1.now)) result (part_at total (codes "ROOT") table_limits (table_at (root_at data_len)) bytes.now) }
+    ensures { Reads (λ x. (x.0.items, x.1.now)) result
+        (part_at total (codes "ROOT") table_limits (table_at (root_at data_len)) bytes.now) }
 {
     let (body, rest) = section_from(total, b"ROOT", TABLE, bytes)?;
     let rows = placed(total, rest, root_table(alloc, data_len, body))?;
@@ -250,7 +258,8 @@ fn root_part(
 
 #[tactic(auto, unfolding(crate::specs::Reading::part_at))]
 fn ext_part(alloc: Global, total: usize, bytes: &[u8]) -> Result<(Vec<ExtRow>, &[u8]), ImageError>
-    ensures { Reads (λ x. (map ext x.0.items, x.1.now)) result (part_at total (codes "EXTC") table_limits (table_at ext_at) bytes.now) }
+    ensures { Reads (λ x. (map ext x.0.items, x.1.now)) result
+        (part_at total (codes "EXTC") table_limits (table_at ext_at) bytes.now) }
 {
     let (body, rest) = section_from(total, b"EXTC", TABLE, bytes)?;
     let rows = placed(total, rest, ext_table(alloc, body))?;
@@ -265,7 +274,9 @@ fn desc_part(
     code_len: usize,
     bytes: &[u8],
 ) -> Result<(Vec<DescRow>, &[u8]), ImageError>
-    ensures { Reads (λ x. (map desc x.0.items, x.1.now)) result (part_at total (codes "DESC") table_limits (table_at (desc_at version code_len)) bytes.now) }
+    ensures { Reads (λ x. (map desc x.0.items, x.1.now)) result
+        (part_at total (codes "DESC") table_limits (table_at (desc_at version code_len))
+        bytes.now) }
 {
     let (body, rest) = section_from(total, b"DESC", TABLE, bytes)?;
     let rows = placed(total, rest, desc_table(alloc, version, code_len, body))?;
@@ -311,7 +322,10 @@ pub fn read_image(alloc: Global, bytes: &[u8]) -> Result<Image, ImageError>
     // What is read is an image, and these are its bytes.
     ensures found { IfOk result (λ image. IsImage image × (image_bytes image ≡ bytes.now)) }
     // The bytes of an image are read as that image, unless memory runs out.
-    ensures only { (image : Image) → IsImage image → image_bytes image ≡ bytes.now → Reads tables result (Ok (tables image)) }
+    ensures only { (image : Image)
+        → IsImage image
+        → image_bytes image ≡ bytes.now
+        → Reads tables result (Ok (tables image)) }
     // What is refused is no image's bytes, and the fault is the first.
     ensures refused { IfErr result (IsRefusalOf bytes.now) }
 {

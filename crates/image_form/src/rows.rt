@@ -52,7 +52,8 @@ fn is_behind(row: &FuncRow, offset: u32) -> bool
 
 /// Whether a function at the offset begins behind the last of those before it, and not inside it.
 fn begins_behind(before: &[FuncRow], offset: u32) -> bool
-    ensures { result ≡ at_last (λ f. nat_lt f.offset offset && nat_le (end_of f) offset) (map func before.now) }
+    ensures { result
+        ≡ at_last (λ f. nat_lt f.offset offset && nat_le (end_of f) offset) (map func before.now) }
 {
     match before.last() {
         None => true,
@@ -201,8 +202,14 @@ fn sym_from<'a>(
     before: &[SymRow],
     bytes: &'a [u8],
 ) -> Result<(SymRow, &'a [u8]), Stop>
-    ensures gives { (names : List (List ℕ)) → Holds seen.old (names ++ sym_names (map sym before.now)) → Gives (λ x. (sym x.0, x.1.now)) result (sym_at names data_len (map sym before.now) bytes.now) }
-    ensures seen { (names : List (List ℕ)) → Holds seen.old (names ++ sym_names (map sym before.now)) → IfOk result (λ x. Holds seen.new ((names ++ sym_names (map sym before.now)) ++ x.0.name ∷ [])) }
+    ensures gives { (names : List (List ℕ))
+        → Holds seen.old (names ++ sym_names (map sym before.now))
+        → Gives (λ x. (sym x.0, x.1.now)) result
+        (sym_at names data_len (map sym before.now) bytes.now) }
+    ensures seen { (names : List (List ℕ))
+        → Holds seen.old (names ++ sym_names (map sym before.now))
+        → IfOk result
+        (λ x. Holds seen.new ((names ++ sym_names (map sym before.now)) ++ x.0.name ∷ [])) }
 {
     let (name, rest) = new_name_from(alloc, seen, bytes)?;
     let (offset, rest) = sym_offset_from(data_len, before, rest)?;
@@ -220,7 +227,10 @@ fn syms_from<'a>(
     count: u32,
     bytes: &'a [u8],
 ) -> Result<(Vec<SymRow>, &'a [u8]), Stop>
-    ensures { (names : List (List ℕ)) → Holds seen.old names → Gives (λ x. (map sym x.0.items, x.1.now)) result (rows_at (sym_at names data_len) [] count bytes.now) }
+    ensures { (names : List (List ℕ))
+        → Holds seen.old names
+        → Gives (λ x. (map sym x.0.items, x.1.now)) result
+        (rows_at (sym_at names data_len) [] count bytes.now) }
 {
     let mut rows = Vec::new(alloc);
     let mut rest = bytes;
@@ -240,7 +250,9 @@ pub(crate) fn sym_table(
     data_len: usize,
     body: &[u8],
 ) -> Result<Vec<SymRow>, Stop>
-    ensures { (names : List (List ℕ)) → Holds seen.old names → Gives (λ rows. map sym rows.items) result (table_at (sym_at names data_len) body.now) }
+    ensures { (names : List (List ℕ))
+        → Holds seen.old names
+        → Gives (λ rows. map sym rows.items) result (table_at (sym_at names data_len) body.now) }
 {
     let (count, rest) = u32_from(body)?;
     let (rows, rest) = syms_from(alloc, seen, data_len, count, rest)?;
@@ -312,8 +324,12 @@ pub(crate) fn root_table(alloc: Global, data_len: usize, body: &[u8]) -> Result<
 /// An external call. The rows that stood before are known by their bytes.
 #[tactic(auto, unfolding(crate::specs::Fields::ext_at, crate::specs::Fields::kept))]
 fn ext_from<'a>(alloc: Global, seen: &mut Seen, bytes: &'a [u8]) -> Result<(ExtRow, &'a [u8]), Stop>
-    ensures gives { (before : List Ext) → Holds seen.old (map ext_bytes before) → Gives (λ x. (ext x.0, x.1.now)) result (ext_at before bytes.now) }
-    ensures seen { (before : List Ext) → Holds seen.old (map ext_bytes before) → IfOk result (λ x. Holds seen.new (map ext_bytes before ++ ext_bytes (ext x.0) ∷ [])) }
+    ensures gives { (before : List Ext)
+        → Holds seen.old (map ext_bytes before)
+        → Gives (λ x. (ext x.0, x.1.now)) result (ext_at before bytes.now) }
+    ensures seen { (before : List Ext)
+        → Holds seen.old (map ext_bytes before)
+        → IfOk result (λ x. Holds seen.new (map ext_bytes before ++ ext_bytes (ext x.0) ∷ [])) }
 {
     let (name, rest) = name_from(bytes)?;
     let name = Vec::from_slice(alloc, name)?;
@@ -412,7 +428,8 @@ fn entries_from(
     count: u32,
     bytes: &[u8],
 ) -> Result<(Vec<u32>, &[u8]), Stop>
-    ensures { Gives (λ x. (x.0.items, x.1.now)) result (rows_at (entry_at version size) [] count bytes.now) }
+    ensures { Gives (λ x. (x.0.items, x.1.now)) result
+        (rows_at (entry_at version size) [] count bytes.now) }
 {
     let mut entries = Vec::new(alloc);
     let mut rest = bytes;
@@ -475,7 +492,8 @@ fn desc_from<'a>(
     before: &[DescRow],
     bytes: &'a [u8],
 ) -> Result<(DescRow, &'a [u8]), Stop>
-    ensures { Gives (λ x. (desc x.0, x.1.now)) result (desc_at version code_len (map desc before.now) bytes.now) }
+    ensures { Gives (λ x. (desc x.0, x.1.now)) result
+        (desc_at version code_len (map desc before.now) bytes.now) }
 {
     let (after, rest) = after_from(code_len, before, bytes)?;
     let (size, rest) = size_from(version, rest)?;
@@ -496,7 +514,8 @@ fn descs_from(
     count: u32,
     bytes: &[u8],
 ) -> Result<(Vec<DescRow>, &[u8]), Stop>
-    ensures { Gives (λ x. (map desc x.0.items, x.1.now)) result (rows_at (desc_at version code_len) [] count bytes.now) }
+    ensures { Gives (λ x. (map desc x.0.items, x.1.now)) result
+        (rows_at (desc_at version code_len) [] count bytes.now) }
 {
     let mut rows = Vec::new(alloc);
     let mut rest = bytes;

@@ -22,8 +22,14 @@ impl Seen {
 
     /// Adds the text, and answers whether it was new.
     pub(crate) fn insert(&mut self, text: Vec<u8>) -> Result<bool, AllocError>
-        ensures new { IfOk result (λ added. (texts : List (List ℕ)) → Holds self.old texts → added ≡ not (has texts text.items)) }
-        ensures holds { IfOk result (λ added. (texts : List (List ℕ)) → Holds self.old texts → Holds self.new (texts ++ text.items ∷ [])) }
+        ensures new { IfOk result (λ added.
+            (texts : List (List ℕ))
+            → Holds self.old texts
+            → added ≡ not (has texts text.items)) }
+        ensures holds { IfOk result (λ added.
+            (texts : List (List ℕ))
+            → Holds self.old texts
+            → Holds self.new (texts ++ text.items ∷ [])) }
     {
         Ok(self.texts.insert(text)?)
     }

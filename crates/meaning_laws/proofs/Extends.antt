@@ -102,7 +102,8 @@ with_value_extends m (InStatic list index) value =
     let none : StaticList = record { start = 0; size = 0; cells = [] } in
     let statics : StaticList = slice_index_or m.statics list none in
     same_blocks m m.blocks (slice_set m.statics list (record statics { cells = slice_set statics.cells index value })) refl
-    (map-set_same extent_of m.statics list (record statics { cells = slice_set statics.cells index value }) none refl)
+    (map-set_same extent_of m.statics list (record statics { cells = slice_set statics.cells index value }) none
+    (ap (λ (n : ℕ). let e : Extent = record { start = statics.start; size = statics.size; cells = n } in e) (length-set statics.cells index value)))
 
 extended_cond : (m : Memory) (b : Bool) (after : Memory) (kind : Kind) → Extends m after → Extended m (cond b (Ok after) (Err kind))
 extended_cond m true after kind e = extended e

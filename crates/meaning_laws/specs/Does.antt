@@ -29,7 +29,8 @@ pub data Does : Type 0 where
   -- it calls a function of the file
   Calls : (call : Called) (memory : Memory) (go : Doing → Does) → Does
   -- it calls what lies outside, by a frame call or not
-  CallsOut : (row : External) (frame : Bool) (arguments : List Value) (memory : Memory) (go : Doing → Does) → Does
+  CallsOut : (row : External) (frame : Bool) (arguments : List Value) (memory : Memory) (go : Doing → Does)
+      → Does
   -- it is improper
   Fails : (memory : Memory) (kind : Kind) → Does
   -- a catch has been left for as often as turns were given

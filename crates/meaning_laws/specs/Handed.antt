@@ -28,18 +28,24 @@ pub data IsHanded (file : FileTree) : Asked → Doing → Type 0 where
   function_gave : {call : Called} {before memory : Memory} {v : Option Value} (callee : FoundCallee file call.function call.arguments) →
       FitsResult (data_end file) (result_of (body_type callee.tree)) v → Extends before memory →
       IsHanded file (asked_inside call before) (Gave v memory)
-  function_threw : {call : Called} {before memory : Memory} {v : Value} → fits (data_end file) ty.Val v ≡ true → Extends before memory →
-      IsHanded file (asked_inside call before) (Threw v memory)
-  outside_gave : {row : External} {frame : Bool} {arguments : List Value} {memory : Memory} {v : Option Value} → IsAnswer row.result v →
-      IsHanded file (asked_outside row frame arguments memory) (Gave v memory)
-  outside_threw : {row : External} {arguments : List Value} {memory : Memory} {v : Value} → fits (data_end file) ty.Val v ≡ true →
-      IsHanded file (asked_outside row true arguments memory) (Threw v memory)
+  function_threw : {call : Called} {before memory : Memory} {v : Value}
+      → fits (data_end file) ty.Val v ≡ true
+      → Extends before memory
+      → IsHanded file (asked_inside call before) (Threw v memory)
+  outside_gave : {row : External} {frame : Bool} {arguments : List Value} {memory : Memory} {v : Option Value}
+      → IsAnswer row.result v
+      → IsHanded file (asked_outside row frame arguments memory) (Gave v memory)
+  outside_threw : {row : External} {arguments : List Value} {memory : Memory} {v : Value}
+      → fits (data_end file) ty.Val v ≡ true
+      → IsHanded file (asked_outside row true arguments memory) (Threw v memory)
 
 -- so it is for each of these calls, in order; more may be handed in
 pub data AreHanded (file : FileTree) : List Asked → List Doing → Type 0 where
   none : {doings : List Doing} → AreHanded file [] doings
-  more : {call : Asked} {d : Doing} {calls : List Asked} {doings : List Doing} → IsHanded file call d → AreHanded file calls doings →
-      AreHanded file (call ∷ calls) (d ∷ doings)
+  more : {call : Asked} {d : Doing} {calls : List Asked} {doings : List Doing}
+      → IsHanded file call d
+      → AreHanded file calls doings
+      → AreHanded file (call ∷ calls) (d ∷ doings)
 
 -- so it is for the calls that a function alone asked since it had asked those
 pub record AreHandedSince (file : FileTree) (asked : List Asked) (doings : List Doing) (run : Evaluation) : Type 0 where

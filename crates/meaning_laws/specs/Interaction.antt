@@ -99,8 +99,10 @@ Operand = Here → Memory → Part (Option Value)
 
 -- two operands: the right one first, but where it alone is a light address
 abbrev pub both : {B : Type 0} → Bool → Operand → Operand → Here → Memory → (Value → Value → Here → Memory → Part B) → Part B
-both false left right h m go = with_value (right h m) (λ b h m. with_value (left h m) (λ a h m. go a b h m))
-both true left right h m go = with_value (left h m) (λ a h m. with_value (right h m) (λ b h m. go a b h m))
+both false left right h m go =
+    with_value (right h m) (λ b h m. with_value (left h m) (λ a h m. go a b h m))
+both true left right h m go =
+    with_value (left h m) (λ a h m. with_value (right h m) (λ b h m. go a b h m))
 
 -- an operand that is a light address waits, and has no value yet
 abbrev pub unless_light : {B : Type 0} → Bool → Operand → Here → Memory → (Option Value → Here → Memory → Part B) → Part B
@@ -129,7 +131,8 @@ abbrev pub calls : Called → Ret → Here → Memory → Part (Option Value)
 calls call result h m k = Calls call m (λ d. back_from_call result h d k)
 
 abbrev pub calls_out : External → Bool → List Value → Here → Memory → Part (Option Value)
-calls_out row frame arguments h m k = CallsOut row frame arguments m (λ d. back_from_call row.result h d k)
+calls_out row frame arguments h m k =
+    CallsOut row frame arguments m (λ d. back_from_call row.result h d k)
 
 abbrev pub called_with : Setting → Option (List Comp) → ℕ → List Value → Ret → Bool → Here → Memory → Part (Option Value)
 called_with c None f arguments result tail h m = fails BadCall m
@@ -138,7 +141,8 @@ called_with c (Some comps) f arguments result tail h m =
 
 -- the callee is a function with as many parameters as arguments, which fit them
 abbrev pub applied : Setting → Value → List Value → Ret → Bool → Here → Memory → Part (Option Value)
-applied c (value.Function f) arguments result tail h m = called_with c (slice_get c.parameters f) f arguments result tail h m
+applied c (value.Function f) arguments result tail h m =
+    called_with c (slice_get c.parameters f) f arguments result tail h m
 applied c _ arguments result tail h m = fails BadCall m
 
 -- ---- handlers
@@ -146,7 +150,8 @@ applied c _ arguments result tail h m = fails BadCall m
 -- the arguments of an exit fit the handler's parameters, tested in their order
 abbrev pub entered : ℕ → List Parameter → List Value → Memory → Part (Option Value) → Part (Option Value)
 entered end [] [] m part = part
-entered end (p ∷ params) (v ∷ values) m part = tested end (type_of_comp p.comp) v m (entered end params values m part)
+entered end (p ∷ params) (v ∷ values) m part =
+    tested end (type_of_comp p.comp) v m (entered end params values m part)
 entered end _ _ m part = fails BadCall m
 
 -- the scope that a catch, or a let, was entered in, where what it gives is taken
@@ -204,7 +209,8 @@ abbrev mutual
   pub does : Setting → ℕ → Expression → Bool → Here → Memory → Part (Option Value)
   does c turns (Integer at n) tail h m = node c (Integer at n) h m (gives (Some (value.Word n)) h m)
   does c turns (Pointer at n) tail h m = node c (Pointer at n) h m (gives (Some (value.Word n)) h m)
-  does c turns (Symbol at name) tail h m = node c (Symbol at name) h m (looked_up (c.symbol name) h m)
+  does c turns (Symbol at name) tail h m =
+      node c (Symbol at name) h m (looked_up (c.symbol name) h m)
   does c turns (Name at x) tail h m = node c (Name at x) h m (looked_up (value_of h.names x) h m)
   does c turns (Nothing at) tail h m = node c (Nothing at) h m (gives None h m)
   -- no accepted text has a float
@@ -251,7 +257,8 @@ abbrev mutual
   does c turns (Raise at e) tail h m =
       node c (Raise at e) h m (
       with_value (does c turns e false h m) (λ v h m. tested c.end ty.Val v m (jumps (raises v h m))))
-  does c turns (Seq at elements) tail h m = node c (Seq at elements) h m (in_order c turns elements tail h m)
+  does c turns (Seq at elements) tail h m =
+      node c (Seq at elements) h m (in_order c turns elements tail h m)
   does c turns (If at condition on_true on_false) tail h m =
       node c (If at condition on_true on_false) h m (
       with_value (does c turns condition false h m) (λ v h m.
@@ -308,7 +315,8 @@ abbrev mutual
   pub in_order : Setting → ℕ → Expressions → Bool → Here → Memory → Part (Option Value)
   in_order c turns NoMore tail h m = gives None h m
   in_order c turns (More e NoMore) tail h m = does c turns e tail h m
-  in_order c turns (More e rest) tail h m = and_then (does c turns e false h m) (λ _ h m. in_order c turns rest tail h m)
+  in_order c turns (More e rest) tail h m =
+      and_then (does c turns e false h m) (λ _ h m. in_order c turns rest tail h m)
 
   pub choices : Setting → ℕ → Cases → Bool → List (Chosen Operand)
   choices c turns NoCase tail = []

@@ -34,8 +34,11 @@ done_by s (OfOutside row frame arguments) w = s.external row frame arguments w
 
 -- The arguments of a call of a function fit its parameters.
 pub data FitsCall (s : Surroundings) : Call → Type 0 where
-  fits_function : {call : Called} → FitsCallee (setting_of s) call.function call.arguments → FitsCall s (OfFunction call)
-  fits_outside : {row : External} {frame : Bool} {arguments : List Value} → FitsCall s (OfOutside row frame arguments)
+  fits_function : {call : Called}
+      → FitsCallee (setting_of s) call.function call.arguments
+      → FitsCall s (OfFunction call)
+  fits_outside : {row : External} {frame : Bool} {arguments : List Value}
+      → FitsCall s (OfOutside row frame arguments)
 
 -- A call came back: it gave a value or none, or raised, and left this world.
 pub data CameBack : Evaluation → Doing → World → Type 0 where
@@ -45,7 +48,8 @@ pub data CameBack : Evaluation → Doing → World → Type 0 where
 -- A call did not come back: the run stops in it, or it is left by an exit, which is no run.
 pub data StoppedIn : Evaluation → Stop → World → Type 0 where
   stopped : {why : Stop} {w : World} → StoppedIn (Stops why w) why w
-  left_by_exit : {label : LabelTree} {values : List Value} {h : Here} {w : World} → StoppedIn (Exits label values h w) (NotProper BadCall) w
+  left_by_exit : {label : LabelTree} {values : List Value} {h : Here} {w : World}
+      → StoppedIn (Exits label values h w) (NotProper BadCall) w
 
 -- ---- the calls of a whole run
 
@@ -86,21 +90,30 @@ pub record OnItsOwn (w v : World) : Type 0 where
 -- arguments that fit. It did what these surroundings say, and left a later world.
 pub data CallsBetween (s : Surroundings) (bound : ℕ) : World → List Came → World → Type 0 where
   no_more : {w v : World} → OnItsOwn w v → CallsBetween s bound w [] v
-  next : {w v : World} {c : Came} {calls : List Came} → OnItsOwn w c.before → c.before.left < bound →
-      FitsCall s c.call → CameBack (done_by s c.call c.before) c.doing c.after → Later c.before c.after → CallsBetween s bound c.after calls v →
-      CallsBetween s bound w (c ∷ calls) v
+  next : {w v : World} {c : Came} {calls : List Came}
+      → OnItsOwn w c.before
+      → c.before.left < bound
+      → FitsCall s c.call → CameBack (done_by s c.call c.before) c.doing c.after → Later c.before c.after → CallsBetween s bound c.after calls v
+      → CallsBetween s bound w (c ∷ calls) v
 
 -- How a function ends alone, beside its end in the whole run, where the last world of its own is `last`. It ends
 -- itself, is improper itself, or has no units left; or the whole run stops in a call for which nothing is handed
 -- in.
 pub data EndsSo (s : Surroundings) (bound : ℕ) (last : World) : Evaluation → Evaluation → Type 0 where
-  gives : {v : Option Value} {h : Here} {u : World} → EndsSo s bound last (Gives v h u) (Gives v h last)
-  exits : {label : LabelTree} {values : List Value} {h : Here} {u : World} → EndsSo s bound last (Exits label values h u) (Exits label values h last)
+  gives : {v : Option Value} {h : Here} {u : World}
+      → EndsSo s bound last (Gives v h u) (Gives v h last)
+  exits : {label : LabelTree} {values : List Value} {h : Here} {u : World}
+      → EndsSo s bound last (Exits label values h u) (Exits label values h last)
   raises : {v : Value} {h : Here} {u : World} → EndsSo s bound last (Raises v h u) (Raises v h last)
-  improper : {kind : Kind} {u : World} → EndsSo s bound last (Stops (NotProper kind) u) (Stops (NotProper kind) last)
+  improper : {kind : Kind} {u : World}
+      → EndsSo s bound last (Stops (NotProper kind) u) (Stops (NotProper kind) last)
   out_of_units : {u : World} → EndsSo s bound last (Stops OutOfFuel u) (Stops OutOfFuel last)
-  in_callee : {u v : World} {why : Stop} (call : Call) → last.left < bound → FitsCall s call → StoppedIn (done_by s call last) why v → Later last v →
-      EndsSo s bound last (Stops (Asking (asked_in last.memory call)) u) (Stops why v)
+  in_callee : {u v : World} {why : Stop} (call : Call)
+      → last.left < bound
+      → FitsCall s call
+      → StoppedIn (done_by s call last) why v
+      → Later last v
+      → EndsSo s bound last (Stops (Asking (asked_in last.memory call)) u) (Stops why v)
 
 -- ---- the link
 
@@ -131,4 +144,6 @@ pub record Linked (s : Surroundings) (bound : ℕ) (alone : List Doing → ℕ �
 
 -- the surroundings of a function that is evaluated alone
 abbrev pub lonely : ℕ → (List ℕ → Option Value) → List (List Comp) → Surroundings
-lonely end symbol parameters = record { end = end; symbol = symbol; parameters = parameters; call = call_inside end; external = call_outside end }
+lonely end symbol parameters =
+    record
+    { end = end; symbol = symbol; parameters = parameters; call = call_inside end; external = call_outside end }

@@ -13,8 +13,12 @@ use Rattle.meaning_laws.specs.Does.{Leaves, Does, Ends, Pays, Deepens, Jumps, Ca
 -- what is left goes on behind it; one that raised is one.
 pub data Paced (most : ℕ) : ℕ → Does → Type 0 where
   ends : {left : ℕ} {end : Leaves (Option Value)} → Paced most left (Ends end)
-  pays : {left : ℕ} {memory : Memory} {rest : Does} → Paced most left rest → Paced most (suc left) (Pays memory rest)
-  deepens : {left bytes : ℕ} {rest : Does} → Paced most left rest → Paced most left (Deepens bytes rest)
+  pays : {left : ℕ} {memory : Memory} {rest : Does}
+      → Paced most left rest
+      → Paced most (suc left) (Pays memory rest)
+  deepens : {left bytes : ℕ} {rest : Does}
+      → Paced most left rest
+      → Paced most left (Deepens bytes rest)
   jumps : {left : ℕ} {rest : Does} → Paced most most rest → Paced most left (Jumps rest)
   calls : {left : ℕ} {call : Called} {memory : Memory} {go : Doing → Does} →
       ((d : Doing) → Paced most most (go d)) → Paced most left (Calls call memory go)
@@ -48,7 +52,8 @@ beats_behind_unit (suc left) w go = go (record w { left = left })
 -- come back, and its own exits and raises.
 abbrev pub beats : Surroundings → Does → World → ℕ
 beats s (Ends end) w = 0
-beats s (Pays memory rest) w = beats_behind_unit w.left (record w { memory = memory }) (λ w. beats s rest w)
+beats s (Pays memory rest) w =
+    beats_behind_unit w.left (record w { memory = memory }) (λ w. beats s rest w)
 beats s (Deepens bytes rest) w = beats s rest (deepened bytes w)
 beats s (Jumps rest) w = suc (beats s rest w)
 beats s (Calls call memory go) w =

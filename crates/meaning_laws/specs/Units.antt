@@ -50,7 +50,8 @@ pub data Continues (k : ℕ) : Evaluation → Evaluation → Type 0 where
 
 -- Calls that are the same with more units.
 pub record CallsContinue (s : Surroundings) : Type 0 where
-  pub call : (k : ℕ) (call : Called) (w : World) → Continues k (s.call call w) (s.call call (with_more k w))
+  pub call : (k : ℕ) (call : Called) (w : World)
+      → Continues k (s.call call w) (s.call call (with_more k w))
   pub external : (k : ℕ) (row : External) (frame : Bool) (arguments : List Value) (w : World) →
       Continues k (s.external row frame arguments w) (s.external row frame arguments (with_more k w))
 
@@ -64,12 +65,17 @@ pub record OnwardAlone (w v : World) : Type 0 where
 -- goes on from there.
 pub data ContinuesAlone (k : ℕ) : Evaluation → Evaluation → Type 0 where
   ends_alike : (e : Evaluation) → ContinuesAlone k e (in_world (with_more k) e)
-  goes_on : {w : World} {e : Evaluation} → OnwardAlone w (world_of e) → ContinuesAlone k (Stops OutOfFuel w) e
+  goes_on : {w : World} {e : Evaluation}
+      → OnwardAlone w (world_of e)
+      → ContinuesAlone k (Stops OutOfFuel w) e
 
 -- Two runs of one function of a file, the second with k more units. What is told of it is the same, but for k
 -- more units left; or the first is not finished, its external calls are the first ones of the second, and its
 -- needs are no greater.
 pub data RunsOn (k : ℕ) : Run → Run → Type 0 where
   same_run : (r : Run) → RunsOn k r (record r { left = r.left + k })
-  longer_run : {r longer : Run} → r.outcome ≡ More → Begins r.calls longer.calls → r.stack_need ≤ longer.stack_need →
-      r.heap_need ≤ longer.heap_need → RunsOn k r longer
+  longer_run : {r longer : Run}
+      → r.outcome ≡ More
+      → Begins r.calls longer.calls
+      → r.stack_need ≤ longer.stack_need
+      → r.heap_need ≤ longer.heap_need → RunsOn k r longer

@@ -103,9 +103,11 @@ alu_word Sllw a b = extended (a * 2 ^ (b % 32))
 alu_word Srlw a b = extended (low a / 2 ^ (b % 32))
 alu_word Sraw a b = sar_low a (b % 32)
 alu_word Mulw a b = extended (a * b)
-alu_word Divw a b = cond (low b == 0) ones (extended (word_of (int_div (low_signed a) (low_signed b))))
+alu_word Divw a b =
+    cond (low b == 0) ones (extended (word_of (int_div (low_signed a) (low_signed b))))
 alu_word Divuw a b = cond (low b == 0) ones (extended (low a / low b))
-alu_word Remw a b = cond (low b == 0) (extended a) (extended (word_of (int_rem (low_signed a) (low_signed b))))
+alu_word Remw a b =
+    cond (low b == 0) (extended a) (extended (word_of (int_rem (low_signed a) (low_signed b))))
 alu_word Remuw a b = cond (low b == 0) (extended a) (extended (low a % low b))
 
 abbrev pub shift_word : ShiftWordOp → ℕ → ℕ → ℕ

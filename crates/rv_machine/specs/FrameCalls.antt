@@ -11,7 +11,8 @@ use Rattle.rv_machine.specs.Relocation.{Serviced, Goes, and_then, emptied, with_
 
 -- The blocks move, and the young area is then empty. The ECALL has not retired yet.
 abbrev pub collected : (List Placed → List ℕ) → Hart → Serviced
-collected plan h = and_then (λ g. Goes (emptied 0 g)) (with_blocks plan h (blocks_at h (register h s10)))
+collected plan h =
+    and_then (λ g. Goes (emptied 0 g)) (with_blocks plan h (blocks_at h (register h s10)))
 
 -- s1 is a multiple of 8, and the two words of a trap frame lie in the stack's region there
 abbrev pub has_trap_frame : Hart → Bool
@@ -31,5 +32,7 @@ raised value h =
     let at = register h s1 in
     record (past_ecall h) {
       pc = word h.memory at;
-      registers = with_register a0 value (with_register s1 (word h.memory (at + 8)) (with_register sp (at + 16) h.registers));
+      registers =
+          with_register a0 value
+          (with_register s1 (word h.memory (at + 8)) (with_register sp (at + 16) h.registers));
     }

@@ -19,7 +19,8 @@ descriptor_at descs address = find (λ (d : Desc). code_start + d.after == addre
 
 -- a word of the stack: 8 bytes at a multiple of 8 that lie whole in the stack's region
 abbrev pub is_stack_word : ℕ → ℕ → Bool
-is_stack_word base address = (address % 8 == 0) && nat_le base address && nat_le (address + 8) stack_end
+is_stack_word base address =
+    (address % 8 == 0) && nat_le base address && nat_le (address + 8) stack_end
 
 -- ---- entries: an odd one, 2r + 1, names register r, and an even one a place at that offset in the frame
 
@@ -37,7 +38,8 @@ registers_named (e ∷ es) = cond (is_register e) (e / 2 ∷ registers_named es)
 -- the addresses that entries name in a frame
 abbrev pub slots_named : ℕ → List ℕ → List ℕ
 slots_named at [] = []
-slots_named at (e ∷ es) = cond (is_register e) (slots_named at es) (add_word at e ∷ slots_named at es)
+slots_named at (e ∷ es) =
+    cond (is_register e) (slots_named at es) (add_word at e ∷ slots_named at es)
 
 -- ---- the walk
 
@@ -52,7 +54,8 @@ is_frame first base at d =
     && list_all (is_stack_word base) (slots_named at d.entries)
 
 abbrev pub frame_then : Bool → ℕ → Desc → Option (List Frame) → Option (List Frame)
-frame_then fits at d rest = cond fits (option_map (λ fs. record { at = at; desc = d } ∷ fs) rest) None
+frame_then fits at d rest =
+    cond fits (option_map (λ fs. record { at = at; desc = d } ∷ fs) rest) None
 
 -- The frames from a return address and a stack pointer up to the stub's address, the lowest first; none
 -- where a return address has no descriptor, a frame does not lie in the stack or names a register too
@@ -71,7 +74,9 @@ most_frames base = suc ((stack_end - base) / 16)
 
 -- the frames of a machine that stands at a service: the innermost one returns after the ECALL
 abbrev pub frames : Hart → Option (List Frame)
-frames h = frames_from (most_frames h.stack_base) h.image.descs h.stack_base h.memory true (h.pc + 4) (register h sp)
+frames h =
+    frames_from (most_frames h.stack_base) h.image.descs h.stack_base h.memory true (h.pc + 4)
+    (register h sp)
 
 -- ---- the locations that frames name
 

@@ -138,9 +138,12 @@ executed (Store width rs1 rs2 imm) h =
 executed (OpImm op rd rs1 imm) h = sets rd (alu_imm op (register h rs1) imm) (h.pc + 4) h
 executed (Shift op rd rs1 amount) h = sets rd (shift op (register h rs1) amount) (h.pc + 4) h
 executed (Op op rd rs1 rs2) h = sets rd (alu op (register h rs1) (register h rs2)) (h.pc + 4) h
-executed (Addiw rd rs1 imm) h = sets rd (extended (add_word (register h rs1) (imm_i imm))) (h.pc + 4) h
-executed (ShiftWord op rd rs1 amount) h = sets rd (shift_word op (register h rs1) amount) (h.pc + 4) h
-executed (OpWord op rd rs1 rs2) h = sets rd (alu_word op (register h rs1) (register h rs2)) (h.pc + 4) h
+executed (Addiw rd rs1 imm) h =
+    sets rd (extended (add_word (register h rs1) (imm_i imm))) (h.pc + 4) h
+executed (ShiftWord op rd rs1 amount) h =
+    sets rd (shift_word op (register h rs1) amount) (h.pc + 4) h
+executed (OpWord op rd rs1 rs2) h =
+    sets rd (alu_word op (register h rs1) (register h rs2)) (h.pc + 4) h
 executed Ecall h = Service h
 
 abbrev pub decoded_next : Option Instr → Hart → Next
@@ -153,7 +156,8 @@ fetched (Some word) h = decoded_next (decoded word) h
 
 -- the instruction word at an address, where the code has one there
 abbrev pub fetch : List ℕ → ℕ → Option ℕ
-fetch code pc = cond (nat_le code_start pc && (pc % 4 == 0)) (slice_get code ((pc - code_start) / 4)) None
+fetch code pc =
+    cond (nat_le code_start pc && (pc % 4 == 0)) (slice_get code ((pc - code_start) / 4)) None
 
 -- one instruction
 abbrev pub hart : Hart → Next

@@ -53,7 +53,8 @@ abbrev pub words_of_args : Tables → List Comp → List Arg → Option (List �
 words_of_args image [] [] = Some []
 words_of_args image [] (arg ∷ args) = None
 words_of_args image (comp ∷ comps) [] = None
-words_of_args image (comp ∷ comps) (arg ∷ args) = before (suited image comp arg) (words_of_args image comps args)
+words_of_args image (comp ∷ comps) (arg ∷ args) =
+    before (suited image comp arg) (words_of_args image comps args)
 
 abbrev pub begins_with : Tables → Setup → Func → Option (List ℕ) → Result Hart LoadError
 begins_with image setup entry None = Err ArgumentUnfit
@@ -61,7 +62,8 @@ begins_with image setup entry (Some words) = Ok (start image entry words setup.s
 
 abbrev pub begins_at : Tables → Setup → Option Func → Result Hart LoadError
 begins_at image setup None = Err UnknownEntry
-begins_at image setup (Some entry) = begins_with image setup entry (words_of_args image entry.params (contents setup.args))
+begins_at image setup (Some entry) =
+    begins_with image setup entry (words_of_args image entry.params (contents setup.args))
 
 -- where the run of a setup begins, or why it does not
 abbrev pub beginning : Tables → Setup → Result Hart LoadError
@@ -79,4 +81,5 @@ IsStart image offset words stack heap h =
 
 -- registers of the start, where these are the words of the argument registers
 abbrev pub AreStartRegisters : List ℕ → List ℕ → Type 0
-AreStartRegisters words registers = (args : List ℕ) → words ≡ padded 16 args → registers ≡ start_registers args
+AreStartRegisters words registers =
+    (args : List ℕ) → words ≡ padded 16 args → registers ≡ start_registers args

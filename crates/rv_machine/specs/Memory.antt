@@ -49,7 +49,8 @@ abbrev pub loaded : List Region → ℕ → ℕ → Option ℕ
 loaded regions address width = cond (address % width == 0) (read regions address width) None
 
 abbrev pub stored : List Region → ℕ → ℕ → ℕ → Option (List Region)
-stored regions address width value = cond (address % width == 0) (written regions address width value) None
+stored regions address width value =
+    cond (address % width == 0) (written regions address width value) None
 
 -- ---- words at multiples of 8
 
@@ -105,4 +106,5 @@ code_start = 0x00010000
 
 -- the code as a region, which is read and never written
 abbrev pub code_region : List ℕ → Region
-code_region code = record { start = code_start; bytes = 4 * length code; words = words_of_halves code }
+code_region code =
+    record { start = code_start; bytes = 4 * length code; words = words_of_halves code }

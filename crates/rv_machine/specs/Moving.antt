@@ -35,7 +35,8 @@ vacated m (b ∷ bs) = vacated (put m (header_at b) (replicate (suc b.words) fil
 abbrev pub copied : (ℕ → ℕ) → List Region → List Region → List Placed → List Placed → List Region
 copied f old m [] news = m
 copied f old m (o ∷ os) [] = m
-copied f old m (o ∷ os) (n ∷ ns) = copied f old (put m (header_at n) (rewritten_block f old o)) os ns
+copied f old m (o ∷ os) (n ∷ ns) =
+    copied f old (put m (header_at n) (rewritten_block f old o)) os ns
 
 -- the words at these addresses are rewritten
 abbrev pub redirected : (ℕ → ℕ) → List Region → List Region → List ℕ → List Region

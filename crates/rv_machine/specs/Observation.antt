@@ -75,4 +75,5 @@ observed h Float word = Word word
 -- the serial of the block at an address, among blocks that were passed from the lowest on: a block above
 -- them comes before them
 abbrev pub passed : ℕ → Option ℕ → ℕ → Option ℕ
-passed address found start = cond (start == address) (Some 0) (option_map (λ serial. suc serial) found)
+passed address found start =
+    cond (start == address) (Some 0) (option_map (λ serial. suc serial) found)

@@ -64,7 +64,8 @@ is_valid heap blocks starts =
 
 -- the blocks where the service of this number puts them: by the plan where it is valid, else packed
 abbrev pub new_places : ℕ → ℕ → List Placed → List ℕ → List Placed
-new_places heap number blocks plan = placed_at blocks (cond (is_valid heap blocks plan) plan (packed number blocks))
+new_places heap number blocks plan =
+    placed_at blocks (cond (is_valid heap blocks plan) plan (packed number blocks))
 
 -- ---- the plan that is drawn from a random word
 

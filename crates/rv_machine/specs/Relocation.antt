@@ -37,7 +37,8 @@ abbrev pub is_in_code : Tables → ℕ → Bool
 is_in_code image w = nat_le code_start w && nat_lt w (code_start + 4 * length image.code)
 
 abbrev pub is_root : Tables → List Placed → ℕ → Bool
-is_root image blocks w = (w % 2 == 1) || is_start blocks w || is_in_data image w || is_in_code image w
+is_root image blocks w =
+    (w % 2 == 1) || is_start blocks w || is_in_data image w || is_in_code image w
 
 abbrev pub are_roots : Hart → List Frame → Bool
 are_roots h fs =

@@ -27,7 +27,8 @@ plan_or_none (Some starts) = starts
 -- the schedule of these asks and plans, the first plan for the first allocation service or frame call; one
 -- that is missing means packing
 abbrev pub lists : List ℕ → List (List ℕ) → Schedule
-lists asks plans = record { asks = is_among asks; plan = λ number blocks. plan_or_none (slice_get plans number) }
+lists asks plans =
+    record { asks = is_among asks; plan = λ number blocks. plan_or_none (slice_get plans number) }
 
 -- an ask sets the limit word and nothing else
 abbrev pub asked : Hart → Hart

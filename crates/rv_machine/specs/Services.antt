@@ -69,7 +69,8 @@ destroyed = map number destroyed_by_external
 
 -- the call was made, and the run goes on so, with these answers left
 abbrev pub called : Made → Hart → List ℕ → Machine → Now
-called call h answers m = Going (record m { hart = h; answers = answers; calls = m.calls ++ call ∷ [] })
+called call h answers m =
+    Going (record m { hart = h; answers = answers; calls = m.calls ++ call ∷ [] })
 
 -- the machine after an external call that left these registers
 abbrev pub returned_with : List ℕ → Hart → Hart
@@ -77,7 +78,8 @@ returned_with registers h = past_ecall (record h { registers = registers })
 
 -- the answer that a call with this result takes
 abbrev pub answered : Ret → Made → List ℕ → Machine → Now
-answered returns.Unit call answers m = called call (returned_with (filled destroyed m.hart.registers) m.hart) answers m
+answered returns.Unit call answers m =
+    called call (returned_with (filled destroyed m.hart.registers) m.hart) answers m
 answered (returns.Comp c) call [] m = Over m.calls (Asks call)
 answered (returns.Comp c) call (a ∷ answers) m =
     called call (returned_with (with_register a0 a (filled destroyed m.hart.registers)) m.hart) answers m
@@ -109,7 +111,8 @@ concluded result call (suc first) value answers h m =
 
 -- the blocks have moved, or the run has ended without the call
 abbrev pub after_collection : Ret → Made → ℕ → ℕ → List ℕ → Serviced → Machine → Now
-after_collection result call first value answers (Goes h) m = concluded result call first value answers h m
+after_collection result call first value answers (Goes h) m =
+    concluded result call first value answers h m
 after_collection result call first value answers NoHeap m = Over m.calls HeapOut
 after_collection result call first value answers (Refused cause) m = Over m.calls (Stopped cause)
 
@@ -136,7 +139,8 @@ served plan zero m = Over m.calls (Returned (value_returned m.result m.hart))
 served plan (suc zero) m = Over m.calls (Raised (observed m.hart Val (register m.hart a0)))
 served plan (suc (suc zero)) m = external (external_at m.hart) m
 served plan (suc (suc (suc zero))) m = after_allocation (allocated (plan m.hart.services) m.hart) m
-served plan (suc (suc (suc (suc zero)))) m = frame_call (plan m.hart.services) (external_at m.hart) m
+served plan (suc (suc (suc (suc zero)))) m =
+    frame_call (plan m.hart.services) (external_at m.hart) m
 served plan _ m = Over m.calls (Stopped BadService)
 
 abbrev pub service : (ℕ → List Placed → List ℕ) → Machine → Now

@@ -11,10 +11,12 @@ unfoldable pub uniform : ℕ → ℕ → ℕ → Region
 uniform start words word = record { start = start; bytes = 8 * words; words = replicate words word }
 
 unfoldable pub data_region : List ℕ → Region
-data_region bytes = record { start = data_start; bytes = length bytes; words = words_of_bytes bytes }
+data_region bytes =
+    record { start = data_start; bytes = length bytes; words = words_of_bytes bytes }
 
 unfoldable pub domain_region : Region
-domain_region = record { start = domain_start; bytes = 4096; words = limit_at_rest ∷ replicate 511 0 }
+domain_region =
+    record { start = domain_start; bytes = 4096; words = limit_at_rest ∷ replicate 511 0 }
 
 -- the stack of so many bytes, and the bottom trap frame: the address in the stub that ends the run with
 -- an uncaught raise, and no trap frame below

@@ -37,7 +37,8 @@ Keeps (Stopped cause) old new = new ≡ old
 
 -- a store reports whether there was a place for it, and changes the memory alone
 abbrev pub Stores : Bool → Option (List Region) → Hart → Hart → Type 0
-Stores true after old new = (memory : List Region) × (after ≡ Some memory) × (new ≡ record old { memory = memory })
+Stores true after old new =
+    (memory : List Region) × (after ≡ Some memory) × (new ≡ record old { memory = memory })
 Stores false after old new = (after ≡ None) × (new ≡ old)
 
 -- the registers after an external call: some are destroyed, and a0 has the answer where there is one

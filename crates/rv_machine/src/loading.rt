@@ -22,7 +22,8 @@ use std::alloc::{AllocError, Global};
 
 // The function of that name.
 fn func_named<'a>(image: &'a Image, name: &Name) -> Option<&'a FuncRow>
-    ensures { option_map func (option_copied result) ≡ func_named name.now (map func (contents image.now.funcs)) }
+    ensures { option_map func (option_copied result)
+        ≡ func_named name.now (map func (contents image.now.funcs)) }
 {
     for row in image.funcs.as_slice() {
         if row.name.same(name) {
@@ -86,7 +87,9 @@ fn suited(image: &Image, comp: Comp, arg: &Arg) -> Option<u64>
 fn argument_words(image: &Image, comps: &List<Comp>, args: &List<Arg>) -> Option<[u64; 16]>
     requires data_fits { length (contents image.now.bytes) ≤ data_limit }
     requires few { length (contents comps.now) ≤ 16 }
-    ensures { result ≡ option_map (padded 16) (words_of_args (tables image.now) (contents comps.now) (contents args.now)) }
+    ensures { result
+        ≡ option_map (padded 16)
+        (words_of_args (tables image.now) (contents comps.now) (contents args.now)) }
 {
     if args.len() != comps.len() {
         return None;
@@ -167,8 +170,10 @@ pub fn load<'a>(alloc: Global, image: &'a Image, setup: &Setup) -> Result<Machin
     requires stack { IsRoom setup.now.stack }
     requires heap { IsRoom setup.now.heap }
     ensures loaded { IfOk result (λ machine. beginning (tables image.now) setup.now ≡ Ok machine) }
-    ensures unknown { (result ≡ Err LoadError.UnknownEntry) ↔ (beginning (tables image.now) setup.now ≡ Err LoadError.UnknownEntry) }
-    ensures unfit { (result ≡ Err LoadError.ArgumentUnfit) ↔ (beginning (tables image.now) setup.now ≡ Err LoadError.ArgumentUnfit) }
+    ensures unknown { (result ≡ Err LoadError.UnknownEntry)
+        ↔ (beginning (tables image.now) setup.now ≡ Err LoadError.UnknownEntry) }
+    ensures unfit { (result ≡ Err LoadError.ArgumentUnfit)
+        ↔ (beginning (tables image.now) setup.now ≡ Err LoadError.ArgumentUnfit) }
 {
     let Some(entry) = func_named(image, &setup.entry) else {
         return Err(LoadError::UnknownEntry);

@@ -54,7 +54,9 @@ impl Region {
     pub fn read(&self, address: u64, width: u64) -> u64
         requires width { IsWidth width }
         requires inside { is_inside self.now address width ≡ true }
-        ensures exact { result ≡ part (slice_index self.now.words (index_in self.now address)) (byte_in self.now address) width }
+        ensures exact { result
+            ≡ part (slice_index self.now.words (index_in self.now address))
+            (byte_in self.now address) width }
         ensures below { result < 2 ^ (8 * width) }
     {
         let offset = address - self.start;

@@ -113,7 +113,8 @@ impl<'a> Machine<'a> {
     fn jump(&mut self, rd: u8, target: u64) -> StepEnd
         requires number { rd < 32 }
         requires within { self.old.pc < 2 ^ 32 }
-        ensures exact { next_of result self.new ≡ counted_next (jumps target (sets rd (self.old.pc + 4) target self.old)) }
+        ensures exact { next_of result self.new
+            ≡ counted_next (jumps target (sets rd (self.old.pc + 4) target self.old)) }
         ensures kept { Keeps result self.old self.new }
     {
         if target % 4 != 0 {
@@ -126,7 +127,8 @@ impl<'a> Machine<'a> {
     fn branch(&mut self, condition: Condition, rs1: u8, rs2: u8, offset: u16) -> StepEnd
         requires fits { InstrFits (Instr.Branch condition rs1 rs2 offset) }
         requires within { self.old.pc < 2 ^ 32 }
-        ensures exact { next_of result self.new ≡ counted_next (executed (Instr.Branch condition rs1 rs2 offset) self.old) }
+        ensures exact { next_of result self.new
+            ≡ counted_next (executed (Instr.Branch condition rs1 rs2 offset) self.old) }
         ensures kept { Keeps result self.old self.new }
     {
         if !arithmetic::is_taken(condition, self.register(rs1), self.register(rs2)) {
@@ -157,7 +159,8 @@ impl<'a> Machine<'a> {
     fn store(&mut self, width: StoreWidth, rs1: u8, rs2: u8, imm: u16) -> StepEnd
         requires fits { InstrFits (Instr.Store width rs1 rs2 imm) }
         requires within { self.old.pc < 2 ^ 32 }
-        ensures exact { next_of result self.new ≡ counted_next (executed (Instr.Store width rs1 rs2 imm) self.old) }
+        ensures exact { next_of result self.new
+            ≡ counted_next (executed (Instr.Store width rs1 rs2 imm) self.old) }
         ensures kept { Keeps result self.old self.new }
     {
         let address = bs_words::add(self.register(rs1), arithmetic::imm_i(imm));

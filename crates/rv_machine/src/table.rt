@@ -52,7 +52,8 @@ impl Table {
     pub fn mark(&mut self, address: u64, mark: u64)
         requires { IsSome (place_of self.old.heap address) }
         ensures same_heap { self.new.heap ≡ self.old.heap }
-        ensures marked { (other : ℕ) → mark_at self.new other ≡ cond (other == address) mark (mark_at self.old other) }
+        ensures marked { (other : ℕ)
+            → mark_at self.new other ≡ cond (other == address) mark (mark_at self.old other) }
     {
         if let Some(place) = place_of(self.heap, address) {
             self.marks[place] = mark;

@@ -1,8 +1,8 @@
--- Each step tells the fault that it finds; behind all of them the file is the text's.
+-- Each step reports the fault that it finds; after all of them the file is the text's.
 use Rattle.std.proofs.Common.{rules}
 use Rattle.cmm_tree.specs.View.{file_view}
 use Rattle.cmm_types.specs.Typing.{file_of}
-use Rattle.cmm_front.proofs.Answering.{unread_told, untyped_told, checked_told, checked_file, checked_annotated, checked_placed, read_same, typed_same}
+use Rattle.cmm_front.proofs.Answering.{unread_told, untyped_told, checked_told, checked_file, checked_annotated, checked_placed, checked_symbols, read_same, typed_same}
 use Rattle.cmm_front.proofs.Readings.{is_placed}
 use Rattle.cmm_front.proofs.text.front.Goals as goal
 
@@ -23,6 +23,10 @@ returns-clause-file c =
 
 pub returns-clause-typed : goal.returns-clause-typed
 returns-clause-typed c = checked_annotated c.in_ok-typed.typed c.check_addresses.result c.in_ok-typed.ensures.typed c.check_addresses.ensures.same
+
+pub returns-clause-symbols : goal.returns-clause-symbols
+returns-clause-symbols c =
+    checked_symbols (file_view c.in_ok-file.file) c.in_ok-typed.typed c.check_addresses.result c.in_ok-typed.ensures.same c.in_ok-typed.ensures.symbols c.check_addresses.ensures.same
 
 pub returns-clause-placed : goal.returns-clause-placed
 returns-clause-placed c =
