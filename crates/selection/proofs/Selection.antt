@@ -16,7 +16,7 @@ use Rattle.meaning_laws.specs.Pace.{beats, pending}
 use Rattle.meaning_laws.specs.Units.{world_of}
 use Rattle.meaning_laws.proofs.AgreementRuns.{alone_plays}
 use Rattle.meaning_laws.proofs.Beats.{alone_beats, alone_paid}
-use Rattle.mach_ir.specs.Runs.{Place, first_tally}
+use Rattle.mach_ir.specs.Runs.{Place, Tally, Run, first_tally}
 use Rattle.mach_ir.specs.Meaning.{State, start, begun}
 use Rattle.mach_ir.specs.declared.mach.Mach.{Mach}
 use Rattle.selection.specs.Kept.{run}
@@ -26,13 +26,13 @@ use Rattle.selection.proofs.Parts.{at}
 use Rattle.selection.proofs.Plays.{Meets, same_units, plays}
 use Rattle.selection.proofs.Selects.{all_fit, entry, put_arguments, function_follows}
 
--- one run of the code of a function beside its evaluation alone
-pub record SelectedRun (c : Place) (m : Mach) (f : FunctionTree) (arguments : List Value) (memory : Memory) (doings : List Doing) (n : ℕ) : Type 0 where
+-- one run of the code of a function, by a machine that runs so, beside its evaluation alone
+pub record SelectedRun (runs : Place → Mach → ℕ → State → Tally → Run State) (c : Place) (m : Mach) (f : FunctionTree) (arguments : List Value) (memory : Memory) (doings : List Doing) (n : ℕ) : Type 0 where
   pub begun : State
   pub begins : start c m arguments memory ≡ Some begun
   pub steps : ℕ
   pub units : ℕ
-  pub meets : Meets units (alone c.setting.end c.setting.symbol c.setting.parameters c.frame f arguments c.below memory doings n) (run c m steps begun (first_tally c doings))
+  pub meets : Meets units (alone c.setting.end c.setting.symbol c.setting.parameters c.frame f arguments c.below memory doings n) (runs c m steps begun (first_tally c doings))
   pub no_more :
       let e : Evaluation = alone c.setting.end c.setting.symbol c.setting.parameters c.frame f arguments c.below memory doings n in
       units + (pending e + (world_of e).left) ≤ n
@@ -44,7 +44,7 @@ pub record SelectedRun (c : Place) (m : Mach) (f : FunctionTree) (arguments : Li
 -- selected code has the same calls, need and end, and as many units as the function has beats; these are bounded by
 -- the units of the tree both ways. Nothing is said where the tree is improper.
 pub selection_keeps : (c : Place) (f : FunctionTree) → fits c.setting.end ty.Val bound_error ≡ true → width f.body < 2 ^ 60 → (arguments : List Value) (memory : Memory) (doings : List Doing) (n : ℕ) →
-    fit_parameters c.setting.end (comps_of f) arguments ≡ true → SelectedRun c (selected f) f arguments memory doings n
+    fit_parameters c.setting.end (comps_of f) arguments ≡ true → SelectedRun run c (selected f) f arguments memory doings n
 selection_keeps c f still fine arguments memory doings n fitting =
     let m = selected f in
     let all = all_fit f.params arguments fitting in

@@ -1,3 +1,3 @@
 pub mod Losing
 pub mod Made
-pub mod Losses
+pub mod Keeps

@@ -1,5 +1,5 @@
 -- Selection keeps the meaning on the machine itself, where no addr is live after a frame point.
-use Rattle.std.proofs.Common.{◌≡◌, ℕ, suc, ◌+◌, ◌*◌, ◌^◌, ◌<◌, ◌≤◌, true, List, [], Some, refl}
+use Rattle.std.proofs.Common.{◌≡◌, ℕ, ◌^◌, ◌<◌, true, List, [], refl}
 use Rattle.bs_words.specs.Fits.{fits}
 use Rattle.bs_words.specs.Memory.{Memory}
 use Rattle.bs_words.specs.declared.types.Ty.TheVariants as ty
@@ -7,18 +7,14 @@ use Rattle.bs_words.specs.declared.values.Value.{Value}
 use Rattle.cmm_tree.specs.Tree.{FunctionTree, comps_of}
 use Rattle.cmm_meaning.specs.State.{Doing}
 use Rattle.cmm_meaning.specs.Evaluation.{Evaluation, fit_parameters, bound_error}
-use Rattle.cmm_meaning.specs.Alone.{alone}
-use Rattle.cmm_tree.specs.Measures.{nodes_in}
-use Rattle.meaning_laws.specs.Pace.{pending}
-use Rattle.meaning_laws.specs.Units.{world_of}
-use Rattle.mach_ir.specs.Runs.{Place, Run, first_tally}
-use Rattle.mach_ir.specs.Meaning.{State, start, run}
+use Rattle.mach_ir.specs.Runs.{Place, Run}
+use Rattle.mach_ir.specs.Meaning.{State, run}
 use Rattle.mach_ir.specs.Walks.{NoAddrLive}
 use Rattle.mach_ir.specs.declared.mach.Instr.{Instr}
 use Rattle.mach_ir.specs.declared.mach.Mach.{Mach}
 use Rattle.selection.specs.Select.{selected, width}
 use Rattle.selection.proofs.Plays.{Meets, returned, threw, running, asking, improper, left_by_exit}
-use Rattle.selection.proofs.Selection.{selection_keeps}
+use Rattle.selection.proofs.Selection.{SelectedRun, selection_keeps}
 use Rattle.selection_laws.proofs.Losing.{IsBare, Steady, Twin, both_running, both_asking, both_ended, losing}
 use Rattle.selection_laws.proofs.Made.{Made, a_move, a_constant, a_symbol, an_operator, a_load, a_store, an_alloc, a_call, a_tail_call, an_external, a_checkbound, a_raise, a_return, a_branch, a_choice, a_handler, an_exit, an_else, a_case, a_catch, a_with, a_try, a_leave, an_end, made_of, selected_made}
 
@@ -61,23 +57,12 @@ meets_twin both_asking (asking a b) = asking a b
 meets_twin w improper = improper
 meets_twin w left_by_exit = left_by_exit
 
--- one run of the code of a function beside its evaluation alone
-pub record SelectedRun (c : Place) (m : Mach) (f : FunctionTree) (arguments : List Value) (memory : Memory) (doings : List Doing) (n : ℕ) : Type 0 where
-  pub begun : State
-  pub begins : start c m arguments memory ≡ Some begun
-  pub steps : ℕ
-  pub units : ℕ
-  pub meets : Meets units (alone c.setting.end c.setting.symbol c.setting.parameters c.frame f arguments c.below memory doings n) (run c m steps begun (first_tally c doings))
-  pub no_more :
-      let e : Evaluation = alone c.setting.end c.setting.symbol c.setting.parameters c.frame f arguments c.below memory doings n in
-      units + (pending e + (world_of e).left) ≤ n
-  pub enough :
-      let e : Evaluation = alone c.setting.end c.setting.symbol c.setting.parameters c.frame f arguments c.below memory doings n in
-      n ≤ (world_of e).left + nodes_in f.body * suc units
-
-pub selection_keeps_alone : (c : Place) (f : FunctionTree) → fits c.setting.end ty.Val bound_error ≡ true → width f.body < 2 ^ 60 → NoAddrLive (selected f) → (arguments : List Value) (memory : Memory) (doings : List Doing) (n : ℕ) →
-    fit_parameters c.setting.end (comps_of f) arguments ≡ true → SelectedRun c (selected f) f arguments memory doings n
-selection_keeps_alone c f still fine live arguments memory doings n fitting =
+-- For every list that is handed in, every memory and arguments that fit, and every number of units: some run of the
+-- selected code has the same calls, need and end, and as many units as the function has beats; these are bounded by
+-- the units of the tree both ways.
+pub selection_keeps_losing : (c : Place) (f : FunctionTree) → fits c.setting.end ty.Val bound_error ≡ true → width f.body < 2 ^ 60 → NoAddrLive (selected f) → (arguments : List Value) (memory : Memory) (doings : List Doing) (n : ℕ) →
+    fit_parameters c.setting.end (comps_of f) arguments ≡ true → SelectedRun run c (selected f) f arguments memory doings n
+selection_keeps_losing c f still fine live arguments memory doings n fitting =
     let k = selection_keeps c f still fine arguments memory doings n fitting in
     record {
       begun = k.begun;
