@@ -1,0 +1,4 @@
+pub mod Instructions
+pub mod Select
+pub mod Kept
+pub mod Follow

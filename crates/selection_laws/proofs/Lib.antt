@@ -1,0 +1,3 @@
+pub mod Losing
+pub mod Made
+pub mod Keeps

@@ -1,0 +1,229 @@
+-- Each instruction of selected code is one that selection makes.
+use Rattle.std.proofs.Common.{ℕ, suc, ◌+◌, length, Bool, true, false, not, cond, List, [], ◌∷◌, Option, Some, None}
+use Rattle.bs_words.specs.declared.operators.IntOp.{IntOp}
+use Rattle.bs_words.specs.declared.types.Chunk.{Chunk}
+use Rattle.bs_words.specs.declared.types.Comp.{Comp}
+use Rattle.bs_words.specs.declared.types.Ret.{Ret}
+use Rattle.bs_words.specs.declared.types.Ret.TheVariants as ret
+use Rattle.bs_words.specs.declared.types.Ty.{Ty}
+use Rattle.cmm_tree.specs.Tree.{FunctionTree, Expression, Integer, Pointer, Symbol, Name, Nothing, Float, Let, Assign, Operator, Load, Store, Alloc, App, Extcall, Checkbound, Raise, Seq, If, Switch, Catch, Exit, Try, Expressions, NoMore, More, Bindings, NoBinding, Bind, Cases, NoCase, Choose, Handlers, NoHandler, Handle}
+use Rattle.cmm_types.specs.Light.{is_light_address}
+use Rattle.cmm_types.specs.Types.{result_of, body_type}
+use Rattle.cmm_meaning.specs.Evaluation.{is_left_first}
+use Rattle.mach_ir.specs.Walks.{Stands, here, below}
+use Rattle.mach_ir.specs.declared.blocks.NewBlock.{NewBlock}
+use Rattle.mach_ir.specs.declared.mach.Instr.{Instr}
+use Rattle.mach_ir.specs.declared.mach.Mark.TheVariants as mark
+use Rattle.mach_ir.specs.declared.mach.Test.{Test}
+use Rattle.mach_ir.specs.declared.op.Callee.{Callee}
+use Rattle.mach_ir.specs.declared.op.Right.{Right}
+use Rattle.mach_ir.specs.declared.op.Right.TheVariants as right
+use Rattle.mach_ir.specs.declared.reg.Reg.{Reg}
+use Rattle.selection.specs.Instructions.{bare}
+use Rattle.selection.specs.Instructions as emit
+use Rattle.selection.specs.Select.{Code, Shape, InRegisters, ConstantRight, ConstantLeft, shape_of, shape_op, shape_right, unless_left, unless_right, Named, Label, scopes, reg_of, label_of, move_from, move_to, moves_all, exit_to, ordered, only_when, from_seat, symbol_of, unless_symbol, right_of, unless_constant, bound_test, comparison, tested, select_test, is_based, select_base, call_of, regs_of, select, select_waiting, select_filled, select_bound, select_seq, select_cases, select_handlers, deeper, cell_stores, to_seat, selected, first, params_from, with_params, is_no_value, fresh, seats, result_seat}
+
+-- what selection makes
+pub data Made : Instr → Type 0 where
+  a_move : {a d : Reg} → Made (emit.move a d)
+  a_constant : {w : ℕ} {d : Reg} → Made (emit.constant w d)
+  a_symbol : {name : List ℕ} {d : Reg} → Made (emit.symbol name d)
+  an_operator : {f : IntOp} {r : Right} {args : List Reg} {d : Reg} → Made (emit.operator f r args d)
+  a_load : {k : Chunk} {offset : ℕ} {x d : Reg} → Made (emit.load k offset x d)
+  a_store : {k : Chunk} {offset : ℕ} {x y : Reg} → Made (emit.store k offset x y)
+  an_alloc : {block : NewBlock} {d : Reg} → Made (emit.alloc block d)
+  a_call : {whom : Callee} {result : Ret} {args results : List Reg} → Made (emit.call whom result args results)
+  a_tail_call : {whom : Callee} {result : Ret} {args : List Reg} → Made (emit.tail_call whom result args)
+  an_external : {name : List ℕ} {comps : List Comp} {result : Ret} {frame : Bool} {args results : List Reg} → Made (emit.external name comps result frame args results)
+  a_checkbound : {r : Right} {x : Reg} (y : Reg) → Made (emit.checkbound r x y)
+  a_raise : {x : Reg} → Made (emit.raising x)
+  a_return : {values : List Reg} → Made (emit.give_back values)
+  a_branch : {t : Test} {l : ℕ} {args : List Reg} → Made (emit.branch t l args)
+  a_choice : {labels : List ℕ} {x : Reg} → Made (emit.choose labels x)
+  a_handler : {l : ℕ} {x : Reg} → Made (emit.handler l x)
+  an_exit : {l n : ℕ} → Made (bare (mark.Exit l n))
+  an_else : {l end : ℕ} → Made (bare (mark.Else l end))
+  a_case : {indexes : List ℕ} {l end : ℕ} → Made (bare (mark.Case indexes l end))
+  a_catch : Made (bare mark.Catch)
+  a_with : {l end : ℕ} → Made (bare (mark.With l end))
+  a_try : {l : ℕ} → Made (bare (mark.Try l))
+  a_leave : {l end : ℕ} → Made (bare (mark.Leave l end))
+  an_end : {l : ℕ} → Made (bare (mark.End l))
+
+pub data AllMade : List Instr → Type 0 where
+  none : AllMade []
+  one : {i : Instr} {next : List Instr} → Made i → AllMade next → AllMade (i ∷ next)
+
+pub made_of : {i : Instr} {next code : List Instr} → AllMade code → Stands i next code → Made i
+made_of none s = elim s [ ]
+made_of (one x xs) here = x
+made_of (one x xs) (below s) = made_of xs s
+
+abbrev Makes : Code → Type 0
+Makes code = (next : List Instr) → AllMade next → AllMade (code next)
+
+made_from : (o : Option Reg) (d : Reg) → Makes (move_from o d)
+made_from None d next z = z
+made_from (Some a) d next z = one a_move z
+
+made_to : (a : Reg) (o : Option Reg) → Makes (move_to a o)
+made_to a None next z = z
+made_to a (Some d) next z = one a_move z
+
+made_moves : (from to : List Reg) → Makes (moves_all from to)
+made_moves [] to next z = z
+made_moves (a ∷ from) [] next z = z
+made_moves (a ∷ from) (d ∷ to) next z = made_moves from to (emit.move a d ∷ next) (one a_move z)
+
+made_exit : (o : Option Label) (from : List Reg) → Makes (exit_to o from)
+made_exit None from next z = z
+made_exit (Some t) from next z = made_moves from t.params _ (one an_exit z)
+
+made_ordered : (b : Bool) (left right : Code) → Makes left → Makes right → Makes (ordered b left right)
+made_ordered true left right l r next z = l (right next) (r next z)
+made_ordered false left right l r next z = r (left next) (l next z)
+
+made_when : (b : Bool) (code : Code) → Makes code → Makes (only_when b code)
+made_when true code e next z = e next z
+made_when false code e next z = z
+
+made_cells : (k : Chunk) (p : Reg) (i : ℕ) (rs : List Reg) → Makes (cell_stores k p i rs)
+made_cells k p i [] next z = z
+made_cells k p i (r ∷ rs) next z = one a_store (made_cells k p (suc i) rs next z)
+
+made_constant : (r : Right) (code : Code) → Makes code → Makes (unless_constant r code)
+made_constant right.Register code e next z = e next z
+made_constant (right.Constant w) code e next z = z
+
+made_tested : (o : Option Test) (fused : Test → List Instr) (value : List Instr) → ((t : Test) → AllMade (fused t)) → AllMade value → AllMade (tested o fused value)
+made_tested (Some t) fused value f v = f t
+made_tested None fused value f v = v
+
+made_if : (q : Bool) (a b : Code) → Makes a → Makes b → (next : List Instr) → AllMade next → AllMade (cond q (a next) (b next))
+made_if true a b f g next z = f next z
+made_if false a b f g next z = g next z
+
+made_left : (s : Shape) (code : Code) → Makes code → Makes (unless_left s code)
+made_left InRegisters code e next z = e next z
+made_left (ConstantRight i) code e next z = e next z
+made_left (ConstantLeft i) code e next z = z
+
+made_right : (s : Shape) (code : Code) → Makes code → Makes (unless_right s code)
+made_right InRegisters code e next z = e next z
+made_right (ConstantRight i) code e next z = z
+made_right (ConstantLeft i) code e next z = e next z
+
+made_unless : (o : Option (List ℕ)) (code : Code) → Makes code → Makes (unless_symbol o code)
+made_unless (Some name) code e next z = z
+made_unless None code e next z = e next z
+
+made_from_seat : (n : ℕ) (result : Ret) (d : Reg) → Makes (from_seat n result d)
+made_from_seat n ret.Unit d next z = z
+made_from_seat n (ret.Comp c) d next z = one a_move z
+
+made_call : (tail valued : Bool) (result : Ret) (o : Option (List ℕ)) (f : Reg) (regs : List Reg) (n : ℕ) (d : Reg) → Makes (call_of tail valued result o f regs n d)
+made_call true valued result o f regs n d next z = one a_tail_call z
+made_call false valued result o f regs n d next z = one a_call (made_from_seat n result d next z)
+
+mutual
+  pub made_select : (env : List Named) (labels : List Label) (valued tail : Bool) (d : Reg) (b : ℕ) (e : Expression) → Makes (select env labels valued tail d b e)
+  made_select env labels valued tail d b (Integer at w) next z = one a_constant z
+  made_select env labels valued tail d b (Pointer at w) next z = one a_constant z
+  made_select env labels valued tail d b (Symbol at name) next z = one a_symbol z
+  made_select env labels valued tail d b (Name at x) next z = made_from (reg_of env x) _ next z
+  made_select env labels valued tail d b (Nothing at) next z = z
+  made_select env labels valued tail d b (Float at word_at operands) next z = z
+  made_select env labels valued tail d b (Let at bindings body) next z = made_bound env labels (suc b) bindings _ (made_select _ labels _ tail _ _ body next z)
+  made_select env labels valued tail d b (Assign at name_at name e) next z = made_select env labels false false _ _ e _ (made_to _ (reg_of env name) next z)
+  made_select env labels valued tail d b (Operator at op left right) next z =
+      let s = shape_of op left right in
+      made_ordered (is_left_first (scopes env) left right) _ _ (made_left s _ (made_select env labels false false _ _ left)) (made_right s _ (made_select env labels false false _ _ right)) _ (one an_operator z)
+  made_select env labels valued tail d b (App at callee arguments result result_at) next z =
+      let light = is_light_address (scopes env) callee in
+      let made = made_select env labels false false _ _ callee in
+      made_waiting env labels _ _ arguments _
+      (made_when (not light) _ (made_unless (symbol_of callee) _ made) _
+      (made_filled env labels _ _ arguments _
+      (made_when light _ made _
+      (made_moves (regs_of env (suc (suc b)) arguments) _ _
+      (made_call tail _ _ _ _ _ _ _ next z)))))
+  made_select env labels valued tail d b (Extcall at frame name arguments result result_at) next z =
+      made_waiting env labels _ _ arguments _ (made_filled env labels _ _ arguments _ (made_moves (regs_of env (suc b) arguments) _ _ (one an_external (made_from_seat _ result _ next z))))
+  made_select env labels valued tail d b (Seq at elements) next z = made_seq env labels _ tail _ _ elements next z
+  made_select env labels valued tail d b (If at condition on_true on_false) next z =
+      let others = one an_else (made_select env labels _ tail _ _ on_false _ (one an_end z)) in
+      let both = made_select env labels _ tail _ _ on_true _ others in
+      made_test env labels _ _ condition _ _ (made_select env labels false false _ _ condition _ (one a_branch both)) both
+  made_select env labels valued tail d b (Catch at body handlers) next z = one a_catch (made_select env _ _ tail _ _ body _ (made_handlers env _ _ tail _ _ _ _ handlers _ (one an_end z)))
+  made_select env labels valued tail d b (Exit at label_at label arguments) next z = made_waiting env labels _ _ arguments _ (made_filled env labels _ _ arguments _ (made_exit (label_of labels label) _ next z))
+  made_select env labels valued tail d b (Alloc at header_at header operands) next z =
+      made_waiting env labels _ _ operands _
+      (one an_alloc (one a_constant (one a_store
+      (made_filled env labels _ _ operands _ (made_cells _ _ 0 (regs_of env (suc (suc (suc b))) operands) _ (one a_move z))))))
+  made_select env labels valued tail d b (Load at chunk address) next z = made_base env labels _ _ address _ (made_select env labels false false _ _ address) _ (one a_load z)
+  made_select env labels valued tail d b (Store at chunk address e) next z =
+      made_ordered (is_left_first (scopes env) address e) _ _ (made_base env labels _ _ address _ (made_select env labels false false _ _ address)) (made_select env labels false false _ _ e) _ (one a_store z)
+  made_select env labels valued tail d b (Checkbound at bound index) next z =
+      made_ordered (is_left_first (scopes env) bound index) _ _ (made_select env labels false false _ _ bound) (made_constant (right_of bound_test index) _ (made_select env labels false false _ _ index)) _ (one (a_checkbound _) z)
+  made_select env labels valued tail d b (Raise at e) next z = made_select env labels false false _ _ e _ (one a_move (one a_raise z))
+  made_select env labels valued tail d b (Switch at size_at size selector cases) next z =
+      made_select env labels false false _ _ selector _ (one a_choice (made_cases env labels _ tail _ _ _ _ _ cases _ (one an_end z)))
+  made_select env labels valued tail d b (Try at body name_at name handler) next z =
+      one a_try (made_select env (deeper labels) _ false _ _ body _ (one a_leave (one a_handler (one a_move (made_select _ labels _ tail _ _ handler _ (one an_end z))))))
+
+  made_base : (env : List Named) (labels : List Label) (t b : ℕ) (e : Expression) (whole : Code) → Makes whole → Makes (select_base env labels t b e whole)
+  made_base env labels t b (Operator at op base (Integer at' w)) whole inside next z = made_if (is_based op w) _ whole (made_select env labels false false _ _ base) inside next z
+  made_base env labels t b e whole inside next z = inside next z
+
+  made_test : (env : List Named) (labels : List Label) (l b : ℕ) (e : Expression) (value next : List Instr) → AllMade value → AllMade next → AllMade (select_test env labels l b e value next)
+  made_test env labels l b (Operator at op left right) value next v z =
+      let s = shape_of op left right in
+      made_tested (comparison (shape_op s op) (shape_right s)) _ value
+      (λ t. made_ordered (is_left_first (scopes env) left right) _ _ (made_left s _ (made_select env labels false false _ _ left)) (made_right s _ (made_select env labels false false _ _ right)) _ (one a_branch z))
+      v
+  made_test env labels l b e value next v z = v
+
+  made_cases : (env : List Named) (labels : List Label) (valued tail : Bool) (d : Reg) (all : List ℕ) (end l b : ℕ) (cs : Cases) → Makes (select_cases env labels valued tail d all end l b cs)
+  made_cases env labels valued tail d all end l b NoCase next z = z
+  made_cases env labels valued tail d all end l b (Choose indexes body rest) next z =
+      one a_case (made_select env labels valued tail d b body _ (made_cases env labels valued tail d all end _ _ rest next z))
+
+  made_waiting : (env : List Named) (labels : List Label) (b i : ℕ) (es : Expressions) → Makes (select_waiting env labels b i es)
+  made_waiting env labels b i NoMore next z = z
+  made_waiting env labels b i (More e rest) next z =
+      made_waiting env labels _ _ rest _ (made_when (not (is_light_address (scopes env) e)) _ (made_select env labels false false _ i e) next z)
+
+  made_filled : (env : List Named) (labels : List Label) (b i : ℕ) (es : Expressions) → Makes (select_filled env labels b i es)
+  made_filled env labels b i NoMore next z = z
+  made_filled env labels b i (More e rest) next z =
+      made_filled env labels _ _ rest _ (made_when (is_light_address (scopes env) e) _ (made_select env labels false false _ i e) next z)
+
+  made_bound : (env : List Named) (labels : List Label) (b : ℕ) (bs : Bindings) → Makes (select_bound env labels b bs)
+  made_bound env labels b NoBinding next z = z
+  made_bound env labels b (Bind at name declared e rest) next z = made_select env labels false false _ _ e _ (made_bound _ labels _ rest next z)
+
+  made_seq : (env : List Named) (labels : List Label) (valued tail : Bool) (d : Reg) (b : ℕ) (es : Expressions) → Makes (select_seq env labels valued tail d b es)
+  made_seq env labels valued tail d b NoMore next z = z
+  made_seq env labels valued tail d b (More e NoMore) next z = made_select env labels valued tail d (suc b) e next z
+  made_seq env labels valued tail d b (More e (More g rest)) next z = made_select env labels false false _ _ e _ (made_seq env labels valued tail d _ (More g rest) next z)
+
+  made_handlers : (env : List Named) (labels : List Label) (valued tail : Bool) (d : Reg) (end l b : ℕ) (hs : Handlers) → Makes (select_handlers env labels valued tail d end l b hs)
+  made_handlers env labels valued tail d end l b NoHandler next z = z
+  made_handlers env labels valued tail d end l b (Handle at label params body rest) next z =
+      one a_with (made_select _ labels valued tail d b body _ (made_handlers env labels valued tail d end _ _ rest next z))
+
+made_to_seat : (d : Reg) (n : ℕ) (result : Ret) → Makes (to_seat d n result)
+made_to_seat d n ret.Unit next z = z
+made_to_seat d n (ret.Comp c) next z = one a_move z
+
+pub selected_made : (f : FunctionTree) → AllMade (selected f).code
+selected_made f =
+    let type : Ty = body_type f in
+    let moved = first + length f.params in
+    let params = params_from moved f.params in
+    let n = moved + length f.params in
+    let from = suc (suc n) in
+    let env = with_params f.params params [] in
+    made_moves (seats 0 first params) params _
+    (made_select env [] (not (is_no_value type)) true (fresh n type) from f.body _
+    (made_to_seat (fresh n type) (suc n) (result_of type) _ (one (a_return {values = result_seat (suc n) (result_of type)}) none)))
