@@ -17,6 +17,7 @@ use Rattle.bs_words.specs.declared.values.Kind.{Kind}
 use Rattle.bs_words.specs.declared.values.Value.{Value}
 use Rattle.bs_words.specs.declared.values.Value.TheVariants as value
 use Rattle.cmm_meaning.specs.Evaluation.{fit_parameters, bound_error}
+use Rattle.cmm_meaning.specs.Setting.{Setting}
 use Rattle.cmm_meaning.specs.State as state
 use Rattle.cmm_meaning.specs.State.{Doing, Gave, Threw, Inside, Outside}
 use Rattle.mach_ir.specs.declared.op.Right.TheVariants as right
@@ -36,15 +37,6 @@ use Rattle.mach_ir.specs.declared.op.Op.{Op}
 use Rattle.mach_ir.specs.declared.op.Op.TheVariants as op
 use Rattle.mach_ir.specs.declared.mach.Test.{Test}
 use Rattle.mach_ir.specs.declared.mach.Test.TheVariants as test
-
--- What is known of the file round a function.
-pub record Setting : Type 0 where
-  -- the first address past the data
-  pub end : ℕ
-  -- the value of a symbol
-  pub symbol : List ℕ → Option Value
-  -- the components of the parameters of each function, in order
-  pub parameters : List (List Comp)
 
 -- ---- memory, in which headers and cells of new blocks are unwritten
 

@@ -9,7 +9,8 @@ use Rattle.bs_words.specs.declared.types.Comp.TheVariants as comp
 use Rattle.bs_words.specs.declared.types.Loc.{Loc}
 use Rattle.bs_words.specs.declared.types.Loc.TheVariants as loc
 use Rattle.bs_words.specs.declared.values.Value.{Value}
-use Rattle.mach_ir.specs.Acts.{Setting, Around, Target, On, At, Landing, AtLabel, AtHandler, Act, Goes, Pushes, Jumps, Unwinds, Asks, Replaces, Ends, EndsRaising, Stuck, act, truth_of, branches, switched, drop_tries, takes_raised}
+use Rattle.cmm_meaning.specs.Setting.{Setting}
+use Rattle.mach_ir.specs.Acts.{Around, Target, On, At, Landing, AtLabel, AtHandler, Act, Goes, Pushes, Jumps, Unwinds, Asks, Replaces, Ends, EndsRaising, Stuck, act, truth_of, branches, switched, drop_tries, takes_raised}
 use Rattle.mach_ir.specs.Acts as acts
 use Rattle.mach_ir.specs.Runs.{Place, taken, asked, Step, Continues, Pays, Deepens, Waits, FinishesBy, Finishes, FinishesRaising, IsStuck, Tally, Run, runs, entered}
 use Rattle.mach_ir.specs.declared.op.Op.{Op}

@@ -6,7 +6,8 @@ use Rattle.bs_words.specs.declared.values.Value.{Value}
 use Rattle.bs_words.specs.declared.types.Ret.{Ret}
 use Rattle.bs_words.specs.declared.types.Ret.TheVariants as ret
 use Rattle.cmm_meaning.specs.State.{Doing, Gave, Threw, Asked, Callee, Inside, Outside}
-use Rattle.mach_ir.specs.Acts.{Setting, Around}
+use Rattle.cmm_meaning.specs.Setting.{Setting}
+use Rattle.mach_ir.specs.Acts.{Around}
 
 -- What stands round a function.
 pub record Place : Type 0 where

@@ -15,7 +15,8 @@ use Rattle.bs_words.specs.declared.values.Value.TheVariants as value
 use Rattle.cmm_meaning.specs.Evaluation.{bound_error}
 use Rattle.cmm_meaning.specs.State.{Doing, Gave, Threw, Callee, Inside}
 use Rattle.mach_ir.specs.Acts as acts
-use Rattle.mach_ir.specs.Acts.{Setting, Around, Target, On, At, Landing, AtLabel, AtHandler, Act, Goes, Pushes, Jumps, Unwinds, Asks, Replaces, Ends, EndsRaising, Stuck, only_if}
+use Rattle.cmm_meaning.specs.Setting.{Setting}
+use Rattle.mach_ir.specs.Acts.{Around, Target, On, At, Landing, AtLabel, AtHandler, Act, Goes, Pushes, Jumps, Unwinds, Asks, Replaces, Ends, EndsRaising, Stuck, only_if}
 use Rattle.mach_ir.specs.Meaning.{mark_act, mach_act}
 use Rattle.mach_ir.specs.Walks.{OneOf, this, other, targets, may_raise}
 use Rattle.mach_ir.specs.declared.op.Right.TheVariants as right

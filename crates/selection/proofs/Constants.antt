@@ -12,7 +12,8 @@ use Rattle.cmm_meaning.specs.Evaluation.{is_left_first}
 use Rattle.cmm_meaning.specs.State.{Here}
 use Rattle.meaning_laws.specs.Does.{Leaves, Does}
 use Rattle.meaning_laws.specs.Interaction.{Part, with_value, both, does}
-use Rattle.mach_ir.specs.Acts.{Setting, Around, leaving_act, checked}
+use Rattle.cmm_meaning.specs.Setting.{Setting}
+use Rattle.mach_ir.specs.Acts.{Around, leaving_act, checked}
 use Rattle.mach_ir.specs.Forms.{is_immediate}
 use Rattle.mach_ir.specs.Runs.{Place, Continues}
 use Rattle.mach_ir.specs.Meaning.{State, File, values, with_held}

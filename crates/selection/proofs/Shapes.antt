@@ -13,7 +13,8 @@ use Rattle.cmm_meaning.specs.Evaluation.{is_left_first}
 use Rattle.cmm_meaning.specs.State.{Here}
 use Rattle.meaning_laws.specs.Does.{Leaves, Does}
 use Rattle.meaning_laws.specs.Interaction.{Part, with_value, both, does}
-use Rattle.mach_ir.specs.Acts.{Setting, Around, pure_act, one_result, truth_of, as_condition}
+use Rattle.cmm_meaning.specs.Setting.{Setting}
+use Rattle.mach_ir.specs.Acts.{Around, pure_act, one_result, truth_of, as_condition}
 use Rattle.mach_ir.specs.Runs.{Place, Continues}
 use Rattle.mach_ir.specs.Meaning.{File, values, with_held}
 use Rattle.mach_ir.specs.declared.reg.Reg.{Reg}

@@ -19,8 +19,7 @@ use Rattle.selection.specs.Kept.{step}
 
 -- what the text knows of the file
 abbrev pub text_of : Place → Setting
-text_of c =
-    record { end = c.setting.end; symbol = c.setting.symbol; parameters = c.setting.parameters }
+text_of c = c.setting
 
 -- what a callee raises fits val
 abbrev pub RaisesVal : Place → Doing → Type 0
