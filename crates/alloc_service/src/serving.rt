@@ -23,6 +23,7 @@ use rv_machine::{Cause, Machine};
 ///
 /// A machine that is stopped, or has no heap, is left as it was. A count of the machine stays at the end
 /// of its type.
+#[tactic(auto, unfolding(rv_machine::specs::Allocation::allocated))]
 pub fn allocate(machine: &mut Machine<'_>, plan: Plan<'_>) -> ServiceEnd
     requires near { machine.old.pc < 2 ^ 32 }
     ensures exact { Serves result

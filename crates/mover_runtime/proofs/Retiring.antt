@@ -136,6 +136,7 @@ empty-moves n s NoHeap m = tt
 empty-moves n s (Refused cause) m = tt
 
 pub allocated-moves : (plan : List Placed → List ℕ) (h : Hart) → Moves (suc h.retired) h.services (allocated plan h)
+unfolding allocated
 allocated-moves plan h = request-moves h.retired h.services (bytes_asked h) (with_blocks plan h (blocks_at_request h)) (blocks-move plan h (blocks_at_request h))
 
 pub collected-moves : (plan : List Placed → List ℕ) (h : Hart) → Moves h.retired h.services (collected plan h)
