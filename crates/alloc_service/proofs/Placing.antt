@@ -158,6 +158,7 @@ pub moved_is :
     g ≡ f → f ≡ rewritten bs (placed_at bs ss) → m1 ≡ redirected_now g m0 slots → m2 ≡ redirected_now g m1 roots → m3 ≡ vacated m2 bs →
     m4 ≡ poured m3 words (placed_at bs ss) → words ≡ words_moved g m0 bs → Rise middle top slots → Rise from middle roots → length ss ≡ length bs →
     m4 ≡ moved_memory bs (placed_at bs ss) m0 (slots ++ roots)
+unfolding moved_memory
 moved_is g f bs ss m0 m1 m2 m3 m4 slots roots words from middle top same is one two three four gathered r s lengths =
     four ∙ ap (λ ws. poured m3 ws (placed_at bs ss)) gathered ∙ copied_is g m0 bs ss m3 lengths
     ∙ ap (λ m. copied g m0 m bs (placed_at bs ss))
