@@ -79,6 +79,7 @@ fn empty(machine: &mut Machine<'_>, bytes: u64)
 }
 
 // Moves all blocks, the young ones being those from `from` up to the young area's top.
+#[tactic(auto, unfolding(rv_machine::specs::Frames::frames))]
 fn relocate(machine: &mut Machine<'_>, plan: Plan<'_>, from: u64) -> ServiceEnd
     requires near { machine.old.pc < 2 ^ 32 }
     ensures exact { Serves result (with_counts services_counted
