@@ -95,6 +95,7 @@ fetched-retires None h = tt
 fetched-retires (Some word) h = decoded-retires (decoded word) h
 
 pub hart-retires : (h : Hart) → NextRetires h.retired h.services (hart h)
+unfolding hart
 hart-retires h = fetched-retires (fetch h.image.code h.pc) h
 
 -- ---- services

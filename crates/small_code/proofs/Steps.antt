@@ -115,6 +115,7 @@ pub record Instruction (s : Setting) (place : ℕ) (i : Instr) : Type 0 where
 
 hart_executes :
     (s : Setting) (h : Hart) (v : View) (i : Instr) → Stands s h v → Instruction s v.place i → hart h ≡ executed i h
+unfolding hart
 hart_executes s h v i stands instruction =
     ap (λ o. fetched o h)
     (ap (λ (image : Tables). fetch image.code h.pc) stands.image ∙ fetch_at s.image.code h.pc v.place (encoded i) stands.pc instruction.there)
