@@ -14,7 +14,7 @@ use Rattle.rv_machine.specs.Run.{Schedule, asked, perhaps_asked, after_next, aft
 use Rattle.rv_machine.specs.Sound.{AllWords}
 use Rattle.rv_machine.specs.Services.{End, Machine, Going, Over, StackOut}
 use Rattle.rv_machine.specs.Start.{domain_start, limit_asked}
-use Rattle.small_code.proofs.Memory.{HasStack, past, memory_asked}
+use Rattle.machine_laws.proofs.Stack.{HasStack, past, memory_asked}
 
 -- What stays during a run: the stack is `bytes` bytes from `base` on.
 pub record Setting : Type 0 where
