@@ -1,10 +1,9 @@
 -- What is known of the blocks when they move.
 use mathlib.Core.Path.{fun_ext}
-use Rattle.std.proofs.Common.{◌≡◌, ℕ, zero, suc, ◌+◌, ◌-◌, ◌*◌, ◌%◌, ◌<◌, ◌≤◌, ◌⊎◌, inl, inr, ◌||◌, not, Bool, true, false, cond, List, [], ◌∷◌, ◌++◌, length, reverse, map, take, drop, refl, ap, arith, ◌∙◌, sym, subst, eq-eqb}
+use Rattle.std.proofs.Common.{◌≡◌, ℕ, zero, suc, ◌+◌, ◌-◌, ◌*◌, ◌%◌, ◌<◌, ◌≤◌, ◌⊎◌, inl, inr, ◌||◌, not, Bool, true, false, cond, List, [], ◌∷◌, ◌++◌, length, reverse, map, take, drop, refl, ap, arith, ◌∙◌, sym, eq-eqb}
 use Rattle.std.specs.Prelude.{◌==◌}
 use Rattle.std.specs.List.{AllByRecursion, list_all}
 use Rattle.std.proofs.lemmas.Bool.{and_parts, cases_eq, ne_eqb}
-use Rattle.std.proofs.lemmas.List.{reverse-append}
 use Rattle.image_form.specs.Tables.{Tables}
 use Rattle.rv_machine.specs.Relocation.{is_in_code, is_in_data, is_root, is_start}
 use Rattle.rv_machine.specs.Hart.{Placed}
@@ -17,7 +16,8 @@ use Rattle.alloc_service.specs.Forward.{IsForward, IsLow, IsPlaced, IsSmall, for
 use Rattle.alloc_service.specs.Young.{HasCells}
 use Rattle.machine_laws.proofs.Apart.{all_of, all-append, all-reverse}
 use Rattle.machine_laws.proofs.Chain.{IsYoung}
-use Rattle.alloc_service.proofs.Words.{Rise, both_now}
+use Rattle.machine_laws.proofs.Rise.{Rise}
+use Rattle.alloc_service.proofs.Words.{both_now}
 use Rattle.machine_laws.proofs.InHeap.{covered_place, ends_below, in_heap, young_place}
 
 pub kept_low : (heap : ℕ) (b : Placed) → heap ≤ 67108864 → IsKept heap b → IsLow b
@@ -158,6 +158,7 @@ pub moved_is :
     g ≡ f → f ≡ rewritten bs (placed_at bs ss) → m1 ≡ redirected_now g m0 slots → m2 ≡ redirected_now g m1 roots → m3 ≡ vacated m2 bs →
     m4 ≡ poured m3 words (placed_at bs ss) → words ≡ words_moved g m0 bs → Rise middle top slots → Rise from middle roots → length ss ≡ length bs →
     m4 ≡ moved_memory bs (placed_at bs ss) m0 (slots ++ roots)
+unfolding moved_memory
 moved_is g f bs ss m0 m1 m2 m3 m4 slots roots words from middle top same is one two three four gathered r s lengths =
     four ∙ ap (λ ws. poured m3 ws (placed_at bs ss)) gathered ∙ copied_is g m0 bs ss m3 lengths
     ∙ ap (λ m. copied g m0 m bs (placed_at bs ss))

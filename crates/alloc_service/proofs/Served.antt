@@ -58,6 +58,7 @@ module _ (plan : List Placed → List ℕ) (h : Hart) (found : List Placed) (fro
   pub bad_root :
       slice_index h.registers 0 ≡ 0 → (fs : List Frame) → frames_at h.image (caller_of h) parts ≡ Some fs →
       roots_at h.image parts fs ≡ false → with_counts services_counted (with_blocks plan h (blocks_at h from)) ≡ Refused BadRoot
+  unfolding frames
   bad_root z fs e r =
       ap (with_counts services_counted)
       (to_frames ∙ ap (with_frames plan entered) e
@@ -70,6 +71,7 @@ module _ (plan : List Placed → List ℕ) (h : Hart) (found : List Placed) (fro
       (services : ℕ) → services ≡ count (suc h.services) →
       with_counts services_counted (with_blocks plan h (blocks_at h from))
       ≡ Goes (record h { registers = new.registers; memory = new.memory; blocks = new.blocks; services = services })
+  unfolding frames
   goes z fs e r new is services s =
       let hart : Parts → ℕ → Hart = λ p services. record h { registers = p.registers; memory = p.memory; blocks = p.blocks; services = services } in
       ap (with_counts services_counted)

@@ -16,7 +16,8 @@ use Rattle.rv_machine.specs.Places.{data_start}
 use Rattle.rv_machine.specs.Frames.{Frame, descriptor_at, frame_then, frames_from, is_frame, is_register, is_stack_word, most_frames, registers_named, registers_of, return_slot, slots_named, slots_of}
 use Rattle.rv_machine.specs.Memory.{Region, code_start, word}
 use Rattle.alloc_service.specs.Forward.{redirected_now, roots_by}
-use Rattle.alloc_service.proofs.Words.{Rise, rise_low, rise-append, redirected-append, kept, none_above}
+use Rattle.machine_laws.proofs.Rise.{Rise, none_above, rise_low, rise-append}
+use Rattle.alloc_service.proofs.Words.{redirected-append, kept}
 
 -- ---- one frame
 

@@ -1,31 +1,14 @@
 -- Words of the memory, after others were written.
-use Rattle.std.proofs.Common.{◌≡◌, ◌≢◌, ℕ, zero, suc, ◌+◌, ◌-◌, ◌%◌, ◌/◌, ◌<◌, ◌≤◌, Bool, true, false, cond, ◌==◌, nat_le, List, [], ◌∷◌, ◌++◌, slice_index, Option, Some, None, option_map, refl, ap, arith, ◌∙◌, sym, get_or-set_other}
+use Rattle.std.proofs.Common.{◌≡◌, ◌≢◌, ℕ, zero, suc, ◌<◌, ◌≤◌, List, [], ◌∷◌, ◌++◌, slice_index, refl, ap, arith, ◌∙◌, sym, get_or-set_other}
 use Rattle.std.specs.List.{AllByRecursion}
-use Rattle.std.proofs.lemmas.Bool.{and_parts, leb-true, eqb-true}
-use Rattle.rv_machine.specs.Memory.{Region, byte_in, index_in, is_inside, memory_or, or_zero, part, read, with_written, word, write, written}
+use Rattle.rv_machine.specs.Memory.{Region, word, write}
 use Rattle.rv_machine.specs.Hart.{with_register}
 use Rattle.rv_machine.specs.Moving.{redirected, redirected_registers}
 use Rattle.machine_laws.proofs.Memory.{other_word}
+use Rattle.machine_laws.proofs.Rise.{Rise, none_below}
 use Rattle.alloc_service.specs.Forward.{redirected_now, redirected_registers_now}
 
 -- ---- words that are rewritten
-
--- numbers that rise, each from a lower bound up and below an upper one
-abbrev pub Rise : ℕ → ℕ → List ℕ → Type 0
-Rise low high [] = Unit {0}
-Rise low high (a ∷ as') = (low ≤ a) × (a < high) × Rise (suc a) high as'
-
-pub rise_low : (low from high : ℕ) (as' : List ℕ) → low ≤ from → Rise from high as' → Rise low high as'
-rise_low low from high [] h r = tt
-rise_low low from high (a ∷ as') h r = (omega (arith, r.0), r.1, r.2)
-
-pub rise_high : (low high top : ℕ) (as' : List ℕ) → high ≤ top → Rise low high as' → Rise low top as'
-rise_high low high top [] h r = tt
-rise_high low high top (a ∷ as') h r = (r.0, omega (arith, r.1), rise_high (suc a) high top as' h r.2)
-
-pub rise-append : (low middle high : ℕ) (as' bs : List ℕ) → low ≤ middle → middle ≤ high → Rise low middle as' → Rise middle high bs → Rise low high (as' ++ bs)
-rise-append low middle high [] bs h k r s = rise_low low middle high bs h s
-rise-append low middle high (a ∷ as') bs h k r s = (r.0, omega (arith, r.1), rise-append (suc a) middle high as' bs (omega (arith, r.1)) k r.2 s)
 
 module _ (f : ℕ → ℕ) where
   pub redirected-append : (m : List Region) (as' bs : List ℕ) → redirected_now f m (as' ++ bs) ≡ redirected_now f (redirected_now f m as') bs
@@ -36,14 +19,6 @@ module _ (f : ℕ → ℕ) where
   pub kept : (m : List Region) (as' : List ℕ) (b : ℕ) → AllByRecursion (λ a. a ≢ b) as' → word (redirected_now f m as') b ≡ word m b
   kept m [] b n = refl
   kept m (a ∷ as') b n = kept (write m a (f (word m a))) as' b n.1 ∙ other_word m a b (f (word m a)) n.0
-
-pub none_above : (low high b : ℕ) (as' : List ℕ) → high ≤ b → Rise low high as' → AllByRecursion (λ a. a ≢ b) as'
-none_above low high b [] h r = tt
-none_above low high b (a ∷ as') h r = (λ e. omega (arith, r.1), none_above (suc a) high b as' h r.2)
-
-pub none_below : (low high b : ℕ) (as' : List ℕ) → b < low → Rise low high as' → AllByRecursion (λ a. a ≢ b) as'
-none_below low high b [] h r = tt
-none_below low high b (a ∷ as') h r = (λ e. omega (arith, r.0), none_below (suc a) high b as' (omega (arith, r.0)) r.2)
 
 -- ---- words read from the old state, and as they stand
 

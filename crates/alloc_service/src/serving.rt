@@ -23,6 +23,7 @@ use rv_machine::{Cause, Machine};
 ///
 /// A machine that is stopped, or has no heap, is left as it was. A count of the machine stays at the end
 /// of its type.
+#[tactic(auto, unfolding(rv_machine::specs::Allocation::allocated))]
 pub fn allocate(machine: &mut Machine<'_>, plan: Plan<'_>) -> ServiceEnd
     requires near { machine.old.pc < 2 ^ 32 }
     ensures exact { Serves result
@@ -78,6 +79,7 @@ fn empty(machine: &mut Machine<'_>, bytes: u64)
 }
 
 // Moves all blocks, the young ones being those from `from` up to the young area's top.
+#[tactic(auto, unfolding(rv_machine::specs::Frames::frames))]
 fn relocate(machine: &mut Machine<'_>, plan: Plan<'_>, from: u64) -> ServiceEnd
     requires near { machine.old.pc < 2 ^ 32 }
     ensures exact { Serves result (with_counts services_counted

@@ -4,7 +4,9 @@ pub mod InHeap
 pub mod Memory
 pub mod Orderly
 pub mod Packing
+pub mod Rise
 pub mod Serving
+pub mod Stack
 pub mod Starting
 pub mod Stepping
 pub mod Values

@@ -129,6 +129,7 @@ has_copied places f old m (o ∷ os) (n ∷ ns) has =
 pub has_moved :
     (places : List Extent) (olds news : List Placed) (m : List Region) (as' : List ℕ) → HasRegions places m →
     HasRegions places (moved_memory olds news m as')
+unfolding moved_memory
 has_moved places olds news m as' has =
     let f = rewritten olds news in
     has_copied places f m (vacated (redirected f m m as') olds) olds news

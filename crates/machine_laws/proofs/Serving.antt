@@ -132,6 +132,7 @@ requested_cells h bs s e = by_test (is_request (bytes_asked h)) e
     by_test false e = absurd (cc)
 
 pub allocated_sound : (plan : List Placed → List ℕ) (h : Hart) → IsSound h → IsSoundService (allocated plan h)
+unfolding allocated
 allocated_sound plan h s =
     then_sound (after_request (bytes_asked h)) (with_blocks plan h (blocks_at_request h))
     (blocks_sound plan h (blocks_at_request h) s (λ bs e. requested_cells h bs s e))

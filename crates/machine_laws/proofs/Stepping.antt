@@ -129,6 +129,7 @@ fetched_sound None h s near = tt
 fetched_sound (Some word) h s near = decoded_sound (decoded word) h s (near word refl)
 
 pub hart_sound : (h : Hart) → IsSound h → IsSoundNext (hart h)
+unfolding hart
 hart_sound h s = fetched_sound (fetch h.image.code h.pc) h s (λ word e. fetched_near h.image.code h.pc word s.image.code.short e)
 
 -- ---- an ask

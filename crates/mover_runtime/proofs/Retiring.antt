@@ -95,6 +95,7 @@ fetched-retires None h = tt
 fetched-retires (Some word) h = decoded-retires (decoded word) h
 
 pub hart-retires : (h : Hart) → NextRetires h.retired h.services (hart h)
+unfolding hart
 hart-retires h = fetched-retires (fetch h.image.code h.pc) h
 
 -- ---- services
@@ -136,6 +137,7 @@ empty-moves n s NoHeap m = tt
 empty-moves n s (Refused cause) m = tt
 
 pub allocated-moves : (plan : List Placed → List ℕ) (h : Hart) → Moves (suc h.retired) h.services (allocated plan h)
+unfolding allocated
 allocated-moves plan h = request-moves h.retired h.services (bytes_asked h) (with_blocks plan h (blocks_at_request h)) (blocks-move plan h (blocks_at_request h))
 
 pub collected-moves : (plan : List Placed → List ℕ) (h : Hart) → Moves h.retired h.services (collected plan h)

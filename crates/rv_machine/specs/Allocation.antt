@@ -27,6 +27,6 @@ blocks_at_request h = cond (is_request (bytes_asked h)) (blocks_at h (young_from
 abbrev pub after_request : ℕ → Hart → Serviced
 after_request bytes h = Goes (past_ecall (emptied bytes h))
 
-abbrev pub allocated : (List Placed → List ℕ) → Hart → Serviced
+unfoldable pub allocated : (List Placed → List ℕ) → Hart → Serviced
 allocated plan h =
     and_then (after_request (bytes_asked h)) (with_blocks plan h (blocks_at_request h))

@@ -73,7 +73,7 @@ abbrev pub most_frames : ℕ → ℕ
 most_frames base = suc ((stack_end - base) / 16)
 
 -- the frames of a machine that stands at a service: the innermost one returns after the ECALL
-abbrev pub frames : Hart → Option (List Frame)
+unfoldable pub frames : Hart → Option (List Frame)
 frames h =
     frames_from (most_frames h.stack_base) h.image.descs h.stack_base h.memory true (h.pc + 4)
     (register h sp)

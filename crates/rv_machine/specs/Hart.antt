@@ -160,5 +160,5 @@ fetch code pc =
     cond (nat_le code_start pc && (pc % 4 == 0)) (slice_get code ((pc - code_start) / 4)) None
 
 -- one instruction
-abbrev pub hart : Hart → Next
+unfoldable pub hart : Hart → Next
 hart h = fetched (fetch h.image.code h.pc) h

@@ -44,7 +44,7 @@ redirected f old m [] = m
 redirected f old m (a ∷ as') = redirected f old (write m a (f (word old a))) as'
 
 -- the memory in which the words at the places are rewritten and the blocks have moved
-abbrev pub moved_memory : List Placed → List Placed → List Region → List ℕ → List Region
+unfoldable pub moved_memory : List Placed → List Placed → List Region → List ℕ → List Region
 moved_memory olds news m places =
     let f = rewritten olds news in
     copied f m (vacated (redirected f m m places) olds) olds news

@@ -17,6 +17,7 @@ impl<'a> Machine<'a> {
     ///
     /// It takes no memory. Each word is decoded as it comes. The count of instructions stays at the end of
     /// its type.
+    #[tactic(auto, unfolding(crate::specs::Hart::hart))]
     pub fn step(&mut self) -> StepEnd
         ensures exact { next_of result self.new ≡ counted_next (hart self.old) }
         ensures kept { Keeps result self.old self.new }

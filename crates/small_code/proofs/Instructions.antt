@@ -15,7 +15,7 @@ use Rattle.rv_machine.specs.Arithmetic.{alu, imm_i}
 use Rattle.rv_machine.specs.Hart.{register, sets, executed, loads, stores}
 use Rattle.rv_machine.specs.Memory.{code_region, code_start, loaded, stored}
 use Rattle.rv_machine.specs.Run.{perhaps_asked, after_next, after}
-use Rattle.small_code.proofs.Memory.{loaded_slot, stored_slot}
+use Rattle.machine_laws.proofs.Stack.{loaded_slot, stored_slot}
 use Rattle.small_code.proofs.Steps.{Setting, View, Leads, Instruction, SetsRegister, held, register_held, held_word, with_set, set_step, one_step, perhaps_stands, at}
 
 -- an immediate whose top bit is clear is itself

@@ -9,6 +9,7 @@ use Rattle.small_code.specs.Tree.{SmallFileTree, SmallFunctionTree, SmallExpress
 use Rattle.image_form.specs.Tables.{Func}
 use Rattle.rv_isa.specs.Decoding.{decoded}
 use Rattle.rv_isa.specs.Encoding.{encoded}
+use Rattle.rv_machine.specs.Hart.{hart}
 use Rattle.rv_machine.specs.Run.{Seen, lists, machine_run}
 use Rattle.rv_machine.specs.Services.{End, Running, Returned, StackOut}
 use Rattle.rv_machine.specs.Start.{uniform, data_region, domain_region, stack_region}
@@ -45,28 +46,28 @@ ends end = record { calls = []; end = end }
 
 -- with 4096 bytes of stack, and no ask: the function's words, and two of the stub
 returns_ten : machine_run (compiled file) row (3 ∷ 4 ∷ []) [] 4096 0 (lists [] []) 80 ≡ ends (Returned (Some (obs.Word 10)))
-unfolding function_code move_sp load_slot store_slot near_slot constant encoded decoded add_word sub_word shl_word sext_word signed_in word_of uniform data_region domain_region stack_region
+unfolding function_code move_sp load_slot store_slot near_slot constant encoded decoded hart add_word sub_word shl_word sext_word signed_in word_of uniform data_region domain_region stack_region
 returns_ten = refl
 
 runs_until_then : machine_run (compiled file) row (3 ∷ 4 ∷ []) [] 4096 0 (lists [] []) 79 ≡ ends Running
-unfolding function_code move_sp load_slot store_slot near_slot constant encoded decoded add_word sub_word shl_word sext_word signed_in word_of uniform data_region domain_region stack_region
+unfolding function_code move_sp load_slot store_slot near_slot constant encoded decoded hart add_word sub_word shl_word sext_word signed_in word_of uniform data_region domain_region stack_region
 runs_until_then = refl
 
 -- asks change nothing that is seen
 returns_under_asks : machine_run (compiled file) row (3 ∷ 4 ∷ []) [] 4096 0 (lists (0 ∷ 1 ∷ 2 ∷ 40 ∷ 79 ∷ 80 ∷ []) ((1 ∷ []) ∷ [])) 80 ≡ ends (Returned (Some (obs.Word 10)))
-unfolding function_code move_sp load_slot store_slot near_slot constant encoded decoded add_word sub_word shl_word sext_word signed_in word_of uniform data_region domain_region stack_region
+unfolding function_code move_sp load_slot store_slot near_slot constant encoded decoded hart add_word sub_word shl_word sext_word signed_in word_of uniform data_region domain_region stack_region
 returns_under_asks = refl
 
 -- the frame fits exactly; 3 - 7 + 3 is the word of -1
 fits_exactly : machine_run (compiled file) row (3 ∷ (2 ^ 64 - 7) ∷ []) [] 64 16 (lists [] []) 80 ≡ ends (Returned (Some (obs.Word (2 ^ 64 - 1))))
-unfolding function_code move_sp load_slot store_slot near_slot constant encoded decoded add_word sub_word shl_word sext_word signed_in word_of uniform data_region domain_region stack_region
+unfolding function_code move_sp load_slot store_slot near_slot constant encoded decoded hart add_word sub_word shl_word sext_word signed_in word_of uniform data_region domain_region stack_region
 fits_exactly = refl
 
 -- the fourth instruction sets sp
 out_of_stack : machine_run (compiled file) row (3 ∷ 4 ∷ []) [] 48 0 (lists [] []) 4 ≡ ends StackOut
-unfolding function_code move_sp load_slot store_slot near_slot constant encoded decoded add_word sub_word shl_word sext_word signed_in word_of uniform data_region domain_region stack_region
+unfolding function_code move_sp load_slot store_slot near_slot constant encoded decoded hart add_word sub_word shl_word sext_word signed_in word_of uniform data_region domain_region stack_region
 out_of_stack = refl
 
 in_time : machine_run (compiled file) row (3 ∷ 4 ∷ []) [] 48 0 (lists [] []) 3 ≡ ends Running
-unfolding function_code move_sp load_slot store_slot near_slot constant encoded decoded add_word sub_word shl_word sext_word signed_in word_of uniform data_region domain_region stack_region
+unfolding function_code move_sp load_slot store_slot near_slot constant encoded decoded hart add_word sub_word shl_word sext_word signed_in word_of uniform data_region domain_region stack_region
 in_time = refl

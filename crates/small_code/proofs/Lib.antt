@@ -10,7 +10,6 @@ pub mod Sizes
 pub mod Types
 pub mod Reading
 pub mod Shifts
-pub mod Memory
 pub mod Steps
 pub mod Instructions
 pub mod Pieces

@@ -19,7 +19,7 @@ use Rattle.rv_machine.specs.Services.{filler}
 use Rattle.rv_machine.specs.Sound.{AllWords}
 use Rattle.rv_machine.specs.Start.{data_region, domain_region, uniform, stack_region, half_start, stack_bottom, domain_start, padded, start_registers, start_memory, start}
 use Rattle.small_code.proofs.Functions.{Entry}
-use Rattle.small_code.proofs.Memory.{HasStack, past}
+use Rattle.machine_laws.proofs.Stack.{HasStack, past}
 use Rattle.small_code.proofs.Steps.{Setting, View, Stands}
 
 -- ---- the registers

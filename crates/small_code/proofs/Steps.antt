@@ -14,7 +14,7 @@ use Rattle.rv_machine.specs.Run.{Schedule, asked, perhaps_asked, after_next, aft
 use Rattle.rv_machine.specs.Sound.{AllWords}
 use Rattle.rv_machine.specs.Services.{End, Machine, Going, Over, StackOut}
 use Rattle.rv_machine.specs.Start.{domain_start, limit_asked}
-use Rattle.small_code.proofs.Memory.{HasStack, past, memory_asked}
+use Rattle.machine_laws.proofs.Stack.{HasStack, past, memory_asked}
 
 -- What stays during a run: the stack is `bytes` bytes from `base` on.
 pub record Setting : Type 0 where
@@ -115,6 +115,7 @@ pub record Instruction (s : Setting) (place : ℕ) (i : Instr) : Type 0 where
 
 hart_executes :
     (s : Setting) (h : Hart) (v : View) (i : Instr) → Stands s h v → Instruction s v.place i → hart h ≡ executed i h
+unfolding hart
 hart_executes s h v i stands instruction =
     ap (λ o. fetched o h)
     (ap (λ (image : Tables). fetch image.code h.pc) stands.image ∙ fetch_at s.image.code h.pc v.place (encoded i) stands.pc instruction.there)

@@ -1,11 +1,12 @@
 use Rattle.std.proofs.Common.{◌≡◌, ℕ, List, subst, suc, zero, [], drop, refl, sym, ap, ◌∙◌, rules}
+use Rattle.std.proofs.lemmas.Result.{IfOk-weaker}
 use Rattle.bs_words.specs.declared.types.Comp.TheVariants.{Val}
 use Rattle.rv_machine.specs.Allocation.{allocated}
 use Rattle.rv_machine.specs.Hart.{Placed, register}
 use Rattle.rv_machine.specs.Observation.{observed}
-use Rattle.rv_machine.specs.Services.{Machine, Over, Returned, Raised, Stopped, served, value_returned}
+use Rattle.rv_machine.specs.Services.{Machine, Now, Over, Returned, Raised, Stopped, after_allocation, served, value_returned}
 use Rattle.rv_machine.specs.declared.cause.Cause.TheVariants.{BadService}
-use Rattle.mover_runtime.specs.Outcome.{allocation_text, calling_none, progress_text}
+use Rattle.mover_runtime.specs.Outcome.{Serves, allocation_text, calling_none, progress_text}
 use Rattle.mover_runtime.specs.Written.{Writes}
 use Rattle.mover_runtime.specs.Schedules.{schedule_of}
 use Rattle.mover_runtime.proofs.Runs.{Plans, allocation_progress}
@@ -43,6 +44,19 @@ returns-in_ok-end-in_default-clause-reported g c = (
       ∙ other (schedule_of c.args.schedule.now).plan c.register.result (calling_none c.args.machine.now c.args.returns (drop c.args.taken.now c.args.answers.now)) (search rules) (search rules) (search rules) (search rules) (search rules)),
   c.in_ok-end-in_default.ensures.reported,
 )
+
+pub returns-in-3-clause-reported : goal.returns-in-3-clause-reported
+returns-in-3-clause-reported g c =
+    let schedule = schedule_of c.args.schedule.now in
+    let h = c.args.machine.now in
+    let answers = drop c.args.taken.now c.args.answers.now in
+    let planned = c.plan-plan.ensures ∙ ap schedule.plan c.services.ensures in
+    let same =
+    ap (λ (p : List Placed → List ℕ). after_allocation (allocated p h) (calling_none h c.args.returns answers)) planned
+    ∙ ap (λ (n : ℕ). served schedule.plan n (calling_none h c.args.returns answers)) (sym c.in-3.is ∙ c.register.ensures) in
+    IfOk-weaker c.allocate.result _ _
+    (λ end serves. subst (λ (now : Now). Serves end now c.allocate.new.machine c.args.returns answers) same (serves c.args.returns answers))
+    c.allocate.ensures.reported
 
 pub returns-in-3-clause-text : goal.returns-in-3-clause-text
 returns-in-3-clause-text g c =
