@@ -1,3 +1,5 @@
 pub mod Losing
 pub mod Made
 pub mod Keeps
+pub mod Forms
+pub mod Proper
