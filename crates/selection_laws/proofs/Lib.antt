@@ -3,3 +3,4 @@ pub mod Made
 pub mod Keeps
 pub mod Forms
 pub mod Proper
+pub mod Marked
