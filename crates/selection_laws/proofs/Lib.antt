@@ -4,3 +4,4 @@ pub mod Keeps
 pub mod Forms
 pub mod Proper
 pub mod Marked
+pub mod Nested

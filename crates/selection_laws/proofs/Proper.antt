@@ -39,7 +39,7 @@ pub proper_in : {given : Ret} {code : List Instr} → AllProper given code → (
 proper_in none i c = absurd (contains_none i c)
 proper_in {given} (one {i = j} {next = next} x xs) i c = ⊎_elim (λ e. subst (IsProper given) e x) (λ c. proper_in xs i c) (contains_cases j next i c)
 
-scopes_after : (env : List Named) (b : ℕ) (bs : Bindings) → scopes (env_after env b bs) ≡ with_bindings (scopes env) bs
+pub scopes_after : (env : List Named) (b : ℕ) (bs : Bindings) → scopes (env_after env b bs) ≡ with_bindings (scopes env) bs
 scopes_after env b NoBinding = refl
 scopes_after env b (Bind at name declared e rest) = scopes_after (bound_name env b name declared e ∷ env) (suc (b + width e)) rest
 
@@ -167,7 +167,7 @@ module _ (given : Ret) where
         (proper_constant (right_of bound_test index) _ (proper_select env labels false false _ _ index fine.1)) _ (one (p_checkbound index _ _) z)
     proper_select env labels valued tail d b (Raise at e) fine next z = proper_select env labels false false _ _ e fine _ (one (p_move _ _) (one (p_raise _) z))
     proper_select env labels valued tail d b (Switch at size_at size selector cases) fine next z =
-        proper_select env labels false false _ _ selector fine.0 _ (one (p_choice _ _) (proper_cases env labels _ tail _ _ _ _ _ cases fine.1 _ (one (p_bare (mark.End _) end_form anywhere) z)))
+        proper_select env labels false false _ _ selector fine.1.0 _ (one (p_choice _ _) (proper_cases env labels _ tail _ _ _ _ _ cases fine.1.1 _ (one (p_bare (mark.End _) end_form anywhere) z)))
     proper_select env labels valued tail d b (Try at body name_at name handler) fine next z =
         one (p_bare (mark.Try _) try_form anywhere)
         (proper_select env (deeper labels) _ false _ _ body fine.0 _

@@ -1,6 +1,6 @@
 -- What selection needs of a tree, node by node, in the scope of names. The checks of the front give
--- it: integers are words, calls keep the limits, headers fit their blocks, and no argument of an
--- external call is an address.
+-- it: integers are words, calls keep the limits, headers fit their blocks, a switch has a case, and
+-- no argument of an external call is an address.
 use Rattle.std.specs.Prelude.{◌≡◌, ℕ, ◌<◌, ◌≤◌, true, false, ◌∷◌, List, [], length}
 use Rattle.bs_words.specs.declared.types.Ty.TheVariants as ty
 use Rattle.bs_fault.specs.Limits.{most_params}
@@ -20,6 +20,10 @@ HasFew arguments = row_length arguments ≤ most_params
 abbrev pub NoAddress : List Scoped → Expressions → Type 0
 NoAddress names NoMore = Unit {0}
 NoAddress names (More e rest) = (is_address (type_of names e) ≡ false) × NoAddress names rest
+
+abbrev pub HasCase : Cases → Type 0
+HasCase NoCase = ⊥
+HasCase (Choose indexes body rest) = Unit {0}
 
 abbrev mutual
   pub Fits : List Scoped → Expression → Type 0
@@ -48,7 +52,7 @@ abbrev mutual
   Fits names (If at condition on_true on_false) =
       Fits names condition × (Fits names on_true × Fits names on_false)
   Fits names (Switch at size_at size selector cases) =
-      Fits names selector × CasesFit names cases
+      HasCase cases × (Fits names selector × CasesFit names cases)
   Fits names (Catch at body handlers) = Fits names body × HandlersFit names handlers
   Fits names (Exit at label_at label arguments) = RowFits names arguments
   Fits names (Try at body name_at name handler) =
