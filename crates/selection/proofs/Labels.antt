@@ -35,7 +35,7 @@ pub data Distinct : List Instr → Type 0 where
   nil : Distinct []
   cons : {i : Instr} {is : List Instr} → ((l : ℕ) → marks l i.op ≡ true → NoMark l is) → Distinct is → Distinct (i ∷ is)
 
-no_mark_in : {l : ℕ} {i : Instr} {rest code : List Instr} → Ending (i ∷ rest) code → NoMark l code → marks l i.op ≡ true → ⊥
+pub no_mark_in : {l : ℕ} {i : Instr} {rest code : List Instr} → Ending (i ∷ rest) code → NoMark l code → marks l i.op ≡ true → ⊥
 no_mark_in all (one e n) m = true≢false (sym m ∙ e)
 no_mark_in (more x) (one e n) m = no_mark_in x n m
 

@@ -5,3 +5,5 @@ pub mod Forms
 pub mod Proper
 pub mod Marked
 pub mod Nested
+pub mod CasesAgree
+pub mod WellFormed

@@ -1,12 +1,13 @@
 -- Labels of selected code stand where control comes to them, and its tries nest.
 use Rattle.std.proofs.Common.{◌≡◌, ℕ, zero, suc, ◌+◌, ◌<◌, ◌≤◌, length, Bool, true, false, not, cond, ◌⊎◌, inl, inr, List, [], ◌∷◌, ◌++◌, map, Option, Some, None, refl, sym, ap, ◌∙◌, subst, arith}
-use Rattle.std.specs.Prelude.{nat_eq}
+use Rattle.std.specs.Prelude.{Contains, nat_eq}
 use Rattle.std.proofs.lemmas.Bool.{true≢false, eq-eqb, cases_lt}
 use Rattle.bs_words.specs.declared.types.Chunk.{Chunk}
 use Rattle.bs_words.specs.declared.types.Ret.{Ret}
 use Rattle.bs_words.specs.declared.types.Ret.TheVariants as ret
 use Rattle.bs_words.specs.declared.types.Ty.{Ty}
 use Rattle.cmm_tree.specs.Tree.{LabelTree, same_label, is_bare, FunctionTree, Expression, Integer, Pointer, Symbol, Name, Nothing, Float, Let, Assign, Operator, Load, Store, Alloc, App, Extcall, Checkbound, Raise, Seq, If, Switch, Catch, Exit, Try, Expressions, NoMore, More, Bindings, NoBinding, Bind, Cases, NoCase, Choose, Handlers, NoHandler, Handle}
+use Rattle.cmm_types.proofs.Containing.{contains_none, contains_cases}
 use Rattle.cmm_types.specs.Light.{is_light_address}
 use Rattle.cmm_types.specs.Types.{type_of, result_of, body_type}
 use Rattle.cmm_meaning.specs.Choices.{is_named}
@@ -60,6 +61,29 @@ pub data Caught (code : List Instr) : List ℕ → Type 0 where
   uncaught : Caught code []
   caught : {l : ℕ} {ts : List ℕ} → Handled l ts code → Caught code ts → Caught code (l ∷ ts)
 
+-- the case that a switch takes to a label stands in a code
+pub record Taken (l : ℕ) (labels : List ℕ) (ts : List ℕ) (code : List Instr) : Type 0 where
+  pub end : ℕ
+  pub rest : List Instr
+  pub there : Ending (bare (mark.Case (indexes_of l 0 labels) l end) ∷ rest) code
+  pub tries : tries_at rest ≡ ts
+
+-- a switch stands in a code that takes these indexes to a label
+pub record Chosen (l : ℕ) (indexes : List ℕ) (code : List Instr) : Type 0 where
+  pub labels : List ℕ
+  pub index : Reg
+  pub rest : List Instr
+  pub there : Ending (emit.choose labels index ∷ rest) code
+  pub is : indexes ≡ indexes_of l 0 labels
+
+taken_in : {l : ℕ} {labels ts : List ℕ} {a b : List Instr} → Ending a b → Taken l labels ts a → Taken l labels ts b
+taken_in e f = record { end = f.end; rest = f.rest; there = ending_in f.there e; tries = f.tries }
+
+abbrev is_choice : MachOp → Bool
+is_choice (mach.Mark (mark.Switch labels)) = true
+is_choice (mach.Mark (mark.Case indexes l end)) = true
+is_choice _ = false
+
 abbrev is_try : MachOp → Bool
 is_try (mach.Mark (mark.Try l)) = true
 is_try _ = false
@@ -76,6 +100,8 @@ pub record IsKept (whole : List Instr) (i : Instr) (next : List Instr) : Type 0 
   pub pushed : (l : ℕ) → i.op ≡ mach.Mark (mark.Try l) → tries_at next ≡ l ∷ tries_at (i ∷ next)
   pub catches : Caught whole (tries_at (i ∷ next))
   pub left : leaves i.op ≡ true → tries_at (i ∷ next) ≡ []
+  pub takes : (labels : List ℕ) → i.op ≡ mach.Mark (mark.Switch labels) → (l : ℕ) → Contains labels l → Taken l labels (tries_at (i ∷ next)) next
+  pub taken : (indexes : List ℕ) (l end : ℕ) → i.op ≡ mach.Mark (mark.Case indexes l end) → Chosen l indexes whole
 
 pub data AllKept (whole : List Instr) : List Instr → Type 0 where
   none : AllKept whole []
@@ -102,9 +128,11 @@ self l = eq-eqb l l refl
 
 module _ (whole : List Instr) where
   -- an instruction that is no exit, no mark of a try, and does not leave the function
-  plain : (i : Instr) (next : List Instr) → is_exit i.op ≡ false → is_leave i.op ≡ false → is_try i.op ≡ false → leaves i.op ≡ false → Caught whole (tries_at (i ∷ next)) →
-      ((l : ℕ) → LeadsTo i.op l → Found l (tries_left i.op (tries_at (i ∷ next))) next) → IsKept whole i next
-  plain i next no_exit no_leave no_try stays c lands =
+  goes : (i : Instr) (next : List Instr) → is_exit i.op ≡ false → is_leave i.op ≡ false → is_try i.op ≡ false → leaves i.op ≡ false → Caught whole (tries_at (i ∷ next)) →
+      ((l : ℕ) → LeadsTo i.op l → Found l (tries_left i.op (tries_at (i ∷ next))) next) →
+      ((labels : List ℕ) → i.op ≡ mach.Mark (mark.Switch labels) → (l : ℕ) → Contains labels l → Taken l labels (tries_at (i ∷ next)) next) →
+      ((indexes : List ℕ) (l end : ℕ) → i.op ≡ mach.Mark (mark.Case indexes l end) → Chosen l indexes whole) → IsKept whole i next
+  goes i next no_exit no_leave no_try stays c lands takes taken =
       record {
         lands = λ l o _. lands l o;
         exits = λ l o e. absurd (true≢false (sym e ∙ no_exit));
@@ -112,10 +140,17 @@ module _ (whole : List Instr) where
         pushed = λ l e. absurd (true≢false (sym (ap is_try e) ∙ no_try));
         catches = c;
         left = λ e. absurd (true≢false (sym e ∙ stays));
+        takes = takes;
+        taken = taken;
       }
 
+  plain : (i : Instr) (next : List Instr) → is_exit i.op ≡ false → is_leave i.op ≡ false → is_try i.op ≡ false → leaves i.op ≡ false → is_choice i.op ≡ false → Caught whole (tries_at (i ∷ next)) →
+      ((l : ℕ) → LeadsTo i.op l → Found l (tries_left i.op (tries_at (i ∷ next))) next) → IsKept whole i next
+  plain i next no_exit no_leave no_try stays no_choice c lands =
+      goes i next no_exit no_leave no_try stays c lands (λ labels e. absurd (true≢false (sym (ap is_choice e) ∙ no_choice))) (λ indexes l end e. absurd (true≢false (sym (ap is_choice e) ∙ no_choice)))
+
   kept_op : (f : Op) (args results : List Reg) (next : List Instr) → leaves_function f ≡ false → Caught whole (tries_at next) → IsKept whole (emit.operation f args results) next
-  kept_op f args results next stays c = plain _ next refl refl refl stays c (λ l o. absurd (none_next (goes_on f) l o))
+  kept_op f args results next stays c = plain _ next refl refl refl stays refl c (λ l o. absurd (none_next (goes_on f) l o))
 
   kept_leaving : (f : Op) (args results : List Reg) (next : List Instr) → tries_at next ≡ [] → IsKept whole (emit.operation f args results) next
   kept_leaving f args results next e =
@@ -126,6 +161,8 @@ module _ (whole : List Instr) where
         pushed = λ l e. absurd (true≢false (sym (ap is_try e)));
         catches = subst (Caught whole) (sym e) uncaught;
         left = λ _. e;
+        takes = λ labels e. absurd (true≢false (sym (ap is_choice e)));
+        taken = λ indexes n stop e. absurd (true≢false (sym (ap is_choice e)));
       }
 
   -- code within these tries
@@ -254,6 +291,8 @@ module _ (whole : List Instr) where
             pushed = λ l e. absurd (true≢false (sym (ap is_try e)));
             catches = subst (Caught whole) (sym e) c;
             left = λ e. absurd (true≢false (sym e));
+            takes = λ labels e. absurd (true≢false (sym (ap is_choice e)));
+            taken = λ indexes n stop e. absurd (true≢false (sym (ap is_choice e)));
           }
 
   -- what a part of an expression needs where it stands
@@ -271,17 +310,42 @@ module _ (whole : List Instr) where
 
   -- marks that lead nowhere but on
   end_kept : {ts : List ℕ} → Caught whole ts → (l : ℕ) (next : List Instr) → tries_at next ≡ ts → IsKept whole (bare (mark.End l)) next
-  end_kept c l next e = plain _ next refl refl refl refl (subst (Caught whole) (sym e) c) (λ k o. absurd (none_on k o))
+  end_kept c l next e = plain _ next refl refl refl refl refl (subst (Caught whole) (sym e) c) (λ k o. absurd (none_on k o))
 
   found_end : {ts : List ℕ} (l : ℕ) (next : List Instr) → tries_at next ≡ ts → Found l ts (bare (mark.End l) ∷ next)
   found_end l next e = record { at = bare (mark.End l); rest = next; there = all; has = self l; tries = e }
 
+  -- a mark that is no switch, and where it is a case, is that of one
+  record Takes (f : Mark) : Type 0 where
+    no_switch : (labels : List ℕ) → mach.Mark f ≡ mach.Mark (mark.Switch labels) → ⊥
+    chosen : (indexes : List ℕ) (l end : ℕ) → mach.Mark f ≡ mach.Mark (mark.Case indexes l end) → Chosen l indexes whole
+
+  no_choice : (f : Mark) → is_choice (mach.Mark f) ≡ false → Takes f
+  no_choice f e = record { no_switch = λ labels is. true≢false (sym (ap is_choice is) ∙ e); chosen = λ indexes l end is. absurd (true≢false (sym (ap is_choice is) ∙ e)) }
+
+  a_case : (labels : List ℕ) (x : Reg) (rest : List Instr) → Ending (emit.choose labels x ∷ rest) whole → (l end : ℕ) → Takes (mark.Case (indexes_of l 0 labels) l end)
+  a_case labels x rest there l end =
+      record {
+        no_switch = λ others e. not_switch others e;
+        chosen = λ indexes k stop e. subst (λ n. Chosen n indexes whole) (same_label' indexes k stop e) (record { labels = labels; index = x; rest = rest; there = there; is = sym (same_indexes indexes k stop e) });
+      }
+    where
+      not_switch : (others : List ℕ) → mach.Mark (mark.Case (indexes_of l 0 labels) l end) ≡ mach.Mark (mark.Switch others) → ⊥
+      not_switch others e = cc
+
+      same_label' : (indexes : List ℕ) (k stop : ℕ) → mach.Mark (mark.Case (indexes_of l 0 labels) l end) ≡ mach.Mark (mark.Case indexes k stop) → l ≡ k
+      same_label' indexes k stop e = cc
+
+      same_indexes : (indexes : List ℕ) (k stop : ℕ) → mach.Mark (mark.Case (indexes_of l 0 labels) l end) ≡ mach.Mark (mark.Case indexes k stop) → indexes_of l 0 labels ≡ indexes
+      same_indexes indexes k stop e = cc
+
   -- a mark that leads to the end of its branches
   to_end : {ts : List ℕ} (f : Mark) (end : ℕ) (next : List Instr) → targets (mach.Mark f) ≡ At end ∷ [] → is_exit (mach.Mark f) ≡ false → is_leave (mach.Mark f) ≡ false → is_try (mach.Mark f) ≡ false →
-      tries_left (mach.Mark f) (tries_at (bare f ∷ next)) ≡ ts → Caught whole (tries_at (bare f ∷ next)) → Found end ts next → IsKept whole (bare f) next
-  to_end {ts} f end next leads no_exit no_leave no_try same c found =
-      plain (bare f) next no_exit no_leave no_try refl c
+      tries_left (mach.Mark f) (tries_at (bare f ∷ next)) ≡ ts → Caught whole (tries_at (bare f ∷ next)) → Found end ts next → Takes f → IsKept whole (bare f) next
+  to_end {ts} f end next leads no_exit no_leave no_try same c found t =
+      goes (bare f) next no_exit no_leave no_try refl c
       (λ l o. subst (λ z. Found l z next) (sym same) (subst (λ k. Found k ts next) (one_target l end (subst (OneOf (At l)) leads o)) found))
+      (λ labels e. absurd (t.no_switch labels e)) t.chosen
 
   -- ---- branches
 
@@ -301,7 +365,7 @@ module _ (whole : List Instr) where
       there_at next k found (other o) = subst (λ n. Found n (tries_at next) next) (one_target k l o) found
 
       branch : (next : List Instr) → tries_at next ≡ ts → Found l ts next → IsKept whole (emit.branch t l args) next
-      branch next e found = plain _ next refl refl refl refl (subst (Caught whole) (sym e) c) (λ k o. there_at next k (subst (λ z. Found l z next) (sym e) found) o)
+      branch next e found = plain _ next refl refl refl refl refl (subst (Caught whole) (sym e) c) (λ k o. there_at next k (subst (λ z. Found l z next) (sym e) found) o)
 
   tests_either : {ts : List ℕ} {l : ℕ} {value : Code} (o : Option Test) (fused : Test → Code) → ((t : Test) → Tests ts l (fused t)) → Tests ts l value → Tests ts l (λ next. tested o (λ t. fused t next) (value next))
   tests_either (Some t) fused f v = f t
@@ -322,7 +386,7 @@ module _ (whole : List Instr) where
             let ends_true = ending_in wc.ending ends in
             let ends_false = ending_next (ending_in wt.ending ends_true) in
             let kept_false = n.kept last e ends_false (one (end_kept c end next e) z) in
-            let kept_else = to_end (mark.Else l end) end (false_code last) refl refl refl refl ef (subst (Caught whole) (sym ef) c) (found_in wf.ending (found_end end next e)) in
+            let kept_else = to_end (mark.Else l end) end (false_code last) refl refl refl refl ef (subst (Caught whole) (sym ef) c) (found_in wf.ending (found_end end next e)) (no_choice (mark.Else l end) refl) in
             let found : Found l ts others = record { at = bare (mark.Else l end); rest = false_code last; there = all; has = self l; tries = ef } in
             t.kept (true_code others) (wt.tries ∙ ef) ends (found_in wt.ending found) (y.kept others ef ends_true (one kept_else kept_false));
       }
@@ -337,8 +401,8 @@ module _ (whole : List Instr) where
   no_branches = record { within = λ next. inside_all; kept = λ next e ends found z. z }
 
   more_branches : {ts : List ℕ} {end : ℕ} {body rest : Code} (f : Mark) → targets (mach.Mark f) ≡ At end ∷ [] → is_exit (mach.Mark f) ≡ false → is_leave (mach.Mark f) ≡ false → is_try (mach.Mark f) ≡ false →
-      ((next : List Instr) → tries_at (bare f ∷ next) ≡ tries_at next) → ((z : List ℕ) → tries_left (mach.Mark f) z ≡ z) → Caught whole ts → Walks ts body → Branches ts end rest → Branches ts end (λ next. bare f ∷ body (rest next))
-  more_branches {ts} {end} {body} {rest} f leads no_exit no_leave no_try same stays c b r =
+      ((next : List Instr) → tries_at (bare f ∷ next) ≡ tries_at next) → ((z : List ℕ) → tries_left (mach.Mark f) z ≡ z) → Takes f → Caught whole ts → Walks ts body → Branches ts end rest → Branches ts end (λ next. bare f ∷ body (rest next))
+  more_branches {ts} {end} {body} {rest} f leads no_exit no_leave no_try same stays t c b r =
       record {
         within = λ next. inside_more (same (body (rest next))) (inside_in (r.within next) (b.within (rest next)));
         kept = λ next e ends found z.
@@ -347,7 +411,7 @@ module _ (whole : List Instr) where
             let wb = b.within (rest next) in
             let eb = same (body (rest next)) ∙ wb.tries ∙ er in
             let ends_body = ending_next ends in
-            let here' = to_end f end (body (rest next)) leads no_exit no_leave no_try (stays (tries_at (bare f ∷ body (rest next))) ∙ eb) (subst (Caught whole) (sym eb) c) (found_in wb.ending (found_in wr.ending found)) in
+            let here' = to_end f end (body (rest next)) leads no_exit no_leave no_try (stays (tries_at (bare f ∷ body (rest next))) ∙ eb) (subst (Caught whole) (sym eb) c) (found_in wb.ending (found_in wr.ending found)) t in
             one here' (b.kept (rest next) er ends_body (r.kept next e (ending_in wb.ending ends_body) found z));
       }
 
@@ -370,30 +434,60 @@ module _ (whole : List Instr) where
   labels_range l cs has n (suc size) k (other o) = labels_range l cs has (suc n) size k o
 
   case_marks : {ts : List ℕ} (env : List Named) (labels : List Label) (valued tail : Bool) (d : Reg) (every : List ℕ) (end l b : ℕ) (cs : Cases) (next : List Instr) → tries_at next ≡ ts → (k : ℕ) → Range l (l + count_cases cs) k →
-      Found k ts (select_cases env labels valued tail d every end l b cs next)
+      Taken k every ts (select_cases env labels valued tail d every end l b cs next)
   case_marks env labels valued tail d every end l b NoCase next e k r = let from = r.from in let to = r.to in absurd (omega (arith, from, to))
   case_marks {ts} env labels valued tail d every end l b (Choose indexes body rest) next e k r =
       let wr = ending_cases env labels valued tail d every end (suc l) (b + width body) rest next in
       let wb = ending_select env labels valued tail d b body (select_cases env labels valued tail d every end (suc l) (b + width body) rest next) in
       by (cases_lt l k) wb.ending (wb.tries ∙ wr.tries ∙ e) (λ r. case_marks env labels valued tail d every end (suc l) (b + width body) rest next e k r)
     where
-      by : {inner outer : List Instr} → (l < k) ⊎ (k ≤ l) → Ending inner outer → tries_at outer ≡ ts → (Range (suc l) (suc l + count_cases rest) k → Found k ts inner) → Found k ts (bare (mark.Case (indexes_of l 0 every) l end) ∷ outer)
-      by (inl less) en es others = let to = r.to in found_in (more en) (others (record { from = omega (arith, less); to = omega (arith, to) }))
-      by {outer = outer} (inr le) en es others = let from = r.from in record { at = bare (mark.Case (indexes_of l 0 every) l end); rest = outer; there = all; has = eq-eqb l k (omega (arith, le, from)); tries = es }
+      by : {inner outer : List Instr} → (l < k) ⊎ (k ≤ l) → Ending inner outer → tries_at outer ≡ ts → (Range (suc l) (suc l + count_cases rest) k → Taken k every ts inner) → Taken k every ts (bare (mark.Case (indexes_of l 0 every) l end) ∷ outer)
+      by (inl less) en es others = let to = r.to in taken_in (more en) (others (record { from = omega (arith, less); to = omega (arith, to) }))
+      by {outer = outer} (inr le) en es others =
+          let from = r.from in
+          let own : Taken l every ts (bare (mark.Case (indexes_of l 0 every) l end) ∷ outer) = record { end = end; rest = outer; there = all; tries = es } in
+          subst (λ n. Taken n every ts (bare (mark.Case (indexes_of l 0 every) l end) ∷ outer)) (omega (arith, le, from)) own
 
-  walks_switch : {ts : List ℕ} {selector cases_code : Code} → Caught whole ts → (all_labels : List ℕ) (x : Reg) (end : ℕ) → Walks ts selector → Branches ts end cases_code →
-      ((next : List Instr) → tries_at next ≡ ts → (k : ℕ) → OneOf (At k) (map At all_labels) → Found k ts (cases_code next)) → Walks ts (λ next. selector (emit.choose all_labels x ∷ cases_code (bare (mark.End end) ∷ next)))
-  walks_switch {ts} {selector} {cases_code} c all_labels x end s b marks =
+  found_taken : {l : ℕ} {labels ts : List ℕ} {code : List Instr} → Taken l labels ts code → Found l ts code
+  found_taken {l} {labels} t = record { at = bare (mark.Case (indexes_of l 0 labels) l t.end); rest = t.rest; there = t.there; has = self l; tries = t.tries }
+
+  one_of : (ls : List ℕ) (k : ℕ) → Contains ls k → OneOf (At k) (map At ls)
+  one_of [] k c = absurd (contains_none k c)
+  one_of (l ∷ ls) k c = by (contains_cases l ls k c) (one_of ls k)
+    where
+      by : (l ≡ k) ⊎ Contains ls k → (Contains ls k → OneOf (At k) (map At ls)) → OneOf (At k) (At l ∷ map At ls)
+      by (inl e) others = subst (λ n. OneOf (At k) (At n ∷ map At ls)) (sym e) this
+      by (inr c) others = other (others c)
+
+  walks_switch : {ts : List ℕ} {selector cases_code : Code} → Caught whole ts → (all_labels : List ℕ) (x : Reg) (end : ℕ) → Walks ts selector → ((next : List Instr) → Within next (cases_code next)) →
+      ((rest : List Instr) → Ending (emit.choose all_labels x ∷ rest) whole → Branches ts end cases_code) → ((next : List Instr) → tries_at next ≡ ts → (k : ℕ) → OneOf (At k) (map At all_labels) → Taken k all_labels ts (cases_code next)) →
+      Walks ts (λ next. selector (emit.choose all_labels x ∷ cases_code (bare (mark.End end) ∷ next)))
+  walks_switch {ts} {selector} {cases_code} c all_labels x end s wb given marks =
       record {
-        within = λ next. inside_in (inside_more refl (inside_in (inside_more refl inside_all) (b.within (bare (mark.End end) ∷ next)))) (s.within _);
+        within = λ next. inside_in (inside_more refl (inside_in (inside_more refl inside_all) (wb (bare (mark.End end) ∷ next)))) (s.within _);
         kept = λ next e ends z.
             let last = bare (mark.End end) ∷ next in
-            let wc = b.within last in
+            let wc = wb last in
             let ec = wc.tries ∙ e in
             let ws = s.within (emit.choose all_labels x ∷ cases_code last) in
-            let choice = plain (emit.choose all_labels x) (cases_code last) refl refl refl refl (subst (Caught whole) (sym ec) c) (λ k o. subst (λ z. Found k z (cases_code last)) (sym ec) (marks last e k o)) in
-            s.kept (emit.choose all_labels x ∷ cases_code last) ec ends (one choice (b.kept last e (ending_next (ending_in ws.ending ends)) (found_end end next e) (one (end_kept c end next e) z)));
+            let ends_choice = ending_in ws.ending ends in
+            let b = given (cases_code last) ends_choice in
+            s.kept (emit.choose all_labels x ∷ cases_code last) ec ends
+            (one (choice (cases_code last) ec (λ k o. marks last e k o)) (b.kept last e (ending_next ends_choice) (found_end end next e) (one (end_kept c end next e) z)));
       }
+    where
+      same_labels : (others : List ℕ) → mach.Mark (mark.Switch all_labels) ≡ mach.Mark (mark.Switch others) → all_labels ≡ others
+      same_labels others e = cc
+
+      no_case : (indexes : List ℕ) (l stop : ℕ) → mach.Mark (mark.Switch all_labels) ≡ mach.Mark (mark.Case indexes l stop) → ⊥
+      no_case indexes l stop e = cc
+
+      choice : (next : List Instr) → tries_at next ≡ ts → ((k : ℕ) → OneOf (At k) (map At all_labels) → Taken k all_labels ts next) → IsKept whole (emit.choose all_labels x) next
+      choice next e marks =
+          goes (emit.choose all_labels x) next refl refl refl refl (subst (Caught whole) (sym e) c) (λ k o. subst (λ z. Found k z next) (sym e) (found_taken (marks k o)))
+          (λ others is k in_others.
+          subst (λ ls. Taken k ls (tries_at next) next) (same_labels others is) (subst (λ z. Taken k all_labels z next) (sym e) (marks k (one_of all_labels k (subst (λ ls. Contains ls k) (sym (same_labels others is)) in_others)))))
+          (λ indexes l stop is. absurd (no_case indexes l stop is))
 
   -- the handlers of a catch stand in the code
   found_own : {ts : List ℕ} (env : List Named) (labels : List Label) (valued tail : Bool) (d : Reg) (end l b : ℕ) (hs : Handlers) (next : List Instr) → tries_at next ≡ ts → Ending (select_handlers env labels valued tail d end l b hs next) whole →
@@ -421,7 +515,7 @@ module _ (whole : List Instr) where
             let both = given last e ends_handlers in
             let b = both.0 in
             let h = both.1 in
-            one (plain (bare mark.Catch) _ refl refl refl refl (subst (Caught whole) (sym eb) c) (λ k o. absurd (none_on k o)))
+            one (plain (bare mark.Catch) _ refl refl refl refl refl (subst (Caught whole) (sym eb) c) (λ k o. absurd (none_on k o)))
             (b.kept (handlers_code last) eh ends_body (h.kept last e ends_handlers (found_end end next e) (one (end_kept c end next e) z)));
       }
 
@@ -448,7 +542,7 @@ module _ (whole : List Instr) where
             let c' = caught handled c in
             let known = subst (Caught whole) (sym eh) c in
             let kept_entry =
-            one (plain (emit.handler l y) (emit.move y r ∷ code) refl refl refl refl known (λ k o. absurd (none_on k o)))
+            one (plain (emit.handler l y) (emit.move y r ∷ code) refl refl refl refl refl known (λ k o. absurd (none_on k o)))
             (one (kept_op _ (y ∷ []) (r ∷ []) code refl known) (h.kept last e (ending_next (ending_next ends_entry)) (one (end_kept c end next e) z))) in
             let found = subst (λ z. Found end z entry) (sym eh) (found_in (more (more wh.ending)) (found_end end next e)) in
             let inside = b c' in
@@ -471,6 +565,8 @@ module _ (whole : List Instr) where
             pushed = λ k e. subst (λ z. z ≡ k ∷ drop_tries 1 z) (sym eb) (ap (λ n. n ∷ ts) (same_try k e));
             catches = subst (λ z. Caught whole (drop_tries 1 z)) (sym eb) c;
             left = λ e. absurd (true≢false (sym e));
+            takes = λ labels e. absurd (true≢false (sym (ap is_choice e)));
+            taken = λ indexes n stop e. absurd (true≢false (sym (ap is_choice e)));
           }
 
       leave_kept : (rest : List Instr) → Found end (tries_at rest) (emit.handler l y ∷ rest) → Caught whole (l ∷ tries_at rest) → IsKept whole (bare (mark.Leave l end)) (emit.handler l y ∷ rest)
@@ -482,6 +578,8 @@ module _ (whole : List Instr) where
             pushed = λ k e. absurd (true≢false (sym (ap is_try e)));
             catches = c';
             left = λ e. absurd (true≢false (sym e));
+            takes = λ labels e. absurd (true≢false (sym (ap is_choice e)));
+            taken = λ indexes n stop e. absurd (true≢false (sym (ap is_choice e)));
           }
 
   mutual
@@ -560,7 +658,8 @@ module _ (whole : List Instr) where
         let wants = inner_valued valued type in
         let d' = inner_dest type b d in
         walks_switch x.catches every _ (suc (suc b)) (walks_select env labels false false _ base selector fine.1.0 (quiet x))
-        (walks_cases env labels wants tail d' every (suc (suc b)) l (base + width selector) cases fine.1.1 x)
+        (λ next. ending_cases env labels wants tail d' every (suc (suc b)) l (base + width selector) cases next)
+        (λ rest there. walks_cases env labels wants tail d' every (suc (suc b)) l (base + width selector) cases fine.1.1 x _ rest there)
         (λ next e k o. case_marks env labels wants tail d' every (suc (suc b)) l (base + width selector) cases next e k (labels_range l cases fine.0 0 size k o))
     walks_select env labels valued tail d b (Try at body name_at name handler) fine x =
         let type = type_of (scopes env) (Try at body name_at name handler) in
@@ -583,11 +682,12 @@ module _ (whole : List Instr) where
         v
     walks_test env labels l b e fine x v = v
 
-    walks_cases : {ts : List ℕ} (env : List Named) (labels : List Label) (valued tail : Bool) (d : Reg) (every : List ℕ) (end l b : ℕ) (cs : Cases) → CasesFit (scopes env) cs → Surrounds ts labels tail →
-        Branches ts end (select_cases env labels valued tail d every end l b cs)
-    walks_cases env labels valued tail d every end l b NoCase fine x = no_branches
-    walks_cases env labels valued tail d every end l b (Choose indexes body rest) fine x =
-        more_branches (mark.Case _ l end) refl refl refl refl (λ next. refl) (λ z. refl) x.catches (walks_select env labels valued tail d b body fine.0 x) (walks_cases env labels valued tail d every end _ _ rest fine.1 x)
+    walks_cases : {ts : List ℕ} (env : List Named) (labels : List Label) (valued tail : Bool) (d : Reg) (every : List ℕ) (end l b : ℕ) (cs : Cases) → CasesFit (scopes env) cs → Surrounds ts labels tail → (index : Reg) (after : List Instr) →
+        Ending (emit.choose every index ∷ after) whole → Branches ts end (select_cases env labels valued tail d every end l b cs)
+    walks_cases env labels valued tail d every end l b NoCase fine x index after there = no_branches
+    walks_cases env labels valued tail d every end l b (Choose indexes body rest) fine x index after there =
+        more_branches (mark.Case (indexes_of l 0 every) l end) refl refl refl refl (λ next. refl) (λ z. refl) (a_case every index after there l end) x.catches (walks_select env labels valued tail d b body fine.0 x)
+        (walks_cases env labels valued tail d every end _ _ rest fine.1 x index after there)
 
     walks_waiting : {ts : List ℕ} (env : List Named) (labels : List Label) (b i : ℕ) (es : Expressions) → RowFits (scopes env) es → Surrounds ts labels false → Walks ts (select_waiting env labels b i es)
     walks_waiting env labels b i NoMore fine x = idle
@@ -610,7 +710,7 @@ module _ (whole : List Instr) where
         Branches ts end (select_handlers env labels valued tail d end l b hs)
     walks_handlers env labels valued tail d end l b NoHandler fine x = no_branches
     walks_handlers env labels valued tail d end l b (Handle at label params body rest) fine x =
-        more_branches (mark.With l end) refl refl refl refl (λ next. refl) (λ z. refl) x.catches
+        more_branches (mark.With l end) refl refl refl refl (λ next. refl) (λ z. refl) (no_choice (mark.With l end) refl) x.catches
         (walks_select _ labels valued tail d b body (subst (λ sc. Fits sc body) (sym (scopes_params (suc l) params env)) fine.0) x) (walks_handlers env labels valued tail d end _ _ rest fine.1 x)
 
   walks_to_seat : {ts : List ℕ} → Caught whole ts → (d : Reg) (n : ℕ) (result : Ret) → Walks ts (to_seat d n result)
@@ -635,10 +735,10 @@ whole_walk f fits =
     then whole (walks_moves whole uncaught (seats 0 first (params_from (first + length f.params) f.params)) (params_from (first + length f.params) f.params))
     (then whole (walks_select whole _ [] _ true _ _ f.body body (record { catches = uncaught; found = nil; outside = λ _. refl })) (walks_to_seat whole uncaught _ _ (result_of (body_type f))))
 
-selected_kept : (f : FunctionTree) → FunctionFits f → AllKept (selected f).code (selected f).code
+pub selected_kept : (f : FunctionTree) → FunctionFits f → AllKept (selected f).code (selected f).code
 selected_kept f fits = let w = whole_walk f fits in w.kept (returning f) refl all (one (kept_leaving (selected f).code _ (result_seat _ (result_of (body_type f))) [] [] refl) none)
 
-ending_of : {i : Instr} {next code : List Instr} → Stands i next code → Ending (i ∷ next) code
+pub ending_of : {i : Instr} {next code : List Instr} → Stands i next code → Ending (i ∷ next) code
 ending_of here = all
 ending_of (below s) = more (ending_of s)
 
