@@ -7,3 +7,4 @@ pub mod Marked
 pub mod Nested
 pub mod CasesAgree
 pub mod WellFormed
+pub mod Accepting
