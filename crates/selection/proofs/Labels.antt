@@ -18,12 +18,12 @@ use Rattle.mach_ir.specs.declared.mach.Instr.{Instr}
 use Rattle.mach_ir.specs.declared.mach.Mach.{Mach}
 use Rattle.mach_ir.specs.declared.mach.MachOp.{MachOp}
 use Rattle.mach_ir.specs.Meaning.{has_label as marks_of, after_label, is_handler_of, from_handler}
-use Rattle.selection.specs.Select.{Shape, InRegisters, ConstantRight, ConstantLeft, shape_of, shape_op, shape_right, unless_left, unless_right, Named, Label, scopes, fresh, reg_of, label_of, move_from, move_to, moves_all, exit_to, ordered, only_when, seats, from_seat, to_seat, first, params_from, symbol_of, unless_symbol, right_of, unless_constant, bound_test, comparison, tested, select_test, is_based, select_base, call_of, count_of, count_cases, width_cases, select_cases, cell_stores, regs_of, width, width_row, width_bound, width_labels, width_handlers, select, select_waiting, select_filled, select_bound, select_seq, select_handlers, selected}
+use Rattle.selection.specs.Select.{Shape, InRegisters, ConstantRight, ConstantLeft, shape_of, shape_op, shape_right, unless_left, unless_right, Named, Label, scopes, fresh, reg_of, label_of, move_from, move_to, moves_all, exit_to, ordered, only_when, seats, from_seat, to_seat, first, params_from, symbol_of, unless_symbol, right_of, unless_constant, bound_test, comparison, tested, select_test, is_based, select_base, call_of, count_of, count_cases, width_cases, select_cases, cell_stores, regs_of, width, width_row, width_bound, width_labels, width_handlers, select, select_waiting, select_filled, select_bound, select_seq, select_handlers, selected, with_params, is_no_value}
 use Rattle.selection.proofs.Parts.{Ending, all, more, WellLabelled}
 use Rattle.selection.specs.Instructions as emit
 
 -- the label of a mark, or of a handler
-abbrev marks : ℕ → MachOp → Bool
+abbrev pub marks : ℕ → MachOp → Bool
 marks l op = is_handler_of l op || marks_of l op
 
 pub data NoMark (l : ℕ) : List Instr → Type 0 where
@@ -35,7 +35,7 @@ pub data Distinct : List Instr → Type 0 where
   nil : Distinct []
   cons : {i : Instr} {is : List Instr} → ((l : ℕ) → marks l i.op ≡ true → NoMark l is) → Distinct is → Distinct (i ∷ is)
 
-no_mark_in : {l : ℕ} {i : Instr} {rest code : List Instr} → Ending (i ∷ rest) code → NoMark l code → marks l i.op ≡ true → ⊥
+pub no_mark_in : {l : ℕ} {i : Instr} {rest code : List Instr} → Ending (i ∷ rest) code → NoMark l code → marks l i.op ≡ true → ⊥
 no_mark_in all (one e n) m = true≢false (sym m ∙ e)
 no_mark_in (more x) (one e n) m = no_mark_in x n m
 
@@ -449,10 +449,24 @@ returns_quiet : (d : Reg) (n : ℕ) (result : Ret) → Quiet (to_seat d n result
 returns_quiet d n ret.Unit = nothing_marked
 returns_quiet d n (ret.Comp c) = unmarked _ (λ l. refl)
 
+abbrev body_start : FunctionTree → ℕ
+body_start f = suc (suc (first + length f.params + length f.params))
+
+whole_marks : (f : FunctionTree) → Marks (Range (body_start f) (body_start f + width f.body)) (λ next. moves_all (seats 0 first (params_from (first + length f.params) f.params)) (params_from (first + length f.params) f.params)
+    (select (with_params f.params (params_from (first + length f.params) f.params) []) [] (not (is_no_value (body_type f))) true (fresh (first + length f.params + length f.params) (body_type f)) (body_start f) f.body
+    (to_seat (fresh (first + length f.params + length f.params) (body_type f)) (suc (first + length f.params + length f.params)) (result_of (body_type f)) next)))
+whole_marks f =
+    quiet_then (moves_quiet (seats 0 first (params_from (first + length f.params) f.params)) (params_from (first + length f.params) f.params))
+    (then_quiet (marks_select _ [] _ true _ _ f.body) (returns_quiet _ _ (result_of (body_type f))))
+
+-- Each label of selected code is marked once.
+pub selected_once : (f : FunctionTree) → Distinct (selected f).code
+selected_once f = let whole = whole_marks f in whole.distinct _ (cons (λ l e. absurd (true≢false (sym e))) nil) (λ l r. one refl none)
+
+-- Each label of selected code is below the number of its labels.
+pub selected_below : (f : FunctionTree) (l : ℕ) → (l < (selected f).labels → ⊥) → NoMark l (selected f).code
+selected_below f l above = let whole = whole_marks f in whole.outside l _ (λ r. above r.to) (one refl none)
+
 -- Selected code is well labelled.
 pub selected_labelled : (f : FunctionTree) → WellLabelled (selected f)
-selected_labelled f =
-    let whole =
-    quiet_then (moves_quiet (seats 0 first (params_from (first + length f.params) f.params)) (params_from (first + length f.params) f.params))
-    (then_quiet (marks_select _ [] _ true _ _ f.body) (returns_quiet _ _ (result_of (body_type f)))) in
-    well_labelled (selected f) (whole.distinct _ (cons (λ l e. absurd (true≢false (sym e))) nil) (λ l r. one refl none))
+selected_labelled f = well_labelled (selected f) (selected_once f)

@@ -1,3 +1,10 @@
 pub mod Losing
 pub mod Made
 pub mod Keeps
+pub mod Forms
+pub mod Proper
+pub mod Marked
+pub mod Nested
+pub mod CasesAgree
+pub mod WellFormed
+pub mod Accepting
