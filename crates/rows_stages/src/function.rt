@@ -1,0 +1,109 @@
+//! Functions of both languages, put together row by row.
+use crate::form::{LinForm, MachForm, name};
+use crate::registers::placed;
+use anyhow::Result;
+use bs_words::{List, Ret};
+use lin_ir::{Lin, Line, Spot};
+use mach_ir::{Instr, Mach, Reg, Seq};
+use std::alloc::Global;
+
+/// An instruction: what it does, its operands and its results.
+pub(crate) type Row<F> = (F, &'static [Reg], &'static [Reg]);
+
+fn regs(alloc: Global, regs: &[Reg]) -> Result<Seq<Reg>> {
+    Ok(Seq::from_vec(regs.to_vec(alloc)?))
+}
+
+fn spots(alloc: Global, regs: &[Reg]) -> Result<Seq<Spot>> {
+    let mut spots = Vec::new(alloc);
+    for reg in regs {
+        spots.push(placed(*reg))?;
+    }
+    Ok(Seq::from_vec(spots))
+}
+
+fn instr(alloc: Global, row: Row<MachForm>) -> Result<Instr> {
+    let (form, args, results) = row;
+    let args = regs(alloc, args)?;
+    let results = regs(alloc, results)?;
+    let op = form.op(alloc)?;
+    Ok(Instr { op, args, results })
+}
+
+fn line(alloc: Global, form: LinForm, args: &[Reg], results: &[Reg]) -> Result<Line> {
+    let args = spots(alloc, args)?;
+    let results = spots(alloc, results)?;
+    let op = form.op(alloc)?;
+    Ok(Line { op, args, results })
+}
+
+/// The code of a Mach function.
+#[derive(Drop)]
+pub(crate) struct MachCode {
+    alloc: Global,
+    instrs: Vec<Instr>,
+}
+
+impl MachCode {
+    pub(crate) fn new(alloc: Global) -> Self {
+        MachCode {
+            alloc,
+            instrs: Vec::new(alloc),
+        }
+    }
+
+    /// Puts an instruction at the end.
+    pub(crate) fn put(&mut self, row: Row<MachForm>) -> Result<()> {
+        self.instrs.push(instr(self.alloc, row)?)?;
+        Ok(())
+    }
+
+    /// The text of the function with this code.
+    pub(crate) fn text(self, called: &str) -> Result<List<u8>> {
+        let MachCode { alloc, instrs } = self;
+        let function = Mach {
+            name: name(alloc, called)?,
+            params: Seq::new(alloc),
+            result: Ret::Unit,
+            labels: 10,
+            colours: Seq::new(alloc),
+            code: Seq::from_vec(instrs),
+        };
+        Ok(mach_ir::text(alloc, &function)?)
+    }
+}
+
+/// The code of a Linear function.
+#[derive(Drop)]
+pub(crate) struct LinCode {
+    alloc: Global,
+    lines: Vec<Line>,
+}
+
+impl LinCode {
+    pub(crate) fn new(alloc: Global) -> Self {
+        LinCode {
+            alloc,
+            lines: Vec::new(alloc),
+        }
+    }
+
+    /// Puts an instruction at the end, its registers placed.
+    pub(crate) fn put(&mut self, form: LinForm, args: &[Reg], results: &[Reg]) -> Result<()> {
+        self.lines.push(line(self.alloc, form, args, results)?)?;
+        Ok(())
+    }
+
+    /// The text of the function with this code.
+    pub(crate) fn text(self, called: &str) -> Result<List<u8>> {
+        let LinCode { alloc, lines } = self;
+        let function = Lin {
+            name: name(alloc, called)?,
+            params: Seq::new(alloc),
+            result: Ret::Unit,
+            slots: 14,
+            code: Seq::from_vec(lines),
+        };
+        Ok(lin_ir::text(alloc, &function)?)
+    }
+}
