@@ -9,11 +9,11 @@ use Rattle.mach_ir.specs.Walks.{Stands, here, below}
 use Rattle.mach_ir.specs.declared.mach.Instr.{Instr}
 use Rattle.mach_ir.specs.declared.mach.Mark.TheVariants as mark
 use Rattle.mach_ir.specs.declared.mach.MachOp.TheVariants as mach
-use Rattle.selection.specs.Instructions.{bare}
-use Rattle.selection.specs.Instructions as emit
-use Rattle.selection.specs.Select.{selected}
-use Rattle.selection.proofs.Labels.{marks, no_mark_in, Distinct, cons, selected_once}
-use Rattle.selection.proofs.Parts.{Ending, all, more, ending_in, ending_next}
+use Rattle.selection_rules.specs.Instructions.{bare}
+use Rattle.selection_rules.specs.Instructions as emit
+use Rattle.selection_rules.specs.Select.{selected}
+use Rattle.selection_rules.proofs.Labels.{marks, no_mark_in, Distinct, cons, selected_once}
+use Rattle.selection_rules.proofs.Parts.{Ending, all, more, ending_in, ending_next}
 use Rattle.selection_laws.specs.Fits.{FunctionFits}
 use Rattle.selection_laws.proofs.Nested.{kept_of, selected_kept, ending_of}
 

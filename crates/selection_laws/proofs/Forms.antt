@@ -40,11 +40,11 @@ use Rattle.mach_ir.specs.declared.op.Op.TheVariants as op
 use Rattle.mach_ir.specs.declared.op.Right.{Right}
 use Rattle.mach_ir.specs.declared.op.Right.TheVariants as right
 use Rattle.mach_ir.specs.declared.reg.Reg.{Reg}
-use Rattle.selection.proofs.Labels.{and_left, and_right}
+use Rattle.selection_rules.proofs.Labels.{and_left, and_right}
 use Rattle.selection_laws.specs.Fits.{IsWord, NoAddress}
-use Rattle.selection.specs.Instructions.{bare, right_regs}
-use Rattle.selection.specs.Instructions as emit
-use Rattle.selection.specs.Select.{Immediate, exponent_if, exponent_from, shift_by, immediate_if, immediate_of, commuted, right_immediate, if_commuted, left_immediate, Shape, shape, shape_of, shape_op, shape_right, shape_args, right_of, bound_test, comparison, Named, scopes, seat, seats, result_seat, callee_of, callee_regs, count_of, regs_of, comp_of}
+use Rattle.selection_rules.specs.Instructions.{bare, right_regs}
+use Rattle.selection_rules.specs.Instructions as emit
+use Rattle.selection_rules.specs.Select.{Immediate, exponent_if, exponent_from, shift_by, immediate_if, immediate_of, commuted, right_immediate, if_commuted, left_immediate, Shape, shape, shape_of, shape_op, shape_right, shape_args, right_of, bound_test, comparison, Named, scopes, seat, seats, result_seat, callee_of, callee_regs, count_of, regs_of, comp_of}
 
 abbrev pub is_return : MachOp → Bool
 is_return (mach.Op (op.Leaving leaving.Return)) = true

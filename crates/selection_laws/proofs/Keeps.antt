@@ -12,9 +12,9 @@ use Rattle.mach_ir.specs.Meaning.{State, run}
 use Rattle.mach_ir.specs.Walks.{NoAddrLive}
 use Rattle.mach_ir.specs.declared.mach.Instr.{Instr}
 use Rattle.mach_ir.specs.declared.mach.Mach.{Mach}
-use Rattle.selection.specs.Select.{selected, width}
-use Rattle.selection.proofs.Plays.{Meets, returned, threw, running, asking, improper, left_by_exit}
-use Rattle.selection.proofs.Selection.{SelectedRun, selection_keeps}
+use Rattle.selection_rules.specs.Select.{selected, width}
+use Rattle.selection_rules.proofs.Plays.{Meets, returned, threw, running, asking, improper, left_by_exit}
+use Rattle.selection_rules.proofs.Selection.{SelectedRun, selection_keeps}
 use Rattle.selection_laws.proofs.Losing.{IsBare, Steady, Twin, both_running, both_asking, both_ended, losing}
 use Rattle.selection_laws.proofs.Made.{Made, a_move, a_constant, a_symbol, an_operator, a_load, a_store, an_alloc, a_call, a_tail_call, an_external, a_checkbound, a_raise, a_return, a_branch, a_choice, a_handler, an_exit, an_else, a_case, a_catch, a_with, a_try, a_leave, an_end, made_of, selected_made}
 

@@ -21,8 +21,8 @@ use Rattle.mach_ir.specs.declared.mach.MachOp.TheVariants as mach
 use Rattle.mach_ir.specs.declared.mach.Mark.TheVariants as mark
 use Rattle.mach_ir.specs.declared.mach.Test.{Test}
 use Rattle.mach_ir.specs.declared.reg.Reg.{Reg}
-use Rattle.selection.specs.Kept as kept
-use Rattle.selection.proofs.Parts.{Ending, all, more, ending_next}
+use Rattle.selection_rules.specs.Kept as kept
+use Rattle.selection_rules.proofs.Parts.{Ending, all, more, ending_next}
 use Rattle.mach_laws.proofs.Leads.{IsTry, is_try, MayLand, lands_at_label, lands_at_handler, Within, goes_in, pushes_in, jumps_in, unwinds_in, asks_in, within}
 
 -- ---- two files that agree where it matters

@@ -19,9 +19,9 @@ use Rattle.mach_ir.specs.declared.op.Callee.{Callee}
 use Rattle.mach_ir.specs.declared.op.Right.{Right}
 use Rattle.mach_ir.specs.declared.op.Right.TheVariants as right
 use Rattle.mach_ir.specs.declared.reg.Reg.{Reg}
-use Rattle.selection.specs.Instructions.{bare}
-use Rattle.selection.specs.Instructions as emit
-use Rattle.selection.specs.Select.{Code, Shape, InRegisters, ConstantRight, ConstantLeft, shape_of, shape_op, shape_right, unless_left, unless_right, Named, Label, scopes, reg_of, label_of, move_from, move_to, moves_all, exit_to, ordered, only_when, from_seat, symbol_of, unless_symbol, right_of, unless_constant, bound_test, comparison, tested, select_test, is_based, select_base, call_of, regs_of, select, select_waiting, select_filled, select_bound, select_seq, select_cases, select_handlers, deeper, cell_stores, to_seat, selected, first, params_from, with_params, is_no_value, fresh, seats, result_seat}
+use Rattle.selection_rules.specs.Instructions.{bare}
+use Rattle.selection_rules.specs.Instructions as emit
+use Rattle.selection_rules.specs.Select.{Code, Shape, InRegisters, ConstantRight, ConstantLeft, shape_of, shape_op, shape_right, unless_left, unless_right, Named, Label, scopes, reg_of, label_of, move_from, move_to, moves_all, exit_to, ordered, only_when, from_seat, symbol_of, unless_symbol, right_of, unless_constant, bound_test, comparison, tested, select_test, is_based, select_base, call_of, regs_of, select, select_waiting, select_filled, select_bound, select_seq, select_cases, select_handlers, deeper, cell_stores, to_seat, selected, first, params_from, with_params, is_no_value, fresh, seats, result_seat}
 
 -- what selection makes
 pub data Made : Instr → Type 0 where

@@ -12,8 +12,8 @@ use Rattle.mach_ir.specs.declared.mach.Mark.TheVariants as mark
 use Rattle.mach_ir.specs.declared.mach.MachOp.{MachOp}
 use Rattle.mach_ir.specs.declared.mach.MachOp.TheVariants as mach
 use Rattle.mach_ir.specs.declared.reg.Reg.{Reg}
-use Rattle.selection.specs.Select.{selected, first, params_from, seats}
-use Rattle.selection.proofs.Labels.{marks, NoMark, none, one, Distinct, nil, cons, selected_once, selected_below}
+use Rattle.selection_rules.specs.Select.{selected, first, params_from, seats}
+use Rattle.selection_rules.proofs.Labels.{marks, NoMark, none, one, Distinct, nil, cons, selected_once, selected_below}
 
 -- the label that an instruction marks, if it marks one
 data Marking (f : MachOp) : List ℕ → Type 0 where

@@ -5,7 +5,7 @@ use Rattle.mach_ir.specs.Formed.{WellFormed}
 use Rattle.mach_ir.specs.Walks.{IsRegister}
 use Rattle.mach_ir.specs.declared.mach.Mach.{Mach}
 use Rattle.mach_ir.specs.declared.reg.Reg.{Reg}
-use Rattle.selection.specs.Select.{selected}
+use Rattle.selection_rules.specs.Select.{selected}
 use Rattle.selection_laws.specs.Fits.{FunctionFits}
 use Rattle.selection_laws.proofs.Proper.{selected_formed, selected_distinct, selected_returns}
 use Rattle.selection_laws.proofs.Marked.{selected_params, selected_params_distinct, selected_labels_once, selected_labels_below}
