@@ -1,0 +1,4 @@
+pub mod Given
+pub mod HaveCases
+pub mod Widths
+pub mod Selecting
