@@ -27,3 +27,4 @@ pub mod LightOnes
 pub mod Allocs
 pub mod Selects
 pub mod Selection
+pub mod BoundedRuns

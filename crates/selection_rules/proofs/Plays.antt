@@ -49,7 +49,7 @@ same_units e (asking a b) = asking a (b ∙ e)
 same_units e improper = improper
 same_units e left_by_exit = left_by_exit
 
-kept_bounded : (kept : Ret) (d : Doing) → BoundedDoing d → BoundedDoing (kept_of kept d)
+pub kept_bounded : (kept : Ret) (d : Doing) → BoundedDoing d → BoundedDoing (kept_of kept d)
 kept_bounded ret.Unit (Gave v memory) b = (tt, b.1)
 kept_bounded ret.Unit (Threw v memory) b = b
 kept_bounded (ret.Comp t) d b = b

@@ -7,6 +7,7 @@ use Rattle.bs_words.specs.declared.values.Kind.{Kind}
 use Rattle.bs_words.specs.declared.values.Value.{Value}
 use Rattle.bs_words.specs.declared.values.Value.TheVariants as value
 use Rattle.cmm_meaning.specs.State.{Doing, Gave, Threw, Asked}
+use Rattle.cmm_meaning.specs.Evaluation.{Evaluation, Gives, Raises, Stops, Asking, OutOfFuel}
 use Rattle.cmm_meaning.specs.Setting.{Setting}
 use Rattle.mach_ir.specs.Acts.{Around}
 use Rattle.mach_ir.specs.Runs.{Step, Continues, Pays, Deepens, Waits, FinishesBy, Finishes, FinishesRaising, IsStuck}
@@ -80,6 +81,18 @@ BoundedDoings (d ∷ doings) = BoundedDoing d × BoundedDoings doings
 pub record BoundedAsked (a : Asked) : Type 0 where
   pub arguments : AllBounded a.arguments
   pub memory : BoundedMemory a.memory
+
+abbrev pub AllAsked : List Asked → Type 0
+AllAsked [] = Unit {0}
+AllAsked (call ∷ calls) = BoundedAsked call × AllAsked calls
+
+-- what a function did alone, as far as it is proper
+abbrev pub BoundedEvaluation : Evaluation → Type 0
+BoundedEvaluation (Gives v h w) = MaybeBounded v × (BoundedMemory w.memory × AllAsked w.asked)
+BoundedEvaluation (Raises v h w) = Bounded v × (BoundedMemory w.memory × AllAsked w.asked)
+BoundedEvaluation (Stops (Asking call) w) = BoundedAsked call × AllAsked w.asked
+BoundedEvaluation (Stops OutOfFuel w) = AllAsked w.asked
+BoundedEvaluation _ = Unit {0}
 
 abbrev pub BoundedStep : Step State → Type 0
 BoundedStep (Continues s) = BoundedState s
