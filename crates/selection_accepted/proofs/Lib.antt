@@ -2,3 +2,4 @@ pub mod Given
 pub mod HaveCases
 pub mod Widths
 pub mod Selecting
+pub mod Symbols

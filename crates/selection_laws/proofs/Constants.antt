@@ -1,5 +1,5 @@
 -- The constants of an instruction that has a form are words.
-use Rattle.std.proofs.Common.{◌≡◌, ℕ, suc, ◌<◌, ◌^◌, ◌/◌, Bool, true, false, ◌&&◌, ◌||◌, List, [], ◌∷◌, length, All, refl, arith, sym}
+use Rattle.std.proofs.Common.{◌≡◌, ℕ, suc, ◌<◌, ◌^◌, ◌/◌, Bool, true, false, ◌||◌, List, [], ◌∷◌, All, refl, arith, sym}
 use Rattle.std.specs.Prelude.{◌==◌, nat_le, nat_lt}
 use Rattle.std.proofs.lemmas.Bool.{ltb-true, leb-true, eqb-true, true≢false}
 use Rattle.bs_words.specs.declared.operators.IntOp.{IntOp}

@@ -2,19 +2,17 @@
 use Rattle.std.proofs.Common.{◌≡◌, ℕ, zero, suc, ◌<◌, ◌^◌, true, List, [], ◌∷◌, ◌++◌, Option, Some, None, subst}
 use Rattle.bs_words.specs.Fits.{fits}
 use Rattle.bs_words.specs.Memory.{Memory}
-use Rattle.bs_words.specs.declared.types.Ret.{Ret}
 use Rattle.bs_words.specs.declared.types.Ty.TheVariants as ty
 use Rattle.bs_words.specs.declared.values.Value.{Value}
 use Rattle.cmm_tree.specs.Tree.{FunctionTree, comps_of}
-use Rattle.cmm_meaning.specs.State.{Doing, Gave, Threw, Asked}
+use Rattle.cmm_meaning.specs.State.{Doing, Asked}
 use Rattle.cmm_meaning.specs.Alone.{alone}
-use Rattle.cmm_meaning.specs.Evaluation.{Evaluation, Gives, Raises, Stops, OutOfFuel, fit_parameters, bound_error}
-use Rattle.cmm_meaning.specs.Evaluation as eval
+use Rattle.cmm_meaning.specs.Evaluation.{Evaluation, fit_parameters, bound_error}
 use Rattle.mach_ir.specs.Runs.{Place, Step, Continues, Pays, Deepens, Waits, FinishesBy, Finishes, FinishesRaising, IsStuck, Tally, Run, Running, Asking, Ended, Wrong, came_back, kept_of, handed, onward, first_tally, entered}
 use Rattle.mach_ir.specs.Meaning.{State, File}
 use Rattle.mach_ir.specs.Meaning as meaning
 use Rattle.mach_ir.specs.declared.mach.Mach.{Mach}
-use Rattle.selection_rules.specs.Bounded.{Bounded, AllBounded, MaybeBounded, BoundedMemory, BoundedCode, BoundedState, BoundedDoing, BoundedDoings, BoundedAsked, BoundedStep, BoundedSymbols, AllAsked, BoundedEvaluation}
+use Rattle.selection_rules.specs.Bounded.{AllBounded, BoundedMemory, BoundedCode, BoundedState, BoundedDoing, BoundedDoings, BoundedAsked, BoundedStep, BoundedSymbols, AllAsked, BoundedEvaluation}
 use Rattle.selection_rules.specs.Kept.{run}
 use Rattle.selection_rules.specs.Kept as kept
 use Rattle.selection_rules.specs.Select.{selected, width}

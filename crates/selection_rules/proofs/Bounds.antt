@@ -1,5 +1,5 @@
 -- A machine whose constants are words holds words alone.
-use Rattle.std.proofs.Common.{◌≡◌, ℕ, zero, suc, ◌<◌, ◌^◌, Bool, true, false, cond, List, [], ◌∷◌, ◌++◌, length, Option, Some, None, Result, Ok, Err, refl, subst, arith}
+use Rattle.std.proofs.Common.{◌≡◌, ℕ, zero, suc, Bool, true, false, cond, List, [], ◌∷◌, ◌++◌, length, Option, Some, None, Result, Ok, Err, refl, subst, arith}
 use Rattle.std.specs.Prelude.{nat_eq, nat_lt, slice_get}
 use Rattle.bs_words.specs.Fits.{fits, type_of_comp}
 use Rattle.bs_words.specs.Memory.{Memory, Cell, InHeader, InBlock, InStatic, sizes, width}
@@ -39,7 +39,7 @@ use Rattle.mach_ir.specs.declared.mach.Mark.TheVariants as mark
 use Rattle.mach_ir.specs.Acts as acts
 use Rattle.mach_ir.specs.Acts.{Around, Target, On, At, Landing, AtLabel, AtHandler, Act, Goes, Pushes, Jumps, Unwinds, Asks, Replaces, Ends, EndsRaising, Stuck, one_result, if_known, pure_act, moved_by, is_among, is_complete, loaded_act, after_store, header_written, first_written, stored_act, with_block, new_blocks, access_act, callee_raises, raised_by, raises, answered, as_list, after_call, after_external, asks, asks_value, asks_callee, calling_act, checked, leaving_act, truth_of, branches, goes_to_case, switched}
 use Rattle.mach_ir.specs.Runs.{Place, entered}
-use Rattle.mach_ir.specs.Meaning.{State, File, Held, put, put_if, put_all, clear, killed, with_held, values, mark_act, mach_act, has_label, after_label, is_handler_of, from_handler, code_at, at_handler, tries_at, landing_code, wrote, on_act}
+use Rattle.mach_ir.specs.Meaning.{File, Held, put, put_if, put_all, clear, killed, with_held, values, mark_act, mach_act, has_label, after_label, is_handler_of, from_handler, code_at, at_handler, tries_at, landing_code, wrote, on_act}
 use Rattle.selection_rules.specs.Bounded.{Bounded, AllBounded, MaybeBounded, BoundedResult, BoundedMemory, BoundedFile, BoundedAround, BoundedHeaders, BoundedOp, BoundedCode, BoundedState, BoundedDoing, BoundedStep, BoundedSymbols}
 use Rattle.selection_rules.specs.Kept.{on_values, at_code}
 use Rattle.selection_rules.proofs.Words.{apply_bounded, loaded_bounded, BoundedAfter, after, no_after, stored_bounded, new_block_bounded}

@@ -18,7 +18,7 @@ use Rattle.mach_ir.specs.declared.mach.Instr.{Instr}
 use Rattle.mach_ir.specs.declared.mach.Mach.{Mach}
 use Rattle.mach_ir.specs.Runs.{Place, Continues}
 use Rattle.mach_ir.specs.Meaning.{File, with_held, on_act, wrote, put, put_if}
-use Rattle.mach_ir.specs.Acts.{if_known, one_result}
+use Rattle.mach_ir.specs.Acts.{if_known}
 use Rattle.selection_rules.specs.Kept.{on_values}
 use Rattle.selection_rules.specs.Select.{shape_of, operator_code, Named, Label, scopes, fresh, reg_of, move_from, move_to, inner_valued, inner_dest, width, select}
 use Rattle.selection_rules.specs.Follow.{Follows, walks, fails}

@@ -21,7 +21,7 @@ use Rattle.mach_ir.specs.declared.mach.Instr.{Instr}
 use Rattle.mach_ir.specs.declared.mach.Mach.{Mach}
 use Rattle.mach_ir.specs.Runs.{Place, Continues}
 use Rattle.mach_ir.specs.Meaning.{State, File, with_held, on_act, wrote, put, put_if}
-use Rattle.mach_ir.specs.Acts.{Around, if_known, one_result}
+use Rattle.mach_ir.specs.Acts.{Around, if_known}
 use Rattle.selection_rules.specs.Kept.{on_values}
 use Rattle.selection_rules.specs.Select.{Shape, InRegisters, shape_of, operator_code, unless_left, unless_right, Named, Label, scopes, comp_of, fresh, reg_of, move_from, inner_dest, width, ordered, only_when, count_of, regs_of, select, select_filled}
 use Rattle.selection_rules.specs.Follow.{Follows, walks, fails}

@@ -1,12 +1,12 @@
 -- The code of an operator whose operands stand: one instruction, or the shifts of a division by a power of two.
-use Rattle.std.proofs.Common.{◌≡◌, ℕ, zero, suc, ◌-◌, ◌^◌, ◌<◌, ◌≤◌, Bool, true, false, cond, List, [], ◌∷◌, Option, Some, None, Result, Ok, Err, refl, sym, ap, ◌∙◌, subst, arith}
-use Rattle.std.specs.Prelude.{nat_lt, nat_le}
+use Rattle.std.proofs.Common.{◌≡◌, ℕ, zero, suc, ◌-◌, ◌^◌, ◌<◌, ◌≤◌, Bool, true, false, cond, List, [], ◌∷◌, Some, Result, Ok, Err, refl, sym, ap, ◌∙◌, subst, arith}
+use Rattle.std.specs.Prelude.{nat_lt}
 use Rattle.std.proofs.lemmas.Bool.{ltb-true}
 use Rattle.std.proofs.Math.Pow.{pow_pos}
 use Rattle.bs_words.specs.Fits.{fits, type_of_comp}
 use Rattle.bs_words.specs.Memory.{sizes}
 use Rattle.bs_words.specs.Operators.{apply, on_words, quotient_of, shift_of}
-use Rattle.bs_words.specs.Word.{add_word, sub_word, div_word, rem_word, shl_word, shr_word, sar_word}
+use Rattle.bs_words.specs.Word.{div_word, rem_word, shl_word, shr_word, sar_word}
 use Rattle.bs_words.specs.declared.operators.IntOp.{IntOp}
 use Rattle.bs_words.specs.declared.operators.IntOp.TheVariants as operators
 use Rattle.bs_words.specs.declared.types.Comp.{Comp}
@@ -22,17 +22,16 @@ use Rattle.mach_ir.specs.declared.mach.Mach.{Mach}
 use Rattle.mach_ir.specs.declared.op.Pure.TheVariants as pure
 use Rattle.mach_ir.specs.declared.op.Right.{Right}
 use Rattle.mach_ir.specs.declared.op.Right.TheVariants as right
-use Rattle.mach_ir.specs.Acts.{Around, Act, pure_act, one_result}
+use Rattle.mach_ir.specs.Acts.{Around, pure_act, one_result}
 use Rattle.mach_ir.specs.Runs.{Place, Step, Continues, IsStuck}
 use Rattle.mach_ir.specs.Meaning.{State, File, values, on_act, wrote, put, put_if}
-use Rattle.selection_rules.specs.Bounded.{BoundedState}
 use Rattle.selection_rules.specs.Kept.{on_values}
-use Rattle.selection_rules.specs.Select.{Shape, InRegisters, PowerRight, operator_code, power_code, rounded}
+use Rattle.selection_rules.specs.Select.{Shape, operator_code, power_code, rounded}
 use Rattle.selection_rules.specs.Follow.{Follows, walks, no_words}
 use Rattle.selection_rules.specs.Instructions as emit
 use Rattle.selection_rules.proofs.Files.{Holds, put_same, holds_put}
 use Rattle.selection_rules.proofs.Commuting.{not_far}
-use Rattle.selection_rules.proofs.Powers.{rounding, remaining, quotient, remainder}
+use Rattle.selection_rules.proofs.Powers.{rounding, quotient, remainder}
 use Rattle.selection_rules.proofs.Shapes.{IsDivision, is_div, is_mod, Operands, both_stand, left_stands, right_stands, a_power, one_value, two_values}
 
 -- ---- what the operators give

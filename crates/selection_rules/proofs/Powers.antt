@@ -1,10 +1,10 @@
 -- A quotient toward zero by a power of two, and the remainder, made by shifts.
 use Rattle.std.proofs.Common.{◌≡◌, ℕ, zero, suc, ◌+◌, ◌-◌, ◌*◌, ◌/◌, ◌%◌, ◌^◌, ◌<◌, ◌≤◌, Bool, true, false, refl, sym, ap, ◌∙◌, subst, arith}
-use Rattle.std.specs.Prelude.{ℤ, pos, negsuc, neg_ℤ, int_div, int_rem, nat_lt}
+use Rattle.std.specs.Prelude.{pos, negsuc, neg_ℤ, nat_lt}
 use Rattle.std.specs.Int.{w64}
 use Rattle.std.proofs.lemmas.Int.{to_z-of_z}
 use Rattle.std.proofs.lemmas.Bool.{ltb-true}
-use Rattle.std.proofs.lemmas.Nat.{pow_below, pow-add, div-mul-add, mod-mul-add, div-add-mod', mod_below}
+use Rattle.std.proofs.lemmas.Nat.{pow_below, pow-add, div-mul-add, div-add-mod', mod_below}
 use Rattle.std.proofs.Math.Nat.{mod-eq_of_lt, add-mul-div_right, add-mul, div-le_self}
 use Rattle.std.proofs.Math.Pow.{pow_pos}
 use Rattle.bs_words.specs.Word.{word_of, signed_of, add_word, sub_word, div_word, rem_word, shl_word, shr_word, sar_word}

@@ -1,7 +1,7 @@
 -- Two operands of an operator, of which one may be a constant that needs no register.
 use Rattle.std.proofs.Common.{◌≡◌, ℕ, ◌^◌, ◌<◌, ◌≤◌, Bool, true, false, List, [], ◌∷◌, Option, Some, None, refl, sym, ap, ◌∙◌, subst, arith}
 use Rattle.std.proofs.lemmas.Bool.{true≢false}
-use Rattle.bs_words.specs.Memory.{Memory, sizes}
+use Rattle.bs_words.specs.Memory.{Memory}
 use Rattle.bs_words.specs.Operators.{apply}
 use Rattle.bs_words.specs.declared.operators.IntOp.{IntOp}
 use Rattle.bs_words.specs.declared.types.Comp.TheVariants as comp
@@ -14,8 +14,7 @@ use Rattle.cmm_meaning.specs.Evaluation.{is_left_first}
 use Rattle.cmm_meaning.specs.State.{Here}
 use Rattle.meaning_laws.specs.Does.{Leaves, Does}
 use Rattle.meaning_laws.specs.Interaction.{Part, with_value, both, does}
-use Rattle.cmm_meaning.specs.Setting.{Setting}
-use Rattle.mach_ir.specs.Acts.{Around, pure_act, one_result, truth_of, as_condition}
+use Rattle.mach_ir.specs.Acts.{truth_of, as_condition}
 use Rattle.mach_ir.specs.Runs.{Place, Continues}
 use Rattle.mach_ir.specs.Meaning.{File, values, with_held}
 use Rattle.mach_ir.specs.declared.reg.Reg.{Reg}
@@ -23,7 +22,6 @@ use Rattle.mach_ir.specs.declared.mach.Instr.{Instr}
 use Rattle.mach_ir.specs.declared.mach.Mach.{Mach}
 use Rattle.mach_ir.specs.declared.mach.Test.{Test}
 use Rattle.mach_ir.specs.declared.mach.Test.TheVariants as test
-use Rattle.mach_ir.specs.declared.op.Pure.TheVariants as pure
 use Rattle.mach_ir.specs.declared.op.Right.TheVariants as right
 use Rattle.selection_rules.specs.Select.{Named, Label, scopes, fresh, ordered, width, Immediate, if_commuted, left_immediate, right_immediate, Shape, InRegisters, ConstantRight, ConstantLeft, PowerRight, power_of, power_shape, shape, shape_of, shape_op, shape_right, shape_args, unless_left, unless_right, comparison, select}
 use Rattle.selection_rules.specs.Follow.{text_of, Follows}

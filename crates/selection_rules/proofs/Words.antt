@@ -1,13 +1,13 @@
 -- What operators, loads and stores leave of words are words.
-use Rattle.std.proofs.Common.{◌≡◌, ℕ, zero, suc, ◌+◌, ◌-◌, ◌*◌, ◌/◌, ◌%◌, ◌^◌, ◌<◌, ◌≤◌, Bool, true, false, not, cond, List, [], ◌∷◌, ◌++◌, length, replicate, Option, Some, None, Result, Ok, Err, refl, sym, ap, ◌∙◌, subst, arith}
-use Rattle.std.specs.Prelude.{◌==◌, nat_le, nat_eq, bit_and, bit_or, bit_xor, slice_index_or, slice_set, slice_get}
+use Rattle.std.proofs.Common.{◌≡◌, ℕ, zero, suc, ◌*◌, ◌/◌, ◌%◌, ◌^◌, ◌<◌, ◌≤◌, Bool, true, false, not, cond, List, [], ◌∷◌, ◌++◌, replicate, Option, Some, None, Result, Ok, Err, refl, arith}
+use Rattle.std.specs.Prelude.{◌==◌, nat_le, bit_and, bit_or, bit_xor, slice_index_or, slice_set}
 use Rattle.std.proofs.lemmas.Nat.{and_le_l, and_le_r, or_lt, xor_lt, mod_below}
 use Rattle.std.proofs.Math.Pow.{pow_pos, pow_mono}
 use Rattle.std.proofs.lemmas.Bool.{eqb-true}
 use Rattle.bs_words.specs.Fits.{fits, misfit}
-use Rattle.bs_words.specs.Memory.{Memory, HeapBlock, StaticList, Cell, InHeader, InBlock, InStatic, sizes, width, in_block, in_statics, cell_at, offset_in_cell, value_in, type_in, with_value, part, extended, of_type, loaded_as, loaded_from, loaded, put_in, replaced, put_part, put_whole, stored_as, stored_in, stored, end_of_data}
+use Rattle.bs_words.specs.Memory.{Memory, HeapBlock, StaticList, Cell, InHeader, InBlock, InStatic, width, cell_at, offset_in_cell, value_in, type_in, with_value, part, of_type, loaded_as, loaded_from, loaded, put_in, replaced, put_part, put_whole, stored_as, stored_in, stored, end_of_data}
 use Rattle.bs_words.specs.Operators.{apply, only_if, on_words, sum_of, difference_of, quotient_of, shift_of, masked_offset, bits_in_both, truth, order_of, as_value, equality_of, comparison_of, signed_holds, unsigned_holds}
-use Rattle.bs_words.specs.Word.{add_word, sub_word, mul_word, mulh_word, div_word, rem_word, shl_word, shr_word, sar_word}
+use Rattle.bs_words.specs.Word.{sub_word, mul_word, mulh_word, div_word, rem_word, shl_word, shr_word, sar_word}
 use Rattle.bs_words.specs.declared.operators.CmpOp.{CmpOp}
 use Rattle.bs_words.specs.declared.operators.CmpOp.TheVariants as compare
 use Rattle.bs_words.specs.declared.operators.IntOp.{IntOp}
@@ -17,7 +17,7 @@ use Rattle.bs_words.specs.declared.types.Chunk.TheVariants as chunk
 use Rattle.bs_words.specs.declared.types.Ty.{Ty}
 use Rattle.bs_words.specs.declared.types.Ty.TheVariants as ty
 use Rattle.bs_words.specs.declared.values.Kind.{Kind}
-use Rattle.bs_words.specs.declared.values.Kind.TheVariants.{ShiftRange, BadAddress, PartOfPointer}
+use Rattle.bs_words.specs.declared.values.Kind.TheVariants.{ShiftRange}
 use Rattle.bs_words.specs.declared.values.Value.{Value}
 use Rattle.bs_words.specs.declared.values.Value.TheVariants.{Word, Block, Function}
 use Rattle.bs_words.proofs.Below.{add_word-below, sub_word-below, mul_word-below, mulh_word-below, div_word-below, rem_word-below, shl_word-below, shr_word-below, sar_word-below, sext_word-below}
