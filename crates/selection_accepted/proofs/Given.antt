@@ -1,5 +1,5 @@
 -- What holds of every value that a rule gives holds of what tokens spell by the rule: here, that each switch has a case.
-use Rattle.std.proofs.Common.{◌≡◌, ℕ, suc, Bool, List, [], ◌∷◌, ◌++◌, length, Option, Some, None, refl}
+use Rattle.std.proofs.Common.{◌≡◌, ℕ, suc, List, [], ◌∷◌, Some, None}
 use Rattle.cmm_lex.specs.Token.{TokenTree}
 use Rattle.cmm_tree.specs.Tree.{Expression, Nothing}
 use Rattle.cmm_grammar.specs.Parts.{ItemPart, FunctionItem, DataItem}

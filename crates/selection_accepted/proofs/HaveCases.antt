@@ -1,7 +1,6 @@
 -- Each switch that tokens spell has a case.
-use Rattle.std.proofs.Common.{◌≡◌, ℕ, zero, suc, Bool, true, false, cond, List, [], ◌∷◌, ◌++◌, Option, Some, None, subst, ◌⊎◌, inl, inr}
+use Rattle.std.proofs.Common.{◌≡◌, ℕ, zero, suc, Bool, true, false, cond, List, [], ◌∷◌, Option, Some, None, subst, ◌⊎◌, inl, inr}
 use Rattle.bs_words.specs.Symbol.{is_symbol}
-use Rattle.bs_words.specs.declared.operators.IntOp.TheVariants as op
 use Rattle.bs_words.specs.declared.types.Chunk.{Chunk}
 use Rattle.bs_words.specs.declared.types.Chunk.TheVariants as chunk
 use Rattle.cmm_lex.specs.Token.{TokenTree}
@@ -24,14 +23,14 @@ use Rattle.cmm_grammar.specs.declared.word.ChunkWord.TheVariants as starts
 use Rattle.cmm_grammar.specs.declared.word.DataWord.{DataWord}
 use Rattle.cmm_grammar.specs.declared.word.DataWord.TheVariants as item
 use Rattle.cmm_grammar.specs.Parts.{ResultPart, BindingPart, CasePart, HandlerPart, HeadPart, ItemPart, FunctionItem, DataItem, item_of, expressions, bindings, cases, handlers, sequence_at, sequence}
-use Rattle.cmm_grammar.specs.Rewriting.{element_by, element, exit_to, turn_by, turn, while_loop}
+use Rattle.cmm_grammar.specs.Rewriting.{element_by, element, turn_by, turn}
 use Rattle.cmm_grammar.specs.Words.{leaf_of, word_of}
 use Rattle.cmm_grammar.specs.Rule.{AnExpression, ABinding, ACase, AHandler, AnItem, Rule}
 use Rattle.cmm_grammar.specs.Grammar.{a_token, close, a_comp, a_result, operands, sequence_to_close, sequence_to_with, a_binding, a_mutable_binding, bindings_to_close, let_body, let_form, assign_form, arguments_of, app_form, extcall_rest, extcall_form, alloc_form, loaded, stored, load_rest, store_rest, chunk_rest, chunked, load_form, store_form, paired, tripled, raise_form, pair_form, triple_form, float_form, seq_form, while_form, case_number, another_number, case_body, a_case, switch_form, a_parameter, parameters, label_rest, handler_rest, a_label, next_handler, more_handlers, labelled_handlers, bare_handler, catch_form, exit_rest, exit_form, try_form, form_of, form, a_data_integer, datum_of, a_data_item, data_items, data_list, a_function, item_rest, an_item}
 use Rattle.cmm_grammar.specs.Spelling.{Spells, AreItems, none, more}
 use Rattle.std.specs.Prelude.{Contains}
 use Rattle.selection_laws.specs.Accepted.{HaveCases, RowHaveCases, BoundHaveCases, CasesHaveCases, HandlersHaveCases}
-use Rattle.selection_accepted.proofs.Given.{ItemHas, PartHas, PartsHave, Two, Gives, given}
+use Rattle.selection_accepted.proofs.Given.{ItemHas, PartHas, PartsHave, Gives, given}
 
 -- ---- one token
 

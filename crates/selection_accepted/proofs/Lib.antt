@@ -3,3 +3,5 @@ pub mod HaveCases
 pub mod Widths
 pub mod Selecting
 pub mod Symbols
+pub mod DataBytes
+pub mod Beginning

@@ -1,5 +1,5 @@
 -- Each function of a file that the front accepts can be selected.
-use Rattle.std.proofs.Common.{◌≡◌, ℕ, ◌+◌, ◌*◌, ◌<◌, ◌≤◌, ◌^◌, Bool, true, false, List, [], ◌∷◌, length, get_or, Option, Some, None, Result, Ok, refl, sym, ap, ◌∙◌, subst, arith, ◌⊎◌, inl, inr}
+use Rattle.std.proofs.Common.{◌≡◌, ℕ, ◌≤◌, Bool, true, false, List, [], ◌∷◌, Option, Some, Ok, refl, subst, arith, ◌⊎◌, inl, inr}
 use Rattle.std.specs.Prelude.{Contains, nat_le, not, slice_get}
 use Rattle.std.proofs.lemmas.Option.{slice_get_within, get_or_from_slice_get}
 use Rattle.std.proofs.lemmas.Bool.{leb-true}
@@ -7,12 +7,11 @@ use Rattle.std.proofs.lemmas.List.Elements.{All-contains}
 use Rattle.bs_fault.specs.declared.fault.Fault.{Fault}
 use Rattle.bs_fault.specs.Limits.{most_tokens}
 use Rattle.bs_fault.specs.Reported.{Faults, Both, Among, here, first, second, one_if, Faultless}
-use Rattle.cmm_tree.specs.Measures.{nodes_in, values_in, all_tries}
 use Rattle.cmm_tree.specs.Symbols.{DefinedSymbol, definition_of}
 use Rattle.cmm_tree.specs.Tree.{FunctionTree, ItemTree, AFunction, AData, FileTree, functions, functions_among}
 use Rattle.cmm_limits.specs.Limits as limits
 use Rattle.cmm_types.specs.Faults.{TypeFault}
-use Rattle.cmm_types.specs.Gathered.{function_faults, items_faults, first_symbols, file_faults}
+use Rattle.cmm_types.specs.Gathered.{function_faults, items_faults, first_symbols}
 use Rattle.cmm_types.proofs.Among as gathered
 use Rattle.cmm_types.proofs.Containing.{contains_none, contains_cases}
 use Rattle.cmm_types.proofs.Exact.{from}
@@ -21,7 +20,6 @@ use Rattle.cmm_reader.specs.Text as said
 use Rattle.cmm_reader.specs.Text.{ReadsAs}
 use Rattle.cmm_reader.proofs.Measured.{read_measured}
 use Rattle.cmm_front.specs.FileOf.{IsFileOf}
-use Rattle.selection_rules.specs.Select.{width}
 use Rattle.selection_laws.specs.Accepted.{Accepted, HaveCases}
 use Rattle.selection_laws.proofs.Accepting.{accepted_fits}
 use Rattle.selection_accepted.specs.Selectable.{Selectable}

@@ -1,5 +1,5 @@
 -- What selection needs of a function.
-use Rattle.std.specs.Prelude.{ℕ, ◌+◌, ◌*◌, ◌<◌, ◌^◌, length}
+use Rattle.std.specs.Prelude.{◌+◌, ◌*◌, ◌<◌, ◌^◌, length}
 use Rattle.cmm_tree.specs.Tree.{FunctionTree}
 use Rattle.selection_rules.specs.Select.{first, width}
 use Rattle.selection_laws.specs.Fits.{FunctionFits}
