@@ -41,10 +41,11 @@ use Rattle.mach_ir.specs.declared.op.Right.{Right}
 use Rattle.mach_ir.specs.declared.op.Right.TheVariants as right
 use Rattle.mach_ir.specs.declared.reg.Reg.{Reg}
 use Rattle.selection_rules.proofs.Labels.{and_left, and_right}
+use Rattle.selection_rules.proofs.Commuting.{IsExponent, no_power, power, exponents}
 use Rattle.selection_laws.specs.Fits.{IsWord, NoAddress}
 use Rattle.selection_rules.specs.Instructions.{bare, right_regs}
 use Rattle.selection_rules.specs.Instructions as emit
-use Rattle.selection_rules.specs.Select.{Immediate, exponent_if, exponent_from, shift_by, immediate_if, immediate_of, commuted, right_immediate, if_commuted, left_immediate, Shape, shape, shape_of, shape_op, shape_right, shape_args, right_of, bound_test, comparison, Named, scopes, seat, seats, result_seat, callee_of, callee_regs, count_of, regs_of, comp_of}
+use Rattle.selection_rules.specs.Select.{Immediate, exponent_if, exponent_from, shift_by, immediate_if, immediate_of, commuted, right_immediate, if_commuted, left_immediate, power_of, power_shape, Shape, InRegisters, ConstantRight, ConstantLeft, PowerRight, shape, shape_of, shape_op, shape_right, shape_args, right_of, bound_test, comparison, Named, scopes, seat, seats, result_seat, callee_of, callee_regs, count_of, regs_of, comp_of}
 
 abbrev pub is_return : MachOp → Bool
 is_return (mach.Op (op.Leaving leaving.Return)) = true
@@ -162,8 +163,39 @@ shape_forms f x y (Some i) l (suits e) z = record { left = x.comp; rest = []; is
 shape_forms f x y None (Some i) no_immediate (suits e) = record { left = y.comp; rest = []; is = refl; fits = a_constant e }
 shape_forms f x y None None no_immediate no_immediate = record { left = x.comp; rest = y.comp ∷ []; is = refl; fits = a_register }
 
+power_form : (f : IntOp) (x y : Reg) (o : Option ℕ) → ShapeForm (power_shape o) f x y
+power_form f x y (Some k) = record { left = x.comp; rest = y.comp ∷ []; is = refl; fits = a_register }
+power_form f x y None = record { left = x.comp; rest = y.comp ∷ []; is = refl; fits = a_register }
+
 shape_form : (f : IntOp) (left e : Expression) (x y : Reg) → ShapeForm (shape_of f left e) f x y
+shape_form operator.Div left e x y = power_form operator.Div x y (power_of e)
+shape_form operator.Mod left e x y = power_form operator.Mod x y (power_of e)
 shape_form f left e x y = shape_forms f x y (right_immediate f e) (left_immediate f left) (right_suits f e) (left_suits f left)
+
+-- the exponent of a power by which an operator divides
+pub data ShortPower : Shape → Type 0 where
+  in_registers : ShortPower InRegisters
+  constant_right : {i : Immediate} → ShortPower (ConstantRight i)
+  constant_left : {i : Immediate} → ShortPower (ConstantLeft i)
+  short_power : {k : ℕ} → 1 ≤ k → k < 64 → ShortPower (PowerRight k)
+
+shape_short : (r l : Option Immediate) → ShortPower (shape r l)
+shape_short (Some i) l = constant_right
+shape_short None (Some i) = constant_left
+shape_short None None = in_registers
+
+power_short : {w : ℕ} {o : Option ℕ} → IsExponent 1 63 w o → ShortPower (power_shape o)
+power_short no_power = in_registers
+power_short (power le less e) = short_power le (omega (arith, less))
+
+of_power : (e : Expression) → ShortPower (power_shape (power_of e))
+of_power (Integer at w) = power_short (exponents 1 63 62 1 w (omega arith) (omega arith))
+of_power e = in_registers
+
+pub short_shape : (f : IntOp) (left e : Expression) → ShortPower (shape_of f left e)
+short_shape operator.Div left e = of_power e
+short_shape operator.Mod left e = of_power e
+short_shape f left e = shape_short (right_immediate f e) (left_immediate f left)
 
 comparison_tested : (f : IntOp) (r : Right) (left : Comp) (rest : List Comp) → IsRight f r rest → (t : Test) → comparison f r ≡ Some t → IsTested t (left ∷ rest)
 comparison_tested (operator.Cmp f) r left rest is t e = subst (λ t. IsTested t (left ∷ rest)) (same (test.Signed f r) t e) (signed is)
@@ -235,6 +267,12 @@ module _ {given : Ret} where
       let form = shape_form f left e x y in
       let s = shape_of f left e in
       an_op (subst (λ cs. HasForm (op.Pure (pure.Operator (shape_op s f) (shape_right s))) cs (d.comp ∷ [])) form.is (operates form.fits)) (one_distinct d) anywhere anywhere refl
+
+  pub p_shift : (f : IntOp) (k : ℕ) (x d : Reg) → is_immediate f k ≡ true → IsProper given (emit.operator f (right.Constant k) (x ∷ []) d)
+  p_shift f k x d e = an_op (operates (a_constant e)) (one_distinct d) anywhere anywhere refl
+
+  pub p_registers : (f : IntOp) (x y d : Reg) → IsProper given (emit.operator f right.Register (x ∷ y ∷ []) d)
+  p_registers f x y d = an_op (operates a_register) (one_distinct d) anywhere anywhere refl
 
   pub p_branch : (f : IntOp) (left e : Expression) (x y : Reg) (l : ℕ) (t : Test) → comparison (shape_op (shape_of f left e) f) (shape_right (shape_of f left e)) ≡ Some t → IsProper given (emit.branch t l (shape_args (shape_of f left e) x y))
   p_branch f left e x y l t is = a_mark (if_form (shape_tested (shape_form f left e x y) t is)) anywhere

@@ -15,6 +15,9 @@ use Rattle.mach_ir.specs.declared.mach.Mach.{Mach}
 use Rattle.selection_rules.specs.Select.{selected, width}
 use Rattle.selection_rules.proofs.Plays.{Meets, returned, threw, running, asking, improper, left_by_exit}
 use Rattle.selection_rules.proofs.Selection.{SelectedRun, selection_keeps}
+use Rattle.selection_rules.specs.Bounded.{AllBounded, BoundedMemory, BoundedDoings, BoundedSymbols}
+use Rattle.selection_laws.specs.Fits.{FunctionFits}
+use Rattle.selection_laws.proofs.Proper.{selected_bounded}
 use Rattle.selection_laws.proofs.Losing.{IsBare, Steady, Twin, both_running, both_asking, both_ended, losing}
 use Rattle.selection_laws.proofs.Made.{Made, a_move, a_constant, a_symbol, an_operator, a_load, a_store, an_alloc, a_call, a_tail_call, an_external, a_checkbound, a_raise, a_return, a_branch, a_choice, a_handler, an_exit, an_else, a_case, a_catch, a_with, a_try, a_leave, an_end, made_of, selected_made}
 
@@ -57,13 +60,14 @@ meets_twin both_asking (asking a b) = asking a b
 meets_twin w improper = improper
 meets_twin w left_by_exit = left_by_exit
 
--- For every list that is handed in, every memory and arguments that fit, and every number of units: some run of the
--- selected code has the same calls, need and end, and as many units as the function has beats; these are bounded by
--- the units of the tree both ways.
-pub selection_keeps_losing : (c : Place) (f : FunctionTree) → fits c.setting.end ty.Val bound_error ≡ true → width f.body < 2 ^ 60 → NoAddrLive (selected f) → (arguments : List Value) (memory : Memory) (doings : List Doing) (n : ℕ) →
+-- For every list that is handed in, every memory and arguments that fit, all of words, and every number of units: some
+-- run of the selected code has the same calls, need and end, and as many units as the function has beats; these are
+-- bounded by the units of the tree both ways.
+pub selection_keeps_losing : (c : Place) (f : FunctionTree) → fits c.setting.end ty.Val bound_error ≡ true → width f.body < 2 ^ 60 → FunctionFits f → NoAddrLive (selected f) → BoundedSymbols c.setting →
+    (arguments : List Value) (memory : Memory) (doings : List Doing) (n : ℕ) → AllBounded arguments → BoundedMemory memory → BoundedDoings doings →
     fit_parameters c.setting.end (comps_of f) arguments ≡ true → SelectedRun run c (selected f) f arguments memory doings n
-selection_keeps_losing c f still fine live arguments memory doings n fitting =
-    let k = selection_keeps c f still fine arguments memory doings n fitting in
+selection_keeps_losing c f still fine fits live symbols arguments memory doings n words cells handed fitting =
+    let k = selection_keeps c f still fine symbols (selected_bounded f fits) arguments memory doings n words cells handed fitting in
     record {
       begun = k.begun;
       begins = k.begins;

@@ -1,6 +1,7 @@
 pub mod Losing
 pub mod Made
 pub mod Keeps
+pub mod Constants
 pub mod Forms
 pub mod Proper
 pub mod Marked

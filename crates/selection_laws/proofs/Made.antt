@@ -1,6 +1,7 @@
 -- Each instruction of selected code is one that selection makes.
 use Rattle.std.proofs.Common.{ℕ, suc, ◌+◌, length, Bool, true, false, not, cond, List, [], ◌∷◌, Option, Some, None}
 use Rattle.bs_words.specs.declared.operators.IntOp.{IntOp}
+use Rattle.bs_words.specs.declared.operators.IntOp.TheVariants as operator
 use Rattle.bs_words.specs.declared.types.Chunk.{Chunk}
 use Rattle.bs_words.specs.declared.types.Comp.{Comp}
 use Rattle.bs_words.specs.declared.types.Ret.{Ret}
@@ -21,7 +22,7 @@ use Rattle.mach_ir.specs.declared.op.Right.TheVariants as right
 use Rattle.mach_ir.specs.declared.reg.Reg.{Reg}
 use Rattle.selection_rules.specs.Instructions.{bare}
 use Rattle.selection_rules.specs.Instructions as emit
-use Rattle.selection_rules.specs.Select.{Code, Shape, InRegisters, ConstantRight, ConstantLeft, shape_of, shape_op, shape_right, unless_left, unless_right, Named, Label, scopes, reg_of, label_of, move_from, move_to, moves_all, exit_to, ordered, only_when, from_seat, symbol_of, unless_symbol, right_of, unless_constant, bound_test, comparison, tested, select_test, is_based, select_base, call_of, regs_of, select, select_waiting, select_filled, select_bound, select_seq, select_cases, select_handlers, deeper, cell_stores, to_seat, selected, first, params_from, with_params, is_no_value, fresh, seats, result_seat}
+use Rattle.selection_rules.specs.Select.{Code, Shape, InRegisters, ConstantRight, ConstantLeft, PowerRight, rounded, power_code, operator_code, shape_of, shape_op, shape_right, unless_left, unless_right, Named, Label, scopes, reg_of, label_of, move_from, move_to, moves_all, exit_to, ordered, only_when, from_seat, symbol_of, unless_symbol, right_of, unless_constant, bound_test, comparison, tested, select_test, is_based, select_base, call_of, regs_of, select, select_waiting, select_filled, select_bound, select_seq, select_cases, select_handlers, deeper, cell_stores, to_seat, selected, first, params_from, with_params, is_no_value, fresh, seats, result_seat}
 
 -- what selection makes
 pub data Made : Instr → Type 0 where
@@ -107,11 +108,26 @@ made_left : (s : Shape) (code : Code) → Makes code → Makes (unless_left s co
 made_left InRegisters code e next z = e next z
 made_left (ConstantRight i) code e next z = e next z
 made_left (ConstantLeft i) code e next z = z
+made_left (PowerRight k) code e next z = e next z
 
 made_right : (s : Shape) (code : Code) → Makes code → Makes (unless_right s code)
 made_right InRegisters code e next z = e next z
 made_right (ConstantRight i) code e next z = z
 made_right (ConstantLeft i) code e next z = e next z
+made_right (PowerRight k) code e next z = z
+
+made_rounded : (k : ℕ) (x y : Reg) → Makes (rounded k x y)
+made_rounded k x y next z = one an_operator (one an_operator (one an_operator z))
+
+made_power : (op : IntOp) (k : ℕ) (x y d : Reg) → Makes (power_code op k x y d)
+made_power operator.Div k x y d next z = made_rounded k x y _ (one an_operator z)
+made_power op k x y d next z = made_rounded k x y _ (one an_operator (one an_operator (one an_operator z)))
+
+made_operator : (s : Shape) (op : IntOp) (x y d : Reg) → Makes (operator_code s op x y d)
+made_operator InRegisters op x y d next z = one an_operator z
+made_operator (ConstantRight i) op x y d next z = one an_operator z
+made_operator (ConstantLeft i) op x y d next z = one an_operator z
+made_operator (PowerRight k) op x y d next z = made_power op k x y d next z
 
 made_unless : (o : Option (List ℕ)) (code : Code) → Makes code → Makes (unless_symbol o code)
 made_unless (Some name) code e next z = z
@@ -137,7 +153,7 @@ mutual
   made_select env labels valued tail d b (Assign at name_at name e) next z = made_select env labels false false _ _ e _ (made_to _ (reg_of env name) next z)
   made_select env labels valued tail d b (Operator at op left right) next z =
       let s = shape_of op left right in
-      made_ordered (is_left_first (scopes env) left right) _ _ (made_left s _ (made_select env labels false false _ _ left)) (made_right s _ (made_select env labels false false _ _ right)) _ (one an_operator z)
+      made_ordered (is_left_first (scopes env) left right) _ _ (made_left s _ (made_select env labels false false _ _ left)) (made_right s _ (made_select env labels false false _ _ right)) _ (made_operator s op _ _ _ next z)
   made_select env labels valued tail d b (App at callee arguments result result_at) next z =
       let light = is_light_address (scopes env) callee in
       let made = made_select env labels false false _ _ callee in

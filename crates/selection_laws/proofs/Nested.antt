@@ -26,10 +26,12 @@ use Rattle.mach_ir.specs.declared.mach.Test.TheVariants as test
 use Rattle.mach_ir.specs.declared.op.Op.{Op}
 use Rattle.mach_ir.specs.declared.op.Right.{Right}
 use Rattle.mach_ir.specs.declared.op.Right.TheVariants as right
+use Rattle.bs_words.specs.declared.operators.IntOp.{IntOp}
+use Rattle.bs_words.specs.declared.operators.IntOp.TheVariants as operator
 use Rattle.mach_ir.specs.declared.reg.Reg.{Reg}
 use Rattle.selection_rules.specs.Instructions.{bare}
 use Rattle.selection_rules.specs.Instructions as emit
-use Rattle.selection_rules.specs.Select.{Code, Shape, InRegisters, ConstantRight, ConstantLeft, shape_of, shape_op, shape_right, shape_args, unless_left, unless_right, Named, Label, scopes, reg_of, label_of, move_from, move_to, moves_all, exit_to, ordered, only_when, from_seat, symbol_of, unless_symbol, right_of, unless_constant, bound_test, comparison, tested, select_test, is_based, select_base, call_of, callee_regs, bound_name, width, width_labels, inner_dest, inner_valued, regs_of, select, select_waiting, select_filled, select_bound, select_seq, select_cases, select_handlers, deeper, unless_bare, in_handlers, labels_from, count_cases, last_label, switch_labels, cell_stores, to_seat, selected, first, params_from, with_params, is_no_value, fresh, seats, result_seat}
+use Rattle.selection_rules.specs.Select.{Code, Shape, InRegisters, ConstantRight, ConstantLeft, PowerRight, rounded, power_code, operator_code, shape_of, shape_op, shape_right, shape_args, unless_left, unless_right, Named, Label, scopes, reg_of, label_of, move_from, move_to, moves_all, exit_to, ordered, only_when, from_seat, symbol_of, unless_symbol, right_of, unless_constant, bound_test, comparison, tested, select_test, is_based, select_base, call_of, callee_regs, bound_name, width, width_labels, inner_dest, inner_valued, regs_of, select, select_waiting, select_filled, select_bound, select_seq, select_cases, select_handlers, deeper, unless_bare, in_handlers, labels_from, count_cases, last_label, switch_labels, cell_stores, to_seat, selected, first, params_from, with_params, is_no_value, fresh, seats, result_seat}
 use Rattle.selection_rules.proofs.Exits.{scopes_params}
 use Rattle.selection_rules.proofs.Parts.{Ending, all, more, ending_in, ending_next, Within, inside_all, inside_more, inside_in}
 use Rattle.selection_rules.proofs.Endings.{ending_select, ending_handlers, ending_cases}
@@ -234,11 +236,27 @@ module _ (whole : List Instr) where
   walks_left InRegisters x = x
   walks_left (ConstantRight i) x = x
   walks_left (ConstantLeft i) x = idle
+  walks_left (PowerRight k) x = x
 
   walks_right : {ts : List ℕ} {x : Code} (s : Shape) → Walks ts x → Walks ts (unless_right s x)
   walks_right InRegisters x = x
   walks_right (ConstantRight i) x = idle
   walks_right (ConstantLeft i) x = x
+  walks_right (PowerRight k) x = idle
+
+  walks_rounded : {ts : List ℕ} → Caught whole ts → (k : ℕ) (x y : Reg) → Walks ts (rounded k x y)
+  walks_rounded c k x y = then (op_step c _ (x ∷ []) (y ∷ []) refl) (then (op_step c _ (y ∷ []) (y ∷ []) refl) (op_step c _ (x ∷ y ∷ []) (y ∷ []) refl))
+
+  walks_power : {ts : List ℕ} → Caught whole ts → (op : IntOp) (k : ℕ) (x y d : Reg) → Walks ts (power_code op k x y d)
+  walks_power c operator.Div k x y d = then (walks_rounded c k x y) (op_step c _ (y ∷ []) (d ∷ []) refl)
+  walks_power c op k x y d =
+      then (walks_rounded c k x y) (then (op_step c _ (y ∷ []) (y ∷ []) refl) (then (op_step c _ (y ∷ []) (y ∷ []) refl) (op_step c _ (x ∷ y ∷ []) (d ∷ []) refl)))
+
+  walks_operator : {ts : List ℕ} → Caught whole ts → (s : Shape) (op : IntOp) (x y d : Reg) → Walks ts (operator_code s op x y d)
+  walks_operator c InRegisters op x y d = op_step c _ (x ∷ y ∷ []) (d ∷ []) refl
+  walks_operator c (ConstantRight i) op x y d = op_step c _ (x ∷ []) (d ∷ []) refl
+  walks_operator c (ConstantLeft i) op x y d = op_step c _ (y ∷ []) (d ∷ []) refl
+  walks_operator c (PowerRight k) op x y d = walks_power c op k x y d
 
   -- ---- labels
 
@@ -597,7 +615,7 @@ module _ (whole : List Instr) where
         let s = shape_of op left right in
         then
         (walks_ordered (is_left_first (scopes env) left right) (walks_left s (walks_select env labels false false _ _ left fine.0 (quiet x))) (walks_right s (walks_select env labels false false _ _ right fine.1 (quiet x))))
-        (op_step x.catches _ (shape_args s _ _) (_ ∷ []) refl)
+        (walks_operator x.catches s op _ _ _)
     walks_select env labels valued tail d b (App at callee arguments result result_at) fine x =
         let light = is_light_address (scopes env) callee in
         then (walks_waiting env labels _ _ arguments fine.1.1 (quiet x))

@@ -1,7 +1,10 @@
 -- Selected code is formed and seated, where its tree fits.
-use Rattle.std.proofs.Common.{◌≡◌, ℕ, suc, ◌+◌, ◌≤◌, length, Bool, true, false, not, cond, ⊎_elim, List, [], ◌∷◌, Option, Some, None, All, refl, sym, ap, subst, arith}
-use Rattle.std.specs.Prelude.{Contains}
+use Rattle.std.proofs.Common.{◌≡◌, ℕ, suc, ◌+◌, ◌-◌, ◌<◌, ◌≤◌, length, Bool, true, false, not, cond, ⊎_elim, List, [], ◌∷◌, Option, Some, None, All, refl, sym, ap, subst, arith}
+use Rattle.std.specs.Prelude.{Contains, nat_lt}
+use Rattle.std.proofs.lemmas.Bool.{lt-ltb}
 use Rattle.std.proofs.lemmas.List.Elements.{All-nil, All-cons}
+use Rattle.bs_words.specs.declared.operators.IntOp.{IntOp}
+use Rattle.bs_words.specs.declared.operators.IntOp.TheVariants as operator
 use Rattle.bs_words.specs.declared.types.Chunk.{Chunk}
 use Rattle.bs_words.specs.declared.types.Ret.{Ret}
 use Rattle.bs_words.specs.declared.types.Ret.TheVariants as ret
@@ -26,10 +29,12 @@ use Rattle.mach_ir.specs.declared.op.Right.TheVariants as right
 use Rattle.mach_ir.specs.declared.reg.Reg.{Reg}
 use Rattle.selection_rules.specs.Instructions.{bare}
 use Rattle.selection_rules.specs.Instructions as emit
-use Rattle.selection_rules.specs.Select.{Code, Shape, InRegisters, ConstantRight, ConstantLeft, shape_of, shape_op, shape_right, unless_left, unless_right, Named, Label, scopes, reg_of, label_of, move_from, move_to, moves_all, exit_to, ordered, only_when, from_seat, symbol_of, unless_symbol, right_of, unless_constant, bound_test, comparison, tested, select_test, is_based, select_base, call_of, tail_result, env_after, bound_name, width, regs_of, select, select_waiting, select_filled, select_bound, select_seq, select_cases, select_handlers, deeper, cell_stores, to_seat, selected, first, params_from, with_params, is_no_value, fresh, seats}
+use Rattle.selection_rules.specs.Select.{Code, Shape, InRegisters, ConstantRight, ConstantLeft, PowerRight, rounded, power_code, operator_code, shape_of, shape_op, shape_right, shape_args, unless_left, unless_right, Named, Label, scopes, reg_of, label_of, move_from, move_to, moves_all, exit_to, ordered, only_when, from_seat, symbol_of, unless_symbol, right_of, unless_constant, bound_test, comparison, tested, select_test, is_based, select_base, call_of, tail_result, env_after, bound_name, width, regs_of, select, select_waiting, select_filled, select_bound, select_seq, select_cases, select_handlers, deeper, cell_stores, to_seat, selected, first, params_from, with_params, is_no_value, fresh, seats}
 use Rattle.selection_rules.proofs.Exits.{scopes_params}
 use Rattle.selection_laws.specs.Fits.{Fits, RowFits, BindingsFit, CasesFit, HandlersFit, FunctionFits}
-use Rattle.selection_laws.proofs.Forms.{is_return, IsProper, p_move, p_constant, p_symbol, p_operator, p_branch, p_load, p_store, p_alloc, p_call, p_tail_call, p_external, p_checkbound, p_raise, p_handler, p_holds, p_choice, p_bare, p_return, regs_length, seats_in_order}
+use Rattle.selection_rules.specs.Bounded.{BoundedCode}
+use Rattle.selection_laws.proofs.Constants.{formed_bounded}
+use Rattle.selection_laws.proofs.Forms.{is_return, IsProper, p_move, p_constant, p_symbol, ShortPower, short_power, short_shape, p_operator, p_shift, p_registers, p_branch, p_load, p_store, p_alloc, p_call, p_tail_call, p_external, p_checkbound, p_raise, p_handler, p_holds, p_choice, p_bare, p_return, regs_length, seats_in_order}
 
 pub data AllProper (given : Ret) : List Instr → Type 0 where
   none : AllProper given []
@@ -98,11 +103,35 @@ module _ (given : Ret) where
   proper_left InRegisters code e next z = e next z
   proper_left (ConstantRight i) code e next z = e next z
   proper_left (ConstantLeft i) code e next z = z
+  proper_left (PowerRight k) code e next z = e next z
 
   proper_right : (s : Shape) (code : Code) → Makes code → Makes (unless_right s code)
   proper_right InRegisters code e next z = e next z
   proper_right (ConstantRight i) code e next z = z
   proper_right (ConstantLeft i) code e next z = e next z
+  proper_right (PowerRight k) code e next z = z
+
+  -- an amount of a shift
+  short_amount : (k : ℕ) → k < 64 → nat_lt k 64 ≡ true
+  short_amount k less = lt-ltb k 64 less
+
+  proper_rounded : (k : ℕ) (x y : Reg) → 1 ≤ k → k < 64 → Makes (rounded k x y)
+  proper_rounded k x y low less next z =
+      one (p_shift operator.Sar 63 x y refl) (one (p_shift operator.Shr (64 - k) y y (short_amount (64 - k) (omega (arith, low)))) (one (p_registers operator.Add x y y) z))
+
+  proper_power : (op : IntOp) (k : ℕ) (x y d : Reg) → 1 ≤ k → k < 64 → Makes (power_code op k x y d)
+  proper_power operator.Div k x y d low less next z = proper_rounded k x y low less _ (one (p_shift operator.Sar k y d (short_amount k less)) z)
+  proper_power op k x y d low less next z =
+      proper_rounded k x y low less _ (one (p_shift operator.Sar k y y (short_amount k less)) (one (p_shift operator.Shl k y y (short_amount k less)) (one (p_registers operator.Sub x y d) z)))
+
+  proper_short : (s : Shape) (op : IntOp) (x y d : Reg) → ShortPower s → IsProper given (emit.operator (shape_op s op) (shape_right s) (shape_args s x y) d) → Makes (operator_code s op x y d)
+  proper_short InRegisters op x y d short p next z = one p z
+  proper_short (ConstantRight i) op x y d short p next z = one p z
+  proper_short (ConstantLeft i) op x y d short p next z = one p z
+  proper_short (PowerRight k) op x y d (short_power low less) p next z = proper_power op k x y d low less next z
+
+  proper_operator : (op : IntOp) (left e : Expression) (x y d : Reg) → Makes (operator_code (shape_of op left e) op x y d)
+  proper_operator op left e x y d = proper_short (shape_of op left e) op x y d (short_shape op left e) (p_operator op left e x y d)
 
   proper_unless : (o : Option (List ℕ)) (code : Code) → Makes code → Makes (unless_symbol o code)
   proper_unless (Some name) code e next z = z
@@ -129,7 +158,7 @@ module _ (given : Ret) where
     proper_select env labels valued tail d b (Assign at name_at name e) fine next z = proper_select env labels false false _ _ e fine _ (proper_to _ (reg_of env name) next z)
     proper_select env labels valued tail d b (Operator at op left right) fine next z =
         let s = shape_of op left right in
-        proper_ordered (is_left_first (scopes env) left right) _ _ (proper_left s _ (proper_select env labels false false _ _ left fine.0)) (proper_right s _ (proper_select env labels false false _ _ right fine.1)) _ (one (p_operator op left right _ _ _) z)
+        proper_ordered (is_left_first (scopes env) left right) _ _ (proper_left s _ (proper_select env labels false false _ _ left fine.0)) (proper_right s _ (proper_select env labels false false _ _ right fine.1)) _ (proper_operator op left right _ _ _ next z)
     proper_select env labels valued tail d b (App at callee arguments result result_at) fine next z =
         let light = is_light_address (scopes env) callee in
         let made = proper_select env labels false false _ _ callee fine.1.0 in
@@ -237,6 +266,14 @@ selected_proper f fits =
 params_length : (b : ℕ) (params : List Parameter) → length (params_from b params) ≡ length params
 params_length b [] = refl
 params_length b (p ∷ params) = let others = params_length (suc b) params in omega (arith, others)
+
+-- Each constant of the code is a word.
+pub selected_bounded : (f : FunctionTree) → FunctionFits f → BoundedCode (selected f).code
+selected_bounded f fits = all_bounded (selected_proper f fits)
+  where
+    all_bounded : {given : Ret} {code : List Instr} → AllProper given code → BoundedCode code
+    all_bounded none = tt
+    all_bounded (one x xs) = (formed_bounded x.formed, all_bounded xs)
 
 -- Parameters, operands and results stand where the conventions put them.
 pub selected_seated : (f : FunctionTree) → FunctionFits f → Seated (selected f)

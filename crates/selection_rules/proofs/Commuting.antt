@@ -18,24 +18,26 @@ use Rattle.selection_rules.specs.Select.{Immediate, immediate_of, immediate_if, 
 
 -- ---- a product with a power of two
 
-pub data IsExponent (w : ℕ) : Option ℕ → Type 0 where
-  no_power : IsExponent w None
-  power : {k : ℕ} → k < 64 → 2 ^ k ≡ w → IsExponent w (Some k)
+-- an exponent from the first bound on, below the second
+pub data IsExponent (low top w : ℕ) : Option ℕ → Type 0 where
+  no_power : IsExponent low top w None
+  power : {k : ℕ} → low ≤ k → k < top → 2 ^ k ≡ w → IsExponent low top w (Some k)
 
-found_exponent : (b : Bool) (k w : ℕ) {o : Option ℕ} → nat_eq (2 ^ k) w ≡ b → k < 64 → IsExponent w o → IsExponent w (exponent_if b k o)
-found_exponent true k w e less further = power less (eqb-true (2 ^ k) w e)
-found_exponent false k w e less further = further
+found_exponent : {low top : ℕ} (b : Bool) (k w : ℕ) {o : Option ℕ} → nat_eq (2 ^ k) w ≡ b → low ≤ k → k < top → IsExponent low top w o → IsExponent low top w (exponent_if b k o)
+found_exponent true k w e le less further = power le less (eqb-true (2 ^ k) w e)
+found_exponent false k w e le less further = further
 
-exponents : (n k w : ℕ) → k + n ≤ 64 → IsExponent w (exponent_from n k w)
+pub exponents : (low top n k w : ℕ) → low ≤ k → k + n ≤ top → IsExponent low top w (exponent_from n k w)
 unfolding exponent_from
-exponents zero k w le = no_power
-exponents (suc n) k w le = found_exponent (nat_eq (2 ^ k) w) k w refl (omega (arith, le)) (exponents n (suc k) w (omega (arith, le)))
+exponents low top zero k w le most = no_power
+exponents low top (suc n) k w le most =
+    found_exponent (nat_eq (2 ^ k) w) k w refl le (omega (arith, most)) (exponents low top n (suc k) w (omega (arith, le)) (omega (arith, most)))
 
 shifted : (a k : ℕ) → mul_word a (2 ^ k) ≡ shl_word a k
 unfolding mul_word shl_word
 shifted a k = refl
 
-not_far : (k : ℕ) → k < 64 → nat_le 64 k ≡ false
+pub not_far : (k : ℕ) → k < 64 → nat_le 64 k ≡ false
 not_far k less = by (nat_le 64 k) refl
   where
     by : (b : Bool) → nat_le 64 k ≡ b → b ≡ false
@@ -61,12 +63,12 @@ by_itself : (b : Bool) (op : IntOp) (w : ℕ) → Meant op w (immediate_if b op 
 by_itself true op w = means (record { is = λ s v. refl })
 by_itself false op w = no_immediate
 
-by_shift : (w : ℕ) {o : Option ℕ} → IsExponent w o → Meant operators.Mul w (shift_by o)
+by_shift : (w : ℕ) {o : Option ℕ} → IsExponent 0 64 w o → Meant operators.Mul w (shift_by o)
 by_shift w no_power = no_immediate
-by_shift w (power {k = k} less e) = means (record { is = λ s v. subst (λ n. apply operators.Mul s v (Word n) ≡ apply operators.Shl s v (Word k)) e (product_is_shift s k v less) })
+by_shift w (power {k = k} le less e) = means (record { is = λ s v. subst (λ n. apply operators.Mul s v (Word n) ≡ apply operators.Shl s v (Word k)) e (product_is_shift s k v less) })
 
 pub immediate_means : (op : IntOp) (w : ℕ) → Meant op w (immediate_of op w)
-immediate_means operators.Mul w = by_shift w (exponents 64 0 w (omega arith))
+immediate_means operators.Mul w = by_shift w (exponents 0 64 64 0 w (omega arith) (omega arith))
 immediate_means op w = by_itself (is_immediate op w) op w
 
 -- ---- operands that change places

@@ -6,13 +6,15 @@ use Rattle.bs_words.specs.declared.types.Ret.TheVariants as ret
 use Rattle.bs_words.specs.declared.types.Chunk.{Chunk}
 use Rattle.cmm_types.specs.Light.{is_light_address}
 use Rattle.cmm_meaning.specs.Evaluation.{is_left_first}
+use Rattle.bs_words.specs.declared.operators.IntOp.{IntOp}
+use Rattle.bs_words.specs.declared.operators.IntOp.TheVariants as operators
 use Rattle.mach_ir.specs.declared.reg.Reg.{Reg}
 use Rattle.mach_ir.specs.declared.mach.Instr.{Instr}
 use Rattle.mach_ir.specs.Acts.{drop_tries}
 use Rattle.mach_ir.specs.declared.mach.Test.{Test}
 use Rattle.mach_ir.specs.declared.op.Right.{Right}
 use Rattle.mach_ir.specs.declared.op.Right.TheVariants as right
-use Rattle.selection_rules.specs.Select.{Shape, InRegisters, ConstantRight, ConstantLeft, shape_of, shape_op, shape_right, unless_left, unless_right, Named, Label, scopes, reg_of, label_of, move_from, move_to, moves_all, exit_to, ordered, only_when, from_seat, symbol_of, unless_symbol, right_of, unless_constant, bound_test, comparison, tested, select_test, is_based, select_base, call_of, regs_of, select, select_waiting, select_filled, select_bound, select_seq, select_cases, select_handlers, deeper, cell_stores}
+use Rattle.selection_rules.specs.Select.{Shape, InRegisters, ConstantRight, ConstantLeft, PowerRight, rounded, power_code, operator_code, shape_of, shape_op, shape_right, unless_left, unless_right, Named, Label, scopes, reg_of, label_of, move_from, move_to, moves_all, exit_to, ordered, only_when, from_seat, symbol_of, unless_symbol, right_of, unless_constant, bound_test, comparison, tested, select_test, is_based, select_base, call_of, regs_of, select, select_waiting, select_filled, select_bound, select_seq, select_cases, select_handlers, deeper, cell_stores}
 use Rattle.selection_rules.proofs.Parts.{more, ending_in, Within, inside_all, inside_more, inside_in}
 use Rattle.selection_rules.specs.Instructions as emit
 use Rattle.selection_rules.specs.Instructions.{bare}
@@ -66,11 +68,26 @@ ending_left : (s : Shape) (code : List Instr → List Instr) → Ends code → E
 ending_left InRegisters code e next = e next
 ending_left (ConstantRight i) code e next = e next
 ending_left (ConstantLeft i) code e next = inside_all
+ending_left (PowerRight k) code e next = e next
 
 ending_right : (s : Shape) (code : List Instr → List Instr) → Ends code → Ends (unless_right s code)
 ending_right InRegisters code e next = e next
 ending_right (ConstantRight i) code e next = inside_all
 ending_right (ConstantLeft i) code e next = e next
+ending_right (PowerRight k) code e next = inside_all
+
+ending_rounded : (k : ℕ) (x y : Reg) → Ends (rounded k x y)
+ending_rounded k x y next = inside_more refl (inside_more refl (inside_more refl inside_all))
+
+ending_power : (op : IntOp) (k : ℕ) (x y d : Reg) → Ends (power_code op k x y d)
+ending_power operators.Div k x y d next = inside_in (inside_more refl inside_all) (ending_rounded k x y _)
+ending_power op k x y d next = inside_in (inside_more refl (inside_more refl (inside_more refl inside_all))) (ending_rounded k x y _)
+
+ending_operator : (s : Shape) (op : IntOp) (x y d : Reg) → Ends (operator_code s op x y d)
+ending_operator InRegisters op x y d next = inside_more refl inside_all
+ending_operator (ConstantRight i) op x y d next = inside_more refl inside_all
+ending_operator (ConstantLeft i) op x y d next = inside_more refl inside_all
+ending_operator (PowerRight k) op x y d next = ending_power op k x y d next
 
 pub ending_unless : (o : Option (List ℕ)) (code : List Instr → List Instr) → Ends code → Ends (unless_symbol o code)
 ending_unless (Some name) code e next = inside_all
@@ -100,7 +117,7 @@ mutual
   ending_select env labels valued tail d b (Assign at name_at name e) next =
       inside_in (ending_to _ (reg_of env name) next) (ending_select env labels false false _ _ e _)
   ending_select env labels valued tail d b (Operator at op left right) next =
-      inside_in (inside_more refl inside_all)
+      inside_in (ending_operator (shape_of op left right) op _ _ _ next)
       (ending_ordered (is_left_first (scopes env) left right) _ _ (ending_left (shape_of op left right) _ (ending_select env labels false false _ _ left)) (ending_right (shape_of op left right) _ (ending_select env labels false false _ _ right)) _)
   ending_select env labels valued tail d b (App at callee arguments result result_at) next =
       inside_in (inside_in (inside_in (inside_in (inside_in (call_inside tail _ _ _ _ _ _ _ next)

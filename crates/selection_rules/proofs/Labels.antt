@@ -3,6 +3,8 @@ use Rattle.std.proofs.Common.{◌≡◌, ℕ, suc, ◌+◌, ◌<◌, ◌≤◌, 
 use Rattle.std.specs.Prelude.{nat_eq, length}
 use Rattle.std.proofs.lemmas.Bool.{true≢false, cases_Bool, eqb-true}
 use Rattle.cmm_tree.specs.Tree.{FunctionTree, Expression, Integer, Pointer, Symbol, Name, Nothing, Float, Let, Assign, Operator, Load, Store, Alloc, App, Extcall, Checkbound, Raise, Seq, If, Switch, Catch, Exit, Try, Expressions, NoMore, More, Bindings, NoBinding, Bind, Cases, NoCase, Choose, Handlers, NoHandler, Handle}
+use Rattle.bs_words.specs.declared.operators.IntOp.{IntOp}
+use Rattle.bs_words.specs.declared.operators.IntOp.TheVariants as operators
 use Rattle.bs_words.specs.declared.operators.IntOp.TheVariants.{AddA}
 use Rattle.bs_words.specs.declared.types.Ret.{Ret}
 use Rattle.bs_words.specs.declared.types.Ret.TheVariants as ret
@@ -18,7 +20,7 @@ use Rattle.mach_ir.specs.declared.mach.Instr.{Instr}
 use Rattle.mach_ir.specs.declared.mach.Mach.{Mach}
 use Rattle.mach_ir.specs.declared.mach.MachOp.{MachOp}
 use Rattle.mach_ir.specs.Meaning.{has_label as marks_of, after_label, is_handler_of, from_handler}
-use Rattle.selection_rules.specs.Select.{Shape, InRegisters, ConstantRight, ConstantLeft, shape_of, shape_op, shape_right, unless_left, unless_right, Named, Label, scopes, fresh, reg_of, label_of, move_from, move_to, moves_all, exit_to, ordered, only_when, seats, from_seat, to_seat, first, params_from, symbol_of, unless_symbol, right_of, unless_constant, bound_test, comparison, tested, select_test, is_based, select_base, call_of, count_of, count_cases, width_cases, select_cases, cell_stores, regs_of, width, width_row, width_bound, width_labels, width_handlers, select, select_waiting, select_filled, select_bound, select_seq, select_handlers, selected, with_params, is_no_value}
+use Rattle.selection_rules.specs.Select.{Shape, InRegisters, ConstantRight, ConstantLeft, PowerRight, rounded, power_code, operator_code, shape_of, shape_op, shape_right, unless_left, unless_right, Named, Label, scopes, fresh, reg_of, label_of, move_from, move_to, moves_all, exit_to, ordered, only_when, seats, from_seat, to_seat, first, params_from, symbol_of, unless_symbol, right_of, unless_constant, bound_test, comparison, tested, select_test, is_based, select_base, call_of, count_of, count_cases, width_cases, select_cases, cell_stores, regs_of, width, width_row, width_bound, width_labels, width_handlers, select, select_waiting, select_filled, select_bound, select_seq, select_handlers, selected, with_params, is_no_value}
 use Rattle.selection_rules.proofs.Parts.{Ending, all, more, WellLabelled}
 use Rattle.selection_rules.specs.Instructions as emit
 
@@ -193,11 +195,26 @@ left_marks : {A : ℕ → Type 0} {x : List Instr → List Instr} (s : Shape) �
 left_marks InRegisters m = m
 left_marks (ConstantRight i) m = m
 left_marks (ConstantLeft i) m = quiet_in nothing_marked
+left_marks (PowerRight k) m = m
 
 right_marks : {A : ℕ → Type 0} {x : List Instr → List Instr} (s : Shape) → Marks A x → Marks A (unless_right s x)
 right_marks InRegisters m = m
 right_marks (ConstantRight i) m = quiet_in nothing_marked
 right_marks (ConstantLeft i) m = m
+right_marks (PowerRight k) m = quiet_in nothing_marked
+
+rounded_quiet : (k : ℕ) (x y : Reg) → Quiet (rounded k x y)
+rounded_quiet k x y = then_quiet (then_quiet (unmarked _ (λ l. refl)) (unmarked _ (λ l. refl))) (unmarked _ (λ l. refl))
+
+power_quiet : (op : IntOp) (k : ℕ) (x y d : Reg) → Quiet (power_code op k x y d)
+power_quiet operators.Div k x y d = then_quiet (rounded_quiet k x y) (unmarked _ (λ l. refl))
+power_quiet op k x y d = then_quiet (then_quiet (then_quiet (rounded_quiet k x y) (unmarked _ (λ l. refl))) (unmarked _ (λ l. refl))) (unmarked _ (λ l. refl))
+
+operator_quiet : (s : Shape) (op : IntOp) (x y d : Reg) → Quiet (operator_code s op x y d)
+operator_quiet InRegisters op x y d = unmarked _ (λ l. refl)
+operator_quiet (ConstantRight i) op x y d = unmarked _ (λ l. refl)
+operator_quiet (ConstantLeft i) op x y d = unmarked _ (λ l. refl)
+operator_quiet (PowerRight k) op x y d = power_quiet op k x y d
 
 -- ---- light operands
 
@@ -219,7 +236,7 @@ light_quiet env labels valued tail d b (Operator at op left right) light =
     (ordered_quiet (is_left_first (scopes env) left right)
     (left_marks (shape_of op left right) (light_quiet env labels false false _ _ left (and_left (is_light (scopes env) left) (is_light (scopes env) right) both)))
     (right_marks (shape_of op left right) (light_quiet env labels false false _ _ right (and_right (is_light (scopes env) left) (is_light (scopes env) right) both))))
-    (unmarked _ (λ l. refl))
+    (operator_quiet (shape_of op left right) op _ _ _)
 light_quiet env labels valued tail d b (Pointer at w) light = absurd (true≢false (sym light))
 light_quiet env labels valued tail d b (Nothing at) light = absurd (true≢false (sym light))
 light_quiet env labels valued tail d b (Float at q es) light = absurd (true≢false (sym light))
@@ -290,7 +307,7 @@ mutual
       then_quiet
       (ordered_marks (is_left_first (scopes env) left right) (left_marks (shape_of op left right) (marks_select env labels false false _ (suc (suc (suc b))) left)) (right_marks (shape_of op left right) (marks_select env labels false false _ (suc (suc (suc b)) + width left) right))
       (le_refl (suc (suc (suc b)) + width left)) (omega arith) (omega arith) (omega arith) (omega arith))
-      (unmarked _ (λ l. refl))
+      (operator_quiet (shape_of op left right) op _ _ _)
   marks_select env labels valued tail d b (App at callee arguments result result_at) =
       let row = suc (suc b) in
       let base = suc (row + count_of arguments + count_of arguments) in

@@ -18,14 +18,15 @@ use Rattle.mach_ir.specs.declared.mach.Instr.{Instr}
 use Rattle.mach_ir.specs.declared.mach.Mach.{Mach}
 use Rattle.mach_ir.specs.Runs.{Place, Continues}
 use Rattle.mach_ir.specs.Meaning.{File, with_held, on_act, wrote, put, put_if}
-use Rattle.mach_ir.specs.Acts.{if_known, one_result}
+use Rattle.mach_ir.specs.Acts.{if_known}
 use Rattle.selection_rules.specs.Kept.{on_values}
-use Rattle.selection_rules.specs.Select.{shape_of, shape_op, shape_right, shape_args, Named, Label, scopes, fresh, reg_of, move_from, move_to, inner_valued, inner_dest, width, select}
+use Rattle.selection_rules.specs.Select.{shape_of, operator_code, Named, Label, scopes, fresh, reg_of, move_from, move_to, inner_valued, inner_dest, width, select}
 use Rattle.selection_rules.specs.Follow.{Follows, walks, fails}
-use Rattle.selection_rules.proofs.Files.{Holds, Looked, unknown, known as a_known, looked_up as name_stands, Assigns, unbound, assigns, assigning, under_more, named_under, Stands, scope_is}
-use Rattle.selection_rules.proofs.Parts.{lower_more, Stable, stable_inner, stable_same, name as may_name, calm, at, Level, any, nothing as no_value, gone_any, After, after_typed, node_follows, Ready, lands}
+use Rattle.selection_rules.proofs.Files.{Holds, Looked, unknown, known as a_known, looked_up as name_stands, Assigns, unbound, assigns, assigning, under_more, named_under, IsNamed, Stands, stands_put, scope_is}
+use Rattle.selection_rules.proofs.Parts.{lower_more, Stable, stable_inner, stable_same, new, name as may_name, calm, at, Level, any, nothing as no_value, gone_any, After, after_typed, node_follows, Ready, lands}
 use Rattle.selection_rules.proofs.Operands.{Selected, operand, own_fits, ready_at}
-use Rattle.selection_rules.proofs.Shapes.{shape_two, shape_view, operands_values, operator_act}
+use Rattle.selection_rules.proofs.Shapes.{shape_two, shape_view}
+use Rattle.selection_rules.proofs.Operators.{finished, reached, operator_follows}
 use Rattle.selection_rules.proofs.Endings.{ending_select}
 use Rattle.bs_words.specs.declared.types.Ty.TheVariants as ty
 use Rattle.bs_words.specs.declared.values.Value.TheVariants as value
@@ -162,21 +163,24 @@ module _ (c : Place) (m : Mach) (turns : ℕ) (ts : List ℕ) where
       (Continues (at c m turns ts (select env labels valued tail d b (Operator place op left right) next) f memory)))
       (sym (scope_is s))
       (shape_two c m turns ts (is_left_first (scopes env) left right) left right (shape_view op left right) refl sl sr (omega (arith, fine)) (omega (arith, fine)) (suc b) (suc (suc b)) (suc (suc (suc b))) (suc (suc (suc b)) + width left)
-      (instr ∷ next) go kk ready.lower ready.under first stable
+      (operator_code (shape_of op left right) op x y (inner_dest T b d) next) go kk ready.lower ready.under first stable
       (omega arith) (omega arith) (omega arith) (omega arith) (omega arith) (omega arith) (λ z. omega (arith, z))
       (λ rest. ending_select env labels false false _ _ left rest) (λ rest. ending_select env labels false false _ _ right rest) ending a.outs h f memory level s p
-      (λ v w h f memory level s p read. walks (
-      subst (λ o. Follows c m (go v w h memory kk) (on_values c m instr next f (calm c m turns ts memory) o)) (sym (operands_values read))
-      (subst (λ done. Follows c m (go v w h memory kk) (on_act c m instr next f (calm c m turns ts memory) done)) (sym (operator_act c.setting (calm c m turns ts memory) read))
-      (by h f memory level s p (apply op (sizes memory) v w)))))))
+      (λ v w h f memory level s p read.
+      operator_follows c m (calm c m turns ts memory) (inner_dest T b d) next (λ o. proper o memory (λ u. part.gives (Some u) h memory) kk) (λ kind z. fails) (λ z. omega (arith, z)) read
+      (λ g r o. by h g memory level (reached (λ g. Stands env h.names g) (λ v g s. stands_put y v unnamed s) s r) (reached P (λ v g p. stable.puts y v g (new (omega arith)) p) p r) o))))
     where
       T : Ty
       T = type_of (scopes env) (Operator place op left right)
 
-      instr : Instr
-      instr =
-          emit.operator (shape_op (shape_of op left right) op) (shape_right (shape_of op left right))
-          (shape_args (shape_of op left right) (fresh (suc b) (type_of (scopes env) left)) (fresh (suc (suc b)) (type_of (scopes env) right))) (inner_dest T b d)
+      x : Reg
+      x = fresh (suc b) (type_of (scopes env) left)
+
+      y : Reg
+      y = fresh (suc (suc b)) (type_of (scopes env) right)
+
+      unnamed : IsNamed (suc (suc b)) env → ⊥
+      unnamed q = let small = named_under ready.under q in omega (arith, small)
 
       kk : Leaves (Option Value) → Does
       kk = λ l. onward (λ v h memory. of_type c.setting.end (type_of (scopes env) (Operator place op left right)) v h memory) l k
@@ -185,7 +189,7 @@ module _ (c : Place) (m : Mach) (turns : ℕ) (ts : List ℕ) where
       go = λ v w h memory. proper (apply op (sizes memory) v w) memory (λ u. part.gives (Some u) h memory)
 
       by : (h : Here) (f : File) (memory : Memory) → Level c m turns ts h → Stands env h.names f → P f → (r : Result Value Kind) →
-          Follows c m (proper r memory (λ u. part.gives (Some u) h memory) kk) (on_act c m instr next f (calm c m turns ts memory) (one_result (calm c m turns ts memory) r))
+          Follows c m (proper r memory (λ u. part.gives (Some u) h memory) kk) (finished c m (calm c m turns ts memory) (inner_dest T b d) next f r)
       by h f memory level s p (Err kind) = fails
       by h f memory level s p (Ok u) =
           lands c m turns ts (ready_inner T ready) (stable_dest d T stable) (after_typed c m turns ts T b after) u h f memory level s p any

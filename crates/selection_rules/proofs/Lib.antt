@@ -1,10 +1,14 @@
 pub mod Plays
+pub mod Words
+pub mod Bounds
 pub mod Files
 pub mod Parts
 pub mod Operands
 pub mod Constants
 pub mod Commuting
+pub mod Powers
 pub mod Shapes
+pub mod Operators
 pub mod Endings
 pub mod Leaves
 pub mod Addresses
@@ -23,3 +27,4 @@ pub mod LightOnes
 pub mod Allocs
 pub mod Selects
 pub mod Selection
+pub mod BoundedRuns

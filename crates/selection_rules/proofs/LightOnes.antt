@@ -1,5 +1,5 @@
 -- Light operands, whatever stands round the registers: their values do not hang on memory.
-use Rattle.std.proofs.Common.{◌≡◌, ℕ, suc, ◌+◌, ◌<◌, ◌≤◌, Bool, true, false, cond, ◌&&◌, List, [], ◌∷◌, Option, Some, None, Result, Ok, Err, map, refl, sym, subst, arith, le_refl}
+use Rattle.std.proofs.Common.{◌≡◌, ℕ, suc, ◌+◌, ◌<◌, ◌≤◌, Bool, true, false, cond, ◌&&◌, List, [], ◌∷◌, Option, Some, None, Result, Ok, Err, map, refl, sym, ap, subst, arith, le_refl}
 use Rattle.std.proofs.lemmas.Bool.{true≢false}
 use Rattle.bs_words.specs.Fits.{fits, misfit, type_of_comp}
 use Rattle.bs_words.specs.Memory.{Memory, sizes}
@@ -21,15 +21,16 @@ use Rattle.mach_ir.specs.declared.mach.Instr.{Instr}
 use Rattle.mach_ir.specs.declared.mach.Mach.{Mach}
 use Rattle.mach_ir.specs.Runs.{Place, Continues}
 use Rattle.mach_ir.specs.Meaning.{State, File, with_held, on_act, wrote, put, put_if}
-use Rattle.mach_ir.specs.Acts.{Around, if_known, one_result}
+use Rattle.mach_ir.specs.Acts.{Around, if_known}
 use Rattle.selection_rules.specs.Kept.{on_values}
-use Rattle.selection_rules.specs.Select.{Shape, InRegisters, shape_of, shape_op, shape_right, shape_args, unless_left, unless_right, Named, Label, scopes, fresh, reg_of, move_from, inner_dest, width, ordered, only_when, count_of, regs_of, select, select_filled}
+use Rattle.selection_rules.specs.Select.{Shape, InRegisters, shape_of, operator_code, unless_left, unless_right, Named, Label, scopes, comp_of, fresh, reg_of, move_from, inner_dest, width, ordered, only_when, count_of, regs_of, select, select_filled}
 use Rattle.selection_rules.specs.Follow.{Follows, walks, fails}
 use Rattle.selection_rules.proofs.Files.{Holds, put_same, Looked, unknown, known as a_known, looked_up as name_stands, Under, under_more, named_under, Stands, stands_put, scope_is, IsNamed}
-use Rattle.selection_rules.proofs.Parts.{Stable, stable_inner, stable_same, dest, And as Also, stable_and, node_follows}
+use Rattle.selection_rules.proofs.Parts.{new, Stable, stable_inner, stable_same, dest, And as Also, stable_and, node_follows}
 use Rattle.selection_rules.proofs.Operands.{own_fits}
 use Rattle.selection_rules.proofs.Constants.{constant_operand}
-use Rattle.selection_rules.proofs.Shapes.{ShapeView, in_registers, constant_right, constant_left, shape_view, Operands, both_stand, left_stands, right_stands, operands_values, operator_act}
+use Rattle.selection_rules.proofs.Shapes.{ShapeView, in_registers, constant_right, constant_left, power_right, shape_view, Operands, both_stand, left_stands, right_stands, a_power}
+use Rattle.selection_rules.proofs.Operators.{finished, reached, operator_follows}
 use Rattle.selection_rules.proofs.Labels.{and_left, and_right, address_is_light}
 use Rattle.selection_rules.proofs.Rows.{Row, late, early, Between, between_regs, WithRow, stable_row, Matches}
 use Rattle.bs_words.specs.declared.types.Ty.TheVariants as ty
@@ -134,7 +135,7 @@ module _ (c : Place) (m : Mach) (turns : ℕ) (ts : List ℕ) (h : Here) (memory
         node_follows c m turns ts e h memory (both (is_left_first (scope h) left right) (does (text_of c) turns left false) (does (text_of c) turns right false) h memory (λ v w h memory.
         proper (apply op (sizes memory) v w) memory (λ u. part.gives (Some u) h memory))) (taking go k) _ s
         (subst (λ (sc : List Scoped). Follows c m (both (is_left_first sc left right) (does (text_of c) turns left false) (does (text_of c) turns right false) h memory step kk)
-        (Continues (now (ordered (is_left_first (scopes env) left right) (left_code (shape_of op left right)) (right_code (shape_of op left right)) (instr (shape_of op left right) ∷ next)) f))) (sym (scope_is s)) (by (is_left_first (scopes env) left right) refl refl refl (shape_view op left right)))
+        (Continues (now (ordered (is_left_first (scopes env) left right) (left_code (shape_of op left right)) (right_code (shape_of op left right)) (done (shape_of op left right))) f))) (sym (scope_is s)) (by (is_left_first (scopes env) left right) refl refl refl (shape_view op left right)))
       where
         e : Expression
         e = Operator place op left right
@@ -154,8 +155,8 @@ module _ (c : Place) (m : Mach) (turns : ℕ) (ts : List ℕ) (h : Here) (memory
         right_code : Shape → List Instr → List Instr
         right_code z = unless_right z (select env labels false false (fresh (suc (suc i)) (type_of (scopes env) right)) (suc (suc (suc i)) + width left) right)
 
-        instr : Shape → Instr
-        instr z = emit.operator (shape_op z op) (shape_right z) (shape_args z x y) (inner_dest T i (fresh n T))
+        done : Shape → List Instr
+        done z = operator_code z op x y (inner_dest T i (fresh n T)) next
 
         kk : Leaves (Option Value) → Does
         kk = λ l. onward (λ v h memory. of_type c.setting.end T v h memory) l (taking go k)
@@ -166,61 +167,70 @@ module _ (c : Place) (m : Mach) (turns : ℕ) (ts : List ℕ) (h : Here) (memory
         parts : is_light (scopes env) left && is_light (scopes env) right ≡ true
         parts = and_right (is_light_operator op) (is_light (scopes env) left && is_light (scopes env) right) light
 
-        result : (q : Shape) (f : File) → Stands env h.names f → P f → (r : Result Value Kind) →
-            Follows c m (proper r memory (λ u. part.gives (Some u) h memory) kk) (on_act c m (instr q) next f a (one_result a r))
-        result q f s p (Err kind) = fails
-        result q f s p (Ok u) = land T i n u f next go k (λ q. after_write T under stable f s p on u q)
-
-        last : {r : Shape} (v w : Value) (f : File) → Stands env h.names f → P f → Operands op x y f r v w → Follows c m (step v w h memory kk) (Continues (now (instr r ∷ next) f))
-        last {r = r} v w f s p read =
-            walks (subst (λ o. Follows c m (step v w h memory kk) (on_values c m (instr r) next f a o)) (sym (operands_values read))
-            (subst (λ done. Follows c m (step v w h memory kk) (on_act c m (instr r) next f a done)) (sym (operator_act c.setting a read))
-            (subst (λ q. Follows c m (step v w h memory kk) (on_act c m (instr r) next f a (one_result a q)))
-            (light_apply op (sizes memory) (sizes a.memory) v w (and_left (is_light_operator op) (is_light (scopes env) left && is_light (scopes env) right) light))
-            (result r f s p (apply op (sizes memory) v w)))))
-
         unnamed : (j : ℕ) → n < j → IsNamed j env → ⊥
         unnamed j le q = let small = named_under under q in omega (arith, small, le)
 
+        result : (f : File) → Stands env h.names f → P f → (r : Result Value Kind) →
+            Follows c m (proper r memory (λ u. part.gives (Some u) h memory) kk) (finished c m a (inner_dest T i (fresh n T)) next f r)
+        result f s p (Err kind) = fails
+        result f s p (Ok u) = land T i n u f next go k (λ q. after_write T under stable f s p on u q)
+
+        last : {r : Shape} (v w : Value) (f : File) → Stands env h.names f → P f → Operands op x y f r v w → Follows c m (step v w h memory kk) (Continues (now (done r) f))
+        last {r = r} v w f s p read =
+            subst (λ q. Follows c m (proper q memory (λ u. part.gives (Some u) h memory) kk) (Continues (now (done r) f)))
+            (sym (light_apply op (sizes memory) (sizes a.memory) v w (and_left (is_light_operator op) (is_light (scopes env) left && is_light (scopes env) right) light)))
+            (operator_follows c m a (inner_dest T i (fresh n T)) next (λ o. proper o memory (λ u. part.gives (Some u) h memory) kk) (λ kind z. fails) (λ z. omega (arith, z)) read
+            (λ g r o.
+            result g (reached (λ g. Stands env h.names g) (λ v g s. stands_put y v (unnamed (suc (suc i)) (omega (arith, less))) s) s r)
+            (reached P (λ v g p. stable.puts y v g (new (omega arith)) p) p r) o))
+
         by : {r : Shape} {g1 g2 : Expression} (q : Bool) → is_left_first (scopes env) g1 g2 ≡ q → g1 ≡ left → g2 ≡ right → ShapeView op g1 g2 r →
-            Follows c m (both q (does (text_of c) turns left false) (does (text_of c) turns right false) h memory step kk) (Continues (now (ordered q (left_code r) (right_code r) (instr r ∷ next)) f))
+            Follows c m (both q (does (text_of c) turns left false) (does (text_of c) turns right false) h memory step kk) (Continues (now (ordered q (left_code r) (right_code r) (done r)) f))
         by true is same1 same2 (constant_right z) = absurd (true≢false (sym is))
         by {r = r} false is same1 same2 (constant_right {place = place'} {w = w} z) =
             subst (λ g. Follows c m (with_value (does (text_of c) turns g false h memory) (λ w h memory. with_value (does (text_of c) turns left false h memory) (λ v h memory. step v w h memory)) kk)
-            (Continues (now (left_code r (instr r ∷ next)) f))) same2
+            (Continues (now (left_code r (done r)) f))) same2
             (constant_operand c m turns place' w h memory (λ w h memory. with_value (does (text_of c) turns left false h memory) (λ v h memory. step v w h memory)) kk _
-            (ll _ env labels (suc i) (suc (suc (suc i))) (instr r ∷ next) P (λ v h memory. step v (value.Word w) h memory) kk (and_left (is_light (scopes env) left) (is_light (scopes env) right) parts)
+            (ll _ env labels (suc i) (suc (suc (suc i))) (done r) P (λ v h memory. step v (value.Word w) h memory) kk (and_left (is_light (scopes env) left) (is_light (scopes env) right) parts)
             (under_more (suc i) (omega (arith, less)) under) (omega arith) (omega (arith, first, less)) (stable_inner (suc i) (suc (suc (suc i))) (omega arith) (omega arith) stable)
             f s p (λ v f s p fv hv. last v (value.Word w) f s p (left_stands z hv))))
+        by true is same1 same2 (power_right z low top q) = absurd (true≢false (sym is))
+        by {r = r} false is same1 same2 (power_right {place = place'} {w = w} z low top whole) =
+            subst (λ g. Follows c m (with_value (does (text_of c) turns g false h memory) (λ w h memory. with_value (does (text_of c) turns left false h memory) (λ v h memory. step v w h memory)) kk)
+            (Continues (now (left_code r (done r)) f))) same2
+            (constant_operand c m turns place' w h memory (λ w h memory. with_value (does (text_of c) turns left false h memory) (λ v h memory. step v w h memory)) kk _
+            (ll _ env labels (suc i) (suc (suc (suc i))) (done r) P (λ v h memory. step v (value.Word w) h memory) kk (and_left (is_light (scopes env) left) (is_light (scopes env) right) parts)
+            (under_more (suc i) (omega (arith, less)) under) (omega arith) (omega (arith, first, less)) (stable_inner (suc i) (suc (suc (suc i))) (omega arith) (omega arith) stable)
+            f s p (λ v f s p fv hv. last v (value.Word w) f s p (a_power z low top whole (ap (λ g. comp_of (type_of (scopes env) g)) (sym same2)) hv))))
         by {r = r} true is same1 same2 (constant_left {place = place'} {w = w} z) =
             subst (λ g. Follows c m (with_value (does (text_of c) turns g false h memory) (λ v h memory. with_value (does (text_of c) turns right false h memory) (λ w h memory. step v w h memory)) kk)
-            (Continues (now (right_code r (instr r ∷ next)) f))) same1
+            (Continues (now (right_code r (done r)) f))) same1
             (constant_operand c m turns place' w h memory (λ v h memory. with_value (does (text_of c) turns right false h memory) (λ w h memory. step v w h memory)) kk _
-            (lr _ env labels (suc (suc i)) (suc (suc (suc i)) + width left) (instr r ∷ next) P (λ u h memory. step (value.Word w) u h memory) kk (and_right (is_light (scopes env) left) (is_light (scopes env) right) parts)
+            (lr _ env labels (suc (suc i)) (suc (suc (suc i)) + width left) (done r) P (λ u h memory. step (value.Word w) u h memory) kk (and_right (is_light (scopes env) left) (is_light (scopes env) right) parts)
             (under_more (suc (suc i)) (omega (arith, less)) under) (omega arith) (omega (arith, first, less)) (stable_inner (suc (suc i)) (suc (suc (suc i)) + width left) (omega arith) (omega arith) stable)
             f s p (λ u f s p fu hu. last (value.Word w) u f s p (right_stands z hu))))
         by {r = r} false is same1 same2 (constant_left {place = place'} {w = w} z) =
-            lr _ env labels (suc (suc i)) (suc (suc (suc i)) + width left) (instr r ∷ next) P (λ u h memory. with_value (does (text_of c) turns left false h memory) (λ v h memory. step v u h memory)) kk
+            lr _ env labels (suc (suc i)) (suc (suc (suc i)) + width left) (done r) P (λ u h memory. with_value (does (text_of c) turns left false h memory) (λ v h memory. step v u h memory)) kk
             (and_right (is_light (scopes env) left) (is_light (scopes env) right) parts)
             (under_more (suc (suc i)) (omega (arith, less)) under) (omega arith) (omega (arith, first, less)) (stable_inner (suc (suc i)) (suc (suc (suc i)) + width left) (omega arith) (omega arith) stable)
             f s p (λ u f s p fu hu.
-            subst (λ g. Follows c m (with_value (does (text_of c) turns g false h memory) (λ v h memory. step v u h memory) kk) (Continues (now (instr r ∷ next) f))) same1
+            subst (λ g. Follows c m (with_value (does (text_of c) turns g false h memory) (λ v h memory. step v u h memory) kk) (Continues (now (done r) f))) same1
             (constant_operand c m turns place' w h memory (λ v h memory. step v u h memory) kk _ (last (value.Word w) u f s p (right_stands z hu))))
         by false is same1 same2 in_registers =
-            lr _ env labels (suc (suc i)) (suc (suc (suc i)) + width left) (left_code InRegisters (instr InRegisters ∷ next)) P (λ w h memory. with_value (does (text_of c) turns left false h memory) (λ v h memory. step v w h memory)) kk
+            lr _ env labels (suc (suc i)) (suc (suc (suc i)) + width left) (left_code InRegisters (done InRegisters)) P (λ w h memory. with_value (does (text_of c) turns left false h memory) (λ v h memory. step v w h memory)) kk
             (and_right (is_light (scopes env) left) (is_light (scopes env) right) parts) (under_more (suc (suc i)) (omega (arith, less)) under) (omega arith) (omega (arith, first, less))
             (stable_inner (suc (suc i)) (suc (suc (suc i)) + width left) (omega arith) (omega arith) stable) f s p
             (λ w f s p fw hw.
-            ll _ env labels (suc i) (suc (suc (suc i))) (instr InRegisters ∷ next) (Also P y w) (λ v h memory. step v w h memory) kk (and_left (is_light (scopes env) left) (is_light (scopes env) right) parts)
+            ll _ env labels (suc i) (suc (suc (suc i))) (done InRegisters) (Also P y w) (λ v h memory. step v w h memory) kk (and_left (is_light (scopes env) left) (is_light (scopes env) right) parts)
             (under_more (suc i) (omega (arith, less)) under) (omega arith) (omega (arith, first, less))
             (stable_and y w (omega arith) (λ z. omega (arith, z)) (unnamed (suc (suc i)) (omega (arith, less))) (omega (arith, first, less)) (stable_inner (suc i) (suc (suc (suc i))) (omega arith) (omega arith) stable))
             f s (record { rest = p; holds = hw }) (λ v f s p fv hv. last v w f s p.rest (both_stand hv p.holds)))
         by true is same1 same2 in_registers =
-            ll _ env labels (suc i) (suc (suc (suc i))) (right_code InRegisters (instr InRegisters ∷ next)) P (λ v h memory. with_value (does (text_of c) turns right false h memory) (λ w h memory. step v w h memory)) kk
+            ll _ env labels (suc i) (suc (suc (suc i))) (right_code InRegisters (done InRegisters)) P (λ v h memory. with_value (does (text_of c) turns right false h memory) (λ w h memory. step v w h memory)) kk
             (and_left (is_light (scopes env) left) (is_light (scopes env) right) parts) (under_more (suc i) (omega (arith, less)) under) (omega arith) (omega (arith, first, less))
             (stable_inner (suc i) (suc (suc (suc i))) (omega arith) (omega arith) stable) f s p
             (λ v f s p fv hv.
-            lr _ env labels (suc (suc i)) (suc (suc (suc i)) + width left) (instr InRegisters ∷ next) (Also P x v) (λ w h memory. step v w h memory) kk (and_right (is_light (scopes env) left) (is_light (scopes env) right) parts)
+            lr _ env labels (suc (suc i)) (suc (suc (suc i)) + width left) (done InRegisters) (Also P x v) (λ w h memory. step v w h memory) kk (and_right (is_light (scopes env) left) (is_light (scopes env) right) parts)
             (under_more (suc (suc i)) (omega (arith, less)) under) (omega arith) (omega (arith, first, less))
             (stable_and x v (omega arith) (λ z. omega (arith, z)) (unnamed (suc i) (omega (arith, less))) (omega (arith, first, less)) (stable_inner (suc (suc i)) (suc (suc (suc i)) + width left) (omega arith) (omega arith) stable))
             f s (record { rest = p; holds = hv }) (λ w f s p fw hw. last v w f s p.rest (both_stand p.holds hw)))

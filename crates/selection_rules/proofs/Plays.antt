@@ -16,8 +16,12 @@ use Rattle.cmm_meaning.specs.Run.{nobody}
 use Rattle.mach_ir.specs.declared.mach.Mach.{Mach}
 use Rattle.mach_ir.specs.Runs.{Place, Step, Continues, Finishes, IsStuck, kept_of, Tally, Run, Running, Asking, Ended, paid, came_back, handed, onward, units_of}
 use Rattle.mach_ir.specs.Meaning.{State}
+use Rattle.selection_rules.specs.Bounded.{BoundedDoing, BoundedDoings, BoundedState, BoundedStep}
 use Rattle.selection_rules.specs.Kept.{run}
-use Rattle.selection_rules.specs.Follow.{RaisesVal, Follows, walks, pays, gives, raises, jumps, raises_out, jumps_wrong, deepens, calls, replaces, calls_out, exits, fails, spent}
+use Rattle.selection_rules.specs.Kept as kept
+use Rattle.selection_rules.specs.Follow.{RaisesVal, Follows, walks, pays, gives, raises, jumps, raises_out, jumps_wrong, deepens, calls, replaces, calls_out, exits, fails, spent, no_words}
+use Rattle.bs_words.specs.declared.types.Ret.{Ret}
+use Rattle.bs_words.specs.declared.types.Ret.TheVariants as ret
 use Rattle.bs_words.specs.declared.types.Ty.TheVariants as ty
 use Rattle.cmm_meaning.specs.Evaluation as eval
 
@@ -45,7 +49,16 @@ same_units e (asking a b) = asking a (b ∙ e)
 same_units e improper = improper
 same_units e left_by_exit = left_by_exit
 
-module _ (c : Place) (m : Mach) where
+pub kept_bounded : (kept : Ret) (d : Doing) → BoundedDoing d → BoundedDoing (kept_of kept d)
+kept_bounded ret.Unit (Gave v memory) b = (tt, b.1)
+kept_bounded ret.Unit (Threw v memory) b = b
+kept_bounded (ret.Comp t) d b = b
+
+-- a machine whose steps leave words
+pub record StaysBounded (c : Place) (m : Mach) : Type 0 where
+  pub step : (s : State) → BoundedState s → BoundedStep (kept.step c m s)
+
+module _ (c : Place) (m : Mach) (stays : StaysBounded c m) where
   abbrev s : Surroundings
   s = lonely c.setting.end c.setting.symbol c.setting.parameters
 
@@ -55,7 +68,7 @@ module _ (c : Place) (m : Mach) where
     pub meets : Meets (t.units + beats s d w) (played s d w) (onward (run c m steps) x t)
 
   abbrev Plays : Does → Step State → Type 0
-  Plays d x = (w : World) (t : Tally) → Alike t w → Played d w x t
+  Plays d x = BoundedStep x → (w : World) (t : Tally) → Alike t w → BoundedDoings t.doings → Played d w x t
 
   abbrev IsHalts : Step State → Type 0
   IsHalts IsStuck = Unit {0}
@@ -77,6 +90,7 @@ module _ (c : Place) (m : Mach) where
   wrong exits h w u r = left_by_exit
   wrong fails h w u r = improper
   wrong spent h w u r = absurd h
+  wrong (no_words f) h w u r = absurd h
 
   pays_on : (n : ℕ) (rest : Does) (w : World) (x : State) (t : Tally) → Alike t w → ((v : World) → Alike t v → Played rest v (Continues x) t) →
       (k : ℕ) × Meets (t.units + beats_behind_unit n w (λ v. beats s rest v)) (spend n w (λ v. played s rest v)) (onward (run c m k) (Continues x) t)
@@ -85,110 +99,110 @@ module _ (c : Place) (m : Mach) where
       let p = on (record w { left = n }) (record { asked = a.asked; doings = a.doings; need = a.need }) in (p.steps, p.meets)
 
   -- after a call of a function
-  called : (ds : List Doing) (call : Asked) (go : Doing → Does) (next : Doing → Step State) (w : World) (t : Tally) → Alike t w → (f : ℕ) → call.callee ≡ Inside f →
+  called : (ds : List Doing) (call : Asked) (go : Doing → Does) (next : Doing → Step State) → BoundedDoings ds → ((d : Doing) → BoundedDoing d → BoundedStep (next d)) → (w : World) (t : Tally) → Alike t w → (f : ℕ) → call.callee ≡ Inside f →
       ((d : Doing) → RaisesVal c d → Plays (go d) (next d)) →
       (k : ℕ) × Meets (t.units + beats_behind_call (λ d v. beats s (go d) v) (done_inside c.setting.end call ds w))
       (after_call (λ d v. played s (go d) v) (done_inside c.setting.end call ds w))
       (handed (λ d y. onward (run c m k) (next d) y) call ds t)
-  called [] call go next w t a f is on = (0, asking a (omega arith))
-  called (Gave v memory ∷ ds) call go next w t a f is on =
+  called [] call go next z b w t a f is on = (0, asking a (omega arith))
+  called (Gave v memory ∷ ds) call go next z b w t a f is on =
       let after : World = record w { memory = memory; asked = w.asked ++ call ∷ []; doings = ds } in
       let y : Tally = came_back call ds t in
-      let p = on (Gave v memory) tt after y (record { asked = ap (λ xs. xs ++ call ∷ []) a.asked; doings = refl; need = a.need }) in
+      let p = on (Gave v memory) tt (b (Gave v memory) z.0) after y (record { asked = ap (λ xs. xs ++ call ∷ []) a.asked; doings = refl; need = a.need }) z.1 in
       let one : y.units ≡ suc t.units = ap (λ x. units_of x t.units) is in
       (p.steps, same_units (omega (arith, one)) p.meets)
-  called (Threw v memory ∷ ds) call go next w t a f is on =
+  called (Threw v memory ∷ ds) call go next z b w t a f is on =
       let after : World = record w { memory = memory; asked = w.asked ++ call ∷ []; doings = ds } in
       let y : Tally = came_back call ds t in
       let one : y.units ≡ suc t.units = ap (λ x. units_of x t.units) is in
-      by y (record { asked = ap (λ xs. xs ++ call ∷ []) a.asked; doings = refl; need = a.need }) one (fits c.setting.end ty.Val v) refl
+      by y (record { asked = ap (λ xs. xs ++ call ∷ []) a.asked; doings = refl; need = a.need }) z.1 one (fits c.setting.end ty.Val v) refl
     where
       after : World
       after = record w { memory = memory; asked = w.asked ++ call ∷ []; doings = ds }
 
-      by : (y : Tally) → Alike y after → y.units ≡ suc t.units → (b : Bool) → fits c.setting.end ty.Val v ≡ b →
+      by : (y : Tally) → Alike y after → BoundedDoings y.doings → y.units ≡ suc t.units → (b : Bool) → fits c.setting.end ty.Val v ≡ b →
           (k : ℕ) × Meets (t.units + beats_behind_call (λ d v. beats s (go d) v) (cond b (Raises v nobody after) (Stops (NotProper (misfit ty.Val)) after)))
           (after_call (λ d v. played s (go d) v) (cond b (Raises v nobody after) (Stops (NotProper (misfit ty.Val)) after)))
           (onward (run c m k) (next (Threw v memory)) y)
-      by y alike one false e = (0, improper)
-      by y alike one true e = let p = on (Threw v memory) e after y alike in (p.steps, same_units (omega (arith, one)) p.meets)
+      by y alike ds' one false e = (0, improper)
+      by y alike ds' one true e = let p = on (Threw v memory) e (b (Threw v memory) z.0) after y alike ds' in (p.steps, same_units (omega (arith, one)) p.meets)
 
   -- after an external call
-  called_out : (ds : List Doing) (call : Asked) (go : Doing → Does) (next : Doing → Step State) (w : World) (t : Tally) → Alike t w →
+  called_out : (ds : List Doing) (call : Asked) (go : Doing → Does) (next : Doing → Step State) → BoundedDoings ds → ((d : Doing) → BoundedDoing d → BoundedStep (next d)) → (w : World) (t : Tally) → Alike t w →
       (row : External) (frame : Bool) → call.callee ≡ Outside row frame →
       ((v : Option Value) (after : Memory) → Plays (go (Gave v w.memory)) (next (Gave v after))) →
       (frame ≡ true → (v : Value) (after : Memory) → fits c.setting.end ty.Val v ≡ true → Plays (Jumps (go (Threw v w.memory))) (next (Threw v after))) →
       (k : ℕ) × Meets (t.units + beats_behind_external (λ d v. beats s (go d) v) (done_outside c.setting.end frame call ds w))
       (after_call (λ d v. played s (go d) v) (done_outside c.setting.end frame call ds w))
       (handed (λ d y. onward (run c m k) (next d) y) call ds t)
-  called_out [] call go next w t a row frame is on thrown = (0, asking a (omega arith))
-  called_out (Gave v memory ∷ ds) call go next w t a row frame is on thrown =
+  called_out [] call go next z b w t a row frame is on thrown = (0, asking a (omega arith))
+  called_out (Gave v memory ∷ ds) call go next z b w t a row frame is on thrown =
       let after : World = record w { asked = w.asked ++ call ∷ []; doings = ds } in
       let y : Tally = came_back call ds t in
-      let p = on v memory after y (record { asked = ap (λ xs. xs ++ call ∷ []) a.asked; doings = refl; need = a.need }) in
+      let p = on v memory (b (Gave v memory) z.0) after y (record { asked = ap (λ xs. xs ++ call ∷ []) a.asked; doings = refl; need = a.need }) z.1 in
       let one : y.units ≡ t.units = ap (λ x. units_of x t.units) is in
       (p.steps, same_units (ap (λ n. n + beats s (go (Gave v w.memory)) after) one) p.meets)
-  called_out (Threw v memory ∷ ds) call go next w t a row false is on thrown = (0, improper)
-  called_out (Threw v memory ∷ ds) call go next w t a row true is on thrown =
+  called_out (Threw v memory ∷ ds) call go next z b w t a row false is on thrown = (0, improper)
+  called_out (Threw v memory ∷ ds) call go next z b w t a row true is on thrown =
       let y : Tally = came_back call ds t in
       let one : y.units ≡ t.units = ap (λ x. units_of x t.units) is in
-      by y (record { asked = ap (λ xs. xs ++ call ∷ []) a.asked; doings = refl; need = a.need }) one (fits c.setting.end ty.Val v) refl
+      by y (record { asked = ap (λ xs. xs ++ call ∷ []) a.asked; doings = refl; need = a.need }) z.1 one (fits c.setting.end ty.Val v) refl
     where
       after : World
       after = record w { asked = w.asked ++ call ∷ []; doings = ds }
 
-      by : (y : Tally) → Alike y after → y.units ≡ t.units → (b : Bool) → fits c.setting.end ty.Val v ≡ b →
+      by : (y : Tally) → Alike y after → BoundedDoings y.doings → y.units ≡ t.units → (b : Bool) → fits c.setting.end ty.Val v ≡ b →
           (k : ℕ) × Meets (t.units + beats_behind_external (λ d v. beats s (go d) v) (cond b (Raises v nobody after) (Stops (NotProper (misfit ty.Val)) after)))
           (after_call (λ d v. played s (go d) v) (cond b (Raises v nobody after) (Stops (NotProper (misfit ty.Val)) after)))
           (onward (run c m k) (next (Threw v memory)) y)
-      by y alike one false e = (0, improper)
-      by y alike one true e = let p = thrown refl v memory e after y alike in (p.steps, same_units (ap (λ n. n + suc (beats s (go (Threw v w.memory)) after)) one) p.meets)
+      by y alike ds' one false e = (0, improper)
+      by y alike ds' one true e = let p = thrown refl v memory e (b (Threw v memory) z.0) after y alike ds' in (p.steps, same_units (ap (λ n. n + suc (beats s (go (Threw v w.memory)) after)) one) p.meets)
 
   pub plays : {d : Does} {x : Step State} → Follows c m d x → Plays d x
-  plays (walks f) w t a = let p = plays f w t a in record { steps = suc p.steps; meets = p.meets }
-  plays (pays {memory = memory} {rest = rest} {s = x} f) w t a =
-      let p = pays_on w.left rest (record w { memory = memory }) x t (record { asked = a.asked; doings = a.doings; need = a.need }) (λ v b. plays f v t b) in
+  plays (walks {s = x} f) b w t a ds = let p = plays f (stays.step x b) w t a ds in record { steps = suc p.steps; meets = p.meets }
+  plays (pays {memory = memory} {rest = rest} {s = x} f) b w t a ds =
+      let p = pays_on w.left rest (record w { memory = memory }) x t (record { asked = a.asked; doings = a.doings; need = a.need }) (λ v q. plays f b v t q ds) in
       record { steps = p.0; meets = p.1 }
-  plays (gives {v = v} {memory = memory}) w t a =
+  plays (gives {v = v} {memory = memory}) b w t a ds =
       record { steps = 0; meets = returned (record { asked = a.asked; doings = a.doings; need = a.need }) (omega arith) }
-  plays (raises {v = v} {memory = memory}) w t a =
+  plays (raises {v = v} {memory = memory}) b w t a ds =
       record { steps = 0; meets = threw (record { asked = a.asked; doings = a.doings; need = a.need }) (omega arith) }
-  plays (jumps {rest = rest} f) w t a =
-      let p = plays f w (paid t) (record { asked = a.asked; doings = a.doings; need = a.need }) in
+  plays (jumps {rest = rest} f) b w t a ds =
+      let p = plays f b w (paid t) (record { asked = a.asked; doings = a.doings; need = a.need }) ds in
       let e : suc t.units + beats s rest w ≡ t.units + suc (beats s rest w) = omega arith in
       record { steps = p.steps; meets = same_units e p.meets }
-  plays (raises_out {rest = rest} f) w t a =
-      let p = plays f w (paid t) (record { asked = a.asked; doings = a.doings; need = a.need }) in
+  plays (raises_out {rest = rest} f) b w t a ds =
+      let p = plays f b w (paid t) (record { asked = a.asked; doings = a.doings; need = a.need }) ds in
       let e : suc t.units + beats s rest w ≡ t.units + suc (beats s rest w) = omega arith in
       record { steps = p.steps; meets = same_units e p.meets }
-  plays (jumps_wrong {rest = rest} {s = x} f) w t a =
+  plays (jumps_wrong {rest = rest} {s = x} f) b w t a ds =
       record { steps = 0; meets = wrong f tt w (t.units + suc (beats s rest w)) (onward (run c m 0) x t) }
-  plays (deepens {bytes = bytes} {rest = rest} {s = x} f) w t a =
+  plays (deepens {bytes = bytes} {rest = rest} {s = x} f) b w t a ds =
       let y : Tally = record t { need = max t.need bytes } in
-      let p = plays f (deepened bytes w) y (record { asked = a.asked; doings = a.doings; need = ap (λ n. max n bytes) a.need }) in
+      let p = plays f b (deepened bytes w) y (record { asked = a.asked; doings = a.doings; need = ap (λ n. max n bytes) a.need }) ds in
       record { steps = p.steps; meets = p.meets }
-  plays (calls {call = call} {memory = memory} {go = go} {next = next} on) w t a =
+  plays (calls {call = call} {memory = memory} {go = go} {next = next} on) b w t a ds =
       let asks = asked_inside call memory in
-      let p = called t.doings asks go next (record w { memory = memory }) t (record { asked = a.asked; doings = a.doings; need = a.need }) call.function refl (λ d z. plays (on d z)) in
+      let p = called t.doings asks go next ds b.1 (record w { memory = memory }) t (record { asked = a.asked; doings = a.doings; need = a.need }) call.function refl (λ d z. plays (on d z)) in
       record {
         steps = p.0;
         meets = subst (λ ds. Meets (t.units + beats_behind_call (λ d v. beats s (go d) v) (done_inside c.setting.end asks ds (record w { memory = memory })))
             (after_call (λ d v. played s (go d) v) (done_inside c.setting.end asks ds (record w { memory = memory })))
             (handed (λ d y. onward (run c m p.0) (next d) y) asks t.doings t)) a.doings p.1;
       }
-  plays (replaces {call = call} {memory = memory} {go = go} {kept = kept} on) w t a =
+  plays (replaces {call = call} {memory = memory} {go = go} {kept = kept} on) b w t a ds =
       let asks = asked_inside call memory in
       let next : Doing → Step State = λ d. Finishes (kept_of kept d) in
-      let p = called t.doings asks go next (record w { memory = memory }) t (record { asked = a.asked; doings = a.doings; need = a.need }) call.function refl (λ d z. plays (on d z)) in
+      let p = called t.doings asks go next ds (λ d q. kept_bounded kept d q) (record w { memory = memory }) t (record { asked = a.asked; doings = a.doings; need = a.need }) call.function refl (λ d z. plays (on d z)) in
       record {
         steps = p.0;
         meets = subst (λ ds. Meets (t.units + beats_behind_call (λ d v. beats s (go d) v) (done_inside c.setting.end asks ds (record w { memory = memory })))
             (after_call (λ d v. played s (go d) v) (done_inside c.setting.end asks ds (record w { memory = memory })))
             (handed (λ d y. onward (run c m p.0) (next d) y) asks t.doings t)) a.doings p.1;
       }
-  plays (calls_out {row = row} {frame = frame} {arguments = vs} {memory = memory} {go = go} {next = next} on thrown) w t a =
+  plays (calls_out {row = row} {frame = frame} {arguments = vs} {memory = memory} {go = go} {next = next} on thrown) b w t a ds =
       let asks = asked_outside row frame vs memory in
-      let p = called_out t.doings asks go next (record w { memory = memory }) t (record { asked = a.asked; doings = a.doings; need = a.need }) row frame refl
+      let p = called_out t.doings asks go next ds b.1 (record w { memory = memory }) t (record { asked = a.asked; doings = a.doings; need = a.need }) row frame refl
       (λ v after. plays (on v after)) (λ e v after z. plays (thrown e v after z)) in
       record {
         steps = p.0;
@@ -196,7 +210,8 @@ module _ (c : Place) (m : Mach) where
             (after_call (λ d v. played s (go d) v) (done_outside c.setting.end frame asks ds (record w { memory = memory })))
             (handed (λ d y. onward (run c m p.0) (next d) y) asks t.doings t)) a.doings p.1;
       }
-  plays exits w t a = record { steps = 0; meets = left_by_exit }
-  plays fails w t a = record { steps = 0; meets = improper }
-  plays (spent {memory = memory}) w t a =
+  plays exits b w t a ds = record { steps = 0; meets = left_by_exit }
+  plays fails b w t a ds = record { steps = 0; meets = improper }
+  plays (spent {memory = memory}) b w t a ds =
       record { steps = 0; meets = running (record { asked = a.asked; doings = a.doings; need = a.need }) (omega arith) }
+  plays (no_words f) b w t a ds = absurd (f b)

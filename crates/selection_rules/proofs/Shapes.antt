@@ -1,9 +1,10 @@
 -- Two operands of an operator, of which one may be a constant that needs no register.
 use Rattle.std.proofs.Common.{◌≡◌, ℕ, ◌^◌, ◌<◌, ◌≤◌, Bool, true, false, List, [], ◌∷◌, Option, Some, None, refl, sym, ap, ◌∙◌, subst, arith}
 use Rattle.std.proofs.lemmas.Bool.{true≢false}
-use Rattle.bs_words.specs.Memory.{Memory, sizes}
+use Rattle.bs_words.specs.Memory.{Memory}
 use Rattle.bs_words.specs.Operators.{apply}
 use Rattle.bs_words.specs.declared.operators.IntOp.{IntOp}
+use Rattle.bs_words.specs.declared.types.Comp.TheVariants as comp
 use Rattle.bs_words.specs.declared.operators.IntOp.TheVariants as operators
 use Rattle.bs_words.specs.declared.values.Value.{Value}
 use Rattle.bs_words.specs.declared.values.Value.TheVariants as value
@@ -13,8 +14,7 @@ use Rattle.cmm_meaning.specs.Evaluation.{is_left_first}
 use Rattle.cmm_meaning.specs.State.{Here}
 use Rattle.meaning_laws.specs.Does.{Leaves, Does}
 use Rattle.meaning_laws.specs.Interaction.{Part, with_value, both, does}
-use Rattle.cmm_meaning.specs.Setting.{Setting}
-use Rattle.mach_ir.specs.Acts.{Around, pure_act, one_result, truth_of, as_condition}
+use Rattle.mach_ir.specs.Acts.{truth_of, as_condition}
 use Rattle.mach_ir.specs.Runs.{Place, Continues}
 use Rattle.mach_ir.specs.Meaning.{File, values, with_held}
 use Rattle.mach_ir.specs.declared.reg.Reg.{Reg}
@@ -22,25 +22,30 @@ use Rattle.mach_ir.specs.declared.mach.Instr.{Instr}
 use Rattle.mach_ir.specs.declared.mach.Mach.{Mach}
 use Rattle.mach_ir.specs.declared.mach.Test.{Test}
 use Rattle.mach_ir.specs.declared.mach.Test.TheVariants as test
-use Rattle.mach_ir.specs.declared.op.Pure.TheVariants as pure
 use Rattle.mach_ir.specs.declared.op.Right.TheVariants as right
-use Rattle.selection_rules.specs.Select.{Named, Label, scopes, fresh, ordered, width, Immediate, if_commuted, left_immediate, right_immediate, Shape, InRegisters, ConstantRight, ConstantLeft, shape, shape_of, shape_op, shape_right, shape_args, unless_left, unless_right, comparison, select}
+use Rattle.selection_rules.specs.Select.{Named, Label, scopes, fresh, ordered, width, Immediate, if_commuted, left_immediate, right_immediate, Shape, InRegisters, ConstantRight, ConstantLeft, PowerRight, power_of, power_shape, shape, shape_of, shape_op, shape_right, shape_args, unless_left, unless_right, comparison, select}
 use Rattle.selection_rules.specs.Follow.{text_of, Follows}
 use Rattle.selection_rules.proofs.Files.{Holds, Under, Stands}
 use Rattle.selection_rules.proofs.Parts.{Placed, Within, Lower, Stable, stable_inner, at, Level, Outs}
 use Rattle.selection_rules.proofs.Operands.{Selected, operand, two, ready_at}
 use Rattle.selection_rules.proofs.Constants.{constant_operand}
-use Rattle.selection_rules.proofs.Commuting.{Means, Meant, no_immediate, means, immediate_means, Commutes, MayCommute, does_not, commutes, commuting}
+use Rattle.selection_rules.proofs.Commuting.{IsExponent, no_power, power, exponents, Means, Meant, no_immediate, means, immediate_means, Commutes, MayCommute, does_not, commutes, commuting}
 
 -- the same with the constant on the left
 pub record MeansLeft (op : IntOp) (w : ℕ) (i : Immediate) : Type 0 where
   pub is : (s : List ℕ) (v : Value) → apply op s (value.Word w) v ≡ apply i.op s v (value.Word i.word)
+
+-- an operator that divides
+pub data IsDivision : IntOp → Type 0 where
+  is_div : IsDivision operators.Div
+  is_mod : IsDivision operators.Mod
 
 -- what the shape of two operands comes to
 pub data ShapeView (op : IntOp) : Expression → Expression → Shape → Type 0 where
   in_registers : {left e : Expression} → ShapeView op left e InRegisters
   constant_right : {left : Expression} {place w : ℕ} {i : Immediate} → Means op w i → ShapeView op left (Integer place w) (ConstantRight i)
   constant_left : {e : Expression} {place w : ℕ} {i : Immediate} → MeansLeft op w i → ShapeView op (Integer place w) e (ConstantLeft i)
+  power_right : {left : Expression} {place w k : ℕ} → IsDivision op → 1 ≤ k → k < 63 → 2 ^ k ≡ w → ShapeView op left (Integer place w) (PowerRight k)
 
 data LeftView (op : IntOp) : Expression → Option Immediate → Type 0 where
   no_left : {e : Expression} → LeftView op e None
@@ -75,39 +80,44 @@ shape_views (a_right m) l = constant_right m
 shape_views no_right (a_left m) = constant_left m
 shape_views no_right no_left = in_registers
 
+power_shapes : {op : IntOp} (left : Expression) (place w : ℕ) {o : Option ℕ} → IsDivision op → IsExponent 1 63 w o → ShapeView op left (Integer place w) (power_shape o)
+power_shapes left place w z no_power = in_registers
+power_shapes left place w z (power le less e) = power_right z le less e
+
+power_view : {op : IntOp} (left e : Expression) → IsDivision op → ShapeView op left e (power_shape (power_of e))
+power_view left (Integer place w) z = power_shapes left place w z (exponents 1 63 62 1 w (omega arith) (omega arith))
+power_view left e z = in_registers
+
 pub shape_view : (op : IntOp) (left e : Expression) → ShapeView op left e (shape_of op left e)
+shape_view operators.Div left e = power_view left e is_div
+shape_view operators.Mod left e = power_view left e is_mod
 shape_view op left e = shape_views (right_of_shape op e) (left_of_shape op left)
 
--- where the operands stand
+-- where the operands stand; the register beside a power of two takes any word
 pub data Operands (op : IntOp) (x y : Reg) (f : File) : Shape → Value → Value → Type 0 where
   both_stand : {v w : Value} → Holds x v f → Holds y w f → Operands op x y f InRegisters v w
   left_stands : {v : Value} {w : ℕ} {i : Immediate} → Means op w i → Holds x v f → Operands op x y f (ConstantRight i) v (value.Word w)
   right_stands : {v : Value} {w : ℕ} {i : Immediate} → MeansLeft op w i → Holds y v f → Operands op x y f (ConstantLeft i) (value.Word w) v
+  a_power : {v : Value} {w k : ℕ} → IsDivision op → 1 ≤ k → k < 63 → 2 ^ k ≡ w → y.comp ≡ comp.Int → Holds x v f → Operands op x y f (PowerRight k) v (value.Word w)
 
--- the values that the operation reads
+-- the values that the operation reads, where it is one
 abbrev pub shape_values : Shape → Value → Value → List Value
 shape_values InRegisters v w = v ∷ w ∷ []
 shape_values (ConstantRight i) v w = v ∷ []
 shape_values (ConstantLeft i) v w = w ∷ []
+shape_values (PowerRight k) v w = v ∷ w ∷ []
 
-one_value : {x : Reg} {v : Value} {f : File} → Holds x v f → values f (x ∷ []) ≡ Some (v ∷ [])
+pub one_value : {x : Reg} {v : Value} {f : File} → Holds x v f → values f (x ∷ []) ≡ Some (v ∷ [])
 one_value h = ap (λ o. with_held o (Some [])) h.is
 
-pub operands_values : {op : IntOp} {x y : Reg} {f : File} {s : Shape} {v w : Value} → Operands op x y f s v w → values f (shape_args s x y) ≡ Some (shape_values s v w)
-operands_values {x = x} {y = y} {f = f} (both_stand {v = v} {w = w} hv hw) =
+pub two_values : {x y : Reg} {v w : Value} {f : File} → Holds x v f → Holds y w f → values f (x ∷ y ∷ []) ≡ Some (v ∷ w ∷ [])
+two_values {x} {y} {v} {w} {f} hv hw =
     ap (λ o. with_held o (with_held (f y.number) (Some []))) hv.is ∙ ap (λ o. with_held (Some (record { comp = x.comp; value = v })) (with_held o (Some []))) hw.is
-operands_values (left_stands m hv) = one_value hv
-operands_values (right_stands m hw) = one_value hw
-
-pub operator_act : {op : IntOp} {x y : Reg} {f : File} {s : Shape} {v w : Value} (c : Setting) (a : Around) → Operands op x y f s v w →
-    pure_act c (pure.Operator (shape_op s op) (shape_right s)) (shape_values s v w) a ≡ one_result a (apply op (sizes a.memory) v w)
-operator_act c a (both_stand hv hw) = refl
-operator_act c a (left_stands {v = v} m hv) = sym (ap (one_result a) (m.is (sizes a.memory) v))
-operator_act c a (right_stands {v = v} m hw) = sym (ap (one_result a) (m.is (sizes a.memory) v))
 
 -- the test says what the comparison gives
 pub record Says (op : IntOp) (s : Shape) (t : Test) : Type 0 where
   pub is : {x y : Reg} {f : File} {v w : Value} (z : List ℕ) → Operands op x y f s v w → truth_of z t (shape_values s v w) ≡ as_condition z (apply op z v w)
+  pub reads : {x y : Reg} {f : File} {v w : Value} → Operands op x y f s v w → values f (shape_args s x y) ≡ Some (shape_values s v w)
 
 pub data Compared (op : IntOp) (s : Shape) : Option Test → Type 0 where
   no_comparison : Compared op s None
@@ -131,10 +141,22 @@ says : (op : IntOp) (s : Shape) (t : Test) → comparison (shape_op s op) (shape
 says op s t e z (both_stand {v = v} {w = w} hv hw) = both_one z op t v w e
 says op s t e z (left_stands {v = v} {i = i} m hv) = signed_one z i t v e ∙ sym (ap (as_condition z) (m.is z v))
 says op s t e z (right_stands {v = v} {i = i} m hw) = signed_one z i t v e ∙ sym (ap (as_condition z) (m.is z v))
+says op s t e z (a_power {v = v} {w = w} d le less p q hv) = both_one z op t v (value.Word w) e
+
+no_test : {op : IntOp} {t : Test} → IsDivision op → comparison op right.Register ≡ Some t → ⊥
+no_test is_div e = cc
+no_test is_mod e = cc
+
+reads : (op : IntOp) (s : Shape) (t : Test) → comparison (shape_op s op) (shape_right s) ≡ Some t →
+    {x y : Reg} {f : File} {v w : Value} → Operands op x y f s v w → values f (shape_args s x y) ≡ Some (shape_values s v w)
+reads op s t e (both_stand hv hw) = two_values hv hw
+reads op s t e (left_stands m hv) = one_value hv
+reads op s t e (right_stands m hw) = one_value hw
+reads op s t e (a_power d le less p q hv) = absurd (no_test d e)
 
 compared_by : (op : IntOp) (s : Shape) (o : Option Test) → comparison (shape_op s op) (shape_right s) ≡ o → Compared op s o
 compared_by op s None e = no_comparison
-compared_by op s (Some t) e = compares (record { is = λ z read. says op s t e z read })
+compared_by op s (Some t) e = compares (record { is = λ z read. says op s t e z read; reads = λ read. reads op s t e read })
 
 pub compared : (op : IntOp) (s : Shape) → Compared op s (comparison (shape_op s op) (shape_right s))
 compared op s = compared_by op s (comparison (shape_op s op) (shape_right s)) refl
@@ -161,6 +183,12 @@ module _ (c : Place) (m : Mach) (turns : ℕ) (ts : List ℕ) where
       (operand c m turns ts left sl fl nx ix next (λ v h memory. go v (value.Word w) h memory) k
       (ready_at c m turns ts (type_of (scopes env) left) nx ix lower under first bx xx) (stable_inner nx ix bx (omega (arith, bx, xx)) stable) ending outs h f memory level s p
       (λ v h f memory level s p fv hv. on v (value.Word w) h f memory level s p (left_stands z hv)))
+  shape_two true left e (power_right z low top q) is sl sr fl fr nx ny ix iy next go k lower under first stable bx by' xx yy xy yx apart el er ending outs h f memory level s p on = absurd (true≢false (sym is))
+  shape_two {env = env} false left e (power_right {place = place} {w = w} z le less q) is sl sr fl fr nx ny ix iy next go k lower under first stable bx by' xx yy xy yx apart el er ending outs h f memory level s p on =
+      constant_operand c m turns place w h memory (λ u h memory. with_value (does (text_of c) turns left false h memory) (λ v h memory. go v u h memory)) k _
+      (operand c m turns ts left sl fl nx ix next (λ v h memory. go v (value.Word w) h memory) k
+      (ready_at c m turns ts (type_of (scopes env) left) nx ix lower under first bx xx) (stable_inner nx ix bx (omega (arith, bx, xx)) stable) ending outs h f memory level s p
+      (λ v h f memory level s p fv hv. on v (value.Word w) h f memory level s p (a_power z le less q refl hv)))
   shape_two {env = env} true left e (constant_left {place = place} {w = w} z) is sl sr fl fr nx ny ix iy next go k lower under first stable bx by' xx yy xy yx apart el er ending outs h f memory level s p on =
       constant_operand c m turns place w h memory (λ u h memory. with_value (does (text_of c) turns e false h memory) (λ v h memory. go u v h memory)) k _
       (operand c m turns ts e sr fr ny iy next (λ v h memory. go (value.Word w) v h memory) k

@@ -31,7 +31,7 @@ use Rattle.selection_rules.proofs.Files.{Under, Stands, scope_is}
 use Rattle.selection_rules.proofs.Parts.{Placed, Lower, Stable, stable_inner, calm, at, Level, Outs, of_type_some, node_follows}
 use Rattle.selection_rules.proofs.Operands.{Selected, operand, ready_at}
 use Rattle.selection_rules.proofs.Endings.{ending_select}
-use Rattle.selection_rules.proofs.Shapes.{shape_two, shape_view, operands_values, Says, Compared, no_comparison, compares, compared}
+use Rattle.selection_rules.proofs.Shapes.{shape_two, shape_view, Says, Compared, no_comparison, compares, compared}
 
 module _ (c : Place) (m : Mach) (turns : ℕ) (ts : List ℕ) where
   -- it goes on from a condition
@@ -109,7 +109,7 @@ module _ (c : Place) (m : Mach) (turns : ℕ) (ts : List ℕ) where
         (λ rest. ending_select env labels false false _ _ left rest) (λ rest. ending_select env labels false false _ _ e rest) placed
         (record { exit = λ l values h f memory level r p. outs.exit l values h f memory level r p; raising = λ v fv h f memory level r p. outs.raising v fv h f memory level r p }) h f memory level s p
         (λ v w h f memory level s p read. walks (
-        subst (λ o. Follows c m (step v w h memory kk) (on_values c m (mark t) next f (calm c m turns ts memory) o)) (sym (operands_values read))
+        subst (λ o. Follows c m (step v w h memory kk) (on_values c m (mark t) next f (calm c m turns ts memory) o)) (sym (says.reads read))
         (subst (λ o. Follows c m (step v w h memory kk) (on_act c m (mark t) next f (calm c m turns ts memory) (branches (calm c m turns ts memory) On (At l) o))) (sym (says.is (sizes memory) read))
         (by h f memory level s p (apply op (sizes memory) v w)))))))
       where

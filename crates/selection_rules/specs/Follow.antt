@@ -15,6 +15,7 @@ use Rattle.mach_ir.specs.Runs.{Place, Step, Continues, Waits, FinishesBy, Finish
 use Rattle.mach_ir.specs.Runs as runs
 use Rattle.mach_ir.specs.Meaning.{State}
 use Rattle.mach_ir.specs.declared.mach.Mach.{Mach}
+use Rattle.selection_rules.specs.Bounded.{BoundedState}
 use Rattle.selection_rules.specs.Kept.{step}
 
 -- what the text knows of the file
@@ -26,8 +27,8 @@ abbrev pub RaisesVal : Place → Doing → Type 0
 RaisesVal c (Gave v memory) = ⊤
 RaisesVal c (Threw v memory) = fits c.setting.end ty.Val v ≡ true
 
--- The machine, from this step on, does what is said, as long as that is not improper. A machine
--- that halts follows what is improper before it pays a unit.
+-- The machine, from this step on, does what is said, as long as that is not improper and each number
+-- is a word. A machine that halts follows what is improper before it pays a unit.
 pub data Follows (c : Place) (m : Mach) : Does → Step State → Type 0 where
   walks : {d : Does} {s : State} → Follows c m d (step c m s) → Follows c m d (Continues s)
   pays : {memory : Memory} {rest : Does} {s : State} → Follows c m rest (Continues s) →
@@ -67,3 +68,5 @@ pub data Follows (c : Place) (m : Mach) : Does → Step State → Type 0 where
       Follows c m (Ends (Exiting label values h memory)) s
   fails : {memory : Memory} {kind : Kind} {s : Step State} → Follows c m (Fails memory kind) s
   spent : {memory : Memory} {s : State} → Follows c m (Spent memory) (Continues s)
+  -- no state of a run holds a number that is no word
+  no_words : {d : Does} {s : State} → (BoundedState s → ⊥) → Follows c m d (Continues s)

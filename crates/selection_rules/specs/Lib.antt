@@ -1,4 +1,5 @@
 pub mod Instructions
 pub mod Select
 pub mod Kept
+pub mod Bounded
 pub mod Follow

@@ -1,6 +1,6 @@
 -- The code of an expression. It is one definition over the tree: the code that follows is handed
 -- in, and each register and label is numbered from a number that is handed in, too.
-use Rattle.std.specs.Prelude.{ℕ, zero, suc, ◌+◌, ◌*◌, ◌%◌, ◌^◌, nat_le, nat_eq, Bool, true, false, not, cond, ◌&&◌, List, [], ◌∷◌, ◌++◌, Option, Some, None, map, length, slice_index_or, bytes_eq}
+use Rattle.std.specs.Prelude.{ℕ, zero, suc, ◌+◌, ◌-◌, ◌*◌, ◌%◌, ◌^◌, nat_le, nat_eq, Bool, true, false, not, cond, ◌&&◌, List, [], ◌∷◌, ◌++◌, Option, Some, None, map, length, slice_index_or, bytes_eq}
 use Rattle.bs_words.specs.Fits.{type_of_comp}
 use Rattle.bs_words.specs.declared.operators.CmpOp.{CmpOp}
 use Rattle.bs_words.specs.declared.operators.CmpOp.TheVariants as compare
@@ -110,6 +110,11 @@ unfoldable pub exponent_from : ℕ → ℕ → ℕ → Option ℕ
 exponent_from zero k w = None
 exponent_from (suc n) k w = exponent_if (nat_eq (2 ^ k) w) k (exponent_from n (suc k) w)
 
+-- the exponent of a power of two from 2 to 2 ^ 62: a quotient or a remainder by it is made by shifts
+abbrev pub power_of : Expression → Option ℕ
+power_of (Integer at w) = exponent_from 62 1 w
+power_of e = None
+
 abbrev pub shift_by : Option ℕ → Option Immediate
 shift_by (Some k) = Some (record { op = operator.Shl; word = k })
 shift_by None = None
@@ -158,44 +163,81 @@ left_immediate op (Integer at w) = if_commuted (commuted op) w
 left_immediate op e = None
 
 -- Where the operands of an operator stand: in registers both, or one of them is a constant that
--- needs none.
+-- needs none. A divisor that is a power of two needs none either.
 pub data Shape : Type 0 where
   InRegisters : Shape
   ConstantRight : (immediate : Immediate) → Shape
   ConstantLeft : (immediate : Immediate) → Shape
+  PowerRight : (exponent : ℕ) → Shape
 
 abbrev pub shape : Option Immediate → Option Immediate → Shape
 shape (Some i) left = ConstantRight i
 shape None (Some i) = ConstantLeft i
 shape None None = InRegisters
 
+abbrev pub power_shape : Option ℕ → Shape
+power_shape (Some k) = PowerRight k
+power_shape None = InRegisters
+
 abbrev pub shape_of : IntOp → Expression → Expression → Shape
+shape_of operator.Div left right = power_shape (power_of right)
+shape_of operator.Mod left right = power_shape (power_of right)
 shape_of op left right = shape (right_immediate op right) (left_immediate op left)
 
 abbrev pub shape_op : Shape → IntOp → IntOp
 shape_op InRegisters op = op
 shape_op (ConstantRight i) op = i.op
 shape_op (ConstantLeft i) op = i.op
+shape_op (PowerRight k) op = op
 
 abbrev pub shape_right : Shape → Right
 shape_right InRegisters = right.Register
 shape_right (ConstantRight i) = right.Constant i.word
 shape_right (ConstantLeft i) = right.Constant i.word
+shape_right (PowerRight k) = right.Register
 
 abbrev pub shape_args : Shape → Reg → Reg → List Reg
 shape_args InRegisters x y = x ∷ y ∷ []
 shape_args (ConstantRight i) x y = x ∷ []
 shape_args (ConstantLeft i) x y = y ∷ []
+shape_args (PowerRight k) x y = x ∷ y ∷ []
 
 abbrev pub unless_left : Shape → Code → Code
 unless_left InRegisters code next = code next
 unless_left (ConstantRight i) code next = code next
 unless_left (ConstantLeft i) code next = next
+unless_left (PowerRight k) code next = code next
 
 abbrev pub unless_right : Shape → Code → Code
 unless_right InRegisters code next = code next
 unless_right (ConstantRight i) code next = next
 unless_right (ConstantLeft i) code next = code next
+unless_right (PowerRight k) code next = next
+
+-- Rounding toward zero: a negative dividend first gets one less than the power added. The register
+-- of the right operand serves on the way.
+abbrev pub rounded : ℕ → Reg → Reg → Code
+rounded k x y next =
+    emit.operator operator.Sar (right.Constant 63) (x ∷ []) y
+    ∷ emit.operator operator.Shr (right.Constant (64 - k)) (y ∷ []) y
+    ∷ emit.operator operator.Add right.Register (x ∷ y ∷ []) y
+    ∷ next
+
+abbrev pub power_code : IntOp → ℕ → Reg → Reg → Reg → Code
+power_code operator.Div k x y d next =
+    rounded k x y (emit.operator operator.Sar (right.Constant k) (y ∷ []) d ∷ next)
+power_code op k x y d next =
+    rounded k x y
+    (emit.operator operator.Sar (right.Constant k) (y ∷ []) y
+    ∷ emit.operator operator.Shl (right.Constant k) (y ∷ []) y
+    ∷ emit.operator operator.Sub right.Register (x ∷ y ∷ []) d
+    ∷ next)
+
+-- the code of an operator whose operands stand so
+abbrev pub operator_code : Shape → IntOp → Reg → Reg → Reg → Code
+operator_code (PowerRight k) op x y d next = power_code op k x y d next
+operator_code s op x y d next =
+    emit.operator (shape_op s op) (shape_right s) (shape_args s x y) d ∷ next
 
 -- the index of a bound test is a constant where the machine has an immediate for it
 abbrev pub right_of : IntOp → Expression → Right
@@ -479,8 +521,7 @@ abbrev mutual
       ordered (is_left_first (scopes env) left right)
       (unless_left s (select env labels false false x (suc (suc (suc b))) left))
       (unless_right s (select env labels false false y (suc (suc (suc b)) + width left) right))
-      (emit.operator (shape_op s op) (shape_right s) (shape_args s x y) (inner_dest type b d)
-      ∷ next)
+      (operator_code s op x y (inner_dest type b d) next)
   select env labels valued tail d b (App at callee arguments result result_at) next =
       let type = type_of (scopes env) (App at callee arguments result result_at) in
       let f = fresh (suc b) (type_of (scopes env) callee) in

@@ -1,0 +1,88 @@
+-- The constants of an instruction that has a form are words.
+use Rattle.std.proofs.Common.{◌≡◌, ℕ, suc, ◌<◌, ◌^◌, ◌/◌, Bool, true, false, ◌||◌, List, [], ◌∷◌, All, refl, arith, sym}
+use Rattle.std.specs.Prelude.{◌==◌, nat_le, nat_lt}
+use Rattle.std.proofs.lemmas.Bool.{ltb-true, leb-true, eqb-true, true≢false}
+use Rattle.bs_words.specs.declared.operators.IntOp.{IntOp}
+use Rattle.bs_words.specs.declared.operators.IntOp.TheVariants as operator
+use Rattle.bs_words.specs.declared.types.Comp.{Comp}
+use Rattle.cmm_types.specs.Faults.{is_header}
+use Rattle.mach_ir.specs.Formed.{IsFormed, formed_op, formed_mark}
+use Rattle.mach_ir.specs.Forms.{is_immediate, is_immediate_12, is_opposite_immediate_12, IsRight, a_register, a_constant, IsBlock, HasForm, copies, constant, symbol, operates, loads, stores, allocates, calls, tail_calls, calls_out, checks, raises, returns}
+use Rattle.mach_ir.specs.declared.blocks.NewBlock.{NewBlock}
+use Rattle.mach_ir.specs.declared.mach.Instr.{Instr}
+use Rattle.mach_ir.specs.declared.mach.MachOp.TheVariants as mach
+use Rattle.mach_ir.specs.declared.op.Op.{Op}
+use Rattle.mach_ir.specs.declared.op.Op.TheVariants as op
+use Rattle.mach_ir.specs.declared.op.Pure.TheVariants as pure
+use Rattle.mach_ir.specs.declared.op.Right.{Right}
+use Rattle.selection_rules.specs.Bounded.{BoundedHeaders, BoundedOp}
+use Rattle.selection_rules.proofs.Labels.{and_left, and_right}
+
+either_way : (w : ℕ) (a b : Bool) → (a ≡ true → w < 2 ^ 64) → (b ≡ true → w < 2 ^ 64) → a || b ≡ true → w < 2 ^ 64
+either_way w true b one other e = one refl
+either_way w false b one other e = other e
+
+word_12 : (w : ℕ) → is_immediate_12 w ≡ true → w < 2 ^ 64
+word_12 w e =
+    either_way w (nat_lt w 2048) _ (λ e. let less : w < 2048 = ltb-true w 2048 e in omega (arith, less))
+    (λ e. ltb-true w 0x10000000000000000 (and_right (nat_le 0xFFFFFFFFFFFFF800 w) (nat_lt w 0x10000000000000000) e)) e
+
+word_opposite : (w : ℕ) → is_opposite_immediate_12 w ≡ true → w < 2 ^ 64
+word_opposite w e =
+    either_way w (nat_le w 2048) _ (λ e. let le = leb-true w 2048 e in omega (arith, le))
+    (λ e. ltb-true w 0x10000000000000000 (and_right (nat_lt 0xFFFFFFFFFFFFF800 w) (nat_lt w 0x10000000000000000) e)) e
+
+word_amount : (w : ℕ) → nat_lt w 64 ≡ true → w < 2 ^ 64
+word_amount w e = let less : w < 64 = ltb-true w 64 e in omega (arith, less)
+
+immediate_word : (f : IntOp) (w : ℕ) → is_immediate f w ≡ true → w < 2 ^ 64
+immediate_word operator.Add w e = word_12 w e
+immediate_word operator.AddV w e = word_12 w e
+immediate_word operator.AddA w e = word_12 w e
+immediate_word operator.Sub w e = word_opposite w e
+immediate_word operator.And w e = word_12 w e
+immediate_word operator.Or w e = word_12 w e
+immediate_word operator.Xor w e = word_12 w e
+immediate_word operator.Shl w e = word_amount w e
+immediate_word operator.Shr w e = word_amount w e
+immediate_word operator.Sar w e = word_amount w e
+immediate_word (operator.Cmp f) w e = word_12 w e
+immediate_word (operator.CmpU f) w e = word_12 w e
+immediate_word operator.Mul w e = absurd (true≢false (sym e))
+immediate_word operator.Mulh w e = absurd (true≢false (sym e))
+immediate_word operator.Div w e = absurd (true≢false (sym e))
+immediate_word operator.Mod w e = absurd (true≢false (sym e))
+
+header_word : (h cells : ℕ) → is_header h cells ≡ true → h < 2 ^ 64
+header_word h cells e =
+    let same : h / 1024 ≡ cells = eqb-true (h / 1024) cells (and_left (h / 1024 == cells) _ e) in
+    let few = leb-true cells 256 (and_left (nat_le cells 256) _ (and_right (nat_le 1 cells) _ (and_right (h / 1024 == cells) _ e))) in
+    omega (arith, same, few)
+
+headers_bounded : (blocks : List NewBlock) → All IsBlock blocks → BoundedHeaders blocks
+headers_bounded [] all = tt
+headers_bounded (b ∷ blocks) all =
+    (header_word b.header b.cells (all 0 b (omega arith)), headers_bounded blocks (λ i d less. all (suc i) d (omega (arith, less))))
+
+right_bounded : (f : IntOp) {r : Right} {rest : List Comp} → IsRight f r rest → BoundedOp (mach.Op (op.Pure (pure.Operator f r)))
+right_bounded f a_register = tt
+right_bounded f (a_constant {w = w} e) = immediate_word f w e
+
+op_bounded : {f : Op} {args results : List Comp} → HasForm f args results → BoundedOp (mach.Op f)
+op_bounded copies = tt
+op_bounded (constant less) = less
+op_bounded symbol = tt
+op_bounded (operates {f = f} is) = right_bounded f is
+op_bounded loads = tt
+op_bounded stores = tt
+op_bounded (allocates {blocks = blocks} some all most same) = headers_bounded blocks all
+op_bounded (calls arguments whom) = tt
+op_bounded (tail_calls arguments whom) = tt
+op_bounded calls_out = tt
+op_bounded (checks is) = tt
+op_bounded raises = tt
+op_bounded (returns result) = tt
+
+pub formed_bounded : {i : Instr} → IsFormed i → BoundedOp i.op
+formed_bounded (formed_op form) = op_bounded form
+formed_bounded (formed_mark form) = tt
