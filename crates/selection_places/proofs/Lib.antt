@@ -1,0 +1,4 @@
+pub mod Sets
+pub mod Owned
+pub mod Coded
+pub mod Codes
