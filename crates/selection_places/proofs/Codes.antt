@@ -35,10 +35,10 @@ onto [] so_far = so_far
 onto (s ∷ rest) so_far = onto rest (s ∷ so_far)
 
 module _ (Q : Role → Reg → Type 0) where
-  abbrev Codes : Code → Type 0
+  abbrev pub Codes : Code → Type 0
   Codes code = (P : List Reg) (next : List Instr) → Coded Q [] P next → Coded Q [] P (code next)
 
-  abbrev Within : (Role → Reg → Type 0) → Type 0
+  abbrev pub Within : (Role → Reg → Type 0) → Type 0
   Within A = (t : Role) (r : Reg) → A t r → Q t r
 
   pub data EnvFine : List Named → Type 0 where
@@ -50,11 +50,11 @@ module _ (Q : Role → Reg → Type 0) where
     labelled : {t : Label} {labels : List Label} → Each (Q Plain) t.params → LabelsFine labels → LabelsFine (t ∷ labels)
 
   -- a register that a value of this type goes to
-  abbrev Wants : Ty → Reg → Type 0
+  abbrev pub Wants : Ty → Reg → Type 0
   Wants ty.NoValue d = Unit {0}
   Wants type d = Q Plain d
 
-  wants_any : (type : Ty) {d : Reg} → Q Plain d → Wants type d
+  pub wants_any : (type : Ty) {d : Reg} → Q Plain d → Wants type d
   wants_any ty.NoValue q = tt
   wants_any type q = q
 
@@ -66,7 +66,7 @@ module _ (Q : Role → Reg → Type 0) where
   inner_plain ty.NoValue b d own w = own Plain _ (left (it refl refl))
   inner_plain type b d own w = w
 
-  listed : (u : Role) (rs : List Reg) → Within (Listed u rs) → Each (Q u) rs
+  pub listed : (u : Role) (rs : List Reg) → Within (Listed u rs) → Each (Q u) rs
   listed u [] own = none
   listed u (r ∷ rs) own = one (own u r (left (it refl refl))) (listed u rs (λ t q i. own t q (in_right i)))
 
@@ -123,7 +123,7 @@ module _ (Q : Role → Reg → Type 0) where
   labels_own b (Handle at label params body rest) own =
       labelled (listed Plain (params_from (suc b) params) (λ t r i. own t r (left i))) (labels_own (suc b + length params) rest (λ t r i. own t r (in_right i)))
 
-  params_env : (env : List Named) (params : List Parameter) (rs : List Reg) → Each (Q Plain) rs → EnvFine env → EnvFine (with_params params rs env)
+  pub params_env : (env : List Named) (params : List Parameter) (rs : List Reg) → Each (Q Plain) rs → EnvFine env → EnvFine (with_params params rs env)
   params_env env [] rs q fine = fine
   params_env env (p ∷ params) [] q fine = fine
   params_env env (p ∷ params) (r ∷ rs) (one q qs) fine = params_env _ params rs qs (named q fine)
@@ -481,11 +481,11 @@ module _ (Q : Role → Reg → Type 0) where
   -- ---- the whole
 
   -- the parameters leave their seats
-  codes_entry : (from to S P : List Reg) → Each (Q Seated) from → Each (Q Plain) to → length from ≡ length to → (next : List Instr) → Coded Q S P next → Coded Q (onto from S) P (moves_all from to next)
+  pub codes_entry : (from to S P : List Reg) → Each (Q Seated) from → Each (Q Plain) to → length from ≡ length to → (next : List Instr) → Coded Q S P next → Coded Q (onto from S) P (moves_all from to next)
   codes_entry [] to S P s q e next z = z
   codes_entry (x ∷ from) [] S P s q e next z = absurd (omega (arith, e))
   codes_entry (x ∷ from) (y ∷ to) S P (one s ss) (one q qs) e next z = codes_entry from to (x ∷ S) P ss qs (omega (arith, e)) _ (empties s q z)
 
-  codes_returns : (n : ℕ) (result : Ret) {d : Reg} → Q Plain d → Each (Q Seated) (result_seat n result) → Coded Q [] [] (returns d n result)
+  pub codes_returns : (n : ℕ) (result : Ret) {d : Reg} → Q Plain d → Each (Q Seated) (result_seat n result) → Coded Q [] [] (returns d n result)
   codes_returns n ret.Unit q none = asks none (gives_none refl) refl ends
   codes_returns n (ret.Comp c) q (one s none) = fills (reads_plain q) s none (asks (one (reads_seat s (coded.first refl)) none) (gives_none refl) refl ends)

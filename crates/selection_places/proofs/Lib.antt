@@ -2,3 +2,4 @@ pub mod Sets
 pub mod Owned
 pub mod Coded
 pub mod Codes
+pub mod Whole

@@ -248,7 +248,7 @@ abbrev mutual
 
 -- ---- a number tells one of them
 
-fresh_block : (n : ℕ) (type : Ty) → Block (One Plain (fresh n type)) n (suc n) 1
+pub fresh_block : (n : ℕ) (type : Ty) → Block (One Plain (fresh n type)) n (suc n) 1
 fresh_block n type = block_one Plain (fresh n type) refl refl
 
 dropped_block : (type : Ty) (b : ℕ) → Block (Listed Plain (dropped type b)) b (suc b) (length (dropped type b))
@@ -283,7 +283,7 @@ place_of_seat i =
     place_in (10 ∷ 11 ∷ 12 ∷ 13 ∷ 14 ∷ 15 ∷ 16 ∷ 17 ∷ 18 ∷ 19 ∷ 20 ∷ 21 ∷ 22 ∷ 23 ∷ 24 ∷ 25 ∷ [])
     (λ n c. Contains-append_left (10 ∷ 11 ∷ 12 ∷ 13 ∷ 14 ∷ 15 ∷ 16 ∷ 17 ∷ 18 ∷ 19 ∷ 20 ∷ 21 ∷ 22 ∷ 23 ∷ 24 ∷ 25 ∷ []) (28 ∷ 29 ∷ 30 ∷ 31 ∷ 8 ∷ []) n c) i
 
-block_seated : (q : Reg) → q.origin ≡ q.number → PlaceOf Seated q.loc → Block (One Seated q) q.number (suc q.number) 0
+pub block_seated : (q : Reg) → q.origin ≡ q.number → PlaceOf Seated q.loc → Block (One Seated q) q.number (suc q.number) 0
 block_seated q o p =
     let whole = block_one Seated q o p in
     record {
