@@ -7,7 +7,6 @@ use Rattle.bs_words.specs.declared.types.Loc.TheVariants as loc
 use Rattle.mach_ir.specs.Seats.{argument_places}
 use Rattle.mach_ir.specs.declared.blocks.NewBlock.{NewBlock}
 use Rattle.mach_ir.specs.declared.mach.Instr.{Instr}
-use Rattle.mach_ir.specs.declared.mach.Mark.TheVariants as mark
 use Rattle.mach_ir.specs.declared.mach.MachOp.{MachOp}
 use Rattle.mach_ir.specs.declared.mach.MachOp.TheVariants as mach
 use Rattle.mach_ir.specs.declared.op.Access.TheVariants as access
@@ -43,11 +42,10 @@ abbrev pub is_alloc : MachOp → Bool
 is_alloc (mach.Op (op.Access (access.Alloc blocks))) = true
 is_alloc _ = false
 
--- what reads or writes registers at fixed places, and is no move: calls, what leaves the function, and handlers
+-- what reads or writes registers at fixed places, and is no move: calls, and what leaves the function
 abbrev pub is_heavy : MachOp → Bool
 is_heavy (mach.Op (op.Calling f)) = true
 is_heavy (mach.Op (op.Leaving f)) = true
-is_heavy (mach.Mark (mark.Handler l)) = true
 is_heavy _ = false
 
 -- two registers have no fixed place in common
@@ -76,6 +74,7 @@ module _ (Q : Role → Reg → Type 0) where
     fills : {S P : List Reg} {a d : Reg} {next : List Instr} → Reads P a → Q Seated d → Each (Apart d) S → Coded (d ∷ S) P next → Coded S P (emit.move a d ∷ next)
     empties : {S P : List Reg} {s d : Reg} {next : List Instr} → Q Seated s → Q Plain d → Coded S P next → Coded (s ∷ S) P (emit.move s d ∷ next)
     asks : {S G P : List Reg} {i : Instr} {next : List Instr} → Each (ReadsSeats P S) i.args → Gives i G → is_heavy i.op ≡ true → Coded G P next → Coded S P (i ∷ next)
+    handles : {P : List Reg} {l : ℕ} {y : Reg} {next : List Instr} → Q Seated y → Coded (y ∷ []) P next → Coded [] P (emit.handler l y ∷ next)
     allocs : {P : List Reg} {p : Reg} {block : NewBlock} {next : List Instr} → Q New p → Coded [] (p ∷ P) next → Coded [] P (emit.alloc block p ∷ next)
 
   reads_more : {P O : List Reg} → ((r : Reg) → Member r P → Member r O) → (r : Reg) → Reads P r → Reads O r
@@ -97,6 +96,7 @@ module _ (Q : Role → Reg → Type 0) where
   coded_more f (fills {a = a} x q u y) = fills (reads_more f a x) q u (coded_more f y)
   coded_more f (empties q u x) = empties q u (coded_more f x)
   coded_more f (asks a g h x) = asks (each_map (seats_more f) a) g h (coded_more f x)
+  coded_more f (handles q x) = handles q (coded_more f x)
   coded_more f (allocs {p = p} q x) = allocs q (coded_more (under p f) x)
 
 -- ---- seats of different positions

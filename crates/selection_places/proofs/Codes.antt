@@ -27,7 +27,7 @@ use Rattle.selection_rules.specs.Select.{Code, Shape, InRegisters, ConstantRight
 use Rattle.selection_places.proofs.Sets.{Role, Plain, New, Seated, Both, left, right as in_right, One, it, Listed}
 use Rattle.selection_places.proofs.Owned.{dropped, kept, Own_drop, Either, LabelsOwn, Own, BaseOwn, RowOwn, BoundOwn, SeqOwn, CasesOwn, HandlersOwn}
 use Rattle.selection_places.proofs.Coded as coded
-use Rattle.selection_places.proofs.Coded.{Member, later, Each, none, one, each_map, each_append, Apart, Reads, reads_plain, reads_new, ReadsSeats, reads, reads_seat, Gives, gives_none, gives_one, Coded, ends, plain, fills, empties, asks, allocs, coded_more, seats_apart}
+use Rattle.selection_places.proofs.Coded.{Member, later, Each, none, one, each_map, each_append, Apart, Reads, reads_plain, reads_new, ReadsSeats, reads, reads_seat, Gives, gives_none, gives_one, Coded, ends, plain, fills, empties, asks, handles, allocs, coded_more, seats_apart}
 
 -- the registers of seats that are emptied last first
 abbrev pub onto : List Reg → List Reg → List Reg
@@ -405,7 +405,7 @@ module _ (Q : Role → Reg → Type 0) where
         plain none none refl
         (codes_select env (deeper labels) (inner_valued valued type) false _ base body (λ t r i. own t r (in_right (in_right (in_right (left i))))) names (labels_deeper ls) (wants_any (type_of (scopes env) body) d') P _
         (plain none none refl
-        (asks none (gives_one refl y) refl
+        (handles y
         (empties y x
         (codes_select (raised_name name (suc (suc (suc b))) ∷ env) labels (inner_valued valued type) tail _ (base + width body) handler (λ t r i. own t r (in_right (in_right (in_right (in_right i))))) (named x names) ls
         (wants_any (type_of (scopes (raised_name name (suc (suc (suc b))) ∷ env)) handler) d') P _ (plain none none refl z))))))

@@ -3,3 +3,5 @@ pub mod Owned
 pub mod Coded
 pub mod Codes
 pub mod Whole
+pub mod Soon
+pub mod Placed

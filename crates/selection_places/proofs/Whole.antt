@@ -18,7 +18,7 @@ use Rattle.selection_laws.proofs.WellFormed.{NumbersTell}
 use Rattle.selection_places.proofs.Sets.{Role, Plain, New, Seated, IsColour, PlaceOf, Both, left, right as in_right, One, it, Listed, Block, block_in, block_then, no_block}
 use Rattle.selection_places.proofs.Owned.{Own, opens, own_block, params_block, seats_block, result_block, block_seated, fresh_block}
 use Rattle.selection_places.proofs.Coded as coded
-use Rattle.selection_places.proofs.Coded.{Member, later, Each, none, one, each_of, each_map, Reads, reads_plain, reads_new, ReadsSeats, reads, reads_seat, Gives, gives_none, gives_one, Coded, ends, plain, fills, empties, asks, allocs}
+use Rattle.selection_places.proofs.Coded.{Member, later, Each, none, one, each_of, each_map, Reads, reads_plain, reads_new, ReadsSeats, reads, reads_seat, Gives, gives_none, gives_one, Coded, ends, plain, fills, empties, asks, handles, allocs}
 use Rattle.selection_places.proofs.Codes.{onto, EnvFine, no_names, LabelsFine, no_labels, codes_select, codes_entry, codes_returns, params_env, listed, wants_any}
 
 -- ---- the parts of a function
@@ -139,6 +139,9 @@ module _ {Q : Role → Reg → Type 0} where
   in_coded (asks a g h x) (in_args c) = among_each (each_map seats_role a) c
   in_coded (asks a g h x) (in_results c) = among_each (gives_role g) c
   in_coded (asks a g h x) (further i) = in_coded x i
+  in_coded (handles q x) (in_args c) = among_each none c
+  in_coded (handles q x) (in_results c) = among_each (one (has Seated q) none) c
+  in_coded (handles q x) (further i) = in_coded x i
   in_coded (allocs q x) (in_args c) = among_each none c
   in_coded (allocs q x) (in_results c) = among_each (one (has New q) none) c
   in_coded (allocs q x) (further i) = in_coded x i
