@@ -1,6 +1,6 @@
 -- Fixed places of selected code: those of a function's colours, and of registers that are never live at once.
-use Rattle.std.proofs.Common.{◌≡◌, ℕ, zero, suc, ◌+◌, ◌<◌, ◌≤◌, ◌⊎◌, inl, inr, ⊎_elim, List, [], ◌∷◌, map, length, refl, sym, ap, ◌∙◌, subst, arith}
-use Rattle.std.specs.Prelude.{◌≢◌, Contains}
+use Rattle.std.proofs.Common.{◌≡◌, ℕ, zero, suc, ◌+◌, ◌<◌, ◌≤◌, ◌⊎◌, inl, inr, ⊎_elim, cond, ◌-◌, List, [], ◌∷◌, map, length, refl, sym, ap, ◌∙◌, subst, arith}
+use Rattle.std.specs.Prelude.{◌≢◌, Contains, nat_eq, nat_le}
 use Rattle.bs_words.specs.declared.types.Comp.{Comp}
 use Rattle.bs_words.specs.declared.types.Comp.TheVariants as comp
 use Rattle.bs_words.specs.declared.types.Loc.{Loc}
@@ -11,12 +11,12 @@ use Rattle.mach_ir.specs.Walks.{Among, IsRegister, is_param, is_colour, is_in_co
 use Rattle.mach_ir.specs.declared.mach.Instr.{Instr}
 use Rattle.mach_ir.specs.declared.reg.Reg.{Reg}
 use Rattle.selection_rules.specs.Select.{selected, first, seat, seats, colour_regs}
-use Rattle.selection_places.proofs.Sets.{Role, Plain, New, Seated, IsColour, PlaceOf, Block}
+use Rattle.selection_places.proofs.Sets.{Role, Plain, New, Seated, IsColour, PlaceOf, Block, left, right as in_right, it, Listed}
 use Rattle.selection_places.proofs.Coded as coded
 use Rattle.selection_places.proofs.Coded.{Member, later, Each, none, one, each_of, Apart, seats_apart}
 use Rattle.selection_places.proofs.Codes.{onto}
 use Rattle.selection_places.proofs.Soon.{Found, found, contains_of, Suffix, whole, live_soon, soon_in, written_fine}
-use Rattle.selection_places.proofs.Whole.{Whole, whole_block, params_of, HasRole, has, has_role, member_of, selected_coded, selected_numbers}
+use Rattle.selection_places.proofs.Whole.{Whole, whole_block, others_block, params_of, HasRole, has, has_role, member_of, selected_coded, selected_numbers}
 
 -- ---- where registers stand
 
@@ -92,3 +92,58 @@ selected_agree f =
       places = λ r x. placed (selected_stands f r x);
       apart = λ r q x y joined fixed same. absurd (joined_apart f r q x y joined fixed same);
     }
+
+-- ---- colours
+
+-- the number of the register of a colour
+abbrev number_of : ℕ → ℕ
+number_of c = cond (nat_eq c 8) 20 (cond (nat_le c 25) (c - 10) (c - 12))
+
+abbrev number_at : Loc → ℕ
+number_at (loc.Machine c) = number_of c
+number_at _ = 0
+
+abbrev Ranks : ℕ → List ℕ → Type 0
+Ranks n [] = Unit {0}
+Ranks n (c ∷ cs) = (n ≡ number_of c) × Ranks (suc n) cs
+
+ranks : Ranks 0 colours
+ranks =
+    (refl, (refl, (refl, (refl, (refl, (refl, (refl, (refl, (refl, (refl, (refl,
+    (refl, (refl, (refl, (refl, (refl, (refl, (refl, (refl, (refl, (refl, tt)))))))))))))))))))))
+
+numbered : (n : ℕ) (cs : List ℕ) → Ranks n cs → Each (λ (r : Reg). r.number ≡ number_at r.loc) (colour_regs n cs)
+numbered n [] up = none
+numbered n (c ∷ cs) up = one up.0 (numbered (suc n) cs up.1)
+
+listed_member : (u t : Role) (r : Reg) (rs : List Reg) → Listed u rs t r → Member r rs
+listed_member u t r [] i = absurd i
+listed_member u t r (q ∷ rs) (left (it a b)) = coded.first b
+listed_member u t r (q ∷ rs) (in_right i) = later (listed_member u t r rs i)
+
+low_numbers : (n : ℕ) (cs : List ℕ) (k : ℕ) → n + length cs ≤ k → Each (λ (r : Reg). r.number < k) (colour_regs n cs)
+low_numbers n [] k le = none
+low_numbers n (c ∷ cs) k le = one (omega (arith, le)) (low_numbers (suc n) cs k (omega (arith, le)))
+
+colours_low : Each (λ (r : Reg). r.number < first) (colour_regs 0 colours)
+colours_low = low_numbers 0 colours first (omega arith)
+
+least : (f : FunctionTree) (r q : Reg) → Member r (colour_regs 0 colours) → HasRole (Whole f) q → q.loc ≡ r.loc → r.number ≤ q.number
+least f r q m (has t (left i)) e =
+    let a = each_of (numbered 0 colours ranks) r m in
+    let b = each_of (numbered 0 colours ranks) q (listed_member Seated t q (colour_regs 0 colours) i) in
+    same r.number q.number (a ∙ ap number_at (sym e) ∙ sym b)
+  where
+    same : (n k : ℕ) → n ≡ k → n ≤ k
+    same n k e = omega (arith, e)
+least f r q m (has t (in_right i)) e =
+    let low = (others_block f).from t q i in
+    let high = each_of colours_low r m in
+    omega (arith, low, high)
+
+pub selected_colours : (f : FunctionTree) → HasColours (selected f)
+selected_colours f = record { each = refl; least = λ r q c x e. least f r q (member_of (colour_regs 0 colours) r c) (has_role f q x) e }
+
+-- Selected code is well placed.
+pub selected_placed : (f : FunctionTree) → WellPlaced (selected f)
+selected_placed f = record { colours = selected_colours f; agree = selected_agree f }

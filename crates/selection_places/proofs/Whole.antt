@@ -15,7 +15,7 @@ use Rattle.mach_ir.specs.declared.mach.Instr.{Instr}
 use Rattle.mach_ir.specs.declared.reg.Reg.{Reg}
 use Rattle.selection_rules.specs.Select.{Named, scopes, selected, first, params_from, with_params, is_no_value, fresh, seats, result_seat, returns, select, moves_all, colour_regs, width}
 use Rattle.selection_laws.proofs.WellFormed.{NumbersTell}
-use Rattle.selection_places.proofs.Sets.{Role, Plain, New, Seated, IsColour, PlaceOf, Both, left, right as in_right, One, it, Listed, Block, block_in, block_then, no_block}
+use Rattle.selection_places.proofs.Sets.{Role, Plain, New, Seated, IsColour, PlaceOf, Both, left, right as in_right, One, it, Listed, Block, block_in, block_few, block_then, no_block}
 use Rattle.selection_places.proofs.Owned.{Own, opens, own_block, params_block, seats_block, result_block, block_seated, fresh_block}
 use Rattle.selection_places.proofs.Coded as coded
 use Rattle.selection_places.proofs.Coded.{Member, later, Each, none, one, each_of, each_map, Reads, reads_plain, reads_new, ReadsSeats, reads, reads_seat, Gives, gives_none, gives_one, Coded, ends, plain, fills, empties, asks, handles, allocs}
@@ -36,14 +36,17 @@ params_of f = params_from (moved_at f) f.params
 abbrev pub env_of : FunctionTree → List Named
 env_of f = with_params f.params (params_of f) []
 
-abbrev pub Whole : FunctionTree → Role → Reg → Type 0
-Whole f t r =
-    Both (Listed Seated (colour_regs 0 colours))
-    (Both (Listed Seated (seats 0 first (params_of f)))
+-- all but those of the colours
+abbrev pub Others : FunctionTree → Role → Reg → Type 0
+Others f t r =
+    Both (Listed Seated (seats 0 first (params_of f)))
     (Both (Listed Plain (params_of f))
     (Both (One Plain (fresh (value_at f) (body_type f)))
     (Both (Listed Seated (result_seat (suc (value_at f)) (result_of (body_type f))))
-    (Own (env_of f) (suc (suc (value_at f))) f.body))))) t r
+    (Own (env_of f) (suc (suc (value_at f))) f.body)))) t r
+
+abbrev pub Whole : FunctionTree → Role → Reg → Type 0
+Whole f t r = Both (Listed Seated (colour_regs 0 colours)) (Others f) t r
 
 colours_block : (n : ℕ) (cs : List ℕ) → ((c : ℕ) → Contains cs c → Contains colours c) → Block (Listed Seated (colour_regs n cs)) n (n + length cs) 0
 colours_block n [] inside = block_in (no_block n) (omega arith)
@@ -59,13 +62,12 @@ params_length b (p ∷ params) = let others = params_length (suc b) params in om
 
 -- how many registers of a function are open
 abbrev pub opens_of : FunctionTree → ℕ
-opens_of f = 0 + (0 + (length f.params + (1 + (0 + opens (env_of f) (suc (suc (value_at f))) f.body))))
+opens_of f = 0 + (length f.params + (1 + (0 + opens (env_of f) (suc (suc (value_at f))) f.body)))
 
-pub whole_block : (f : FunctionTree) → Block (Whole f) 0 (selected f).labels (opens_of f)
-whole_block f =
+pub others_block : (f : FunctionTree) → Block (Others f) first (selected f).labels (opens_of f)
+others_block f =
     let same = params_length (moved_at f) f.params in
-    block_then (block_in (colours_block 0 colours (λ c m. m)) (omega arith))
-    (block_then (block_in (seats_block 0 first (params_of f)) (omega (arith, same)))
+    block_then (block_in (seats_block 0 first (params_of f)) (omega (arith, same)))
     (block_then (params_block (moved_at f) f.params)
     (block_then (fresh_block (value_at f) (body_type f))
     (block_then (result_block (suc (value_at f)) (result_of (body_type f)))
@@ -73,8 +75,10 @@ whole_block f =
     (omega arith) (omega arith))
     (omega arith) (omega arith))
     (omega arith) (omega arith))
-    (omega arith) (omega arith))
     (omega arith) (omega arith)
+
+pub whole_block : (f : FunctionTree) → Block (Whole f) 0 (selected f).labels (opens_of f)
+whole_block f = block_few (block_then (block_in (colours_block 0 colours (λ c m. m)) (omega arith)) (others_block f) (omega arith) (omega arith)) (omega arith)
 
 seats_length : (i n : ℕ) (rs : List Reg) → length (seats i n rs) ≡ length rs
 seats_length i n [] = refl
