@@ -5,3 +5,4 @@ pub mod Codes
 pub mod Whole
 pub mod Soon
 pub mod Placed
+pub mod News

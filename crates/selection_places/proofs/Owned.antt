@@ -331,7 +331,7 @@ abbrev pub row_sum : Expressions → ℕ
 row_sum NoMore = 0
 row_sum (More e rest) = width e + row_sum rest
 
-row_width : (es : Expressions) → count_of es + row_sum es ≡ width_row es
+pub row_width : (es : Expressions) → count_of es + row_sum es ≡ width_row es
 row_width NoMore = refl
 row_width (More e rest) = let further = row_width rest in omega (arith, further)
 
