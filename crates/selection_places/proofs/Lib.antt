@@ -6,3 +6,4 @@ pub mod Whole
 pub mod Soon
 pub mod Placed
 pub mod News
+pub mod Fresh

@@ -20,10 +20,10 @@ use Rattle.selection_places.proofs.Whole.{Whole, whole_block, others_block, para
 
 -- ---- where registers stand
 
-plain_open : (f : FunctionTree) (r : Reg) → Whole f Plain r → r.loc ≡ loc.Unset
+pub plain_open : (f : FunctionTree) (r : Reg) → Whole f Plain r → r.loc ≡ loc.Unset
 plain_open f r i = (whole_block f).place Plain r i
 
-new_open : (f : FunctionTree) (r : Reg) → Whole f New r → r.loc ≡ loc.Unset
+pub new_open : (f : FunctionTree) (r : Reg) → Whole f New r → r.loc ≡ loc.Unset
 new_open f r i = (whole_block f).place New r i
 
 stands : (f : FunctionTree) (r : Reg) → HasRole (Whole f) r → (r.loc ≡ loc.Unset) ⊎ IsColour r.loc

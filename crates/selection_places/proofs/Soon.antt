@@ -237,7 +237,7 @@ among_left : {n : ℕ} {xs : List Reg} (ys : List Reg) → Among n xs → Among 
 among_left ys (first e) = first e
 among_left ys (later a) = later (among_left ys a)
 
-among_cases : {n : ℕ} (xs ys : List Reg) → Among n (xs ++ ys) → Among n xs ⊎ Among n ys
+pub among_cases : {n : ℕ} (xs ys : List Reg) → Among n (xs ++ ys) → Among n xs ⊎ Among n ys
 among_cases [] ys a = inr a
 among_cases (x ∷ xs) ys (first e) = inl (first e)
 among_cases (x ∷ xs) ys (later a) = ⊎_elim (λ z. inl (later z)) (λ z. inr z) (among_cases xs ys a)
@@ -281,6 +281,10 @@ killed_from : {r : Reg} (rs : List Reg) (d : Destroyed) (results : List Reg) →
 killed_from rs Nothing results m = elim m [ ]
 killed_from rs Temporaries results m = killed_here rs Temporaries results m
 killed_from rs Everything results m = killed_here rs Everything results m
+
+-- a register that an instruction kills is that of a colour
+pub killed_member : {r : Reg} (rs : List Reg) (i : Instr) → Member r (killed_by rs (destroyed_by i.op) i.results) → Member r rs
+killed_member rs i m = let k = killed_from rs (destroyed_by i.op) i.results m in k.among
 
 -- ---- liveness
 
