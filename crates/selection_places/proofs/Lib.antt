@@ -7,3 +7,4 @@ pub mod Soon
 pub mod Placed
 pub mod News
 pub mod Fresh
+pub mod Weights

@@ -311,7 +311,7 @@ pub result_block : (n : ℕ) (result : Ret) → Block (Listed Seated (result_sea
 result_block n ret.Unit = block_in (no_block n) (omega arith)
 result_block n (ret.Comp c) = block_then (seat_block 0 n c) (no_block (suc n)) (omega arith) (le_refl (suc n))
 
-regs_length : (env : List Named) (b : ℕ) (es : Expressions) → length (regs_of env b es) ≡ count_of es
+pub regs_length : (env : List Named) (b : ℕ) (es : Expressions) → length (regs_of env b es) ≡ count_of es
 regs_length env b NoMore = refl
 regs_length env b (More e rest) = let others = regs_length env (suc b) rest in omega (arith, others)
 

@@ -80,7 +80,7 @@ others_block f =
 pub whole_block : (f : FunctionTree) → Block (Whole f) 0 (selected f).labels (opens_of f)
 whole_block f = block_few (block_then (block_in (colours_block 0 colours (λ c m. m)) (omega arith)) (others_block f) (omega arith) (omega arith)) (omega arith)
 
-seats_length : (i n : ℕ) (rs : List Reg) → length (seats i n rs) ≡ length rs
+pub seats_length : (i n : ℕ) (rs : List Reg) → length (seats i n rs) ≡ length rs
 seats_length i n [] = refl
 seats_length i n (r ∷ rs) = let others = seats_length (suc i) (suc n) rs in omega (arith, others)
 
