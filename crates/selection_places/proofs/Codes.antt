@@ -25,7 +25,7 @@ use Rattle.selection_rules.specs.Instructions.{bare, right_regs}
 use Rattle.selection_rules.specs.Instructions as emit
 use Rattle.selection_rules.specs.Select.{Code, Shape, InRegisters, ConstantRight, ConstantLeft, PowerRight, shape_of, shape_op, shape_right, shape_args, unless_left, unless_right, power_code, operator_code, Named, Label, scopes, reg_of, label_of, move_from, move_to, moves_all, exit_to, ordered, only_when, seat, result_seat, from_seat, symbol_of, unless_symbol, right_of, unless_constant, bound_test, comparison, tested, select_test, is_based, base_of, offset_of, select_base, call_of, callee_of, callee_regs, tail_result, inner_dest, inner_valued, regs_of, count_of, count_cases, width, width_bound, width_labels, bound_name, env_after, raised_name, select, select_waiting, select_filled, select_bound, select_seq, select_cases, select_handlers, deeper, unless_bare, in_handlers, labels_from, cell_stores, to_seat, selected, first, params_from, with_params, is_no_value, fresh, seats, returns}
 use Rattle.selection_places.proofs.Sets.{Role, Plain, New, Seated, Both, left, right as in_right, One, it, Listed}
-use Rattle.selection_places.proofs.Owned.{dropped, kept, Own_drop, Either, LabelsOwn, Own, BaseOwn, RowOwn, BoundOwn, SeqOwn, CasesOwn, HandlersOwn}
+use Rattle.selection_places.proofs.Owned.{dropped, kept, kept_of, Own_drop, Either, LabelsOwn, Own, BaseOwn, RowOwn, BoundOwn, SeqOwn, CasesOwn, HandlersOwn}
 use Rattle.selection_places.proofs.Coded as coded
 use Rattle.selection_places.proofs.Coded.{Member, later, Each, none, one, each_map, each_append, Apart, Reads, reads_plain, reads_new, ReadsSeats, reads, reads_seat, Gives, gives_none, gives_one, Coded, ends, plain, fills, empties, asks, handles, allocs, coded_more, seats_apart}
 
@@ -54,13 +54,26 @@ module _ (Q : Role → Reg → Type 0) where
   Wants ty.NoValue d = Unit {0}
   Wants type d = Q Plain d
 
-  pub wants_any : (type : Ty) {d : Reg} → Q Plain d → Wants type d
-  wants_any ty.NoValue q = tt
-  wants_any type q = q
+  wants_type : (type : Ty) {d : Reg} → Q Plain d → Wants type d
+  wants_type ty.NoValue q = tt
+  wants_type type q = q
+
+  -- the value of an expression; an exit has none
+  abbrev pub WantsOf : List Named → Expression → Reg → Type 0
+  WantsOf env (Exit at label_at label arguments) d = Unit {0}
+  WantsOf env e d = Wants (type_of (scopes env) e) d
+
+  pub wants_any : (env : List Named) (e : Expression) {d : Reg} → Q Plain d → WantsOf env e d
+  wants_any env (Exit at label_at label arguments) q = tt
+  wants_any env e q = wants_type (type_of (scopes env) e) q
 
   kept_wants : (type : Ty) (b : ℕ) → Within (Listed Plain (kept type b)) → Wants type (fresh b type)
   kept_wants ty.NoValue b own = tt
   kept_wants type b own = own Plain _ (left (it refl refl))
+
+  kept_of_wants : (env : List Named) (b : ℕ) (e : Expression) → Within (Listed Plain (kept_of env b e)) → WantsOf env e (fresh b (type_of (scopes env) e))
+  kept_of_wants env b (Exit at label_at label arguments) own = tt
+  kept_of_wants env b e own = kept_wants (type_of (scopes env) e) b own
 
   inner_plain : (type : Ty) (b : ℕ) (d : Reg) → Within (Listed Plain (dropped type b)) → Wants type d → Q Plain (inner_dest type b d)
   inner_plain ty.NoValue b d own w = own Plain _ (left (it refl refl))
@@ -254,7 +267,7 @@ module _ (Q : Role → Reg → Type 0) where
   codes_call false valued result o S n f s g d P next z = asks (each_append (callee_plain o f) (all_seats S s)) (gives_result n result g refl) refl (codes_given n result g d P next z)
 
   mutual
-    pub codes_select : (env : List Named) (labels : List Label) (valued tail : Bool) (d : Reg) (b : ℕ) (e : Expression) → Within (Own env b e) → EnvFine env → LabelsFine labels → Wants (type_of (scopes env) e) d → Codes (select env labels valued tail d b e)
+    pub codes_select : (env : List Named) (labels : List Label) (valued tail : Bool) (d : Reg) (b : ℕ) (e : Expression) → Within (Own env b e) → EnvFine env → LabelsFine labels → WantsOf env e d → Codes (select env labels valued tail d b e)
     codes_select env labels valued tail d b (Integer at w) own names ls wants P next z = plain none (one (inner_plain (type_of (scopes env) (Integer at w)) b d own wants) none) refl z
     codes_select env labels valued tail d b (Pointer at w) own names ls wants P next z = plain none (one (inner_plain (type_of (scopes env) (Pointer at w)) b d own wants) none) refl z
     codes_select env labels valued tail d b (Symbol at name) own names ls wants P next z = plain none (one (inner_plain (type_of (scopes env) (Symbol at name)) b d own wants) none) refl z
@@ -267,10 +280,10 @@ module _ (Q : Role → Reg → Type 0) where
         let bound : Within (BoundOwn env (suc b) bindings) = λ t r i. own t r (in_right (left i)) in
         codes_bound env labels (suc b) bindings bound names ls P _
         (codes_select (env_after env (suc b) bindings) labels (inner_valued valued type) tail _ (suc b + width_bound bindings) body (λ t r i. own t r (in_right (in_right i))) (bound_env env (suc b) bindings bound names) ls
-        (wants_any (type_of (scopes (env_after env (suc b) bindings)) body) d') P next z)
+        (wants_any (env_after env (suc b) bindings) body d') P next z)
     codes_select env labels valued tail d b (Assign at name_at name e) own names ls wants P next z =
         let t = own Plain _ (left (it refl refl)) in
-        codes_select env labels false false _ (suc (suc b)) e (λ t r i. own t r (in_right i)) names ls (wants_any (type_of (scopes env) e) t) P _ (codes_to t (reg_fine names name) P next z)
+        codes_select env labels false false _ (suc (suc b)) e (λ t r i. own t r (in_right i)) names ls (wants_any env e t) P _ (codes_to t (reg_fine names name) P next z)
     codes_select env labels valued tail d b (Operator at op e g) own names ls wants P next z =
         let s = shape_of op e g in
         let type = type_of (scopes env) (Operator at op e g) in
@@ -278,8 +291,8 @@ module _ (Q : Role → Reg → Type 0) where
         let x = own Plain _ (in_right (left (it refl refl))) in
         let y = own Plain _ (in_right (in_right (left (it refl refl)))) in
         codes_ordered (is_left_first (scopes env) e g) _ _
-        (codes_left s _ (codes_select env labels false false _ (suc (suc (suc b))) e (λ t r i. own t r (in_right (in_right (in_right (left i))))) names ls (wants_any (type_of (scopes env) e) x)))
-        (codes_right s _ (codes_select env labels false false _ (suc (suc (suc b)) + width e) g (λ t r i. own t r (in_right (in_right (in_right (in_right i))))) names ls (wants_any (type_of (scopes env) g) y))) P _
+        (codes_left s _ (codes_select env labels false false _ (suc (suc (suc b))) e (λ t r i. own t r (in_right (in_right (in_right (left i))))) names ls (wants_any env e x)))
+        (codes_right s _ (codes_select env labels false false _ (suc (suc (suc b)) + width e) g (λ t r i. own t r (in_right (in_right (in_right (in_right i))))) names ls (wants_any env g y))) P _
         (codes_operator s op x y d' P next z)
     codes_select env labels valued tail d b (App at callee arguments result result_at) own names ls wants P next z =
         let type = type_of (scopes env) (App at callee arguments result result_at) in
@@ -293,7 +306,7 @@ module _ (Q : Role → Reg → Type 0) where
         let regs : Within (Listed Plain (regs_of env row arguments)) = λ t r i. own t r (in_right (in_right (left i))) in
         let places = listed Seated (seats 0 seated (regs_of env row arguments)) (λ t r i. own t r (in_right (in_right (in_right (left i))))) in
         let gives = listed Seated (result_seat given result) (λ t r i. own t r (in_right (in_right (in_right (in_right (left i)))))) in
-        let code = codes_select env labels false false _ base callee (λ t r i. own t r (in_right (in_right (in_right (in_right (in_right (left i))))))) names ls (wants_any (type_of (scopes env) callee) f) in
+        let code = codes_select env labels false false _ base callee (λ t r i. own t r (in_right (in_right (in_right (in_right (in_right (left i))))))) names ls (wants_any env callee f) in
         let operands : Within (RowOwn env (base + width callee) arguments) = λ t r i. own t r (in_right (in_right (in_right (in_right (in_right (in_right i)))))) in
         codes_waiting env labels row (base + width callee) arguments operands regs names ls P _
         (codes_when (not light) _ (codes_unless (symbol_of callee) _ code) P _
@@ -325,9 +338,9 @@ module _ (Q : Role → Reg → Type 0) where
         let x = own Plain _ (in_right (left (it refl refl))) in
         let base = suc (suc (suc (suc b))) in
         let test : Within (Own env base condition) = λ t r i. own t r (in_right (in_right (left i))) in
-        let others = plain none none refl (codes_select env labels (inner_valued valued type) tail _ (base + width condition + width e) g (λ t r i. own t r (in_right (in_right (in_right (in_right i))))) names ls (wants_any (type_of (scopes env) g) d') P _ (plain none none refl z)) in
-        let both = codes_select env labels (inner_valued valued type) tail _ (base + width condition) e (λ t r i. own t r (in_right (in_right (in_right (left i))))) names ls (wants_any (type_of (scopes env) e) d') P _ others in
-        codes_test env labels (suc (suc b)) base condition test names ls P _ _ (codes_select env labels false false _ base condition test names ls (wants_any (type_of (scopes env) condition) x) P _ (plain (a_plain x) none refl both)) both
+        let others = plain none none refl (codes_select env labels (inner_valued valued type) tail _ (base + width condition + width e) g (λ t r i. own t r (in_right (in_right (in_right (in_right i))))) names ls (wants_any env g d') P _ (plain none none refl z)) in
+        let both = codes_select env labels (inner_valued valued type) tail _ (base + width condition) e (λ t r i. own t r (in_right (in_right (in_right (left i))))) names ls (wants_any env e d') P _ others in
+        codes_test env labels (suc (suc b)) base condition test names ls P _ _ (codes_select env labels false false _ base condition test names ls (wants_any env condition x) P _ (plain (a_plain x) none refl both)) both
     codes_select env labels valued tail d b (Catch at body handlers) own names ls wants P next z =
         let type = type_of (scopes env) (Catch at body handlers) in
         let d' = inner_plain type b d (λ t r i. own t r (left i)) wants in
@@ -335,7 +348,7 @@ module _ (Q : Role → Reg → Type 0) where
         let params : Within (LabelsOwn (suc (suc b)) handlers) = λ t r i. own t r (in_right (left i)) in
         let inner = labels_own (suc (suc b)) handlers params in
         plain none none refl
-        (codes_select env _ (inner_valued valued type) tail _ base body (λ t r i. own t r (in_right (in_right (left i)))) names (labels_append inner ls) (wants_any (type_of (scopes env) body) d') P _
+        (codes_select env _ (inner_valued valued type) tail _ base body (λ t r i. own t r (in_right (in_right (left i)))) names (labels_append inner ls) (wants_any env body d') P _
         (codes_handlers env _ (inner_valued valued type) tail _ (suc b) (suc (suc b)) (base + width body) handlers (λ t r i. own t r (in_right (in_right (in_right i)))) params names (labels_append (labels_inside inner) ls) d' P _ (plain none none refl z)))
     codes_select env labels valued tail d b (Exit at label_at label arguments) own names ls wants P next z =
         let regs : Within (Listed Plain (regs_of env (suc b) arguments)) = λ t r i. own t r (left i) in
@@ -366,34 +379,34 @@ module _ (Q : Role → Reg → Type 0) where
         let d' = inner_plain type b d (λ t r i. own t r (left i)) wants in
         let x = own Plain _ (in_right (left (it refl refl))) in
         codes_base env labels (suc b) (suc (suc b)) address x (λ t r i. own t r (in_right (in_right i))) names ls
-        (λ inside v. codes_select env labels false false _ (suc (suc b)) address inside names ls (wants_any (type_of (scopes env) address) v)) P _
+        (λ inside v. codes_select env labels false false _ (suc (suc b)) address inside names ls (wants_any env address v)) P _
         (plain (a_plain x) (one d' none) refl z)
     codes_select env labels valued tail d b (Store at chunk address e) own names ls wants P next z =
         let x = own Plain _ (left (it refl refl)) in
         let y = own Plain _ (in_right (left (it refl refl))) in
         codes_ordered (is_left_first (scopes env) address e) _ _
         (codes_base env labels (suc b) (suc (suc (suc b))) address x (λ t r i. own t r (in_right (in_right (left i)))) names ls
-        (λ inside v. codes_select env labels false false _ (suc (suc (suc b))) address inside names ls (wants_any (type_of (scopes env) address) v)))
-        (codes_select env labels false false _ (suc (suc (suc b)) + width address) e (λ t r i. own t r (in_right (in_right (in_right i)))) names ls (wants_any (type_of (scopes env) e) y)) P _
+        (λ inside v. codes_select env labels false false _ (suc (suc (suc b))) address inside names ls (wants_any env address v)))
+        (codes_select env labels false false _ (suc (suc (suc b)) + width address) e (λ t r i. own t r (in_right (in_right (in_right i)))) names ls (wants_any env e y)) P _
         (plain (two_plain x y) none refl z)
     codes_select env labels valued tail d b (Checkbound at e g) own names ls wants P next z =
         let x = own Plain _ (left (it refl refl)) in
         let y = own Plain _ (in_right (left (it refl refl))) in
         codes_ordered (is_left_first (scopes env) e g) _ _
-        (codes_select env labels false false _ (suc (suc (suc b))) e (λ t r i. own t r (in_right (in_right (left i)))) names ls (wants_any (type_of (scopes env) e) x))
-        (codes_constant (right_of bound_test g) _ (codes_select env labels false false _ (suc (suc (suc b)) + width e) g (λ t r i. own t r (in_right (in_right (in_right i)))) names ls (wants_any (type_of (scopes env) g) y))) P _
+        (codes_select env labels false false _ (suc (suc (suc b))) e (λ t r i. own t r (in_right (in_right (left i)))) names ls (wants_any env e x))
+        (codes_constant (right_of bound_test g) _ (codes_select env labels false false _ (suc (suc (suc b)) + width e) g (λ t r i. own t r (in_right (in_right (in_right i)))) names ls (wants_any env g y))) P _
         (plain (right_plain (right_of bound_test g) x y) none refl z)
     codes_select env labels valued tail d b (Raise at e) own names ls wants P next z =
         let x = own Plain _ (left (it refl refl)) in
         let y = own Seated (seat 0 (suc (suc b)) comp.Val) (in_right (left (it refl refl))) in
-        codes_select env labels false false _ (suc (suc (suc b))) e (λ t r i. own t r (in_right (in_right i))) names ls (wants_any (type_of (scopes env) e) x) P _
+        codes_select env labels false false _ (suc (suc (suc b))) e (λ t r i. own t r (in_right (in_right i))) names ls (wants_any env e x) P _
         (fills (reads_plain x) y none (asks (one (reads_seat y (coded.first refl)) none) (gives_none refl) refl z))
     codes_select env labels valued tail d b (Switch at size_at size selector cases) own names ls wants P next z =
         let type = type_of (scopes env) (Switch at size_at size selector cases) in
         let d' = inner_plain type b d (λ t r i. own t r (left i)) wants in
         let x = own Plain _ (in_right (left (it refl refl))) in
         let base = suc (suc (suc b)) + count_cases cases in
-        codes_select env labels false false _ base selector (λ t r i. own t r (in_right (in_right (left i)))) names ls (wants_any (type_of (scopes env) selector) x) P _
+        codes_select env labels false false _ base selector (λ t r i. own t r (in_right (in_right (left i)))) names ls (wants_any env selector x) P _
         (plain (a_plain x) none refl
         (codes_cases env labels (inner_valued valued type) tail _ _ (suc (suc b)) (suc (suc (suc b))) (base + width selector) cases (λ t r i. own t r (in_right (in_right (in_right i)))) names ls d' P _ (plain none none refl z)))
     codes_select env labels valued tail d b (Try at body name_at name handler) own names ls wants P next z =
@@ -403,18 +416,18 @@ module _ (Q : Role → Reg → Type 0) where
         let y = own Seated (seat 0 (suc (suc (suc (suc b)))) comp.Val) (in_right (in_right (left (it refl refl)))) in
         let base = suc (suc (suc (suc (suc b)))) in
         plain none none refl
-        (codes_select env (deeper labels) (inner_valued valued type) false _ base body (λ t r i. own t r (in_right (in_right (in_right (left i))))) names (labels_deeper ls) (wants_any (type_of (scopes env) body) d') P _
+        (codes_select env (deeper labels) (inner_valued valued type) false _ base body (λ t r i. own t r (in_right (in_right (in_right (left i))))) names (labels_deeper ls) (wants_any env body d') P _
         (plain none none refl
         (handles y
         (empties y x
         (codes_select (raised_name name (suc (suc (suc b))) ∷ env) labels (inner_valued valued type) tail _ (base + width body) handler (λ t r i. own t r (in_right (in_right (in_right (in_right i))))) (named x names) ls
-        (wants_any (type_of (scopes (raised_name name (suc (suc (suc b))) ∷ env)) handler) d') P _ (plain none none refl z))))))
+        (wants_any (raised_name name (suc (suc (suc b))) ∷ env) handler d') P _ (plain none none refl z))))))
 
     codes_base : (env : List Named) (labels : List Label) (t b : ℕ) (e : Expression) → Q Plain (fresh t (type_of (scopes env) (base_of e))) → Within (BaseOwn env b e (Own env b e)) → EnvFine env → LabelsFine labels →
         (Within (Own env b e) → Q Plain (fresh t (type_of (scopes env) e)) → Codes (select env labels false false (fresh t (type_of (scopes env) e)) b e)) →
         Codes (select_base env labels t b e (select env labels false false (fresh t (type_of (scopes env) e)) b e))
     codes_base env labels t b (Operator at op base (Integer at' w)) q own names ls whole P next z =
-        by (is_based op w) (λ own q. codes_select env labels false false _ b base own names ls (wants_any (type_of (scopes env) base) q)) q own
+        by (is_based op w) (λ own q. codes_select env labels false false _ b base own names ls (wants_any env base q)) q own
       where
         by : (c : Bool) → (Within (Own env b base) → Q Plain (fresh t (type_of (scopes env) base)) → Codes (select env labels false false (fresh t (type_of (scopes env) base)) b base)) → Q Plain (fresh t (type_of (scopes env) (cond c base (Operator at op base (Integer at' w))))) → Within (Either c (Own env b base) (Own env b (Operator at op base (Integer at' w)))) →
             Coded Q [] P (cond c (select env labels false false (fresh t (type_of (scopes env) base)) b base next) (select env labels false false (fresh t (type_of (scopes env) (Operator at op base (Integer at' w)))) b (Operator at op base (Integer at' w)) next))
@@ -429,8 +442,8 @@ module _ (Q : Role → Reg → Type 0) where
         let y = own Plain _ (in_right (in_right (left (it refl refl)))) in
         codes_tested (comparison (shape_op s op) (shape_right s)) _ value
         (λ t. codes_ordered (is_left_first (scopes env) e g) _ _
-        (codes_left s _ (codes_select env labels false false _ (suc (suc (suc b))) e (λ t r i. own t r (in_right (in_right (in_right (left i))))) names ls (wants_any (type_of (scopes env) e) x)))
-        (codes_right s _ (codes_select env labels false false _ (suc (suc (suc b)) + width e) g (λ t r i. own t r (in_right (in_right (in_right (in_right i))))) names ls (wants_any (type_of (scopes env) g) y))) P _
+        (codes_left s _ (codes_select env labels false false _ (suc (suc (suc b))) e (λ t r i. own t r (in_right (in_right (in_right (left i))))) names ls (wants_any env e x)))
+        (codes_right s _ (codes_select env labels false false _ (suc (suc (suc b)) + width e) g (λ t r i. own t r (in_right (in_right (in_right (in_right i))))) names ls (wants_any env g y))) P _
         (plain (shape_plain s x y) none refl z))
         v
     codes_test env labels l b e own names ls P value next v z = v
@@ -439,34 +452,34 @@ module _ (Q : Role → Reg → Type 0) where
     codes_cases env labels valued tail d all end l b NoCase own names ls q P next z = z
     codes_cases env labels valued tail d all end l b (Choose indexes body rest) own names ls q P next z =
         plain none none refl
-        (codes_select env labels valued tail d b body (λ t r i. own t r (left i)) names ls (wants_any (type_of (scopes env) body) q) P _
+        (codes_select env labels valued tail d b body (λ t r i. own t r (left i)) names ls (wants_any env body q) P _
         (codes_cases env labels valued tail d all end (suc l) (b + width body) rest (λ t r i. own t r (in_right i)) names ls q P next z))
 
     codes_waiting : (env : List Named) (labels : List Label) (b i : ℕ) (es : Expressions) → Within (RowOwn env i es) → Within (Listed Plain (regs_of env b es)) → EnvFine env → LabelsFine labels → Codes (select_waiting env labels b i es)
     codes_waiting env labels b i NoMore own regs names ls P next z = z
     codes_waiting env labels b i (More e rest) own regs names ls P next z =
         codes_waiting env labels (suc b) (i + width e) rest (λ t r i. own t r (in_right i)) (λ t r i. regs t r (in_right i)) names ls P _
-        (codes_when (not (is_light_address (scopes env) e)) _ (codes_select env labels false false _ i e (λ t r i. own t r (left i)) names ls (wants_any (type_of (scopes env) e) (regs Plain _ (left (it refl refl))))) P next z)
+        (codes_when (not (is_light_address (scopes env) e)) _ (codes_select env labels false false _ i e (λ t r i. own t r (left i)) names ls (wants_any env e (regs Plain _ (left (it refl refl))))) P next z)
 
     codes_filled : (env : List Named) (labels : List Label) (b i : ℕ) (es : Expressions) → Within (RowOwn env i es) → Within (Listed Plain (regs_of env b es)) → EnvFine env → LabelsFine labels → Codes (select_filled env labels b i es)
     codes_filled env labels b i NoMore own regs names ls P next z = z
     codes_filled env labels b i (More e rest) own regs names ls P next z =
         codes_filled env labels (suc b) (i + width e) rest (λ t r i. own t r (in_right i)) (λ t r i. regs t r (in_right i)) names ls P _
-        (codes_when (is_light_address (scopes env) e) _ (codes_select env labels false false _ i e (λ t r i. own t r (left i)) names ls (wants_any (type_of (scopes env) e) (regs Plain _ (left (it refl refl))))) P next z)
+        (codes_when (is_light_address (scopes env) e) _ (codes_select env labels false false _ i e (λ t r i. own t r (left i)) names ls (wants_any env e (regs Plain _ (left (it refl refl))))) P next z)
 
     codes_bound : (env : List Named) (labels : List Label) (b : ℕ) (bs : Bindings) → Within (BoundOwn env b bs) → EnvFine env → LabelsFine labels → Codes (select_bound env labels b bs)
     codes_bound env labels b NoBinding own names ls P next z = z
     codes_bound env labels b (Bind at name declared e rest) own names ls P next z =
         let x = own Plain _ (left (it refl refl)) in
-        codes_select env labels false false _ (suc b) e (λ t r i. own t r (in_right (left i))) names ls (wants_any (type_of (scopes env) e) x) P _
+        codes_select env labels false false _ (suc b) e (λ t r i. own t r (in_right (left i))) names ls (wants_any env e x) P _
         (codes_bound (bound_name env b name declared e ∷ env) labels (suc (b + width e)) rest (λ t r i. own t r (in_right (in_right i))) (named x names) ls P next z)
 
     codes_seq : (env : List Named) (labels : List Label) (valued tail : Bool) (d : Reg) (b : ℕ) (es : Expressions) → Within (SeqOwn env b es) → EnvFine env → LabelsFine labels → Q Plain d → Codes (select_seq env labels valued tail d b es)
     codes_seq env labels valued tail d b NoMore own names ls q P next z = z
     codes_seq env labels valued tail d b (More e NoMore) own names ls q P next z =
-        codes_select env labels valued tail d (suc b) e (λ t r i. own t r (in_right (left i))) names ls (wants_any (type_of (scopes env) e) q) P next z
+        codes_select env labels valued tail d (suc b) e (λ t r i. own t r (in_right (left i))) names ls (wants_any env e q) P next z
     codes_seq env labels valued tail d b (More e (More g rest)) own names ls q P next z =
-        codes_select env labels false false _ (suc b) e (λ t r i. own t r (in_right (left i))) names ls (kept_wants (type_of (scopes env) e) b (λ t r i. own t r (left i))) P _
+        codes_select env labels false false _ (suc b) e (λ t r i. own t r (in_right (left i))) names ls (kept_of_wants env b e (λ t r i. own t r (left i))) P _
         (codes_seq env labels valued tail d (suc (b + width e)) (More g rest) (λ t r i. own t r (in_right (in_right i))) names ls q P next z)
 
     codes_handlers : (env : List Named) (labels : List Label) (valued tail : Bool) (d : Reg) (end l b : ℕ) (hs : Handlers) → Within (HandlersOwn env l b hs) → Within (LabelsOwn l hs) → EnvFine env → LabelsFine labels → Q Plain d →
@@ -475,7 +488,7 @@ module _ (Q : Role → Reg → Type 0) where
     codes_handlers env labels valued tail d end l b (Handle at label ps body rest) own params names ls q P next z =
         let inner = with_params ps (params_from (suc l) ps) env in
         plain none none refl
-        (codes_select inner labels valued tail d b body (λ t r i. own t r (left i)) (params_env env ps (params_from (suc l) ps) (listed Plain (params_from (suc l) ps) (λ t r i. params t r (left i))) names) ls (wants_any (type_of (scopes inner) body) q) P _
+        (codes_select inner labels valued tail d b body (λ t r i. own t r (left i)) (params_env env ps (params_from (suc l) ps) (listed Plain (params_from (suc l) ps) (λ t r i. params t r (left i))) names) ls (wants_any inner body q) P _
         (codes_handlers env labels valued tail d end (suc l + length ps) (b + width body) rest (λ t r i. own t r (in_right i)) (λ t r i. params t r (in_right i)) names ls q P next z))
 
   -- ---- the whole

@@ -8,3 +8,4 @@ pub mod Placed
 pub mod News
 pub mod Fresh
 pub mod Weights
+pub mod Small

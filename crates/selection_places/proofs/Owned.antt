@@ -31,6 +31,11 @@ abbrev pub kept : Ty → ℕ → List Reg
 kept ty.NoValue b = []
 kept type b = fresh b type ∷ []
 
+-- an exit leaves none
+abbrev pub kept_of : List Named → ℕ → Expression → List Reg
+kept_of env b (Exit at label_at label arguments) = []
+kept_of env b e = kept (type_of (scopes env) e) b
+
 abbrev pub Own_drop : List Named → ℕ → Expression → Role → Reg → Type 0
 Own_drop env b e t r = Listed Plain (dropped (type_of (scopes env) e) b) t r
 
@@ -143,7 +148,7 @@ abbrev mutual
   pub SeqOwn : List Named → ℕ → Expressions → Role → Reg → Type 0
   SeqOwn env b NoMore t r = ⊥
   SeqOwn env b (More e rest) t r =
-      Both (Listed Plain (kept (type_of (scopes env) e) b)) (Both (Own env (suc b) e) (SeqOwn env (suc (b + width e)) rest)) t r
+      Both (Listed Plain (kept_of env b e)) (Both (Own env (suc b) e) (SeqOwn env (suc (b + width e)) rest)) t r
 
   pub CasesOwn : List Named → ℕ → Cases → Role → Reg → Type 0
   CasesOwn env b NoCase t r = ⊥
@@ -234,7 +239,7 @@ abbrev mutual
   pub seq_opens : List Named → ℕ → Expressions → ℕ
   seq_opens env b NoMore = 0
   seq_opens env b (More e rest) =
-      length (kept (type_of (scopes env) e) b) + (opens env (suc b) e + seq_opens env (suc (b + width e)) rest)
+      length (kept_of env b e) + (opens env (suc b) e + seq_opens env (suc (b + width e)) rest)
 
   pub cases_opens : List Named → ℕ → Cases → ℕ
   cases_opens env b NoCase = 0
@@ -258,6 +263,10 @@ dropped_block type b = block_in (no_block b) (omega arith)
 kept_block : (type : Ty) (b : ℕ) → Block (Listed Plain (kept type b)) b (suc b) (length (kept type b))
 kept_block ty.NoValue b = block_in (no_block b) (omega arith)
 kept_block type b = block_then (fresh_block b type) (no_block (suc b)) (omega arith) (le_refl (suc b))
+
+kept_of_block : (env : List Named) (b : ℕ) (e : Expression) → Block (Listed Plain (kept_of env b e)) b (suc b) (length (kept_of env b e))
+kept_of_block env b (Exit at label_at label arguments) = block_in (no_block b) (omega arith)
+kept_of_block env b e = kept_block (type_of (scopes env) e) b
 
 drop_block : (env : List Named) (b : ℕ) (e : Expression) → Block (Own_drop env b e) b (suc b) (drops env b e)
 drop_block env b e = dropped_block (type_of (scopes env) e) b
@@ -515,7 +524,7 @@ mutual
   seq_block env b NoMore = block_in (no_block b) (omega arith)
   seq_block env b (More e rest) =
       block_in
-      (block_then (kept_block (type_of (scopes env) e) b)
+      (block_then (kept_of_block env b e)
       (block_then (block_in (own_block env (suc b) e) (omega arith)) (seq_block env (suc (b + width e)) rest) (omega arith) (omega arith))
       (omega arith) (omega arith))
       (omega arith)

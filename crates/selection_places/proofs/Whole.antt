@@ -97,7 +97,7 @@ selected_coded f =
     codes_entry Q from (params_of f) [] [] from_fine to_fine (seats_length 0 first (params_of f)) _
     (codes_select Q env [] (not (is_no_value type)) true _ (suc (suc (value_at f))) f.body
     (λ t r i. in_right (in_right (in_right (in_right (in_right i)))))
-    (params_env Q [] f.params (params_of f) to_fine no_names) no_labels (wants_any Q (type_of (scopes env) f.body) d) [] _
+    (params_env Q [] f.params (params_of f) to_fine no_names) no_labels (wants_any Q env f.body d) [] _
     (codes_returns Q (suc (value_at f)) (result_of type) d gives))
 
 -- ---- each register has a role
