@@ -9,3 +9,4 @@ pub mod News
 pub mod Fresh
 pub mod Weights
 pub mod Small
+pub mod NamedOnes
