@@ -10,3 +10,4 @@ pub mod Fresh
 pub mod Weights
 pub mod Small
 pub mod NamedOnes
+pub mod Opens

@@ -37,11 +37,11 @@ use Rattle.selection_places.specs.Names.{Outside, ASymbol, ACall, Names, RowName
 use Rattle.selection_rules.specs.Instructions as emit
 use Rattle.selection_rules.specs.Select.{Code, Shape, InRegisters, ConstantRight, ConstantLeft, PowerRight, power_code, operator_code, callee_of, tail_result, bound_name, env_after, width, raised_name, shape_of, shape_op, shape_right, unless_left, unless_right, Named, Label, scopes, reg_of, label_of, move_from, move_to, moves_all, exit_to, ordered, only_when, from_seat, symbol_of, unless_symbol, right_of, unless_constant, bound_test, comparison, tested, select_test, is_based, select_base, call_of, regs_of, select, select_waiting, select_filled, select_bound, select_seq, select_cases, select_handlers, deeper, cell_stores, to_seat, selected, first, params_from, with_params, is_no_value, fresh, seats, result_seat}
 
-scopes_params : (n : ℕ) (params : List Parameter) (env : List Named) → scopes (with_params params (params_from n params) env) ≡ with_parameters params (scopes env)
+pub scopes_params : (n : ℕ) (params : List Parameter) (env : List Named) → scopes (with_params params (params_from n params) env) ≡ with_parameters params (scopes env)
 scopes_params n [] env = refl
 scopes_params n (p ∷ params) env = scopes_params (suc n) params _
 
-scopes_after : (env : List Named) (b : ℕ) (bs : Bindings) → scopes (env_after env b bs) ≡ with_bindings (scopes env) bs
+pub scopes_after : (env : List Named) (b : ℕ) (bs : Bindings) → scopes (env_after env b bs) ≡ with_bindings (scopes env) bs
 scopes_after env b NoBinding = refl
 scopes_after env b (Bind at name declared e rest) = scopes_after (bound_name env b name declared e ∷ env) (suc (b + width e)) rest
 
