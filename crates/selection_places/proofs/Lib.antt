@@ -11,3 +11,5 @@ pub mod Weights
 pub mod Small
 pub mod NamedOnes
 pub mod Opens
+pub mod Formed
+pub mod Lacks

@@ -184,7 +184,7 @@ opens_by_values f =
     let same = ap (λ sc. lacking sc f.body) (scopes_params (moved_at f) f.params []) in
     omega (arith, x, same)
 
-fewer : (f : FunctionTree) {k n : ℕ} → k ≤ n → OpenAtMost (selected f) k → OpenAtMost (selected f) n
+pub fewer : (f : FunctionTree) {k n : ℕ} → k ≤ n → OpenAtMost (selected f) k → OpenAtMost (selected f) n
 fewer f le o = record { numbers = o.numbers; few = let x = o.few in omega (arith, x, le); all = o.all }
 
 -- By the tokens of a function whose tokens cover its values: at most two for each token but those of tries, where each

@@ -3,6 +3,7 @@ use Rattle.std.specs.Prelude.{ℕ, ◌+◌, List, [], ◌∷◌, false}
 use Rattle.bs_words.specs.declared.types.Ty.{Ty}
 use Rattle.bs_words.specs.declared.types.Ty.TheVariants as ty
 use Rattle.cmm_tree.specs.Tree.{FunctionTree, Expression, Integer, Pointer, Symbol, Name, Nothing, Float, Let, Assign, Operator, Load, Store, Alloc, App, Extcall, Checkbound, Raise, Seq, If, Switch, Catch, Exit, Try, Expressions, NoMore, More, Bindings, NoBinding, Bind, Cases, NoCase, Choose, Handlers, NoHandler, Handle}
+use Rattle.cmm_tree.specs.Measures.{total}
 use Rattle.cmm_types.specs.Types.{Scoped, type_of, with_bindings, with_parameters}
 
 abbrev pub no_value : Ty → ℕ
@@ -78,3 +79,11 @@ abbrev mutual
 
 abbrev pub lacking_in : FunctionTree → ℕ
 lacking_in f = lacking (with_parameters f.params []) f.body
+
+abbrev pub is_exit : Expression → ℕ
+is_exit (Exit at label_at label arguments) = 1
+is_exit _ = 0
+
+-- the exits in an expression
+abbrev pub exits_in : Expression → ℕ
+exits_in e = total is_exit e
