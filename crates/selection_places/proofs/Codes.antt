@@ -1,6 +1,6 @@
 -- Selected code has that shape, where the registers of its own are of a set.
 use Rattle.std.proofs.Common.{◌≡◌, ℕ, suc, ◌+◌, length, Bool, true, false, not, cond, List, [], ◌∷◌, ◌++◌, Option, Some, None, refl, arith}
-use Rattle.std.specs.Prelude.{bytes_eq, nat_le, ◌%◌}
+use Rattle.std.specs.Prelude.{bytes_eq}
 use Rattle.bs_words.specs.declared.operators.IntOp.{IntOp}
 use Rattle.bs_words.specs.declared.operators.IntOp.TheVariants as operator
 use Rattle.bs_words.specs.declared.types.Chunk.{Chunk}
@@ -9,23 +9,20 @@ use Rattle.bs_words.specs.declared.types.Ret.{Ret}
 use Rattle.bs_words.specs.declared.types.Ret.TheVariants as ret
 use Rattle.bs_words.specs.declared.types.Ty.{Ty}
 use Rattle.bs_words.specs.declared.types.Ty.TheVariants as ty
-use Rattle.cmm_tree.specs.Tree.{LabelTree, same_label, is_bare, Parameter, FunctionTree, Expression, Integer, Pointer, Symbol, Name, Nothing, Float, Let, Assign, Operator, Load, Store, Alloc, App, Extcall, Checkbound, Raise, Seq, If, Switch, Catch, Exit, Try, Expressions, NoMore, More, Bindings, NoBinding, Bind, Cases, NoCase, Choose, Handlers, NoHandler, Handle}
+use Rattle.cmm_tree.specs.Tree.{LabelTree, same_label, is_bare, Parameter, Expression, Integer, Pointer, Symbol, Name, Nothing, Float, Let, Assign, Operator, Load, Store, Alloc, App, Extcall, Checkbound, Raise, Seq, If, Switch, Catch, Exit, Try, Expressions, NoMore, More, Bindings, NoBinding, Bind, Cases, NoCase, Choose, Handlers, NoHandler, Handle}
 use Rattle.cmm_types.specs.Light.{is_light_address}
-use Rattle.cmm_types.specs.Types.{type_of, result_of, body_type}
+use Rattle.cmm_types.specs.Types.{type_of}
 use Rattle.cmm_meaning.specs.Evaluation.{is_left_first}
 use Rattle.mach_ir.specs.declared.mach.Instr.{Instr}
 use Rattle.mach_ir.specs.declared.mach.Mark.{Mark}
-use Rattle.mach_ir.specs.declared.mach.Mark.TheVariants as mark
 use Rattle.mach_ir.specs.declared.mach.Test.{Test}
-use Rattle.mach_ir.specs.declared.mach.Test.TheVariants as test
 use Rattle.mach_ir.specs.declared.op.Right.{Right}
 use Rattle.mach_ir.specs.declared.op.Right.TheVariants as right
 use Rattle.mach_ir.specs.declared.reg.Reg.{Reg}
 use Rattle.selection_rules.specs.Instructions.{bare, right_regs}
-use Rattle.selection_rules.specs.Instructions as emit
-use Rattle.selection_rules.specs.Select.{Code, Shape, InRegisters, ConstantRight, ConstantLeft, PowerRight, shape_of, shape_op, shape_right, shape_args, unless_left, unless_right, power_code, operator_code, Named, Label, scopes, reg_of, label_of, move_from, move_to, moves_all, exit_to, ordered, only_when, seat, result_seat, from_seat, symbol_of, unless_symbol, right_of, unless_constant, bound_test, comparison, tested, select_test, is_based, base_of, offset_of, select_base, call_of, callee_of, callee_regs, tail_result, inner_dest, inner_valued, regs_of, count_of, count_cases, width, width_bound, width_labels, bound_name, env_after, raised_name, select, select_waiting, select_filled, select_bound, select_seq, select_cases, select_handlers, deeper, unless_bare, in_handlers, labels_from, cell_stores, to_seat, selected, first, params_from, with_params, is_no_value, fresh, seats, returns}
-use Rattle.selection_places.proofs.Sets.{Role, Plain, New, Seated, Both, left, right as in_right, One, it, Listed}
-use Rattle.selection_places.proofs.Owned.{dropped, kept, kept_of, Own_drop, Either, LabelsOwn, Own, BaseOwn, RowOwn, BoundOwn, SeqOwn, CasesOwn, HandlersOwn}
+use Rattle.selection_rules.specs.Select.{Code, Shape, InRegisters, ConstantRight, ConstantLeft, PowerRight, shape_of, shape_op, shape_right, shape_args, unless_left, unless_right, power_code, operator_code, Named, Label, scopes, reg_of, label_of, move_from, move_to, moves_all, exit_to, ordered, only_when, seat, result_seat, from_seat, symbol_of, unless_symbol, right_of, unless_constant, bound_test, comparison, tested, select_test, is_based, base_of, select_base, call_of, callee_regs, inner_dest, inner_valued, regs_of, count_of, count_cases, width, width_bound, width_labels, bound_name, env_after, raised_name, select, select_waiting, select_filled, select_bound, select_seq, select_cases, select_handlers, deeper, unless_bare, in_handlers, labels_from, cell_stores, params_from, with_params, fresh, seats, returns}
+use Rattle.selection_places.proofs.Sets.{Role, Plain, New, Seated, left, right as in_right, it, Listed}
+use Rattle.selection_places.proofs.Owned.{dropped, kept, kept_of, Either, LabelsOwn, Own, BaseOwn, RowOwn, BoundOwn, SeqOwn, CasesOwn, HandlersOwn}
 use Rattle.selection_places.proofs.Coded as coded
 use Rattle.selection_places.proofs.Coded.{Member, later, Each, none, one, each_map, each_append, Apart, Reads, reads_plain, reads_new, ReadsSeats, reads, reads_seat, Gives, gives_none, gives_one, Coded, ends, plain, fills, empties, asks, handles, allocs, coded_more, seats_apart}
 

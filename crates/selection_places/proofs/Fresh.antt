@@ -1,17 +1,14 @@
 -- An allocation of selected code writes a register of its own.
-use Rattle.std.proofs.Common.{◌≡◌, ℕ, ◌⊎◌, inl, inr, ⊎_elim, Bool, true, false, ◌&&◌, List, [], ◌∷◌, ◌++◌, refl, sym, ap, ◌∙◌, subst}
-use Rattle.std.specs.Prelude.{◌≢◌, Contains, nat_eq}
+use Rattle.std.proofs.Common.{◌≡◌, ℕ, ◌⊎◌, inl, inr, ⊎_elim, Bool, true, false, List, [], ◌∷◌, ◌++◌, refl, sym, ap, ◌∙◌, subst}
 use Rattle.std.proofs.lemmas.Bool.{true≢false, eq-eqb}
-use Rattle.bs_words.specs.declared.types.Loc.TheVariants as loc
 use Rattle.cmm_tree.specs.Tree.{FunctionTree}
 use Rattle.mach_ir.specs.Meaning.{killed}
-use Rattle.mach_ir.specs.Placed.{AreStraight, colours, IsFresh, AllocatesFresh}
-use Rattle.mach_ir.specs.Walks.{Among, first, later, Writes, IsRegister, is_param, is_colour, is_in_code, Stands, here, below}
+use Rattle.mach_ir.specs.Placed.{colours, IsFresh, AllocatesFresh}
+use Rattle.mach_ir.specs.Walks.{Among, first, later, Writes, IsRegister, Stands, here, below}
 use Rattle.mach_ir.specs.declared.blocks.NewBlock.{NewBlock}
 use Rattle.mach_ir.specs.declared.mach.Instr.{Instr}
 use Rattle.mach_ir.specs.declared.mach.MachOp.{MachOp}
 use Rattle.mach_ir.specs.declared.mach.MachOp.TheVariants as mach
-use Rattle.mach_ir.specs.declared.op.Access.TheVariants as access
 use Rattle.mach_ir.specs.declared.op.Op.TheVariants as op
 use Rattle.mach_ir.specs.declared.reg.Reg.{Reg}
 use Rattle.selection_rules.specs.Instructions as emit
@@ -23,8 +20,8 @@ use Rattle.selection_places.proofs.Coded.{Member, Each, none, one, each_of, each
 use Rattle.selection_places.proofs.News.{makes, NoMark, Distinct, nil, cons, selected_once}
 use Rattle.selection_places.proofs.News as news
 use Rattle.selection_places.proofs.Placed.{new_open}
-use Rattle.selection_places.proofs.Soon.{Found, found, contains_of, among_cases, in_code_args, in_code_results, killed_member}
-use Rattle.selection_places.proofs.Whole.{Whole, whole_block, params_of, HasRole, has, has_role, in_coded, listed_in, member_of, selected_coded, selected_numbers, selected_origin}
+use Rattle.selection_places.proofs.Soon.{found, among_cases, killed_member}
+use Rattle.selection_places.proofs.Whole.{Whole, whole_block, params_of, HasRole, has, has_role, member_of, selected_coded, selected_origin}
 
 -- ---- one allocation for each register
 
@@ -51,7 +48,6 @@ abbrev is_new : Role → Bool
 is_new Plain = false
 is_new New = true
 is_new Seated = false
-
 
 heavy_alloc : (f : MachOp) → is_heavy f ≡ true → is_alloc f ≡ false
 heavy_alloc (mach.Op (op.Pure f)) e = refl

@@ -1,7 +1,6 @@
 -- In a function that the front accepts the only operands that leave no value are exits.
-use Rattle.std.proofs.Common.{◌≡◌, ℕ, ◌+◌, ◌-◌, ◌*◌, ◌<◌, ◌≤◌, false, List, [], ◌∷◌, ◌++◌, length, Option, refl, arith}
+use Rattle.std.proofs.Common.{◌≡◌, ℕ, ◌+◌, ◌-◌, ◌*◌, ◌<◌, ◌≤◌, List, [], ◌++◌, length, Option, refl, arith}
 use Rattle.bs_fault.specs.Reported.{Faults, Both, here, first, second, Faultless}
-use Rattle.bs_fault.specs.declared.fault.Fault.{Fault}
 use Rattle.bs_fault.specs.declared.fault.Fault.TheVariants as fault
 use Rattle.bs_words.specs.declared.types.Ty.{Ty}
 use Rattle.bs_words.specs.declared.types.Ty.TheVariants as ty
@@ -11,8 +10,7 @@ use Rattle.cmm_tree.specs.Symbols.{DefinedSymbol}
 use Rattle.cmm_tree.specs.Tree.{FunctionTree, Expression, Integer, Pointer, Symbol, Name, Nothing, Float, Let, Assign, Operator, Load, Store, Alloc, App, Extcall, Checkbound, Raise, Seq, If, Switch, Catch, Exit, Try, Expressions, NoMore, More, Bindings, NoBinding, Bind, Cases, NoCase, Choose, Handlers, NoHandler, Handle}
 use Rattle.cmm_types.specs.Gathered.{role_faults, function_faults, faults_in, row_faults, bindings_faults, cases_faults, handlers_faults}
 use Rattle.cmm_types.specs.Standing.{Visible, labels_of, lasting_labels_of}
-use Rattle.cmm_types.specs.Types.{Scoped, type_of, with_bindings, with_parameters}
-use Rattle.cmm_types.specs.declared.role.Role.{Role}
+use Rattle.cmm_types.specs.Types.{Scoped, type_of, with_parameters}
 use Rattle.cmm_types.specs.declared.role.Role.TheVariants as role
 use Rattle.mach_ir.specs.Sizes.{OpenAtMost}
 use Rattle.selection_rules.specs.Select.{selected}

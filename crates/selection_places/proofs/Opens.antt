@@ -1,16 +1,16 @@
 -- The open registers of selected code are no more than the values and names of the tree.
-use Rattle.std.proofs.Common.{◌≡◌, ℕ, suc, ◌+◌, ◌-◌, ◌*◌, ◌<◌, ◌≤◌, Bool, true, false, List, [], ◌∷◌, length, refl, sym, ap, ◌∙◌, subst, arith}
+use Rattle.std.proofs.Common.{◌≡◌, ℕ, suc, ◌+◌, ◌-◌, ◌*◌, ◌<◌, ◌≤◌, Bool, true, false, List, [], ◌∷◌, length, refl, ap, arith}
 use Rattle.bs_words.specs.declared.types.Ty.{Ty}
 use Rattle.bs_words.specs.declared.types.Ty.TheVariants as ty
-use Rattle.cmm_tree.specs.Measures.{values_in, all_tries, total, row_total, bindings_total, cases_total, handlers_total, own_values, names_in, params_in}
-use Rattle.cmm_tree.specs.Tree.{Parameter, FunctionTree, Expression, Integer, Pointer, Symbol, Name, Nothing, Float, Let, Assign, Operator, Load, Store, Alloc, App, Extcall, Checkbound, Raise, Seq, If, Switch, Catch, Exit, Try, Expressions, NoMore, More, Bindings, NoBinding, Bind, Cases, NoCase, Choose, Handlers, NoHandler, Handle}
-use Rattle.cmm_types.specs.Types.{Scoped, type_of, with_bindings, with_parameters}
+use Rattle.cmm_tree.specs.Measures.{values_in, all_tries, row_total, bindings_total, cases_total, handlers_total, own_values, names_in, params_in}
+use Rattle.cmm_tree.specs.Tree.{FunctionTree, Expression, Integer, Pointer, Symbol, Name, Nothing, Float, Let, Assign, Operator, Load, Store, Alloc, App, Extcall, Checkbound, Raise, Seq, If, Switch, Catch, Exit, Try, Expressions, NoMore, More, Bindings, NoBinding, Bind, Cases, NoCase, Choose, Handlers, NoHandler, Handle}
+use Rattle.cmm_types.specs.Types.{type_of}
 use Rattle.mach_ir.specs.Sizes.{OpenAtMost}
 use Rattle.selection_rules.specs.Select.{Named, scopes, params_from, with_params, width, width_bound, width_labels, bound_name, env_after, count_of, count_cases, raised_name, is_based, selected}
 use Rattle.selection_laws.specs.Fits.{FunctionFits}
 use Rattle.selection_places.specs.Lacking.{no_value, lacks, lacking, operands_lacking, row_lacking, bound_lacking, cases_lacking, handlers_lacking, lacking_in}
 use Rattle.selection_places.proofs.NamedOnes.{scopes_params, scopes_after}
-use Rattle.selection_places.proofs.Owned.{dropped, kept, kept_of, drops, either, opens, base_opens, row_opens, bound_opens, seq_opens, cases_opens, handlers_opens, count_params}
+use Rattle.selection_places.proofs.Owned.{dropped, kept, kept_of, either, opens, base_opens, row_opens, bound_opens, seq_opens, cases_opens, handlers_opens, count_params}
 use Rattle.selection_places.proofs.Small.{selected_open}
 use Rattle.selection_places.proofs.Whole.{opens_of, moved_at, value_at, env_of}
 

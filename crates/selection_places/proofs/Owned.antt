@@ -1,12 +1,11 @@
 -- The registers that the code of an expression has of its own.
-use Rattle.std.proofs.Common.{◌≡◌, ℕ, suc, ◌+◌, ◌<◌, ◌≤◌, ◌⊎◌, inl, inr, Bool, true, false, List, [], ◌∷◌, length, map, zero, refl, sym, ap, ◌∙◌, arith, le_refl}
+use Rattle.std.proofs.Common.{◌≡◌, ℕ, suc, ◌+◌, inl, inr, Bool, true, false, List, [], ◌∷◌, length, map, zero, refl, sym, ap, ◌∙◌, arith, le_refl}
 use Rattle.std.specs.Prelude.{slice_index_or, Contains}
 use Rattle.std.proofs.lemmas.Bool.{true≢false}
 use Rattle.std.proofs.lemmas.List.Elements.{Contains-append_left}
 use Rattle.bs_words.specs.Fits.{type_of_comp}
 use Rattle.bs_words.specs.declared.types.Comp.{Comp}
 use Rattle.bs_words.specs.declared.types.Comp.TheVariants as comp
-use Rattle.bs_words.specs.declared.types.Loc.{Loc}
 use Rattle.bs_words.specs.declared.types.Loc.TheVariants as loc
 use Rattle.bs_words.specs.declared.types.Ret.{Ret}
 use Rattle.bs_words.specs.declared.types.Ret.TheVariants as ret
@@ -14,12 +13,12 @@ use Rattle.bs_words.specs.declared.types.Ty.{Ty}
 use Rattle.bs_words.specs.declared.types.Ty.TheVariants as ty
 use Rattle.cmm_tree.specs.Tree.{Parameter, Expression, Integer, Pointer, Symbol, Name, Nothing, Float, Let, Assign, Operator, Load, Store, Alloc, App, Extcall, Checkbound, Raise, Seq, If, Switch, Catch, Exit, Try, Expressions, NoMore, More, Bindings, NoBinding, Bind, Cases, NoCase, Choose, Handlers, NoHandler, Handle}
 use Rattle.cmm_types.specs.Types.{type_of}
-use Rattle.cmm_types.proofs.Containing.{contains_none, contains_head, contains_tail}
+use Rattle.cmm_types.proofs.Containing.{contains_head, contains_tail}
 use Rattle.mach_ir.specs.Placed.{colours}
 use Rattle.mach_ir.specs.Seats.{argument_places}
 use Rattle.mach_ir.specs.declared.reg.Reg.{Reg}
 use Rattle.selection_rules.specs.Select.{Named, scopes, fresh, seat, seats, result_seat, params_from, with_params, width, width_row, width_bound, width_labels, width_handlers, width_cases, count_of, count_cases, bound_name, env_after, regs_of, raised_name, is_based, base_of}
-use Rattle.selection_places.proofs.Sets.{Role, Plain, New, Seated, IsColour, PlaceOf, is_seated, Both, left, right, One, it, Listed, Block, block_in, block_few, block_from, block_then, block_one, no_block}
+use Rattle.selection_places.proofs.Sets.{Role, Plain, New, Seated, PlaceOf, is_seated, Both, One, it, Listed, Block, block_in, block_few, block_from, block_then, block_one, no_block}
 
 -- where a node of no value has a part with one, the register for that
 abbrev pub dropped : Ty → ℕ → List Reg

@@ -1,21 +1,18 @@
 -- Fixed places of selected code: those of a function's colours, and of registers that are never live at once.
-use Rattle.std.proofs.Common.{◌≡◌, ℕ, zero, suc, ◌+◌, ◌<◌, ◌≤◌, ◌⊎◌, inl, inr, ⊎_elim, cond, ◌-◌, List, [], ◌∷◌, map, length, refl, sym, ap, ◌∙◌, subst, arith}
-use Rattle.std.specs.Prelude.{◌≢◌, Contains, nat_eq, nat_le}
-use Rattle.bs_words.specs.declared.types.Comp.{Comp}
-use Rattle.bs_words.specs.declared.types.Comp.TheVariants as comp
+use Rattle.std.proofs.Common.{◌≡◌, ℕ, suc, ◌+◌, ◌<◌, ◌≤◌, ◌⊎◌, inl, inr, ⊎_elim, cond, ◌-◌, List, [], ◌∷◌, length, refl, sym, ap, ◌∙◌, subst, arith}
+use Rattle.std.specs.Prelude.{◌≢◌, nat_eq, nat_le}
 use Rattle.bs_words.specs.declared.types.Loc.{Loc}
 use Rattle.bs_words.specs.declared.types.Loc.TheVariants as loc
 use Rattle.cmm_tree.specs.Tree.{FunctionTree}
-use Rattle.mach_ir.specs.Placed.{colours, IsPlaced, in_colour, HasColours, MayShare, PlacesAgree, WellPlaced}
-use Rattle.mach_ir.specs.Walks.{Among, IsRegister, is_param, is_colour, is_in_code, Joined, one_way, other_way, Meets, at_write, at_params}
-use Rattle.mach_ir.specs.declared.mach.Instr.{Instr}
+use Rattle.mach_ir.specs.Placed.{colours, IsPlaced, in_colour, HasColours, PlacesAgree, WellPlaced}
+use Rattle.mach_ir.specs.Walks.{IsRegister, is_param, Joined, one_way, other_way, Meets, at_write, at_params}
 use Rattle.mach_ir.specs.declared.reg.Reg.{Reg}
-use Rattle.selection_rules.specs.Select.{selected, first, seat, seats, colour_regs}
-use Rattle.selection_places.proofs.Sets.{Role, Plain, New, Seated, IsColour, PlaceOf, Block, left, right as in_right, it, Listed}
+use Rattle.selection_rules.specs.Select.{selected, first, seats, colour_regs}
+use Rattle.selection_places.proofs.Sets.{Role, Plain, New, Seated, IsColour, left, right as in_right, it, Listed}
 use Rattle.selection_places.proofs.Coded as coded
 use Rattle.selection_places.proofs.Coded.{Member, later, Each, none, one, each_of, Apart, seats_apart}
 use Rattle.selection_places.proofs.Codes.{onto}
-use Rattle.selection_places.proofs.Soon.{Found, found, contains_of, Suffix, whole, live_soon, soon_in, written_fine}
+use Rattle.selection_places.proofs.Soon.{found, contains_of, whole, live_soon, soon_in, written_fine}
 use Rattle.selection_places.proofs.Whole.{Whole, whole_block, others_block, params_of, HasRole, has, has_role, member_of, selected_coded, selected_numbers}
 
 -- ---- where registers stand
@@ -108,9 +105,40 @@ Ranks n [] = Unit {0}
 Ranks n (c ∷ cs) = (n ≡ number_of c) × Ranks (suc n) cs
 
 ranks : Ranks 0 colours
-ranks =
-    (refl, (refl, (refl, (refl, (refl, (refl, (refl, (refl, (refl, (refl, (refl,
-    (refl, (refl, (refl, (refl, (refl, (refl, (refl, (refl, (refl, (refl, tt)))))))))))))))))))))
+ranks = (
+  refl,
+  (
+    refl,
+    (
+      refl,
+      (
+        refl,
+        (
+          refl,
+          (
+            refl,
+            (
+              refl,
+              (
+                refl,
+                (
+                  refl,
+                  (
+                    refl,
+                    (
+                      refl,
+                      (refl, (refl, (refl, (refl, (refl, (refl, (refl, (refl, (refl, (refl, tt)))))))))),
+                    ),
+                  ),
+                ),
+              ),
+            ),
+          ),
+        ),
+      ),
+    ),
+  ),
+)
 
 numbered : (n : ℕ) (cs : List ℕ) → Ranks n cs → Each (λ (r : Reg). r.number ≡ number_at r.loc) (colour_regs n cs)
 numbered n [] up = none

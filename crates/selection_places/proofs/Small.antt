@@ -1,31 +1,27 @@
 -- How large a selected function is, and how many of its registers are open.
-use Rattle.std.proofs.Common.{◌≡◌, ℕ, zero, suc, ◌+◌, ◌*◌, ◌<◌, ◌≤◌, ◌⊎◌, inl, inr, ⊎_elim, Bool, true, false, List, [], ◌∷◌, map, length, refl, sym, ap, ◌∙◌, subst, arith, le_refl}
+use Rattle.std.proofs.Common.{◌≡◌, ℕ, zero, suc, ◌+◌, ◌*◌, ◌<◌, ◌≤◌, ◌⊎◌, inl, inr, Bool, true, false, List, [], ◌∷◌, map, length, refl, sym, ap, ◌∙◌, subst, arith, le_refl}
 use Rattle.std.specs.Prelude.{◌≢◌, Contains, slice_index_or}
 use Rattle.std.proofs.lemmas.Bool.{true≢false}
-use Rattle.bs_fault.specs.Limits.{most_params}
 use Rattle.bs_words.specs.declared.types.Comp.{Comp}
 use Rattle.bs_words.specs.declared.types.Comp.TheVariants as comp
 use Rattle.bs_words.specs.declared.types.Loc.{Loc}
 use Rattle.bs_words.specs.declared.types.Loc.TheVariants as loc
 use Rattle.bs_words.specs.declared.types.Ret.{Ret}
 use Rattle.bs_words.specs.declared.types.Ret.TheVariants as ret
-use Rattle.bs_words.specs.declared.types.Ty.{Ty}
-use Rattle.bs_words.specs.declared.types.Ty.TheVariants as ty
-use Rattle.cmm_tree.specs.Tree.{Parameter, FunctionTree, Expression, Integer, Pointer, Symbol, Name, Nothing, Float, Let, Assign, Operator, Load, Store, Alloc, App, Extcall, Checkbound, Raise, Seq, If, Switch, Catch, Exit, Try, Expressions, NoMore, More, Bindings, NoBinding, Bind, Cases, NoCase, Choose, Handlers, NoHandler, Handle}
+use Rattle.cmm_tree.specs.Tree.{FunctionTree, Expression, Integer, Pointer, Symbol, Name, Nothing, Float, Let, Assign, Operator, Load, Store, Alloc, App, Extcall, Checkbound, Raise, Seq, If, Switch, Catch, Exit, Try, Expressions, NoMore, More, Bindings, NoBinding, Bind, Cases, NoCase, Choose, Handlers, NoHandler, Handle}
 use Rattle.cmm_types.specs.Faults.{row_length}
 use Rattle.cmm_types.specs.Types.{Scoped, type_of, body_type, result_of}
 use Rattle.mach_ir.specs.Placed.{colours}
-use Rattle.mach_ir.specs.Seats.{argument_places}
 use Rattle.mach_ir.specs.Sizes.{Size, HasSize, OpenAtMost}
 use Rattle.mach_ir.specs.Walks.{IsRegister}
 use Rattle.mach_ir.specs.declared.reg.Reg.{Reg}
 use Rattle.selection_rules.specs.Select.{Named, scopes, selected, first, seat, seats, result_seat, params_from, colour_regs, regs_of, count_of, width, is_based}
 use Rattle.selection_laws.specs.Fits.{HasFew, Fits, RowFits, BindingsFit, CasesFit, HandlersFit, FunctionFits}
-use Rattle.selection_places.proofs.Sets.{Role, Plain, New, Seated, IsColour, Block, is_seated, Both, left, right as in_right, One, it, Listed}
-use Rattle.selection_places.proofs.Owned.{dropped, kept_of, Own_drop, Own, BaseOwn, RowOwn, BoundOwn, SeqOwn, CasesOwn, HandlersOwn, LabelsOwn, Either, opens, regs_length}
+use Rattle.selection_places.proofs.Sets.{Role, Plain, New, Seated, IsColour, Block, is_seated, left, right as in_right, One, it, Listed}
+use Rattle.selection_places.proofs.Owned.{dropped, kept_of, Own_drop, Own, BaseOwn, RowOwn, BoundOwn, SeqOwn, CasesOwn, HandlersOwn, LabelsOwn, Either, regs_length}
 use Rattle.selection_places.proofs.Placed.{selected_stands}
-use Rattle.selection_places.proofs.Weights.{weight, instrs_weigh, operands_weigh, selected_weight}
-use Rattle.selection_places.proofs.Whole.{Whole, whole_block, opens_of, params_of, moved_at, value_at, env_of, params_length, HasRole, has, has_role, selected_origin}
+use Rattle.selection_places.proofs.Weights.{instrs_weigh, operands_weigh, selected_weight}
+use Rattle.selection_places.proofs.Whole.{Whole, whole_block, opens_of, params_of, moved_at, env_of, params_length, HasRole, has, has_role, selected_origin}
 
 -- ---- sizes
 

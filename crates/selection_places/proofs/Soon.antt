@@ -1,24 +1,22 @@
 -- Where a register with a fixed place is live in selected code: from the moves that fill such places on to what reads them.
-use Rattle.std.proofs.Common.{◌≡◌, ℕ, suc, ◌+◌, ◌⊎◌, inl, inr, ⊎_elim, Bool, true, false, cond, not, ◌&&◌, ◌||◌, List, [], ◌∷◌, ◌++◌, refl, sym, ap, ◌∙◌, subst, arith}
-use Rattle.std.specs.Prelude.{◌≢◌, Contains, nat_eq}
-use Rattle.std.proofs.lemmas.Bool.{true≢false, cases_Bool, eq-eqb}
+use Rattle.std.proofs.Common.{◌≡◌, ℕ, ◌⊎◌, inl, inr, ⊎_elim, Bool, true, false, cond, not, ◌&&◌, ◌||◌, List, [], ◌∷◌, ◌++◌, refl, sym, ap, ◌∙◌, subst}
+use Rattle.std.specs.Prelude.{◌≢◌, Contains}
+use Rattle.std.proofs.lemmas.Bool.{true≢false, eq-eqb}
 use Rattle.bs_words.specs.declared.types.Loc.{Loc}
 use Rattle.bs_words.specs.declared.types.Loc.TheVariants as loc
 use Rattle.cmm_types.proofs.Containing.{contains_head, contains_tail}
-use Rattle.mach_ir.specs.Acts.{Target, On, At}
-use Rattle.mach_ir.specs.Meaning.{Destroyed, Nothing, Temporaries, Everything, is_destroyed, same_colour, is_at_one_of, killed_among, killed_by, killed, destroyed_by, written, has_label, is_handler_of, after_label, from_handler, code_at}
-use Rattle.mach_ir.specs.Walks.{Among, first, later, Leads, goes, Raises, raises, Live, read, on, aside, LiveAfter, after_step, Writes, InCode, in_args, in_results, further, IsRegister, is_param, is_colour, is_in_code, Stands, here, below, Meets, at_write, at_params}
+use Rattle.mach_ir.specs.Acts.{On, At}
+use Rattle.mach_ir.specs.Meaning.{Destroyed, Nothing, Temporaries, Everything, is_destroyed, same_colour, is_at_one_of, killed_among, killed_by, killed, destroyed_by, has_label, is_handler_of, after_label, from_handler}
+use Rattle.mach_ir.specs.Walks.{Among, first, later, Leads, goes, raises, Live, read, on, aside, LiveAfter, after_step, Writes, InCode, in_args, in_results, further, IsRegister, is_colour, is_in_code, Stands, here, below}
 use Rattle.mach_ir.specs.declared.mach.Instr.{Instr}
 use Rattle.mach_ir.specs.declared.mach.Mach.{Mach}
-use Rattle.mach_ir.specs.declared.mach.Mark.TheVariants as mark
 use Rattle.mach_ir.specs.declared.mach.MachOp.{MachOp}
 use Rattle.mach_ir.specs.declared.mach.MachOp.TheVariants as mach
-use Rattle.mach_ir.specs.declared.op.Calling.TheVariants as calling
 use Rattle.mach_ir.specs.declared.op.Op.TheVariants as op
 use Rattle.mach_ir.specs.declared.reg.Reg.{Reg}
 use Rattle.selection_rules.specs.Instructions as emit
 use Rattle.selection_laws.proofs.WellFormed.{NumbersTell}
-use Rattle.selection_places.proofs.Sets.{Role, Plain, New, Seated, IsColour}
+use Rattle.selection_places.proofs.Sets.{Role, Plain, New, IsColour}
 use Rattle.selection_places.proofs.Coded as coded
 use Rattle.selection_places.proofs.Coded.{Member, Each, none, one, each_of, is_heavy, Apart, Reads, reads_plain, reads_new, ReadsSeats, reads, reads_seat, Gives, gives_none, gives_one, Coded, ends, plain, fills, empties, asks, handles, allocs}
 

@@ -1,25 +1,25 @@
 -- The registers of a selected function: a number tells each, and it is its origin.
-use Rattle.std.proofs.Common.{◌≡◌, ℕ, suc, ◌+◌, ◌<◌, ◌≤◌, ◌⊎◌, inl, inr, not, true, List, [], ◌∷◌, map, length, Option, Some, refl, sym, ap, ◌∙◌, subst, arith, le_refl}
+use Rattle.std.proofs.Common.{◌≡◌, ℕ, suc, ◌+◌, ◌⊎◌, inl, inr, not, true, List, [], ◌∷◌, length, Option, Some, refl, sym, ap, ◌∙◌, subst, arith}
 use Rattle.std.specs.Prelude.{Contains}
 use Rattle.bs_words.specs.declared.types.Comp.TheVariants as comp
 use Rattle.bs_words.specs.declared.types.Loc.TheVariants as loc
 use Rattle.bs_words.specs.declared.types.Ty.{Ty}
 use Rattle.cmm_tree.specs.Tree.{Parameter, FunctionTree}
 use Rattle.cmm_types.proofs.Containing.{contains_none, contains_cases, contains_head, contains_tail}
-use Rattle.cmm_types.specs.Types.{body_type, result_of, type_of}
+use Rattle.cmm_types.specs.Types.{body_type, result_of}
 use Rattle.mach_ir.specs.Keeps.{OriginsAgree}
 use Rattle.mach_ir.specs.Meaning.{Held, State}
 use Rattle.mach_ir.specs.Placed.{colours}
-use Rattle.mach_ir.specs.Walks.{Live, Among, InCode, in_args, in_results, further, IsRegister, is_param, is_colour, is_in_code}
+use Rattle.mach_ir.specs.Walks.{InCode, in_args, in_results, further, IsRegister, is_param, is_colour, is_in_code}
 use Rattle.mach_ir.specs.declared.mach.Instr.{Instr}
 use Rattle.mach_ir.specs.declared.reg.Reg.{Reg}
-use Rattle.selection_rules.specs.Select.{Named, scopes, selected, first, params_from, with_params, is_no_value, fresh, seats, result_seat, returns, select, moves_all, colour_regs, width}
+use Rattle.selection_rules.specs.Select.{Named, selected, first, params_from, with_params, is_no_value, fresh, seats, result_seat, colour_regs}
 use Rattle.selection_laws.proofs.WellFormed.{NumbersTell}
-use Rattle.selection_places.proofs.Sets.{Role, Plain, New, Seated, IsColour, PlaceOf, Both, left, right as in_right, One, it, Listed, Block, block_in, block_few, block_then, no_block}
+use Rattle.selection_places.proofs.Sets.{Role, Plain, New, Seated, Both, left, right as in_right, One, it, Listed, Block, block_in, block_few, block_then, no_block}
 use Rattle.selection_places.proofs.Owned.{Own, opens, own_block, params_block, seats_block, result_block, block_seated, fresh_block}
 use Rattle.selection_places.proofs.Coded as coded
 use Rattle.selection_places.proofs.Coded.{Member, later, Each, none, one, each_of, each_map, Reads, reads_plain, reads_new, ReadsSeats, reads, reads_seat, Gives, gives_none, gives_one, Coded, ends, plain, fills, empties, asks, handles, allocs}
-use Rattle.selection_places.proofs.Codes.{onto, EnvFine, no_names, LabelsFine, no_labels, codes_select, codes_entry, codes_returns, params_env, listed, wants_any}
+use Rattle.selection_places.proofs.Codes.{onto, no_names, no_labels, codes_select, codes_entry, codes_returns, params_env, listed, wants_any}
 
 -- ---- the parts of a function
 
