@@ -69,10 +69,13 @@ module _ (Q : Role → Reg → Type 0) where
   -- Code before which no seats but these are filled, and no registers of new blocks written but those.
   pub data Coded : List Reg → List Reg → List Instr → Type 0 where
     ends : {P : List Reg} → Coded [] P []
-    plain : {P : List Reg} {i : Instr} {next : List Instr} → Each (Reads P) i.args → Each (Q Plain) i.results → is_alloc i.op ≡ false → Coded [] P next → Coded [] P (i ∷ next)
-    fills : {S P : List Reg} {a d : Reg} {next : List Instr} → Reads P a → Q Seated d → Each (Apart d) S → Coded (d ∷ S) P next → Coded S P (emit.move a d ∷ next)
+    plain : {P : List Reg} {i : Instr} {next : List Instr} → Each (Reads P) i.args → Each (Q Plain) i.results → is_alloc i.op ≡ false → Coded [] P next →
+        Coded [] P (i ∷ next)
+    fills : {S P : List Reg} {a d : Reg} {next : List Instr} → Reads P a → Q Seated d → Each (Apart d) S → Coded (d ∷ S) P next → Coded S P
+        (emit.move a d ∷ next)
     empties : {S P : List Reg} {s d : Reg} {next : List Instr} → Q Seated s → Q Plain d → Coded S P next → Coded (s ∷ S) P (emit.move s d ∷ next)
-    asks : {S G P : List Reg} {i : Instr} {next : List Instr} → Each (ReadsSeats P S) i.args → Gives i G → is_heavy i.op ≡ true → Coded G P next → Coded S P (i ∷ next)
+    asks : {S G P : List Reg} {i : Instr} {next : List Instr} → Each (ReadsSeats P S) i.args → Gives i G → is_heavy i.op ≡ true → Coded G P next → Coded S P
+        (i ∷ next)
     handles : {P : List Reg} {l : ℕ} {y : Reg} {next : List Instr} → Q Seated y → Coded (y ∷ []) P next → Coded [] P (emit.handler l y ∷ next)
     allocs : {P : List Reg} {p : Reg} {block : NewBlock} {next : List Instr} → Q New p → Coded [] (p ∷ P) next → Coded [] P (emit.alloc block p ∷ next)
 
@@ -115,7 +118,8 @@ machine e = cc
 no_place : {n : ℕ} → loc.Machine n ≡ loc.Unset → ⊥
 no_place e = cc
 
-above : (n : ℕ) (ns : List ℕ) → Ascends n ns → (i : ℕ) → (slice_index_or (map loc.Machine ns) i loc.Unset ≡ loc.Unset) ⊎ Above n (slice_index_or (map loc.Machine ns) i loc.Unset)
+above : (n : ℕ) (ns : List ℕ) → Ascends n ns → (i : ℕ) → (slice_index_or (map loc.Machine ns) i loc.Unset ≡ loc.Unset) ⊎ Above n
+    (slice_index_or (map loc.Machine ns) i loc.Unset)
 above n [] up i = inl refl
 above n (m ∷ ms) up zero = inr (record { colour = m; more = up.0; is = refl })
 above n (m ∷ ms) up (suc i) = by (above m ms up.1 i)
@@ -124,7 +128,8 @@ above n (m ∷ ms) up (suc i) = by (above m ms up.1 i)
     by (inl e) = inl e
     by (inr a) = let less = a.more in let low = up.0 in inr (record { colour = a.colour; more = omega (arith, less, low); is = a.is })
 
-places_apart : (n : ℕ) (ns : List ℕ) → Ascends n ns → (i j : ℕ) → i < j → slice_index_or (map loc.Machine ns) j loc.Unset ≡ slice_index_or (map loc.Machine ns) i loc.Unset →
+places_apart : (n : ℕ) (ns : List ℕ) → Ascends n ns → (i j : ℕ) → i < j → slice_index_or (map loc.Machine ns) j loc.Unset ≡ slice_index_or
+    (map loc.Machine ns) i loc.Unset →
     slice_index_or (map loc.Machine ns) i loc.Unset ≡ loc.Unset
 places_apart n [] up i j less e = refl
 places_apart n (m ∷ ms) up zero zero less e = absurd (omega (arith, less))

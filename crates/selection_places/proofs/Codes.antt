@@ -141,9 +141,11 @@ module _ (Q : Role → Reg → Type 0) where
   bound_env : (env : List Named) (b : ℕ) (bs : Bindings) → Within (BoundOwn env b bs) → EnvFine env → EnvFine (env_after env b bs)
   bound_env env b NoBinding own fine = fine
   bound_env env b (Bind at name declared e rest) own fine =
-      bound_env (bound_name env b name declared e ∷ env) (suc (b + width e)) rest (λ t r i. own t r (in_right (in_right i))) (named (own Plain _ (left (it refl refl))) fine)
+      bound_env (bound_name env b name declared e ∷ env) (suc (b + width e)) rest (λ t r i. own t r (in_right (in_right i)))
+      (named (own Plain _ (left (it refl refl))) fine)
 
-  handler_params : (b : ℕ) (at : ℕ) (label : LabelTree) (params : List Parameter) (body : Expression) (rest : Handlers) → Within (LabelsOwn b (Handle at label params body rest)) → Each (Q Plain) (params_from (suc b) params)
+  handler_params : (b : ℕ) (at : ℕ) (label : LabelTree) (params : List Parameter) (body : Expression) (rest : Handlers) → Within
+      (LabelsOwn b (Handle at label params body rest)) → Each (Q Plain) (params_from (suc b) params)
   handler_params b at label params body rest own = listed Plain (params_from (suc b) params) (λ t r i. own t r (left i))
 
   -- ---- pieces
@@ -168,7 +170,8 @@ module _ (Q : Role → Reg → Type 0) where
   codes_exit no_label from P next z = z
   codes_exit (a_label to) from P next z = codes_moves from to P _ (plain none none refl z)
 
-  codes_cells : (k : Chunk) (p : Reg) (i : ℕ) {rs : List Reg} → Each (Q Plain) rs → (P : List Reg) (next : List Instr) → Reads Q P p → Coded Q [] P next → Coded Q [] P (cell_stores k p i rs next)
+  codes_cells : (k : Chunk) (p : Reg) (i : ℕ) {rs : List Reg} → Each (Q Plain) rs → (P : List Reg) (next : List Instr) → Reads Q P p → Coded Q [] P next →
+      Coded Q [] P (cell_stores k p i rs next)
   codes_cells k p i none P next q z = z
   codes_cells k p i (one r rs) P next q z = plain (one q (one (reads_plain r) none)) none refl (codes_cells k p (suc i) rs P next q z)
 
@@ -184,7 +187,8 @@ module _ (Q : Role → Reg → Type 0) where
   codes_constant right.Register code e P next z = e P next z
   codes_constant (right.Constant w) code e P next z = z
 
-  codes_tested : {P : List Reg} (o : Option Test) (fused : Test → List Instr) (value : List Instr) → ((t : Test) → Coded Q [] P (fused t)) → Coded Q [] P value → Coded Q [] P (tested o fused value)
+  codes_tested : {P : List Reg} (o : Option Test) (fused : Test → List Instr) (value : List Instr) → ((t : Test) → Coded Q [] P (fused t)) →
+      Coded Q [] P value → Coded Q [] P (tested o fused value)
   codes_tested (Some t) fused value f v = f t
   codes_tested None fused value f v = v
 
@@ -212,7 +216,8 @@ module _ (Q : Role → Reg → Type 0) where
 
   codes_power : (f : IntOp) (k : ℕ) {x y d : Reg} → Q Plain x → Q Plain y → Q Plain d → Codes (power_code f k x y d)
   codes_power operator.Div k x y d P next z =
-      plain (a_plain x) (one y none) refl (plain (a_plain y) (one y none) refl (plain (two_plain x y) (one y none) refl (plain (a_plain y) (one d none) refl z)))
+      plain (a_plain x) (one y none) refl (plain (a_plain y) (one y none) refl
+      (plain (two_plain x y) (one y none) refl (plain (a_plain y) (one d none) refl z)))
   codes_power f k x y d P next z =
       plain (a_plain x) (one y none) refl (plain (a_plain y) (one y none) refl (plain (two_plain x y) (one y none) refl
       (plain (a_plain y) (one y none) refl (plain (a_plain y) (one y none) refl (plain (two_plain x y) (one d none) refl z)))))
@@ -241,16 +246,19 @@ module _ (Q : Role → Reg → Type 0) where
   all_seats rs q = seat_reads q rs (members rs)
 
   -- the operands of a call go to their seats
-  codes_seated : (i n : ℕ) (rs : List Reg) → Each (Q Plain) rs → Each (Q Seated) (seats i n rs) → (P : List Reg) (next : List Instr) → Coded Q (seats i n rs) P next → Coded Q [] P (moves_all rs (seats i n rs) next)
+  codes_seated : (i n : ℕ) (rs : List Reg) → Each (Q Plain) rs → Each (Q Seated) (seats i n rs) → (P : List Reg) (next : List Instr) → Coded Q
+      (seats i n rs) P next → Coded Q [] P (moves_all rs (seats i n rs) next)
   codes_seated i n [] q s P next z = z
   codes_seated i n (r ∷ rs) (one q qs) (one s ss) P next z =
       codes_seated (suc i) (suc n) rs qs ss P _ (fills (reads_plain q) s (seats_apart i n r.comp (suc i) (suc n) rs (omega arith)) z)
 
-  codes_given : (n : ℕ) (result : Ret) {d : Reg} → Each (Q Seated) (result_seat n result) → Q Plain d → (P : List Reg) (next : List Instr) → Coded Q [] P next → Coded Q (result_seat n result) P (from_seat n result d next)
+  codes_given : (n : ℕ) (result : Ret) {d : Reg} → Each (Q Seated) (result_seat n result) → Q Plain d → (P : List Reg) (next : List Instr) →
+      Coded Q [] P next → Coded Q (result_seat n result) P (from_seat n result d next)
   codes_given n ret.Unit none q P next z = z
   codes_given n (ret.Comp c) (one s none) q P next z = empties s q z
 
-  gives_result : (n : ℕ) (result : Ret) {i : Instr} → Each (Q Seated) (result_seat n result) → i.results ≡ result_seat n result → Gives Q i (result_seat n result)
+  gives_result : (n : ℕ) (result : Ret) {i : Instr} → Each (Q Seated) (result_seat n result) → i.results ≡ result_seat n result → Gives Q i
+      (result_seat n result)
   gives_result n ret.Unit none e = gives_none e
   gives_result n (ret.Comp c) (one s none) e = gives_one e s
 
@@ -258,17 +266,24 @@ module _ (Q : Role → Reg → Type 0) where
   callee_plain (Some name) q = none
   callee_plain None q = one (reads (reads_plain q)) none
 
-  codes_call : (tail valued : Bool) (result : Ret) (o : Option (List ℕ)) {f d : Reg} (S : List Reg) (n : ℕ) → Q Plain f → Each (Q Seated) S → Each (Q Seated) (result_seat n result) → Q Plain d →
+  codes_call : (tail valued : Bool) (result : Ret) (o : Option (List ℕ)) {f d : Reg} (S : List Reg) (n : ℕ) → Q Plain f → Each (Q Seated) S → Each
+      (Q Seated) (result_seat n result) → Q Plain d →
       (P : List Reg) (next : List Instr) → Coded Q [] P next → Coded Q S P (call_of tail valued result o f S n d next)
   codes_call true valued result o S n f s g d P next z = asks (each_append (callee_plain o f) (all_seats S s)) (gives_none refl) refl z
-  codes_call false valued result o S n f s g d P next z = asks (each_append (callee_plain o f) (all_seats S s)) (gives_result n result g refl) refl (codes_given n result g d P next z)
+  codes_call false valued result o S n f s g d P next z = asks (each_append (callee_plain o f) (all_seats S s)) (gives_result n result g refl) refl
+      (codes_given n result g d P next z)
 
   mutual
-    pub codes_select : (env : List Named) (labels : List Label) (valued tail : Bool) (d : Reg) (b : ℕ) (e : Expression) → Within (Own env b e) → EnvFine env → LabelsFine labels → WantsOf env e d → Codes (select env labels valued tail d b e)
-    codes_select env labels valued tail d b (Integer at w) own names ls wants P next z = plain none (one (inner_plain (type_of (scopes env) (Integer at w)) b d own wants) none) refl z
-    codes_select env labels valued tail d b (Pointer at w) own names ls wants P next z = plain none (one (inner_plain (type_of (scopes env) (Pointer at w)) b d own wants) none) refl z
-    codes_select env labels valued tail d b (Symbol at name) own names ls wants P next z = plain none (one (inner_plain (type_of (scopes env) (Symbol at name)) b d own wants) none) refl z
-    codes_select env labels valued tail d b (Name at x) own names ls wants P next z = codes_from (reg_fine names x) (inner_plain (type_of (scopes env) (Name at x)) b d own wants) P next z
+    pub codes_select : (env : List Named) (labels : List Label) (valued tail : Bool) (d : Reg) (b : ℕ) (e : Expression) → Within (Own env b e) →
+        EnvFine env → LabelsFine labels → WantsOf env e d → Codes (select env labels valued tail d b e)
+    codes_select env labels valued tail d b (Integer at w) own names ls wants P next z = plain none
+        (one (inner_plain (type_of (scopes env) (Integer at w)) b d own wants) none) refl z
+    codes_select env labels valued tail d b (Pointer at w) own names ls wants P next z = plain none
+        (one (inner_plain (type_of (scopes env) (Pointer at w)) b d own wants) none) refl z
+    codes_select env labels valued tail d b (Symbol at name) own names ls wants P next z = plain none
+        (one (inner_plain (type_of (scopes env) (Symbol at name)) b d own wants) none) refl z
+    codes_select env labels valued tail d b (Name at x) own names ls wants P next z = codes_from (reg_fine names x)
+        (inner_plain (type_of (scopes env) (Name at x)) b d own wants) P next z
     codes_select env labels valued tail d b (Nothing at) own names ls wants P next z = z
     codes_select env labels valued tail d b (Float at word_at operands) own names ls wants P next z = z
     codes_select env labels valued tail d b (Let at bindings body) own names ls wants P next z =
@@ -276,11 +291,13 @@ module _ (Q : Role → Reg → Type 0) where
         let d' = inner_plain type b d (λ t r i. own t r (left i)) wants in
         let bound : Within (BoundOwn env (suc b) bindings) = λ t r i. own t r (in_right (left i)) in
         codes_bound env labels (suc b) bindings bound names ls P _
-        (codes_select (env_after env (suc b) bindings) labels (inner_valued valued type) tail _ (suc b + width_bound bindings) body (λ t r i. own t r (in_right (in_right i))) (bound_env env (suc b) bindings bound names) ls
+        (codes_select (env_after env (suc b) bindings) labels (inner_valued valued type) tail _ (suc b + width_bound bindings) body
+        (λ t r i. own t r (in_right (in_right i))) (bound_env env (suc b) bindings bound names) ls
         (wants_any (env_after env (suc b) bindings) body d') P next z)
     codes_select env labels valued tail d b (Assign at name_at name e) own names ls wants P next z =
         let t = own Plain _ (left (it refl refl)) in
-        codes_select env labels false false _ (suc (suc b)) e (λ t r i. own t r (in_right i)) names ls (wants_any env e t) P _ (codes_to t (reg_fine names name) P next z)
+        codes_select env labels false false _ (suc (suc b)) e (λ t r i. own t r (in_right i)) names ls (wants_any env e t) P _
+        (codes_to t (reg_fine names name) P next z)
     codes_select env labels valued tail d b (Operator at op e g) own names ls wants P next z =
         let s = shape_of op e g in
         let type = type_of (scopes env) (Operator at op e g) in
@@ -288,8 +305,10 @@ module _ (Q : Role → Reg → Type 0) where
         let x = own Plain _ (in_right (left (it refl refl))) in
         let y = own Plain _ (in_right (in_right (left (it refl refl)))) in
         codes_ordered (is_left_first (scopes env) e g) _ _
-        (codes_left s _ (codes_select env labels false false _ (suc (suc (suc b))) e (λ t r i. own t r (in_right (in_right (in_right (left i))))) names ls (wants_any env e x)))
-        (codes_right s _ (codes_select env labels false false _ (suc (suc (suc b)) + width e) g (λ t r i. own t r (in_right (in_right (in_right (in_right i))))) names ls (wants_any env g y))) P _
+        (codes_left s _ (codes_select env labels false false _ (suc (suc (suc b))) e (λ t r i. own t r (in_right (in_right (in_right (left i))))) names ls
+        (wants_any env e x)))
+        (codes_right s _ (codes_select env labels false false _ (suc (suc (suc b)) + width e) g
+        (λ t r i. own t r (in_right (in_right (in_right (in_right i))))) names ls (wants_any env g y))) P _
         (codes_operator s op x y d' P next z)
     codes_select env labels valued tail d b (App at callee arguments result result_at) own names ls wants P next z =
         let type = type_of (scopes env) (App at callee arguments result result_at) in
@@ -303,8 +322,10 @@ module _ (Q : Role → Reg → Type 0) where
         let regs : Within (Listed Plain (regs_of env row arguments)) = λ t r i. own t r (in_right (in_right (left i))) in
         let places = listed Seated (seats 0 seated (regs_of env row arguments)) (λ t r i. own t r (in_right (in_right (in_right (left i))))) in
         let gives = listed Seated (result_seat given result) (λ t r i. own t r (in_right (in_right (in_right (in_right (left i)))))) in
-        let code = codes_select env labels false false _ base callee (λ t r i. own t r (in_right (in_right (in_right (in_right (in_right (left i))))))) names ls (wants_any env callee f) in
-        let operands : Within (RowOwn env (base + width callee) arguments) = λ t r i. own t r (in_right (in_right (in_right (in_right (in_right (in_right i)))))) in
+        let code = codes_select env labels false false _ base callee (λ t r i. own t r
+        (in_right (in_right (in_right (in_right (in_right (left i))))))) names ls (wants_any env callee f) in
+        let operands : Within (RowOwn env (base + width callee) arguments) = λ t r i. own t r
+        (in_right (in_right (in_right (in_right (in_right (in_right i)))))) in
         codes_waiting env labels row (base + width callee) arguments operands regs names ls P _
         (codes_when (not light) _ (codes_unless (symbol_of callee) _ code) P _
         (codes_filled env labels row (base + width callee) arguments operands regs names ls P _
@@ -324,7 +345,8 @@ module _ (Q : Role → Reg → Type 0) where
         codes_waiting env labels row (suc given) arguments operands regs names ls P _
         (codes_filled env labels row (suc given) arguments operands regs names ls P _
         (codes_seated 0 seated (regs_of env row arguments) (listed Plain (regs_of env row arguments) regs) places P _
-        (asks (all_seats (seats 0 seated (regs_of env row arguments)) places) (gives_result given result gives refl) refl (codes_given given result gives d' P next z))))
+        (asks (all_seats (seats 0 seated (regs_of env row arguments)) places) (gives_result given result gives refl) refl
+        (codes_given given result gives d' P next z))))
     codes_select env labels valued tail d b (Seq at elements) own names ls wants P next z =
         let type = type_of (scopes env) (Seq at elements) in
         let d' = inner_plain type b d (λ t r i. own t r (left i)) wants in
@@ -335,9 +357,12 @@ module _ (Q : Role → Reg → Type 0) where
         let x = own Plain _ (in_right (left (it refl refl))) in
         let base = suc (suc (suc (suc b))) in
         let test : Within (Own env base condition) = λ t r i. own t r (in_right (in_right (left i))) in
-        let others = plain none none refl (codes_select env labels (inner_valued valued type) tail _ (base + width condition + width e) g (λ t r i. own t r (in_right (in_right (in_right (in_right i))))) names ls (wants_any env g d') P _ (plain none none refl z)) in
-        let both = codes_select env labels (inner_valued valued type) tail _ (base + width condition) e (λ t r i. own t r (in_right (in_right (in_right (left i))))) names ls (wants_any env e d') P _ others in
-        codes_test env labels (suc (suc b)) base condition test names ls P _ _ (codes_select env labels false false _ base condition test names ls (wants_any env condition x) P _ (plain (a_plain x) none refl both)) both
+        let others = plain none none refl (codes_select env labels (inner_valued valued type) tail _ (base + width condition + width e) g
+        (λ t r i. own t r (in_right (in_right (in_right (in_right i))))) names ls (wants_any env g d') P _ (plain none none refl z)) in
+        let both = codes_select env labels (inner_valued valued type) tail _ (base + width condition) e
+        (λ t r i. own t r (in_right (in_right (in_right (left i))))) names ls (wants_any env e d') P _ others in
+        codes_test env labels (suc (suc b)) base condition test names ls P _ _
+        (codes_select env labels false false _ base condition test names ls (wants_any env condition x) P _ (plain (a_plain x) none refl both)) both
     codes_select env labels valued tail d b (Catch at body handlers) own names ls wants P next z =
         let type = type_of (scopes env) (Catch at body handlers) in
         let d' = inner_plain type b d (λ t r i. own t r (left i)) wants in
@@ -345,8 +370,10 @@ module _ (Q : Role → Reg → Type 0) where
         let params : Within (LabelsOwn (suc (suc b)) handlers) = λ t r i. own t r (in_right (left i)) in
         let inner = labels_own (suc (suc b)) handlers params in
         plain none none refl
-        (codes_select env _ (inner_valued valued type) tail _ base body (λ t r i. own t r (in_right (in_right (left i)))) names (labels_append inner ls) (wants_any env body d') P _
-        (codes_handlers env _ (inner_valued valued type) tail _ (suc b) (suc (suc b)) (base + width body) handlers (λ t r i. own t r (in_right (in_right (in_right i)))) params names (labels_append (labels_inside inner) ls) d' P _ (plain none none refl z)))
+        (codes_select env _ (inner_valued valued type) tail _ base body (λ t r i. own t r (in_right (in_right (left i)))) names (labels_append inner ls)
+        (wants_any env body d') P _
+        (codes_handlers env _ (inner_valued valued type) tail _ (suc b) (suc (suc b)) (base + width body) handlers
+        (λ t r i. own t r (in_right (in_right (in_right i)))) params names (labels_append (labels_inside inner) ls) d' P _ (plain none none refl z)))
     codes_select env labels valued tail d b (Exit at label_at label arguments) own names ls wants P next z =
         let regs : Within (Listed Plain (regs_of env (suc b) arguments)) = λ t r i. own t r (left i) in
         let operands : Within (RowOwn env (suc b + count_of arguments) arguments) = λ t r i. own t r (in_right i) in
@@ -384,14 +411,16 @@ module _ (Q : Role → Reg → Type 0) where
         codes_ordered (is_left_first (scopes env) address e) _ _
         (codes_base env labels (suc b) (suc (suc (suc b))) address x (λ t r i. own t r (in_right (in_right (left i)))) names ls
         (λ inside v. codes_select env labels false false _ (suc (suc (suc b))) address inside names ls (wants_any env address v)))
-        (codes_select env labels false false _ (suc (suc (suc b)) + width address) e (λ t r i. own t r (in_right (in_right (in_right i)))) names ls (wants_any env e y)) P _
+        (codes_select env labels false false _ (suc (suc (suc b)) + width address) e (λ t r i. own t r (in_right (in_right (in_right i)))) names ls
+        (wants_any env e y)) P _
         (plain (two_plain x y) none refl z)
     codes_select env labels valued tail d b (Checkbound at e g) own names ls wants P next z =
         let x = own Plain _ (left (it refl refl)) in
         let y = own Plain _ (in_right (left (it refl refl))) in
         codes_ordered (is_left_first (scopes env) e g) _ _
         (codes_select env labels false false _ (suc (suc (suc b))) e (λ t r i. own t r (in_right (in_right (left i)))) names ls (wants_any env e x))
-        (codes_constant (right_of bound_test g) _ (codes_select env labels false false _ (suc (suc (suc b)) + width e) g (λ t r i. own t r (in_right (in_right (in_right i)))) names ls (wants_any env g y))) P _
+        (codes_constant (right_of bound_test g) _ (codes_select env labels false false _ (suc (suc (suc b)) + width e) g
+        (λ t r i. own t r (in_right (in_right (in_right i)))) names ls (wants_any env g y))) P _
         (plain (right_plain (right_of bound_test g) x y) none refl z)
     codes_select env labels valued tail d b (Raise at e) own names ls wants P next z =
         let x = own Plain _ (left (it refl refl)) in
@@ -405,7 +434,8 @@ module _ (Q : Role → Reg → Type 0) where
         let base = suc (suc (suc b)) + count_cases cases in
         codes_select env labels false false _ base selector (λ t r i. own t r (in_right (in_right (left i)))) names ls (wants_any env selector x) P _
         (plain (a_plain x) none refl
-        (codes_cases env labels (inner_valued valued type) tail _ _ (suc (suc b)) (suc (suc (suc b))) (base + width selector) cases (λ t r i. own t r (in_right (in_right (in_right i)))) names ls d' P _ (plain none none refl z)))
+        (codes_cases env labels (inner_valued valued type) tail _ _ (suc (suc b)) (suc (suc (suc b))) (base + width selector) cases
+        (λ t r i. own t r (in_right (in_right (in_right i)))) names ls d' P _ (plain none none refl z)))
     codes_select env labels valued tail d b (Try at body name_at name handler) own names ls wants P next z =
         let type = type_of (scopes env) (Try at body name_at name handler) in
         let d' = inner_plain type b d (λ t r i. own t r (left i)) wants in
@@ -413,65 +443,84 @@ module _ (Q : Role → Reg → Type 0) where
         let y = own Seated (seat 0 (suc (suc (suc (suc b)))) comp.Val) (in_right (in_right (left (it refl refl)))) in
         let base = suc (suc (suc (suc (suc b)))) in
         plain none none refl
-        (codes_select env (deeper labels) (inner_valued valued type) false _ base body (λ t r i. own t r (in_right (in_right (in_right (left i))))) names (labels_deeper ls) (wants_any env body d') P _
+        (codes_select env (deeper labels) (inner_valued valued type) false _ base body (λ t r i. own t r (in_right (in_right (in_right (left i))))) names
+        (labels_deeper ls) (wants_any env body d') P _
         (plain none none refl
         (handles y
         (empties y x
-        (codes_select (raised_name name (suc (suc (suc b))) ∷ env) labels (inner_valued valued type) tail _ (base + width body) handler (λ t r i. own t r (in_right (in_right (in_right (in_right i))))) (named x names) ls
+        (codes_select (raised_name name (suc (suc (suc b))) ∷ env) labels (inner_valued valued type) tail _ (base + width body) handler
+        (λ t r i. own t r (in_right (in_right (in_right (in_right i))))) (named x names) ls
         (wants_any (raised_name name (suc (suc (suc b))) ∷ env) handler d') P _ (plain none none refl z))))))
 
-    codes_base : (env : List Named) (labels : List Label) (t b : ℕ) (e : Expression) → Q Plain (fresh t (type_of (scopes env) (base_of e))) → Within (BaseOwn env b e (Own env b e)) → EnvFine env → LabelsFine labels →
+    codes_base : (env : List Named) (labels : List Label) (t b : ℕ) (e : Expression) → Q Plain (fresh t (type_of (scopes env) (base_of e))) → Within
+        (BaseOwn env b e (Own env b e)) → EnvFine env → LabelsFine labels →
         (Within (Own env b e) → Q Plain (fresh t (type_of (scopes env) e)) → Codes (select env labels false false (fresh t (type_of (scopes env) e)) b e)) →
         Codes (select_base env labels t b e (select env labels false false (fresh t (type_of (scopes env) e)) b e))
     codes_base env labels t b (Operator at op base (Integer at' w)) q own names ls whole P next z =
         by (is_based op w) (λ own q. codes_select env labels false false _ b base own names ls (wants_any env base q)) q own
       where
-        by : (c : Bool) → (Within (Own env b base) → Q Plain (fresh t (type_of (scopes env) base)) → Codes (select env labels false false (fresh t (type_of (scopes env) base)) b base)) → Q Plain (fresh t (type_of (scopes env) (cond c base (Operator at op base (Integer at' w))))) → Within (Either c (Own env b base) (Own env b (Operator at op base (Integer at' w)))) →
-            Coded Q [] P (cond c (select env labels false false (fresh t (type_of (scopes env) base)) b base next) (select env labels false false (fresh t (type_of (scopes env) (Operator at op base (Integer at' w)))) b (Operator at op base (Integer at' w)) next))
+        by : (c : Bool) → (Within (Own env b base) → Q Plain (fresh t (type_of (scopes env) base)) → Codes
+            (select env labels false false (fresh t (type_of (scopes env) base)) b base)) → Q Plain
+            (fresh t (type_of (scopes env) (cond c base (Operator at op base (Integer at' w))))) → Within
+            (Either c (Own env b base) (Own env b (Operator at op base (Integer at' w)))) →
+            Coded Q [] P (cond c (select env labels false false (fresh t (type_of (scopes env) base)) b base next)
+            (select env labels false false (fresh t (type_of (scopes env) (Operator at op base (Integer at' w)))) b
+            (Operator at op base (Integer at' w)) next))
         by true inner q own = inner own q P next z
         by false inner q own = whole own q P next z
     codes_base env labels t b e q own names ls whole P next z = whole own q P next z
 
-    codes_test : (env : List Named) (labels : List Label) (l b : ℕ) (e : Expression) → Within (Own env b e) → EnvFine env → LabelsFine labels → (P : List Reg) (value next : List Instr) → Coded Q [] P value → Coded Q [] P next → Coded Q [] P (select_test env labels l b e value next)
+    codes_test : (env : List Named) (labels : List Label) (l b : ℕ) (e : Expression) → Within (Own env b e) → EnvFine env → LabelsFine labels →
+        (P : List Reg) (value next : List Instr) → Coded Q [] P value → Coded Q [] P next → Coded Q [] P (select_test env labels l b e value next)
     codes_test env labels l b (Operator at op e g) own names ls P value next v z =
         let s = shape_of op e g in
         let x = own Plain _ (in_right (left (it refl refl))) in
         let y = own Plain _ (in_right (in_right (left (it refl refl)))) in
         codes_tested (comparison (shape_op s op) (shape_right s)) _ value
         (λ t. codes_ordered (is_left_first (scopes env) e g) _ _
-        (codes_left s _ (codes_select env labels false false _ (suc (suc (suc b))) e (λ t r i. own t r (in_right (in_right (in_right (left i))))) names ls (wants_any env e x)))
-        (codes_right s _ (codes_select env labels false false _ (suc (suc (suc b)) + width e) g (λ t r i. own t r (in_right (in_right (in_right (in_right i))))) names ls (wants_any env g y))) P _
+        (codes_left s _ (codes_select env labels false false _ (suc (suc (suc b))) e (λ t r i. own t r (in_right (in_right (in_right (left i))))) names ls
+        (wants_any env e x)))
+        (codes_right s _ (codes_select env labels false false _ (suc (suc (suc b)) + width e) g
+        (λ t r i. own t r (in_right (in_right (in_right (in_right i))))) names ls (wants_any env g y))) P _
         (plain (shape_plain s x y) none refl z))
         v
     codes_test env labels l b e own names ls P value next v z = v
 
-    codes_cases : (env : List Named) (labels : List Label) (valued tail : Bool) (d : Reg) (all : List ℕ) (end l b : ℕ) (cs : Cases) → Within (CasesOwn env b cs) → EnvFine env → LabelsFine labels → Q Plain d → Codes (select_cases env labels valued tail d all end l b cs)
+    codes_cases : (env : List Named) (labels : List Label) (valued tail : Bool) (d : Reg) (all : List ℕ) (end l b : ℕ) (cs : Cases) → Within
+        (CasesOwn env b cs) → EnvFine env → LabelsFine labels → Q Plain d → Codes (select_cases env labels valued tail d all end l b cs)
     codes_cases env labels valued tail d all end l b NoCase own names ls q P next z = z
     codes_cases env labels valued tail d all end l b (Choose indexes body rest) own names ls q P next z =
         plain none none refl
         (codes_select env labels valued tail d b body (λ t r i. own t r (left i)) names ls (wants_any env body q) P _
         (codes_cases env labels valued tail d all end (suc l) (b + width body) rest (λ t r i. own t r (in_right i)) names ls q P next z))
 
-    codes_waiting : (env : List Named) (labels : List Label) (b i : ℕ) (es : Expressions) → Within (RowOwn env i es) → Within (Listed Plain (regs_of env b es)) → EnvFine env → LabelsFine labels → Codes (select_waiting env labels b i es)
+    codes_waiting : (env : List Named) (labels : List Label) (b i : ℕ) (es : Expressions) → Within (RowOwn env i es) → Within
+        (Listed Plain (regs_of env b es)) → EnvFine env → LabelsFine labels → Codes (select_waiting env labels b i es)
     codes_waiting env labels b i NoMore own regs names ls P next z = z
     codes_waiting env labels b i (More e rest) own regs names ls P next z =
         codes_waiting env labels (suc b) (i + width e) rest (λ t r i. own t r (in_right i)) (λ t r i. regs t r (in_right i)) names ls P _
-        (codes_when (not (is_light_address (scopes env) e)) _ (codes_select env labels false false _ i e (λ t r i. own t r (left i)) names ls (wants_any env e (regs Plain _ (left (it refl refl))))) P next z)
+        (codes_when (not (is_light_address (scopes env) e)) _ (codes_select env labels false false _ i e (λ t r i. own t r (left i)) names ls
+        (wants_any env e (regs Plain _ (left (it refl refl))))) P next z)
 
-    codes_filled : (env : List Named) (labels : List Label) (b i : ℕ) (es : Expressions) → Within (RowOwn env i es) → Within (Listed Plain (regs_of env b es)) → EnvFine env → LabelsFine labels → Codes (select_filled env labels b i es)
+    codes_filled : (env : List Named) (labels : List Label) (b i : ℕ) (es : Expressions) → Within (RowOwn env i es) → Within
+        (Listed Plain (regs_of env b es)) → EnvFine env → LabelsFine labels → Codes (select_filled env labels b i es)
     codes_filled env labels b i NoMore own regs names ls P next z = z
     codes_filled env labels b i (More e rest) own regs names ls P next z =
         codes_filled env labels (suc b) (i + width e) rest (λ t r i. own t r (in_right i)) (λ t r i. regs t r (in_right i)) names ls P _
-        (codes_when (is_light_address (scopes env) e) _ (codes_select env labels false false _ i e (λ t r i. own t r (left i)) names ls (wants_any env e (regs Plain _ (left (it refl refl))))) P next z)
+        (codes_when (is_light_address (scopes env) e) _ (codes_select env labels false false _ i e (λ t r i. own t r (left i)) names ls
+        (wants_any env e (regs Plain _ (left (it refl refl))))) P next z)
 
-    codes_bound : (env : List Named) (labels : List Label) (b : ℕ) (bs : Bindings) → Within (BoundOwn env b bs) → EnvFine env → LabelsFine labels → Codes (select_bound env labels b bs)
+    codes_bound : (env : List Named) (labels : List Label) (b : ℕ) (bs : Bindings) → Within (BoundOwn env b bs) → EnvFine env → LabelsFine labels → Codes
+        (select_bound env labels b bs)
     codes_bound env labels b NoBinding own names ls P next z = z
     codes_bound env labels b (Bind at name declared e rest) own names ls P next z =
         let x = own Plain _ (left (it refl refl)) in
         codes_select env labels false false _ (suc b) e (λ t r i. own t r (in_right (left i))) names ls (wants_any env e x) P _
-        (codes_bound (bound_name env b name declared e ∷ env) labels (suc (b + width e)) rest (λ t r i. own t r (in_right (in_right i))) (named x names) ls P next z)
+        (codes_bound (bound_name env b name declared e ∷ env) labels (suc (b + width e)) rest (λ t r i. own t r (in_right (in_right i)))
+        (named x names) ls P next z)
 
-    codes_seq : (env : List Named) (labels : List Label) (valued tail : Bool) (d : Reg) (b : ℕ) (es : Expressions) → Within (SeqOwn env b es) → EnvFine env → LabelsFine labels → Q Plain d → Codes (select_seq env labels valued tail d b es)
+    codes_seq : (env : List Named) (labels : List Label) (valued tail : Bool) (d : Reg) (b : ℕ) (es : Expressions) → Within (SeqOwn env b es) →
+        EnvFine env → LabelsFine labels → Q Plain d → Codes (select_seq env labels valued tail d b es)
     codes_seq env labels valued tail d b NoMore own names ls q P next z = z
     codes_seq env labels valued tail d b (More e NoMore) own names ls q P next z =
         codes_select env labels valued tail d (suc b) e (λ t r i. own t r (in_right (left i))) names ls (wants_any env e q) P next z
@@ -479,19 +528,24 @@ module _ (Q : Role → Reg → Type 0) where
         codes_select env labels false false _ (suc b) e (λ t r i. own t r (in_right (left i))) names ls (kept_of_wants env b e (λ t r i. own t r (left i))) P _
         (codes_seq env labels valued tail d (suc (b + width e)) (More g rest) (λ t r i. own t r (in_right (in_right i))) names ls q P next z)
 
-    codes_handlers : (env : List Named) (labels : List Label) (valued tail : Bool) (d : Reg) (end l b : ℕ) (hs : Handlers) → Within (HandlersOwn env l b hs) → Within (LabelsOwn l hs) → EnvFine env → LabelsFine labels → Q Plain d →
+    codes_handlers : (env : List Named) (labels : List Label) (valued tail : Bool) (d : Reg) (end l b : ℕ) (hs : Handlers) → Within
+        (HandlersOwn env l b hs) → Within (LabelsOwn l hs) → EnvFine env → LabelsFine labels → Q Plain d →
         Codes (select_handlers env labels valued tail d end l b hs)
     codes_handlers env labels valued tail d end l b NoHandler own params names ls q P next z = z
     codes_handlers env labels valued tail d end l b (Handle at label ps body rest) own params names ls q P next z =
         let inner = with_params ps (params_from (suc l) ps) env in
         plain none none refl
-        (codes_select inner labels valued tail d b body (λ t r i. own t r (left i)) (params_env env ps (params_from (suc l) ps) (listed Plain (params_from (suc l) ps) (λ t r i. params t r (left i))) names) ls (wants_any inner body q) P _
-        (codes_handlers env labels valued tail d end (suc l + length ps) (b + width body) rest (λ t r i. own t r (in_right i)) (λ t r i. params t r (in_right i)) names ls q P next z))
+        (codes_select inner labels valued tail d b body (λ t r i. own t r (left i))
+        (params_env env ps (params_from (suc l) ps) (listed Plain (params_from (suc l) ps) (λ t r i. params t r (left i))) names) ls
+        (wants_any inner body q) P _
+        (codes_handlers env labels valued tail d end (suc l + length ps) (b + width body) rest (λ t r i. own t r (in_right i))
+        (λ t r i. params t r (in_right i)) names ls q P next z))
 
   -- ---- the whole
 
   -- the parameters leave their seats
-  pub codes_entry : (from to S P : List Reg) → Each (Q Seated) from → Each (Q Plain) to → length from ≡ length to → (next : List Instr) → Coded Q S P next → Coded Q (onto from S) P (moves_all from to next)
+  pub codes_entry : (from to S P : List Reg) → Each (Q Seated) from → Each (Q Plain) to → length from ≡ length to → (next : List Instr) → Coded Q S P next →
+      Coded Q (onto from S) P (moves_all from to next)
   codes_entry [] to S P s q e next z = z
   codes_entry (x ∷ from) [] S P s q e next z = absurd (omega (arith, e))
   codes_entry (x ∷ from) (y ∷ to) S P (one s ss) (one q qs) e next z = codes_entry from to (x ∷ S) P ss qs (omega (arith, e)) _ (empties s q z)

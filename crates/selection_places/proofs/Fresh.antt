@@ -35,7 +35,8 @@ distinct_at nil s e = elim s [ ]
 distinct_at {l} (cons apart d) here e = apart l e
 distinct_at (cons apart d) (below s) e = distinct_at d s e
 
-one_place : (l : ℕ) {i j : Instr} {next others code : List Instr} → Distinct code → Stands i next code → Stands j others code → makes l i ≡ true → makes l j ≡ true → others ≡ next
+one_place : (l : ℕ) {i j : Instr} {next others code : List Instr} → Distinct code → Stands i next code → Stands j others code → makes l i ≡ true →
+    makes l j ≡ true → others ≡ next
 one_place l nil s t e g = elim s [ ]
 one_place l (cons apart d) here here e g = refl
 one_place l (cons apart d) here (below t) e g = absurd (no_mark_at (apart l e) t g)
@@ -59,7 +60,8 @@ heavy_alloc (mach.Mark f) e = refl
 data AllocOf (Q : Role → Reg → Type 0) : Instr → Type 0 where
   alloc_of : {block : NewBlock} {p : Reg} → Q New p → AllocOf Q (emit.alloc block p)
 
-alloc_at : {Q : Role → Reg → Type 0} {S P : List Reg} {code : List Instr} {i : Instr} {next : List Instr} → Coded Q S P code → Stands i next code → is_alloc i.op ≡ true → AllocOf Q i
+alloc_at : {Q : Role → Reg → Type 0} {S P : List Reg} {code : List Instr} {i : Instr} {next : List Instr} → Coded Q S P code → Stands i next code →
+    is_alloc i.op ≡ true → AllocOf Q i
 alloc_at ends s e = elim s [ ]
 alloc_at (plain a u n x) here e = absurd (true≢false (sym e ∙ n))
 alloc_at (plain a u n x) (below s) e = alloc_at x s e
@@ -96,7 +98,8 @@ module _ (Q : Role → Reg → Type 0) (lo hi k : ℕ) (tells : Block Q lo hi k)
   gives_none_of (gives_one {y = y} e u) a = none_among (one (no_seat y u) none) (subst (λ rs. Among r.number rs) e a)
 
   -- what writes it allocates it
-  pub allocates : {S P : List Reg} {code : List Instr} {j : Instr} {others : List Instr} → Coded Q S P code → Stands j others code → Among r.number j.results → makes r.number j ≡ true
+  pub allocates : {S P : List Reg} {code : List Instr} {j : Instr} {others : List Instr} → Coded Q S P code → Stands j others code →
+      Among r.number j.results → makes r.number j ≡ true
   allocates ends s a = elim s [ ]
   allocates (plain b u n x) here a = absurd (none_among (each_map no_plain u) a)
   allocates (plain b u n x) (below s) a = allocates x s a
@@ -136,7 +139,8 @@ module _ (Q : Role → Reg → Type 0) (lo hi k : ℕ) (tells : Block Q lo hi k)
   read_among each a = let f = found a in each_of each f.reg f.member f.same
 
   -- where it is read it was allocated before
-  pub allocated : {S P : List Reg} {code : List Instr} {j : Instr} {rest : List Instr} → Coded Q S P code → Stands j rest code → Among r.number j.args → Member r P ⊎ Before j rest code
+  pub allocated : {S P : List Reg} {code : List Instr} {j : Instr} {rest : List Instr} → Coded Q S P code → Stands j rest code → Among r.number j.args →
+      Member r P ⊎ Before j rest code
   allocated ends s a = elim s [ ]
   allocated (plain b u n x) here a = inl (read_among (each_map read_of b) a)
   allocated (plain b u n x) (below s) a = one_more (allocated x s a)
@@ -152,7 +156,14 @@ module _ (Q : Role → Reg → Type 0) (lo hi k : ℕ) (tells : Block Q lo hi k)
   allocated {P = P} {j = j} {rest = rest} (allocs {p = p} {block = block} {next = next} u x) (below s) a = by (allocated x s a)
     where
       by : Member r (p ∷ P) ⊎ Before j rest next → Member r P ⊎ Before j rest (emit.alloc block p ∷ next)
-      by (inl (coded.first e)) = inr (record { instr = emit.alloc block p; next = next; stands = here; allocated = eq-eqb p.number r.number (ap (λ (z : Reg). z.number) (sym e)); further = s })
+      by (inl (coded.first e)) = inr (record {
+        instr = emit.alloc block p;
+        next = next;
+        stands = here;
+        allocated = eq-eqb p.number r.number
+            (ap (λ (z : Reg). z.number) (sym e));
+        further = s;
+      })
       by (inl (coded.later m)) = inl m
       by (inr b) = one_more (inr b)
 
@@ -171,13 +182,15 @@ listed_seats : {Q : Role → Reg → Type 0} (rs : List Reg) → ((r : Reg) → 
 listed_seats [] own = none
 listed_seats (r ∷ rs) own = one (a_seat (own r (left (it refl refl)))) (listed_seats rs (λ q i. own q (in_right i)))
 
-module _ (f : FunctionTree) (i : Instr) (next : List Instr) (s : Stands i next (selected f).code) (p : Reg) (new : Whole f New p) (made : makes p.number i ≡ true) where
+module _ (f : FunctionTree) (i : Instr) (next : List Instr) (s : Stands i next (selected f).code) (p : Reg) (new : Whole f New p)
+    (made : makes p.number i ≡ true) where
   no_seated : (q : Reg) → HasSeat (Whole f) q → q.number ≡ p.number → ⊥
   no_seated q (a_seat u) e = no_seat (Whole f) _ _ _ (whole_block f) p new q u e
 
   written_once : (j : Instr) (others : List Instr) → Stands j others (selected f).code → Writes (selected f) j p.number → others ≡ next
   written_once j others t w =
-      ⊎_elim (λ a. one_place p.number (selected_once f) s t made (allocates (Whole f) _ _ _ (whole_block f) p new (selected_coded f) t a)) (λ a. absurd (not_killed a))
+      ⊎_elim (λ a. one_place p.number (selected_once f) s t made (allocates (Whole f) _ _ _ (whole_block f) p new (selected_coded f) t a))
+      (λ a. absurd (not_killed a))
       (among_cases j.results (killed (selected f) j) w)
     where
       not_killed : Among p.number (killed (selected f) j) → ⊥
@@ -206,13 +219,24 @@ module _ (f : FunctionTree) (i : Instr) (next : List Instr) (s : Stands i next (
       by (inr b) = no_mark_at (distinct_at (selected_once f) b.stands b.allocated) (stands_in run b.further) made
 
   fresh_new : IsFresh (selected f) i next p
-  fresh_new = record { open_place = new_open f p new; once = written_once; no_param = not_param; own = own_one; unread = λ j run t straight a. not_read j run t a }
+  fresh_new = record {
+    open_place = new_open f p new;
+    once = written_once;
+    no_param = not_param;
+    own = own_one;
+    unread =
+        λ j run t straight a. not_read j run t a;
+  }
 
 -- An allocation writes a register that is open, written nowhere else, of its own origin, and not read before.
 pub selected_allocates : (f : FunctionTree) → AllocatesFresh (selected f)
-selected_allocates f = record { fresh = λ i next s blocks e r c. by i next s (alloc_at (selected_coded f) s (subst (λ o. is_alloc o ≡ true) (sym e) refl)) r (member_of i.results r c) }
+selected_allocates f = record {
+  fresh = λ i next s blocks e r c. by i next s (alloc_at (selected_coded f) s (subst (λ o. is_alloc o ≡ true) (sym e) refl)) r
+      (member_of i.results r c);
+}
   where
-    by : (i : Instr) (next : List Instr) → Stands i next (selected f).code → AllocOf (Whole f) i → (r : Reg) → Member r i.results → IsFresh (selected f) i next r
+    by : (i : Instr) (next : List Instr) → Stands i next (selected f).code → AllocOf (Whole f) i → (r : Reg) → Member r i.results → IsFresh
+        (selected f) i next r
     by i next s (alloc_of {block = block} {p = p} new) r (coded.first e) =
         subst (λ z. IsFresh (selected f) i next z) (sym e) (fresh_new f i next s p new (eq-eqb p.number p.number refl))
     by i next s (alloc_of new) r (coded.later m) = elim m [ ]

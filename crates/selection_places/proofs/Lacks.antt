@@ -128,7 +128,8 @@ module _ (d : List ℕ → Option DefinedSymbol) where
         let y = inside _ labels handler (latter none) in
         omega (arith, x, y)
 
-    inside_taken : (names : List Scoped) (labels : List Visible) (es : Expressions) → Faultless (row_faults role.Taken d names labels es) → operands_lacking names es ≤ row_total is_exit es
+    inside_taken : (names : List Scoped) (labels : List Visible) (es : Expressions) → Faultless (row_faults role.Taken d names labels es) →
+        operands_lacking names es ≤ row_total is_exit es
     inside_taken names labels NoMore none = omega arith
     inside_taken names labels (More e rest) none =
         let x = inside names labels e (former (former none)) in
@@ -136,7 +137,8 @@ module _ (d : List ℕ → Option DefinedSymbol) where
         let y = inside_taken names labels rest (latter none) in
         omega (arith, x, l, y)
 
-    inside_outer : (names : List Scoped) (labels : List Visible) (es : Expressions) → Faultless (row_faults role.Outer d names labels es) → operands_lacking names es ≤ row_total is_exit es
+    inside_outer : (names : List Scoped) (labels : List Visible) (es : Expressions) → Faultless (row_faults role.Outer d names labels es) →
+        operands_lacking names es ≤ row_total is_exit es
     inside_outer names labels NoMore none = omega arith
     inside_outer names labels (More e rest) none =
         let x = inside names labels e (former (former none)) in
@@ -144,28 +146,32 @@ module _ (d : List ℕ → Option DefinedSymbol) where
         let y = inside_outer names labels rest (latter none) in
         omega (arith, x, l, y)
 
-    inside_row : (names : List Scoped) (labels : List Visible) (es : Expressions) → Faultless (row_faults role.Visited d names labels es) → row_lacking names es ≤ row_total is_exit es
+    inside_row : (names : List Scoped) (labels : List Visible) (es : Expressions) → Faultless (row_faults role.Visited d names labels es) →
+        row_lacking names es ≤ row_total is_exit es
     inside_row names labels NoMore none = omega arith
     inside_row names labels (More e rest) none =
         let x = inside names labels e (former (former none)) in
         let y = inside_row names labels rest (latter none) in
         omega (arith, x, y)
 
-    inside_bound : (names : List Scoped) (labels : List Visible) (bs : Bindings) → Faultless (bindings_faults d names labels bs) → bound_lacking names bs ≤ bindings_total is_exit bs
+    inside_bound : (names : List Scoped) (labels : List Visible) (bs : Bindings) → Faultless (bindings_faults d names labels bs) →
+        bound_lacking names bs ≤ bindings_total is_exit bs
     inside_bound names labels NoBinding none = omega arith
     inside_bound names labels (Bind at name declared value rest) none =
         let x = inside names labels value (former (latter (former none))) in
         let y = inside_bound _ labels rest (latter none) in
         omega (arith, x, y)
 
-    inside_cases : (names : List Scoped) (labels : List Visible) (cs : Cases) → Faultless (cases_faults d names labels cs) → cases_lacking names cs ≤ cases_total is_exit cs
+    inside_cases : (names : List Scoped) (labels : List Visible) (cs : Cases) → Faultless (cases_faults d names labels cs) →
+        cases_lacking names cs ≤ cases_total is_exit cs
     inside_cases names labels NoCase none = omega arith
     inside_cases names labels (Choose indexes body rest) none =
         let x = inside names labels body (former none) in
         let y = inside_cases names labels rest (latter none) in
         omega (arith, x, y)
 
-    inside_handlers : (names : List Scoped) (labels : List Visible) (hs : Handlers) → Faultless (handlers_faults d names labels hs) → handlers_lacking names hs ≤ handlers_total is_exit hs
+    inside_handlers : (names : List Scoped) (labels : List Visible) (hs : Handlers) → Faultless (handlers_faults d names labels hs) →
+        handlers_lacking names hs ≤ handlers_total is_exit hs
     inside_handlers names labels NoHandler none = omega arith
     inside_handlers names labels (Handle at label params body rest) none =
         let x = inside _ labels body (latter (former none)) in
@@ -184,9 +190,11 @@ module _ (d : List ℕ → Option DefinedSymbol) where
       omega (arith, most, exits)
 
   -- At most two for each token but those of tries, where the tokens cover exits, too.
-  pub selected_open_covered : (f : FunctionTree) → FunctionFits f → Faultless (function_faults d f) → 12 + 6 * length f.params + (values_in f.body + exits_in f.body + 2 * all_tries f.body) < 2 * f.tokens →
+  pub selected_open_covered : (f : FunctionTree) → FunctionFits f → Faultless (function_faults d f) → 12 + 6 * length f.params +
+      (values_in f.body + exits_in f.body + 2 * all_tries f.body) < 2 * f.tokens →
       OpenAtMost (selected f) (2 * (f.tokens - all_tries f.body))
-  selected_open_covered f fits none cover = fewer f (within (opens_of f) (length f.params) (values_in f.body) (exits_in f.body) (all_tries f.body) f.tokens cover (opens_by_exits f none)) (selected_open f fits)
+  selected_open_covered f fits none cover = fewer f (within (opens_of f) (length f.params) (values_in f.body) (exits_in f.body)
+      (all_tries f.body) f.tokens cover (opens_by_exits f none)) (selected_open f fits)
     where
       within : (k n v x t tokens : ℕ) → 12 + 6 * n + (v + x + 2 * t) < 2 * tokens → k ≤ 1 + n + (v + x) → k ≤ 2 * (tokens - t)
       within k n v x t tokens c m = omega (arith, c, m)

@@ -33,7 +33,8 @@ use Rattle.selection_places.specs.Names.{Outside, ASymbol, ACall, Names, RowName
 use Rattle.selection_rules.specs.Instructions as emit
 use Rattle.selection_rules.specs.Select.{Code, Shape, InRegisters, ConstantRight, ConstantLeft, PowerRight, power_code, operator_code, callee_of, bound_name, env_after, width, raised_name, shape_of, shape_op, shape_right, unless_left, unless_right, Named, Label, scopes, reg_of, label_of, move_from, move_to, moves_all, exit_to, ordered, only_when, from_seat, symbol_of, unless_symbol, right_of, unless_constant, bound_test, comparison, tested, select_test, is_based, select_base, call_of, regs_of, select, select_waiting, select_filled, select_bound, select_seq, select_cases, select_handlers, deeper, cell_stores, to_seat, selected, first, params_from, with_params, is_no_value, fresh, seats}
 
-pub scopes_params : (n : ℕ) (params : List Parameter) (env : List Named) → scopes (with_params params (params_from n params) env) ≡ with_parameters params (scopes env)
+pub scopes_params : (n : ℕ) (params : List Parameter) (env : List Named) → scopes (with_params params (params_from n params) env) ≡ with_parameters params
+    (scopes env)
 scopes_params n [] env = refl
 scopes_params n (p ∷ params) env = scopes_params (suc n) params _
 
@@ -74,15 +75,25 @@ module _ (Q : Outside → Type 0) where
       same : (name n : List ℕ) → NamesSymbol n (mach.Op (op.Pure (pure.Symbol name))) → name ≡ n
       same name n its_value = refl
 
-  a_call : (scope : List Scoped) {result : Ret} (e : Expression) → ((x : Outside) → Names scope e x → Q x) → Named_in (mach.Op (op.Calling (calling.Call (callee_of (symbol_of e)) result)))
-  a_call scope {result} (Symbol at name) own = record { symbols = λ n s. subst (λ z. Q (ASymbol z)) (same name n s) (own (ASymbol name) refl); externals = λ row n. elim n [ ] }
+  a_call : (scope : List Scoped) {result : Ret} (e : Expression) → ((x : Outside) → Names scope e x → Q x) → Named_in
+      (mach.Op (op.Calling (calling.Call (callee_of (symbol_of e)) result)))
+  a_call scope {result} (Symbol at name) own = record {
+    symbols = λ n s. subst (λ z. Q (ASymbol z)) (same name n s) (own (ASymbol name) refl);
+    externals =
+        λ row n. elim n [ ];
+  }
     where
       same : (name n : List ℕ) → NamesSymbol n (mach.Op (op.Calling (calling.Call (callee.Symbol name) result))) → name ≡ n
       same name n calls = refl
   a_call scope e own = record { symbols = λ n s. elim s [ ]; externals = λ row n. elim n [ ] }
 
-  a_tail_call : (scope : List Scoped) {result : Ret} (e : Expression) → ((x : Outside) → Names scope e x → Q x) → Named_in (mach.Op (op.Calling (calling.TailCall (callee_of (symbol_of e)) result)))
-  a_tail_call scope {result} (Symbol at name) own = record { symbols = λ n s. subst (λ z. Q (ASymbol z)) (same name n s) (own (ASymbol name) refl); externals = λ row n. elim n [ ] }
+  a_tail_call : (scope : List Scoped) {result : Ret} (e : Expression) → ((x : Outside) → Names scope e x → Q x) → Named_in
+      (mach.Op (op.Calling (calling.TailCall (callee_of (symbol_of e)) result)))
+  a_tail_call scope {result} (Symbol at name) own = record {
+    symbols = λ n s. subst (λ z. Q (ASymbol z)) (same name n s)
+        (own (ASymbol name) refl);
+    externals = λ row n. elim n [ ];
+  }
     where
       same : (name n : List ℕ) → NamesSymbol n (mach.Op (op.Calling (calling.TailCall (callee.Symbol name) result))) → name ≡ n
       same name n tail_calls = refl
@@ -130,7 +141,8 @@ module _ (Q : Outside → Type 0) where
   made_constant right.Register code e next z = e next z
   made_constant (right.Constant w) code e next z = z
 
-  made_tested : (o : Option Test) (fused : Test → List Instr) (value : List Instr) → ((t : Test) → AllMade (fused t)) → AllMade value → AllMade (tested o fused value)
+  made_tested : (o : Option Test) (fused : Test → List Instr) (value : List Instr) → ((t : Test) → AllMade (fused t)) → AllMade value → AllMade
+      (tested o fused value)
   made_tested (Some t) fused value f v = f t
   made_tested None fused value f v = v
 
@@ -158,7 +170,8 @@ module _ (Q : Outside → Type 0) where
   made_from_seat n ret.Unit d next z = z
   made_from_seat n (ret.Comp c) d next z = one (silent refl) z
 
-  made_call : (scope : List Scoped) (tail valued : Bool) (result : Ret) (e : Expression) → ((x : Outside) → Names scope e x → Q x) → (f : Reg) (regs : List Reg) (n : ℕ) (d : Reg) → Makes (call_of tail valued result (symbol_of e) f regs n d)
+  made_call : (scope : List Scoped) (tail valued : Bool) (result : Ret) (e : Expression) → ((x : Outside) → Names scope e x → Q x) → (f : Reg)
+      (regs : List Reg) (n : ℕ) (d : Reg) → Makes (call_of tail valued result (symbol_of e) f regs n d)
   made_call scope true valued result e own f regs n d next z = one (a_tail_call scope e own) z
   made_call scope false valued result e own f regs n d next z = one (a_call scope e own) (made_from_seat n result d next z)
 
@@ -173,7 +186,8 @@ module _ (Q : Outside → Type 0) where
   made_operator (ConstantLeft i) f x y d next z = one (silent refl) z
 
   mutual
-    made_select : (env : List Named) (labels : List Label) (valued tail : Bool) (d : Reg) (b : ℕ) (e : Expression) → ((x : Outside) → Names (scopes env) e x → Q x) → Makes (select env labels valued tail d b e)
+    made_select : (env : List Named) (labels : List Label) (valued tail : Bool) (d : Reg) (b : ℕ) (e : Expression) →
+        ((x : Outside) → Names (scopes env) e x → Q x) → Makes (select env labels valued tail d b e)
     made_select env labels valued tail d b (Integer at w) own next z = one (silent refl) z
     made_select env labels valued tail d b (Pointer at w) own next z = one (silent refl) z
     made_select env labels valued tail d b (Symbol at name) own next z = one (a_symbol (own (ASymbol name) refl)) z
@@ -183,10 +197,12 @@ module _ (Q : Outside → Type 0) where
     made_select env labels valued tail d b (Let at bindings body) own next z =
         made_bound env labels (suc b) bindings (λ x n. own x (inl n)) _
         (made_select _ labels _ tail _ _ body (λ x n. own x (inr (subst (λ sc. Names sc body x) (scopes_after env (suc b) bindings) n))) next z)
-    made_select env labels valued tail d b (Assign at name_at name e) own next z = made_select env labels false false _ _ e own _ (made_to _ (reg_of env name) next z)
+    made_select env labels valued tail d b (Assign at name_at name e) own next z = made_select env labels false false _ _ e own _
+        (made_to _ (reg_of env name) next z)
     made_select env labels valued tail d b (Operator at op e g) own next z =
         let s = shape_of op e g in
-        made_ordered (is_left_first (scopes env) e g) _ _ (made_left s _ (made_select env labels false false _ _ e (λ x n. own x (inl n)))) (made_right s _ (made_select env labels false false _ _ g (λ x n. own x (inr n)))) _
+        made_ordered (is_left_first (scopes env) e g) _ _ (made_left s _ (made_select env labels false false _ _ e (λ x n. own x (inl n))))
+        (made_right s _ (made_select env labels false false _ _ g (λ x n. own x (inr n)))) _
         (made_operator s op _ _ _ next z)
     made_select env labels valued tail d b (App at callee arguments result result_at) own next z =
         let light = is_light_address (scopes env) callee in
@@ -203,75 +219,99 @@ module _ (Q : Outside → Type 0) where
         let operands : (x : Outside) → RowNames (scopes env) arguments x → Q x = λ x n. own x (inr n) in
         made_waiting env labels _ _ arguments operands _
         (made_filled env labels _ _ arguments operands _
-        (made_moves (regs_of env (suc b) arguments) _ _ (one (an_external (own (ACall (row_of_call (scopes env) name arguments result)) (inl refl))) (made_from_seat _ result _ next z))))
+        (made_moves (regs_of env (suc b) arguments) _ _ (one (an_external (own (ACall (row_of_call (scopes env) name arguments result)) (inl refl)))
+        (made_from_seat _ result _ next z))))
     made_select env labels valued tail d b (Seq at elements) own next z = made_seq env labels _ tail _ _ elements own next z
     made_select env labels valued tail d b (If at condition e g) own next z =
         let others = one (silent refl) (made_select env labels _ tail _ _ g (λ x n. own x (inr (inr n))) _ (one (silent refl) z)) in
         let both = made_select env labels _ tail _ _ e (λ x n. own x (inr (inl n))) _ others in
-        made_test env labels _ _ condition (λ x n. own x (inl n)) _ _ (made_select env labels false false _ _ condition (λ x n. own x (inl n)) _ (one (silent refl) both)) both
+        made_test env labels _ _ condition (λ x n. own x (inl n)) _ _ (made_select env labels false false _ _ condition (λ x n. own x (inl n)) _
+        (one (silent refl) both)) both
     made_select env labels valued tail d b (Catch at body handlers) own next z =
-        one (silent refl) (made_select env _ _ tail _ _ body (λ x n. own x (inl n)) _ (made_handlers env _ _ tail _ _ _ _ handlers (λ x n. own x (inr n)) _ (one (silent refl) z)))
+        one (silent refl) (made_select env _ _ tail _ _ body (λ x n. own x (inl n)) _
+        (made_handlers env _ _ tail _ _ _ _ handlers (λ x n. own x (inr n)) _ (one (silent refl) z)))
     made_select env labels valued tail d b (Exit at label_at label arguments) own next z =
         made_waiting env labels _ _ arguments own _ (made_filled env labels _ _ arguments own _ (made_exit (label_of labels label) _ next z))
     made_select env labels valued tail d b (Alloc at header_at header operands) own next z =
         made_waiting env labels _ _ operands own _
         (one (silent refl) (one (silent refl) (one (silent refl)
         (made_filled env labels _ _ operands own _ (made_cells _ _ 0 (regs_of env (suc (suc (suc b))) operands) _ (one (silent refl) z))))))
-    made_select env labels valued tail d b (Load at chunk address) own next z = made_base env labels _ _ address own _ (made_select env labels false false _ _ address own) _ (one (silent refl) z)
+    made_select env labels valued tail d b (Load at chunk address) own next z = made_base env labels _ _ address own _
+        (made_select env labels false false _ _ address own) _ (one (silent refl) z)
     made_select env labels valued tail d b (Store at chunk address e) own next z =
         let whole : (x : Outside) → Names (scopes env) address x → Q x = λ x n. own x (inl n) in
-        made_ordered (is_left_first (scopes env) address e) _ _ (made_base env labels _ _ address whole _ (made_select env labels false false _ _ address whole)) (made_select env labels false false _ _ e (λ x n. own x (inr n))) _ (one (silent refl) z)
+        made_ordered (is_left_first (scopes env) address e) _ _ (made_base env labels _ _ address whole _
+        (made_select env labels false false _ _ address whole)) (made_select env labels false false _ _ e (λ x n. own x (inr n))) _
+        (one (silent refl) z)
     made_select env labels valued tail d b (Checkbound at e g) own next z =
-        made_ordered (is_left_first (scopes env) e g) _ _ (made_select env labels false false _ _ e (λ x n. own x (inl n))) (made_constant (right_of bound_test g) _ (made_select env labels false false _ _ g (λ x n. own x (inr n)))) _ (one (silent refl) z)
+        made_ordered (is_left_first (scopes env) e g) _ _ (made_select env labels false false _ _ e (λ x n. own x (inl n)))
+        (made_constant (right_of bound_test g) _ (made_select env labels false false _ _ g (λ x n. own x (inr n)))) _ (one (silent refl) z)
     made_select env labels valued tail d b (Raise at e) own next z = made_select env labels false false _ _ e own _ (one (silent refl) (one (silent refl) z))
     made_select env labels valued tail d b (Switch at size_at size selector cases) own next z =
-        made_select env labels false false _ _ selector (λ x n. own x (inl n)) _ (one (silent refl) (made_cases env labels _ tail _ _ _ _ _ cases (λ x n. own x (inr n)) _ (one (silent refl) z)))
+        made_select env labels false false _ _ selector (λ x n. own x (inl n)) _
+        (one (silent refl) (made_cases env labels _ tail _ _ _ _ _ cases (λ x n. own x (inr n)) _ (one (silent refl) z)))
     made_select env labels valued tail d b (Try at body name_at name handler) own next z =
         one (silent refl) (made_select env (deeper labels) _ false _ _ body (λ x n. own x (inl n)) _
         (one (silent refl) (one (silent refl) (one (silent refl)
         (made_select (raised_name name (suc (suc (suc b))) ∷ env) labels _ tail _ _ handler (λ x n. own x (inr n)) _ (one (silent refl) z))))))
 
-    made_base : (env : List Named) (labels : List Label) (t b : ℕ) (e : Expression) → ((x : Outside) → Names (scopes env) e x → Q x) → (whole : Code) → Makes whole → Makes (select_base env labels t b e whole)
-    made_base env labels t b (Operator at op base (Integer at' w)) own whole inside next z = made_if (is_based op w) _ whole (made_select env labels false false _ _ base (λ x n. own x (inl n))) inside next z
+    made_base : (env : List Named) (labels : List Label) (t b : ℕ) (e : Expression) → ((x : Outside) → Names (scopes env) e x → Q x) → (whole : Code) →
+        Makes whole → Makes (select_base env labels t b e whole)
+    made_base env labels t b (Operator at op base (Integer at' w)) own whole inside next z = made_if (is_based op w) _ whole
+        (made_select env labels false false _ _ base (λ x n. own x (inl n))) inside next z
     made_base env labels t b e own whole inside next z = inside next z
 
-    made_test : (env : List Named) (labels : List Label) (l b : ℕ) (e : Expression) → ((x : Outside) → Names (scopes env) e x → Q x) → (value next : List Instr) → AllMade value → AllMade next → AllMade (select_test env labels l b e value next)
+    made_test : (env : List Named) (labels : List Label) (l b : ℕ) (e : Expression) → ((x : Outside) → Names (scopes env) e x → Q x) →
+        (value next : List Instr) → AllMade value → AllMade next → AllMade (select_test env labels l b e value next)
     made_test env labels l b (Operator at op e g) own value next v z =
         let s = shape_of op e g in
         made_tested (comparison (shape_op s op) (shape_right s)) _ value
-        (λ t. made_ordered (is_left_first (scopes env) e g) _ _ (made_left s _ (made_select env labels false false _ _ e (λ x n. own x (inl n)))) (made_right s _ (made_select env labels false false _ _ g (λ x n. own x (inr n)))) _ (one (silent refl) z))
+        (λ t. made_ordered (is_left_first (scopes env) e g) _ _ (made_left s _ (made_select env labels false false _ _ e (λ x n. own x (inl n))))
+        (made_right s _ (made_select env labels false false _ _ g (λ x n. own x (inr n)))) _ (one (silent refl) z))
         v
     made_test env labels l b e own value next v z = v
 
-    made_cases : (env : List Named) (labels : List Label) (valued tail : Bool) (d : Reg) (all : List ℕ) (end l b : ℕ) (cs : Cases) → ((x : Outside) → CasesName (scopes env) cs x → Q x) → Makes (select_cases env labels valued tail d all end l b cs)
+    made_cases : (env : List Named) (labels : List Label) (valued tail : Bool) (d : Reg) (all : List ℕ) (end l b : ℕ) (cs : Cases) →
+        ((x : Outside) → CasesName (scopes env) cs x → Q x) → Makes (select_cases env labels valued tail d all end l b cs)
     made_cases env labels valued tail d all end l b NoCase own next z = z
     made_cases env labels valued tail d all end l b (Choose indexes body rest) own next z =
-        one (silent refl) (made_select env labels valued tail d b body (λ x n. own x (inl n)) _ (made_cases env labels valued tail d all end _ _ rest (λ x n. own x (inr n)) next z))
+        one (silent refl) (made_select env labels valued tail d b body (λ x n. own x (inl n)) _
+        (made_cases env labels valued tail d all end _ _ rest (λ x n. own x (inr n)) next z))
 
-    made_waiting : (env : List Named) (labels : List Label) (b i : ℕ) (es : Expressions) → ((x : Outside) → RowNames (scopes env) es x → Q x) → Makes (select_waiting env labels b i es)
+    made_waiting : (env : List Named) (labels : List Label) (b i : ℕ) (es : Expressions) → ((x : Outside) → RowNames (scopes env) es x → Q x) → Makes
+        (select_waiting env labels b i es)
     made_waiting env labels b i NoMore own next z = z
     made_waiting env labels b i (More e rest) own next z =
-        made_waiting env labels _ _ rest (λ x n. own x (inr n)) _ (made_when (not (is_light_address (scopes env) e)) _ (made_select env labels false false _ i e (λ x n. own x (inl n))) next z)
+        made_waiting env labels _ _ rest (λ x n. own x (inr n)) _ (made_when (not (is_light_address (scopes env) e)) _
+        (made_select env labels false false _ i e (λ x n. own x (inl n))) next z)
 
-    made_filled : (env : List Named) (labels : List Label) (b i : ℕ) (es : Expressions) → ((x : Outside) → RowNames (scopes env) es x → Q x) → Makes (select_filled env labels b i es)
+    made_filled : (env : List Named) (labels : List Label) (b i : ℕ) (es : Expressions) → ((x : Outside) → RowNames (scopes env) es x → Q x) → Makes
+        (select_filled env labels b i es)
     made_filled env labels b i NoMore own next z = z
     made_filled env labels b i (More e rest) own next z =
-        made_filled env labels _ _ rest (λ x n. own x (inr n)) _ (made_when (is_light_address (scopes env) e) _ (made_select env labels false false _ i e (λ x n. own x (inl n))) next z)
+        made_filled env labels _ _ rest (λ x n. own x (inr n)) _ (made_when (is_light_address (scopes env) e) _
+        (made_select env labels false false _ i e (λ x n. own x (inl n))) next z)
 
-    made_bound : (env : List Named) (labels : List Label) (b : ℕ) (bs : Bindings) → ((x : Outside) → BoundNames (scopes env) bs x → Q x) → Makes (select_bound env labels b bs)
+    made_bound : (env : List Named) (labels : List Label) (b : ℕ) (bs : Bindings) → ((x : Outside) → BoundNames (scopes env) bs x → Q x) → Makes
+        (select_bound env labels b bs)
     made_bound env labels b NoBinding own next z = z
-    made_bound env labels b (Bind at name declared e rest) own next z = made_select env labels false false _ _ e (λ x n. own x (inl n)) _ (made_bound _ labels _ rest (λ x n. own x (inr n)) next z)
+    made_bound env labels b (Bind at name declared e rest) own next z = made_select env labels false false _ _ e (λ x n. own x (inl n)) _
+        (made_bound _ labels _ rest (λ x n. own x (inr n)) next z)
 
-    made_seq : (env : List Named) (labels : List Label) (valued tail : Bool) (d : Reg) (b : ℕ) (es : Expressions) → ((x : Outside) → RowNames (scopes env) es x → Q x) → Makes (select_seq env labels valued tail d b es)
+    made_seq : (env : List Named) (labels : List Label) (valued tail : Bool) (d : Reg) (b : ℕ) (es : Expressions) →
+        ((x : Outside) → RowNames (scopes env) es x → Q x) → Makes (select_seq env labels valued tail d b es)
     made_seq env labels valued tail d b NoMore own next z = z
     made_seq env labels valued tail d b (More e NoMore) own next z = made_select env labels valued tail d (suc b) e (λ x n. own x (inl n)) next z
-    made_seq env labels valued tail d b (More e (More g rest)) own next z = made_select env labels false false _ _ e (λ x n. own x (inl n)) _ (made_seq env labels valued tail d _ (More g rest) (λ x n. own x (inr n)) next z)
+    made_seq env labels valued tail d b (More e (More g rest)) own next z = made_select env labels false false _ _ e (λ x n. own x (inl n)) _
+        (made_seq env labels valued tail d _ (More g rest) (λ x n. own x (inr n)) next z)
 
-    made_handlers : (env : List Named) (labels : List Label) (valued tail : Bool) (d : Reg) (end l b : ℕ) (hs : Handlers) → ((x : Outside) → HandlersName (scopes env) hs x → Q x) → Makes (select_handlers env labels valued tail d end l b hs)
+    made_handlers : (env : List Named) (labels : List Label) (valued tail : Bool) (d : Reg) (end l b : ℕ) (hs : Handlers) →
+        ((x : Outside) → HandlersName (scopes env) hs x → Q x) → Makes (select_handlers env labels valued tail d end l b hs)
     made_handlers env labels valued tail d end l b NoHandler own next z = z
     made_handlers env labels valued tail d end l b (Handle at label params body rest) own next z =
         one (silent refl)
-        (made_select _ labels valued tail d b body (λ x n. own x (inl (subst (λ sc. Names sc body x) (scopes_params (suc l) params env) n))) _ (made_handlers env labels valued tail d end _ _ rest (λ x n. own x (inr n)) next z))
+        (made_select _ labels valued tail d b body (λ x n. own x (inl (subst (λ sc. Names sc body x) (scopes_params (suc l) params env) n))) _
+        (made_handlers env labels valued tail d end _ _ rest (λ x n. own x (inr n)) next z))
 
   made_to_seat : (d : Reg) (n : ℕ) (result : Ret) → Makes (to_seat d n result)
   made_to_seat d n ret.Unit next z = z
@@ -295,7 +335,8 @@ all_named f =
     let from = suc (suc n) in
     let env = with_params f.params params [] in
     made_moves Q (seats 0 first params) params _
-    (made_select Q env [] (not (is_no_value type)) true (fresh n type) from f.body (λ x k. subst (λ sc. Names sc f.body x) (scopes_params moved f.params []) k) _
+    (made_select Q env [] (not (is_no_value type)) true (fresh n type) from f.body
+    (λ x k. subst (λ sc. Names sc f.body x) (scopes_params moved f.params []) k) _
     (made_to_seat Q (fresh n type) (suc n) (result_of type) _ (one (silent Q refl) none)))
 
 -- Each symbol that selected code names is one that the tree names.

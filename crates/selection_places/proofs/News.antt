@@ -58,10 +58,13 @@ seq {A} {B} {x} {y} a b apart =
     }
 
 -- one part after another, in a range that holds both
-both_in : {lo hi a b c d : ℕ} {x y : List Instr → List Instr} → Marks (Range a b) x → Marks (Range c d) y → (b ≤ c) ⊎ (d ≤ a) → lo ≤ a → b ≤ hi → lo ≤ c → d ≤ hi → Marks (Range lo hi) (λ next. x (y next))
+both_in : {lo hi a b c d : ℕ} {x y : List Instr → List Instr} → Marks (Range a b) x → Marks (Range c d) y → (b ≤ c) ⊎ (d ≤ a) → lo ≤ a → b ≤ hi → lo ≤ c →
+    d ≤ hi → Marks (Range lo hi) (λ next. x (y next))
 both_in {lo} {hi} {a} {b} {c} {d} m n apart la bh lc dh =
-    wider (λ l z. ⊎_elim (λ r. record { from = let f = r.from in omega (arith, f, la); to = let t = r.to in omega (arith, t, bh) }) (λ r. record { from = let f = r.from in omega (arith, f, lc); to = let t = r.to in omega (arith, t, dh) }) z)
-    (seq m n (λ l p q. ⊎_elim (λ le. let t = p.to in let f = q.from in omega (arith, t, f, le)) (λ le. let t = q.to in let f = p.from in omega (arith, t, f, le)) apart))
+    wider (λ l z. ⊎_elim (λ r. record { from = let f = r.from in omega (arith, f, la); to = let t = r.to in omega (arith, t, bh) })
+    (λ r. record { from = let f = r.from in omega (arith, f, lc); to = let t = r.to in omega (arith, t, dh) }) z)
+    (seq m n (λ l p q. ⊎_elim (λ le. let t = p.to in let f = q.from in omega (arith, t, f, le))
+    (λ le. let t = q.to in let f = p.from in omega (arith, t, f, le)) apart))
 
 widen : {lo hi a b : ℕ} {x : List Instr → List Instr} → lo ≤ a → b ≤ hi → Marks (Range a b) x → Marks (Range lo hi) x
 widen la bh m = wider (λ l r. record { from = let f = r.from in omega (arith, f, la); to = let t = r.to in omega (arith, t, bh) }) m
@@ -121,11 +124,13 @@ from_seat_quiet : (n : ℕ) (result : Ret) (d : Reg) → Quiet (from_seat n resu
 from_seat_quiet n ret.Unit d = nothing_marked
 from_seat_quiet n (ret.Comp c) d = unmarked _ (λ l. refl)
 
-call_quiet : (tail valued : Bool) (result : Ret) (o : Option (List ℕ)) (f : Reg) (regs : List Reg) (n : ℕ) (d : Reg) → Quiet (call_of tail valued result o f regs n d)
+call_quiet : (tail valued : Bool) (result : Ret) (o : Option (List ℕ)) (f : Reg) (regs : List Reg) (n : ℕ) (d : Reg) → Quiet
+    (call_of tail valued result o f regs n d)
 call_quiet true valued result o f regs n d = unmarked _ (λ l. refl)
 call_quiet false valued result o f regs n d = then_quiet (unmarked _ (λ l. refl)) (from_seat_quiet n result d)
 
-ordered_marks : {a b c d lo hi : ℕ} {x y : List Instr → List Instr} (first : Bool) → Marks (Range a b) x → Marks (Range c d) y → b ≤ c → lo ≤ a → b ≤ hi → lo ≤ c → d ≤ hi → Marks (Range lo hi) (ordered first x y)
+ordered_marks : {a b c d lo hi : ℕ} {x y : List Instr → List Instr} (first : Bool) → Marks (Range a b) x → Marks (Range c d) y → b ≤ c → lo ≤ a → b ≤ hi →
+    lo ≤ c → d ≤ hi → Marks (Range lo hi) (ordered first x y)
 ordered_marks true m n le la bh lc dh = both_in m n (inl le) la bh lc dh
 ordered_marks false m n le la bh lc dh = both_in n m (inr le) lc dh la bh
 
@@ -149,7 +154,8 @@ if_marks : {A : ℕ → Type 0} (q : Bool) (x y : List Instr → List Instr) →
 if_marks true x y f g = f
 if_marks false x y f g = g
 
-tested_marks : {A : ℕ → Type 0} (o : Option Test) (fused : Test → List Instr → List Instr) (value : List Instr → List Instr) → ((t : Test) → Marks A (fused t)) → Marks A value →
+tested_marks : {A : ℕ → Type 0} (o : Option Test) (fused : Test → List Instr → List Instr) (value : List Instr → List Instr) →
+    ((t : Test) → Marks A (fused t)) → Marks A value →
     Marks A (λ next. tested o (λ t. fused t next) (value next))
 tested_marks (Some t) fused value f v = f t
 tested_marks None fused value f v = v
@@ -167,7 +173,8 @@ right_marks (ConstantLeft i) m = m
 right_marks (PowerRight k) m = quiet_in nothing_marked
 
 power_quiet : (f : IntOp) (k : ℕ) (x y d : Reg) → Quiet (power_code f k x y d)
-power_quiet Div k x y d = then_quiet (unmarked _ (λ l. refl)) (then_quiet (unmarked _ (λ l. refl)) (then_quiet (unmarked _ (λ l. refl)) (unmarked _ (λ l. refl))))
+power_quiet Div k x y d = then_quiet (unmarked _ (λ l. refl)) (then_quiet (unmarked _ (λ l. refl))
+    (then_quiet (unmarked _ (λ l. refl)) (unmarked _ (λ l. refl))))
 power_quiet f k x y d =
     then_quiet (unmarked _ (λ l. refl)) (then_quiet (unmarked _ (λ l. refl)) (then_quiet (unmarked _ (λ l. refl))
     (then_quiet (unmarked _ (λ l. refl)) (then_quiet (unmarked _ (λ l. refl)) (unmarked _ (λ l. refl))))))
@@ -188,7 +195,8 @@ and_right : (a b : Bool) → a && b ≡ true → b ≡ true
 and_right true b e = e
 and_right false b e = absurd (true≢false (sym e))
 
-light_quiet : (env : List Named) (labels : List Label) (valued tail : Bool) (d : Reg) (b : ℕ) (e : Expression) → is_light (scopes env) e ≡ true → Quiet (select env labels valued tail d b e)
+light_quiet : (env : List Named) (labels : List Label) (valued tail : Bool) (d : Reg) (b : ℕ) (e : Expression) → is_light (scopes env) e ≡ true → Quiet
+    (select env labels valued tail d b e)
 light_quiet env labels valued tail d b (Integer at w) light = unmarked _ (λ l. refl)
 light_quiet env labels valued tail d b (Symbol at w) light = unmarked _ (λ l. refl)
 light_quiet env labels valued tail d b (Name at x) light = from_quiet (reg_of env x) _
@@ -196,8 +204,10 @@ light_quiet env labels valued tail d b (Operator at op left right) light =
     let both = and_right (is_light_operator op) (is_light (scopes env) left && is_light (scopes env) right) light in
     then_quiet
     (ordered_quiet (is_left_first (scopes env) left right)
-    (left_marks (shape_of op left right) (light_quiet env labels false false _ _ left (and_left (is_light (scopes env) left) (is_light (scopes env) right) both)))
-    (right_marks (shape_of op left right) (light_quiet env labels false false _ _ right (and_right (is_light (scopes env) left) (is_light (scopes env) right) both))))
+    (left_marks (shape_of op left right) (light_quiet env labels false false _ _ left
+    (and_left (is_light (scopes env) left) (is_light (scopes env) right) both)))
+    (right_marks (shape_of op left right) (light_quiet env labels false false _ _ right
+    (and_right (is_light (scopes env) left) (is_light (scopes env) right) both))))
     (operator_quiet (shape_of op left right) op _ _ _)
 light_quiet env labels valued tail d b (Pointer at w) light = absurd (true≢false (sym light))
 light_quiet env labels valued tail d b (Nothing at) light = absurd (true≢false (sym light))
@@ -222,35 +232,45 @@ address_is_light : (sc : List Scoped) (e : Expression) → is_light_address sc e
 address_is_light sc (Operator at AddA left right) light = light
 address_is_light sc e light = absurd (true≢false (sym light))
 
-light_when : (env : List Named) (labels : List Label) (d : Reg) (b : ℕ) (e : Expression) (q : Bool) → is_light_address (scopes env) e ≡ q → Quiet (only_when q (select env labels false false d b e))
+light_when : (env : List Named) (labels : List Label) (d : Reg) (b : ℕ) (e : Expression) (q : Bool) → is_light_address (scopes env) e ≡ q → Quiet
+    (only_when q (select env labels false false d b e))
 light_when env labels d b e true is = light_quiet env labels false false d b e (address_is_light (scopes env) e is)
 light_when env labels d b e false is = nothing_marked
 
 filled_quiet : (env : List Named) (labels : List Label) (b i : ℕ) (es : Expressions) → Quiet (select_filled env labels b i es)
 filled_quiet env labels b i NoMore = nothing_marked
-filled_quiet env labels b i (More e rest) = then_quiet (filled_quiet env labels (suc b) (i + width e) rest) (light_when env labels _ i e (is_light_address (scopes env) e) refl)
+filled_quiet env labels b i (More e rest) = then_quiet (filled_quiet env labels (suc b) (i + width e) rest)
+    (light_when env labels _ i e (is_light_address (scopes env) e) refl)
 
 -- the callee of a call, before the operands that have waited where it is no light address, and else after them
-callee_marks : {lo hi : ℕ} (env : List Named) (labels : List Label) (f : Reg) (callee : Expression) (base row i : ℕ) (arguments : Expressions) (light : Bool) (o : Option (List ℕ)) → is_light_address (scopes env) callee ≡ light →
+callee_marks : {lo hi : ℕ} (env : List Named) (labels : List Label) (f : Reg) (callee : Expression) (base row i : ℕ) (arguments : Expressions)
+    (light : Bool) (o : Option (List ℕ)) → is_light_address (scopes env) callee ≡ light →
     Marks (Range lo hi) (select env labels false false f base callee) →
     Marks (Range lo hi)
-    (λ next. only_when (not light) (unless_symbol o (select env labels false false f base callee)) (select_filled env labels row i arguments (only_when light (select env labels false false f base callee) next)))
-callee_marks env labels f callee base row i arguments true o is m = quiet_in (then_quiet (filled_quiet env labels row i arguments) (light_quiet env labels false false f base callee (address_is_light (scopes env) callee is)))
+    (λ next. only_when (not light) (unless_symbol o (select env labels false false f base callee))
+    (select_filled env labels row i arguments (only_when light (select env labels false false f base callee) next)))
+callee_marks env labels f callee base row i arguments true o is m = quiet_in
+    (then_quiet (filled_quiet env labels row i arguments) (light_quiet env labels false false f base callee (address_is_light (scopes env) callee is)))
 callee_marks env labels f callee base row i arguments false o is m = then_quiet (unless_marks o m) (filled_quiet env labels row i arguments)
 
 mutual
-  marks_select : (env : List Named) (labels : List Label) (valued tail : Bool) (d : Reg) (b : ℕ) (e : Expression) → Marks (Range b (b + width e)) (select env labels valued tail d b e)
+  marks_select : (env : List Named) (labels : List Label) (valued tail : Bool) (d : Reg) (b : ℕ) (e : Expression) → Marks (Range b (b + width e))
+      (select env labels valued tail d b e)
   marks_select env labels valued tail d b (Integer at w) = quiet_in (unmarked _ (λ l. refl))
   marks_select env labels valued tail d b (Pointer at w) = quiet_in (unmarked _ (λ l. refl))
   marks_select env labels valued tail d b (Symbol at w) = quiet_in (unmarked _ (λ l. refl))
   marks_select env labels valued tail d b (Name at x) = quiet_in (from_quiet (reg_of env x) _)
   marks_select env labels valued tail d b (Nothing at) = quiet_in nothing_marked
   marks_select env labels valued tail d b (Let at bindings body) =
-      both_in (marks_bound env labels (suc b) bindings) (marks_select _ labels _ tail _ (suc b + width_bound bindings) body) (inl (le_refl (suc b + width_bound bindings))) (omega arith) (omega arith) (omega arith) (omega arith)
-  marks_select env labels valued tail d b (Assign at q x e) = then_quiet (widen (omega arith) (omega arith) (marks_select env labels false false _ (suc (suc b)) e)) (to_quiet _ (reg_of env x))
+      both_in (marks_bound env labels (suc b) bindings) (marks_select _ labels _ tail _ (suc b + width_bound bindings) body)
+      (inl (le_refl (suc b + width_bound bindings))) (omega arith) (omega arith) (omega arith) (omega arith)
+  marks_select env labels valued tail d b (Assign at q x e) = then_quiet
+      (widen (omega arith) (omega arith) (marks_select env labels false false _ (suc (suc b)) e)) (to_quiet _ (reg_of env x))
   marks_select env labels valued tail d b (Operator at op left right) =
       then_quiet
-      (ordered_marks (is_left_first (scopes env) left right) (left_marks (shape_of op left right) (marks_select env labels false false _ (suc (suc (suc b))) left)) (right_marks (shape_of op left right) (marks_select env labels false false _ (suc (suc (suc b)) + width left) right))
+      (ordered_marks (is_left_first (scopes env) left right) (left_marks (shape_of op left right)
+      (marks_select env labels false false _ (suc (suc (suc b))) left))
+      (right_marks (shape_of op left right) (marks_select env labels false false _ (suc (suc (suc b)) + width left) right))
       (le_refl (suc (suc (suc b)) + width left)) (omega arith) (omega arith) (omega arith) (omega arith))
       (operator_quiet (shape_of op left right) op _ _ _)
   marks_select env labels valued tail d b (App at callee arguments result result_at) =
@@ -259,7 +279,8 @@ mutual
       let sum = row_width arguments in
       then_quiet
       (both_in (marks_waiting env labels row (base + width callee) arguments)
-      (callee_marks env labels _ callee base row (base + width callee) arguments (is_light_address (scopes env) callee) (symbol_of callee) refl (marks_select env labels false false _ base callee))
+      (callee_marks env labels _ callee base row (base + width callee) arguments (is_light_address (scopes env) callee) (symbol_of callee) refl
+      (marks_select env labels false false _ base callee))
       (inr (le_refl (base + width callee))) (omega arith) (omega (arith, sum)) (omega arith) (omega (arith, sum)))
       (then_quiet (moves_quiet (regs_of env row arguments) _) (call_quiet tail _ result (symbol_of callee) _ _ _ _))
   marks_select env labels valued tail d b (Extcall at frame name arguments result result_at) =
@@ -275,13 +296,16 @@ mutual
       let mt = marks_select env labels _ tail _ (base + width condition) on_true in
       let mf = marks_select env labels _ tail _ (base + width condition + width on_true) on_false in
       both_in mc
-      (both_in {lo = base + width condition} {hi = b + width (If at condition on_true on_false)} mt (quiet_then (unmarked _ (λ l. refl)) (then_quiet mf (unmarked _ (λ l. refl)))) (inl (le_refl (base + width condition + width on_true))) (omega arith) (omega arith) (omega arith) (omega arith))
+      (both_in {lo = base + width condition} {hi = b + width (If at condition on_true on_false)} mt
+      (quiet_then (unmarked _ (λ l. refl)) (then_quiet mf (unmarked _ (λ l. refl)))) (inl (le_refl (base + width condition + width on_true)))
+      (omega arith) (omega arith) (omega arith) (omega arith))
       (inl (le_refl (base + width condition))) (omega arith) (omega arith) (omega arith) (omega arith)
   marks_select env labels valued tail d b (Catch at body handlers) =
       let base = suc (suc b) + width_labels handlers in
       let mh = marks_handlers env _ _ tail _ (suc b) (suc (suc b)) (base + width body) handlers in
       let mb = marks_select env _ _ tail _ base body in
-      quiet_then (unmarked _ (λ l. refl)) (both_in mb (then_quiet mh (unmarked _ (λ l. refl))) (inl (le_refl (base + width body))) (omega arith) (omega arith) (omega arith) (omega arith))
+      quiet_then (unmarked _ (λ l. refl)) (both_in mb (then_quiet mh (unmarked _ (λ l. refl))) (inl (le_refl (base + width body))) (omega arith)
+      (omega arith) (omega arith) (omega arith))
   marks_select env labels valued tail d b (Exit at q label arguments) =
       let sum = row_width arguments in
       then_quiet (widen (omega arith) (omega (arith, sum)) (marks_waiting env labels (suc b) (suc b + count_of arguments) arguments))
@@ -292,27 +316,33 @@ mutual
       let sum = row_width operands in
       both_in (marks_waiting env labels row (row + count_of operands) operands)
       (then_quiet (marked (suc b) _ (λ l. refl)) (then_quiet (unmarked _ (λ l. refl)) (then_quiet (unmarked _ (λ l. refl))
-      (then_quiet (filled_quiet env labels row (row + count_of operands) operands) (then_quiet (cells_quiet _ _ 0 (regs_of env row operands)) (unmarked _ (λ l. refl)))))))
+      (then_quiet (filled_quiet env labels row (row + count_of operands) operands)
+      (then_quiet (cells_quiet _ _ 0 (regs_of env row operands)) (unmarked _ (λ l. refl)))))))
       (inr (omega arith)) (omega arith) (omega (arith, sum)) (omega arith) (omega (arith, sum))
   marks_select env labels valued tail d b (Load at k e) =
-      then_quiet (widen (omega arith) (omega arith) (marks_base env labels _ (suc (suc b)) e _ (marks_select env labels false false _ (suc (suc b)) e))) (unmarked _ (λ l. refl))
+      then_quiet (widen (omega arith) (omega arith) (marks_base env labels _ (suc (suc b)) e _ (marks_select env labels false false _ (suc (suc b)) e)))
+      (unmarked _ (λ l. refl))
   marks_select env labels valued tail d b (Raise at e) =
-      then_quiet (widen (omega arith) (omega arith) (marks_select env labels false false _ (suc (suc (suc b))) e)) (then_quiet (unmarked _ (λ l. refl)) (unmarked _ (λ l. refl)))
+      then_quiet (widen (omega arith) (omega arith) (marks_select env labels false false _ (suc (suc (suc b))) e))
+      (then_quiet (unmarked _ (λ l. refl)) (unmarked _ (λ l. refl)))
   marks_select env labels valued tail d b (Store at k left right) =
       then_quiet
-      (ordered_marks (is_left_first (scopes env) left right) (marks_base env labels _ (suc (suc (suc b))) left _ (marks_select env labels false false _ (suc (suc (suc b))) left)) (marks_select env labels false false _ (suc (suc (suc b)) + width left) right)
+      (ordered_marks (is_left_first (scopes env) left right) (marks_base env labels _ (suc (suc (suc b))) left _
+      (marks_select env labels false false _ (suc (suc (suc b))) left)) (marks_select env labels false false _ (suc (suc (suc b)) + width left) right)
       (le_refl (suc (suc (suc b)) + width left)) (omega arith) (omega arith) (omega arith) (omega arith))
       (unmarked _ (λ l. refl))
   marks_select env labels valued tail d b (Checkbound at left right) =
       then_quiet
-      (ordered_marks (is_left_first (scopes env) left right) (marks_select env labels false false _ (suc (suc (suc b))) left) (constant_marks (right_of bound_test right) (marks_select env labels false false _ (suc (suc (suc b)) + width left) right))
+      (ordered_marks (is_left_first (scopes env) left right) (marks_select env labels false false _ (suc (suc (suc b))) left)
+      (constant_marks (right_of bound_test right) (marks_select env labels false false _ (suc (suc (suc b)) + width left) right))
       (le_refl (suc (suc (suc b)) + width left)) (omega arith) (omega arith) (omega arith) (omega arith))
       (unmarked _ (λ l. refl))
   marks_select env labels valued tail d b (Switch at q n e cs) =
       let base = suc (suc (suc b)) + count_cases cs in
       let mc = marks_cases env labels _ tail _ _ (suc (suc b)) (suc (suc (suc b))) (base + width e) cs in
       let ms = marks_select env labels false false _ base e in
-      both_in ms (quiet_then (unmarked _ (λ l. refl)) (then_quiet mc (unmarked _ (λ l. refl)))) (inl (le_refl (base + width e))) (omega arith) (omega arith) (omega arith) (omega arith)
+      both_in ms (quiet_then (unmarked _ (λ l. refl)) (then_quiet mc (unmarked _ (λ l. refl)))) (inl (le_refl (base + width e))) (omega arith) (omega arith)
+      (omega arith) (omega arith)
   marks_select env labels valued tail d b (Try at e q x g) =
       let base = suc (suc (suc (suc (suc b)))) in
       let mb = marks_select env _ _ false _ base e in
@@ -322,7 +352,8 @@ mutual
       (quiet_then (unmarked _ (λ l. refl)) (quiet_then (unmarked _ (λ l. refl)) (quiet_then (unmarked _ (λ l. refl)) (then_quiet mh (unmarked _ (λ l. refl))))))
       (inl (le_refl (base + width e))) (omega arith) (omega arith) (omega arith) (omega arith))
 
-  marks_base : (env : List Named) (labels : List Label) (t b : ℕ) (e : Expression) (whole : List Instr → List Instr) → Marks (Range b (b + width e)) whole → Marks (Range b (b + width e)) (select_base env labels t b e whole)
+  marks_base : (env : List Named) (labels : List Label) (t b : ℕ) (e : Expression) (whole : List Instr → List Instr) → Marks (Range b (b + width e)) whole →
+      Marks (Range b (b + width e)) (select_base env labels t b e whole)
   marks_base env labels t b (Operator at op base (Integer at' w)) whole m =
       if_marks (is_based op w) _ whole (widen (omega arith) (omega arith) (marks_select env labels false false (fresh t (type_of (scopes env) base)) b base)) m
   marks_base env labels t b e whole m = m
@@ -340,7 +371,8 @@ mutual
       v
   marks_test env labels l b e value v = v
 
-  marks_cases : (env : List Named) (labels : List Label) (valued tail : Bool) (d : Reg) (places : List ℕ) (end l i : ℕ) (cs : Cases) → Marks (Range i (i + width_cases cs)) (select_cases env labels valued tail d places end l i cs)
+  marks_cases : (env : List Named) (labels : List Label) (valued tail : Bool) (d : Reg) (places : List ℕ) (end l i : ℕ) (cs : Cases) → Marks
+      (Range i (i + width_cases cs)) (select_cases env labels valued tail d places end l i cs)
   marks_cases env labels valued tail d places end l i NoCase = quiet_in nothing_marked
   marks_cases env labels valued tail d places end l i (Choose indexes body rest) =
       let mr = marks_cases env labels valued tail d places end (suc l) (i + width body) rest in
@@ -350,21 +382,26 @@ mutual
   marks_waiting : (env : List Named) (labels : List Label) (b i : ℕ) (es : Expressions) → Marks (Range i (i + row_sum es)) (select_waiting env labels b i es)
   marks_waiting env labels b i NoMore = quiet_in nothing_marked
   marks_waiting env labels b i (More e rest) =
-      both_in (marks_waiting env labels (suc b) (i + width e) rest) (when_marks (not (is_light_address (scopes env) e)) (marks_select env labels false false _ i e)) (inr (le_refl (i + width e)))
+      both_in (marks_waiting env labels (suc b) (i + width e) rest) (when_marks (not (is_light_address (scopes env) e))
+      (marks_select env labels false false _ i e)) (inr (le_refl (i + width e)))
       (omega arith) (omega arith) (omega arith) (omega arith)
 
   marks_bound : (env : List Named) (labels : List Label) (b : ℕ) (bs : Bindings) → Marks (Range b (b + width_bound bs)) (select_bound env labels b bs)
   marks_bound env labels b NoBinding = quiet_in nothing_marked
   marks_bound env labels b (Bind at x declared e rest) =
-      both_in (marks_select env labels false false _ (suc b) e) (marks_bound _ labels (suc (b + width e)) rest) (inl (omega arith)) (omega arith) (omega arith) (omega arith) (omega arith)
+      both_in (marks_select env labels false false _ (suc b) e) (marks_bound _ labels (suc (b + width e)) rest) (inl (omega arith)) (omega arith)
+      (omega arith) (omega arith) (omega arith)
 
-  marks_seq : (env : List Named) (labels : List Label) (valued tail : Bool) (d : Reg) (b : ℕ) (es : Expressions) → Marks (Range b (b + width_row es)) (select_seq env labels valued tail d b es)
+  marks_seq : (env : List Named) (labels : List Label) (valued tail : Bool) (d : Reg) (b : ℕ) (es : Expressions) → Marks (Range b (b + width_row es))
+      (select_seq env labels valued tail d b es)
   marks_seq env labels valued tail d b NoMore = quiet_in nothing_marked
   marks_seq env labels valued tail d b (More e NoMore) = widen (omega arith) (omega arith) (marks_select env labels valued tail d (suc b) e)
   marks_seq env labels valued tail d b (More e (More g rest)) =
-      both_in (marks_select env labels false false _ (suc b) e) (marks_seq env labels valued tail d (suc (b + width e)) (More g rest)) (inl (omega arith)) (omega arith) (omega arith) (omega arith) (omega arith)
+      both_in (marks_select env labels false false _ (suc b) e) (marks_seq env labels valued tail d (suc (b + width e)) (More g rest)) (inl (omega arith))
+      (omega arith) (omega arith) (omega arith) (omega arith)
 
-  marks_handlers : (env : List Named) (labels : List Label) (valued tail : Bool) (d : Reg) (end l i : ℕ) (hs : Handlers) → Marks (Range i (i + width_handlers hs)) (select_handlers env labels valued tail d end l i hs)
+  marks_handlers : (env : List Named) (labels : List Label) (valued tail : Bool) (d : Reg) (end l i : ℕ) (hs : Handlers) → Marks
+      (Range i (i + width_handlers hs)) (select_handlers env labels valued tail d end l i hs)
   marks_handlers env labels valued tail d end l i NoHandler = quiet_in nothing_marked
   marks_handlers env labels valued tail d end l i (Handle at label params body rest) =
       let mr = marks_handlers env labels valued tail d end (suc l + length params) (i + width body) rest in
@@ -378,9 +415,12 @@ returns_quiet d n (ret.Comp c) = unmarked _ (λ l. refl)
 abbrev body_start : FunctionTree → ℕ
 body_start f = suc (suc (first + length f.params + length f.params))
 
-whole_marks : (f : FunctionTree) → Marks (Range (body_start f) (body_start f + width f.body)) (λ next. moves_all (seats 0 first (params_from (first + length f.params) f.params)) (params_from (first + length f.params) f.params)
-    (select (with_params f.params (params_from (first + length f.params) f.params) []) [] (not (is_no_value (body_type f))) true (fresh (first + length f.params + length f.params) (body_type f)) (body_start f) f.body
-    (to_seat (fresh (first + length f.params + length f.params) (body_type f)) (suc (first + length f.params + length f.params)) (result_of (body_type f)) next)))
+whole_marks : (f : FunctionTree) → Marks (Range (body_start f) (body_start f + width f.body))
+    (λ next. moves_all (seats 0 first (params_from (first + length f.params) f.params)) (params_from (first + length f.params) f.params)
+    (select (with_params f.params (params_from (first + length f.params) f.params) []) [] (not (is_no_value (body_type f))) true
+    (fresh (first + length f.params + length f.params) (body_type f)) (body_start f) f.body
+    (to_seat (fresh (first + length f.params + length f.params) (body_type f)) (suc (first + length f.params + length f.params))
+    (result_of (body_type f)) next)))
 whole_marks f =
     quiet_then (moves_quiet (seats 0 first (params_from (first + length f.params) f.params)) (params_from (first + length f.params) f.params))
     (then_quiet (marks_select _ [] _ true _ _ f.body) (returns_quiet _ _ (result_of (body_type f))))

@@ -169,7 +169,8 @@ mutual
       let y = few_cases env (b + width body) rest in
       omega (arith, x, y)
 
-  few_handlers : (env : List Named) (l b : ℕ) (hs : Handlers) → count_params hs + handlers_opens env l b hs ≤ params_in hs + (handlers_total own_values hs + handlers_lacking (scopes env) hs)
+  few_handlers : (env : List Named) (l b : ℕ) (hs : Handlers) → count_params hs + handlers_opens env l b hs ≤ params_in hs +
+      (handlers_total own_values hs + handlers_lacking (scopes env) hs)
   few_handlers env l b NoHandler = omega arith
   few_handlers env l b (Handle at label params body rest) =
       let x = few (with_params params (params_from (suc l) params) env) b body in

@@ -273,12 +273,14 @@ drop_block env b e = dropped_block (type_of (scopes env) e) b
 pub params_block : (b : ℕ) (params : List Parameter) → Block (Listed Plain (params_from b params)) b (b + length params) (length params)
 params_block b [] = block_in (no_block b) (omega arith)
 params_block b (p ∷ params) =
-    block_few (block_in (block_then (fresh_block b (type_of_comp p.comp)) (params_block (suc b) params) (omega arith) (omega arith)) (omega arith)) (omega arith)
+    block_few (block_in (block_then (fresh_block b (type_of_comp p.comp)) (params_block (suc b) params) (omega arith) (omega arith)) (omega arith))
+    (omega arith)
 
 regs_block : (env : List Named) (b : ℕ) (es : Expressions) → Block (Listed Plain (regs_of env b es)) b (b + count_of es) (count_of es)
 regs_block env b NoMore = block_in (no_block b) (omega arith)
 regs_block env b (More e rest) =
-    block_few (block_in (block_then (fresh_block b (type_of (scopes env) e)) (regs_block env (suc b) rest) (omega arith) (omega arith)) (omega arith)) (omega arith)
+    block_few (block_in (block_then (fresh_block b (type_of (scopes env) e)) (regs_block env (suc b) rest) (omega arith) (omega arith)) (omega arith))
+    (omega arith)
 
 -- the places of arguments are colours
 place_in : (ns : List ℕ) → ((n : ℕ) → Contains ns n → Contains colours n) → (i : ℕ) → PlaceOf Seated (slice_index_or (map loc.Machine ns) i loc.Unset)
@@ -329,7 +331,8 @@ row_seats_block env n b es = let same = regs_length env b es in block_in (seats_
 labels_block : (b : ℕ) (hs : Handlers) → Block (LabelsOwn b hs) b (b + width_labels hs) (count_params hs)
 labels_block b NoHandler = block_in (no_block b) (omega arith)
 labels_block b (Handle at label params body rest) =
-    block_in (block_from (block_then (params_block (suc b) params) (labels_block (suc b + length params) rest) (omega arith) (omega arith)) (omega arith)) (omega arith)
+    block_in (block_from (block_then (params_block (suc b) params) (labels_block (suc b + length params) rest) (omega arith) (omega arith)) (omega arith))
+    (omega arith)
 
 either_block : {A B : Role → Reg → Type 0} {lo hi j k : ℕ} (q : Bool) → Block A lo hi j → Block B lo hi k → Block (Either q A B) lo hi (either q j k)
 either_block true a b = a
@@ -354,11 +357,13 @@ mutual
   own_block env b (Let at bindings body) =
       block_in
       (block_then (drop_block env b (Let at bindings body))
-      (block_then (bound_block env (suc b) bindings) (own_block (env_after env (suc b) bindings) (suc b + width_bound bindings) body) (omega arith) (omega arith))
+      (block_then (bound_block env (suc b) bindings) (own_block (env_after env (suc b) bindings) (suc b + width_bound bindings) body) (omega arith)
+      (omega arith))
       (omega arith) (omega arith))
       (omega arith)
   own_block env b (Assign at name_at name e) =
-      block_in (block_from (block_then (fresh_block (suc b) (type_of (scopes env) e)) (own_block env (suc (suc b)) e) (omega arith) (omega arith)) (omega arith)) (omega arith)
+      block_in (block_from (block_then (fresh_block (suc b) (type_of (scopes env) e)) (own_block env (suc (suc b)) e) (omega arith) (omega arith))
+      (omega arith)) (omega arith)
   own_block env b (Operator at op e g) =
       block_in
       (block_then (drop_block env b (Operator at op e g))
@@ -426,7 +431,8 @@ mutual
   own_block env b (Exit at label_at label arguments) =
       let sum = row_width arguments in
       block_in
-      (block_from (block_then (regs_block env (suc b) arguments) (row_block env (suc b + count_of arguments) arguments) (omega arith) (omega arith)) (omega arith))
+      (block_from (block_then (regs_block env (suc b) arguments) (row_block env (suc b + count_of arguments) arguments) (omega arith) (omega arith))
+      (omega arith))
       (omega (arith, sum))
   own_block env b (Load at chunk address) =
       block_in
@@ -515,7 +521,8 @@ mutual
   bound_block env b (Bind at name declared e rest) =
       block_in
       (block_then (block_one Plain (bound_name env b name declared e).reg refl refl)
-      (block_then (block_in (own_block env (suc b) e) (omega arith)) (bound_block (bound_name env b name declared e ∷ env) (suc (b + width e)) rest) (omega arith) (omega arith))
+      (block_then (block_in (own_block env (suc b) e) (omega arith)) (bound_block (bound_name env b name declared e ∷ env) (suc (b + width e)) rest)
+      (omega arith) (omega arith))
       (omega arith) (omega arith))
       (omega arith)
 
@@ -530,7 +537,8 @@ mutual
 
   cases_block : (env : List Named) (b : ℕ) (cs : Cases) → Block (CasesOwn env b cs) b (b + width_cases cs) (cases_opens env b cs)
   cases_block env b NoCase = block_in (no_block b) (omega arith)
-  cases_block env b (Choose indexes body rest) = block_in (block_then (own_block env b body) (cases_block env (b + width body) rest) (omega arith) (omega arith)) (omega arith)
+  cases_block env b (Choose indexes body rest) = block_in (block_then (own_block env b body) (cases_block env (b + width body) rest) (omega arith)
+      (omega arith)) (omega arith)
 
   handlers_block : (env : List Named) (l b : ℕ) (hs : Handlers) → Block (HandlersOwn env l b hs) b (b + width_handlers hs) (handlers_opens env l b hs)
   handlers_block env l b NoHandler = block_in (no_block b) (omega arith)

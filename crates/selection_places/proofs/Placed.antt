@@ -62,9 +62,11 @@ one_seat i n (p ∷ rs) r q (later x) (later y) e fixed = one_seat (suc i) (suc 
 
 -- ---- registers that are live at once
 
-meets_apart : (f : FunctionTree) (r q : Reg) → IsRegister (selected f) r → IsRegister (selected f) q → r.number ≢ q.number → Meets (selected f) r.number q.number → r.loc ≢ loc.Unset → r.loc ≡ q.loc → ⊥
+meets_apart : (f : FunctionTree) (r q : Reg) → IsRegister (selected f) r → IsRegister (selected f) q → r.number ≢ q.number → Meets
+    (selected f) r.number q.number → r.loc ≢ loc.Unset → r.loc ≡ q.loc → ⊥
 meets_apart f r q x y apart (at_write i next there w live no_move) fixed same =
-    written_fine (Whole f) (plain_open f) (new_open f) (selected f) (selected_numbers f) _ (selected_coded f) q y (λ e. fixed (same ∙ e)) (fixed_colour f q y (λ e. fixed (same ∙ e))) r x apart same i next there w live
+    written_fine (Whole f) (plain_open f) (new_open f) (selected f) (selected_numbers f) _ (selected_coded f) q y (λ e. fixed (same ∙ e))
+    (fixed_colour f q y (λ e. fixed (same ∙ e))) r x apart same i next there w live
 meets_apart f r q x y apart (at_params a live) fixed same =
     let open_q : q.loc ≢ loc.Unset = λ e. fixed (same ∙ e) in
     let soon = live_soon (Whole f) (plain_open f) (new_open f) (selected f) (selected_numbers f) _ (selected_coded f) q y open_q refl live whole in
@@ -75,7 +77,8 @@ meets_apart f r q x y apart (at_params a live) fixed same =
     let r_in = subst (λ z. Member z (seats 0 first (params_of f))) is_r p.member in
     apart (ap (λ (z : Reg). z.number) (one_seat 0 first (params_of f) r q r_in q_in same fixed))
 
-joined_apart : (f : FunctionTree) (r q : Reg) → IsRegister (selected f) r → IsRegister (selected f) q → Joined (selected f) r.number q.number → r.loc ≢ loc.Unset → r.loc ≡ q.loc → ⊥
+joined_apart : (f : FunctionTree) (r q : Reg) → IsRegister (selected f) r → IsRegister (selected f) q → Joined (selected f) r.number q.number →
+    r.loc ≢ loc.Unset → r.loc ≡ q.loc → ⊥
 joined_apart f r q x y (one_way apart meets) fixed same = meets_apart f r q x y apart meets fixed same
 joined_apart f r q x y (other_way apart meets) fixed same = meets_apart f q r y x (λ e. apart (sym e)) meets (λ e. fixed (same ∙ e)) (sym same)
 

@@ -136,16 +136,23 @@ mutual
   fixed env names b (Operator at op e g) fits r (in_right (in_right (in_right (in_right x)))) u = fixed env names _ g fits.1 r x u
   fixed env names b (App at callee arguments result result_at) fits r (left x) u = not_dropped r env b (App at callee arguments result result_at) x
   fixed env names b (App at callee arguments result result_at) fits r (in_right (left x)) u = not_one refl x
-  fixed env names b (App at callee arguments result result_at) fits r (in_right (in_right (left x))) u = not_listed r Plain (regs_of env (suc (suc b)) arguments) refl x
-  fixed env names b (App at callee arguments result result_at) fits r (in_right (in_right (in_right (left x)))) u = seats_fixed 0 _ (regs_of env (suc (suc b)) arguments) (few_regs env (suc (suc b)) arguments fits.0) r x u
+  fixed env names b (App at callee arguments result result_at) fits r (in_right (in_right (left x))) u = not_listed r Plain
+      (regs_of env (suc (suc b)) arguments) refl x
+  fixed env names b (App at callee arguments result result_at) fits r (in_right (in_right (in_right (left x)))) u = seats_fixed 0 _
+      (regs_of env (suc (suc b)) arguments) (few_regs env (suc (suc b)) arguments fits.0) r x u
   fixed env names b (App at callee arguments result result_at) fits r (in_right (in_right (in_right (in_right (left x))))) u = result_fixed _ result r x u
-  fixed env names b (App at callee arguments result result_at) fits r (in_right (in_right (in_right (in_right (in_right (left x)))))) u = fixed env names _ callee (fits.1).0 r x u
-  fixed env names b (App at callee arguments result result_at) fits r (in_right (in_right (in_right (in_right (in_right (in_right x)))))) u = fixed_row env names _ arguments (fits.1).1 r x u
-  fixed env names b (Extcall at frame name arguments result result_at) fits r (left x) u = not_dropped r env b (Extcall at frame name arguments result result_at) x
+  fixed env names b (App at callee arguments result result_at) fits r (in_right (in_right (in_right (in_right (in_right (left x)))))) u =
+      fixed env names _ callee (fits.1).0 r x u
+  fixed env names b (App at callee arguments result result_at) fits r (in_right (in_right (in_right (in_right (in_right (in_right x)))))) u =
+      fixed_row env names _ arguments (fits.1).1 r x u
+  fixed env names b (Extcall at frame name arguments result result_at) fits r (left x) u = not_dropped r env b
+      (Extcall at frame name arguments result result_at) x
   fixed env names b (Extcall at frame name arguments result result_at) fits r (in_right (left x)) u = not_listed r Plain (regs_of env (suc b) arguments) refl x
-  fixed env names b (Extcall at frame name arguments result result_at) fits r (in_right (in_right (left x))) u = seats_fixed 0 _ (regs_of env (suc b) arguments) (few_regs env (suc b) arguments fits.0) r x u
+  fixed env names b (Extcall at frame name arguments result result_at) fits r (in_right (in_right (left x))) u = seats_fixed 0 _
+      (regs_of env (suc b) arguments) (few_regs env (suc b) arguments fits.0) r x u
   fixed env names b (Extcall at frame name arguments result result_at) fits r (in_right (in_right (in_right (left x)))) u = result_fixed _ result r x u
-  fixed env names b (Extcall at frame name arguments result result_at) fits r (in_right (in_right (in_right (in_right x)))) u = fixed_row env names _ arguments (fits.1).1 r x u
+  fixed env names b (Extcall at frame name arguments result result_at) fits r (in_right (in_right (in_right (in_right x)))) u =
+      fixed_row env names _ arguments (fits.1).1 r x u
   fixed env names b (Seq at elements) fits r (left x) u = not_dropped r env b (Seq at elements) x
   fixed env names b (Seq at elements) fits r (in_right x) u = fixed_seq env names _ elements fits r x u
   fixed env names b (If at condition e g) fits r (left x) u = not_dropped r env b (If at condition e g) x
@@ -161,10 +168,12 @@ mutual
   fixed env names b (Exit at label_at label arguments) fits r (in_right x) u = fixed_row env names _ arguments fits r x u
   fixed env names b (Load at chunk address) fits r (left x) u = not_dropped r env b (Load at chunk address) x
   fixed env names b (Load at chunk address) fits r (in_right (left x)) u = not_one refl x
-  fixed env names b (Load at chunk address) fits r (in_right (in_right x)) u = fixed_base env names _ address fits r (λ x u. fixed env names _ address fits r x u) x u
+  fixed env names b (Load at chunk address) fits r (in_right (in_right x)) u = fixed_base env names _ address fits r
+      (λ x u. fixed env names _ address fits r x u) x u
   fixed env names b (Store at chunk address e) fits r (left x) u = not_one refl x
   fixed env names b (Store at chunk address e) fits r (in_right (left x)) u = not_one refl x
-  fixed env names b (Store at chunk address e) fits r (in_right (in_right (left x))) u = fixed_base env names _ address fits.0 r (λ x u. fixed env names _ address fits.0 r x u) x u
+  fixed env names b (Store at chunk address e) fits r (in_right (in_right (left x))) u = fixed_base env names _ address fits.0 r
+      (λ x u. fixed env names _ address fits.0 r x u) x u
   fixed env names b (Store at chunk address e) fits r (in_right (in_right (in_right x))) u = fixed env names _ e fits.1 r x u
   fixed env names b (Checkbound at e g) fits r (left x) u = not_one refl x
   fixed env names b (Checkbound at e g) fits r (in_right (left x)) u = not_one refl x
@@ -179,16 +188,20 @@ mutual
   fixed env names b (Switch at size_at size selector cases) fits r (in_right (in_right (in_right x))) u = fixed_cases env names _ cases (fits.1).1 r x u
   fixed env names b (Try at body name_at name handler) fits r (left x) u = not_dropped r env b (Try at body name_at name handler) x
   fixed env names b (Try at body name_at name handler) fits r (in_right (left x)) u = not_one refl x
-  fixed env names b (Try at body name_at name handler) fits r (in_right (in_right (left (it c q)))) u = seat_fixed 0 (suc (suc (suc (suc b)))) comp.Val (omega arith) (sym (ap (λ (z : Reg). z.loc) q) ∙ u)
+  fixed env names b (Try at body name_at name handler) fits r (in_right (in_right (left (it c q)))) u = seat_fixed 0 (suc (suc (suc (suc b)))) comp.Val
+      (omega arith) (sym (ap (λ (z : Reg). z.loc) q) ∙ u)
   fixed env names b (Try at body name_at name handler) fits r (in_right (in_right (in_right (left x)))) u = fixed env names _ body fits.0 r x u
   fixed env names b (Try at body name_at name handler) fits r (in_right (in_right (in_right (in_right x)))) u = fixed _ _ _ handler fits.1 r x u
   fixed env names b (Alloc at header_at header operands) fits r (left x) u = not_dropped r env b (Alloc at header_at header operands) x
   fixed env names b (Alloc at header_at header operands) fits r (in_right (left x)) u = not_one refl x
   fixed env names b (Alloc at header_at header operands) fits r (in_right (in_right (left x))) u = not_one refl x
-  fixed env names b (Alloc at header_at header operands) fits r (in_right (in_right (in_right (left x)))) u = not_listed r Plain (regs_of env (suc (suc (suc b))) operands) refl x
-  fixed env names b (Alloc at header_at header operands) fits r (in_right (in_right (in_right (in_right x)))) u = fixed_row env names _ operands (fits.1).1 r x u
+  fixed env names b (Alloc at header_at header operands) fits r (in_right (in_right (in_right (left x)))) u = not_listed r Plain
+      (regs_of env (suc (suc (suc b))) operands) refl x
+  fixed env names b (Alloc at header_at header operands) fits r (in_right (in_right (in_right (in_right x)))) u = fixed_row env names _ operands
+      (fits.1).1 r x u
 
-  fixed_base : (env : List Named) (names : List Scoped) (b : ℕ) (e : Expression) → Fits names e → (r : Reg) → (Own env b e Seated r → r.loc ≢ loc.Unset) → BaseOwn env b e (Own env b e) Seated r → r.loc ≢ loc.Unset
+  fixed_base : (env : List Named) (names : List Scoped) (b : ℕ) (e : Expression) → Fits names e → (r : Reg) → (Own env b e Seated r → r.loc ≢ loc.Unset) →
+      BaseOwn env b e (Own env b e) Seated r → r.loc ≢ loc.Unset
   fixed_base env names b (Operator at op base (Integer at' w)) fits r whole x u =
       chosen (Own env b base) (Own env b (Operator at op base (Integer at' w))) (is_based op w) r (λ z. fixed env names b base fits.0 r z u) (λ z. whole z u) x
   fixed_base env names b e fits r whole x u = whole x u
@@ -198,7 +211,8 @@ mutual
   fixed_row env names b (More e rest) fits r (left x) u = fixed env names _ e fits.0 r x u
   fixed_row env names b (More e rest) fits r (in_right x) u = fixed_row env names _ rest fits.1 r x u
 
-  fixed_bound : (env : List Named) (names : List Scoped) (b : ℕ) (bs : Bindings) → BindingsFit names bs → (r : Reg) → BoundOwn env b bs Seated r → r.loc ≢ loc.Unset
+  fixed_bound : (env : List Named) (names : List Scoped) (b : ℕ) (bs : Bindings) → BindingsFit names bs → (r : Reg) → BoundOwn env b bs Seated r →
+      r.loc ≢ loc.Unset
   fixed_bound env names b NoBinding fits r x u = x
   fixed_bound env names b (Bind at name declared e rest) fits r (left x) u = not_one refl x
   fixed_bound env names b (Bind at name declared e rest) fits r (in_right (left x)) u = fixed env names _ e fits.0 r x u
@@ -215,14 +229,16 @@ mutual
   fixed_cases env names b (Choose indexes body rest) fits r (left x) u = fixed env names _ body fits.0 r x u
   fixed_cases env names b (Choose indexes body rest) fits r (in_right x) u = fixed_cases env names _ rest fits.1 r x u
 
-  fixed_handlers : (env : List Named) (names : List Scoped) (l b : ℕ) (hs : Handlers) → HandlersFit names hs → (r : Reg) → HandlersOwn env l b hs Seated r → r.loc ≢ loc.Unset
+  fixed_handlers : (env : List Named) (names : List Scoped) (l b : ℕ) (hs : Handlers) → HandlersFit names hs → (r : Reg) → HandlersOwn env l b hs Seated r →
+      r.loc ≢ loc.Unset
   fixed_handlers env names l b NoHandler fits r x u = x
   fixed_handlers env names l b (Handle at label params body rest) fits r (left x) u = fixed _ _ _ body fits.0 r x u
   fixed_handlers env names l b (Handle at label params body rest) fits r (in_right x) u = fixed_handlers env names _ _ rest fits.1 r x u
 
 whole_fixed : (f : FunctionTree) → FunctionFits f → (r : Reg) → Whole f Seated r → r.loc ≢ loc.Unset
 whole_fixed f fits r (left x) u = colours_fixed 0 colours r x u
-whole_fixed f fits r (in_right (left x)) u = seats_fixed 0 first (params_of f) (let same = params_length (moved_at f) f.params in let few = fits.params in omega (arith, same, few)) r x u
+whole_fixed f fits r (in_right (left x)) u = seats_fixed 0 first (params_of f)
+    (let same = params_length (moved_at f) f.params in let few = fits.params in omega (arith, same, few)) r x u
 whole_fixed f fits r (in_right (in_right (left x))) u = not_listed r Plain (params_of f) refl x
 whole_fixed f fits r (in_right (in_right (in_right (left x)))) u = not_one refl x
 whole_fixed f fits r (in_right (in_right (in_right (in_right (left x))))) u = result_fixed _ (result_of (body_type f)) r x u

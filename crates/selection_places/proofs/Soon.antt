@@ -113,7 +113,8 @@ heavy_pure (mach.Mark f) e = refl
 same_number : {q d : Reg} → q ≡ d → Among q.number (d ∷ [])
 same_number e = first (ap (λ (z : Reg). z.number) (sym e))
 
-module _ (Q : Role → Reg → Type 0) (open_plain : (r : Reg) → Q Plain r → r.loc ≡ loc.Unset) (open_new : (r : Reg) → Q New r → r.loc ≡ loc.Unset) (q : Reg) (fixed : q.loc ≢ loc.Unset) where
+module _ (Q : Role → Reg → Type 0) (open_plain : (r : Reg) → Q Plain r → r.loc ≡ loc.Unset) (open_new : (r : Reg) → Q New r → r.loc ≡ loc.Unset) (q : Reg)
+    (fixed : q.loc ≢ loc.Unset) where
   open_read : {P : List Reg} → Reads Q P q → ⊥
   open_read (reads_plain p) = fixed (open_plain q p)
   open_read (reads_new p m) = fixed (open_new q p)
@@ -193,7 +194,8 @@ module _ (Q : Role → Reg → Type 0) (open_plain : (r : Reg) → Q Plain r →
   heavy_handler (mach.Op f) e l = refl
   heavy_handler (mach.Mark f) e l = absurd (true≢false (sym e))
 
-  pub not_at_handler : {S P : List Reg} {code : List Instr} {i : Instr} {next : List Instr} (l : ℕ) → Coded Q S P code → Suffix (i ∷ next) code → is_handler_of l i.op ≡ true → Soon q (i ∷ next) → ⊥
+  pub not_at_handler : {S P : List Reg} {code : List Instr} {i : Instr} {next : List Instr} (l : ℕ) → Coded Q S P code → Suffix (i ∷ next) code →
+      is_handler_of l i.op ≡ true → Soon q (i ∷ next) → ⊥
   not_at_handler l ends w e s = elim w [ ]
   not_at_handler l (plain a u n x) whole e s = elim (soon_in (plain a u n x) s) [ ]
   not_at_handler l (plain a u n x) (beyond w) e s = not_at_handler l x w e s
@@ -269,9 +271,14 @@ killed_here {r} (s ∷ rs) d results m = by (is_destroyed d s.loc && not (is_at_
     more : Killed r rs results → Killed r (s ∷ rs) results
     more k = record { among = coded.later k.among; elsewhere = k.elsewhere }
 
-    by : (b : Bool) → (is_destroyed d s.loc && not (is_at_one_of s.loc results)) ≡ b → (Member r (killed_among rs d results) → Killed r rs results) → Member r (cond b (s ∷ killed_among rs d results) (killed_among rs d results)) → Killed r (s ∷ rs) results
+    by : (b : Bool) → (is_destroyed d s.loc && not (is_at_one_of s.loc results)) ≡ b → (Member r (killed_among rs d results) → Killed r rs results) →
+        Member r (cond b (s ∷ killed_among rs d results) (killed_among rs d results)) → Killed r (s ∷ rs) results
     by true e others (coded.first same) =
-        record { among = coded.first same; elsewhere = subst (λ (z : Reg). is_at_one_of z.loc results ≡ false) (sym same) (not_true (is_at_one_of s.loc results) (and_right (is_destroyed d s.loc) (not (is_at_one_of s.loc results)) e)) }
+        record {
+          among = coded.first same;
+          elsewhere = subst (λ (z : Reg). is_at_one_of z.loc results ≡ false) (sym same)
+              (not_true (is_at_one_of s.loc results) (and_right (is_destroyed d s.loc) (not (is_at_one_of s.loc results)) e));
+        }
     by true e others (coded.later m) = more (others m)
     by false e others m = more (others m)
 
@@ -286,7 +293,8 @@ killed_member rs i m = let k = killed_from rs (destroyed_by i.op) i.results m in
 
 -- ---- liveness
 
-module _ (Q : Role → Reg → Type 0) (open_plain : (r : Reg) → Q Plain r → r.loc ≡ loc.Unset) (open_new : (r : Reg) → Q New r → r.loc ≡ loc.Unset) (m : Mach) (numbers : NumbersTell m) (S : List Reg) (is : Coded Q S [] m.code)
+module _ (Q : Role → Reg → Type 0) (open_plain : (r : Reg) → Q Plain r → r.loc ≡ loc.Unset) (open_new : (r : Reg) → Q New r → r.loc ≡ loc.Unset) (m : Mach)
+    (numbers : NumbersTell m) (S : List Reg) (is : Coded Q S [] m.code)
     (q : Reg) (among : IsRegister m q) (fixed : q.loc ≢ loc.Unset) where
   fine : {i : Instr} {next : List Instr} → Suffix (i ∷ next) m.code → Soon q next → Fine q i
   fine w s = fine_in Q open_plain open_new q fixed is w s

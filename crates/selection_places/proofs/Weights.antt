@@ -66,7 +66,8 @@ w_none = record { at = λ next. omega arith }
 w_operation : (f : Op) (args results : List Reg) → Weighs (suc (length args + length results)) (λ next. emit.operation f args results ∷ next)
 w_operation f args results = record { at = λ next. omega arith }
 
-w_mark : (f : Mark) (args results : List Reg) → Weighs (suc (length args + length results)) (λ next. record { op = mach.Mark f; args = args; results = results } ∷ next)
+w_mark : (f : Mark) (args results : List Reg) → Weighs (suc (length args + length results))
+    (λ next. record { op = mach.Mark f; args = args; results = results } ∷ next)
 w_mark f args results = record { at = λ next. omega arith }
 
 w_bare : (f : Mark) → Weighs 1 (λ next. bare f ∷ next)
@@ -127,7 +128,8 @@ w_right (ConstantRight i) e = record { at = λ next. omega arith }
 w_right (ConstantLeft i) e = e
 w_right (PowerRight k) e = record { at = λ next. omega arith }
 
-w_tested : {value : Code} {n : ℕ} (o : Option Test) (fused : Test → Code) → ((t : Test) → Weighs n (fused t)) → Weighs n value → Weighs n (λ next. tested o (λ t. fused t next) (value next))
+w_tested : {value : Code} {n : ℕ} (o : Option Test) (fused : Test → Code) → ((t : Test) → Weighs n (fused t)) → Weighs n value → Weighs n
+    (λ next. tested o (λ t. fused t next) (value next))
 w_tested (Some t) fused f v = f t
 w_tested None fused f v = v
 
@@ -167,12 +169,20 @@ callee_few : (o : Option (List ℕ)) (f : Reg) (rs : List Reg) → length (calle
 callee_few (Some name) f rs = omega arith
 callee_few None f rs = omega arith
 
-w_call : (tail valued : Bool) (result : Ret) (o : Option (List ℕ)) (f : Reg) (rs : List Reg) (n : ℕ) (d : Reg) → Weighs (6 + length rs) (call_of tail valued result o f rs n d)
+w_call : (tail valued : Bool) (result : Ret) (o : Option (List ℕ)) (f : Reg) (rs : List Reg) (n : ℕ) (d : Reg) → Weighs (6 + length rs)
+    (call_of tail valued result o f rs n d)
 w_call true valued result o f rs n d = record { at = λ next. let few = callee_few o f rs in omega (arith, few) }
-w_call false valued result o f rs n d = record { at = λ next. let few = callee_few o f rs in let one = result_few n result in let last = (w_given n result d).at next in omega (arith, few, one, last) }
+w_call false valued result o f rs n d = record {
+  at = λ next. let few = callee_few o f rs in let one = result_few n result in let last =
+      (w_given n result d).at next in omega (arith, few, one, last);
+}
 
-w_external : (name : List ℕ) (comps : List Comp) (result : Ret) (frame : Bool) (rs : List Reg) (n : ℕ) (d : Reg) → Weighs (6 + length rs) (λ next. emit.external name comps result frame rs (result_seat n result) ∷ from_seat n result d next)
-w_external name comps result frame rs n d = record { at = λ next. let one = result_few n result in let last = (w_given n result d).at next in omega (arith, one, last) }
+w_external : (name : List ℕ) (comps : List Comp) (result : Ret) (frame : Bool) (rs : List Reg) (n : ℕ) (d : Reg) → Weighs (6 + length rs)
+    (λ next. emit.external name comps result frame rs (result_seat n result) ∷ from_seat n result d next)
+w_external name comps result frame rs n d = record {
+  at = λ next. let one = result_few n result in let last = (w_given n result d).at next in omega
+      (arith, one, last);
+}
 
 -- the widths of the operands that wait, and of the others
 abbrev waits : List Named → Expressions → ℕ
@@ -191,19 +201,23 @@ parts env (More e rest) =
     omega (arith, here, others)
 
 mutual
-  w_select : (env : List Named) (labels : List Label) (valued tail : Bool) (d : Reg) (b : ℕ) (e : Expression) → Weighs (8 * width e) (select env labels valued tail d b e)
+  w_select : (env : List Named) (labels : List Label) (valued tail : Bool) (d : Reg) (b : ℕ) (e : Expression) → Weighs (8 * width e)
+      (select env labels valued tail d b e)
   w_select env labels valued tail d b (Integer at w) = w_up (omega arith) (w_operation _ [] (inner_dest (type_of (scopes env) (Integer at w)) b d ∷ []))
   w_select env labels valued tail d b (Pointer at w) = w_up (omega arith) (w_operation _ [] (inner_dest (type_of (scopes env) (Pointer at w)) b d ∷ []))
   w_select env labels valued tail d b (Symbol at name) = w_up (omega arith) (w_operation _ [] (inner_dest (type_of (scopes env) (Symbol at name)) b d ∷ []))
   w_select env labels valued tail d b (Name at x) = w_up (omega arith) (w_from (reg_of env x) _)
   w_select env labels valued tail d b (Nothing at) = w_up (omega arith) w_none
   w_select env labels valued tail d b (Float at word_at operands) = w_up (omega arith) w_none
-  w_select env labels valued tail d b (Let at bindings body) = w_up (omega arith) (w_then (w_bound env labels (suc b) bindings) (w_select _ labels _ tail _ _ body))
-  w_select env labels valued tail d b (Assign at name_at name e) = w_up (omega arith) (w_then (w_select env labels false false _ _ e) (w_to _ (reg_of env name)))
+  w_select env labels valued tail d b (Let at bindings body) = w_up (omega arith)
+      (w_then (w_bound env labels (suc b) bindings) (w_select _ labels _ tail _ _ body))
+  w_select env labels valued tail d b (Assign at name_at name e) = w_up (omega arith)
+      (w_then (w_select env labels false false _ _ e) (w_to _ (reg_of env name)))
   w_select env labels valued tail d b (Operator at op e g) =
       let s = shape_of op e g in
       w_up (omega arith)
-      (w_then (w_ordered (is_left_first (scopes env) e g) (w_left s (w_select env labels false false _ _ e)) (w_right s (w_select env labels false false _ _ g))) (w_operator s op _ _ _))
+      (w_then (w_ordered (is_left_first (scopes env) e g) (w_left s (w_select env labels false false _ _ e))
+      (w_right s (w_select env labels false false _ _ g))) (w_operator s op _ _ _))
   w_select env labels valued tail d b (App at callee arguments result result_at) =
       let light = is_light_address (scopes env) callee in
       let regs = regs_of env (suc (suc b)) arguments in
@@ -231,7 +245,8 @@ mutual
   w_select env labels valued tail d b (Seq at elements) = w_up (omega arith) (w_seq env labels _ tail _ _ elements)
   w_select env labels valued tail d b (If at condition e g) =
       w_up (omega arith)
-      (w_then (w_test env labels _ _ condition (w_then (w_select env labels false false _ _ condition) (w_up (omega arith) (w_mark (mark.If test.Holds (suc (suc b))) (fresh (suc b) (type_of (scopes env) condition) ∷ []) []))))
+      (w_then (w_test env labels _ _ condition (w_then (w_select env labels false false _ _ condition)
+      (w_up (omega arith) (w_mark (mark.If test.Holds (suc (suc b))) (fresh (suc b) (type_of (scopes env) condition) ∷ []) []))))
       (w_then (w_select env labels _ tail _ _ e) (w_then (w_bare _) (w_then (w_select env labels _ tail _ _ g) (w_bare _)))))
   w_select env labels valued tail d b (Catch at body handlers) =
       w_up (omega arith) (w_then (w_bare _) (w_then (w_select env _ _ tail _ _ body) (w_then (w_handlers env _ _ tail _ _ _ _ handlers) (w_bare _))))
@@ -240,7 +255,8 @@ mutual
       let sum = row_width arguments in
       let count = regs_length env (suc b) arguments in
       w_up (omega (arith, all, sum, count))
-      (w_then (w_waiting env labels _ _ arguments) (w_then (w_filled env labels _ _ arguments) (w_exit (label_of labels label) (regs_of env (suc b) arguments))))
+      (w_then (w_waiting env labels _ _ arguments) (w_then (w_filled env labels _ _ arguments)
+      (w_exit (label_of labels label) (regs_of env (suc b) arguments))))
   w_select env labels valued tail d b (Alloc at header_at header operands) =
       let p = fresh (suc b) ty.Val in
       let q = fresh (suc (suc b)) ty.Int in
@@ -260,11 +276,13 @@ mutual
       (w_operation _ (fresh (suc b) (type_of (scopes env) (base_of address)) ∷ []) (inner_dest (type_of (scopes env) (Load at chunk address)) b d ∷ [])))
   w_select env labels valued tail d b (Store at chunk address e) =
       w_up (omega arith)
-      (w_then (w_ordered (is_left_first (scopes env) address e) (w_base env labels _ _ address (w_select env labels false false _ _ address)) (w_select env labels false false _ _ e))
+      (w_then (w_ordered (is_left_first (scopes env) address e) (w_base env labels _ _ address (w_select env labels false false _ _ address))
+      (w_select env labels false false _ _ e))
       (w_operation _ (fresh (suc b) (type_of (scopes env) (base_of address)) ∷ fresh (suc (suc b)) (type_of (scopes env) e) ∷ []) []))
   w_select env labels valued tail d b (Checkbound at e g) =
       w_up (omega arith)
-      (w_then (w_ordered (is_left_first (scopes env) e g) (w_select env labels false false _ _ e) (w_constant (right_of bound_test g) (w_select env labels false false _ _ g)))
+      (w_then (w_ordered (is_left_first (scopes env) e g) (w_select env labels false false _ _ e)
+      (w_constant (right_of bound_test g) (w_select env labels false false _ _ g)))
       (w_checkbound (right_of bound_test g) _ _))
   w_select env labels valued tail d b (Raise at e) =
       let y = seat 0 (suc (suc b)) comp.Val in
@@ -280,20 +298,25 @@ mutual
       (w_then (w_select env (deeper labels) _ false _ _ body)
       (w_then (w_bare _) (w_then (w_mark _ [] (y ∷ [])) (w_then (w_move y _) (w_then (w_select _ labels _ tail _ _ handler) (w_bare _)))))))
 
-  w_base : {whole : Code} (env : List Named) (labels : List Label) (t b : ℕ) (e : Expression) → Weighs (8 * width e) whole → Weighs (8 * width e) (select_base env labels t b e whole)
-  w_base env labels t b (Operator at op base (Integer at' w)) inside = w_if (is_based op w) (w_up (omega arith) (w_select env labels false false (fresh t (type_of (scopes env) base)) b base)) inside
+  w_base : {whole : Code} (env : List Named) (labels : List Label) (t b : ℕ) (e : Expression) → Weighs (8 * width e) whole → Weighs (8 * width e)
+      (select_base env labels t b e whole)
+  w_base env labels t b (Operator at op base (Integer at' w)) inside = w_if (is_based op w)
+      (w_up (omega arith) (w_select env labels false false (fresh t (type_of (scopes env) base)) b base)) inside
   w_base env labels t b e inside = inside
 
-  w_test : {value : Code} (env : List Named) (labels : List Label) (l b : ℕ) (e : Expression) → Weighs (8 * width e + 3) value → Weighs (8 * width e + 3) (λ next. select_test env labels l b e (value next) next)
+  w_test : {value : Code} (env : List Named) (labels : List Label) (l b : ℕ) (e : Expression) → Weighs (8 * width e + 3) value → Weighs (8 * width e + 3)
+      (λ next. select_test env labels l b e (value next) next)
   w_test env labels l b (Operator at op e g) v =
       let s = shape_of op e g in
       w_tested (comparison (shape_op s op) (shape_right s)) _
       (λ t. w_up (omega arith)
-      (w_then (w_ordered (is_left_first (scopes env) e g) (w_left s (w_select env labels false false _ _ e)) (w_right s (w_select env labels false false _ _ g))) (w_branch t l s _ _)))
+      (w_then (w_ordered (is_left_first (scopes env) e g) (w_left s (w_select env labels false false _ _ e))
+      (w_right s (w_select env labels false false _ _ g))) (w_branch t l s _ _)))
       v
   w_test env labels l b e v = v
 
-  w_cases : (env : List Named) (labels : List Label) (valued tail : Bool) (d : Reg) (all : List ℕ) (end l b : ℕ) (cs : Cases) → Weighs (8 * (width_cases cs + count_cases cs)) (select_cases env labels valued tail d all end l b cs)
+  w_cases : (env : List Named) (labels : List Label) (valued tail : Bool) (d : Reg) (all : List ℕ) (end l b : ℕ) (cs : Cases) → Weighs
+      (8 * (width_cases cs + count_cases cs)) (select_cases env labels valued tail d all end l b cs)
   w_cases env labels valued tail d all end l b NoCase = w_up (omega arith) w_none
   w_cases env labels valued tail d all end l b (Choose indexes body rest) =
       w_up (omega arith) (w_then (w_bare _) (w_then (w_select env labels valued tail d b body) (w_cases env labels valued tail d all end _ _ rest)))
@@ -301,7 +324,8 @@ mutual
   w_waiting : (env : List Named) (labels : List Label) (b i : ℕ) (es : Expressions) → Weighs (8 * waits env es) (select_waiting env labels b i es)
   w_waiting env labels b i NoMore = w_up (omega arith) w_none
   w_waiting env labels b i (More e rest) =
-      w_up (omega arith) (w_then (w_waiting env labels _ _ rest) (w_when (not (is_light_address (scopes env) e)) (width e) (w_select env labels false false _ i e)))
+      w_up (omega arith) (w_then (w_waiting env labels _ _ rest) (w_when (not (is_light_address (scopes env) e)) (width e)
+      (w_select env labels false false _ i e)))
 
   w_filled : (env : List Named) (labels : List Label) (b i : ℕ) (es : Expressions) → Weighs (8 * stays env es) (select_filled env labels b i es)
   w_filled env labels b i NoMore = w_up (omega arith) w_none
@@ -312,12 +336,15 @@ mutual
   w_bound env labels b NoBinding = w_up (omega arith) w_none
   w_bound env labels b (Bind at name declared e rest) = w_up (omega arith) (w_then (w_select env labels false false _ _ e) (w_bound _ labels _ rest))
 
-  w_seq : (env : List Named) (labels : List Label) (valued tail : Bool) (d : Reg) (b : ℕ) (es : Expressions) → Weighs (8 * width_row es) (select_seq env labels valued tail d b es)
+  w_seq : (env : List Named) (labels : List Label) (valued tail : Bool) (d : Reg) (b : ℕ) (es : Expressions) → Weighs (8 * width_row es)
+      (select_seq env labels valued tail d b es)
   w_seq env labels valued tail d b NoMore = w_up (omega arith) w_none
   w_seq env labels valued tail d b (More e NoMore) = w_up (omega arith) (w_select env labels valued tail d (suc b) e)
-  w_seq env labels valued tail d b (More e (More g rest)) = w_up (omega arith) (w_then (w_select env labels false false _ _ e) (w_seq env labels valued tail d _ (More g rest)))
+  w_seq env labels valued tail d b (More e (More g rest)) = w_up (omega arith)
+      (w_then (w_select env labels false false _ _ e) (w_seq env labels valued tail d _ (More g rest)))
 
-  w_handlers : (env : List Named) (labels : List Label) (valued tail : Bool) (d : Reg) (end l b : ℕ) (hs : Handlers) → Weighs (8 * (width_handlers hs + width_labels hs)) (select_handlers env labels valued tail d end l b hs)
+  w_handlers : (env : List Named) (labels : List Label) (valued tail : Bool) (d : Reg) (end l b : ℕ) (hs : Handlers) → Weighs
+      (8 * (width_handlers hs + width_labels hs)) (select_handlers env labels valued tail d end l b hs)
   w_handlers env labels valued tail d end l b NoHandler = w_up (omega arith) w_none
   w_handlers env labels valued tail d end l b (Handle at label params body rest) =
       w_up (omega arith) (w_then (w_bare _) (w_then (w_select _ labels valued tail d b body) (w_handlers env labels valued tail d end _ _ rest)))
@@ -330,7 +357,8 @@ w_returns d n (ret.Comp c) = omega arith
 pub selected_weight : (f : FunctionTree) → weight (selected f).code ≤ 8 * width f.body + 3 * length f.params + 5
 selected_weight f =
     let d = fresh (value_at f) (body_type f) in
-    let whole = w_then (w_moves (seats 0 first (params_of f)) (params_of f)) (w_select (env_of f) [] (not (is_no_value (body_type f))) true d (suc (suc (value_at f))) f.body) in
+    let whole = w_then (w_moves (seats 0 first (params_of f)) (params_of f))
+    (w_select (env_of f) [] (not (is_no_value (body_type f))) true d (suc (suc (value_at f))) f.body) in
     let all = whole.at (returns d (suc (value_at f)) (result_of (body_type f))) in
     let last = w_returns d (suc (value_at f)) (result_of (body_type f)) in
     let seated = seats_length 0 first (params_of f) in

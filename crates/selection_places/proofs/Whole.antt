@@ -52,7 +52,8 @@ colours_block : (n : ℕ) (cs : List ℕ) → ((c : ℕ) → Contains cs c → C
 colours_block n [] inside = block_in (no_block n) (omega arith)
 colours_block n (c ∷ cs) inside =
     block_in
-    (block_then (block_seated (record { number = n; comp = comp.Int; loc = loc.Machine c; origin = n }) refl (inr (record { colour = c; among = inside c (contains_head c cs); is = refl })))
+    (block_then (block_seated (record { number = n; comp = comp.Int; loc = loc.Machine c; origin = n }) refl
+    (inr (record { colour = c; among = inside c (contains_head c cs); is = refl })))
     (colours_block (suc n) cs (λ k m. inside k (contains_tail c cs k m))) (omega arith) (omega arith))
     (omega arith)
 
