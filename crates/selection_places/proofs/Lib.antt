@@ -13,3 +13,4 @@ pub mod NamedOnes
 pub mod Opens
 pub mod Formed
 pub mod Lacks
+pub mod Widths
