@@ -27,16 +27,25 @@ pub enum Piece {
     /// To the label, as one row of a table of jumps: two words, however far it is.
     Row(u32),
     /// The address of the label's place becomes the register's value. Two words.
-    LabelAddress { to: Register, label: u32 },
+    LabelAddress {
+        to: Register,
+        label: u32,
+    },
     /// Calls the function of this name: `ra` becomes the address after the two words.
     Call(Name),
     /// Goes to the function of this name, and leaves `ra` as it is. Two words, and t1 is lost.
     TailCall(Name),
     /// The value of the symbol becomes the register's value: the address of its data or of the
     /// function. Two words.
-    SymbolAddress { to: Register, name: Name },
+    SymbolAddress {
+        to: Register,
+        name: Name,
+    },
     /// The number of the external call's row in the image becomes the register's value. Two words.
-    ExternalNumber { to: Register, row: External },
+    ExternalNumber {
+        to: Register,
+        row: External,
+    },
     /// The place is a return address, and this is its descriptor. It takes no words.
     Descriptor(Descr),
 }
