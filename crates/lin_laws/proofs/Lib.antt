@@ -1,0 +1,4 @@
+pub mod Places
+pub mod Walking
+pub mod Reaching
+pub mod Unique
