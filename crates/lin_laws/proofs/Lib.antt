@@ -2,3 +2,4 @@ pub mod Places
 pub mod Walking
 pub mod Reaching
 pub mod Unique
+pub mod Numbers
