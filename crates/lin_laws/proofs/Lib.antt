@@ -3,3 +3,4 @@ pub mod Walking
 pub mod Reaching
 pub mod Unique
 pub mod Numbers
+pub mod Entries
