@@ -1,0 +1,5 @@
+pub mod Labels
+pub mod Search
+pub mod Nodes
+pub mod Points
+pub mod Described
