@@ -12,6 +12,7 @@ use Rattle.lin_ir.specs.declared.lin.Line.{Line}
 use Rattle.lin_ir.specs.declared.lin.Lin.{Lin}
 use Rattle.lin_laws.specs.Graph.{place_of}
 use Rattle.lin_laws.specs.Numbers.{run, entry_of, entries_from}
+use Rattle.frame_tables.specs.Described.{entry_if}
 use Rattle.frame_tables.specs.Labels.{place_in, place_to}
 use Rattle.frame_tables.specs.declared.labels.Labels.{Labels}
 
@@ -82,6 +83,13 @@ entries_no t n set items lt is h =
     let d : drop n set ≡ false ∷ drop (n + 1) set = drop_more set n false lt ∙ ap (λ b. b ∷ drop (n + 1) set) is in
     let next : suc n ≡ n + 1 = omega arith in
     ap (λ k. items ++ entries_from t k (drop (n + 1) set)) (sym next) ∙ ap (λ xs. items ++ entries_from t n xs) (sym d) ∙ h
+
+pub entries_step : (t n : ℕ) (set : List Bool) (items more : List ℕ) (b : Bool) → n < length set → b ≡ has set n →
+    items ++ entries_from t n (drop n set) ≡ entries_from t 0 set → more ≡ items ++ entry_if b (entry_of t n) →
+    more ++ entries_from t (n + 1) (drop (n + 1) set) ≡ entries_from t 0 set
+entries_step t n set items more true lt is h e = entries_yes t n set items more lt (sym is) h e
+entries_step t n set items more false lt is h e =
+    ap (λ xs. xs ++ entries_from t (n + 1) (drop (n + 1) set)) (e ∙ append-nil items) ∙ entries_no t n set items lt (sym is) h
 
 pub entries_done : (t n : ℕ) (set : List Bool) (items : List ℕ) → length set ≤ n →
     items ++ entries_from t n (drop n set) ≡ entries_from t 0 set → items ≡ entries_from t 0 set

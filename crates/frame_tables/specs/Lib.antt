@@ -1,5 +1,6 @@
+pub mod Described
 pub mod Labels
-pub mod Search
+pub mod Located
 pub mod Nodes
 pub mod Points
-pub mod Described
+pub mod Search

@@ -1,9 +1,9 @@
 //! Descriptors of frame points, from what is live after them.
-ghost use Rattle.std.specs.Prelude.{◌≡◌, ◌+◌, ◌*◌, ◌<◌, ◌≤◌, ◌^◌, ℕ, length, IfOk};
+ghost use Rattle.std.specs.Prelude.{◌≡◌, ◌+◌, ◌*◌, ◌<◌, ◌≤◌, ◌^◌, ◌++◌, length, IfOk};
 ghost use Rattle.std.specs.List.{All};
 ghost use Rattle.dataflow.specs.Rows.{HasSizes};
 ghost use Rattle.lin_laws.specs.Numbers.{entry_of, entries_from};
-ghost use Rattle.frame_tables.specs.Described.{described, AreDescribed};
+ghost use Rattle.frame_tables.specs.Described.{described, entry_if, AreDescribed};
 
 use crate::after::Point;
 use crate::lines::REGISTERS;
@@ -26,6 +26,23 @@ fn entry_of(number: u32, traps: u32) -> u32
     }
 }
 
+/// Adds the entry of the location of this number, if it is a member.
+fn push_entry(
+    entries: &mut Vec<u32>,
+    member: bool,
+    number: u32,
+    traps: u32,
+) -> Result<(), AllocError>
+    requires { 8 * number + 16 * traps < 2 ^ 32 }
+    ensures { IfOk result (λ _. entries.new.items ≡ entries.old.items ++ entry_if member (entry_of traps number)) }
+{
+    if !member {
+        return Ok(());
+    }
+    entries.push(entry_of(number, traps))?;
+    Ok(())
+}
+
 /// The entries of the locations whose numbers are in the set, in the order of their numbers.
 fn entries_of(alloc: Global, set: &Bits, traps: u32) -> Result<Seq<u32>, AllocError>
     requires { 8 * length set.now + 16 * traps < 2 ^ 32 }
@@ -33,9 +50,7 @@ fn entries_of(alloc: Global, set: &Bits, traps: u32) -> Result<Seq<u32>, AllocEr
 {
     let mut entries = Vec::new(alloc);
     for number in 0..set.size() {
-        if set.contains(number) {
-            entries.push(entry_of(number, traps))?;
-        }
+        push_entry(&mut entries, set.contains(number), number, traps)?;
     }
     Ok(Seq::from_vec(entries))
 }

@@ -1,8 +1,8 @@
 //! The descriptors of a function.
 ghost use Rattle.std.specs.Prelude.{IfOk};
 ghost use Rattle.lin_ir.specs.Descriptors.{AreExact, IsWithin};
-ghost use Rattle.lin_ir.specs.Formed.{WellFormed};
 ghost use Rattle.lin_ir.specs.Walks.{OneDepth};
+ghost use Rattle.frame_tables.specs.Located.{AreLocated};
 ghost use Rattle.frame_tables.specs.Nodes.{IsText};
 ghost use Rattle.frame_tables.specs.Points.{IsSearched};
 
@@ -78,8 +78,12 @@ fn describe_searched(
 /// reads as val before it writes them, from the return address on, or from the entry of the handler
 /// of the innermost trap, where a call or a frame call may raise to it. Where walks come to a frame
 /// point with different traps, a walk from any of them counts.
+///
+/// Each location of the function has to be a colour, t0 or one of its slots; each place has to have
+/// one number of pushed traps; and frames, traps and lines have to fit what descriptors can say.
 pub fn descriptors(alloc: Global, lin: &Lin) -> Result<Seq<Descr>, AllocError>
-    requires formed { WellFormed lin.now }
+    requires located { AreLocated lin.now }
+    requires depth { OneDepth lin.now }
     requires within { IsWithin lin.now }
     ensures { IfOk result (AreExact lin.now) }
 {
