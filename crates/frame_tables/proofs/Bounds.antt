@@ -1,5 +1,5 @@
 -- What is within bounds.
-use Rattle.std.proofs.Common.{◌≡◌, ℕ, zero, suc, ◌+◌, ◌*◌, ◌/◌, ◌<◌, ◌≤◌, ◌^◌, Bool, cond, ◌⊎◌, inl, inr, ⊎_elim, List, [], ◌∷◌, ◌++◌, Some, length, drop, get_or, refl, sym, ap, ◌∙◌, subst, arith}
+use Rattle.std.proofs.Common.{◌≡◌, ℕ, ◌+◌, ◌*◌, ◌/◌, ◌<◌, ◌≤◌, ◌^◌, Bool, cond, ⊎_elim, List, [], ◌∷◌, ◌++◌, Some, length, drop, refl, sym, ap, ◌∙◌, subst, arith}
 use Rattle.std.specs.List.{All}
 use Rattle.std.specs.Prelude.{slice_get, slice_index_or}
 use Rattle.std.proofs.lemmas.Bool.{cases_lt}
@@ -9,14 +9,14 @@ use Rattle.std.proofs.lemmas.Option.{slice_get_within, slice_get-get_or}
 use Rattle.dataflow.specs.Rows.{row, HasSizes}
 use Rattle.dataflow.specs.declared.flow.Place as place
 use Rattle.lin_ir.specs.Descriptors.{frame_bytes, has_frame_point, IsWithin}
-use Rattle.lin_ir.specs.Walks.{Reached, at_entry, Traps, by_walk}
+use Rattle.lin_ir.specs.Walks.{at_entry, by_walk}
 use Rattle.lin_ir.specs.declared.descr.Descr.{Descr}
 use Rattle.lin_ir.specs.declared.lin.Lin.{Lin}
 use Rattle.lin_laws.proofs.Places.{got}
 use Rattle.lin_laws.specs.declared.position.Position.{Position}
-use Rattle.frame_tables.proofs.Searching.{pushed_cases, pushed_kept, pushed_here}
+use Rattle.frame_tables.proofs.Searching.{pushed_kept, pushed_here}
 use Rattle.frame_tables.specs.Described.{described, AreDescribed}
-use Rattle.frame_tables.specs.Points.{IsPoint, ArePoints}
+use Rattle.frame_tables.specs.Points.{ArePoints}
 use Rattle.frame_tables.specs.declared.after.Point.{Point}
 
 rounded : (s c f : ℕ) → f ≡ (8 * s + c + 15) / 16 * 16 → f + 16 * 0 ≤ 1048576 → s ≤ 131072

@@ -1,6 +1,7 @@
 -- The steps of a whole function, put together.
-use Rattle.std.proofs.Common.{◌≡◌, ℕ, suc, ◌+◌, ◌*◌, ◌<◌, ◌≤◌, ◌^◌, Bool, List, [], ◌∷◌, Some, length, refl, sym, ap, ◌∙◌, subst, arith}
+use Rattle.std.proofs.Common.{◌≡◌, ℕ, ◌+◌, ◌*◌, ◌<◌, ◌≤◌, ◌^◌, Bool, List, [], length, drop, sym, ap, subst, arith}
 use Rattle.std.specs.List.{All}
+use Rattle.std.proofs.lemmas.List.{drop_all}
 use Rattle.bs_words.specs.Contents.{contents}
 use Rattle.dataflow.specs.Flow.{WellFormed}
 use Rattle.dataflow.specs.Live.{IsLiveness}
@@ -15,7 +16,7 @@ use Rattle.lin_laws.specs.declared.position.Position.{Position}
 use Rattle.frame_tables.proofs.Bounds.{slots_small, points_small, sizes_small}
 use Rattle.frame_tables.proofs.Deriving.{well_formed, are_exact}
 use Rattle.frame_tables.specs.Described.{AreDescribed}
-use Rattle.frame_tables.specs.Points.{ArePoints}
+use Rattle.frame_tables.specs.Points.{ArePoints, frame_points}
 use Rattle.frame_tables.specs.declared.after.Point.{Point}
 
 module _ (m : Lin) (all : List Position) (nodes : List place.Place) (points : List Point)
@@ -51,3 +52,12 @@ pub small_by : (m : Lin) (all : List Position) (nodes : List place.Place) (point
 small_by m all nodes points slice k frame within is same e =
     subst (λ j. All (λ (point : Point). j + 16 * point.traps < 2 ^ 31) slice) (sym e)
     (subst (All (λ (point : Point). frame_bytes m + 16 * point.traps < 2 ^ 31)) (sym same) (points_small m all nodes points k within is))
+
+pub count_by : (m : Lin) (all : List Position) (nodes : List place.Place) (points slice : List Point) (frame first : ℕ)
+    (rows : List (List Bool)) (ds : List Descr) → ArePoints m all nodes points (length m.code) → slice ≡ points →
+    AreDescribed frame first slice rows ds → length ds ≡ frame_points m.code
+count_by m all nodes points slice frame first rows ds is same made =
+    let none : drop (length m.code) m.code ≡ [] = drop_all (length m.code) m.code (omega arith) in
+    let last : frame_points (drop (length m.code) m.code) ≡ 0 = ap frame_points none in
+    let count = is.count in let len = made.len in let d = ap length same in
+    omega (arith, last, count, len, d)

@@ -1,26 +1,22 @@
 -- From a search to exact descriptors.
-use Rattle.std.proofs.Common.{◌≡◌, ◌↔◌, ℕ, zero, suc, ◌+◌, ◌-◌, ◌*◌, ◌/◌, ◌<◌, ◌≤◌, ◌^◌, Bool, true, false, cond, ◌&&◌, nat_lt, ◌⊎◌, inl, inr, ⊎_elim, List, [], ◌∷◌, ◌++◌, Option, Some, None, length, map, drop, get_or, refl, sym, ap, ◌∙◌, subst, arith}
-use Rattle.std.specs.List.{All, AllPairs, Contains}
+use Rattle.std.proofs.Common.{◌≡◌, ℕ, zero, suc, ◌+◌, ◌-◌, ◌<◌, ◌≤◌, Bool, true, ◌&&◌, nat_lt, inl, inr, ⊎_elim, List, [], ◌∷◌, Some, None, length, drop, refl, sym, ap, ◌∙◌, subst, arith}
+use Rattle.std.specs.List.{All, Contains}
 use Rattle.std.specs.Prelude.{slice_get, slice_index_or}
 use Rattle.std.proofs.lemmas.Bool.{cases_lt, and_parts, ltb-true}
 use Rattle.std.proofs.lemmas.List.Elements.{All-contains, All-nil, All-cons, Contains-get_or}
 use Rattle.std.proofs.lemmas.Option.{slice_get_within, slice_get-get_or, get_or_from_slice_get}
 use Rattle.bs_words.specs.Contents.{contents}
-use Rattle.bs_words.specs.declared.types.Comp.TheVariants as comp
 use Rattle.bs_words.specs.declared.types.Loc.{Loc}
 use Rattle.bs_words.specs.declared.types.Loc.TheVariants as loc
-use Rattle.bs_bits.specs.Set.{has}
-use Rattle.dataflow.specs.Flow.{graph, IsPlace, WellFormed}
+use Rattle.dataflow.specs.Flow.{IsPlace, WellFormed}
 use Rattle.dataflow.specs.Live.{IsLiveness}
-use Rattle.dataflow.specs.Rows.{row, HasSizes}
+use Rattle.dataflow.specs.Rows.{row}
 use Rattle.dataflow.specs.declared.flow.Flow as flow
 use Rattle.dataflow.specs.declared.flow.Place as place
 use Rattle.mach_ir.specs.Placed.{colours}
-use Rattle.lin_ir.specs.Descriptors.{frame_bytes, has_frame_point, IsWithin, IsDescr, Describes, AreExact}
+use Rattle.lin_ir.specs.Descriptors.{frame_bytes, IsDescr, Describes, AreExact}
 use Rattle.lin_ir.specs.Formed.{IsHome, is_colour, is_slot, IsLocation, is_home, is_spare, Locates}
-use Rattle.lin_ir.specs.Formed as formed
-use Rattle.lin_ir.specs.Meaning.{passes_frame}
-use Rattle.lin_ir.specs.Walks.{Reached, at_entry, Traps, by_walk, Stands, here, below as under, OneDepth, LiveAt}
+use Rattle.lin_ir.specs.Walks.{Reached, at_entry, Traps, Stands, here, below as under, OneDepth}
 use Rattle.lin_ir.specs.declared.descr.Descr.{Descr}
 use Rattle.lin_ir.specs.declared.lin.Spot.{Spot}
 use Rattle.lin_ir.specs.declared.lin.Line.{Line}
@@ -29,15 +25,14 @@ use Rattle.lin_laws.proofs.Entries.{is_descr}
 use Rattle.lin_laws.proofs.Places.{none_in, in_cons, got, drop_none, drop_is, number_is}
 use Rattle.lin_laws.proofs.Reaching.{all_reached}
 use Rattle.lin_laws.proofs.Walking.{live_at_by_graph}
-use Rattle.lin_laws.specs.Graph.{loc_of, place_of, position, steps, raise_steps, HasNumber, HaveNumbers, AreNumbered, IsNode, AreNodes, IsAfter, IsGraphOf}
-use Rattle.lin_laws.specs.Numbers.{entries_from}
+use Rattle.lin_laws.specs.Graph.{place_of, position, steps, raise_steps, HasNumber, HaveNumbers, AreNumbered, AreNodes, IsAfter, IsGraphOf}
 use Rattle.lin_laws.specs.declared.position.Position.{Position}
 use Rattle.frame_tables.proofs.Pointing.{first_kept}
-use Rattle.frame_tables.proofs.Visiting.{AreKept, kept_length, still_ready}
+use Rattle.frame_tables.proofs.Visiting.{AreKept, still_ready}
 use Rattle.frame_tables.specs.Described.{described, AreDescribed}
-use Rattle.frame_tables.specs.Nodes.{IsReady, AreWalkedTo, Spreads, Spread}
-use Rattle.frame_tables.specs.Points.{IsFramePoint, HasRoots, IsSearched, IsPoint, ArePoints}
-use Rattle.frame_tables.specs.Search.{all_of, groups_of, AreGrouped, Grown, Entered, Starts, HasFirst}
+use Rattle.frame_tables.specs.Nodes.{IsReady, AreWalkedTo, Spread}
+use Rattle.frame_tables.specs.Points.{HasRoots, IsSearched, IsPoint, ArePoints}
+use Rattle.frame_tables.specs.Search.{all_of, AreGrouped, Entered, Starts}
 use Rattle.frame_tables.specs.declared.after.Point.{Point}
 use Rattle.frame_tables.specs.declared.search.Search.{Search}
 
@@ -249,7 +244,7 @@ module _ (m : Lin) where
           let frame = p.frame in
           let pushed : Traps m (frame.line ∷ frame.next) p.tries = subst (λ xs. Traps m xs p.tries) frame.at p.pushed in
           let same : described (frame_bytes m) point.0 (row rows (length all + j)) ≡ d =
-              same_some (described (frame_bytes m) point.0 (row rows (length all + j))) d (sym (made.each j point.0 point.1) ∙ e) in
+          same_some (described (frame_bytes m) point.0 (row rows (length all + j))) d (sym (made.each j point.0 point.1) ∙ e) in
           record {
             line = frame.line;
             next = frame.next;
@@ -277,9 +272,9 @@ module _ (m : Lin) where
                 let x = got points i (omega (arith, lt, le, len)) in
                 let y = got points j (omega (arith, le, len)) in
                 let less : (x.0).place < (y.0).place =
-                    subst (λ (a : Point). a.place < (y.0).place) (get_or_from_slice_get points i x.0 x.0 x.1)
-                    (subst (λ (b : Point). (slice_index_or points i x.0).place < b.place) (get_or_from_slice_get points j y.0 x.0 y.1)
-                    (is.order i j x.0 lt (omega (arith, le, len)))) in
+                subst (λ (a : Point). a.place < (y.0).place) (get_or_from_slice_get points i x.0 x.0 x.1)
+                (subst (λ (b : Point). (slice_index_or points i x.0).place < b.place) (get_or_from_slice_get points j y.0 x.0 y.1)
+                (is.order i j x.0 lt (omega (arith, le, len)))) in
                 subst (λ (a : Descr). a.after < (slice_index_or ds j d).after)
                 (sym (get_or_from_slice_get ds i (described (frame_bytes m) x.0 (row rows (length all + i))) d (made.each i x.0 x.1)))
                 (subst (λ (b : Descr). (x.0).place < b.after)

@@ -1,8 +1,8 @@
 -- Frame points, and the places of the flow graph for them.
-use Rattle.std.proofs.Common.{◌≡◌, ◌↔◌, ℕ, zero, suc, ◌+◌, ◌-◌, ◌<◌, ◌≤◌, Bool, true, false, ◌⊎◌, inl, inr, ⊎_elim, List, [], ◌∷◌, ◌++◌, Option, Some, None, length, map, drop, get_or, refl, sym, ap, ◌∙◌, subst, arith}
+use Rattle.std.proofs.Common.{◌≡◌, ℕ, suc, ◌+◌, ◌<◌, ◌≤◌, Bool, true, false, cond, ◌⊎◌, inl, inr, ⊎_elim, List, [], ◌∷◌, ◌++◌, Some, length, drop, get_or, refl, sym, ap, ◌∙◌, subst, arith}
 use Rattle.std.specs.List.{All, AllPairs, Contains}
-use Rattle.std.specs.Prelude.{slice_get, slice_index, slice_index_or}
-use Rattle.std.proofs.lemmas.Bool.{cases_lt, cases_eq}
+use Rattle.std.specs.Prelude.{slice_get, slice_index}
+use Rattle.std.proofs.lemmas.Bool.{cases_lt}
 use Rattle.std.proofs.lemmas.List.{length_push, get_or_default, drop_more}
 use Rattle.std.proofs.lemmas.List.Elements.{All-nil, All-push, All-weaker, Contains-append_left, Contains-append_right, Contains-append_cases}
 use Rattle.std.proofs.lemmas.List.Quantifiers.{all_pairs_push}
@@ -15,14 +15,13 @@ use Rattle.lin_ir.specs.declared.lin.Line.{Line}
 use Rattle.lin_ir.specs.declared.lin.LinOp.{LinOp}
 use Rattle.lin_ir.specs.declared.lin.Lin.{Lin}
 use Rattle.lin_laws.proofs.Numbers.{are_writes}
-use Rattle.lin_laws.proofs.Places.{none_in, got, drop_is, place_drop, number_is, number_all}
-use Rattle.lin_laws.specs.Graph.{place_of, position, steps, raise_steps, HaveNumbers, AreWrites, IsNode, AreNodes, IsAfter}
-use Rattle.lin_laws.specs.Numbers.{written_numbers}
+use Rattle.lin_laws.proofs.Places.{none_in, got, drop_none, drop_is, place_drop, number_is, number_all}
+use Rattle.lin_laws.specs.Graph.{place_of, position, steps, raise_steps, AreWrites, AreNodes, IsAfter}
 use Rattle.lin_laws.specs.declared.position.Position.{Position}
 use Rattle.frame_tables.proofs.Searching.{pushed_cases, pushed_kept, pushed_here}
 use Rattle.frame_tables.proofs.Visiting.{results_numbered}
-use Rattle.frame_tables.specs.Points.{IsOneOf, IsAsked, IsChosen, IsChoice, HasTraps, edges_of, ComesFrom, Gathers, IsGathered, IsAfterNode, IsFramePoint, IsRooted, HasRoots, IsSearched, IsPoint, ArePoints}
-use Rattle.frame_tables.specs.Search.{all_of, groups_of, members, AreGrouped, Grown, Entered, IsThere, HasFirst}
+use Rattle.frame_tables.specs.Points.{IsOneOf, IsChosen, IsChoice, HasTraps, edges_of, ComesFrom, Gathers, IsGathered, IsAfterNode, IsFramePoint, IsRooted, HasRoots, IsSearched, IsPoint, ArePoints, frame_points}
+use Rattle.frame_tables.specs.Search.{all_of, groups_of, members, Entered, HasFirst}
 use Rattle.frame_tables.specs.declared.after.Choice.{Choice}
 use Rattle.frame_tables.specs.declared.after.Point.{Point}
 use Rattle.frame_tables.specs.declared.search.Search.{Search}
@@ -168,7 +167,7 @@ module _ (m : Lin) (s : Search) (reached : ℕ) (nodes : List place.Place) (h : 
         let nd = node_at x.number x.chosen.found x.chosen.is in
         let is = are x.number x.chosen.found nd.0 x.chosen.is nd.1 in
         let n = number_all (all_of s) (contents nd.0.next) (steps m x.chosen.found) y is.next
-            (subst (λ (z : Position). Contains (steps m z) y) (sym x.is) k) in
+        (subst (λ (z : Position). Contains (steps m z) y) (sym x.is) k) in
         (n.0, a.next.all x.number x.among n.0 (record { node = nd.0; is = nd.1; chosen = x.chosen; edge = n.1 }), n.2)
 
     aside_all : (tries : List ℕ) → Traps m (drop p m.code) tries → (y : Position) → Contains (raise_steps m (position p tries)) y →
@@ -178,7 +177,7 @@ module _ (m : Lin) (s : Search) (reached : ℕ) (nodes : List place.Place) (h : 
         let nd = node_at x.number x.chosen.found x.chosen.is in
         let is = are x.number x.chosen.found nd.0 x.chosen.is nd.1 in
         let n = number_all (all_of s) (contents nd.0.aside) (raise_steps m x.chosen.found) y is.aside
-            (subst (λ (z : Position). Contains (raise_steps m z) y) (sym x.is) k) in
+        (subst (λ (z : Position). Contains (raise_steps m z) y) (sym x.is) k) in
         (n.0, a.aside.all x.number x.among n.0 (record { node = nd.0; is = nd.1; chosen = x.chosen; edge = n.1 }), n.2)
 
     is_after : IsAfter m (m.slots + 32) (all_of s) p node
@@ -221,11 +220,18 @@ module _ (m : Lin) (all : List Position) where
         every = λ p lt f. absurd (omega (arith, lt));
         order = λ i j d lt le. absurd (omega (arith, le));
         below = All-nil (λ (a : Point). a.place < 0);
+        count = (let same = ap frame_points (drop_none m.code) in omega (arith, same));
       }
 
+  -- the same for a list that is made empty
+  pub points_begun : (nodes : List place.Place) (points : List Point) → points ≡ [] → length nodes ≡ length all →
+      AreNodes m (m.slots + 32) all nodes → ArePoints m all nodes points 0
+  points_begun nodes points e len are = subst (λ xs. ArePoints m all nodes xs 0) (sym e) (points_none nodes len are)
+
   pub points_skip : (nodes : List place.Place) (points : List Point) (k : ℕ) → ArePoints m all nodes points k →
-      (IsFramePoint m k → ⊥) → ArePoints m all nodes points (k + 1)
-  points_skip nodes points k h none =
+      (IsFramePoint m k → ⊥) → frame_points (drop k m.code) ≡ frame_points (drop (k + 1) m.code) →
+      ArePoints m all nodes points (k + 1)
+  points_skip nodes points k h none same =
       record {
         len = h.len;
         are = h.are;
@@ -235,17 +241,20 @@ module _ (m : Lin) (all : List Position) where
             (λ (b : k ≤ p). let e : p ≡ k = omega (arith, lt, b) in absurd (none (subst (IsFramePoint m) e f))) (cases_lt p k);
         order = h.order;
         below = All-weaker (λ (a : Point). a.place < k) (λ (a : Point). a.place < k + 1) (λ a lt. omega (arith, lt)) points h.below;
+        count = (let count = h.count in omega (arith, count, same));
       }
 
   pub points_more : (nodes more : List place.Place) (points others : List Point) (k : ℕ) (node : place.Place) (point : Point) →
       ArePoints m all nodes points k → IsPoint m all point node → point.place ≡ k → more ≡ nodes ++ node ∷ [] →
-      others ≡ points ++ point ∷ [] → ArePoints m all more others (k + 1)
-  points_more nodes more points others k node point h is at e f =
+      others ≡ points ++ point ∷ [] → frame_points (drop k m.code) ≡ suc (frame_points (drop (k + 1) m.code)) →
+      ArePoints m all more others (k + 1)
+  points_more nodes more points others k node point h is at e f one =
       let old = h.len in
       let len_nodes : length more ≡ length nodes + 1 = ap length e ∙ length_push nodes node in
       let len_points : length others ≡ length points + 1 = ap length f ∙ length_push points point in
       record {
         len = omega (arith, old, len_nodes, len_points);
+        count = (let count = h.count in omega (arith, count, len_points, one));
         are = λ q x nd a b.
             ⊎_elim (λ g. h.are q x nd a g)
             (λ g.
@@ -381,6 +390,12 @@ no_frame_at m k line code e lt is passes f =
     let both : false ≡ true = sym passes ∙ ap (λ (i : Line). passes_frame i.op) same ∙ f.passes in
     absurd (cc)
 
+pub no_point_at : (m : Lin) (k : ℕ) (line : Line) (code : List Line) → code ≡ m.code → k < length code → line ≡ get_or code k line →
+    passes_frame line.op ≡ false → frame_points (drop k m.code) ≡ frame_points (drop (k + 1) m.code)
+no_point_at m k line code e lt is passes =
+    ap frame_points (head_of m k line code e lt is)
+    ∙ ap (λ b. cond b (suc (frame_points (drop (k + 1) m.code))) (frame_points (drop (k + 1) m.code))) passes
+
 pub pointed_more : (m : Lin) (s : Search) (reached : ℕ) (begun : List place.Place) → IsSearched m s reached begun →
     (k : ℕ) (line : Line) (code : List Line) → code ≡ m.code → k < length code → line ≡ get_or code k line → passes_frame line.op ≡ true →
     (c : Choice) → IsChoice s k reached c → (traps : ℕ) →
@@ -395,6 +410,8 @@ pointed_more m s reached begun h k line code e lt is passes c choice traps has n
     points_more m (all_of s) nodes more points others k node point are
     (is_point m s reached begun h k c choice frame nodes (omega (arith, old)) are.are node
     (subst (λ xs. IsAfterNode s xs c line node) same after) point refl has) refl f g
+    (ap frame_points (head_of m k line code e lt is)
+    ∙ ap (λ b. cond b (suc (frame_points (drop (k + 1) m.code))) (frame_points (drop (k + 1) m.code))) passes)
 
 pub gathering_done : (s : Search) (nodes : List place.Place) (c : Choice) (aside : Bool) (among group ns ms : List ℕ) (i : ℕ) →
     among ≡ group → ms ≡ ns → length among ≤ i → Gathering s nodes c aside among i ns → IsGathered s nodes c aside group ms

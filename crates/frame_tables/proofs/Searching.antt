@@ -1,15 +1,15 @@
 -- Positions that come in.
-use Rattle.std.proofs.Common.{◌≡◌, ◌≢◌, ℕ, zero, suc, ◌+◌, ◌<◌, ◌≤◌, Bool, true, ◌⊎◌, inl, inr, ⊎_elim, List, [], ◌∷◌, ◌++◌, Option, Some, None, length, map, take, set, get_or, refl, sym, ap, ◌∙◌, subst, arith}
-use Rattle.std.specs.List.{All, Contains}
+use Rattle.std.proofs.Common.{◌≡◌, ◌≢◌, ℕ, zero, suc, ◌+◌, ◌<◌, ◌≤◌, ◌⊎◌, inl, inr, ⊎_elim, List, [], ◌∷◌, ◌++◌, Some, length, map, take, set, get_or, refl, sym, ap, ◌∙◌, subst, arith}
+use Rattle.std.specs.List.{Contains}
 use Rattle.std.specs.Prelude.{slice_get, slice_index}
 use Rattle.std.proofs.lemmas.Bool.{cases_eq, cases_lt}
 use Rattle.std.proofs.lemmas.List.{length-set, length-map, map-set, get_or-map, get_or-set_same, get_or-set_other, get_or_append_left, get_or_push, get_or_default, length_push, take_more, take_all, map-append}
-use Rattle.std.proofs.lemmas.List.Elements.{Contains-append_left, Contains-append_right, Contains-push, Contains-push_cases}
-use Rattle.lin_laws.proofs.Places.{none_in, first_in, in_cons}
+use Rattle.std.proofs.lemmas.List.Elements.{Contains-append_left, Contains-append_right, Contains-push}
+use Rattle.lin_laws.proofs.Places.{first_in}
 use Rattle.lin_laws.specs.Graph.{position, AreNumbersOf}
 use Rattle.lin_laws.specs.declared.position.Position.{Position}
 use Rattle.frame_tables.specs.Nodes.{Landed}
-use Rattle.frame_tables.specs.Search.{all_of, groups_of, members, HasMember, AreGrouped, Grown, Entered, Starts, IsThere, HasFirst}
+use Rattle.frame_tables.specs.Search.{all_of, groups_of, members, HasMember, AreGrouped, Grown, Entered, IsThere, HasFirst}
 use Rattle.frame_tables.specs.declared.search.Group as group
 use Rattle.frame_tables.specs.declared.search.Search.{Search}
 
@@ -35,8 +35,8 @@ pub has_member : (old new : List group.Group) (k member : ℕ) (g g' : group.Gro
     g'.members.items ≡ g.members.items ++ member ∷ [] → new ≡ set old k g' → HasMember old new k member
 has_member old new k member g g' within read more is =
     let here : members new k ≡ members old k ++ member ∷ [] =
-        ap (λ (l : List group.Group). members l k) is
-        ∙ (members_same old k g' within ∙ (more ∙ ap (λ (l : List ℕ). l ++ member ∷ []) (sym (members_read old k g within read)))) in
+    ap (λ (l : List group.Group). members l k) is
+    ∙ (members_same old k g' within ∙ (more ∙ ap (λ (l : List ℕ). l ++ member ∷ []) (sym (members_read old k g within read)))) in
     record {
       len = ap length is ∙ length-set old k g';
       kept = λ j q c.
@@ -75,20 +75,20 @@ pub entered_new : (old new : Search) (y : Position) (number : ℕ) → all_of ne
 entered_new old new y number is at has =
     record {
       grown = record {
-          kept = λ q x e. subst (λ xs. slice_get xs q ≡ Some x) (sym is) (pushed_kept (all_of old) y x q e);
-          fresh = λ q x e.
-              ⊎_elim (λ f. inl f) (λ f. inr (subst (λ z. Contains (y ∷ []) z) f.1 (first_in y [])))
+        kept = λ q x e. subst (λ xs. slice_get xs q ≡ Some x) (sym is) (pushed_kept (all_of old) y x q e);
+        fresh = λ q x e.
+            ⊎_elim (λ f. inl f) (λ f. inr (subst (λ z. Contains (y ∷ []) z) f.1 (first_in y [])))
+            (pushed_cases (all_of old) y x q (subst (λ xs. slice_get xs q ≡ Some x) is e));
+        len = has.len;
+        grouped = λ g. record {
+          grouped = λ q x e.
+              ⊎_elim (λ f. has.kept x.place q (g.grouped q x f))
+              (λ f.
+              subst (λ (z : Position). Contains (members (groups_of new) z.place) q) f.1
+              (subst (λ k. Contains (members (groups_of new) y.place) k) (at ∙ sym f.0) has.here))
               (pushed_cases (all_of old) y x q (subst (λ xs. slice_get xs q ≡ Some x) is e));
-          len = has.len;
-          grouped = λ g. record {
-                grouped = λ q x e.
-                    ⊎_elim (λ f. has.kept x.place q (g.grouped q x f))
-                    (λ f.
-                    subst (λ (z : Position). Contains (members (groups_of new) z.place) q) f.1
-                    (subst (λ k. Contains (members (groups_of new) y.place) k) (at ∙ sym f.0) has.here))
-                    (pushed_cases (all_of old) y x q (subst (λ xs. slice_get xs q ≡ Some x) is e));
-              };
         };
+      };
       here = subst (λ xs. slice_get xs number ≡ Some y) (sym is)
           (subst (λ k. slice_get (all_of old ++ y ∷ []) k ≡ Some y) (sym at) (pushed_here (all_of old) y));
     }
@@ -163,8 +163,8 @@ pub entering_more : (old now new : Search) (places tries : List ℕ) (i p number
 entering_more old now new places tries i p number ns ms lt e h k is =
     let f : ℕ → Position = λ p. position p tries in
     let more : map f (take i places) ++ f p ∷ [] ≡ map f (take (i + 1) places) =
-        ap (λ q. map f (take i places) ++ f q ∷ []) e ∙ sym (map-append f (take i places) (get_or places i 0 ∷ []))
-        ∙ ap (map f) (sym (take_more places i 0 lt)) in
+    ap (λ q. map f (take i places) ++ f q ∷ []) e ∙ sym (map-append f (take i places) (get_or places i 0 ∷ []))
+    ∙ ap (map f) (sym (take_more places i 0 lt)) in
     record {
       grown = subst (Grown old new) more (grown_then old now new (map f (take i places)) (f p ∷ []) h.grown k.grown);
       numbers = subst (AreNumbersOf (all_of new) ms) more
@@ -189,8 +189,8 @@ pub none_first : (s : Search) (p first : ℕ) (items : List ℕ) (i : ℕ) → l
 none_first s p first items i le is none g h =
     let there = h.there in
     let c : Contains items h.number =
-        subst (λ xs. Contains xs h.number) (sym is)
-        (subst (λ k. Contains (members (groups_of s) k) h.number) there.place (g.grouped h.number there.found there.is)) in
+    subst (λ xs. Contains xs h.number) (sym is)
+    (subst (λ k. Contains (members (groups_of s) k) h.number) there.place (g.grouped h.number there.found there.is)) in
     let lt = c.1 in
     let at : slice_index items c.0 ≡ h.number = get_or_default items c.0 0 h.number lt ∙ c.2 in
     none c.0 (omega (arith, lt, le)) (subst (λ k. k < first) (sym at) h.below) (subst (λ k. IsThere s p k) (sym at) there)

@@ -1,22 +1,20 @@
 -- Positions that are visited.
-use Rattle.std.proofs.Common.{◌≡◌, ℕ, zero, suc, ◌+◌, ◌-◌, ◌<◌, ◌≤◌, Bool, true, false, ◌⊎◌, inl, inr, ⊎_elim, List, [], ◌∷◌, ◌++◌, Option, Some, None, length, map, drop, get_or, refl, sym, ap, ◌∙◌, subst, arith}
-use Rattle.std.specs.List.{All, Contains}
+use Rattle.std.proofs.Common.{◌≡◌, ℕ, zero, suc, ◌+◌, ◌<◌, ◌≤◌, Bool, true, false, ⊎_elim, List, [], ◌∷◌, ◌++◌, Some, None, length, map, drop, get_or, refl, sym, ap, ◌∙◌, subst, arith}
+use Rattle.std.specs.List.{All}
 use Rattle.std.specs.Prelude.{slice_get, slice_index}
-use Rattle.std.proofs.lemmas.List.{length-drop, drop_all, length_push}
+use Rattle.std.proofs.lemmas.List.{drop_all, length_push}
 use Rattle.std.proofs.lemmas.List.Elements.{All-nil, All-cons, All-head, All-drop, Contains-append_cases}
 use Rattle.std.proofs.lemmas.Option.{slice_get_within}
 use Rattle.bs_words.specs.Contents.{contents}
-use Rattle.bs_words.specs.declared.types.Comp.TheVariants as comp
 use Rattle.dataflow.specs.declared.flow.Place as place
 use Rattle.mach_ir.specs.Acts.{Target, On, At}
-use Rattle.lin_ir.specs.Meaning.{after_label}
 use Rattle.lin_ir.specs.Walks.{targets, may_raise, tries_after, Reached}
 use Rattle.lin_ir.specs.declared.lin.Line.{Line}
 use Rattle.lin_ir.specs.declared.lin.Lin.{Lin}
 use Rattle.lin_laws.proofs.Numbers.{are_reads, are_writes}
 use Rattle.lin_laws.proofs.Places.{none_in, got, drop_none}
 use Rattle.lin_laws.proofs.Reaching.{steps_reached, raises_reached}
-use Rattle.lin_laws.specs.Graph.{loc_of, place_of, place_at, position, steps, steps_at, raise_steps, raises_at, landing, HaveNumbers, AreNumbered, AreNumbersOf, AreReads, AreWrites, ReadsAt, WritesAt, IsNode, AreNodes}
+use Rattle.lin_laws.specs.Graph.{place_at, position, steps, steps_at, raise_steps, raises_at, landing, HaveNumbers, AreNumbered, AreNumbersOf, AreReads, AreWrites, IsNode, AreNodes}
 use Rattle.lin_laws.specs.Numbers.{val_numbers, written_numbers}
 use Rattle.lin_laws.specs.declared.position.Position.{Position}
 use Rattle.frame_tables.proofs.Searching.{grown_then, grown_none, numbers_kept, pushed_cases}
@@ -74,7 +72,7 @@ pub node_of : (labels : Labels) (old mid new : Search) (i : Line) (p : ℕ) (tri
     IsNodeOfLine labels old new i p tries node
 node_of labels old mid new i p tries after places node e f g next h aside reads writes =
     let same : map (λ q. position q after) places ≡ steps_to labels i p tries =
-        ap (λ ts. map (λ q. position q ts) places) e ∙ ap (map (λ q. position q (tries_after i.op tries))) f in
+    ap (λ ts. map (λ q. position q ts) places) e ∙ ap (map (λ q. position q (tries_after i.op tries))) f in
     let landed = landing_to labels (may_raise i.op) tries in
     record {
       grown = grown_then old mid new (steps_to labels i p tries) landed (subst (Grown old mid) same g) h;
@@ -130,23 +128,23 @@ module _ (m : Lin) (labels : Labels) (text : IsText m labels) where
       IsNodeOfLine labels old new i x.place x.tries node → Visited m old new number node
   visited_at old new number x i next node at e h =
       let after : steps_to labels i x.place x.tries ≡ steps m x =
-          steps_of m labels text.table x.place (tries_after i.op x.tries) (targets i.op)
-          ∙ ap (λ xs. steps_at m x.place xs x.tries) (sym e) in
+      steps_of m labels text.table x.place (tries_after i.op x.tries) (targets i.op)
+      ∙ ap (λ xs. steps_at m x.place xs x.tries) (sym e) in
       let landed : landing_to labels (may_raise i.op) x.tries ≡ raise_steps m x =
-          landing_same m labels text.table (may_raise i.op) x.tries ∙ ap (λ xs. raises_at m xs x.tries) (sym e) in
+      landing_same m labels text.table (may_raise i.op) x.tries ∙ ap (λ xs. raises_at m xs x.tries) (sym e) in
       record {
         at = x;
         is = at;
         grown = subst (λ zs. Grown old new (steps m x ++ zs)) landed
             (subst (λ ys. Grown old new (ys ++ landing_to labels (may_raise i.op) x.tries)) after h.grown);
         is_node = record {
-            next = subst (AreNumbersOf (all_of new) (contents node.next)) after h.next;
-            aside = subst (AreNumbersOf (all_of new) (contents node.aside)) landed h.aside;
-            reads = subst (λ xs. AreReads bound xs (contents node.reads)) (sym e)
-                (subst (AreReads bound (i ∷ next)) (sym h.reads) (are_reads m.slots i next (args_numbered m text.numbered x.place i next e)));
-            writes = subst (λ xs. AreWrites bound xs (contents node.writes)) (sym e)
-                (subst (AreWrites bound (i ∷ next)) (sym h.writes) (are_writes m.slots i next (results_numbered m text.numbered x.place i next e)));
-          };
+          next = subst (AreNumbersOf (all_of new) (contents node.next)) after h.next;
+          aside = subst (AreNumbersOf (all_of new) (contents node.aside)) landed h.aside;
+          reads = subst (λ xs. AreReads bound xs (contents node.reads)) (sym e)
+              (subst (AreReads bound (i ∷ next)) (sym h.reads) (are_reads m.slots i next (args_numbered m text.numbered x.place i next e)));
+          writes = subst (λ xs. AreWrites bound xs (contents node.writes)) (sym e)
+              (subst (AreWrites bound (i ∷ next)) (sym h.writes) (are_writes m.slots i next (results_numbered m text.numbered x.place i next e)));
+        };
       }
 
   pub visited_line : (old new : Search) (number : ℕ) (x : Position) (i : Line) (node : place.Place) →
@@ -177,13 +175,13 @@ module _ (m : Lin) (labels : Labels) (text : IsText m labels) where
         is = at;
         grown = subst (λ zs. Grown s s (steps m x ++ zs)) (sym no_raise) (subst (λ ys. Grown s s (ys ++ [])) (sym none) (grown_none s));
         is_node = record {
-            next = subst (λ ys. AreNumbersOf (all_of s) (contents node.next) ys) (sym none)
-                (subst (λ ns. AreNumbersOf (all_of s) ns []) (sym next) (no_numbers (all_of s)));
-            aside = subst (λ ys. AreNumbersOf (all_of s) (contents node.aside) ys) (sym no_raise)
-                (subst (λ ns. AreNumbersOf (all_of s) ns []) (sym aside) (no_numbers (all_of s)));
-            reads = subst (λ xs. AreReads bound xs (contents node.reads)) (sym e) (subst (AreReads bound []) (sym reads) no_reads);
-            writes = subst (λ xs. AreWrites bound xs (contents node.writes)) (sym e) (subst (AreWrites bound []) (sym writes) no_writes);
-          };
+          next = subst (λ ys. AreNumbersOf (all_of s) (contents node.next) ys) (sym none)
+              (subst (λ ns. AreNumbersOf (all_of s) ns []) (sym next) (no_numbers (all_of s)));
+          aside = subst (λ ys. AreNumbersOf (all_of s) (contents node.aside) ys) (sym no_raise)
+              (subst (λ ns. AreNumbersOf (all_of s) ns []) (sym aside) (no_numbers (all_of s)));
+          reads = subst (λ xs. AreReads bound xs (contents node.reads)) (sym e) (subst (AreReads bound []) (sym reads) no_reads);
+          writes = subst (λ xs. AreWrites bound xs (contents node.writes)) (sym e) (subst (AreWrites bound []) (sym writes) no_writes);
+        };
       }
 
 -- ---- all positions
@@ -234,7 +232,7 @@ module _ (m : Lin) where
       (h.are q x other (was.1 ∙ ap Some same) e))
       (λ e.
       let same : v.at ≡ x =
-          same_some v.at x (sym (v.grown.kept q v.at (subst (λ k. slice_get (all_of s) k ≡ Some v.at) (sym e.0) v.is)) ∙ at) in
+      same_some v.at x (sym (v.grown.kept q v.at (subst (λ k. slice_get (all_of s) k ≡ Some v.at) (sym e.0) v.is)) ∙ at) in
       subst (λ y. IsNode m (m.slots + 32) (all_of new) y other) same
       (subst (λ nd. IsNode m (m.slots + 32) (all_of new) v.at nd) e.1 v.is_node)) (pushed_cases nodes node other q is)
 
@@ -262,10 +260,10 @@ module _ (m : Lin) where
         walked = λ w. walked_more s new number node v (h.walked w);
         grouped = λ g. v.grown.grouped (h.grouped g);
         ready = record {
-            groups = v.grown.len ∙ h.ready.groups;
-            fewer = omega (arith, lt, e, grows, len);
-            are = subst (AreNodes m (m.slots + 32) (all_of new)) (sym is) (nodes_more s new nodes node h.ready v');
-          };
+          groups = v.grown.len ∙ h.ready.groups;
+          fewer = omega (arith, lt, e, grows, len);
+          are = subst (AreNodes m (m.slots + 32) (all_of new)) (sym is) (nodes_more s new nodes node h.ready v');
+        };
       }
 
   -- more positions, none of them visited

@@ -1,5 +1,5 @@
 -- Frame points, and the places of the flow graph before which is live what is live after them.
-use Rattle.std.specs.Prelude.{◌≡◌, ◌⊎◌, ℕ, suc, ◌+◌, ◌*◌, ◌<◌, Bool, true, false, List, [], ◌∷◌, Some, length, drop, slice_get, All, AllPairs, Contains}
+use Rattle.std.specs.Prelude.{◌≡◌, ◌⊎◌, ℕ, suc, ◌+◌, ◌<◌, Bool, true, false, cond, List, [], ◌∷◌, Some, length, drop, slice_get, All, AllPairs, Contains}
 use Rattle.bs_words.specs.Contents.{contents}
 use Rattle.dataflow.specs.declared.flow.Place as place
 use Rattle.lin_ir.specs.Meaning.{passes_frame}
@@ -129,6 +129,11 @@ pub record IsPoint (m : Lin) (all : List Position) (point : Point) (node : place
   pub traps : point.traps ≡ length tries
   pub after : IsAfter m (m.slots + 32) all point.place node
 
+-- how many lines are frame points
+abbrev pub frame_points : List Line → ℕ
+frame_points [] = 0
+frame_points (i ∷ is) = cond (passes_frame i.op) (suc (frame_points is)) (frame_points is)
+
 -- the frame points before place k, and the places of the graph
 pub record ArePoints (m : Lin) (all : List Position) (nodes : List place.Place)
     (points : List Point) (k : ℕ) : Type 0 where
@@ -140,3 +145,4 @@ pub record ArePoints (m : Lin) (all : List Position) (nodes : List place.Place)
       (j : ℕ) × (point : Point) × (slice_get points j ≡ Some point) × (point.place ≡ p)
   pub order : AllPairs (λ (a b : Point). a.place < b.place) points
   pub below : All (λ (a : Point). a.place < k) points
+  pub count : length points + frame_points (drop k m.code) ≡ frame_points m.code

@@ -175,9 +175,7 @@ fn places_after_flow(
         Flow::Label(_) => one_place(alloc, place + 1),
         Flow::Jump(label) => one_place(alloc, labels.place_of(*label)),
         Flow::Exit(label) => one_place(alloc, labels.place_of(*label)),
-        Flow::Branch { test: _, label } => {
-            two_places(alloc, place + 1, labels.place_of(*label))
-        }
+        Flow::Branch { test: _, label } => { two_places(alloc, place + 1, labels.place_of(*label)) }
         Flow::Switch(among) => {
             let places = places_of_labels(alloc, labels, among.as_slice())?;
             Ok(places)

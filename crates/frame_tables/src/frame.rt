@@ -23,6 +23,10 @@ pub fn frame_bytes(lin: &Lin) -> u32
     requires { lin.now.slots ≤ 131072 }
     ensures { result ≡ frame_bytes lin.now }
 {
-    let address = if has_frame_point(lin.code.as_slice()) { 8 } else { 0 };
+    let address = if has_frame_point(lin.code.as_slice()) {
+        8
+    } else {
+        0
+    };
     (8 * lin.slots + address + 15) / 16 * 16
 }

@@ -12,7 +12,6 @@
 
 mod after;
 mod control;
-
 mod entries;
 mod frame;
 mod labels;

@@ -1,10 +1,10 @@
 //! The descriptors of a function.
-ghost use Rattle.std.specs.Prelude.{IfOk};
+ghost use Rattle.std.specs.Prelude.{◌≡◌, length, IfOk};
 ghost use Rattle.lin_ir.specs.Descriptors.{AreExact, IsWithin};
 ghost use Rattle.lin_ir.specs.Walks.{OneDepth};
 ghost use Rattle.frame_tables.specs.Located.{AreLocated};
 ghost use Rattle.frame_tables.specs.Nodes.{IsText};
-ghost use Rattle.frame_tables.specs.Points.{IsSearched};
+ghost use Rattle.frame_tables.specs.Points.{IsSearched, frame_points};
 
 use crate::after::{add_points, enter_points};
 use crate::entries::describe_all;
@@ -58,7 +58,8 @@ fn describe_searched(
     requires searched { IsSearched lin.now search.now reached nodes.items }
     requires depth { OneDepth lin.now }
     requires within { IsWithin lin.now }
-    ensures { IfOk result (AreExact lin.now) }
+    ensures exact { IfOk result (AreExact lin.now) }
+    ensures count { IfOk result (λ ds. length ds ≡ frame_points lin.now.code) }
 {
     let first = nodes.len();
     let points = add_points(alloc, lin, search, reached, &mut nodes)?;
@@ -85,7 +86,8 @@ pub fn descriptors(alloc: Global, lin: &Lin) -> Result<Seq<Descr>, AllocError>
     requires located { AreLocated lin.now }
     requires depth { OneDepth lin.now }
     requires within { IsWithin lin.now }
-    ensures { IfOk result (AreExact lin.now) }
+    ensures exact { IfOk result (AreExact lin.now) }
+    ensures count { IfOk result (λ ds. length ds ≡ frame_points lin.now.code) }
 {
     let labels = Labels::of_function(alloc, lin)?;
     let Searched {

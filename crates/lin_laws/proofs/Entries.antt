@@ -1,5 +1,5 @@
 -- A set of numbers that tells what is live makes exact entries.
-use Rattle.std.proofs.Common.{◌≡◌, ◌↔◌, ℕ, zero, suc, ◌+◌, ◌-◌, ◌*◌, ◌%◌, ◌<◌, ◌≤◌, Bool, true, false, cond, ◌⊎◌, inl, inr, ⊎_elim, List, [], ◌∷◌, length, drop, refl, sym, ap, ◌∙◌, subst, arith}
+use Rattle.std.proofs.Common.{◌≡◌, ◌↔◌, ℕ, zero, suc, ◌+◌, ◌-◌, ◌*◌, ◌%◌, ◌<◌, ◌≤◌, Bool, true, false, cond, ⊎_elim, List, [], ◌∷◌, length, drop, refl, sym, ap, ◌∙◌, subst, arith}
 use Rattle.std.proofs.lemmas.Bool.{lt-ltb, le-ltb, cases_lt}
 use Rattle.std.proofs.lemmas.List.{length-drop}
 use Rattle.std.proofs.lemmas.List.Elements.{All-head, All-drop, All-contains, Contains-get_or}
@@ -16,7 +16,7 @@ use Rattle.lin_ir.specs.declared.descr.Descr.{Descr}
 use Rattle.lin_ir.specs.declared.lin.Spot.{Spot}
 use Rattle.lin_ir.specs.declared.lin.Line.{Line}
 use Rattle.lin_ir.specs.declared.lin.Lin.{Lin}
-use Rattle.lin_laws.proofs.Numbers.{loc_of_number, number_of_loc}
+use Rattle.lin_laws.proofs.Numbers.{loc_of_number}
 use Rattle.lin_laws.proofs.Places.{Ends, none_in, first_in, later_in, in_cons, drop_is, target_ends, ends_label}
 use Rattle.lin_laws.specs.Graph.{loc_of, HasNumber, HaveNumbers, AreNumbered}
 use Rattle.lin_laws.specs.Numbers.{number_in, entry_of, entries_from}
@@ -173,8 +173,8 @@ module _ (m : Lin) (numbered : AreNumbered m) where
           after = omega (arith, after, lt, len);
           size = size ∙ ap (λ k. frame_bytes m + 16 * k) traps;
           exact = λ e. (
-                λ c. subst (λ k. NamesLive m i next k e) traps (names e (subst (λ xs. Contains xs e) entries c)),
-                λ h. subst (λ xs. Contains xs e) (sym entries) (named e (subst (λ k. NamesLive m i next k e) (sym traps) h)),
-              );
+            λ c. subst (λ k. NamesLive m i next k e) traps (names e (subst (λ xs. Contains xs e) entries c)),
+            λ h. subst (λ xs. Contains xs e) (sym entries) (named e (subst (λ k. NamesLive m i next k e) (sym traps) h)),
+          );
           order = subst (AllPairs ComesBefore) (sym entries) (entries_order t 0 set);
         }

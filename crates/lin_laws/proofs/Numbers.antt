@@ -1,6 +1,6 @@
 -- The lists of numbers have exactly what a line reads as val, and what it writes.
-use Rattle.std.proofs.Common.{◌≡◌, ◌↔◌, ℕ, zero, suc, ◌+◌, ◌-◌, ◌<◌, ◌≤◌, Bool, true, false, cond, ◌&&◌, ◌||◌, nat_lt, nat_le, ltb, leb, ◌⊎◌, inl, inr, ⊎_elim, List, [], ◌∷◌, ◌++◌, length, map, refl, sym, ap, ◌∙◌, subst, arith}
-use Rattle.std.proofs.lemmas.Bool.{lt-ltb, le-ltb, le-leb, leb-true, ltb-true, or_cases, or_left, or_right, and_parts, and_from, cases_lt}
+use Rattle.std.proofs.Common.{◌≡◌, ℕ, zero, suc, ◌+◌, ◌-◌, ◌<◌, ◌≤◌, Bool, true, false, cond, ◌&&◌, nat_le, inl, inr, ⊎_elim, List, [], ◌∷◌, ◌++◌, refl, sym, ap, ◌∙◌, subst, arith}
+use Rattle.std.proofs.lemmas.Bool.{lt-ltb, le-ltb, le-leb, leb-true, or_cases, or_left, or_right, and_parts, and_from, cases_lt}
 use Rattle.std.proofs.lemmas.List.Elements.{All-nil, All-cons, All-head, All-tail, All-append, Contains-append_left, Contains-append_right, Contains-append_cases}
 use Rattle.std.specs.List.{All, Contains}
 use Rattle.bs_words.specs.declared.types.Comp.{Comp}
@@ -9,7 +9,6 @@ use Rattle.bs_words.specs.declared.types.Loc.{Loc}
 use Rattle.bs_words.specs.declared.types.Loc.TheVariants as loc
 use Rattle.mach_ir.specs.Meaning.{Destroyed, Nothing, Temporaries, Everything, is_destroyed, is_temporary}
 use Rattle.lin_ir.specs.Meaning.{destroyed_by}
-use Rattle.lin_ir.specs.Walks.{Writes, ReadsAs}
 use Rattle.lin_ir.specs.declared.lin.Spot.{Spot}
 use Rattle.lin_ir.specs.declared.lin.Line.{Line}
 use Rattle.lin_laws.proofs.Places.{none_in, first_in, later_in, in_cons}
@@ -70,6 +69,7 @@ module _ (slots : ℕ) where
 
   same_spot : (s : Spot) (l : Loc) (t : Comp) → s.loc ≡ l → s.comp ≡ t → s ≡ (record { loc = l; comp = t })
   same_spot s l t e f = ap (λ (x : Loc). spot_of x s.comp) e ∙ ap (λ (x : Comp). spot_of l x) f
+
   vals_read : (n : ℕ) (ss : List Spot) → HaveNumbers slots ss → Contains (val_numbers ss) n → Contains ss (spot_at n comp.Val)
   vals_read n [] h c = absurd (none_in n c)
   vals_read n (s ∷ ss) h c = by (is_val s.comp) refl (vals_read n ss (All-tail IsNumbered s ss h)) c
@@ -80,7 +80,7 @@ module _ (slots : ℕ) where
           ⊎_elim
           (λ f.
           let l : s.loc ≡ loc_of n =
-              sym (loc_of_number slots s.loc (All-head IsNumbered s ss h)) ∙ ap loc_of f in
+          sym (loc_of_number slots s.loc (All-head IsNumbered s ss h)) ∙ ap loc_of f in
           subst (λ x. Contains (x ∷ ss) (spot_at n comp.Val)) (sym (same_spot s (loc_of n) comp.Val l (val_is s.comp e)))
           (first_in (spot_at n comp.Val) ss))
           (λ g. later_in s (spot_at n comp.Val) ss (rest g)) (in_cons (number_in s.loc) n (val_numbers ss) d)
@@ -227,13 +227,13 @@ are_writes slots i next h =
           All-append (λ n. n < slots + 32) (numbers i.results) (destroyed_numbers (destroyed_by i.op))
           (numbers_within slots i.results h) (destroyed_within slots (destroyed_by i.op));
       exact = λ n. (
-            λ c.
+        λ c.
             ⊎_elim (λ a. inl (numbers_named slots n i.results h a)) (λ a. inr (destroyed_is (destroyed_by i.op) n a))
             (Contains-append_cases (numbers i.results) (destroyed_numbers (destroyed_by i.op)) n c),
-            λ w.
+        λ w.
             ⊎_elim
             (λ a. Contains-append_left (numbers i.results) (destroyed_numbers (destroyed_by i.op)) n (numbers_all slots n a.0 i.results a.1))
             (λ a. Contains-append_right (numbers i.results) (destroyed_numbers (destroyed_by i.op)) n (destroyed_all (destroyed_by i.op) n a))
             w,
-          );
+      );
     }

@@ -1,19 +1,17 @@
 -- A graph that has the entry, and wherever control goes from each of its positions, has all that walks come to.
-use Rattle.std.proofs.Common.{◌≡◌, ℕ, zero, suc, ◌-◌, ◌<◌, ◌≤◌, Bool, true, false, List, [], ◌∷◌, Some, length, map, drop, refl, sym, ap, ◌∙◌, subst, arith}
+use Rattle.std.proofs.Common.{◌≡◌, ℕ, ◌<◌, ◌≤◌, List, [], ◌∷◌, Some, length, drop, refl, sym, ap, ◌∙◌, subst, arith}
 use Rattle.std.proofs.lemmas.Option.{slice_get_within}
 use Rattle.std.specs.List.{Contains}
 use Rattle.std.specs.Prelude.{slice_get}
 use Rattle.bs_words.specs.Contents.{contents}
 use Rattle.dataflow.specs.declared.flow.Place as place
-use Rattle.mach_ir.specs.Acts.{Target}
-use Rattle.mach_ir.specs.Walks.{OneOf}
-use Rattle.lin_ir.specs.Meaning.{code_at, after_label}
+use Rattle.lin_ir.specs.Meaning.{after_label}
 use Rattle.lin_ir.specs.Walks.{targets, may_raise, tries_after, goes, raises, Reached, at_entry, by_step, by_raise}
 use Rattle.lin_ir.specs.declared.lin.Line.{Line}
 use Rattle.lin_ir.specs.declared.lin.Lin.{Lin}
 use Rattle.lin_laws.proofs.Places.{Ends, none_in, got, number_all, drop_none, place_target, place_is, place_of_target, target_ends, ends_label}
 use Rattle.lin_laws.proofs.Walking.{step_is, in_steps, landing_is, in_landing}
-use Rattle.lin_laws.specs.Graph.{place_of, place_at, position, steps, steps_at, landing, raises_at, raise_steps, AreNodes}
+use Rattle.lin_laws.specs.Graph.{place_of, place_at, position, steps, steps_at, raises_at, raise_steps, AreNodes}
 use Rattle.lin_laws.specs.declared.position.Position.{Position}
 
 module _ (m : Lin) where
@@ -72,7 +70,7 @@ module _ (m : Lin) where
         let node = node_at h.0 x h.1 in
         let k = is h.0 x node.0 h.1 node.1 in
         let c : Contains (steps m x) y =
-            subst (λ xs. Contains (steps_at m x.place xs tries) y) (sym (place_is m e)) (in_steps m x.place (tries_after i.op tries) o) in
+        subst (λ xs. Contains (steps_at m x.place xs tries) y) (sym (place_is m e)) (in_steps m x.place (tries_after i.op tries) o) in
         let n = number_all all (contents node.0.next) (steps m x) y k.next c in
         (n.0, n.2 ∙ ap (λ k. Some (position k (tries_after i.op tries))) (sym (place_of_target m i next t e)))
     all_reached (by_raise {i = i} {next = next} r (raises {h = l} {tries = tries} b)) =
@@ -83,6 +81,6 @@ module _ (m : Lin) where
         let node = node_at h.0 x h.1 in
         let k = is h.0 x node.0 h.1 node.1 in
         let c : Contains (raise_steps m x) y =
-            subst (λ xs. Contains (raises_at m xs (l ∷ tries)) y) (sym (place_is m e)) (in_landing m (may_raise i.op) l tries b) in
+        subst (λ xs. Contains (raises_at m xs (l ∷ tries)) y) (sym (place_is m e)) (in_landing m (may_raise i.op) l tries b) in
         let n = number_all all (contents node.0.aside) (raise_steps m x) y k.aside c in
         (n.0, n.2)

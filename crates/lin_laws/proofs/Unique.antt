@@ -1,8 +1,7 @@
 -- Exact descriptors are unique.
-use Rattle.std.proofs.Common.{◌≡◌, ℕ, zero, suc, ◌+◌, ◌%◌, ◌<◌, ◌≤◌, ◌⊎◌, inl, inr, ⊎_elim, List, [], ◌∷◌, length, refl, sym, ap, ◌∙◌, subst, arith}
+use Rattle.std.proofs.Common.{◌≡◌, ℕ, suc, ◌%◌, ◌<◌, ⊎_elim, List, [], ◌∷◌, refl, sym, ◌∙◌, subst, arith}
 use Rattle.std.proofs.lemmas.List.Elements.{All-contains}
 use Rattle.std.specs.List.{Contains, AllPairs}
-use Rattle.std.specs.Prelude.{slice_index_or}
 use Rattle.lin_ir.specs.Descriptors.{ComesBefore, register_first, rising, IsDescr, Describes, AreExact}
 use Rattle.lin_ir.specs.declared.descr.Descr.{Descr}
 use Rattle.lin_ir.specs.declared.lin.Line.{Line}
@@ -45,8 +44,8 @@ module _ {A : Type 0} (R : A → A → Type 0) where
     ordered_same (x ∷ xs) (y ∷ ys) p q to from =
         let e : x ≡ y = same_head x y xs ys p q (to x (first_in x xs)) (from y (first_in y ys)) in
         let rest : xs ≡ ys =
-            ordered_same xs ys (pairs_rest x xs p) (pairs_rest y ys q) (tail_within x y xs ys p e to)
-            (tail_within y x ys xs q (sym e) from) in
+        ordered_same xs ys (pairs_rest x xs p) (pairs_rest y ys q) (tail_within x y xs ys p e to)
+        (tail_within y x ys xs q (sym e) from) in
         cc
 
 -- ---- entries

@@ -1,23 +1,21 @@
 -- What is live by the flow graph of a function is what is live by its walks.
-use Rattle.std.proofs.Common.{◌≡◌, ◌↔◌, ℕ, zero, suc, ◌-◌, ◌<◌, ◌≤◌, Bool, true, false, ◌⊎◌, inl, inr, ⊎_elim, List, [], ◌∷◌, Some, length, map, drop, refl, sym, ap, ◌∙◌, subst, arith}
+use Rattle.std.proofs.Common.{◌≡◌, ◌↔◌, ℕ, zero, suc, ◌<◌, Bool, true, false, inl, inr, ⊎_elim, List, [], ◌∷◌, Some, length, map, drop, refl, sym, ap, ◌∙◌, subst, arith}
 use Rattle.std.proofs.lemmas.Option.{slice_get_within}
 use Rattle.std.specs.List.{Contains}
 use Rattle.std.specs.Prelude.{slice_get}
 use Rattle.bs_words.specs.Contents.{contents}
-use Rattle.bs_words.specs.declared.types.Comp.{Comp}
 use Rattle.bs_words.specs.declared.types.Comp.TheVariants as comp
-use Rattle.bs_words.specs.declared.types.Loc.{Loc}
 use Rattle.dataflow.specs.Flow.{Graph, graph, ReadsIn, LiveBefore}
 use Rattle.dataflow.specs.declared.flow.Flow as flow
 use Rattle.dataflow.specs.declared.flow.Place as place
 use Rattle.mach_ir.specs.Acts.{Target}
 use Rattle.mach_ir.specs.Walks.{OneOf, this, other}
-use Rattle.lin_ir.specs.Meaning.{code_at, after_label}
-use Rattle.lin_ir.specs.Walks.{targets, may_raise, tries_after, Leads, goes, Raises, raises, Writes, Live, read, on, aside, LiveAcross, across_step, across_raise, LiveAt, Traps}
+use Rattle.lin_ir.specs.Meaning.{after_label}
+use Rattle.lin_ir.specs.Walks.{targets, may_raise, tries_after, goes, raises, Writes, Live, read, on, aside, LiveAcross, across_step, across_raise, LiveAt, Traps}
 use Rattle.lin_ir.specs.declared.lin.Line.{Line}
 use Rattle.lin_ir.specs.declared.lin.Lin.{Lin}
 use Rattle.lin_laws.proofs.Places.{none_in, first_in, later_in, in_cons, got, table_at, number_is, number_all, place_target, place_is, ends_label}
-use Rattle.lin_laws.specs.Graph.{loc_of, place_of, place_at, position, steps, steps_at, landing, raises_at, raise_steps, ReadsAt, WritesAt, IsNode, AreNodes, IsAfter, IsGraphOf}
+use Rattle.lin_laws.specs.Graph.{loc_of, place_of, place_at, position, steps, steps_at, landing, raises_at, raise_steps, ReadsAt, WritesAt, IsAfter, IsGraphOf}
 use Rattle.lin_laws.specs.declared.position.Position.{Position}
 
 module _ (m : Lin) where
@@ -115,13 +113,13 @@ module _ (m : Lin) where
         ⊎_elim
         (λ s.
         let to = number_is all (contents node.0.next) (steps m x) (s.1).0 k.next
-            (subst (λ xs. Contains xs (s.1).0) (next_at q node.0 node.1) (s.1).1) in
+        (subst (λ xs. Contains xs (s.1).0) (next_at q node.0 node.1) (s.1).1) in
         stepped x.place x.tries (drop x.place m.code) refl
         (λ w. s.0 (subst (λ xs. Contains xs r) (sym (writes_at q node.0 node.1)) ((k.writes.exact r).1 w))) to.0 to.1
         (to_live n (s.1).0 to.0 to.2 (s.1).2))
         (λ s.
         let to = number_is all (contents node.0.aside) (raise_steps m x) s.0 k.aside
-            (subst (λ xs. Contains xs s.0) (aside_at q node.0 node.1) s.1) in
+        (subst (λ xs. Contains xs s.0) (aside_at q node.0 node.1) s.1) in
         raised x.tries (drop x.place m.code) to.0 to.1 (to_live n s.0 to.0 to.2 s.2)) h
 
     pub from_live : {rest : List Line} {tries : List ℕ} → Live m (loc_of r) comp.Val rest tries → (q : ℕ) (x : Position) →
@@ -138,7 +136,7 @@ module _ (m : Lin) where
         let k = is.nodes q x node.0 e node.1 in
         let y : Position = position (place_at m x.place to) (tries_after i.op x.tries) in
         let c : Contains (steps m x) y =
-            subst (λ xs. Contains (steps_at m x.place xs x.tries) y) (sym d) (in_steps x.place (tries_after i.op x.tries) o) in
+        subst (λ xs. Contains (steps_at m x.place xs x.tries) y) (sym d) (in_steps x.place (tries_after i.op x.tries) o) in
         let n = number_all all (contents node.0.next) (steps m x) y k.next c in
         let h = from_live l n.0 y n.2 (place_target m x.place i next to d) (ap (tries_after i.op) t) in (
           suc h.0,
@@ -152,8 +150,8 @@ module _ (m : Lin) where
         let k = is.nodes q x node.0 e node.1 in
         let y : Position = position (place_of m (after_label l m.code)) tries in
         let c : Contains (raise_steps m x) y =
-            subst (λ xs. Contains (raises_at m xs x.tries) y) (sym d)
-            (subst (λ ts. Contains (landing m (may_raise i.op) ts) y) (sym t) (in_landing (may_raise i.op) l tries b)) in
+        subst (λ xs. Contains (raises_at m xs x.tries) y) (sym d)
+        (subst (λ ts. Contains (landing m (may_raise i.op) ts) y) (sym t) (in_landing (may_raise i.op) l tries b)) in
         let n = number_all all (contents node.0.aside) (raise_steps m x) y k.aside c in
         let h = from_live live n.0 y n.2 (place_is m (ends_label l m.code)) refl in (
           suc h.0,
@@ -217,7 +215,7 @@ module _ (m : Lin) where
       from_across tries traps (across_step w (goes to o) l) =
           let y : Position = position (place_at m p to) (tries_after i.op tries) in
           let c : Contains (steps m (position p tries)) y =
-              subst (λ xs. Contains (steps_at m p xs tries) y) (sym at) (in_steps p (tries_after i.op tries) o) in
+          subst (λ xs. Contains (steps_at m p xs tries) y) (sym at) (in_steps p (tries_after i.op tries) o) in
           let n = after.next_all tries (subst (λ xs. Traps m xs tries) (sym at) traps) y c in
           let h = from_live l n.0 y n.2 (place_target m p i next to at) refl in (
             suc h.0,
@@ -229,7 +227,7 @@ module _ (m : Lin) where
       from_across tries traps (across_raise (raises {h = l} {tries = others} b) live) =
           let y : Position = position (place_of m (after_label l m.code)) others in
           let c : Contains (raise_steps m (position p (l ∷ others))) y =
-              subst (λ xs. Contains (raises_at m xs (l ∷ others)) y) (sym at) (in_landing (may_raise i.op) l others b) in
+          subst (λ xs. Contains (raises_at m xs (l ∷ others)) y) (sym at) (in_landing (may_raise i.op) l others b) in
           let n = after.aside_all (l ∷ others) (subst (λ xs. Traps m xs (l ∷ others)) (sym at) traps) y c in
           let h = from_live live n.0 y n.2 (place_is m (ends_label l m.code)) refl in (
             suc h.0,

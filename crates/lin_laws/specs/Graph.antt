@@ -3,7 +3,7 @@
 -- Which traps are pushed at a place depends on the walk that comes there, and a raise goes to the
 -- innermost of them. So the places of the graph are positions: places of the text together with
 -- the pushed traps. Its numbers are those of locations, read as val; any write of one counts.
-use Rattle.std.specs.Prelude.{◌≡◌, ◌↔◌, ℕ, suc, ◌+◌, ◌-◌, ◌<◌, ◌≤◌, Bool, true, false, cond, nat_lt, List, [], ◌∷◌, Some, drop, length, map, slice_get, slice_index, slice_index_or, All, Contains}
+use Rattle.std.specs.Prelude.{◌≡◌, ◌↔◌, ℕ, suc, ◌-◌, ◌<◌, ◌≤◌, Bool, true, false, cond, nat_lt, List, [], ◌∷◌, Some, drop, length, map, slice_get, slice_index, slice_index_or, All, Contains}
 use Rattle.bs_words.specs.Contents.{contents}
 use Rattle.bs_words.specs.declared.types.Comp.{Comp}
 use Rattle.bs_words.specs.declared.types.Comp.TheVariants as comp

@@ -1,7 +1,7 @@
 use Rattle.std.proofs.Common.{◌<◌, ◌≡◌, length, arith, subst, sym, List}
 use Rattle.std.proofs.lemmas.Option.{slice_get-get_or}
 use Rattle.lin_ir.specs.declared.descr.Descr.{Descr}
-use Rattle.frame_tables.proofs.Bounds.{describing_none, describing_more, describing_all}
+use Rattle.frame_tables.proofs.Bounds.{describing_more, describing_all}
 use Rattle.frame_tables.specs.Described.{AreDescribed}
 use Rattle.frame_tables.proofs.entries.describe_all.Goals as goal
 

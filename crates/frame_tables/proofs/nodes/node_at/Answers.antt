@@ -7,7 +7,7 @@ use Rattle.frame_tables.proofs.nodes.node_at.Goals as goal
 pub node_of_line-requires : goal.node_of_line-requires
 node_of_line-requires c =
     let lt : c.args.position.now.place < length c.args.lin.now.code =
-        slice_get_within c.args.lin.now.code c.args.position.now.place c.in-Some.line.now (sym c.in-Some.ensures) in
+    slice_get_within c.args.lin.now.code c.args.position.now.place c.in-Some.line.now (sym c.in-Some.ensures) in
     record {
       labels = labels_within c.args.lin.now c.args.labels.now _ c.requires.text.table c.requires.groups;
       next = omega (arith, lt, c.requires.groups);
