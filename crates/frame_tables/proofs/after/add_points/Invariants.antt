@@ -1,0 +1,6 @@
+use Rattle.frame_tables.specs.Points.{ArePoints}
+use Rattle.frame_tables.specs.Search.{all_of}
+use Rattle.frame_tables.proofs.after.add_points.Given as goal
+
+abbrev pub invariant-loop-place : goal.invariant-loop-place
+invariant-loop-place l = ArePoints l.lin (all_of l.search) l.nodes.items l.points.items l.place

@@ -1,0 +1,24 @@
+//! Frame descriptors: what is live as val after each frame point of a Linear function, exactly.
+//!
+//! A collector that moves heap blocks rewrites exactly the locations that descriptors name. So one
+//! that is missing leaves an old address behind, and one too many may be no pointer. OCaml's pass is
+//! in `Emit` (`record_frame`), over the sets that `Liveness` leaves at each instruction.
+//!
+//! A raise goes to the handler of the innermost trap that is pushed, which depends on the walk. So
+//! what is live is asked of places together with the traps that are pushed there: those that walks
+//! from the entry come to are searched first, and then those that come after a frame point to which
+//! no walk comes.
+#![tactic(auto)]
+
+mod after;
+mod control;
+mod entries;
+mod frame;
+mod labels;
+mod lines;
+mod nodes;
+mod search;
+mod tables;
+mod tries;
+
+pub use tables::descriptors;

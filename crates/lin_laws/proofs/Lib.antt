@@ -1,0 +1,6 @@
+pub mod Places
+pub mod Walking
+pub mod Reaching
+pub mod Unique
+pub mod Numbers
+pub mod Entries

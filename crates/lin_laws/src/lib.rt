@@ -1,0 +1,12 @@
+//! Laws of Linear functions on which frame tables stand.
+//!
+//! The flow graph of a Linear function, over places with the traps that are pushed there, has
+//! exactly the walks of its definition. What is live at a frame point is what is live before one
+//! place of that graph, and exact descriptors are unique.
+//!
+//! The crate holds definitions and laws alone.
+#![tactic(auto)]
+
+pub mod position;
+
+pub use position::Position;
