@@ -1,0 +1,38 @@
+-- Selection keeps the meaning of each function that the front accepts, on the machine that loses addrs at frame points.
+use Rattle.std.proofs.Common.{◌≡◌, ℕ, ◌^◌, ◌<◌, true, List, Option}
+use Rattle.bs_fault.specs.Reported.{Faultless}
+use Rattle.bs_words.specs.Fits.{fits}
+use Rattle.bs_words.specs.Memory.{Memory}
+use Rattle.bs_words.specs.declared.types.Ty.TheVariants as ty
+use Rattle.bs_words.specs.declared.values.Value.{Value}
+use Rattle.cmm_tree.specs.Symbols.{DefinedSymbol}
+use Rattle.cmm_tree.specs.Tree.{FunctionTree, comps_of}
+use Rattle.cmm_types.specs.Gathered.{function_faults}
+use Rattle.cmm_walks.specs.AddrLive.{IsLiveIn}
+use Rattle.cmm_meaning.specs.State.{Doing}
+use Rattle.cmm_meaning.specs.Evaluation.{fit_parameters, bound_error}
+use Rattle.mach_ir.specs.Runs.{Place}
+use Rattle.mach_ir.specs.Meaning.{run}
+use Rattle.mach_ir.specs.Walks.{NoAddrLive}
+use Rattle.selection_rules.specs.Select.{selected, width}
+use Rattle.selection_rules.specs.Bounded.{AllBounded, BoundedMemory, BoundedDoings, BoundedSymbols}
+use Rattle.selection_rules.proofs.Selection.{SelectedRun}
+use Rattle.selection_laws.specs.Fits.{FunctionFits}
+use Rattle.selection_laws.proofs.Keeps.{selection_keeps_losing}
+use Rattle.selection_places.proofs.Whole.{selected_numbers}
+use Rattle.selection_walks.proofs.NoAddress.{selected_no_addr}
+
+-- Where the text has no fault of addresses, no addr is live after a frame point that a walk of its code reaches.
+pub accepted_no_addr : (defined : List ℕ → Option DefinedSymbol) (f : FunctionTree) → FunctionFits f → Faultless (function_faults defined f) →
+    ((b p u : ℕ) → IsLiveIn f b p u → ⊥) → NoAddrLive (selected f)
+accepted_no_addr defined f fits faultless never = selected_no_addr defined f fits faultless (selected_numbers f) never
+
+-- For every list that is handed in, every memory and arguments that fit, all of words, and every number of units: some
+-- run of the selected code has the same calls, need and end, and as many units as the function has beats; these are
+-- bounded by the units of the tree both ways.
+pub accepted_keeps : (c : Place) (defined : List ℕ → Option DefinedSymbol) (f : FunctionTree) → fits c.setting.end ty.Val bound_error ≡ true →
+    width f.body < 2 ^ 60 → FunctionFits f → Faultless (function_faults defined f) → ((b p u : ℕ) → IsLiveIn f b p u → ⊥) →
+    BoundedSymbols c.setting → (arguments : List Value) (memory : Memory) (doings : List Doing) (n : ℕ) → AllBounded arguments → BoundedMemory memory →
+    BoundedDoings doings → fit_parameters c.setting.end (comps_of f) arguments ≡ true → SelectedRun run c (selected f) f arguments memory doings n
+accepted_keeps c defined f still fine fitting faultless never =
+    selection_keeps_losing c f still fine fitting (accepted_no_addr defined f fitting faultless never)

@@ -1,0 +1,16 @@
+pub mod Phases
+pub mod Situations
+pub mod Floats
+pub mod Operands
+pub mod Finals
+pub mod Pairs
+pub mod Calls
+pub mod Leavings
+pub mod Names
+pub mod Branches
+pub mod Handlers
+pub mod Conditions
+pub mod Accesses
+pub mod Claims
+pub mod NoAddress
+pub mod Keeps
