@@ -1,0 +1,13 @@
+pub mod Turns
+pub mod Opposite
+pub mod Slots
+pub mod Homes
+pub mod Marks
+pub mod Places
+pub mod Standing
+pub mod Meeting
+pub mod Simulate
+pub mod Does
+pub mod Lines
+pub mod Walked
+pub mod Lowering

@@ -1,0 +1,156 @@
+-- What holds of the lowered function: the laws of linearisation.
+use Rattle.std.proofs.Common.{◌≡◌, ◌≢◌, ℕ, ◌+◌, ◌*◌, ◌<◌, ◌≤◌, true, List, [], ◌∷◌, map, length, All, refl, sym, ap, ◌∙◌, subst}
+use Rattle.bs_words.specs.declared.types.Comp.TheVariants as comp
+use Rattle.bs_words.specs.declared.types.Loc.{Loc}
+use Rattle.bs_words.specs.declared.types.Loc.TheVariants as loc
+use Rattle.mach_ir.specs.Formed as mach_formed
+use Rattle.mach_ir.specs.Formed.{WellFormed}
+use Rattle.mach_ir.specs.Keeps.{NamesSymbol, NamesExternal}
+use Rattle.mach_ir.specs.Placed.{IsPlaced, in_colour, in_slot, FullyPlaced, colours}
+use Rattle.mach_ir.specs.Seats as seats
+use Rattle.mach_ir.specs.Sizes.{Size, HasSize}
+use Rattle.mach_ir.specs.Walks.{IsRegister, is_param, is_colour, is_in_code}
+use Rattle.mach_ir.specs.Walks as mach_walks
+use Rattle.mach_ir.specs.declared.reg.Reg.{Reg}
+use Rattle.mach_ir.specs.declared.mach.Mach.{Mach}
+use Rattle.lin_ir.specs.Descriptors.{NamesLives, NoAddrLive}
+use Rattle.lin_ir.specs.Formed as formed
+use Rattle.lin_ir.specs.Formed.{IsHome, GoesForward, labels_in}
+use Rattle.lin_ir.specs.Keeps.{Keeps, Does}
+use Rattle.lin_ir.specs.Meaning.{NamedAt, passes_frame}
+use Rattle.lin_ir.specs.Walks.{Stands, Traps, by_walk, unreached, Reached, LiveAcross, OneDepth}
+use Rattle.lin_ir.specs.declared.lin.Line.{Line}
+use Rattle.lin_ir.specs.declared.lin.Lin.{Lin}
+use Rattle.linear_rules.specs.Keeps.{NamesReached, NoAddrReached, KeepsReached, ExitsWithin}
+use Rattle.linear_rules.specs.Lowered.{home, is_among, slots_of, slot_number, slot_count, lowered}
+use Rattle.linear_rules.specs.Sizes.{tries_ended}
+use Rattle.linear_rules.proofs.Homes.{IsIn, is_first, is_later, in_of}
+use Rattle.linear_rules.proofs.Slots.{slot_occurs_in_code, slot_occurs_in_params, numbers_apart, numbers_below, slots_few}
+use Rattle.linear_rules.proofs.Lines.{source, params_seated, source_operands, source_results, named_from, labels_same, lines_few}
+use Rattle.linear_rules.proofs.Does.{begins}
+use Rattle.linear_rules.proofs.Walked.{goes_forward, one_depth, no_addr, names_reached, well_formed}
+
+slot_same : (m n : ℕ) → loc.Slot m ≡ loc.Slot n → m ≡ n
+slot_same m n e = cc
+
+not_slot : (m n : ℕ) → loc.Machine m ≡ loc.Slot n → ⊥
+not_slot m n e = cc
+
+in_map : {A B : Type 0} (f : A → B) {x : A} {xs : List A} → IsIn x xs → IsIn (f x) (map f xs)
+in_map f is_first = is_first
+in_map f (is_later i) = is_later (in_map f i)
+
+colour_machine : {l : Loc} (ns : List ℕ) → IsIn l (map loc.Machine ns) → (n : ℕ) × (l ≡ loc.Machine n)
+colour_machine [] z = elim z [ ]
+colour_machine (n ∷ ns) is_first = (n, refl)
+colour_machine (n ∷ ns) (is_later z) = colour_machine ns z
+
+module _ (p : Mach) (well : WellFormed p) (full : FullyPlaced p) where
+  -- the slot of a register occurs
+  slot_occurs : (k : ℕ) (r : Reg) → IsRegister p r → r.loc ≡ loc.Slot k → is_among k (slots_of p) ≡ true
+  slot_occurs k r (is_param c) e = slot_occurs_in_params p k r c e
+  slot_occurs k r (is_in_code c) e = slot_occurs_in_code p k r c e
+  slot_occurs k r (is_colour c) e =
+      let z : IsIn r.loc (map loc.Machine colours) = subst (IsIn r.loc) full.well.colours.each (in_map (λ (r : Reg). r.loc) (in_of r p.colours c)) in
+      let y = colour_machine colours z in absurd (not_slot y.0 k (sym y.1 ∙ e))
+
+  -- registers whose homes are the same stand at one place
+  homes_apart : (r k : Reg) → IsRegister p r → IsRegister p k → home (slot_number p) r.loc ≡ home (slot_number p) k.loc → r.loc ≡ k.loc
+  homes_apart r k ri ki same = by (full.places r ri) (full.places k ki)
+    where
+      by : IsPlaced r → IsPlaced k → r.loc ≡ k.loc
+      by (in_colour m c e) (in_colour n d u) = e ∙ sym (ap (home (slot_number p)) e) ∙ same ∙ ap (home (slot_number p)) u ∙ sym u
+      by (in_colour m c e) (in_slot u) = absurd (not_slot m (slot_number p k.origin) (sym (ap (home (slot_number p)) e) ∙ same ∙ ap (home (slot_number p)) u))
+      by (in_slot e) (in_colour n d u) = absurd (not_slot n (slot_number p r.origin) (sym (ap (home (slot_number p)) u) ∙ sym same ∙ ap (home (slot_number p)) e))
+      by (in_slot e) (in_slot u) =
+          e
+          ∙ ap loc.Slot (numbers_apart p r.origin k.origin (slot_occurs r.origin r ri e) (slot_occurs k.origin k ki u)
+          (slot_same (slot_number p r.origin) (slot_number p k.origin) (sym (ap (home (slot_number p)) e) ∙ same ∙ ap (home (slot_number p)) u)))
+          ∙ sym u
+
+  -- the home of a register is a colour, or one of the function's slots
+  homes : (r : Reg) → IsRegister p r → IsHome (lowered p) (home (slot_number p) r.loc)
+  homes r ri = by (full.places r ri)
+    where
+      by : IsPlaced r → IsHome (lowered p) (home (slot_number p) r.loc)
+      by (in_colour n c e) = subst (λ l. IsHome (lowered p) (home (slot_number p) l)) (sym e) (formed.is_colour c)
+      by (in_slot e) = subst (λ l. IsHome (lowered p) (home (slot_number p) l)) (sym e) (formed.is_slot (numbers_below p r.origin (slot_occurs r.origin r ri e)))
+
+  -- The lowered function does what the Mach function does, wherever that is not stuck, and so reads no poison.
+  pub lowered_does : (named : NamedAt) → NamesReached (lowered p) named → Does p (lowered p) named
+  lowered_does named exact c arguments memory doings s e =
+      begins c (slot_number p) (slot_count p) p well full homes_apart named exact arguments memory doings s e
+
+  -- It keeps the Mach function where walks come.
+  pub lowered_keeps_reached : KeepsReached p (lowered p)
+  lowered_keeps_reached =
+      record {
+        name = refl;
+        result = refl;
+        does = lowered_does;
+        symbols = λ name n. named_from (slot_number p) (NamesSymbol name) p (lowered p) refl n;
+        externals = λ row n. named_from (slot_number p) (NamesExternal row) p (lowered p) refl n;
+        addrs = no_addr (slot_number p) (slot_count p) p well full;
+      }
+
+  -- names that are exact everywhere serve
+  pub lowered_names : (named : NamedAt) → NamesLives (lowered p) named → ((n : ℕ) → All (λ l. l ≢ loc.Unset) (named n)) → NamesReached (lowered p) named
+  lowered_names named exact fixed = names_reached (slot_number p) (slot_count p) p well full named exact fixed
+
+  -- With names that are exact, and where no addr is live after any frame point, it keeps the Mach function.
+  pub lowered_keeps : (named : NamedAt) → NamesLives (lowered p) named → ((n : ℕ) → All (λ l. l ≢ loc.Unset) (named n)) → (mach_walks.NoAddrLive p → NoAddrLive (lowered p)) → Keeps p (lowered p) named
+  lowered_keeps named exact fixed addrs =
+      record {
+        name = refl;
+        result = refl;
+        does = lowered_does named (lowered_names named exact fixed);
+        symbols = lowered_keeps_reached.symbols;
+        externals = lowered_keeps_reached.externals;
+        addrs = addrs;
+      }
+
+  pub lowered_no_addr : mach_walks.NoAddrLive p → NoAddrReached (lowered p)
+  lowered_no_addr h = no_addr (slot_number p) (slot_count p) p well full h
+
+  pub lowered_well_formed : ExitsWithin p → formed.WellFormed (lowered p)
+  lowered_well_formed x = well_formed (slot_number p) (slot_count p) p well full homes x
+
+  pub lowered_forward : GoesForward (lowered p)
+  lowered_forward = goes_forward (slot_number p) (slot_count p) p well full
+
+  pub lowered_depth : ExitsWithin p → OneDepth (lowered p)
+  lowered_depth x = one_depth (slot_number p) (slot_count p) p well full x
+
+  pub lowered_seated : seats.Seated p → formed.Seated (lowered p)
+  lowered_seated h =
+      record {
+        params = params_seated (slot_number p) p.params h.params;
+        operands = λ j c. source_operands (slot_number p) h (source (slot_number p) p.code (in_of j (lowered p).code c));
+        results = λ j c. source_results (slot_number p) h (source (slot_number p) p.code (in_of j (lowered p).code c));
+      }
+
+-- where each frame point is reached by some walk, no addr is live after any
+pub no_addr_live : (m : Lin) → ((i : Line) (next : List Line) → Stands i next m.code → passes_frame i.op ≡ true → (tries : List ℕ) × Reached m (i ∷ next) tries) → NoAddrReached m → NoAddrLive m
+no_addr_live m reached h = record { none = λ i next s frame l v. by (reached i next s frame) h.none frame v.traps v.across }
+  where
+    by : {i : Line} {next : List Line} {l : Loc} {tries : List ℕ} → (tries : List ℕ) × Reached m (i ∷ next) tries →
+        ((i : Line) (next : List Line) (tries : List ℕ) → Reached m (i ∷ next) tries → passes_frame i.op ≡ true → (l : Loc) → LiveAcross m l comp.Addr i next tries → ⊥) →
+        passes_frame i.op ≡ true → Traps m (i ∷ next) tries → LiveAcross m l comp.Addr i next tries → ⊥
+    by {i} {next} {l} {tries} r none frame (by_walk s) w = none i next tries s frame l w
+    by r none frame (unreached out) w = out r.0 r.1
+
+-- ---- sizes
+
+-- every slot is below the bound on origins, and so are their numbers
+pub lowered_slots : (p : Mach) → FullyPlaced p → (s : Size) → HasSize p s → slot_count p ≤ s.registers
+lowered_slots p full s size = slots_few p s.registers (λ k r ri e. by k r (full.places r ri) e (size.origins r ri))
+  where
+    by : (k : ℕ) (r : Reg) → IsPlaced r → r.loc ≡ loc.Slot k → r.origin < s.registers → k < s.registers
+    by k r (in_colour n c e) u lt = absurd (not_slot n k (sym e ∙ u))
+    by k r (in_slot e) u lt = subst (λ n. n < s.registers) (slot_same r.origin k (sym e ∙ u)) lt
+
+pub lowered_lines : (p : Mach) → length (lowered p).code ≤ 2 * length p.code + tries_ended p.code
+lowered_lines p = lines_few (slot_number p) p.code
+
+pub lowered_labels : (p : Mach) → labels_in (lowered p).code ≡ mach_formed.labels_in p.code
+lowered_labels p = labels_same (slot_number p) p.code

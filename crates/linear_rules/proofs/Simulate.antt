@@ -1,0 +1,113 @@
+-- A relation between states of a Mach function and of a Linear one that each step of the first keeps.
+use Rattle.std.proofs.Common.{◌≡◌, ℕ, zero, suc, ◌<◌, List, [], ◌∷◌, refl, arith}
+use Rattle.cmm_meaning.specs.State.{Doing, Asked}
+use Rattle.bs_words.specs.declared.types.Ret.{Ret}
+use Rattle.mach_ir.specs.Acts.{Around}
+use Rattle.mach_ir.specs.Runs.{Place, Step, Continues, Pays, Deepens, Waits, FinishesBy, Finishes, FinishesRaising, IsStuck, Tally, Run, Running, Ended, Wrong, paid, came_back, kept_of, handed, onward}
+use Rattle.mach_ir.specs.Meaning as mach
+use Rattle.mach_ir.specs.Keeps.{ValsWritten, OriginsAgree, wrote_at, just_written, Proper, Alike, both_running, both_asking, both_ended}
+use Rattle.mach_ir.specs.declared.reg.Reg.{Reg}
+use Rattle.mach_ir.specs.declared.mach.Mach.{Mach}
+use Rattle.mach_laws.proofs.Simulate.{Agrees}
+use Rattle.lin_ir.specs.Meaning.{NamedAt, State, step, run}
+use Rattle.lin_ir.specs.Keeps.{SuitRound, Comes}
+use Rattle.lin_ir.specs.declared.lin.Lin.{Lin}
+
+-- ---- runs of the Mach function that are nowhere stuck, step by step
+
+record Fine (m : Mach) (n : ℕ) (at : ℕ → Run mach.State) : Type 0 where
+  vals : (k : ℕ) → k < n → (u : mach.State) (y : Tally) → at k ≡ Running u y → ValsWritten m u
+  origins : (k : ℕ) → k < n → (u v : mach.State) (y z : Tally) → at k ≡ Running u y → at (suc k) ≡ Running v z → OriginsAgree m (just_written m u v) v
+
+-- and where it begins with a step by an instruction that writes these registers
+record FineFrom (m : Mach) (n : ℕ) (ws : List Reg) (at : ℕ → Run mach.State) : Type 0 where
+  first : (v : mach.State) (z : Tally) → at 0 ≡ Running v z → Agrees m ws v
+  fine : Fine m n at
+
+module _ (c : Place) (p : Mach) (q : Lin) (named : NamedAt) (R : mach.State → State → Type 0) where
+  -- What the Linear function comes to, where the Mach function does this step by an instruction that writes these
+  -- registers. The Linear function may go on alone.
+  pub data Arrives (ws : List Reg) : Step mach.State → Step State → Type 0 where
+    both_continue : {s : mach.State} {t : State} → (Agrees p ws s → R s t) → Arrives ws (Continues s) (Continues t)
+    both_pay : {s : mach.State} {t : State} → (Agrees p ws s → R s t) → Arrives ws (Pays s) (Pays t)
+    both_deepen : {bytes : ℕ} {s : mach.State} {t : State} → (Agrees p ws s → R s t) → Arrives ws (Deepens bytes s) (Deepens bytes t)
+    both_wait : {call : Asked} {next : Doing → Step mach.State} {go : Doing → Step State} → ((d : Doing) → Arrives ws (next d) (go d)) →
+        Arrives ws (Waits call next) (Waits call go)
+    both_finish_by : {call : Asked} {kept : Ret} → Arrives ws (FinishesBy call kept) (FinishesBy call kept)
+    both_finish : {d : Doing} → Arrives ws (Finishes d) (Finishes d)
+    both_finish_raising : {d : Doing} → Arrives ws (FinishesRaising d) (FinishesRaising d)
+    first_stuck : {w : Step State} → Arrives ws IsStuck w
+    goes_alone : {x : Step mach.State} {t : State} → Arrives ws x (step c named q t) → Arrives ws x (Continues t)
+
+  pub record Closed : Type 0 where
+    pub around : (s : mach.State) (t : State) → R s t → s.around ≡ t.around
+    pub next : (s : mach.State) (t : State) → R s t → ValsWritten p s → Arrives (wrote_at p s.rest) (mach.step c p s) (Continues t)
+
+  record Tells (Suit : Around → Around → Type 0) (r : Run mach.State) (at : ℕ → Run State) : Type 0 where
+    count : ℕ
+    alike : Alike (SuitRound Suit) r (at count)
+
+  module _ (closed : Closed) (Suit : Around → Around → Type 0) (suits : (x y : Around) → x ≡ y → Suit x y) where
+    abbrev Whole : ℕ → Type 0
+    Whole n = (s : mach.State) (t : State) (y : Tally) → R s t → Fine p n (λ k. mach.run c p k s y) → (mach.run c p n s y ≡ Wrong → ⊥) →
+        Tells Suit (mach.run c p n s y) (λ k. run c named q k t y)
+
+    abbrev From : Step mach.State → Tally → ℕ → Run mach.State
+    From x y = λ k. onward (mach.run c p k) x y
+
+    abbrev Onto : Step State → Tally → ℕ → Run State
+    Onto w y = λ k. onward (run c named q k) w y
+
+    abbrev Answered : ℕ → List Reg → Step mach.State → Step State → Type 0
+    Answered n ws x w =
+        (y : Tally) → FineFrom p n ws (From x y) → (onward (mach.run c p n) x y ≡ Wrong → ⊥) → Tells Suit (onward (mach.run c p n) x y) (Onto w y)
+
+    handed_told : (n : ℕ) (ws : List Reg) (call : Asked) (next : Doing → Step mach.State) (go : Doing → Step State) → ((d : Doing) → Answered n ws (next d) (go d)) → (ds : List Doing) (y : Tally) →
+        FineFrom p n ws (λ k. handed (λ d y. onward (mach.run c p k) (next d) y) call ds y) →
+        (handed (λ d y. onward (mach.run c p n) (next d) y) call ds y ≡ Wrong → ⊥) →
+        Tells Suit (handed (λ d y. onward (mach.run c p n) (next d) y) call ds y) (λ k. handed (λ d y. onward (run c named q k) (go d) y) call ds y)
+    handed_told n ws call next go told [] y fine goes = record { count = 0; alike = both_asking }
+    handed_told n ws call next go told (d ∷ ds) y fine goes = told d (came_back call ds y) fine goes
+
+    finished_told : (call : Asked) (left : Doing → Doing) (ds : List Doing) (y : Tally) →
+        Tells Suit (handed (λ d y. Ended (left d) y) call ds y) (λ k. handed (λ d y. Ended (left d) y) call ds y)
+    finished_told call left [] y = record { count = 0; alike = both_asking }
+    finished_told call left (d ∷ ds) y = record { count = 0; alike = both_ended }
+
+    -- one step more comes first
+    one_more : {r : Run mach.State} {t : State} {y : Tally} → Tells Suit r (Onto (step c named q t) y) → Tells Suit r (λ k. run c named q k t y)
+    one_more b = record { count = suc b.count; alike = b.alike }
+
+    answered : (n : ℕ) → Whole n → (ws : List Reg) (x : Step mach.State) (w : Step State) → Arrives ws x w → Answered n ws x w
+    answered n ih ws x w (both_continue {s = s} {t = t} f) y fine goes = ih s t y (f (fine.first s y refl)) fine.fine goes
+    answered n ih ws x w (both_pay {s = s} {t = t} f) y fine goes = ih s t (paid y) (f (fine.first s (paid y) refl)) fine.fine goes
+    answered n ih ws x w (both_deepen {bytes = bytes} {s = s} {t = t} f) y fine goes = ih s t _ (f (fine.first s _ refl)) fine.fine goes
+    answered n ih ws x w (both_wait {call = call} {next = next} {go = go} a) y fine goes =
+        handed_told n ws call next go (λ d. answered n ih ws (next d) (go d) (a d)) y.doings y fine goes
+    answered n ih ws x w (both_finish_by {call = call} {kept = kept}) y fine goes = finished_told call (kept_of kept) y.doings y
+    answered n ih ws x w (both_finish {d = d}) y fine goes = record { count = 0; alike = both_ended }
+    answered n ih ws x w (both_finish_raising {d = d}) y fine goes = record { count = 0; alike = both_ended }
+    answered n ih ws x w first_stuck y fine goes = absurd (goes refl)
+    answered n ih ws x w (goes_alone {t = t} a) y fine goes = one_more (answered n ih ws x (step c named q t) a y fine goes)
+
+    -- after the first step of a run
+    rest_fine : {n : ℕ} (s : mach.State) (y : Tally) → Fine p (suc n) (λ k. mach.run c p k s y) → FineFrom p n (wrote_at p s.rest) (From (mach.step c p s) y)
+    rest_fine s y fine =
+        record {
+          first = λ v z e. fine.origins 0 (omega arith) s v y z refl e;
+          fine = record {
+            vals = λ k le u z e. fine.vals (suc k) (omega (arith, le)) u z e;
+            origins = λ k le u v z w e h. fine.origins (suc k) (omega (arith, le)) u v z w e h;
+          };
+        }
+
+    whole : (n : ℕ) → Whole n
+    whole zero = λ s t y r fine goes. record { count = 0; alike = both_running (suits s.around t.around (closed.around s t r)) }
+    whole (suc n) = λ s t y r fine goes.
+        answered n (whole n) (wrote_at p s.rest) (mach.step c p s) (Continues t) (closed.next s t r (fine.vals 0 (omega arith) s y refl)) y (rest_fine s y fine) goes
+
+    -- Related states report the same.
+    pub simulates : (n : ℕ) (s : mach.State) (t : State) (y : Tally) → R s t → Proper c p n s y → Comes Suit (mach.run c p n s y) c named q t y
+    simulates n s t y r proper =
+        let b = whole n s t y r (record { vals = proper.vals; origins = proper.origins }) proper.goes in
+        record { steps = b.count; alike = b.alike }

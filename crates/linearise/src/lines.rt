@@ -1,0 +1,185 @@
+//! The lines of one instruction.
+ghost use Rattle.std.specs.Prelude.{◌≡◌, ◌∷◌, IfOk};
+ghost use Rattle.lin_ir.specs.declared.lin.Flow.TheVariants as flow;
+ghost use Rattle.lin_ir.specs.declared.lin.LinOp.TheVariants as lin;
+ghost use Rattle.linear_rules.specs.Lowered.{same_comp, same_spot, is_idle, line_of, bare, pops, lines_of_mark, lines_of, lowered_one};
+ghost use Rattle.lin_ir.specs.Meaning.{same_loc};
+ghost use Rattle.linearise.specs.Numbers.{number_in};
+
+use crate::backward::Backward;
+use crate::copies::copy_op;
+use crate::spots::{bare, line_of};
+use crate::tests::opposite_test;
+use bs_words::{Comp, Loc};
+use lin_ir::{Flow, LinOp};
+use mach_ir::{Instr, MachOp, Mark, Op, Pure, Reg};
+use std::alloc::{AllocError, Global};
+
+/// Whether both are one component.
+fn same_comp(from: Comp, to: Comp) -> bool
+    ensures { result ≡ same_comp from to }
+{
+    match from {
+        Comp::Int => matches!(to, Comp::Int),
+        Comp::Val => matches!(to, Comp::Val),
+        Comp::Addr => matches!(to, Comp::Addr),
+        Comp::Float => matches!(to, Comp::Float),
+    }
+}
+
+/// Whether both are one place.
+fn same_loc(from: Loc, to: Loc) -> bool
+    ensures { result ≡ same_loc from to }
+{
+    match (from, to) {
+        (Loc::Machine(one), Loc::Machine(two)) => one == two,
+        (Loc::Slot(one), Loc::Slot(two)) => one == two,
+        (Loc::Machine(_one), Loc::Slot(_two)) => false,
+        (Loc::Slot(_one), Loc::Machine(_two)) => false,
+        (Loc::Machine(_one), Loc::Unset) => false,
+        (Loc::Slot(_one), Loc::Unset) => false,
+        (Loc::Unset, _to) => false,
+    }
+}
+
+/// Whether both are one register each, at one place and of one component.
+fn same_spot(args: &[Reg], results: &[Reg]) -> bool
+    ensures { result ≡ same_spot args.now results.now }
+{
+    if args.len() != 1 {
+        return false;
+    }
+    if results.len() != 1 {
+        return false;
+    }
+    let from = args[0];
+    let to = results[0];
+    let loc = same_loc(from.loc, to.loc);
+    let comp = same_comp(from.comp, to.comp);
+    loc && comp
+}
+
+/// Whether the instruction is a copy from a place to itself, of one component.
+fn is_idle(instr: &Instr) -> bool
+    ensures { result ≡ is_idle instr.now.op instr.now.args instr.now.results }
+{
+    match &instr.op {
+        MachOp::Op(Op::Pure(Pure::Copy(_kind))) => {
+            same_spot(instr.args.as_slice(), instr.results.as_slice())
+        }
+        MachOp::Op(Op::Pure(Pure::Constant(_word))) => false,
+        MachOp::Op(Op::Pure(Pure::Symbol(_name))) => false,
+        MachOp::Op(Op::Pure(Pure::Operator(_operator, _right))) => false,
+        MachOp::Op(Op::Access(_access)) => false,
+        MachOp::Op(Op::Calling(_calling)) => false,
+        MachOp::Op(Op::Leaving(_leaving)) => false,
+        MachOp::Mark(_mark) => false,
+    }
+}
+
+/// Puts so many pops of traps before the lines.
+fn push_pops(alloc: Global, count: u32, lines: &mut Backward) -> Result<(), AllocError>
+    ensures { IfOk result (λ _. lines.new ≡ pops (λ k. k) count lines.old) }
+{
+    for _pop in 0..count {
+        lines.push(bare(alloc, Flow::PopTrap))?;
+    }
+    Ok(())
+}
+
+/// Puts a jump, and the label that comes after it, before the lines.
+fn push_jump(alloc: Global, end: u32, label: u32, lines: &mut Backward) -> Result<(), AllocError>
+    ensures { IfOk result (λ _. lines.new ≡
+        bare (λ k. k) (flow.Jump end) ∷ bare (λ k. k) (flow.Label label) ∷ lines.old) }
+{
+    lines.push(bare(alloc, Flow::Label(label)))?;
+    lines.push(bare(alloc, Flow::Jump(end)))
+}
+
+/// Puts the lines of a mark before the others.
+fn push_mark(
+    alloc: Global,
+    numbers: &[u32],
+    mark: &Mark,
+    instr: &Instr,
+    lines: &mut Backward,
+) -> Result<(), AllocError>
+    ensures { IfOk result (λ _. lines.new ≡
+        lines_of_mark (number_in numbers.now) mark.now instr.now lines.old) }
+{
+    match mark {
+        Mark::Exit { label, tries } => {
+            lines.push(bare(alloc, Flow::Exit(*label)))?;
+            push_pops(alloc, *tries, lines)
+        }
+        Mark::If { test, otherwise } => {
+            let branch = Flow::Branch {
+                test: opposite_test(*test),
+                label: *otherwise,
+            };
+            let line = line_of(alloc, numbers, LinOp::Flow(branch), instr)?;
+            lines.push(line)
+        }
+        Mark::Else { label, end } => push_jump(alloc, *end, *label, lines),
+        Mark::Switch(labels) => {
+            let switch = Flow::Switch(labels.clone()?);
+            let line = line_of(alloc, numbers, LinOp::Flow(switch), instr)?;
+            lines.push(line)
+        }
+        Mark::Case {
+            indexes: _,
+            label,
+            end,
+        } => push_jump(alloc, *end, *label, lines),
+        Mark::Catch => Ok(()),
+        Mark::With { label, end } => push_jump(alloc, *end, *label, lines),
+        Mark::Try { handler } => {
+            let line = line_of(alloc, numbers, LinOp::Flow(Flow::PushTrap(*handler)), instr)?;
+            lines.push(line)
+        }
+        Mark::Leave { handler: _, end } => {
+            lines.push(bare(alloc, Flow::Jump(*end)))?;
+            lines.push(bare(alloc, Flow::PopTrap))
+        }
+        Mark::Handler { label } => {
+            let line = line_of(alloc, numbers, LinOp::Flow(Flow::EnterTrap), instr)?;
+            lines.push(line)?;
+            lines.push(bare(alloc, Flow::Label(*label)))
+        }
+        Mark::End { label } => lines.push(bare(alloc, Flow::Label(*label))),
+    }
+}
+
+/// Puts the line of an operation before the others.
+fn push_op(
+    alloc: Global,
+    numbers: &[u32],
+    op: &Op,
+    instr: &Instr,
+    lines: &mut Backward,
+) -> Result<(), AllocError>
+    ensures { IfOk result (λ _. lines.new ≡
+        line_of (number_in numbers.now) (lin.Op op.now) instr.now ∷ lines.old) }
+{
+    let line = line_of(alloc, numbers, LinOp::Op(copy_op(op)?), instr)?;
+    lines.push(line)
+}
+
+/// Puts the lines of an instruction before the others.
+pub fn push_instr(
+    alloc: Global,
+    numbers: &[u32],
+    instr: &Instr,
+    lines: &mut Backward,
+) -> Result<(), AllocError>
+    ensures { IfOk result (λ _. lines.new ≡
+        lowered_one (number_in numbers.now) instr.now lines.old) }
+{
+    if is_idle(instr) {
+        return Ok(());
+    }
+    match &instr.op {
+        MachOp::Op(op) => push_op(alloc, numbers, op, instr, lines),
+        MachOp::Mark(mark) => push_mark(alloc, numbers, mark, instr, lines),
+    }
+}

@@ -1,0 +1,89 @@
+//! Which slots occur in a function, and the numbers that they get.
+ghost use Rattle.std.specs.Prelude.{◌≡◌, ◌<◌, ◌++◌, [], IfOk};
+ghost use Rattle.linear_rules.specs.Lowered.{slots_of_regs, slots_of, count_below, limit_of};
+ghost use Rattle.linearise.specs.Numbers.{AreFlags, IsTable, count_set, running};
+
+use bs_words::Loc;
+use mach_ir::{Mach, Reg};
+use std::alloc::{AllocError, Global};
+
+/// Adds the slots in which registers stand, in order.
+fn gather_regs(regs: &[Reg], slots: &mut Vec<u32>) -> Result<(), AllocError>
+    ensures { IfOk result (λ _. slots.new.items ≡ slots.old.items ++ slots_of_regs regs.now []) }
+{
+    for reg in regs {
+        match reg.loc {
+            Loc::Slot(slot) => slots.push(slot)?,
+            Loc::Machine(_register) => {}
+            Loc::Unset => {}
+        }
+    }
+    Ok(())
+}
+
+/// The slots that occur in a function, some of them more than once.
+pub fn gather(alloc: Global, mach: &Mach) -> Result<Vec<u32>, AllocError>
+    ensures { IfOk result (λ slots. slots.items ≡ slots_of mach.now) }
+{
+    let mut slots = Vec::new(alloc);
+    gather_regs(mach.params.as_slice(), &mut slots)?;
+    for instr in mach.code.as_slice() {
+        gather_regs(instr.args.as_slice(), &mut slots)?;
+        gather_regs(instr.results.as_slice(), &mut slots)?;
+    }
+    Ok(slots)
+}
+
+/// The least number above all these.
+pub fn limit(slots: &[u32]) -> usize
+    ensures { result ≡ limit_of slots.now }
+{
+    let mut limit = 0;
+    for slot in slots {
+        let above = *slot as usize + 1;
+        if limit < above {
+            limit = above;
+        }
+    }
+    limit
+}
+
+/// For each number below `limit`, whether it is among the slots.
+fn flags(alloc: Global, slots: &[u32], limit: usize) -> Result<Vec<bool>, AllocError>
+    requires { limit ≡ limit_of slots.now }
+    ensures { IfOk result (λ flags. AreFlags slots.now flags.items) }
+{
+    let mut flags = vec![in alloc; false; limit]?;
+    for slot in slots {
+        flags[*slot as usize] = true;
+    }
+    Ok(flags)
+}
+
+/// Before each flag and after the last, how many are set before it.
+fn counts(alloc: Global, flags: &[bool]) -> Result<Vec<u32>, AllocError>
+    requires { count_set flags.now < 4294967296 }
+    ensures { IfOk result (λ numbers. numbers.items ≡ running 0 flags.now) }
+{
+    let mut numbers = Vec::new(alloc);
+    let mut count = 0;
+    for flag in flags {
+        numbers.push(count)?;
+        if *flag {
+            count += 1;
+        }
+    }
+    numbers.push(count)?;
+    Ok(numbers)
+}
+
+/// How many of the slots, each counted once, are below each number up to their limit.
+pub fn table(alloc: Global, slots: &[u32], limit: usize) -> Result<Vec<u32>, AllocError>
+    requires limit { limit ≡ limit_of slots.now }
+    requires few { count_below slots.now (limit_of slots.now) < 4294967296 }
+    ensures { IfOk result (λ numbers. IsTable slots.now numbers.items) }
+{
+    let flags = flags(alloc, slots, limit)?;
+    let numbers = counts(alloc, flags.as_slice())?;
+    Ok(numbers)
+}
