@@ -1,0 +1,10 @@
+pub mod Instructions
+pub mod Constants
+pub mod Slots
+pub mod Operators
+pub mod Tests
+pub mod Memory
+pub mod Calls
+pub mod Traps
+pub mod Entry
+pub mod Emitted
