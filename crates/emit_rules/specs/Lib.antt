@@ -8,3 +8,4 @@ pub mod Calls
 pub mod Traps
 pub mod Entry
 pub mod Emitted
+pub mod Traversal
