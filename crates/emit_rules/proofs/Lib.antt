@@ -1,1 +1,3 @@
 pub mod Traverse
+pub mod Names
+pub mod Sizes

@@ -29,6 +29,9 @@ entry f = taken f ++ cond f.saves (stack_store T1 Ra (return_offset f)) []
 abbrev pub restored : Frame → List Piece
 restored f = cond f.saves (stack_load T2 Ra (return_offset f)) []
 
+abbrev pub raised : Frame → List Piece
+raised f = cond (nat_eq f.bytes 0) [] (sum_to T2 Sp Sp f.bytes)
+
 -- No trap is pushed where a function is left. T1 keeps its value, which may be a callee's.
 abbrev pub given_back : Frame → List Piece
-given_back f = restored f ++ cond (nat_eq f.bytes 0) [] (sum_to T2 Sp Sp f.bytes)
+given_back f = restored f ++ raised f

@@ -9,3 +9,5 @@ pub mod Traps
 pub mod Entry
 pub mod Emitted
 pub mod Traversal
+pub mod Named
+pub mod Sizes

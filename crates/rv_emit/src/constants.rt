@@ -1,5 +1,5 @@
 //! Constants, and sums of a register and a constant.
-ghost use Rattle.std.specs.Prelude.{◌≡◌, ◌+◌, ◌*◌, ◌≤◌, IsTrue, IfOk};
+ghost use Rattle.std.specs.Prelude.{◌≡◌, ◌+◌, ◌*◌, ◌++◌, ◌≤◌, IfOk};
 ghost use Rattle.mach_ir.specs.Forms.{is_immediate_12};
 ghost use Rattle.emit_rules.specs.Constants.{is_word_32, above_12, lower_part, constant_32, higher, shifted, constant_shifted, constant, sum_to, lowered};
 ghost use Rattle.rv_emit.specs.Outputs.{Adds};
@@ -71,6 +71,14 @@ impl Output {
         self.shift(ShiftOp::Slli, to, to, amount)
     }
 
+    /// A word of 32 bits, shifted by so many bits to the left.
+    fn ended(&mut self, to: Register, word: u64, amount: u64) -> Result<(), AllocError>
+        ensures { IfOk result (λ _. Adds self.old self.new (constant_32 to word ++ shifted to amount)) }
+    {
+        self.constant_32(to, word)?;
+        self.shifted(to, amount)
+    }
+
     /// The word, shifted by so many bits to the left. After so many steps 32 bits are left of it.
     fn constant_shifted(
         &mut self,
@@ -82,16 +90,18 @@ impl Output {
         requires { amount + 12 * steps ≤ 64 }
         ensures { IfOk result (λ _. Adds self.old self.new (constant_shifted steps to word amount)) }
     {
-        if steps == 0 || is_word_32(word) {
-            self.constant_32(to, word)?;
-            self.shifted(to, amount)
-        } else if word % 4096 == 0 {
-            self.constant_shifted(steps - 1, to, higher(word), amount + 12)
-        } else {
-            self.constant_shifted(steps - 1, to, higher(word), 12)?;
-            self.addi(to, to, word)?;
-            self.shifted(to, amount)
+        if is_word_32(word) {
+            return self.ended(to, word, amount);
         }
+        if steps == 0 {
+            return self.ended(to, word, amount);
+        }
+        if word % 4096 == 0 {
+            return self.constant_shifted(steps - 1, to, higher(word), amount + 12);
+        }
+        self.constant_shifted(steps - 1, to, higher(word), 12)?;
+        self.addi(to, to, word)?;
+        self.shifted(to, amount)
     }
 
     /// The word becomes the register's value.

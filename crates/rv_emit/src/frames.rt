@@ -3,7 +3,7 @@ ghost use Rattle.std.specs.Prelude.{◌≡◌, ◌≤◌, IfOk};
 ghost use Rattle.lin_ir.specs.Descriptors.{has_frame_point, frame_bytes};
 ghost use Rattle.lin_ir.specs.Meaning.{passes_frame};
 ghost use Rattle.mach_ir.specs.Acts.{has_descriptor};
-ghost use Rattle.emit_rules.specs.Entry.{frame_of, taken, entry, restored, given_back, return_offset};
+ghost use Rattle.emit_rules.specs.Entry.{frame_of, taken, entry, restored, raised, given_back, return_offset};
 ghost use Rattle.rv_emit.specs.Outputs.{Adds};
 ghost use Rattle.rv_emit.specs.Frames.{form_of};
 
@@ -124,11 +124,9 @@ impl Output {
         }
     }
 
-    /// The frame is given back, and ra is as it was at the entry.
-    pub fn given_back(&mut self, frame: FrameForm) -> Result<(), AllocError>
-        ensures { IfOk result (λ _. Adds self.old self.new (given_back (form_of frame))) }
+    fn raised(&mut self, frame: FrameForm) -> Result<(), AllocError>
+        ensures { IfOk result (λ _. Adds self.old self.new (raised (form_of frame))) }
     {
-        self.restored(frame)?;
         if frame.bytes == 0 {
             return Ok(());
         }
@@ -138,5 +136,13 @@ impl Output {
             Register::Sp,
             u64::from(frame.bytes),
         )
+    }
+
+    /// The frame is given back, and ra is as it was at the entry.
+    pub fn given_back(&mut self, frame: FrameForm) -> Result<(), AllocError>
+        ensures { IfOk result (λ _. Adds self.old self.new (given_back (form_of frame))) }
+    {
+        self.restored(frame)?;
+        self.raised(frame)
     }
 }

@@ -142,16 +142,24 @@ impl Output {
         Ok(())
     }
 
+    /// The pieces that ask for so many bytes, alone.
+    fn asking(&self, bytes: u64) -> Result<Vec<Piece>, AllocError>
+        ensures { IfOk result (λ pieces. pieces.items ≡ ask bytes) }
+    {
+        let mut output = Output::new(self.alloc);
+        output.ask(bytes)?;
+        let Output { pieces, alloc: _ } = output;
+        Ok(pieces)
+    }
+
     /// Takes so many bytes off s10, and asks for them where s10 is then below the limit word.
     fn reserved(&mut self, bytes: u64) -> Result<(), AllocError>
         ensures { IfOk result (λ _. Adds self.old self.new (reserved bytes)) }
     {
-        let mut asking = Output::new(self.alloc);
-        asking.ask(bytes)?;
-        let Output { pieces, alloc: _ } = asking;
+        let pieces = self.asking(bytes)?;
+        let over = 4 * (1 + pieces.len() as u64);
         self.lowered(Register::T1, Register::S10, bytes)?;
         self.load(LoadWidth::Ld, Register::T1, Register::S11, 0)?;
-        let over = 4 * (1 + pieces.len() as u64);
         self.skip(Condition::Bgeu, Register::S10, Register::T1, over)?;
         self.append(pieces)
     }
@@ -168,17 +176,17 @@ impl Output {
         requires below { bytes < 2 ^ 32 }
         ensures { IfOk result (λ _. Adds self.old self.new (addresses traps blocks.now results.now)) }
     {
-        match blocks {
-            [block, others @ ..] => match results {
-                [spot, rest @ ..] => {
+        match blocks.split_first() {
+            None => Ok(()),
+            Some((block, others)) => match results.split_first() {
+                None => Ok(()),
+                Some((spot, rest)) => {
                     let below = bytes - 8 * (u64::from(block.cells) + 1);
                     self.addresses(traps, others, rest, below)?;
                     self.sum_to(Register::T1, target(spot.loc), Register::S10, below + 8)?;
                     self.kept(traps, spot.loc)
                 }
-                [] => Ok(()),
             },
-            [] => Ok(()),
         }
     }
 
