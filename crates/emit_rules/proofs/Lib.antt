@@ -1,3 +1,4 @@
 pub mod Traverse
 pub mod Names
 pub mod Sizes
+pub mod Values

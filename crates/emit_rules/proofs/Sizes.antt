@@ -131,6 +131,7 @@ shifted_2-in r w amount =
 
 -- a constant has at most nine words
 pub constant-in : (r : Register) (w : ℕ) → Short 9 (constant r w)
+unfolding constant
 constant-in r w =
     chosen (is_word_32 w) (wide 6 (join (constant_32-in r w) (shifted-in r 0)))
     (chosen (nat_eq (low_12 w) 0) (wide 2 (shifted_2-in r (higher w) 12)) (join (shifted_2-in r (higher w) 12) (put (shifted-in r 0))))

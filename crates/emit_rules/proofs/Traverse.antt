@@ -187,6 +187,7 @@ module _ (P : Piece → Type 0) (known : (j : Instr) → InstrFits j → P (piec
        (join (constant_shifted-in n r (higher w) 12) (each_more (addi-in r r w) (shifted-in r amount))))
 
   constant-in : (r : Register) (w : ℕ) → Each P (constant r w)
+  unfolding constant
   constant-in r w = constant_shifted-in 3 r w 0
 
   sum_to-in : (scratch to from : Register) (n : ℕ) → Each P (sum_to scratch to from n)

@@ -52,7 +52,7 @@ constant_shifted (suc n) r w amount =
     (constant_shifted n r (higher w) 12 ++ addi r r w ∷ shifted r amount))
 
 -- the word becomes the register's value
-abbrev pub constant : Register → ℕ → List Piece
+unfoldable pub constant : Register → ℕ → List Piece
 constant r w = constant_shifted 3 r w 0
 
 -- ---- sums

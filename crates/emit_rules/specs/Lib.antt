@@ -11,3 +11,4 @@ pub mod Emitted
 pub mod Traversal
 pub mod Named
 pub mod Sizes
+pub mod Values

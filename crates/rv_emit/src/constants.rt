@@ -105,6 +105,7 @@ impl Output {
     }
 
     /// The word becomes the register's value.
+    #[tactic(auto, unfolding(emit_rules::specs::Constants::constant))]
     pub fn constant(&mut self, to: Register, word: u64) -> Result<(), AllocError>
         ensures { IfOk result (λ _. Adds self.old self.new (constant to word)) }
     {

@@ -1,5 +1,5 @@
 //! Instructions over registers.
-ghost use Rattle.std.specs.Prelude.{◌≡◌, ◌<◌, [], ◌∷◌, IfOk};
+ghost use Rattle.std.specs.Prelude.{◌≡◌, ◌<◌, [], ◌∷◌, IfOk, option_copied, slice_get};
 ghost use Rattle.emit_rules.specs.Instructions.{low_12, register_at, with_immediate, addi, mv, operation, add, shift, lui, addiw, auipc, load, store, skip, goes_to, calls_at, ecall};
 ghost use Rattle.rv_emit.specs.Outputs.{Adds};
 
@@ -43,11 +43,18 @@ const REGISTERS: [Register; 32] = [
     Register::T6,
 ];
 
+/// The register at an index.
+fn register_in(registers: &[Register], index: usize) -> Option<&Register>
+    ensures { option_copied result ≡ slice_get registers.now index }
+{
+    registers.get(index)
+}
+
 /// The register of a number; x0 where no register has it.
 pub fn register_at(number: u8) -> Register
     ensures { result ≡ register_at number }
 {
-    match REGISTERS.get(number as usize) {
+    match register_in(&REGISTERS, number as usize) {
         Some(register) => *register,
         None => Register::Zero,
     }

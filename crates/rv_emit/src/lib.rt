@@ -7,6 +7,7 @@
 pub mod branches;
 pub mod calls;
 pub mod constants;
+pub mod emission;
 pub mod form;
 pub mod frames;
 pub mod instructions;
@@ -15,3 +16,5 @@ pub mod operators;
 pub mod output;
 pub mod slots;
 pub mod traps;
+
+pub use emission::emit_at;

@@ -1,14 +1,16 @@
 //! Loads, stores and allocations.
-ghost use Rattle.std.specs.Prelude.{◌≡◌, ◌<◌, ◌^◌, IfOk, option_copied};
+ghost use Rattle.std.specs.Prelude.{◌≡◌, ◌<◌, ◌^◌, ◌++◌, IfOk, option_copied};
 ghost use Rattle.mach_ir.specs.Blocks.{bytes_of};
 ghost use Rattle.emit_rules.specs.Memory.{address_words, address_register, address_offset, load_width, load_from, load_part, store_width, store_part, ask, reserved, addresses, alloc_part};
+ghost use Rattle.emit_rules.specs.Constants.{sum_to};
+ghost use Rattle.emit_rules.specs.Slots.{target, kept};
 ghost use Rattle.emit_rules.specs.Calls.{mark_of};
 ghost use Rattle.rv_emit.specs.Outputs.{Adds};
 
 use crate::constants::is_immediate_12;
 use crate::output::Output;
 use crate::slots::{first, register_of, second, target};
-use bs_words::Chunk;
+use bs_words::{Chunk, Loc};
 use lin_ir::{Descr, Spot};
 use mach_ir::{Blocks, NewBlock};
 use rv_isa::{Condition, LoadWidth, Register, StoreWidth};
@@ -164,6 +166,15 @@ impl Output {
         self.append(pieces)
     }
 
+    /// So many bytes above s10 becomes the value of a location.
+    fn address(&mut self, traps: u32, to: Loc, bytes: u64) -> Result<(), AllocError>
+        ensures { IfOk result (λ _.
+            Adds self.old self.new (sum_to Register.T1 (target to) Register.S10 bytes ++ kept traps to)) }
+    {
+        self.sum_to(Register::T1, target(to), Register::S10, bytes)?;
+        self.kept(traps, to)
+    }
+
     /// The results of an allocation. `bytes`: those of all these blocks.
     fn addresses(
         &mut self,
@@ -183,8 +194,7 @@ impl Output {
                 Some((spot, rest)) => {
                     let below = bytes - 8 * (u64::from(block.cells) + 1);
                     self.addresses(traps, others, rest, below)?;
-                    self.sum_to(Register::T1, target(spot.loc), Register::S10, below + 8)?;
-                    self.kept(traps, spot.loc)
+                    self.address(traps, spot.loc, below + 8)
                 }
             },
         }

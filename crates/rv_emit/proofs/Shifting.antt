@@ -1,5 +1,6 @@
 -- The steps of a constant.
 use Rattle.std.proofs.Common.{◌≡◌, ℕ, zero, suc, ◌+◌, ◌-◌, ◌<◌, Bool, true, false, cond, nat_eq, List, [], ◌∷◌, ◌++◌, refl, ◌∙◌, subst, sym, arith, rules}
+use Rattle.std.proofs.lemmas.Grind.{common_steps}
 use Rattle.rv_isa.specs.declared.register.Register.{Register}
 use Rattle.rv_pieces.specs.declared.piece.Piece.{Piece}
 use Rattle.emit_rules.specs.Instructions.{low_12, addi}
@@ -34,3 +35,7 @@ adds_bits n k r w amount e h z =
     let Q : ℕ → Type 0 = λ m. constant_shifted m r w amount ≡ constant_shifted k r (higher w) 12 ++ addi r r w ∷ shifted r amount in
     let t : nat_eq (low_12 w) 0 ≡ false = search rules in
     subst Q (sym e) (on-false (is_word_32 w) _ _ h ∙ on-false (nat_eq (low_12 w) 0) _ _ t)
+
+-- what is put in two goes, and then more
+pub three : (old one two : List Piece) (a : List Piece) (p : Piece) (b : List Piece) → one ≡ old ++ a → two ≡ one ++ p ∷ [] → two ++ b ≡ old ++ (a ++ p ∷ b)
+three old one two a p b e f = grind (arith, common_steps)
