@@ -1,5 +1,6 @@
 //! Traps, raises and bound tests.
-ghost use Rattle.std.specs.Prelude.{◌≡◌, IfOk};
+ghost use Rattle.std.specs.Prelude.{◌≡◌, [], ◌∷◌, IfOk};
+ghost use Rattle.emit_rules.specs.Instructions.{load};
 ghost use Rattle.emit_rules.specs.Traps.{raise_words, push_part, pop_part, enter_part, raise_bound_error, check_part};
 ghost use Rattle.rv_emit.specs.Outputs.{Adds};
 
@@ -20,7 +21,7 @@ impl Output {
     {
         self.mv(Register::Sp, Register::S1)?;
         self.load(LoadWidth::Ld, Register::T1, Register::Sp, 0)?;
-        self.load(LoadWidth::Ld, Register::S1, Register::Sp, 8)?;
+        self.earlier_trap()?;
         self.addi(Register::Sp, Register::Sp, 16)?;
         self.goes_to(Register::T1, 0)
     }
@@ -38,10 +39,17 @@ impl Output {
         self.mv(Register::S1, Register::Sp)
     }
 
+    /// The trap pointer becomes what it was before the innermost trap, at which sp points.
+    fn earlier_trap(&mut self) -> Result<(), AllocError>
+        ensures { IfOk result (λ _. Adds self.old self.new (load LoadWidth.Ld Register.S1 Register.Sp 8 ∷ [])) }
+    {
+        self.load(LoadWidth::Ld, Register::S1, Register::Sp, 8)
+    }
+
     pub fn pop_part(&mut self) -> Result<(), AllocError>
         ensures { IfOk result (λ _. Adds self.old self.new pop_part) }
     {
-        self.load(LoadWidth::Ld, Register::S1, Register::Sp, 8)?;
+        self.earlier_trap()?;
         self.addi(Register::Sp, Register::Sp, 16)
     }
 
