@@ -12,3 +12,4 @@ pub mod Traversal
 pub mod Named
 pub mod Sizes
 pub mod Values
+pub mod Depths
