@@ -1,13 +1,15 @@
 //! The pieces of a function: its entry, and a part for each line, in their order.
-ghost use Rattle.std.specs.Prelude.{◌≡◌, ◌≤◌, IfOk, option_copied, slice_index};
+ghost use Rattle.std.specs.Prelude.{◌≡◌, ◌-◌, ◌≤◌, IfOk, option_copied, slice_index};
 ghost use Rattle.lin_ir.specs.Descriptors.{frame_bytes};
 ghost use Rattle.emit_rules.specs.Calls.{mark_of};
-ghost use Rattle.emit_rules.specs.Emitted.{operator_part, pure_part, access_part, calling_part, leaving_part, op_part, flow_part, part_of, descriptor, left_after, parts, emitted};
+ghost use Rattle.emit_rules.specs.Emitted.{operator_part, pure_part, access_part, calling_part, leaving_part, op_part, flow_part, part_of, descriptor, left_after, parts, emitted, IsEmitted};
+ghost use Rattle.emit_rules.specs.Depths.{IsCounted};
 ghost use Rattle.rv_emit.specs.Outputs.{Adds};
 ghost use Rattle.rv_emit.specs.Frames.{form_of};
 
 use crate::form::FrameForm;
 use crate::frames::{frame_of, passes_frame};
+use crate::marks::{mark_at, marks};
 use crate::output::Output;
 use crate::slots::{first, register_of, second, target};
 use bs_words::IntOp;
@@ -200,40 +202,29 @@ impl Output {
         }
     }
 
-    /// The parts of lines. `depths`: by the number of lines after a line, how many traps are pushed
-    /// before it.
+    /// The parts of lines. `marks`: by the number of lines after a line, one more than the number of
+    /// traps that are pushed before it.
     fn parts(
         &mut self,
         frame: FrameForm,
-        depths: &[u32],
+        marks: &[u32],
         descriptors: &[Descr],
         code: &[Line],
     ) -> Result<(), AllocError>
         ensures { IfOk result (λ _.
             Adds self.old self.new
-            (parts (λ left. slice_index depths.now left) (form_of frame) descriptors.now code.now)) }
+            (parts (λ left. slice_index marks.now left - 1) (form_of frame) descriptors.now code.now)) }
     {
         let mut rest = code;
         let mut left = descriptors;
         while let Some((line, next)) = rest.split_first() {
             let passes = passes_frame(&line.op);
-            let traps = number_at(depths, next.len());
+            let traps = mark_at(marks, next.len()).saturating_sub(1);
             self.part(traps, frame, descriptor(passes, left), line)?;
             left = left_after(passes, left);
             rest = next;
         }
         Ok(())
-    }
-}
-
-/// The number at an index, 0 where there is none.
-fn number_at(numbers: &[u32], index: usize) -> u32
-    ensures { result ≡ slice_index numbers.now index }
-{
-    if index < numbers.len() {
-        numbers[index]
-    } else {
-        0
     }
 }
 
@@ -257,25 +248,35 @@ fn left_after(passes: bool, left: &[Descr]) -> &[Descr]
     }
 }
 
-/// The pieces of a function. `depths`: by the number of lines after a line, how many traps are pushed
-/// before it; `descriptors`: one for each frame point that is no tail call, in the order of the lines.
-pub fn emit_at(
+/// The pieces of a function whose marks are known: by the number of lines after a line, one more
+/// than the number of traps that are pushed before it.
+fn emit_with(
     alloc: Global,
     lin: &Lin,
-    depths: &[u32],
+    marks: &[u32],
     descriptors: &[Descr],
 ) -> Result<Pieces, AllocError>
     requires { frame_bytes lin.now ≤ 1048576 }
     ensures { IfOk result (λ pieces.
-        pieces ≡ emitted lin.now (λ left. slice_index depths.now left) descriptors.now) }
+        pieces ≡ emitted lin.now (λ left. slice_index marks.now left - 1) descriptors.now) }
 {
     let frame = frame_of(lin);
     let mut output = Output::new(alloc);
     output.entry(frame)?;
-    output.parts(frame, depths, descriptors, lin.code.as_slice())?;
+    output.parts(frame, marks, descriptors, lin.code.as_slice())?;
     let Output { pieces, alloc: _ } = output;
     Ok(Pieces {
         frame: frame.bytes,
         code: Seq::from_vec(pieces),
     })
+}
+
+/// The pieces of a function, in which the traps that are pushed can be counted. `descriptors`: one
+/// for each frame point that is no tail call, in the order of the lines.
+pub fn emit(alloc: Global, lin: &Lin, descriptors: &[Descr]) -> Result<Pieces, AllocError>
+    requires { IsCounted lin.now }
+    ensures { IfOk result (λ pieces. IsEmitted lin.now descriptors.now pieces) }
+{
+    let marks = marks(alloc, lin)?;
+    emit_with(alloc, lin, marks.as_slice(), descriptors)
 }

@@ -11,10 +11,11 @@ pub mod emission;
 pub mod form;
 pub mod frames;
 pub mod instructions;
+pub mod marks;
 pub mod memory;
 pub mod operators;
 pub mod output;
 pub mod slots;
 pub mod traps;
 
-pub use emission::emit_at;
+pub use emission::emit;
