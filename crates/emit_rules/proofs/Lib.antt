@@ -2,5 +2,5 @@ pub mod Traverse
 pub mod Names
 pub mod Sizes
 pub mod Values
-pub mod Counting
 pub mod Acts
+pub mod Descriptors

@@ -83,21 +83,21 @@ label-is m k l is e = let same : k ≡ l = cc in let Q : ℕ → Type 0 = λ n. 
 -- each label that a piece names is one that a line names
 pub labels_are_named : (m : Lin) (traps : ℕ → ℕ) (ds : List Descr) → Each (LabelIn m) (emitted m traps ds).code
 labels_are_named m traps ds = emitted-in (LabelIn m) m traps ds (λ j h l e. cc) (λ i next s d.
-  let of : (k : ℕ) → NamesLabel k i.op → (l : ℕ) → Some k ≡ Some l → IsLabelOf m l =
+    let of : (k : ℕ) → NamesLabel k i.op → (l : ℕ) → Some k ≡ Some l → IsLabelOf m l =
     λ k n l e. label-is m k l (record { line = i; next = next; stands = s; named = n }) e in
-  record {
-    known = λ j h l e. cc;
-    place = λ k is l e. cc;
-    branch = λ k n c a b l e. of k n l e;
-    jump = λ k n l e. of k n l e;
-    row = λ k n l e. of k n l e;
-    address = λ k n r l e. of k n l e;
-    call = λ name n l e. cc;
-    tail_call = λ name n l e. cc;
-    symbol = λ name n r l e. cc;
-    external = λ row frame is r l e. cc;
-    mark = λ x is l e. cc;
-  })
+    record {
+      known = λ j h l e. cc;
+      place = λ k is l e. cc;
+      branch = λ k n c a b l e. of k n l e;
+      jump = λ k n l e. of k n l e;
+      row = λ k n l e. of k n l e;
+      address = λ k n r l e. of k n l e;
+      call = λ name n l e. cc;
+      tail_call = λ name n l e. cc;
+      symbol = λ name n r l e. cc;
+      external = λ row frame is r l e. cc;
+      mark = λ x is l e. cc;
+    })
 
 -- ---- symbols and external calls
 
@@ -110,21 +110,21 @@ symbol-is m a b is e = let same : a ≡ b = cc in let Q : List ℕ → Type 0 = 
 -- each symbol that a piece names is one that the function names
 pub symbols_are_named : (m : Lin) (traps : ℕ → ℕ) (ds : List Descr) → Each (SymbolIn m) (emitted m traps ds).code
 symbols_are_named m traps ds = emitted-in (SymbolIn m) m traps ds (λ j h l e. cc) (λ i next s d.
-  let of : (a : List ℕ) → Names a i.op → (b : List ℕ) → Some a ≡ Some b → IsNamedIn (NamesSymbol b) m =
+    let of : (a : List ℕ) → Names a i.op → (b : List ℕ) → Some a ≡ Some b → IsNamedIn (NamesSymbol b) m =
     λ a n b e. symbol-is m a b (record { line = i; among = stands-contains m.code s; op = n.op; is = n.is; named = n.named }) e in
-  record {
-    known = λ j h l e. cc;
-    place = λ k is l e. cc;
-    branch = λ k n c a b l e. cc;
-    jump = λ k n l e. cc;
-    row = λ k n l e. cc;
-    address = λ k n r l e. cc;
-    call = λ name n l e. of name n l e;
-    tail_call = λ name n l e. of name n l e;
-    symbol = λ name n r l e. of name n l e;
-    external = λ row frame is r l e. cc;
-    mark = λ x is l e. cc;
-  })
+    record {
+      known = λ j h l e. cc;
+      place = λ k is l e. cc;
+      branch = λ k n c a b l e. cc;
+      jump = λ k n l e. cc;
+      row = λ k n l e. cc;
+      address = λ k n r l e. cc;
+      call = λ name n l e. of name n l e;
+      tail_call = λ name n l e. of name n l e;
+      symbol = λ name n r l e. of name n l e;
+      external = λ row frame is r l e. cc;
+      mark = λ x is l e. cc;
+    })
 
 abbrev ExternalIn : Lin → Piece → Type 0
 ExternalIn m p = (row : External) → external_named p ≡ Some row → IsExternalOf m row
@@ -135,19 +135,19 @@ external-is m a b is e = let same : a ≡ b = cc in let Q : External → Type 0 
 -- each external call that a piece names is one of the function, by its row
 pub externals_are_named : (m : Lin) (traps : ℕ → ℕ) (ds : List Descr) → Each (ExternalIn m) (emitted m traps ds).code
 externals_are_named m traps ds = emitted-in (ExternalIn m) m traps ds (λ j h l e. cc) (λ i next s d. record {
-    known = λ j h l e. cc;
-    place = λ k is l e. cc;
-    branch = λ k n c a b l e. cc;
-    jump = λ k n l e. cc;
-    row = λ k n l e. cc;
-    address = λ k n r l e. cc;
-    call = λ name n l e. cc;
-    tail_call = λ name n l e. cc;
-    symbol = λ name n r l e. cc;
-    external = λ row frame is r other e.
+  known = λ j h l e. cc;
+  place = λ k is l e. cc;
+  branch = λ k n c a b l e. cc;
+  jump = λ k n l e. cc;
+  row = λ k n l e. cc;
+  address = λ k n r l e. cc;
+  call = λ name n l e. cc;
+  tail_call = λ name n l e. cc;
+  symbol = λ name n r l e. cc;
+  external = λ row frame is r other e.
       external-is m row other (record { line = i; among = stands-contains m.code s; frame = frame; is = is }) e;
-    mark = λ x is l e. cc;
-  })
+  mark = λ x is l e. cc;
+})
 
 -- ---- places of labels
 

@@ -412,8 +412,8 @@ parts_are_short f traps ds (i ∷ next) =
     let d : Option Descr = descriptor (passes_frame i.op) ds in
     let rest : List Descr = left_after (passes_frame i.op) ds in
     let e : words_at_most (part_of (traps (length next)) f d i ++ parts traps f rest next)
-      ≡ words_at_most (part_of (traps (length next)) f d i) + words_at_most (parts traps f rest next) =
-      words-join (part_of (traps (length next)) f d i) (parts traps f rest next) in
+    ≡ words_at_most (part_of (traps (length next)) f d i) + words_at_most (parts traps f rest next) =
+    words-join (part_of (traps (length next)) f d i) (parts traps f rest next) in
     let h : words_at_most (part_of (traps (length next)) f d i) ≤ line_bound i = part_is_short (traps (length next)) f d i in
     let k : words_at_most (parts traps f rest next) ≤ lines_bound next = parts_are_short f traps rest next in
     omega arith
@@ -422,7 +422,7 @@ parts_are_short f traps ds (i ∷ next) =
 pub function_is_short : (m : Lin) (traps : ℕ → ℕ) (ds : List Descr) → words_at_most (emitted m traps ds).code ≤ 13 + lines_bound m.code
 function_is_short m traps ds =
     let e : words_at_most (entry (frame_of m) ++ parts traps (frame_of m) ds m.code) ≡ words_at_most (entry (frame_of m)) + words_at_most (parts traps (frame_of m) ds m.code) =
-      words-join (entry (frame_of m)) (parts traps (frame_of m) ds m.code) in
+    words-join (entry (frame_of m)) (parts traps (frame_of m) ds m.code) in
     let h : words_at_most (entry (frame_of m)) ≤ 13 = (entry-in (frame_of m)).fits in
     let k : words_at_most (parts traps (frame_of m) ds m.code) ≤ lines_bound m.code = parts_are_short (frame_of m) traps ds m.code in
     omega arith

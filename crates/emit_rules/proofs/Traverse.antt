@@ -184,7 +184,7 @@ module _ (P : Piece → Type 0) (known : (j : Instr) → InstrFits j → P (piec
   constant_shifted-in (suc n) r w amount =
       chosen (is_word_32 w) (join (constant_32-in r w) (shifted-in r amount))
       (chosen (nat_eq (low_12 w) 0) (constant_shifted-in n r (higher w) (amount + 12))
-       (join (constant_shifted-in n r (higher w) 12) (each_more (addi-in r r w) (shifted-in r amount))))
+      (join (constant_shifted-in n r (higher w) 12) (each_more (addi-in r r w) (shifted-in r amount))))
 
   constant-in : (r : Register) (w : ℕ) → Each P (constant r w)
   unfolding constant
@@ -465,7 +465,7 @@ module _ (P : Piece → Type 0) (d : Option Descr) where
   switch_part-in t ls args a =
       join (value_words-in P a.known t (first args))
       (chosen (nat_le (length ls) 4) (tests_in_turn-in ls (λ l n. a.branch l (goes_to n) condition.Beq T1 Zero) (λ l n. a.jump l (goes_to n)) a.known)
-       (each_more (shift-in P a.known shifts.Slli T1 T1 3) (each_more (auipc-in P a.known T2) (each_more (operation-in P a.known alu.Add T2 T2 T1) (each_more (jumps_to-in P a.known T2 12) (rows-in ls (λ l n. a.row l (goes_to n))))))))
+      (each_more (shift-in P a.known shifts.Slli T1 T1 3) (each_more (auipc-in P a.known T2) (each_more (operation-in P a.known alu.Add T2 T2 T1) (each_more (jumps_to-in P a.known T2 12) (rows-in ls (λ l n. a.row l (goes_to n))))))))
 
   flow_part-in : (t : ℕ) (g : Flow) (args results : List Spot) → Allows P (lin.Flow g) d → Each P (flow_part t g args results)
   flow_part-in t (flow.Label l) args results a = one (a.place l refl)

@@ -36,7 +36,7 @@ module _ (r : Register) where
   steps-made (suc n) w amount =
       chosen (is_word_32 w) (join (word-made w) (shifted-made amount))
       (chosen (nat_eq (low_12 w) 0) (steps-made n (higher w) (amount + 12))
-       (join (steps-made n (higher w) 12) (each_more (makes_sum w) (shifted-made amount))))
+      (join (steps-made n (higher w) 12) (each_more (makes_sum w) (shifted-made amount))))
 
   pub constant_is_made : (w : ℕ) → Each (Makes r) (constant r w)
   unfolding constant
@@ -47,32 +47,36 @@ module _ (r : Register) where
 -- the lowest 12 bits of a word, extended by their sign
 pub by_12 : (w : ℕ) → ((w % 4096 < 2048) × (sext_word (low_12 w) 12 ≡ w % 4096)) ⊎ ((2048 ≤ w % 4096) × (sext_word (low_12 w) 12 ≡ w % 4096 + 0xFFFFFFFFFFFFF000))
 by_12 w = elim (cases_lt (w % 4096) 2048) [
-    inl l ↦ (let h : low_12 w % 4096 < 2048 = omega arith in
+  | inl l ↦ (let h : low_12 w % 4096 < 2048 = omega arith in
       let e : low_12 w % 4096 ≡ sext_word (low_12 w) 12 = sext-low (low_12 w) 12 (omega arith) h in
       let f : sext_word (low_12 w) 12 ≡ w % 4096 = omega arith in inl (l, f))
   | inr g ↦ (let h : 2048 ≤ low_12 w % 4096 = omega arith in
       let e : low_12 w % 4096 + 0xFFFFFFFFFFFFF000 ≡ sext_word (low_12 w) 12 = sext-high (low_12 w) 12 (omega arith) h in
-      let f : sext_word (low_12 w) 12 ≡ w % 4096 + 0xFFFFFFFFFFFFF000 = omega arith in inr (g, f)) ]
+      let f : sext_word (low_12 w) 12 ≡ w % 4096 + 0xFFFFFFFFFFFFF000 = omega arith in inr (g, f))
+]
 
 -- the lowest 32 bits of a number, extended by their sign
 pub by_32 : (n : ℕ) → ((n % 4294967296 < 2147483648) × (sext_word n 32 ≡ n % 4294967296)) ⊎ ((2147483648 ≤ n % 4294967296) × (sext_word n 32 ≡ n % 4294967296 + 0xFFFFFFFF00000000))
 by_32 n = elim (cases_lt (n % 4294967296) 2147483648) [
-    inl l ↦ (let e : n % 4294967296 ≡ sext_word n 32 = sext-low n 32 (omega arith) l in
+  | inl l ↦ (let e : n % 4294967296 ≡ sext_word n 32 = sext-low n 32 (omega arith) l in
       let f : sext_word n 32 ≡ n % 4294967296 = omega arith in inl (l, f))
   | inr g ↦ (let e : n % 4294967296 + 0xFFFFFFFF00000000 ≡ sext_word n 32 = sext-high n 32 (omega arith) g in
-      let f : sext_word n 32 ≡ n % 4294967296 + 0xFFFFFFFF00000000 = omega arith in inr (g, f)) ]
+      let f : sext_word n 32 ≡ n % 4294967296 + 0xFFFFFFFF00000000 = omega arith in inr (g, f))
+]
 
 -- ---- tests
 
 pub immediate-by : (w : ℕ) → is_immediate_12 w ≡ true → (w < 2048) ⊎ (0xFFFFFFFFFFFFF800 ≤ w)
 immediate-by w h = elim (cases_lt w 2048) [
-    inl l ↦ inl l
-  | inr g ↦ elim (cases_lt w 0xFFFFFFFFFFFFF800) [ inl k ↦ absurd (grind (arith, nat_tests)) | inr k ↦ inr k ] ]
+  | inl l ↦ inl l
+  | inr g ↦ elim (cases_lt w 0xFFFFFFFFFFFFF800) [ inl k ↦ absurd (grind (arith, nat_tests)) | inr k ↦ inr k ]
+]
 
 pub word-by : (w : ℕ) → is_word_32 w ≡ true → (w < 0x80000000) ⊎ (0xFFFFFFFF80000000 ≤ w)
 word-by w h = elim (cases_lt w 0x80000000) [
-    inl l ↦ inl l
-  | inr g ↦ elim (cases_lt w 0xFFFFFFFF80000000) [ inl k ↦ absurd (grind (arith, nat_tests)) | inr k ↦ inr k ] ]
+  | inl l ↦ inl l
+  | inr g ↦ elim (cases_lt w 0xFFFFFFFF80000000) [ inl k ↦ absurd (grind (arith, nat_tests)) | inr k ↦ inr k ]
+]
 
 pub is_word : (w : ℕ) → (w < 0x80000000) ⊎ (0xFFFFFFFF80000000 ≤ w) → is_word_32 w ≡ true
 is_word w (inl l) = grind (arith, nat_tests)
@@ -86,15 +90,17 @@ unfolding add_word
 first_is w b h =
     let s : ℕ = sext_word (low_12 w) 12 in
     elim (immediate-by w h) [
-      inl l ↦ elim (by_12 w) [ inl x ↦ (let e = x.1 in omega (arith, e)) | inr x ↦ absurd (let g = x.0 in omega (arith, g)) ]
-    | inr l ↦ elim (by_12 w) [ inl x ↦ absurd (let g = x.0 in omega (arith, g)) | inr x ↦ (let e = x.1 in omega (arith, e)) ] ]
+      | inl l ↦ elim (by_12 w) [ inl x ↦ (let e = x.1 in omega (arith, e)) | inr x ↦ absurd (let g = x.0 in omega (arith, g)) ]
+      | inr l ↦ elim (by_12 w) [ inl x ↦ absurd (let g = x.0 in omega (arith, g)) | inr x ↦ (let e = x.1 in omega (arith, e)) ]
+    ]
 
 -- the upper 20 bits alone
 pub upper_is : (w : ℕ) → w < 2 ^ 64 → is_word_32 w ≡ true → low_12 w ≡ 0 → sext_word (4096 * (above_12 w % 1048576)) 32 ≡ w
 upper_is w b h z =
     elim (word-by w h) [
-      inl l ↦ elim (by_32 (4096 * (above_12 w % 1048576))) [ inl x ↦ (let e = x.1 in omega (arith, e)) | inr x ↦ absurd (let g = x.0 in omega (arith, g)) ]
-    | inr l ↦ elim (by_32 (4096 * (above_12 w % 1048576))) [ inl x ↦ absurd (let g = x.0 in omega (arith, g)) | inr x ↦ (let e = x.1 in omega (arith, e)) ] ]
+      | inl l ↦ elim (by_32 (4096 * (above_12 w % 1048576))) [ inl x ↦ (let e = x.1 in omega (arith, e)) | inr x ↦ absurd (let g = x.0 in omega (arith, g)) ]
+      | inr l ↦ elim (by_32 (4096 * (above_12 w % 1048576))) [ inl x ↦ absurd (let g = x.0 in omega (arith, g)) | inr x ↦ (let e = x.1 in omega (arith, e)) ]
+    ]
 
 -- what is left of the 32 bits, whatever was added at first and in the end
 low-half : (w a b : ℕ) → ((4096 * (above_12 w % 1048576) % 4294967296 < 2147483648) × (a ≡ 4096 * (above_12 w % 1048576) % 4294967296))
@@ -113,20 +119,22 @@ unfolding add_word
 word_is w b h =
     let s : ℕ = add_word (sext_word (4096 * (above_12 w % 1048576)) 32) (sext_word (low_12 w) 12) in
     let same : s % 4294967296 ≡ w % 4294967296 =
-      low-half w (sext_word (4096 * (above_12 w % 1048576)) 32) (sext_word (low_12 w) 12) (by_32 (4096 * (above_12 w % 1048576))) (by_12 w) in
+    low-half w (sext_word (4096 * (above_12 w % 1048576)) 32) (sext_word (low_12 w) 12) (by_32 (4096 * (above_12 w % 1048576))) (by_12 w) in
     elim (word-by w h) [
-      inl l ↦ elim (by_32 s) [ inl x ↦ (let e = x.1 in omega (arith, e, same)) | inr x ↦ absurd (let g = x.0 in omega (arith, g, same)) ]
-    | inr l ↦ elim (by_32 s) [ inl x ↦ absurd (let g = x.0 in omega (arith, g, same)) | inr x ↦ (let e = x.1 in omega (arith, e, same)) ] ]
+      | inl l ↦ elim (by_32 s) [ inl x ↦ (let e = x.1 in omega (arith, e, same)) | inr x ↦ absurd (let g = x.0 in omega (arith, g, same)) ]
+      | inr l ↦ elim (by_32 s) [ inl x ↦ absurd (let g = x.0 in omega (arith, g, same)) | inr x ↦ (let e = x.1 in omega (arith, e, same)) ]
+    ]
 
 -- ---- the word above the lowest 12 bits
 
 higher-by : (w : ℕ) → ((above_12 w % 0x10000000000000 < 0x8000000000000) × (higher w ≡ above_12 w % 0x10000000000000))
     ⊎ ((0x8000000000000 ≤ above_12 w % 0x10000000000000) × (higher w ≡ above_12 w % 0x10000000000000 + 0xFFF0000000000000))
 higher-by w = elim (cases_lt (above_12 w % 0x10000000000000) 0x8000000000000) [
-    inl l ↦ (let e : nat_lt (above_12 w % 0x10000000000000) 0x8000000000000 ≡ true = grind (arith, nat_tests) in
+  | inl l ↦ (let e : nat_lt (above_12 w % 0x10000000000000) 0x8000000000000 ≡ true = grind (arith, nat_tests) in
       inl (l, ap (λ (t : Bool). cond t (above_12 w % 0x10000000000000) (above_12 w % 0x10000000000000 + 0xFFF0000000000000)) e))
   | inr g ↦ (let e : nat_lt (above_12 w % 0x10000000000000) 0x8000000000000 ≡ false = grind (arith, nat_tests) in
-      inr (g, ap (λ (t : Bool). cond t (above_12 w % 0x10000000000000) (above_12 w % 0x10000000000000 + 0xFFF0000000000000)) e)) ]
+      inr (g, ap (λ (t : Bool). cond t (above_12 w % 0x10000000000000) (above_12 w % 0x10000000000000 + 0xFFF0000000000000)) e))
+]
 
 pub higher-below : (w : ℕ) → higher w < 2 ^ 64
 higher-below w = elim (higher-by w) [ inl x ↦ (let e = x.1 in let g = x.0 in omega (arith, e, g)) | inr x ↦ (let e = x.1 in let g = x.0 in omega (arith, e, g)) ]
@@ -155,8 +163,10 @@ abbrev Spans : ℕ → ℕ → Type 0
 Spans n w = (w ≤ n) ⊎ ((2 ^ 64 - n ≤ w) × (w < 2 ^ 64))
 
 spans_52 : (w : ℕ) → Spans 0x8000000000000 (higher w)
-spans_52 w = elim (higher-by w) [ inl x ↦ (let e = x.1 in let g = x.0 in let h : higher w ≤ 0x8000000000000 = omega (arith, e, g) in inl h)
-  | inr x ↦ (let e = x.1 in let g = x.0 in let h : 2 ^ 64 - 0x8000000000000 ≤ higher w = omega (arith, e, g) in inr (h, higher-below w)) ]
+spans_52 w = elim (higher-by w) [
+  | inl x ↦ (let e = x.1 in let g = x.0 in let h : higher w ≤ 0x8000000000000 = omega (arith, e, g) in inl h)
+  | inr x ↦ (let e = x.1 in let g = x.0 in let h : 2 ^ 64 - 0x8000000000000 ≤ higher w = omega (arith, e, g) in inr (h, higher-below w))
+]
 
 spans_40 : (w : ℕ) → Spans 0x8000000000000 w → Spans 0x8000000000 (higher w)
 spans_40 w (inl l) = elim (higher-by w) [ inl x ↦ (let e = x.1 in let h : higher w ≤ 0x8000000000 = omega (arith, e) in inl h) | inr x ↦ absurd (let g = x.0 in omega (arith, g)) ]
@@ -164,8 +174,9 @@ spans_40 w (inr l) =
     let a = l.0 in
     let b = l.1 in
     elim (higher-by w) [
-      inl x ↦ (let e = x.1 in let g = x.0 in let h : higher w ≤ 0x8000000000 = omega (arith, e, g, a, b) in inl h)
-    | inr x ↦ (let e = x.1 in let g = x.0 in let h : 2 ^ 64 - 0x8000000000 ≤ higher w = omega (arith, e, g, a, b) in inr (h, higher-below w)) ]
+      | inl x ↦ (let e = x.1 in let g = x.0 in let h : higher w ≤ 0x8000000000 = omega (arith, e, g, a, b) in inl h)
+      | inr x ↦ (let e = x.1 in let g = x.0 in let h : 2 ^ 64 - 0x8000000000 ≤ higher w = omega (arith, e, g, a, b) in inr (h, higher-below w))
+    ]
 
 spans_28 : (w : ℕ) → Spans 0x8000000000 w → Spans 0x8000000 (higher w)
 spans_28 w (inl l) = elim (higher-by w) [ inl x ↦ (let e = x.1 in let h : higher w ≤ 0x8000000 = omega (arith, e) in inl h) | inr x ↦ absurd (let g = x.0 in omega (arith, g)) ]
@@ -173,8 +184,9 @@ spans_28 w (inr l) =
     let a = l.0 in
     let b = l.1 in
     elim (higher-by w) [
-      inl x ↦ (let e = x.1 in let g = x.0 in let h : higher w ≤ 0x8000000 = omega (arith, e, g, a, b) in inl h)
-    | inr x ↦ (let e = x.1 in let g = x.0 in let h : 2 ^ 64 - 0x8000000 ≤ higher w = omega (arith, e, g, a, b) in inr (h, higher-below w)) ]
+      | inl x ↦ (let e = x.1 in let g = x.0 in let h : higher w ≤ 0x8000000 = omega (arith, e, g, a, b) in inl h)
+      | inr x ↦ (let e = x.1 in let g = x.0 in let h : 2 ^ 64 - 0x8000000 ≤ higher w = omega (arith, e, g, a, b) in inr (h, higher-below w))
+    ]
 
 spans-word : (w : ℕ) → Spans 0x8000000 w → is_word_32 w ≡ true
 spans-word w (inl l) = is_word w (let h : w < 0x80000000 = omega arith in inl h)

@@ -14,7 +14,6 @@ use Rattle.mach_ir.specs.declared.op.Op.{Op}
 use Rattle.mach_ir.specs.declared.op.Op.TheVariants as op
 use Rattle.bs_words.specs.declared.operators.IntOp.{IntOp}
 use Rattle.lin_ir.specs.Meaning.{passes_frame}
-use Rattle.lin_ir.specs.Walks.{Stands, Reached}
 use Rattle.lin_ir.specs.declared.descr.Descr.{Descr}
 use Rattle.lin_ir.specs.declared.lin.Spot.{Spot}
 use Rattle.lin_ir.specs.declared.lin.Flow.{Flow}
@@ -23,6 +22,7 @@ use Rattle.lin_ir.specs.declared.lin.LinOp.{LinOp}
 use Rattle.lin_ir.specs.declared.lin.LinOp.TheVariants as lin
 use Rattle.lin_ir.specs.declared.lin.Line.{Line}
 use Rattle.lin_ir.specs.declared.lin.Lin.{Lin}
+use Rattle.pushed_traps.specs.Depths.{ArePushed}
 use Rattle.rv_isa.specs.declared.register.Register.TheVariants.{T1, T2}
 use Rattle.rv_pieces.specs.declared.piece.Piece.{Piece}
 use Rattle.rv_pieces.specs.declared.piece.Piece.TheVariants as piece
@@ -125,12 +125,7 @@ emitted m traps ds = record {
   code = entry (frame_of m) ++ parts traps (frame_of m) ds m.code;
 }
 
--- ---- pushed traps
-
--- Before each line that a walk comes to so many traps are pushed.
-pub record ArePushed (m : Lin) (traps : ℕ → ℕ) : Type 0 where
-  pub pushed : (i : Line) (next : List Line) → Stands i next m.code → (tries : List ℕ) →
-      Reached m (i ∷ next) tries → traps (length next) ≡ length tries
+-- ---- whole
 
 -- The pieces of a function with these descriptors. Before a line that no walk comes to any number of
 -- traps may count as pushed.

@@ -12,4 +12,3 @@ pub mod Traversal
 pub mod Named
 pub mod Sizes
 pub mod Values
-pub mod Depths

@@ -1,9 +1,10 @@
 -- What pieces name, and what places and marks they have.
-use Rattle.std.specs.Prelude.{◌≡◌, ℕ, List, [], ◌∷◌, ◌++◌, Option, Some, None, Contains}
+use Rattle.std.specs.Prelude.{◌≡◌, ℕ, suc, cond, List, [], ◌∷◌, ◌++◌, Option, Some, None, Contains}
 use Rattle.mach_ir.specs.declared.op.External.{External}
 use Rattle.mach_ir.specs.declared.op.Calling.TheVariants as calling
 use Rattle.mach_ir.specs.declared.op.Op.TheVariants as op
 use Rattle.lin_ir.specs.Formed.{NamesLabel}
+use Rattle.lin_ir.specs.Meaning.{passes_frame}
 use Rattle.lin_ir.specs.Walks.{Stands}
 use Rattle.lin_ir.specs.declared.descr.Descr.{Descr}
 use Rattle.lin_ir.specs.declared.lin.LinOp.TheVariants as lin
@@ -53,6 +54,11 @@ mark_in _ = []
 abbrev pub marks_in : List Piece → List Descr
 marks_in [] = []
 marks_in (p ∷ ps) = mark_in p ++ marks_in ps
+
+-- the frame points that are no tail calls
+abbrev pub points : List Line → ℕ
+points [] = 0
+points (i ∷ is) = cond (passes_frame i.op) (suc (points is)) (points is)
 
 -- ---- what lines name
 

@@ -3,18 +3,18 @@ ghost use Rattle.std.specs.Prelude.{◌≡◌, ◌-◌, ◌≤◌, IfOk, option_
 ghost use Rattle.lin_ir.specs.Descriptors.{frame_bytes};
 ghost use Rattle.emit_rules.specs.Calls.{mark_of};
 ghost use Rattle.emit_rules.specs.Emitted.{operator_part, pure_part, access_part, calling_part, leaving_part, op_part, flow_part, part_of, descriptor, left_after, parts, emitted, IsEmitted};
-ghost use Rattle.emit_rules.specs.Depths.{IsCounted};
+ghost use Rattle.pushed_traps.specs.Depths.{IsCounted};
 ghost use Rattle.rv_emit.specs.Outputs.{Adds};
 ghost use Rattle.rv_emit.specs.Frames.{form_of};
 
 use crate::form::FrameForm;
 use crate::frames::{frame_of, passes_frame};
-use crate::marks::{mark_at, marks};
 use crate::output::Output;
 use crate::slots::{first, register_of, second, target};
 use bs_words::IntOp;
 use lin_ir::{Descr, Flow, Lin, LinOp, Line, Spot};
 use mach_ir::{Access, Calling, Leaving, Op, Pure, Right, Seq};
+use pushed_traps::{mark_at, marks};
 use rv_isa::Register;
 use rv_pieces::{Piece, Pieces};
 use std::alloc::{AllocError, Global};

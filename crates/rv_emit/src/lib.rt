@@ -11,7 +11,6 @@ pub mod emission;
 pub mod form;
 pub mod frames;
 pub mod instructions;
-pub mod marks;
 pub mod memory;
 pub mod operators;
 pub mod output;

@@ -1,6 +1,6 @@
 use Rattle.std.proofs.Common.{◌≡◌, ℕ, length, slice_index}
-use Rattle.rv_emit.specs.Marks.{swept}
-use Rattle.rv_emit.proofs.marks.sweep.Given as goal
+use Rattle.pushed_traps.specs.Marks.{swept}
+use Rattle.pushed_traps.proofs.sweeps.sweep.Given as goal
 
 abbrev pub invariant-loop-line : goal.invariant-loop-line
 invariant-loop-line l =

@@ -1,5 +1,5 @@
 use Rattle.std.proofs.Common.{◌≡◌, ℕ, ◌-◌, ◌+◌, length, slice_index, vec_len}
-use Rattle.rv_emit.proofs.marks.put_at.Given as goal
+use Rattle.pushed_traps.proofs.sweeps.put_at.Given as goal
 
 abbrev pub invariant-loop-numbers : goal.invariant-loop-numbers
 invariant-loop-numbers l = (k : ℕ) → slice_index l.numbers.items k ≡ slice_index l.initial.numbers.items k

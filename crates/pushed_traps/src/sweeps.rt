@@ -2,9 +2,9 @@
 ghost use Rattle.std.specs.Prelude.{◌≡◌, ℕ, ◌-◌, ◌≤◌, ◌<◌, ◌^◌, length, replicate, cond, nat_eq, slice_index, IfOk};
 ghost use Rattle.mach_ir.specs.Acts.{goes_on};
 ghost use Rattle.lin_ir.specs.Meaning.{after_label};
-ghost use Rattle.emit_rules.specs.Depths.{IsCounted};
-ghost use Rattle.emit_rules.specs.Emitted.{ArePushed};
-ghost use Rattle.rv_emit.specs.Marks.{marked, marked_all, above, below, flow_marked, op_marked, followed, swept, unknowns};
+ghost use Rattle.pushed_traps.specs.Depths.{IsCounted};
+ghost use Rattle.pushed_traps.specs.Depths.{ArePushed};
+ghost use Rattle.pushed_traps.specs.Marks.{marked, marked_all, above, below, flow_marked, op_marked, followed, swept, unknowns};
 
 use lin_ir::{Flow, Lin, LinOp, Line};
 use mach_ir::{Calling, Leaving, Op};

@@ -2,12 +2,12 @@
 --
 -- A walk that forgets which handlers are pushed: it may come to a trap's handler wherever the trap is
 -- pushed, whether something is raised there or not. Each walk of the function is such a walk.
-use Rattle.std.specs.Prelude.{◌≡◌, ℕ, suc, ◌+◌, ◌-◌, ◌*◌, ◌≤◌, List, [], ◌∷◌}
+use Rattle.std.specs.Prelude.{◌≡◌, ℕ, suc, ◌+◌, ◌-◌, ◌*◌, ◌≤◌, List, [], ◌∷◌, length}
 use Rattle.mach_ir.specs.Acts.{Target}
 use Rattle.mach_ir.specs.Walks.{OneOf}
 use Rattle.lin_ir.specs.Descriptors.{frame_bytes}
 use Rattle.lin_ir.specs.Meaning.{code_at, after_label}
-use Rattle.lin_ir.specs.Walks.{targets}
+use Rattle.lin_ir.specs.Walks.{targets, Stands, Reached}
 use Rattle.lin_ir.specs.declared.lin.Flow.TheVariants as flow
 use Rattle.lin_ir.specs.declared.lin.LinOp.{LinOp}
 use Rattle.lin_ir.specs.declared.lin.LinOp.TheVariants as lin
@@ -33,3 +33,10 @@ pub record IsCounted (m : Lin) : Type 0 where
   pub one : (i : Line) (next : List Line) (n k : ℕ) → Comes m (i ∷ next) n → Comes m (i ∷ next) k →
       n ≡ k
   pub frame : (code : List Line) (n : ℕ) → Comes m code n → frame_bytes m + 16 * n ≤ 1048576
+
+-- ---- pushed traps
+
+-- Before each line that a walk comes to so many traps are pushed.
+pub record ArePushed (m : Lin) (traps : ℕ → ℕ) : Type 0 where
+  pub pushed : (i : Line) (next : List Line) → Stands i next m.code → (tries : List ℕ) →
+      Reached m (i ∷ next) tries → traps (length next) ≡ length tries

@@ -1,6 +1,6 @@
 use Rattle.std.proofs.Common.{◌≡◌, ℕ, drop, slice_index}
-use Rattle.rv_emit.specs.Marks.{marked_all}
-use Rattle.rv_emit.proofs.marks.mark_all.Given as goal
+use Rattle.pushed_traps.specs.Marks.{marked_all}
+use Rattle.pushed_traps.proofs.sweeps.mark_all.Given as goal
 
 abbrev pub invariant-loop-label : goal.invariant-loop-label
 invariant-loop-label l =

@@ -11,7 +11,7 @@ use Rattle.lin_ir.specs.declared.lin.LinOp.{LinOp}
 use Rattle.lin_ir.specs.declared.lin.LinOp.TheVariants as lin
 use Rattle.lin_ir.specs.declared.lin.Line.{Line}
 use Rattle.lin_ir.specs.declared.lin.Lin.{Lin}
-use Rattle.emit_rules.specs.Depths.{count_after, Comes, comes_first, comes_on, comes_handler}
+use Rattle.pushed_traps.specs.Depths.{count_after, Comes, comes_first, comes_on, comes_handler}
 
 -- the handler of each pushed trap is come to with as many traps as lie below it
 data Handlers (m : Lin) : List ℕ → Type 0 where
@@ -60,8 +60,8 @@ by-step m i next to tries left c (goes t o) =
 by-raise : (m : Lin) (i : Line) (next to : List Line) (tries left : List ℕ) → Counts m (i ∷ next) tries → Raises m i tries to left → Counts m to left
 by-raise m i next to tries left c (raises e) = popped m i next c.handlers
   where
-  popped : (m : Lin) (i : Line) (next : List Line) {h : ℕ} {rest : List ℕ} → Handlers m (h ∷ rest) → Counts m (after_label h m.code) rest
-  popped m i next (more_handlers k hs) = record { comes = k; handlers = hs }
+    popped : (m : Lin) (i : Line) (next : List Line) {h : ℕ} {rest : List ℕ} → Handlers m (h ∷ rest) → Counts m (after_label h m.code) rest
+    popped m i next (more_handlers k hs) = record { comes = k; handlers = hs }
 
 counted : (m : Lin) (code : List Line) (tries : List ℕ) → Reached m code tries → Counts m code tries
 counted m code tries at_entry = record { comes = comes_first; handlers = no_handlers }

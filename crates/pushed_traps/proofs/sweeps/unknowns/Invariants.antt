@@ -1,6 +1,6 @@
 use Rattle.std.proofs.Common.{◌≡◌, ◌+◌, ◌≤◌, drop}
-use Rattle.rv_emit.specs.Marks.{unknowns}
-use Rattle.rv_emit.proofs.marks.unknowns.Given as goal
+use Rattle.pushed_traps.specs.Marks.{unknowns}
+use Rattle.pushed_traps.proofs.sweeps.unknowns.Given as goal
 
 pub record Counted (all : _) (count index : _) : Type 0 where
   pub rest : count + unknowns (drop index all) ≡ unknowns all

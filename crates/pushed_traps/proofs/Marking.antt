@@ -17,11 +17,11 @@ use Rattle.lin_ir.specs.declared.lin.LinOp.TheVariants as lin
 use Rattle.lin_ir.specs.declared.lin.Spot.{Spot}
 use Rattle.lin_ir.specs.declared.lin.Line.{Line}
 use Rattle.lin_ir.specs.declared.lin.Lin.{Lin}
-use Rattle.emit_rules.specs.Depths.{count_after, Comes, comes_first, comes_on, comes_handler, IsCounted}
-use Rattle.emit_rules.specs.Emitted.{ArePushed}
-use Rattle.emit_rules.proofs.Counting.{reached_comes}
-use Rattle.rv_emit.specs.Marks.{marked, marked_all, above, flow_marked, op_marked, followed, swept, unknowns}
-use Rattle.rv_emit.specs.Marks as marks
+use Rattle.pushed_traps.specs.Depths.{count_after, Comes, comes_first, comes_on, comes_handler, IsCounted}
+use Rattle.pushed_traps.specs.Depths.{ArePushed}
+use Rattle.pushed_traps.proofs.Counting.{reached_comes}
+use Rattle.pushed_traps.specs.Marks.{marked, marked_all, above, flow_marked, op_marked, followed, swept, unknowns}
+use Rattle.pushed_traps.specs.Marks as marks
 
 -- ---- what is read back
 

@@ -1,7 +1,7 @@
 use Rattle.std.proofs.Common.{ℕ}
-use Rattle.rv_emit.specs.Marks.{unknowns}
-use Rattle.rv_emit.proofs.Marking.{Going}
-use Rattle.rv_emit.proofs.marks.marks.Given as goal
+use Rattle.pushed_traps.specs.Marks.{unknowns}
+use Rattle.pushed_traps.proofs.Marking.{Going}
+use Rattle.pushed_traps.proofs.sweeps.marks.Given as goal
 
 abbrev pub invariant-sweeps : goal.invariant-sweeps
 invariant-sweeps l = Going l.lin l.marks.items l.before

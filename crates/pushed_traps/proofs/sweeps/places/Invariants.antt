@@ -1,7 +1,7 @@
 use Rattle.std.proofs.Common.{◌≡◌, ℕ, length, slice_index}
 use Rattle.lin_ir.specs.Meaning.{after_label}
-use Rattle.rv_emit.specs.Marks.{or_else}
-use Rattle.rv_emit.proofs.marks.places.Given as goal
+use Rattle.pushed_traps.specs.Marks.{or_else}
+use Rattle.pushed_traps.proofs.sweeps.places.Given as goal
 
 abbrev pub invariant-loop-line : goal.invariant-loop-line
 invariant-loop-line l =
