@@ -4,3 +4,4 @@ pub mod Sizes
 pub mod Values
 pub mod Acts
 pub mod Descriptors
+pub mod Example
