@@ -1,10 +1,8 @@
 -- The descriptors stand among the pieces as they are handed in, in their order.
-use Rattle.std.proofs.Common.{◌≡◌, ℕ, zero, suc, ◌+◌, Bool, true, false, cond, List, [], ◌∷◌, ◌++◌, length, Option, Some, None, refl, sym, ◌∙◌, ap, append_assoc, arith}
-use Rattle.std.proofs.lemmas.Grind.{common_steps}
+use Rattle.std.proofs.Common.{◌≡◌, ℕ, suc, Bool, true, false, cond, List, [], ◌∷◌, ◌++◌, length, Some, None, refl, sym, ◌∙◌, ap, append_assoc, arith}
 use Rattle.mach_ir.specs.Blocks.{bytes_of}
 use Rattle.mach_ir.specs.declared.op.Access.TheVariants as access
 use Rattle.mach_ir.specs.declared.op.Calling.TheVariants as calling
-use Rattle.mach_ir.specs.declared.op.Op.{Op}
 use Rattle.mach_ir.specs.declared.op.Op.TheVariants as op
 use Rattle.lin_ir.specs.Meaning.{passes_frame}
 use Rattle.lin_ir.specs.declared.descr.Descr.{Descr}

@@ -1,5 +1,5 @@
 -- The pieces of one function, written out: two blocks in one allocation, a call, and the return.
-use Rattle.std.proofs.Common.{◌≡◌, ℕ, List, [], ◌∷◌, refl}
+use Rattle.std.proofs.Common.{◌≡◌, [], ◌∷◌, refl}
 use Rattle.std.specs.Prelude.{codes}
 use Rattle.bs_words.specs.declared.types.Comp.TheVariants as comp
 use Rattle.bs_words.specs.declared.types.Loc.TheVariants as loc
@@ -47,16 +47,16 @@ at_second = record { after = 1; size = 16; entries = [] }
 pub two_blocks_emitted : emitted two_blocks (λ left. 0) (at_first ∷ at_second ∷ []) ≡ record {
   frame = 16;
   code =
-    -- addi sp, sp, -16; sd ra, 8(sp)
-    piece.Known (instr.OpImm imm.Addi 2 2 4080) ∷ piece.Known (instr.Store stores.Sd 2 1 8)
-    -- addi s10, s10, -40; ld t1, 0(s11); bgeu s10, t1, +16; addi t0, x0, 40; addi t2, x0, 3; ecall
-    ∷ piece.Known (instr.OpImm imm.Addi 26 26 4056) ∷ piece.Known (instr.Load loads.Ld 6 27 0) ∷ piece.Known (instr.Branch condition.Bgeu 26 6 16)
-    ∷ piece.Known (instr.OpImm imm.Addi 5 0 40) ∷ piece.Known (instr.OpImm imm.Addi 7 0 3) ∷ piece.Known instr.Ecall ∷ piece.Descriptor at_first
-    -- addi t1, s10, 8; sd t1, 0(sp); addi a0, s10, 24
-    ∷ piece.Known (instr.OpImm imm.Addi 6 26 8) ∷ piece.Known (instr.Store stores.Sd 2 6 0) ∷ piece.Known (instr.OpImm imm.Addi 10 26 24)
-    ∷ piece.Call (codes "f") ∷ piece.Descriptor at_second
-    -- ld ra, 8(sp); addi sp, sp, 16; jalr x0, 0(ra)
-    ∷ piece.Known (instr.Load loads.Ld 1 2 8) ∷ piece.Known (instr.OpImm imm.Addi 2 2 16) ∷ piece.Known (instr.Jalr 0 1 0) ∷ [];
+      -- addi sp, sp, -16; sd ra, 8(sp)
+      piece.Known (instr.OpImm imm.Addi 2 2 4080) ∷ piece.Known (instr.Store stores.Sd 2 1 8)
+      -- addi s10, s10, -40; ld t1, 0(s11); bgeu s10, t1, +16; addi t0, x0, 40; addi t2, x0, 3; ecall
+      ∷ piece.Known (instr.OpImm imm.Addi 26 26 4056) ∷ piece.Known (instr.Load loads.Ld 6 27 0) ∷ piece.Known (instr.Branch condition.Bgeu 26 6 16)
+      ∷ piece.Known (instr.OpImm imm.Addi 5 0 40) ∷ piece.Known (instr.OpImm imm.Addi 7 0 3) ∷ piece.Known instr.Ecall ∷ piece.Descriptor at_first
+      -- addi t1, s10, 8; sd t1, 0(sp); addi a0, s10, 24
+      ∷ piece.Known (instr.OpImm imm.Addi 6 26 8) ∷ piece.Known (instr.Store stores.Sd 2 6 0) ∷ piece.Known (instr.OpImm imm.Addi 10 26 24)
+      ∷ piece.Call (codes "f") ∷ piece.Descriptor at_second
+      -- ld ra, 8(sp); addi sp, sp, 16; jalr x0, 0(ra)
+      ∷ piece.Known (instr.Load loads.Ld 1 2 8) ∷ piece.Known (instr.OpImm imm.Addi 2 2 16) ∷ piece.Known (instr.Jalr 0 1 0) ∷ [];
 }
 unfolding two_blocks allocates calls returns constant
 two_blocks_emitted = refl

@@ -1,24 +1,14 @@
 -- The pieces of a function: their numbers fit, they name what the function names, and each place and each descriptor stands
 -- in them once.
-use Rattle.std.proofs.Common.{◌≡◌, ℕ, zero, suc, ◌+◌, ◌<◌, Bool, true, false, cond, List, [], ◌∷◌, ◌++◌, length, Option, Some, None, refl, sym, ◌∙◌, ap, subst, append_assoc, arith, Contains}
+use Rattle.std.proofs.Common.{◌≡◌, ℕ, List, [], ◌∷◌, ◌++◌, length, Option, Some, refl, sym, ◌∙◌, ap, subst, append_assoc, arith, Contains}
 use Rattle.std.proofs.lemmas.List.Elements.{Contains-append_right}
-use Rattle.bs_words.specs.declared.types.Loc.TheVariants as loc
 use Rattle.mach_ir.specs.Keeps.{NamesSymbol}
-use Rattle.mach_ir.specs.declared.mach.MachOp.TheVariants as mach
-use Rattle.mach_ir.specs.declared.op.Access.{Access}
-use Rattle.mach_ir.specs.declared.op.Access.TheVariants as access
-use Rattle.mach_ir.specs.declared.op.Callee.TheVariants as callee
-use Rattle.mach_ir.specs.declared.op.Calling.{Calling}
-use Rattle.mach_ir.specs.declared.op.Calling.TheVariants as calling
 use Rattle.mach_ir.specs.declared.op.External.{External}
-use Rattle.mach_ir.specs.declared.op.Op.{Op}
-use Rattle.mach_ir.specs.declared.op.Op.TheVariants as op
 use Rattle.lin_ir.specs.Formed.{NamesLabel, label_of, labels_in, WellFormed}
 use Rattle.lin_ir.specs.Keeps.{IsNamedIn}
 use Rattle.lin_ir.specs.Meaning.{passes_frame}
 use Rattle.lin_ir.specs.Walks.{Stands, here, below}
 use Rattle.lin_ir.specs.declared.descr.Descr.{Descr}
-use Rattle.lin_ir.specs.declared.lin.Flow.{Flow}
 use Rattle.lin_ir.specs.declared.lin.Flow.TheVariants as flow
 use Rattle.lin_ir.specs.declared.lin.Line.{Line}
 use Rattle.lin_ir.specs.declared.lin.Lin.{Lin}
@@ -31,7 +21,7 @@ use Rattle.rv_pieces.specs.declared.piece.Piece.{Piece}
 use Rattle.rv_pieces.specs.declared.piece.Piece.TheVariants as piece
 use Rattle.emit_rules.specs.Entry.{Frame, frame_of, entry}
 use Rattle.emit_rules.specs.Emitted.{part_of, parts, descriptor, left_after, emitted}
-use Rattle.emit_rules.specs.Named.{PieceFits, label_named, symbol_named, external_named, place_in, places_in, mark_in, marks_in, IsLabelOf, IsExternalOf}
+use Rattle.emit_rules.specs.Named.{PieceFits, label_named, symbol_named, external_named, place_in, places_in, IsLabelOf, IsExternalOf}
 use Rattle.emit_rules.specs.Traversal.{Each, each_none, each_more, Names, Allows}
 use Rattle.emit_rules.proofs.Traverse.{join, entry-in, part-in}
 

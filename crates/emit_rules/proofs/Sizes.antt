@@ -1,5 +1,5 @@
 -- Each part has few words, and at least one instruction where its line does something.
-use Rattle.std.proofs.Common.{◌≡◌, ℕ, zero, suc, ◌+◌, ◌-◌, ◌*◌, ◌/◌, ◌%◌, ◌<◌, ◌≤◌, Bool, true, false, cond, nat_eq, nat_lt, nat_le, List, [], ◌∷◌, ◌++◌, length, map, Option, Some, None, refl, lit<, arith}
+use Rattle.std.proofs.Common.{◌≡◌, ℕ, zero, suc, ◌+◌, ◌*◌, ◌≤◌, Bool, true, false, cond, nat_eq, nat_lt, nat_le, List, [], ◌∷◌, ◌++◌, length, map, Option, Some, None, arith}
 use Rattle.bs_words.specs.declared.operators.CmpOp.{CmpOp}
 use Rattle.bs_words.specs.declared.operators.CmpOp.TheVariants as compare
 use Rattle.bs_words.specs.declared.operators.IntOp.{IntOp}
@@ -7,7 +7,6 @@ use Rattle.bs_words.specs.declared.operators.IntOp.TheVariants as operator
 use Rattle.bs_words.specs.declared.types.Chunk.{Chunk}
 use Rattle.bs_words.specs.declared.types.Loc.{Loc}
 use Rattle.bs_words.specs.declared.types.Loc.TheVariants as loc
-use Rattle.mach_ir.specs.Acts.{At}
 use Rattle.mach_ir.specs.Blocks.{bytes_of}
 use Rattle.mach_ir.specs.Forms.{is_immediate_12}
 use Rattle.mach_ir.specs.declared.blocks.NewBlock.{NewBlock}
@@ -18,7 +17,6 @@ use Rattle.mach_ir.specs.declared.op.Access.TheVariants as access
 use Rattle.mach_ir.specs.declared.op.Callee.TheVariants as callee
 use Rattle.mach_ir.specs.declared.op.Calling.{Calling}
 use Rattle.mach_ir.specs.declared.op.Calling.TheVariants as calling
-use Rattle.mach_ir.specs.declared.op.External.{External}
 use Rattle.mach_ir.specs.declared.op.Leaving.{Leaving}
 use Rattle.mach_ir.specs.declared.op.Leaving.TheVariants as leaving
 use Rattle.mach_ir.specs.declared.op.Op.{Op}
@@ -35,41 +33,31 @@ use Rattle.lin_ir.specs.declared.lin.Line.{Line}
 use Rattle.lin_ir.specs.declared.lin.LinOp.{LinOp}
 use Rattle.lin_ir.specs.declared.lin.LinOp.TheVariants as lin
 use Rattle.lin_ir.specs.declared.lin.Spot.{Spot}
-use Rattle.rv_isa.specs.Encoding.{InstrFits}
-use Rattle.rv_isa.specs.Registers.{number}
 use Rattle.rv_isa.specs.declared.instr.AluImmOp.{AluImmOp}
 use Rattle.rv_isa.specs.declared.instr.AluImmOp.TheVariants as imm
 use Rattle.rv_isa.specs.declared.instr.AluOp.{AluOp}
 use Rattle.rv_isa.specs.declared.instr.AluOp.TheVariants as alu
 use Rattle.rv_isa.specs.declared.instr.Condition.{Condition}
-use Rattle.rv_isa.specs.declared.instr.Condition.TheVariants as condition
 use Rattle.rv_isa.specs.declared.instr.Instr.{Instr}
-use Rattle.rv_isa.specs.declared.instr.Instr.TheVariants as instr
-use Rattle.rv_isa.specs.declared.instr.LoadWidth.{LoadWidth}
-use Rattle.rv_isa.specs.declared.instr.LoadWidth.TheVariants as loads
-use Rattle.rv_isa.specs.declared.instr.ShiftOp.{ShiftOp}
-use Rattle.rv_isa.specs.declared.instr.ShiftOp.TheVariants as shifts
-use Rattle.rv_isa.specs.declared.instr.StoreWidth.{StoreWidth}
-use Rattle.rv_isa.specs.declared.instr.StoreWidth.TheVariants as stores
 use Rattle.rv_isa.specs.declared.register.Register.{Register}
-use Rattle.rv_isa.specs.declared.register.Register.TheVariants.{Zero, Ra, Sp, Gp, Tp, T0, T1, T2, S0, S1, A0, A1, A2, A3, A4, A5, A6, A7, S2, S3, S4, S5, S6, S7, S8, S9, S10, S11, T3, T4, T5, T6}
+use Rattle.rv_isa.specs.declared.register.Register.TheVariants.{Ra, Sp, T0, T1, T2, S10}
 use Rattle.rv_pieces.specs.declared.piece.Piece.{Piece}
 use Rattle.rv_pieces.specs.declared.piece.Piece.TheVariants as piece
-use Rattle.emit_rules.specs.Instructions.{low_12, with_immediate, addi, mv, operation, add, shift, lui, addiw, auipc, load, store, skip, goes_to as jumps_to, calls_at, ecall, register_at}
-use Rattle.emit_rules.specs.Constants.{is_word_32, above_12, lower_part, constant_32, higher, shifted, constant_shifted, constant, sum_to, lowered}
-use Rattle.emit_rules.specs.Slots.{far_stack, stack_load, stack_store, slot_offset, first, second, register_of, fetched, target, kept, copied, moved}
-use Rattle.emit_rules.specs.Operators.{opposed, is_none, is_some, compared, operated, operated_far, compared_with, operated_with}
+use Rattle.emit_rules.specs.Instructions.{low_12, register_at}
+use Rattle.emit_rules.specs.Constants.{is_word_32, lower_part, constant_32, higher, shifted, constant_shifted, constant, sum_to, lowered}
+use Rattle.emit_rules.specs.Slots.{stack_load, stack_store, slot_offset, first, second, register_of, fetched, target, kept, copied, moved}
+use Rattle.emit_rules.specs.Operators.{compared, operated, compared_with, operated_with}
 use Rattle.emit_rules.specs.Tests.{constant_words, right_register, right_words, signed_branch, unsigned_branch, test_words, test_branch, branch_part, value_words, tests_in_turn, table_of_jumps, switch_part}
-use Rattle.emit_rules.specs.Memory.{address_words, address_register, address_offset, load_width, load_from, load_part, store_width, store_part, ask, reserved, addresses, alloc_part}
+use Rattle.emit_rules.specs.Memory.{address_words, load_from, load_part, store_part, ask, reserved, addresses, alloc_part}
 use Rattle.emit_rules.specs.Entry.{Frame, restored, return_offset, taken, entry, given_back}
-use Rattle.emit_rules.specs.Calls.{mark_of, call_words, callee_words, goes_to_callee, tail_call_part, external_service, external_words, return_part}
-use Rattle.emit_rules.specs.Traps.{raise_words, push_part, pop_part, enter_part, raise_bound_error, check_part}
+use Rattle.emit_rules.specs.Calls.{mark_of, external_service}
+use Rattle.emit_rules.specs.Traps.{raise_words, check_part}
 use Rattle.emit_rules.specs.Emitted.{operator_part, pure_part, access_part, calling_part, leaving_part, op_part, flow_part, part_of}
 use Rattle.lin_ir.specs.declared.lin.Lin.{Lin}
 use Rattle.lin_ir.specs.Meaning.{passes_frame}
 use Rattle.emit_rules.specs.Entry.{frame_of}
 use Rattle.emit_rules.specs.Emitted.{parts, descriptor, left_after, emitted}
-use Rattle.emit_rules.specs.Sizes.{most_words, words_at_most, indexes_of, line_bound, lines_bound}
+use Rattle.emit_rules.specs.Sizes.{words_at_most, indexes_of, line_bound, lines_bound}
 
 pub record Short (n : ℕ) (ps : List Piece) : Type 0 where
   pub fits : words_at_most ps ≤ n

@@ -1,5 +1,5 @@
 -- Each piece of a part is allowed by its line.
-use Rattle.std.proofs.Common.{◌≡◌, ℕ, zero, suc, ◌+◌, ◌-◌, ◌*◌, ◌/◌, ◌%◌, ◌<◌, Bool, true, false, cond, nat_eq, nat_lt, nat_le, List, [], ◌∷◌, ◌++◌, length, map, Option, Some, None, refl, lit<, arith}
+use Rattle.std.proofs.Common.{◌≡◌, ℕ, zero, suc, ◌+◌, ◌-◌, ◌*◌, ◌%◌, ◌<◌, Bool, true, false, cond, nat_eq, nat_lt, nat_le, List, [], ◌∷◌, ◌++◌, length, map, Option, Some, None, refl, lit<, arith}
 use Rattle.bs_words.specs.declared.operators.CmpOp.{CmpOp}
 use Rattle.bs_words.specs.declared.operators.CmpOp.TheVariants as compare
 use Rattle.bs_words.specs.declared.operators.IntOp.{IntOp}
@@ -20,7 +20,6 @@ use Rattle.mach_ir.specs.declared.op.Access.TheVariants as access
 use Rattle.mach_ir.specs.declared.op.Callee.TheVariants as callee
 use Rattle.mach_ir.specs.declared.op.Calling.{Calling}
 use Rattle.mach_ir.specs.declared.op.Calling.TheVariants as calling
-use Rattle.mach_ir.specs.declared.op.External.{External}
 use Rattle.mach_ir.specs.declared.op.Leaving.{Leaving}
 use Rattle.mach_ir.specs.declared.op.Leaving.TheVariants as leaving
 use Rattle.mach_ir.specs.declared.op.Op.{Op}
@@ -29,7 +28,7 @@ use Rattle.mach_ir.specs.declared.op.Pure.{Pure}
 use Rattle.mach_ir.specs.declared.op.Pure.TheVariants as pure
 use Rattle.mach_ir.specs.declared.op.Right.{Right}
 use Rattle.mach_ir.specs.declared.op.Right.TheVariants as right
-use Rattle.lin_ir.specs.Formed.{NamesLabel, goes_to, pushes}
+use Rattle.lin_ir.specs.Formed.{goes_to, pushes}
 use Rattle.lin_ir.specs.Meaning.{same_loc}
 use Rattle.lin_ir.specs.declared.descr.Descr.{Descr}
 use Rattle.lin_ir.specs.declared.lin.Flow.{Flow}
@@ -47,7 +46,6 @@ use Rattle.rv_isa.specs.declared.instr.AluOp.TheVariants as alu
 use Rattle.rv_isa.specs.declared.instr.Condition.{Condition}
 use Rattle.rv_isa.specs.declared.instr.Condition.TheVariants as condition
 use Rattle.rv_isa.specs.declared.instr.Instr.{Instr}
-use Rattle.rv_isa.specs.declared.instr.Instr.TheVariants as instr
 use Rattle.rv_isa.specs.declared.instr.LoadWidth.{LoadWidth}
 use Rattle.rv_isa.specs.declared.instr.LoadWidth.TheVariants as loads
 use Rattle.rv_isa.specs.declared.instr.ShiftOp.{ShiftOp}
@@ -58,17 +56,17 @@ use Rattle.rv_isa.specs.declared.register.Register.{Register}
 use Rattle.rv_isa.specs.declared.register.Register.TheVariants.{Zero, Ra, Sp, Gp, Tp, T0, T1, T2, S0, S1, A0, A1, A2, A3, A4, A5, A6, A7, S2, S3, S4, S5, S6, S7, S8, S9, S10, S11, T3, T4, T5, T6}
 use Rattle.rv_pieces.specs.declared.piece.Piece.{Piece}
 use Rattle.rv_pieces.specs.declared.piece.Piece.TheVariants as piece
-use Rattle.emit_rules.specs.Instructions.{low_12, with_immediate, addi, mv, operation, add, shift, lui, addiw, auipc, load, store, skip, goes_to as jumps_to, calls_at, ecall, register_at}
+use Rattle.emit_rules.specs.Instructions.{low_12, with_immediate, addi, operation, shift, lui, addiw, auipc, load, store, skip, goes_to as jumps_to, calls_at, ecall, register_at}
 use Rattle.emit_rules.specs.Constants.{is_word_32, above_12, lower_part, constant_32, higher, shifted, constant_shifted, constant, sum_to, lowered}
 use Rattle.emit_rules.specs.Slots.{far_stack, stack_load, stack_store, slot_offset, first, second, register_of, fetched, target, kept, copied, moved}
-use Rattle.emit_rules.specs.Operators.{opposed, is_none, is_some, compared, operated, operated_far, compared_with, operated_with}
-use Rattle.emit_rules.specs.Tests.{constant_words, right_register, right_words, signed_branch, unsigned_branch, test_words, test_branch, branch_part, value_words, tests_in_turn, table_of_jumps, switch_part}
+use Rattle.emit_rules.specs.Operators.{opposed, is_none, is_some, compared, operated, compared_with, operated_with}
+use Rattle.emit_rules.specs.Tests.{constant_words, right_register, right_words, signed_branch, unsigned_branch, test_words, test_branch, branch_part, value_words, tests_in_turn, switch_part}
 use Rattle.emit_rules.specs.Memory.{address_words, address_register, address_offset, load_width, load_from, load_part, store_width, store_part, ask, reserved, addresses, alloc_part}
 use Rattle.emit_rules.specs.Entry.{Frame, restored, return_offset, taken, entry, given_back}
-use Rattle.emit_rules.specs.Calls.{mark_of, call_words, callee_words, goes_to_callee, tail_call_part, external_service, external_words, return_part}
-use Rattle.emit_rules.specs.Traps.{raise_words, push_part, pop_part, enter_part, raise_bound_error, check_part}
+use Rattle.emit_rules.specs.Calls.{mark_of, external_service, return_part}
+use Rattle.emit_rules.specs.Traps.{raise_words, pop_part, check_part}
 use Rattle.emit_rules.specs.Emitted.{operator_part, pure_part, access_part, calling_part, leaving_part, op_part, flow_part, part_of}
-use Rattle.emit_rules.specs.Traversal.{Each, each_none, each_more, Names, Allows}
+use Rattle.emit_rules.specs.Traversal.{Each, each_none, each_more, Allows}
 
 -- ---- numbers
 

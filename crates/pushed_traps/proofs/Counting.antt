@@ -1,11 +1,8 @@
 -- Each walk of a function is one that counts the traps alone.
-use Rattle.std.proofs.Common.{◌≡◌, ℕ, zero, suc, ◌+◌, ◌-◌, List, [], ◌∷◌, length, refl, sym, subst, arith, ap}
-use Rattle.mach_ir.specs.Acts.{Target, drop_tries}
-use Rattle.mach_ir.specs.Walks.{OneOf}
-use Rattle.mach_ir.specs.declared.op.Op.{Op}
+use Rattle.std.proofs.Common.{◌≡◌, ℕ, List, [], ◌∷◌, length, refl, subst, arith}
+use Rattle.mach_ir.specs.Acts.{drop_tries}
 use Rattle.lin_ir.specs.Meaning.{code_at, after_label}
-use Rattle.lin_ir.specs.Walks.{targets, tries_after, may_raise, Leads, goes, Raises, raises, Reached, at_entry, by_step, by_raise, Stands}
-use Rattle.lin_ir.specs.declared.lin.Flow.{Flow}
+use Rattle.lin_ir.specs.Walks.{tries_after, Leads, goes, Raises, raises, Reached, at_entry, by_step, by_raise}
 use Rattle.lin_ir.specs.declared.lin.Flow.TheVariants as flow
 use Rattle.lin_ir.specs.declared.lin.LinOp.{LinOp}
 use Rattle.lin_ir.specs.declared.lin.LinOp.TheVariants as lin

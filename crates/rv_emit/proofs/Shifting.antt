@@ -1,5 +1,5 @@
 -- The steps of a constant.
-use Rattle.std.proofs.Common.{◌≡◌, ℕ, zero, suc, ◌+◌, ◌-◌, ◌<◌, Bool, true, false, cond, nat_eq, List, [], ◌∷◌, ◌++◌, refl, ◌∙◌, subst, sym, arith, rules}
+use Rattle.std.proofs.Common.{◌≡◌, ℕ, zero, suc, ◌+◌, Bool, true, false, cond, nat_eq, List, [], ◌∷◌, ◌++◌, refl, ◌∙◌, subst, sym, arith, rules}
 use Rattle.std.proofs.lemmas.Grind.{common_steps}
 use Rattle.rv_isa.specs.declared.register.Register.{Register}
 use Rattle.rv_pieces.specs.declared.piece.Piece.{Piece}

@@ -1,5 +1,5 @@
 -- Each sweep is a round, and the round that finds nothing new is the last.
-use Rattle.std.proofs.Common.{◌≡◌, ℕ, ◌-◌, ◌<◌, List, length, slice_index, sym, ◌∙◌, ap, subst, arith}
+use Rattle.std.proofs.Common.{◌≡◌, ℕ, ◌-◌, ◌<◌, List, slice_index, sym, ◌∙◌, ap, subst}
 use Rattle.pushed_traps.specs.Depths.{ArePushed}
 use Rattle.pushed_traps.specs.Marks.{unknowns}
 use Rattle.pushed_traps.proofs.Marking.{Going, round_of, round-is, goes_on, falls, ends}

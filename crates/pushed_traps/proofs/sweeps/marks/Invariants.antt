@@ -1,4 +1,3 @@
-use Rattle.std.proofs.Common.{ℕ}
 use Rattle.pushed_traps.specs.Marks.{unknowns}
 use Rattle.pushed_traps.proofs.Marking.{Going}
 use Rattle.pushed_traps.proofs.sweeps.marks.Given as goal

@@ -1,4 +1,4 @@
-use Rattle.std.proofs.Common.{◌≡◌, ℕ, ◌-◌, ◌+◌, length, slice_index, vec_len}
+use Rattle.std.proofs.Common.{◌≡◌, ℕ, ◌-◌, ◌+◌, slice_index, vec_len}
 use Rattle.pushed_traps.proofs.sweeps.put_at.Given as goal
 
 abbrev pub invariant-loop-numbers : goal.invariant-loop-numbers

@@ -1,9 +1,7 @@
 -- What the pieces are, with the numbers of traps that were found.
-use Rattle.std.proofs.Common.{◌≡◌, ℕ, ◌+◌, ◌-◌, ◌*◌, ◌≤◌, Result, Ok, Err, IfOk, slice_index, arith}
+use Rattle.std.proofs.Common.{◌+◌, ◌*◌, ◌≤◌, arith}
 use Rattle.lin_ir.specs.Descriptors.{frame_bytes}
 use Rattle.pushed_traps.specs.Depths.{comes_first}
-use Rattle.emit_rules.specs.Emitted.{IsEmitted, emitted}
-use Rattle.rv_pieces.specs.declared.piece.Pieces.{Pieces}
 use Rattle.rv_emit.proofs.emission.emit.Goals as goal
 
 pub emit_with-requires : goal.emit_with-requires

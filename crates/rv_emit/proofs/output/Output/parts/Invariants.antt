@@ -1,4 +1,4 @@
-use Rattle.std.proofs.Common.{◌≡◌, ℕ, ◌-◌, ◌++◌, List, length, slice_index}
+use Rattle.std.proofs.Common.{◌≡◌, ℕ, ◌-◌, ◌++◌, length, slice_index}
 use Rattle.emit_rules.specs.Emitted.{parts}
 use Rattle.rv_emit.specs.Frames.{form_of}
 use Rattle.rv_emit.proofs.output.Output.parts.Given as goal
