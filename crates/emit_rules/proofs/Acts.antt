@@ -81,7 +81,8 @@ word-acts r w = chosen (is_immediate_12 w) known known
 steps-acts : (n : ℕ) (r : Register) (w amount : ℕ) → Acts (constant_shifted n r w amount)
 steps-acts zero r w amount = before _ (word-acts r w)
 steps-acts (suc n) r w amount =
-    chosen (is_word_32 w) (before _ (word-acts r w)) (chosen (nat_eq (low_12 w) 0) (steps-acts n r (higher w) (amount + 12)) (before _ (steps-acts n r (higher w) 12)))
+    chosen (is_word_32 w) (before _ (word-acts r w)) (chosen (nat_eq (low_12 w) 0) (steps-acts n r (higher w) (amount + 12)) (before _ (steps-acts n r
+    (higher w) 12)))
 
 constant-acts : (r : Register) (w : ℕ) → Acts (constant r w)
 unfolding constant
@@ -167,7 +168,8 @@ copied-acts t (loc.Machine n) (loc.Machine o) a b = known
 copied-acts t (loc.Machine n) loc.Unset a b = elim b [ ]
 copied-acts t loc.Unset to a b = elim a [ ]
 
-moved-acts : (t : ℕ) (from to : Loc) (same : Bool) → same_loc from to ≡ same → (same ≡ true → ⊥) → IsSet from → IsSet to → Acts (cond same [] (copied t from to))
+moved-acts : (t : ℕ) (from to : Loc) (same : Bool) → same_loc from to ≡ same → (same ≡ true → ⊥) → IsSet from → IsSet to →
+    Acts (cond same [] (copied t from to))
 moved-acts t from to true e apart a b = absurd (apart refl)
 moved-acts t from to false e apart a b = copied-acts t from to a b
 
@@ -227,7 +229,8 @@ flow-acts t flow.EnterTrap args results h = absurd h
 
 operator-acts : (t : ℕ) (f : IntOp) (r : Right) (args results : List Spot) → Acts (operator_part t f r args results)
 operator-acts t f right.Register args results =
-    before _ (after (fetched t T1 (first args) ++ fetched t T2 (second args)) (operated-acts f (target (first results)) (register_of T1 (first args)) (register_of T2 (second args))))
+    before _ (after (fetched t T1 (first args) ++ fetched t T2 (second args)) (operated-acts f (target (first results)) (register_of T1 (first args))
+    (register_of T2 (second args))))
 operator-acts t f (right.Constant w) args results =
     before _ (after (fetched t T1 (first args)) (operated_with-acts f (target (first results)) (register_of T1 (first args)) w))
 
@@ -260,7 +263,8 @@ ActsAt (lin.Op g) args results = CopiesOther g args results
 ActsAt (lin.Flow g) args results = DoesMore (lin.Flow g)
 
 -- a part has an instruction
-pub part_acts : (t : ℕ) (f : Frame) (d : Option Descr) (g : LinOp) (args results : List Spot) → ActsAt g args results → 1 ≤ words_at_least (part_of t f d (record { op = g; args = args; results = results }))
+pub part_acts : (t : ℕ) (f : Frame) (d : Option Descr) (g : LinOp) (args results : List Spot) → ActsAt g args results →
+    1 ≤ words_at_least (part_of t f d (record { op = g; args = args; results = results }))
 part_acts t f d (lin.Op g) args results h = acts-some (op-acts t f (mark_of d) g args results h)
 part_acts t f d (lin.Flow g) args results h = acts-some (flow-acts t g args results h)
 

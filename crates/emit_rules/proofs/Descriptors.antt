@@ -75,14 +75,20 @@ one-last pre e h =
     marks-join pre (piece.Descriptor e ∷ []) ∙ ap (λ (x : List Descr). x ++ e ∷ []) a
 
 -- the part of a frame point has the mark of its descriptor
-part-marked : (t : ℕ) (f : Frame) (e : Descr) (g : LinOp) (args results : List Spot) → passes_frame g ≡ true → marks_in (part_of t f (Some e) (record { op = g; args = args; results = results })) ≡ e ∷ []
+part-marked : (t : ℕ) (f : Frame) (e : Descr) (g : LinOp) (args results : List Spot) → passes_frame g ≡ true →
+    marks_in (part_of t f (Some e) (record { op = g; args = args; results = results })) ≡ e ∷ []
 part-marked t f e (lin.Flow g) args results h = cc
 part-marked t f e (lin.Op (op.Pure g)) args results h = cc
 part-marked t f e (lin.Op (op.Leaving g)) args results h = cc
 part-marked t f e (lin.Op (op.Access (access.Load k offset))) args results h = cc
 part-marked t f e (lin.Op (op.Access (access.Store k offset))) args results h = cc
 part-marked t f e (lin.Op (op.Access (access.Alloc blocks))) args results h =
-    one-mark (reserved (bytes_of blocks)) (addresses t blocks results) e (part-unmarked t f (record { op = lin.Op (op.Access (access.Alloc blocks)); args = args; results = results }))
+    one-mark (reserved (bytes_of blocks)) (addresses t blocks results) e (part-unmarked t f (record {
+      op = lin.Op (op.Access (access.Alloc blocks));
+      args =
+          args;
+      results = results;
+    }))
 part-marked t f e (lin.Op (op.Calling (calling.Call whom result))) args results h =
     one-last (call_words t whom args) e (part-unmarked t f (record { op = lin.Op (op.Calling (calling.Call whom result)); args = args; results = results }))
 part-marked t f e (lin.Op (op.Calling (calling.TailCall whom result))) args results h = cc
@@ -90,7 +96,8 @@ part-marked t f e (lin.Op (op.Calling (calling.External row frame))) args result
     one-last (external_words row frame) e (part-unmarked t f (record { op = lin.Op (op.Calling (calling.External row frame)); args = args; results = results }))
 
 module _ (f : Frame) (traps : ℕ → ℕ) where
-  marks-by : (i : Line) (next : List Line) (b : Bool) → passes_frame i.op ≡ b → ((ds : List Descr) → length ds ≡ points next → marks_in (parts traps f ds next) ≡ ds) →
+  marks-by : (i : Line) (next : List Line) (b : Bool) → passes_frame i.op ≡ b → ((ds : List Descr) → length ds ≡ points next →
+      marks_in (parts traps f ds next) ≡ ds) →
       (ds : List Descr) → length ds ≡ cond b (suc (points next)) (points next) →
       marks_in (part_of (traps (length next)) f (descriptor b ds) i ++ parts traps f (left_after b ds) next) ≡ ds
   marks-by i next true p rest [] e = absurd (omega arith)

@@ -29,7 +29,8 @@ use Rattle.emit_rules.proofs.Traverse.{join, entry-in, part-in}
 
 module _ (P : Piece → Type 0) (f : Frame) (traps : ℕ → ℕ) where
   -- what each line allows holds of each piece of its part
-  pub parts-in : (is : List Line) (ds : List Descr) → ((i : Line) (next : List Line) → Stands i next is → (d : Option Descr) → Allows P i.op d) → Each P (parts traps f ds is)
+  pub parts-in : (is : List Line) (ds : List Descr) → ((i : Line) (next : List Line) → Stands i next is → (d : Option Descr) → Allows P i.op d) →
+      Each P (parts traps f ds is)
   parts-in [] ds all = each_none
   parts-in (i ∷ next) ds all =
       join (part-in P (descriptor (passes_frame i.op) ds) (traps (length next)) f i (all i next here (descriptor (passes_frame i.op) ds)))

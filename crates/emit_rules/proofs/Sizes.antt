@@ -212,7 +212,8 @@ operated_with-in (operator.CmpU f) to a w = compared_with-in imm.Sltiu alu.Sltu 
 
 operator_part-in : (t : ℕ) (f : IntOp) (r : Right) (args results : List Spot) → Short 17 (operator_part t f r args results)
 operator_part-in t f right.Register args results =
-    wide 6 (join (join (join (fetched-in t T1 (first args)) (fetched-in t T2 (second args))) (operated-in f (target (first results)) (register_of T1 (first args)) (register_of T2 (second args))))
+    wide 6 (join (join (join (fetched-in t T1 (first args)) (fetched-in t T2 (second args))) (operated-in f (target (first results)) (register_of T1
+    (first args)) (register_of T2 (second args))))
     (kept-in t (first results)))
 operator_part-in t f (right.Constant w) args results =
     join (join (fetched-in t T1 (first args)) (operated_with-in f (target (first results)) (register_of T1 (first args)) w)) (kept-in t (first results))
@@ -317,7 +318,8 @@ mark-in : (d : Option Descr) → Short 0 (mark_of d)
 mark-in None = none
 mark-in (Some d) = record { fits = omega arith }
 
-alloc_part-in : (t : ℕ) (d : Option Descr) (blocks : List NewBlock) (results : List Spot) → Short (31 + 16 * length results) (alloc_part t (mark_of d) blocks results)
+alloc_part-in : (t : ℕ) (d : Option Descr) (blocks : List NewBlock) (results : List Spot) →
+    Short (31 + 16 * length results) (alloc_part t (mark_of d) blocks results)
 alloc_part-in t d blocks results = join (join (reserved-in (bytes_of blocks)) (mark-in d)) (addresses-in t blocks results)
 
 -- ---- traps, frames, calls
@@ -349,7 +351,8 @@ pure_part-in t (pure.Symbol name) args results =
     record { fits = omega arith }
 pure_part-in t (pure.Operator f r) args results = operator_part-in t f r args results
 
-access_part-in : (t : ℕ) (d : Option Descr) (g : Access) (args results : List Spot) → Short (31 + 16 * length results) (access_part t (mark_of d) g args results)
+access_part-in : (t : ℕ) (d : Option Descr) (g : Access) (args results : List Spot) →
+    Short (31 + 16 * length results) (access_part t (mark_of d) g args results)
 access_part-in t d (access.Load k offset) args results = within (load_part-in t k offset args results) (omega arith)
 access_part-in t d (access.Store k offset) args results = within (store_part-in t k offset args) (omega arith)
 access_part-in t d (access.Alloc blocks) args results = alloc_part-in t d blocks results
@@ -370,7 +373,8 @@ leaving_part-in t f (leaving.Checkbound r) args = check_part-in t r args
 leaving_part-in t f leaving.Raise args = wide 14 raise_words-in
 leaving_part-in t f leaving.Return args = wide 5 (join (given_back-in f) one)
 
-op_part-in : (t : ℕ) (f : Frame) (d : Option Descr) (g : Op) (args results : List Spot) → Short (32 + 16 * length results) (op_part t f (mark_of d) g args results)
+op_part-in : (t : ℕ) (f : Frame) (d : Option Descr) (g : Op) (args results : List Spot) →
+    Short (32 + 16 * length results) (op_part t f (mark_of d) g args results)
 op_part-in t f d (op.Pure g) args results = within (pure_part-in t g args results) (omega arith)
 op_part-in t f d (op.Access g) args results = within (access_part-in t d g args results) (omega arith)
 op_part-in t f d (op.Calling g) args results = within (calling_part-in t f d g args) (omega arith)
@@ -386,7 +390,8 @@ flow_part-in t (flow.PushTrap l) args results = record { fits = omega arith }
 flow_part-in t flow.PopTrap args results = record { fits = omega arith }
 flow_part-in t flow.EnterTrap args results = within (moved-in t (loc.Machine 10) (first results)) (omega arith)
 
-lin_part-in : (t : ℕ) (f : Frame) (d : Option Descr) (g : LinOp) (args results : List Spot) → Short (32 + 16 * length results + 4 * indexes_of g) (part_of t f d (record { op = g; args = args; results = results }))
+lin_part-in : (t : ℕ) (f : Frame) (d : Option Descr) (g : LinOp) (args results : List Spot) →
+    Short (32 + 16 * length results + 4 * indexes_of g) (part_of t f d (record { op = g; args = args; results = results }))
 lin_part-in t f d (lin.Op g) args results = within (op_part-in t f d g args results) (omega arith)
 lin_part-in t f d (lin.Flow g) args results = within (flow_part-in t g args results) (omega arith)
 
@@ -409,7 +414,8 @@ parts_are_short f traps ds (i ∷ next) =
 -- so has a function
 pub function_is_short : (m : Lin) (traps : ℕ → ℕ) (ds : List Descr) → words_at_most (emitted m traps ds).code ≤ 13 + lines_bound m.code
 function_is_short m traps ds =
-    let e : words_at_most (entry (frame_of m) ++ parts traps (frame_of m) ds m.code) ≡ words_at_most (entry (frame_of m)) + words_at_most (parts traps (frame_of m) ds m.code) =
+    let e : words_at_most (entry (frame_of m) ++ parts traps (frame_of m) ds m.code) ≡ words_at_most (entry (frame_of m)) + words_at_most (parts traps
+    (frame_of m) ds m.code) =
     words-join (entry (frame_of m)) (parts traps (frame_of m) ds m.code) in
     let h : words_at_most (entry (frame_of m)) ≤ 13 = (entry-in (frame_of m)).fits in
     let k : words_at_most (parts traps (frame_of m) ds m.code) ≤ lines_bound m.code = parts_are_short (frame_of m) traps ds m.code in

@@ -292,7 +292,8 @@ module _ (P : Piece → Type 0) (known : (j : Instr) → InstrFits j → P (piec
 
   operator_part-in : (t : ℕ) (f : IntOp) (r : Right) (args results : List Spot) → Each P (operator_part t f r args results)
   operator_part-in t f right.Register args results =
-      join (join (join (fetched-in t T1 (first args)) (fetched-in t T2 (second args))) (operated-in f (target (first results)) (register_of T1 (first args)) (register_of T2 (second args))))
+      join (join (join (fetched-in t T1 (first args)) (fetched-in t T2 (second args))) (operated-in f (target (first results)) (register_of T1
+      (first args)) (register_of T2 (second args))))
       (kept-in t (first results))
   operator_part-in t f (right.Constant w) args results =
       join (join (fetched-in t T1 (first args)) (operated_with-in f (target (first results)) (register_of T1 (first args)) w)) (kept-in t (first results))
@@ -353,7 +354,8 @@ module _ (P : Piece → Type 0) (known : (j : Instr) → InstrFits j → P (piec
   -- traps and frames
   raise_words-in : Each P raise_words
   raise_words-in =
-      each_more (addi-in Sp S1 0) (each_more (load-in loads.Ld T1 Sp 0) (each_more (load-in loads.Ld S1 Sp 8) (each_more (addi-in Sp Sp 16) (one (jumps_to-in T1 0)))))
+      each_more (addi-in Sp S1 0) (each_more (load-in loads.Ld T1 Sp 0) (each_more (load-in loads.Ld S1 Sp 8) (each_more (addi-in Sp Sp 16) (one
+      (jumps_to-in T1 0)))))
 
   pop_part-in : Each P pop_part
   pop_part-in = each_more (load-in loads.Ld S1 Sp 8) (one (addi-in Sp Sp 16))
@@ -399,10 +401,16 @@ module _ (P : Piece → Type 0) (d : Option Descr) where
   pure_part-in t (pure.Copy kind) args results a = moved-in P a.known t (first args) (first results)
   pure_part-in t (pure.Constant w) args results a = join (constant-in P a.known (target (first results)) w) (kept-in P a.known t (first results))
   pure_part-in t (pure.Symbol name) args results a =
-      each_more (a.symbol name (record { op = op.Pure (pure.Symbol name); is = refl; named = keeps.its_value }) (target (first results))) (kept-in P a.known t (first results))
+      each_more (a.symbol name (record {
+        op = op.Pure (pure.Symbol name);
+        is = refl;
+        named =
+            keeps.its_value;
+      }) (target (first results))) (kept-in P a.known t (first results))
   pure_part-in t (pure.Operator f r) args results a = operator_part-in P a.known t f r args results
 
-  calling_part-in : (t : ℕ) (f : Frame) (mark : List Piece) (g : Calling) (args : List Spot) → Allows P (lin.Op (op.Calling g)) d → Each P mark → Each P (calling_part t f mark g args)
+  calling_part-in : (t : ℕ) (f : Frame) (mark : List Piece) (g : Calling) (args : List Spot) → Allows P (lin.Op (op.Calling g)) d → Each P mark →
+      Each P (calling_part t f mark g args)
   calling_part-in t f mark (calling.Call (callee.Symbol name) result) args a all =
       join (one (a.call name (record { op = op.Calling (calling.Call (callee.Symbol name) result); is = refl; named = keeps.calls }))) all
   calling_part-in t f mark (calling.Call callee.Register result) args a all =
@@ -437,7 +445,8 @@ module _ (P : Piece → Type 0) (d : Option Descr) where
   unsigned_branch-in compare.Gt a b l by = by condition.Bltu b a
   unsigned_branch-in compare.Ge a b l by = by condition.Bgeu a b
 
-  test_branch-in : (f : Test) (args : List Spot) (a : Register) (l : ℕ) → ((c : Condition) (a b : Register) → P (piece.Branch c a b l)) → P (test_branch f args a l)
+  test_branch-in : (f : Test) (args : List Spot) (a : Register) (l : ℕ) → ((c : Condition) (a b : Register) → P (piece.Branch c a b l)) →
+      P (test_branch f args a l)
   test_branch-in test.Holds args a l by = by condition.Bne a Zero
   test_branch-in test.Fails args a l by = by condition.Beq a Zero
   test_branch-in (test.Signed f r) args a l by = signed_branch-in f a (right_register r args) l by
@@ -448,12 +457,14 @@ module _ (P : Piece → Type 0) (d : Option Descr) where
       join (join (fetched-in P a.known t T1 (first args)) (test_words-in P a.known t f args))
       (one (test_branch-in f args (register_of T1 (first args)) l (a.branch l (goes_to (other this)))))
 
-  tests_in_turn-in : (ls : List ℕ) → ((l : ℕ) → OneOf (At l) (map At ls) → P (piece.Branch condition.Beq T1 Zero l)) → ((l : ℕ) → OneOf (At l) (map At ls) → P (piece.Jump l)) →
+  tests_in_turn-in : (ls : List ℕ) → ((l : ℕ) → OneOf (At l) (map At ls) → P (piece.Branch condition.Beq T1 Zero l)) → ((l : ℕ) →
+      OneOf (At l) (map At ls) → P (piece.Jump l)) →
       ((j : Instr) → InstrFits j → P (piece.Known j)) → Each P (tests_in_turn ls)
   tests_in_turn-in [] by to known = each_none
   tests_in_turn-in (l ∷ []) by to known = one (to l this)
   tests_in_turn-in (l ∷ k ∷ ls) by to known =
-      each_more (by l this) (each_more (addi-in P known T1 T1 0xFFFFFFFFFFFFFFFF) (tests_in_turn-in (k ∷ ls) (λ m n. by m (other n)) (λ m n. to m (other n)) known))
+      each_more (by l this) (each_more (addi-in P known T1 T1 0xFFFFFFFFFFFFFFFF) (tests_in_turn-in (k ∷ ls) (λ m n. by m (other n)) (λ m n. to m
+      (other n)) known))
 
   rows-in : (ls : List ℕ) → ((l : ℕ) → OneOf (At l) (map At ls) → P (piece.Row l)) → Each P (map piece.Row ls)
   rows-in [] to = each_none
@@ -463,7 +474,8 @@ module _ (P : Piece → Type 0) (d : Option Descr) where
   switch_part-in t ls args a =
       join (value_words-in P a.known t (first args))
       (chosen (nat_le (length ls) 4) (tests_in_turn-in ls (λ l n. a.branch l (goes_to n) condition.Beq T1 Zero) (λ l n. a.jump l (goes_to n)) a.known)
-      (each_more (shift-in P a.known shifts.Slli T1 T1 3) (each_more (auipc-in P a.known T2) (each_more (operation-in P a.known alu.Add T2 T2 T1) (each_more (jumps_to-in P a.known T2 12) (rows-in ls (λ l n. a.row l (goes_to n))))))))
+      (each_more (shift-in P a.known shifts.Slli T1 T1 3) (each_more (auipc-in P a.known T2) (each_more (operation-in P a.known alu.Add T2 T2 T1)
+      (each_more (jumps_to-in P a.known T2 12) (rows-in ls (λ l n. a.row l (goes_to n))))))))
 
   flow_part-in : (t : ℕ) (g : Flow) (args results : List Spot) → Allows P (lin.Flow g) d → Each P (flow_part t g args results)
   flow_part-in t (flow.Label l) args results a = one (a.place l refl)
@@ -477,7 +489,8 @@ module _ (P : Piece → Type 0) (d : Option Descr) where
   flow_part-in t flow.PopTrap args results a = pop_part-in P a.known
   flow_part-in t flow.EnterTrap args results a = moved-in P a.known t (loc.Machine 10) (first results)
 
-  lin_part-in : (t : ℕ) (f : Frame) (g : LinOp) (args results : List Spot) → Allows P g d → Each P (part_of t f d (record { op = g; args = args; results = results }))
+  lin_part-in : (t : ℕ) (f : Frame) (g : LinOp) (args results : List Spot) → Allows P g d →
+      Each P (part_of t f d (record { op = g; args = args; results = results }))
   lin_part-in t f (lin.Op g) args results a = op_part-in t f g args results a
   lin_part-in t f (lin.Flow g) args results a = flow_part-in t g args results a
 

@@ -43,7 +43,8 @@ module _ (r : Register) where
 -- ---- immediates
 
 -- the lowest 12 bits of a word, extended by their sign
-pub by_12 : (w : ℕ) → ((w % 4096 < 2048) × (sext_word (low_12 w) 12 ≡ w % 4096)) ⊎ ((2048 ≤ w % 4096) × (sext_word (low_12 w) 12 ≡ w % 4096 + 0xFFFFFFFFFFFFF000))
+pub by_12 : (w : ℕ) →
+    ((w % 4096 < 2048) × (sext_word (low_12 w) 12 ≡ w % 4096)) ⊎ ((2048 ≤ w % 4096) × (sext_word (low_12 w) 12 ≡ w % 4096 + 0xFFFFFFFFFFFFF000))
 by_12 w = elim (cases_lt (w % 4096) 2048) [
   | inl l ↦ (let h : low_12 w % 4096 < 2048 = omega arith in
       let e : low_12 w % 4096 ≡ sext_word (low_12 w) 12 = sext-low (low_12 w) 12 (omega arith) h in
@@ -54,7 +55,8 @@ by_12 w = elim (cases_lt (w % 4096) 2048) [
 ]
 
 -- the lowest 32 bits of a number, extended by their sign
-pub by_32 : (n : ℕ) → ((n % 4294967296 < 2147483648) × (sext_word n 32 ≡ n % 4294967296)) ⊎ ((2147483648 ≤ n % 4294967296) × (sext_word n 32 ≡ n % 4294967296 + 0xFFFFFFFF00000000))
+pub by_32 : (n : ℕ) →
+    ((n % 4294967296 < 2147483648) × (sext_word n 32 ≡ n % 4294967296)) ⊎ ((2147483648 ≤ n % 4294967296) × (sext_word n 32 ≡ n % 4294967296 + 0xFFFFFFFF00000000))
 by_32 n = elim (cases_lt (n % 4294967296) 2147483648) [
   | inl l ↦ (let e : n % 4294967296 ≡ sext_word n 32 = sext-low n 32 (omega arith) l in
       let f : sext_word n 32 ≡ n % 4294967296 = omega arith in inl (l, f))
@@ -135,7 +137,11 @@ higher-by w = elim (cases_lt (above_12 w % 0x10000000000000) 0x8000000000000) [
 ]
 
 pub higher-below : (w : ℕ) → higher w < 2 ^ 64
-higher-below w = elim (higher-by w) [ inl x ↦ (let e = x.1 in let g = x.0 in omega (arith, e, g)) | inr x ↦ (let e = x.1 in let g = x.0 in omega (arith, e, g)) ]
+higher-below w = elim (higher-by w) [
+  | inl x ↦ (let e = x.1 in let g = x.0 in omega (arith, e, g))
+  | inr x ↦ (let e = x.1 in let g =
+      x.0 in omega (arith, e, g))
+]
 
 sums : (w h b : ℕ) → w < 2 ^ 64 →
     ((above_12 w % 0x10000000000000 < 0x8000000000000) × (h ≡ above_12 w % 0x10000000000000))
@@ -167,7 +173,11 @@ spans_52 w = elim (higher-by w) [
 ]
 
 spans_40 : (w : ℕ) → Spans 0x8000000000000 w → Spans 0x8000000000 (higher w)
-spans_40 w (inl l) = elim (higher-by w) [ inl x ↦ (let e = x.1 in let h : higher w ≤ 0x8000000000 = omega (arith, e) in inl h) | inr x ↦ absurd (let g = x.0 in omega (arith, g)) ]
+spans_40 w (inl l) = elim (higher-by w) [
+  | inl x ↦ (let e = x.1 in let h : higher w ≤ 0x8000000000 = omega (arith, e) in inl h)
+  | inr x ↦ absurd (let g =
+      x.0 in omega (arith, g))
+]
 spans_40 w (inr l) =
     let a = l.0 in
     let b = l.1 in
@@ -177,7 +187,11 @@ spans_40 w (inr l) =
     ]
 
 spans_28 : (w : ℕ) → Spans 0x8000000000 w → Spans 0x8000000 (higher w)
-spans_28 w (inl l) = elim (higher-by w) [ inl x ↦ (let e = x.1 in let h : higher w ≤ 0x8000000 = omega (arith, e) in inl h) | inr x ↦ absurd (let g = x.0 in omega (arith, g)) ]
+spans_28 w (inl l) = elim (higher-by w) [
+  | inl x ↦ (let e = x.1 in let h : higher w ≤ 0x8000000 = omega (arith, e) in inl h)
+  | inr x ↦ absurd (let g =
+      x.0 in omega (arith, g))
+]
 spans_28 w (inr l) =
     let a = l.0 in
     let b = l.1 in
@@ -240,7 +254,8 @@ module _ (r : Register) (k : ℕ) (other : number r ≡ suc k) where
 
   steps-by : (n : ℕ) → ((w amount v : ℕ) → w < 2 ^ 64 → Enough n w → amount + 12 * n < 64 → value_after (constant_shifted n r w amount) v ≡ shl_word w amount) →
       (w amount v : ℕ) (b c : Bool) → is_word_32 w ≡ b → nat_eq (low_12 w) 0 ≡ c → w < 2 ^ 64 → Enough n (higher w) → amount + 12 * suc n < 64 →
-      value_after (cond b (constant_32 r w ++ shifted r amount) (cond c (constant_shifted n r (higher w) (amount + 12)) (constant_shifted n r (higher w) 12 ++ addi r r w ∷ shifted r amount))) v
+      value_after (cond b (constant_32 r w ++ shifted r amount) (cond c (constant_shifted n r (higher w) (amount + 12)) (constant_shifted n r
+      (higher w) 12 ++ addi r r w ∷ shifted r amount))) v
       ≡ shl_word w amount
   steps-by n rec w amount v true c f g b e s = ended-value w amount v b f (omega arith)
   steps-by n rec w amount v false true f g b e s =

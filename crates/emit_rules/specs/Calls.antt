@@ -1,4 +1,5 @@
--- Calls, and the return from a function. Arguments and results stand at the places of the convention.
+-- Calls, and the return from a function. Arguments and results stand at the places of the
+-- convention.
 use Rattle.std.specs.Prelude.{ℕ, Bool, true, false, List, [], ◌∷◌, ◌++◌, Option, Some, None}
 use Rattle.mach_ir.specs.declared.op.Callee.{Callee}
 use Rattle.mach_ir.specs.declared.op.Callee.TheVariants as callee

@@ -85,7 +85,8 @@ allocation_service = 3
 abbrev pub ask : (bytes : ℕ) → List Piece
 ask bytes = constant T0 bytes ++ constant T2 allocation_service ++ ecall ∷ []
 
--- The bytes are taken off s10, and the service is asked only where s10 is then below the limit word.
+-- The bytes are taken off s10, and the service is asked only where s10 is then below the limit
+-- word.
 abbrev pub reserved : (bytes : ℕ) → List Piece
 reserved bytes =
     lowered T1 S10 bytes

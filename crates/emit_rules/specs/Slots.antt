@@ -1,7 +1,7 @@
 -- Slots, where operands are read and results are made, and copies.
 --
--- Operands in slots are read into t1 and t2, and a result in a slot is made in t1. T0 keeps its value
--- over what reads registers alone, loads and stores.
+-- Operands in slots are read into t1 and t2, and a result in a slot is made in t1. T0 keeps its
+-- value over what reads registers alone, loads and stores.
 use Rattle.std.specs.Prelude.{ℕ, ◌+◌, ◌*◌, cond, nat_lt, List, [], ◌∷◌, ◌++◌}
 use Rattle.bs_words.specs.declared.types.Loc.{Loc}
 use Rattle.bs_words.specs.declared.types.Loc.TheVariants as loc

@@ -1,7 +1,7 @@
 -- Traps, raises and bound tests.
 --
--- A trap is 16 bytes of the stack: the address of its handler, and the trap pointer as it was before.
--- S1 points at the innermost one.
+-- A trap is 16 bytes of the stack: the address of its handler, and the trap pointer as it was
+-- before. S1 points at the innermost one.
 use Rattle.std.specs.Prelude.{ℕ, ◌+◌, ◌*◌, List, [], ◌∷◌, ◌++◌, length}
 use Rattle.bs_words.specs.declared.types.Loc.TheVariants as loc
 use Rattle.mach_ir.specs.declared.op.Right.{Right}

@@ -35,7 +35,8 @@ count-is (lin.Flow flow.PopTrap) [] = refl
 count-is (lin.Flow flow.PopTrap) (l ∷ tries) = omega arith
 count-is (lin.Flow flow.EnterTrap) tries = refl
 
-pushed-handlers : (m : Lin) (i : Line) (next : List Line) (f : LinOp) (tries : List ℕ) → i.op ≡ f → Comes m (i ∷ next) (length tries) → Handlers m tries → Handlers m (tries_after f tries)
+pushed-handlers : (m : Lin) (i : Line) (next : List Line) (f : LinOp) (tries : List ℕ) → i.op ≡ f → Comes m (i ∷ next) (length tries) → Handlers m tries →
+    Handlers m (tries_after f tries)
 pushed-handlers m i next (lin.Op g) tries e c h = h
 pushed-handlers m i next (lin.Flow (flow.Label l)) tries e c h = h
 pushed-handlers m i next (lin.Flow (flow.Jump l)) tries e c h = h

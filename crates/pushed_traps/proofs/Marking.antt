@@ -78,7 +78,9 @@ marked-fewer (suc left) x ms =
 
 all-fewer : (at : ℕ → ℕ) (ls : List ℕ) (x : ℕ) (ms : List ℕ) → Fewer ms (marked_all at ls (suc x) ms)
 all-fewer at [] x ms = inl refl
-all-fewer at (l ∷ ls) x ms = fewer-both ms (marked (at l) (suc x) ms) (marked_all at ls (suc x) (marked (at l) (suc x) ms)) (marked-fewer (at l) x ms) (all-fewer at ls x (marked (at l) (suc x) ms))
+all-fewer at (l ∷ ls) x ms =
+    fewer-both ms (marked (at l) (suc x) ms) (marked_all at ls (suc x) (marked (at l) (suc x) ms)) (marked-fewer (at l) x ms) (all-fewer at ls x (marked
+    (at l) (suc x) ms))
 
 -- the mark with one trap more is one of some line
 above-is : (d : ℕ) → above (suc d) ≡ suc (above (suc d) - 1)
@@ -265,18 +267,21 @@ module _ (m : Lin) (good : IsCounted m) where
     on i n h e o = let Q : ℕ → Type 0 = λ t. Comes m next t in right-at next n (inr w) (subst Q e (comes_on h On o))
 
     to : (i : Line) (l : ℕ) → Comes m (i ∷ next) d → count_after i.op d ≡ d → OneOf (At l) (targets i.op) → Right (at l) (suc d)
-    to i l h e o = let Q : ℕ → Type 0 = λ t. Comes m (after_label l m.code) t in right-at (after_label l m.code) d (label-within l m.code) (subst Q e (comes_on h (At l) o))
+    to i l h e o = let Q : ℕ → Type 0 =
+        λ t. Comes m (after_label l m.code) t in right-at (after_label l m.code) d (label-within l m.code) (subst Q e (comes_on h (At l) o))
 
     handler : (i : Line) (l : ℕ) → Comes m (i ∷ next) d → i.op ≡ lin.Flow (flow.PushTrap l) → Right (at l) (suc d)
     handler i l h e = right-at (after_label l m.code) d (label-within l m.code) (comes_handler h l e)
 
-    flow-sound : (g : Flow) (args results : List Spot) (ms : List ℕ) → Comes m (record { op = lin.Flow g; args = args; results = results } ∷ next) d → Sound ms →
+    flow-sound : (g : Flow) (args results : List Spot) (ms : List ℕ) → Comes m (record { op = lin.Flow g; args = args; results = results } ∷ next) d →
+        Sound ms →
         Sound (flow_marked at (length next) (suc d) g ms)
     flow-sound (flow.Label l) args results ms h s = marked-sound (length next) (suc d) ms s (on _ d h refl this)
     flow-sound (flow.Jump l) args results ms h s = marked-sound (at l) (suc d) ms s (to _ l h refl this)
     flow-sound (flow.Exit l) args results ms h s = marked-sound (at l) (suc d) ms s (to _ l h refl this)
     flow-sound (flow.Branch t l) args results ms h s =
-        marked-sound (at l) (suc d) (marked (length next) (suc d) ms) (marked-sound (length next) (suc d) ms s (on _ d h refl this)) (to _ l h refl (other this))
+        marked-sound (at l) (suc d) (marked (length next) (suc d) ms) (marked-sound (length next) (suc d) ms s (on _ d h refl this)) (to _ l h refl
+        (other this))
     flow-sound (flow.Switch ls) args results ms h s = all-sound ls (suc d) ms s (λ l o. to _ l h refl o)
     flow-sound (flow.PushTrap l) args results ms h s =
         let k : above (suc d) ≡ suc (suc d) = above-right _ d h in
@@ -294,10 +299,16 @@ module _ (m : Lin) (good : IsCounted m) where
     op-sound : (f : LinOp) (args results : List Spot) (ms : List ℕ) → Comes m (record { op = f; args = args; results = results } ∷ next) d → Sound ms →
         Sound (op_marked at (length next) (suc d) f ms)
     op-sound (lin.Op g) args results ms h s =
-        pure-by (acts.goes_on g) ms s (λ t. let Q : Bool → Type 0 = λ b. OneOf On (next_if b) in on (record { op = lin.Op g; args = args; results = results }) d h refl (subst Q (sym t) this))
+        pure-by (acts.goes_on g) ms s (λ t. let Q : Bool → Type 0 = λ b. OneOf On (next_if b) in on (record {
+          op = lin.Op g;
+          args = args;
+          results =
+              results;
+        }) d h refl (subst Q (sym t) this))
     op-sound (lin.Flow g) args results ms h s = flow-sound g args results ms h s
 
-  followed-sound : (i : Line) (next : List Line) (ms : List ℕ) (n : ℕ) → Stands i next m.code → Suffix next m.code → Sound ms → slice_index ms (length next) ≡ n →
+  followed-sound : (i : Line) (next : List Line) (ms : List ℕ) (n : ℕ) → Stands i next m.code → Suffix next m.code → Sound ms →
+      slice_index ms (length next) ≡ n →
       Sound (cond (nat_eq n 0) ms (op_marked at (length next) n i.op ms))
   followed-sound i next ms zero st w s e = s
   followed-sound i next ms (suc d) st w s e =
@@ -359,7 +370,8 @@ module _ (m : Lin) (good : IsCounted m) where
     all-known [] t o e = elim o [ ]
     all-known (l ∷ ls) t o e =
         let f : marked (at l) (suc d) ms ≡ ms =
-        fixed-first ms (marked (at l) (suc d) ms) (marked_all at ls (suc d) (marked (at l) (suc d) ms)) (marked-fewer (at l) d ms) (all-fewer at ls d (marked (at l) (suc d) ms)) e in
+        fixed-first ms (marked (at l) (suc d) ms) (marked_all at ls (suc d) (marked (at l) (suc d) ms)) (marked-fewer (at l) d ms) (all-fewer at ls d
+        (marked (at l) (suc d) ms)) e in
         let g : marked_all at ls (suc d) ms ≡ ms = ap (λ (xs : List ℕ). marked_all at ls (suc d) xs) (sym f) ∙ e in
         pick-known l (map At ls) t o (at-known l d f) (λ p. all-known ls t p g)
 
@@ -383,7 +395,8 @@ module _ (m : Lin) (good : IsCounted m) where
     flow-known (flow.Jump l) t o e = one-at l t o (at-known l d e)
     flow-known (flow.Exit l) t o e = one-at l t o (at-known l d e)
     flow-known (flow.Branch b l) t o e =
-        let f : marked (length next) (suc d) ms ≡ ms = fixed-first ms _ _ (marked-fewer (length next) d ms) (marked-fewer (at l) d (marked (length next) (suc d) ms)) e in
+        let f : marked (length next) (suc d) ms ≡ ms =
+        fixed-first ms _ _ (marked-fewer (length next) d ms) (marked-fewer (at l) d (marked (length next) (suc d) ms)) e in
         let g : marked (at l) (suc d) ms ≡ ms = ap (λ (xs : List ℕ). marked (at l) (suc d) xs) (sym f) ∙ e in
         two-known l t o (on-known d f) (at-known l d g)
     flow-known (flow.Switch ls) t o e = all-known ls t o e
@@ -394,7 +407,8 @@ module _ (m : Lin) (good : IsCounted m) where
 
     handler-known : (l : ℕ) → flow_marked at (length next) (suc d) (flow.PushTrap l) ms ≡ ms → Known ms (at l)
     handler-known l e =
-        let f : marked (length next) (above (suc d)) ms ≡ ms = fixed-first ms _ _ (above-fewer (length next) d ms) (marked-fewer (at l) d (marked (length next) (above (suc d)) ms)) e in
+        let f : marked (length next) (above (suc d)) ms ≡ ms =
+        fixed-first ms _ _ (above-fewer (length next) d ms) (marked-fewer (at l) d (marked (length next) (above (suc d)) ms)) e in
         at-known l d (ap (λ (xs : List ℕ). marked (at l) (suc d) xs) (sym f) ∙ e)
 
     pure-known : (b : Bool) (t : Target) → OneOf t (next_if b) → cond b (marked (length next) (suc d) ms) ms ≡ ms → Known ms (place t)
@@ -409,7 +423,11 @@ module _ (m : Lin) (good : IsCounted m) where
 
   comes-within : (c : List Line) (n : ℕ) → Comes m c n → Within c m.code
   comes-within c n comes_first = inr suffix_all
-  comes-within c n (comes_on {i} {next} h On o) = elim (comes-within (i ∷ next) _ h) [ inl e ↦ absurd (let k : suc (length next) ≡ 0 = ap length e in omega arith) | inr s ↦ inr (suffix-tail i next m.code s) ]
+  comes-within c n (comes_on {i} {next} h On o) = elim (comes-within (i ∷ next) _ h) [
+    | inl e ↦ absurd (let k : suc (length next) ≡ 0 =
+        ap length e in omega arith)
+    | inr s ↦ inr (suffix-tail i next m.code s)
+  ]
   comes-within c n (comes_on {i} {next} h (At l) o) = label-within l m.code
   comes-within c n (comes_handler h l e) = label-within l m.code
 
@@ -420,7 +438,8 @@ module _ (m : Lin) (good : IsCounted m) where
   fixed-line [] ms e i next s = elim s [ ]
   fixed-line (j ∷ is) ms e i next s =
       let f : followed at (length is) j.op ms ≡ ms =
-      fixed-first ms (followed at (length is) j.op ms) (swept at is (followed at (length is) j.op ms)) (followed-fewer at (length is) j.op ms) (swept-fewer at is (followed at (length is) j.op ms)) e in
+      fixed-first ms (followed at (length is) j.op ms) (swept at is (followed at (length is) j.op ms)) (followed-fewer at (length is) j.op ms)
+      (swept-fewer at is (followed at (length is) j.op ms)) e in
       let g : swept at is ms ≡ ms = ap (λ (xs : List ℕ). swept at is xs) (sym f) ∙ e in
       line-by j is ms f i next s (λ t. fixed-line is ms g i next t)
     where
@@ -439,7 +458,8 @@ module _ (m : Lin) (good : IsCounted m) where
   module _ (ms : List ℕ) (n : length ms ≡ length m.code) (sound : Sound ms) (fixed : swept at m.code ms ≡ ms)
       (first : (i : Line) (next : List Line) → m.code ≡ i ∷ next → slice_index ms (length next) ≡ 1) where
     -- the one number of a place that is marked and come to
-    same-mark : (c : List Line) (k : ℕ) → Comes m c k → Known ms (length c) → (j : Line) (rest : List Line) → c ≡ j ∷ rest → slice_index ms (length rest) ≡ suc k
+    same-mark : (c : List Line) (k : ℕ) → Comes m c k → Known ms (length c) → (j : Line) (rest : List Line) → c ≡ j ∷ rest →
+        slice_index ms (length rest) ≡ suc k
     same-mark c k h known j rest e = by (slice_index ms (length rest)) refl
       where
         Q : List Line → Type 0
@@ -452,9 +472,11 @@ module _ (m : Lin) (good : IsCounted m) where
         by zero z = absurd (known (length rest) (ap length e) z)
         by (suc x) z = ap (λ (v : ℕ). suc v) (good.one j rest x k (sound j rest (suffix-stands j rest m.code (comes-suffix j rest k there)) x z) there)
 
-    is-fixed : (i : Line) (next : List Line) (d : ℕ) → Comes m (i ∷ next) d → slice_index ms (length next) ≡ suc d → op_marked at (length next) (suc d) i.op ms ≡ ms
+    is-fixed : (i : Line) (next : List Line) (d : ℕ) → Comes m (i ∷ next) d → slice_index ms (length next) ≡ suc d →
+        op_marked at (length next) (suc d) i.op ms ≡ ms
     is-fixed i next d h e =
-        opened (length next) d (slice_index ms (length next)) i.op ms e (fixed-line m.code ms fixed i next (suffix-stands i next m.code (comes-suffix i next d h)))
+        opened (length next) d (slice_index ms (length next)) i.op ms e (fixed-line m.code ms fixed i next (suffix-stands i next m.code
+        (comes-suffix i next d h)))
 
     complete : (c : List Line) (k : ℕ) → Comes m c k → (j : Line) (rest : List Line) → c ≡ j ∷ rest → slice_index ms (length rest) ≡ suc k
     complete c k comes_first j rest e = first j rest e
@@ -482,7 +504,8 @@ module _ (m : Lin) (good : IsCounted m) where
   round ms = round_of m ms
 
   round-fewer : (ms : List ℕ) → Fewer ms (round ms)
-  round-fewer ms = fewer-both ms (marked (length m.code) 1 ms) (round ms) (marked-fewer (length m.code) 0 ms) (swept-fewer at m.code (marked (length m.code) 1 ms))
+  round-fewer ms =
+      fewer-both ms (marked (length m.code) 1 ms) (round ms) (marked-fewer (length m.code) 0 ms) (swept-fewer at m.code (marked (length m.code) 1 ms))
 
   round-sound : (ms : List ℕ) → Sound ms → Sound (round ms)
   round-sound ms s = swept-sound (marked (length m.code) 1 ms) (marked-sound (length m.code) 1 ms s (right-at m.code 0 (inr suffix_all) comes_first))
@@ -549,7 +572,8 @@ pub swept-alike : (at to : ℕ → ℕ) → ((l : ℕ) → at l ≡ to l) → (i
 swept-alike at to e [] ms = refl
 swept-alike at to e (i ∷ next) ms =
     swept-alike at to e next (followed at (length next) i.op ms)
-    ∙ ap (λ (xs : List ℕ). swept to next (cond (nat_eq (slice_index ms (length next)) 0) ms xs)) (op-alike at to e (length next) (slice_index ms (length next)) i.op ms)
+    ∙ ap (λ (xs : List ℕ). swept to next (cond (nat_eq (slice_index ms (length next)) 0) ms xs)) (op-alike at to e (length next) (slice_index ms
+    (length next)) i.op ms)
 
 pub zeros-read : (n k : ℕ) → slice_index (replicate n 0) k ≡ 0
 zeros-read zero k = refl

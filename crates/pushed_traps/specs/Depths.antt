@@ -1,7 +1,7 @@
 -- How many traps are pushed at a place, by numbers alone.
 --
--- A walk that forgets which handlers are pushed: it may come to a trap's handler wherever the trap is
--- pushed, whether something is raised there or not. Each walk of the function is such a walk.
+-- A walk that forgets which handlers are pushed: it may come to a trap's handler wherever the trap
+-- is pushed, whether something is raised there or not. Each walk of the function is such a walk.
 use Rattle.std.specs.Prelude.{◌≡◌, ℕ, suc, ◌+◌, ◌-◌, ◌*◌, ◌≤◌, List, ◌∷◌, length}
 use Rattle.mach_ir.specs.Acts.{Target}
 use Rattle.mach_ir.specs.Walks.{OneOf}

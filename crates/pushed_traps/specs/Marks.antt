@@ -1,7 +1,8 @@
--- How many traps are pushed before each line, as it is found: by sweeps over the lines, until one finds nothing new.
+-- How many traps are pushed before each line, as it is found: by sweeps over the lines, until one
+-- finds nothing new.
 --
--- Marks stand by the number of lines after a line: one more than the number of its traps, and 0 where no walk is known to
--- come. A place is the number of lines from it on.
+-- Marks stand by the number of lines after a line: one more than the number of its traps, and 0
+-- where no walk is known to come. A place is the number of lines from it on.
 use Rattle.std.specs.Prelude.{ℕ, zero, suc, ◌-◌, cond, nat_eq, nat_lt, List, [], ◌∷◌, length, slice_index, slice_set}
 use Rattle.mach_ir.specs.Acts as acts
 use Rattle.lin_ir.specs.declared.lin.Flow.{Flow}
