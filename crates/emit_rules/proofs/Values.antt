@@ -56,7 +56,8 @@ by_12 w = elim (cases_lt (w % 4096) 2048) [
 
 -- the lowest 32 bits of a number, extended by their sign
 pub by_32 : (n : ℕ) →
-    ((n % 4294967296 < 2147483648) × (sext_word n 32 ≡ n % 4294967296)) ⊎ ((2147483648 ≤ n % 4294967296) × (sext_word n 32 ≡ n % 4294967296 + 0xFFFFFFFF00000000))
+    ((n % 4294967296 < 2147483648) × (sext_word n 32 ≡ n % 4294967296))
+    ⊎ ((2147483648 ≤ n % 4294967296) × (sext_word n 32 ≡ n % 4294967296 + 0xFFFFFFFF00000000))
 by_32 n = elim (cases_lt (n % 4294967296) 2147483648) [
   | inl l ↦ (let e : n % 4294967296 ≡ sext_word n 32 = sext-low n 32 (omega arith) l in
       let f : sext_word n 32 ≡ n % 4294967296 = omega arith in inl (l, f))
