@@ -1,0 +1,94 @@
+-- The instructions that emission makes, over registers. A number stands in its field as the field's
+-- low bits.
+use Rattle.std.specs.Prelude.{ℕ, ◌%◌, List, [], ◌∷◌, Option, Some, None, slice_get}
+use Rattle.rv_isa.specs.Registers.{number}
+use Rattle.rv_isa.specs.declared.register.Register.{Register}
+use Rattle.rv_isa.specs.declared.register.Register.TheVariants.{Zero, Ra, Sp, Gp, Tp, T0, T1, T2, S0, S1, A0, A1, A2, A3, A4, A5, A6, A7, S2, S3, S4, S5, S6, S7, S8, S9, S10, S11, T3, T4, T5, T6}
+use Rattle.rv_isa.specs.declared.instr.AluImmOp.{AluImmOp}
+use Rattle.rv_isa.specs.declared.instr.AluImmOp.TheVariants as imm
+use Rattle.rv_isa.specs.declared.instr.AluOp.{AluOp}
+use Rattle.rv_isa.specs.declared.instr.AluOp.TheVariants as alu
+use Rattle.rv_isa.specs.declared.instr.Condition.{Condition}
+use Rattle.rv_isa.specs.declared.instr.Instr.TheVariants as instr
+use Rattle.rv_isa.specs.declared.instr.LoadWidth.{LoadWidth}
+use Rattle.rv_isa.specs.declared.instr.ShiftOp.{ShiftOp}
+use Rattle.rv_isa.specs.declared.instr.StoreWidth.{StoreWidth}
+use Rattle.rv_pieces.specs.declared.piece.Piece.{Piece}
+use Rattle.rv_pieces.specs.declared.piece.Piece.TheVariants as piece
+
+-- ---- registers
+
+abbrev pub registers : List Register
+registers =
+    Zero ∷ Ra ∷ Sp ∷ Gp ∷ Tp ∷ T0 ∷ T1 ∷ T2 ∷ S0 ∷ S1 ∷ A0 ∷ A1 ∷ A2 ∷ A3 ∷ A4 ∷ A5 ∷ A6 ∷ A7
+    ∷ S2 ∷ S3 ∷ S4 ∷ S5 ∷ S6 ∷ S7 ∷ S8 ∷ S9 ∷ S10 ∷ S11 ∷ T3 ∷ T4 ∷ T5 ∷ T6 ∷ []
+
+abbrev pub or_zero : Option Register → Register
+or_zero (Some r) = r
+or_zero None = Zero
+
+-- the register of a number
+abbrev pub register_at : ℕ → Register
+register_at n = or_zero (slice_get registers n)
+
+-- ---- instructions
+
+abbrev pub low_12 : ℕ → ℕ
+low_12 w = w % 4096
+
+abbrev pub with_immediate : AluImmOp → Register → Register → ℕ → Piece
+with_immediate f to from w =
+    piece.Known (instr.OpImm f (number to) (number from) (low_12 w))
+
+abbrev pub addi : Register → Register → ℕ → Piece
+addi to from w = with_immediate imm.Addi to from w
+
+-- the value of one register becomes that of another
+abbrev pub mv : Register → Register → Piece
+mv to from = addi to from 0
+
+abbrev pub operation : AluOp → Register → Register → Register → Piece
+operation f to a b = piece.Known (instr.Op f (number to) (number a) (number b))
+
+abbrev pub add : Register → Register → Register → Piece
+add to a b = operation alu.Add to a b
+
+abbrev pub shift : ShiftOp → Register → Register → ℕ → Piece
+shift f to from amount = piece.Known (instr.Shift f (number to) (number from) (amount % 64))
+
+-- the upper bits, as the field has them
+abbrev pub lui : Register → ℕ → Piece
+lui to upper = piece.Known (instr.Lui (number to) (upper % 1048576))
+
+abbrev pub addiw : Register → Register → ℕ → Piece
+addiw to from w = piece.Known (instr.Addiw (number to) (number from) (low_12 w))
+
+-- the address of the instruction itself
+abbrev pub auipc : Register → Piece
+auipc to = piece.Known (instr.Auipc (number to) 0)
+
+-- from so many bytes after an address
+abbrev pub load : LoadWidth → Register → Register → ℕ → Piece
+load k to address offset =
+    piece.Known (instr.Load k (number to) (number address) (low_12 offset))
+
+-- of a register, to so many bytes after an address
+abbrev pub store : StoreWidth → Register → Register → ℕ → Piece
+store k from address offset =
+    piece.Known (instr.Store k (number address) (number from) (low_12 offset))
+
+-- over so many instructions after it where the condition holds
+abbrev pub skip : Condition → Register → Register → ℕ → Piece
+skip f a b bytes = piece.Known (instr.Branch f (number a) (number b) (bytes % 8192))
+
+-- to the address in a register and so many bytes after it, with no return address
+abbrev pub goes_to : Register → ℕ → Piece
+goes_to address offset =
+    piece.Known (instr.Jalr (number Zero) (number address) (low_12 offset))
+
+-- to the address in a register, with the return address in ra
+abbrev pub calls_at : Register → Piece
+calls_at address = piece.Known (instr.Jalr (number Ra) (number address) 0)
+
+abbrev pub ecall : Piece
+ecall = piece.Known instr.Ecall

@@ -1,0 +1,14 @@
+pub mod Instructions
+pub mod Constants
+pub mod Slots
+pub mod Operators
+pub mod Tests
+pub mod Memory
+pub mod Calls
+pub mod Traps
+pub mod Entry
+pub mod Emitted
+pub mod Traversal
+pub mod Named
+pub mod Sizes
+pub mod Values

@@ -1,0 +1,249 @@
+//! Instructions over registers.
+ghost use Rattle.std.specs.Prelude.{◌≡◌, ◌<◌, [], ◌∷◌, IfOk, option_copied, slice_get};
+ghost use Rattle.emit_rules.specs.Instructions.{low_12, register_at, with_immediate, addi, mv, operation, add, shift, lui, addiw, auipc, load, store, skip, goes_to, calls_at, ecall};
+ghost use Rattle.rv_emit.specs.Outputs.{Adds};
+
+use crate::output::Output;
+use rv_isa::{AluImmOp, AluOp, Condition, Instr, LoadWidth, Register, ShiftOp, StoreWidth};
+use std::alloc::AllocError;
+
+/// The registers by their numbers.
+const REGISTERS: [Register; 32] = [
+    Register::Zero,
+    Register::Ra,
+    Register::Sp,
+    Register::Gp,
+    Register::Tp,
+    Register::T0,
+    Register::T1,
+    Register::T2,
+    Register::S0,
+    Register::S1,
+    Register::A0,
+    Register::A1,
+    Register::A2,
+    Register::A3,
+    Register::A4,
+    Register::A5,
+    Register::A6,
+    Register::A7,
+    Register::S2,
+    Register::S3,
+    Register::S4,
+    Register::S5,
+    Register::S6,
+    Register::S7,
+    Register::S8,
+    Register::S9,
+    Register::S10,
+    Register::S11,
+    Register::T3,
+    Register::T4,
+    Register::T5,
+    Register::T6,
+];
+
+/// The register at an index.
+fn register_in(registers: &[Register], index: usize) -> Option<&Register>
+    ensures { option_copied result ≡ slice_get registers.now index }
+{
+    registers.get(index)
+}
+
+/// The register of a number; x0 where no register has it.
+pub fn register_at(number: u8) -> Register
+    ensures { result ≡ register_at number }
+{
+    match register_in(&REGISTERS, number as usize) {
+        Some(register) => *register,
+        None => Register::Zero,
+    }
+}
+
+/// The lowest 12 bits of a word.
+fn low_12(word: u64) -> u16
+    ensures exact { result ≡ low_12 word }
+    ensures below { result < 4096 }
+{
+    (word % 4096) as u16
+}
+
+impl Output {
+    pub fn with_immediate(
+        &mut self,
+        op: AluImmOp,
+        to: Register,
+        from: Register,
+        word: u64,
+    ) -> Result<(), AllocError>
+        ensures { IfOk result (λ _. Adds self.old self.new (with_immediate op to from word ∷ [])) }
+    {
+        self.known(Instr::OpImm {
+            op,
+            rd: to.number(),
+            rs1: from.number(),
+            imm: low_12(word),
+        })
+    }
+
+    pub fn addi(&mut self, to: Register, from: Register, word: u64) -> Result<(), AllocError>
+        ensures { IfOk result (λ _. Adds self.old self.new (addi to from word ∷ [])) }
+    {
+        self.with_immediate(AluImmOp::Addi, to, from, word)
+    }
+
+    pub fn mv(&mut self, to: Register, from: Register) -> Result<(), AllocError>
+        ensures { IfOk result (λ _. Adds self.old self.new (mv to from ∷ [])) }
+    {
+        self.addi(to, from, 0)
+    }
+
+    pub fn operation(
+        &mut self,
+        op: AluOp,
+        to: Register,
+        left: Register,
+        right: Register,
+    ) -> Result<(), AllocError>
+        ensures { IfOk result (λ _. Adds self.old self.new (operation op to left right ∷ [])) }
+    {
+        self.known(Instr::Op {
+            op,
+            rd: to.number(),
+            rs1: left.number(),
+            rs2: right.number(),
+        })
+    }
+
+    pub fn add(&mut self, to: Register, left: Register, right: Register) -> Result<(), AllocError>
+        ensures { IfOk result (λ _. Adds self.old self.new (add to left right ∷ [])) }
+    {
+        self.operation(AluOp::Add, to, left, right)
+    }
+
+    pub fn shift(
+        &mut self,
+        op: ShiftOp,
+        to: Register,
+        from: Register,
+        amount: u64,
+    ) -> Result<(), AllocError>
+        ensures { IfOk result (λ _. Adds self.old self.new (shift op to from amount ∷ [])) }
+    {
+        self.known(Instr::Shift {
+            op,
+            rd: to.number(),
+            rs1: from.number(),
+            amount: (amount % 64) as u8,
+        })
+    }
+
+    /// `upper`: the upper bits; the field takes the lowest 20 of them.
+    pub fn lui(&mut self, to: Register, upper: u64) -> Result<(), AllocError>
+        ensures { IfOk result (λ _. Adds self.old self.new (lui to upper ∷ [])) }
+    {
+        self.known(Instr::Lui {
+            rd: to.number(),
+            imm: (upper % 1048576) as u32,
+        })
+    }
+
+    pub fn addiw(&mut self, to: Register, from: Register, word: u64) -> Result<(), AllocError>
+        ensures { IfOk result (λ _. Adds self.old self.new (addiw to from word ∷ [])) }
+    {
+        self.known(Instr::Addiw {
+            rd: to.number(),
+            rs1: from.number(),
+            imm: low_12(word),
+        })
+    }
+
+    pub fn auipc(&mut self, to: Register) -> Result<(), AllocError>
+        ensures { IfOk result (λ _. Adds self.old self.new (auipc to ∷ [])) }
+    {
+        self.known(Instr::Auipc {
+            rd: to.number(),
+            imm: 0,
+        })
+    }
+
+    pub fn load(
+        &mut self,
+        width: LoadWidth,
+        to: Register,
+        address: Register,
+        offset: u64,
+    ) -> Result<(), AllocError>
+        ensures { IfOk result (λ _. Adds self.old self.new (load width to address offset ∷ [])) }
+    {
+        self.known(Instr::Load {
+            width,
+            rd: to.number(),
+            rs1: address.number(),
+            imm: low_12(offset),
+        })
+    }
+
+    pub fn store(
+        &mut self,
+        width: StoreWidth,
+        from: Register,
+        address: Register,
+        offset: u64,
+    ) -> Result<(), AllocError>
+        ensures { IfOk result (λ _. Adds self.old self.new (store width from address offset ∷ [])) }
+    {
+        self.known(Instr::Store {
+            width,
+            rs1: address.number(),
+            rs2: from.number(),
+            imm: low_12(offset),
+        })
+    }
+
+    /// Goes so many bytes further than the branch where the condition holds.
+    pub fn skip(
+        &mut self,
+        condition: Condition,
+        left: Register,
+        right: Register,
+        bytes: u64,
+    ) -> Result<(), AllocError>
+        ensures { IfOk result (λ _. Adds self.old self.new (skip condition left right bytes ∷ [])) }
+    {
+        self.known(Instr::Branch {
+            condition,
+            rs1: left.number(),
+            rs2: right.number(),
+            offset: (bytes % 8192) as u16,
+        })
+    }
+
+    /// Goes to the address in a register and so many bytes more.
+    pub fn goes_to(&mut self, address: Register, offset: u64) -> Result<(), AllocError>
+        ensures { IfOk result (λ _. Adds self.old self.new (goes_to address offset ∷ [])) }
+    {
+        self.known(Instr::Jalr {
+            rd: Register::Zero.number(),
+            rs1: address.number(),
+            imm: low_12(offset),
+        })
+    }
+
+    /// Calls the address in a register.
+    pub fn calls_at(&mut self, address: Register) -> Result<(), AllocError>
+        ensures { IfOk result (λ _. Adds self.old self.new (calls_at address ∷ [])) }
+    {
+        self.known(Instr::Jalr {
+            rd: Register::Ra.number(),
+            rs1: address.number(),
+            imm: 0,
+        })
+    }
+
+    pub fn ecall(&mut self) -> Result<(), AllocError>
+        ensures { IfOk result (λ _. Adds self.old self.new (ecall ∷ [])) }
+    {
+        self.known(Instr::Ecall)
+    }
+}
