@@ -14,7 +14,7 @@ use Rattle.machine_laws.proofs.Memory.{has_write}
 use Rattle.machine_laws.proofs.Starting.{start_sound}
 use Rattle.machine_laws.proofs.Words.{with_registers, words_none}
 use Rattle.rv_machine.specs.Sound.{IsSound}
-use Rattle.moving_laws.specs.Service.{Knows, IsReady, IsAllocated}
+use Rattle.moving_laws.specs.Service.{Contents, Knows, IsReady, IsAllocated}
 use Rattle.moving_laws.specs.Values.{HasFunctions}
 use Rattle.moving_laws.specs.Waiting.{Activation}
 use Rattle.moving_laws.proofs.Moving.{allocates}
@@ -65,9 +65,19 @@ module _ (image : Tables) (functions : HasFunctions image) (bytes : AllByRecursi
   frame = record { at = 0x3FFFFFE0; desc = record { after = after; size = 16; entries = [] } }
 
   abbrev activation : Activation
-  activation = record { back = code_start; slots = []; tries = [] }
+  activation = record { back = code_start; count = 0; slot = λ k. None; tries = [] }
 
-  knows : Knows [] asking (frame ∷ []) [] (activation ∷ []) [] 0x3FFFFFF0 [] (λ x. None) (code_start + 4 * place + 4)
+  abbrev holds : Contents
+  holds = record {
+    registers = λ r. None;
+    waiting = activation ∷ [];
+    traps = [];
+    last = 0x3FFFFFF0;
+    blocks = record { count = 0; size = λ k. 0; header = λ k. None; cell = λ k j. None };
+    static = λ x. None;
+  }
+
+  knows : Knows [] asking (frame ∷ []) holds (code_start + 4 * place + 4)
   knows = record {
     sound = sound;
     old = record { inside = tt; apart = tt };
@@ -104,7 +114,7 @@ module _ (image : Tables) (functions : HasFunctions image) (bytes : AllByRecursi
     traps = refl;
     stand = record {
       count = refl;
-      sizes = λ k. refl;
+      sizes = λ k l. absurd (omega (arith, l));
       header = λ k w l. absurd (omega (arith, l));
       cell = λ k j v l. absurd (omega (arith, l));
       known = λ k j v l. absurd (omega (arith, l));
@@ -113,7 +123,7 @@ module _ (image : Tables) (functions : HasFunctions image) (bytes : AllByRecursi
     statics = record { cell = λ x v e. absurd (cc); kind = λ x v e. absurd (cc); known = λ x v e. absurd (cc); place = λ x v e. absurd (cc) };
   }
 
-  ready : IsReady asking (young_from asking) [] frame []
+  ready : IsReady asking (young_from asking) [] frame (λ r. None)
   unfolding add_word
   ready = record {
     functions = functions;
@@ -126,5 +136,5 @@ module _ (image : Tables) (functions : HasFunctions image) (bytes : AllByRecursi
     no_s10 = refl;
   }
 
-  pub allocates_here : (plan : List Placed → List ℕ) → IsAllocated plan asking frame [] [] (activation ∷ []) [] 0x3FFFFFF0 [] (λ x. None)
-  allocates_here plan = allocates asking [] frame [] [] (activation ∷ []) [] 0x3FFFFFF0 [] (λ x. None) knows plan refl ready (omega arith)
+  pub allocates_here : (plan : List Placed → List ℕ) → IsAllocated plan asking frame [] holds
+  allocates_here plan = allocates asking [] frame [] holds knows plan refl ready (omega arith)

@@ -10,7 +10,7 @@ use Rattle.rv_machine.specs.Placement.{end_of}
 use Rattle.moving_laws.specs.Words.{IsFormed, IsReadable}
 use Rattle.moving_laws.specs.Heap.{IsInHeap, IsBeside, SameSizes, AreBlocks}
 use Rattle.moving_laws.specs.Values.{start_of, words_of, value_word, IsVal, IsKnown, FitsCell, HasFunctions}
-use Rattle.moving_laws.specs.Stands.{Cells, header_of, cell_of, BlocksStand, AreSettled, IsOutside, Among}
+use Rattle.moving_laws.specs.Stands.{Blocks, BlocksStand, AreSettled, IsOutside, Among}
 use Rattle.machine_laws.proofs.Memory.{word_below, other_word}
 use Rattle.moving_laws.proofs.Words.{readable_write, formed_write}
 use Rattle.moving_laws.proofs.Moves.{cell_after, vacated_formed, vacated_readable, vacated_off, copied_formed, copied_readable, copied_off, landed, lands_header, lands_cell, AllLand, redirected_formed, redirected_readable, redirected_settled, redirected_in, redirected_off}
@@ -40,7 +40,7 @@ pub record IsMove (image : Tables) (olds news : List Placed) (m : List Region) :
   pub readable : AllByRecursion (λ b. (x : ℕ) → x % 8 ≡ 0 → b.start - 8 ≤ x → x < end_of b → IsReadable m x) news
 
 -- what it restores: m is the memory before, m' the one after
-pub record IsMemoryRestored (image : Tables) (olds news : List Placed) (places : List ℕ) (m m' : List Region) (blocks : List Cells) : Type 0 where
+pub record IsMemoryRestored (image : Tables) (olds news : List Placed) (places : List ℕ) (m m' : List Region) (blocks : Blocks) : Type 0 where
   pub stand : BlocksStand image news m' blocks
   -- a word that stands for a value that fits val, at a place that is named, stands for it again
   pub named : (x : ℕ) (v : Value) → IsReadable m x → IsOutside x → Among x places → IsVal image (length olds) v → word m x ≡ value_word image olds v →
@@ -106,11 +106,11 @@ module _ (image : Tables) (olds news : List Placed) (places : List ℕ) (m : Lis
       ∙ value_moves image olds news v move.low move.sizes move.old.inside move.old.apart move.new.inside fit
   cell_again k j w v false fit e = e ∙ still_word image olds news v fit
 
-  module _ (blocks : List Cells) (st : BlocksStand image olds m blocks) (settled : AreSettled image (length olds) blocks) where
+  module _ (blocks : Blocks) (st : BlocksStand image olds m blocks) (settled : AreSettled image (length olds) blocks) where
     same : length news ≡ length olds
     same = same_length olds news move.sizes
 
-    header_again : (k w : ℕ) → k < length news → header_of blocks k ≡ Some w → word m4 (start_of news k - 8) ≡ w
+    header_again : (k w : ℕ) → k < length news → blocks.header k ≡ Some w → word m4 (start_of news k - 8) ≡ w
     header_again k w l h =
         let at = start_inside news k move.new.inside l in
         let n = same in
@@ -118,7 +118,7 @@ module _ (image : Tables) (olds news : List Placed) (places : List ℕ) (m : Lis
         ∙ lands_header (rewritten olds news) m m3 olds news k lands (omega (arith, l, n))
         ∙ st.header k w (omega (arith, l, n)) h
 
-    value_again : (k j : ℕ) (v : Value) → k < length news → j < words_of news k → cell_of blocks k j ≡ Some v →
+    value_again : (k j : ℕ) (v : Value) → k < length news → j < words_of news k → blocks.cell k j ≡ Some v →
         word m4 (start_of news k + 8 * j) ≡ value_word image news v
     value_again k j v l h e =
         let at = start_inside news k move.new.inside l in
@@ -138,7 +138,7 @@ module _ (image : Tables) (olds news : List Placed) (places : List ℕ) (m : Lis
     restored = record {
       stand = record {
         count = let n = same in let c = st.count in omega (arith, n, c);
-        sizes = λ k. same_words olds news k move.sizes ∙ st.sizes k;
+        sizes = λ k l. let n = same in same_words olds news k move.sizes ∙ st.sizes k (omega (arith, l, n));
         header = header_again;
         cell = value_again;
         known = λ k j v l e. let n = same in subst (λ q. IsKnown image q v) (sym n) (st.known k j v (omega (arith, l, n)) e);

@@ -16,10 +16,10 @@ use Rattle.rv_machine.specs.Places.{data_start, limit_at_rest, stack_end}
 use Rattle.rv_machine.specs.Relocation.{Goes, NoHeap, are_roots, emptied, is_root, relocated, root_cells, with_blocks, with_frames}
 use Rattle.rv_machine.specs.Sound.{IsSound}
 use Rattle.moving_laws.specs.Heap.{IsInHeap}
-use Rattle.moving_laws.specs.Service.{Knows, IsReady, IsRestored}
-use Rattle.moving_laws.specs.Stands.{Cells, AreSettled, Among}
+use Rattle.moving_laws.specs.Service.{Contents, Knows, IsReady, IsRestored}
+use Rattle.moving_laws.specs.Stands.{Blocks, AreSettled, Among}
 use Rattle.moving_laws.specs.Values.{value_word, IsVal, IsStill, IsKnown}
-use Rattle.moving_laws.specs.Waiting.{held, Activation, Chain, TrapsFrom}
+use Rattle.moving_laws.specs.Waiting.{Chain, TrapsFrom}
 use Rattle.moving_laws.proofs.Plans.{AreFresh, fresh, halves_inside, halves_readable, halves_low, readable_at}
 use Rattle.moving_laws.proofs.Restored.{IsMove, IsMemoryRestored, restored}
 use Rattle.moving_laws.proofs.Rewriting.{value_moves, still_word, same_length}
@@ -34,7 +34,7 @@ pub register_is : (h : Hart) (r : ℕ) → 1 ≤ r → register h r ≡ slice_in
 register_is h zero l = absurd (omega (arith, l))
 register_is h (suc r) l = refl
 
-settled_again : (image : Tables) (n n' : ℕ) (blocks : List Cells) → n' ≡ n → AreSettled image n blocks → AreSettled image n' blocks
+settled_again : (image : Tables) (n n' : ℕ) (blocks : Blocks) → n' ≡ n → AreSettled image n blocks → AreSettled image n' blocks
 settled_again image n n' blocks e s = subst (λ k. AreSettled image k blocks) (sym e) s
 
 -- the root cells lie in the data
@@ -45,7 +45,7 @@ roots_low bytes (r ∷ rs) x short all (inl e) = let inside = all.0.in_data in o
 roots_low bytes (r ∷ rs) x short all (inr i) = roots_low bytes rs x short all.1 i
 
 -- the blocks that a service finds
-pub blocks_found : (h : Hart) (from : ℕ) (young : List Placed) (f : Frame) (regs : List (Option Value)) → IsSound h → IsReady h from young f regs →
+pub blocks_found : (h : Hart) (from : ℕ) (young : List Placed) (f : Frame) (regs : ℕ → Option Value) → IsSound h → IsReady h from young f regs →
     blocks_at h from ≡ Some (h.blocks ++ reverse young)
 blocks_found h from young f regs sound ready =
     ap (option_map (λ bs. h.blocks ++ reverse bs))
@@ -55,9 +55,8 @@ blocks_found h from young f regs sound ready =
 pub no_room : (plan : List Placed → List ℕ) (h : Hart) (blocks : List Placed) → h.heap < bytes_used blocks → with_blocks plan h (Some blocks) ≡ NoHeap
 no_room plan h blocks l = cond-false (nat_le (bytes_used blocks) h.heap) _ _ (lt-leb (bytes_used blocks) h.heap l)
 
-module _ (h : Hart) (from : ℕ) (young : List Placed) (f : Frame) (fs : List Frame) (regs : List (Option Value)) (xs : List Activation) (ts : List (ℕ × ℕ))
-    (last : ℕ) (blocks : List Cells) (static : ℕ → Option Value)
-    (knows : Knows (h.blocks ++ reverse young) h (f ∷ fs) regs xs ts last blocks static (h.pc + 4)) (ready : IsReady h from young f regs)
+module _ (h : Hart) (from : ℕ) (young : List Placed) (f : Frame) (fs : List Frame) (holds : Contents)
+    (knows : Knows (h.blocks ++ reverse young) h (f ∷ fs) holds (h.pc + 4)) (ready : IsReady h from young f holds.registers)
     (fits : bytes_used (h.blocks ++ reverse young) ≤ h.heap) (plan : List Placed → List ℕ) where
   abbrev olds : List Placed
   olds = h.blocks ++ reverse young
@@ -106,8 +105,8 @@ module _ (h : Hart) (from : ℕ) (young : List Placed) (f : Frame) (fs : List Fr
         (omega (arith, e)) new_are.halves;
   }
 
-  restored_here : IsMemoryRestored h.image olds news places h.memory (write (moved_memory olds news h.memory places) 0x20000000 limit_at_rest) blocks
-  restored_here = restored h.image olds news places h.memory limit_at_rest is_move blocks knows.stand knows.settled
+  restored_here : IsMemoryRestored h.image olds news places h.memory (write (moved_memory olds news h.memory places) 0x20000000 limit_at_rest) holds.blocks
+  restored_here = restored h.image olds news places h.memory limit_at_rest is_move holds.blocks knows.stand knows.settled
 
   pub is_moved : with_blocks plan h (blocks_at h from) ≡ Goes moved
   unfolding frames
@@ -122,8 +121,8 @@ module _ (h : Hart) (from : ℕ) (young : List Placed) (f : Frame) (fs : List Fr
       let ss : list_all (λ a. is_root h.image olds (word h.memory a)) (slots_of (f ∷ fs)) ≡ true =
       all_from_among (λ a. is_root h.image olds (word h.memory a)) (slots_of (f ∷ fs))
       (slots_root h.image olds h.memory h.image.descs h.stack_base true (h.pc + 4)
-      (register h sp) xs (f ∷ fs) ready.functions knows.old.inside c knows.waits) in
-      ap (with_blocks plan h) (blocks_found h from young f regs knows.sound ready)
+      (register h sp) holds.waiting (f ∷ fs) ready.functions knows.old.inside c knows.waits) in
+      ap (with_blocks plan h) (blocks_found h from young f holds.registers knows.sound ready)
       ∙ cond-true (nat_le (bytes_used olds) h.heap) _ _ (le-leb (bytes_used olds) h.heap fits)
       ∙ ap (with_frames plan entered) walk
       ∙ cond-true (are_roots entered (f ∷ fs)) _ _ (and_from (list_all (λ r. is_root h.image olds (register h r)) named)
@@ -157,20 +156,20 @@ module _ (h : Hart) (from : ℕ) (young : List Placed) (f : Frame) (fs : List Fr
         get_or-set_other (redirected_registers (rewritten olds news) h.registers named h.registers) 26 r (young_top - bytes) 0 n
         ∙ regs_off (rewritten olds news) h.registers named h.registers r none
 
-    not_s10 : (v : Value) (r : ℕ) → held regs r ≡ Some v → r ≡ 26 → ⊥
-    not_s10 v r e s = let a : held regs 26 ≡ Some v = subst (λ x. held regs x ≡ Some v) s e in let b = ready.no_s10 in cc
+    not_s10 : (v : Value) (r : ℕ) → holds.registers r ≡ Some v → r ≡ 26 → ⊥
+    not_s10 v r e s = let a : holds.registers 26 ≡ Some v = subst (λ x. holds.registers x ≡ Some v) s e in let b = ready.no_s10 in cc
 
     one_value : (v v' : Value) (o : Option Value) → o ≡ Some v → o ≡ Some v' → v' ≡ v
     one_value v v' o e e' = cc
 
-    register_again : (r : ℕ) (v : Value) → held regs r ≡ Some v → slice_index after.registers r ≡ value_word h.image news v
+    register_again : (r : ℕ) (v : Value) → holds.registers r ≡ Some v → slice_index after.registers r ≡ value_word h.image news v
     register_again r v e =
         let n26 : r ≢ 26 = λ s. not_s10 v r e s in
         ⊎_elim
         (λ i.
         let p = ready.plain r i in
         let n = ready.named.named r i in
-        let is : n.0 ≡ v = one_value v n.0 (held regs r) e n.1 in
+        let is : n.0 ≡ v = one_value v n.0 (holds.registers r) e n.1 in
         let fit : IsVal h.image (length olds) v = subst (λ z. IsVal h.image (length olds) z) is n.2 in
         let c = knows.sound.registers.count in
         let p0 = p.0 in
@@ -194,7 +193,7 @@ module _ (h : Hart) (from : ℕ) (young : List Placed) (f : Frame) (fs : List Fr
     s1_same : register after s1 ≡ register h s1
     s1_same = same_reg 9 (λ e. omega (arith, e)) (unnamed_special 9 (inr refl))
 
-    pub knows_again : IsSound after → Knows news after (f ∷ fs) regs xs ts last blocks static (h.pc + 4)
+    pub knows_again : IsSound after → Knows news after (f ∷ fs) holds (h.pc + 4)
     knows_again sound =
         let r = restored_here in
         let can = stack_readable h.image h.heap h.stack_base h.memory knows.sound.memory in
@@ -206,21 +205,21 @@ module _ (h : Hart) (from : ℕ) (young : List Placed) (f : Frame) (fs : List Fr
           sp_high = subst (λ x. x ≤ stack_end) (sym sp_same) knows.sp_high;
           chain = subst (λ x. Chain h.image.descs h.stack_base after.memory true (h.pc + 4) x (f ∷ fs)) (sym sp_same)
               (chain_kept h.image.descs h.stack_base h.memory after.memory true (h.pc + 4) (register h sp) (f ∷ fs)
-              (return_keeps h.image olds news places h.memory after.memory blocks r new_are.sizes knows.old.inside h.stack_base base_high can)
+              (return_keeps h.image olds news places h.memory after.memory holds.blocks r new_are.sizes knows.old.inside h.stack_base base_high can)
               knows.chain);
           in_registers = record { register = register_again; known = λ q x e. subst (λ z. IsKnown h.image z x) (sym n) (knows.in_registers.known q x e) };
-          waits = waits h.image olds news places h.memory after.memory blocks r new_are.sizes knows.old.inside h.stack_base base_high can h.image.descs true (h.pc + 4) (register h sp) xs (f ∷ fs) knows.chain
+          waits = waits h.image olds news places h.memory after.memory holds.blocks r new_are.sizes knows.old.inside h.stack_base base_high can h.image.descs true (h.pc + 4) (register h sp) holds.waiting (f ∷ fs) knows.chain
               (λ y i. among_first y (slots_of (f ∷ fs)) (root_cells h.image) i) only_slots knows.waits;
-          traps = subst (λ x. TrapsFrom h.stack_base after.memory x ts last) (sym s1_same)
-              (traps_kept h.image olds news places h.memory after.memory blocks r new_are.sizes knows.old.inside h.stack_base base_high can (register h s1) ts last knows.traps);
+          traps = subst (λ x. TrapsFrom h.stack_base after.memory x holds.traps holds.last) (sym s1_same)
+              (traps_kept h.image olds news places h.memory after.memory holds.blocks r new_are.sizes knows.old.inside h.stack_base base_high can (register h s1) holds.traps holds.last knows.traps);
           stand = r.stand;
-          settled = settled_again h.image (length olds) (length news) blocks n knows.settled;
-          statics = statics_kept h.image olds news places h.memory after.memory blocks r new_are.sizes knows.old.inside h.stack_base base_high can (root_cells h.image) static
+          settled = settled_again h.image (length olds) (length news) holds.blocks n knows.settled;
+          statics = statics_kept h.image olds news places h.memory after.memory holds.blocks r new_are.sizes knows.old.inside h.stack_base base_high can (root_cells h.image) holds.static
               ready.functions.tables.bytes.short (λ x i. among_second x (slots_of (f ∷ fs)) (root_cells h.image) i) only_roots
               (λ x v e. let p = knows.statics.place x v e in data_readable h.image h.heap h.stack_base h.memory knows.sound.memory x p.0 p.1 p.2) knows.statics;
         }
 
-    pub restores : IsSound after → IsRestored bytes h f fs regs xs ts last blocks static after
+    pub restores : IsSound after → IsRestored bytes h f fs holds after
     restores sound =
         let r = restored_here in
         let can = stack_readable h.image h.heap h.stack_base h.memory knows.sound.memory in
@@ -235,5 +234,5 @@ module _ (h : Hart) (from : ℕ) (young : List Placed) (f : Frame) (fs : List Fr
           readable = r.readable;
           table_low = halves_low h.heap news knows.sound.heap.most new_are.halves;
           blocks_readable = record { each = λ k x l e lo hi. r.readable x (readable_at h.memory news is_move.readable k x l e lo hi) };
-          stays = stack_keeps h.image olds news places h.memory after.memory blocks r new_are.sizes knows.old.inside h.stack_base base_high can;
+          stays = stack_keeps h.image olds news places h.memory after.memory holds.blocks r new_are.sizes knows.old.inside h.stack_base base_high can;
         }

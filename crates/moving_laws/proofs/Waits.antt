@@ -11,8 +11,8 @@ use Rattle.rv_machine.specs.Places.{stack_end}
 use Rattle.moving_laws.specs.Words.{IsReadable}
 use Rattle.moving_laws.specs.Heap.{IsInHeap, SameSizes}
 use Rattle.moving_laws.specs.Values.{IsVal, IsStill, IsKnown}
-use Rattle.moving_laws.specs.Stands.{Cells, IsOutside, Among, StaticsStand}
-use Rattle.moving_laws.specs.Waiting.{held, Activation, slot_offset, Chain, IsWaiting, AllWait, TrapsFrom}
+use Rattle.moving_laws.specs.Stands.{Blocks, IsOutside, Among, StaticsStand}
+use Rattle.moving_laws.specs.Waiting.{Activation, slot_offset, Chain, IsWaiting, AllWait, TrapsFrom}
 use Rattle.moving_laws.proofs.Words.{same_or_not}
 use Rattle.moving_laws.proofs.Rewriting.{far_no_start, still_word, same_length}
 use Rattle.moving_laws.proofs.Restored.{IsMemoryRestored}
@@ -25,7 +25,7 @@ among_or_not x (y ∷ ys) =
     (λ n. ⊎_elim (λ a. inl (inr a)) (λ none. inr (λ s. ⊎_elim (λ e. n e) (λ a. none a) s)) (among_or_not x ys))
     (same_or_not x y)
 
-module _ (image : Tables) (olds news : List Placed) (places : List ℕ) (m m' : List Region) (blocks : List Cells)
+module _ (image : Tables) (olds news : List Placed) (places : List ℕ) (m m' : List Region) (blocks : Blocks)
     (r : IsMemoryRestored image olds news places m m' blocks) (sizes : SameSizes olds news) (inside : AllByRecursion IsInHeap olds)
     (base : ℕ) (high : 0x38010008 ≤ base) (can : (x : ℕ) → x % 8 ≡ 0 → base ≤ x → x + 8 ≤ stack_end → IsReadable m x) where
   on_stack : (x : ℕ) → base ≤ x → IsOutside x
@@ -67,7 +67,7 @@ module _ (image : Tables) (olds news : List Placed) (places : List ℕ) (m m' : 
         let n = w.named (slot_offset x k) a (omega arith) in
         let e = n.2 in
         let same : n.0 ≡ k = omega (arith, e) in
-        let is : n.1 ≡ v = one_value v n.1 (held x.slots k) h (subst (λ z. held x.slots z ≡ Some n.1) same n.4) in
+        let is : n.1 ≡ v = one_value v n.1 (x.slot k) h (subst (λ z. x.slot z ≡ Some n.1) same n.4) in
         r.named at v (can at at_even at_low at_high) (on_stack at at_low) (sub (slot_offset x k) a (omega arith))
         (subst (λ z. IsVal image (length olds) z) is n.5) (w.slot k v l h))
         (λ none.

@@ -14,35 +14,45 @@ use Rattle.rv_machine.specs.Places.{stack_end}
 use Rattle.rv_machine.specs.Relocation.{Goes, root_cells}
 use Rattle.rv_machine.specs.Sound.{IsSound}
 use Rattle.moving_laws.specs.Heap.{AreBlocks}
-use Rattle.moving_laws.specs.Stands.{Cells, BlocksStand, AreSettled, StaticsStand, AreReadable, Among}
+use Rattle.moving_laws.specs.Stands.{Blocks, BlocksStand, AreSettled, StaticsStand, AreReadable, Among}
 use Rattle.moving_laws.specs.Values.{HasFunctions}
-use Rattle.moving_laws.specs.Waiting.{held, Activation, Chain, AllWait, TrapsFrom, AreRegisters, AreNamed}
+use Rattle.moving_laws.specs.Waiting.{Activation, Chain, AllWait, TrapsFrom, AreRegisters, AreNamed}
 use Rattle.moving_laws.specs.Words.{IsReadable}
 use Rattle.moving_laws.specs.Young.{Rises, HaveHeads}
+
+-- What the machine stands for where a function waits at a frame point: what registers hold, the
+-- activations from its own on, the trap frames from s1 to the last trap pointer, the blocks, and the
+-- static cells by address.
+pub record Contents : Type 0 where
+  pub registers : ℕ → Option Value
+  pub waiting : List Activation
+  pub traps : List (ℕ × ℕ)
+  pub last : ℕ
+  pub blocks : Blocks
+  pub static : ℕ → Option Value
 
 -- The machine stands before a service, or behind it, which returns to an address. The blocks lie
 -- so, those of the young area among them. The running function's own frame is the first of the
 -- frames, and it is the first activation: what may not be read behind the service is none in it
 -- already.
-pub record Knows (placed : List Placed) (h : Hart) (frames : List Frame)
-    (registers : List (Option Value)) (waiting : List Activation) (pushed : List (ℕ × ℕ))
-    (last : ℕ) (blocks : List Cells) (static : ℕ → Option Value) (back : ℕ) : Type 0 where
+pub record Knows (placed : List Placed) (h : Hart) (frames : List Frame) (c : Contents)
+    (back : ℕ) : Type 0 where
   pub sound : IsSound h
   pub old : AreBlocks placed
   pub sp_low : h.stack_base ≤ register h sp
   pub sp_high : register h sp ≤ stack_end
   pub chain : Chain h.image.descs h.stack_base h.memory true back (register h sp) frames
-  pub in_registers : AreRegisters h.image placed h.registers registers
-  pub waits : AllWait h.image placed h.memory waiting frames
-  pub traps : TrapsFrom h.stack_base h.memory (register h s1) pushed last
-  pub stand : BlocksStand h.image placed h.memory blocks
-  pub settled : AreSettled h.image (length placed) blocks
-  pub statics : StaticsStand h.image placed h.memory (root_cells h.image) static
+  pub in_registers : AreRegisters h.image placed h.registers c.registers
+  pub waits : AllWait h.image placed h.memory c.waiting frames
+  pub traps : TrapsFrom h.stack_base h.memory (register h s1) c.traps c.last
+  pub stand : BlocksStand h.image placed h.memory c.blocks
+  pub settled : AreSettled h.image (length placed) c.blocks
+  pub statics : StaticsStand h.image placed h.memory (root_cells h.image) c.static
 
 -- What a service asks for that moves the blocks: the young ones lie from an address on, and the
 -- first descriptor names just the registers that hold vals.
 pub record IsReady (h : Hart) (from : ℕ) (young : List Placed) (f : Frame)
-    (registers : List (Option Value)) : Type 0 where
+    (registers : ℕ → Option Value) : Type 0 where
   pub functions : HasFunctions h.image
   pub from_even : from % 8 ≡ 0
   pub from_low : young_start ≤ from
@@ -51,13 +61,12 @@ pub record IsReady (h : Hart) (from : ℕ) (young : List Placed) (f : Frame)
   pub named : AreNamed h.image (length (h.blocks ++ reverse young)) registers f.desc
   pub plain : (r : ℕ) → Among r (registers_named f.desc.entries) → (3 ≤ r) × (r < 32) × (r ≢ s1)
       × (r ≢ s10) × (r ≢ s11)
-  pub no_s10 : held registers s10 ≡ None
+  pub no_s10 : registers s10 ≡ None
 
 -- What is restored behind it, where so many bytes of the young area are taken.
-pub record IsRestored (bytes : ℕ) (h : Hart) (f : Frame) (frames : List Frame)
-    (registers : List (Option Value)) (waiting : List Activation) (pushed : List (ℕ × ℕ))
-    (last : ℕ) (blocks : List Cells) (static : ℕ → Option Value) (new : Hart) : Type 0 where
-  pub knows : Knows new.blocks new (f ∷ frames) registers waiting pushed last blocks static (h.pc + 4)
+pub record IsRestored (bytes : ℕ) (h : Hart) (f : Frame) (frames : List Frame) (c : Contents)
+    (new : Hart) : Type 0 where
+  pub knows : Knows new.blocks new (f ∷ frames) c (h.pc + 4)
   pub image : new.image ≡ h.image
   pub stack_base : new.stack_base ≡ h.stack_base
   pub heap : new.heap ≡ h.heap
@@ -74,20 +83,18 @@ pub record IsRestored (bytes : ℕ) (h : Hart) (f : Frame) (frames : List Frame)
 
 -- The allocation service, where the bytes have been taken off s10 before.
 pub record IsAllocated (plan : List Placed → List ℕ) (h : Hart) (f : Frame) (frames : List Frame)
-    (registers : List (Option Value)) (waiting : List Activation) (pushed : List (ℕ × ℕ))
-    (last : ℕ) (blocks : List Cells) (static : ℕ → Option Value) : Type 0 where
+    (c : Contents) : Type 0 where
   pub new : Hart
   pub is : allocated plan h ≡ Goes new
-  pub restored : IsRestored (bytes_asked h) h f frames registers waiting pushed last blocks static new
+  pub restored : IsRestored (bytes_asked h) h f frames c new
   pub pc : new.pc ≡ h.pc + 4
   pub retired : new.retired ≡ suc h.retired
 
 -- The move of a frame call, before its answers are taken and the ECALL retires.
 pub record IsCollected (plan : List Placed → List ℕ) (h : Hart) (f : Frame) (frames : List Frame)
-    (registers : List (Option Value)) (waiting : List Activation) (pushed : List (ℕ × ℕ))
-    (last : ℕ) (blocks : List Cells) (static : ℕ → Option Value) : Type 0 where
+    (c : Contents) : Type 0 where
   pub new : Hart
   pub is : collected plan h ≡ Goes new
-  pub restored : IsRestored 0 h f frames registers waiting pushed last blocks static new
+  pub restored : IsRestored 0 h f frames c new
   pub pc : new.pc ≡ h.pc
   pub retired : new.retired ≡ h.retired

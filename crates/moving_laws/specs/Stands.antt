@@ -1,5 +1,5 @@
 -- What of the machine stands for a memory of values.
-use Rattle.std.specs.Prelude.{◌≡◌, ℕ, zero, suc, ◌+◌, ◌-◌, ◌*◌, ◌%◌, ◌<◌, ◌≤◌, ◌≢◌, ◌⊎◌, List, [], ◌∷◌, length, Option, Some, None, slice_index_or}
+use Rattle.std.specs.Prelude.{◌≡◌, ℕ, ◌+◌, ◌-◌, ◌*◌, ◌%◌, ◌<◌, ◌≤◌, ◌≢◌, ◌⊎◌, List, [], ◌∷◌, length, Option, Some}
 use Rattle.bs_words.specs.declared.values.Value.{Value}
 use Rattle.image_form.specs.Tables.{Tables}
 use Rattle.rv_machine.specs.Hart.{Placed}
@@ -9,41 +9,31 @@ use Rattle.rv_machine.specs.Places.{data_start}
 use Rattle.moving_laws.specs.Words.{IsReadable}
 use Rattle.moving_laws.specs.Values.{start_of, words_of, value_word, IsVal, IsStill, IsKnown, FitsCell}
 
--- A block of a run, whose header and cells may not have been written yet.
-pub record Cells : Type 0 where
-  pub header : Option ℕ
-  pub cells : List (Option Value)
-
-abbrev pub header_of : List Cells → ℕ → Option ℕ
-header_of [] k = None
-header_of (b ∷ bs) zero = b.header
-header_of (b ∷ bs) (suc k) = header_of bs k
-
-abbrev pub cells_of : List Cells → ℕ → List (Option Value)
-cells_of [] k = []
-cells_of (b ∷ bs) zero = b.cells
-cells_of (b ∷ bs) (suc k) = cells_of bs k
-
-abbrev pub cell_of : List Cells → ℕ → ℕ → Option Value
-cell_of bs k j = slice_index_or (cells_of bs k) j None
+-- The blocks of a run, by serial. A header or a cell that has not been written yet has nothing.
+pub record Blocks : Type 0 where
+  pub count : ℕ
+  -- the number of cells of each
+  pub size : ℕ → ℕ
+  pub header : ℕ → Option ℕ
+  pub cell : ℕ → ℕ → Option Value
 
 -- the memory has these blocks' words at their places
 pub record BlocksStand (image : Tables) (placed : List Placed) (m : List Region)
-    (blocks : List Cells) : Type 0 where
-  pub count : length blocks ≡ length placed
-  pub sizes : (k : ℕ) → words_of placed k ≡ length (cells_of blocks k)
-  pub header : (k w : ℕ) → k < length placed → header_of blocks k ≡ Some w →
+    (blocks : Blocks) : Type 0 where
+  pub count : blocks.count ≡ length placed
+  pub sizes : (k : ℕ) → k < length placed → words_of placed k ≡ blocks.size k
+  pub header : (k w : ℕ) → k < length placed → blocks.header k ≡ Some w →
       word m (start_of placed k - 8) ≡ w
   pub cell : (k j : ℕ) (v : Value) → k < length placed → j < words_of placed k →
-      cell_of blocks k j ≡ Some v → word m (start_of placed k + 8 * j) ≡ value_word image placed v
-  pub known : (k j : ℕ) (v : Value) → k < length placed → cell_of blocks k j ≡ Some v →
+      blocks.cell k j ≡ Some v → word m (start_of placed k + 8 * j) ≡ value_word image placed v
+  pub known : (k j : ℕ) (v : Value) → k < length placed → blocks.cell k j ≡ Some v →
       IsKnown image (length placed) v
 
 -- what a frame point asks of the blocks: each header is known, and the cells that are known fit it
-pub record AreSettled (image : Tables) (count : ℕ) (blocks : List Cells) : Type 0 where
-  pub header : (k : ℕ) → k < count → (w : ℕ) × (header_of blocks k ≡ Some w)
-  pub cell : (k j w : ℕ) (v : Value) → k < count → header_of blocks k ≡ Some w →
-      cell_of blocks k j ≡ Some v → FitsCell image count (is_scanned w) v
+pub record AreSettled (image : Tables) (count : ℕ) (blocks : Blocks) : Type 0 where
+  pub header : (k : ℕ) → k < count → (w : ℕ) × (blocks.header k ≡ Some w)
+  pub cell : (k j w : ℕ) (v : Value) → k < count → blocks.header k ≡ Some w →
+      blocks.cell k j ≡ Some v → FitsCell image count (is_scanned w) v
 
 -- every word of the blocks can be read and written
 pub record AreReadable (m : List Region) (placed : List Placed) : Type 0 where

@@ -1,5 +1,5 @@
 -- The frames of the functions that have not returned, and what a service finds in them.
-use Rattle.std.specs.Prelude.{◌≡◌, ℕ, ◌+◌, ◌-◌, ◌*◌, ◌%◌, ◌<◌, ◌≤◌, ◌≢◌, ◌⊎◌, Bool, true, false, List, [], ◌∷◌, length, Option, Some, None, slice_index_or, slice_index}
+use Rattle.std.specs.Prelude.{◌≡◌, ℕ, ◌+◌, ◌-◌, ◌*◌, ◌%◌, ◌<◌, ◌≤◌, ◌≢◌, ◌⊎◌, Bool, true, false, List, [], ◌∷◌, length, Option, Some, slice_index}
 use Rattle.bs_words.specs.declared.values.Value.{Value}
 use Rattle.image_form.specs.Tables.{Tables, Desc}
 use Rattle.rv_machine.specs.Frames.{Frame, descriptor_at, names_register, registers_named}
@@ -9,16 +9,14 @@ use Rattle.rv_machine.specs.Places.{stack_end}
 use Rattle.moving_laws.specs.Values.{value_word, IsVal, IsStill, IsKnown}
 use Rattle.moving_laws.specs.Stands.{Among}
 
--- Locations: what each holds, none where it may not be read.
-abbrev pub held : List (Option Value) → ℕ → Option Value
-held xs k = slice_index_or xs k None
-
 -- An activation that waits at a frame point: what its slots hold, and the handlers of its tries
 -- that are pushed, the innermost first.
 pub record Activation : Type 0 where
   -- where it goes back to
   pub back : ℕ
-  pub slots : List (Option Value)
+  -- the number of its slots, and what each holds: nothing where it may not be read
+  pub count : ℕ
+  pub slot : ℕ → Option Value
   pub tries : List ℕ
 
 -- where slot k lies in its frame
@@ -48,16 +46,16 @@ Chain ds base m first a p (f ∷ fs) =
 -- descriptor names it, and what is named fits val.
 pub record IsWaiting (image : Tables) (placed : List Placed) (m : List Region) (x : Activation)
     (f : Frame) : Type 0 where
-  pub room : slot_offset x (length x.slots) + 8 ≤ f.desc.size
+  pub room : slot_offset x (x.count) + 8 ≤ f.desc.size
   pub back : word m (f.at + (f.desc.size - 8)) ≡ x.back
-  pub slot : (k : ℕ) (v : Value) → k < length x.slots → held x.slots k ≡ Some v →
+  pub slot : (k : ℕ) (v : Value) → k < x.count → x.slot k ≡ Some v →
       word m (f.at + slot_offset x k) ≡ value_word image placed v
-  pub known : (k : ℕ) (v : Value) → k < length x.slots → held x.slots k ≡ Some v →
+  pub known : (k : ℕ) (v : Value) → k < x.count → x.slot k ≡ Some v →
       IsKnown image (length placed) v
-  pub value : (k : ℕ) (v : Value) → k < length x.slots → held x.slots k ≡ Some v → IsStill v
+  pub value : (k : ℕ) (v : Value) → k < x.count → x.slot k ≡ Some v → IsStill v
       ⊎ Among (slot_offset x k) f.desc.entries
   pub named : (e : ℕ) → Among e f.desc.entries → e % 2 ≡ 0 → (k : ℕ) × (v : Value)
-      × (e ≡ slot_offset x k) × (k < length x.slots) × (held x.slots k ≡ Some v)
+      × (e ≡ slot_offset x k) × (k < x.count) × (x.slot k ≡ Some v)
       × IsVal image (length placed) v
 
 abbrev pub AllWait : Tables → List Placed → List Region → List Activation → List Frame → Type 0
@@ -89,15 +87,15 @@ traps_at p (t ∷ ts) = (p, t) ∷ traps_at (p + 16) ts
 
 -- Registers: each location holds its value.
 pub record AreRegisters (image : Tables) (placed : List Placed) (registers : List ℕ)
-    (regs : List (Option Value)) : Type 0 where
-  pub register : (r : ℕ) (v : Value) → held regs r ≡ Some v →
+    (regs : ℕ → Option Value) : Type 0 where
+  pub register : (r : ℕ) (v : Value) → regs r ≡ Some v →
       slice_index registers r ≡ value_word image placed v
-  pub known : (r : ℕ) (v : Value) → held regs r ≡ Some v → IsKnown image (length placed) v
+  pub known : (r : ℕ) (v : Value) → regs r ≡ Some v → IsKnown image (length placed) v
 
 -- and what the first descriptor says of them
-pub record AreNamed (image : Tables) (count : ℕ) (regs : List (Option Value)) (d : Desc)
+pub record AreNamed (image : Tables) (count : ℕ) (regs : ℕ → Option Value) (d : Desc)
     : Type 0 where
-  pub value : (r : ℕ) (v : Value) → held regs r ≡ Some v → IsStill v
+  pub value : (r : ℕ) (v : Value) → regs r ≡ Some v → IsStill v
       ⊎ Among r (registers_named d.entries)
-  pub named : (r : ℕ) → Among r (registers_named d.entries) → (v : Value) × (held regs r ≡ Some v)
+  pub named : (r : ℕ) → Among r (registers_named d.entries) → (v : Value) × (regs r ≡ Some v)
       × IsVal image count v
