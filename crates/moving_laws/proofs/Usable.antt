@@ -71,3 +71,15 @@ module _ (image : Tables) (heap base : ℕ) (m : List Region) (has : HasRegions 
 
   pub stack_readable : (a : ℕ) → a % 8 ≡ 0 → base ≤ a → a + 8 ≤ stack_end → IsReadable m a
   stack_readable a e lo hi = by_region a 5 base (stack_end - base) e refl lo (omega (arith, lo, hi))
+
+-- ---- memories whose regions lie alike
+
+pub same_readable : (m m' : List Region) (a : ℕ) → map extent m' ≡ map extent m → IsReadable m a → IsReadable m' a
+same_readable m m' a lie r = record { is = by_test (a % 8 == 0) r.is }
+  where
+    same : is_some (read m' a 8) ≡ is_some (read m a 8)
+    same = read_some m' a ∙ ap (list_any (covers a)) lie ∙ sym (read_some m a)
+
+    by_test : (t : Bool) → is_some (cond t (read m a 8) None) ≡ true → is_some (cond t (read m' a 8) None) ≡ true
+    by_test true h = same ∙ h
+    by_test false h = h

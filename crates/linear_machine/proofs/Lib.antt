@@ -1,0 +1,11 @@
+pub mod Likes
+pub mod Steps
+pub mod Formats
+pub mod Arriving
+pub mod Immediates
+pub mod Keeping
+pub mod Sequences
+pub mod Slots
+pub mod Standing
+pub mod Spilling
+pub mod Locations
