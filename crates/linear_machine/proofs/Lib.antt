@@ -9,3 +9,4 @@ pub mod Slots
 pub mod Standing
 pub mod Spilling
 pub mod Locations
+pub mod Following

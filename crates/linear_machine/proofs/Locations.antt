@@ -21,7 +21,7 @@ use Rattle.linear_machine.specs.View.{Fixed, View, HasCode}
 use Rattle.linear_machine.proofs.Sequences.{then_here, widened}
 use Rattle.linear_machine.proofs.Slots.{IsStackWord, above_12, load_far, load_near, store_far, store_near}
 use Rattle.linear_machine.proofs.Spilling.{InFrame, slot_in, within_spilled}
-use Rattle.linear_machine.proofs.Standing.{AreScratch, AreScratchOr, within_past, within_register}
+use Rattle.linear_machine.proofs.Standing.{AreScratch}
 
 module _ (s : Fixed) (laid : Laid) (v : View) (young : List Placed) (taken : ℕ) (file : Loc → Option Value) (a : Around) (c : Below)
     (within : Within s laid v young taken file a c) where
@@ -69,14 +69,6 @@ module _ (s : Fixed) (laid : Laid) (v : View) (young : List Placed) (taken : ℕ
   -- ---- writes
 
   module _ (n : ℕ) (rs : List ℕ) (x : Value) (file' : Loc → Option Value) where
-    -- a register is its own place
-    pub put_register : (r : ℕ) → IsLocation r → AreScratchOr r rs → a.raised ≡ None → IsPut (loc.Machine r) x file file' →
-        Changes s v n rs v.memory (λ w. StandsFor s (all_of v young) (slice_index w.registers r) x) →
-        Changes s v n rs v.memory (λ w. Within s laid w young taken file' a c)
-    put_register r is only none put first =
-        widened s v n rs rs v.memory _ _ (λ q i. i)
-        (λ w past stands. within_register s laid v w young taken file file' a c n rs within r x is past only none stands put) first
-
     module _ (r k : ℕ) (r_kept : suc r ≢ 7) (i : k < laid.slots) (scratch : AreScratch rs) (put : IsPut (loc.Slot k) x file file')
         (first : Changes s v n rs v.memory (λ w. StandsFor s (all_of v young) (slice_index w.registers (suc r)) x)) where
       at : ℕ
