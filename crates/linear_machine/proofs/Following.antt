@@ -16,7 +16,7 @@ use Rattle.linear_machine.specs.Arrival.{ArrivesIn}
 use Rattle.linear_machine.specs.Files.{HoldsLess, IsPut}
 use Rattle.linear_machine.specs.Follows.{Agrees, FollowsStep, IsAt}
 use Rattle.linear_machine.specs.Relation.{Below, Laid, During, Within}
-use Rattle.linear_machine.specs.Straight.{Changes}
+use Rattle.linear_machine.specs.Straight.{Comes}
 use Rattle.linear_machine.specs.View.{Fixed, View}
 use Rattle.linear_machine.proofs.Arriving.{leads_in}
 
@@ -69,23 +69,22 @@ agrees_put before behind r x held file passes agrees = record {
 
 module _ (s : Fixed) (laid : Laid) (live : List Line → Type 0) (entry : ℕ → ℕ) (c : Below) (v : View) (rest : List Line) where
   pub goes_follows :
-      (n : ℕ) (rs : List ℕ) (m : List Region) (young : List Placed) (held file : Locations) (a : Around) → laid.part (length rest) ≡ v.place + n → Agrees (live rest) held file →
-      Changes s v n rs m (λ w. Within s laid w young 0 held a c) →
+      (n : ℕ) (young : List Placed) (held file : Locations) (a : Around) → laid.part (length rest) ≡ v.place + n → Agrees (live rest) held file →
+      Comes s v n (λ w. Within s laid w young 0 held a c) →
       FollowsStep n s laid live entry c v (wrote rest a (Some file))
-  goes_follows n rs m young held file a place agrees first =
+  goes_follows n young held file a place agrees first =
       leads_in 0 n s n (omega arith) (omega arith) v first.view (IsAt s laid live c (record { rest = rest; file = file; around = a })) first.leads
-      (young, held, agrees, record { place = first.past.place ∙ sym place; within = first.holds })
+      (young, held, agrees, record { place = first.place ∙ sym place; within = first.holds })
 
   -- with one result
   pub result_follows :
       (before : Type 0) (n : ℕ) (end : ℕ) (spot : Spot) (x : Value) (young : List Placed) (held file : Locations) (a : Around) → laid.part (length rest) ≡ v.place + n →
       Agrees before held file → PassesSpare before (live rest) spot.loc →
-      (fits end (type_of_comp spot.comp) x ≡ true → (rs : List ℕ) × (m : List Region) × Changes s v n rs m (λ w. Within s laid w young 0 (put spot x held) a c)) →
+      (fits end (type_of_comp spot.comp) x ≡ true → Comes s v n (λ w. Within s laid w young 0 (put spot x held) a c)) →
       FollowsStep n s laid live entry c v (wrote rest a (put_all end (spot ∷ []) (x ∷ []) file))
   result_follows before n end spot x young held file a place agrees passes first = by_test (fits end (type_of_comp spot.comp) x) refl
     where
       by_test : (t : Bool) → fits end (type_of_comp spot.comp) x ≡ t → FollowsStep n s laid live entry c v (wrote rest a (put_if t spot x (Some file)))
       by_test true e =
-          let f = first e in
-          goes_follows n f.0 f.1 young (put spot x held) (put spot x file) a place (agrees_put before (live rest) spot x held file passes agrees) f.2
+          goes_follows n young (put spot x held) (put spot x file) a place (agrees_put before (live rest) spot x held file passes agrees) (first e)
       by_test false e = tt

@@ -10,3 +10,7 @@ pub mod Standing
 pub mod Spilling
 pub mod Locations
 pub mod Following
+pub mod Parts
+pub mod Operating
+pub mod Reading
+pub mod Pure

@@ -21,3 +21,10 @@ pub record Changes (s : Fixed) (v : View) (n : ℕ) (rs : List ℕ) (m : List Re
   pub leads : Leads s n v view
   pub past : IsPast n rs m v view
   pub holds : P view
+
+-- They lead so many words further, to where something holds.
+pub record Comes (s : Fixed) (v : View) (n : ℕ) (P : View → Type 0) : Type 0 where
+  pub view : View
+  pub leads : Leads s n v view
+  pub place : view.place ≡ v.place + n
+  pub holds : P view

@@ -1,5 +1,5 @@
 -- Values as words under a placement of the blocks.
-use Rattle.std.specs.Prelude.{◌≡◌, ℕ, zero, suc, ◌+◌, ◌*◌, ◌%◌, ◌<◌, ◌≤◌, ◌⊎◌, Bool, true, false, List, [], ◌∷◌, length}
+use Rattle.std.specs.Prelude.{◌≡◌, ℕ, zero, suc, ◌+◌, ◌*◌, ◌%◌, ◌^◌, ◌<◌, ◌≤◌, ◌⊎◌, Bool, true, false, List, [], ◌∷◌, length}
 use Rattle.bs_words.specs.Word.{add_word}
 use Rattle.bs_words.specs.declared.values.Value.{Value}
 use Rattle.bs_words.specs.declared.values.Value.TheVariants.{Word, Block, Function}
@@ -35,10 +35,10 @@ value_word image placed (Word w) = w
 value_word image placed (Block k offset) = add_word (start_of placed k) offset
 value_word image placed (Function f) = function_at image.funcs f
 
--- the blocks and functions of the value are there, among so many blocks
+-- the blocks and functions of the value are there, among so many blocks, and an offset is a word
 abbrev pub IsKnown : Tables → ℕ → Value → Type 0
 IsKnown image count (Word w) = Unit {0}
-IsKnown image count (Block k offset) = k < count
+IsKnown image count (Block k offset) = (k < count) × (offset < 2 ^ 64)
 IsKnown image count (Function f) = f < length image.funcs
 
 -- a value that fits val, among so many blocks
