@@ -17,7 +17,7 @@ use Rattle.linear_machine.specs.Files.{HoldsLess, IsPut}
 use Rattle.linear_machine.specs.Follows.{Agrees, FollowsStep, IsAt}
 use Rattle.linear_machine.specs.Relation.{Below, Laid, During, Within}
 use Rattle.linear_machine.specs.Straight.{Comes}
-use Rattle.linear_machine.specs.View.{Fixed, View}
+use Rattle.linear_machine.specs.View.{Fixed, View, Leads}
 use Rattle.linear_machine.proofs.Arriving.{leads_in}
 
 -- ---- files
@@ -65,6 +65,10 @@ agrees_put before behind r x held file passes agrees = record {
     written : r.loc ≡ spare → cond (same_loc r.loc spare) (Some x) (held spare) ≡ cond (same_loc r.loc spare) (Some x) (file spare)
     written e = subst (λ z. cond (same_loc z spare) (Some x) (held spare) ≡ cond (same_loc z spare) (Some x) (file spare)) (sym e) refl
 
+-- nor where the line writes nothing
+pub agrees_on : (before behind : Type 0) (held file : Locations) → (behind → before) → Agrees before held file → Agrees behind held file
+agrees_on before behind held file passes agrees = record { others = agrees.others; spare_too = λ live. agrees.spare_too (passes live) }
+
 -- ---- on with the next line
 
 module _ (s : Fixed) (laid : Laid) (live : List Line → Type 0) (entry : ℕ → ℕ) (c : Below) (v : View) (rest : List Line) where
@@ -88,3 +92,11 @@ module _ (s : Fixed) (laid : Laid) (live : List Line → Type 0) (entry : ℕ �
       by_test true e =
           goes_follows n young (put spot x held) (put spot x file) a place (agrees_put before (live rest) spot x held file passes agrees) (first e)
       by_test false e = tt
+
+  -- where it lands, a label's place or the next line's
+  pub lands_follows :
+      (n : ℕ) (w : View) (young : List Placed) (held file : Locations) (a : Around) → Leads s n v w → w.place ≡ laid.part (length rest) → Agrees (live rest) held file →
+      Within s laid w young 0 held a c → FollowsStep n s laid live entry c v (wrote rest a (Some file))
+  lands_follows n w young held file a leads place agrees within =
+      leads_in 0 n s n (omega arith) (omega arith) v w (IsAt s laid live c (record { rest = rest; file = file; around = a })) leads
+      (young, held, agrees, record { place = place; within = within })

@@ -14,3 +14,4 @@ pub mod Parts
 pub mod Operating
 pub mod Reading
 pub mod Pure
+pub mod Flows

@@ -1,5 +1,5 @@
 -- Lines that read registers alone: constants, copies and operators.
-use Rattle.std.proofs.Common.{◌≡◌, ◌≢◌, ℕ, suc, ◌+◌, ◌*◌, ◌^◌, ◌<◌, ◌⊎◌, inl, inr, Bool, true, false, List, [], ◌∷◌, length, Option, Some, None, Result, Ok, Err, slice_index, refl, ap, arith, ◌∙◌, sym, subst, ⊎_elim}
+use Rattle.std.proofs.Common.{◌≡◌, ◌≢◌, ℕ, suc, ◌+◌, ◌*◌, ◌^◌, ◌<◌, ◌⊎◌, inl, inr, Bool, true, false, cond, List, [], ◌∷◌, length, Option, Some, None, Result, Ok, Err, slice_index, refl, ap, arith, ◌∙◌, sym, subst, ⊎_elim}
 use Rattle.bs_words.specs.Fits.{fits, type_of_comp}
 use Rattle.bs_words.specs.Memory.{sizes}
 use Rattle.bs_words.specs.Operators.{apply}
@@ -17,7 +17,7 @@ use Rattle.mach_ir.specs.declared.op.Pure.TheVariants as pure
 use Rattle.mach_ir.specs.declared.op.Op.TheVariants as op
 use Rattle.rv_machine.specs.Hart.{Placed}
 use Rattle.lin_ir.specs.Formed.{spare}
-use Rattle.lin_ir.specs.Meaning.{Locations, NamedAt, State, step, on_act, on_values, put}
+use Rattle.lin_ir.specs.Meaning.{Locations, NamedAt, State, step, on_act, on_values, put, same_loc}
 use Rattle.lin_ir.specs.declared.lin.LinOp.TheVariants as lin
 use Rattle.lin_ir.specs.declared.lin.Lin.{Lin}
 use Rattle.lin_ir.specs.declared.lin.Line.{Line}
@@ -25,14 +25,14 @@ use Rattle.lin_ir.specs.declared.lin.Spot.{Spot}
 use Rattle.moving_laws.specs.Stands.{Among}
 use Rattle.linear_machine.specs.Follows.{Agrees, FollowsStep}
 use Rattle.linear_machine.specs.Relation.{Below, Laid, StandsFor, Within, all_of}
-use Rattle.linear_machine.specs.Straight.{Changes}
+use Rattle.linear_machine.specs.Straight.{Changes, Comes}
 use Rattle.linear_machine.specs.View.{Fixed, View}
-use Rattle.linear_machine.proofs.Following.{PassesSpare, result_follows}
+use Rattle.linear_machine.proofs.Following.{PassesSpare, result_follows, same_loc-true}
 use Rattle.linear_machine.proofs.Operating.{IsTarget, binary, unary, worked}
-use Rattle.linear_machine.proofs.Parts.{Fetches, Keeps}
+use Rattle.linear_machine.proofs.Parts.{Fetches, Keeps, comes_here}
 use Rattle.linear_machine.proofs.Reading.{reads_one, reads_two}
 use Rattle.linear_machine.proofs.Sequences.{widened}
-use Rattle.linear_machine.proofs.Standing.{IsScratch, same_machine}
+use Rattle.linear_machine.proofs.Standing.{IsScratch, same_machine, within_less}
 use Rattle.moving_laws.proofs.Words.{same_or_not}
 
 -- a location that is read holds in the machine what it holds in the file
@@ -95,3 +95,59 @@ module _ (s : Fixed) (laid : Laid) (live : List Line → Type 0) (entry : ℕ �
           (λ fit. binary s laid young a c none held rest (put r z held) v.place n1 n2 n m ra rb t scratch1 scratch2 rs x y z
             (first x (reads_held before held file p.loc agrees reads_p ∙ h)) (second y (reads_held before held file q.loc agrees reads_q ∙ k)) apart target only (keeps z)
             (λ u pl w sx sy. work x y z u e pl w sx sy) v refl within)
+
+  -- ---- operators of a location and a constant
+
+  pub operator_with_follows :
+      (f : IntOp) (k : ℕ) (p : Spot) (n1 n m ra : ℕ) (scratch : List ℕ) → laid.part (length next) ≡ v.place + (n1 + (n + m)) → Reads before p.loc →
+      ((x : Value) → held p.loc ≡ Some x → Fetches s laid young a c held v.place n1 scratch ra x) →
+      ((z : Value) → Keeps s laid young a c rest (put r z held) (v.place + n1 + n) m t z) →
+      ((x z : Value) (u : View) → apply f (sizes a.memory) x (Word k) ≡ Ok z → u.place ≡ v.place + n1 → Within s laid u young 0 held a c →
+        StandsFor s (all_of u young) (slice_index u.registers ra) x →
+        Changes s u n rs u.memory (λ w. StandsFor s (all_of u young) (slice_index w.registers t) z)) →
+      FollowsStep (n1 + (n + m)) s laid live entry c v
+      (step place named code (record { rest = record { op = lin.Op (op.Pure (pure.Operator f (right.Constant k))); args = p ∷ []; results = r ∷ [] } ∷ next; file = file; around = a }))
+  operator_with_follows f k p n1 n m ra scratch laid_next reads_p first keeps work =
+      reads_one place.setting.end file (λ vs. FollowsStep (n1 + (n + m)) s laid live entry c v (on_values place (named (length next)) code line next file a vs)) tt p
+      (λ x h e. by_result x (apply f (sizes a.memory) x (Word k)) refl h)
+    where
+      line : Line
+      line = record { op = lin.Op (op.Pure (pure.Operator f (right.Constant k))); args = p ∷ []; results = r ∷ [] }
+
+      by_result : (x : Value) (o : Result Value Kind) → apply f (sizes a.memory) x (Word k) ≡ o → file p.loc ≡ Some x →
+          FollowsStep (n1 + (n + m)) s laid live entry c v
+          (on_act place code (record { op = lin.Op (op.Pure (pure.Operator f (right.Constant k))); args = p ∷ []; results = r ∷ [] }) next file a (one_result a o))
+      by_result x (Err kind) e h = tt
+      by_result x (Ok z) e h =
+          result_follows s laid live entry c v next before (n1 + (n + m)) place.setting.end r z young held file a laid_next agrees passes
+          (λ fit. unary s laid young a c none held rest (put r z held) v.place n1 n m ra t scratch rs x z
+            (first x (reads_held before held file p.loc agrees reads_p ∙ h)) target only (keeps z) (λ u pl w sx. work x z u e pl w sx) v refl within)
+
+-- ---- copies
+
+-- whatever its words are, they bring the value to its location
+pub copy_follows :
+    (s : Fixed) (laid : Laid) (live : List Line → Type 0) (entry : ℕ → ℕ) (c : Below) (place : Place) (named : NamedAt) (code : Lin) (next : List Line)
+    (v : View) (young : List Placed) (held file : Locations) (a : Around) (before : Type 0) → Agrees before held file → (p r : Spot) → PassesSpare before (live next) r.loc →
+    (kind : CopyKind) (n : ℕ) → laid.part (length next) ≡ v.place + n → Reads before p.loc →
+    ((x : Value) → held p.loc ≡ Some x → Comes s v n (λ w. Within s laid w young 0 (put r x held) a c)) →
+    FollowsStep n s laid live entry c v
+    (step place named code (record { rest = record { op = lin.Op (op.Pure (pure.Copy kind)); args = p ∷ []; results = r ∷ [] } ∷ next; file = file; around = a }))
+copy_follows s laid live entry c place named code next v young held file a before agrees p r passes kind n laid_next reads_p copies =
+    reads_one place.setting.end file
+    (λ vs. FollowsStep n s laid live entry c v (on_values place (named (length next)) code (record { op = lin.Op (op.Pure (pure.Copy kind)); args = p ∷ []; results = r ∷ [] }) next file a vs)) tt p
+    (λ x h e.
+      result_follows s laid live entry c v next before n place.setting.end r x young held file a laid_next agrees passes
+      (λ fit. copies x (reads_held before held file p.loc agrees reads_p ∙ h)))
+
+-- a copy from a location to itself has no words
+pub copy_nothing :
+    (s : Fixed) (laid : Laid) (v : View) (young : List Placed) (held : Locations) (a : Around) (c : Below) → Within s laid v young 0 held a c → (r : Spot) (x : Value) → held r.loc ≡ Some x →
+    Comes s v 0 (λ w. Within s laid w young 0 (put r x held) a c)
+copy_nothing s laid v young held a c within r x h =
+    comes_here s v (λ w. Within s laid w young 0 (put r x held) a c)
+    (within_less s laid v young 0 held (put r x held) a c (record { each = λ l y e. by_test l y (same_loc r.loc l) refl e }) within)
+  where
+    by_test : (l : Loc) (y : Value) (t : Bool) → same_loc r.loc l ≡ t → cond t (Some x) (held l) ≡ Some y → held l ≡ Some y
+    by_test l y true e h2 = subst (λ k. held k ≡ Some y) (sym (same_loc-true r.loc l e)) (h ∙ h2)
+    by_test l y false e h2 = h2
