@@ -15,3 +15,5 @@ pub mod Operating
 pub mod Reading
 pub mod Pure
 pub mod Flows
+pub mod Frames
+pub mod Calls

@@ -5,9 +5,11 @@ use Rattle.bs_words.specs.Memory.{Memory, HeapBlock}
 use Rattle.bs_words.specs.declared.types.Loc.{Loc}
 use Rattle.bs_words.specs.declared.types.Loc.TheVariants as loc
 use Rattle.bs_words.specs.declared.values.Value.{Value}
+use Rattle.image_form.specs.Tables.{Desc}
+use Rattle.lin_ir.specs.Meaning.{is_named}
 use Rattle.mach_ir.specs.Acts.{Around}
 use Rattle.rv_isa.specs.Registers.{a0, ra, s1, s10, s11, sp, t1, t2}
-use Rattle.rv_machine.specs.Frames.{Frame}
+use Rattle.rv_machine.specs.Frames.{Frame, registers_named}
 use Rattle.rv_machine.specs.Hart.{Placed}
 use Rattle.rv_machine.specs.Memory.{Region, word, code_start}
 use Rattle.rv_machine.specs.Moving.{is_scanned}
@@ -18,7 +20,7 @@ use Rattle.rv_machine.specs.Relocation.{root_cells}
 use Rattle.rv_machine.specs.Sound.{AreRegisters, HasRegions, extents}
 use Rattle.rv_machine.specs.Space.{IsHeap}
 use Rattle.moving_laws.specs.Heap.{AreBlocks}
-use Rattle.moving_laws.specs.Stands.{BlocksStand, StaticsStand, AreReadable}
+use Rattle.moving_laws.specs.Stands.{Among, BlocksStand, StaticsStand, AreReadable}
 use Rattle.moving_laws.specs.Values.{value_word, words_of, IsKnown, FitsCell}
 use Rattle.moving_laws.specs.Waiting as waiting
 use Rattle.moving_laws.specs.Waiting.{Activation, Chain, AllWait, IsBack, TrapsFrom, traps_at}
@@ -167,3 +169,35 @@ pub record During (s : Fixed) (laid : Laid) (v : View) (young : List Placed) (le
     (file : Loc → Option Value) (a : Around) (c : Below) : Type 0 where
   pub place : v.place ≡ laid.part left
   pub within : Within s laid v young 0 file a c
+
+-- ---- what a descriptor says of a frame point, where so many traps are pushed
+
+pub record IsDescribed (laid : Laid) (traps : ℕ) (named : List Loc) (d : Desc) : Type 0 where
+  pub size : d.size ≡ laid.frame + 16 * traps
+  pub slot : (k : ℕ) → is_named (loc.Slot k) named ≡ true → Among (8 * k + 16 * traps) d.entries
+  pub from_slot : (e : ℕ) → Among e d.entries → e % 2 ≡ 0 →
+      (k : ℕ) × (e ≡ 8 * k + 16 * traps) × (k < laid.slots)
+      × (is_named (loc.Slot k) named ≡ true)
+  pub register : (r : ℕ) → is_named (loc.Machine r) named ≡ true →
+      Among r (registers_named d.entries)
+  pub from_register : (r : ℕ) → Among r (registers_named d.entries) →
+      is_named (loc.Machine r) named ≡ true
+
+-- the activation of a function that waits at a frame point: the return address is in its frame
+abbrev pub waiting_of : Laid → (Loc → Option Value) → List ℕ → Below → Activation
+waiting_of laid held tries c = record {
+  back = c.back;
+  count = laid.slots;
+  slot = λ k. held (loc.Slot k);
+  tries = map laid.handler tries;
+}
+
+-- what lies below its callee, which is to come back to an address
+abbrev pub pushed : Laid → (Loc → Option Value) → List ℕ → Below → (at : ℕ) → Desc → (back : ℕ) →
+    Below
+pushed laid held tries c at d back = record {
+  waiting = waiting_of laid held tries c ∷ c.waiting;
+  frames = record { at = at; desc = d } ∷ c.frames;
+  top = at;
+  back = back;
+}
