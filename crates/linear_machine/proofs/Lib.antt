@@ -17,3 +17,4 @@ pub mod Pure
 pub mod Flows
 pub mod Frames
 pub mod Calls
+pub mod Turning

@@ -28,3 +28,11 @@ pub record Comes (s : Fixed) (v : View) (n : ℕ) (P : View → Type 0) : Type 0
   pub leads : Leads s n v view
   pub place : view.place ≡ v.place + n
   pub holds : P view
+
+-- wherever it is, these registers alone may have changed, and the memory is this one
+pub record Differs (rs : List ℕ) (m : List Region) (v w : View) : Type 0 where
+  pub are : AreRegisters w.registers
+  pub others : (q : ℕ) → (Among q rs → ⊥) →
+      slice_index w.registers q ≡ slice_index v.registers q
+  pub memory : w.memory ≡ m
+  pub blocks : w.blocks ≡ v.blocks
