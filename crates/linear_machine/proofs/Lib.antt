@@ -18,3 +18,4 @@ pub mod Flows
 pub mod Frames
 pub mod Calls
 pub mod Turning
+pub mod Trapping

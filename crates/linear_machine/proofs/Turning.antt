@@ -34,7 +34,7 @@ usable_past s v w m em eb has u = record {
   apart = ap are_apart eb ∙ u.apart;
 }
 
-placed_past : (v w : View) (young : List Placed) → w.blocks ≡ v.blocks → all_of w young ≡ all_of v young
+pub placed_past : (v w : View) (young : List Placed) → w.blocks ≡ v.blocks → all_of w young ≡ all_of v young
 placed_past v w young e = ap (λ bs. all_of (record v { blocks = bs }) young) e
 
 -- ---- a function is left: sp is back where it was, and a0 is as it was
