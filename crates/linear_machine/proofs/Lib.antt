@@ -19,3 +19,5 @@ pub mod Frames
 pub mod Calls
 pub mod Turning
 pub mod Trapping
+pub mod Jumps
+pub mod Endings
