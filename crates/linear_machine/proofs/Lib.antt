@@ -21,3 +21,4 @@ pub mod Turning
 pub mod Trapping
 pub mod Jumps
 pub mod Endings
+pub mod Beginning
