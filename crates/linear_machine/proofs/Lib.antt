@@ -22,3 +22,4 @@ pub mod Trapping
 pub mod Jumps
 pub mod Endings
 pub mod Beginning
+pub mod Example
