@@ -23,3 +23,4 @@ pub mod Jumps
 pub mod Endings
 pub mod Beginning
 pub mod Example
+pub mod Operators
