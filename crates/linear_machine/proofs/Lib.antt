@@ -24,3 +24,4 @@ pub mod Endings
 pub mod Beginning
 pub mod Example
 pub mod Operators
+pub mod Rows
