@@ -25,3 +25,5 @@ pub mod Beginning
 pub mod Example
 pub mod Operators
 pub mod Rows
+pub mod Loading
+pub mod Loads
