@@ -27,3 +27,4 @@ pub mod Operators
 pub mod Rows
 pub mod Loading
 pub mod Loads
+pub mod Moving
