@@ -28,3 +28,5 @@ pub mod Rows
 pub mod Loading
 pub mod Loads
 pub mod Moving
+pub mod Serving
+pub mod Storing
