@@ -30,3 +30,4 @@ pub mod Loads
 pub mod Moving
 pub mod Serving
 pub mod Storing
+pub mod Writing
