@@ -1,15 +1,12 @@
 -- The state in which a run begins stands for the entry of its function.
-use Rattle.std.proofs.Common.{◌≡◌, ◌≢◌, ℕ, zero, suc, ◌+◌, ◌-◌, ◌*◌, ◌%◌, ◌^◌, ◌<◌, ◌≤◌, Bool, true, List, [], ◌∷◌, ◌++◌, length, map, replicate, Option, Some, None, slice_get, slice_index, refl, ap, arith, ◌∙◌, sym, subst, get_or-append-add}
+use Rattle.std.proofs.Common.{◌≡◌, ℕ, zero, suc, ◌+◌, ◌-◌, ◌<◌, ◌≤◌, List, [], ◌∷◌, ◌++◌, length, map, Some, slice_get, slice_index, refl, ap, arith, ◌∙◌, sym, subst, get_or-append-add}
 use Rattle.std.specs.List.{AllByRecursion}
-use Rattle.bs_words.specs.Memory.{Memory, StaticList}
-use Rattle.bs_words.specs.declared.types.Ret.{Ret}
+use Rattle.bs_words.specs.Memory.{StaticList}
 use Rattle.bs_words.specs.declared.values.Value.{Value}
 use Rattle.bs_words.specs.declared.values.Value.TheVariants.{Word}
 use Rattle.image_form.specs.Tables.{Tables, Func}
-use Rattle.mach_ir.specs.Runs.{entered}
-use Rattle.rv_machine.specs.Hart.{Placed}
 use Rattle.rv_machine.specs.Loading.{IsRoom}
-use Rattle.rv_machine.specs.Memory.{Region, code_start}
+use Rattle.rv_machine.specs.Memory.{code_start}
 use Rattle.rv_machine.specs.Observation.{young_top}
 use Rattle.rv_machine.specs.Places.{domain_start, stack_bottom}
 use Rattle.rv_machine.specs.Relocation.{root_cells}
@@ -22,7 +19,7 @@ use Rattle.moving_laws.specs.Values.{HasFunctions, IsKnown, value_word}
 use Rattle.moving_laws.proofs.Bottom.{bottom_start}
 use Rattle.linear_machine.specs.Contents.{statics_of}
 use Rattle.linear_machine.specs.Moments.{AtEntry}
-use Rattle.linear_machine.specs.Relation.{Below, StandsFor}
+use Rattle.linear_machine.specs.Relation.{Below}
 use Rattle.linear_machine.specs.View.{Fixed, View}
 
 -- ---- the argument registers
@@ -42,10 +39,12 @@ length_padded (suc n) [] = ap suc (length_padded n [])
 length_padded (suc n) (x ∷ xs) = ap suc (length_padded n xs)
 
 behind_arguments : (n : ℕ) (args rest : List ℕ) (k : ℕ) → slice_index (padded n args ++ rest) (n + k) ≡ slice_index rest k
-behind_arguments n args rest k = let h = length_padded n args in ap (λ z. slice_index (padded n args ++ rest) (z + k)) (sym h) ∙ get_or-append-add (padded n args) rest k 0
+behind_arguments n args rest k = let h = length_padded n args in ap (λ z. slice_index (padded n args ++ rest) (z + k)) (sym h)
+    ∙ get_or-append-add (padded n args) rest k 0
 
 -- each argument is a word of its place
-argument_at : (args rest : List ℕ) (n k : ℕ) (x : Value) → length args ≤ n → slice_get (map Word args) k ≡ Some x → (k < length args) × (x ≡ Word (slice_index (padded n args ++ rest) k))
+argument_at : (args rest : List ℕ) (n k : ℕ) (x : Value) → length args ≤ n → slice_get (map Word args) k ≡ Some x → (k < length args)
+    × (x ≡ Word (slice_index (padded n args ++ rest) k))
 argument_at [] rest n k x l e = absurd (cc)
 argument_at (a ∷ args) rest zero k x l e = absurd (omega (arith, l))
 argument_at (a ∷ args) rest (suc n) zero x l e = (omega arith, let h : Word a ≡ x = cc in sym h)
@@ -57,7 +56,8 @@ argument_at (a ∷ args) rest (suc n) (suc k) x l e = let r = argument_at args r
 abbrev pub nothing_below : Below
 nothing_below = record { waiting = []; frames = []; top = stack_bottom; back = code_start }
 
-module _ (image : Tables) (functions : HasFunctions image) (bytes : AllByRecursion (λ b. b < 256) image.bytes) (schedule : Schedule) (func : Func) (args : List ℕ)
+module _ (image : Tables) (functions : HasFunctions image) (bytes : AllByRecursion (λ b. b < 256) image.bytes) (schedule : Schedule) (func : Func)
+    (args : List ℕ)
     (words : AllWords args) (few : length args ≤ 16) (stack heap : ℕ) (stack_room : IsRoom stack) (heap_room : IsRoom heap) (place : ℕ) (answers : List ℕ) where
   sound : IsSound (start image func args stack heap)
   sound = start_sound image func args stack heap functions.tables bytes words stack_room heap_room
@@ -83,7 +83,8 @@ module _ (image : Tables) (functions : HasFunctions image) (bytes : AllByRecursi
   at_27 : slice_index (start_registers args) 27 ≡ domain_start
   at_27 = behind_ten args 17 ∙ behind_arguments 16 args last_six 1
 
-  pub at_start : (lists : List StaticList) (roots : List ℕ) → StaticsStand image [] (start_memory image stack heap) (root_cells image) (statics_of (record { blocks = []; statics = lists; roots = roots })) →
+  pub at_start : (lists : List StaticList) (roots : List ℕ) → StaticsStand image [] (start_memory image stack heap) (root_cells image)
+      (statics_of (record { blocks = []; statics = lists; roots = roots })) →
       AtEntry start_fixed start_view [] place (map Word args) (record { blocks = []; statics = lists; roots = roots }) nothing_below
   at_start lists roots statics =
       let e = at_26 in
@@ -95,12 +96,13 @@ module _ (image : Tables) (functions : HasFunctions image) (bytes : AllByRecursi
         back = refl;
         arguments_in = λ k x h.
             let a = argument_at args last_six 16 k x few h in
-            let a0 = a.0 in
-            (omega (arith, a0, few),
+            let a0 = a.0 in (
+              omega (arith, a0, few),
               record {
                 is = behind_ten args k ∙ word_is k x a.1;
                 known = known_is k x a.1;
-              });
+              },
+            );
         waits = record {
           low = omega arith;
           high = omega arith;

@@ -1,5 +1,5 @@
 -- The machine follows a line that goes on with the next one.
-use Rattle.std.proofs.Common.{◌≡◌, ◌≢◌, ℕ, suc, ◌+◌, ◌*◌, ◌<◌, ◌≤◌, ◌⊎◌, inl, inr, Bool, true, false, cond, nat_eq, List, [], ◌∷◌, length, Option, Some, None, refl, ap, arith, ◌∙◌, sym, subst, ⊎_elim}
+use Rattle.std.proofs.Common.{◌≡◌, ℕ, ◌+◌, ◌⊎◌, inl, inr, Bool, true, false, cond, List, [], ◌∷◌, length, Some, refl, ap, arith, ◌∙◌, sym, subst, ⊎_elim}
 use Rattle.std.proofs.lemmas.Bool.{eqb-true, eq-eqb}
 use Rattle.bs_words.specs.Fits.{fits, type_of_comp}
 use Rattle.bs_words.specs.declared.types.Loc.{Loc}
@@ -7,15 +7,13 @@ use Rattle.bs_words.specs.declared.types.Loc.TheVariants as loc
 use Rattle.bs_words.specs.declared.values.Value.{Value}
 use Rattle.mach_ir.specs.Acts.{Around}
 use Rattle.rv_machine.specs.Hart.{Placed}
-use Rattle.rv_machine.specs.Memory.{Region}
 use Rattle.lin_ir.specs.Formed.{spare}
-use Rattle.lin_ir.specs.Meaning.{Locations, State, same_loc, put, put_if, put_all, wrote}
+use Rattle.lin_ir.specs.Meaning.{Locations, same_loc, put, put_if, put_all, wrote}
 use Rattle.lin_ir.specs.declared.lin.Line.{Line}
 use Rattle.lin_ir.specs.declared.lin.Spot.{Spot}
-use Rattle.linear_machine.specs.Arrival.{ArrivesIn}
-use Rattle.linear_machine.specs.Files.{HoldsLess, IsPut}
+use Rattle.linear_machine.specs.Files.{IsPut}
 use Rattle.linear_machine.specs.Follows.{Agrees, FollowsStep, IsAt}
-use Rattle.linear_machine.specs.Relation.{Below, Laid, During, Within}
+use Rattle.linear_machine.specs.Relation.{Below, Laid, Within}
 use Rattle.linear_machine.specs.Straight.{Comes}
 use Rattle.linear_machine.specs.View.{Fixed, View, Leads}
 use Rattle.linear_machine.proofs.Arriving.{leads_in}
@@ -46,7 +44,8 @@ IsPlace l = same_loc l l ≡ true
 pub put_is : (r : Spot) (x : Value) (f : Locations) → IsPlace r.loc → IsPut r.loc x f (put r x f)
 put_is r x f is = record { each = λ k y h. by_test k y (same_loc r.loc k) refl h }
   where
-    by_test : (k : Loc) (y : Value) (t : Bool) → same_loc r.loc k ≡ t → cond t (Some x) (f k) ≡ Some y → ((k ≡ r.loc) × (y ≡ x)) ⊎ ((k ≡ r.loc → ⊥) × (f k ≡ Some y))
+    by_test : (k : Loc) (y : Value) (t : Bool) → same_loc r.loc k ≡ t → cond t (Some x) (f k) ≡ Some y → ((k ≡ r.loc) × (y ≡ x))
+        ⊎ ((k ≡ r.loc → ⊥) × (f k ≡ Some y))
     by_test k y true e h = inl (same_loc-true r.loc k e, (let same : Some x ≡ Some y = h in cc))
     by_test k y false e h = inr ((λ q. let again : same_loc r.loc r.loc ≡ false = subst (λ z. same_loc r.loc z ≡ false) q e in cc), h)
 
@@ -56,7 +55,8 @@ put_is r x f is = record { each = λ k y h. by_test k y (same_loc r.loc k) refl 
 abbrev pub PassesSpare : Type 0 → Type 0 → Loc → Type 0
 PassesSpare before behind l = behind → (l ≡ spare) ⊎ before
 
-pub agrees_put : (before behind : Type 0) (r : Spot) (x : Value) (held file : Locations) → PassesSpare before behind r.loc → Agrees before held file → Agrees behind (put r x held) (put r x file)
+pub agrees_put : (before behind : Type 0) (r : Spot) (x : Value) (held file : Locations) → PassesSpare before behind r.loc → Agrees before held file →
+    Agrees behind (put r x held) (put r x file)
 agrees_put before behind r x held file passes agrees = record {
   others = λ l n. ap (cond (same_loc r.loc l) (Some x)) (agrees.others l n);
   spare_too = λ live. ⊎_elim (λ e. written e) (λ b. ap (cond (same_loc r.loc spare) (Some x)) (agrees.spare_too b)) (passes live);
@@ -82,7 +82,8 @@ module _ (s : Fixed) (laid : Laid) (live : List Line → Type 0) (entry : ℕ �
 
   -- with one result
   pub result_follows :
-      (before : Type 0) (n : ℕ) (end : ℕ) (spot : Spot) (x : Value) (young : List Placed) (held file : Locations) (a : Around) → laid.part (length rest) ≡ v.place + n →
+      (before : Type 0) (n : ℕ) (end : ℕ) (spot : Spot) (x : Value) (young : List Placed) (held file : Locations) (a : Around) →
+      laid.part (length rest) ≡ v.place + n →
       Agrees before held file → PassesSpare before (live rest) spot.loc →
       (fits end (type_of_comp spot.comp) x ≡ true → Comes s v n (λ w. Within s laid w young 0 (put spot x held) a c)) →
       FollowsStep n s laid live entry c v (wrote rest a (put_all end (spot ∷ []) (x ∷ []) file))
@@ -95,7 +96,8 @@ module _ (s : Fixed) (laid : Laid) (live : List Line → Type 0) (entry : ℕ �
 
   -- where it lands, a label's place or the next line's
   pub lands_follows :
-      (n : ℕ) (w : View) (young : List Placed) (held file : Locations) (a : Around) → Leads s n v w → w.place ≡ laid.part (length rest) → Agrees (live rest) held file →
+      (n : ℕ) (w : View) (young : List Placed) (held file : Locations) (a : Around) → Leads s n v w → w.place ≡ laid.part (length rest) →
+      Agrees (live rest) held file →
       Within s laid w young 0 held a c → FollowsStep n s laid live entry c v (wrote rest a (Some file))
   lands_follows n w young held file a leads place agrees within =
       leads_in 0 n s n (omega arith) (omega arith) v w (IsAt s laid live c (record { rest = rest; file = file; around = a })) leads

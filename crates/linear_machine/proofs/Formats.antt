@@ -25,7 +25,10 @@ use Rattle.linear_machine.proofs.Steps.{with_hart, ready, ready_stands, one_step
 
 module _ (s : Fixed) (v : View) where
   pub sets_op : (op : AluOp) (rd ra rb : ℕ) → SetsRegister s v (Op op rd ra rb) rd (alu op (reg v.registers ra) (reg v.registers rb))
-  sets_op op rd ra rb = record { effect = λ a st. ap₂ (λ x y. sets rd (alu op x y) (a.hart.pc + 4) a.hart) (register_reg s a v ra st) (register_reg s a v rb st) }
+  sets_op op rd ra rb = record {
+    effect = λ a st. ap₂ (λ x y. sets rd (alu op x y) (a.hart.pc + 4) a.hart) (register_reg s a v ra st)
+        (register_reg s a v rb st);
+  }
 
   pub sets_imm : (op : AluImmOp) (rd ra imm : ℕ) → SetsRegister s v (OpImm op rd ra imm) rd (alu_imm op (reg v.registers ra) imm)
   sets_imm op rd ra imm = record { effect = λ a st. ap (λ x. sets rd (alu_imm op x imm) (a.hart.pc + 4) a.hart) (register_reg s a v ra st) }
@@ -47,7 +50,8 @@ module _ (s : Fixed) (v : View) where
   not_in_code : (code : List ℕ) (x : ℕ) → code_start + 4 * length code ≤ x → is_inside (code_region code) x 8 ≡ false
   not_in_code code x l = and_right _ _ (lt-leb (x + 8) (code_start + 4 * length code) (omega (arith, l)))
 
-  loaded_there : (a : Machine) (x : ℕ) → Stands s a v → x ≢ 0x20000000 → 0x10000000 ≤ x → IsReadable v.memory x → loaded (readable a.hart) x 8 ≡ Some (word v.memory x)
+  loaded_there : (a : Machine) (x : ℕ) → Stands s a v → x ≢ 0x20000000 → 0x10000000 ≤ x → IsReadable v.memory x →
+      loaded (readable a.hart) x 8 ≡ Some (word v.memory x)
   loaded_there a x st n low r =
       let c = s.functions.tables.code.short in
       let r' = like_readable v.memory a.hart.memory x st.memory r in
@@ -70,7 +74,8 @@ module _ (s : Fixed) (v : View) where
   abbrev pub stored_in : ℕ → ℕ → View
   stored_in x value = record v { place = v.place + 1; memory = write v.memory x value }
 
-  pub store_step : (ra rb imm x : ℕ) → IsCode s v.place (Store Sd ra rb imm) → add_word (reg v.registers ra) (imm_i imm) ≡ x → AllByRecursion IsRegion v.memory → IsReadable v.memory x →
+  pub store_step : (ra rb imm x : ℕ) → IsCode s v.place (Store Sd ra rb imm) → add_word (reg v.registers ra) (imm_i imm) ≡ x →
+      AllByRecursion IsRegion v.memory → IsReadable v.memory x →
       reg v.registers rb < 2 ^ 64 → Leads s 1 v (stored_in x (reg v.registers rb))
   store_step ra rb imm x c e f r small = record {
     answers = refl;
@@ -81,9 +86,9 @@ module _ (s : Fixed) (v : View) where
         let value = reg v.registers rb in
         let m = write b.hart.memory x value in
         let effect : executed (Store Sd ra rb imm) b.hart ≡ stores (Some m) b.hart =
-            ap₂ (λ y z. stores (stored b.hart.memory (add_word y (imm_i imm)) 8 z) b.hart) (register_reg s b v ra ok) (register_reg s b v rb ok)
-            ∙ ap (λ y. stores (stored b.hart.memory y 8 value) b.hart) e
-            ∙ ap (λ o. stores o b.hart) (stored_is b.hart.memory x value (like_readable v.memory b.hart.memory x ok.memory r)) in (
+        ap₂ (λ y z. stores (stored b.hart.memory (add_word y (imm_i imm)) 8 z) b.hart) (register_reg s b v ra ok) (register_reg s b v rb ok)
+        ∙ ap (λ y. stores (stored b.hart.memory y 8 value) b.hart) e
+        ∙ ap (λ o. stores o b.hart) (stored_is b.hart.memory x value (like_readable v.memory b.hart.memory x ok.memory r)) in (
           with_hart a (record (b.hart) { memory = m; pc = b.hart.pc + 4; retired = suc b.hart.retired }),
           record {
             image = ok.image;
@@ -113,7 +118,8 @@ module _ (s : Fixed) (v : View) where
         ∙ cond-true ((code_start + 4 * place) % 4 == 0) _ _ (eq-eqb ((code_start + 4 * place) % 4) 0 (omega arith));
   }
 
-  pub sets_jalr : (rd ra imm place : ℕ) → add_word (reg v.registers ra) (imm_i imm) ≡ code_start + 4 * place → SetsTo s v (Jalr rd ra imm) rd (code_start + 4 * (v.place + 1)) place
+  pub sets_jalr : (rd ra imm place : ℕ) → add_word (reg v.registers ra) (imm_i imm) ≡ code_start + 4 * place →
+      SetsTo s v (Jalr rd ra imm) rd (code_start + 4 * (v.place + 1)) place
   sets_jalr rd ra imm place e = record {
     effect = λ a st.
         let sum : add_word (register a.hart ra) (imm_i imm) ≡ code_start + 4 * place = ap (λ x. add_word x (imm_i imm)) (register_reg s a v ra st) ∙ e in
@@ -130,7 +136,8 @@ module _ (s : Fixed) (v : View) where
   goes_branch_taken condition ra rb offset place holds e = record {
     effect = λ a st.
         let t : add_word a.hart.pc (imm_b offset) ≡ code_start + 4 * place = ap (λ pc. add_word pc (imm_b offset)) st.pc ∙ e in
-        cond-true (is_taken condition (register a.hart ra) (register a.hart rb)) _ _ (ap₂ (is_taken condition) (register_reg s a v ra st) (register_reg s a v rb st) ∙ holds)
+        cond-true (is_taken condition (register a.hart ra) (register a.hart rb)) _ _ (ap₂ (is_taken condition) (register_reg s a v ra st)
+        (register_reg s a v rb st) ∙ holds)
         ∙ ap (λ x. jumps x (goes_to x a.hart)) t
         ∙ cond-true ((code_start + 4 * place) % 4 == 0) _ _ (eq-eqb ((code_start + 4 * place) % 4) 0 (omega arith));
   }
@@ -140,6 +147,7 @@ module _ (s : Fixed) (v : View) where
   goes_branch_on condition ra rb offset fails = record {
     effect = λ a st.
         let on : a.hart.pc + 4 ≡ code_start + 4 * (v.place + 1) = let p = st.pc in omega (arith, p) in
-        cond-false (is_taken condition (register a.hart ra) (register a.hart rb)) _ _ (ap₂ (is_taken condition) (register_reg s a v ra st) (register_reg s a v rb st) ∙ fails)
+        cond-false (is_taken condition (register a.hart ra) (register a.hart rb)) _ _ (ap₂ (is_taken condition) (register_reg s a v ra st)
+        (register_reg s a v rb st) ∙ fails)
         ∙ ap (λ x. goes_to x a.hart) on;
   }

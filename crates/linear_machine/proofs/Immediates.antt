@@ -1,10 +1,9 @@
 -- Immediates extended by their sign, as cases that arithmetic on numbers can go through.
-use Rattle.std.proofs.Common.{◌≡◌, ℕ, ◌+◌, ◌-◌, ◌*◌, ◌/◌, ◌%◌, ◌^◌, ◌<◌, ◌≤◌, ◌⊎◌, inl, inr, refl, ap, arith, ◌∙◌, sym, ⊎_elim, mod-eq_of_lt}
+use Rattle.std.proofs.Common.{◌≡◌, ℕ, ◌+◌, ◌-◌, ◌*◌, ◌%◌, ◌^◌, ◌<◌, ◌≤◌, ◌⊎◌, inl, inr, ap, arith, ◌∙◌, sym, ⊎_elim, mod-eq_of_lt}
 use Rattle.std.proofs.lemmas.Bool.{cases_lt}
-use Rattle.bs_words.specs.Word.{add_word, sext_word}
+use Rattle.bs_words.specs.Word.{add_word}
 use Rattle.bs_words.proofs.Word.{sext-high, sext-low}
 use Rattle.rv_machine.specs.Arithmetic.{extended, imm_i, imm_u}
-use Rattle.rv_machine.specs.Memory.{code_start}
 
 -- a number of so many bits, by the value of its highest bit
 abbrev pub Extended : (bound w result : ℕ) → Type 0

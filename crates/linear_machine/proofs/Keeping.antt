@@ -1,7 +1,6 @@
 -- What a change of the memory leaves of the stack and of the heap.
-use Rattle.std.proofs.Common.{◌≡◌, ◌≢◌, ℕ, zero, suc, ◌+◌, ◌-◌, ◌*◌, ◌%◌, ◌<◌, ◌≤◌, Bool, false, List, [], ◌∷◌, ◌++◌, length, map, Option, refl, ap, arith, ◌∙◌, sym, subst}
+use Rattle.std.proofs.Common.{◌≡◌, ◌≢◌, ℕ, zero, suc, ◌+◌, ◌-◌, ◌*◌, ◌%◌, ◌<◌, ◌≤◌, Bool, false, List, [], ◌∷◌, ◌++◌, length, map, refl, ap, arith, ◌∙◌, sym, subst}
 use Rattle.std.specs.List.{AllByRecursion}
-use Rattle.bs_words.specs.declared.values.Value.{Value}
 use Rattle.image_form.specs.Tables.{Tables, Desc}
 use Rattle.mach_ir.specs.Acts.{Around}
 use Rattle.rv_machine.specs.Frames.{Frame}
@@ -31,7 +30,8 @@ traps_at_all P p [] h = tt
 traps_at_all P p (t ∷ tries) h = (h p (omega arith) (omega arith), traps_at_all P (p + 16) tries (λ y l k. h y (omega (arith, l)) (omega (arith, k))))
 
 pub traps_of_all :
-    (P : ℕ → Type 0) (image : Tables) (placed : List Placed) (ds : List Desc) (base : ℕ) (m : List Region) (first : Bool) (a p : ℕ) (xs : List Activation) (fs : List Frame) →
+    (P : ℕ → Type 0) (image : Tables) (placed : List Placed) (ds : List Desc) (base : ℕ) (m : List Region) (first : Bool) (a p : ℕ) (xs : List Activation)
+    (fs : List Frame) →
     Chain ds base m first a p fs → AllWait image placed m xs fs → ((y : ℕ) → p ≤ y → y + 16 ≤ stack_end → P y) → AllTraps P (traps_of xs fs)
 traps_of_all P image placed ds base m first a p [] fs c w h = tt
 traps_of_all P image placed ds base m first a p (x ∷ xs) [] c w h = tt
@@ -41,15 +41,25 @@ traps_of_all P image placed ds base m first a p (x ∷ xs) (f ∷ fs) c w h =
     let hi = is.high in
     let room = w.0.room in
     all_traps_append P (traps_at f.at x.tries) (traps_of xs fs)
-        (traps_at_all P f.at x.tries (λ y l k. h y (omega (arith, l, at)) (omega (arith, k, room, hi, at))))
-        (traps_of_all P image placed ds base m false (word m (p + (f.desc.size - 8))) (p + f.desc.size) xs fs c.5 w.1 (λ y l k. h y (omega (arith, l)) k))
+    (traps_at_all P f.at x.tries (λ y l k. h y (omega (arith, l, at)) (omega (arith, k, room, hi, at))))
+    (traps_of_all P image placed ds base m false (word m (p + (f.desc.size - 8))) (p + f.desc.size) xs fs c.5 w.1 (λ y l k. h y (omega (arith, l)) k))
 
-pub traps_same : (base : ℕ) (m m' : List Region) (s : ℕ) (ts : List (ℕ × ℕ)) (last : ℕ) → AllTraps (λ y. (word m' y ≡ word m y) × (word m' (y + 8) ≡ word m (y + 8))) ts → TrapsFrom base m s ts last → TrapsFrom base m' s ts last
+pub traps_same : (base : ℕ) (m m' : List Region) (s : ℕ) (ts : List (ℕ × ℕ)) (last : ℕ) →
+    AllTraps (λ y. (word m' y ≡ word m y) × (word m' (y + 8) ≡ word m (y + 8))) ts → TrapsFrom base m s ts last → TrapsFrom base m' s ts last
 traps_same base m m' s [] last same t = t
 traps_same base m m' s (x ∷ ts) last same t =
     let here : word m' s ≡ word m s = subst (λ y. word m' y ≡ word m y) (sym t.0) same.0.0 in
-    let next : word m' (s + 8) ≡ word m (s + 8) = subst (λ y. word m' (y + 8) ≡ word m (y + 8)) (sym t.0) same.0.1 in
-    (t.0, t.1, t.2, t.3, here ∙ t.4, t.5, subst (λ w. base ≤ w) (sym next) t.6, subst (λ w. TrapsFrom base m' w ts last) (sym next) (traps_same base m m' (word m (s + 8)) ts last same.1 t.7))
+    let next : word m' (s + 8) ≡ word m (s + 8) = subst (λ y. word m' (y + 8) ≡ word m (y + 8)) (sym t.0) same.0.1 in (
+      t.0,
+      t.1,
+      t.2,
+      t.3,
+      here ∙ t.4,
+      t.5,
+      subst (λ w. base ≤ w) (sym next) t.6,
+      subst (λ w. TrapsFrom base m' w ts last) (sym next)
+          (traps_same base m m' (word m (s + 8)) ts last same.1 t.7),
+    )
 
 -- ---- the frames
 
@@ -61,11 +71,18 @@ chain_above ds base m m' first a p (f ∷ fs) same c =
     let hi = is.high in
     let sl = is.size_least in
     let x : ℕ = p + (f.desc.size - 8) in
-    let here : word m' x ≡ word m x = same x (omega arith) (omega (arith, hi, sl)) in
-    (c.0, c.1, c.2, c.3, subst (λ w. w < 0x10000000) (sym here) c.4,
-      subst (λ w. Chain ds base m' false w (p + f.desc.size) fs) (sym here) (chain_above ds base m m' false (word m x) (p + f.desc.size) fs (λ y l h. same y (omega (arith, l)) h) c.5))
+    let here : word m' x ≡ word m x = same x (omega arith) (omega (arith, hi, sl)) in (
+      c.0,
+      c.1,
+      c.2,
+      c.3,
+      subst (λ w. w < 0x10000000) (sym here) c.4,
+      subst (λ w. Chain ds base m' false w (p + f.desc.size) fs) (sym here)
+          (chain_above ds base m m' false (word m x) (p + f.desc.size) fs (λ y l h. same y (omega (arith, l)) h) c.5),
+    )
 
-pub waits_above : (image : Tables) (placed : List Placed) (ds : List Desc) (base : ℕ) (m m' : List Region) (first : Bool) (a p : ℕ) (xs : List Activation) (fs : List Frame) →
+pub waits_above : (image : Tables) (placed : List Placed) (ds : List Desc) (base : ℕ) (m m' : List Region) (first : Bool) (a p : ℕ) (xs : List Activation)
+    (fs : List Frame) →
     ((y : ℕ) → p ≤ y → y + 8 ≤ stack_end → word m' y ≡ word m y) → Chain ds base m first a p fs → AllWait image placed m xs fs → AllWait image placed m' xs fs
 waits_above image placed ds base m m' first a p [] [] same c w = w
 waits_above image placed ds base m m' first a p [] (f ∷ fs) same c w = w
@@ -75,16 +92,17 @@ waits_above image placed ds base m m' first a p (x ∷ xs) (f ∷ fs) same c w =
     let at = c.2 in
     let hi = is.high in
     let sl = is.size_least in
-    let room = w.0.room in
-    (record {
-      room = w.0.room;
-      back = same (f.at + (f.desc.size - 8)) (omega (arith, at)) (omega (arith, at, hi, sl)) ∙ w.0.back;
-      slot = λ k v l h. same (f.at + slot_offset x k) (omega (arith, at)) (omega (arith, at, hi, room, l)) ∙ w.0.slot k v l h;
-      known = w.0.known;
-      value = w.0.value;
-      named = w.0.named;
-    },
-    waits_above image placed ds base m m' false (word m (p + (f.desc.size - 8))) (p + f.desc.size) xs fs (λ y l h. same y (omega (arith, l)) h) c.5 w.1)
+    let room = w.0.room in (
+      record {
+        room = w.0.room;
+        back = same (f.at + (f.desc.size - 8)) (omega (arith, at)) (omega (arith, at, hi, sl)) ∙ w.0.back;
+        slot = λ k v l h. same (f.at + slot_offset x k) (omega (arith, at)) (omega (arith, at, hi, room, l)) ∙ w.0.slot k v l h;
+        known = w.0.known;
+        value = w.0.value;
+        named = w.0.named;
+      },
+      waits_above image placed ds base m m' false (word m (p + (f.desc.size - 8))) (p + f.desc.size) xs fs (λ y l h. same y (omega (arith, l)) h) c.5 w.1,
+    )
 
 -- what waits stands as long as what lies from the frame's end on stays
 pub waits_kept :
@@ -110,21 +128,23 @@ pub traps_kept :
     Waits s placed m c → TrapsStand s m trap own c → TrapsStand s m' trap own c
 traps_kept s placed m m' trap own c same traps st t =
     traps_same s.base m m' trap (own ++ traps_of c.waiting c.frames) stack_bottom
-        (all_traps_append _ own (traps_of c.waiting c.frames) traps
-          (traps_of_all _ s.image placed s.image.descs s.base m false c.back c.top c.waiting c.frames st.chain st.waits
-            (λ y l h. (same y l (omega (arith, h)), same (y + 8) (omega (arith, l)) (omega (arith, h))))))
-        t
+    (all_traps_append _ own (traps_of c.waiting c.frames) traps
+    (traps_of_all _ s.image placed s.image.descs s.base m false c.back c.top c.waiting c.frames st.chain st.waits
+    (λ y l h. (same y l (omega (arith, h)), same (y + 8) (omega (arith, l)) (omega (arith, h))))))
+    t
 
 -- ---- the heap
 
-pub cell_inside : (bs : List Placed) (k j : ℕ) → AllByRecursion IsInHeap bs → k < length bs → j < words_of bs k → (0x30000008 ≤ start_of bs k + 8 * j) × (start_of bs k + 8 * j + 8 ≤ 0x38010000) × ((start_of bs k + 8 * j) % 8 ≡ 0)
+pub cell_inside : (bs : List Placed) (k j : ℕ) → AllByRecursion IsInHeap bs → k < length bs → j < words_of bs k → (0x30000008 ≤ start_of bs k + 8 * j)
+    × (start_of bs k + 8 * j + 8 ≤ 0x38010000) × ((start_of bs k + 8 * j) % 8 ≡ 0)
 cell_inside [] k j a l h = absurd (omega (arith, l))
 cell_inside (b ∷ bs) zero j a l h = let lo = a.0.low in let hi = a.0.high in let e = a.0.aligned in (omega (arith, lo), omega (arith, hi, h), omega (arith, e))
 cell_inside (b ∷ bs) (suc k) j a l h = cell_inside bs k j a.1 (omega (arith, l)) h
 
 pub heap_kept :
     (s : Fixed) (placed : List Placed) (m m' : List Region) (a : Around) →
-    ((y : ℕ) → y < 0x38010008 → y ≢ 0x20000000 → word m' y ≡ word m y) → ((x : ℕ) → IsReadable m x → IsReadable m' x) → HeapStands s placed m a → HeapStands s placed m' a
+    ((y : ℕ) → y < 0x38010008 → y ≢ 0x20000000 → word m' y ≡ word m y) → ((x : ℕ) → IsReadable m x → IsReadable m' x) → HeapStands s placed m a →
+    HeapStands s placed m' a
 heap_kept s placed m m' a same readable h =
     let short = s.functions.tables.bytes.short in
     record {
@@ -133,8 +153,10 @@ heap_kept s placed m m' a same readable h =
       stand = record {
         count = h.stand.count;
         sizes = h.stand.sizes;
-        header = λ k w l e. let at = start_inside placed k h.old.inside l in same (start_of placed k - 8) (omega (arith, at)) (λ q. omega (arith, q, at)) ∙ h.stand.header k w l e;
-        cell = λ k j v l i e. let at = cell_inside placed k j h.old.inside l i in same (start_of placed k + 8 * j) (omega (arith, at)) (λ q. omega (arith, q, at)) ∙ h.stand.cell k j v l i e;
+        header = λ k w l e. let at = start_inside placed k h.old.inside l in same (start_of placed k - 8) (omega (arith, at)) (λ q. omega (arith, q, at))
+            ∙ h.stand.header k w l e;
+        cell = λ k j v l i e. let at = cell_inside placed k j h.old.inside l i in same (start_of placed k + 8 * j) (omega (arith, at))
+            (λ q. omega (arith, q, at)) ∙ h.stand.cell k j v l i e;
         known = h.stand.known;
       };
       heads = h.heads;

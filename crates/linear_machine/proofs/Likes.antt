@@ -1,9 +1,8 @@
 -- Memories that differ in the limit word alone.
-use Rattle.std.proofs.Common.{◌≡◌, ℕ, ◌^◌, ◌<◌, ◌%◌, Bool, true, false, cond, ◌==◌, List, map, refl, ap, ◌∙◌, sym, subst, ⊎_elim}
+use Rattle.std.proofs.Common.{◌≡◌, ℕ, ◌^◌, ◌<◌, List, map, refl, ◌∙◌, sym, subst, ⊎_elim}
 use Rattle.std.specs.List.{AllByRecursion}
-use Rattle.std.specs.Option.{is_some}
 use Rattle.rv_machine.specs.Hart.{Hart}
-use Rattle.rv_machine.specs.Memory.{Region, read, word, write}
+use Rattle.rv_machine.specs.Memory.{Region, word, write}
 use Rattle.rv_machine.specs.Places.{domain_start}
 use Rattle.rv_machine.specs.Run.{asked}
 use Rattle.rv_machine.specs.Sound.{Extent, HasRegions, IsRegion, extent}
@@ -50,7 +49,7 @@ like_write m m' x v f r small l =
     record {
       words = λ y n. ⊎_elim
           (λ (e : x ≡ y). subst (λ z. word (write m' x v) z ≡ word (write m x v) z) e
-            (word_same m' x v formed' (like_readable m m' x l r) small ∙ sym (word_same m x v formed r small)))
+          (word_same m' x v formed' (like_readable m m' x l r) small ∙ sym (word_same m x v formed r small)))
           (λ ne. other_word m' x y v ne ∙ l.words y n ∙ sym (other_word m x y v ne))
           (same_or_not x y);
       lie = h'.lie ∙ l.lie ∙ sym h.lie;

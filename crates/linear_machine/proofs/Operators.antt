@@ -1,7 +1,7 @@
 -- What an operator gives of two values is what its row gives of their words.
-use Rattle.std.proofs.Common.{◌≡◌, ◌≢◌, ℕ, zero, suc, ◌+◌, ◌-◌, ◌*◌, ◌/◌, ◌%◌, ◌^◌, ◌<◌, ◌≤◌, ◌⊎◌, inl, inr, Bool, true, false, cond, ◌&&◌, ◌||◌, ◌==◌, nat_le, List, [], ◌∷◌, length, Option, Some, None, Result, Ok, Err, bit_and, bit_or, bit_xor, refl, ap, ap₂, arith, ◌∙◌, sym, subst, ⊎_elim, mod-eq_of_lt}
+use Rattle.std.proofs.Common.{◌≡◌, ◌≢◌, ℕ, zero, suc, ◌+◌, ◌%◌, ◌^◌, ◌<◌, ◌⊎◌, inl, inr, Bool, true, false, cond, ◌||◌, ◌==◌, nat_le, List, [], ◌∷◌, length, Result, Ok, Err, bit_and, bit_or, bit_xor, refl, ap, ap₂, arith, ◌∙◌, sym, subst, ⊎_elim}
 use Rattle.std.specs.List.{AllByRecursion}
-use Rattle.std.proofs.lemmas.Bool.{cond-false, cond-true, eqb-true, leb-false, ne_eqb, or_cases}
+use Rattle.std.proofs.lemmas.Bool.{cond-false, eqb-true, leb-false, ne_eqb, or_cases}
 use Rattle.std.proofs.lemmas.Nat.{and_comm, and_mask}
 use Rattle.bs_words.specs.Operators.{apply, bits_in_both, difference_of, masked_offset, on_words, only_if, quotient_of, shift_of, sum_of}
 use Rattle.bs_words.specs.Word.{add_word, div_word, mul_word, mulh_word, rem_word, sar_word, shl_word, shr_word, sub_word}
@@ -18,9 +18,8 @@ use Rattle.rv_isa.specs.declared.instr.AluOp.{AluOp}
 use Rattle.rv_isa.specs.declared.instr.AluOp.TheVariants as row
 use Rattle.rv_machine.specs.Arithmetic.{alu, divided, ones}
 use Rattle.rv_machine.specs.Hart.{Placed}
-use Rattle.rv_machine.specs.Memory.{code_start}
 use Rattle.moving_laws.specs.Heap.{AreBlocks}
-use Rattle.moving_laws.specs.Values.{IsKnown, function_at, start_of, value_word}
+use Rattle.moving_laws.specs.Values.{function_at, start_of}
 use Rattle.moving_laws.proofs.Rewriting.{start_inside}
 use Rattle.linear_machine.specs.Relation.{StandsFor}
 use Rattle.linear_machine.specs.View.{Fixed}
@@ -36,7 +35,8 @@ pub record IsRowOf (f : IntOp) (r : AluOp) : Type 0 where
 module _ (s : Fixed) (placed : List Placed) where
   -- ---- words alone
 
-  words_alone : (g : ℕ → ℕ → ℕ) (x y z : Value) (wx wy : ℕ) → StandsFor s placed wx x → StandsFor s placed wy y → on_words g x y ≡ Ok z → StandsFor s placed (g wx wy) z
+  words_alone : (g : ℕ → ℕ → ℕ) (x y z : Value) (wx wy : ℕ) → StandsFor s placed wx x → StandsFor s placed wy y → on_words g x y ≡ Ok z →
+      StandsFor s placed (g wx wy) z
   words_alone g (Word a) (Word b) z wx wy sx sy e =
       subst (StandsFor s placed (g wx wy)) (ok_is (Word (g a b)) z e) (record { is = ap₂ g sx.is sy.is; known = tt })
   words_alone g (Word a) (Block k o) z wx wy sx sy e = absurd (cc)
@@ -59,7 +59,8 @@ module _ (s : Fixed) (placed : List Placed) where
   sum_turns a b = let e : a + b ≡ b + a = omega arith in ap (λ n. n % 2 ^ 64) e
 
   sums : (x y z : Value) (wx wy : ℕ) → StandsFor s placed wx x → StandsFor s placed wy y → sum_of x y ≡ Ok z → StandsFor s placed (add_word wx wy) z
-  sums (Word a) (Word b) z wx wy sx sy e = subst (StandsFor s placed (add_word wx wy)) (ok_is (Word (add_word a b)) z e) (record { is = ap₂ add_word sx.is sy.is; known = tt })
+  sums (Word a) (Word b) z wx wy sx sy e = subst (StandsFor s placed (add_word wx wy)) (ok_is (Word (add_word a b)) z e)
+      (record { is = ap₂ add_word sx.is sy.is; known = tt })
   sums (Block k o) (Word w) z wx wy sx sy e =
       subst (StandsFor s placed (add_word wx wy)) (ok_is (Block k (add_word o w)) z e)
       (record { is = ap₂ add_word sx.is sy.is ∙ sum_moves (start_of placed k) o w; known = (sx.known.0, add_word-below o w) })
@@ -81,8 +82,10 @@ module _ (s : Fixed) (placed : List Placed) where
   unfolding add_word sub_word
   distance a o p h k = omega (arith, h, k)
 
-  differences : (x y z : Value) (wx wy : ℕ) → wy < 2 ^ 64 → StandsFor s placed wx x → StandsFor s placed wy y → difference_of x y ≡ Ok z → StandsFor s placed (sub_word wx wy) z
-  differences (Word a) (Word b) z wx wy small sx sy e = subst (StandsFor s placed (sub_word wx wy)) (ok_is (Word (sub_word a b)) z e) (record { is = ap₂ sub_word sx.is sy.is; known = tt })
+  differences : (x y z : Value) (wx wy : ℕ) → wy < 2 ^ 64 → StandsFor s placed wx x → StandsFor s placed wy y → difference_of x y ≡ Ok z →
+      StandsFor s placed (sub_word wx wy) z
+  differences (Word a) (Word b) z wx wy small sx sy e = subst (StandsFor s placed (sub_word wx wy)) (ok_is (Word (sub_word a b)) z e)
+      (record { is = ap₂ sub_word sx.is sy.is; known = tt })
   differences (Block k o) (Word w) z wx wy small sx sy e =
       let is = word_is wy w sy in
       subst (StandsFor s placed (sub_word wx wy)) (ok_is (Block k (sub_word o w)) z e)
@@ -109,7 +112,8 @@ module _ (s : Fixed) (placed : List Placed) where
   quotients g at_zero x (Word (suc b)) z wx wy sx sy e =
       let is = word_is wy (suc b) sy in
       let other : wy ≢ 0 = λ q. omega (arith, q, is) in
-      subst (λ w. StandsFor s placed w z) (sym (cond-false (wy == 0) (at_zero wx) (g wx wy) (ne_eqb wy 0 other))) (words_alone g x (Word (suc b)) z wx wy sx sy e)
+      subst (λ w. StandsFor s placed w z) (sym (cond-false (wy == 0) (at_zero wx) (g wx wy) (ne_eqb wy 0 other)))
+      (words_alone g x (Word (suc b)) z wx wy sx sy e)
   quotients g at_zero x (Block k o) z wx wy sx sy e = absurd (no_words x e)
     where
       no_words : (x : Value) → on_words g x (Block k o) ≡ Ok z → ⊥
@@ -123,7 +127,8 @@ module _ (s : Fixed) (placed : List Placed) where
       no_words (Block j p) e = absurd (cc)
       no_words (Function h) e = absurd (cc)
 
-  shifts : (g : ℕ → ℕ → ℕ) (x y z : Value) (wx wy : ℕ) → StandsFor s placed wx x → StandsFor s placed wy y → shift_of g x y ≡ Ok z → StandsFor s placed (g wx (wy % 64)) z
+  shifts : (g : ℕ → ℕ → ℕ) (x y z : Value) (wx wy : ℕ) → StandsFor s placed wx x → StandsFor s placed wy y → shift_of g x y ≡ Ok z →
+      StandsFor s placed (g wx (wy % 64)) z
   shifts g x (Word k) z wx wy sx sy e = by_test (nat_le 64 k) refl e
     where
       by_test : (t : Bool) → nat_le 64 k ≡ t → cond t (Err ShiftRange) (on_words g x (Word k)) ≡ Ok z → StandsFor s placed (g wx (wy % 64)) z
@@ -156,7 +161,8 @@ module _ (s : Fixed) (placed : List Placed) where
   unfolding add_word
   low_bits k o blocks i = let at = start_inside placed k blocks.inside i in (omega (arith, at), omega (arith, at))
 
-  masked : (k o mask w : ℕ) (z : Value) → AreBlocks placed → StandsFor s placed w (Block k o) → masked_offset o mask ≡ Ok z → StandsFor s placed (bit_and w mask) z
+  masked : (k o mask w : ℕ) (z : Value) → AreBlocks placed → StandsFor s placed w (Block k o) → masked_offset o mask ≡ Ok z →
+      StandsFor s placed (bit_and w mask) z
   masked k o mask w z blocks st e = by_test ((mask == 1) || (mask == 7)) refl e
     where
       same : (mask ≡ 1) ⊎ (mask ≡ 7) → bit_and w mask ≡ bit_and o mask
@@ -167,7 +173,8 @@ module _ (s : Fixed) (placed : List Placed) where
           let low = (low_bits k o blocks st.known.0).0 in
           ap (bit_and w) m ∙ and_mask w 3 ∙ ap (λ n. n % 8) st.is ∙ low ∙ sym (and_mask o 3) ∙ ap (bit_and o) (sym m)
 
-      by_test : (t : Bool) → ((mask == 1) || (mask == 7)) ≡ t → only_if t PointerArithmetic (Word (bit_and o mask)) ≡ Ok z → StandsFor s placed (bit_and w mask) z
+      by_test : (t : Bool) → ((mask == 1) || (mask == 7)) ≡ t → only_if t PointerArithmetic (Word (bit_and o mask)) ≡ Ok z →
+          StandsFor s placed (bit_and w mask) z
       by_test true t e =
           subst (StandsFor s placed (bit_and w mask)) (ok_is (Word (bit_and o mask)) z e)
           (record { is = same (⊎_elim (λ m. inl (eqb-true mask 1 m)) (λ m. inr (eqb-true mask 7 m)) (or_cases (mask == 1) (mask == 7) t)); known = tt })
@@ -179,7 +186,8 @@ module _ (s : Fixed) (placed : List Placed) where
   function_even (g ∷ gs) zero all = let a = all.0.aligned in omega (arith, a)
   function_even (g ∷ gs) (suc f) all = function_even gs f all.1
 
-  bare : (f mask w : ℕ) (z : Value) → StandsFor s placed w (Function f) → only_if (mask == 1) PointerArithmetic (Word 0) ≡ Ok z → StandsFor s placed (bit_and w mask) z
+  bare : (f mask w : ℕ) (z : Value) → StandsFor s placed w (Function f) → only_if (mask == 1) PointerArithmetic (Word 0) ≡ Ok z →
+      StandsFor s placed (bit_and w mask) z
   bare f mask w z st e = by_test (mask == 1) refl e
     where
       by_test : (t : Bool) → (mask == 1) ≡ t → only_if t PointerArithmetic (Word 0) ≡ Ok z → StandsFor s placed (bit_and w mask) z
@@ -189,8 +197,10 @@ module _ (s : Fixed) (placed : List Placed) where
           (record { is = ap (bit_and w) (eqb-true mask 1 t) ∙ and_mask w 1 ∙ ap (λ n. n % 2) st.is ∙ even; known = tt })
       by_test false t e = absurd (cc)
 
-  bits : (x y z : Value) (wx wy : ℕ) → AreBlocks placed → StandsFor s placed wx x → StandsFor s placed wy y → bits_in_both x y ≡ Ok z → StandsFor s placed (bit_and wx wy) z
-  bits (Word a) (Word b) z wx wy blocks sx sy e = subst (StandsFor s placed (bit_and wx wy)) (ok_is (Word (bit_and a b)) z e) (record { is = ap₂ bit_and sx.is sy.is; known = tt })
+  bits : (x y z : Value) (wx wy : ℕ) → AreBlocks placed → StandsFor s placed wx x → StandsFor s placed wy y → bits_in_both x y ≡ Ok z →
+      StandsFor s placed (bit_and wx wy) z
+  bits (Word a) (Word b) z wx wy blocks sx sy e = subst (StandsFor s placed (bit_and wx wy)) (ok_is (Word (bit_and a b)) z e)
+      (record { is = ap₂ bit_and sx.is sy.is; known = tt })
   bits (Block k o) (Word mask) z wx wy blocks sx sy e = subst (λ m. StandsFor s placed (bit_and wx m) z) (sym sy.is) (masked k o mask wx z blocks sx e)
   bits (Word mask) (Block k o) z wx wy blocks sx sy e =
       subst (λ w. StandsFor s placed w z) (and_comm wy wx) (subst (λ m. StandsFor s placed (bit_and wy m) z) (sym sx.is) (masked k o mask wy z blocks sy e))

@@ -1,6 +1,5 @@
 -- Lines that read registers alone: constants, copies and operators.
-use Rattle.std.proofs.Common.{◌≡◌, ◌≢◌, ℕ, suc, ◌+◌, ◌*◌, ◌^◌, ◌<◌, ◌⊎◌, inl, inr, Bool, true, false, cond, List, [], ◌∷◌, length, Option, Some, None, Result, Ok, Err, slice_index, refl, ap, arith, ◌∙◌, sym, subst, ⊎_elim}
-use Rattle.bs_words.specs.Fits.{fits, type_of_comp}
+use Rattle.std.proofs.Common.{◌≡◌, ℕ, ◌+◌, ◌⊎◌, inl, inr, Bool, true, false, cond, List, [], ◌∷◌, length, Some, None, Result, Ok, Err, slice_index, refl, ap, ◌∙◌, sym, subst, ⊎_elim}
 use Rattle.bs_words.specs.Memory.{sizes}
 use Rattle.bs_words.specs.Operators.{apply}
 use Rattle.bs_words.specs.declared.operators.IntOp.{IntOp}
@@ -17,7 +16,7 @@ use Rattle.mach_ir.specs.declared.op.Pure.TheVariants as pure
 use Rattle.mach_ir.specs.declared.op.Op.TheVariants as op
 use Rattle.rv_machine.specs.Hart.{Placed}
 use Rattle.lin_ir.specs.Formed.{spare}
-use Rattle.lin_ir.specs.Meaning.{Locations, NamedAt, State, step, on_act, on_values, put, same_loc}
+use Rattle.lin_ir.specs.Meaning.{Locations, NamedAt, step, on_act, on_values, put, same_loc}
 use Rattle.lin_ir.specs.declared.lin.LinOp.TheVariants as lin
 use Rattle.lin_ir.specs.declared.lin.Lin.{Lin}
 use Rattle.lin_ir.specs.declared.lin.Line.{Line}
@@ -58,11 +57,15 @@ module _ (s : Fixed) (laid : Laid) (live : List Line → Type 0) (entry : ℕ �
       (w n m : ℕ) → laid.part (length next) ≡ v.place + (n + m) → ((z : Value) → Keeps s laid young a c rest (put r z held) (v.place + n) m t z) →
       Changes s v n rs v.memory (λ u. slice_index u.registers t ≡ w) →
       FollowsStep (n + m) s laid live entry c v
-      (step place named code (record { rest = record { op = lin.Op (op.Pure (pure.Constant w)); args = []; results = r ∷ [] } ∷ next; file = file; around = a }))
+      (step place named code (record {
+        rest = record { op = lin.Op (op.Pure (pure.Constant w)); args = []; results = r ∷ [] } ∷ next;
+        file = file;
+        around = a;
+      }))
   constant_follows w n m laid_next keeps work =
       result_follows s laid live entry c v next before (n + m) place.setting.end r (Word w) young held file a laid_next agrees passes
       (λ fit. worked s laid young a c none held rest (put r (Word w) held) v.place n t rs (Word w) target only m (keeps (Word w)) v refl within
-        (widened s v n rs rs v.memory _ _ (λ q i. i) (λ u past e. record { is = e; known = tt }) work))
+      (widened s v n rs rs v.memory _ _ (λ q i. i) (λ u past e. record { is = e; known = tt }) work))
 
   -- ---- operators of two locations
 
@@ -73,10 +76,14 @@ module _ (s : Fixed) (laid : Laid) (live : List Line → Type 0) (entry : ℕ �
       ((y : Value) → held q.loc ≡ Some y → Fetches s laid young a c held (v.place + n1) n2 scratch2 rb y) →
       ((z : Value) → Keeps s laid young a c rest (put r z held) (v.place + n1 + n2 + n) m t z) →
       ((x y z : Value) (u : View) → apply f (sizes a.memory) x y ≡ Ok z → u.place ≡ v.place + n1 + n2 → Within s laid u young 0 held a c →
-        StandsFor s (all_of u young) (slice_index u.registers ra) x → StandsFor s (all_of u young) (slice_index u.registers rb) y →
-        Changes s u n rs u.memory (λ w. StandsFor s (all_of u young) (slice_index w.registers t) z)) →
+      StandsFor s (all_of u young) (slice_index u.registers ra) x → StandsFor s (all_of u young) (slice_index u.registers rb) y →
+      Changes s u n rs u.memory (λ w. StandsFor s (all_of u young) (slice_index w.registers t) z)) →
       FollowsStep (n1 + (n2 + (n + m))) s laid live entry c v
-      (step place named code (record { rest = record { op = lin.Op (op.Pure (pure.Operator f right.Register)); args = p ∷ q ∷ []; results = r ∷ [] } ∷ next; file = file; around = a }))
+      (step place named code (record {
+        rest = record { op = lin.Op (op.Pure (pure.Operator f right.Register)); args = p ∷ q ∷ []; results = r ∷ [] } ∷ next;
+        file = file;
+        around = a;
+      }))
   operator_follows f p q n1 n2 n m ra rb scratch1 scratch2 laid_next reads_p reads_q apart first second keeps work =
       reads_two place.setting.end file (λ vs. FollowsStep count s laid live entry c v (on_values place (named (length next)) code line next file a vs)) tt p q
       (λ x y h e k g. by_result x y (apply f (sizes a.memory) x y) refl h k)
@@ -88,13 +95,18 @@ module _ (s : Fixed) (laid : Laid) (live : List Line → Type 0) (entry : ℕ �
       line = record { op = lin.Op (op.Pure (pure.Operator f right.Register)); args = p ∷ q ∷ []; results = r ∷ [] }
 
       by_result : (x y : Value) (o : Result Value Kind) → apply f (sizes a.memory) x y ≡ o → file p.loc ≡ Some x → file q.loc ≡ Some y →
-          FollowsStep (n1 + (n2 + (n + m))) s laid live entry c v (on_act place code (record { op = lin.Op (op.Pure (pure.Operator f right.Register)); args = p ∷ q ∷ []; results = r ∷ [] }) next file a (one_result a o))
+          FollowsStep (n1 + (n2 + (n + m))) s laid live entry c v (on_act place code (record {
+            op = lin.Op (op.Pure (pure.Operator f right.Register));
+            args = p ∷ q ∷ [];
+            results = r ∷ [];
+          }) next file a (one_result a o))
       by_result x y (Err kind) e h k = tt
       by_result x y (Ok z) e h k =
           result_follows s laid live entry c v next before (n1 + (n2 + (n + m))) place.setting.end r z young held file a laid_next agrees passes
           (λ fit. binary s laid young a c none held rest (put r z held) v.place n1 n2 n m ra rb t scratch1 scratch2 rs x y z
-            (first x (reads_held before held file p.loc agrees reads_p ∙ h)) (second y (reads_held before held file q.loc agrees reads_q ∙ k)) apart target only (keeps z)
-            (λ u pl w sx sy. work x y z u e pl w sx sy) v refl within)
+          (first x (reads_held before held file p.loc agrees reads_p ∙ h))
+          (second y (reads_held before held file q.loc agrees reads_q ∙ k)) apart target only (keeps z)
+          (λ u pl w sx sy. work x y z u e pl w sx sy) v refl within)
 
   -- ---- operators of a location and a constant
 
@@ -103,12 +115,17 @@ module _ (s : Fixed) (laid : Laid) (live : List Line → Type 0) (entry : ℕ �
       ((x : Value) → held p.loc ≡ Some x → Fetches s laid young a c held v.place n1 scratch ra x) →
       ((z : Value) → Keeps s laid young a c rest (put r z held) (v.place + n1 + n) m t z) →
       ((x z : Value) (u : View) → apply f (sizes a.memory) x (Word k) ≡ Ok z → u.place ≡ v.place + n1 → Within s laid u young 0 held a c →
-        StandsFor s (all_of u young) (slice_index u.registers ra) x →
-        Changes s u n rs u.memory (λ w. StandsFor s (all_of u young) (slice_index w.registers t) z)) →
+      StandsFor s (all_of u young) (slice_index u.registers ra) x →
+      Changes s u n rs u.memory (λ w. StandsFor s (all_of u young) (slice_index w.registers t) z)) →
       FollowsStep (n1 + (n + m)) s laid live entry c v
-      (step place named code (record { rest = record { op = lin.Op (op.Pure (pure.Operator f (right.Constant k))); args = p ∷ []; results = r ∷ [] } ∷ next; file = file; around = a }))
+      (step place named code (record {
+        rest = record { op = lin.Op (op.Pure (pure.Operator f (right.Constant k))); args = p ∷ []; results = r ∷ [] } ∷ next;
+        file = file;
+        around = a;
+      }))
   operator_with_follows f k p n1 n m ra scratch laid_next reads_p first keeps work =
-      reads_one place.setting.end file (λ vs. FollowsStep (n1 + (n + m)) s laid live entry c v (on_values place (named (length next)) code line next file a vs)) tt p
+      reads_one place.setting.end file (λ vs. FollowsStep (n1 + (n + m)) s laid live entry c v (on_values place (named
+      (length next)) code line next file a vs)) tt p
       (λ x h e. by_result x (apply f (sizes a.memory) x (Word k)) refl h)
     where
       line : Line
@@ -116,33 +133,47 @@ module _ (s : Fixed) (laid : Laid) (live : List Line → Type 0) (entry : ℕ �
 
       by_result : (x : Value) (o : Result Value Kind) → apply f (sizes a.memory) x (Word k) ≡ o → file p.loc ≡ Some x →
           FollowsStep (n1 + (n + m)) s laid live entry c v
-          (on_act place code (record { op = lin.Op (op.Pure (pure.Operator f (right.Constant k))); args = p ∷ []; results = r ∷ [] }) next file a (one_result a o))
+          (on_act place code (record {
+            op = lin.Op (op.Pure (pure.Operator f (right.Constant k)));
+            args = p ∷ [];
+            results = r ∷ [];
+          }) next file a (one_result a o))
       by_result x (Err kind) e h = tt
       by_result x (Ok z) e h =
           result_follows s laid live entry c v next before (n1 + (n + m)) place.setting.end r z young held file a laid_next agrees passes
           (λ fit. unary s laid young a c none held rest (put r z held) v.place n1 n m ra t scratch rs x z
-            (first x (reads_held before held file p.loc agrees reads_p ∙ h)) target only (keeps z) (λ u pl w sx. work x z u e pl w sx) v refl within)
+          (first x (reads_held before held file p.loc agrees reads_p ∙ h)) target only (keeps z) (λ u pl w sx. work x z u e pl w sx) v refl within)
 
 -- ---- copies
 
 -- whatever its words are, they bring the value to its location
 pub copy_follows :
     (s : Fixed) (laid : Laid) (live : List Line → Type 0) (entry : ℕ → ℕ) (c : Below) (place : Place) (named : NamedAt) (code : Lin) (next : List Line)
-    (v : View) (young : List Placed) (held file : Locations) (a : Around) (before : Type 0) → Agrees before held file → (p r : Spot) → PassesSpare before (live next) r.loc →
+    (v : View) (young : List Placed) (held file : Locations) (a : Around) (before : Type 0) → Agrees before held file → (p r : Spot) →
+    PassesSpare before (live next) r.loc →
     (kind : CopyKind) (n : ℕ) → laid.part (length next) ≡ v.place + n → Reads before p.loc →
     ((x : Value) → held p.loc ≡ Some x → Comes s v n (λ w. Within s laid w young 0 (put r x held) a c)) →
     FollowsStep n s laid live entry c v
-    (step place named code (record { rest = record { op = lin.Op (op.Pure (pure.Copy kind)); args = p ∷ []; results = r ∷ [] } ∷ next; file = file; around = a }))
+    (step place named code (record {
+      rest = record { op = lin.Op (op.Pure (pure.Copy kind)); args = p ∷ []; results = r ∷ [] } ∷ next;
+      file = file;
+      around = a;
+    }))
 copy_follows s laid live entry c place named code next v young held file a before agrees p r passes kind n laid_next reads_p copies =
     reads_one place.setting.end file
-    (λ vs. FollowsStep n s laid live entry c v (on_values place (named (length next)) code (record { op = lin.Op (op.Pure (pure.Copy kind)); args = p ∷ []; results = r ∷ [] }) next file a vs)) tt p
+    (λ vs. FollowsStep n s laid live entry c v (on_values place (named (length next)) code (record {
+      op = lin.Op (op.Pure (pure.Copy kind));
+      args = p ∷ [];
+      results = r ∷ [];
+    }) next file a vs)) tt p
     (λ x h e.
-      result_follows s laid live entry c v next before n place.setting.end r x young held file a laid_next agrees passes
-      (λ fit. copies x (reads_held before held file p.loc agrees reads_p ∙ h)))
+    result_follows s laid live entry c v next before n place.setting.end r x young held file a laid_next agrees passes
+    (λ fit. copies x (reads_held before held file p.loc agrees reads_p ∙ h)))
 
 -- a copy from a location to itself has no words
 pub copy_nothing :
-    (s : Fixed) (laid : Laid) (v : View) (young : List Placed) (held : Locations) (a : Around) (c : Below) → Within s laid v young 0 held a c → (r : Spot) (x : Value) → held r.loc ≡ Some x →
+    (s : Fixed) (laid : Laid) (v : View) (young : List Placed) (held : Locations) (a : Around) (c : Below) → Within s laid v young 0 held a c → (r : Spot)
+    (x : Value) → held r.loc ≡ Some x →
     Comes s v 0 (λ w. Within s laid w young 0 (put r x held) a c)
 copy_nothing s laid v young held a c within r x h =
     comes_here s v (λ w. Within s laid w young 0 (put r x held) a c)

@@ -1,7 +1,6 @@
 -- What a line reads, by cases.
 use Rattle.std.proofs.Common.{◌≡◌, ℕ, Bool, true, false, List, [], ◌∷◌, Option, Some, None, refl}
 use Rattle.bs_words.specs.Fits.{fits, type_of_comp}
-use Rattle.bs_words.specs.declared.types.Comp.{Comp}
 use Rattle.bs_words.specs.declared.values.Value.{Value}
 use Rattle.lin_ir.specs.Meaning.{Locations, as_type, values, with_held}
 use Rattle.lin_ir.specs.declared.lin.Spot.{Spot}
@@ -26,7 +25,8 @@ module _ (end : ℕ) (file : Locations) (P : Option (List Value) → Type 0) (st
 
 pub reads_two :
     (end : ℕ) (file : Locations) (P : Option (List Value) → Type 0) → P None → (p q : Spot) →
-    ((x y : Value) → file p.loc ≡ Some x → fits end (type_of_comp p.comp) x ≡ true → file q.loc ≡ Some y → fits end (type_of_comp q.comp) y ≡ true → P (Some (x ∷ y ∷ []))) →
+    ((x y : Value) → file p.loc ≡ Some x → fits end (type_of_comp p.comp) x ≡ true → file q.loc ≡ Some y → fits end (type_of_comp q.comp) y ≡ true →
+    P (Some (x ∷ y ∷ []))) →
     P (values end file (p ∷ q ∷ []))
 reads_two end file P stuck p q go =
     reads_then end file P stuck p (values end file (q ∷ []))

@@ -1,13 +1,11 @@
 -- One instruction that works on registers which stand for values, of two registers or of one and a constant.
-use Rattle.std.proofs.Common.{◌≡◌, ◌≢◌, ℕ, zero, suc, ◌+◌, ◌-◌, ◌*◌, ◌/◌, ◌%◌, ◌^◌, ◌<◌, ◌≤◌, ◌⊎◌, inl, inr, true, ◌&&◌, ◌||◌, nat_le, nat_lt, List, [], ◌∷◌, Result, Ok, slice_index, bit_and, bit_or, bit_xor, refl, ap, arith, ◌∙◌, sym, subst, ⊎_elim}
+use Rattle.std.proofs.Common.{◌≡◌, ◌≢◌, ℕ, suc, ◌%◌, ◌^◌, ◌<◌, ◌⊎◌, inl, inr, true, ◌&&◌, nat_le, nat_lt, List, [], ◌∷◌, Ok, slice_index, refl, ap, arith, ◌∙◌, sym, subst, ⊎_elim}
 use Rattle.std.proofs.lemmas.Bool.{and_parts, leb-true, ltb-true, or_cases}
 use Rattle.bs_words.specs.Operators.{apply}
-use Rattle.bs_words.specs.Word.{add_word, sub_word}
 use Rattle.bs_words.specs.declared.operators.IntOp.{IntOp}
-use Rattle.bs_words.specs.declared.operators.IntOp.TheVariants as int
 use Rattle.bs_words.specs.declared.values.Value.{Value}
 use Rattle.bs_words.specs.declared.values.Value.TheVariants.{Word}
-use Rattle.mach_ir.specs.Forms.{is_immediate_12, is_opposite_immediate_12}
+use Rattle.mach_ir.specs.Forms.{is_immediate_12}
 use Rattle.rv_isa.specs.declared.instr.AluImmOp.{AluImmOp}
 use Rattle.rv_isa.specs.declared.instr.AluImmOp.TheVariants as imm
 use Rattle.rv_isa.specs.declared.instr.AluOp.{AluOp}
@@ -29,7 +27,8 @@ use Rattle.linear_machine.proofs.Operators.{IsRowOf}
 use Rattle.linear_machine.proofs.Sequences.{set_changes, sets_as, widened}
 use Rattle.linear_machine.proofs.Steps.{SetsRegister}
 
-module _ (s : Fixed) (placed : List Placed) (blocks : AreBlocks placed) (sizes : List ℕ) (f : IntOp) (r : AluOp) (is : IsRowOf f r) (u : View) (are : AreRegisters u.registers) (x y z : Value)
+module _ (s : Fixed) (placed : List Placed) (blocks : AreBlocks placed) (sizes : List ℕ) (f : IntOp) (r : AluOp) (is : IsRowOf f r) (u : View)
+    (are : AreRegisters u.registers) (x y z : Value)
     (e : apply f sizes x y ≡ Ok z) (t ra : ℕ) (fits : suc t < 32) (other : suc t ≢ 2) (sx : StandsFor s placed (slice_index u.registers (suc ra)) x) where
   -- ---- of two registers
 
@@ -39,14 +38,16 @@ module _ (s : Fixed) (placed : List Placed) (blocks : AreBlocks placed) (sizes :
       let wx : ℕ = slice_index u.registers (suc ra) in
       let wy : ℕ = slice_index u.registers (suc rb) in
       let stands = is.is s placed sizes x y z wx wy blocks (are.words (suc ra)) (are.words (suc rb)) sx sy e in
-      widened s u 1 (suc t ∷ []) (suc t ∷ []) u.memory (λ w. slice_index w.registers (suc t) ≡ alu r (slice_index u.registers (suc ra)) (slice_index u.registers (suc rb))) _ (λ q i. i)
+      widened s u 1 (suc t ∷ []) (suc t ∷ []) u.memory (λ w. slice_index w.registers (suc t) ≡ alu r (slice_index u.registers (suc ra))
+      (slice_index u.registers (suc rb))) _ (λ q i. i)
       (λ w p h. subst (λ k. StandsFor s placed k z) (sym h) stands)
       (set_changes s u (Op r (suc t) (suc ra) (suc rb)) t (alu r wx wy) code (inl other) (sets_op s u r (suc t) (suc ra) (suc rb)) are fits
-        (alu-below r wx wy (are.words (suc ra)) (are.words (suc rb))))
+      (alu-below r wx wy (are.words (suc ra)) (are.words (suc rb))))
 
   -- ---- of a register and a constant, whatever instruction does the row's work with it
 
-  pub constant_works : (k : ℕ) (i : _) → y ≡ Word k → k < 2 ^ 64 → SetsRegister s u i (suc t) (alu r (slice_index u.registers (suc ra)) k) → IsCode s u.place i →
+  pub constant_works : (k : ℕ) (i : _) → y ≡ Word k → k < 2 ^ 64 → SetsRegister s u i (suc t) (alu r (slice_index u.registers (suc ra)) k) →
+      IsCode s u.place i →
       Changes s u 1 (suc t ∷ []) u.memory (λ w. StandsFor s placed (slice_index w.registers (suc t)) z)
   constant_works k i same small sets code =
       let wx : ℕ = slice_index u.registers (suc ra) in
@@ -63,14 +64,14 @@ pub immediate_is : (k : ℕ) → is_immediate_12 k ≡ true → imm_i (k % 4096)
 immediate_is k h =
     ⊎_elim
     (λ l.
-      let small = ltb-true k 2048 l in
-      let e : k % 4096 ≡ k = omega (arith, small) in
-      ap imm_i e ∙ low_12 k small)
+    let small = ltb-true k 2048 l in
+    let e : k % 4096 ≡ k = omega (arith, small) in
+    ap imm_i e ∙ low_12 k small)
     (λ l.
-      let p = and_parts (nat_le 0xFFFFFFFFFFFFF800 k) (nat_lt k 0x10000000000000000) l in
-      let low = leb-true 0xFFFFFFFFFFFFF800 k p.0 in
-      let high = ltb-true k 0x10000000000000000 p.1 in
-      high_12 (k % 4096) (omega (arith, low, high)) (omega arith) ∙ omega (arith, low, high))
+    let p = and_parts (nat_le 0xFFFFFFFFFFFFF800 k) (nat_lt k 0x10000000000000000) l in
+    let low = leb-true 0xFFFFFFFFFFFFF800 k p.0 in
+    let high = ltb-true k 0x10000000000000000 p.1 in
+    high_12 (k % 4096) (omega (arith, low, high)) (omega arith) ∙ omega (arith, low, high))
     (or_cases (nat_lt k 2048) (nat_le 0xFFFFFFFFFFFFF800 k && nat_lt k 0x10000000000000000) h)
 
 pub immediate_small : (k : ℕ) → is_immediate_12 k ≡ true → k < 2 ^ 64
@@ -100,11 +101,12 @@ module _ (s : Fixed) (u : View) (t ra k : ℕ) where
   pub immediate_sets : (r : AluOp) (i : AluImmOp) → IsImmediateRow r i → is_immediate_12 k ≡ true →
       SetsRegister s u (OpImm i (suc t) (suc ra) (k % 4096)) (suc t) (alu r (slice_index u.registers (suc ra)) k)
   immediate_sets r i same h =
-      sets_as s u (OpImm i (suc t) (suc ra) (k % 4096)) (suc t) _ _ (immediate_same same (slice_index u.registers (suc ra)) k (immediate_is k h)) (sets_imm s u i (suc t) (suc ra) (k % 4096))
-
+      sets_as s u (OpImm i (suc t) (suc ra) (k % 4096)) (suc t) _ _ (immediate_same same (slice_index u.registers (suc ra)) k (immediate_is k h))
+      (sets_imm s u i (suc t) (suc ra) (k % 4096))
 
   -- shifts by a constant
-  pub shift_sets : (r : AluOp) (i : ShiftOp) → (((r ≡ row.Sll) × (i ≡ amount.Slli)) ⊎ (((r ≡ row.Srl) × (i ≡ amount.Srli)) ⊎ ((r ≡ row.Sra) × (i ≡ amount.Srai)))) → k < 64 →
+  pub shift_sets : (r : AluOp) (i : ShiftOp) →
+      (((r ≡ row.Sll) × (i ≡ amount.Slli)) ⊎ (((r ≡ row.Srl) × (i ≡ amount.Srli)) ⊎ ((r ≡ row.Sra) × (i ≡ amount.Srai)))) → k < 64 →
       SetsRegister s u (Shift i (suc t) (suc ra) (k % 64)) (suc t) (alu r (slice_index u.registers (suc ra)) k)
   shift_sets r i which small =
       sets_as s u (Shift i (suc t) (suc ra) (k % 64)) (suc t) _ _ (same r i which) (sets_shift s u i (suc t) (suc ra) (k % 64))

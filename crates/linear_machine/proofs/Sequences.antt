@@ -1,5 +1,5 @@
 -- Some instructions after one another.
-use Rattle.std.proofs.Common.{◌≡◌, ◌≢◌, ℕ, suc, ◌+◌, ◌*◌, ◌^◌, ◌<◌, ◌≤◌, inl, inr, List, [], ◌∷◌, slice_index, slice_set, refl, ap, arith, ◌∙◌, sym, subst, ⊎_elim, get_or-set_same, get_or-set_other}
+use Rattle.std.proofs.Common.{◌≡◌, ◌≢◌, ℕ, suc, ◌+◌, ◌^◌, ◌<◌, ◌≤◌, inl, inr, List, [], ◌∷◌, slice_index, refl, arith, ◌∙◌, sym, subst, ⊎_elim, get_or-set_same, get_or-set_other}
 use Rattle.std.specs.List.{AllByRecursion}
 use Rattle.rv_isa.specs.declared.instr.Instr.{Instr}
 use Rattle.rv_isa.specs.declared.instr.Instr.TheVariants.{Load, Store}
@@ -13,7 +13,7 @@ use Rattle.machine_laws.proofs.Words.{with_registers}
 use Rattle.moving_laws.specs.Stands.{Among}
 use Rattle.moving_laws.specs.Words.{IsReadable}
 use Rattle.linear_machine.specs.Straight.{Changes, IsPast}
-use Rattle.linear_machine.specs.View.{Fixed, View, Leads, IsCode}
+use Rattle.linear_machine.specs.View.{Fixed, View, IsCode}
 use Rattle.linear_machine.proofs.Formats.{sets_load, store_step, stored_in}
 use Rattle.linear_machine.proofs.Steps.{Passes, SetsRegister, reg, reg_below, set_in, set_step, stays, then_leads}
 
@@ -65,12 +65,12 @@ pub widened :
     ((w : View) → IsPast n rs' m v w → P w → Q w) → Changes s v n rs m P → Changes s v n rs' m Q
 widened s v n rs rs' m P Q sub then' c =
     let past : IsPast n rs' m v c.view = record {
-          place = c.past.place;
-          are = c.past.are;
-          others = λ q none. c.past.others q (λ i. none (sub q i));
-          memory = c.past.memory;
-          blocks = c.past.blocks;
-        } in
+      place = c.past.place;
+      are = c.past.are;
+      others = λ q none. c.past.others q (λ i. none (sub q i));
+      memory = c.past.memory;
+      blocks = c.past.blocks;
+    } in
     record { view = c.view; leads = c.leads; past = past; holds = then' c.view past c.holds }
 
 -- ---- one after the other
@@ -116,8 +116,8 @@ pub set_then :
 set_then s v n rs m P i r value first among sets code passes fits small =
     then_changes s v n 1 rs m m P (λ w. slice_index w.registers (suc r) ≡ value) first
     (λ w past p. subst (λ k. Changes s w 1 rs k (λ u. slice_index u.registers (suc r) ≡ value)) past.memory
-      (widened s w 1 (suc r ∷ []) rs w.memory (λ u. slice_index u.registers (suc r) ≡ value) (λ u. slice_index u.registers (suc r) ≡ value) sub (λ u q f. f)
-        (set_changes s w i r value (code_past s n rs m v w i past code) passes (sets w past p) past.are fits small)))
+    (widened s w 1 (suc r ∷ []) rs w.memory (λ u. slice_index u.registers (suc r) ≡ value) (λ u. slice_index u.registers (suc r) ≡ value) sub (λ u q f. f)
+    (set_changes s w i r value (code_past s n rs m v w i past code) passes (sets w past p) past.are fits small)))
   where
     sub : (q : ℕ) → Among q (suc r ∷ []) → Among q rs
     sub q (inl e) = subst (λ k. Among k rs) (sym e) among
@@ -127,22 +127,26 @@ set_then s v n rs m P i r value first among sets code passes fits small =
 pub set_more :
     (s : Fixed) (v : View) (n : ℕ) (rs : List ℕ) (m : List Region) (P : View → Type 0) (i : Instr) (r value : ℕ) (first : Changes s v n rs m P) →
     Among (suc r) rs → SetsRegister s first.view i (suc r) value → IsCode s (v.place + n) i → Passes s (suc r) value → suc r < 32 → value < 2 ^ 64 →
-    Changes s v (n + 1) rs m (λ w. (slice_index w.registers (suc r) ≡ value) × ((q : ℕ) → q ≢ suc r → slice_index w.registers q ≡ slice_index first.view.registers q))
+    Changes s v (n + 1) rs m (λ w. (slice_index w.registers (suc r) ≡ value)
+    × ((q : ℕ) → q ≢ suc r → slice_index w.registers q ≡ slice_index first.view.registers q))
 set_more s v n rs m P i r value first among sets code passes fits small =
     let u = first.view in
-    then_here s v n 1 rs m m P (λ w. (slice_index w.registers (suc r) ≡ value) × ((q : ℕ) → q ≢ suc r → slice_index w.registers q ≡ slice_index first.view.registers q)) first
-    (subst (λ k. Changes s u 1 rs k (λ w. (slice_index w.registers (suc r) ≡ value) × ((q : ℕ) → q ≢ suc r → slice_index w.registers q ≡ slice_index u.registers q))) first.past.memory
-      (widened s u 1 (suc r ∷ []) rs u.memory
-        (λ w. (slice_index w.registers (suc r) ≡ value) × ((q : ℕ) → q ≢ suc r → slice_index w.registers q ≡ slice_index u.registers q)) _
-        (λ q j. ⊎_elim (λ e. subst (λ k. Among k rs) (sym e) among) (λ f. absurd f) j) (λ w p x. x)
-        (widened s u 1 (suc r ∷ []) (suc r ∷ []) u.memory (λ w. slice_index w.registers (suc r) ≡ value) _ (λ q j. j)
-          (λ w p x. (x, λ q ne. p.others q (λ j. ⊎_elim ne (λ f. f) j)))
-          (set_changes s u i r value (code_past s n rs m v u i first.past code) passes sets first.past.are fits small))))
+    then_here s v n 1 rs m m P (λ w. (slice_index w.registers (suc r) ≡ value)
+    × ((q : ℕ) → q ≢ suc r → slice_index w.registers q ≡ slice_index first.view.registers q)) first
+    (subst (λ k. Changes s u 1 rs k (λ w. (slice_index w.registers (suc r) ≡ value)
+    × ((q : ℕ) → q ≢ suc r → slice_index w.registers q ≡ slice_index u.registers q))) first.past.memory
+    (widened s u 1 (suc r ∷ []) rs u.memory
+    (λ w. (slice_index w.registers (suc r) ≡ value) × ((q : ℕ) → q ≢ suc r → slice_index w.registers q ≡ slice_index u.registers q)) _
+    (λ q j. ⊎_elim (λ e. subst (λ k. Among k rs) (sym e) among) (λ f. absurd f) j) (λ w p x. x)
+    (widened s u 1 (suc r ∷ []) (suc r ∷ []) u.memory (λ w. slice_index w.registers (suc r) ≡ value) _ (λ q j. j)
+    (λ w p x. (x, λ q ne. p.others q (λ j. ⊎_elim ne (λ f. f) j)))
+    (set_changes s u i r value (code_past s n rs m v u i first.past code) passes sets first.past.are fits small))))
 
 -- a load behind them
 pub load_there :
     (s : Fixed) (v : View) (n : ℕ) (rs : List ℕ) (m : List Region) (P : View → Type 0) (first : Changes s v n rs m P) (rd ra imm x : ℕ) →
-    add_word (reg first.view.registers ra) (imm_i imm) ≡ x → x ≢ 0x20000000 → 0x10000000 ≤ x → IsReadable m x → SetsRegister s first.view (Load Ld rd ra imm) rd (word m x)
+    add_word (reg first.view.registers ra) (imm_i imm) ≡ x → x ≢ 0x20000000 → 0x10000000 ≤ x → IsReadable m x →
+    SetsRegister s first.view (Load Ld rd ra imm) rd (word m x)
 load_there s v n rs m P first rd ra imm x e off low readable =
     subst (λ k. SetsRegister s first.view (Load Ld rd ra imm) rd (word k x)) first.past.memory
     (sets_load s first.view rd ra imm x e off low (subst (λ k. IsReadable k x) (sym first.past.memory) readable))
@@ -156,7 +160,8 @@ store_more s v n rs m P first ra rb imm x value code e value_is regions readable
     let u = first.view in
     then_here s v n 1 rs m (write m x value) P (λ w. w.registers ≡ first.view.registers) first
     (subst (λ k. Changes s u 1 rs (write k x value) (λ w. w.registers ≡ u.registers)) first.past.memory
-      (subst (λ z. Changes s u 1 rs (write u.memory x z) (λ w. w.registers ≡ u.registers)) value_is
-        (widened s u 1 [] rs (write u.memory x (reg u.registers rb)) (λ w. w.registers ≡ u.registers) (λ w. w.registers ≡ u.registers) (λ q j. absurd j) (λ w p f. f)
-          (store_changes s u ra rb imm x (code_past s n rs m v u (Store Sd ra rb imm) first.past code) e
-            (subst (λ k. AllByRecursion IsRegion k) (sym first.past.memory) regions) (subst (λ k. IsReadable k x) (sym first.past.memory) readable) first.past.are))))
+    (subst (λ z. Changes s u 1 rs (write u.memory x z) (λ w. w.registers ≡ u.registers)) value_is
+    (widened s u 1 [] rs (write u.memory x (reg u.registers rb)) (λ w. w.registers ≡ u.registers) (λ w. w.registers ≡ u.registers) (λ q j. absurd j)
+    (λ w p f. f)
+    (store_changes s u ra rb imm x (code_past s n rs m v u (Store Sd ra rb imm) first.past code) e
+    (subst (λ k. AllByRecursion IsRegion k) (sym first.past.memory) regions) (subst (λ k. IsReadable k x) (sym first.past.memory) readable) first.past.are))))

@@ -1,14 +1,13 @@
 -- The services that move the blocks, from their ECALL on, under every schedule.
-use Rattle.std.proofs.Common.{◌≡◌, ◌≢◌, ℕ, zero, suc, ◌+◌, ◌-◌, ◌*◌, ◌%◌, ◌^◌, ◌<◌, ◌≤◌, inl, inr, Bool, true, List, [], ◌∷◌, ◌++◌, length, reverse, Option, Some, None, slice_index, refl, ap, arith, ◌∙◌, sym, subst, ⊎_elim, mod-eq_of_lt}
+use Rattle.std.proofs.Common.{◌≡◌, ℕ, ◌+◌, ◌*◌, ◌^◌, ◌<◌, ◌≤◌, inl, inr, true, List, [], ◌++◌, length, reverse, Some, None, slice_index, refl, ap, arith, ◌∙◌, subst, ⊎_elim, mod-eq_of_lt}
 use Rattle.std.proofs.lemmas.Bool.{cases_lt}
 use Rattle.bs_words.specs.Word.{add_word}
 use Rattle.bs_words.specs.declared.types.Loc.{Loc}
-use Rattle.bs_words.specs.declared.values.Value.{Value}
 use Rattle.image_form.specs.Tables.{Desc}
 use Rattle.lin_ir.specs.Meaning.{Locations, are_vals, poisoned}
 use Rattle.mach_ir.specs.Acts.{Around, is_complete}
 use Rattle.rv_isa.specs.declared.instr.Instr.TheVariants.{Ecall}
-use Rattle.rv_machine.specs.Allocation.{allocated, bytes_asked, is_request, young_from}
+use Rattle.rv_machine.specs.Allocation.{allocated, is_request, young_from}
 use Rattle.rv_machine.specs.FrameCalls.{collected}
 use Rattle.rv_machine.specs.Frames.{descriptor_at}
 use Rattle.rv_machine.specs.Hart.{Hart, Placed, register}
@@ -22,7 +21,7 @@ use Rattle.rv_machine.specs.Services.{Going, HeapOut, Machine, Over, after_alloc
 use Rattle.moving_laws.specs.Service.{IsAllocated, IsCollected, IsRestored}
 use Rattle.moving_laws.proofs.Moving.{allocates, allocates_not, collects, collects_not}
 use Rattle.linear_machine.specs.Arrival.{Arrives, Needs}
-use Rattle.linear_machine.specs.Relation.{Below, IsDescribed, Laid, Within, all_of}
+use Rattle.linear_machine.specs.Relation.{Below, IsDescribed, Laid, Within}
 use Rattle.linear_machine.specs.View.{Ends, Fixed, IsCode, Stands, View}
 use Rattle.linear_machine.proofs.Arriving.{ends_arrives}
 use Rattle.linear_machine.proofs.Likes.{like_refl}
@@ -39,24 +38,40 @@ pub hart_is : (s : Fixed) (a : Machine) (v : View) → Stands s a v → a.hart �
 hart_is s a v st =
     let h = a.hart in
     let e1 : h ≡ record h { image = s.image } = ap (λ x. record h { image = x }) st.image in
-    let e2 : record h { image = s.image } ≡ record h { image = s.image; registers = v.registers } = ap (λ x. record h { image = s.image; registers = x }) st.registers in
+    let e2 : record h { image = s.image } ≡ record h {
+      image = s.image;
+      registers = v.registers;
+    } = ap (λ x. record h { image = s.image; registers = x }) st.registers in
     let e3 : record h { image = s.image; registers = v.registers } ≡ record h { image = s.image; registers = v.registers; pc = code_start + 4 * v.place } =
-        ap (λ x. record h { image = s.image; registers = v.registers; pc = x }) st.pc in
-    let e4 : record h { image = s.image; registers = v.registers; pc = code_start + 4 * v.place } ≡ record h { image = s.image; registers = v.registers; pc = code_start + 4 * v.place; stack_base = s.base } =
-        ap (λ x. record h { image = s.image; registers = v.registers; pc = code_start + 4 * v.place; stack_base = x }) st.stack_base in
+    ap (λ x. record h { image = s.image; registers = v.registers; pc = x }) st.pc in
+    let e4 : record h { image = s.image; registers = v.registers; pc = code_start + 4 * v.place } ≡ record h {
+      image = s.image;
+      registers = v.registers;
+      pc = code_start + 4 * v.place;
+      stack_base = s.base;
+    } =
+    ap (λ x. record h { image = s.image; registers = v.registers; pc = code_start + 4 * v.place; stack_base = x }) st.stack_base in
     let e5 : record h { image = s.image; registers = v.registers; pc = code_start + 4 * v.place; stack_base = s.base }
-        ≡ record h { image = s.image; registers = v.registers; pc = code_start + 4 * v.place; stack_base = s.base; heap = s.heap } =
-        ap (λ x. record h { image = s.image; registers = v.registers; pc = code_start + 4 * v.place; stack_base = s.base; heap = x }) st.heap in
-    let e6 : record h { image = s.image; registers = v.registers; pc = code_start + 4 * v.place; stack_base = s.base; heap = s.heap } ≡ hart_of s (with_memory v h) h =
-        ap (λ x. record h { image = s.image; registers = v.registers; pc = code_start + 4 * v.place; stack_base = s.base; heap = s.heap; blocks = x }) st.blocks in
+    ≡ record h { image = s.image; registers = v.registers; pc = code_start + 4 * v.place; stack_base = s.base; heap = s.heap } =
+    ap (λ x. record h { image = s.image; registers = v.registers; pc = code_start + 4 * v.place; stack_base = s.base; heap = x }) st.heap in
+    let e6 : record h {
+      image = s.image;
+      registers = v.registers;
+      pc = code_start + 4 * v.place;
+      stack_base = s.base;
+      heap = s.heap;
+    } ≡ hart_of s (with_memory v h) h =
+    ap (λ x. record h { image = s.image; registers = v.registers; pc = code_start + 4 * v.place; stack_base = s.base; heap = s.heap; blocks = x }) st.blocks in
     e1 ∙ e2 ∙ e3 ∙ e4 ∙ e5 ∙ e6
 
 taken_back : (a t : ℕ) → a + t < 2 ^ 64 → add_word a t ≡ a + t
 unfolding add_word
 taken_back a t l = mod-eq_of_lt l
 
-module _ (s : Fixed) (laid : Laid) (v : View) (young : List Placed) (taken : ℕ) (held : Locations) (a : Around) (c : Below) (within : Within s laid v young taken held a c)
-    (named : List Loc) (d : Desc) (is : IsDescribed laid (length a.tries) named d) (saves : laid.saves ≡ true) (fit : are_vals (data_start + length s.image.bytes) named held ≡ true)
+module _ (s : Fixed) (laid : Laid) (v : View) (young : List Placed) (taken : ℕ) (held : Locations) (a : Around) (c : Below)
+    (within : Within s laid v young taken held a c)
+    (named : List Loc) (d : Desc) (is : IsDescribed laid (length a.tries) named d) (saves : laid.saves ≡ true)
+    (fit : are_vals (data_start + length s.image.bytes) named held ≡ true)
     (whole : is_complete a ≡ true) (none : a.raised ≡ None) (there : descriptor_at s.image.descs (code_start + 4 * v.place + 4) ≡ Some d) where
   -- the same where the machine has its own limit word
   pub within_there : (b : Machine) → Stands s b v → Within s laid (with_memory v b.hart) young taken held a c
@@ -64,9 +79,11 @@ module _ (s : Fixed) (laid : Laid) (v : View) (young : List Placed) (taken : ℕ
 
   -- ---- the allocation service
 
-  module _ (asked : slice_index v.registers 5 ≡ taken) (request : is_request taken ≡ true) (ecall : IsCode s v.place Ecall) (number : slice_index v.registers 7 ≡ 3) where
+  module _ (asked : slice_index v.registers 5 ≡ taken) (request : is_request taken ≡ true) (ecall : IsCode s v.place Ecall)
+      (number : slice_index v.registers 7 ≡ 3) where
     to_allocation : (b : Machine) → Stands s b v → (j k : ℕ) → j ≡ 1 + k →
-        after s.schedule j (Going b) ≡ after s.schedule k (after_allocation (allocated (s.schedule.plan (ready s b).hart.services) (ready s b).hart) (ready s b))
+        after s.schedule j (Going b) ≡ after s.schedule k (after_allocation (allocated (s.schedule.plan (ready s b).hart.services) (ready s b).hart)
+        (ready s b))
     to_allocation b st j k e =
         let r = ready s b in
         let ok = ready_stands s b v st in
@@ -86,7 +103,8 @@ module _ (s : Fixed) (laid : Laid) (v : View) (young : List Placed) (taken : ℕ
         let u : View = with_memory v b.hart in
         let w = within_there b st in
         allocates (hart_of s u b.hart) young (own_frame_of s laid u young taken held a c w named d is saves fit whole none there) c.frames
-        (contents s laid u young taken held a c w named d is saves fit whole none there) (knows_of s laid u young taken held a c w named d is saves fit whole none there b.hart)
+        (contents s laid u young taken held a c w named d is saves fit whole none there)
+        (knows_of s laid u young taken held a c w named d is saves fit whole none there b.hart)
         (s.schedule.plan b.hart.services) (ap is_request asked ∙ request)
         (ready_of s laid u young taken held a c w named d is saves fit whole none there b.hart (young_from (hart_of s u b.hart)) (from_is b.hart)) fits
 
@@ -101,9 +119,9 @@ module _ (s : Fixed) (laid : Laid) (v : View) (young : List Placed) (taken : ℕ
           let w = within_there b st in
           let done = allocation b st fits in
           let restored : IsRestored taken (hart_of s u b.hart) (own_frame_of s laid u young taken held a c w named d is saves fit whole none there) c.frames
-                  (contents s laid u young taken held a c w named d is saves fit whole none there) done.new =
-              subst (λ n. IsRestored n (hart_of s u b.hart) (own_frame_of s laid u young taken held a c w named d is saves fit whole none there) c.frames
-                (contents s laid u young taken held a c w named d is saves fit whole none there) done.new) asked done.restored in
+          (contents s laid u young taken held a c w named d is saves fit whole none there) done.new =
+          subst (λ n. IsRestored n (hart_of s u b.hart) (own_frame_of s laid u young taken held a c w named d is saves fit whole none there) c.frames
+          (contents s laid u young taken held a c w named d is saves fit whole none there) done.new) asked done.restored in
           let h' : Hart = left s laid u young taken held a c w named d is saves fit whole none there b.hart done.new (v.place + 1) restored in
           let same : done.new ≡ h' = left_is s laid u young taken held a c w named d is saves fit whole none there b.hart done.new (v.place + 1) restored in
           let after_it = within_after s laid u young taken held a c w named d is saves fit whole none there b.hart done.new (v.place + 1) restored in
@@ -129,7 +147,8 @@ module _ (s : Fixed) (laid : Laid) (v : View) (young : List Placed) (taken : ℕ
               calls = st.calls;
             };
             by = λ j k e. to_allocation b0 st0 j k e
-                ∙ ap (λ x. after s.schedule k (after_allocation x b)) (ap (allocated (s.schedule.plan b.hart.services)) (hart_is s b v st) ∙ done.is ∙ ap Goes same);
+                ∙ ap (λ x. after s.schedule k (after_allocation x b))
+                (ap (allocated (s.schedule.plan b.hart.services)) (hart_is s b v st) ∙ done.is ∙ ap Goes same);
             holds = (refl, after_it);
           });
     }
@@ -144,11 +163,12 @@ module _ (s : Fixed) (laid : Laid) (v : View) (young : List Placed) (taken : ℕ
           let w = within_there b st in
           to_allocation b0 st0 j k e
           ∙ ap (λ x. after s.schedule k (after_allocation x b))
-            (ap (allocated (s.schedule.plan b.hart.services)) (hart_is s b v st)
-            ∙ allocates_not (hart_of s u b.hart) young (own_frame_of s laid u young taken held a c w named d is saves fit whole none there) c.frames
-              (contents s laid u young taken held a c w named d is saves fit whole none there) (knows_of s laid u young taken held a c w named d is saves fit whole none there b.hart)
-              (s.schedule.plan b.hart.services) (ap is_request asked ∙ request)
-              (ready_of s laid u young taken held a c w named d is saves fit whole none there b.hart (young_from (hart_of s u b.hart)) (from_is b.hart)) full)
+          (ap (allocated (s.schedule.plan b.hart.services)) (hart_is s b v st)
+          ∙ allocates_not (hart_of s u b.hart) young (own_frame_of s laid u young taken held a c w named d is saves fit whole none there) c.frames
+          (contents s laid u young taken held a c w named d is saves fit whole none there)
+          (knows_of s laid u young taken held a c w named d is saves fit whole none there b.hart)
+          (s.schedule.plan b.hart.services) (ap is_request asked ∙ request)
+          (ready_of s laid u young taken held a c w named d is saves fit whole none there b.hart (young_from (hart_of s u b.hart)) (from_is b.hart)) full)
           ∙ ap (λ x. after s.schedule k (Over x HeapOut)) st.calls;
     }
 
@@ -156,7 +176,8 @@ module _ (s : Fixed) (laid : Laid) (v : View) (young : List Placed) (taken : ℕ
         Arrives 1 s q v (λ w. (w.place ≡ v.place + 1) × Within s laid w [] taken (poisoned named held) a c)
     allocation_any q need =
         ⊎_elim
-        (λ full. ends_arrives s q 1 v (λ w. (w.place ≡ v.place + 1) × Within s laid w [] taken (poisoned named held) a c) HeapOut (inr (refl, omega (arith, full, need))) (allocation_ends full))
+        (λ full. ends_arrives s q 1 v (λ w. (w.place ≡ v.place + 1)
+        × Within s laid w [] taken (poisoned named held) a c) HeapOut (inr (refl, omega (arith, full, need))) (allocation_ends full))
         (λ fits. allocation_arrives fits)
         (cases_lt s.heap (bytes_used (v.blocks ++ reverse young)))
 
@@ -170,7 +191,8 @@ module _ (s : Fixed) (laid : Laid) (v : View) (young : List Placed) (taken : ℕ
         let u : View = with_memory v b.hart in
         let w = within_there b st in
         collects (hart_of s u b.hart) young (own_frame_of s laid u young taken held a c w named d is saves fit whole none there) c.frames
-        (contents s laid u young taken held a c w named d is saves fit whole none there) (knows_of s laid u young taken held a c w named d is saves fit whole none there b.hart)
+        (contents s laid u young taken held a c w named d is saves fit whole none there)
+        (knows_of s laid u young taken held a c w named d is saves fit whole none there b.hart)
         (s.schedule.plan b.hart.services)
         (ready_of s laid u young taken held a c w named d is saves fit whole none there b.hart (slice_index v.registers 26) (omega (arith, nothing_taken))) fits
 
@@ -180,6 +202,7 @@ module _ (s : Fixed) (laid : Laid) (v : View) (young : List Placed) (taken : ℕ
         let u : View = with_memory v b.hart in
         let w = within_there b st in
         collects_not (hart_of s u b.hart) young (own_frame_of s laid u young taken held a c w named d is saves fit whole none there) c.frames
-        (contents s laid u young taken held a c w named d is saves fit whole none there) (knows_of s laid u young taken held a c w named d is saves fit whole none there b.hart)
+        (contents s laid u young taken held a c w named d is saves fit whole none there)
+        (knows_of s laid u young taken held a c w named d is saves fit whole none there b.hart)
         (s.schedule.plan b.hart.services)
         (ready_of s laid u young taken held a c w named d is saves fit whole none there b.hart (slice_index v.registers 26) (omega (arith, nothing_taken))) full

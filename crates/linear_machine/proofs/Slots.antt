@@ -1,5 +1,5 @@
 -- Words of the stack are loaded and stored, near sp and far from it.
-use Rattle.std.proofs.Common.{◌≡◌, ◌≢◌, ℕ, zero, suc, ◌+◌, ◌-◌, ◌*◌, ◌/◌, ◌%◌, ◌^◌, ◌<◌, ◌≤◌, ◌⊎◌, inl, inr, List, [], ◌∷◌, slice_index, refl, ap, ap₂, arith, ◌∙◌, sym, subst, ⊎_elim}
+use Rattle.std.proofs.Common.{◌≡◌, ◌≢◌, ℕ, zero, suc, ◌+◌, ◌*◌, ◌/◌, ◌%◌, ◌^◌, ◌<◌, ◌≤◌, inl, inr, [], ◌∷◌, slice_index, refl, ap, ap₂, arith, ◌∙◌, sym, subst, ⊎_elim}
 use Rattle.std.specs.List.{AllByRecursion}
 use Rattle.bs_words.specs.Word.{add_word}
 use Rattle.bs_words.proofs.Below.{add_word-below, sext_word-below}
@@ -8,7 +8,7 @@ use Rattle.rv_isa.specs.declared.instr.Instr.TheVariants.{Load, Lui, Op, Store}
 use Rattle.rv_isa.specs.declared.instr.LoadWidth.TheVariants.{Ld}
 use Rattle.rv_isa.specs.declared.instr.StoreWidth.TheVariants.{Sd}
 use Rattle.rv_machine.specs.Arithmetic.{imm_i, imm_u}
-use Rattle.rv_machine.specs.Memory.{Region, word, write}
+use Rattle.rv_machine.specs.Memory.{word, write}
 use Rattle.rv_machine.specs.Sound.{AreRegisters, IsRegion}
 use Rattle.machine_laws.proofs.Memory.{word_below}
 use Rattle.moving_laws.specs.Stands.{Among}
@@ -59,13 +59,14 @@ module _ (s : Fixed) (v : View) (are : AreRegisters v.registers) (offset : ℕ) 
       let low = there.low in
       set_changes s v (Load Ld (suc r) 2 (offset % 4096)) r (word v.memory (slice_index v.registers 2 + offset)) code.0 (inl other)
       (sets_load s v (suc r) 2 (offset % 4096) (slice_index v.registers 2 + offset) (near_sum offset (slice_index v.registers 2) small high)
-        (λ e. omega (arith, e, low)) (omega (arith, low)) there.readable)
+      (λ e. omega (arith, e, low)) (omega (arith, low)) there.readable)
       are fits (word_below v.memory (slice_index v.registers 2 + offset))
 
   pub store_near : (r : ℕ) → AllByRecursion IsRegion v.memory → offset < 2048 → HasCode s v.place (Store Sd 2 r (offset % 4096) ∷ []) →
       Changes s v 1 [] (write v.memory (slice_index v.registers 2 + offset) (reg v.registers r)) (λ w. w.registers ≡ v.registers)
   store_near r regions small code =
-      store_changes s v 2 r (offset % 4096) (slice_index v.registers 2 + offset) code.0 (near_sum offset (slice_index v.registers 2) small there.high) regions there.readable are
+      store_changes s v 2 r (offset % 4096)
+      (slice_index v.registers 2 + offset) code.0 (near_sum offset (slice_index v.registers 2) small there.high) regions there.readable are
 
   -- ---- far: a scratch register has the upper bits and sp
 
@@ -82,7 +83,7 @@ module _ (s : Fixed) (v : View) (are : AreRegisters v.registers) (offset : ℕ) 
   far_base x fits other code =
       set_then s v 1 (suc x ∷ []) v.memory (λ w. slice_index w.registers (suc x) ≡ imm_u (above_12 offset % 2 ^ 20)) (Op Add (suc x) (suc x) 2) x base
       (set_changes s v (Lui (suc x) (above_12 offset % 2 ^ 20)) x (imm_u (above_12 offset % 2 ^ 20)) code.0 (inl other)
-        (sets_lui s v (suc x) (above_12 offset % 2 ^ 20)) are fits (sext_word-below _ 32))
+      (sets_lui s v (suc x) (above_12 offset % 2 ^ 20)) are fits (sext_word-below _ 32))
       (inl refl)
       (λ w past e. sets_as s w (Op Add (suc x) (suc x) 2) (suc x) _ base (ap₂ add_word e (past.others 2 (off_sp x other))) (sets_op s w Add (suc x) (suc x) 2))
       code.1.0 (inl other) fits (add_word-below _ _)
@@ -97,14 +98,14 @@ module _ (s : Fixed) (v : View) (are : AreRegisters v.registers) (offset : ℕ) 
         set_then s v 2 (suc r ∷ suc x ∷ []) v.memory (λ w. slice_index w.registers (suc x) ≡ base) (Load Ld (suc r) (suc x) (offset % 4096)) r
         (word v.memory (slice_index v.registers 2 + offset))
         (widened s v 2 (suc x ∷ []) (suc r ∷ suc x ∷ []) v.memory (λ w. slice_index w.registers (suc x) ≡ base) (λ w. slice_index w.registers (suc x) ≡ base)
-          (λ q i. inr i) (λ w p e. e) (far_base x x_fits no_sp (code.0, (code.1.0, tt))))
+        (λ q i. inr i) (λ w p e. e) (far_base x x_fits no_sp (code.0, (code.1.0, tt))))
         (inl refl)
         (λ w past e.
-          let sum : add_word (slice_index w.registers (suc x)) (imm_i (offset % 4096)) ≡ slice_index v.registers 2 + offset =
-              ap (λ z. add_word z (imm_i (offset % 4096))) e ∙ far_sum offset (slice_index v.registers 2) small high in
-          subst (λ m. SetsRegister s w (Load Ld (suc r) (suc x) (offset % 4096)) (suc r) (word m (slice_index v.registers 2 + offset))) past.memory
-            (sets_load s w (suc r) (suc x) (offset % 4096) (slice_index v.registers 2 + offset) sum (λ q. omega (arith, q, low)) (omega (arith, low))
-              (subst (λ m. IsReadable m (slice_index v.registers 2 + offset)) (sym past.memory) there.readable)))
+        let sum : add_word (slice_index w.registers (suc x)) (imm_i (offset % 4096)) ≡ slice_index v.registers 2 + offset =
+        ap (λ z. add_word z (imm_i (offset % 4096))) e ∙ far_sum offset (slice_index v.registers 2) small high in
+        subst (λ m. SetsRegister s w (Load Ld (suc r) (suc x) (offset % 4096)) (suc r) (word m (slice_index v.registers 2 + offset))) past.memory
+        (sets_load s w (suc r) (suc x) (offset % 4096) (slice_index v.registers 2 + offset) sum (λ q. omega (arith, q, low)) (omega (arith, low))
+        (subst (λ m. IsReadable m (slice_index v.registers 2 + offset)) (sym past.memory) there.readable)))
         (let e : v.place + 1 + 1 ≡ v.place + 2 = omega arith in subst (λ q. IsCode s q (Load Ld (suc r) (suc x) (offset % 4096))) e code.1.1.0)
         (inl other) fits (word_below v.memory (slice_index v.registers 2 + offset))
 
@@ -112,21 +113,24 @@ module _ (s : Fixed) (v : View) (are : AreRegisters v.registers) (offset : ℕ) 
         HasCode s v.place (Lui (suc x) (above_12 offset % 2 ^ 20) ∷ Op Add (suc x) (suc x) 2 ∷ Store Sd (suc x) r (offset % 4096) ∷ []) →
         Changes s v 3 (suc x ∷ []) (write v.memory (slice_index v.registers 2 + offset) (reg v.registers r)) (λ w. Unit {0})
     store_far r apart regions code =
-        then_changes s v 2 1 (suc x ∷ []) v.memory (write v.memory (slice_index v.registers 2 + offset) (reg v.registers r)) (λ w. slice_index w.registers (suc x) ≡ base)
+        then_changes s v 2 1 (suc x ∷ []) v.memory (write v.memory (slice_index v.registers 2 + offset) (reg v.registers r))
+        (λ w. slice_index w.registers (suc x) ≡ base)
         (λ w. Unit {0}) (far_base x x_fits no_sp (code.0, (code.1.0, tt)))
         (λ w past e.
-          let sum : add_word (slice_index w.registers (suc x)) (imm_i (offset % 4096)) ≡ slice_index v.registers 2 + offset =
-              ap (λ z. add_word z (imm_i (offset % 4096))) e ∙ far_sum offset (slice_index v.registers 2) small there.high in
-          let place : v.place + 1 + 1 ≡ v.place + 2 = omega arith in
-          let same : reg w.registers r ≡ reg v.registers r = kept r w apart past in
-          subst (λ m. Changes s w 1 (suc x ∷ []) (write m (slice_index v.registers 2 + offset) (reg v.registers r)) (λ u. Unit {0})) past.memory
-            (subst (λ z. Changes s w 1 (suc x ∷ []) (write w.memory (slice_index v.registers 2 + offset) z) (λ u. Unit {0})) same
-              (widened s w 1 [] (suc x ∷ []) (write w.memory (slice_index v.registers 2 + offset) (reg w.registers r)) (λ u. u.registers ≡ w.registers) (λ u. Unit {0})
-                (λ q i. absurd i) (λ u p f. tt)
-                (store_changes s w (suc x) r (offset % 4096) (slice_index v.registers 2 + offset)
-                  (code_past s 2 (suc x ∷ []) v.memory v w (Store Sd (suc x) r (offset % 4096)) past (subst (λ q. IsCode s q (Store Sd (suc x) r (offset % 4096))) place code.1.1.0))
-                  sum (subst (λ m. AllByRecursion IsRegion m) (sym past.memory) regions)
-                  (subst (λ m. IsReadable m (slice_index v.registers 2 + offset)) (sym past.memory) there.readable) past.are))))
+        let sum : add_word (slice_index w.registers (suc x)) (imm_i (offset % 4096)) ≡ slice_index v.registers 2 + offset =
+        ap (λ z. add_word z (imm_i (offset % 4096))) e ∙ far_sum offset (slice_index v.registers 2) small there.high in
+        let place : v.place + 1 + 1 ≡ v.place + 2 = omega arith in
+        let same : reg w.registers r ≡ reg v.registers r = kept r w apart past in
+        subst (λ m. Changes s w 1 (suc x ∷ []) (write m (slice_index v.registers 2 + offset) (reg v.registers r)) (λ u. Unit {0})) past.memory
+        (subst (λ z. Changes s w 1 (suc x ∷ []) (write w.memory (slice_index v.registers 2 + offset) z) (λ u. Unit {0})) same
+        (widened s w 1 [] (suc x ∷ []) (write w.memory (slice_index v.registers 2 + offset) (reg w.registers r)) (λ u. u.registers ≡ w.registers)
+        (λ u. Unit {0})
+        (λ q i. absurd i) (λ u p f. tt)
+        (store_changes s w (suc x) r (offset % 4096) (slice_index v.registers 2 + offset)
+        (code_past s 2 (suc x ∷ []) v.memory v w (Store Sd (suc x) r (offset % 4096)) past (subst (λ q. IsCode s q (Store Sd (suc x) r
+        (offset % 4096))) place code.1.1.0))
+        sum (subst (λ m. AllByRecursion IsRegion m) (sym past.memory) regions)
+        (subst (λ m. IsReadable m (slice_index v.registers 2 + offset)) (sym past.memory) there.readable) past.are))))
       where
         kept : (r : ℕ) (w : View) → r ≢ suc x → IsPast 2 (suc x ∷ []) v.memory v w → reg w.registers r ≡ reg v.registers r
         kept zero w n past = refl

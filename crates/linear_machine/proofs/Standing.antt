@@ -1,26 +1,21 @@
 -- The relation stays where scratch registers change, and a location is written.
-use Rattle.std.proofs.Common.{◌≡◌, ◌≢◌, ℕ, suc, ◌+◌, ◌-◌, ◌*◌, ◌%◌, ◌<◌, ◌≤◌, ◌⊎◌, inl, inr, Bool, true, false, cond, List, [], ◌∷◌, length, map, Option, Some, None, slice_index, refl, ap, arith, ◌∙◌, sym, subst, ⊎_elim}
+use Rattle.std.proofs.Common.{◌≡◌, ◌≢◌, ℕ, ◌+◌, ◌-◌, ◌%◌, ◌<◌, ◌≤◌, ◌⊎◌, inl, inr, Bool, true, false, List, length, map, Option, Some, None, slice_index, refl, ap, arith, ◌∙◌, sym, subst, ⊎_elim}
 use Rattle.bs_words.specs.declared.types.Loc.{Loc}
 use Rattle.bs_words.specs.declared.types.Loc.TheVariants as loc
 use Rattle.bs_words.specs.declared.values.Value.{Value}
 use Rattle.mach_ir.specs.Acts.{Around}
 use Rattle.rv_machine.specs.Hart.{Placed}
-use Rattle.rv_machine.specs.Memory.{Region, word, write}
+use Rattle.rv_machine.specs.Memory.{word}
 use Rattle.rv_machine.specs.Placement.{are_apart}
 use Rattle.rv_machine.specs.Space.{IsHeap}
 use Rattle.rv_machine.specs.Sound.{AreRegisters, HasRegions, extents}
-use Rattle.machine_laws.proofs.Memory.{has_write, other_word}
 use Rattle.moving_laws.specs.Stands.{Among}
 use Rattle.moving_laws.specs.Waiting.{traps_at}
-use Rattle.moving_laws.specs.Words.{IsReadable}
 use Rattle.moving_laws.specs.Young.{Rises}
-use Rattle.moving_laws.proofs.Usable.{stack_readable, formed_regions}
-use Rattle.moving_laws.proofs.Words.{readable_write, same_or_not, word_same}
 use Rattle.linear_machine.specs.Files.{HoldsLess, IsPut}
-use Rattle.linear_machine.specs.Relation.{AreCarried, Below, HeapStands, IsLocation, IsUsable, Laid, OwnRegisters, RegistersHold, ReturnStands, SlotsHold, StandsFor, TrapsStand, Waits, Within, all_of}
+use Rattle.linear_machine.specs.Relation.{AreCarried, Below, HeapStands, IsLocation, Laid, OwnRegisters, RegistersHold, ReturnStands, SlotsHold, StandsFor, TrapsStand, Waits, Within, all_of}
 use Rattle.linear_machine.specs.Straight.{IsPast}
 use Rattle.linear_machine.specs.View.{Fixed, View}
-use Rattle.linear_machine.proofs.Keeping.{heap_kept, traps_at_all, traps_kept, waits_kept}
 
 -- ---- registers
 
@@ -50,7 +45,8 @@ own_past registers registers' young taken are e26 e27 o = record {
   domain = e27 ∙ o.domain;
 }
 
-return_past : (saves : Bool) (v w : View) (c : Below) → (word w.memory (c.top - 8) ≡ word v.memory (c.top - 8)) → slice_index w.registers 1 ≡ slice_index v.registers 1 →
+return_past : (saves : Bool) (v w : View) (c : Below) → (word w.memory (c.top - 8) ≡ word v.memory (c.top - 8)) →
+    slice_index w.registers 1 ≡ slice_index v.registers 1 →
     ReturnStands saves v c → ReturnStands saves w c
 return_past true v w c m r h = m ∙ h
 return_past false v w c m r h = r ∙ h
@@ -101,20 +97,30 @@ module _ (s : Fixed) (laid : Laid) (v w : View) (young : List Placed) (taken : �
     carried = subst (λ p. AreCarried s p w.registers held' a.raised) (sym placed_same) (carried_by a.raised refl within.carried);
     slots = subst (λ p. SlotsHold s laid p w.memory (slice_index w.registers 2) (length a.tries) held') (sym placed_same)
         (subst (λ m. SlotsHold s laid (all_of v young) m (slice_index w.registers 2) (length a.tries) held') (sym past.memory)
-          (subst (λ p. SlotsHold s laid (all_of v young) v.memory p (length a.tries) held') (sym same_sp)
-            (λ k x h. within.slots k x (less.each (loc.Slot k) x h))));
+        (subst (λ p. SlotsHold s laid (all_of v young) v.memory p (length a.tries) held') (sym same_sp)
+        (λ k x h. within.slots k x (less.each (loc.Slot k) x h))));
     back = return_past laid.saves v w c (ap (λ m. word m (c.top - 8)) past.memory) (own_reg 1 (inl (omega arith))) within.back;
     waits = subst (λ p. Waits s p w.memory c) (sym placed_same) (subst (λ m. Waits s (all_of v young) m c) (sym past.memory) within.waits);
     traps = subst (λ m. TrapsStand s m (slice_index w.registers 9) (traps_at (slice_index w.registers 2) (map laid.handler a.tries)) c) (sym past.memory)
         (subst (λ t. TrapsStand s v.memory t (traps_at (slice_index w.registers 2) (map laid.handler a.tries)) c) (sym (own_reg 9 (inr (inl refl))))
-          (subst (λ p. TrapsStand s v.memory (slice_index v.registers 9) (traps_at p (map laid.handler a.tries)) c) (sym same_sp) within.traps));
+        (subst (λ p. TrapsStand s v.memory (slice_index v.registers 9) (traps_at p (map laid.handler a.tries)) c) (sym same_sp) within.traps));
     heap = subst (λ p. HeapStands s p w.memory a) (sym placed_same) (subst (λ m. HeapStands s (all_of v young) m a) (sym past.memory) within.heap);
   }
 
 -- scratch registers alone
 pub scratch_free : (q : ℕ) → IsScratch q → IsFree q
-scratch_free q (inl e) = record { some = omega (arith, e); no_trap = λ f. omega (arith, e, f); no_young = λ f. omega (arith, e, f); no_domain = λ f. omega (arith, e, f) }
-scratch_free q (inr e) = record { some = omega (arith, e); no_trap = λ f. omega (arith, e, f); no_young = λ f. omega (arith, e, f); no_domain = λ f. omega (arith, e, f) }
+scratch_free q (inl e) = record {
+  some = omega (arith, e);
+  no_trap = λ f. omega (arith, e, f);
+  no_young = λ f. omega (arith, e, f);
+  no_domain = λ f. omega (arith, e, f);
+}
+scratch_free q (inr e) = record {
+  some = omega (arith, e);
+  no_trap = λ f. omega (arith, e, f);
+  no_young = λ f. omega (arith, e, f);
+  no_domain = λ f. omega (arith, e, f);
+}
 
 pub location_free : (q : ℕ) → IsLocation q → IsFree q
 location_free q is = record { some = is.some; no_trap = is.no_trap; no_young = is.no_young; no_domain = is.no_domain }
@@ -171,9 +177,9 @@ module _ (s : Fixed) (laid : Laid) (v : View) (young : List Placed) (taken : ℕ
   new_registers q y h =
       ⊎_elim
       (λ p.
-        let e : q ≡ r = same_machine q r p.0 in
-        subst (λ z. IsLocation z × StandsFor s (all_of v young) (slice_index v.registers z) y) (sym e)
-          (is, subst (λ z. StandsFor s (all_of v young) (slice_index v.registers r) z) (sym p.1) stands))
+      let e : q ≡ r = same_machine q r p.0 in
+      subst (λ z. IsLocation z × StandsFor s (all_of v young) (slice_index v.registers z) y) (sym e)
+      (is, subst (λ z. StandsFor s (all_of v young) (slice_index v.registers r) z) (sym p.1) stands))
       (λ p. old_registers q y p.1)
       (put.each (loc.Machine q) y h)
 

@@ -72,7 +72,11 @@ one_step s a v i then' st c effect j k e =
 -- ---- stretches
 
 pub stays : (s : Fixed) (v : View) → Leads s 0 v v
-stays s v = record { answers = refl; calls = refl; by = λ a st. (a, st, λ j k e. let same : j ≡ k = omega arith in ap (λ n. after s.schedule n (Going a)) same) }
+stays s v = record {
+  answers = refl;
+  calls = refl;
+  by = λ a st. (a, st, λ j k e. let same : j ≡ k = omega arith in ap (λ n. after s.schedule n (Going a)) same);
+}
 
 pub then_leads : (s : Fixed) (n m : ℕ) (u v w : View) → Leads s n u v → Leads s m v w → Leads s (n + m) u w
 then_leads s n m u v w p q = record {
@@ -165,7 +169,10 @@ pub set_step :
     (s : Fixed) (v : View) (i : Instr) (rd value : ℕ) → IsCode s v.place i → Passes s rd value →
     SetsRegister s v i rd value → Leads s 1 v (set_in rd value v)
 set_step s v i rd value c passes known =
-    set_to_step s v i rd value (v.place + 1) c passes (record { effect = λ a st. known.effect a st ∙ ap (λ pc. sets rd value pc a.hart) (next_pc a.hart.pc v.place st.pc) })
+    set_to_step s v i rd value (v.place + 1) c passes (record {
+      effect = λ a st. known.effect a st ∙ ap (λ pc. sets rd value pc a.hart)
+          (next_pc a.hart.pc v.place st.pc);
+    })
 
 -- an instruction that would bring sp below the stack's base
 pub out_step : (s : Fixed) (v : View) (i : Instr) (value : ℕ) → IsCode s v.place i → value < s.base → SetsRegister s v i 2 value → Ends s 1 v StackOut
@@ -174,8 +181,8 @@ out_step s v i value c low known = record {
       let b = ready s a in
       let ok = ready_stands s a v st in
       one_step s a v i next.StackOut st c
-          (known.effect b ok ∙ cond-true _ _ _ (lt-ltb value b.hart.stack_base (subst (λ x. value < x) (sym ok.stack_base) low)))
-          j k e
+      (known.effect b ok ∙ cond-true _ _ _ (lt-ltb value b.hart.stack_base (subst (λ x. value < x) (sym ok.stack_base) low)))
+      j k e
       ∙ ap (λ x. after s.schedule k (Over x StackOut)) st.calls;
 }
 

@@ -1,5 +1,5 @@
 -- A word of a block is written: what the heap stands for then.
-use Rattle.std.proofs.Common.{◌≡◌, ◌≢◌, ℕ, zero, suc, ◌+◌, ◌-◌, ◌*◌, ◌/◌, ◌%◌, ◌^◌, ◌<◌, ◌≤◌, ◌⊎◌, inl, inr, Bool, true, false, cond, ◌&&◌, ◌||◌, ◌==◌, nat_eq, nat_le, nat_lt, List, [], ◌∷◌, length, map, Option, Some, None, slice_get, slice_set, refl, ap, arith, ◌∙◌, sym, subst, ⊎_elim, length-set}
+use Rattle.std.proofs.Common.{◌≡◌, ◌≢◌, ℕ, zero, suc, ◌+◌, ◌-◌, ◌*◌, ◌/◌, ◌%◌, ◌^◌, ◌<◌, ◌≤◌, ◌⊎◌, inl, inr, Bool, true, false, cond, ◌&&◌, ◌||◌, ◌==◌, nat_eq, nat_le, List, [], ◌∷◌, length, map, Option, Some, None, slice_get, slice_set, refl, ap, arith, ◌∙◌, sym, subst, ⊎_elim, length-set}
 use Rattle.std.specs.Prelude.{sum}
 use Rattle.std.specs.List.{AllByRecursion, fold}
 use Rattle.std.proofs.lemmas.Bool.{and_parts, eqb-true}
@@ -16,7 +16,7 @@ use Rattle.machine_laws.proofs.Memory.{other_word}
 use Rattle.rv_machine.specs.Placement.{bytes_used, end_of}
 use Rattle.rv_machine.specs.Relocation.{root_cells}
 use Rattle.moving_laws.specs.Stands.{StaticsStand}
-use Rattle.moving_laws.specs.Heap.{AllApart, AreApart, IsInHeap}
+use Rattle.moving_laws.specs.Heap.{AllApart, AreApart}
 use Rattle.moving_laws.specs.Values.{FitsCell, IsKnown, start_of, value_word, words_of}
 use Rattle.moving_laws.specs.Words.{IsReadable}
 use Rattle.moving_laws.proofs.Rewriting.{start_inside}
@@ -32,14 +32,16 @@ sum_from : (n : ℕ) (xs : List ℕ) → fold ◌+◌ n xs ≡ n + sum xs
 sum_from n [] = omega arith
 sum_from n (x ∷ xs) = let p = sum_from (n + x) xs in let q = sum_from (0 + x) xs in omega (arith, p, q)
 
-bytes_are : (bs : List HeapBlock) (ps : List Placed) → length bs ≡ length ps → ((k : ℕ) → k < length ps → words_of ps k ≡ size_in (slice_get bs k)) → bytes_used ps ≡ sum (map block_bytes bs)
+bytes_are : (bs : List HeapBlock) (ps : List Placed) → length bs ≡ length ps → ((k : ℕ) → k < length ps → words_of ps k ≡ size_in (slice_get bs k)) →
+    bytes_used ps ≡ sum (map block_bytes bs)
 bytes_are [] [] e h = refl
 bytes_are [] (p ∷ ps) e h = absurd (omega (arith, e))
 bytes_are (b ∷ bs) [] e h = absurd (omega (arith, e))
 bytes_are (b ∷ bs) (p ∷ ps) e h =
     let r = bytes_are bs ps (omega (arith, e)) (λ k l. h (suc k) (omega (arith, l))) in
     let w : p.words ≡ length b.cells = h 0 (omega arith) in
-    let split : sum (map block_bytes (b ∷ bs)) ≡ 0 + 8 * (length b.cells + 1) + sum (map block_bytes bs) = sum_from (0 + 8 * (length b.cells + 1)) (map block_bytes bs) in
+    let split : sum (map block_bytes (b ∷ bs)) ≡ 0 + 8 * (length b.cells + 1) + sum (map block_bytes bs) = sum_from (0 + 8 * (length b.cells + 1))
+    (map block_bytes bs) in
     omega (arith, r, w, split)
 
 -- the bytes of the blocks are the heap need of the text's memory
@@ -48,7 +50,8 @@ bytes_need s placed m a h = bytes_are a.memory.blocks placed h.stand.count h.sta
 
 -- ---- places of words differ
 
-beside : (b : Placed) (bs : List Placed) (k : ℕ) → AllByRecursion (AreApart b) bs → k < length bs → (end_of b + 8 ≤ start_of bs k) ⊎ (start_of bs k + 8 * words_of bs k + 8 ≤ b.start)
+beside : (b : Placed) (bs : List Placed) (k : ℕ) → AllByRecursion (AreApart b) bs → k < length bs → (end_of b + 8 ≤ start_of bs k)
+    ⊎ (start_of bs k + 8 * words_of bs k + 8 ≤ b.start)
 beside b [] k far l = absurd (omega (arith, l))
 beside b (x ∷ bs) zero far l = far.0
 beside b (x ∷ bs) (suc k) far l = beside b bs k far.1 (omega (arith, l))
@@ -88,11 +91,13 @@ without_is c d (x ∷ ds) e = by_test (same_cell c x) refl e (without_is c d ds)
     by_same true f g later = inl (same_cell-true d x f ∙ sym g)
     by_same false f g later = later
 
-    by_other : (t : Bool) → (t || is_among d (without c ds)) ≡ false → (is_among d (without c ds) ≡ false → (d ≡ c) ⊎ (is_among d ds ≡ false)) → (d ≡ c) ⊎ ((t || is_among d ds) ≡ false)
+    by_other : (t : Bool) → (t || is_among d (without c ds)) ≡ false → (is_among d (without c ds) ≡ false → (d ≡ c) ⊎ (is_among d ds ≡ false)) → (d ≡ c)
+        ⊎ ((t || is_among d ds) ≡ false)
     by_other true e later = absurd (cc)
     by_other false e later = later e
 
-    by_test : (t : Bool) → same_cell c x ≡ t → is_among d (cond t (without c ds) (x ∷ without c ds)) ≡ false → (is_among d (without c ds) ≡ false → (d ≡ c) ⊎ (is_among d ds ≡ false)) →
+    by_test : (t : Bool) → same_cell c x ≡ t → is_among d (cond t (without c ds) (x ∷ without c ds)) ≡ false →
+        (is_among d (without c ds) ≡ false → (d ≡ c) ⊎ (is_among d ds ≡ false)) →
         (d ≡ c) ⊎ ((same_cell d x || is_among d ds) ≡ false)
     by_test true f e later = by_same (same_cell d x) refl (same_cell-true c x f) (later e)
     by_test false f e later = by_other (same_cell d x) e later
@@ -132,13 +137,16 @@ statics_in memory bs k (l ∷ lists) y = by_test (nat_le l.start y && nat_le (y 
 pub statics_same : (memory : Memory) (bs : List HeapBlock) (y : ℕ) → statics_of (record memory { blocks = bs }) y ≡ statics_of memory y
 statics_same memory bs y = by_test (y % 8 == 0)
   where
-    by_test : (t : Bool) → static_in (record memory { blocks = bs }) (cond t (in_statics 0 memory.statics y 8) None) ≡ static_in memory (cond t (in_statics 0 memory.statics y 8) None)
+    by_test : (t : Bool) → static_in (record memory { blocks = bs })
+        (cond t (in_statics 0 memory.statics y 8) None) ≡ static_in memory (cond t (in_statics 0 memory.statics y 8) None)
     by_test true = statics_in memory bs 0 memory.statics y
     by_test false = refl
 
 -- what stands for static cells stands for them whatever the blocks hold, where their words stay
-pub statics_stay : (s : Fixed) (placed : List Placed) (m m' : List Region) (memory : Memory) (bs : List HeapBlock) → ((y : ℕ) → y < 0x20000000 → word m' y ≡ word m y) →
-    StaticsStand s.image placed m (root_cells s.image) (statics_of memory) → StaticsStand s.image placed m' (root_cells s.image) (statics_of (record memory { blocks = bs }))
+pub statics_stay : (s : Fixed) (placed : List Placed) (m m' : List Region) (memory : Memory) (bs : List HeapBlock) →
+    ((y : ℕ) → y < 0x20000000 → word m' y ≡ word m y) →
+    StaticsStand s.image placed m (root_cells s.image) (statics_of memory) → StaticsStand s.image placed m' (root_cells s.image)
+    (statics_of (record memory { blocks = bs }))
 statics_stay s placed m m' memory bs same h =
     let short = s.functions.tables.bytes.short in
     record {
@@ -150,15 +158,20 @@ statics_stay s placed m m' memory bs same h =
 
 -- ---- a cell of a block is written
 
-module _ (s : Fixed) (placed : List Placed) (m : List Region) (regions : HasRegions (extents s.image s.heap s.base) m) (a : Around) (h : HeapStands s placed m a)
-    (k n value : ℕ) (x : Value) (b : HeapBlock) (there : slice_get a.memory.blocks k ≡ Some b) (inside : n < length b.cells) (small : value < 2 ^ 64) (stands : StandsFor s placed value x)
+module _ (s : Fixed) (placed : List Placed) (m : List Region) (regions : HasRegions (extents s.image s.heap s.base) m) (a : Around)
+    (h : HeapStands s placed m a)
+    (k n value : ℕ) (x : Value) (b : HeapBlock) (there : slice_get a.memory.blocks k ≡ Some b) (inside : n < length b.cells) (small : value < 2 ^ 64)
+    (stands : StandsFor s placed value x)
     (fits : FitsCell s.image (length placed) (is_scanned b.header) x) (unwritten : List Cell)
     (fewer : (c : Cell) → is_among c unwritten ≡ false → (c ≡ InBlock k n) ⊎ (is_among c a.unwritten ≡ false)) where
   abbrev new_block : HeapBlock
   new_block = record b { cells = slice_set b.cells n x }
 
   abbrev pub stored_around : Around
-  stored_around = record a { memory = record a.memory { blocks = slice_set a.memory.blocks k (record b { cells = slice_set b.cells n x }) }; unwritten = unwritten }
+  stored_around = record a {
+    memory = record a.memory { blocks = slice_set a.memory.blocks k (record b { cells = slice_set b.cells n x }) };
+    unwritten = unwritten;
+  }
 
   abbrev pub stored_at : ℕ
   stored_at = start_of placed k + 8 * n
@@ -179,7 +192,8 @@ module _ (s : Fixed) (placed : List Placed) (m : List Region) (regions : HasRegi
   near = start_inside placed k h.old.inside k_in
 
   readable_there : IsReadable m (start_of placed k + 8 * n)
-  readable_there = let e = size_is in let p = near in h.readable.each k (start_of placed k + 8 * n) k_in (omega (arith, p)) (omega (arith, p)) (omega (arith, e, inside))
+  readable_there = let e = size_is in let p = near in h.readable.each k (start_of placed k + 8 * n) k_in (omega (arith, p)) (omega (arith, p))
+      (omega (arith, e, inside))
 
   -- another word stays
   stays : (y : ℕ) → start_of placed k + 8 * n ≢ y → word m' y ≡ word m y
@@ -204,11 +218,15 @@ module _ (s : Fixed) (placed : List Placed) (m : List Region) (regions : HasRegi
       (same_or_not j k)
 
   -- a block as it is then
-  set_by : (j : ℕ) (y : HeapBlock) → slice_get (slice_set a.memory.blocks k new_block) j ≡ Some y → ((j ≡ k) × (y ≡ new_block)) ⊎ ((j ≢ k) × (slice_get a.memory.blocks j ≡ Some y))
+  set_by : (j : ℕ) (y : HeapBlock) → slice_get (slice_set a.memory.blocks k new_block) j ≡ Some y → ((j ≡ k) × (y ≡ new_block))
+      ⊎ ((j ≢ k) × (slice_get a.memory.blocks j ≡ Some y))
   set_by j y e =
       ⊎_elim
-      (λ (t : j ≡ k). inl (t, (let f : slice_get (slice_set a.memory.blocks k new_block) k ≡ Some y = subst (λ i. slice_get (slice_set a.memory.blocks k new_block) i ≡ Some y) t e in
-          one_of (set_same a.memory.blocks k new_block b there) f)))
+      (λ (t : j ≡ k). inl (
+        t,
+        (let f : slice_get (slice_set a.memory.blocks k new_block) k ≡ Some y = subst (λ i. slice_get (slice_set a.memory.blocks k new_block) i ≡ Some y) t e in
+            one_of (set_same a.memory.blocks k new_block b there) f),
+      ))
       (λ d. inr (d, sym (set_other a.memory.blocks k j new_block (λ q. d (sym q))) ∙ e))
       (same_or_not j k)
     where
@@ -219,7 +237,7 @@ module _ (s : Fixed) (placed : List Placed) (m : List Region) (regions : HasRegi
   header_as j =
       ⊎_elim
       (λ (t : j ≡ k). subst (λ i. header_in (slice_get (slice_set a.memory.blocks k new_block) i) ≡ header_in (slice_get a.memory.blocks i)) (sym t)
-        (ap header_in (set_same a.memory.blocks k new_block b there) ∙ sym (ap header_in there)))
+      (ap header_in (set_same a.memory.blocks k new_block b there) ∙ sym (ap header_in there)))
       (λ d. ap header_in (set_other a.memory.blocks k j new_block (λ q. d (sym q))))
       (same_or_not j k)
 
@@ -227,14 +245,15 @@ module _ (s : Fixed) (placed : List Placed) (m : List Region) (regions : HasRegi
   size_as j =
       ⊎_elim
       (λ (t : j ≡ k). subst (λ i. size_in (slice_get (slice_set a.memory.blocks k new_block) i) ≡ size_in (slice_get a.memory.blocks i)) (sym t)
-        (ap size_in (set_same a.memory.blocks k new_block b there) ∙ length-set b.cells n x ∙ sym (ap size_in there)))
+      (ap size_in (set_same a.memory.blocks k new_block b there) ∙ length-set b.cells n x ∙ sym (ap size_in there)))
       (λ d. ap size_in (set_other a.memory.blocks k j new_block (λ q. d (sym q))))
       (same_or_not j k)
 
   -- what a cell then holds: the one that was written this value, another what it held
   cell_as : (j i : ℕ) (v : Value) → cond (is_among (InBlock j i) unwritten) None (cell_in (slice_get (slice_set a.memory.blocks k new_block) j) i) ≡ Some v →
       ((j ≡ k) × (i ≡ n) × (v ≡ x)) ⊎ (((j ≡ k) → i ≢ n) × ((blocks_of a).cell j i ≡ Some v))
-  cell_as j i v e = ⊎_elim (λ (t : j ≡ k). ⊎_elim (λ (u : i ≡ n). inl (t, u, here t u)) (λ d. inr ((λ q. d), other (λ q. d))) (same_or_not i n)) (λ d. inr ((λ q. absurd (d q)), other (λ q. absurd (d q)))) (same_or_not j k)
+  cell_as j i v e = ⊎_elim (λ (t : j ≡ k). ⊎_elim (λ (u : i ≡ n). inl (t, u, here t u)) (λ d. inr ((λ q. d), other (λ q. d))) (same_or_not i n))
+      (λ d. inr ((λ q. absurd (d q)), other (λ q. absurd (d q)))) (same_or_not j k)
     where
       parts : (t : Bool) (o : Option Value) → cond t None o ≡ Some v → (t ≡ false) × (o ≡ Some v)
       parts true o e = absurd (cc)
@@ -243,8 +262,11 @@ module _ (s : Fixed) (placed : List Placed) (m : List Region) (regions : HasRegi
       here : j ≡ k → i ≡ n → v ≡ x
       here t u =
           let p = (parts (is_among (InBlock j i) unwritten) (cell_in (slice_get (slice_set a.memory.blocks k new_block) j) i) e).1 in
-          let q : cell_in (slice_get (slice_set a.memory.blocks k new_block) k) n ≡ Some v = subst (λ z. cell_in (slice_get (slice_set a.memory.blocks k new_block) z) n ≡ Some v) t (subst (λ z. cell_in (slice_get (slice_set a.memory.blocks k new_block) j) z ≡ Some v) u p) in
-          let r : cell_in (slice_get (slice_set a.memory.blocks k new_block) k) n ≡ Some x = ap (λ o. cell_in o n) (set_same a.memory.blocks k new_block b there) ∙ set_there b.cells n x inside in
+          let q : cell_in (slice_get (slice_set a.memory.blocks k new_block) k) n ≡ Some v = subst (λ z. cell_in (slice_get
+          (slice_set a.memory.blocks k new_block) z) n ≡ Some v) t (subst (λ z. cell_in (slice_get
+          (slice_set a.memory.blocks k new_block) j) z ≡ Some v) u p) in
+          let r : cell_in (slice_get (slice_set a.memory.blocks k new_block) k) n ≡ Some x = ap (λ o. cell_in o n)
+          (set_same a.memory.blocks k new_block b there) ∙ set_there b.cells n x inside in
           cc
 
       unequal : InBlock j i ≡ InBlock k n → (j ≡ k) × (i ≡ n)
@@ -254,7 +276,8 @@ module _ (s : Fixed) (placed : List Placed) (m : List Region) (regions : HasRegi
       old_cell d =
           ⊎_elim
           (λ (t : j ≡ k). subst (λ z. cell_in (slice_get (slice_set a.memory.blocks k new_block) z) i ≡ cell_in (slice_get a.memory.blocks z) i) (sym t)
-            (ap (λ o. cell_in o i) (set_same a.memory.blocks k new_block b there) ∙ set_other b.cells n i x (λ q. d t (sym q)) ∙ sym (ap (λ o. cell_in o i) there)))
+          (ap (λ o. cell_in o i) (set_same a.memory.blocks k new_block b there) ∙ set_other b.cells n i x (λ q. d t (sym q))
+          ∙ sym (ap (λ o. cell_in o i) there)))
           (λ o. ap (λ q. cell_in q i) (set_other a.memory.blocks k j new_block (λ q. o (sym q))))
           (same_or_not j k)
 
@@ -279,10 +302,12 @@ module _ (s : Fixed) (placed : List Placed) (m : List Region) (regions : HasRegi
           cell = λ j i v l w e.
               ⊎_elim
               (λ q.
-                let here : start_of placed k + 8 * n ≡ start_of placed j + 8 * i =
-                    subst (λ z. start_of placed k + 8 * n ≡ start_of placed z + 8 * i) (sym q.0) (subst (λ z. start_of placed k + 8 * n ≡ start_of placed k + 8 * z) (sym q.1) refl) in
-                subst (λ y. word m' y ≡ value_word s.image placed v) here
-                  (word_same m (start_of placed k + 8 * n) value (formed_regions (extents s.image s.heap s.base) m regions) readable_there small ∙ stands.is ∙ ap (value_word s.image placed) (sym q.2)))
+              let here : start_of placed k + 8 * n ≡ start_of placed j + 8 * i =
+              subst (λ z. start_of placed k + 8 * n ≡ start_of placed z + 8 * i) (sym q.0)
+              (subst (λ z. start_of placed k + 8 * n ≡ start_of placed k + 8 * z) (sym q.1) refl) in
+              subst (λ y. word m' y ≡ value_word s.image placed v) here
+              (word_same m (start_of placed k + 8 * n) value (formed_regions (extents s.image s.heap s.base) m regions) readable_there small ∙ stands.is
+              ∙ ap (value_word s.image placed) (sym q.2)))
               (λ q. stays (start_of placed j + 8 * i) (cell_differs j i l w q.0) ∙ h.stand.cell j i v l w q.1)
               (cell_as j i v e);
           known = λ j i v l e. ⊎_elim (λ q. subst (IsKnown s.image (length placed)) (sym q.2) stands.known) (λ q. h.stand.known j i v l q.1) (cell_as j i v e);
@@ -293,11 +318,12 @@ module _ (s : Fixed) (placed : List Placed) (m : List Region) (regions : HasRegi
             (set_by j y e);
         fits = λ j i y v e f. ⊎_elim
             (λ q. subst (λ z. FitsCell s.image (length placed) (is_scanned y.header) z) (sym q.2)
-              (⊎_elim (λ r. subst (λ z. FitsCell s.image (length placed) (is_scanned z.header) x) (sym r.1) fits) (λ r. absurd (r.0 q.0)) (set_by j y e)))
+            (⊎_elim (λ r. subst (λ z. FitsCell s.image (length placed) (is_scanned z.header) x) (sym r.1) fits) (λ r. absurd (r.0 q.0)) (set_by j y e)))
             (λ q. ⊎_elim
-              (λ r. subst (λ z. FitsCell s.image (length placed) (is_scanned z.header) v) (sym r.1) (h.fits j i b v (subst (λ z. slice_get a.memory.blocks z ≡ Some b) (sym r.0) there) q.1))
-              (λ r. h.fits j i y v r.1 q.1)
-              (set_by j y e))
+            (λ r. subst (λ z. FitsCell s.image (length placed) (is_scanned z.header) v) (sym r.1)
+            (h.fits j i b v (subst (λ z. slice_get a.memory.blocks z ≡ Some b) (sym r.0) there) q.1))
+            (λ r. h.fits j i y v r.1 q.1)
+            (set_by j y e))
             (cell_as j i v f);
         statics = statics_stay s placed m m' a.memory (slice_set a.memory.blocks k new_block) (λ y l. stays y (λ q. omega (arith, q, l, p))) h.statics;
       }
@@ -305,7 +331,9 @@ module _ (s : Fixed) (placed : List Placed) (m : List Region) (regions : HasRegi
       not_cell : (j : ℕ) → InHeader j ≡ InBlock k n → ⊥
       not_cell j q = absurd (cc)
 
-      head_before : (j w : ℕ) (t : Bool) → is_among (InHeader j) unwritten ≡ t → cond t None (header_in (slice_get (slice_set a.memory.blocks k new_block) j)) ≡ Some w → (blocks_of a).header j ≡ Some w
+      head_before : (j w : ℕ) (t : Bool) → is_among (InHeader j) unwritten ≡ t →
+          cond t None (header_in (slice_get (slice_set a.memory.blocks k new_block) j)) ≡ Some w → (blocks_of a).header j ≡ Some w
       head_before j w true f e = absurd (cc)
       head_before j w false f e =
-          ⊎_elim (λ q. absurd (not_cell j q)) (λ g. ap (λ t. cond t None (header_in (slice_get a.memory.blocks j))) g ∙ sym (header_as j) ∙ e) (fewer (InHeader j) f)
+          ⊎_elim (λ q. absurd (not_cell j q)) (λ g. ap (λ t. cond t None (header_in (slice_get a.memory.blocks j))) g ∙ sym (header_as j) ∙ e)
+          (fewer (InHeader j) f)

@@ -1,7 +1,6 @@
 -- A function begins and is left, and traps are pushed, popped and taken, as far as registers and memory say.
-use Rattle.std.proofs.Common.{◌≡◌, ◌≢◌, ℕ, zero, suc, ◌+◌, ◌-◌, ◌*◌, ◌/◌, ◌%◌, ◌^◌, ◌<◌, ◌≤◌, ◌⊎◌, inl, inr, Bool, true, false, cond, List, [], ◌∷◌, ◌++◌, length, map, Option, Some, None, slice_get, slice_index, refl, ap, arith, ◌∙◌, sym, subst, ⊎_elim}
+use Rattle.std.proofs.Common.{◌≡◌, ◌≢◌, ℕ, ◌+◌, ◌-◌, ◌*◌, ◌<◌, ◌≤◌, Bool, true, false, cond, List, [], ◌∷◌, map, Option, Some, None, slice_get, slice_index, refl, ap, arith, ◌∙◌, sym, subst, ⊎_elim}
 use Rattle.bs_words.specs.Memory.{Memory}
-use Rattle.bs_words.specs.declared.types.Loc.{Loc}
 use Rattle.bs_words.specs.declared.types.Loc.TheVariants as loc
 use Rattle.bs_words.specs.declared.values.Value.{Value}
 use Rattle.lin_ir.specs.Meaning.{Locations}
@@ -10,24 +9,23 @@ use Rattle.mach_ir.specs.Runs.{entered}
 use Rattle.rv_machine.specs.Hart.{Placed}
 use Rattle.rv_machine.specs.Memory.{Region, word, write, code_start}
 use Rattle.rv_machine.specs.Placement.{are_apart}
-use Rattle.rv_machine.specs.Places.{stack_bottom, stack_end}
 use Rattle.rv_machine.specs.Sound.{HasRegions, extents}
 use Rattle.rv_machine.specs.Space.{IsHeap}
 use Rattle.machine_laws.proofs.Memory.{has_write, other_word}
-use Rattle.moving_laws.specs.Stands.{Among}
-use Rattle.moving_laws.specs.Waiting.{IsBack, TrapsFrom, traps_at}
+use Rattle.moving_laws.specs.Waiting.{traps_at}
 use Rattle.moving_laws.specs.Words.{IsReadable}
 use Rattle.moving_laws.proofs.Usable.{formed_regions, stack_readable}
 use Rattle.moving_laws.proofs.Words.{readable_write, word_same}
-use Rattle.linear_machine.specs.Moments.{AtEntry, AtReturn, AtThrow, IsThrown}
-use Rattle.linear_machine.specs.Relation.{AreCarried, Below, HeapStands, IsLocation, IsUsable, Laid, OwnRegisters, RegistersHold, ReturnStands, SlotsHold, StandsFor, TrapsStand, Waits, Within, all_of, traps_of}
+use Rattle.linear_machine.specs.Moments.{AtEntry, AtReturn}
+use Rattle.linear_machine.specs.Relation.{AreCarried, Below, HeapStands, IsLocation, IsUsable, Laid, ReturnStands, StandsFor, TrapsStand, Waits, Within, all_of}
 use Rattle.linear_machine.specs.Straight.{Differs}
 use Rattle.linear_machine.specs.View.{Fixed, View}
-use Rattle.linear_machine.proofs.Frames.{heap_around, heap_whole}
-use Rattle.linear_machine.proofs.Keeping.{heap_kept, length_map, traps_at_all, traps_kept, waits_kept}
+use Rattle.linear_machine.proofs.Frames.{heap_whole}
+use Rattle.linear_machine.proofs.Keeping.{heap_kept, traps_kept, waits_kept}
 use Rattle.linear_machine.proofs.Standing.{own_past}
 
-pub usable_past : (s : Fixed) (v w : View) (m : List Region) → w.memory ≡ m → w.blocks ≡ v.blocks → HasRegions (extents s.image s.heap s.base) m → IsUsable s v → IsUsable s w
+pub usable_past : (s : Fixed) (v w : View) (m : List Region) → w.memory ≡ m → w.blocks ≡ v.blocks → HasRegions (extents s.image s.heap s.base) m →
+    IsUsable s v → IsUsable s w
 usable_past s v w m em eb has u = record {
   regions = subst (λ k. HasRegions (extents s.image s.heap s.base) k) (sym em) has;
   heap = subst (λ bs. IsHeap s.heap bs) (sym eb) u.heap;
@@ -40,28 +38,32 @@ placed_past v w young e = ap (λ bs. all_of (record v { blocks = bs }) young) e
 -- ---- a function is left: sp is back where it was, and a0 is as it was
 
 module _ (s : Fixed) (laid : Laid) (v w : View) (young : List Placed) (held : Locations) (a : Around) (c : Below) (within : Within s laid v young 0 held a c)
-    (differs : Differs (1 ∷ 2 ∷ 6 ∷ 7 ∷ []) v.memory v w) (top : slice_index w.registers 2 ≡ c.top) (none : a.raised ≡ None) (left : a.tries ≡ []) (whole : is_complete a ≡ true) where
+    (differs : Differs (1 ∷ 2 ∷ 6 ∷ 7 ∷ []) v.memory v w) (top : slice_index w.registers 2 ≡ c.top) (none : a.raised ≡ None) (left : a.tries ≡ [])
+    (whole : is_complete a ≡ true) where
   off : (q : ℕ) → q ≢ 1 → q ≢ 2 → q ≢ 6 → q ≢ 7 → slice_index w.registers q ≡ slice_index v.registers q
   off q n1 n2 n6 n7 = differs.others q (λ i. ⊎_elim n1 (λ j. ⊎_elim n2 (λ k. ⊎_elim n6 (λ l. ⊎_elim n7 (λ f. f) l) k) j) i)
 
-  pub leaves : (value : Option Value) → ((x : Value) → value ≡ Some x → held (loc.Machine 10) ≡ Some x) → code_start + 4 * w.place ≡ c.back → AtReturn s w young value a.memory c
+  pub leaves : (value : Option Value) → ((x : Value) → value ≡ Some x → held (loc.Machine 10) ≡ Some x) → code_start + 4 * w.place ≡ c.back →
+      AtReturn s w young value a.memory c
   leaves value there place =
       let same = placed_past v w young differs.blocks in
       let e9 = off 9 (λ e. omega (arith, e)) (λ e. omega (arith, e)) (λ e. omega (arith, e)) (λ e. omega (arith, e)) in
       record {
         place = place;
-        own = own_past v.registers w.registers young 0 differs.are (off 26 (λ e. omega (arith, e)) (λ e. omega (arith, e)) (λ e. omega (arith, e)) (λ e. omega (arith, e)))
+        own = own_past v.registers w.registers young 0 differs.are (off 26 (λ e. omega (arith, e)) (λ e. omega (arith, e)) (λ e. omega (arith, e))
+            (λ e. omega (arith, e)))
             (off 27 (λ e. omega (arith, e)) (λ e. omega (arith, e)) (λ e. omega (arith, e)) (λ e. omega (arith, e))) within.own;
         usable = usable_past s v w v.memory differs.memory differs.blocks within.usable.regions within.usable;
         top = top;
         value_in = λ x h.
             let p = (subst (λ o. AreCarried s (all_of v young) v.registers held o) none within.carried) 10 x (there x h) in
             subst (λ b. StandsFor s b (slice_index w.registers 10) x) (sym same)
-                (subst (λ z. StandsFor s (all_of v young) z x) (sym (off 10 (λ e. omega (arith, e)) (λ e. omega (arith, e)) (λ e. omega (arith, e)) (λ e. omega (arith, e)))) p.1);
+            (subst (λ z. StandsFor s (all_of v young) z x)
+            (sym (off 10 (λ e. omega (arith, e)) (λ e. omega (arith, e)) (λ e. omega (arith, e)) (λ e. omega (arith, e)))) p.1);
         waits = subst (λ b. Waits s b w.memory c) (sym same) (subst (λ m. Waits s (all_of v young) m c) (sym differs.memory) within.waits);
         traps = subst (λ m. TrapsStand s m (slice_index w.registers 9) [] c) (sym differs.memory)
             (subst (λ t. TrapsStand s v.memory t [] c) (sym e9)
-              (subst (λ ts. TrapsStand s v.memory (slice_index v.registers 9) (traps_at (slice_index v.registers 2) (map laid.handler ts)) c) left within.traps));
+            (subst (λ ts. TrapsStand s v.memory (slice_index v.registers 9) (traps_at (slice_index v.registers 2) (map laid.handler ts)) c) left within.traps));
         heap = subst (λ b. HeapStands s b w.memory (entered a.memory)) (sym same)
             (subst (λ m. HeapStands s (all_of v young) m (entered a.memory)) (sym differs.memory) (heap_whole s (all_of v young) v.memory a whole within.heap));
       }
@@ -88,8 +90,10 @@ abbrev pub saved : Bool → List Region → ℕ → ℕ → List Region
 saved true m at back = write m at back
 saved false m at back = m
 
-module _ (s : Fixed) (laid : Laid) (v w : View) (young : List Placed) (entry : ℕ) (arguments : List Value) (memory : Memory) (c : Below) (at : AtEntry s v young entry arguments memory c)
-    (fits : s.base + laid.frame ≤ c.top) (differs : Differs (2 ∷ 6 ∷ 7 ∷ []) (saved laid.saves v.memory (c.top - 8) c.back) v w) (low : slice_index w.registers 2 ≡ c.top - laid.frame) where
+module _ (s : Fixed) (laid : Laid) (v w : View) (young : List Placed) (entry : ℕ) (arguments : List Value) (memory : Memory) (c : Below)
+    (at : AtEntry s v young entry arguments memory c)
+    (fits : s.base + laid.frame ≤ c.top) (differs : Differs (2 ∷ 6 ∷ 7 ∷ []) (saved laid.saves v.memory (c.top - 8) c.back) v w)
+    (low : slice_index w.registers 2 ≡ c.top - laid.frame) where
   off_entry : (q : ℕ) → q ≢ 2 → q ≢ 6 → q ≢ 7 → slice_index w.registers q ≡ slice_index v.registers q
   off_entry q n2 n6 n7 = differs.others q (λ i. ⊎_elim n2 (λ k. ⊎_elim n6 (λ l. ⊎_elim n7 (λ f. f) l) k) i)
 
@@ -128,7 +132,8 @@ module _ (s : Fixed) (laid : Laid) (v w : View) (young : List Placed) (entry : �
       let hi = at.waits.high in
       let ev = at.waits.even in
       let bh = at.waits.back.high in
-      let can : IsReadable v.memory (c.top - 8) = stack_readable s.image s.heap s.base v.memory at.usable.regions (c.top - 8) (omega (arith, ev, r, fits)) (omega (arith, r, fits)) (omega (arith, hi, r, fits)) in
+      let can : IsReadable v.memory (c.top - 8) = stack_readable s.image s.heap s.base v.memory at.usable.regions (c.top - 8) (omega (arith, ev, r, fits))
+      (omega (arith, r, fits)) (omega (arith, hi, r, fits)) in
       word_same v.memory (c.top - 8) c.back (formed_regions (extents s.image s.heap s.base) v.memory at.usable.regions) can (omega (arith, bh))
   back_stands false e = off_entry 1 (λ e. omega (arith, e)) (λ e. omega (arith, e)) (λ e. omega (arith, e)) ∙ at.back
 
@@ -151,16 +156,20 @@ module _ (s : Fixed) (laid : Laid) (v w : View) (young : List Placed) (entry : �
             let g = begun.register r x h in
             let p = at.arguments_in g.0 x g.2 in
             let e = g.1 in
-            let here : slice_index w.registers r ≡ slice_index v.registers (10 + g.0) = ap (slice_index w.registers) e ∙ off_entry (10 + g.0) (λ q. omega (arith, q)) (λ q. omega (arith, q)) (λ q. omega (arith, q)) in
-            (argument_location g.0 r p.0 e,
-              subst (λ b. StandsFor s b (slice_index w.registers r) x) (sym same) (subst (λ z. StandsFor s (all_of v young) z x) (sym here) p.1));
+            let here : slice_index w.registers r ≡ slice_index v.registers (10 + g.0) = ap (slice_index w.registers) e ∙ off_entry (10 + g.0)
+            (λ q. omega (arith, q)) (λ q. omega (arith, q)) (λ q. omega (arith, q)) in (
+              argument_location g.0 r p.0 e,
+              subst (λ b. StandsFor s b (slice_index w.registers r) x) (sym same) (subst (λ z. StandsFor s (all_of v young) z x) (sym here) p.1),
+            );
         slots = λ k x h. absurd (begun.slot k x h);
         back = returns_as laid.saves (back_stands laid.saves refl);
         waits = subst (λ b. Waits s b w.memory c) (sym same) (subst (λ m. Waits s (all_of v young) m c) (sym differs.memory)
             (waits_kept s (all_of v young) v.memory m' c (λ y l h. stack_same laid.saves refl y l) at.waits));
         traps = subst (λ m. TrapsStand s m (slice_index w.registers 9) [] c) (sym differs.memory)
             (subst (λ t. TrapsStand s m' t [] c) (sym e9)
-              (traps_kept s (all_of v young) v.memory m' (slice_index v.registers 9) [] c (λ y l h. stack_same laid.saves refl y l) tt at.waits at.traps));
-        heap = subst (λ b. HeapStands s b w.memory (entered memory)) (sym same) (subst (λ m. HeapStands s (all_of v young) m (entered memory)) (sym differs.memory)
-            (heap_kept s (all_of v young) v.memory m' (entered memory) (λ y l n. heap_same laid.saves refl y l) (λ y r. saved_readable laid.saves y r) at.heap));
+            (traps_kept s (all_of v young) v.memory m' (slice_index v.registers 9) [] c (λ y l h. stack_same laid.saves refl y l) tt at.waits at.traps));
+        heap = subst (λ b. HeapStands s b w.memory (entered memory)) (sym same)
+            (subst (λ m. HeapStands s (all_of v young) m (entered memory)) (sym differs.memory)
+            (heap_kept s (all_of v young) v.memory m' (entered memory) (λ y l n. heap_same laid.saves refl y l)
+            (λ y r. saved_readable laid.saves y r) at.heap));
       }

@@ -1,8 +1,7 @@
 -- A function over a word of the heap that is written, and the header of a block.
-use Rattle.std.proofs.Common.{◌≡◌, ◌≢◌, ℕ, zero, suc, ◌+◌, ◌-◌, ◌*◌, ◌%◌, ◌^◌, ◌<◌, ◌≤◌, ◌⊎◌, inl, inr, Bool, true, false, cond, List, [], ◌∷◌, length, map, Option, Some, None, slice_get, slice_index, refl, ap, arith, ◌∙◌, sym, subst, ⊎_elim}
+use Rattle.std.proofs.Common.{◌≡◌, ◌≢◌, ℕ, ◌+◌, ◌-◌, ◌*◌, ◌%◌, ◌^◌, ◌<◌, ◌≤◌, ◌⊎◌, Bool, true, false, cond, List, length, map, Some, None, slice_get, slice_index, refl, ap, arith, ◌∙◌, sym, subst, ⊎_elim}
 use Rattle.std.proofs.lemmas.Option.{slice_get_within}
 use Rattle.bs_words.specs.Memory.{Cell, HeapBlock, InBlock, InHeader, Memory}
-use Rattle.bs_words.specs.declared.types.Loc.TheVariants as loc
 use Rattle.bs_words.specs.declared.values.Value.{Value}
 use Rattle.lin_ir.specs.Meaning.{Locations}
 use Rattle.mach_ir.specs.Acts.{Around, is_among}
@@ -16,7 +15,7 @@ use Rattle.moving_laws.specs.Words.{IsReadable}
 use Rattle.moving_laws.proofs.Rewriting.{start_inside}
 use Rattle.moving_laws.proofs.Usable.{formed_regions}
 use Rattle.moving_laws.proofs.Words.{readable_write, same_or_not, word_same}
-use Rattle.linear_machine.specs.Contents.{blocks_of, cell_in, header_in, size_in}
+use Rattle.linear_machine.specs.Contents.{blocks_of, cell_in, header_in}
 use Rattle.linear_machine.specs.Relation.{Below, HeapStands, Laid, ReturnStands, StandsFor, Within, all_of}
 use Rattle.linear_machine.specs.View.{Fixed, View}
 use Rattle.linear_machine.proofs.Keeping.{traps_at_all, traps_kept, waits_kept}
@@ -25,7 +24,8 @@ use Rattle.linear_machine.proofs.Storing.{blocks_apart, statics_stay}
 -- ---- the stack stays where a word below it is written
 
 pub within_written :
-    (s : Fixed) (laid : Laid) (v : View) (young : List Placed) (taken : ℕ) (held : Locations) (a : Around) (c : Below) (at value : ℕ) (memory : Memory) (unwritten : List Cell) → at < 0x38010000 →
+    (s : Fixed) (laid : Laid) (v : View) (young : List Placed) (taken : ℕ) (held : Locations) (a : Around) (c : Below) (at value : ℕ) (memory : Memory)
+    (unwritten : List Cell) → at < 0x38010000 →
     HeapStands s (all_of v young) (write v.memory at value) (record a { memory = memory; unwritten = unwritten }) → Within s laid v young taken held a c →
     Within s laid (record v { memory = write v.memory at value }) young taken held (record a { memory = memory; unwritten = unwritten }) c
 within_written s laid v young taken held a c at value memory unwritten low heap w =
@@ -44,11 +44,17 @@ within_written s laid v young taken held a c at value memory unwritten low heap 
           let same = other_word v.memory at (slice_index v.registers 2 + (8 * k + 16 * length a.tries)) value (λ q. omega (arith, q, lo, high, low)) in
           (p.0, subst (λ z. StandsFor s (all_of v young) z x) (sym same) p.1);
       back = return_written laid.saves refl high w.back;
-      waits = waits_kept s (all_of v young) v.memory (write v.memory at value) c (λ y l h. other_word v.memory at y value (λ q. omega (arith, q, l, wl, high, low))) w.waits;
-      traps = traps_kept s (all_of v young) v.memory (write v.memory at value) (slice_index v.registers 9) (traps_at (slice_index v.registers 2) (map laid.handler a.tries)) c
+      waits = waits_kept s (all_of v young) v.memory (write v.memory at value) c (λ y l h. other_word v.memory at y value (λ q. omega
+          (arith, q, l, wl, high, low))) w.waits;
+      traps = traps_kept s (all_of v young) v.memory (write v.memory at value) (slice_index v.registers 9)
+          (traps_at (slice_index v.registers 2) (map laid.handler a.tries)) c
           (λ y l h. other_word v.memory at y value (λ q. omega (arith, q, l, wl, high, low)))
           (traps_at_all _ (slice_index v.registers 2) (map laid.handler a.tries)
-            (λ y q h. (other_word v.memory at y value (λ t. omega (arith, t, q, lo, high, low)), other_word v.memory at (y + 8) value (λ t. omega (arith, t, q, lo, high, low)))))
+          (λ y q h. (
+            other_word v.memory at y value (λ t. omega (arith, t, q, lo, high, low)),
+            other_word v.memory at (y + 8) value (λ t. omega
+                (arith, t, q, lo, high, low)),
+          )))
           w.waits w.traps;
       heap = heap;
     }
@@ -63,7 +69,8 @@ within_written s laid v young taken held a c at value memory unwritten low heap 
 
 -- ---- the header of a block is written, as the allocation says it
 
-module _ (s : Fixed) (placed : List Placed) (m : List Region) (regions : HasRegions (extents s.image s.heap s.base) m) (a : Around) (h : HeapStands s placed m a)
+module _ (s : Fixed) (placed : List Placed) (m : List Region) (regions : HasRegions (extents s.image s.heap s.base) m) (a : Around)
+    (h : HeapStands s placed m a)
     (k : ℕ) (b : HeapBlock) (there : slice_get a.memory.blocks k ≡ Some b) (small : b.header < 2 ^ 64) (unwritten : List Cell)
     (fewer : (c : Cell) → is_among c unwritten ≡ false → (c ≡ InHeader k) ⊎ (is_among c a.unwritten ≡ false)) where
   k_in : k < length placed
@@ -103,25 +110,30 @@ module _ (s : Fixed) (placed : List Placed) (m : List Region) (regions : HasRegi
           sizes = h.stand.sizes;
           header = λ j w l e. ⊎_elim
               (λ (t : j ≡ k).
-                let f : (blocks_of (record a { unwritten = unwritten })).header k ≡ Some w = subst (λ z. (blocks_of (record a { unwritten = unwritten })).header z ≡ Some w) t e in
-                let g : b.header ≡ w = head_is (is_among (InHeader k) unwritten) w f in
-                subst (λ z. word m' (start_of placed z - 8) ≡ w) (sym t)
-                  (word_same m (start_of placed k - 8) b.header (formed_regions (extents s.image s.heap s.base) m regions) readable_there small ∙ g))
-              (λ d. other_word m (start_of placed k - 8) (start_of placed j - 8) b.header (head_differs j l d) ∙ h.stand.header j w l (head_before j w (is_among (InHeader j) unwritten) refl d e))
+              let f : (blocks_of (record a { unwritten = unwritten })).header k ≡ Some w = subst (λ z. (blocks_of
+              (record a { unwritten = unwritten })).header z ≡ Some w) t e in
+              let g : b.header ≡ w = head_is (is_among (InHeader k) unwritten) w f in
+              subst (λ z. word m' (start_of placed z - 8) ≡ w) (sym t)
+              (word_same m (start_of placed k - 8) b.header (formed_regions (extents s.image s.heap s.base) m regions) readable_there small ∙ g))
+              (λ d. other_word m (start_of placed k - 8) (start_of placed j - 8) b.header (head_differs j l d)
+              ∙ h.stand.header j w l (head_before j w (is_among (InHeader j) unwritten) refl d e))
               (same_or_not j k);
-          cell = λ j i v l w e. other_word m (start_of placed k - 8) (start_of placed j + 8 * i) b.header (cell_differs j i l w) ∙ h.stand.cell j i v l w (cell_before j i v (is_among (InBlock j i) unwritten) refl e);
+          cell = λ j i v l w e. other_word m (start_of placed k - 8) (start_of placed j + 8 * i) b.header (cell_differs j i l w)
+              ∙ h.stand.cell j i v l w (cell_before j i v (is_among (InBlock j i) unwritten) refl e);
           known = λ j i v l e. h.stand.known j i v l (cell_before j i v (is_among (InBlock j i) unwritten) refl e);
         };
         heads = h.heads;
         fits = λ j i y v e f. h.fits j i y v e (cell_before j i v (is_among (InBlock j i) unwritten) refl f);
-        statics = statics_stay s placed m m' a.memory a.memory.blocks (λ y l. other_word m (start_of placed k - 8) y b.header (λ q. omega (arith, q, l, p))) h.statics;
+        statics = statics_stay s placed m m' a.memory a.memory.blocks (λ y l. other_word m (start_of placed k - 8) y b.header (λ q. omega
+            (arith, q, l, p))) h.statics;
       }
     where
       head_is : (t : Bool) (w : ℕ) → cond t None (header_in (slice_get a.memory.blocks k)) ≡ Some w → b.header ≡ w
       head_is true w e = absurd (cc)
       head_is false w e = let f : header_in (slice_get a.memory.blocks k) ≡ Some b.header = ap header_in there in cc
 
-      head_before : (j w : ℕ) (t : Bool) → is_among (InHeader j) unwritten ≡ t → j ≢ k → cond t None (header_in (slice_get a.memory.blocks j)) ≡ Some w → (blocks_of a).header j ≡ Some w
+      head_before : (j w : ℕ) (t : Bool) → is_among (InHeader j) unwritten ≡ t → j ≢ k → cond t None (header_in (slice_get a.memory.blocks j)) ≡ Some w →
+          (blocks_of a).header j ≡ Some w
       head_before j w true f d e = absurd (cc)
       head_before j w false f d e =
           ⊎_elim (λ q. absurd (d (same_head j q))) (λ g. ap (λ t. cond t None (header_in (slice_get a.memory.blocks j))) g ∙ e) (fewer (InHeader j) f)
@@ -129,7 +141,8 @@ module _ (s : Fixed) (placed : List Placed) (m : List Region) (regions : HasRegi
           same_head : (j : ℕ) → InHeader j ≡ InHeader k → j ≡ k
           same_head j q = cc
 
-      cell_before : (j i : ℕ) (v : Value) (t : Bool) → is_among (InBlock j i) unwritten ≡ t → cond t None (cell_in (slice_get a.memory.blocks j) i) ≡ Some v → (blocks_of a).cell j i ≡ Some v
+      cell_before : (j i : ℕ) (v : Value) (t : Bool) → is_among (InBlock j i) unwritten ≡ t → cond t None (cell_in (slice_get a.memory.blocks j) i) ≡ Some v →
+          (blocks_of a).cell j i ≡ Some v
       cell_before j i v true f e = absurd (cc)
       cell_before j i v false f e =
           ⊎_elim (λ q. absurd (no_head q)) (λ g. ap (λ t. cond t None (cell_in (slice_get a.memory.blocks j) i)) g ∙ e) (fewer (InBlock j i) f)

@@ -1,6 +1,5 @@
 -- The machine follows a Linear function: what it does for one step.
 use Rattle.std.specs.Prelude.{◌≡◌, ℕ, ◌+◌, ◌*◌, List, length}
-use Rattle.bs_words.specs.External.{External}
 use Rattle.bs_words.specs.Memory.{Memory, heap_need}
 use Rattle.bs_words.specs.declared.types.Loc.{Loc}
 use Rattle.bs_words.specs.declared.values.Value.{Value}
@@ -64,7 +63,8 @@ needs_of laid c u =
 -- A call of a function begins the callee above an activation that waits, and whatever the callee
 -- does, the function goes on behind it.
 pub record FollowsCall (n : ℕ) (s : Fixed) (laid : Laid) (live : List Line → Type 0)
-    (entry : ℕ → ℕ) (c : Below) (v : View) (f : ℕ) (arguments : List Value) (memory : Memory) (go : Doing → Step State) : Type 0 where
+    (entry : ℕ → ℕ) (c : Below) (v : View) (f : ℕ) (arguments : List Value) (memory : Memory)
+    (go : Doing → Step State) : Type 0 where
   pub below : Below
   pub enters : ArrivesIn 1 n s (nothing s) v (IsEntered s entry f arguments memory below)
   pub resumes : (d : Doing) (w : View) → IsDone s below d w → IsAfter s laid live c (go d) w
@@ -84,10 +84,12 @@ FollowsTail n s entry c v call (Inside f) =
     ArrivesIn 1 n s (nothing s) v (IsEntered s entry f call.arguments call.memory c)
 FollowsTail n s entry c v call (Outside row frame) = ⊥
 
-abbrev pub FollowsStep : ℕ → Fixed → Laid → (List Line → Type 0) → (ℕ → ℕ) → Below → View → Step State → Type 0
+abbrev pub FollowsStep : ℕ → Fixed → Laid → (List Line → Type 0) → (ℕ → ℕ) → Below → View →
+    Step State → Type 0
 FollowsStep n s laid live entry c v (Continues u) =
     ArrivesIn 0 n s (needs_of laid c u) v (IsAt s laid live c u)
-FollowsStep n s laid live entry c v (Pays u) = ArrivesIn 1 n s (needs_of laid c u) v (IsAt s laid live c u)
+FollowsStep n s laid live entry c v (Pays u) = ArrivesIn 1 n s (needs_of laid c u) v
+    (IsAt s laid live c u)
 FollowsStep n s laid live entry c v (Deepens bytes u) =
     ArrivesIn 0 n s (needs_of laid c u) v (IsAt s laid live c u)
 FollowsStep n s laid live entry c v (Waits call go) =
@@ -95,5 +97,6 @@ FollowsStep n s laid live entry c v (Waits call go) =
 FollowsStep n s laid live entry c v (FinishesBy call kept) =
     FollowsTail n s entry c v call call.callee
 FollowsStep n s laid live entry c v (Finishes d) = ArrivesIn 0 n s (nothing s) v (IsDone s c d)
-FollowsStep n s laid live entry c v (FinishesRaising d) = ArrivesIn 1 n s (nothing s) v (IsDone s c d)
+FollowsStep n s laid live entry c v (FinishesRaising d) = ArrivesIn 1 n s (nothing s) v
+    (IsDone s c d)
 FollowsStep n s laid live entry c v IsStuck = Unit {0}

@@ -80,16 +80,16 @@ pub record GoesOn (s : Fixed) (a : Machine) (calls : List Made) (answers : List 
 -- machine stands for what the function makes of the answers; or the blocks have no room.
 pub record IsAsking (s : Fixed) (needs : Needs) (row : External) (frame : Bool)
     (arguments : List Value) (memory : Memory) (Goes : Doing → View → Type 0) (w : View) : Type 0
-    where
-  pub ext : Ext
-  pub there : slice_get s.image.extcs (slice_index w.registers t0) ≡ Some ext
-  pub name : ext.name ≡ row.name
-  pub params : ext.params ≡ row.params
-  pub result : ext.result ≡ row.result
-  pub code : IsCode s w.place Ecall
-  pub service : slice_index w.registers t2 ≡ service_of frame
-  pub made : (a : Machine) → Stands s a w → call_made ext a.hart ≡ counted s row arguments
-  pub goes : (a : Machine) (t : Taken) → Stands s a w → AllWords w.answers →
-      taken_of frame memory row.result w.answers ≡ Some t →
-      GoesOn s a (w.calls ++ counted s row arguments ∷ []) t.answers (Goes t.doing)
-      ⊎ Gone s needs w a
+  where
+    pub ext : Ext
+    pub there : slice_get s.image.extcs (slice_index w.registers t0) ≡ Some ext
+    pub name : ext.name ≡ row.name
+    pub params : ext.params ≡ row.params
+    pub result : ext.result ≡ row.result
+    pub code : IsCode s w.place Ecall
+    pub service : slice_index w.registers t2 ≡ service_of frame
+    pub made : (a : Machine) → Stands s a w → call_made ext a.hart ≡ counted s row arguments
+    pub goes : (a : Machine) (t : Taken) → Stands s a w → AllWords w.answers →
+        taken_of frame memory row.result w.answers ≡ Some t →
+        GoesOn s a (w.calls ++ counted s row arguments ∷ []) t.answers (Goes t.doing)
+        ⊎ Gone s needs w a

@@ -1,7 +1,7 @@
 -- How the state of a Linear function stands in the machine.
 use Rattle.std.specs.Prelude.{◌≡◌, ◌≢◌, ℕ, ◌+◌, ◌-◌, ◌*◌, ◌%◌, ◌<◌, ◌≤◌, Bool, true, false, cond, List, [], ◌∷◌, ◌++◌, length, map, reverse, Option, Some, None, slice_get, slice_index}
 use Rattle.std.specs.List.{AllByRecursion}
-use Rattle.bs_words.specs.Memory.{Memory, HeapBlock}
+use Rattle.bs_words.specs.Memory.{HeapBlock}
 use Rattle.bs_words.specs.declared.types.Loc.{Loc}
 use Rattle.bs_words.specs.declared.types.Loc.TheVariants as loc
 use Rattle.bs_words.specs.declared.values.Value.{Value}
@@ -21,8 +21,7 @@ use Rattle.rv_machine.specs.Sound.{AreRegisters, HasRegions, extents}
 use Rattle.rv_machine.specs.Space.{IsHeap}
 use Rattle.moving_laws.specs.Heap.{AreBlocks}
 use Rattle.moving_laws.specs.Stands.{Among, BlocksStand, StaticsStand, AreReadable}
-use Rattle.moving_laws.specs.Values.{value_word, words_of, IsKnown, FitsCell}
-use Rattle.moving_laws.specs.Waiting as waiting
+use Rattle.moving_laws.specs.Values.{value_word, IsKnown, FitsCell}
 use Rattle.moving_laws.specs.Waiting.{Activation, Chain, AllWait, IsBack, TrapsFrom, traps_at}
 use Rattle.moving_laws.specs.Young.{Rises}
 use Rattle.linear_machine.specs.Contents.{blocks_of, statics_of}
@@ -136,7 +135,8 @@ AreCarried s placed registers file None = RegistersHold s placed registers file
 AreCarried s placed registers file (Some v) = StandsFor s placed (slice_index registers a0) v
 
 -- slot k lies 8 bytes further than slot k - 1, above the function's trap frames
-abbrev pub SlotsHold : Fixed → Laid → List Placed → List Region → ℕ → ℕ → (Loc → Option Value) → Type 0
+abbrev pub SlotsHold : Fixed → Laid → List Placed → List Region → ℕ → ℕ → (Loc → Option Value) →
+    Type 0
 SlotsHold s laid placed m at traps file =
     (k : ℕ) (v : Value) → file (loc.Slot k) ≡ Some v →
     (k < laid.slots) × StandsFor s placed (word m (at + (8 * k + 16 * traps))) v
