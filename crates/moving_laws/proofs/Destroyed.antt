@@ -23,7 +23,40 @@ abbrev pub IsSpared : ℕ → Type 0
 IsSpared r = (r < 10) ⊎ ((18 ≤ r) × (r < 28))
 
 pub spared : (r : ℕ) → IsSpared r → AllByRecursion (λ k. k ≢ r) destroyed
-spared r s = (off 10 s (inl (omega arith, omega arith)), (off 11 s (inl (omega arith, omega arith)), (off 12 s (inl (omega arith, omega arith)), (off 13 s (inl (omega arith, omega arith)), (off 14 s (inl (omega arith, omega arith)), (off 15 s (inl (omega arith, omega arith)), (off 16 s (inl (omega arith, omega arith)), (off 17 s (inl (omega arith, omega arith)), (off 28 s (inr (omega arith)), (off 29 s (inr (omega arith)), (off 30 s (inr (omega arith)), (off 31 s (inr (omega arith)), tt))))))))))))
+spared r s = (
+  off 10 s (inl (omega arith, omega arith)),
+  (
+    off 11 s (inl (omega arith, omega arith)),
+    (
+      off 12 s (inl (omega arith, omega arith)),
+      (
+        off 13 s (inl (omega arith, omega arith)),
+        (
+          off 14 s (inl (omega arith, omega arith)),
+          (
+            off 15 s (inl (omega arith, omega arith)),
+            (
+              off 16 s (inl (omega arith, omega arith)),
+              (
+                off 17 s (inl (omega arith, omega arith)),
+                (
+                  off 28 s (inr (omega arith)),
+                  (
+                    off 29 s (inr (omega arith)),
+                    (
+                      off 30 s (inr (omega arith)),
+                      (off 31 s (inr (omega arith)), tt),
+                    ),
+                  ),
+                ),
+              ),
+            ),
+          ),
+        ),
+      ),
+    ),
+  ),
+)
   where
     off : (k : ℕ) → IsSpared r → ((10 ≤ k) × (k < 18)) ⊎ (28 ≤ k) → k ≢ r
     off k (inl s) (inl h) e = omega (arith, s, h, e)

@@ -133,7 +133,8 @@ module _ (h : Hart) (from : ℕ) (young : List Placed) (f : Frame) (fs : List Fr
       let b = base_high in
       let s = knows.sp_low in
       ⊎_elim (λ t. t)
-      (λ t. absurd (let z = roots_low (length h.image.bytes) h.image.roots y ready.functions.tables.bytes.short ready.functions.tables.roots.each t in omega (arith, z, l, s, b)))
+      (λ t. absurd (let z = roots_low (length h.image.bytes) h.image.roots y ready.functions.tables.bytes.short ready.functions.tables.roots.each t in omega
+      (arith, z, l, s, b)))
       (among_append y (slots_of (f ∷ fs)) (root_cells h.image) i)
 
   only_roots : (y : ℕ) → y < 0x20000000 → Among y places → Among y (root_cells h.image)
@@ -211,10 +212,12 @@ module _ (h : Hart) (from : ℕ) (young : List Placed) (f : Frame) (fs : List Fr
           waits = waits h.image olds news places h.memory after.memory holds.blocks r new_are.sizes knows.old.inside h.stack_base base_high can h.image.descs true (h.pc + 4) (register h sp) holds.waiting (f ∷ fs) knows.chain
               (λ y i. among_first y (slots_of (f ∷ fs)) (root_cells h.image) i) only_slots knows.waits;
           traps = subst (λ x. TrapsFrom h.stack_base after.memory x holds.traps holds.last) (sym s1_same)
-              (traps_kept h.image olds news places h.memory after.memory holds.blocks r new_are.sizes knows.old.inside h.stack_base base_high can (register h s1) holds.traps holds.last knows.traps);
+              (traps_kept h.image olds news places h.memory after.memory holds.blocks r new_are.sizes knows.old.inside h.stack_base base_high can
+              (register h s1) holds.traps holds.last knows.traps);
           stand = r.stand;
           settled = settled_again h.image (length olds) (length news) holds.blocks n knows.settled;
-          statics = statics_kept h.image olds news places h.memory after.memory holds.blocks r new_are.sizes knows.old.inside h.stack_base base_high can (root_cells h.image) holds.static
+          statics = statics_kept h.image olds news places h.memory after.memory holds.blocks r new_are.sizes knows.old.inside h.stack_base base_high can
+              (root_cells h.image) holds.static
               ready.functions.tables.bytes.short (λ x i. among_second x (slots_of (f ∷ fs)) (root_cells h.image) i) only_roots
               (λ x v e. let p = knows.statics.place x v e in data_readable h.image h.heap h.stack_base h.memory knows.sound.memory x p.0 p.1 p.2) knows.statics;
         }

@@ -181,7 +181,8 @@ module _ (f : ℕ → ℕ) (old : List ℕ) where
 
   set_one : (r x v : ℕ) (registers : List ℕ) → 1 ≤ r → r ≡ x → x < length registers → slice_index (with_register r v registers) x ≡ v
   set_one zero x v registers l e h = absurd (omega (arith, l))
-  set_one (suc r) x v registers l e h = subst (λ y. slice_index (slice_set registers (suc r) v) y ≡ v) e (get_or-set_same registers (suc r) v 0 (omega (arith, e, h)))
+  set_one (suc r) x v registers l e h = subst (λ y. slice_index (slice_set registers (suc r) v) y ≡ v) e (get_or-set_same registers (suc r) v 0 (omega
+      (arith, e, h)))
 
   pub set_other : (r x v : ℕ) (registers : List ℕ) → r ≢ x → slice_index (with_register r v registers) x ≡ slice_index registers x
   set_other zero x v registers n = refl
@@ -212,7 +213,8 @@ module _ (f : ℕ → ℕ) (old : List ℕ) where
       let n = length_with r v registers in
       let l' : x < length (with_register r v registers) = omega (arith, l, n) in
       ⊎_elim
-      (λ (s : x ≡ r). regs_settled rs (with_register r v registers) x o l' (subst (λ y. slice_index (with_register y (f (slice_index old y)) registers) x ≡ f (slice_index old x)) s (set_one x x (f (slice_index old x)) registers o refl l)))
+      (λ (s : x ≡ r). regs_settled rs (with_register r v registers) x o l' (subst (λ y. slice_index (with_register y (f (slice_index old y)) registers) x ≡ f
+      (slice_index old x)) s (set_one x x (f (slice_index old x)) registers o refl l)))
       (λ j. regs_in rs (with_register r v registers) x o l' j)
       i
 

@@ -21,8 +21,8 @@ use Rattle.moving_laws.specs.Words.{IsReadable}
 use Rattle.moving_laws.specs.Young.{Rises, HaveHeads}
 
 -- What the machine stands for where a function waits at a frame point: what registers hold, the
--- activations from its own on, the trap frames from s1 to the last trap pointer, the blocks, and the
--- static cells by address.
+-- activations from its own on, the trap frames from s1 to the last trap pointer, the blocks, and
+-- the static cells by address.
 pub record Contents : Type 0 where
   pub registers : ℕ → Option Value
   pub waiting : List Activation
