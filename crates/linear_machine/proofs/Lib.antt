@@ -31,3 +31,4 @@ pub mod Moving
 pub mod Serving
 pub mod Storing
 pub mod Writing
+pub mod Fresh
