@@ -32,3 +32,4 @@ pub mod Serving
 pub mod Storing
 pub mod Writing
 pub mod Fresh
+pub mod Growing
