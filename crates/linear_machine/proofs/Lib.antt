@@ -33,3 +33,4 @@ pub mod Storing
 pub mod Writing
 pub mod Fresh
 pub mod Growing
+pub mod Making
