@@ -1,5 +1,5 @@
 -- What each format of instructions leads to: one lemma for a format, and none for a row.
-use Rattle.std.proofs.Common.{◌≡◌, ◌≢◌, ℕ, suc, ◌+◌, ◌-◌, ◌*◌, ◌%◌, ◌^◌, ◌<◌, ◌≤◌, true, false, ◌==◌, List, ◌∷◌, length, Some, refl, ap, ap₂, arith, ◌∙◌}
+use Rattle.std.proofs.Common.{◌≡◌, ◌≢◌, ℕ, suc, ◌+◌, ◌-◌, ◌*◌, ◌%◌, ◌^◌, ◌<◌, ◌≤◌, true, false, ◌==◌, List, ◌∷◌, length, Some, refl, ap, ap₂, arith, ◌∙◌, ⊎_elim, inl, inr, sym}
 use Rattle.std.specs.List.{AllByRecursion}
 use Rattle.std.proofs.lemmas.Bool.{eq-eqb, lt-leb, and_right, cond-true, cond-false}
 use Rattle.bs_words.specs.Word.{add_word}
@@ -15,7 +15,8 @@ use Rattle.rv_machine.specs.Arithmetic.{alu, alu_imm, shift, extended, is_taken,
 use Rattle.rv_machine.specs.Hart.{register, sets, goes_to, jumps, loads, stores, readable, executed}
 use Rattle.rv_machine.specs.Memory.{is_inside, loaded, stored, word, write, code_region, code_start}
 use Rattle.rv_machine.specs.Services.{Machine}
-use Rattle.rv_machine.specs.Sound.{IsRegion}
+use Rattle.rv_machine.specs.Sound.{IsRegion, extents}
+use Rattle.machine_laws.proofs.Memory.{has_write, other_word}
 use Rattle.moving_laws.specs.Words.{IsReadable}
 use Rattle.moving_laws.proofs.Words.{readable_even, stored_is}
 use Rattle.moving_laws.proofs.Young.{read_is}
@@ -75,9 +76,9 @@ module _ (s : Fixed) (v : View) where
   stored_in x value = record v { place = v.place + 1; memory = write v.memory x value }
 
   pub store_step : (ra rb imm x : ℕ) → IsCode s v.place (Store Sd ra rb imm) → add_word (reg v.registers ra) (imm_i imm) ≡ x →
-      AllByRecursion IsRegion v.memory → IsReadable v.memory x →
+      x ≢ 0x20000000 → AllByRecursion IsRegion v.memory → IsReadable v.memory x →
       reg v.registers rb < 2 ^ 64 → Leads s 1 v (stored_in x (reg v.registers rb))
-  store_step ra rb imm x c e f r small = record {
+  store_step ra rb imm x c e off f r small = record {
     answers = refl;
     calls = refl;
     by = λ a st.
@@ -95,6 +96,8 @@ module _ (s : Fixed) (v : View) where
             pc = next (b.hart.pc) ok.pc;
             registers = ok.registers;
             memory = like_write v.memory b.hart.memory x value f r small ok.memory;
+            regions = has_write (extents s.image s.heap s.base) b.hart.memory x value ok.regions;
+            limit = ⊎_elim (λ q. inl (other_word b.hart.memory x 0x20000000 value off ∙ q)) (λ q. inr (other_word b.hart.memory x 0x20000000 value off ∙ q)) ok.limit;
             stack_base = ok.stack_base;
             heap = ok.heap;
             blocks = ok.blocks;

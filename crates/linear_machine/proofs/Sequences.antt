@@ -49,11 +49,11 @@ set_changes s v i r value code passes sets are fits small =
 -- one that stores 8 bytes
 pub store_changes :
     (s : Fixed) (v : View) (ra rb imm x : ℕ) → IsCode s v.place (Store Sd ra rb imm) → add_word (reg v.registers ra) (imm_i imm) ≡ x →
-    AllByRecursion IsRegion v.memory → IsReadable v.memory x → AreRegisters v.registers →
+    x ≢ 0x20000000 → AllByRecursion IsRegion v.memory → IsReadable v.memory x → AreRegisters v.registers →
     Changes s v 1 [] (write v.memory x (reg v.registers rb)) (λ w. w.registers ≡ v.registers)
-store_changes s v ra rb imm x code e regions readable are = record {
+store_changes s v ra rb imm x code e off regions readable are = record {
   view = stored_in s v x (reg v.registers rb);
-  leads = store_step s v ra rb imm x code e regions readable (reg_below v.registers rb are.words);
+  leads = store_step s v ra rb imm x code e off regions readable (reg_below v.registers rb are.words);
   past = record { place = refl; are = are; others = λ q none. refl; memory = refl; blocks = refl };
   holds = refl;
 }
@@ -155,13 +155,13 @@ load_there s v n rs m P first rd ra imm x e off low readable =
 pub store_more :
     (s : Fixed) (v : View) (n : ℕ) (rs : List ℕ) (m : List Region) (P : View → Type 0) (first : Changes s v n rs m P) (ra rb imm x value : ℕ) →
     IsCode s (v.place + n) (Store Sd ra rb imm) → add_word (reg first.view.registers ra) (imm_i imm) ≡ x → reg first.view.registers rb ≡ value →
-    AllByRecursion IsRegion m → IsReadable m x → Changes s v (n + 1) rs (write m x value) (λ w. w.registers ≡ first.view.registers)
-store_more s v n rs m P first ra rb imm x value code e value_is regions readable =
+    x ≢ 0x20000000 → AllByRecursion IsRegion m → IsReadable m x → Changes s v (n + 1) rs (write m x value) (λ w. w.registers ≡ first.view.registers)
+store_more s v n rs m P first ra rb imm x value code e value_is off regions readable =
     let u = first.view in
     then_here s v n 1 rs m (write m x value) P (λ w. w.registers ≡ first.view.registers) first
     (subst (λ k. Changes s u 1 rs (write k x value) (λ w. w.registers ≡ u.registers)) first.past.memory
     (subst (λ z. Changes s u 1 rs (write u.memory x z) (λ w. w.registers ≡ u.registers)) value_is
     (widened s u 1 [] rs (write u.memory x (reg u.registers rb)) (λ w. w.registers ≡ u.registers) (λ w. w.registers ≡ u.registers) (λ q j. absurd j)
     (λ w p f. f)
-    (store_changes s u ra rb imm x (code_past s n rs m v u (Store Sd ra rb imm) first.past code) e
+    (store_changes s u ra rb imm x (code_past s n rs m v u (Store Sd ra rb imm) first.past code) e off
     (subst (λ k. AllByRecursion IsRegion k) (sym first.past.memory) regions) (subst (λ k. IsReadable k x) (sym first.past.memory) readable) first.past.are))))

@@ -139,6 +139,8 @@ module _ (s : Fixed) (laid : Laid) (v : View) (young : List Placed) (taken : ℕ
               pc = omega (arith, pc);
               registers = refl;
               memory = like_refl done.new.memory after_it.usable.regions.each;
+              regions = after_it.usable.regions;
+              limit = inl restored.limit;
               stack_base = refl;
               heap = refl;
               blocks = refl;

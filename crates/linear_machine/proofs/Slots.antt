@@ -66,7 +66,8 @@ module _ (s : Fixed) (v : View) (are : AreRegisters v.registers) (offset : ℕ) 
       Changes s v 1 [] (write v.memory (slice_index v.registers 2 + offset) (reg v.registers r)) (λ w. w.registers ≡ v.registers)
   store_near r regions small code =
       store_changes s v 2 r (offset % 4096)
-      (slice_index v.registers 2 + offset) code.0 (near_sum offset (slice_index v.registers 2) small there.high) regions there.readable are
+      (slice_index v.registers 2 + offset) code.0 (near_sum offset (slice_index v.registers 2) small there.high)
+      (let low = there.low in λ q. omega (arith, q, low)) regions there.readable are
 
   -- ---- far: a scratch register has the upper bits and sp
 
@@ -129,7 +130,7 @@ module _ (s : Fixed) (v : View) (are : AreRegisters v.registers) (offset : ℕ) 
         (store_changes s w (suc x) r (offset % 4096) (slice_index v.registers 2 + offset)
         (code_past s 2 (suc x ∷ []) v.memory v w (Store Sd (suc x) r (offset % 4096)) past (subst (λ q. IsCode s q (Store Sd (suc x) r
         (offset % 4096))) place code.1.1.0))
-        sum (subst (λ m. AllByRecursion IsRegion m) (sym past.memory) regions)
+        sum (let low = there.low in λ q. omega (arith, q, low)) (subst (λ m. AllByRecursion IsRegion m) (sym past.memory) regions)
         (subst (λ m. IsReadable m (slice_index v.registers 2 + offset)) (sym past.memory) there.readable) past.are))))
       where
         kept : (r : ℕ) (w : View) → r ≢ suc x → IsPast 2 (suc x ∷ []) v.memory v w → reg w.registers r ≡ reg v.registers r

@@ -10,7 +10,11 @@ use Rattle.rv_machine.specs.Hart as next
 use Rattle.rv_machine.specs.Memory.{write, code_start}
 use Rattle.rv_machine.specs.Run.{asked, perhaps_asked, after_next, after}
 use Rattle.rv_machine.specs.Services.{End, Machine, Going, Over, StackOut}
-use Rattle.rv_machine.specs.Sound.{AllWords}
+use Rattle.rv_machine.specs.Places.{domain_start}
+use Rattle.rv_machine.specs.Sound.{AllWords, extents}
+use Rattle.machine_laws.proofs.Memory.{has_write}
+use Rattle.moving_laws.proofs.Usable.{formed_regions, limit_readable}
+use Rattle.moving_laws.proofs.Words.{word_same}
 use Rattle.rv_machine.specs.Start.{limit_asked}
 use Rattle.linear_machine.specs.View.{Fixed, View, Stands, Leads, Ends, IsCode}
 use Rattle.linear_machine.proofs.Likes.{like_limit}
@@ -29,6 +33,9 @@ asked_stands s a v true st = record {
   pc = st.pc;
   registers = st.registers;
   memory = like_limit v.memory a.hart.memory limit_asked st.memory;
+  regions = has_write (extents s.image s.heap s.base) a.hart.memory domain_start limit_asked st.regions;
+  limit = inr (word_same a.hart.memory domain_start limit_asked (formed_regions (extents s.image s.heap s.base) a.hart.memory st.regions)
+      (limit_readable s.image s.heap s.base a.hart.memory st.regions) (omega arith));
   stack_base = st.stack_base;
   heap = st.heap;
   blocks = st.blocks;
@@ -149,6 +156,8 @@ set_to_step s v i rd value place c passes known = record {
           pc = refl;
           registers = ap (with_register rd value) ok.registers;
           memory = ok.memory;
+          regions = ok.regions;
+          limit = ok.limit;
           stack_base = ok.stack_base;
           heap = ok.heap;
           blocks = ok.blocks;
@@ -204,6 +213,8 @@ go_step s v i place c known = record {
           pc = refl;
           registers = ok.registers;
           memory = ok.memory;
+          regions = ok.regions;
+          limit = ok.limit;
           stack_base = ok.stack_base;
           heap = ok.heap;
           blocks = ok.blocks;

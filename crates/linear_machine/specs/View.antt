@@ -1,6 +1,6 @@
 -- What a proof sees of the machine between two instructions, and how the machine goes on, under
 -- every schedule of asks.
-use Rattle.std.specs.Prelude.{◌≡◌, ◌≢◌, ℕ, ◌+◌, ◌*◌, List, [], ◌∷◌, map, slice_get, Some}
+use Rattle.std.specs.Prelude.{◌≡◌, ◌≢◌, ℕ, ◌+◌, ◌*◌, ◌⊎◌, List, [], ◌∷◌, map, slice_get, Some}
 use Rattle.std.specs.List.{AllByRecursion}
 use Rattle.bs_words.specs.Observed.{Made}
 use Rattle.bs_words.specs.declared.types.Ret.{Ret}
@@ -10,10 +10,10 @@ use Rattle.rv_isa.specs.declared.instr.Instr.{Instr}
 use Rattle.rv_machine.specs.Hart.{Placed}
 use Rattle.rv_machine.specs.Loading.{IsRoom}
 use Rattle.rv_machine.specs.Memory.{Region, word, code_start}
-use Rattle.rv_machine.specs.Places.{domain_start}
+use Rattle.rv_machine.specs.Places.{domain_start, limit_asked, limit_at_rest}
 use Rattle.rv_machine.specs.Run.{Schedule, after}
 use Rattle.rv_machine.specs.Services.{End, Machine, Going, Over}
-use Rattle.rv_machine.specs.Sound.{IsRegion, IsStackBase, extent}
+use Rattle.rv_machine.specs.Sound.{HasRegions, IsRegion, IsStackBase, extent, extents}
 use Rattle.moving_laws.specs.Values.{HasFunctions}
 
 -- What stays as it is during a run.
@@ -44,12 +44,18 @@ pub record IsLike (m m' : List Region) : Type 0 where
   pub lie : map extent m' ≡ map extent m
   pub each : AllByRecursion IsRegion m'
 
+-- the mover asks, or asks for nothing
+abbrev pub IsLimit : List Region → Type 0
+IsLimit m = (word m domain_start ≡ limit_at_rest) ⊎ (word m domain_start ≡ limit_asked)
+
 -- The machine stands so.
 pub record Stands (s : Fixed) (machine : Machine) (v : View) : Type 0 where
   pub image : machine.hart.image ≡ s.image
   pub pc : machine.hart.pc ≡ code_start + 4 * v.place
   pub registers : machine.hart.registers ≡ v.registers
   pub memory : IsLike v.memory machine.hart.memory
+  pub regions : HasRegions (extents s.image s.heap s.base) machine.hart.memory
+  pub limit : IsLimit machine.hart.memory
   pub stack_base : machine.hart.stack_base ≡ s.base
   pub heap : machine.hart.heap ≡ s.heap
   pub blocks : machine.hart.blocks ≡ v.blocks

@@ -14,7 +14,8 @@ use Rattle.rv_machine.specs.Observation.{blocks_at, young_top}
 use Rattle.rv_machine.specs.Placement.{bytes_used, new_places}
 use Rattle.rv_machine.specs.Places.{data_start, limit_at_rest, stack_end}
 use Rattle.rv_machine.specs.Relocation.{Goes, NoHeap, are_roots, emptied, is_root, relocated, root_cells, with_blocks, with_frames}
-use Rattle.rv_machine.specs.Sound.{IsSound}
+use Rattle.rv_machine.specs.Sound.{IsSound, extents}
+use Rattle.machine_laws.proofs.Memory.{has_moved}
 use Rattle.moving_laws.specs.Heap.{IsInHeap}
 use Rattle.moving_laws.specs.Service.{Contents, Knows, IsReady, IsRestored}
 use Rattle.moving_laws.specs.Stands.{Blocks, AreSettled, Among}
@@ -24,9 +25,10 @@ use Rattle.moving_laws.proofs.Plans.{AreFresh, fresh, halves_inside, halves_read
 use Rattle.moving_laws.proofs.Restored.{IsMove, IsMemoryRestored, restored}
 use Rattle.moving_laws.proofs.Rewriting.{value_moves, still_word, same_length}
 use Rattle.moving_laws.proofs.Roots.{all_from_among, is_root_of, slots_root}
-use Rattle.moving_laws.proofs.Usable.{data_readable, first_readable, formed_regions, second_readable, stack_readable, young_readable}
+use Rattle.moving_laws.proofs.Usable.{data_readable, first_readable, formed_regions, limit_readable, second_readable, stack_readable, young_readable}
 use Rattle.moving_laws.proofs.Waits.{among_or_not, waits, stack_keeps, return_keeps, traps_kept, statics_kept, regs_length, regs_in, regs_off}
 use Rattle.moving_laws.proofs.Walk.{walks_all, chain_kept, among_append, among_first, among_second, below}
+use Rattle.moving_laws.proofs.Words.{word_same}
 use Rattle.moving_laws.proofs.Young.{found}
 
 -- the register that is read is the one of the list
@@ -237,5 +239,9 @@ module _ (h : Hart) (from : ℕ) (young : List Placed) (f : Frame) (fs : List Fr
           readable = r.readable;
           table_low = halves_low h.heap news knows.sound.heap.most new_are.halves;
           blocks_readable = record { each = λ k x l e lo hi. r.readable x (readable_at h.memory news is_move.readable k x l e lo hi) };
+          limit =
+              let moves = has_moved (extents h.image h.heap h.stack_base) olds news h.memory places knows.sound.memory in
+              word_same (moved_memory olds news h.memory places) 0x20000000 limit_at_rest (formed_regions (extents h.image h.heap h.stack_base) (moved_memory olds news h.memory places) moves)
+              (limit_readable h.image h.heap h.stack_base (moved_memory olds news h.memory places) moves) (omega arith);
           stays = stack_keeps h.image olds news places h.memory after.memory holds.blocks r new_are.sizes knows.old.inside h.stack_base base_high can;
         }

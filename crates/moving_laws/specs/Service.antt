@@ -10,7 +10,7 @@ use Rattle.rv_machine.specs.Hart.{Hart, Placed, register}
 use Rattle.rv_machine.specs.Memory.{word}
 use Rattle.rv_machine.specs.Observation.{young_start, young_top}
 use Rattle.rv_machine.specs.Placement.{end_of}
-use Rattle.rv_machine.specs.Places.{stack_end}
+use Rattle.rv_machine.specs.Places.{domain_start, limit_at_rest, stack_end}
 use Rattle.rv_machine.specs.Relocation.{Goes, root_cells}
 use Rattle.rv_machine.specs.Sound.{IsSound}
 use Rattle.moving_laws.specs.Heap.{AreBlocks}
@@ -76,6 +76,8 @@ pub record IsRestored (bytes : ℕ) (h : Hart) (f : Frame) (frames : List Frame)
   pub readable : (x : ℕ) → IsReadable h.memory x → IsReadable new.memory x
   pub table_low : AllByRecursion (λ (b : Placed). end_of b ≤ young_start) new.blocks
   pub blocks_readable : AreReadable new.memory new.blocks
+  -- the mover asks no more
+  pub limit : word new.memory domain_start ≡ limit_at_rest
   -- a word of the stack that lies in no heap stays
   pub stays : (x : ℕ) → h.stack_base ≤ x → x + 8 ≤ stack_end → x % 8 ≡ 0 →
       (word h.memory x < 0x30000008) ⊎ (0x38010000 < word h.memory x) →
