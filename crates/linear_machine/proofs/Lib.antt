@@ -34,3 +34,4 @@ pub mod Writing
 pub mod Fresh
 pub mod Growing
 pub mod Making
+pub mod Limits
