@@ -78,7 +78,8 @@ pub record IsCaller (laid : Laid) (slots : Locations) (d : Desc) (traps : ℕ) (
   pub high : c.top ≤ stack_bottom
   pub even : c.top % 16 ≡ 0
 
--- a0 has this value, if there is one, and no other register holds anything; slots hold no more than these
+-- a0 has this value, if there is one, and no other register holds anything; slots hold no more than
+-- these
 pub record IsFresh (value : Option Value) (slots held : Locations) : Type 0 where
   pub register : (r : ℕ) (x : Value) → held (loc.Machine r) ≡ Some x → (r ≡ 10) × (value ≡ Some x)
   pub slot : (k : ℕ) (x : Value) → held (loc.Slot k) ≡ Some x → slots (loc.Slot k) ≡ Some x

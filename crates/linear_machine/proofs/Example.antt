@@ -1,5 +1,5 @@
--- A function of two lines, which makes 42 and returns it, from the start of a run on: what the relation asks
--- for holds of it.
+-- A function of two lines, which makes 42 and returns it, from the start of a run on: what the
+-- relation asks for holds of it.
 use Rattle.std.proofs.Common.{◌≡◌, ℕ, ◌+◌, ◌-◌, ◌*◌, ◌/◌, inl, false, List, [], ◌∷◌, Some, None, slice_index, refl, ap, arith, ◌∙◌, sym, subst, ⊎_elim}
 use Rattle.bs_words.specs.Memory.{Memory}
 use Rattle.bs_words.specs.Word.{add_word}

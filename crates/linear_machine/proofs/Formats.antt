@@ -1,5 +1,5 @@
 -- What each format of instructions leads to: one lemma for a format, and none for a row.
-use Rattle.std.proofs.Common.{◌≡◌, ◌≢◌, ℕ, suc, ◌+◌, ◌-◌, ◌*◌, ◌%◌, ◌^◌, ◌<◌, ◌≤◌, true, false, ◌==◌, List, ◌∷◌, length, Some, refl, ap, ap₂, arith, ◌∙◌, ⊎_elim, inl, inr, sym}
+use Rattle.std.proofs.Common.{◌≡◌, ◌≢◌, ℕ, suc, ◌+◌, ◌-◌, ◌*◌, ◌%◌, ◌^◌, ◌<◌, ◌≤◌, true, false, ◌==◌, List, ◌∷◌, length, Some, refl, ap, ap₂, arith, ◌∙◌, ⊎_elim, inl, inr}
 use Rattle.std.specs.List.{AllByRecursion}
 use Rattle.std.proofs.lemmas.Bool.{eq-eqb, lt-leb, and_right, cond-true, cond-false}
 use Rattle.bs_words.specs.Word.{add_word}
@@ -97,7 +97,8 @@ module _ (s : Fixed) (v : View) where
             registers = ok.registers;
             memory = like_write v.memory b.hart.memory x value f r small ok.memory;
             regions = has_write (extents s.image s.heap s.base) b.hart.memory x value ok.regions;
-            limit = ⊎_elim (λ q. inl (other_word b.hart.memory x 0x20000000 value off ∙ q)) (λ q. inr (other_word b.hart.memory x 0x20000000 value off ∙ q)) ok.limit;
+            limit = ⊎_elim (λ q. inl (other_word b.hart.memory x 0x20000000 value off ∙ q))
+                (λ q. inr (other_word b.hart.memory x 0x20000000 value off ∙ q)) ok.limit;
             stack_base = ok.stack_base;
             heap = ok.heap;
             blocks = ok.blocks;

@@ -1,5 +1,5 @@
 -- With one block more in the young area, what stood for values stands for them still.
-use Rattle.std.proofs.Common.{◌≡◌, ◌≢◌, ℕ, zero, suc, ◌+◌, ◌-◌, ◌*◌, ◌%◌, ◌^◌, ◌<◌, ◌≤◌, ◌⊎◌, inl, inr, Bool, true, false, cond, List, [], ◌∷◌, ◌++◌, append_assoc, length, reverse, Option, Some, None, slice_get, refl, ap, arith, ◌∙◌, sym, subst, ⊎_elim, length-append}
+use Rattle.std.proofs.Common.{◌≡◌, ℕ, zero, suc, ◌<◌, ◌≤◌, Bool, true, false, List, [], ◌∷◌, ◌++◌, append_assoc, length, reverse, refl, ap, arith, ◌∙◌, sym, length-append}
 use Rattle.std.specs.List.{AllByRecursion}
 use Rattle.std.proofs.lemmas.List.{reverse-append}
 use Rattle.bs_words.specs.Word.{add_word}
@@ -9,7 +9,6 @@ use Rattle.image_form.specs.Tables.{Tables}
 use Rattle.rv_machine.specs.Frames.{Frame}
 use Rattle.rv_machine.specs.Hart.{Placed}
 use Rattle.rv_machine.specs.Memory.{Region}
-use Rattle.rv_machine.specs.Placement.{end_of}
 use Rattle.moving_laws.specs.Heap.{AllApart, AreApart, AreBlocks, IsInHeap}
 use Rattle.moving_laws.specs.Values.{FitsCell, IsKnown, IsVal, start_of, value_word, words_of}
 use Rattle.moving_laws.specs.Waiting.{AllWait, IsWaiting, Activation}

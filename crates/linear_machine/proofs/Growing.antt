@@ -1,5 +1,5 @@
 -- The heap, and a function over it, where a block is made whose header and cells are to be written.
-use Rattle.std.proofs.Common.{◌≡◌, ◌≢◌, ℕ, zero, suc, ◌+◌, ◌-◌, ◌*◌, ◌%◌, ◌^◌, ◌<◌, ◌≤◌, ◌⊎◌, inl, inr, Bool, true, false, cond, ◌||◌, nat_eq, List, [], ◌∷◌, ◌++◌, length, map, replicate, reverse, Option, Some, None, slice_get, slice_index, refl, ap, arith, ◌∙◌, sym, subst, ⊎_elim, length-append}
+use Rattle.std.proofs.Common.{◌≡◌, ◌≢◌, ℕ, zero, suc, ◌+◌, ◌-◌, ◌*◌, ◌%◌, ◌<◌, ◌≤◌, ◌⊎◌, inl, inr, Bool, true, false, cond, ◌||◌, nat_eq, List, [], ◌∷◌, ◌++◌, length, replicate, Option, Some, None, slice_get, refl, ap, arith, ◌∙◌, sym, subst, ⊎_elim, length-append}
 use Rattle.std.specs.List.{AllByRecursion}
 use Rattle.std.proofs.lemmas.Bool.{and_from, cases_lt, eq-eqb, or_left, or_right}
 use Rattle.std.proofs.lemmas.List.{length-replicate}
@@ -16,7 +16,7 @@ use Rattle.rv_machine.specs.Observation.{cells_of}
 use Rattle.rv_machine.specs.Relocation.{root_cells}
 use Rattle.moving_laws.specs.Heap.{AreApart, IsInHeap}
 use Rattle.moving_laws.specs.Stands.{StaticsStand}
-use Rattle.moving_laws.specs.Values.{FitsCell, IsKnown, start_of, value_word, words_of}
+use Rattle.moving_laws.specs.Values.{start_of, words_of}
 use Rattle.moving_laws.specs.Words.{IsReadable}
 use Rattle.moving_laws.proofs.Words.{same_or_not}
 use Rattle.linear_machine.specs.Contents.{blocks_of, cell_in, header_in, size_in, statics_of}
@@ -50,8 +50,10 @@ among_cells : (s i n j : ℕ) → i ≤ j → j < i + n → is_among (InBlock s 
 among_cells s i zero j l h = absurd (omega (arith, l, h))
 among_cells s i (suc n) j l h =
     ⊎_elim
-    (λ (e : i ≡ j). or_left (same_cell (InBlock s j) (InBlock s i)) (is_among (InBlock s j) (cells_from s (suc i) n)) (subst (λ z. same_cell (InBlock s j) (InBlock s z) ≡ true) (sym e) (same_block s j)))
-    (λ d. or_right (same_cell (InBlock s j) (InBlock s i)) (is_among (InBlock s j) (cells_from s (suc i) n)) (among_cells s (suc i) n j (after l d) (omega (arith, h))))
+    (λ (e : i ≡ j). or_left (same_cell (InBlock s j) (InBlock s i)) (is_among (InBlock s j) (cells_from s (suc i) n))
+    (subst (λ z. same_cell (InBlock s j) (InBlock s z) ≡ true) (sym e) (same_block s j)))
+    (λ d. or_right (same_cell (InBlock s j) (InBlock s i)) (is_among (InBlock s j) (cells_from s (suc i) n))
+    (among_cells s (suc i) n j (after l d) (omega (arith, h))))
     (same_or_not i j)
   where
     after : i ≤ j → i ≢ j → suc i ≤ j
@@ -73,8 +75,10 @@ past_replicate (suc n) (suc j) v l = past_replicate n j v (omega (arith, l))
 
 -- ---- the heap
 
-module _ (s : Fixed) (bs : List Placed) (m : List Region) (a : Around) (h : HeapStands s bs m a) (b : NewBlock) (nb : Placed) (words : nb.words ≡ b.cells) (head : cells_of b.header ≡ b.cells)
-    (is : IsInHeap nb) (apart : AllByRecursion (λ x. AreApart x nb) bs) (readable : (x : ℕ) → x % 8 ≡ 0 → nb.start - 8 ≤ x → x < nb.start + 8 * nb.words → IsReadable m x) where
+module _ (s : Fixed) (bs : List Placed) (m : List Region) (a : Around) (h : HeapStands s bs m a) (b : NewBlock) (nb : Placed) (words : nb.words ≡ b.cells)
+    (head : cells_of b.header ≡ b.cells)
+    (is : IsInHeap nb) (apart : AllByRecursion (λ x. AreApart x nb) bs)
+    (readable : (x : ℕ) → x % 8 ≡ 0 → nb.start - 8 ≤ x → x < nb.start + 8 * nb.words → IsReadable m x) where
   count_is : length a.memory.blocks ≡ length bs
   count_is = h.stand.count
 
@@ -108,22 +112,29 @@ module _ (s : Fixed) (bs : List Placed) (m : List Region) (a : Around) (h : Heap
   no_header : (w : ℕ) → (blocks_of (with_block b a)).header (length a.memory.blocks) ≡ Some w → ⊥
   no_header w e =
       let t : is_among (InHeader (length a.memory.blocks)) (with_block b a).unwritten ≡ true =
-              or_left (same_cell (InHeader (length a.memory.blocks)) (InHeader (length a.memory.blocks))) _ (eq-eqb (length a.memory.blocks) (length a.memory.blocks) refl) in
-      let none : (blocks_of (with_block b a)).header (length a.memory.blocks) ≡ None = ap (λ q. cond q None (header_in (slice_get (with_block b a).memory.blocks (length a.memory.blocks)))) t in
+      or_left (same_cell (InHeader (length a.memory.blocks)) (InHeader (length a.memory.blocks))) _ (eq-eqb (length a.memory.blocks)
+      (length a.memory.blocks) refl) in
+      let none : (blocks_of (with_block b a)).header (length a.memory.blocks) ≡ None = ap (λ q. cond q None (header_in (slice_get
+      (with_block b a).memory.blocks (length a.memory.blocks)))) t in
       cc
 
   no_cell : (j : ℕ) (v : Value) → (blocks_of (with_block b a)).cell (length a.memory.blocks) j ≡ Some v → ⊥
   no_cell j v e =
       ⊎_elim
       (λ l.
-        let t : is_among (InBlock (length a.memory.blocks) j) (with_block b a).unwritten ≡ true =
-                or_right (same_cell (InBlock (length a.memory.blocks) j) (InHeader (length a.memory.blocks))) (is_among (InBlock (length a.memory.blocks) j) (cells_from (length a.memory.blocks) 0 b.cells ++ a.unwritten))
-                (among_first (InBlock (length a.memory.blocks) j) (cells_from (length a.memory.blocks) 0 b.cells) a.unwritten (among_cells (length a.memory.blocks) 0 b.cells j (omega arith) (omega (arith, l)))) in
-        let none : (blocks_of (with_block b a)).cell (length a.memory.blocks) j ≡ None = ap (λ q. cond q None (cell_in (slice_get (with_block b a).memory.blocks (length a.memory.blocks)) j)) t in
-        cc)
+      let t : is_among (InBlock (length a.memory.blocks) j) (with_block b a).unwritten ≡ true =
+      or_right (same_cell (InBlock (length a.memory.blocks) j) (InHeader (length a.memory.blocks)))
+      (is_among (InBlock (length a.memory.blocks) j) (cells_from (length a.memory.blocks) 0 b.cells ++ a.unwritten))
+      (among_first (InBlock (length a.memory.blocks) j)
+      (cells_from (length a.memory.blocks) 0 b.cells) a.unwritten (among_cells (length a.memory.blocks) 0 b.cells j (omega arith) (omega (arith, l)))) in
+      let none : (blocks_of (with_block b a)).cell (length a.memory.blocks) j ≡ None = ap (λ q. cond q None (cell_in (slice_get (with_block b a).memory.blocks
+      (length a.memory.blocks)) j)) t in
+      cc)
       (λ l.
-        let p : cell_in (slice_get (with_block b a).memory.blocks (length a.memory.blocks)) j ≡ None = ap (λ o. cell_in o j) get_new ∙ past_replicate b.cells j (Word 0) l in
-        none_by (is_among (InBlock (length a.memory.blocks) j) (with_block b a).unwritten) (cell_in (slice_get (with_block b a).memory.blocks (length a.memory.blocks)) j) p e)
+      let p : cell_in (slice_get (with_block b a).memory.blocks (length a.memory.blocks)) j ≡ None = ap (λ o. cell_in o j) get_new
+      ∙ past_replicate b.cells j (Word 0) l in
+      none_by (is_among (InBlock (length a.memory.blocks) j) (with_block b a).unwritten)
+      (cell_in (slice_get (with_block b a).memory.blocks (length a.memory.blocks)) j) p e)
       (cases_lt j b.cells)
     where
       none_by : (t : Bool) (o : Option Value) → o ≡ None → cond t None o ≡ Some v → ⊥
@@ -134,16 +145,19 @@ module _ (s : Fixed) (bs : List Placed) (m : List Region) (a : Around) (h : Heap
   header_before : (k w : ℕ) → k < length bs → (blocks_of (with_block b a)).header k ≡ Some w → (blocks_of a).header k ≡ Some w
   header_before k w l e = by_test (is_among (InHeader k) (with_block b a).unwritten) refl e
     where
-      by_test : (t : Bool) → is_among (InHeader k) (with_block b a).unwritten ≡ t → cond t None (header_in (slice_get (with_block b a).memory.blocks k)) ≡ Some w → (blocks_of a).header k ≡ Some w
+      by_test : (t : Bool) → is_among (InHeader k) (with_block b a).unwritten ≡ t →
+          cond t None (header_in (slice_get (with_block b a).memory.blocks k)) ≡ Some w → (blocks_of a).header k ≡ Some w
       by_test true f e = absurd (cc)
       by_test false f e = ap (λ q. cond q None (header_in (slice_get a.memory.blocks k))) (left_before (InHeader k) f) ∙ sym (ap header_in (get_before k l)) ∙ e
 
   cell_before : (k j : ℕ) (v : Value) → k < length bs → (blocks_of (with_block b a)).cell k j ≡ Some v → (blocks_of a).cell k j ≡ Some v
   cell_before k j v l e = by_test (is_among (InBlock k j) (with_block b a).unwritten) refl e
     where
-      by_test : (t : Bool) → is_among (InBlock k j) (with_block b a).unwritten ≡ t → cond t None (cell_in (slice_get (with_block b a).memory.blocks k) j) ≡ Some v → (blocks_of a).cell k j ≡ Some v
+      by_test : (t : Bool) → is_among (InBlock k j) (with_block b a).unwritten ≡ t →
+          cond t None (cell_in (slice_get (with_block b a).memory.blocks k) j) ≡ Some v → (blocks_of a).cell k j ≡ Some v
       by_test true f e = absurd (cc)
-      by_test false f e = ap (λ q. cond q None (cell_in (slice_get a.memory.blocks k) j)) (left_before (InBlock k j) f) ∙ sym (ap (λ o. cell_in o j) (get_before k l)) ∙ e
+      by_test false f e = ap (λ q. cond q None (cell_in (slice_get a.memory.blocks k) j)) (left_before (InBlock k j) f)
+          ∙ sym (ap (λ o. cell_in o j) (get_before k l)) ∙ e
 
   pub heap_more : HeapStands s (bs ++ nb ∷ []) m (with_block b a)
   heap_more = record {
@@ -151,12 +165,12 @@ module _ (s : Fixed) (bs : List Placed) (m : List Region) (a : Around) (h : Heap
     readable = record {
       each = λ k x l e lo hi. ⊎_elim
           (λ i. h.readable.each k x i e (subst (λ q. q - 8 ≤ x) (start_before bs nb k i) lo)
-            (let p = start_before bs nb k i in let q = words_before bs nb k i in omega (arith, hi, p, q)))
+          (let p = start_before bs nb k i in let q = words_before bs nb k i in omega (arith, hi, p, q)))
           (λ (i : k ≡ length a.memory.blocks).
-            let t : k ≡ length bs = i ∙ count_is in
-            let p : start_of (bs ++ nb ∷ []) k ≡ nb.start = ap (start_of (bs ++ nb ∷ [])) t ∙ start_last bs nb in
-            let q : words_of (bs ++ nb ∷ []) k ≡ nb.words = ap (words_of (bs ++ nb ∷ [])) t ∙ words_last bs nb in
-            readable x e (omega (arith, lo, p)) (omega (arith, hi, p, q)))
+          let t : k ≡ length bs = i ∙ count_is in
+          let p : start_of (bs ++ nb ∷ []) k ≡ nb.start = ap (start_of (bs ++ nb ∷ [])) t ∙ start_last bs nb in
+          let q : words_of (bs ++ nb ∷ []) k ≡ nb.words = ap (words_of (bs ++ nb ∷ [])) t ∙ words_last bs nb in
+          readable x e (omega (arith, lo, p)) (omega (arith, hi, p, q)))
           (which k l);
     };
     stand = record {
@@ -164,7 +178,7 @@ module _ (s : Fixed) (bs : List Placed) (m : List Region) (a : Around) (h : Heap
       sizes = λ k l. ⊎_elim
           (λ i. words_before bs nb k i ∙ h.stand.sizes k i ∙ sym (ap size_in (get_before k i)))
           (λ (i : k ≡ length a.memory.blocks). ap (words_of (bs ++ nb ∷ [])) (i ∙ count_is) ∙ words_last bs nb ∙ words ∙ sym size_new
-            ∙ sym (ap size_in (ap (slice_get (with_block b a).memory.blocks) i ∙ get_new)))
+          ∙ sym (ap size_in (ap (slice_get (with_block b a).memory.blocks) i ∙ get_new)))
           (which k l);
       header = λ k w l e. ⊎_elim
           (λ i. ap (λ q. word m (q - 8)) (start_before bs nb k i) ∙ h.stand.header k w i (header_before k w i e))
@@ -172,9 +186,10 @@ module _ (s : Fixed) (bs : List Placed) (m : List Region) (a : Around) (h : Heap
           (which k l);
       cell = λ k j v l n e. ⊎_elim
           (λ i.
-            let f = cell_before k j v i e in
-            let size = words_before bs nb k i in
-            ap (λ q. word m (q + 8 * j)) (start_before bs nb k i) ∙ h.stand.cell k j v i (omega (arith, n, size)) f ∙ sym (word_before s.image bs nb v (h.stand.known k j v i f)))
+          let f = cell_before k j v i e in
+          let size = words_before bs nb k i in
+          ap (λ q. word m (q + 8 * j)) (start_before bs nb k i) ∙ h.stand.cell k j v i (omega (arith, n, size)) f
+          ∙ sym (word_before s.image bs nb v (h.stand.known k j v i f)))
           (λ (i : k ≡ length a.memory.blocks). absurd (no_cell j v (subst (λ z. (blocks_of (with_block b a)).cell z j ≡ Some v) i e)))
           (which k l);
       known = λ k j v l e. ⊎_elim
@@ -185,8 +200,8 @@ module _ (s : Fixed) (bs : List Placed) (m : List Region) (a : Around) (h : Heap
     heads = λ k y e. ⊎_elim
         (λ i. h.heads k y (sym (get_before k i) ∙ e))
         (λ (i : k ≡ length a.memory.blocks).
-          let same : fresh_block b ≡ y = one_of (ap (slice_get (with_block b a).memory.blocks) i ∙ get_new) e in
-          subst (λ z. cells_of z.header ≡ length z.cells) same (head ∙ sym size_new))
+        let same : fresh_block b ≡ y = one_of (ap (slice_get (with_block b a).memory.blocks) i ∙ get_new) e in
+        subst (λ z. cells_of z.header ≡ length z.cells) same (head ∙ sym size_new))
         (which k (there k y e));
     fits = λ k j y v e f. ⊎_elim
         (λ i. fits_before s.image bs nb (is_scanned y.header) v (h.fits k j y v (sym (get_before k i) ∙ e) (cell_before k j v i f)))
@@ -206,7 +221,8 @@ module _ (s : Fixed) (bs : List Placed) (m : List Region) (a : Around) (h : Heap
           let p = length_more in
           omega (arith, w, n, c, p)
 
-      statics_more : StaticsStand s.image bs m (root_cells s.image) (statics_of (with_block b a).memory) → StaticsStand s.image (bs ++ nb ∷ []) m (root_cells s.image) (statics_of (with_block b a).memory)
+      statics_more : StaticsStand s.image bs m (root_cells s.image) (statics_of (with_block b a).memory) →
+          StaticsStand s.image (bs ++ nb ∷ []) m (root_cells s.image) (statics_of (with_block b a).memory)
       statics_more st = record {
         cell = λ x v e. st.cell x v e ∙ sym (word_before s.image bs nb v (st.known x v e));
         kind = λ x v e. ⊎_elim (λ k. inl (val_before s.image bs nb v k.0, k.1)) (λ k. inr k) (st.kind x v e);

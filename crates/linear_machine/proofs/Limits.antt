@@ -1,5 +1,5 @@
 -- The limit word is loaded: it says that the mover asks, or that it asks for nothing.
-use Rattle.std.proofs.Common.{◌≡◌, ◌≢◌, ℕ, suc, ◌+◌, ◌*◌, ◌%◌, ◌^◌, ◌<◌, ◌≤◌, ◌⊎◌, inl, inr, true, false, ◌==◌, nat_le, List, [], ◌∷◌, length, Some, slice_index, slice_set, refl, ap, arith, ◌∙◌, sym, subst, ⊎_elim, get_or-set_same, get_or-set_other}
+use Rattle.std.proofs.Common.{◌≡◌, ◌≢◌, ℕ, suc, ◌+◌, ◌*◌, ◌<◌, ◌≤◌, ◌⊎◌, inl, inr, false, nat_le, List, [], ◌∷◌, length, Some, slice_index, slice_set, refl, ap, arith, ◌∙◌, ⊎_elim, get_or-set_same, get_or-set_other}
 use Rattle.std.proofs.lemmas.Bool.{and_left, and_right, cond-false, lt-leb, ne_eqb}
 use Rattle.bs_words.specs.Word.{add_word}
 use Rattle.image_form.specs.Tables.{Tables}
@@ -25,9 +25,11 @@ use Rattle.linear_machine.proofs.Steps.{one_step, ready, ready_stands, register_
 abbrev pub HasLimit : ℕ → View → Type 0
 HasLimit r w = (slice_index w.registers r ≡ limit_at_rest) ⊎ (slice_index w.registers r ≡ limit_asked)
 
-module _ (s : Fixed) (v : View) (are : AreRegisters v.registers) (domain : slice_index v.registers 27 ≡ domain_start) (r : ℕ) (fits : suc r < 32) (other : suc r ≢ 2) (code : IsCode s v.place (Load Ld (suc r) 27 0)) where
+module _ (s : Fixed) (v : View) (are : AreRegisters v.registers) (domain : slice_index v.registers 27 ≡ domain_start) (r : ℕ) (fits : suc r < 32)
+    (other : suc r ≢ 2) (code : IsCode s v.place (Load Ld (suc r) 27 0)) where
   not_in_code : (words : List ℕ) → code_start + 4 * length words ≤ domain_start → is_inside (code_region words) domain_start 8 ≡ false
-  not_in_code words l = and_right (nat_le code_start domain_start) (nat_le (domain_start + 8) (code_start + 4 * length words)) (lt-leb (domain_start + 8) (code_start + 4 * length words) (omega (arith, l)))
+  not_in_code words l = and_right (nat_le code_start domain_start) (nat_le (domain_start + 8) (code_start + 4 * length words))
+      (lt-leb (domain_start + 8) (code_start + 4 * length words) (omega (arith, l)))
 
   loaded_limit : (b : Machine) → Stands s b v → loaded (readable b.hart) domain_start 8 ≡ Some (word b.hart.memory domain_start)
   loaded_limit b st =
@@ -39,7 +41,8 @@ module _ (s : Fixed) (v : View) (are : AreRegisters v.registers) (domain : slice
   loads_limit : (b : Machine) → Stands s b v → executed (Load Ld (suc r) 27 0) b.hart ≡ loads (Some (word b.hart.memory domain_start)) Ld (suc r) b.hart
   loads_limit b st =
       let at : add_word (register b.hart 27) (imm_i 0) ≡ domain_start =
-              ap (λ z. add_word z (imm_i 0)) (register_reg s b v 27 st ∙ domain) ∙ ap (add_word domain_start) (low_12 0 (omega arith)) ∙ up domain_start 0 domain_start refl (omega arith) in
+      ap (λ z. add_word z (imm_i 0)) (register_reg s b v 27 st ∙ domain) ∙ ap (add_word domain_start) (low_12 0 (omega arith))
+      ∙ up domain_start 0 domain_start refl (omega arith) in
       ap (λ x. loads (loaded (readable b.hart) x 8) Ld (suc r) b.hart) at ∙ ap (λ o. loads o Ld (suc r) b.hart) (loaded_limit b st)
 
   pub limit_arrives : {q : Needs} → Arrives 1 s q v (λ w. IsPast 1 (suc r ∷ []) v.memory v w × HasLimit (suc r) w)
@@ -51,7 +54,8 @@ module _ (s : Fixed) (v : View) (are : AreRegisters v.registers) (domain : slice
         let h : Hart = record (b.hart) { registers = with_register (suc r) value b.hart.registers; pc = b.hart.pc + 4; retired = suc b.hart.retired } in
         let pc = st.pc in
         let count = are.count in
-        let there : slice_index (slice_set v.registers (suc r) value) (suc r) ≡ value = get_or-set_same v.registers (suc r) value 0 (omega (arith, count, fits)) in
+        let there : slice_index (slice_set v.registers (suc r) value)
+        (suc r) ≡ value = get_or-set_same v.registers (suc r) value 0 (omega (arith, count, fits)) in
         inl (record {
           count = 1;
           some = omega arith;
@@ -74,7 +78,8 @@ module _ (s : Fixed) (v : View) (are : AreRegisters v.registers) (domain : slice
             answers = st.answers;
             calls = st.calls;
           };
-          by = one_step s a0 v (Load Ld (suc r) 27 0) (goes_to (b.hart.pc + 4) (record (b.hart) { registers = with_register (suc r) value b.hart.registers })) st0 code
+          by = one_step s a0 v (Load Ld (suc r) 27 0)
+              (goes_to (b.hart.pc + 4) (record (b.hart) { registers = with_register (suc r) value b.hart.registers })) st0 code
               (loads_limit b st ∙ cond-false _ _ _ (and_left _ _ (ne_eqb (suc r) 2 other)));
           holds = (
             record {

@@ -67,7 +67,8 @@ module _ (s : Fixed) (laid : Laid) (live : List Line → Type 0) (entry : ℕ �
     (v : View) (young : List Placed) (held file : Locations) (a : Around) (none : a.raised ≡ None) (within : Within s laid v young 0 held a c)
     (before : Type 0) (agrees : Agrees before held file) (r : Spot) (passes : PassesSpare before (live next) r.loc)
     (t : ℕ) (rest : Locations) (target : IsTarget held rest t) (rs : List ℕ) (only : (q : ℕ) → Among q rs → (q ≡ t) ⊎ IsScratch q) where
-  -- The address is in a register, and the words bring what lies so many bytes further into the target.
+  -- The address is in a register, and the words bring what lies so many bytes further into the
+  -- target.
   pub load_follows :
       (k : Chunk) → IsWhole k → (offset : ℕ) (p : Spot) (n1 n m ra : ℕ) (scratch : List ℕ) → laid.part (length next) ≡ v.place + (n1 + (n + m)) →
       Reads before p.loc →
@@ -128,7 +129,8 @@ module _ (s : Fixed) (laid : Laid) (live : List Line → Type 0) (entry : ℕ �
       by_cell x None e h = tt
       by_cell x (Some cell) e h = by_written x cell (is_among cell a.unwritten) refl e h
 
--- one instruction loads what lies at a number of bytes from an address, where its immediate says so many
+-- one instruction loads what lies at a number of bytes from an address, where its immediate says so
+-- many
 pub load_works :
     (s : Fixed) (laid : Laid) (u : View) (young : List Placed) (held : Locations) (a : Around) (c : Below) → Within s laid u young 0 held a c →
     (t ra offset imm : ℕ) → suc t < 32 → suc t ≢ 2 → offset < 2 ^ 64 →

@@ -1,21 +1,19 @@
 -- A function makes a block of bytes that were taken off s10 before.
-use Rattle.std.proofs.Common.{◌≡◌, ◌≢◌, ℕ, zero, suc, ◌+◌, ◌-◌, ◌*◌, ◌%◌, ◌^◌, ◌<◌, ◌≤◌, ◌⊎◌, inl, inr, Bool, true, false, List, [], ◌∷◌, ◌++◌, length, reverse, Option, Some, None, slice_index, refl, ap, arith, ◌∙◌, sym, subst, ⊎_elim, length-append}
+use Rattle.std.proofs.Common.{◌≡◌, ℕ, ◌+◌, ◌*◌, ◌%◌, ◌≤◌, inl, inr, List, [], ◌∷◌, ◌++◌, length, reverse, Option, Some, None, slice_index, refl, ap, arith, ◌∙◌, sym, subst, length-append}
 use Rattle.std.specs.List.{AllByRecursion}
-use Rattle.bs_words.specs.Word.{add_word}
-use Rattle.bs_words.specs.declared.types.Loc.TheVariants as loc
 use Rattle.bs_words.specs.declared.values.Value.{Value}
 use Rattle.bs_words.specs.declared.values.Value.TheVariants.{Block}
 use Rattle.lin_ir.specs.Meaning.{Locations}
 use Rattle.mach_ir.specs.Acts.{Around, with_block}
 use Rattle.mach_ir.specs.declared.blocks.NewBlock.{NewBlock}
 use Rattle.rv_machine.specs.Hart.{Placed}
-use Rattle.rv_machine.specs.Observation.{cells_of, young_start, young_top}
+use Rattle.rv_machine.specs.Observation.{cells_of, young_start}
 use Rattle.rv_machine.specs.Placement.{end_of}
 use Rattle.rv_machine.specs.Space.{IsKept}
 use Rattle.machine_laws.proofs.Apart.{all-append, all-reverse, all_of}
 use Rattle.machine_laws.proofs.InHeap.{ends_below}
 use Rattle.moving_laws.specs.Heap.{AreApart, IsInHeap}
-use Rattle.moving_laws.specs.Values.{start_of, value_word}
+use Rattle.moving_laws.specs.Values.{start_of}
 use Rattle.moving_laws.specs.Young.{Rises}
 use Rattle.moving_laws.proofs.Rewriting.{at_start}
 use Rattle.moving_laws.proofs.Usable.{young_readable}
@@ -33,8 +31,10 @@ young_above at (b ∷ bs) r =
     let e = r.0 in
     (omega (arith, e), all_of (λ c. end_of b + 8 ≤ c.start) (λ c. at + 8 ≤ c.start) (λ c l. omega (arith, l, e)) bs (young_above (end_of b) bs r.3))
 
-module _ (s : Fixed) (laid : Laid) (v : View) (young : List Placed) (taken left : ℕ) (held : Locations) (a : Around) (c : Below) (within : Within s laid v young taken held a c)
-    (b : NewBlock) (some : 1 ≤ b.cells) (most : b.cells ≤ 256) (head : cells_of b.header ≡ b.cells) (bytes : taken ≡ left + 8 * (b.cells + 1)) (room : young_start ≤ slice_index v.registers 26 + left) where
+module _ (s : Fixed) (laid : Laid) (v : View) (young : List Placed) (taken left : ℕ) (held : Locations) (a : Around) (c : Below)
+    (within : Within s laid v young taken held a c)
+    (b : NewBlock) (some : 1 ≤ b.cells) (most : b.cells ≤ 256) (head : cells_of b.header ≡ b.cells) (bytes : taken ≡ left + 8 * (b.cells + 1))
+    (room : young_start ≤ slice_index v.registers 26 + left) where
   -- it lies right below the young blocks
   abbrev pub made : Placed
   made = record { start = slice_index v.registers 26 + left + 8; words = b.cells }
@@ -58,15 +58,17 @@ module _ (s : Fixed) (laid : Laid) (v : View) (young : List Placed) (taken left 
   apart =
       let e = ends in
       all-append (λ x. AreApart x made) v.blocks (reverse young)
-      (all_of (IsKept s.heap) (λ x. AreApart x made) (λ x k. let below = ends_below s.heap x within.usable.heap.most k.inside in inl (omega (arith, below, room))) v.blocks within.usable.heap.each)
+      (all_of (IsKept s.heap) (λ x. AreApart x made)
+      (λ x k. let below = ends_below s.heap x within.usable.heap.most k.inside in inl (omega (arith, below, room))) v.blocks within.usable.heap.each)
       (all-reverse (λ x. AreApart x made) young
-        (all_of (λ x. slice_index v.registers 26 + taken + 8 ≤ x.start) (λ x. AreApart x made) (λ x l. inr (omega (arith, l, e))) young
-          (young_above (slice_index v.registers 26 + taken) young within.own.rises)))
+      (all_of (λ x. slice_index v.registers 26 + taken + 8 ≤ x.start) (λ x. AreApart x made) (λ x l. inr (omega (arith, l, e))) young
+      (young_above (slice_index v.registers 26 + taken) young within.own.rises)))
 
   more_is : relation.all_of v (made ∷ young) ≡ (v.blocks ++ reverse young) ++ made ∷ []
   more_is = placed_more v.blocks young made
 
-  carried : (o : Option Value) → AreCarried s (v.blocks ++ reverse young) v.registers held o → AreCarried s ((v.blocks ++ reverse young) ++ made ∷ []) v.registers held o
+  carried : (o : Option Value) → AreCarried s (v.blocks ++ reverse young) v.registers held o →
+      AreCarried s ((v.blocks ++ reverse young) ++ made ∷ []) v.registers held o
   carried None hold = λ r x h. let p = hold r x h in (p.0, stands_more s old made (slice_index v.registers r) x p.1)
   carried (Some x) hold = stands_more s old made (slice_index v.registers 10) x hold
 
@@ -108,7 +110,7 @@ module _ (s : Fixed) (laid : Laid) (v : View) (young : List Placed) (taken left 
         traps = within.traps;
         heap = subst (λ p. HeapStands s p v.memory (with_block b a)) (sym more_is)
             (heap_more s old v.memory a within.heap b made refl head is_inside apart
-              (λ x x8 lo hi. young_readable s.image s.heap s.base v.memory within.usable.regions x x8 (omega (arith, lo, room)) (omega (arith, hi, e, t))));
+            (λ x x8 lo hi. young_readable s.image s.heap s.base v.memory within.usable.regions x x8 (omega (arith, lo, room)) (omega (arith, hi, e, t))));
       }
 
   -- its address stands for the pointer to it
@@ -117,7 +119,8 @@ module _ (s : Fixed) (laid : Laid) (v : View) (young : List Placed) (taken left 
       let n = within.heap.stand.count in
       let t = top in
       let e = ends in
-      let start : start_of ((v.blocks ++ reverse young) ++ made ∷ []) (length a.memory.blocks) ≡ made.start = ap (start_of ((v.blocks ++ reverse young) ++ made ∷ [])) n ∙ start_last old made in
+      let start : start_of ((v.blocks ++ reverse young) ++ made ∷ [])
+      (length a.memory.blocks) ≡ made.start = ap (start_of ((v.blocks ++ reverse young) ++ made ∷ [])) n ∙ start_last old made in
       let count = length-append old (made ∷ []) in
       subst (λ p. StandsFor s p w (Block (length a.memory.blocks) 0)) (sym more_is)
       (record {

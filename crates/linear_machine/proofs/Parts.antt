@@ -1,5 +1,5 @@
--- The part of a line is made of pieces: operands are fetched, an operation works on registers, and the
--- result is kept in its location.
+-- The part of a line is made of pieces: operands are fetched, an operation works on registers, and
+-- the result is kept in its location.
 use Rattle.std.proofs.Common.{◌≡◌, ◌≢◌, ℕ, suc, ◌+◌, ◌*◌, ◌%◌, ◌^◌, ◌<◌, inl, inr, List, [], ◌∷◌, length, Option, Some, None, slice_index, refl, arith, sym, subst, ⊎_elim}
 use Rattle.bs_words.specs.declared.types.Loc.{Loc}
 use Rattle.bs_words.specs.declared.types.Loc.TheVariants as loc

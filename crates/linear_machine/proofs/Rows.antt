@@ -1,4 +1,5 @@
--- One instruction that works on registers which stand for values, of two registers or of one and a constant.
+-- One instruction that works on registers which stand for values, of two registers or of one and a
+-- constant.
 use Rattle.std.proofs.Common.{◌≡◌, ◌≢◌, ℕ, suc, ◌%◌, ◌^◌, ◌<◌, ◌⊎◌, inl, inr, true, ◌&&◌, nat_le, nat_lt, List, [], ◌∷◌, Ok, slice_index, refl, ap, arith, ◌∙◌, sym, subst, ⊎_elim}
 use Rattle.std.proofs.lemmas.Bool.{and_parts, leb-true, ltb-true, or_cases}
 use Rattle.bs_words.specs.Operators.{apply}
