@@ -1,0 +1,9 @@
+pub mod View
+pub mod Arrival
+pub mod Contents
+pub mod Relation
+pub mod Straight
+pub mod Moments
+pub mod Outside
+pub mod Follows
+pub mod Files

@@ -1,0 +1,95 @@
+-- The machine stands before an ECALL that asks for an external call.
+use Rattle.std.specs.Prelude.{◌≡◌, ℕ, zero, suc, ◌+◌, Bool, true, false, cond, List, [], ◌∷◌, ◌++◌, map, Option, Some, None, slice_get, slice_index, ◌⊎◌}
+use Rattle.bs_words.specs.External.{External}
+use Rattle.bs_words.specs.Memory.{Memory}
+use Rattle.bs_words.specs.Observed.{Made}
+use Rattle.bs_words.specs.declared.types.Ret.{Ret}
+use Rattle.bs_words.specs.declared.types.Ret.TheVariants as ret
+use Rattle.bs_words.specs.declared.values.Obs.{Obs}
+use Rattle.bs_words.specs.declared.values.Obs.TheVariants as obs
+use Rattle.bs_words.specs.declared.values.Value.{Value}
+use Rattle.bs_words.specs.declared.values.Value.TheVariants.{Word, Block, Function}
+use Rattle.cmm_meaning.specs.State.{Doing, Gave, Threw}
+use Rattle.image_form.specs.Tables.{Tables, Ext}
+use Rattle.rv_isa.specs.declared.instr.Instr.TheVariants.{Ecall}
+use Rattle.rv_isa.specs.Registers.{t0, t2}
+use Rattle.rv_machine.specs.Run.{after}
+use Rattle.rv_machine.specs.Services.{Machine, Going, call_made}
+use Rattle.rv_machine.specs.Sound.{AllWords}
+use Rattle.moving_laws.specs.Values.{function_at}
+use Rattle.linear_machine.specs.Arrival.{Needs, Gone}
+use Rattle.linear_machine.specs.View.{Fixed, View, Stands, IsCode}
+
+-- ---- what answers say that the call did, and the answers that it leaves
+
+pub record Taken : Type 0 where
+  pub doing : Doing
+  pub answers : List ℕ
+
+abbrev pub given : Ret → ℕ → Option Value
+given ret.Unit x = None
+given (ret.Comp t) x = Some (Word x)
+
+abbrev pub taken_alone : Memory → Ret → List ℕ → Option Taken
+taken_alone memory ret.Unit answers = Some (record { doing = Gave None memory; answers = answers })
+taken_alone memory (ret.Comp t) [] = None
+taken_alone memory (ret.Comp t) (x ∷ answers) =
+    Some (record { doing = Gave (Some (Word x)) memory; answers = answers })
+
+abbrev pub taken_moving : Memory → Ret → List ℕ → Option Taken
+taken_moving memory result [] = None
+taken_moving memory result (first ∷ []) = None
+taken_moving memory result (zero ∷ x ∷ answers) =
+    Some (record { doing = Gave (given result x) memory; answers = answers })
+taken_moving memory result (suc n ∷ x ∷ answers) =
+    Some (record { doing = Threw (Word x) memory; answers = answers })
+
+-- a frame call takes two answers, and an external call that is none at most one
+abbrev pub taken_of : Bool → Memory → Ret → List ℕ → Option Taken
+taken_of true memory result answers = taken_moving memory result answers
+taken_of false memory result answers = taken_alone memory result answers
+
+-- ---- the call
+
+abbrev pub service_of : Bool → ℕ
+service_of frame = cond frame 4 2
+
+-- what is observed of an argument
+abbrev pub shown : Tables → Value → Obs
+shown image (Word w) = obs.Word w
+shown image (Block serial offset) = obs.Block serial
+shown image (Function f) = obs.Word (function_at image.funcs f)
+
+-- the call as it is counted
+abbrev pub counted : Fixed → External → List Value → Made
+counted s row arguments = record { name = row.name; shown = map (shown s.image) arguments }
+
+-- the ECALL has run, with what it took from the answers
+pub record GoesOn (s : Fixed) (a : Machine) (calls : List Made) (answers : List ℕ)
+    (P : View → Type 0) : Type 0 where
+  pub view : View
+  pub machine : Machine
+  pub stands : Stands s machine view
+  pub answers_are : view.answers ≡ answers
+  pub calls_are : view.calls ≡ calls
+  pub by : (j k : ℕ) → j ≡ 1 + k →
+      after s.schedule j (Going a) ≡ after s.schedule k (Going machine)
+  pub holds : P view
+
+-- The call's row and service are asked for, its arguments show what they are to, and behind it the
+-- machine stands for what the function makes of the answers; or the blocks have no room.
+pub record IsAsking (s : Fixed) (needs : Needs) (row : External) (frame : Bool)
+    (arguments : List Value) (memory : Memory) (Goes : Doing → View → Type 0) (w : View) : Type 0
+  where
+    pub ext : Ext
+    pub there : slice_get s.image.extcs (slice_index w.registers t0) ≡ Some ext
+    pub name : ext.name ≡ row.name
+    pub params : ext.params ≡ row.params
+    pub result : ext.result ≡ row.result
+    pub code : IsCode s w.place Ecall
+    pub service : slice_index w.registers t2 ≡ service_of frame
+    pub made : (a : Machine) → Stands s a w → call_made ext a.hart ≡ counted s row arguments
+    pub goes : (a : Machine) (t : Taken) → Stands s a w → AllWords w.answers →
+        taken_of frame memory row.result w.answers ≡ Some t →
+        GoesOn s a (w.calls ++ counted s row arguments ∷ []) t.answers (Goes t.doing)
+        ⊎ Gone s needs w a

@@ -1,0 +1,86 @@
+-- What a proof sees of the machine between two instructions, and how the machine goes on, under
+-- every schedule of asks.
+use Rattle.std.specs.Prelude.{◌≡◌, ◌≢◌, ℕ, ◌+◌, ◌*◌, ◌⊎◌, List, [], ◌∷◌, map, slice_get, Some}
+use Rattle.std.specs.List.{AllByRecursion}
+use Rattle.bs_words.specs.Observed.{Made}
+use Rattle.bs_words.specs.declared.types.Ret.{Ret}
+use Rattle.image_form.specs.Tables.{Tables}
+use Rattle.rv_isa.specs.Encoding.{InstrFits, encoded}
+use Rattle.rv_isa.specs.declared.instr.Instr.{Instr}
+use Rattle.rv_machine.specs.Hart.{Placed}
+use Rattle.rv_machine.specs.Loading.{IsRoom}
+use Rattle.rv_machine.specs.Memory.{Region, word, code_start}
+use Rattle.rv_machine.specs.Places.{domain_start, limit_asked, limit_at_rest}
+use Rattle.rv_machine.specs.Run.{Schedule, after}
+use Rattle.rv_machine.specs.Services.{End, Machine, Going, Over}
+use Rattle.rv_machine.specs.Sound.{HasRegions, IsRegion, IsStackBase, extent, extents}
+use Rattle.moving_laws.specs.Values.{HasFunctions}
+
+-- What stays as it is during a run.
+pub record Fixed : Type 0 where
+  pub image : Tables
+  pub schedule : Schedule
+  pub result : Ret
+  -- the lowest address of the stack, and the bytes of a half of the heap
+  pub base : ℕ
+  pub heap : ℕ
+  pub functions : HasFunctions image
+  pub stack : IsStackBase base
+  pub room : IsRoom heap
+
+-- The limit word is left out of what is seen: asks set it at any time.
+pub record View : Type 0 where
+  -- how many instruction words stand before the next one
+  pub place : ℕ
+  pub registers : List ℕ
+  pub memory : List Region
+  pub blocks : List Placed
+  pub answers : List ℕ
+  pub calls : List Made
+
+-- two memories that differ in the limit word alone
+pub record IsLike (m m' : List Region) : Type 0 where
+  pub words : (x : ℕ) → x ≢ domain_start → word m' x ≡ word m x
+  pub lie : map extent m' ≡ map extent m
+  pub each : AllByRecursion IsRegion m'
+
+-- the mover asks, or asks for nothing
+abbrev pub IsLimit : List Region → Type 0
+IsLimit m = (word m domain_start ≡ limit_at_rest) ⊎ (word m domain_start ≡ limit_asked)
+
+-- The machine stands so.
+pub record Stands (s : Fixed) (machine : Machine) (v : View) : Type 0 where
+  pub image : machine.hart.image ≡ s.image
+  pub pc : machine.hart.pc ≡ code_start + 4 * v.place
+  pub registers : machine.hart.registers ≡ v.registers
+  pub memory : IsLike v.memory machine.hart.memory
+  pub regions : HasRegions (extents s.image s.heap s.base) machine.hart.memory
+  pub limit : IsLimit machine.hart.memory
+  pub stack_base : machine.hart.stack_base ≡ s.base
+  pub heap : machine.hart.heap ≡ s.heap
+  pub blocks : machine.hart.blocks ≡ v.blocks
+  pub result : machine.result ≡ s.result
+  pub answers : machine.answers ≡ v.answers
+  pub calls : machine.calls ≡ v.calls
+
+-- So many instructions lead from one view to another.
+pub record Leads (s : Fixed) (n : ℕ) (v w : View) : Type 0 where
+  pub answers : w.answers ≡ v.answers
+  pub calls : w.calls ≡ v.calls
+  pub by : (a : Machine) → Stands s a v → (b : Machine) × Stands s b w
+      × ((j k : ℕ) → j ≡ n + k → after s.schedule j (Going a) ≡ after s.schedule k (Going b))
+
+-- So many instructions end the run.
+pub record Ends (s : Fixed) (n : ℕ) (v : View) (end : End) : Type 0 where
+  pub by : (a : Machine) → Stands s a v → (j k : ℕ) → j ≡ n + k →
+      after s.schedule j (Going a) ≡ after s.schedule k (Over v.calls end)
+
+-- the instruction stands at this place of the code
+pub record IsCode (s : Fixed) (place : ℕ) (i : Instr) : Type 0 where
+  pub there : slice_get s.image.code place ≡ Some (encoded i)
+  pub fits : InstrFits i
+
+-- so do these, one after the other
+abbrev pub HasCode : Fixed → ℕ → List Instr → Type 0
+HasCode s place [] = Unit {0}
+HasCode s place (i ∷ is) = IsCode s place i × HasCode s (place + 1) is

@@ -1,0 +1,17 @@
+pub mod Words
+pub mod Usable
+pub mod Puts
+pub mod Moves
+pub mod Rewriting
+pub mod Restored
+pub mod Walk
+pub mod Plans
+pub mod Waits
+pub mod Young
+pub mod Roots
+pub mod Serves
+pub mod Moving
+pub mod Fitting
+pub mod Destroyed
+pub mod Example
+pub mod Bottom
