@@ -1,0 +1,2 @@
+mod MachRuns
+mod LinearRuns

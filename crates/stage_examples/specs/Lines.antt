@@ -1,0 +1,135 @@
+-- Linear functions made by hand.
+use Rattle.std.specs.Prelude.{ℕ, cond, nat_eq, List, [], ◌∷◌, ◌++◌, codes}
+use Rattle.bs_words.specs.declared.operators.CmpOp.TheVariants as compare
+use Rattle.bs_words.specs.declared.operators.IntOp.TheVariants as operator
+use Rattle.bs_words.specs.declared.types.Chunk.TheVariants as chunk
+use Rattle.bs_words.specs.declared.types.Comp.{Comp}
+use Rattle.bs_words.specs.declared.types.Comp.TheVariants as comp
+use Rattle.bs_words.specs.declared.types.Loc.{Loc}
+use Rattle.bs_words.specs.declared.types.Loc.TheVariants as loc
+use Rattle.bs_words.specs.declared.types.Ret.TheVariants as ret
+use Rattle.mach_ir.specs.declared.op.Op.{Op}
+use Rattle.mach_ir.specs.declared.op.Right.TheVariants as right
+use Rattle.mach_ir.specs.declared.mach.Test.TheVariants as test
+use Rattle.lin_ir.specs.Meaning.{NamedAt}
+use Rattle.lin_ir.specs.declared.lin.Spot.{Spot}
+use Rattle.lin_ir.specs.declared.lin.Flow.{Flow}
+use Rattle.lin_ir.specs.declared.lin.Flow.TheVariants as flow
+use Rattle.lin_ir.specs.declared.lin.LinOp.TheVariants as lin
+use Rattle.lin_ir.specs.declared.lin.Line.{Line}
+use Rattle.lin_ir.specs.declared.lin.Lin.{Lin}
+use Rattle.stage_examples.specs.Registers.{move, constant, computes, load, store, allocate, calls, raise, gives, header, before}
+
+abbrev pub spot : Loc → Comp → Spot
+spot l c = record { loc = l; comp = c }
+
+-- a0, where arguments, results and raised values stand
+abbrev pub a0 : Loc
+a0 = loc.Machine 10
+
+abbrev pub s2 : Loc
+s2 = loc.Machine 18
+
+abbrev pub line : Op → List Spot → List Spot → Line
+line f args results = record { op = lin.Op f; args = args; results = results }
+
+abbrev pub goes : Flow → List Spot → List Spot → Line
+goes f args results = record { op = lin.Flow f; args = args; results = results }
+
+abbrev pub function : List Line → Lin
+function code =
+    record {
+      name = codes "g";
+      params = spot a0 comp.Int ∷ [];
+      result = ret.Comp comp.Int;
+      slots = 2;
+      code = code;
+    }
+
+-- frame points that name nothing, but for one, with so many lines after it, that names a location
+abbrev pub nothing : NamedAt
+nothing left = []
+
+abbrev pub only : ℕ → Loc → NamedAt
+only n l left = cond (nat_eq left n) (l ∷ []) []
+
+-- the sum of the numbers up to n
+abbrev pub sum : Lin
+sum =
+    function
+    (line (constant 0) [] (spot s2 comp.Int ∷ [])
+    ∷ goes (flow.Label 1) [] []
+    ∷ goes (flow.Branch (test.Signed compare.Le (right.Constant 0)) 2) (spot a0 comp.Int ∷ []) []
+    ∷ line (computes operator.Add right.Register) (spot s2 comp.Int ∷ spot a0 comp.Int ∷ [])
+    (spot s2 comp.Int ∷ [])
+    ∷ line (computes operator.Sub (right.Constant 1)) (spot a0 comp.Int ∷ [])
+    (spot a0 comp.Int ∷ [])
+    ∷ goes (flow.Exit 1) [] []
+    ∷ goes (flow.Label 2) [] []
+    ∷ line move (spot s2 comp.Int ∷ []) (spot a0 comp.Int ∷ [])
+    ∷ line gives (spot a0 comp.Int ∷ []) [] ∷ [])
+
+-- a block at s2, whole
+abbrev pub block : List Line
+block =
+    line allocate [] (spot s2 comp.Val ∷ [])
+    ∷ line (constant header) [] (spot (loc.Machine 6) comp.Int ∷ [])
+    ∷ line (store chunk.Int before)
+    (spot s2 comp.Val ∷ spot (loc.Machine 6) comp.Int ∷ []) []
+    ∷ line (store chunk.Val 0) (spot s2 comp.Val ∷ spot a0 comp.Int ∷ []) []
+    ∷ line (store chunk.Val 8) (spot s2 comp.Val ∷ spot a0 comp.Int ∷ []) [] ∷ []
+
+-- it is kept in a slot over a call, and its second cell is given
+abbrev pub keeps_block : Lin
+keeps_block =
+    function
+    (block
+    ++ (line move (spot s2 comp.Val ∷ []) (spot (loc.Slot 1) comp.Val ∷ [])
+    ∷ line calls (spot a0 comp.Int ∷ []) (spot a0 comp.Int ∷ [])
+    ∷ line (load chunk.Val 8) (spot (loc.Slot 1) comp.Val ∷ []) (spot a0 comp.Val ∷ [])
+    ∷ line gives (spot a0 comp.Val ∷ []) [] ∷ []))
+
+-- a word is kept so
+abbrev pub keeps_word : Lin
+keeps_word =
+    function
+    (line move (spot a0 comp.Int ∷ []) (spot (loc.Slot 1) comp.Int ∷ [])
+    ∷ line calls (spot a0 comp.Int ∷ []) (spot a0 comp.Int ∷ [])
+    ∷ line gives (spot (loc.Slot 1) comp.Int ∷ []) [] ∷ [])
+
+-- the block is read as an int
+abbrev pub hides_pointer : Lin
+hides_pointer = function (block ++ (line gives (spot s2 comp.Int ∷ []) [] ∷ []))
+
+-- in a try, whose handler gives what was raised
+abbrev pub guarded : List Line → Lin
+guarded body =
+    function
+    (goes (flow.PushTrap 1) [] []
+    ∷ (body
+    ++ (goes flow.PopTrap [] []
+    ∷ line gives (spot a0 comp.Int ∷ []) []
+    ∷ goes (flow.Label 1) [] []
+    ∷ goes flow.EnterTrap [] (spot a0 comp.Val ∷ [])
+    ∷ line gives (spot a0 comp.Val ∷ []) [] ∷ [])))
+
+abbrev pub guards_call : Lin
+guards_call = guarded (line calls (spot a0 comp.Int ∷ []) (spot a0 comp.Int ∷ []) ∷ [])
+
+abbrev pub guards_raise : Lin
+guards_raise =
+    guarded
+    (line move (spot a0 comp.Int ∷ []) (spot a0 comp.Val ∷ [])
+    ∷ line raise (spot a0 comp.Val ∷ []) [] ∷ [])
+
+-- the handler reads what a register held in the body
+abbrev pub reads_register : Lin
+reads_register =
+    function
+    (goes (flow.PushTrap 1) [] []
+    ∷ line move (spot a0 comp.Int ∷ []) (spot s2 comp.Int ∷ [])
+    ∷ line move (spot a0 comp.Int ∷ []) (spot a0 comp.Val ∷ [])
+    ∷ line raise (spot a0 comp.Val ∷ []) []
+    ∷ goes (flow.Label 1) [] []
+    ∷ goes flow.EnterTrap [] (spot a0 comp.Val ∷ [])
+    ∷ line gives (spot s2 comp.Int ∷ []) [] ∷ [])
