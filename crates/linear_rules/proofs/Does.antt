@@ -1,5 +1,5 @@
 -- The lines do what the Mach code does, and read no poison.
-use Rattle.std.proofs.Common.{◌≡◌, ◌≢◌, ℕ, zero, suc, Bool, true, false, cond, not, ◌||◌, ◌⊎◌, inl, inr, ⊎_elim, List, [], ◌∷◌, map, length, Option, Some, None, nat_eq, refl, sym, ap, ◌∙◌, subst}
+use Rattle.std.proofs.Common.{◌≡◌, ◌≢◌, ℕ, zero, suc, Bool, true, false, cond, ◌⊎◌, inl, inr, ⊎_elim, List, [], ◌∷◌, map, Option, Some, None, nat_eq, refl, sym, ap, ◌∙◌, subst}
 use Rattle.std.proofs.lemmas.Bool.{true≢false, eq-eqb, eqb-true}
 use Rattle.std.specs.List.{Contains}
 use Rattle.bs_words.specs.Fits.{fits, type_of_comp}
@@ -13,7 +13,7 @@ use Rattle.cmm_meaning.specs.Setting.{Setting}
 use Rattle.cmm_meaning.specs.State.{Doing, Callee}
 use Rattle.mach_ir.specs.Acts.{Around, Target, On, At, AtLabel, AtHandler, Act, Goes, Pushes, Jumps, Unwinds, Asks, Replaces, Ends, EndsRaising, Stuck, drop_tries, truth_of, branches}
 use Rattle.mach_ir.specs.Runs.{Place, Step, Continues, Pays, entered, first_tally}
-use Rattle.mach_ir.specs.Meaning.{State, File, Held, put_all, put_if, with_held, clear, killed, written, values, is_addr, past_frame, passes_frame, is_destroyed, is_at_one_of, destroyed_by, after_label, from_handler, at_handler, code_at, landing_code, tries_at, mach_act, wrote, on_act, on_values, step, begun, start}
+use Rattle.mach_ir.specs.Meaning.{State, File, Held, put_all, put_if, with_held, clear, killed, written, values, past_frame, passes_frame, is_destroyed, is_at_one_of, destroyed_by, after_label, from_handler, at_handler, code_at, landing_code, tries_at, mach_act, wrote, on_act, on_values, step, begun, start}
 use Rattle.mach_ir.specs.Formed.{AreDistinct, tries_left, WellFormed}
 use Rattle.mach_ir.specs.Keeps.{ValsWritten, wrote_unless, wrote_at, Ahead, Trails}
 use Rattle.mach_ir.specs.Placed.{IsPlaced, in_colour, in_slot, FullyPlaced, colours}
@@ -34,18 +34,18 @@ use Rattle.mach_laws.proofs.Places.{ending_next, ending_from_handler}
 use Rattle.mach_laws.proofs.Simulate.{Agrees}
 use Rattle.mach_laws.proofs.Walking.{ending_at, none_in}
 use Rattle.lin_ir.specs.Meaning as lines
-use Rattle.lin_ir.specs.Meaning.{Locations, NamedAt, is_named, is_val, are_vals, unless_pointer, unless_misnamed}
+use Rattle.lin_ir.specs.Meaning.{Locations, is_val}
 use Rattle.lin_ir.specs.Walks as walks
-use Rattle.lin_ir.specs.Keeps.{Begins}
 use Rattle.lin_ir.specs.declared.lin.Flow.TheVariants as flow
 use Rattle.lin_ir.specs.declared.lin.LinOp.{LinOp}
 use Rattle.lin_ir.specs.declared.lin.LinOp.TheVariants as lin
 use Rattle.lin_ir.specs.declared.lin.Line.{Line}
 use Rattle.lin_ir.specs.declared.lin.Lin.{Lin}
 use Rattle.lin_ir.specs.declared.lin.Spot.{Spot}
-use Rattle.linear_rules.specs.Keeps.{NamesReached}
+use Rattle.linear_rules.specs.Kept as kept
+use Rattle.linear_rules.specs.Kept.{ValsHeld, Begins}
 use Rattle.linear_rules.specs.Lowered.{home, spots, is_idle, line_of, bare, pops, lines_of, lowered_code}
-use Rattle.linear_rules.proofs.Homes.{IsIn, is_first, is_later, in_of, contains_of, in_among, number_in, left_among, right_among, named_of, PutAll, nil, cons, put_of, Pair, pair_in, Once, once_none, once_more, held_none, held_same, values_none, pair_held, single, clear_keeps, keeps_value, past_some, all_vals, machine_of, one_at, killed_has, home_is_place, in_spots, spot_of, Typed, puts_at, typed_put, reads_all}
+use Rattle.linear_rules.proofs.Homes.{IsIn, is_first, is_later, in_of, contains_of, in_among, number_in, left_among, right_among, PutAll, nil, cons, put_of, Pair, pair_in, Once, once_none, once_more, held_none, held_same, values_none, pair_held, single, clear_keeps, past_some, machine_of, one_at, killed_has, in_spots, spot_of, Typed, puts_at, typed_put, reads_all}
 use Rattle.linear_rules.proofs.Marks.{all_in, pairs_here, pairs_later, in_ending, stands_of, args_in_code, results_in_code, instr, AsLine, op_line, if_line, switch_line, try_line, handler_line, is_bare, IsIdle, idles, idle_of, bare_empty, EntryOf, entry_of}
 use Rattle.linear_rules.proofs.Places.{drop_more}
 use Rattle.linear_rules.proofs.Opposite.{truth_opposite, branch_opposite}
@@ -53,6 +53,21 @@ use Rattle.linear_rules.proofs.Standing.{split_among, same_targets, same_raises,
 use Rattle.linear_rules.proofs.Meeting.{bare_writes, traps_to, traps_on, IsMetAcross, met_across}
 use Rattle.linear_rules.proofs.Simulate.{Arrives, both_continue, both_pay, both_deepen, both_wait, both_finish_by, both_finish, both_finish_raising, first_stuck, goes_alone, Closed, simulates}
 use Rattle.linear_rules.proofs.Turns.{Turns, goes_in, exits_in, jumps_in, unwinds_in, pushes_in, asks_in, tries_on, raised_on, IsTry, is_try, IsExit, turns}
+
+first_same : (i j : Line) (is js : List Line) → i ∷ is ≡ j ∷ js → i ≡ j
+first_same i j is js e = cc
+
+rest_same : (i j : Line) (is js : List Line) → i ∷ is ≡ j ∷ js → is ≡ js
+rest_same i j is js e = cc
+
+-- no value is asked for where a line is no frame point
+calm_at : (c : Place) (m : Lin) (j : Line) (ys : List Line) (b : Locations) (around : Around) → lines.passes_frame j.op ≡ false →
+    ValsHeld c m (record { rest = j ∷ ys; file = b; around = around })
+calm_at c m j ys b around e =
+    record {
+      held = λ k ks same frame l w.
+          absurd (true≢false (sym frame ∙ ap (λ (x : Line). lines.passes_frame x.op) (sym (first_same j k ys ks same)) ∙ e));
+    }
 
 -- ---- what is the same of a line of its own
 
@@ -255,9 +270,9 @@ module _ (c : Place) (number : ℕ → ℕ) (slots : ℕ) (p : Mach) (well : Wel
 
   -- ---- one line with the operands and results of its instruction
 
-  module _ (named : NamedAt) (exact : NamesReached Q named) where
+  module _ where
     abbrev Arrive : List Reg → Step State → Step lines.State → Type 0
-    Arrive = Arrives c p Q named Related
+    Arrive = Arrives c p Q Related
 
     module _ (i : Instr) (next : List Instr) (a : File) (b : Locations) (around : Around) (f : LinOp) (ending : Ending (i ∷ next) p.code) (z : AsLine i.op f)
         (tries : around.tries ≡ tries_at (i ∷ next)) (reached : walks.Reached Q (line_of number f i ∷ L next) around.tries) (typed : Typed number p end a)
@@ -268,43 +283,28 @@ module _ (c : Place) (number : ℕ → ℕ) (slots : ℕ) (p : Mach) (well : Wel
       abbrev ys : List Line
       ys = L next
 
-      abbrev names : List Loc
-      names = named (length ys)
-
       abbrev a' : File
       a' = past_frame (passes_frame i.op) a
 
-      abbrev b' : Locations
-      b' = lines.past_frame (lines.passes_frame f) names b
+      before : (r : Reg) (x : Held) → a' r.number ≡ Some x → a r.number ≡ Some x
+      before r x e = by (passes_frame i.op) e
+        where
+          by : (t : Bool) → past_frame t a r.number ≡ Some x → a r.number ≡ Some x
+          by false e = e
+          by true e = (past_some (a r.number) x e).0
 
-      -- what is live behind, in both, survives a frame point
+      -- what is live behind, in both, holds its value
       across_value : (r : Reg) → IsRegister p r → (x : Held) → LiveAcross p r.number i next → walks.LiveAcross Q (home number r.loc) r.comp j ys around.tries → a' r.number ≡ Some x →
-          b' (home number r.loc) ≡ Some x.value
-      across_value r ri x v w e = by (passes_frame i.op) (lines.passes_frame f) (same_frame z) refl e
-        where
-          by : (s t : Bool) → t ≡ s → lines.passes_frame f ≡ t → past_frame s a r.number ≡ Some x → lines.past_frame t names b (home number r.loc) ≡ Some x.value
-          by false false same frame e = rel r ri x (live_here v) (line_live_here w) e
-          by false true same frame e = absurd (true≢false same)
-          by true false same frame e = absurd (true≢false (sym same))
-          by true true same frame e =
-              let y = past_some (a r.number) x e in
-              let k = typed r ri x y.0 in
-              ap (λ o. cond (is_named (home number r.loc) names) o (unless_pointer o)) (rel r ri x (live_here v) (line_live_here w) y.0)
-              ∙ keeps_value end (is_named (home number r.loc) names) r.comp x.value (sym (ap is_addr k.0) ∙ y.1) k.1
-              (λ is_val. named_of (home number r.loc) names
-              (in_of (home number r.loc) names ((exact.exact j ys around.tries reached frame (home number r.loc)).1 (subst (λ t. walks.LiveAcross Q (home number r.loc) t j ys around.tries) is_val w)))
-              (home_is_place number r (placed r ri)))
+          b (home number r.loc) ≡ Some x.value
+      across_value r ri x v w e = rel r ri x (live_here v) (line_live_here w) (before r x e)
 
-      -- what is named holds a val
-      point_vals : ValsWritten p (at_file (i ∷ next) a around) → lines.passes_frame f ≡ true → are_vals end names b ≡ true
-      point_vals vals t = all_vals end names b (λ l z'. by l (met_across number slots p well full f ending z tries ((exact.exact j ys around.tries reached t l).0 (contains_of z'))) z')
+      -- what is live behind a frame point as val holds a val
+      vals_held : ValsWritten p (at_file (i ∷ next) a around) → ValsHeld c Q (at_lines (j ∷ ys) b around)
+      vals_held vals = record { held = λ k ks same frame l w. first_line k ks same frame l w }
         where
-          by : (l : Loc) → IsMetAcross number slots p well full l comp.Val i next → IsIn l names → is_val end (b l) ≡ true
-          by l m z' = three (a m.reg.number) refl
+          by : lines.passes_frame f ≡ true → (l : Loc) → walks.LiveAcross Q l comp.Val j ys around.tries → IsMetAcross number slots p well full l comp.Val i next → is_val end (b l) ≡ true
+          by t l w m = three (a m.reg.number) refl
             where
-              w : walks.LiveAcross Q l comp.Val j ys around.tries
-              w = (exact.exact j ys around.tries reached t l).0 (contains_of z')
-
               three : (o : Option Held) → a m.reg.number ≡ o → is_val end (b l) ≡ true
               three None e = absurd (vals.written i next refl (sym (same_frame z) ∙ t) m.reg m.is m.type m.live e)
               three (Some x) e =
@@ -312,6 +312,14 @@ module _ (c : Place) (number : ℕ → ℕ) (slots : ℕ) (p : Mach) (well : Wel
                   let w' : walks.LiveAcross Q (home number m.reg.loc) m.reg.comp j ys around.tries =
                   subst (λ k. walks.LiveAcross Q (home number m.reg.loc) k j ys around.tries) (sym m.type) (subst (λ l. walks.LiveAcross Q l comp.Val j ys around.tries) (sym m.place) w) in
                   ap (λ l. is_val end (b l)) (sym m.place) ∙ ap (is_val end) (rel m.reg m.is x (live_here m.live) (line_live_here w') e) ∙ ap (λ k. fits end (type_of_comp k) x.value) (sym m.type) ∙ y.1
+
+          first_line : (k : Line) (ks : List Line) → j ∷ ys ≡ k ∷ ks → lines.passes_frame k.op ≡ true → (l : Loc) → walks.LiveAcross Q l comp.Val k ks around.tries → is_val end (b l) ≡ true
+          first_line k ks same frame l w =
+              let head : j ≡ k = first_same j k ys ks same in
+              let tail : ys ≡ ks = rest_same j k ys ks same in
+              let w' : walks.LiveAcross Q l comp.Val j ys around.tries =
+              subst (λ x. walks.LiveAcross Q l comp.Val x ys around.tries) (sym head) (subst (λ xs. walks.LiveAcross Q l comp.Val k xs around.tries) (sym tail) w) in
+              by (ap (λ (x : Line). lines.passes_frame x.op) head ∙ frame) l w' (met_across number slots p well full f ending z tries w')
 
       args_read : (vs : List Value) → values a i.args ≡ Some vs → lines.values end b j.args ≡ Some vs
       args_read vs e =
@@ -358,9 +366,9 @@ module _ (c : Place) (number : ℕ → ℕ) (slots : ℕ) (p : Mach) (well : Wel
       goes_on : (vs : List Value) (to : Target) (after : Around) (d : File) → PutAll end (clear (killed p i) a') i.results vs d → OneOf to (targets i.op) → after.tries ≡ tries_on i.op around.tries →
           after.raised ≡ None → Copied vs →
           Arrive (written p i) (Continues (at_file (code_at p.code next to) d after))
-          (lines.wrote (lines.code_at Q.code ys to) after (lines.put_all end j.results vs (lines.clear (lines.destroyed_by f) b')))
+          (lines.wrote (lines.code_at Q.code ys to) after (lines.put_all end j.results vs (lines.clear (lines.destroyed_by f) b)))
       goes_on vs to after d puts o left none copied =
-          let y = puts_at number p end well.numbers placed (lines.clear (lines.destroyed_by f) b') puts (results_are ending) in
+          let y = puts_at number p end well.numbers placed (lines.clear (lines.destroyed_by f) b) puts (results_are ending) in
           let t : after.tries ≡ walks.tries_after f around.tries = left ∙ same_tries around.tries z in
           let t' : walks.tries_after f around.tries ≡ tries_at (code_at p.code next to) = ap (walks.tries_after f) tries ∙ traps_to number slots p well full f ending z to o in
           subst (λ o. Arrive (written p i) (Continues (at_file (code_at p.code next to) d after)) (lines.wrote (lines.code_at Q.code ys to) after o)) (sym y.puts)
@@ -400,7 +408,7 @@ module _ (c : Place) (number : ℕ → ℕ) (slots : ℕ) (p : Mach) (well : Wel
 
           kept : (k : Reg) → IsRegister p k → (x : Held) → Live p k.number (code_at p.code next to) → walks.Live Q (home number k.loc) k.comp (lines.code_at Q.code ys to) (walks.tries_after f around.tries) →
               (Among k.number i.results → ⊥) → ((r : Reg) → IsIn r i.results → home number r.loc ≡ home number k.loc → ⊥) →
-              clear (killed p i) a' k.number ≡ Some x → lines.clear (lines.destroyed_by f) b' (home number k.loc) ≡ Some x.value
+              clear (killed p i) a' k.number ≡ Some x → lines.clear (lines.destroyed_by f) b (home number k.loc) ≡ Some x.value
           kept k ki x v u free nowhere e = by (is_destroyed (lines.destroyed_by f) (home number k.loc)) refl
             where
               old : (a' k.number ≡ Some x) × (Among k.number (killed p i) → ⊥)
@@ -417,7 +425,7 @@ module _ (c : Place) (number : ℕ → ℕ) (slots : ℕ) (p : Mach) (well : Wel
                   back (in_slot e) s =
                       let y = machine_of (destroyed_by i.op) (home number k.loc) s in absurd (not_slot y.0 (number k.origin) (sym y.1 ∙ ap (home number) e))
 
-              by : (t : Bool) → is_destroyed (lines.destroyed_by f) (home number k.loc) ≡ t → cond t None (b' (home number k.loc)) ≡ Some x.value
+              by : (t : Bool) → is_destroyed (lines.destroyed_by f) (home number k.loc) ≡ t → cond t None (b (home number k.loc)) ≡ Some x.value
               by true t = absurd (colour_free to o k ki v old.1 nowhere (at_colour t))
               by false t =
                   across_value k ki x (across_step unwritten (goes to o) v)
@@ -446,14 +454,14 @@ module _ (c : Place) (number : ℕ → ℕ) (slots : ℕ) (p : Mach) (well : Wel
 
       -- into a handler
       caught : (h : ℕ) (after : Around) → may_raise i.op ≡ true → around.tries ≡ h ∷ after.tries →
-          Related (at_file (landing_code p.code (i ∷ next) AtHandler) a' after) (at_lines (lines.landing_code Q.code around.tries AtHandler) b' after)
+          Related (at_file (landing_code p.code (i ∷ next) AtHandler) a' after) (at_lines (lines.landing_code Q.code around.tries AtHandler) b after)
       caught h after r e =
           let u : tries_at (i ∷ next) ≡ h ∷ after.tries = sym tries ∙ e in
-          subst (λ ts. Related (at_file (at_handler p.code ts) a' after) (at_lines (lines.at_handler Q.code around.tries) b' after)) (sym u)
-          (subst (λ ts. Related (at_file (from_handler h p.code) a' after) (at_lines (lines.at_handler Q.code ts) b' after)) (sym e)
+          subst (λ ts. Related (at_file (at_handler p.code ts) a' after) (at_lines (lines.at_handler Q.code around.tries) b after)) (sym u)
+          (subst (λ ts. Related (at_file (from_handler h p.code) a' after) (at_lines (lines.at_handler Q.code ts) b after)) (sym e)
           (by u (entry_of number h p.code (handler_of number slots p well (i ∷ next) ending u) well.labels_once)))
         where
-          by : tries_at (i ∷ next) ≡ h ∷ after.tries → EntryOf number h p.code → Related (at_file (from_handler h p.code) a' after) (at_lines (lines.after_label h Q.code) b' after)
+          by : tries_at (i ∷ next) ≡ h ∷ after.tries → EntryOf number h p.code → Related (at_file (from_handler h p.code) a' after) (at_lines (lines.after_label h Q.code) b after)
           by u y =
               related (ending_from_handler h p.code)
               (subst (λ rest. AtLines rest (lines.after_label h Q.code)) (sym y.found) (entering y.is y.lines))
@@ -478,7 +486,7 @@ module _ (c : Place) (number : ℕ → ℕ) (slots : ℕ) (p : Mach) (well : Wel
       try_destroys : (g : MachOp) (l : ℕ) (k : Loc) → IsTry g l → is_destroyed (destroyed_by g) k ≡ false
       try_destroys g l k is_try = refl
 
-      pushed : (l : ℕ) (after : Around) → IsTry i.op l → after.tries ≡ l ∷ around.tries → after.raised ≡ around.raised → Related (at_file next a' after) (at_lines ys b' after)
+      pushed : (l : ℕ) (after : Around) → IsTry i.op l → after.tries ≡ l ∷ around.tries → after.raised ≡ around.raised → Related (at_file next a' after) (at_lines ys b after)
       pushed l after t e same =
           let o = try_on i.op l t in
           let o' = subst (OneOf On) (sym (same_targets z)) o in
@@ -502,11 +510,11 @@ module _ (c : Place) (number : ℕ → ℕ) (slots : ℕ) (p : Mach) (well : Wel
       no_exit try_line x = elim x [ ]
       no_exit handler_line x = elim x [ ]
 
-      acts : (x : Act) → Turns i.op around.tries around.raised x → CopiedAct x → Arrive (written p i) (on_act c p i next a' around x) (lines.on_act c Q j ys b' around x)
+      acts : (x : Act) → Turns i.op around.tries around.raised x → CopiedAct x → Arrive (written p i) (on_act c p i next a' around x) (lines.on_act c Q j ys b around x)
       acts (Goes vs to after) (goes_in o left raised) copied = by (put_all end i.results vs (clear (killed p i) a')) refl
         where
           by : (r : Option File) → put_all end i.results vs (clear (killed p i) a') ≡ r →
-              Arrive (written p i) (wrote (code_at p.code next to) after r) (lines.wrote (lines.code_at Q.code ys to) after (lines.put_all end j.results vs (lines.clear (lines.destroyed_by f) b')))
+              Arrive (written p i) (wrote (code_at p.code next to) after r) (lines.wrote (lines.code_at Q.code ys to) after (lines.put_all end j.results vs (lines.clear (lines.destroyed_by f) b)))
           by None e = first_stuck
           by (Some d) e =
               goes_on vs to after d (put_of end i.results vs (clear (killed p i) a') d e) o left (raised ∙ none_raised around.raised z calm)
@@ -536,23 +544,15 @@ module _ (c : Place) (number : ℕ → ℕ) (slots : ℕ) (p : Mach) (well : Wel
               two : (ws vs : List Value) → Some ws ≡ Some vs → ws ≡ vs
               two ws vs e = cc
 
-      one_step : ValsWritten p (at_file (i ∷ next) a around) → Arrive (written p i) (on_values c p i next a around (values a i.args)) (lines.on_values c names Q j ys b around (lines.values end b j.args))
-      one_step vals = by (values a i.args) refl
+      one_step : Arrive (written p i) (on_values c p i next a around (values a i.args)) (kept.on_values c Q j ys b around (lines.values end b j.args))
+      one_step = by (values a i.args) refl
         where
-          points : not (lines.passes_frame f) || are_vals end names b ≡ true
-          points = two (lines.passes_frame f) refl
-            where
-              two : (t : Bool) → lines.passes_frame f ≡ t → not t || are_vals end names b ≡ true
-              two true t = point_vals vals t
-              two false t = refl
-
-          by : (o : Option (List Value)) → values a i.args ≡ o → Arrive (written p i) (on_values c p i next a around o) (lines.on_values c names Q j ys b around (lines.values end b j.args))
+          by : (o : Option (List Value)) → values a i.args ≡ o → Arrive (written p i) (on_values c p i next a around o) (kept.on_values c Q j ys b around (lines.values end b j.args))
           by None e = first_stuck
           by (Some vs) e =
-              subst (λ o. Arrive (written p i) (on_act c p i next a' around (mach_act c.setting i.op vs around)) (lines.on_values c names Q j ys b around o)) (sym (args_read vs e))
-              (subst (λ t. Arrive (written p i) (on_act c p i next a' around (mach_act c.setting i.op vs around)) (unless_misnamed t (lines.on_act c Q j ys b' around (lines.lin_act c.setting f vs around)))) (sym points)
-              (subst (λ x. Arrive (written p i) (on_act c p i next a' around (mach_act c.setting i.op vs around)) (lines.on_act c Q j ys b' around x)) (same_act c.setting vs around z)
-              (acts (mach_act c.setting i.op vs around) (turns c.setting i.op vs around) (copied_act vs e))))
+              subst (λ o. Arrive (written p i) (on_act c p i next a' around (mach_act c.setting i.op vs around)) (kept.on_values c Q j ys b around o)) (sym (args_read vs e))
+              (subst (λ x. Arrive (written p i) (on_act c p i next a' around (mach_act c.setting i.op vs around)) (lines.on_act c Q j ys b around x)) (same_act c.setting vs around z)
+              (acts (mach_act c.setting i.op vs around) (turns c.setting i.op vs around) (copied_act vs e)))
 
     -- ---- structures
 
@@ -563,7 +563,7 @@ module _ (c : Place) (number : ℕ → ℕ) (slots : ℕ) (p : Mach) (well : Wel
         Arrive ws x (Continues (at_lines xs b (record around { tries = drop_tries n around.tries }))) → Arrive ws x (Continues (at_lines (pops number n xs) b around))
     pops_run zero xs b around r = r
     pops_run {ws} {x} (suc n) xs b around r =
-        goes_alone
+        goes_alone (calm_at c Q (bare number flow.PopTrap) (pops number n xs) b around refl)
         (pops_run n xs b (record around { tries = drop_tries 1 around.tries })
         (subst (λ ts. Arrive ws x (Continues (at_lines xs b (record around { tries = ts })))) (drop_more n around.tries) r))
 
@@ -622,7 +622,7 @@ module _ (c : Place) (number : ℕ → ℕ) (slots : ℕ) (p : Mach) (well : Wel
       jumps : (m k : ℕ) → OneOf (At m) (targets g) → tries_left g around.tries ≡ around.tries → L (bare_instr g ∷ next) ≡ bare number (flow.Jump m) ∷ bare number (flow.Label k) ∷ L next →
           Arrive (written p (bare_instr g)) (Continues (at_file (after_label m p.code) a around)) (Continues (at_lines (bare number (flow.Jump m) ∷ bare number (flow.Label k) ∷ L next) b around))
       jumps m k o same shape =
-          goes_alone
+          goes_alone (calm_at c Q (bare number (flow.Jump m)) (bare number (flow.Label k) ∷ L next) b around refl)
           (subst (λ ys. Arrive (written p (bare_instr g)) (Continues (at_file (after_label m p.code) a around)) (Continues (at_lines ys b around))) (sym (found m o))
           (both_continue (λ agree. bare_goes (At m) around.tries o (sym (label_tries m o ∙ same))
           (jump_reached m o (bare number (flow.Label k) ∷ L next) around.tries (subst (λ ys. walks.Reached Q ys around.tries) shape reached))
@@ -646,14 +646,14 @@ module _ (c : Place) (number : ℕ → ℕ) (slots : ℕ) (p : Mach) (well : Wel
 
     end_step : (k : ℕ) → Owes (bare_instr (mach.Mark (mark.End k)))
     end_step k next a b around ending tries reached typed rel calm vals =
-        goes_alone
+        goes_alone (calm_at c Q (bare number (flow.Label k)) (L next) b around refl)
         (both_continue (λ agree. bare_goes (mach.Mark (mark.End k)) refl next a b around ending tries reached typed rel calm On around.tries this tries (walks.by_step reached (walks.goes On this))
         (λ l t v. walks.on (none_written l) (walks.goes On this) v)))
 
     leave_step : (k m : ℕ) → Owes (bare_instr (mach.Mark (mark.Leave k m)))
     leave_step k m next a b around ending tries reached typed rel calm vals =
-        goes_alone
-        (goes_alone
+        goes_alone (calm_at c Q (bare number flow.PopTrap) (bare number (flow.Jump m) ∷ L next) b around refl)
+        (goes_alone (calm_at c Q (bare number (flow.Jump m)) (L next) b (record around { tries = drop_tries 1 around.tries }) refl)
         (subst (λ ys. Arrive (written p (bare_instr (mach.Mark (mark.Leave k m)))) (Continues (at_file (after_label m p.code) a (record around { tries = drop_tries 1 around.tries })))
         (Continues (at_lines ys b (record around { tries = drop_tries 1 around.tries })))) (sym (found (mach.Mark (mark.Leave k m)) refl next a b around ending tries reached typed rel calm m this))
         (both_continue (λ agree. bare_goes (mach.Mark (mark.Leave k m)) refl next a b around ending tries reached typed rel calm (At m) (drop_tries 1 around.tries) this
@@ -665,7 +665,7 @@ module _ (c : Place) (number : ℕ → ℕ) (slots : ℕ) (p : Mach) (well : Wel
     exit_step : (k n : ℕ) → Owes (bare_instr (mach.Mark (mark.Exit k n)))
     exit_step k n next a b around ending tries reached typed rel calm vals =
         pops_run n (bare number (flow.Exit k) ∷ L next) b around
-        (goes_alone
+        (goes_alone (calm_at c Q (bare number (flow.Exit k)) (L next) b (record around { tries = drop_tries n around.tries }) refl)
         (subst (λ ys. Arrive (written p (bare_instr (mach.Mark (mark.Exit k n)))) (Pays (at_file (after_label k p.code) a (record around { tries = drop_tries n around.tries })))
         (Pays (at_lines ys b (record around { tries = drop_tries n around.tries })))) (sym (found (mach.Mark (mark.Exit k n)) refl next a b around ending tries reached typed rel calm k this))
         (both_pay (λ agree. bare_goes (mach.Mark (mark.Exit k n)) refl next a b around ending tries reached typed rel calm (At k) (drop_tries n around.tries) this
@@ -691,16 +691,19 @@ module _ (c : Place) (number : ℕ → ℕ) (slots : ℕ) (p : Mach) (well : Wel
     line_step g f z args results shape next a b around ending tries reached typed rel calm vals =
         subst (λ ys. Arrive (written p (instr g args results)) (step c p (at_file (instr g args results ∷ next) a around)) (Continues (at_lines ys b around))) (sym (shape next))
         (goes_alone
+        (vals_held (instr g args results) next a b around f ending z tries (subst (λ ys. walks.Reached Q ys around.tries) (shape next) reached) typed
+        (subst (λ ys. Rel (instr g args results ∷ next) ys a b around.tries) (shape next) rel) calm vals)
         (one_step (instr g args results) next a b around f ending z tries (subst (λ ys. walks.Reached Q ys around.tries) (shape next) reached) typed
-        (subst (λ ys. Rel (instr g args results ∷ next) ys a b around.tries) (shape next) rel) calm vals))
+        (subst (λ ys. Rel (instr g args results ∷ next) ys a b around.tries) (shape next) rel) calm))
 
     -- past the label of a handler
     handler_step : (l : ℕ) (args results : List Reg) → Owes (instr (mach.Mark (mark.Handler l)) args results)
     handler_step l args results next a b around ending tries reached typed rel calm vals =
-        goes_alone
-        (goes_alone
-        (one_step (instr (mach.Mark (mark.Handler l)) args results) next a b around (lin.Flow flow.EnterTrap) ending handler_line tries (walks.by_step reached (walks.goes On this)) typed
-        (λ r ri x v u e. rel r ri x v (walks.on (none_written (home number r.loc)) (walks.goes On this) u) e) calm vals))
+        let i : Instr = instr (mach.Mark (mark.Handler l)) args results in
+        goes_alone (calm_at c Q (bare number (flow.Label l)) (line_of number (lin.Flow flow.EnterTrap) i ∷ L next) b around refl)
+        (goes_alone (calm_at c Q (line_of number (lin.Flow flow.EnterTrap) i) (L next) b around refl)
+        (one_step i next a b around (lin.Flow flow.EnterTrap) ending handler_line tries (walks.by_step reached (walks.goes On this)) typed
+        (λ r ri x v u e. rel r ri x v (walks.on (none_written (home number r.loc)) (walks.goes On this) u) e) calm))
 
     any_step : (g : MachOp) (args results : List Reg) → is_idle g args results ≡ false → Owes (instr g args results)
     any_step (mach.Op f) args results alone =
@@ -762,7 +765,7 @@ module _ (c : Place) (number : ℕ → ℕ) (slots : ℕ) (p : Mach) (well : Wel
         by None s = first_stuck
         by (Some h) s = moves_on h s (fits end (type_of_comp d.comp) h.value) refl
 
-    closed : Closed c p Q named Related
+    closed : Closed c p Q Related
     closed = record { around = around_same; next = λ s t r vals. next_same s t r vals }
       where
         around_same : (s : State) (t : lines.State) → Related s t → s.around ≡ t.around
@@ -786,7 +789,8 @@ module _ (c : Place) (number : ℕ → ℕ) (slots : ℕ) (p : Mach) (well : Wel
             (is_handler i.op ≡ false → around.raised ≡ None) → ValsWritten p (at_file (i ∷ next) a around) →
             Arrive (written p i) (step c p (at_file (i ∷ next) a around)) (Continues (at_lines (line_of number (lin.Flow flow.EnterTrap) i ∷ L next) b around))
         entered_at i next a b around is e tries reached typed rel calm vals =
-            goes_alone (one_step i next a b around (lin.Flow flow.EnterTrap) e (subst (λ f. AsLine f (lin.Flow flow.EnterTrap)) (sym is) handler_line) tries reached typed rel calm vals)
+            goes_alone (calm_at c Q (line_of number (lin.Flow flow.EnterTrap) i) (L next) b around refl)
+            (one_step i next a b around (lin.Flow flow.EnterTrap) e (subst (λ f. AsLine f (lin.Flow flow.EnterTrap)) (sym is) handler_line) tries reached typed rel calm)
 
         at_end : (around : Around) (a : File) (t : lines.State) → Arrive [] (step c p (at_file [] a around)) (Continues t)
         at_end around a t = first_stuck
@@ -831,7 +835,7 @@ module _ (c : Place) (number : ℕ → ℕ) (slots : ℕ) (p : Mach) (well : Wel
         let own_k : h.reg.origin ≡ h.reg.number = all_in (λ (r : Reg). r.origin ≡ r.number) well.params h.inside in
         differ_of r.number k.number ne (sym own ∙ y.0 ∙ ap (λ (k : Reg). k.origin) (sym is_k) ∙ own_k ∙ h.same)
 
-    pub begins : (arguments : List Value) (memory : Memory) (doings : List Doing) (s : State) → start c p arguments memory ≡ Some s → Begins c p Q named arguments memory doings s
+    pub begins : (arguments : List Value) (memory : Memory) (doings : List Doing) (s : State) → start c p arguments memory ≡ Some s → Begins c p Q arguments memory doings s
     begins arguments memory doings s is = by (put_all end p.params arguments (λ n. None)) refl is
       where
         no_state : (s : State) → None ≡ Some s → ⊥
@@ -840,7 +844,7 @@ module _ (c : Place) (number : ℕ → ℕ) (slots : ℕ) (p : Mach) (well : Wel
         same_state : (x y : State) → Some x ≡ Some y → x ≡ y
         same_state x y e = cc
 
-        by : (o : Option File) → put_all end p.params arguments (λ n. None) ≡ o → begun p memory o ≡ Some s → Begins c p Q named arguments memory doings s
+        by : (o : Option File) → put_all end p.params arguments (λ n. None) ≡ o → begun p memory o ≡ Some s → Begins c p Q arguments memory doings s
         by None e g = absurd (no_state s g)
         by (Some a) e g =
             let puts = put_of end p.params arguments (λ n. None) a e in
@@ -850,13 +854,13 @@ module _ (c : Place) (number : ℕ → ℕ) (slots : ℕ) (p : Mach) (well : Wel
             (λ k ki x v w e. y.at k ki x e
             (λ r v' pair ne same. absurd (params_apart r k (pair_in pair) ki (begun_with puts k.number x e) v ne same)) (λ free nowhere e. absurd (held_none x e)))
             (λ w. refl) in
-            subst (Begins c p Q named arguments memory doings) (same_state (at_file p.code a (entered memory)) s g)
+            subst (Begins c p Q arguments memory doings) (same_state (at_file p.code a (entered memory)) s g)
             (record {
               state = at_lines Q.code y.file (entered memory);
               begins = ap (lines.begun Q memory) y.puts;
               follows = λ n proper.
                   record {
-                    no_less = simulates c p Q named Related closed Ahead ahead_of n (at_file p.code a (entered memory)) (at_lines Q.code y.file (entered memory)) (first_tally c doings) r proper;
-                    no_more = simulates c p Q named Related closed Trails trails_of n (at_file p.code a (entered memory)) (at_lines Q.code y.file (entered memory)) (first_tally c doings) r proper;
+                    no_less = simulates c p Q Related closed Ahead ahead_of n (at_file p.code a (entered memory)) (at_lines Q.code y.file (entered memory)) (first_tally c doings) r proper;
+                    no_more = simulates c p Q Related closed Trails trails_of n (at_file p.code a (entered memory)) (at_lines Q.code y.file (entered memory)) (first_tally c doings) r proper;
                   };
             })

@@ -10,4 +10,5 @@ pub mod Simulate
 pub mod Does
 pub mod Lines
 pub mod Walked
+pub mod Moves
 pub mod Lowering

@@ -1,5 +1,6 @@
 -- What holds of the lowered function: the laws of linearisation.
 use Rattle.std.proofs.Common.{◌≡◌, ◌≢◌, ℕ, ◌+◌, ◌*◌, ◌<◌, ◌≤◌, true, List, [], ◌∷◌, map, length, All, refl, sym, ap, ◌∙◌, subst}
+use Rattle.std.specs.List.{Contains}
 use Rattle.bs_words.specs.declared.types.Comp.TheVariants as comp
 use Rattle.bs_words.specs.declared.types.Loc.{Loc}
 use Rattle.bs_words.specs.declared.types.Loc.TheVariants as loc
@@ -13,22 +14,24 @@ use Rattle.mach_ir.specs.Walks.{IsRegister, is_param, is_colour, is_in_code}
 use Rattle.mach_ir.specs.Walks as mach_walks
 use Rattle.mach_ir.specs.declared.reg.Reg.{Reg}
 use Rattle.mach_ir.specs.declared.mach.Mach.{Mach}
-use Rattle.lin_ir.specs.Descriptors.{NamesLives, NoAddrLive}
+use Rattle.lin_ir.specs.Descriptors.{NoAddrLive}
 use Rattle.lin_ir.specs.Formed as formed
-use Rattle.lin_ir.specs.Formed.{IsHome, GoesForward, labels_in}
-use Rattle.lin_ir.specs.Keeps.{Keeps, Does}
-use Rattle.lin_ir.specs.Meaning.{NamedAt, passes_frame}
+use Rattle.lin_ir.specs.Formed.{IsHome, IsSelfMove, GoesForward, labels_in}
+use Rattle.lin_ir.specs.Meaning.{passes_frame}
 use Rattle.lin_ir.specs.Walks.{Stands, Traps, by_walk, unreached, Reached, LiveAcross, OneDepth}
 use Rattle.lin_ir.specs.declared.lin.Line.{Line}
 use Rattle.lin_ir.specs.declared.lin.Lin.{Lin}
-use Rattle.linear_rules.specs.Keeps.{NamesReached, NoAddrReached, KeepsReached, ExitsWithin}
+use Rattle.lin_ir.specs.declared.lin.Spot.{Spot}
+use Rattle.linear_rules.specs.Keeps.{NoAddrReached, OneTraps, KeepsReached, ExitsWithin}
+use Rattle.linear_rules.specs.Kept.{Does}
 use Rattle.linear_rules.specs.Lowered.{home, is_among, slots_of, slot_number, slot_count, lowered}
 use Rattle.linear_rules.specs.Sizes.{tries_ended}
 use Rattle.linear_rules.proofs.Homes.{IsIn, is_first, is_later, in_of}
 use Rattle.linear_rules.proofs.Slots.{slot_occurs_in_code, slot_occurs_in_params, numbers_apart, numbers_below, slots_few}
 use Rattle.linear_rules.proofs.Lines.{source, params_seated, source_operands, source_results, named_from, labels_same, lines_few}
 use Rattle.linear_rules.proofs.Does.{begins}
-use Rattle.linear_rules.proofs.Walked.{goes_forward, one_depth, no_addr, names_reached, well_formed}
+use Rattle.linear_rules.proofs.Moves.{changes}
+use Rattle.linear_rules.proofs.Walked.{goes_forward, one_depth, one_traps, no_addr, homes_lines, well_formed}
 
 slot_same : (m n : ℕ) → loc.Slot m ≡ loc.Slot n → m ≡ n
 slot_same m n e = cc
@@ -76,10 +79,10 @@ module _ (p : Mach) (well : WellFormed p) (full : FullyPlaced p) where
       by (in_colour n c e) = subst (λ l. IsHome (lowered p) (home (slot_number p) l)) (sym e) (formed.is_colour c)
       by (in_slot e) = subst (λ l. IsHome (lowered p) (home (slot_number p) l)) (sym e) (formed.is_slot (numbers_below p r.origin (slot_occurs r.origin r ri e)))
 
-  -- The lowered function does what the Mach function does, wherever that is not stuck, and so reads no poison.
-  pub lowered_does : (named : NamedAt) → NamesReached (lowered p) named → Does p (lowered p) named
-  lowered_does named exact c arguments memory doings s e =
-      begins c (slot_number p) (slot_count p) p well full homes_apart named exact arguments memory doings s e
+  -- The lowered function does what the Mach function does, wherever that is not stuck.
+  pub lowered_does : Does p (lowered p)
+  lowered_does c arguments memory doings s e =
+      begins c (slot_number p) (slot_count p) p well full homes_apart arguments memory doings s e
 
   -- It keeps the Mach function where walks come.
   pub lowered_keeps_reached : KeepsReached p (lowered p)
@@ -93,33 +96,27 @@ module _ (p : Mach) (well : WellFormed p) (full : FullyPlaced p) where
         addrs = no_addr (slot_number p) (slot_count p) p well full;
       }
 
-  -- names that are exact everywhere serve
-  pub lowered_names : (named : NamedAt) → NamesLives (lowered p) named → ((n : ℕ) → All (λ l. l ≢ loc.Unset) (named n)) → NamesReached (lowered p) named
-  lowered_names named exact fixed = names_reached (slot_number p) (slot_count p) p well full named exact fixed
-
-  -- With names that are exact, and where no addr is live after any frame point, it keeps the Mach function.
-  pub lowered_keeps : (named : NamedAt) → NamesLives (lowered p) named → ((n : ℕ) → All (λ l. l ≢ loc.Unset) (named n)) → (mach_walks.NoAddrLive p → NoAddrLive (lowered p)) → Keeps p (lowered p) named
-  lowered_keeps named exact fixed addrs =
-      record {
-        name = refl;
-        result = refl;
-        does = lowered_does named (lowered_names named exact fixed);
-        symbols = lowered_keeps_reached.symbols;
-        externals = lowered_keeps_reached.externals;
-        addrs = addrs;
-      }
-
   pub lowered_no_addr : mach_walks.NoAddrLive p → NoAddrReached (lowered p)
   lowered_no_addr h = no_addr (slot_number p) (slot_count p) p well full h
 
   pub lowered_well_formed : ExitsWithin p → formed.WellFormed (lowered p)
   lowered_well_formed x = well_formed (slot_number p) (slot_count p) p well full homes x
 
+  pub lowered_homes : All (λ (j : Line). All (λ (s : Spot). IsHome (lowered p) s.loc) j.args × All (λ (s : Spot). IsHome (lowered p) s.loc) j.results) (lowered p).code
+  lowered_homes = homes_lines (slot_number p) (slot_count p) p well full homes
+
+  -- a move of a location to itself changes the component
+  pub lowered_changes : (j : Line) → Contains (lowered p).code j → (from to : Spot) → IsSelfMove j from to → from.comp ≢ to.comp
+  lowered_changes j c from to z e = changes (slot_number p) p.code (λ r k ri ki same. homes_apart r k (is_in_code ri) (is_in_code ki) same) (λ r ri. full.places r (is_in_code ri)) j (in_of j (lowered p).code c) from to z e
+
   pub lowered_forward : GoesForward (lowered p)
   lowered_forward = goes_forward (slot_number p) (slot_count p) p well full
 
   pub lowered_depth : ExitsWithin p → OneDepth (lowered p)
   lowered_depth x = one_depth (slot_number p) (slot_count p) p well full x
+
+  pub lowered_traps : OneTraps (lowered p)
+  lowered_traps = one_traps (slot_number p) (slot_count p) p well full
 
   pub lowered_seated : seats.Seated p → formed.Seated (lowered p)
   lowered_seated h =

@@ -1,17 +1,18 @@
 -- A relation between states of a Mach function and of a Linear one that each step of the first keeps.
-use Rattle.std.proofs.Common.{◌≡◌, ℕ, zero, suc, ◌<◌, List, [], ◌∷◌, refl, arith}
+use Rattle.std.proofs.Common.{◌≡◌, ℕ, zero, suc, ◌<◌, List, [], ◌∷◌, refl, subst, arith}
 use Rattle.cmm_meaning.specs.State.{Doing, Asked}
 use Rattle.bs_words.specs.declared.types.Ret.{Ret}
 use Rattle.mach_ir.specs.Acts.{Around}
-use Rattle.mach_ir.specs.Runs.{Place, Step, Continues, Pays, Deepens, Waits, FinishesBy, Finishes, FinishesRaising, IsStuck, Tally, Run, Running, Ended, Wrong, paid, came_back, kept_of, handed, onward}
+use Rattle.mach_ir.specs.Runs.{Place, Step, Continues, Pays, Deepens, Waits, FinishesBy, Finishes, FinishesRaising, IsStuck, Tally, Run, Running, Asking, Ended, Wrong, paid, came_back, kept_of, handed, onward}
 use Rattle.mach_ir.specs.Meaning as mach
 use Rattle.mach_ir.specs.Keeps.{ValsWritten, OriginsAgree, wrote_at, just_written, Proper, Alike, both_running, both_asking, both_ended}
 use Rattle.mach_ir.specs.declared.reg.Reg.{Reg}
 use Rattle.mach_ir.specs.declared.mach.Mach.{Mach}
 use Rattle.mach_laws.proofs.Simulate.{Agrees}
-use Rattle.lin_ir.specs.Meaning.{NamedAt, State, step, run}
-use Rattle.lin_ir.specs.Keeps.{SuitRound, Comes}
+use Rattle.lin_ir.specs.Meaning.{State}
+use Rattle.lin_ir.specs.Keeps.{SuitRound}
 use Rattle.lin_ir.specs.declared.lin.Lin.{Lin}
+use Rattle.linear_rules.specs.Kept.{step, run, ValsHeld, Comes}
 
 -- ---- runs of the Mach function that are nowhere stuck, step by step
 
@@ -24,7 +25,31 @@ record FineFrom (m : Mach) (n : ℕ) (ws : List Reg) (at : ℕ → Run mach.Stat
   first : (v : mach.State) (z : Tally) → at 0 ≡ Running v z → Agrees m ws v
   fine : Fine m n at
 
-module _ (c : Place) (p : Mach) (q : Lin) (named : NamedAt) (R : mach.State → State → Type 0) where
+none_below : {A : Type 0} (k : ℕ) → k < 0 → A
+none_below k le = absurd (omega (arith, le))
+
+running_same : (u v : State) (y z : Tally) → Running u y ≡ Running v z → u ≡ v
+running_same u v y z e = cc
+
+abbrev IsRun : Run State → Run State → Type 0
+IsRun a b = a ≡ b
+
+asking_wrong : (call : Asked) (t : Tally) → IsRun (Asking call t) Wrong → ⊥
+asking_wrong call t e = cc
+
+ended_wrong : (d : Doing) (t : Tally) → IsRun (Ended d t) Wrong → ⊥
+ended_wrong d t e = cc
+
+running_wrong : (s : State) (t : Tally) → Running s t ≡ Wrong → ⊥
+running_wrong s t e = cc
+
+-- a run that reports what another does is nowhere stuck
+alike_goes : {S : Type 0} {Suit : S → State → Type 0} {a : Run S} {b : Run State} → Alike Suit a b → b ≡ Wrong → ⊥
+alike_goes (both_running {u = u} {t = t} e) q = running_wrong u t q
+alike_goes (both_asking {call = call} {t = t}) q = asking_wrong call t q
+alike_goes (both_ended {doing = d} {t = t}) q = ended_wrong d t q
+
+module _ (c : Place) (p : Mach) (q : Lin) (R : mach.State → State → Type 0) where
   -- What the Linear function comes to, where the Mach function does this step by an instruction that writes these
   -- registers. The Linear function may go on alone.
   pub data Arrives (ws : List Reg) : Step mach.State → Step State → Type 0 where
@@ -37,7 +62,7 @@ module _ (c : Place) (p : Mach) (q : Lin) (named : NamedAt) (R : mach.State → 
     both_finish : {d : Doing} → Arrives ws (Finishes d) (Finishes d)
     both_finish_raising : {d : Doing} → Arrives ws (FinishesRaising d) (FinishesRaising d)
     first_stuck : {w : Step State} → Arrives ws IsStuck w
-    goes_alone : {x : Step mach.State} {t : State} → Arrives ws x (step c named q t) → Arrives ws x (Continues t)
+    goes_alone : {x : Step mach.State} {t : State} → ValsHeld c q t → Arrives ws x (step c q t) → Arrives ws x (Continues t)
 
   pub record Closed : Type 0 where
     pub around : (s : mach.State) (t : State) → R s t → s.around ≡ t.around
@@ -46,17 +71,18 @@ module _ (c : Place) (p : Mach) (q : Lin) (named : NamedAt) (R : mach.State → 
   record Tells (Suit : Around → Around → Type 0) (r : Run mach.State) (at : ℕ → Run State) : Type 0 where
     count : ℕ
     alike : Alike (SuitRound Suit) r (at count)
+    vals : (k : ℕ) → k < count → (u : State) (z : Tally) → at k ≡ Running u z → ValsHeld c q u
 
   module _ (closed : Closed) (Suit : Around → Around → Type 0) (suits : (x y : Around) → x ≡ y → Suit x y) where
     abbrev Whole : ℕ → Type 0
     Whole n = (s : mach.State) (t : State) (y : Tally) → R s t → Fine p n (λ k. mach.run c p k s y) → (mach.run c p n s y ≡ Wrong → ⊥) →
-        Tells Suit (mach.run c p n s y) (λ k. run c named q k t y)
+        Tells Suit (mach.run c p n s y) (λ k. run c q k t y)
 
     abbrev From : Step mach.State → Tally → ℕ → Run mach.State
     From x y = λ k. onward (mach.run c p k) x y
 
     abbrev Onto : Step State → Tally → ℕ → Run State
-    Onto w y = λ k. onward (run c named q k) w y
+    Onto w y = λ k. onward (run c q k) w y
 
     abbrev Answered : ℕ → List Reg → Step mach.State → Step State → Type 0
     Answered n ws x w =
@@ -65,18 +91,22 @@ module _ (c : Place) (p : Mach) (q : Lin) (named : NamedAt) (R : mach.State → 
     handed_told : (n : ℕ) (ws : List Reg) (call : Asked) (next : Doing → Step mach.State) (go : Doing → Step State) → ((d : Doing) → Answered n ws (next d) (go d)) → (ds : List Doing) (y : Tally) →
         FineFrom p n ws (λ k. handed (λ d y. onward (mach.run c p k) (next d) y) call ds y) →
         (handed (λ d y. onward (mach.run c p n) (next d) y) call ds y ≡ Wrong → ⊥) →
-        Tells Suit (handed (λ d y. onward (mach.run c p n) (next d) y) call ds y) (λ k. handed (λ d y. onward (run c named q k) (go d) y) call ds y)
-    handed_told n ws call next go told [] y fine goes = record { count = 0; alike = both_asking }
+        Tells Suit (handed (λ d y. onward (mach.run c p n) (next d) y) call ds y) (λ k. handed (λ d y. onward (run c q k) (go d) y) call ds y)
+    handed_told n ws call next go told [] y fine goes = record { count = 0; alike = both_asking; vals = λ k le. none_below k le }
     handed_told n ws call next go told (d ∷ ds) y fine goes = told d (came_back call ds y) fine goes
 
     finished_told : (call : Asked) (left : Doing → Doing) (ds : List Doing) (y : Tally) →
         Tells Suit (handed (λ d y. Ended (left d) y) call ds y) (λ k. handed (λ d y. Ended (left d) y) call ds y)
-    finished_told call left [] y = record { count = 0; alike = both_asking }
-    finished_told call left (d ∷ ds) y = record { count = 0; alike = both_ended }
+    finished_told call left [] y = record { count = 0; alike = both_asking; vals = λ k le. none_below k le }
+    finished_told call left (d ∷ ds) y = record { count = 0; alike = both_ended; vals = λ k le. none_below k le }
 
     -- one step more comes first
-    one_more : {r : Run mach.State} {t : State} {y : Tally} → Tells Suit r (Onto (step c named q t) y) → Tells Suit r (λ k. run c named q k t y)
-    one_more b = record { count = suc b.count; alike = b.alike }
+    one_more : {r : Run mach.State} {t : State} {y : Tally} → ValsHeld c q t → Tells Suit r (Onto (step c q t) y) → Tells Suit r (λ k. run c q k t y)
+    one_more {t = t} {y = y} held b = record { count = suc b.count; alike = b.alike; vals = by }
+      where
+        by : (k : ℕ) → k < suc b.count → (u : State) (z : Tally) → run c q k t y ≡ Running u z → ValsHeld c q u
+        by zero le u z e = subst (ValsHeld c q) (running_same t u y z e) held
+        by (suc k) le u z e = b.vals k (omega (arith, le)) u z e
 
     answered : (n : ℕ) → Whole n → (ws : List Reg) (x : Step mach.State) (w : Step State) → Arrives ws x w → Answered n ws x w
     answered n ih ws x w (both_continue {s = s} {t = t} f) y fine goes = ih s t y (f (fine.first s y refl)) fine.fine goes
@@ -85,10 +115,10 @@ module _ (c : Place) (p : Mach) (q : Lin) (named : NamedAt) (R : mach.State → 
     answered n ih ws x w (both_wait {call = call} {next = next} {go = go} a) y fine goes =
         handed_told n ws call next go (λ d. answered n ih ws (next d) (go d) (a d)) y.doings y fine goes
     answered n ih ws x w (both_finish_by {call = call} {kept = kept}) y fine goes = finished_told call (kept_of kept) y.doings y
-    answered n ih ws x w (both_finish {d = d}) y fine goes = record { count = 0; alike = both_ended }
-    answered n ih ws x w (both_finish_raising {d = d}) y fine goes = record { count = 0; alike = both_ended }
+    answered n ih ws x w (both_finish {d = d}) y fine goes = record { count = 0; alike = both_ended; vals = λ k le. none_below k le }
+    answered n ih ws x w (both_finish_raising {d = d}) y fine goes = record { count = 0; alike = both_ended; vals = λ k le. none_below k le }
     answered n ih ws x w first_stuck y fine goes = absurd (goes refl)
-    answered n ih ws x w (goes_alone {t = t} a) y fine goes = one_more (answered n ih ws x (step c named q t) a y fine goes)
+    answered n ih ws x w (goes_alone {t = t} held a) y fine goes = one_more held (answered n ih ws x (step c q t) a y fine goes)
 
     -- after the first step of a run
     rest_fine : {n : ℕ} (s : mach.State) (y : Tally) → Fine p (suc n) (λ k. mach.run c p k s y) → FineFrom p n (wrote_at p s.rest) (From (mach.step c p s) y)
@@ -102,12 +132,12 @@ module _ (c : Place) (p : Mach) (q : Lin) (named : NamedAt) (R : mach.State → 
         }
 
     whole : (n : ℕ) → Whole n
-    whole zero = λ s t y r fine goes. record { count = 0; alike = both_running (suits s.around t.around (closed.around s t r)) }
+    whole zero = λ s t y r fine goes. record { count = 0; alike = both_running (suits s.around t.around (closed.around s t r)); vals = λ k le. none_below k le }
     whole (suc n) = λ s t y r fine goes.
         answered n (whole n) (wrote_at p s.rest) (mach.step c p s) (Continues t) (closed.next s t r (fine.vals 0 (omega arith) s y refl)) y (rest_fine s y fine) goes
 
     -- Related states report the same.
-    pub simulates : (n : ℕ) (s : mach.State) (t : State) (y : Tally) → R s t → Proper c p n s y → Comes Suit (mach.run c p n s y) c named q t y
+    pub simulates : (n : ℕ) (s : mach.State) (t : State) (y : Tally) → R s t → Proper c p n s y → Comes (SuitRound Suit) (mach.run c p n s y) c q t y
     simulates n s t y r proper =
         let b = whole n s t y r (record { vals = proper.vals; origins = proper.origins }) proper.goes in
-        record { steps = b.count; alike = b.alike }
+        record { steps = b.count; alike = b.alike; proper = record { goes = alike_goes b.alike; vals = b.vals } }

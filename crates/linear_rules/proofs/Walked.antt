@@ -1,5 +1,5 @@
 -- The lowered function is well formed, goes forward, and keeps the Mach function where walks come.
-use Rattle.std.proofs.Common.{◌≡◌, ◌≢◌, ℕ, zero, suc, ◌<◌, Bool, true, false, cond, ◌||◌, ◌⊎◌, inl, inr, ⊎_elim, List, [], ◌∷◌, ◌++◌, length, nat_eq, All, AllPairs, refl, sym, ap, ◌∙◌, subst, arith}
+use Rattle.std.proofs.Common.{◌≡◌, ℕ, zero, suc, ◌<◌, Bool, true, false, cond, ◌||◌, ◌⊎◌, inl, inr, ⊎_elim, List, [], ◌∷◌, ◌++◌, length, nat_eq, All, AllPairs, refl, sym, ap, ◌∙◌, subst, arith}
 use Rattle.std.specs.List.{Contains}
 use Rattle.std.proofs.lemmas.Bool.{true≢false, eq-eqb, eqb-true}
 use Rattle.bs_words.specs.declared.types.Comp.{Comp}
@@ -25,7 +25,6 @@ use Rattle.mach_ir.specs.declared.mach.Instr.{Instr}
 use Rattle.mach_ir.specs.declared.mach.Mach.{Mach}
 use Rattle.mach_laws.specs.Expand.{Ending, all, more}
 use Rattle.mach_laws.proofs.Places.{ending_next}
-use Rattle.lin_ir.specs.Descriptors.{NamesLives}
 use Rattle.lin_ir.specs.Formed as formed
 use Rattle.lin_ir.specs.Formed.{IsHome, IsLocation, is_home, Locates, SpareIsPassing, NamesLabel, goes_to, pushes, EntersAt, enters_here, enters_below, labels_in, is_exit, GoesForward}
 use Rattle.lin_ir.specs.Meaning as lines
@@ -39,10 +38,10 @@ use Rattle.lin_ir.specs.declared.lin.LinOp.TheVariants as lin
 use Rattle.lin_ir.specs.declared.lin.Line.{Line}
 use Rattle.lin_ir.specs.declared.lin.Lin.{Lin}
 use Rattle.lin_ir.specs.declared.lin.Spot.{Spot}
-use Rattle.linear_rules.specs.Keeps.{NamesReached, NoAddrReached, ExitsWithin}
+use Rattle.linear_rules.specs.Keeps.{NoAddrReached, OneTraps, ExitsWithin}
 use Rattle.linear_rules.specs.Lowered.{is_among, home, spots, is_idle, line_of, bare, pops, lines_of, lowered_code}
-use Rattle.linear_rules.proofs.Homes.{IsIn, is_first, is_later, in_of, contains_of, spot_of, named_of, is_one_of}
-use Rattle.linear_rules.proofs.Marks.{Differ, all_in, stands_of, instr, AsLine, op_line, if_line, switch_line, try_line, handler_line, idle_of, idle_handler, place_label, handler_label, handler_split}
+use Rattle.linear_rules.proofs.Homes.{IsIn, is_first, is_later, in_of, contains_of, spot_of}
+use Rattle.linear_rules.proofs.Marks.{Differ, stands_of, instr, AsLine, op_line, if_line, switch_line, try_line, handler_line, idle_of, idle_handler, place_label, handler_label, handler_split}
 use Rattle.linear_rules.proofs.Standing.{q, handler_round, handler_ending, StandsFor, one_line, via, onto, idle_before, label_before, pop_before, exit_to, jump_to}
 use Rattle.linear_rules.proofs.Meeting.{as_targets, idle_on, comes, traps_same, met_across}
 use Rattle.linear_rules.proofs.Lines.{all_of, IsBare, a_label, a_jump, an_exit, a_pop, Source, own_line, bare_line, source, comps_same, source_formed, labels_same}
@@ -53,11 +52,11 @@ ending_of (is_later z) = let y = ending_of z in (y.0, more y.1)
 
 -- ---- ends of lines
 
-data Tail (ys : List Line) : List Line → Type 0 where
+pub data Tail (ys : List Line) : List Line → Type 0 where
   tail_all : Tail ys ys
   tail_more : {j : Line} {zs : List Line} → Tail ys zs → Tail ys (j ∷ zs)
 
-tail_next : {j : Line} {ys zs : List Line} → Tail (j ∷ ys) zs → Tail ys zs
+pub tail_next : {j : Line} {ys zs : List Line} → Tail (j ∷ ys) zs → Tail ys zs
 tail_next tail_all = tail_more tail_all
 tail_next (tail_more t) = tail_more (tail_next t)
 
@@ -65,28 +64,28 @@ tail_cond : {xs ys zs : List Line} (b : Bool) → Tail xs zs → Tail ys zs → 
 tail_cond true x y = x
 tail_cond false x y = y
 
-tail_label : (l : ℕ) (code : List Line) → Tail (lines.after_label l code) code
+pub tail_label : (l : ℕ) (code : List Line) → Tail (lines.after_label l code) code
 tail_label l [] = tail_all
 tail_label l (j ∷ js) = tail_cond (lines.has_label l j.op) (tail_more tail_all) (tail_more (tail_label l js))
 
-tail_in : {j : Line} {ys zs : List Line} → Tail (j ∷ ys) zs → IsIn j zs
+pub tail_in : {j : Line} {ys zs : List Line} → Tail (j ∷ ys) zs → IsIn j zs
 tail_in tail_all = is_first
 tail_in (tail_more t) = is_later (tail_in t)
 
-tail_stands : {j : Line} {ys zs : List Line} → Tail (j ∷ ys) zs → Stands j ys zs
+pub tail_stands : {j : Line} {ys zs : List Line} → Tail (j ∷ ys) zs → Stands j ys zs
 tail_stands tail_all = here
 tail_stands (tail_more t) = below (tail_stands t)
 
-stands_tail : {j : Line} {ys zs : List Line} → Stands j ys zs → Tail (j ∷ ys) zs
+pub stands_tail : {j : Line} {ys zs : List Line} → Stands j ys zs → Tail (j ∷ ys) zs
 stands_tail here = tail_all
 stands_tail (below s) = tail_more (stands_tail s)
 
 module _ (m : Lin) where
-  tail_target : {j : Line} {ys : List Line} → Tail (j ∷ ys) m.code → (t : Target) → Tail (lines.code_at m.code ys t) m.code
+  pub tail_target : {j : Line} {ys : List Line} → Tail (j ∷ ys) m.code → (t : Target) → Tail (lines.code_at m.code ys t) m.code
   tail_target t On = tail_next t
   tail_target t (At l) = tail_label l m.code
 
-  reached_tail : {ys : List Line} {tries : List ℕ} → walks.Reached m ys tries → Tail ys m.code
+  pub reached_tail : {ys : List Line} {tries : List ℕ} → walks.Reached m ys tries → Tail ys m.code
   reached_tail walks.at_entry = tail_all
   reached_tail (walks.by_step r (walks.goes t o)) = tail_target (reached_tail r) t
   reached_tail (walks.by_raise r (walks.raises {h = h} e)) = tail_label h m.code
@@ -94,13 +93,13 @@ module _ (m : Lin) where
   pub reached_stands : {j : Line} {ys : List Line} {tries : List ℕ} → walks.Reached m (j ∷ ys) tries → Stands j ys m.code
   reached_stands r = tail_stands (reached_tail r)
 
-  record IsRead (l : Loc) (t : Comp) : Type 0 where
-    line : Line
-    inside : IsIn line m.code
-    reads : walks.ReadsAs l t line
+  pub record IsRead (l : Loc) (t : Comp) : Type 0 where
+    pub line : Line
+    pub inside : IsIn line m.code
+    pub reads : walks.ReadsAs l t line
 
   -- what is live is read by some line
-  live_read : {l : Loc} {t : Comp} {ys : List Line} {tries : List ℕ} → walks.Live m l t ys tries → Tail ys m.code → IsRead l t
+  pub live_read : {l : Loc} {t : Comp} {ys : List Line} {tries : List ℕ} → walks.Live m l t ys tries → Tail ys m.code → IsRead l t
   live_read (walks.read {i = i} r) w = record { line = i; inside = tail_in w; reads = r }
   live_read (walks.on free (walks.goes t o) v) w = live_read v (tail_target w t)
   live_read (walks.aside (walks.raises {h = h} e) v) w = live_read v (tail_label h m.code)
@@ -129,7 +128,7 @@ not_machine : (k n : ℕ) → loc.Slot k ≡ loc.Machine n → ⊥
 not_machine k n e = cc
 
 -- t0 is no home
-not_spare : {m : Lin} {l : Loc} → IsHome m l → l ≡ formed.spare → ⊥
+pub not_spare : {m : Lin} {l : Loc} → IsHome m l → l ≡ formed.spare → ⊥
 not_spare (formed.is_colour {n = n} c) e =
     true≢false (sym (in_is_among (subst (λ n. IsIn n colours) (machine_same n 5 e) (in_of n colours c))))
 not_spare (formed.is_slot {k = k} lt) e = not_machine k 5 e
@@ -444,28 +443,9 @@ module _ (number : ℕ → ℕ) (slots : ℕ) (p : Mach) (well : WellFormed p) (
   pub no_addr : mach_walks.NoAddrLive p → NoAddrReached Q
   no_addr h = record { none = λ j ys tries r frame l w. let y = comes number slots p well full r in addr_free h y.stands y.reached frame l w }
 
-  -- names that are exact everywhere are exact where walks come
-  pub names_reached : (named : NamedAt) → NamesLives Q named → ((n : ℕ) → All (λ l. l ≢ loc.Unset) (named n)) → NamesReached Q named
-  names_reached named exact fixed =
-      record {
-        exact = λ j ys tries r frame l.
-            let y = exact.exact j ys (reached_stands Q r) frame l in (
-              λ c. live_at r (y.0 (named_of l (named (length ys)) (in_of l (named (length ys)) c) (is_fixed l (all_in (λ l. l ≢ loc.Unset) (fixed (length ys)) (in_of l (named (length ys)) c))))),
-              λ w. contains_of (is_one_of l (named (length ys)) (y.1 (record { tries = tries; traps = by_walk r; across = w }))),
-            );
-      }
-    where
-      is_fixed : (l : Loc) → l ≢ loc.Unset → lines.same_loc l l ≡ true
-      is_fixed (loc.Machine n) out = eq-eqb n n refl
-      is_fixed (loc.Slot n) out = eq-eqb n n refl
-      is_fixed loc.Unset out = absurd (out refl)
-
-      live_at : {j : Line} {ys : List Line} {l : Loc} {t : Comp} {tries : List ℕ} → walks.Reached Q (j ∷ ys) tries → LiveAt Q l t j ys → walks.LiveAcross Q l t j ys tries
-      live_at {j} {ys} {l} {t} {tries} r v = by v.traps v.across
-        where
-          by : {others : List ℕ} → Traps Q (j ∷ ys) others → walks.LiveAcross Q l t j ys others → walks.LiveAcross Q l t j ys tries
-          by (by_walk s) w = subst (walks.LiveAcross Q l t j ys) (traps_same number slots p well full s r) w
-          by (unreached out) w = absurd (out tries r)
+  -- the traps round an instruction are those that any walk reaches its lines with
+  pub one_traps : OneTraps Q
+  one_traps = record { one = λ code tries others r s. traps_same number slots p well full r s }
 
   -- ---- well formed
 
@@ -489,6 +469,15 @@ module _ (number : ℕ → ℕ) (slots : ℕ) (p : Mach) (well : WellFormed p) (
       where
         nothing : {s : Spot} → IsIn s [] → ⊥
         nothing u = elim u [ ]
+
+    -- every location is a colour or a slot
+    pub homes_lines : All (λ (j : Line). All (λ (s : Spot). IsHome Q s.loc) j.args × All (λ (s : Spot). IsHome Q s.loc) j.results) Q.code
+    homes_lines =
+        all_of (λ (j : Line). All (λ (s : Spot). IsHome Q s.loc) j.args × All (λ (s : Spot). IsHome Q s.loc) j.results) Q.code
+        (λ j z. (
+          all_of (λ (s : Spot). IsHome Q s.loc) j.args (λ s u. source_homes (source number p.code z) s (inl u)),
+          all_of (λ (s : Spot). IsHome Q s.loc) j.results (λ s u. source_homes (source number p.code z) s (inr u)),
+        ))
 
     line_source : {j : Line} → Contains Q.code j → Source number p.code j
     line_source {j} c = source number p.code (in_of j (L p.code) c)

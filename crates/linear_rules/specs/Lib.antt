@@ -1,3 +1,4 @@
 pub mod Lowered
 pub mod Sizes
+pub mod Kept
 pub mod Keeps

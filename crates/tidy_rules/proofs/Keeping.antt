@@ -1,0 +1,201 @@
+-- What keeps a Linear function that keeps a Mach function keeps that; and with exact names it reads no poison.
+use Rattle.std.proofs.Common.{◌≡◌, ◌≢◌, ℕ, true, List, ◌∷◌, All, Option, Some, None, refl, sym, ◌∙◌, subst}
+use Rattle.bs_words.specs.Memory.{Memory}
+use Rattle.bs_words.specs.declared.types.Comp.{Comp}
+use Rattle.bs_words.specs.declared.types.Loc.{Loc}
+use Rattle.bs_words.specs.declared.types.Loc.TheVariants as loc
+use Rattle.bs_words.specs.declared.values.Value.{Value}
+use Rattle.mach_ir.specs.Acts.{Around}
+use Rattle.mach_ir.specs.Runs.{Place, Tally, Run, Running, Asking, Ended, Wrong, entered}
+use Rattle.mach_ir.specs.Meaning as mach
+use Rattle.mach_ir.specs.Keeps.{Ahead, Trails, Alike, both_running, both_asking, both_ended}
+use Rattle.mach_ir.specs.Walks as mach_walks
+use Rattle.mach_ir.specs.declared.mach.Mach.{Mach}
+use Rattle.mach_ir.proofs.Keeping.{alike_then}
+use Rattle.lin_ir.specs.Descriptors.{NamesLives}
+use Rattle.lin_ir.specs.Formed.{WellFormed}
+use Rattle.lin_ir.specs.Keeps as named_kept
+use Rattle.lin_ir.specs.Keeps.{SuitRound, Keeps}
+use Rattle.lin_ir.specs.Meaning as poison
+use Rattle.lin_ir.specs.Meaning.{NamedAt, State, Locations, passes_frame, put_all, begun, start}
+use Rattle.lin_ir.specs.Walks.{Stands, Traps, by_walk, unreached, Reached, LiveAt, LiveAcross}
+use Rattle.lin_ir.specs.declared.lin.Line.{Line}
+use Rattle.lin_ir.specs.declared.lin.Lin.{Lin}
+use Rattle.linear_rules.specs.Kept as kept
+use Rattle.linear_rules.specs.Kept.{Comes, Follows, Begins, Does}
+use Rattle.linear_rules.specs.Keeps.{NamesReached, NoAddrReached, OneTraps, KeepsReached}
+use Rattle.linear_rules.proofs.Lowering.{no_addr_live}
+use Rattle.linear_rules.proofs.Walked.{reached_stands}
+use Rattle.tidy_rules.specs.Keeps as lin_keeps
+use Rattle.tidy_rules.specs.Keeps.{SameRound, KeepsLin}
+use Rattle.tidy_rules.specs.Redirecting.{Tidies, as_it_is, then_leaves, then_redirects}
+use Rattle.tidy_rules.proofs.LeavingDoes.{leaving_keeps}
+use Rattle.tidy_rules.proofs.Redirecting.{redirecting_keeps}
+use Rattle.tidy_rules.proofs.Exact.{reads_no_poison}
+
+-- ---- one after the other
+
+module _ (Suit : Around → Around → Type 0) where
+  suits_on : {S : Type 0} {At : S → Around} {r : Run S} {x y : Run State} → Alike (λ s (u : State). Suit (At s) u.around) r x → Alike SameRound x y → Alike
+      (λ s (u : State). Suit (At s) u.around) r y
+  suits_on {At = At} one two = alike_then (λ a b d suit same. subst (Suit (At a)) same suit) one two
+
+  comes_on : {c : Place} {m r : Lin} {s u : State} {t : Tally} {x : Run mach.State} → Comes (SuitRound Suit) x c m s t →
+      ((n : ℕ) → kept.Proper c m n s t → Comes SameRound (kept.run c m n s t) c r u t) → Comes (SuitRound Suit) x c r u t
+  comes_on one two =
+      let y = two one.steps one.proper in
+      record { steps = y.steps; alike = suits_on {At = λ (s : mach.State). s.around} one.alike y.alike; proper = y.proper }
+
+does_on : (p : Mach) (m r : Lin) → Does p m → lin_keeps.Does m r → Does p r
+does_on p m r one two c arguments memory doings s e =
+    let u = one c arguments memory doings s e in
+    let v = two c arguments memory doings u.state u.begins in
+    record {
+      state = v.state;
+      begins = v.begins;
+      follows = λ n proper.
+          let y = u.follows n proper in
+          record { no_less = comes_on Ahead y.no_less v.follows; no_more = comes_on Trails y.no_more v.follows };
+    }
+
+-- what keeps a Linear function that keeps a Mach function keeps that
+pub keeps_on : {p : Mach} {m r : Lin} → KeepsReached p m → KeepsLin m r → KeepsReached p r
+keeps_on {p} {m} {r} one two =
+    record {
+      name = two.name ∙ one.name;
+      result = two.result ∙ one.result;
+      does = does_on p m r one.does two.does;
+      symbols = λ name n. one.symbols name (two.symbols name n);
+      externals = λ row n. one.externals row (two.externals row n);
+      addrs = λ h. two.addrs (one.addrs h);
+    }
+
+-- a function keeps itself
+pub keeps_lin_itself : (m : Lin) → KeepsLin m m
+keeps_lin_itself m =
+    record {
+      name = refl;
+      result = refl;
+      does = λ c arguments memory doings s e.
+          record { state = s; begins = e; follows = λ n proper. record { steps = n; alike = alike_self _ refl proper.goes; proper = proper } };
+      symbols = λ name n. n;
+      externals = λ row n. n;
+      addrs = λ h. h;
+    }
+  where
+    alike_self : (x : Run State) {y : Run State} → x ≡ y → (y ≡ Wrong → ⊥) → Alike SameRound y y
+    alike_self (Running s t) {y} e goes = subst (λ y. Alike SameRound y y) e (both_running refl)
+    alike_self (Asking call t) {y} e goes = subst (λ y. Alike SameRound y y) e both_asking
+    alike_self (Ended d t) {y} e goes = subst (λ y. Alike SameRound y y) e both_ended
+    alike_self Wrong {y} e goes = absurd (goes (sym e))
+
+-- and what keeps what keeps it keeps it
+pub keeps_lin_then : {m q r : Lin} → KeepsLin m q → KeepsLin q r → KeepsLin m r
+keeps_lin_then {m} {q} {r} one two =
+    record {
+      name = two.name ∙ one.name;
+      result = two.result ∙ one.result;
+      does = λ c arguments memory doings s e.
+          let u = one.does c arguments memory doings s e in
+          let v = two.does c arguments memory doings u.state u.begins in
+          record {
+            state = v.state;
+            begins = v.begins;
+            follows = λ n proper.
+                let x = u.follows n proper in
+                let y = v.follows x.steps x.proper in
+                record { steps = y.steps; alike = alike_then (λ a b d same more. same ∙ more) x.alike y.alike; proper = y.proper };
+          };
+      symbols = λ name n. one.symbols name (two.symbols name n);
+      externals = λ row n. one.externals row (two.externals row n);
+      addrs = λ h. two.addrs (one.addrs h);
+    }
+
+pub keeps_tidied : {p : Mach} {m r : Lin} → KeepsReached p m → Tidies m r → KeepsReached p r
+keeps_tidied one as_it_is = one
+keeps_tidied one (then_leaves t l) = keeps_on (keeps_tidied one t) (leaving_keeps l)
+keeps_tidied one (then_redirects t l) = keeps_on (keeps_tidied one t) (redirecting_keeps l)
+
+-- ---- with names
+
+-- the state in which a function begins
+record Entered (c : Place) (m : Lin) (memory : Memory) (s : State) : Type 0 where
+  file : Locations
+  same : s ≡ record { rest = m.code; file = file; around = entered memory }
+
+entered_in : (c : Place) (m : Lin) (arguments : List Value) (memory : Memory) (s : State) → start c m arguments memory ≡ Some s → Entered c m memory s
+entered_in c m arguments memory s e = by (put_all c.setting.end m.params arguments (λ l. None)) e
+  where
+    no_state : None ≡ Some s → ⊥
+    no_state e = cc
+
+    same_state : (x : State) → Some x ≡ Some s → s ≡ x
+    same_state x e = cc
+
+    by : (o : Option Locations) → begun m memory o ≡ Some s → Entered c m memory s
+    by None e = absurd (no_state e)
+    by (Some f) e = record { file = f; same = same_state (record { rest = m.code; file = f; around = entered memory }) e }
+
+module _ (Suit : Around → Around → Type 0) (c : Place) (m : Lin) (well : WellFormed m) (safe : NoAddrReached m) (named : NamedAt)
+    (exact : NamesReached m named) where
+  comes_named : {memory : Memory} {u : State} {t : Tally} {x : Run mach.State} → Entered c m memory u → Comes (SuitRound Suit) x c m u t →
+      named_kept.Comes Suit x c named m u t
+  comes_named {memory} {u} {t} {x} enter one =
+      let start_at : State = record { rest = m.code; file = enter.file; around = entered memory } in
+      let b = reads_no_poison c m well safe named exact one.steps enter.file (entered memory) t refl
+      (subst (λ (s : State). kept.Proper c m one.steps s t) enter.same one.proper) in
+      record {
+        steps = b.0;
+        alike = subst (λ (s : State). Alike (SuitRound Suit) x (poison.run c named m b.0 s t)) (sym enter.same)
+            (suits_on Suit {At = λ (s : mach.State). s.around}
+            (subst (λ (s : State). Alike (SuitRound Suit) x (kept.run c m one.steps s t)) enter.same one.alike) b.1);
+      }
+
+-- With exact names it does the same, and so reads no poison.
+pub does_named : (p : Mach) (m : Lin) → WellFormed m → NoAddrReached m → (named : NamedAt) → NamesReached m named → Does p m → named_kept.Does p m named
+does_named p m well safe named exact does c arguments memory doings s e =
+    let u = does c arguments memory doings s e in
+    let enter = entered_in c m arguments memory u.state u.begins in
+    record {
+      state = u.state;
+      begins = u.begins;
+      follows = λ n proper.
+          let y = u.follows n proper in
+          record {
+            no_less = comes_named Ahead c m well safe named exact enter y.no_less;
+            no_more = comes_named Trails c m well safe named exact enter y.no_more;
+          };
+    }
+
+-- names that are exact everywhere are exact where walks come
+pub names_reached : (m : Lin) → OneTraps m → (named : NamedAt) → NamesLives m named → ((n : ℕ) → All (λ l. l ≢ loc.Unset) (named n)) → NamesReached m named
+names_reached m traps named exact fixed =
+    record {
+      exact = λ i next tries r frame l.
+          let y = exact.exact i next (reached_stands m r) frame l in
+          (λ n. across r (y.0 n), λ v. y.1 (record { tries = tries; traps = by_walk r; across = v }));
+      fixed = fixed;
+    }
+  where
+    across : {i : Line} {next : List Line} {l : Loc} {t : Comp} {tries : List ℕ} → Reached m (i ∷ next) tries → LiveAt m l t i next →
+        LiveAcross m l t i next tries
+    across {i} {next} {l} {t} {tries} r v = by v.traps v.across
+      where
+        by : {others : List ℕ} → Traps m (i ∷ next) others → LiveAcross m l t i next others → LiveAcross m l t i next tries
+        by {others} (by_walk s) w = subst (LiveAcross m l t i next) (traps.one (i ∷ next) others tries s r) w
+        by (unreached out) w = absurd (out tries r)
+
+-- A Linear function that keeps a Mach function where nothing is lost keeps it with exact names, where each of its frame
+-- points is reached, and no addr is live after one of the Mach function.
+pub keeps_named : (p : Mach) (m : Lin) → KeepsReached p m → WellFormed m → OneTraps m →
+    ((i : Line) (next : List Line) → Stands i next m.code → passes_frame i.op ≡ true → (tries : List ℕ) × Reached m (i ∷ next) tries) →
+    mach_walks.NoAddrLive p → (named : NamedAt) → NamesLives m named → ((n : ℕ) → All (λ l. l ≢ loc.Unset) (named n)) → Keeps p m named
+keeps_named p m keeps well traps points safe named exact fixed =
+    record {
+      name = keeps.name;
+      result = keeps.result;
+      does = does_named p m well (keeps.addrs safe) named (names_reached m traps named exact fixed) keeps.does;
+      symbols = keeps.symbols;
+      externals = keeps.externals;
+      addrs = λ h. no_addr_live m points (keeps.addrs h);
+    }

@@ -1,0 +1,12 @@
+pub mod Turns
+pub mod Simulate
+pub mod Leaving
+pub mod LeavingDoes
+pub mod Redirecting
+pub mod Exact
+pub mod Keeping
+pub mod Shape
+pub mod Tidied
+pub mod Whole
+pub mod Lowered
+pub mod Vals

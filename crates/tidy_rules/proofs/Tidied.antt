@@ -1,0 +1,384 @@
+-- What is kept of a function's shape where jumps are redirected, and in all.
+use Rattle.std.proofs.Common.{◌≡◌, ◌≢◌, ℕ, suc, ◌≤◌, Bool, true, false, cond, ◌⊎◌, inl, inr, ⊎_elim, List, [], ◌∷◌, ◌++◌, length, All, refl, sym, ap, ◌∙◌, subst, arith}
+use Rattle.std.proofs.lemmas.Bool.{true≢false, eqb-true}
+use Rattle.std.specs.List.{Contains, AllPairs}
+use Rattle.bs_words.specs.declared.types.Comp.{Comp}
+use Rattle.mach_ir.specs.Acts.{At}
+use Rattle.mach_ir.specs.Forms.{results_of}
+use Rattle.mach_ir.specs.Seats.{AreSeated}
+use Rattle.mach_ir.specs.Walks.{OneOf, this, other}
+use Rattle.mach_ir.specs.declared.op.Op.TheVariants as op
+use Rattle.mach_ir.specs.declared.op.Leaving.TheVariants as leaving
+use Rattle.lin_ir.specs.Formed.{comps, FlowHasForm, label_form, jump_form, exit_form, branch_form, switch_form, push_form, pop_form, enter_form, IsFormed, formed_op, formed_flow, IsHome, is_colour, is_slot, is_home, IsLocation, Locates, IsSelfMove, is_self_move, label_of, labels_in, NamesLabel, goes_to, pushes, EntersAt, enters_here, enters_below, is_exit, GoesForward, places_of, lin_operand_seats, lin_result_seats, WellFormed}
+use Rattle.lin_ir.specs.Meaning.{has_label, after_label}
+use Rattle.lin_ir.specs.Walks as walks
+use Rattle.lin_ir.specs.Walks.{targets, may_raise, Stands, Reached, OneDepth}
+use Rattle.lin_ir.specs.declared.lin.Flow.{Flow}
+use Rattle.lin_ir.specs.declared.lin.Flow.TheVariants as flow
+use Rattle.lin_ir.specs.declared.lin.LinOp.{LinOp}
+use Rattle.lin_ir.specs.declared.lin.LinOp.TheVariants as lin
+use Rattle.lin_ir.specs.declared.lin.Line.{Line}
+use Rattle.lin_ir.specs.declared.lin.Lin.{Lin}
+use Rattle.lin_ir.specs.declared.lin.Spot.{Spot}
+use Rattle.linear_rules.specs.Keeps.{OneTraps}
+use Rattle.linear_rules.proofs.Homes.{IsIn, is_later, in_of, contains_of}
+use Rattle.linear_rules.proofs.Lines.{all_of}
+use Rattle.linear_rules.proofs.Marks.{all_in, pairs_here, pairs_later}
+use Rattle.linear_rules.proofs.Walked.{Tail, tail_all, tail_more, tail_next, tail_label, tail_in, tail_stands, stands_tail, reached_tail}
+use Rattle.tidy_rules.specs.Leaving.{bare, LabelsBetween, none_between, label_between}
+use Rattle.tidy_rules.specs.Redirecting.{redirected, redirect, GoesOnTo, itself, and_on, Redirects, Tidies, as_it_is, then_leaves, then_redirects}
+use Rattle.tidy_rules.specs.Regular.{AtHomes, IsRegular}
+use Rattle.tidy_rules.proofs.Redirecting.{same_raise, same_exit, same_labels, same_leaves, same_operands, same_results, T, turned, split, source, source_line, line_was, op_was}
+use Rattle.tidy_rules.proofs.Shape.{compare, spare_free, depth_of, SameShape, leaving_regular, leaving_shape}
+
+-- ---- ends of a list
+
+tail_then : {a b zs : List Line} → Tail a b → Tail b zs → Tail a zs
+tail_then s tail_all = s
+tail_then s (tail_more t) = tail_more (tail_then s t)
+
+tail_length : {a b : List Line} → Tail a b → length a ≤ length b
+tail_length tail_all = omega arith
+tail_length (tail_more t) = let le = tail_length t in omega (arith, le)
+
+whole_tail : {a b : List Line} → Tail a b → length b ≤ length a → a ≡ b
+whole_tail tail_all le = refl
+whole_tail (tail_more t) le = let more = tail_length t in absurd (omega (arith, le, more))
+
+-- ends of one length are the same
+pub same_tail : {a b zs : List Line} → Tail a zs → Tail b zs → length a ≡ length b → a ≡ b
+same_tail {a} {b} s t e = ⊎_elim (λ u. whole_tail u (omega (arith, e))) (λ u. sym (whole_tail u (omega (arith, e)))) (compare s t)
+
+between_tail : {a b : List Line} → LabelsBetween a b → Tail b a
+between_tail none_between = tail_all
+between_tail (label_between p) = tail_more (between_tail p)
+
+past_labels : {l : ℕ} {ls : List ℕ} (ks : List ℕ) → IsIn l ls → IsIn l (ks ++ ls)
+past_labels [] z = z
+past_labels (k ∷ ks) z = is_later (past_labels ks z)
+
+-- a label behind a place is one of the code
+later_label : {l : ℕ} {ys zs : List Line} → Tail ys zs → IsIn l (labels_in ys) → IsIn l (labels_in zs)
+later_label tail_all z = z
+later_label (tail_more {j = j} t) z = past_labels (label_of j.op) (later_label t z)
+
+abbrev Differ : ℕ → ℕ → Type 0
+Differ k l = k ≢ l
+
+label_is : (l : ℕ) (f : LinOp) → has_label l f ≡ true → label_of f ≡ l ∷ []
+label_is l (lin.Op f) e = absurd (true≢false (sym e))
+label_is l (lin.Flow (flow.Label k)) e = ap (λ k. k ∷ []) (eqb-true k l e)
+label_is l (lin.Flow (flow.Jump k)) e = absurd (true≢false (sym e))
+label_is l (lin.Flow (flow.Exit k)) e = absurd (true≢false (sym e))
+label_is l (lin.Flow (flow.Branch t k)) e = absurd (true≢false (sym e))
+label_is l (lin.Flow (flow.Switch ls)) e = absurd (true≢false (sym e))
+label_is l (lin.Flow (flow.PushTrap k)) e = absurd (true≢false (sym e))
+label_is l (lin.Flow flow.PopTrap) e = absurd (true≢false (sym e))
+label_is l (lin.Flow flow.EnterTrap) e = absurd (true≢false (sym e))
+
+pairs_past : (ks ls : List ℕ) → AllPairs Differ (ks ++ ls) → AllPairs Differ ls
+pairs_past [] ls h = h
+pairs_past (k ∷ ks) ls h = pairs_past ks ls (pairs_later Differ k (ks ++ ls) h)
+
+-- where labels stand once, what is after one is what is after it from any place before it on
+later_after : (l : ℕ) {ys zs : List Line} → Tail ys zs → AllPairs Differ (labels_in zs) → IsIn l (labels_in ys) → after_label l zs ≡ after_label l ys
+later_after l tail_all once z = refl
+later_after l {ys} (tail_more {j = j} {zs = zs} t) once z = by (has_label l j.op) refl (later_after l t (pairs_past (label_of j.op) (labels_in zs) once) z)
+  where
+    out : has_label l j.op ≡ true → ⊥
+    out e =
+        let h : AllPairs Differ (l ∷ labels_in zs) = subst (λ ks. AllPairs Differ (ks ++ labels_in zs)) (label_is l j.op e) once in
+        all_in (Differ l) (pairs_here Differ l (labels_in zs) h) (later_label t z) refl
+
+    by : (b : Bool) → has_label l j.op ≡ b → after_label l zs ≡ after_label l ys → cond b zs (after_label l zs) ≡ after_label l ys
+    by true e u = absurd (out e)
+    by false e u = u
+
+-- ---- forms
+
+module _ (to : ℕ → ℕ) (args results : List Spot) where
+  abbrev line : LinOp → Line
+  line f = record { op = redirected to f; args = args; results = results }
+
+  of_form : (f : Flow) {xs rs : List Comp} → FlowHasForm f xs rs → comps args ≡ xs → comps results ≡ rs → FlowHasForm f (comps args) (comps results)
+  of_form f {xs} {rs} h e u = subst (λ ys. FlowHasForm f ys (comps results)) (sym e) (subst (FlowHasForm f xs) (sym u) h)
+
+  form_turned : {f : Flow} {xs rs : List Comp} → FlowHasForm f xs rs → comps args ≡ xs → comps results ≡ rs → IsFormed (line (lin.Flow f))
+  form_turned (label_form {l = l}) e u = formed_flow (of_form (flow.Label l) label_form e u)
+  form_turned (jump_form {l = l}) e u = formed_flow (of_form (flow.Jump (to l)) jump_form e u)
+  form_turned (exit_form {l = l}) e u = formed_flow (of_form (flow.Exit (to l)) exit_form e u)
+  form_turned (branch_form {t = t} {l = l} h) e u = formed_flow (of_form (flow.Branch t (to l)) (branch_form h) e u)
+  form_turned (switch_form {labels = ls}) e u = formed_flow (of_form (flow.Switch ls) switch_form e u)
+  form_turned (push_form {l = l}) e u = formed_flow (of_form (flow.PushTrap l) push_form e u)
+  form_turned pop_form e u = formed_flow (of_form flow.PopTrap pop_form e u)
+  form_turned enter_form e u = formed_flow (of_form flow.EnterTrap enter_form e u)
+
+line_formed : (to : ℕ → ℕ) {i : Line} → IsFormed i → IsFormed (redirect to i)
+line_formed to (formed_op h) = formed_op h
+line_formed to (formed_flow {args = args} {results = results} h) = form_turned to args results h refl refl
+
+-- ---- operations and labels
+
+abbrev is_turned : LinOp → Bool
+is_turned (lin.Flow (flow.Jump l)) = true
+is_turned (lin.Flow (flow.Exit l)) = true
+is_turned (lin.Flow (flow.Branch t l)) = true
+is_turned _ = false
+
+not_push : (f : LinOp) (l : ℕ) → is_turned f ≡ true → f ≡ lin.Flow (flow.PushTrap l) → ⊥
+not_push f l e u = true≢false (sym e ∙ ap is_turned u)
+
+not_pop : (f : LinOp) → is_turned f ≡ true → f ≡ lin.Flow flow.PopTrap → ⊥
+not_pop f e u = true≢false (sym e ∙ ap is_turned u)
+
+one_label : (k l : ℕ) → OneOf (At l) (At k ∷ []) → l ≡ k
+one_label k l this = refl
+one_label k l (other o) = elim o [ ]
+
+module _ (to : ℕ → ℕ) where
+  names_was : (l : ℕ) (f : LinOp) → NamesLabel l (redirected to f) → NamesLabel l f ⊎ ((k : ℕ) × NamesLabel k f × (l ≡ to k))
+  names_was l (lin.Op f) n = inl n
+  names_was l (lin.Flow (flow.Label k)) n = inl n
+  names_was l (lin.Flow (flow.Jump k)) (goes_to o) = inr (k, goes_to this, one_label (to k) l o)
+  names_was l (lin.Flow (flow.Jump k)) (pushes e) = absurd (not_push _ l refl e)
+  names_was l (lin.Flow (flow.Exit k)) (goes_to o) = inr (k, goes_to this, one_label (to k) l o)
+  names_was l (lin.Flow (flow.Exit k)) (pushes e) = absurd (not_push _ l refl e)
+  names_was l (lin.Flow (flow.Branch t k)) (goes_to (other o)) = inr (k, goes_to (other this), one_label (to k) l o)
+  names_was l (lin.Flow (flow.Branch t k)) (pushes e) = absurd (not_push _ l refl e)
+  names_was l (lin.Flow (flow.Switch ls)) n = inl n
+  names_was l (lin.Flow (flow.PushTrap k)) n = inl n
+  names_was l (lin.Flow flow.PopTrap) n = inl n
+  names_was l (lin.Flow flow.EnterTrap) n = inl n
+
+  pop_was : (f : LinOp) → redirected to f ≡ lin.Flow flow.PopTrap → f ≡ lin.Flow flow.PopTrap
+  pop_was (lin.Op f) e = e
+  pop_was (lin.Flow (flow.Label k)) e = e
+  pop_was (lin.Flow (flow.Jump k)) e = absurd (not_pop _ refl e)
+  pop_was (lin.Flow (flow.Exit k)) e = absurd (not_pop _ refl e)
+  pop_was (lin.Flow (flow.Branch t k)) e = absurd (not_pop _ refl e)
+  pop_was (lin.Flow (flow.Switch ls)) e = e
+  pop_was (lin.Flow (flow.PushTrap k)) e = e
+  pop_was (lin.Flow flow.PopTrap) e = e
+  pop_was (lin.Flow flow.EnterTrap) e = e
+
+  push_was : (l : ℕ) (f : LinOp) → redirected to f ≡ lin.Flow (flow.PushTrap l) → f ≡ lin.Flow (flow.PushTrap l)
+  push_was l (lin.Op f) e = e
+  push_was l (lin.Flow (flow.Label k)) e = e
+  push_was l (lin.Flow (flow.Jump k)) e = absurd (not_push _ l refl e)
+  push_was l (lin.Flow (flow.Exit k)) e = absurd (not_push _ l refl e)
+  push_was l (lin.Flow (flow.Branch t k)) e = absurd (not_push _ l refl e)
+  push_was l (lin.Flow (flow.Switch ls)) e = e
+  push_was l (lin.Flow (flow.PushTrap k)) e = e
+  push_was l (lin.Flow flow.PopTrap) e = e
+  push_was l (lin.Flow flow.EnterTrap) e = e
+
+module _ (m : Lin) (to : ℕ → ℕ) (each : (l : ℕ) → GoesOnTo m l (to l)) (regular : IsRegular m) where
+  abbrev R : Lin
+  R = turned m to each
+
+  abbrev L : List Line → List Line
+  L = T m to each
+
+  labels_turned : (is : List Line) → labels_in (L is) ≡ labels_in is
+  labels_turned [] = refl
+  labels_turned (i ∷ is) = ap (λ ks. ks ++ labels_in (L is)) (same_labels to i.op) ∙ ap (λ ls. label_of i.op ++ ls) (labels_turned is)
+
+  enters_turned : {l : ℕ} {is : List Line} → EntersAt l is → EntersAt l (L is)
+  enters_turned (enters_here e u) = enters_here (ap (redirected to) e) (ap (redirected to) u)
+  enters_turned (enters_below h) = enters_below (enters_turned h)
+
+  lines_same : (is : List Line) → length (L is) ≡ length is
+  lines_same [] = refl
+  lines_same (i ∷ is) = ap suc (lines_same is)
+
+  -- the label to which one goes on stands, and where the first comes later so does it
+  stands_on : {k n : ℕ} → GoesOnTo m k n → Contains (labels_in m.code) k → Contains (labels_in m.code) n
+  stands_on itself c = c
+  stands_on (and_on {k = k} {n = n} g p) c =
+      regular.well.named (bare (flow.Jump n)) (contains_of (tail_in (tail_then (between_tail p) (tail_label k m.code)))) n (goes_to this)
+
+  later_on : {k n : ℕ} {ys : List Line} → Tail ys m.code → GoesOnTo m k n → IsIn k (labels_in ys) → IsIn n (labels_in ys)
+  later_on w itself z = z
+  later_on {ys = ys} w (and_on {k = k} {n = n} {next = next} g p) z =
+      let y = later_on w g z in
+      let same : after_label k m.code ≡ after_label k ys = later_after k w regular.well.labels y in
+      let t : Tail (bare (flow.Jump n) ∷ next) (after_label k m.code) = between_tail p in
+      let u : Tail (bare (flow.Jump n) ∷ next) ys = tail_then (subst (Tail (bare (flow.Jump n) ∷ next)) same t) (tail_label k ys) in
+      later_label (tail_next u) (in_of n (labels_in next)
+      (regular.forward.labels (bare (flow.Jump n)) next (tail_stands (tail_then u w)) refl n (goes_to this)))
+
+  -- ---- walks
+
+  traps_turned : OneTraps R
+  traps_turned = record { one = λ js tries others r s. by js tries others r s }
+    where
+      by : (js : List Line) (tries others : List ℕ) → Reached R js tries → Reached R js others → tries ≡ others
+      by js tries others r s =
+          let x = source m to each r in
+          let y = source m to each s in
+          let len : length x.code ≡ length y.code = sym (lines_same x.code) ∙ ap length (x.same ∙ sym y.same) ∙ lines_same y.code in
+          regular.traps.one y.code tries others
+          (subst (λ is. Reached m is tries) (same_tail (reached_tail m x.reached) (reached_tail m y.reached) len) x.reached) y.reached
+
+  depth_turned : OneDepth R
+  depth_turned =
+      depth_of R traps_turned
+      (λ j js tries r e n. let x = source_line m to each r in regular.well.depth.pops x.line x.next tries x.reached
+      (pop_was to x.line.op (ap (λ (j : Line). j.op) x.is_line ∙ e)) n)
+      (λ j js tries r e. let x = source_line m to each r in regular.well.depth.leaves x.line x.next tries x.reached
+      (sym (same_leaves to x.line.op) ∙ ap (λ (j : Line). walks.leaves j.op) x.is_line ∙ e))
+
+  -- ---- lines
+
+  from_line : (P : Line → Type 0) → ((i : Line) → IsIn i m.code → P (redirect to i)) → (j : Line) → IsIn j R.code → P j
+  from_line P h j z = let y = line_was m to each j m.code z in subst P y.2 (h y.0 y.1)
+
+  home_turned : {l : _} → IsHome m l → IsHome R l
+  home_turned (is_colour z) = is_colour z
+  home_turned (is_slot lt) = is_slot lt
+
+  spots_turned : (ss : List Spot) → AtHomes m ss → AtHomes R ss
+  spots_turned ss h = all_of (λ (s : Spot). IsHome R s.loc) ss (λ s z. home_turned (all_in (λ (s : Spot). IsHome m s.loc) h z))
+
+  abbrev HomesOf : Line → Type 0
+  HomesOf j = AtHomes R j.args × AtHomes R j.results
+
+  homes_turned : All HomesOf R.code
+  homes_turned =
+      all_of HomesOf R.code
+      (from_line HomesOf (λ i z. let h = all_in (λ (i : Line). AtHomes m i.args × AtHomes m i.results) regular.homes z in
+      (spots_turned i.args h.0, spots_turned i.results h.1)))
+
+  located : (ss : List Spot) → AtHomes R ss → Locates R ss
+  located ss h = all_of (λ (s : Spot). IsLocation R s.loc) ss (λ s z. is_home (all_in (λ (s : Spot). IsHome R s.loc) h z))
+
+  labels_same : labels_in R.code ≡ labels_in m.code
+  labels_same = labels_turned m.code
+
+  named_turned : (j : Line) → IsIn j R.code → (l : ℕ) → NamesLabel l j.op → Contains (labels_in R.code) l
+  named_turned =
+      from_line (λ j. (l : ℕ) → NamesLabel l j.op → Contains (labels_in R.code) l)
+      (λ i z l n.
+      subst (λ ls. Contains ls l) (sym labels_same)
+      (⊎_elim (λ n. regular.well.named i (contains_of z) l n)
+      (λ y. subst (Contains (labels_in m.code)) (sym y.2) (stands_on (each y.0) (regular.well.named i (contains_of z) y.0 y.1))) (names_was to l i.op n)))
+
+  well_turned : WellFormed R
+  well_turned =
+      record {
+        forms = all_of IsFormed R.code (from_line IsFormed (λ i z. line_formed to (all_in IsFormed regular.well.forms z)));
+        returns = λ j c. from_line (λ j. j.op ≡ lin.Op (op.Leaving leaving.Return) → comps j.args ≡ results_of m.result)
+            (λ i z e. regular.well.returns i (contains_of z) (op_was m to each i.op _ e)) j (in_of j R.code c);
+        params = spots_turned m.params regular.well.params;
+        locations = all_of (λ (i : Line). Locates R i.args × Locates R i.results) R.code
+            (λ j z. let h = all_in HomesOf homes_turned z in (located j.args h.0, located j.results h.1));
+        spare = spare_free R homes_turned;
+        labels = subst (λ ls. AllPairs (λ k l. k ≢ l) ls) (sym labels_same) regular.well.labels;
+        named = λ j c l n. named_turned j (in_of j R.code c) l n;
+        handlers = λ j c. from_line (λ j. (l : ℕ) → j.op ≡ lin.Flow (flow.PushTrap l) → EntersAt l R.code)
+            (λ i z l e. enters_turned (regular.well.handlers i (contains_of z) l (push_was to l i.op e))) j (in_of j R.code c);
+        depth = depth_turned;
+      }
+
+  -- ---- where lines stand
+
+  record Stood (j : Line) (js is : List Line) : Type 0 where
+    line : Line
+    next : List Line
+    is_line : redirect to line ≡ j
+    is_next : L next ≡ js
+    stands : Tail (line ∷ next) is
+
+  stood : {j : Line} {js : List Line} (is xs : List Line) → L is ≡ xs → Tail (j ∷ js) xs → Stood j js is
+  stood {j} {js} is xs e tail_all =
+      let s = split m to each is j js e in
+      record { line = s.line; next = s.next; is_line = s.is_line; is_next = s.is_next; stands = subst (Tail (s.line ∷ s.next)) (sym s.is_code) tail_all }
+  stood {j} {js} is xs e (tail_more {j = k} {zs = zs} t) =
+      let s = split m to each is k zs e in
+      let y = stood s.next zs s.is_next t in
+      record {
+        line = y.line;
+        next = y.next;
+        is_line = y.is_line;
+        is_next = y.is_next;
+        stands = subst (Tail (y.line ∷ y.next)) (sym s.is_code)
+            (tail_more y.stands);
+      }
+
+  forward_label : (i : Line) (next : List Line) → Tail (i ∷ next) m.code → is_exit i.op ≡ false → (l : ℕ) → NamesLabel l (redirected to i.op) → Contains
+      (labels_in next) l
+  forward_label i next w e l n =
+      ⊎_elim (λ n. regular.forward.labels i next (tail_stands w) e l n)
+      (λ y. subst (Contains (labels_in next)) (sym y.2)
+      (contains_of (later_on (tail_next w) (each y.0) (in_of y.0 (labels_in next) (regular.forward.labels i next (tail_stands w) e y.0 y.1)))))
+      (names_was to l i.op n)
+
+  forward_turned : GoesForward R
+  forward_turned =
+      record {
+        labels = λ j js s e l n.
+            let y = stood m.code R.code refl (stands_tail s) in
+            subst (λ ls. Contains ls l) (sym (labels_turned y.next) ∙ ap labels_in y.is_next)
+            (forward_label y.line y.next y.stands (sym (same_exit to y.line.op) ∙ ap (λ (j : Line). is_exit j.op) y.is_line ∙ e) l
+            (subst (λ (j : Line). NamesLabel l j.op) (sym y.is_line) n));
+        handlers = λ j js l tries r raise.
+            let x = source_line m to each r in
+            subst (λ ls. Contains ls l) (sym (labels_turned x.next) ∙ ap labels_in x.is_next)
+            (regular.forward.handlers x.line x.next l tries x.reached (sym (same_raise to x.line.op) ∙ ap (λ (j : Line). may_raise j.op) x.is_line ∙ raise));
+      }
+
+  -- a move is not redirected
+  move_was : (i : Line) (j : Line) {from to' : Spot} → redirect to i ≡ j → IsSelfMove j from to' → IsSelfMove i from to'
+  move_was i j e (is_self_move {from = a} {to = b} same) =
+      let o = op_was m to each i.op _ (ap (λ (j : Line). j.op) e) in
+      let back : redirect to i ≡ i = ap (λ o. record { op = o; args = i.args; results = i.results }) (ap (redirected to) o ∙ sym o) in
+      subst (λ (k : Line). IsSelfMove k a b) (sym e ∙ back) (is_self_move same)
+
+  regular_turned : IsRegular R
+  regular_turned =
+      record {
+        well = well_turned;
+        homes = homes_turned;
+        traps = traps_turned;
+        forward = forward_turned;
+        seated = record {
+          params = regular.seated.params;
+          operands = λ j c. from_line (λ j. AreSeated (lin_operand_seats j.op) (places_of j.args))
+              (λ i z. subst (λ s. AreSeated s (places_of i.args)) (sym (same_operands to i.op)) (regular.seated.operands i (contains_of z))) j
+              (in_of j R.code c);
+          results = λ j c. from_line (λ j. AreSeated (lin_result_seats j.op) (places_of j.results))
+              (λ i z. subst (λ s. AreSeated s (places_of i.results)) (sym (same_results to i.op)) (regular.seated.results i (contains_of z))) j
+              (in_of j R.code c);
+        };
+        changes = λ j c from to' z.
+            let y = line_was m to each j m.code (in_of j R.code c) in regular.changes y.0 (contains_of y.1) from to' (move_was y.0 j y.2 z);
+      }
+
+  shape_turned : SameShape m R
+  shape_turned = record { slots = refl; params = refl; labels = labels_same; lines = omega (arith, lines_same m.code) }
+
+redirecting_regular : {m r : Lin} → Redirects m r → IsRegular m → IsRegular r
+redirecting_regular {m} h regular = subst IsRegular (sym h.is) (regular_turned m h.to h.each regular)
+
+redirecting_shape : {m r : Lin} → Redirects m r → IsRegular m → SameShape m r
+redirecting_shape {m} h regular = subst (SameShape m) (sym h.is) (shape_turned m h.to h.each regular)
+
+-- ---- all
+
+-- What is made tidy stays regular.
+pub tidied_regular : {m r : Lin} → Tidies m r → IsRegular m → IsRegular r
+tidied_regular as_it_is regular = regular
+tidied_regular (then_leaves t l) regular = leaving_regular l (tidied_regular t regular)
+tidied_regular (then_redirects t l) regular = redirecting_regular l (tidied_regular t regular)
+
+shape_then : {m q r : Lin} → SameShape m q → SameShape q r → SameShape m r
+shape_then x y =
+    let one = x.lines in
+    let two = y.lines in
+    record { slots = y.slots ∙ x.slots; params = y.params ∙ x.params; labels = y.labels ∙ x.labels; lines = omega (arith, one, two) }
+
+-- It has the same slots, parameters and labels, and no more lines.
+pub tidied_shape : {m r : Lin} → Tidies m r → IsRegular m → SameShape m r
+tidied_shape as_it_is regular = record { slots = refl; params = refl; labels = refl; lines = omega arith }
+tidied_shape (then_leaves t l) regular = shape_then (tidied_shape t regular) (leaving_shape l)
+tidied_shape (then_redirects t l) regular = shape_then (tidied_shape t regular) (redirecting_shape l (tidied_regular t regular))

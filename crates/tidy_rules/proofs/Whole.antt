@@ -1,0 +1,85 @@
+-- The tidy function: each of its frame points is reached, it is tight, and it keeps what it was made from.
+use Rattle.std.proofs.Common.{◌≡◌, ◌≢◌, ℕ, true, false, List, ◌∷◌, All, refl, sym, subst}
+use Rattle.std.proofs.lemmas.Bool.{true≢false}
+use Rattle.bs_words.specs.declared.types.Loc.TheVariants as loc
+use Rattle.mach_ir.specs.Walks as mach_walks
+use Rattle.mach_ir.specs.declared.mach.Mach.{Mach}
+use Rattle.lin_ir.specs.Descriptors.{NamesLives, NoAddrLive}
+use Rattle.lin_ir.specs.Formed.{IsTight}
+use Rattle.lin_ir.specs.Keeps.{Keeps}
+use Rattle.lin_ir.specs.Meaning.{NamedAt, passes_frame}
+use Rattle.lin_ir.specs.Walks as walks
+use Rattle.lin_ir.specs.Walks.{Stands, Reached, Live, by_walk, after_step}
+use Rattle.lin_ir.specs.declared.lin.LinOp.{LinOp}
+use Rattle.lin_ir.specs.declared.lin.LinOp.TheVariants as lin
+use Rattle.lin_ir.specs.declared.lin.Line.{Line}
+use Rattle.lin_ir.specs.declared.lin.Lin.{Lin}
+use Rattle.linear_rules.specs.Keeps.{KeepsReached}
+use Rattle.linear_rules.proofs.Homes.{contains_of}
+use Rattle.linear_rules.proofs.Lowering.{no_addr_live}
+use Rattle.linear_rules.proofs.Walked.{tail_in, stands_tail}
+use Rattle.tidy_rules.specs.Leaving.{is_landing}
+use Rattle.tidy_rules.specs.Redirecting.{Tidies}
+use Rattle.tidy_rules.specs.Regular.{IsRegular, IsTidy}
+use Rattle.tidy_rules.proofs.Keeping.{keeps_tidied, keeps_named}
+use Rattle.tidy_rules.proofs.Leaving.{self_goes}
+use Rattle.tidy_rules.proofs.Shape.{SameShape}
+use Rattle.tidy_rules.proofs.Tidied.{tidied_regular, tidied_shape}
+
+no_landing : (f : LinOp) → passes_frame f ≡ true → is_landing f ≡ false
+no_landing (lin.Op f) e = refl
+no_landing (lin.Flow f) e = absurd (true≢false (sym e))
+
+module _ (m : Lin) (regular : IsRegular m) (tidy : IsTidy m) where
+  -- each frame point is reached
+  pub points_reached : (i : Line) (next : List Line) → Stands i next m.code → passes_frame i.op ≡ true → (tries : List ℕ) × Reached m (i ∷ next) tries
+  points_reached i next s e = tidy.reached i next s (no_landing i.op e)
+
+  -- A tidy function is tight.
+  pub tidy_tight : IsTight m
+  tidy_tight =
+      record {
+        tight = λ i next s from to z.
+            let y = tidy.read i next s from to z in
+            let g = self_goes z in
+            record {
+              changes = regular.changes i (contains_of (tail_in (stands_tail s))) from to z;
+              type = y.type;
+              tries = y.tries;
+              traps = by_walk y.reached;
+              read = after_step (walks.goes _ g.on) (subst (Live m to.loc y.type next) (sym (g.tries y.tries)) y.live);
+            };
+      }
+
+-- What has been made tidy keeps the Mach function with exact names, and so never reads poison where that is not stuck.
+pub tidied_keeps : {p : Mach} {m r : Lin} → KeepsReached p m → IsRegular m → Tidies m r → IsTidy r → mach_walks.NoAddrLive p → (named : NamedAt) →
+    NamesLives r named →
+    ((n : ℕ) → All (λ l. l ≢ loc.Unset) (named n)) → Keeps p r named
+tidied_keeps {p} {m} {r} keeps regular tidies tidy safe named exact fixed =
+    let left = tidied_regular tidies regular in
+    keeps_named p r (keeps_tidied keeps tidies) left.well left.traps (points_reached r left tidy) safe named exact fixed
+
+-- no location is live as addr after any of its frame points, where that is so of the Mach function
+pub tidied_no_addr : {p : Mach} {m r : Lin} → KeepsReached p m → IsRegular m → Tidies m r → IsTidy r → mach_walks.NoAddrLive p → NoAddrLive r
+tidied_no_addr {p} {m} {r} keeps regular tidies tidy safe =
+    no_addr_live r (points_reached r (tidied_regular tidies regular) tidy) ((keeps_tidied keeps tidies).addrs safe)
+
+-- what holds of a function that was made tidy
+pub record Whole (p : Mach) (m r : Lin) : Type 0 where
+  -- with exact names it does what the Mach function does, and so never reads poison where that is not stuck
+  pub keeps : (named : NamedAt) → NamesLives r named → ((n : ℕ) → All (λ l. l ≢ loc.Unset) (named n)) → Keeps p r named
+  pub tight : IsTight r
+  pub no_addr : NoAddrLive r
+  -- it is well formed, goes forward and is seated, and each place is reached with the same traps
+  pub regular : IsRegular r
+  pub shape : SameShape m r
+
+pub tidied_whole : {p : Mach} {m r : Lin} → KeepsReached p m → IsRegular m → Tidies m r → IsTidy r → mach_walks.NoAddrLive p → Whole p m r
+tidied_whole {p} {m} {r} keeps regular tidies tidy safe =
+    record {
+      keeps = λ named exact fixed. tidied_keeps keeps regular tidies tidy safe named exact fixed;
+      tight = tidy_tight r (tidied_regular tidies regular) tidy;
+      no_addr = tidied_no_addr keeps regular tidies tidy safe;
+      regular = tidied_regular tidies regular;
+      shape = tidied_shape tidies regular;
+    }

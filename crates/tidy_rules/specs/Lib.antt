@@ -1,0 +1,5 @@
+pub mod Keeps
+pub mod Leaving
+pub mod Regular
+pub mod Redirecting
+pub mod Vals

@@ -1,0 +1,8 @@
+//! What is done to the lines of a Linear function after linearisation: lines that no walk reaches,
+//! and moves of a location to itself after which it is not read, are left out.
+//!
+//! Each such change keeps what the function does where nothing is lost at frame points, and
+//! shrinks what is live. So with exact names no poison is read by what is left.
+//!
+//! The crate holds definitions and laws alone.
+#![tactic(auto)]
