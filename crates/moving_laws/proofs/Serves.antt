@@ -242,7 +242,7 @@ module _ (h : Hart) (from : ℕ) (young : List Placed) (f : Frame) (fs : List Fr
           limit =
               let moves = has_moved (extents h.image h.heap h.stack_base) olds news h.memory places knows.sound.memory in
               word_same (moved_memory olds news h.memory places) 0x20000000 limit_at_rest (formed_regions (extents h.image h.heap h.stack_base)
-                  (moved_memory olds news h.memory places) moves)
+              (moved_memory olds news h.memory places) moves)
               (limit_readable h.image h.heap h.stack_base (moved_memory olds news h.memory places) moves) (omega arith);
           stays = stack_keeps h.image olds news places h.memory after.memory holds.blocks r new_are.sizes knows.old.inside h.stack_base base_high can;
         }
