@@ -2,7 +2,7 @@
 -- the least forms in which each branch and jump reaches its label.
 --
 -- Places are numbers of words from the entry of the function.
-use Rattle.std.specs.Prelude.{◌≡◌, ℕ, ◌+◌, ◌<◌, ◌≤◌, Bool, false, cond, ◌&&◌, ◌==◌, nat_lt, nat_le, List, [], ◌∷◌, length, Option, Some, None, option_map, ⊤}
+use Rattle.std.specs.Prelude.{◌≡◌, ℕ, ◌+◌, ◌≤◌, Bool, false, cond, ◌&&◌, ◌==◌, nat_lt, nat_le, List, [], ◌∷◌, length, Option, Some, None, option_map, ⊤}
 use Rattle.layout_rules.specs.declared.form.Form.{Form}
 use Rattle.layout_rules.specs.declared.form.Form.TheVariants.{Near, Middle, Far}
 use Rattle.rv_pieces.specs.declared.piece.Piece.{Piece}
@@ -116,3 +116,25 @@ NoLonger (f ∷ forms) (g ∷ others) = (rank f ≤ rank g) × NoLonger forms ot
 pub record AreForms (ps : List Piece) (forms : List Form) : Type 0 where
   pub reach : Reach ps forms
   pub least : (others : List Form) → Reach ps others → NoLonger forms others
+
+-- ---- making forms longer
+
+-- the longer of two forms
+abbrev pub longer : Form → Form → Form
+longer f g = cond (nat_lt (rank f) (rank g)) g f
+
+-- each form, or the longer one that its piece needs, where labels have these places
+abbrev pub grown_from : (places : ℕ → ℕ) → (at : ℕ) → List Piece → List Form → List Form
+grown_from places at [] forms = []
+grown_from places at (p ∷ ps) [] = []
+grown_from places at (p ∷ ps) (f ∷ forms) =
+    longer f (needed places at p) ∷ grown_from places (at + words_of p f) ps forms
+
+-- every form is the shortest
+abbrev pub AllNear : List Form → Type 0
+AllNear [] = ⊤
+AllNear (f ∷ forms) = (f ≡ Near) × AllNear forms
+
+abbrev pub ranks : List Form → ℕ
+ranks [] = 0
+ranks (f ∷ forms) = rank f + ranks forms
