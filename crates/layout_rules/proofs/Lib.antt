@@ -1,1 +1,3 @@
 pub mod Relaxing
+pub mod Offsets
+pub mod Standing

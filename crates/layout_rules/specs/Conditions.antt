@@ -26,6 +26,12 @@ abbrev pub PieceFits : Piece → Type 0
 PieceFits (piece.Known i) = InstrFits i
 PieceFits _ = ⊤
 
+-- a branch and a jump lead to where an instruction may stand
+abbrev pub LeadsTo : ℕ → Piece → Type 0
+LeadsTo to (piece.Branch c a b l) = to % 4 ≡ 0
+LeadsTo to (piece.Jump l) = to % 4 ≡ 0
+LeadsTo to _ = ⊤
+
 -- what a piece names stands: its label once among the pieces, its symbol and its external call in the
 -- file
 pub record IsNamed (file : FileTree) (ps : List Piece) (p : Piece) : Type 0 where

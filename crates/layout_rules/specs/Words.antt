@@ -80,21 +80,42 @@ jump_code Near at to = instr.Jal 0 (jal_offset at to) ∷ []
 jump_code Middle at to = far_jump 0 t1 at to
 jump_code Far at to = far_jump 0 t1 at to
 
--- the instructions of a piece that stands at an address
+-- what the name of a piece stands for: an address, or the number of an external call
+abbrev pub target_of : Named → Piece → ℕ
+target_of n (Known i) = 0
+target_of n (Label l) = 0
+target_of n (Branch c a b l) = n.label l
+target_of n (Jump l) = n.label l
+target_of n (Row l) = n.label l
+target_of n (LabelAddress r l) = n.label l
+target_of n (Call name) = n.symbol name
+target_of n (TailCall name) = n.symbol name
+target_of n (SymbolAddress r name) = n.symbol name
+target_of n (ExternalNumber r row) = n.external (row_of row)
+target_of n (Descriptor d) = 0
+
+-- the address of a place that is told from here, into a register
+abbrev pub address_into : (rd at to : ℕ) → List Instr
+address_into rd at to =
+    instr.Auipc rd (upper (distance at to))
+    ∷ instr.OpImm Addi rd rd (lower (distance at to)) ∷ []
+
+-- the instructions of a piece that stands at an address, where its name stands for `to`
+abbrev pub code_to : (at to : ℕ) → Piece → Form → List Instr
+code_to at to (Known i) form = i ∷ []
+code_to at to (Label l) form = []
+code_to at to (Branch c a b l) form = branch_code form c a b at to
+code_to at to (Jump l) form = jump_code form at to
+code_to at to (Row l) form = far_jump 0 t1 at to
+code_to at to (LabelAddress r l) form = address_into (number r) at to
+code_to at to (Call name) form = far_jump ra ra at to
+code_to at to (TailCall name) form = far_jump 0 t1 at to
+code_to at to (SymbolAddress r name) form = number_into (number r) to
+code_to at to (ExternalNumber r row) form = number_into (number r) to
+code_to at to (Descriptor d) form = []
+
 abbrev pub code_of : Named → (at : ℕ) → Piece → Form → List Instr
-code_of n at (Known i) form = i ∷ []
-code_of n at (Label l) form = []
-code_of n at (Branch c a b l) form = branch_code form c a b at (n.label l)
-code_of n at (Jump l) form = jump_code form at (n.label l)
-code_of n at (Row l) form = far_jump 0 t1 at (n.label l)
-code_of n at (LabelAddress r l) form =
-    instr.Auipc (number r) (upper (distance at (n.label l)))
-    ∷ instr.OpImm Addi (number r) (number r) (lower (distance at (n.label l))) ∷ []
-code_of n at (Call name) form = far_jump ra ra at (n.symbol name)
-code_of n at (TailCall name) form = far_jump 0 t1 at (n.symbol name)
-code_of n at (SymbolAddress r name) form = number_into (number r) (n.symbol name)
-code_of n at (ExternalNumber r row) form = number_into (number r) (n.external (row_of row))
-code_of n at (Descriptor d) form = []
+code_of n at p form = code_to at (target_of n p) p form
 
 -- the words of pieces, the first of which stands at an address
 abbrev pub words_from : Named → (at : ℕ) → List Piece → List Form → List ℕ
