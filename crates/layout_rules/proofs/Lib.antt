@@ -1,3 +1,4 @@
 pub mod Relaxing
 pub mod Offsets
 pub mod Standing
+pub mod Functions

@@ -44,6 +44,8 @@ pub record IsNamed (file : FileTree) (ps : List Piece) (p : Piece) : Type 0 wher
 pub record IsDescriptor (d : Descr) : Type 0 where
   pub size_aligned : d.size % 16 ≡ 0
   pub nonempty : 16 ≤ d.size
+  pub size_fits : d.size < 2 ^ 32
+  pub few : length d.entries < 2 ^ 32
   pub entries : AllByRecursion (IsEntry d.size) d.entries
   pub in_order : EachNext IsNextEntry d.entries
 
