@@ -1,17 +1,17 @@
 -- The functions of an image: each stands at its entry, and together they fill the code.
-use Rattle.std.proofs.Common.{◌≡◌, ℕ, zero, suc, ◌+◌, ◌*◌, ◌%◌, ◌^◌, ◌<◌, ◌≤◌, List, [], ◌∷◌, ◌++◌, length, Option, Some, None, refl, sym, ap, ◌∙◌, subst, length-append, append_assoc, append-nil, arith}
+use Rattle.std.proofs.Common.{◌≡◌, ℕ, zero, suc, ◌+◌, ◌*◌, ◌^◌, ◌<◌, ◌≤◌, List, [], ◌∷◌, ◌++◌, length, Some, refl, subst, length-append, append_assoc, arith}
 use Rattle.std.specs.Prelude.{slice_get}
-use Rattle.std.specs.List.{AllByRecursion, AllZip}
+use Rattle.std.specs.List.{AllByRecursion}
 use Rattle.cmm_tree.specs.Tree.{FunctionTree, FileTree, functions}
 use Rattle.correctness.specs.Bounds.{FillCode}
 use Rattle.image_form.specs.Image.{stub, code_limit}
-use Rattle.image_form.specs.Tables.{Func, Tables}
+use Rattle.image_form.specs.Tables.{Func}
 use Rattle.layout_rules.specs.declared.form.Form.{Form}
-use Rattle.layout_rules.specs.Conditions.{PieceFits, LeadsTo, IsFunctionLaid, CanBeLaid}
+use Rattle.layout_rules.specs.Conditions.{LeadsTo, IsFunctionLaid, CanBeLaid}
 use Rattle.layout_rules.specs.Forms.{words_of, total_words, ReachFrom, AreForms, place_of}
 use Rattle.layout_rules.specs.Laid.{stub_words, address_of_place, entries_from, names_at, function_words, code_from, rows_from, laid_out, AreAllForms}
 use Rattle.layout_rules.specs.Stands.{StandsAt, Stands}
-use Rattle.layout_rules.specs.Words.{Named, target_of}
+use Rattle.layout_rules.specs.Words.{target_of}
 use Rattle.layout_rules.proofs.Standing.{words_length, pieces_stand}
 use Rattle.rv_pieces.specs.declared.piece.Piece.{Piece}
 use Rattle.rv_pieces.specs.declared.piece.Piece.TheVariants.{Known, Label, Branch, Jump, Row, LabelAddress, Call, TailCall, SymbolAddress, ExternalNumber, Descriptor}

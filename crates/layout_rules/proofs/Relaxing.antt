@@ -1,10 +1,9 @@
 -- Making forms longer ends in the least forms in which all labels are reached.
-use Rattle.std.proofs.Common.{◌≡◌, ◌⊎◌, ℕ, zero, suc, ◌+◌, ◌*◌, ◌<◌, ◌≤◌, Bool, true, false, cond, ◌&&◌, leb-true, ltb-true, ltb-false, le-leb, List, [], ◌∷◌, ◌++◌, length, Option, Some, None, refl, sym, ap, ◌∙◌, subst, inl, inr, lt-ltb, arith}
+use Rattle.std.proofs.Common.{◌≡◌, ◌⊎◌, ℕ, suc, ◌+◌, ◌*◌, ◌<◌, ◌≤◌, Bool, true, false, cond, ◌&&◌, leb-true, ltb-true, ltb-false, le-leb, List, [], ◌∷◌, ◌++◌, length, Option, Some, None, refl, inl, inr, lt-ltb, arith}
 use Rattle.std.specs.Prelude.{nat_lt, nat_le}
-use Rattle.std.proofs.lemmas.Bool.{cases_lt}
 use Rattle.layout_rules.specs.declared.form.Form.{Form}
 use Rattle.layout_rules.specs.declared.form.Form.TheVariants.{Near, Middle, Far}
-use Rattle.layout_rules.specs.Forms.{branch_words, jump_words, words_of, total_words, is_label, label_from, place_or_entry, place_of, branch_reaches, jal_reaches, branch_form, jump_form, needed, rank, ReachFrom, Reach, NoLonger, AreForms, AllNear, longer, grown_from, ranks}
+use Rattle.layout_rules.specs.Forms.{branch_words, jump_words, words_of, is_label, label_from, place_or_entry, place_of, branch_reaches, jal_reaches, branch_form, jump_form, needed, rank, ReachFrom, Reach, NoLonger, AreForms, AllNear, longer, grown_from, ranks}
 use Rattle.rv_pieces.specs.declared.piece.Piece.{Piece}
 use Rattle.rv_pieces.specs.declared.piece.Piece.TheVariants.{Known, Label, Branch, Jump, Row, LabelAddress, Call, TailCall, SymbolAddress, ExternalNumber, Descriptor}
 

@@ -1,19 +1,16 @@
 -- The tables of an image keep its rules: functions and descriptors.
-use Rattle.std.proofs.Common.{◌≡◌, ℕ, zero, suc, ◌+◌, ◌*◌, ◌%◌, ◌^◌, ◌<◌, ◌≤◌, Bool, true, false, List, [], ◌∷◌, ◌++◌, length, map, All, refl, sym, ap, ◌∙◌, subst, length-append, arith}
-use Rattle.std.specs.Prelude.{count_by}
-use Rattle.std.specs.List.{AllByRecursion, flat_map}
+use Rattle.std.proofs.Common.{◌≡◌, ℕ, suc, ◌+◌, ◌*◌, ◌<◌, ◌≤◌, Bool, true, false, List, [], ◌∷◌, ◌++◌, All, subst, arith}
+use Rattle.std.specs.List.{AllByRecursion}
 use Rattle.std.proofs.lemmas.List.{length-map}
 use Rattle.bs_words.specs.Symbol.{IsSymbol}
-use Rattle.cmm_tree.specs.Tree.{FunctionTree, FileTree, functions}
-use Rattle.image_form.specs.Image.{First, EachNext, IsName, IsFunc, IsBehind, IsDesc, end_of}
-use Rattle.image_form.specs.Tables.{Func, Desc, func_names}
+use Rattle.cmm_tree.specs.Tree.{FunctionTree, FileTree}
+use Rattle.image_form.specs.Image.{First, EachNext, IsName, IsFunc, IsDesc}
+use Rattle.image_form.specs.Tables.{Desc}
 use Rattle.layout_rules.specs.declared.form.Form.{Form}
 use Rattle.layout_rules.specs.declared.form.Form.TheVariants.{Near, Middle, Far}
 use Rattle.layout_rules.specs.Conditions.{AreDescriptors, IsDescriptor, IsFunctionLaid, IsRowLaid}
 use Rattle.layout_rules.specs.Forms.{branch_words, jump_words, words_of, total_words}
-use Rattle.layout_rules.specs.Laid.{rows_from, descs_in, descs_from, AreAllForms}
-use Rattle.layout_rules.specs.Named.{has_words}
-use Rattle.lin_ir.specs.declared.descr.Descr.{Descr}
+use Rattle.layout_rules.specs.Laid.{rows_from, descs_in, descs_from}
 use Rattle.rv_pieces.specs.declared.piece.Piece.{Piece}
 use Rattle.rv_pieces.specs.declared.piece.Piece.TheVariants.{Known, Label, Branch, Jump, Row, LabelAddress, Call, TailCall, SymbolAddress, ExternalNumber, Descriptor}
 use Rattle.rv_pieces.specs.declared.piece.Pieces.{Pieces}

@@ -1,5 +1,5 @@
 -- The words of pieces stand in the code where they are laid.
-use Rattle.std.proofs.Common.{◌≡◌, ℕ, zero, suc, ◌+◌, ◌*◌, ◌%◌, ◌^◌, ◌<◌, ◌≤◌, List, [], ◌∷◌, ◌++◌, length, map, Some, refl, sym, ap, ◌∙◌, subst, length-append, append_assoc, arith}
+use Rattle.std.proofs.Common.{◌≡◌, ℕ, ◌+◌, ◌*◌, ◌%◌, ◌^◌, ◌<◌, ◌≤◌, List, [], ◌∷◌, ◌++◌, length, map, Some, refl, sym, ap, ◌∙◌, subst, length-append, append_assoc, arith}
 use Rattle.std.specs.Prelude.{slice_get}
 use Rattle.std.specs.List.{AllByRecursion}
 use Rattle.std.proofs.lemmas.List.{length-map, get_or_at}
@@ -10,12 +10,11 @@ use Rattle.layout_rules.specs.Conditions.{PieceFits, LeadsTo}
 use Rattle.layout_rules.specs.Forms.{words_of, total_words}
 use Rattle.layout_rules.specs.Laid.{address_of_place}
 use Rattle.layout_rules.specs.Stands.{HasCode, HasPieces}
-use Rattle.layout_rules.specs.Words.{Named, code_to, code_of, target_of, words_from}
+use Rattle.layout_rules.specs.Words.{Named, code_to, code_of, target_of, words_from, words_to}
 use Rattle.rv_isa.specs.Encoding.{InstrFits, encoded}
 use Rattle.rv_isa.specs.Registers.{number}
 use Rattle.rv_isa.specs.declared.register.Register.{Register}
 use Rattle.rv_isa.specs.declared.register.Register.TheVariants.{Zero, Ra, Sp, Gp, Tp, T0, T1, T2, S0, S1, A0, A1, A2, A3, A4, A5, A6, A7, S2, S3, S4, S5, S6, S7, S8, S9, S10, S11, T3, T4, T5, T6}
-use Rattle.rv_isa.specs.declared.instr.Condition.{Condition}
 use Rattle.rv_isa.specs.declared.instr.Instr.{Instr}
 use Rattle.rv_pieces.specs.declared.piece.Piece.{Piece}
 use Rattle.rv_pieces.specs.declared.piece.Piece.TheVariants.{Known, Label, Branch, Jump, Row, LabelAddress, Call, TailCall, SymbolAddress, ExternalNumber, Descriptor}
@@ -142,3 +141,10 @@ pieces_stand n (p ∷ ps) (f ∷ fs) pre post at e same low fits leads =
     let later = pieces_stand n ps fs (pre ++ words) post (at + words_of p f) next (omega (arith, same)) low' fits.1 leads in
     let moved = subst (λ a. HasPieces ((pre ++ words) ++ (words_from n a ps fs ++ post)) n (at + words_of p f) ps fs) (sym place) later in
     (first, subst (λ code. HasPieces code n (at + words_of p f) ps fs) (append_assoc pre words (rest ++ post) ∙ sym same-words) moved)
+
+-- The words of pieces are those of their targets, one by one.
+pub words_by_targets : (n : Named) (at : ℕ) (ps : List Piece) (fs : List Form) → words_to at (map (target_of n) ps) ps fs ≡ words_from n at ps fs
+words_by_targets n at [] fs = refl
+words_by_targets n at (p ∷ ps) [] = refl
+words_by_targets n at (p ∷ ps) (f ∷ fs) =
+    ap (λ rest. map encoded (code_of n at p f) ++ rest) (words_by_targets n (at + 4 * words_of p f) ps fs)

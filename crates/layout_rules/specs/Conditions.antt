@@ -1,7 +1,7 @@
 -- What laying out asks of a file and of the pieces of its functions.
-use Rattle.std.specs.Prelude.{◌≡◌, ℕ, ◌+◌, ◌%◌, ◌^◌, ◌<◌, ◌≤◌, Bool, true, false, List, [], ◌∷◌, ◌++◌, length, map, Option, Some, None, IsSome, Contains, count_by, sum_by, ⊤}
+use Rattle.std.specs.Prelude.{◌≡◌, ℕ, ◌+◌, ◌%◌, ◌^◌, ◌<◌, ◌≤◌, Bool, true, false, List, [], ◌∷◌, ◌++◌, length, map, Some, None, IsSome, Contains, count_by, sum_by, ⊤}
 use Rattle.std.specs.List.{AllByRecursion}
-use Rattle.bs_words.specs.Symbol.{IsSymbol, caml_bound_error}
+use Rattle.bs_words.specs.Symbol.{IsSymbol}
 use Rattle.bs_words.specs.External.{External}
 use Rattle.cmm_data.specs.Faults.{data_fault_of}
 use Rattle.cmm_data.specs.Placement.{DataSymbolTree, symbols_of, value_of_symbol}
@@ -31,6 +31,11 @@ abbrev pub LeadsTo : ℕ → Piece → Type 0
 LeadsTo to (piece.Branch c a b l) = to % 4 ≡ 0
 LeadsTo to (piece.Jump l) = to % 4 ≡ 0
 LeadsTo to _ = ⊤
+
+abbrev pub AllLead : List ℕ → List Piece → Type 0
+AllLead targets [] = ⊤
+AllLead [] (p ∷ ps) = ⊥
+AllLead (to ∷ targets) (p ∷ ps) = LeadsTo to p × AllLead targets ps
 
 -- what a piece names stands: its label once among the pieces, its symbol and its external call in the
 -- file

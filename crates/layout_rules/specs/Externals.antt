@@ -1,12 +1,12 @@
 -- The external calls of a file, by their rows, in the order of their first use in the text.
-use Rattle.std.specs.Prelude.{ℕ, Bool, false, cond, ◌||◌, List, [], ◌∷◌, ◌++◌, Option, None, Some, bytes_eq, reverse}
+use Rattle.std.specs.Prelude.{ℕ, Bool, false, cond, ◌||◌, ◌&&◌, ◌==◌, List, [], ◌∷◌, ◌++◌, map, bytes_eq}
 use Rattle.std.specs.List.{flat_map, position_or_len}
 use Rattle.bs_words.specs.External.{External}
 use Rattle.bs_words.specs.declared.types.Ty.TheVariants.{Val}
 use Rattle.cmm_meaning.specs.Evaluation.{row_of_call}
 use Rattle.cmm_tree.specs.Tree.{Expression, Integer, Pointer, Symbol, Name, Nothing, Float, Let, Assign, Operator, Load, Store, Alloc, App, Extcall, Checkbound, Raise, Seq, If, Switch, Catch, Exit, Try, Expressions, NoMore, More, Bindings, NoBinding, Bind, Cases, NoCase, Choose, Handlers, NoHandler, Handle, FunctionTree, FileTree, functions}
 use Rattle.cmm_types.specs.Types.{Scoped, with_parameters, with_bindings}
-use Rattle.image_form.specs.Image.{ext_bytes}
+use Rattle.image_form.specs.Image.{comp_byte, ret_byte}
 use Rattle.image_form.specs.Tables.{Ext}
 
 -- the rows of all external calls in an expression, in the order of the text, with these names in scope
@@ -73,9 +73,12 @@ all_calls file = flat_map calls_in_function (functions file)
 abbrev pub ext_of : External → Ext
 ext_of e = record { name = e.name; params = e.params; result = e.result }
 
--- two calls are of one row where an image spells them alike
+-- two calls are of one row where their names, their arguments and their results are the same
 abbrev pub same_row : External → External → Bool
-same_row a b = bytes_eq (ext_bytes (ext_of a)) (ext_bytes (ext_of b))
+same_row a b =
+    bytes_eq a.name b.name
+    && bytes_eq (map comp_byte a.params) (map comp_byte b.params)
+    && (ret_byte a.result == ret_byte b.result)
 
 abbrev pub is_among : List External → External → Bool
 is_among [] e = false

@@ -1,5 +1,5 @@
 -- The image of a file whose functions are pieces.
-use Rattle.std.specs.Prelude.{◌≡◌, ℕ, ◌+◌, ◌-◌, ◌*◌, List, [], ◌∷◌, ◌++◌, length, map, take, Option, Some, None, slice_index}
+use Rattle.std.specs.Prelude.{◌≡◌, ℕ, ◌+◌, ◌-◌, ◌*◌, List, [], ◌∷◌, ◌++◌, map, take, Option, Some, None, slice_index}
 use Rattle.std.specs.List.{flat_map, AllZip}
 use Rattle.std.specs.Int.{w64, to_le_bytes}
 use Rattle.bs_words.specs.Fits.{data_start}

@@ -123,3 +123,9 @@ words_from n at [] forms = []
 words_from n at (p ∷ ps) [] = []
 words_from n at (p ∷ ps) (f ∷ forms) =
     map encoded (code_of n at p f) ++ words_from n (at + 4 * words_of p f) ps forms
+
+-- the words of pieces whose names stand for these
+abbrev pub words_to : (at : ℕ) → (targets : List ℕ) → List Piece → List Form → List ℕ
+words_to at (to ∷ targets) (p ∷ ps) (f ∷ forms) =
+    map encoded (code_to at to p f) ++ words_to (at + 4 * words_of p f) targets ps forms
+words_to at _ _ _ = []
