@@ -4,6 +4,8 @@ use Rattle.std.proofs.lemmas.List.{drop_all, append-nil}
 use Rattle.layout_rules.specs.declared.form.Form.{Form}
 use Rattle.layout_rules.specs.declared.form.Form.TheVariants.{Near}
 use Rattle.layout_rules.specs.Forms.{words_of, needed, longer, grown_from, AllNear, ranks}
+use Rattle.layout_rules.specs.Laid.{desc_at, descs_in}
+use Rattle.rv_layout.specs.Descs.{desc_in}
 use Rattle.rv_layout.specs.Tables.{LabelBelow, LabelsBelow}
 use Rattle.rv_pieces.specs.declared.piece.Piece.{Piece}
 use Rattle.rv_pieces.specs.declared.piece.Piece.TheVariants.{Known, Label, Branch, Jump, Row, LabelAddress, Call, TailCall, SymbolAddress, ExternalNumber, Descriptor}
@@ -70,3 +72,20 @@ all_near (suc n) = (refl, all_near n)
 pub ranks_near : (n : ℕ) → ranks (replicate n Near) ≡ 0
 ranks_near zero = refl
 ranks_near (suc n) = let e = ranks_near n in omega (arith, e)
+
+-- ---- descriptors
+
+pub descs_step : (at : ℕ) (p : Piece) (f : Form) (ps : List Piece) (fs : List Form) → descs_in at (p ∷ ps) (f ∷ fs) ≡ desc_in at p ++ descs_in (at + words_of p f) ps fs
+descs_step at (Known i) f ps fs = refl
+descs_step at (Label k) f ps fs = refl
+descs_step at (Branch c a b k) f ps fs = refl
+descs_step at (Jump k) f ps fs = refl
+descs_step at (Row k) f ps fs = refl
+descs_step at (LabelAddress r k) f ps fs = refl
+descs_step at (Call name) f ps fs = refl
+descs_step at (TailCall name) f ps fs = refl
+descs_step at (SymbolAddress r name) f ps fs = refl
+descs_step at (ExternalNumber r row) f ps fs = refl
+descs_step at (Descriptor d) f ps fs =
+    let same : at ≡ at + 0 = omega arith in
+    ap (λ n. desc_at at d ∷ descs_in n ps fs) same

@@ -7,10 +7,16 @@
 //! past their reach only where they stand at its very edge.
 #![tactic(auto)]
 
+mod descs;
 mod forms;
 mod instructions;
 mod labels;
+mod sizes;
+mod words;
 
+pub use descs::put_descs;
 pub use forms::{forms_of, words_of};
 pub use instructions::put_piece;
 pub use labels::Labels;
+pub use sizes::{Sizes, too_large};
+pub use words::{Placed, put_words};
