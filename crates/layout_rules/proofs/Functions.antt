@@ -122,9 +122,11 @@ fill_code file entries (f ∷ fs) (q ∷ ps) (g ∷ forms) at same are =
     let rest = code_from file entries next ps forms in
     let later = fill_code file entries fs ps forms next (omega (arith, same)) are.1 in
     let begin : 4 * next ≡ 4 * at + 4 * total_words q.code g = omega arith in
-    let end : 4 * (next + length rest) ≡ 4 * (at + length (words ++ rest)) = omega (arith, length-append words rest, function_length file entries at q g) in
-    (refl, subst (λ to. FillCode (4 * at + 4 * total_words q.code g) to (rows_from next fs ps forms)) end
-    (subst (λ from. FillCode from (4 * (next + length rest)) (rows_from next fs ps forms)) begin later))
+    let end : 4 * (next + length rest) ≡ 4 * (at + length (words ++ rest)) = omega (arith, length-append words rest, function_length file entries at q g) in (
+      refl,
+      subst (λ to. FillCode (4 * at + 4 * total_words q.code g) to (rows_from next fs ps forms)) end
+          (subst (λ from. FillCode from (4 * (next + length rest)) (rows_from next fs ps forms)) begin later),
+    )
 
 -- ---- the whole
 

@@ -84,8 +84,9 @@ rank_most Far = omega arith
 
 closer : {a b a' b' : ℕ} (limit : ℕ) → Nearer a b a' b' → (b' < a' + suc limit) × (a' ≤ b' + suc limit) → (b < a + suc limit) × (a ≤ b + suc limit)
 closer {a = a} {b = b} {a' = a'} {b' = b'} limit near reach = elim near.either [
-    inl h ↦ (omega (arith, h.0, h.1, h.2, reach.0, reach.1), omega (arith, h.0, h.1, h.2, reach.0, reach.1))
-    | inr h ↦ (omega (arith, h.0, h.1, h.2, reach.0, reach.1), omega (arith, h.0, h.1, h.2, reach.0, reach.1)) ]
+  | inl h ↦ (omega (arith, h.0, h.1, h.2, reach.0, reach.1), omega (arith, h.0, h.1, h.2, reach.0, reach.1))
+  | inr h ↦ (omega (arith, h.0, h.1, h.2, reach.0, reach.1), omega (arith, h.0, h.1, h.2, reach.0, reach.1))
+]
 
 branch_nearer : (a b a' b' : ℕ) → Nearer a b a' b' → branch_reaches a' b' ≡ true → branch_reaches a b ≡ true
 branch_nearer a b a' b' near e =
@@ -99,8 +100,9 @@ jal_nearer a b a' b' near e =
 
 next_nearer : (a b a' b' : ℕ) → Nearer a b a' b' → jal_reaches (a' + 1) b' ≡ true → jal_reaches (a + 1) b ≡ true
 next_nearer a b a' b' near e = elim near.either [
-    inl h ↦ jal_does (a + 1) b (omega (arith, h.0, h.1, h.2, r.0, r.1)) (omega (arith, h.0, h.1, h.2, r.0, r.1))
-    | inr h ↦ jal_does (a + 1) b (omega (arith, h.0, h.1, h.2, r.0, r.1)) (omega (arith, h.0, h.1, h.2, r.0, r.1)) ]
+  | inl h ↦ jal_does (a + 1) b (omega (arith, h.0, h.1, h.2, r.0, r.1)) (omega (arith, h.0, h.1, h.2, r.0, r.1))
+  | inr h ↦ jal_does (a + 1) b (omega (arith, h.0, h.1, h.2, r.0, r.1)) (omega (arith, h.0, h.1, h.2, r.0, r.1))
+]
   where
     r : (b' < a' + 1 + 262144) × (a' + 1 ≤ b' + 262144)
     r = jal_within (a' + 1) b' e
@@ -257,10 +259,11 @@ grown_less places places' at at' (p ∷ ps) [] gs knows less reach = less
 grown_less places places' at at' (p ∷ ps) (f ∷ fs) [] knows less reach = absurd reach
 grown_less places places' at at' (p ∷ ps) (f ∷ fs) (g ∷ gs) knows less reach =
     let near : (l : ℕ) → Nearer at (places l) at' (places' l) = λ l. nearer l (places l) (places' l) at at' (p ∷ ps) (f ∷ fs) (g ∷ gs) less (knows l) in
-    let need : rank (needed places at p) ≤ rank g = omega (arith, needed_less places places' at at' p near, reach.0) in
-    (longer_less f (needed places at p) g less.0 need,
-    grown_less places places' (at + words_of p f) (at' + words_of p g) ps fs gs
-    (λ l. next_knows l (places l) (places' l) at at' p f g ps fs gs less.0 (knows l)) less.1 reach.1)
+    let need : rank (needed places at p) ≤ rank g = omega (arith, needed_less places places' at at' p near, reach.0) in (
+      longer_less f (needed places at p) g less.0 need,
+      grown_less places places' (at + words_of p f) (at' + words_of p g) ps fs gs
+          (λ l. next_knows l (places l) (places' l) at at' p f g ps fs gs less.0 (knows l)) less.1 reach.1,
+    )
 
 first_by : (l : ℕ) (ps : List Piece) (fs gs : List Form) (o o' : Option ℕ) → label_from l 0 ps fs ≡ o → label_from l 0 ps gs ≡ o' → Ahead 0 0 o o' →
     Knows l (place_or_entry o) (place_or_entry o') 0 0 ps fs gs
@@ -337,9 +340,10 @@ settled places at [] (f ∷ fs) e h = absurd (omega (arith, e))
 settled places at (p ∷ ps) [] e h = absurd (omega (arith, e))
 settled places at (p ∷ ps) (f ∷ fs) e h =
     let more = grown_more places (at + words_of p f) ps fs (omega (arith, e)) in
-    let own = longer_more f (needed places at p) in
-    ((longer_same f (needed places at p) (omega (arith, h, more))).1,
-    settled places (at + words_of p f) ps fs (omega (arith, e)) (omega (arith, h, own)))
+    let own = longer_more f (needed places at p) in (
+      (longer_same f (needed places at p) (omega (arith, h, more))).1,
+      settled places (at + words_of p f) ps fs (omega (arith, e)) (omega (arith, h, own)),
+    )
 
 -- Forms that are below all in which each label is reached, and that a round leaves as they are, are
 -- those of the function.

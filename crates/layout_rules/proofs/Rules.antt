@@ -112,18 +112,20 @@ descs_keep len prev at behind [] fs m h k are in_code = tt
 descs_keep len prev at behind (p ∷ ps) [] m h k are in_code = tt
 descs_keep len prev at behind (Descriptor d ∷ ps) (f ∷ fs) m h k are in_code =
     let less = k are.0 in
-    let own : IsDescriptor d = are.1 in
-    (record {
-      aligned = omega arith;
-      behind_stub = omega (arith, less, m);
-      in_code = omega (arith, in_code);
-      size_aligned = own.size_aligned;
-      nonempty = own.nonempty;
-      size_fits = own.size_fits;
-      few = own.few;
-      entries = own.entries;
-      in_order = own.in_order;
-    }, descs_keep len at at false ps fs (omega (arith, m, h)) (omega arith) (λ e. absurd (cc)) are.2 (omega (arith, in_code)))
+    let own : IsDescriptor d = are.1 in (
+      record {
+        aligned = omega arith;
+        behind_stub = omega (arith, less, m);
+        in_code = omega (arith, in_code);
+        size_aligned = own.size_aligned;
+        nonempty = own.nonempty;
+        size_fits = own.size_fits;
+        few = own.few;
+        entries = own.entries;
+        in_order = own.in_order;
+      },
+      descs_keep len at at false ps fs (omega (arith, m, h)) (omega arith) (λ e. absurd (cc)) are.2 (omega (arith, in_code)),
+    )
 descs_keep len prev at behind (Label l ∷ ps) (f ∷ fs) m h k are in_code =
     descs_keep len prev (at + 0) behind ps fs m (omega (arith, h)) (λ e. let less = k e in omega (arith, less)) are (omega (arith, in_code))
 descs_keep len prev at behind (Known i ∷ ps) (f ∷ fs) m h k are in_code =
@@ -216,13 +218,15 @@ pub each_func : (file : FileTree) (at : ℕ) (fs : List FunctionTree) (ps : List
 each_func file at [] ps forms rows laid = tt
 each_func file at (f ∷ fs) [] forms rows laid = tt
 each_func file at (f ∷ fs) (p ∷ ps) [] rows laid = tt
-each_func file at (f ∷ fs) (p ∷ ps) (k ∷ forms) rows laid =
-    (record {
-      name = is_name f.name rows.0.name;
-      aligned = omega arith;
-      frame = laid.0.frame;
-      frame_fits = laid.0.frame_fits;
-      few = omega (arith, rows.0.few, length-map f.params (λ p. p.comp));
-      params = rows.0.params;
-      result = rows.0.result;
-    }, each_func file (at + total_words p.code k) fs ps forms rows.1 laid.1)
+each_func file at (f ∷ fs) (p ∷ ps) (k ∷ forms) rows laid = (
+  record {
+    name = is_name f.name rows.0.name;
+    aligned = omega arith;
+    frame = laid.0.frame;
+    frame_fits = laid.0.frame_fits;
+    few = omega (arith, rows.0.few, length-map f.params (λ p. p.comp));
+    params = rows.0.params;
+    result = rows.0.result;
+  },
+  each_func file (at + total_words p.code k) fs ps forms rows.1 laid.1,
+)

@@ -27,7 +27,12 @@ fn row(alloc: Global, descr: &Descr, at: u64) -> Result<DescRow, AllocError>
 }
 
 /// Puts the row of a descriptor that stands here, if one does.
-fn put_desc(alloc: Global, rows: &mut Vec<DescRow>, piece: &Piece, at: u64) -> Result<(), AllocError>
+fn put_desc(
+    alloc: Global,
+    rows: &mut Vec<DescRow>,
+    piece: &Piece,
+    at: u64,
+) -> Result<(), AllocError>
     requires { 4 * at < 2 ^ 32 }
     ensures { OnOk result (map desc rows.new.items ≡ map desc rows.old.items ++ desc_in at piece.now) }
 {

@@ -38,7 +38,12 @@ pub fn words_of(piece: &Piece, form: Form) -> u64
     match piece {
         Piece::Known(_) => 1,
         Piece::Label(_) => 0,
-        Piece::Branch { condition: _, left: _, right: _, label: _ } => branch_words(form),
+        Piece::Branch {
+            condition: _,
+            left: _,
+            right: _,
+            label: _,
+        } => branch_words(form),
         Piece::Jump(_) => jump_words(form),
         Piece::Row(_) => 2,
         Piece::LabelAddress { to: _, label: _ } => 2,
@@ -122,9 +127,12 @@ fn needed(labels: &Labels, at: u64, piece: &Piece) -> Form
     ensures { result ≡ needed (places_of labels.now) at piece.now }
 {
     match piece {
-        Piece::Branch { condition: _, left: _, right: _, label } => {
-            branch_form(at, labels.place(*label))
-        }
+        Piece::Branch {
+            condition: _,
+            left: _,
+            right: _,
+            label,
+        } => { branch_form(at, labels.place(*label)) }
         Piece::Jump(label) => jump_form(at, labels.place(*label)),
         Piece::Known(_) => Form::Near,
         Piece::Label(_) => Form::Near,
@@ -163,7 +171,10 @@ fn grow(alloc: Global, code: &[Piece], forms: &[Form], labels: &Labels) -> Resul
         next.push(larger)?;
         at += words_of(piece, form);
     }
-    Ok(Grown { forms: next, ranks: sum })
+    Ok(Grown {
+        forms: next,
+        ranks: sum,
+    })
 }
 
 /// The forms of a function's pieces: the least in which each branch and jump reaches its label.
@@ -176,7 +187,10 @@ pub fn forms_of(alloc: Global, code: &[Piece]) -> Result<Vec<Form>, AllocError>
     let mut ranks: u64 = 0;
     loop {
         let labels = Labels::of(alloc, code, forms.as_slice(), bound)?;
-        let Grown { forms: next, ranks: sum } = grow(alloc, code, forms.as_slice(), &labels)?;
+        let Grown {
+            forms: next,
+            ranks: sum,
+        } = grow(alloc, code, forms.as_slice(), &labels)?;
         if sum <= ranks {
             return Ok(forms);
         }

@@ -104,21 +104,46 @@ fn put(words: &mut Vec<u32>, instr: Instr) -> Result<(), AllocError>
 }
 
 /// Goes from one address to another, through a register, with the link in another.
-fn far_jump(words: &mut Vec<u32>, link: Register, through: Register, at: u64, to: u64) -> Result<(), AllocError>
+fn far_jump(
+    words: &mut Vec<u32>,
+    link: Register,
+    through: Register,
+    at: u64,
+    to: u64,
+) -> Result<(), AllocError>
     requires from_fits { at < 2 ^ 32 }
     requires to_fits { to < 2 ^ 32 }
     ensures { OnOk result (words.new.items ≡ words.old.items ++ map encoded (far_jump (number link) (number through) at to)) }
 {
     let bytes = distance(at, to);
-    put(words, Instr::Auipc { rd: through.number(), imm: upper(bytes) })?;
-    put(words, Instr::Jalr { rd: link.number(), rs1: through.number(), imm: lower(bytes) })
+    put(
+        words,
+        Instr::Auipc {
+            rd: through.number(),
+            imm: upper(bytes),
+        },
+    )?;
+    put(
+        words,
+        Instr::Jalr {
+            rd: link.number(),
+            rs1: through.number(),
+            imm: lower(bytes),
+        },
+    )
 }
 
 /// A number of 32 bits into a register.
 fn number_into(words: &mut Vec<u32>, register: Register, value: u32) -> Result<(), AllocError>
     ensures { OnOk result (words.new.items ≡ words.old.items ++ map encoded (number_into (number register) value)) }
 {
-    put(words, Instr::Lui { rd: register.number(), imm: upper(value) })?;
+    put(
+        words,
+        Instr::Lui {
+            rd: register.number(),
+            imm: upper(value),
+        },
+    )?;
     put(words, add(register, value))
 }
 
@@ -135,13 +160,24 @@ fn add(register: Register, addend: u32) -> Instr
     }
 }
 
-fn address_into(words: &mut Vec<u32>, register: Register, at: u64, to: u64) -> Result<(), AllocError>
+fn address_into(
+    words: &mut Vec<u32>,
+    register: Register,
+    at: u64,
+    to: u64,
+) -> Result<(), AllocError>
     requires from_fits { at < 2 ^ 32 }
     requires to_fits { to < 2 ^ 32 }
     ensures { OnOk result (words.new.items ≡ words.old.items ++ map encoded (address_into (number register) at to)) }
 {
     let bytes = distance(at, to);
-    put(words, Instr::Auipc { rd: register.number(), imm: upper(bytes) })?;
+    put(
+        words,
+        Instr::Auipc {
+            rd: register.number(),
+            imm: upper(bytes),
+        },
+    )?;
     put(words, add(register, bytes))
 }
 
@@ -152,7 +188,14 @@ struct Ends {
     to: u64,
 }
 
-fn branch(words: &mut Vec<u32>, form: Form, condition: Condition, left: Register, right: Register, ends: Ends) -> Result<(), AllocError>
+fn branch(
+    words: &mut Vec<u32>,
+    form: Form,
+    condition: Condition,
+    left: Register,
+    right: Register,
+    ends: Ends,
+) -> Result<(), AllocError>
     requires from_fits { ends.at + 4 < 2 ^ 32 }
     requires to_fits { ends.to < 2 ^ 32 }
     requires from_aligned { ends.at % 4 ≡ 0 }
@@ -188,7 +231,13 @@ fn jump(words: &mut Vec<u32>, form: Form, at: u64, to: u64) -> Result<(), AllocE
 
 /// Puts the words of a piece that stands at an address, in its form. `to` is what its name stands for:
 /// an address, or the number of an external call.
-pub fn put_piece(words: &mut Vec<u32>, piece: &Piece, form: Form, at: u64, to: u32) -> Result<(), AllocError>
+pub fn put_piece(
+    words: &mut Vec<u32>,
+    piece: &Piece,
+    form: Form,
+    at: u64,
+    to: u32,
+) -> Result<(), AllocError>
     requires fits { PieceFits piece.now }
     requires from_fits { at + 4 < 2 ^ 32 }
     requires from_aligned { at % 4 ≡ 0 }
@@ -199,16 +248,37 @@ pub fn put_piece(words: &mut Vec<u32>, piece: &Piece, form: Form, at: u64, to: u
     match piece {
         Piece::Known(instr) => put(words, *instr),
         Piece::Label(_) => Ok(()),
-        Piece::Branch { condition, left, right, label: _ } => {
-            branch(words, form, *condition, *left, *right, Ends { at, to: place })
+        Piece::Branch {
+            condition,
+            left,
+            right,
+            label: _,
+        } => {
+            branch(
+                words,
+                form,
+                *condition,
+                *left,
+                *right,
+                Ends { at, to: place },
+            )
         }
         Piece::Jump(_) => jump(words, form, at, place),
         Piece::Row(_) => far_jump(words, Register::Zero, THROUGH, at, place),
-        Piece::LabelAddress { to: register, label: _ } => address_into(words, *register, at, place),
+        Piece::LabelAddress {
+            to: register,
+            label: _,
+        } => address_into(words, *register, at, place),
         Piece::Call(_) => far_jump(words, Register::Ra, Register::Ra, at, place),
         Piece::TailCall(_) => far_jump(words, Register::Zero, THROUGH, at, place),
-        Piece::SymbolAddress { to: register, name: _ } => number_into(words, *register, to),
-        Piece::ExternalNumber { to: register, row: _ } => number_into(words, *register, to),
+        Piece::SymbolAddress {
+            to: register,
+            name: _,
+        } => number_into(words, *register, to),
+        Piece::ExternalNumber {
+            to: register,
+            row: _,
+        } => number_into(words, *register, to),
         Piece::Descriptor(_) => Ok(()),
     }
 }

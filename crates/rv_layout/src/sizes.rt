@@ -24,25 +24,46 @@ pub fn too_large(sizes: &Sizes) -> Option<Large>
     ensures { (t : Tables) → AreSizesOf sizes.now t → result ≡ first_too_large t }
 {
     if sizes.funcs > TABLE_LIMIT {
-        return Some(Large { section: Section::Func, bytes: sizes.funcs });
+        return Some(Large {
+            section: Section::Func,
+            bytes: sizes.funcs,
+        });
     }
     if sizes.code > CODE_LIMIT {
-        return Some(Large { section: Section::Code, bytes: sizes.code });
+        return Some(Large {
+            section: Section::Code,
+            bytes: sizes.code,
+        });
     }
     if sizes.bytes > DATA_LIMIT {
-        return Some(Large { section: Section::Data, bytes: sizes.bytes });
+        return Some(Large {
+            section: Section::Data,
+            bytes: sizes.bytes,
+        });
     }
     if sizes.syms > TABLE_LIMIT {
-        return Some(Large { section: Section::Syms, bytes: sizes.syms });
+        return Some(Large {
+            section: Section::Syms,
+            bytes: sizes.syms,
+        });
     }
     if sizes.roots > TABLE_LIMIT {
-        return Some(Large { section: Section::Root, bytes: sizes.roots });
+        return Some(Large {
+            section: Section::Root,
+            bytes: sizes.roots,
+        });
     }
     if sizes.extcs > TABLE_LIMIT {
-        return Some(Large { section: Section::Extc, bytes: sizes.extcs });
+        return Some(Large {
+            section: Section::Extc,
+            bytes: sizes.extcs,
+        });
     }
     if sizes.descs > TABLE_LIMIT {
-        return Some(Large { section: Section::Desc, bytes: sizes.descs });
+        return Some(Large {
+            section: Section::Desc,
+            bytes: sizes.descs,
+        });
     }
     None
 }

@@ -1,4 +1,4 @@
-use Rattle.std.proofs.Common.{◌≡◌, ◌+◌, ◌*◌, ◌++◌, map, drop}
+use Rattle.std.proofs.Common.{◌≡◌, ◌+◌, ◌++◌, map, drop}
 use Rattle.image_form.specs.Tables.{desc}
 use Rattle.layout_rules.specs.Forms.{total_words}
 use Rattle.layout_rules.specs.Laid.{descs_in}

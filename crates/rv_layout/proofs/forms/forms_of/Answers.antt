@@ -1,4 +1,4 @@
-use Rattle.std.proofs.Common.{◌≡◌, ℕ, ◌*◌, ◌≤◌, length, replicate, refl, sym, ap, ◌∙◌, subst, arith}
+use Rattle.std.proofs.Common.{length, sym, ap, ◌∙◌, subst, arith}
 use Rattle.std.proofs.lemmas.List.{length-replicate}
 use Rattle.layout_rules.specs.declared.form.Form.TheVariants.{Near}
 use Rattle.layout_rules.specs.Forms.{place_of, place_or_entry, grown_from, ranks, AllNear, NoLonger}

@@ -1,4 +1,4 @@
-use Rattle.std.proofs.Common.{◌≡◌, ◌+◌, [], ◌∷◌, ◌++◌, sym, ap, ◌∙◌, subst, arith}
+use Rattle.std.proofs.Common.{[], ◌∷◌, ap, ◌∙◌, arith}
 use Rattle.layout_rules.specs.declared.form.Form.TheVariants.{Near}
 use Rattle.layout_rules.specs.Forms.{ranks, grown_from}
 use Rattle.layout_rules.proofs.Relaxing.{ranks_append}

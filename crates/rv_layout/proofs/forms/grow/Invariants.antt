@@ -1,4 +1,4 @@
-use Rattle.std.proofs.Common.{◌≡◌, ◌*◌, ◌≤◌, ◌++◌, length, drop}
+use Rattle.std.proofs.Common.{◌≡◌, ◌*◌, ◌≤◌, ◌++◌, drop}
 use Rattle.layout_rules.specs.Forms.{ranks, grown_from}
 use Rattle.rv_layout.specs.Tables.{places_of}
 use Rattle.rv_layout.proofs.forms.grow.Given as goal

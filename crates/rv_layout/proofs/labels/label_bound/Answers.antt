@@ -1,4 +1,4 @@
-use Rattle.std.proofs.Common.{◌≤◌, arith}
+use Rattle.std.proofs.Common.{arith}
 use Rattle.rv_layout.proofs.Steps.{below_step}
 use Rattle.rv_layout.proofs.labels.label_bound.Goals as goal
 
