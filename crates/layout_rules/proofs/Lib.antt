@@ -1,0 +1,5 @@
+pub mod Relaxing
+pub mod Offsets
+pub mod Standing
+pub mod Functions
+pub mod Rules

@@ -1,0 +1,232 @@
+-- The tables of an image keep its rules: functions and descriptors.
+use Rattle.std.proofs.Common.{◌≡◌, ℕ, suc, ◌+◌, ◌*◌, ◌<◌, ◌≤◌, Bool, true, false, List, [], ◌∷◌, ◌++◌, All, subst, arith}
+use Rattle.std.specs.List.{AllByRecursion}
+use Rattle.std.proofs.lemmas.List.{length-map}
+use Rattle.bs_words.specs.Symbol.{IsSymbol}
+use Rattle.cmm_tree.specs.Tree.{FunctionTree, FileTree}
+use Rattle.image_form.specs.Image.{First, EachNext, IsName, IsFunc, IsDesc}
+use Rattle.image_form.specs.Tables.{Desc}
+use Rattle.layout_rules.specs.declared.form.Form.{Form}
+use Rattle.layout_rules.specs.declared.form.Form.TheVariants.{Near, Middle, Far}
+use Rattle.layout_rules.specs.Conditions.{AreDescriptors, IsDescriptor, IsFunctionLaid, IsRowLaid}
+use Rattle.layout_rules.specs.Forms.{branch_words, jump_words, words_of, total_words}
+use Rattle.layout_rules.specs.Laid.{rows_from, descs_in, descs_from}
+use Rattle.rv_pieces.specs.declared.piece.Piece.{Piece}
+use Rattle.rv_pieces.specs.declared.piece.Piece.TheVariants.{Known, Label, Branch, Jump, Row, LabelAddress, Call, TailCall, SymbolAddress, ExternalNumber, Descriptor}
+use Rattle.rv_pieces.specs.declared.piece.Pieces.{Pieces}
+
+branch_some : (f : Form) → 1 ≤ branch_words f
+branch_some Near = omega arith
+branch_some Middle = omega arith
+branch_some Far = omega arith
+
+jump_some : (f : Form) → 1 ≤ jump_words f
+jump_some Near = omega arith
+jump_some Middle = omega arith
+jump_some Far = omega arith
+
+-- ---- descriptors
+
+-- return offsets rise, from behind this one on
+RisesFrom : ℕ → List Desc → Type 0
+RisesFrom from [] = Unit {0}
+RisesFrom from (d ∷ ds) = (from < d.after) × RisesFrom d.after ds
+
+from_less : (a b : ℕ) (ds : List Desc) → a ≤ b → RisesFrom b ds → RisesFrom a ds
+unfolding RisesFrom
+from_less a b [] h rises = tt
+from_less a b (d ∷ ds) h rises = (omega (arith, h, rises.0), rises.1)
+
+in_order_first : (d : Desc) (ds : List Desc) → RisesFrom d.after ds → First (λ e. d.after < e.after) ds
+unfolding RisesFrom
+in_order_first d [] rises = tt
+in_order_first d (e ∷ ds) rises = rises.0
+
+in_order : (from : ℕ) (ds : List Desc) → RisesFrom from ds → EachNext (λ a b. a.after < b.after) ds
+unfolding RisesFrom
+in_order from [] rises = tt
+in_order from (d ∷ ds) rises = (in_order_first d ds rises.1, in_order d.after ds rises.1)
+
+-- `prev` is the place of the last mark, or the entry of the function
+descs_rise : (prev at : ℕ) (behind : Bool) (ps : List Piece) (fs : List Form) (rest : List Desc) → AreDescriptors behind ps → prev ≤ at → (behind ≡ true → prev < at) →
+    RisesFrom (4 * (at + total_words ps fs)) rest → RisesFrom (4 * prev) (descs_in at ps fs ++ rest)
+unfolding RisesFrom
+descs_rise prev at behind [] fs rest are h k rises = from_less (4 * prev) (4 * (at + 0)) rest (omega (arith, h)) rises
+descs_rise prev at behind (p ∷ ps) [] rest are h k rises = from_less (4 * prev) (4 * (at + 0)) rest (omega (arith, h)) rises
+descs_rise prev at behind (Descriptor d ∷ ps) (f ∷ fs) rest are h k rises =
+    let less = k are.0 in
+    let same : 4 * (at + (0 + total_words ps fs)) ≡ 4 * (at + total_words ps fs) = omega arith in
+    (omega (arith, less), descs_rise at at false ps fs rest are.2 (omega arith) (λ e. absurd (cc)) (subst (λ n. RisesFrom n rest) same rises))
+descs_rise prev at behind (Label l ∷ ps) (f ∷ fs) rest are h k rises =
+    let same : 4 * (at + (0 + total_words ps fs)) ≡ 4 * (at + 0 + total_words ps fs) = omega arith in
+    descs_rise prev (at + 0) behind ps fs rest are (omega (arith, h)) (λ e. let less = k e in omega (arith, less)) (subst (λ n. RisesFrom n rest) same rises)
+descs_rise prev at behind (Known i ∷ ps) (f ∷ fs) rest are h k rises =
+    let w = words_of (Known i) f in
+    let some : 1 ≤ w = omega arith in
+    let same : 4 * (at + (w + total_words ps fs)) ≡ 4 * (at + w + total_words ps fs) = omega arith in
+    descs_rise prev (at + w) true ps fs rest are (omega (arith, h)) (λ e. omega (arith, h, some)) (subst (λ n. RisesFrom n rest) same rises)
+descs_rise prev at behind (Branch c a b l ∷ ps) (f ∷ fs) rest are h k rises =
+    let w = words_of (Branch c a b l) f in
+    let some : 1 ≤ w = branch_some f in
+    let same : 4 * (at + (w + total_words ps fs)) ≡ 4 * (at + w + total_words ps fs) = omega arith in
+    descs_rise prev (at + w) true ps fs rest are (omega (arith, h)) (λ e. omega (arith, h, some)) (subst (λ n. RisesFrom n rest) same rises)
+descs_rise prev at behind (Jump l ∷ ps) (f ∷ fs) rest are h k rises =
+    let w = words_of (Jump l) f in
+    let some : 1 ≤ w = jump_some f in
+    let same : 4 * (at + (w + total_words ps fs)) ≡ 4 * (at + w + total_words ps fs) = omega arith in
+    descs_rise prev (at + w) true ps fs rest are (omega (arith, h)) (λ e. omega (arith, h, some)) (subst (λ n. RisesFrom n rest) same rises)
+descs_rise prev at behind (Row l ∷ ps) (f ∷ fs) rest are h k rises =
+    let w = words_of (Row l) f in
+    let some : 1 ≤ w = omega arith in
+    let same : 4 * (at + (w + total_words ps fs)) ≡ 4 * (at + w + total_words ps fs) = omega arith in
+    descs_rise prev (at + w) true ps fs rest are (omega (arith, h)) (λ e. omega (arith, h, some)) (subst (λ n. RisesFrom n rest) same rises)
+descs_rise prev at behind (LabelAddress r l ∷ ps) (f ∷ fs) rest are h k rises =
+    let w = words_of (LabelAddress r l) f in
+    let some : 1 ≤ w = omega arith in
+    let same : 4 * (at + (w + total_words ps fs)) ≡ 4 * (at + w + total_words ps fs) = omega arith in
+    descs_rise prev (at + w) true ps fs rest are (omega (arith, h)) (λ e. omega (arith, h, some)) (subst (λ n. RisesFrom n rest) same rises)
+descs_rise prev at behind (Call name ∷ ps) (f ∷ fs) rest are h k rises =
+    let w = words_of (Call name) f in
+    let some : 1 ≤ w = omega arith in
+    let same : 4 * (at + (w + total_words ps fs)) ≡ 4 * (at + w + total_words ps fs) = omega arith in
+    descs_rise prev (at + w) true ps fs rest are (omega (arith, h)) (λ e. omega (arith, h, some)) (subst (λ n. RisesFrom n rest) same rises)
+descs_rise prev at behind (TailCall name ∷ ps) (f ∷ fs) rest are h k rises =
+    let w = words_of (TailCall name) f in
+    let some : 1 ≤ w = omega arith in
+    let same : 4 * (at + (w + total_words ps fs)) ≡ 4 * (at + w + total_words ps fs) = omega arith in
+    descs_rise prev (at + w) true ps fs rest are (omega (arith, h)) (λ e. omega (arith, h, some)) (subst (λ n. RisesFrom n rest) same rises)
+descs_rise prev at behind (SymbolAddress r name ∷ ps) (f ∷ fs) rest are h k rises =
+    let w = words_of (SymbolAddress r name) f in
+    let some : 1 ≤ w = omega arith in
+    let same : 4 * (at + (w + total_words ps fs)) ≡ 4 * (at + w + total_words ps fs) = omega arith in
+    descs_rise prev (at + w) true ps fs rest are (omega (arith, h)) (λ e. omega (arith, h, some)) (subst (λ n. RisesFrom n rest) same rises)
+descs_rise prev at behind (ExternalNumber r row ∷ ps) (f ∷ fs) rest are h k rises =
+    let w = words_of (ExternalNumber r row) f in
+    let some : 1 ≤ w = omega arith in
+    let same : 4 * (at + (w + total_words ps fs)) ≡ 4 * (at + w + total_words ps fs) = omega arith in
+    descs_rise prev (at + w) true ps fs rest are (omega (arith, h)) (λ e. omega (arith, h, some)) (subst (λ n. RisesFrom n rest) same rises)
+
+pub descs_keep : (len prev at : ℕ) (behind : Bool) (ps : List Piece) (fs : List Form) → 4 ≤ prev → prev ≤ at → (behind ≡ true → prev < at) → AreDescriptors behind ps →
+    4 * (at + total_words ps fs) ≤ len → AllByRecursion (IsDesc 2 len) (descs_in at ps fs)
+descs_keep len prev at behind [] fs m h k are in_code = tt
+descs_keep len prev at behind (p ∷ ps) [] m h k are in_code = tt
+descs_keep len prev at behind (Descriptor d ∷ ps) (f ∷ fs) m h k are in_code =
+    let less = k are.0 in
+    let own : IsDescriptor d = are.1 in (
+      record {
+        aligned = omega arith;
+        behind_stub = omega (arith, less, m);
+        in_code = omega (arith, in_code);
+        size_aligned = own.size_aligned;
+        nonempty = own.nonempty;
+        size_fits = own.size_fits;
+        few = own.few;
+        entries = own.entries;
+        in_order = own.in_order;
+      },
+      descs_keep len at at false ps fs (omega (arith, m, h)) (omega arith) (λ e. absurd (cc)) are.2 (omega (arith, in_code)),
+    )
+descs_keep len prev at behind (Label l ∷ ps) (f ∷ fs) m h k are in_code =
+    descs_keep len prev (at + 0) behind ps fs m (omega (arith, h)) (λ e. let less = k e in omega (arith, less)) are (omega (arith, in_code))
+descs_keep len prev at behind (Known i ∷ ps) (f ∷ fs) m h k are in_code =
+    let w = words_of (Known i) f in
+    let some : 1 ≤ w = omega arith in
+    descs_keep len prev (at + w) true ps fs m (omega (arith, h)) (λ e. omega (arith, h, some)) are (omega (arith, in_code))
+descs_keep len prev at behind (Branch c a b l ∷ ps) (f ∷ fs) m h k are in_code =
+    let w = words_of (Branch c a b l) f in
+    let some : 1 ≤ w = branch_some f in
+    descs_keep len prev (at + w) true ps fs m (omega (arith, h)) (λ e. omega (arith, h, some)) are (omega (arith, in_code))
+descs_keep len prev at behind (Jump l ∷ ps) (f ∷ fs) m h k are in_code =
+    let w = words_of (Jump l) f in
+    let some : 1 ≤ w = jump_some f in
+    descs_keep len prev (at + w) true ps fs m (omega (arith, h)) (λ e. omega (arith, h, some)) are (omega (arith, in_code))
+descs_keep len prev at behind (Row l ∷ ps) (f ∷ fs) m h k are in_code =
+    let w = words_of (Row l) f in
+    let some : 1 ≤ w = omega arith in
+    descs_keep len prev (at + w) true ps fs m (omega (arith, h)) (λ e. omega (arith, h, some)) are (omega (arith, in_code))
+descs_keep len prev at behind (LabelAddress r l ∷ ps) (f ∷ fs) m h k are in_code =
+    let w = words_of (LabelAddress r l) f in
+    let some : 1 ≤ w = omega arith in
+    descs_keep len prev (at + w) true ps fs m (omega (arith, h)) (λ e. omega (arith, h, some)) are (omega (arith, in_code))
+descs_keep len prev at behind (Call name ∷ ps) (f ∷ fs) m h k are in_code =
+    let w = words_of (Call name) f in
+    let some : 1 ≤ w = omega arith in
+    descs_keep len prev (at + w) true ps fs m (omega (arith, h)) (λ e. omega (arith, h, some)) are (omega (arith, in_code))
+descs_keep len prev at behind (TailCall name ∷ ps) (f ∷ fs) m h k are in_code =
+    let w = words_of (TailCall name) f in
+    let some : 1 ≤ w = omega arith in
+    descs_keep len prev (at + w) true ps fs m (omega (arith, h)) (λ e. omega (arith, h, some)) are (omega (arith, in_code))
+descs_keep len prev at behind (SymbolAddress r name ∷ ps) (f ∷ fs) m h k are in_code =
+    let w = words_of (SymbolAddress r name) f in
+    let some : 1 ≤ w = omega arith in
+    descs_keep len prev (at + w) true ps fs m (omega (arith, h)) (λ e. omega (arith, h, some)) are (omega (arith, in_code))
+descs_keep len prev at behind (ExternalNumber r row ∷ ps) (f ∷ fs) m h k are in_code =
+    let w = words_of (ExternalNumber r row) f in
+    let some : 1 ≤ w = omega arith in
+    descs_keep len prev (at + w) true ps fs m (omega (arith, h)) (λ e. omega (arith, h, some)) are (omega (arith, in_code))
+
+all_append : {A : Type 0} (P : A → Type 0) (xs ys : List A) → AllByRecursion P xs → AllByRecursion P ys → AllByRecursion P (xs ++ ys)
+all_append P [] ys a b = b
+all_append P (x ∷ xs) ys a b = (a.0, all_append P xs ys a.1 b)
+
+-- the words of all functions
+pub all_words : List Pieces → List (List Form) → ℕ
+all_words [] forms = 0
+all_words (p ∷ ps) [] = 0
+all_words (p ∷ ps) (f ∷ forms) = total_words p.code f + all_words ps forms
+
+all_rise : (file : FileTree) (at : ℕ) (ps : List Pieces) (forms : List (List Form)) → AllByRecursion (IsFunctionLaid file) ps → RisesFrom (4 * at) (descs_from at ps forms)
+unfolding RisesFrom
+all_rise file at [] forms laid = tt
+all_rise file at (p ∷ ps) [] laid = tt
+all_rise file at (p ∷ ps) (f ∷ forms) laid =
+    let next = at + total_words p.code f in
+    descs_rise at at false p.code f (descs_from next ps forms) laid.0.descriptors (omega arith) (λ e. absurd (cc)) (all_rise file next ps forms laid.1)
+
+-- The return offsets of an image's descriptors rise.
+pub descs_in_order : (file : FileTree) (at : ℕ) (ps : List Pieces) (forms : List (List Form)) → AllByRecursion (IsFunctionLaid file) ps →
+    EachNext (λ a b. a.after < b.after) (descs_from at ps forms)
+descs_in_order file at ps forms laid = in_order (4 * at) (descs_from at ps forms) (all_rise file at ps forms laid)
+
+-- Each descriptor keeps the rules.
+pub each_desc : (file : FileTree) (len at : ℕ) (ps : List Pieces) (forms : List (List Form)) → 4 ≤ at → AllByRecursion (IsFunctionLaid file) ps → 4 * (at + all_words ps forms) ≤ len →
+    AllByRecursion (IsDesc 2 len) (descs_from at ps forms)
+unfolding all_words
+each_desc file len at [] forms m laid in_code = tt
+each_desc file len at (p ∷ ps) [] m laid in_code = tt
+each_desc file len at (p ∷ ps) (f ∷ forms) m laid in_code =
+    let next = at + total_words p.code f in
+    all_append (IsDesc 2 len) (descs_in at p.code f) (descs_from next ps forms)
+    (descs_keep len at at false p.code f m (omega arith) (λ e. absurd (cc)) laid.0.descriptors (omega (arith, in_code)))
+    (each_desc file len next ps forms (omega (arith, m)) laid.1 (omega (arith, in_code)))
+
+-- ---- functions
+
+by_recursion : {X : Type 0} (P : X → Type 0) (xs : List X) → All P xs → AllByRecursion P xs
+by_recursion P [] all = tt
+by_recursion P (x ∷ xs) all = (all 0 x (omega arith), by_recursion P xs (λ k d lt. all (suc k) d (omega (arith, lt))))
+
+pub is_name : (name : List ℕ) → IsSymbol name → IsName name
+is_name name symbol = record {
+  nonempty = omega (arith, symbol.0);
+  short = symbol.1;
+  visible = by_recursion (λ b. (0x21 ≤ b) × (b ≤ 0x7E)) name symbol.2;
+}
+
+pub each_func : (file : FileTree) (at : ℕ) (fs : List FunctionTree) (ps : List Pieces) (forms : List (List Form)) → AllByRecursion IsRowLaid fs → AllByRecursion (IsFunctionLaid file) ps →
+    AllByRecursion IsFunc (rows_from at fs ps forms)
+each_func file at [] ps forms rows laid = tt
+each_func file at (f ∷ fs) [] forms rows laid = tt
+each_func file at (f ∷ fs) (p ∷ ps) [] rows laid = tt
+each_func file at (f ∷ fs) (p ∷ ps) (k ∷ forms) rows laid = (
+  record {
+    name = is_name f.name rows.0.name;
+    aligned = omega arith;
+    frame = laid.0.frame;
+    frame_fits = laid.0.frame_fits;
+    few = omega (arith, rows.0.few, length-map f.params (λ p. p.comp));
+    params = rows.0.params;
+    result = rows.0.result;
+  },
+  each_func file (at + total_words p.code k) fs ps forms rows.1 laid.1,
+)

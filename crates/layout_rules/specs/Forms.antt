@@ -1,0 +1,140 @@
+-- In which forms the pieces of a function stand: how many words each takes, where its labels lie, and
+-- the least forms in which each branch and jump reaches its label.
+--
+-- Places are numbers of words from the entry of the function.
+use Rattle.std.specs.Prelude.{◌≡◌, ℕ, ◌+◌, ◌≤◌, Bool, false, cond, ◌&&◌, ◌==◌, nat_lt, nat_le, List, [], ◌∷◌, Option, Some, None, ⊤}
+use Rattle.layout_rules.specs.declared.form.Form.{Form}
+use Rattle.layout_rules.specs.declared.form.Form.TheVariants.{Near, Middle, Far}
+use Rattle.rv_pieces.specs.declared.piece.Piece.{Piece}
+use Rattle.rv_pieces.specs.declared.piece.Piece.TheVariants.{Known, Label, Branch, Jump, Row, LabelAddress, Call, TailCall, SymbolAddress, ExternalNumber, Descriptor}
+
+-- ---- words
+
+-- one instruction; one over a jal; one over auipc and jalr
+abbrev pub branch_words : Form → ℕ
+branch_words Near = 1
+branch_words Middle = 2
+branch_words Far = 3
+
+-- a jal, or auipc and jalr
+abbrev pub jump_words : Form → ℕ
+jump_words Near = 1
+jump_words Middle = 2
+jump_words Far = 2
+
+abbrev pub words_of : Piece → Form → ℕ
+words_of (Known i) form = 1
+words_of (Label l) form = 0
+words_of (Branch c a b l) form = branch_words form
+words_of (Jump l) form = jump_words form
+words_of (Row l) form = 2
+words_of (LabelAddress r l) form = 2
+words_of (Call name) form = 2
+words_of (TailCall name) form = 2
+words_of (SymbolAddress r name) form = 2
+words_of (ExternalNumber r row) form = 2
+words_of (Descriptor d) form = 0
+
+-- of pieces, each in its form
+abbrev pub total_words : List Piece → List Form → ℕ
+total_words [] forms = 0
+total_words (p ∷ ps) [] = 0
+total_words (p ∷ ps) (f ∷ forms) = words_of p f + total_words ps forms
+
+-- ---- places
+
+abbrev pub is_label : ℕ → Piece → Bool
+is_label l (Label k) = k == l
+is_label l _ = false
+
+-- the place of a label, where the first of the pieces stands at `at`
+abbrev pub label_from : ℕ → ℕ → List Piece → List Form → Option ℕ
+label_from l at [] forms = None
+label_from l at (p ∷ ps) [] = None
+label_from l at (p ∷ ps) (f ∷ forms) =
+    cond (is_label l p) (Some at) (label_from l (at + words_of p f) ps forms)
+
+abbrev pub place_or_entry : Option ℕ → ℕ
+place_or_entry None = 0
+place_or_entry (Some place) = place
+
+-- the place of a label of the function
+abbrev pub place_of : List Piece → List Form → ℕ → ℕ
+place_of ps forms l = place_or_entry (label_from l 0 ps forms)
+
+-- ---- what reaches
+
+-- the 13 bits of a branch's offset reach from one word to another, and the 21 bits of a jal's
+abbrev pub branch_reaches : (from to : ℕ) → Bool
+branch_reaches from to = nat_lt to (from + 1024) && nat_le from (to + 1024)
+
+abbrev pub jal_reaches : (from to : ℕ) → Bool
+jal_reaches from to = nat_lt to (from + 262144) && nat_le from (to + 262144)
+
+-- the shortest form in which a branch, and a jump, at one word reaches another one. A branch over a
+-- jal has it at the next word.
+abbrev pub branch_form : (from to : ℕ) → Form
+branch_form from to =
+    cond (branch_reaches from to) Near (cond (jal_reaches (from + 1) to) Middle Far)
+
+abbrev pub jump_form : (from to : ℕ) → Form
+jump_form from to = cond (jal_reaches from to) Near Far
+
+-- the shortest form in which a piece at this word reaches its label, where labels have these places
+abbrev pub needed : (places : ℕ → ℕ) → (at : ℕ) → Piece → Form
+needed places at (Branch c a b l) = branch_form at (places l)
+needed places at (Jump l) = jump_form at (places l)
+needed places at _ = Near
+
+abbrev pub rank : Form → ℕ
+rank Near = 0
+rank Middle = 1
+rank Far = 2
+
+-- each piece stands in a form that reaches, where the first stands at `at`: in the shortest one that
+-- does or in a longer one
+abbrev pub ReachFrom : (places : ℕ → ℕ) → (at : ℕ) → List Piece → List Form → Type 0
+ReachFrom places at [] [] = ⊤
+ReachFrom places at [] (f ∷ forms) = ⊥
+ReachFrom places at (p ∷ ps) [] = ⊥
+ReachFrom places at (p ∷ ps) (f ∷ forms) =
+    (rank (needed places at p) ≤ rank f) × ReachFrom places (at + words_of p f) ps forms
+
+-- In these forms each branch and jump of the function reaches its label.
+abbrev pub Reach : List Piece → List Form → Type 0
+Reach ps forms = ReachFrom (place_of ps forms) 0 ps forms
+
+-- no form of the first list is longer than that of the second
+abbrev pub NoLonger : List Form → List Form → Type 0
+NoLonger [] [] = ⊤
+NoLonger [] (g ∷ others) = ⊥
+NoLonger (f ∷ forms) [] = ⊥
+NoLonger (f ∷ forms) (g ∷ others) = (rank f ≤ rank g) × NoLonger forms others
+
+-- The forms of a function: each branch and jump reaches its label, and wherever each does, no form is
+-- shorter than here.
+pub record AreForms (ps : List Piece) (forms : List Form) : Type 0 where
+  pub reach : Reach ps forms
+  pub least : (others : List Form) → Reach ps others → NoLonger forms others
+
+-- ---- making forms longer
+
+-- the longer of two forms
+abbrev pub longer : Form → Form → Form
+longer f g = cond (nat_lt (rank f) (rank g)) g f
+
+-- each form, or the longer one that its piece needs, where labels have these places
+abbrev pub grown_from : (places : ℕ → ℕ) → (at : ℕ) → List Piece → List Form → List Form
+grown_from places at [] forms = []
+grown_from places at (p ∷ ps) [] = []
+grown_from places at (p ∷ ps) (f ∷ forms) =
+    longer f (needed places at p) ∷ grown_from places (at + words_of p f) ps forms
+
+-- every form is the shortest
+abbrev pub AllNear : List Form → Type 0
+AllNear [] = ⊤
+AllNear (f ∷ forms) = (f ≡ Near) × AllNear forms
+
+abbrev pub ranks : List Form → ℕ
+ranks [] = 0
+ranks (f ∷ forms) = rank f + ranks forms

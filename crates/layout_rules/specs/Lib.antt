@@ -1,0 +1,8 @@
+pub mod Forms
+pub mod Named
+pub mod Words
+pub mod Externals
+pub mod Laid
+pub mod TooLarge
+pub mod Conditions
+pub mod Stands

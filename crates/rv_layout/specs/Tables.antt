@@ -1,0 +1,38 @@
+-- What the table of a function's labels has.
+use Rattle.std.specs.Prelude.{◌≡◌, ⊤, ℕ, ◌<◌, List, Option, Some, None, slice_index_or, slice_set}
+use Rattle.std.specs.List.{AllByRecursion}
+use Rattle.layout_rules.specs.declared.form.Form.{Form}
+use Rattle.layout_rules.specs.Forms.{label_from, place_or_entry}
+use Rattle.rv_layout.specs.declared.labels.Labels.{Labels}
+use Rattle.rv_pieces.specs.declared.piece.Piece.{Piece}
+use Rattle.rv_pieces.specs.declared.piece.Piece.TheVariants.{Label}
+
+-- the place of a label, if there is one
+abbrev pub place_in : List (Option ℕ) → ℕ → Option ℕ
+place_in places l = slice_index_or places l None
+
+-- the first of two
+abbrev pub or_else : Option ℕ → Option ℕ → Option ℕ
+or_else None later = later
+or_else (Some place) later = Some place
+
+-- the table with the place of a label that stands here, where it had none
+abbrev pub noted : List (Option ℕ) → Piece → (at : ℕ) → List (Option ℕ)
+noted places (Label l) at = slice_set places l (or_else (place_in places l) (Some at))
+noted places _ at = places
+
+-- its place, or the entry
+abbrev pub places_of : Labels → ℕ → ℕ
+places_of table l = place_or_entry (place_in table.places.items l)
+
+-- The table has the labels of these pieces in these forms.
+pub record IsTableOf (ps : List Piece) (forms : List Form) (table : Labels) : Type 0 where
+  pub each : (l : ℕ) → place_in table.places.items l ≡ label_from l 0 ps forms
+
+-- a label that stands here is below this number
+abbrev pub LabelBelow : ℕ → Piece → Type 0
+LabelBelow bound (Label l) = l < bound
+LabelBelow bound _ = ⊤
+
+abbrev pub LabelsBelow : ℕ → List Piece → Type 0
+LabelsBelow bound ps = AllByRecursion (LabelBelow bound) ps

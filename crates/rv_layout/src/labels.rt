@@ -1,0 +1,81 @@
+//! Where the labels of a function lie.
+ghost use Rattle.std.specs.Prelude.{◌≡◌, ℕ, ◌<◌, ◌≤◌, ◌^◌, length, IfOk};
+ghost use Rattle.rv_layout.specs.Tables.{noted, places_of, IsTableOf, LabelBelow, LabelsBelow};
+
+use crate::forms::words_of;
+use layout_rules::Form;
+use rv_pieces::Piece;
+use std::alloc::{AllocError, Global};
+
+/// For each label of a function, by its number, the words before it.
+#[derive(Drop)]
+pub struct Labels {
+    places: Vec<Option<u64>>,
+}
+
+/// A number above that of the label that stands here, if one does.
+fn bound_of(piece: &Piece) -> usize
+    ensures { (bound : ℕ) → result ≤ bound → LabelBelow bound piece.now }
+{
+    match piece {
+        Piece::Label(label) => *label as usize + 1,
+        _ => 0,
+    }
+}
+
+/// A number above those of all labels that stand among the pieces.
+pub fn label_bound(code: &[Piece]) -> usize
+    ensures { LabelsBelow result code.now }
+{
+    let mut bound: usize = 0;
+    for piece in code {
+        bound = bound.max(bound_of(piece));
+    }
+    bound
+}
+
+impl Labels {
+    /// The labels of pieces that stand in these forms. `bound` is above their numbers.
+    pub fn of(
+        alloc: Global,
+        code: &[Piece],
+        forms: &[Form],
+        bound: usize,
+    ) -> Result<Labels, AllocError>
+        requires few { length code.now < 2 ^ 48 }
+        requires same { length forms.now ≡ length code.now }
+        requires below { LabelsBelow bound code.now }
+        ensures { IfOk result (IsTableOf code.now forms.now) }
+    {
+        let mut places: Vec<Option<u64>> = vec![in alloc; None; bound]?;
+        let mut at: u64 = 0;
+        for index in 0..code.len() {
+            note(&mut places, &code[index], at);
+            at += words_of(&code[index], forms[index]);
+        }
+        Ok(Labels { places })
+    }
+
+    /// The words before a label. One that does not stand counts as standing at the entry.
+    pub fn place(&self, label: u32) -> u64
+        ensures { result ≡ places_of self.now label }
+    {
+        match self.places.get(label as usize) {
+            Some(Some(place)) => *place,
+            _ => 0,
+        }
+    }
+}
+
+/// Notes the place of a label that stands here, where it has none yet.
+fn note(places: &mut Vec<Option<u64>>, piece: &Piece, at: u64)
+    requires { LabelBelow (length places.old.items) piece.now }
+    ensures { places.new.items ≡ noted places.old.items piece.now at }
+{
+    if let Piece::Label(label) = piece {
+        let index = *label as usize;
+        if places[index].is_none() {
+            places[index] = Some(at);
+        }
+    }
+}
