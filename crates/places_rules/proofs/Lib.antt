@@ -1,3 +1,4 @@
 pub mod Lists
 pub mod Text
 pub mod Walked
+pub mod Kept
