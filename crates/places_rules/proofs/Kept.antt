@@ -157,9 +157,11 @@ module _ (place : Placing) where
             general.passed (λ w. (refl, refl))
         past i next x d (At l) =
             general.elsewhere refl
-            (λ w. ((refl, refl),
-            subst (λ code. Agrees q (written q (placed_instr place i)) (at code d x)) (sym (same_label place l m.code))
-            (agrees_written i (after_label l m.code) d x w)))
+            (λ w. (
+              (refl, refl),
+              subst (λ code. Agrees q (written q (placed_instr place i)) (at code d x)) (sym (same_label place l m.code))
+                  (agrees_written i (after_label l m.code) d x w),
+            ))
 
         same_puts : (i : Instr) (vs : List Value) (a : File) →
             put_all c.setting.end (all_placed place i.results) vs (clear (killed q (placed_instr place i)) a)

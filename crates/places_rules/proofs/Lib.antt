@@ -2,3 +2,4 @@ pub mod Lists
 pub mod Text
 pub mod Walked
 pub mod Kept
+pub mod Rest
