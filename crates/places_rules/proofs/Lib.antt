@@ -3,3 +3,4 @@ pub mod Text
 pub mod Walked
 pub mod Kept
 pub mod Rest
+pub mod Raised
