@@ -25,7 +25,7 @@ use Rattle.places_rules.proofs.Walked.{KeepsColours, among_back, same_killed, sa
 module _ (place : Placing) where
   -- ---- registers are read and written by their numbers
 
-  same_values : (f : File) (rs : List Reg) → values f (all_placed place rs) ≡ values f rs
+  pub same_values : (f : File) (rs : List Reg) → values f (all_placed place rs) ≡ values f rs
   same_values f [] = refl
   same_values f (r ∷ rs) = ap (with_held (f r.number)) (same_values f rs)
 
@@ -38,7 +38,7 @@ module _ (place : Placing) where
   same_put_if true r v None = refl
   same_put_if false r v o = refl
 
-  same_put : (end : ℕ) (rs : List Reg) (vs : List Value) (f : File) →
+  pub same_put : (end : ℕ) (rs : List Reg) (vs : List Value) (f : File) →
       put_all end (all_placed place rs) vs f ≡ put_all end rs vs f
   same_put end [] [] f = refl
   same_put end [] (v ∷ vs) f = refl
@@ -49,14 +49,14 @@ module _ (place : Placing) where
 
   -- ---- the code, instruction by instruction
 
-  abbrev alone : ℕ → Instr → List Instr
+  abbrev pub alone : ℕ → Instr → List Instr
   alone n i = placed_instr place i ∷ []
 
-  as_expanded : (code : List Instr) → placed_code place code ≡ expand alone code
+  pub as_expanded : (code : List Instr) → placed_code place code ≡ expand alone code
   as_expanded [] = refl
   as_expanded (i ∷ is) = ap (λ xs. placed_instr place i ∷ xs) (as_expanded is)
 
-  keeps_marks : KeepsMarks alone
+  pub keeps_marks : KeepsMarks alone
   keeps_marks =
       record {
         mark = λ l n i e. (placed_instr place i, refl, refl);

@@ -4,3 +4,5 @@ pub mod Walked
 pub mod Kept
 pub mod Rest
 pub mod Raised
+pub mod Coloured
+pub mod ColouringKept

@@ -2,8 +2,8 @@
 use Rattle.std.specs.Prelude.{◌≡◌, ◌⊎◌, ℕ, ◌≤◌, List, length, map, Contains}
 use Rattle.bs_words.specs.declared.types.Loc.{Loc}
 use Rattle.bs_words.specs.declared.types.Loc.TheVariants as loc
-use Rattle.mach_ir.specs.Placed.{Colouring}
-use Rattle.mach_ir.specs.Walks.{IsRegister}
+use Rattle.mach_ir.specs.Placed.{IsPlaced, MayShare, Colouring}
+use Rattle.mach_ir.specs.Walks.{IsRegister, Joined}
 use Rattle.mach_ir.specs.declared.reg.Reg.{Reg}
 use Rattle.mach_ir.specs.declared.mach.Instr.{Instr}
 use Rattle.mach_ir.specs.declared.mach.Mach.{Mach}
@@ -35,6 +35,14 @@ with_places place m =
       colours = all_placed place m.colours;
       code = placed_code place m.code;
     }
+
+-- Fixed places stay, each place is a colour or the slot of the origin, and joined registers stand
+-- apart.
+pub record IsPlacing (m : Mach) (place : Placing) : Type 0 where
+  pub fixed : (r : Reg) → IsRegister m r → (r.loc ≡ loc.Unset) ⊎ (place r ≡ r.loc)
+  pub places : (r : Reg) → IsRegister m r → IsPlaced (placed place r)
+  pub apart : (r q : Reg) → IsRegister m r → IsRegister m q → Joined m r.number q.number →
+      place r ≡ place q → MayShare (placed place r) (placed place q)
 
 -- ---- colourings
 
