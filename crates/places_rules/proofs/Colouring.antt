@@ -1,6 +1,7 @@
 -- A function that has been coloured: what holds of it still does, and it does what it did.
-use Rattle.std.proofs.Common.{◌≡◌, ℕ, ◌≤◌}
+use Rattle.std.proofs.Common.{◌≡◌, ℕ, ◌≤◌, ⊎_elim, sym, ◌∙◌}
 use Rattle.std.specs.List.{Contains}
+use Rattle.bs_words.specs.declared.types.Loc.TheVariants as loc
 use Rattle.mach_ir.specs.Formed.{WellFormed}
 use Rattle.mach_ir.specs.Keeps.{Keeps}
 use Rattle.mach_ir.specs.Placed.{Colouring, IsColouring, WellPlaced, FullyPlaced}
@@ -30,6 +31,15 @@ module _ (m : Mach) (place : Colouring) (formed : WellFormed m) (well : WellPlac
       ((r k : Reg) → Contains m.colours r → IsRegister m k → place k.number ≡ r.loc → r.number ≤ k.number) →
       FullyPlaced (recoloured place m)
   coloured_placed least = placed_fully m by_number formed well colouring_placing least
+
+  -- So it is where the registers of the colours have the least numbers.
+  pub coloured_placed_after :
+      ((r k : Reg) → Contains m.colours r → IsRegister m k → k.loc ≡ loc.Unset → r.number ≤ k.number) →
+      FullyPlaced (recoloured place m)
+  coloured_placed_after before =
+      coloured_placed
+      (λ r k c i e.
+      ⊎_elim (λ o. before r k c i o) (λ s. (well.colours).least r k c i (sym s ∙ e)) (colouring.fixed k i))
 
   pub coloured_formed : WellFormed (recoloured place m)
   coloured_formed = placed_formed by_number m formed
