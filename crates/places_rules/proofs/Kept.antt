@@ -1,0 +1,443 @@
+-- A function whose open registers have been given places, joined ones apart, does what it did: what is live holds the same.
+use Rattle.std.proofs.Common.{◌≡◌, ℕ, Bool, true, false, cond, inl, inr, ◌⊎◌, ⊎_elim, List, [], ◌∷◌, Option, Some, None, refl, sym, ap, ◌∙◌, subst}
+use Rattle.std.proofs.lemmas.Bool.{cases_Bool, eq-eqb, eqb-true}
+use Rattle.std.specs.List.{Contains}
+use Rattle.std.specs.Prelude.{nat_eq}
+use Rattle.bs_words.specs.Fits.{fits, type_of_comp}
+use Rattle.bs_words.specs.Memory.{Memory}
+use Rattle.bs_words.specs.declared.values.Value.{Value}
+use Rattle.cmm_meaning.specs.State.{Doing}
+use Rattle.mach_ir.specs.Acts.{Around, Target, On, At, Landing, AtLabel, AtHandler, Act, Goes, Pushes, Jumps, Unwinds, Asks, Replaces, Ends, EndsRaising, Stuck}
+use Rattle.mach_ir.specs.Formed.{IsFormed, WellFormed}
+use Rattle.mach_ir.specs.Runs.{Place, first_tally, entered}
+use Rattle.mach_ir.specs.Meaning.{Held, State, File, put, put_if, put_all, clear, killed, written, with_held, values, past_frame, unless_addr, passes_frame, mach_act, after_label, at_handler, code_at, tries_at, landing_code, start, begun}
+use Rattle.mach_ir.specs.Placed.{WellPlaced}
+use Rattle.mach_ir.specs.Walks.{Among, first, later, OneOf, this, targets, may_raise, goes, raises, Live, read, on, aside, after_step, LiveAcross, across_step, across_raise, Stands, here, below}
+use Rattle.mach_ir.specs.Keeps.{ValsWritten, wrote_unless, Begins, Does}
+use Rattle.mach_ir.specs.declared.mach.MachOp.{MachOp}
+use Rattle.mach_ir.specs.declared.reg.Reg.{Reg}
+use Rattle.mach_ir.specs.declared.mach.Instr.{Instr}
+use Rattle.mach_ir.specs.declared.mach.Mach.{Mach}
+use Rattle.mach_laws.specs.Expand.{Ending, expand}
+use Rattle.mach_laws.proofs.General as general
+use Rattle.mach_laws.proofs.General.{at}
+use Rattle.mach_laws.proofs.Leads.{IsTry, is_try, MayLand, lands_at_label, lands_at_handler, Within, goes_in, pushes_in, jumps_in, unwinds_in, asks_in, within}
+use Rattle.mach_laws.proofs.Level as level
+use Rattle.mach_laws.proofs.Places.{ending_next, ending_label, ending_land}
+use Rattle.mach_laws.proofs.Simulate.{Agrees}
+use Rattle.mach_laws.proofs.Walking.{first_in, later_in}
+use Rattle.places_rules.specs.Places.{Placing, IsPlacing, placed, all_placed, placed_instr, placed_code, with_places}
+use Rattle.places_rules.proofs.Walked.{left_among, right_among, split_among, stands_of, fewer_killed, fewer_written, still_written, live_before, across_back}
+use Rattle.places_rules.proofs.Instructions.{among_back, same_values, same_put, alone, as_expanded, keeps_marks}
+use Rattle.places_rules.proofs.Lists.{of_all}
+use Rattle.places_rules.proofs.Raised.{IsRaised, Told, told_jump, told_unwind, told_ask, IsSilent, told, label_silent, try_silent}
+use Rattle.places_rules.proofs.Text.{same_label, same_handler, same_tries, was_register}
+
+-- ---- files that hold the same at some numbers
+
+values_same : (a b : File) (rs : List Reg) → ((n : ℕ) → Among n rs → a n ≡ b n) → values a rs ≡ values b rs
+values_same a b [] h = refl
+values_same a b (r ∷ rs) h =
+    ap (λ o. with_held o (values a rs)) (h r.number (first refl))
+    ∙ ap (with_held (b r.number)) (values_same a b rs (λ n z. h n (later z)))
+
+past_same : (t : Bool) (a b : File) (n : ℕ) → a n ≡ b n → past_frame t a n ≡ past_frame t b n
+past_same false a b n e = e
+past_same true a b n e = ap unless_addr e
+
+-- what is cleared, and what is not
+abbrev IsNone : Option Held → Type 0
+IsNone o = o ≡ None
+
+cleared : (ks : List Reg) (f : File) (n : ℕ) → Among n ks → IsNone (clear ks f n)
+cleared (k ∷ ks) f n (first e) = ap (λ b. cond b None (clear ks f n)) (eq-eqb k.number n e)
+cleared (k ∷ ks) f n (later a) = by (nat_eq k.number n) (cleared ks f n a)
+  where
+    by : (b : Bool) → IsNone (clear ks f n) → IsNone (cond b None (clear ks f n))
+    by true e = refl
+    by false e = e
+cleared [] f n a = elim a [ ]
+
+not_cleared : (ks : List Reg) (f : File) (n : ℕ) → (Among n ks → ⊥) → clear ks f n ≡ f n
+not_cleared [] f n h = refl
+not_cleared (k ∷ ks) f n h = by (nat_eq k.number n) refl (not_cleared ks f n (λ a. h (later a)))
+  where
+    by : (b : Bool) → nat_eq k.number n ≡ b → clear ks f n ≡ f n → cond b None (clear ks f n) ≡ f n
+    by true s e = absurd (h (first (eqb-true k.number n s)))
+    by false s e = e
+
+among_or_not : (n : ℕ) (rs : List Reg) → Among n rs ⊎ (Among n rs → ⊥)
+among_or_not n [] = inr (λ a. elim a [ ])
+among_or_not n (r ∷ rs) =
+    ⊎_elim (λ e. inl (first (eqb-true r.number n e)))
+    (λ e. ⊎_elim (λ a. inl (later a)) (λ h. inr (λ a. none e h a)) (among_or_not n rs))
+    (cases_Bool (nat_eq r.number n))
+  where
+    differ : (b : Bool) → b ≡ true → b ≡ false → ⊥
+    differ b e h = cc
+
+    none : nat_eq r.number n ≡ false → (Among n rs → ⊥) → Among n (r ∷ rs) → ⊥
+    none e h (first s) = differ (nat_eq r.number n) (eq-eqb r.number n s) e
+    none e h (later a) = h a
+
+-- the same writes into two files
+record PutsToo (end : ℕ) (rs : List Reg) (vs : List Value) (f g d : File) : Type 0 where
+  file : File
+  puts : put_all end rs vs g ≡ Some file
+  same : (n : ℕ) → Among n rs → d n ≡ file n
+  others : (n : ℕ) → (Among n rs → ⊥) → (d n ≡ f n) × (file n ≡ g n)
+
+none_some : (d : File) → None ≡ Some d → ⊥
+none_some d e = cc
+
+some_same : (c d : File) → Some c ≡ Some d → c ≡ d
+some_same c d e = cc
+
+put_twice : (end : ℕ) (rs : List Reg) (vs : List Value) (f g d : File) → put_all end rs vs f ≡ Some d →
+    PutsToo end rs vs f g d
+put_twice end [] [] f g d e =
+    record {
+      file = g;
+      puts = refl;
+      same = λ n a. elim a [ ];
+      others = λ n h. (ap (λ (x : File). x n) (sym (some_same f d e)), refl);
+    }
+put_twice end [] (v ∷ vs) f g d e = absurd (none_some d e)
+put_twice end (r ∷ rs) [] f g d e = absurd (none_some d e)
+put_twice end (r ∷ rs) (v ∷ vs) f g d e =
+    by (fits end (type_of_comp r.comp) v) (put_all end rs vs f) refl refl e (λ c h. put_twice end rs vs f g c h)
+  where
+    one : (c : File) → PutsToo end rs vs f g c → put r v c ≡ d → fits end (type_of_comp r.comp) v ≡ true →
+        PutsToo end (r ∷ rs) (v ∷ vs) f g d
+    one c p e t =
+        record {
+          file = put r v p.file;
+          puts = ap (λ b. put_if b r v (put_all end rs vs g)) t ∙ ap (put_if true r v) p.puts;
+          same = λ n a. ap (λ (x : File). x n) (sym e) ∙ at_one n (nat_eq r.number n) refl a;
+          others = λ n h. (
+            ap (λ (x : File). x n) (sym e) ∙ not_here n h (c n) ∙ (p.others n (λ a. h (later a))).0,
+            not_here n h (p.file n) ∙ (p.others n (λ a. h (later a))).1,
+          );
+        }
+      where
+        rest_of : (n : ℕ) → nat_eq r.number n ≡ false → Among n (r ∷ rs) → Among n rs
+        rest_of n s (first k) = absurd (differ (nat_eq r.number n) (eq-eqb r.number n k) s)
+          where
+            differ : (b : Bool) → b ≡ true → b ≡ false → ⊥
+            differ b e h = cc
+        rest_of n s (later a) = a
+
+        at_one : (n : ℕ) (b : Bool) → nat_eq r.number n ≡ b → Among n (r ∷ rs) →
+            cond b (Some (record { comp = r.comp; value = v })) (c n)
+            ≡ cond b (Some (record { comp = r.comp; value = v })) (p.file n)
+        at_one n true s a = refl
+        at_one n false s a = p.same n (rest_of n s a)
+
+        not_here : (n : ℕ) → (Among n (r ∷ rs) → ⊥) → (o : Option Held) →
+            cond (nat_eq r.number n) (Some (record { comp = r.comp; value = v })) o ≡ o
+        not_here n h o = test (nat_eq r.number n) refl
+          where
+            test : (b : Bool) → nat_eq r.number n ≡ b → cond b (Some (record { comp = r.comp; value = v })) o ≡ o
+            test true s = absurd (h (first (eqb-true r.number n s)))
+            test false s = refl
+
+    by : (t : Bool) (o : Option File) → fits end (type_of_comp r.comp) v ≡ t → put_all end rs vs f ≡ o →
+        put_if t r v o ≡ Some d → ((c : File) → put_all end rs vs f ≡ Some c → PutsToo end rs vs f g c) →
+        PutsToo end (r ∷ rs) (v ∷ vs) f g d
+    by false o t e h again = absurd (none_some d h)
+    by true None t e h again = absurd (none_some d h)
+    by true (Some c) t e h again = one c (again c e) (some_same (put r v c) d h) t
+
+module _ (m : Mach) (place : Placing) (formed : WellFormed m) (well : WellPlaced m) (is : IsPlacing m place) where
+  abbrev q : Mach
+  q = with_places place m
+
+  -- what is live holds the same
+  abbrev Same : List Instr → File → File → Type 0
+  Same rest a b = (n : ℕ) → Live m n rest → a n ≡ b n
+
+  contains_of : {i : Instr} {next code : List Instr} → Stands i next code → Contains code i
+  contains_of {i} {next = next} here = first_in i next
+  contains_of {i} (below {j = j} {is = xs} s) = later_in j i xs (contains_of s)
+
+  form_of : {i : Instr} {next : List Instr} → Ending (i ∷ next) m.code → IsFormed i
+  form_of {i} e = of_all IsFormed m.code i formed.instrs (contains_of (stands_of e))
+
+  no_held : (u : Held) → None ≡ Some u → ⊥
+  no_held u e = cc
+
+  -- ---- where registers of one origin agree
+
+  -- what the second has just written, and holds a value, the first has written with that value
+  abbrev WroteSame : Option Value → List Reg → List Reg → File → File → Type 0
+  WroteSame raised ws us a b =
+      (n : ℕ) (u : Held) → Among n (wrote_unless raised us) → b n ≡ Some u → Among n (wrote_unless raised ws) × (a n ≡ b n)
+
+  agrees_by : (rest : List Instr) → Ending rest m.code → (a b : File) (x : Around) (ws us : List Reg) → Same rest a b →
+      WroteSame x.raised ws us a b → Agrees m ws (at rest a x) → Agrees q us (at (placed_code place rest) b x)
+  agrees_by rest ending a b x ws us same wrote agree =
+      record {
+        agree = λ r k i j origin l e h g s t.
+            let w = was_register place m r i in
+            let v = was_register place m k j in
+            let one = was_there w.register r w.same h l s in
+            let two = was_there v.register k v.same g e t in
+            agree.agree w.register v.register w.among v.among
+            (ap (λ (r : Reg). r.origin) w.same ∙ origin ∙ sym (ap (λ (r : Reg). r.origin) v.same))
+            one.0 two.0 h g (one.1 ∙ s) (two.1 ∙ t);
+      }
+    where
+      was_there : (w r : Reg) → placed place w ≡ r → (u : Held) →
+          Live q r.number (placed_code place rest) ⊎ Among r.number (wrote_unless x.raised us) → b r.number ≡ Some u →
+          (Live m w.number rest ⊎ Among w.number (wrote_unless x.raised ws)) × (a w.number ≡ b r.number)
+      was_there w r e u l s =
+          subst (λ n. (Live m n rest ⊎ Among n (wrote_unless x.raised ws)) × (a n ≡ b r.number))
+          (sym (ap (λ (r : Reg). r.number) e))
+          (⊎_elim (λ v. let v = live_before m place well is ending v in (inl v, same r.number v))
+          (λ z. let h = wrote r.number u z s in (inr h.0, h.1)) l)
+
+  silent_wrote : {i : Instr} {next : List Instr} → Ending (i ∷ next) m.code → (o : Option Value) (a b : File) →
+      IsSilent m i ⊎ IsRaised o → WroteSame o (written m i) (written q (placed_instr place i)) a b
+  silent_wrote {i} e None a b (inl s) n u z h = absurd (s n (fewer_written m place well is (stands_of e) z))
+  silent_wrote e None a b (inr r) n u z h = elim r [ ]
+  silent_wrote e (Some v) a b s n u z h = elim z [ ]
+
+  -- ---- values that are read
+
+  across_live : {n : ℕ} {i : Instr} {next : List Instr} → LiveAcross m n i next → Live m n (i ∷ next)
+  across_live (across_step w l v) = on w l v
+  across_live (across_raise r v) = aside r v
+
+  head_same : {i j : Instr} (xs ys : List Instr) → i ∷ xs ≡ j ∷ ys → i ≡ j
+  head_same xs ys e = cc
+
+  tail_same : {i j : Instr} (xs ys : List Instr) → i ∷ xs ≡ j ∷ ys → xs ≡ ys
+  tail_same xs ys e = cc
+
+  vals_before : (i : Instr) (next : List Instr) (a b : File) (x : Around) → Ending (i ∷ next) m.code → Same (i ∷ next) a b →
+      ValsWritten m (at (i ∷ next) a x) → ValsWritten q (at (placed_code place (i ∷ next)) b x)
+  vals_before i next a b x ending same known =
+      record {
+        written = λ j ys e frame r is_one val v none.
+            let w = was_register place m r is_one in
+            let number = ap (λ (r : Reg). r.number) w.same in
+            let head = head_same (placed_code place next) ys e in
+            let live : LiveAcross m r.number i next =
+            across_back m place well is i next ending head (tail_same (placed_code place next) ys e) v in
+            known.written i next refl (subst (λ (j : Instr). passes_frame j.op ≡ true) (sym head) frame) w.register w.among
+            (ap (λ (r : Reg). r.comp) w.same ∙ val)
+            (subst (λ n. LiveAcross m n i next) (sym number) live)
+            (ap a number ∙ same r.number (across_live live) ∙ none);
+      }
+
+  -- ---- where it goes
+
+  is_code : q.code ≡ expand (alone place) m.code
+  is_code = as_expanded place m.code
+
+  handlers_same : (tries : List ℕ) → at_handler q.code tries ≡ placed_code place (at_handler m.code tries)
+  handlers_same [] = refl
+  handlers_same (l ∷ tries) = same_handler place l m.code
+
+  lands_same : (this_code that_code : List Instr) (to : Landing) → tries_at that_code ≡ tries_at this_code →
+      landing_code q.code that_code to ≡ placed_code place (landing_code m.code this_code to)
+  lands_same this_code that_code (AtLabel l) e = same_label place l m.code
+  lands_same this_code that_code AtHandler e = ap (at_handler q.code) e ∙ handlers_same (tries_at this_code)
+
+  moved : (P : List Instr → Type 0) (next : List Instr) → P (placed_code place next) → P (expand (alone place) next)
+  moved P next = subst P (as_expanded place next)
+
+  tries_same : (i : Instr) (next : List Instr) →
+      tries_at (placed_instr place i ∷ expand (alone place) next) ≡ tries_at (i ∷ next)
+  tries_same i next =
+      moved (λ code. tries_at (placed_instr place i ∷ code) ≡ tries_at (i ∷ next)) next (same_tries place (i ∷ next))
+
+  ending_target : {i : Instr} {next : List Instr} (t : Target) → Ending (i ∷ next) m.code → Ending (code_at m.code next t) m.code
+  ending_target On e = ending_next e
+  ending_target (At l) e = ending_label l m.code
+
+  caught : {n : ℕ} {i : Instr} {next : List Instr} → may_raise i.op ≡ true → (tries : List ℕ) → tries_at (i ∷ next) ≡ tries →
+      Live m n (at_handler m.code tries) → Live m n (i ∷ next)
+  caught r [] e v = elim v [ ]
+  caught r (l ∷ tries) e v = aside (raises r e) v
+
+  try_on : (f : MachOp) → IsTry f → OneOf On (targets f)
+  try_on f is_try = this
+
+  -- ---- each instruction
+
+  module _ (c : Place) (Suit : Around → Around → Type 0) (i : Instr) (next : List Instr) (a b : File)
+      (ending : Ending (i ∷ next) m.code) (same : Same (i ∷ next) a b) where
+    abbrev Round : List Instr → Around → Around → File → File → Type 0
+    Round = level.Level c m q (alone place) (keeps_marks place) is_code Same
+
+    abbrev a' : File
+    a' = past_frame (passes_frame i.op) a
+
+    abbrev b' : File
+    b' = past_frame (passes_frame i.op) b
+
+    abbrev main : Instr
+    main = placed_instr place i
+
+    still : (n : ℕ) → Live m n (i ∷ next) → a' n ≡ b' n
+    still n v = past_same (passes_frame i.op) a b n (same n v)
+
+    -- what is live where it goes, and is no result
+    base : (t : Target) → OneOf t (targets i.op) → (n : ℕ) → Live m n (code_at m.code next t) → (Among n i.results → ⊥) →
+        clear (killed m i) a' n ≡ clear (killed q main) b' n
+    base t o n v free =
+        ⊎_elim
+        (λ k.
+        ⊎_elim (λ z. absurd (free (among_back place i.results z)))
+        (λ z. cleared (killed m i) a' n k ∙ sym (cleared (killed q main) b' n z))
+        (split_among n (all_placed place i.results) (killed q main)
+        (still_written m place well is (stands_of ending) (after_step (goes t o) v) (right_among i.results (killed m i) k))))
+        (λ h.
+        not_cleared (killed m i) a' n h
+        ∙ still n (on (λ w. ⊎_elim free h (split_among n i.results (killed m i) w)) (goes t o) v)
+        ∙ sym (not_cleared (killed q main) b' n (λ z. h (fewer_killed m place well is (stands_of ending) z))))
+        (among_or_not n (killed m i))
+
+    abbrev Puts : List Value → File → Type 0
+    Puts vs d = PutsToo c.setting.end i.results vs (clear (killed m i) a') (clear (killed q main) b') d
+
+    after_same : (vs : List Value) (d : File) (p : Puts vs d) (t : Target) → OneOf t (targets i.op) →
+        Same (code_at m.code next t) d p.file
+    after_same vs d p t o n v =
+        ⊎_elim (λ z. p.same n z)
+        (λ h. (p.others n h).0 ∙ base t o n v h ∙ sym (p.others n h).1)
+        (among_or_not n i.results)
+
+    put_wrote : (vs : List Value) (d : File) (p : Puts vs d) (o : Option Value) →
+        WroteSame o (written m i) (written q main) d p.file
+    put_wrote vs d p None n u z h =
+        ⊎_elim (λ r. (left_among i.results (killed m i) r, p.same n r))
+        (λ free.
+        ⊎_elim (λ r. absurd (free (among_back place i.results r)))
+        (λ k. absurd (no_held u (sym (cleared (killed q main) b' n k) ∙ sym (p.others n free).1 ∙ h)))
+        (split_among n (all_placed place i.results) (killed q main) z))
+        (among_or_not n i.results)
+    put_wrote vs d p (Some v) n u z h = elim z [ ]
+
+    abbrev Past : Around → File → File → Target → Type 0
+    Past x d e to =
+        general.Past c m q (alone place) (keeps_marks place) is_code Suit Round i main next [] x x d e to
+
+    past : (vs : List Value) (d : File) (p : Puts vs d) (x : Around) (t : Target) → OneOf t (targets i.op) → Past x d p.file t
+    past vs d p x On o =
+        general.on
+        (λ w.
+        moved (λ code. Agrees q (written q main) (at code p.file x)) next
+        (agrees_by next (ending_next ending) d p.file x (written m i) (written q main) (after_same vs d p On o)
+        (put_wrote vs d p x.raised) w))
+        general.passed (λ w. (refl, after_same vs d p On o))
+    past vs d p x (At l) o =
+        general.elsewhere refl
+        (λ w. (
+          (refl, after_same vs d p (At l) o),
+          subst (λ code. Agrees q (written q main) (at code p.file x)) (sym (same_label place l m.code))
+              (agrees_by (after_label l m.code) (ending_label l m.code) d p.file x (written m i) (written q main)
+              (after_same vs d p (At l) o) (put_wrote vs d p x.raised) w),
+        ))
+
+    landed : (to : Landing) → MayLand i.op to → Same (landing_code m.code (i ∷ next) to) a' b'
+    landed (AtLabel l) (lands_at_label o) n v =
+        still n (on (label_silent m (form_of ending) l o n) (goes (At l) o) v)
+    landed AtHandler (lands_at_handler r) n v = still n (caught r (tries_at (i ∷ next)) refl v)
+
+    lands : (to : Landing) → MayLand i.op to → (x : Around) → IsSilent m i ⊎ IsRaised x.raised →
+        general.Lands c m q (alone place) (keeps_marks place) is_code Suit Round i main next [] to x x a' b'
+    lands to may x s w = (
+      (refl, landed to may),
+      subst (λ code. Agrees q (written q main) (at code b' x))
+          (sym (lands_same (i ∷ next) (main ∷ expand (alone place) next) to (tries_same i next)))
+          (agrees_by (landing_code m.code (i ∷ next) to) (ending_land to (i ∷ next) m.code) a' b' x (written m i)
+          (written q main) (landed to may) (silent_wrote ending x.raised a' b' s) w),
+    )
+
+    pushed : IsTry i.op → Same next a' b'
+    pushed t n v = still n (on (try_silent m (form_of ending) t n) (goes On (try_on i.op t)) v)
+
+    acts_same : (x : Around) (act : Act) → Within i.op act → Told (IsSilent m i) act →
+        general.Acts c m q (alone place) (keeps_marks place) is_code Suit Round i main next [] x x a' b' act act
+    acts_same x (Goes vs to after) (goes_in o) t =
+        general.both_go
+        (λ d e.
+        let p = put_twice c.setting.end i.results vs (clear (killed m i) a') (clear (killed q main) b') d e in
+        (p.file, same_put place c.setting.end i.results vs (clear (killed q main) b') ∙ p.puts, past vs d p after to o))
+    acts_same x (Jumps to after) (jumps_in l) (told_jump s) = general.both_jump (tries_same i next) (lands to l after s)
+    acts_same x (Unwinds after) (unwinds_in r) (told_unwind s) =
+        general.both_unwind (tries_same i next) (lands AtHandler (lands_at_handler r) after s)
+    acts_same x (Pushes after) (pushes_in t) u =
+        general.both_push refl refl
+        (λ w. (
+          (refl, pushed t),
+          moved (λ code. Agrees q (written q main) (at code b' after)) next
+              (agrees_by next (ending_next ending) a' b' after (written m i) (written q main) (pushed t)
+              (silent_wrote ending after.raised a' b' (inl (try_silent m (form_of ending) t))) w),
+        ))
+    acts_same x (Asks whom vs go) (asks_in w) (told_ask t) =
+        general.both_ask (record { memory = refl; tries = refl }) (λ d. acts_same x (go d) (w d) (t d))
+    acts_same x (Replaces whom vs kept) w t = general.both_replace (record { memory = refl; tries = refl })
+    acts_same x (Ends d) w t = general.both_end
+    acts_same x (EndsRaising d) w t = general.both_raise
+    acts_same x Stuck w t = general.stuck_first
+
+    one : (x : Around) (vs : List Value) → values a i.args ≡ Some vs →
+        general.Replaces c m q (alone place) (keeps_marks place) is_code Suit Round i next x x a b vs
+    one x vs e =
+        record {
+          pre = [];
+          main = main;
+          post = [];
+          shape = refl;
+          between = b;
+          passing = general.passed;
+          vals = λ known. moved (λ code. ValsWritten q (at (main ∷ code) b x)) next (vals_before i next a b x ending same known);
+          read = vs;
+          reads = same_values place b i.args ∙ sym (values_same a b i.args (λ n z. same n (read z))) ∙ e;
+          alike = acts_same x (mach_act c.setting i.op vs x) (within c.setting i.op vs x)
+              (told m (form_of ending) c.setting vs x);
+        }
+
+  module _ (c : Place) where
+    serves : (Suit : Around → Around → Type 0) → ((x y : Around) → x ≡ y → Suit x y) →
+        level.Serves c m q (alone place) (keeps_marks place) is_code Same Suit
+    serves Suit suits =
+        record {
+          suits = λ rest x y a b l. suits x y l.0;
+          each = λ i next x y a b ending l vs e. inl
+              (subst
+              (λ y. general.Replaces c m q (alone place) (keeps_marks place) is_code Suit
+              (level.Level c m q (alone place) (keeps_marks place) is_code Same) i next x y a b vs)
+              l.0 (one c Suit i next a b ending l.1 x vs e));
+        }
+
+    begins_placed : (arguments : List Value) (memory : Memory) (doings : List Doing) (s : State) →
+        start c m arguments memory ≡ Some s → Begins c m q arguments memory doings s
+    begins_placed arguments memory doings s is_start =
+        by (put_all c.setting.end m.params arguments (λ n. None)) refl is_start
+      where
+        no_state : (s : State) → None ≡ Some s → ⊥
+        no_state s e = cc
+
+        same_state : (x y : State) → Some x ≡ Some y → x ≡ y
+        same_state x y e = cc
+
+        by : (o : Option File) → put_all c.setting.end m.params arguments (λ n. None) ≡ o → begun m memory o ≡ Some s →
+            Begins c m q arguments memory doings s
+        by None e b = absurd (no_state s b)
+        by (Some a) e b =
+            subst (Begins c m q arguments memory doings) (same_state (at m.code a (entered memory)) s b)
+            (record {
+              state = at q.code a (entered memory);
+              begins = ap (begun q memory) (same_put place c.setting.end m.params arguments (λ n. None) ∙ e);
+              follows = λ n proper.
+                  level.follows_from c m q (alone place) (keeps_marks place) is_code Same serves a a (entered memory)
+                  (λ k v. refl) n (first_tally c doings) proper;
+            })
+
+  -- The function with its open registers placed does what it did.
+  pub does_placed : Does m (with_places place m)
+  does_placed = λ c arguments memory doings s e. begins_placed c arguments memory doings s e

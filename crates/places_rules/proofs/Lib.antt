@@ -1,0 +1,9 @@
+pub mod Lists
+pub mod Text
+pub mod Instructions
+pub mod Raised
+pub mod Walked
+pub mod Kept
+pub mod Whole
+pub mod Rest
+pub mod Colouring
