@@ -13,4 +13,4 @@ mod slots;
 mod spots;
 mod tests;
 
-pub use lowering::{Allocated, lower};
+pub use lowering::lower;

@@ -12,16 +12,6 @@ use lin_ir::{Lin, Line};
 use mach_ir::{Instr, Mach, Seq};
 use std::alloc::{AllocError, Global};
 
-/// A Mach function all of whose registers have places.
-#[derive(Clone, Drop)]
-pub struct Allocated {
-    pub mach: Mach,
-    /// How many rounds of colouring there were.
-    pub rounds: u32,
-    /// Whether what was left after the last round went to slots.
-    pub rest: bool,
-}
-
 /// The lines of a code.
 fn lower_code(alloc: Global, numbers: &[u32], code: &[Instr]) -> Result<Seq<Line>, AllocError>
     ensures { IfOk result (λ lines. lines ≡ lowered_code (number_in numbers.now) code.now) }
