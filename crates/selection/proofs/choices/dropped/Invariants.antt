@@ -1,0 +1,19 @@
+use Rattle.std.proofs.Common.{◌≡◌, ◌+◌, length}
+use Rattle.cmm_tree.specs.Rows.{row_of}
+use Rattle.cmm_types.specs.Lists.{AreAnnotated}
+use Rattle.selection.specs.Scoping.{names_in}
+use Rattle.selection_rules.specs.Select.{width_row}
+use Rattle.selection.specs.Rows.{select_dropped}
+use Rattle.selection.proofs.choices.dropped.Given as goal
+
+abbrev pub invariant-loop-last : goal.invariant-loop-last
+invariant-loop-last g l =
+    record {
+      code : select_dropped l.initial.scope.names l.initial.scope.labels l.fn.number (row_of l.rest) l.code ≡ select_dropped l.initial.scope.names l.initial.scope.labels l.fn.number (row_of l.fn.exprs) l.initial.code;
+      scope : l.scope ≡ l.initial.scope;
+      typed : AreAnnotated (names_in l.scope) l.rest;
+      end : l.end ≡ l.fn.number + width_row (row_of l.rest);
+    }
+
+abbrev pub decreases-loop-last : goal.decreases-loop-last
+decreases-loop-last g l = length l.rest

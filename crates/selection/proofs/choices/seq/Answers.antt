@@ -1,0 +1,34 @@
+use Rattle.std.proofs.Common.{◌≡◌, ℕ, ◌+◌, suc, sym, arith}
+use Rattle.std.proofs.lemmas.Result.{on_ok_weaker}
+use Rattle.cmm_tree.specs.Rows.{row_of}
+use Rattle.cmm_tree.specs.Tree.{Seq as Sequence}
+use Rattle.selection_rules.specs.Select.{width_row}
+use Rattle.selection.proofs.LastParts.{row-typed, row-typed-in, seq-code}
+use Rattle.selection.specs.Below.{node_code}
+use Rattle.selection.specs.Rows.{select_dropped}
+use Rattle.selection.specs.Scoping.{names_in}
+use Rattle.selection.proofs.choices.seq.Goals as goal
+
+pub one-requires-clause-typed : goal.one-requires-clause-typed
+one-requires-clause-typed g c =
+    (row-typed (names_in c.args.scope.now) c.args.elements.now c.in-Some.others.now c.in-Some.last.now c.in-Some.ensures.cases.0 c.requires.typed).1
+
+pub dropped-requires-clause-typed : goal.dropped-requires-clause-typed
+dropped-requires-clause-typed g c =
+    row-typed-in c.one.new.scope c.args.scope.now c.in-Some.others.now (sym c.in_ok-one-in-Some.ensures.scope)
+    (row-typed (names_in c.args.scope.now) c.args.elements.now c.in-Some.others.now c.in-Some.last.now c.in-Some.ensures.cases.0 c.requires.typed).0
+
+pub returns-in_ok-one-in-Some-clause-code : goal.returns-in_ok-one-in-Some-clause-code
+returns-in_ok-one-in-Some-clause-code g c =
+    let first : c.in_ok-first.first ≡ suc c.args.node.place.base = omega (arith, c.in_ok-first.ensures) in
+    let base : c.in_ok-base-in-Some.base ≡ suc (suc c.args.node.place.base + width_row (row_of c.in-Some.others.now)) =
+    omega (arith, first, c.in_ok-base-in-Some.ensures, c.in_ok-behind_row-in-Some.ensures) in
+    let s = c.args.scope.now in
+    let new = c.dropped.new.code in
+    let left = c.one.new.scope in
+    let step : new ≡ select_dropped left.names left.labels c.in_ok-first.first (row_of c.in-Some.others.now) c.one.new.code
+    → (at : ℕ) → new ≡ node_code s c.args.node.place (Sequence at (row_of c.args.elements.now)) c.args.code.now =
+    λ made at.
+    seq-code s left c.args.node at c.in_ok-first.first c.in_ok-base-in-Some.base c.args.elements.now c.in-Some.others.now c.in-Some.last.now c.part.result c.args.code.now c.one.new.code new
+    c.in-Some.ensures.cases.0 c.in_ok-one-in-Some.ensures.scope (c.requires.ty at) first base c.part.ensures c.in_ok-one-in-Some.ensures.code made in
+    on_ok_weaker c.dropped.result step c.dropped.ensures.code

@@ -1,0 +1,17 @@
+use Rattle.std.proofs.Common.{◌≡◌, ◌+◌, ◌-◌, ◌++◌, List, length, map, reverse, drop, vec_len}
+use Rattle.cmm_tree.specs.Rows.{row_of, bindings_of, cases_of, handlers_of}
+use Rattle.cmm_types.specs.Lists.{AreAnnotated, AreBindingsAnnotated, AreCasesAnnotated, AreHandlersAnnotated}
+use Rattle.selection.specs.Scoping.{named_view, target_view, names_in, higher}
+use Rattle.selection_rules.specs.Select.{select_waiting, select_filled}
+use Rattle.selection.proofs.operands.filled.Given as goal
+
+abbrev pub invariant-loop-rest : goal.invariant-loop-rest
+invariant-loop-rest g l =
+    record {
+      code : select_filled l.initial.scope.names l.initial.scope.labels l.reg l.base (row_of l.rest) l.code ≡ select_filled l.initial.scope.names l.initial.scope.labels l.fn.number l.fn.first (row_of l.fn.exprs) l.initial.code;
+      scope : l.scope ≡ l.initial.scope;
+      typed : AreAnnotated (names_in l.scope) l.rest;
+    }
+
+abbrev pub decreases-loop-rest : goal.decreases-loop-rest
+decreases-loop-rest g l = length l.rest

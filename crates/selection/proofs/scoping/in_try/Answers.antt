@@ -1,0 +1,13 @@
+use Rattle.std.proofs.Common.{ap, ◌∙◌}
+use Rattle.std.proofs.lemmas.Result.{on_ok_weaker}
+use Rattle.selection.proofs.Scopes.{higher-deeper}
+use Rattle.selection.specs.Scoping.{Visible, higher}
+use Rattle.selection.proofs.scoping.in_try.Goals as goal
+
+pub returns-clause-scope : goal.returns-clause-scope
+returns-clause-scope g c =
+    let s = c.args.scope.now in
+    let entered = c.in_ok-one.ensures.scope ∙ c.in_ok-enter_try.ensures in
+    on_ok_weaker c.leave_try.result
+    (λ left. left ∙ ap (λ (v : Visible). record v { labels = higher v.labels }) entered ∙ ap (λ l. record s { labels = l }) (higher-deeper s.labels))
+    c.leave_try.ensures

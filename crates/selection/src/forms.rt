@@ -1,0 +1,147 @@
+//! All forms.
+ghost use Rattle.std.specs.Prelude.{◌≡◌, OnOk};
+ghost use Rattle.cmm_types.specs.Annotated.{IsAnnotated};
+ghost use Rattle.selection.specs.Below.{code_at, MayCall, Selects};
+ghost use Rattle.selection.specs.Scoping.{names_in};
+
+use crate::backwards::Backwards;
+use crate::choices::{if_else, operator, seq, switch};
+use crate::leaving::{Outside, app, exit, extcall, raise};
+use crate::memory::{alloc, checkbound, load, store};
+use crate::place::{Node, Place};
+use crate::scope::Scope;
+use crate::scoping::{assign, catch, let_in, try_with};
+use cmm_tree::{Expr, Form};
+use std::alloc::AllocError;
+
+/// How deep expressions nest at most. No text that is read has expressions that nest as deep: past it there would be no
+/// stack for them.
+const MOST_DEPTH: u32 = 1_000_000;
+
+/// An expression, by what it is.
+fn form<F: Fn(&mut Scope, &mut Backwards, Place, &Expr) -> Result<(), AllocError>>(
+    below: &F,
+    scope: &mut Scope,
+    code: &mut Backwards,
+    place: Place,
+    expr: &Expr,
+) -> Result<(), AllocError>
+    requires callable { MayCall (F.pre below.now) }
+    requires selects { Selects (F.post below.now) }
+    requires typed { IsAnnotated (names_in scope.old) expr.now }
+    ensures code { OnOk result (code.new ≡ code_at scope.old place expr.now code.old) }
+    ensures scope { OnOk result (scope.new ≡ scope.old) }
+{
+    let node = Node { ty: expr.ty, place };
+    match &expr.form {
+        Form::Integer(word) => code.constant(*word, node.dest()),
+        Form::Pointer(word) => code.constant(*word, node.dest()),
+        Form::Symbol(name) => code.symbol(name, node.dest()),
+        Form::Name(name) => code.move_from(scope.reg_of(name), node.dest()),
+        Form::Nothing => Ok(()),
+        Form::Float { .. } => Ok(()),
+        Form::Let(bindings, body) => { let_in(below, scope, code, node, bindings.as_slice(), body) }
+        Form::Assign { name, value, .. } => assign(below, scope, code, node, name, value),
+        Form::Operator(op, left, right) => operator(below, scope, code, node, *op, left, right),
+        Form::Load(chunk, address) => load(below, scope, code, node, *chunk, address),
+        Form::Store(chunk, address, value) => {
+            store(below, scope, code, node, *chunk, address, value)
+        }
+        Form::Alloc {
+            header,
+            operands,
+            ..
+        } => alloc(below, scope, code, node, *header, operands.as_slice()),
+        Form::App {
+            callee,
+            arguments,
+            result,
+            ..
+        } => app(
+            below,
+            scope,
+            code,
+            node,
+            callee,
+            arguments.as_slice(),
+            *result,
+        ),
+        Form::Extcall {
+            frame,
+            name,
+            arguments,
+            result,
+            ..
+        } => {
+            let outside = Outside {
+                frame: *frame,
+                name,
+                result: *result,
+            };
+            extcall(below, scope, code, node, outside, arguments.as_slice())
+        }
+        Form::Checkbound(bound, index) => checkbound(below, scope, code, node, bound, index),
+        Form::Raise(value) => raise(below, scope, code, node, value),
+        Form::Seq(elements) => seq(below, scope, code, node, elements.as_slice()),
+        Form::If(condition, on_true, on_false) => {
+            if_else(below, scope, code, node, condition, on_true, on_false)
+        }
+        Form::Switch {
+            size,
+            selector,
+            cases,
+            ..
+        } => switch(below, scope, code, node, *size, selector, cases.as_slice()),
+        Form::Catch(body, handlers) => {
+            catch(below, scope, code, node, body, handlers.as_slice())
+        }
+        Form::Exit {
+            label,
+            arguments,
+            ..
+        } => exit(below, scope, code, node, label, arguments.as_slice()),
+        Form::Try {
+            body,
+            name,
+            handler,
+            ..
+        } => try_with(below, scope, code, node, body, name, handler),
+    }
+}
+
+/// An expression that nests at most so deep.
+#[cycle(expr)]
+fn expr_at(
+    depth: u32,
+    scope: &mut Scope,
+    code: &mut Backwards,
+    place: Place,
+    expr: &Expr,
+) -> Result<(), AllocError>
+    requires { IsAnnotated (names_in scope.old) expr.now }
+    ensures code { OnOk result (code.new ≡ code_at scope.old place expr.now code.old) }
+    ensures scope { OnOk result (scope.new ≡ scope.old) }
+{
+    let Some(inner) = depth.checked_sub(1) else {
+        return Err(AllocError);
+    };
+    let below = |scope: &mut Scope, code: &mut Backwards, place: Place, expr: &Expr|
+        requires { IsAnnotated (names_in scope.old) expr.now }
+        ensures code { OnOk result (code.new ≡ code_at scope.old place expr.now code.old) }
+        ensures scope { OnOk result (scope.new ≡ scope.old) }
+    { expr_at(inner, scope, code, place, expr) };
+    form(&below, scope, code, place, expr)
+}
+
+/// Puts the code of an expression before what there is.
+pub fn expr(
+    scope: &mut Scope,
+    code: &mut Backwards,
+    place: Place,
+    expr: &Expr,
+) -> Result<(), AllocError>
+    requires { IsAnnotated (names_in scope.old) expr.now }
+    ensures { OnOk result (code.new ≡ code_at scope.old place expr.now code.old) }
+{
+    expr_at(MOST_DEPTH, scope, code, place, expr)
+}

@@ -1,0 +1,164 @@
+//! Operands: the order of their code, and those that need none.
+ghost use Rattle.std.specs.Prelude.{◌≡◌, ◌+◌, suc, not, false, OnOk};
+ghost use Rattle.cmm_tree.specs.Rows.{row_of};
+ghost use Rattle.cmm_tree.specs.View.{expr_view};
+ghost use Rattle.cmm_types.specs.Annotated.{IsAnnotated};
+ghost use Rattle.cmm_types.specs.Lists.{AreAnnotated};
+ghost use Rattle.selection_rules.specs.Select.{select, ordered, only_when, select_waiting, select_filled};
+ghost use Rattle.selection.specs.Below.{code_at, MayCall, Selects};
+ghost use Rattle.selection.specs.Operands.{operand_code};
+ghost use Rattle.selection.specs.Scoping.{names_in};
+
+use crate::backwards::Backwards;
+use crate::light::is_light_address;
+use crate::numbers::plus;
+use crate::place::{Place, fresh, operand_at};
+use crate::scope::Scope;
+use crate::width::behind;
+use cmm_tree::Expr;
+use mach_ir::Reg;
+use std::alloc::AllocError;
+
+/// An operand: the register for its value, and the first of its own numbers. Where the instruction has a constant in its
+/// place it needs no code.
+#[derive(Clone, Copy)]
+pub struct Operand<'e> {
+    pub expr: &'e Expr,
+    pub reg: Reg,
+    pub base: u32,
+    pub needed: bool,
+}
+
+/// An expression.
+pub fn one<F: Fn(&mut Scope, &mut Backwards, Place, &Expr) -> Result<(), AllocError>>(
+    below: &F,
+    scope: &mut Scope,
+    code: &mut Backwards,
+    place: Place,
+    expr: &Expr,
+) -> Result<(), AllocError>
+    requires callable { MayCall (F.pre below.now) }
+    requires selects { Selects (F.post below.now) }
+    requires typed { IsAnnotated (names_in scope.old) expr.now }
+    ensures code { OnOk result (code.new ≡ code_at scope.old place expr.now code.old) }
+    ensures scope { OnOk result (scope.new ≡ scope.old) }
+{
+    below(scope, code, place, expr)
+}
+
+/// An operand.
+pub fn put_operand<F: Fn(&mut Scope, &mut Backwards, Place, &Expr) -> Result<(), AllocError>>(
+    below: &F,
+    scope: &mut Scope,
+    code: &mut Backwards,
+    operand: &Operand<'_>,
+) -> Result<(), AllocError>
+    requires callable { MayCall (F.pre below.now) }
+    requires selects { Selects (F.post below.now) }
+    requires typed { IsAnnotated (names_in scope.old) operand.now.expr.now }
+    ensures code { OnOk result (code.new ≡ operand_code scope.old operand.now code.old) }
+    ensures scope { OnOk result (scope.new ≡ scope.old) }
+{
+    if operand.needed {
+        let place = operand_at(operand.reg, operand.base);
+        return one(below, scope, code, place, operand.expr);
+    }
+    Ok(())
+}
+
+/// Two operands, the left one first or the right one.
+pub fn both<F: Fn(&mut Scope, &mut Backwards, Place, &Expr) -> Result<(), AllocError>>(
+    below: &F,
+    scope: &mut Scope,
+    code: &mut Backwards,
+    left_first: bool,
+    left: &Operand<'_>,
+    right: &Operand<'_>,
+) -> Result<(), AllocError>
+    requires callable { MayCall (F.pre below.now) }
+    requires selects { Selects (F.post below.now) }
+    requires left_typed { IsAnnotated (names_in scope.old) left.now.expr.now }
+    requires right_typed { IsAnnotated (names_in scope.old) right.now.expr.now }
+    ensures code { OnOk result (code.new ≡ ordered left_first
+        (operand_code scope.old left.now) (operand_code scope.old right.now) code.old) }
+    ensures scope { OnOk result (scope.new ≡ scope.old) }
+{
+    if left_first {
+        put_operand(below, scope, code, right)?;
+        put_operand(below, scope, code, left)
+    } else {
+        put_operand(below, scope, code, left)?;
+        put_operand(below, scope, code, right)
+    }
+}
+
+/// The operands that do not wait. Their registers have the numbers from `number` on, and their own numbers begin with
+/// `first`.
+pub fn waiting<F: Fn(&mut Scope, &mut Backwards, Place, &Expr) -> Result<(), AllocError>>(
+    below: &F,
+    scope: &mut Scope,
+    code: &mut Backwards,
+    number: u32,
+    first: u32,
+    exprs: &[Expr],
+) -> Result<(), AllocError>
+    requires callable { MayCall (F.pre below.now) }
+    requires selects { Selects (F.post below.now) }
+    requires typed { AreAnnotated (names_in scope.old) exprs.now }
+    ensures code { OnOk result (code.new ≡ select_waiting scope.old.names scope.old.labels
+        number first (row_of exprs.now) code.old) }
+    ensures scope { OnOk result (scope.new ≡ scope.old) }
+{
+    let mut reg = number;
+    let mut base = first;
+    let mut rest = exprs;
+    while let [expr, others @ ..] = rest {
+        let waits = is_light_address(scope, expr);
+        let next = Operand {
+            expr,
+            reg: fresh(reg, expr.ty),
+            base,
+            needed: !waits,
+        };
+        put_operand(below, scope, code, &next)?;
+        reg = plus(reg, 1)?;
+        base = behind(base, expr)?;
+        rest = others;
+    }
+    Ok(())
+}
+
+/// The operands that have waited, as light addresses do.
+pub fn filled<F: Fn(&mut Scope, &mut Backwards, Place, &Expr) -> Result<(), AllocError>>(
+    below: &F,
+    scope: &mut Scope,
+    code: &mut Backwards,
+    number: u32,
+    first: u32,
+    exprs: &[Expr],
+) -> Result<(), AllocError>
+    requires callable { MayCall (F.pre below.now) }
+    requires selects { Selects (F.post below.now) }
+    requires typed { AreAnnotated (names_in scope.old) exprs.now }
+    ensures code { OnOk result (code.new ≡ select_filled scope.old.names scope.old.labels
+        number first (row_of exprs.now) code.old) }
+    ensures scope { OnOk result (scope.new ≡ scope.old) }
+{
+    let mut reg = number;
+    let mut base = first;
+    let mut rest = exprs;
+    while let [expr, others @ ..] = rest {
+        let waits = is_light_address(scope, expr);
+        let next = Operand {
+            expr,
+            reg: fresh(reg, expr.ty),
+            base,
+            needed: waits,
+        };
+        put_operand(below, scope, code, &next)?;
+        reg = plus(reg, 1)?;
+        base = behind(base, expr)?;
+        rest = others;
+    }
+    Ok(())
+}
