@@ -163,7 +163,7 @@ module _ (m : Mach) (n : ℕ) (defined : List ℕ → Option DefinedSymbol) wher
       (sym (paired_names at.paired))
       (both (is_light_address (scopes env) left) (is_light_address (scopes env) right)
       (y.run w 0 (λ v. v) (row_none n (suc (suc b)) (suc (suc slot))) (omega (arith, lj)) (omega arith) (at_more m n (omega arith) (omega arith) at))
-      (x.run w 1 gb (y.row 0 (λ v. v) (row_none n (suc (suc b)) (suc (suc slot)))) (omega (arith, li)) (omega arith) at)
+      (x.run w 1 gb (y.row (0) (λ v. v) (row_none n (suc (suc b)) (suc (suc slot)))) (omega (arith, li)) (omega arith) at)
       (x.run w 0 (λ v. v) (row_none n (suc b) (suc slot)) (omega (arith, li)) (omega arith) at)
       (y.run (ga w) 0 (λ v. v) (row_none n (suc (suc b)) (suc (suc slot))) (omega (arith, lj)) (omega arith) (x.after w at)))
 
