@@ -66,14 +66,15 @@ abbrev pub params_in : Handlers → ℕ
 params_in NoHandler = 0
 params_in (Handle at label params body rest) = length params + params_in rest
 
--- The values and names that a node has itself: its own value, and each name that it binds. An exit has no value. A new
--- block counts for three: the block, its place before it is filled, and its header.
+-- The values and names that a node has itself: its own value, and each name that it binds. The unit has none. An exit
+-- counts for one, since it may stand where a value is wanted. A new block counts for three: the block, its place before it
+-- is filled, and its header.
 abbrev pub own_values : Expression → ℕ
 own_values (Let at bindings body) = 1 + names_in bindings
 own_values (Alloc at header_at header operands) = 3
 own_values (Catch at body handlers) = 1 + params_in handlers
 own_values (Try at body name_at name handler) = 2
-own_values (Exit at label_at label arguments) = 0
+own_values (Nothing at) = 0
 own_values _ = 1
 
 -- the nodes of an expression, the tries among them, and the values and names in it
