@@ -381,7 +381,7 @@ seq_pays at n h = λ e m p. operands_pay (m + n) _ (λ es k all parts size.
 record TurnMeasured (e : Expression) (n : ℕ) : Type 0 where
   fits : IntegersFit e
   nodes : nodes_in e ≤ 3 * n
-  values : values_in e + 2 * all_tries e + 1 ≤ 2 * n
+  values : values_in e + 2 * all_tries e ≤ 2 * n
 
 if_measured : (at : ℕ) (x y : Expression) (m k : ℕ) → Measured x m → Measured y k → TurnMeasured (If at x y (exit_to at tree.Done)) (m + k)
 if_measured at x y m k p q =
