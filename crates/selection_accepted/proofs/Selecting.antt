@@ -6,7 +6,7 @@ use Rattle.std.proofs.lemmas.Bool.{leb-true}
 use Rattle.std.proofs.lemmas.List.Elements.{All-contains}
 use Rattle.bs_fault.specs.declared.fault.Fault.{Fault}
 use Rattle.bs_fault.specs.Limits.{most_tokens}
-use Rattle.bs_fault.specs.Reported.{Faults, Both, Among, here, first, second, one_if, Faultless}
+use Rattle.bs_fault.specs.Reported.{Faults, Among, here, first, second, one_if, Faultless}
 use Rattle.cmm_tree.specs.Symbols.{DefinedSymbol, definition_of}
 use Rattle.cmm_tree.specs.Tree.{FunctionTree, ItemTree, AFunction, AData, FileTree, functions, functions_among}
 use Rattle.cmm_limits.specs.Limits as limits
@@ -21,16 +21,10 @@ use Rattle.cmm_reader.specs.Text.{ReadsAs}
 use Rattle.cmm_reader.proofs.Measured.{read_measured}
 use Rattle.cmm_front.specs.FileOf.{IsFileOf}
 use Rattle.selection_laws.specs.Accepted.{Accepted, HaveCases}
-use Rattle.selection_laws.proofs.Accepting.{accepted_fits}
+use Rattle.selection_laws.proofs.Accepting.{left, right, accepted_fits}
 use Rattle.selection_accepted.specs.Selectable.{Selectable}
 use Rattle.selection_accepted.proofs.HaveCases.{items_have_cases}
-use Rattle.selection_accepted.proofs.Widths.{few_numbers}
-
-left : {a b : Faults} → Faultless (Both a b) → Faultless a
-left {a} {b} none f among = none f (first a b among)
-
-right : {a b : Faults} → Faultless (Both a b) → Faultless b
-right {a} {b} none f among = none f (second a b among)
+use Rattle.selection_laws.proofs.Widths.{few_numbers}
 
 -- ---- types and symbols
 

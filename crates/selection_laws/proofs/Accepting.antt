@@ -24,10 +24,10 @@ use Rattle.cmm_types.specs.declared.role.Role.TheVariants as role
 use Rattle.selection_laws.specs.Accepted.{HaveCases, RowHaveCases, BoundHaveCases, CasesHaveCases, HandlersHaveCases, Accepted}
 use Rattle.selection_laws.specs.Fits.{HasFew, NoAddress, Fits, RowFits, BindingsFit, CasesFit, HandlersFit, FunctionFits}
 
-left : {a b : Faults} → Faultless (Both a b) → Faultless a
+pub left : {a b : Faults} → Faultless (Both a b) → Faultless a
 left {a} {b} none f among = none f (first a b among)
 
-right : {a b : Faults} → Faultless (Both a b) → Faultless b
+pub right : {a b : Faults} → Faultless (Both a b) → Faultless b
 right {a} {b} none f among = none f (second a b among)
 
 few_places : (ps : List ℕ) → Faultless (too_many ps) → length ps ≤ most_params

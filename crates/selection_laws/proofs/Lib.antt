@@ -9,3 +9,5 @@ pub mod Nested
 pub mod CasesAgree
 pub mod WellFormed
 pub mod Accepting
+pub mod Widths
+pub mod Written

@@ -41,7 +41,7 @@ both_put true r v weak (both_some {a = a} {b = b} e) = both_some (λ n l. cond_b
 both_put false r v weak both_none = both_none
 both_put false r v weak (both_some e) = both_none
 
-not_first : {n : ℕ} {r : Reg} {rs : List Reg} → nat_eq r.number n ≡ false → (Among n rs → ⊥) → Among n (r ∷ rs) → ⊥
+pub not_first : {n : ℕ} {r : Reg} {rs : List Reg} → nat_eq r.number n ≡ false → (Among n rs → ⊥) → Among n (r ∷ rs) → ⊥
 not_first {n} {r} s free (first q) = true≢false (sym (eq-eqb r.number n q) ∙ s)
 not_first s free (later i) = free i
 
@@ -61,17 +61,17 @@ keeps_plain : (o : Option Held) → ((x : Held) → o ≡ Some x → is_addr x.c
 keeps_plain None k = refl
 keeps_plain (Some h) k = ap (λ b. cond b None (Some h)) (k h refl)
 
-frame_keeps : (pf : Bool) (b : File) (n : ℕ) → ((x : Held) → b n ≡ Some x → pf ≡ true → is_addr x.comp ≡ false) → past_frame pf b n ≡ b n
+pub frame_keeps : (pf : Bool) (b : File) (n : ℕ) → ((x : Held) → b n ≡ Some x → pf ≡ true → is_addr x.comp ≡ false) → past_frame pf b n ≡ b n
 frame_keeps false b n k = refl
 frame_keeps true b n k = keeps_plain (b n) (λ x e. k x e refl)
 
-not_addr : (x : Comp) → (x ≡ comp.Addr → ⊥) → is_addr x ≡ false
+pub not_addr : (x : Comp) → (x ≡ comp.Addr → ⊥) → is_addr x ≡ false
 not_addr comp.Int k = refl
 not_addr comp.Val k = refl
 not_addr comp.Addr k = absurd (k refl)
 not_addr comp.Float k = refl
 
-none_not : (x : Held) → None ≡ Some x → ⊥
+pub none_not : (x : Held) → None ≡ Some x → ⊥
 none_not x e = cc
 
 some_held : (y x : Held) → Some y ≡ Some x → y ≡ x
@@ -93,7 +93,7 @@ pub data IsBare : MachOp → Type 0 where
   an_end : {l : ℕ} → IsBare (mach.Mark (mark.End l))
 
 -- what may go to a label is such a mark
-bare_at : (f : MachOp) (l : ℕ) → OneOf (At l) (targets f) → IsBare f
+pub bare_at : (f : MachOp) (l : ℕ) → OneOf (At l) (targets f) → IsBare f
 bare_at (mach.Op f) l o = absurd (by (goes_on f) o)
   where
     by : (b : Bool) → OneOf (At l) (next_if b) → ⊥
@@ -111,10 +111,10 @@ bare_at (mach.Mark (mark.Leave k end)) l o = a_leave
 bare_at (mach.Mark (mark.Handler k)) l (other o) = elim o [ ]
 bare_at (mach.Mark (mark.End k)) l o = an_end
 
-bare_try : {f : MachOp} → IsTry f → IsBare f
+pub bare_try : {f : MachOp} → IsTry f → IsBare f
 bare_try is_try = a_try
 
-next_try : {f : MachOp} → IsTry f → OneOf On (targets f)
+pub next_try : {f : MachOp} → IsTry f → OneOf On (targets f)
 next_try is_try = this
 
 -- ---- places
@@ -123,7 +123,7 @@ label_if : (b : Bool) (l : ℕ) (i : Instr) (is : List Instr) → Ending (after_
 label_if true l i is e = more all
 label_if false l i is e = more e
 
-ending_label : (l : ℕ) (code : List Instr) → Ending (after_label l code) code
+pub ending_label : (l : ℕ) (code : List Instr) → Ending (after_label l code) code
 ending_label l [] = all
 ending_label l (i ∷ is) = label_if (has_label l i.op) l i is (ending_label l is)
 
@@ -131,11 +131,11 @@ onto_if : (b : Bool) (l : ℕ) (i : Instr) (is : List Instr) → Ending (from_ha
 onto_if true l i is e = all
 onto_if false l i is e = more e
 
-ending_onto : (l : ℕ) (code : List Instr) → Ending (from_handler l code) code
+pub ending_onto : (l : ℕ) (code : List Instr) → Ending (from_handler l code) code
 ending_onto l [] = all
 ending_onto l (i ∷ is) = onto_if (is_handler_of l i.op) l i is (ending_onto l is)
 
-ending_nothing : (code : List Instr) → Ending [] code
+pub ending_nothing : (code : List Instr) → Ending [] code
 ending_nothing [] = all
 ending_nothing (i ∷ is) = more (ending_nothing is)
 
@@ -143,7 +143,7 @@ pub stands_of : {i : Instr} {next code : List Instr} → Ending (i ∷ next) cod
 stands_of all = here
 stands_of (more e) = below (stands_of e)
 
-in_code : {i : Instr} {next code : List Instr} {r : Reg} → Ending (i ∷ next) code → Contains i.results r → InCode r code
+pub in_code : {i : Instr} {next code : List Instr} {r : Reg} → Ending (i ∷ next) code → Contains i.results r → InCode r code
 in_code all x = in_results x
 in_code (more e) x = further (in_code e x)
 
@@ -190,16 +190,16 @@ module _ (c : Place) (m : Mach) where
   among_append (x ∷ xs) (first e) = inl (first e)
   among_append (x ∷ xs) (later a) = ⊎_elim (λ z. inl (later z)) (λ z. inr z) (among_append xs a)
 
-  free_both : {n : ℕ} (i : Instr) → (Among n i.results → ⊥) → (Among n (killed m i) → ⊥) → Writes m i n → ⊥
+  pub free_both : {n : ℕ} (i : Instr) → (Among n i.results → ⊥) → (Among n (killed m i) → ⊥) → Writes m i n → ⊥
   free_both i x y ws = ⊎_elim x y (among_append i.results ws)
 
-  live_in : (n : ℕ) (i : Instr) (next : List Instr) → LiveAcross m n i next → Live m n (i ∷ next)
+  pub live_in : (n : ℕ) (i : Instr) (next : List Instr) → LiveAcross m n i next → Live m n (i ∷ next)
   live_in n i next (across_step free l w) = on free l w
   live_in n i next (across_raise r w) = aside r w
 
   -- ---- what stays known
 
-  clear_known : (ks : List Reg) (a : File) → AllKnown a → AllKnown (clear ks a)
+  pub clear_known : (ks : List Reg) (a : File) → AllKnown a → AllKnown (clear ks a)
   clear_known [] a k n x e = k n x e
   clear_known (q ∷ ks) a k n x e = by (nat_eq q.number n) (clear_known ks a k n x) e
     where
@@ -224,13 +224,13 @@ module _ (c : Place) (m : Mach) where
   put_if_known false r v is no_file = no_file
   put_if_known false r v is (a_file k) = no_file
 
-  put_all_known : (end : ℕ) (rs : List Reg) (vs : List Value) (a : File) → ((r : Reg) → Contains rs r → IsRegister m r) → AllKnown a → KnownFile (put_all end rs vs a)
+  pub put_all_known : (end : ℕ) (rs : List Reg) (vs : List Value) (a : File) → ((r : Reg) → Contains rs r → IsRegister m r) → AllKnown a → KnownFile (put_all end rs vs a)
   put_all_known end [] [] a is k = a_file k
   put_all_known end [] (v ∷ vs) a is k = no_file
   put_all_known end (r ∷ rs) [] a is k = no_file
   put_all_known end (r ∷ rs) (v ∷ vs) a is k = put_if_known (fits end (type_of_comp r.comp) v) r v (is r (contains_head r rs)) (put_all_known end rs vs a (λ q x. is q (contains_tail r rs q x)) k)
 
-  known_of : {o : Option File} {a : File} → KnownFile o → o ≡ Some a → AllKnown a
+  pub known_of : {o : Option File} {a : File} → KnownFile o → o ≡ Some a → AllKnown a
   known_of {a = a} no_file e = absurd (none_file a e)
     where
       none_file : (a : File) → None ≡ Some a → ⊥
@@ -239,6 +239,24 @@ module _ (c : Place) (m : Mach) where
     where
       some_file : (x y : File) → Some x ≡ Some y → x ≡ y
       some_file x y e = cc
+
+  -- such a mark writes nothing, and no colour is destroyed by it
+  pub bare_free : Steady → {i : Instr} {next : List Instr} → Stands i next m.code → IsBare i.op → (n : ℕ) → Writes m i n → ⊥
+  bare_free steady {i} {next} stands is n w = none_killed i.op is (subst (λ rs. Among n (rs ++ killed m i)) (steady.bare i next stands is) w)
+    where
+      none_killed : (f : MachOp) → IsBare f → Among n (killed_by m.colours (destroyed_by f) i.results) → ⊥
+      none_killed (mach.Op f) z w = elim z [ ]
+      none_killed (mach.Mark (mark.Handler l)) z w = elim z [ ]
+      none_killed (mach.Mark (mark.Exit l k)) z w = elim w [ ]
+      none_killed (mach.Mark (mark.If t l)) z w = elim w [ ]
+      none_killed (mach.Mark (mark.Else l end)) z w = elim w [ ]
+      none_killed (mach.Mark (mark.Switch labels)) z w = elim w [ ]
+      none_killed (mach.Mark (mark.Case indexes l end)) z w = elim w [ ]
+      none_killed (mach.Mark mark.Catch) z w = elim w [ ]
+      none_killed (mach.Mark (mark.With l end)) z w = elim w [ ]
+      none_killed (mach.Mark (mark.Try l)) z w = elim w [ ]
+      none_killed (mach.Mark (mark.Leave l end)) z w = elim w [ ]
+      none_killed (mach.Mark (mark.End l)) z w = elim w [ ]
 
   module _ (steady : Steady) (i : Instr) (next : List Instr) (a b : File) (rel : Agree (i ∷ next) a b) where
     abbrev b' : File
@@ -298,23 +316,6 @@ module _ (c : Place) (m : Mach) where
               known = known_of (put_all_known c.setting.end i.results vs (clear (killed m i) a) results_known (clear_known (killed m i) a rel.known)) e;
             })
 
-    bare_free : IsBare i.op → (n : ℕ) → Writes m i n → ⊥
-    bare_free is n w = none_killed i.op is (subst (λ rs. Among n (rs ++ killed m i)) (steady.bare i next (stands_of rel.ending) is) w)
-      where
-        none_killed : (f : MachOp) → IsBare f → Among n (killed_by m.colours (destroyed_by f) i.results) → ⊥
-        none_killed (mach.Op f) z w = elim z [ ]
-        none_killed (mach.Mark (mark.Handler l)) z w = elim z [ ]
-        none_killed (mach.Mark (mark.Exit l k)) z w = elim w [ ]
-        none_killed (mach.Mark (mark.If t l)) z w = elim w [ ]
-        none_killed (mach.Mark (mark.Else l end)) z w = elim w [ ]
-        none_killed (mach.Mark (mark.Switch labels)) z w = elim w [ ]
-        none_killed (mach.Mark (mark.Case indexes l end)) z w = elim w [ ]
-        none_killed (mach.Mark mark.Catch) z w = elim w [ ]
-        none_killed (mach.Mark (mark.With l end)) z w = elim w [ ]
-        none_killed (mach.Mark (mark.Try l)) z w = elim w [ ]
-        none_killed (mach.Mark (mark.Leave l end)) z w = elim w [ ]
-        none_killed (mach.Mark (mark.End l)) z w = elim w [ ]
-
     land_agree : (to : Landing) → MayLand i.op to → Agree (landing_code m.code (i ∷ next) to) a b'
     land_agree to l = record { ending = ends to; reached = comes_to to l; agree = λ n v. stays n (by to l n v); known = rel.known }
       where
@@ -339,13 +340,13 @@ module _ (c : Place) (m : Mach) where
         comes_to AtHandler (lands_at_handler r) = caught_at (tries_at (i ∷ next)) refl r
 
         by : (to : Landing) → MayLand i.op to → (n : ℕ) → Live m n (landing_code m.code (i ∷ next) to) → LiveAcross m n i next
-        by (AtLabel l) (lands_at_label o) n v = across_step (bare_free (bare_at i.op l o) n) (goes (At l) o) v
+        by (AtLabel l) (lands_at_label o) n v = across_step (bare_free steady (stands_of rel.ending) (bare_at i.op l o) n) (goes (At l) o) v
         by AtHandler (lands_at_handler r) n v = caught (tries_at (i ∷ next)) refl r n v
 
     try_agree : IsTry i.op → Agree next a b'
     try_agree z =
         let o = next_try z in
-        record { ending = ending_next rel.ending; reached = comes (by_step reached_here (goes On o)); agree = λ n v. stays n (across_step (bare_free (bare_try z) n) (goes On o) v); known = rel.known }
+        record { ending = ending_next rel.ending; reached = comes (by_step reached_here (goes On o)); agree = λ n v. stays n (across_step (bare_free steady (stands_of rel.ending) (bare_try z) n) (goes On o) v); known = rel.known }
 
     act_agree : (around : Around) (x : Act) → Within i.op x → AgreeStep (on_act c m i next a around x) (on_act c m i next b' around x)
     act_agree around (Goes vs to after) (goes_in o) = put_agree vs to after o

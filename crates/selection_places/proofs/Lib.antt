@@ -12,5 +12,4 @@ pub mod Small
 pub mod NamedOnes
 pub mod Opens
 pub mod Formed
-pub mod Lacks
 pub mod Widths

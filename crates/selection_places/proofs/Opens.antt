@@ -1,14 +1,21 @@
--- The open registers of selected code are no more than the values and names of the tree.
-use Rattle.std.proofs.Common.{◌≡◌, ℕ, suc, ◌+◌, ◌-◌, ◌*◌, ◌<◌, ◌≤◌, Bool, true, false, List, [], ◌∷◌, length, refl, ap, arith}
+-- The open registers of selected code are no more than the values and names of the tree, where the front finds no fault.
+use Rattle.std.proofs.Common.{◌≡◌, ℕ, suc, ◌+◌, ◌-◌, ◌*◌, ◌<◌, ◌≤◌, Bool, true, false, List, [], ◌∷◌, ◌++◌, length, Option, refl, sym, subst, arith}
+use Rattle.bs_fault.specs.Reported.{Faultless, here}
+use Rattle.bs_fault.specs.declared.fault.Fault.TheVariants as fault
 use Rattle.bs_words.specs.declared.types.Ty.{Ty}
 use Rattle.bs_words.specs.declared.types.Ty.TheVariants as ty
 use Rattle.cmm_tree.specs.Measures.{values_in, all_tries, row_total, bindings_total, cases_total, handlers_total, own_values, names_in, params_in}
+use Rattle.cmm_tree.specs.Place.{place_of}
+use Rattle.cmm_tree.specs.Symbols.{DefinedSymbol}
 use Rattle.cmm_tree.specs.Tree.{FunctionTree, Expression, Integer, Pointer, Symbol, Name, Nothing, Float, Let, Assign, Operator, Load, Store, Alloc, App, Extcall, Checkbound, Raise, Seq, If, Switch, Catch, Exit, Try, Expressions, NoMore, More, Bindings, NoBinding, Bind, Cases, NoCase, Choose, Handlers, NoHandler, Handle}
+use Rattle.cmm_types.specs.Gathered.{role_faults, function_faults, faults_in, row_faults, bindings_faults, cases_faults, handlers_faults}
+use Rattle.cmm_types.specs.Standing.{Visible, labels_of, lasting_labels_of}
 use Rattle.cmm_types.specs.Types.{type_of}
+use Rattle.cmm_types.specs.declared.role.Role.TheVariants as role
 use Rattle.mach_ir.specs.Sizes.{OpenAtMost}
 use Rattle.selection_rules.specs.Select.{Named, scopes, params_from, with_params, width, width_bound, width_labels, bound_name, env_after, count_of, count_cases, raised_name, is_based, selected}
 use Rattle.selection_laws.specs.Fits.{FunctionFits}
-use Rattle.selection_places.specs.Lacking.{no_value, lacks, lacking, operands_lacking, row_lacking, bound_lacking, cases_lacking, handlers_lacking, lacking_in}
+use Rattle.selection_laws.proofs.Accepting.{left as former, right as latter}
 use Rattle.selection_places.proofs.NamedOnes.{scopes_params, scopes_after}
 use Rattle.selection_places.proofs.Owned.{dropped, kept, kept_of, either, opens, base_opens, row_opens, bound_opens, seq_opens, cases_opens, handlers_opens, count_params}
 use Rattle.selection_places.proofs.Small.{selected_open}
@@ -19,182 +26,214 @@ one_of : (type : Ty) (b c : ℕ) → length (dropped type b) + length (kept type
 one_of ty.NoValue b c = refl
 one_of type b c = refl
 
-kept_or : (type : Ty) (b : ℕ) → length (kept type b) + no_value type ≡ 1
-kept_or ty.NoValue b = refl
-kept_or type b = refl
+-- one register for the value of an expression, and none where it has no value
+abbrev keeps : List Named → Expression → ℕ
+keeps env e = length (kept (type_of (scopes env) e) 0)
 
-kept_or_lacks : (env : List Named) (b : ℕ) (e : Expression) → length (kept_of env b e) + lacks (scopes env) e ≡ 1
-kept_or_lacks env b (Exit at label_at label arguments) = refl
-kept_or_lacks env b e = kept_or (type_of (scopes env) e) b
+own : (env : List Named) (b : ℕ) (e : Expression) → length (dropped (type_of (scopes env) e) b) + keeps env e ≡ 1
+own env b e = one_of (type_of (scopes env) e) b 0
 
-kept_few : (env : List Named) (b c : ℕ) (e : Expression) → length (kept_of env b e) ≡ length (kept_of env c e)
-kept_few env b c e =
-    let x = kept_or_lacks env b e in
-    let y = kept_or_lacks env c e in
-    omega (arith, x, y)
+-- an exit leaves none, whatever its type
+kept_few : (env : List Named) (b : ℕ) (e : Expression) → length (kept_of env b e) ≤ keeps env e
+kept_few env b (Exit at label_at label arguments) = omega arith
+kept_few env b e = by (type_of (scopes env) e)
+  where
+    by : (type : Ty) → length (kept type b) ≤ length (kept type 0)
+    by ty.NoValue = omega arith
+    by type = omega arith
 
--- the values of an expression, and of its operands that leave none one more
-abbrev room : List Named → Expression → ℕ
-room env e = values_in e + lacking (scopes env) e
+-- an operand has a value
+taken_value : (at : ℕ) (t : Ty) → Faultless (role_faults role.Taken at t) → length (kept t 0) ≡ 1
+taken_value at ty.NoValue none = absurd (none (fault.NoValue at) here)
+taken_value at t none = refl
+
+outer_value : (at : ℕ) (t : Ty) → Faultless (role_faults role.Outer at t) → length (kept t 0) ≡ 1
+outer_value at ty.NoValue none = absurd (none (fault.NoValue at) here)
+outer_value at t none = refl
 
 -- with one register for its value, where it leaves one
 abbrev Few : List Named → ℕ → Expression → Type 0
-Few env b e = opens env b e + length (kept_of env b e) ≤ room env e
+Few env b e = opens env b e + keeps env e ≤ values_in e
 
 -- as an operand
-as_operand : (env : List Named) (b : ℕ) (e : Expression) → Few env b e → opens env b e + 1 ≤ values_in e + (lacks (scopes env) e + lacking (scopes env) e)
-as_operand env b e few = let one = kept_or_lacks env b e in omega (arith, few, one)
+abbrev AsOperand : List Named → ℕ → Expression → Type 0
+AsOperand env b e = opens env b e + 1 ≤ values_in e
+
+taken : (env : List Named) (b : ℕ) (e : Expression) → Faultless (role_faults role.Taken (place_of e) (type_of (scopes env) e)) → Few env b e → AsOperand env b e
+taken env b e none few = let one = taken_value (place_of e) (type_of (scopes env) e) none in omega (arith, few, one)
+
+outer : (env : List Named) (b : ℕ) (e : Expression) → Faultless (role_faults role.Outer (place_of e) (type_of (scopes env) e)) → Few env b e → AsOperand env b e
+outer env b e none few = let one = outer_value (place_of e) (type_of (scopes env) e) none in omega (arith, few, one)
 
 chosen : (q : Bool) (j k n : ℕ) → j + 1 ≤ n → k + 1 ≤ n → either q j k + 1 ≤ n
 chosen true j k n x y = x
 chosen false j k n x y = y
 
-mutual
-  few : (env : List Named) (b : ℕ) (e : Expression) → Few env b e
-  few env b (Integer at w) = let one = one_of (type_of (scopes env) (Integer at w)) b b in omega (arith, one)
-  few env b (Pointer at w) = let one = one_of (type_of (scopes env) (Pointer at w)) b b in omega (arith, one)
-  few env b (Symbol at name) = let one = one_of (type_of (scopes env) (Symbol at name)) b b in omega (arith, one)
-  few env b (Name at x) = let one = one_of (type_of (scopes env) (Name at x)) b b in omega (arith, one)
-  few env b (Nothing at) = let one = kept_or (type_of (scopes env) (Nothing at)) b in omega (arith, one)
-  few env b (Float at word_at operands) = let one = kept_or (type_of (scopes env) (Float at word_at operands)) b in omega (arith, one)
-  few env b (Let at bindings body) =
-      let one = one_of (type_of (scopes env) (Let at bindings body)) b b in
-      let x = few_bound env (suc b) bindings in
-      let y = few (env_after env (suc b) bindings) (suc b + width_bound bindings) body in
-      let same = ap (λ sc. lacking sc body) (scopes_after env (suc b) bindings) in
-      omega (arith, one, x, y, same)
-  few env b (Assign at name_at name e) =
-      let one = kept_or_lacks env (suc (suc b)) e in
-      let x = few env (suc (suc b)) e in
-      let own = one_of (type_of (scopes env) (Assign at name_at name e)) b b in
-      omega (arith, one, x, own)
-  few env b (Operator at op e g) =
-      let one = one_of (type_of (scopes env) (Operator at op e g)) b b in
-      let x = as_operand env _ e (few env (suc (suc (suc b))) e) in
-      let y = as_operand env _ g (few env (suc (suc (suc b)) + width e) g) in
-      omega (arith, one, x, y)
-  few env b (App at callee arguments result result_at) =
-      let one = one_of (type_of (scopes env) (App at callee arguments result result_at)) b b in
-      let x = as_operand env _ callee (few env (suc (suc (suc b) + count_of arguments + count_of arguments)) callee) in
-      let y = few_row env (suc (suc (suc b) + count_of arguments + count_of arguments) + width callee) arguments in
-      omega (arith, one, x, y)
-  few env b (Extcall at frame name arguments result result_at) =
-      let one = one_of (type_of (scopes env) (Extcall at frame name arguments result result_at)) b b in
-      let y = few_row env (suc (suc b + count_of arguments + count_of arguments)) arguments in
-      omega (arith, one, y)
-  few env b (Seq at elements) =
-      let one = one_of (type_of (scopes env) (Seq at elements)) b b in
-      let y = few_seq env (suc b) elements in
-      omega (arith, one, y)
-  few env b (If at condition e g) =
-      let one = one_of (type_of (scopes env) (If at condition e g)) b b in
-      let x = as_operand env _ condition (few env (suc (suc (suc (suc b)))) condition) in
-      let y = few env (suc (suc (suc (suc b))) + width condition) e in
-      let z = few env (suc (suc (suc (suc b))) + width condition + width e) g in
-      omega (arith, one, x, y, z)
-  few env b (Catch at body handlers) =
-      let one = one_of (type_of (scopes env) (Catch at body handlers)) b b in
-      let x = few env (suc (suc b) + width_labels handlers) body in
-      let y = few_handlers env (suc (suc b)) (suc (suc b) + width_labels handlers + width body) handlers in
-      omega (arith, one, x, y)
-  few env b (Exit at label_at label arguments) =
-      let y = few_row env (suc b + count_of arguments) arguments in
-      omega (arith, y)
-  few env b (Load at chunk address) =
-      let one = one_of (type_of (scopes env) (Load at chunk address)) b b in
-      let x = few_base env (suc (suc b)) address (as_operand env _ address (few env (suc (suc b)) address)) in
-      omega (arith, one, x)
-  few env b (Store at chunk address e) =
-      let one = one_of (type_of (scopes env) (Store at chunk address e)) b b in
-      let x = few_base env (suc (suc (suc b))) address (as_operand env _ address (few env (suc (suc (suc b))) address)) in
-      let y = as_operand env _ e (few env (suc (suc (suc b)) + width address) e) in
-      omega (arith, one, x, y)
-  few env b (Checkbound at e g) =
-      let one = one_of (type_of (scopes env) (Checkbound at e g)) b b in
-      let x = as_operand env _ e (few env (suc (suc (suc b))) e) in
-      let y = as_operand env _ g (few env (suc (suc (suc b)) + width e) g) in
-      omega (arith, one, x, y)
-  few env b (Raise at e) =
-      let one = one_of (type_of (scopes env) (Raise at e)) b b in
-      let x = as_operand env _ e (few env (suc (suc (suc b))) e) in
-      omega (arith, one, x)
-  few env b (Switch at size_at size selector cases) =
-      let one = one_of (type_of (scopes env) (Switch at size_at size selector cases)) b b in
-      let x = as_operand env _ selector (few env (suc (suc (suc b)) + count_cases cases) selector) in
-      let y = few_cases env (suc (suc (suc b)) + count_cases cases + width selector) cases in
-      omega (arith, one, x, y)
-  few env b (Try at body name_at name handler) =
-      let one = one_of (type_of (scopes env) (Try at body name_at name handler)) b b in
-      let x = few env (suc (suc (suc (suc (suc b))))) body in
-      let y = few (raised_name name (suc (suc (suc b))) ∷ env) (suc (suc (suc (suc (suc b)))) + width body) handler in
-      omega (arith, one, x, y)
-  few env b (Alloc at header_at header operands) =
-      let one = one_of (type_of (scopes env) (Alloc at header_at header operands)) b b in
-      let y = few_row env (suc (suc (suc b)) + count_of operands) operands in
-      omega (arith, one, y)
+module _ (d : List ℕ → Option DefinedSymbol) where
+  mutual
+    few : (env : List Named) (labels : List Visible) (b : ℕ) (e : Expression) → Faultless (faults_in d (scopes env) labels e) → Few env b e
+    few env labels b (Integer at w) none = let one = own env b (Integer at w) in omega (arith, one)
+    few env labels b (Pointer at w) none = let one = own env b (Pointer at w) in omega (arith, one)
+    few env labels b (Symbol at name) none = let one = own env b (Symbol at name) in omega (arith, one)
+    few env labels b (Name at x) none = let one = own env b (Name at x) in omega (arith, one)
+    few env labels b (Nothing at) none = omega arith
+    few env labels b (Float at word_at operands) none = let one = own env b (Float at word_at operands) in omega (arith, one)
+    few env labels b (Let at bindings body) none =
+        let one = own env b (Let at bindings body) in
+        let x = few_bound env labels (suc b) bindings (former none) in
+        let inside = subst (λ names. Faultless (faults_in d names labels body)) (sym (scopes_after env (suc b) bindings)) (latter none) in
+        let y = few (env_after env (suc b) bindings) labels (suc b + width_bound bindings) body inside in
+        omega (arith, one, x, y)
+    few env labels b (Assign at name_at name e) none =
+        let one = own env b (Assign at name_at name e) in
+        let x = taken env (suc (suc b)) e (latter (latter none)) (few env labels (suc (suc b)) e (former (latter none))) in
+        omega (arith, one, x)
+    few env labels b (Operator at op e g) none =
+        let one = own env b (Operator at op e g) in
+        let x = taken env (suc (suc (suc b))) e (latter (former none)) (few env labels (suc (suc (suc b))) e (former (former none))) in
+        let y = taken env (suc (suc (suc b)) + width e) g (latter (latter none)) (few env labels (suc (suc (suc b)) + width e) g (former (latter none))) in
+        omega (arith, one, x, y)
+    few env labels b (App at callee arguments result result_at) none =
+        let one = own env b (App at callee arguments result result_at) in
+        let from = suc (suc (suc b) + count_of arguments + count_of arguments) in
+        let x = taken env from callee (latter (former (latter none))) (few env labels from callee (former (former (latter none)))) in
+        let y = few_row env labels (from + width callee) arguments (latter (latter none)) in
+        omega (arith, one, x, y)
+    few env labels b (Extcall at frame name arguments result result_at) none =
+        let one = own env b (Extcall at frame name arguments result result_at) in
+        let y = few_outer env labels (suc (suc b + count_of arguments + count_of arguments)) arguments (latter none) in
+        omega (arith, one, y)
+    few env labels b (Seq at elements) none =
+        let one = own env b (Seq at elements) in
+        let y = few_seq env labels (suc b) elements none in
+        omega (arith, one, y)
+    few env labels b (If at condition e g) none =
+        let one = own env b (If at condition e g) in
+        let from = suc (suc (suc (suc b))) in
+        let x = taken env from condition (latter (former none)) (few env labels from condition (former (former none))) in
+        let y = few env labels (from + width condition) e (former (latter none)) in
+        let z = few env labels (from + width condition + width e) g (latter (latter none)) in
+        omega (arith, one, x, y, z)
+    few env labels b (Catch at body handlers) none =
+        let one = own env b (Catch at body handlers) in
+        let from = suc (suc b) + width_labels handlers in
+        let x = few env (labels_of handlers ++ labels) from body (former (latter none)) in
+        let y = few_handlers env (lasting_labels_of handlers ++ labels) (suc (suc b)) (from + width body) handlers (latter (latter none)) in
+        omega (arith, one, x, y)
+    few env labels b (Exit at label_at label arguments) none =
+        let one = own env b (Exit at label_at label arguments) in
+        let y = few_row env labels (suc b + count_of arguments) arguments (latter none) in
+        omega (arith, one, y)
+    few env labels b (Load at chunk address) none =
+        let one = own env b (Load at chunk address) in
+        let x = few_base env labels (suc (suc b)) address (former none)
+        (taken env (suc (suc b)) address (latter none) (few env labels (suc (suc b)) address (former none))) in
+        omega (arith, one, x)
+    few env labels b (Store at chunk address e) none =
+        let one = own env b (Store at chunk address e) in
+        let from = suc (suc (suc b)) in
+        let x = few_base env labels from address (former (former none))
+        (taken env from address (latter (former none)) (few env labels from address (former (former none)))) in
+        let y = taken env (from + width address) e (latter (latter none)) (few env labels (from + width address) e (former (latter none))) in
+        omega (arith, one, x, y)
+    few env labels b (Checkbound at e g) none =
+        let one = own env b (Checkbound at e g) in
+        let x = taken env (suc (suc (suc b))) e (latter (former none)) (few env labels (suc (suc (suc b))) e (former (former none))) in
+        let y = taken env (suc (suc (suc b)) + width e) g (latter (latter none)) (few env labels (suc (suc (suc b)) + width e) g (former (latter none))) in
+        omega (arith, one, x, y)
+    few env labels b (Raise at e) none =
+        let one = own env b (Raise at e) in
+        let x = taken env (suc (suc (suc b))) e (latter none) (few env labels (suc (suc (suc b))) e (former none)) in
+        omega (arith, one, x)
+    few env labels b (Switch at size_at size selector cases) none =
+        let one = own env b (Switch at size_at size selector cases) in
+        let from = suc (suc (suc b)) + count_cases cases in
+        let x = taken env from selector (latter (former none)) (few env labels from selector (former (former none))) in
+        let y = few_cases env labels (from + width selector) cases (latter none) in
+        omega (arith, one, x, y)
+    few env labels b (Try at body name_at name handler) none =
+        let one = own env b (Try at body name_at name handler) in
+        let from = suc (suc (suc (suc (suc b)))) in
+        let x = few env labels from body (former none) in
+        let y = few (raised_name name (suc (suc (suc b))) ∷ env) labels (from + width body) handler (latter none) in
+        omega (arith, one, x, y)
+    few env labels b (Alloc at header_at header operands) none =
+        let one = own env b (Alloc at header_at header operands) in
+        let y = few_row env labels (suc (suc (suc b)) + count_of operands) operands (latter none) in
+        omega (arith, one, y)
 
-  few_base : (env : List Named) (b : ℕ) (e : Expression) → opens env b e + 1 ≤ values_in e + (lacks (scopes env) e + lacking (scopes env) e) →
-      base_opens env b e (opens env b e) + 1 ≤ values_in e + (lacks (scopes env) e + lacking (scopes env) e)
-  few_base env b (Operator at op base (Integer at' w)) whole =
-      let x = few env b base in
-      chosen (is_based op w) (opens env b base) (opens env b (Operator at op base (Integer at' w))) _ (omega (arith, x)) whole
-  few_base env b e whole = whole
+    few_base : (env : List Named) (labels : List Visible) (b : ℕ) (e : Expression) → Faultless (faults_in d (scopes env) labels e) → AsOperand env b e →
+        base_opens env b e (opens env b e) + 1 ≤ values_in e
+    few_base env labels b (Operator at op base (Integer at' w)) none whole =
+        let x = few env labels b base (former (former none)) in
+        chosen (is_based op w) (opens env b base) (opens env b (Operator at op base (Integer at' w))) _ (omega (arith, x)) whole
+    few_base env labels b e none whole = whole
 
-  few_row : (env : List Named) (b : ℕ) (es : Expressions) → count_of es + row_opens env b es ≤ row_total own_values es + operands_lacking (scopes env) es
-  few_row env b NoMore = omega arith
-  few_row env b (More e rest) =
-      let x = as_operand env _ e (few env b e) in
-      let y = few_row env (b + width e) rest in
-      omega (arith, x, y)
+    few_row : (env : List Named) (labels : List Visible) (b : ℕ) (es : Expressions) → Faultless (row_faults role.Taken d (scopes env) labels es) →
+        count_of es + row_opens env b es ≤ row_total own_values es
+    few_row env labels b NoMore none = omega arith
+    few_row env labels b (More e rest) none =
+        let x = taken env b e (latter (former none)) (few env labels b e (former (former none))) in
+        let y = few_row env labels (b + width e) rest (latter none) in
+        omega (arith, x, y)
 
-  few_bound : (env : List Named) (b : ℕ) (bs : Bindings) → bound_opens env b bs ≤ names_in bs + (bindings_total own_values bs + bound_lacking (scopes env) bs)
-  few_bound env b NoBinding = omega arith
-  few_bound env b (Bind at name declared e rest) =
-      let x = few env (suc b) e in
-      let y = few_bound (bound_name env b name declared e ∷ env) (suc (b + width e)) rest in
-      omega (arith, x, y)
+    few_outer : (env : List Named) (labels : List Visible) (b : ℕ) (es : Expressions) → Faultless (row_faults role.Outer d (scopes env) labels es) →
+        count_of es + row_opens env b es ≤ row_total own_values es
+    few_outer env labels b NoMore none = omega arith
+    few_outer env labels b (More e rest) none =
+        let x = outer env b e (latter (former none)) (few env labels b e (former (former none))) in
+        let y = few_outer env labels (b + width e) rest (latter none) in
+        omega (arith, x, y)
 
-  few_seq : (env : List Named) (b : ℕ) (es : Expressions) → seq_opens env b es ≤ row_total own_values es + row_lacking (scopes env) es
-  few_seq env b NoMore = omega arith
-  few_seq env b (More e rest) =
-      let same = kept_few env b (suc b) e in
-      let x = few env (suc b) e in
-      let y = few_seq env (suc (b + width e)) rest in
-      omega (arith, same, x, y)
+    few_bound : (env : List Named) (labels : List Visible) (b : ℕ) (bs : Bindings) → Faultless (bindings_faults d (scopes env) labels bs) →
+        bound_opens env b bs ≤ names_in bs + bindings_total own_values bs
+    few_bound env labels b NoBinding none = omega arith
+    few_bound env labels b (Bind at name declared e rest) none =
+        let x = few env labels (suc b) e (former (latter (former none))) in
+        let y = few_bound (bound_name env b name declared e ∷ env) labels (suc (b + width e)) rest (latter none) in
+        omega (arith, x, y)
 
-  few_cases : (env : List Named) (b : ℕ) (cs : Cases) → cases_opens env b cs ≤ cases_total own_values cs + cases_lacking (scopes env) cs
-  few_cases env b NoCase = omega arith
-  few_cases env b (Choose indexes body rest) =
-      let x = few env b body in
-      let y = few_cases env (b + width body) rest in
-      omega (arith, x, y)
+    few_seq : (env : List Named) (labels : List Visible) (b : ℕ) (es : Expressions) → Faultless (row_faults role.Visited d (scopes env) labels es) →
+        seq_opens env b es ≤ row_total own_values es
+    few_seq env labels b NoMore none = omega arith
+    few_seq env labels b (More e rest) none =
+        let most = kept_few env b e in
+        let x = few env labels (suc b) e (former (former none)) in
+        let y = few_seq env labels (suc (b + width e)) rest (latter none) in
+        omega (arith, most, x, y)
 
-  few_handlers : (env : List Named) (l b : ℕ) (hs : Handlers) → count_params hs + handlers_opens env l b hs ≤ params_in hs +
-      (handlers_total own_values hs + handlers_lacking (scopes env) hs)
-  few_handlers env l b NoHandler = omega arith
-  few_handlers env l b (Handle at label params body rest) =
-      let x = few (with_params params (params_from (suc l) params) env) b body in
-      let y = few_handlers env (suc l + length params) (b + width body) rest in
-      let same = ap (λ sc. lacking sc body) (scopes_params (suc l) params env) in
-      omega (arith, x, y, same)
+    few_cases : (env : List Named) (labels : List Visible) (b : ℕ) (cs : Cases) → Faultless (cases_faults d (scopes env) labels cs) →
+        cases_opens env b cs ≤ cases_total own_values cs
+    few_cases env labels b NoCase none = omega arith
+    few_cases env labels b (Choose indexes body rest) none =
+        let x = few env labels b body (former none) in
+        let y = few_cases env labels (b + width body) rest (latter none) in
+        omega (arith, x, y)
 
--- The open registers of selected code are no more than the values and names of its tree, where each operand leaves a value.
-pub opens_by_values : (f : FunctionTree) → opens_of f ≤ 1 + length f.params + (values_in f.body + lacking_in f)
-opens_by_values f =
-    let x = few (env_of f) (suc (suc (value_at f))) f.body in
-    let same = ap (λ sc. lacking sc f.body) (scopes_params (moved_at f) f.params []) in
-    omega (arith, x, same)
+    few_handlers : (env : List Named) (labels : List Visible) (l b : ℕ) (hs : Handlers) → Faultless (handlers_faults d (scopes env) labels hs) →
+        count_params hs + handlers_opens env l b hs ≤ params_in hs + handlers_total own_values hs
+    few_handlers env labels l b NoHandler none = omega arith
+    few_handlers env labels l b (Handle at label params body rest) none =
+        let inside = subst (λ names. Faultless (faults_in d names labels body)) (sym (scopes_params (suc l) params env)) (latter (former none)) in
+        let x = few (with_params params (params_from (suc l) params) env) labels b body inside in
+        let y = few_handlers env labels (suc l + length params) (b + width body) rest (latter none) in
+        omega (arith, x, y)
 
-pub fewer : (f : FunctionTree) {k n : ℕ} → k ≤ n → OpenAtMost (selected f) k → OpenAtMost (selected f) n
+  -- The open registers of selected code are no more than the values and names of its tree.
+  pub opens_by_values : (f : FunctionTree) → Faultless (function_faults d f) → opens_of f ≤ 1 + length f.params + values_in f.body
+  opens_by_values f none =
+      let inside = subst (λ names. Faultless (faults_in d names [] f.body)) (sym (scopes_params (moved_at f) f.params [])) (former (latter none)) in
+      let x = few (env_of f) [] (suc (suc (value_at f))) f.body inside in
+      omega (arith, x)
+
+fewer : (f : FunctionTree) {k n : ℕ} → k ≤ n → OpenAtMost (selected f) k → OpenAtMost (selected f) n
 fewer f le o = record { numbers = o.numbers; few = let x = o.few in omega (arith, x, le); all = o.all }
 
--- By the tokens of a function whose tokens cover its values: at most two for each token but those of tries, where each
--- operand leaves a value.
-pub selected_open_by_tokens : (f : FunctionTree) → FunctionFits f → 12 + 6 * length f.params + (values_in f.body + 2 * all_tries f.body) < 2 * f.tokens →
-    OpenAtMost (selected f) (2 * (f.tokens - all_tries f.body) + lacking_in f)
-selected_open_by_tokens f fits cover =
-    let most = opens_by_values f in
-    fewer f (within (opens_of f) (length f.params) (values_in f.body) (all_tries f.body) f.tokens (lacking_in f) cover most) (selected_open f fits)
+-- Of a function without faults whose tokens cover its values: at most two for each token but those of tries.
+pub selected_open_by_tokens : (d : List ℕ → Option DefinedSymbol) (f : FunctionTree) → FunctionFits f → Faultless (function_faults d f) →
+    12 + 6 * length f.params + (values_in f.body + 2 * all_tries f.body) < 2 * f.tokens → OpenAtMost (selected f) (2 * (f.tokens - all_tries f.body))
+selected_open_by_tokens d f fits none cover =
+    fewer f (within (opens_of f) (length f.params) (values_in f.body) (all_tries f.body) f.tokens cover (opens_by_values d f none)) (selected_open f fits)
   where
-    within : (k n v t tokens more : ℕ) → 12 + 6 * n + (v + 2 * t) < 2 * tokens → k ≤ 1 + n + (v + more) → k ≤ 2 * (tokens - t) + more
-    within k n v t tokens more c m = omega (arith, c, m)
+    within : (k n v t tokens : ℕ) → 12 + 6 * n + (v + 2 * t) < 2 * tokens → k ≤ 1 + n + v → k ≤ 2 * (tokens - t)
+    within k n v t tokens c m = omega (arith, c, m)

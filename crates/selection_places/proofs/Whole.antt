@@ -1,5 +1,5 @@
 -- The registers of a selected function: a number tells each, and it is its origin.
-use Rattle.std.proofs.Common.{◌≡◌, ℕ, suc, ◌+◌, ◌⊎◌, inl, inr, not, true, List, [], ◌∷◌, length, Option, Some, refl, sym, ap, ◌∙◌, subst, arith}
+use Rattle.std.proofs.Common.{◌≡◌, ℕ, suc, ◌+◌, ◌<◌, ◌≤◌, ◌⊎◌, inl, inr, not, true, List, [], ◌∷◌, length, Option, Some, refl, sym, ap, ◌∙◌, subst, arith}
 use Rattle.std.specs.Prelude.{Contains}
 use Rattle.bs_words.specs.declared.types.Comp.TheVariants as comp
 use Rattle.bs_words.specs.declared.types.Loc.TheVariants as loc
@@ -10,7 +10,8 @@ use Rattle.cmm_types.specs.Types.{body_type, result_of}
 use Rattle.mach_ir.specs.Keeps.{OriginsAgree}
 use Rattle.mach_ir.specs.Meaning.{Held, State}
 use Rattle.mach_ir.specs.Placed.{colours}
-use Rattle.mach_ir.specs.Walks.{InCode, in_args, in_results, further, IsRegister, is_param, is_colour, is_in_code}
+use Rattle.mach_ir.specs.Walks.{Among, InCode, in_args, in_results, further, IsRegister, is_param, is_colour, is_in_code}
+use Rattle.mach_ir.specs.Walks as walks
 use Rattle.mach_ir.specs.declared.mach.Instr.{Instr}
 use Rattle.mach_ir.specs.declared.reg.Reg.{Reg}
 use Rattle.selection_rules.specs.Select.{Named, selected, first, params_from, with_params, is_no_value, fresh, seats, result_seat, colour_regs}
@@ -85,21 +86,25 @@ pub seats_length : (i n : ℕ) (rs : List Reg) → length (seats i n rs) ≡ len
 seats_length i n [] = refl
 seats_length i n (r ∷ rs) = let others = seats_length (suc i) (suc n) rs in omega (arith, others)
 
-pub selected_coded : (f : FunctionTree) → Coded (Whole f) (onto (seats 0 first (params_of f)) []) [] (selected f).code
-selected_coded f =
+-- the code has these roles among any that have those of all but the colours
+coded_in : (f : FunctionTree) (Q : Role → Reg → Type 0) → ((t : Role) (r : Reg) → Others f t r → Q t r) →
+    Coded Q (onto (seats 0 first (params_of f)) []) [] (selected f).code
+coded_in f Q own =
     let type : Ty = body_type f in
-    let Q = Whole f in
     let from = seats 0 first (params_of f) in
-    let from_fine = listed Q Seated from (λ t r i. in_right (left i)) in
-    let to_fine = listed Q Plain (params_of f) (λ t r i. in_right (in_right (left i))) in
-    let d = in_right (in_right (in_right (left (it refl refl)))) in
-    let gives = listed Q Seated (result_seat (suc (value_at f)) (result_of type)) (λ t r i. in_right (in_right (in_right (in_right (left i))))) in
+    let from_fine = listed Q Seated from (λ t r i. own t r (left i)) in
+    let to_fine = listed Q Plain (params_of f) (λ t r i. own t r (in_right (left i))) in
+    let d = own Plain (fresh (value_at f) type) (in_right (in_right (left (it refl refl)))) in
+    let gives = listed Q Seated (result_seat (suc (value_at f)) (result_of type)) (λ t r i. own t r (in_right (in_right (in_right (left i))))) in
     let env = env_of f in
     codes_entry Q from (params_of f) [] [] from_fine to_fine (seats_length 0 first (params_of f)) _
     (codes_select Q env [] (not (is_no_value type)) true _ (suc (suc (value_at f))) f.body
-    (λ t r i. in_right (in_right (in_right (in_right (in_right i)))))
+    (λ t r i. own t r (in_right (in_right (in_right (in_right i)))))
     (params_env Q [] f.params (params_of f) to_fine no_names) no_labels (wants_any Q env f.body d) [] _
     (codes_returns Q (suc (value_at f)) (result_of type) d gives))
+
+pub selected_coded : (f : FunctionTree) → Coded (Whole f) (onto (seats 0 first (params_of f)) []) [] (selected f).code
+selected_coded f = coded_in f (Whole f) (λ t r i. in_right i)
 
 -- ---- each register has a role
 
@@ -159,6 +164,22 @@ pub has_role : (f : FunctionTree) (r : Reg) → IsRegister (selected f) r → Ha
 has_role f r (is_param c) = each_of (listed_in Seated (seats 0 first (params_of f)) (λ t r i. in_right (left i))) r (member_of _ r c)
 has_role f r (is_colour c) = each_of (listed_in Seated (colour_regs 0 colours) (λ t r i. left i)) r (member_of _ r c)
 has_role f r (is_in_code i) = in_coded (selected_coded f) i
+
+-- ---- no instruction reads or writes a register of a colour
+
+above_colours : (f : FunctionTree) (r : Reg) → HasRole (Others f) r → first ≤ r.number
+above_colours f r (has t x) = (others_block f).from t r x
+
+below_colours : (n : ℕ) (cs : List ℕ) (k : ℕ) → Among k (colour_regs n cs) → k < n + length cs
+below_colours n [] k i = elim i [ ]
+below_colours n (c ∷ cs) k (walks.first e) = omega (arith, e)
+below_colours n (c ∷ cs) k (walks.later i) = let less = below_colours (suc n) cs k i in omega (arith, less)
+
+pub colours_apart : (f : FunctionTree) (r : Reg) → InCode r (selected f).code → Among r.number (selected f).colours → ⊥
+colours_apart f r i a =
+    let most = below_colours 0 colours r.number a in
+    let least = above_colours f r (in_coded (coded_in f (Others f) (λ t q x. x)) i) in
+    omega (arith, most, least)
 
 tells : {Q : Role → Reg → Type 0} {lo hi k : ℕ} {r q : Reg} → Block Q lo hi k → HasRole Q r → HasRole Q q → r.number ≡ q.number → r ≡ q
 tells {r = r} {q = q} b (has t x) (has u y) e = let both = b.tells t u r q x y e in both.1

@@ -31,10 +31,11 @@ use Rattle.selection_rules.specs.Select.{Named, Label, scopes, reg_of, move_from
 use Rattle.selection_rules.proofs.Parts.{Placed, placed_in, placed_next}
 use Rattle.selection_rules.proofs.Endings.{ending_select}
 use Rattle.selection_rules.proofs.Labels.{address_is_light}
+use Rattle.selection_laws.proofs.Accepting.{left, right}
 use Rattle.selection_laws.specs.Fits.{Fits}
 use Rattle.selection_walks.proofs.Phases.{Phase, Early, Bound, Passed, Off, Flies, the_same, beyond, Written, here, there, Ahead, Past, kept_on, straight, Told, skipped, quietly, any_early, Apart, Kept, kept_then, grown, bound_none, apart_binds, apart_uses}
 use Rattle.selection_walks.proofs.Situations.{hold, Low, hold_same, hold_other, hold_kept, low_none, low_more, paired_names, OutsOf, outs_kept, Sit, sit, go, quiet_sit, no_among, no_written, one_number, out, Wanted, ApartFrom, inner, inner_apart, binding, through_takes}
-use Rattle.selection_walks.proofs.Floats.{has_one, left, right}
+use Rattle.selection_walks.proofs.Floats.{has_one}
 use Rattle.selection_walks.proofs.Operands.{has_value, row_none, row_hold, row_more, Stood, Step, whole, Scene, at_more, at_hold, Claim, of_claim, operand_step}
 use Rattle.selection_walks.proofs.Finals.{IsPlain, ended, mute_sit, used_by, plain_move, Meets, calling}
 use Rattle.selection_walks.proofs.Pairs.{coded, bare_arg, two_args, left_stands, right_stands, single_stands, two_of, plain_operator}

@@ -25,8 +25,8 @@ use Rattle.selection_rules.specs.Instructions.{bare}
 use Rattle.selection_rules.specs.Select.{Named, Label, scopes, count_cases, width, switch_labels, last_label, select_cases}
 use Rattle.selection_rules.proofs.Parts.{ending_in, ending_next, Within, Placed, placed_in, placed_next, WellLabelled}
 use Rattle.selection_rules.proofs.Endings.{ending_select, ending_cases}
+use Rattle.selection_laws.proofs.Accepting.{left, right}
 use Rattle.selection_laws.specs.Fits.{CasesFit}
-use Rattle.selection_walks.proofs.Floats.{left, right}
 use Rattle.selection_walks.proofs.Phases.{Phase, Bound, Passed, Ahead, more_steps, Marked, read_there, moved_on, marked, Told}
 use Rattle.selection_walks.proofs.Situations.{OutsOf, Sit, sit, go, no_among, out, Wanted, ApartFrom}
 use Rattle.selection_walks.proofs.Operands.{Scene, at_more, Claim, of_claim}

@@ -24,8 +24,8 @@ use Rattle.mach_ir.specs.declared.reg.Reg.{Reg}
 use Rattle.selection_rules.specs.Instructions as emit
 use Rattle.selection_rules.specs.Instructions.{bare}
 use Rattle.selection_rules.specs.Select.{Named, Label, scopes, fresh, only_when, unless_symbol, symbol_of, callee_regs, regs_of, width, seat, seats, result_seat, from_seat, moves_all, call_of, select, select_waiting, select_filled, Code}
+use Rattle.selection_laws.proofs.Accepting.{left, right}
 use Rattle.selection_laws.specs.Fits.{Fits, RowFits}
-use Rattle.selection_walks.proofs.Floats.{left, right}
 use Rattle.selection_walks.proofs.Phases.{Phase, Flies, the_same, beyond, Told, skipped, past, quietly, Kept, kept_same, kept_then, apart_passes}
 use Rattle.selection_walks.proofs.Situations.{hold, holds, Low, hold_same, hold_other, low_none, low_more, paired_names, Landing, Outs, OutsOf, outs_kept, Sit, sit, go, weak, no_among, no_written, out, Wanted, ApartFrom, through_takes, address_of, same_or, none_some, some_same}
 use Rattle.selection_walks.proofs.Operands.{Takes, has_value, waited, all_held, waited_row, held_row, row_stands, Stood, hold_next, next_low, Step, joined, nothing, Scene, at_more, at_hold, Claim, row_operand, row_uncoded}

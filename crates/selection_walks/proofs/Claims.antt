@@ -27,10 +27,11 @@ use Rattle.selection_rules.specs.Instructions as emit
 use Rattle.selection_rules.specs.Instructions.{bare}
 use Rattle.selection_rules.specs.Select.{shape_of, unless_left, unless_right, ordered, Named, Label, scopes, comp_of, fresh, reg_of, label_of, count_of, regs_of, symbol_of, seat, exit_to, inner_dest, inner_valued, bound_name, env_after, header_offset, chunk_for, width, width_bound, select, select_bound, select_seq, select_waiting, select_filled}
 use Rattle.selection_rules.proofs.Parts.{WellLabelled}
+use Rattle.selection_laws.proofs.Accepting.{left, right}
 use Rattle.selection_laws.specs.Fits.{Fits, RowFits, BindingsFit}
 use Rattle.selection_walks.proofs.Phases.{Kept, kept_same, kept_then}
 use Rattle.selection_walks.proofs.Situations.{hold, hold_same, hold_other, hold_kept, low_none, low_more, same_or, some_same, pair, paired_names, paired_more, looked, OutsOf, outs_kept, Sit, quiet_sit, no_among, one_number, out, Wanted, ApartFrom, inner, inner_apart, binding}
-use Rattle.selection_walks.proofs.Floats.{has_one, left, right}
+use Rattle.selection_walks.proofs.Floats.{has_one}
 use Rattle.selection_walks.proofs.Operands.{has_value, waited, all_held, held_row, row_stands, hold_next, Step, nothing, whole, outs_over, Scene, at_more, Claim, of_claim, count_same}
 use Rattle.selection_walks.proofs.Finals.{IsPlain, ended, used_by, outs_takes, takes_raising, takes_exiting, plain_move, moves_sit}
 use Rattle.selection_walks.proofs.Pairs.{power_int, one_arg, coded, single_stands, shape_end}

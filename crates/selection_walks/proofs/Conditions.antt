@@ -34,10 +34,11 @@ use Rattle.selection_rules.specs.Instructions.{bare}
 use Rattle.selection_rules.specs.Select.{Shape, InRegisters, ConstantRight, ConstantLeft, PowerRight, shape_of, shape_op, shape_right, shape_args, unless_left, unless_right, comparison, tested, Named, Label, scopes, comp_of, fresh, ordered, inner_dest, inner_valued, width, count_cases, switch_labels, select, select_test, select_cases, Code}
 use Rattle.selection_rules.proofs.Parts.{Placed, placed_in, placed_next, WellLabelled}
 use Rattle.selection_rules.proofs.Endings.{ending_select}
+use Rattle.selection_laws.proofs.Accepting.{left, right}
 use Rattle.selection_laws.specs.Fits.{Fits, HasCase}
 use Rattle.selection_walks.proofs.Phases.{Phase, Passed, Ahead, Told, skipped, quietly, Kept, grown, apart_binds, apart_uses}
 use Rattle.selection_walks.proofs.Situations.{hold, Low, hold_same, hold_other, hold_kept, low_none, low_more, paired_names, OutsOf, outs_kept, Sit, go, quiet_sit, one_number, out, ApartFrom, inner, inner_apart, binding, through_takes}
-use Rattle.selection_walks.proofs.Floats.{has_one, left, right}
+use Rattle.selection_walks.proofs.Floats.{has_one}
 use Rattle.selection_walks.proofs.Operands.{has_value, row_none, row_hold, hold_next, Stood, Step, joined, nothing, whole, outs_over, Scene, at_more, Claim, of_claim}
 use Rattle.selection_walks.proofs.Finals.{used_by, outs_takes}
 use Rattle.selection_walks.proofs.Pairs.{bare_right, bare_left, coded, bare_arg, two_args, left_stands, right_stands, single_stands, two_of, bare_power, untested}

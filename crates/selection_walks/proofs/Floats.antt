@@ -5,7 +5,7 @@ use Rattle.bs_words.specs.declared.types.Ret.{Ret}
 use Rattle.bs_words.specs.declared.types.Ret.TheVariants as ret
 use Rattle.bs_words.specs.declared.types.Ty.TheVariants as ty
 use Rattle.bs_fault.specs.declared.fault.Fault.{Fault}
-use Rattle.bs_fault.specs.Reported.{Faults, Both, Faultless, here, first, second, one_if}
+use Rattle.bs_fault.specs.Reported.{Faultless, here, one_if}
 use Rattle.cmm_tree.specs.Symbols.{DefinedSymbol}
 use Rattle.cmm_tree.specs.Tree.{Declaration, Parameter, Expression, Integer, Pointer, Symbol, Name, Nothing, Float, Let, Assign, Operator, Load, Store, Alloc, App, Extcall, Checkbound, Raise, Seq, If, Switch, Catch, Exit, Try, Expressions, NoMore, More, Bindings, NoBinding, Bind, Cases, NoCase, Choose, Handlers, NoHandler, Handle}
 use Rattle.cmm_types.specs.Gathered.{comp_faults, result_faults, declared_faults, params_faults, faults_in, row_faults, bindings_faults, cases_faults, handlers_faults}
@@ -13,12 +13,7 @@ use Rattle.cmm_types.specs.Standing.{Visible}
 use Rattle.cmm_types.specs.Types.{Scoped, with_parameters, with_bindings, type_of, type_without_float, unless_float, is_float, is_float_result, is_declared_float, has_float_parameter, holds_float, row_holds_float, bindings_hold_float, cases_hold_float, handlers_hold_float}
 use Rattle.cmm_types.specs.declared.role.Role.{Role}
 use Rattle.cmm_types.specs.declared.role.Role.TheVariants as role
-
-pub left : {a b : Faults} → Faultless (Both a b) → Faultless a
-left {a} {b} none f among = none f (first a b among)
-
-pub right : {a b : Faults} → Faultless (Both a b) → Faultless b
-right {a} {b} none f among = none f (second a b among)
+use Rattle.selection_laws.proofs.Accepting.{left, right}
 
 or : (a b : Bool) → a ≡ false → b ≡ false → (a || b) ≡ false
 or true b e f = e

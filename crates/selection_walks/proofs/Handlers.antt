@@ -23,8 +23,8 @@ use Rattle.selection_rules.specs.Instructions.{bare}
 use Rattle.selection_rules.specs.Select.{Named, Label, scopes, label_of, labels_from, in_handlers, unless_bare, deeper, width, width_labels, params_from, with_params, raised_name, inner_dest, inner_valued, seat, select, select_handlers}
 use Rattle.selection_rules.proofs.Parts.{Within, ending_in, ending_next, Placed, placed_in, placed_next, WellLabelled, inside_in}
 use Rattle.selection_rules.proofs.Endings.{ending_select, ending_handlers}
+use Rattle.selection_laws.proofs.Accepting.{left, right}
 use Rattle.selection_laws.specs.Fits.{Fits, HandlersFit}
-use Rattle.selection_walks.proofs.Floats.{left, right}
 use Rattle.selection_walks.proofs.Phases.{Phase, Bound, Ahead, more_steps, Marked, read_there, moved_on, marked, Told, skipped, quietly, kept_same, apart_binds}
 use Rattle.selection_walks.proofs.Situations.{hold, holds, Low, low_more, low_none, Paired, pair, paired_more, Seen, seen, unseen, Raising, untried, tried, Landing, Outs, OutsOf, outs_kept, outs_less, Sit, sit, go, sit_less, no_among, no_written, one_number, out, Wanted, ApartFrom, inner, inner_apart}
 use Rattle.selection_walks.proofs.Finals.{IsPlain, apart_sit, plain_move}

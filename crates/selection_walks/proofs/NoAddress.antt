@@ -25,11 +25,12 @@ use Rattle.selection_rules.specs.Select as select
 use Rattle.selection_rules.proofs.Parts.{Ending, all, more, ending_next, Placed, placed_in}
 use Rattle.selection_rules.proofs.Endings.{ending_select, ending_moves}
 use Rattle.selection_rules.proofs.Labels.{selected_labelled}
+use Rattle.selection_laws.proofs.Accepting.{left, right}
 use Rattle.selection_laws.specs.Fits.{Fits, FunctionFits}
 use Rattle.selection_laws.proofs.WellFormed.{NumbersTell}
-use Rattle.selection_walks.proofs.Phases.{Phase, Early, Bound, Passed, Off, off, Turns, not_yet, stays, writes, crosses, Flies, the_same, beyond, Written, here, there, written_among, Addresses, Ahead, ends, steps, strays, Past, read_here, kept_on, wrote_it, straight, Leaving, read_last, flew_off, leaves, Told, none_bound, LiveEarly, live_early, early_walk}
+use Rattle.selection_walks.proofs.Phases.{Phase, Early, Bound, Passed, Off, off, Turns, not_yet, stays, writes, crosses, Flies, the_same, beyond, Written, here, there, written_among, Addresses, Ahead, ends, steps, strays, Past, read_here, kept_on, wrote_it, straight, Leaving, read_last, flew_off, leaves, Told, none_passed, none_bound, LiveEarly, live_early, early_walk}
 use Rattle.selection_walks.proofs.Situations.{holds, Low, none_some, paired_more, none, unseen, untried, OutsOf, Sit, go, out, Wanted}
-use Rattle.selection_walks.proofs.Floats.{has_one, left, right}
+use Rattle.selection_walks.proofs.Floats.{has_one}
 use Rattle.selection_walks.proofs.Operands.{Scene, of_claim}
 use Rattle.selection_walks.proofs.Leavings.{holds_apart, params_row, params_paired, params_early, past_params}
 use Rattle.selection_walks.proofs.Handlers.{scopes_with}
@@ -78,6 +79,11 @@ addresses_of : (n : ℕ) (rs : List Reg) → ((q : Reg) → Contains rs q → q.
 addresses_of n [] f = tt
 addresses_of n (r ∷ rs) f = (f r (contains_head r rs), addresses_of n rs (λ q c. f q (contains_tail r rs q c)))
 
+results_among : {n : ℕ} (ks rs : List Reg) → Among n rs → Among n (rs ++ ks)
+results_among ks [] i = elim i [ ]
+results_among ks (r ∷ rs) (first e) = first e
+results_among ks (r ∷ rs) (later i) = later (results_among ks rs i)
+
 -- ---- from the entry
 
 module _ (m : Mach) (tells : NumbersTell m) (r : Reg) (is : IsRegister m r) (address : r.comp ≡ comp.Addr) where
@@ -94,17 +100,12 @@ module _ (m : Mach) (tells : NumbersTell m) (r : Reg) (is : IsRegister m r) (add
   ending_raises : {i : Instr} {next to : List Instr} → Raises m i next to → Ending to m.code
   ending_raises (raises {l = l} mr t) = ending_onto l m.code
 
-  among_left : (ks rs : List Reg) → Among r.number rs → Among r.number (rs ++ ks)
-  among_left ks (x ∷ rs) (first e) = first e
-  among_left ks (x ∷ rs) (later i) = later (among_left ks rs i)
-  among_left ks [] i = elim i [ ]
-
   live_ahead : {code : List Instr} → Live m r.number code → Ending code m.code → SomeAhead Passed code
   live_ahead (read a) e = record { count = 0; ahead = ends a }
   live_ahead (on {i = i} free l w) e = let x = live_ahead w (ending_leads l e) in record {
     count = suc x.count;
     ahead = steps (own e)
-        (stays (λ a. free (among_left _ i.results a))) l x.ahead;
+        (stays (λ a. free (results_among _ i.results a))) l x.ahead;
   }
   live_ahead (aside z w) e = let x = live_ahead w (ending_raises z) in record { count = suc x.count; ahead = strays the_same z x.ahead }
 
@@ -117,7 +118,7 @@ module _ (m : Mach) (tells : NumbersTell m) (r : Reg) (is : IsRegister m r) (add
   across {i} e pf (across_step free l w) = let x = live_ahead w (ending_leads l e) in record {
     count = suc x.count;
     ahead = steps (own e)
-        (crosses pf (λ a. free (among_left _ i.results a))) l x.ahead;
+        (crosses pf (λ a. free (results_among _ i.results a))) l x.ahead;
   }
   across e pf (across_raise z w) = let x = live_ahead w (ending_raises z) in record { count = suc x.count; ahead = strays (beyond pf) z x.ahead }
 
@@ -132,7 +133,7 @@ module _ (m : Mach) (tells : NumbersTell m) (r : Reg) (is : IsRegister m r) (add
   from_entry (by_raise z l) (inr x) = from_entry z (inr (record { count = suc x.count; ahead = strays the_same l x.ahead }))
   from_entry (by_raise z l) (inl x) = from_entry z (inl (record { count = suc x.count; ahead = strays the_same l x.ahead }))
 
--- ---- the moves of the entry, before which nothing is read in the last phase
+-- ---- the moves of the entry, which read nothing that is followed in the last phase
 
 data Through (m : Mach) (n k : ℕ) (to : List Reg) (next : List Instr) : Phase → Type 0 where
   through : {p : Phase} → Off p (Among n to) → Ahead m n k p next → Through m n k to next p
@@ -141,7 +142,8 @@ data Through (m : Mach) (n k : ℕ) (to : List Reg) (next : List Instr) : Phase 
 nothing_among : {n : ℕ} → Among n [] → ⊥
 nothing_among a = elim a [ ]
 
-move_through : {m : Mach} {n k : ℕ} {a d : Reg} {to : List Reg} {next : List Instr} {p : Phase} → (p ≡ Passed → ⊥) → Through m n k to (emit.move a d ∷ next) p →
+move_through : {m : Mach} {n k : ℕ} {a d : Reg} {to : List Reg} {next : List Instr} {p : Phase} → (p ≡ Passed → n ≡ a.number → ⊥) →
+    Through m n k to (emit.move a d ∷ next) p →
     Through m n k (d ∷ to) next p
 move_through {m} {n} {k} {a} {d} {to} {next} np (through {p = p} o y) = by np o (straight refl refl refl y)
   where
@@ -158,8 +160,12 @@ move_through {m} {n} {k} {a} {d} {to} {next} np (through {p = p} o y) = by np o 
     both_off Bound f g = either f g
     both_off Passed f g = either f g
 
-    by : {p : Phase} → (p ≡ Passed → ⊥) → Off p (Among n to) → Past m n k (emit.move a d) next p → Through m n k (d ∷ to) next p
-    by np o (read_here i) = absurd (np refl)
+    its_number : Among n (a ∷ []) → n ≡ a.number
+    its_number (first e) = sym e
+    its_number (later i) = absurd (nothing_among i)
+
+    by : {p : Phase} → (p ≡ Passed → n ≡ a.number → ⊥) → Off p (Among n to) → Past m n k (emit.move a d) next p → Through m n k (d ∷ to) next p
+    by np o (read_here i) = absurd (np refl (its_number i))
     by np o (kept_on {p = p} c g z) = through (both_off p o g) z
     by np o (wrote_it g z) = wrote (one g) z
 move_through {m} {n} {k} {a} {d} {to} {next} np (wrote w y) = by (straight refl refl refl y)
@@ -167,7 +173,7 @@ move_through {m} {n} {k} {a} {d} {to} {next} np (wrote w y) = by (straight refl 
     by : Past m n k (emit.move a d) next Bound → Through m n k (d ∷ to) next Early
     by (kept_on c g z) = wrote (there w) z
 
-moves_through : {m : Mach} {n k : ℕ} {p : Phase} (from to : List Reg) (next : List Instr) → length from ≡ length to → (p ≡ Passed → ⊥) →
+moves_through : {m : Mach} {n k : ℕ} {p : Phase} (from to : List Reg) (next : List Instr) → length from ≡ length to → (p ≡ Passed → Among n from → ⊥) →
     Ahead m n k p (moves_all from to next) → Through m n k to next p
 moves_through {p = p} [] [] next e np y = through (off p nothing_among) y
 moves_through [] (d ∷ to) next e np y = absurd (ne e)
@@ -178,7 +184,8 @@ moves_through (a ∷ from) [] next e np y = absurd (ne e)
   where
     ne : suc (length from) ≡ 0 → ⊥
     ne e = omega (arith, e)
-moves_through (a ∷ from) (d ∷ to) next e np y = move_through np (moves_through from to (emit.move a d ∷ next) (omega (arith, e)) np y)
+moves_through (a ∷ from) (d ∷ to) next e np y =
+    move_through (λ q z. np q (first (sym z))) (moves_through from to (emit.move a d ∷ next) (omega (arith, e)) (λ q i. np q (later i)) y)
 
 -- ---- the end
 
@@ -350,7 +357,7 @@ module _ (defined : List ℕ → Option DefinedSymbol) (f : FunctionTree) (fits 
   through_told (through {p = Passed} o y) = past_params 0 f.params no_slot (subst
       (λ v. Told Passed v (Evaluates (with_slots 0 f.params []) (length f.params) f.body ∷ [])) (holds_apart params 0 None o) (go m n body_sit placed Passed y))
 
-  pub entry_told : {k : ℕ} (p : Phase) → (p ≡ Passed → ⊥) → Ahead m n k p (selected f).code → Told p None (walk_tasks f)
+  pub entry_told : {k : ℕ} (p : Phase) → (p ≡ Passed → Among n (selected f).params → ⊥) → Ahead m n k p (selected f).code → Told p None (walk_tasks f)
   entry_told p np y = through_told (moves_through (seats 0 select.first params) params body_code (seats_length 0 select.first params) np y)
 
 live_in : (f : FunctionTree) → ((b p u : ℕ) → IsLiveIn f b p u → ⊥) → LiveEarly (walk_tasks f) → ⊥
@@ -363,8 +370,30 @@ pub selected_no_addr : (defined : List ℕ → Option DefinedSymbol) (f : Functi
 selected_no_addr defined f fits faultless tells never =
     record {
       none = λ i next reached pf r is address live.
-          ⊎_elim (λ x. none_bound (entry_told defined f fits faultless r.number Bound not_bound x.ahead))
-          (λ x. live_in f never (early_walk (entry_told defined f fits faultless r.number Early not_early x.ahead)))
+          ⊎_elim (λ x. none_bound (entry_told defined f fits faultless r.number Bound (λ e i. not_bound e) x.ahead))
+          (λ x. live_in f never (early_walk (entry_told defined f fits faultless r.number Early (λ e i. not_early e) x.ahead)))
           (from_entry (selected f) tells r is address reached
           (inl (across (selected f) tells r is address (reached_ending (selected f) tells r is address reached) pf live)));
     }
+
+-- ---- what is live at the entry
+
+free_addresses : (n : ℕ) (rs : List Reg) → (Among n rs → ⊥) → Addresses n rs
+free_addresses n [] free = tt
+free_addresses n (r ∷ rs) free = (λ e. absurd (free (first e)), free_addresses n rs (λ i. free (later i)))
+
+-- what is read before it is written is ahead in the last phase, whatever it holds
+read_ahead : {m : Mach} {n : ℕ} {code : List Instr} → Live m n code → (k : ℕ) × Ahead m n k Passed code
+read_ahead (read a) = (0, ends a)
+read_ahead {n = n} (on {i = i} free l live) =
+    let x = read_ahead live in
+    let kept : Among n i.results → ⊥ = λ a. free (results_among _ i.results a) in
+    (suc x.0, steps (free_addresses n i.results kept) (stays kept) l x.1)
+read_ahead (aside z live) = let x = read_ahead live in (suc x.0, strays the_same z x.1)
+
+-- Only parameters are live at the entry: whatever else is read has been written before, on every walk.
+pub selected_starts : (defined : List ℕ → Option DefinedSymbol) (f : FunctionTree) → FunctionFits f → Faultless (function_faults defined f) →
+    (n : ℕ) → Live (selected f) n (selected f).code → Among n (selected f).params
+selected_starts defined f fits faultless n live =
+    ⊎_elim (λ a. a) (λ free. absurd (none_passed (entry_told defined f fits faultless n Passed (λ e i. free i) (read_ahead live).1)))
+    (among_either n (selected f).params)
