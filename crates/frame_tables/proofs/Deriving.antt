@@ -15,7 +15,7 @@ use Rattle.dataflow.specs.declared.flow.Flow as flow
 use Rattle.dataflow.specs.declared.flow.Place as place
 use Rattle.mach_ir.specs.Placed.{colours}
 use Rattle.lin_ir.specs.Descriptors.{frame_bytes, IsDescr, Describes, AreExact}
-use Rattle.lin_ir.specs.Formed.{IsHome, is_colour, is_slot, IsLocation, is_home, is_spare, Locates}
+use Rattle.lin_ir.specs.Formed.{IsHome, is_colour, is_slot, IsLocation, is_home, is_spare, Locates, AreLocated}
 use Rattle.lin_ir.specs.Walks.{Reached, at_entry, Traps, Stands, here, below as under, OneDepth}
 use Rattle.lin_ir.specs.declared.descr.Descr.{Descr}
 use Rattle.lin_ir.specs.declared.lin.Spot.{Spot}
@@ -66,7 +66,7 @@ location_numbered m l (is_spare e) = let P : Loc → Type 0 = HasNumber m.slots 
 spots_numbered : (m : Lin) (ss : List Spot) → Locates m ss → HaveNumbers m.slots ss
 spots_numbered m ss h = λ k d lt. location_numbered m (slice_index_or ss k d).loc (h k d lt)
 
-pub are_numbered : (m : Lin) → All (λ (i : Line). Locates m i.args × Locates m i.results) m.code → AreNumbered m
+pub are_numbered : (m : Lin) → AreLocated m → AreNumbered m
 are_numbered m h =
     record {
       args = λ k d lt. spots_numbered m (slice_index_or m.code k d).args (h k d lt).0;
@@ -88,7 +88,7 @@ module _ (m : Lin) where
         are = λ q x node at is. absurd (let f : None ≡ Some node = subst (λ xs. slice_get xs q ≡ Some node) none is in cc);
       }
 
-  begun_walked : (s0 s1 : Search) (number : ℕ) → Starts (length m.code) s0 → Entered s0 s1 (position 0 []) number →
+  pub begun_walked : (s0 s1 : Search) (number : ℕ) → Starts (length m.code) s0 → Entered s0 s1 (position 0 []) number →
       AreWalkedTo m (all_of s1)
   begun_walked s0 s1 number start entry =
       record {

@@ -5,3 +5,4 @@ pub mod Pointing
 pub mod Deriving
 pub mod Bounds
 pub mod Composing
+pub mod Pushing

@@ -1,6 +1,6 @@
 pub mod Described
 pub mod Labels
-pub mod Located
 pub mod Nodes
 pub mod Points
+pub mod Pushed
 pub mod Search

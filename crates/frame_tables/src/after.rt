@@ -7,7 +7,6 @@ ghost use Rattle.frame_tables.specs.Search.{all_of, groups_of, members};
 ghost use Rattle.frame_tables.specs.Nodes.{IsText};
 ghost use Rattle.frame_tables.specs.Points.{IsAsked, IsChosen, IsChoice, edges_of, IsGathered, Gathers, HasTraps, IsAfterNode, IsSearched, IsRooted, ArePoints, HasRoots};
 
-use crate::control::passes_frame;
 use crate::lines::writes_of;
 use crate::search::Search;
 use bs_words::List;
@@ -180,7 +179,7 @@ fn enter_point(
     requires { place < length (groups_of search.old) }
     ensures { IfOk result (λ _. IsRooted search.old search.new op.now place reached) }
 {
-    if !passes_frame(op) {
+    if !op.passes_frame() {
         return Ok(());
     }
     if search.has_first(place, reached) {
@@ -226,7 +225,7 @@ pub fn add_points(
     let code = lin.code.as_slice();
     for place in 0..code.len() as u32 {
         let line = &code[place as usize];
-        if passes_frame(&line.op) {
+        if line.op.passes_frame() {
             let choice = choice_at(search, place, reached);
             let traps = traps_at(search, choice);
             let node = after_node(alloc, search, nodes, choice, line)?;
