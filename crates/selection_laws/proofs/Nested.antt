@@ -98,6 +98,7 @@ is_leave _ = false
 pub record IsKept (whole : List Instr) (i : Instr) (next : List Instr) : Type 0 where
   pub lands : (l : ℕ) → LeadsTo i.op l → is_exit i.op ≡ false → Found l (tries_left i.op (tries_at (i ∷ next))) next
   pub exits : (l : ℕ) → LeadsTo i.op l → is_exit i.op ≡ true → Found l (tries_left i.op (tries_at (i ∷ next))) whole
+  pub ends : (l n : ℕ) → i.op ≡ mach.Mark (mark.Exit l n) → n ≤ length (tries_at (i ∷ next))
   pub handles : (l end : ℕ) → i.op ≡ mach.Mark (mark.Leave l end) → HasHandler l next
   pub pushed : (l : ℕ) → i.op ≡ mach.Mark (mark.Try l) → tries_at next ≡ l ∷ tries_at (i ∷ next)
   pub catches : Caught whole (tries_at (i ∷ next))
@@ -138,6 +139,7 @@ module _ (whole : List Instr) where
       record {
         lands = λ l o _. lands l o;
         exits = λ l o e. absurd (true≢false (sym e ∙ no_exit));
+        ends = λ l n e. absurd (true≢false (sym (ap is_exit e) ∙ no_exit));
         handles = λ l end e. absurd (true≢false (sym (ap is_leave e) ∙ no_leave));
         pushed = λ l e. absurd (true≢false (sym (ap is_try e) ∙ no_try));
         catches = c;
@@ -159,6 +161,7 @@ module _ (whole : List Instr) where
       record {
         lands = λ l o _. absurd (none_next (goes_on f) l o);
         exits = λ l o e. absurd (true≢false (sym e));
+        ends = λ l n e. absurd (true≢false (sym (ap is_exit e)));
         handles = λ l end e. absurd (true≢false (sym (ap is_leave e)));
         pushed = λ l e. absurd (true≢false (sym (ap is_try e)));
         catches = subst (Caught whole) (sym e) uncaught;
@@ -260,51 +263,55 @@ module _ (whole : List Instr) where
 
   -- ---- labels
 
-  -- the label of a handler in scope stands in the code
+  -- the label of a handler in scope stands in the code, and no more tries stand between it and here than round here
   data FoundOne (ts : List ℕ) : Option Label → Type 0 where
     no_label : FoundOne ts None
-    a_label : {t : Label} → Found t.number (drop_tries t.tries ts) whole → FoundOne ts (Some t)
+    a_label : {t : Label} → t.tries ≤ length ts → Found t.number (drop_tries t.tries ts) whole → FoundOne ts (Some t)
 
   pub data AllFound (ts : List ℕ) : List Label → Type 0 where
     nil : AllFound ts []
-    cons : {t : Label} {labels : List Label} → Found t.number (drop_tries t.tries ts) whole → AllFound ts labels → AllFound ts (t ∷ labels)
+    cons : {t : Label} {labels : List Label} → t.tries ≤ length ts → Found t.number (drop_tries t.tries ts) whole → AllFound ts labels → AllFound ts (t ∷ labels)
 
   found_one : {ts : List ℕ} {labels : List Label} → AllFound ts labels → (l : LabelTree) → FoundOne ts (label_of labels l)
   found_one nil l = no_label
-  found_one {ts} (cons {t = t} {labels = labels} x xs) l = by (same_label l t.label) (found_one xs l)
+  found_one {ts} (cons {t = t} {labels = labels} few x xs) l = by (same_label l t.label) (found_one xs l)
     where
       by : (b : Bool) → FoundOne ts (label_of labels l) → FoundOne ts (cond b (Some t) (label_of labels l))
-      by true others = a_label x
+      by true others = a_label few x
       by false others = others
 
   found_append : {ts : List ℕ} {xs ys : List Label} → AllFound ts xs → AllFound ts ys → AllFound ts (xs ++ ys)
   found_append nil y = y
-  found_append (cons x xs) y = cons x (found_append xs y)
+  found_append (cons few x xs) y = cons few x (found_append xs y)
 
   found_inside : {ts : List ℕ} {labels : List Label} → AllFound ts labels → AllFound ts (in_handlers labels)
   found_inside nil = nil
-  found_inside {ts} (cons {t = t} {labels = labels} x xs) = by (is_bare t.label) (found_inside xs)
+  found_inside {ts} (cons {t = t} {labels = labels} few x xs) = by (is_bare t.label) (found_inside xs)
     where
       by : (b : Bool) → AllFound ts (in_handlers labels) → AllFound ts (unless_bare b t (in_handlers labels))
       by true others = others
-      by false others = cons x others
+      by false others = cons few x others
 
   found_deeper : {ts : List ℕ} {labels : List Label} (l : ℕ) → AllFound ts labels → AllFound (l ∷ ts) (deeper labels)
   found_deeper l nil = nil
-  found_deeper l (cons x xs) = cons x (found_deeper l xs)
+  found_deeper l (cons few x xs) = cons (omega (arith, few)) x (found_deeper l xs)
 
   walks_exit : {ts : List ℕ} {o : Option Label} → Caught whole ts → FoundOne ts o → (from : List Reg) → Walks ts (exit_to o from)
   walks_exit c no_label from = idle
-  walks_exit {ts} c (a_label {t = t} f) from = then (walks_moves c from t.params) (step (bare (mark.Exit t.number t.tries)) (λ next. refl) exit_kept)
+  walks_exit {ts} c (a_label {t = t} few f) from = then (walks_moves c from t.params) (step (bare (mark.Exit t.number t.tries)) (λ next. refl) exit_kept)
     where
       at_target : (next : List Instr) → tries_at next ≡ ts → (l : ℕ) → t.number ≡ l → Found l (drop_tries t.tries (tries_at next)) whole
       at_target next e l same = subst (λ k. Found k (drop_tries t.tries (tries_at next)) whole) same (subst (λ z. Found t.number (drop_tries t.tries z) whole) (sym e) f)
+
+      tries_of : (l n : ℕ) → mach.Mark (mark.Exit t.number t.tries) ≡ mach.Mark (mark.Exit l n) → t.tries ≡ n
+      tries_of l n same = cc
 
       exit_kept : (next : List Instr) → tries_at next ≡ ts → IsKept whole (bare (mark.Exit t.number t.tries)) next
       exit_kept next e =
           record {
             lands = λ l o no_exit. absurd (true≢false no_exit);
             exits = λ l o _. at_target next e l (one_target l t.number o);
+            ends = λ l n same. subst (λ z. n ≤ length z) (sym e) (subst (λ k. k ≤ length ts) (tries_of l n same) few);
             handles = λ l end e. absurd (true≢false (sym (ap is_leave e)));
             pushed = λ l e. absurd (true≢false (sym (ap is_try e)));
             catches = subst (Caught whole) (sym e) c;
@@ -514,7 +521,7 @@ module _ (whole : List Instr) where
   found_own env labels valued tail d end l b (Handle at label params body rest) next e ends =
       let wr = ending_handlers env labels valued tail d end (suc l + length params) (b + width body) rest next in
       let wb = ending_select (with_params params (params_from (suc l) params) env) labels valued tail d b body (select_handlers env labels valued tail d end (suc l + length params) (b + width body) rest next) in
-      cons (record { at = bare (mark.With l end); rest = _; there = ends; has = self l; tries = wb.tries ∙ wr.tries ∙ e })
+      cons (omega arith) (record { at = bare (mark.With l end); rest = _; there = ends; has = self l; tries = wb.tries ∙ wr.tries ∙ e })
       (found_own env labels valued tail d end (suc l + length params) (b + width body) rest next e (ending_in wb.ending (ending_next ends)))
 
   walks_catch : {ts : List ℕ} {body handlers_code : Code} → Caught whole ts → (end : ℕ) → ((next : List Instr) → Within next (body next)) → ((next : List Instr) → Within next (handlers_code next)) →
@@ -579,6 +586,7 @@ module _ (whole : List Instr) where
           record {
             lands = λ k o _. absurd (none_on k o);
             exits = λ k o e. absurd (true≢false (sym e));
+            ends = λ k n e. absurd (true≢false (sym (ap is_exit e)));
             handles = λ k there e. absurd (true≢false (sym (ap is_leave e)));
             pushed = λ k e. subst (λ z. z ≡ k ∷ drop_tries 1 z) (sym eb) (ap (λ n. n ∷ ts) (same_try k e));
             catches = subst (λ z. Caught whole (drop_tries 1 z)) (sym eb) c;
@@ -592,6 +600,7 @@ module _ (whole : List Instr) where
           record {
             lands = λ k o _. subst (λ n. Found n (tries_at rest) (emit.handler l y ∷ rest)) (one_target k end o) found;
             exits = λ k o e. absurd (true≢false (sym e));
+            ends = λ k n e. absurd (true≢false (sym (ap is_exit e)));
             handles = λ k there e. subst (λ n. HasHandler n (emit.handler l y ∷ rest)) (same_leave k there e) (handler_here (self l));
             pushed = λ k e. absurd (true≢false (sym (ap is_try e)));
             catches = c';
@@ -784,6 +793,11 @@ selected_labels_stand f fits =
       forward = λ i next s l o e. let k = kept_of all_kept i next s in place_of (k.lands l o e);
       handlers = λ i next s l end e. let k = kept_of all_kept i next s in k.handles l end e;
     }
+
+-- An exit ends no more tries than stand round it.
+pub selected_exits : (f : FunctionTree) → FunctionFits f → (i : Instr) (next : List Instr) → Stands i next (selected f).code → (l n : ℕ) →
+    i.op ≡ mach.Mark (mark.Exit l n) → n ≤ length (tries_at (i ∷ next))
+selected_exits f fits i next s l n e = let k = kept_of (selected_kept f fits) i next s in k.ends l n e
 
 caught_handler : {whole : List Instr} {l : ℕ} {ts : List ℕ} → Caught whole (l ∷ ts) → Handled l ts whole
 caught_handler (caught h c) = h

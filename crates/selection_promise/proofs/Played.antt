@@ -49,8 +49,8 @@ not_wrong (spec.asking b) e = cc
 pub plays_as : (defined : List ℕ → Option DefinedSymbol) (f : FunctionTree) → width f.body < 2 ^ 60 → FunctionFits f → Faultless (function_faults defined f) →
     ((b p u : ℕ) → IsLiveIn f b p u → ⊥) → PlaysAs f (selected f)
 plays_as defined f narrow fits faultless never c setting arguments memory doings n words fitting =
-    let k = accepted_keeps c defined f setting.bound_error narrow fits faultless never setting.symbols arguments memory doings n words.given words.cells words.handed
-    fitting in
+    let keeps = accepted_keeps c defined f setting.bound_error narrow fits faultless never setting.symbols in
+    let k = keeps arguments memory doings n words.given words.cells words.handed fitting in
     record {
       begun = k.begun;
       begins = k.begins;

@@ -18,6 +18,7 @@ use Rattle.mach_ir.specs.Formed.{comps}
 use Rattle.mach_ir.specs.Sizes.{HasSize, IsSmall}
 use Rattle.selection_rules.specs.Select.{selected, first, comp_of, params_from, seats, width}
 use Rattle.selection_laws.proofs.Accepting.{left, right, accepted_fits}
+use Rattle.selection_laws.proofs.Nested.{selected_exits}
 use Rattle.selection_laws.proofs.Proper.{selected_seated}
 use Rattle.selection_laws.proofs.Widths.{few_numbers}
 use Rattle.selection_places.proofs.Formed.{selected_well_formed}
@@ -101,6 +102,7 @@ promised defined f is =
       result = refl;
       plays = plays_as defined f (omega (arith, narrow, few)) fits typed is.settled;
       formed = selected_well_formed f fits;
+      exits = selected_exits f fits;
       seated = selected_seated f fits;
       placed = selected_placed f;
       no_slot = selected_no_slot f;
