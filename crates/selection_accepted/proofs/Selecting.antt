@@ -1,12 +1,10 @@
 -- Each function of a file that the front accepts can be selected.
-use Rattle.std.proofs.Common.{◌≡◌, ℕ, ◌≤◌, Bool, true, false, List, [], ◌∷◌, Option, Some, Ok, refl, subst, arith, ◌⊎◌, inl, inr}
-use Rattle.std.specs.Prelude.{Contains, nat_le, not, slice_get}
+use Rattle.std.proofs.Common.{◌≡◌, ℕ, List, [], ◌∷◌, Option, Some, Ok, subst, arith, ◌⊎◌, inl, inr}
+use Rattle.std.specs.Prelude.{Contains, slice_get}
 use Rattle.std.proofs.lemmas.Option.{slice_get_within, get_or_from_slice_get}
-use Rattle.std.proofs.lemmas.Bool.{leb-true}
 use Rattle.std.proofs.lemmas.List.Elements.{All-contains}
 use Rattle.bs_fault.specs.declared.fault.Fault.{Fault}
-use Rattle.bs_fault.specs.Limits.{most_tokens}
-use Rattle.bs_fault.specs.Reported.{Faults, Among, here, first, second, one_if, Faultless}
+use Rattle.bs_fault.specs.Reported.{Faults, Among, here, first, second, Faultless}
 use Rattle.cmm_tree.specs.Symbols.{DefinedSymbol, definition_of}
 use Rattle.cmm_tree.specs.Tree.{FunctionTree, ItemTree, AFunction, AData, FileTree, functions, functions_among}
 use Rattle.cmm_limits.specs.Limits as limits
