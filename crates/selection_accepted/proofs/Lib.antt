@@ -4,3 +4,4 @@ pub mod Selecting
 pub mod Symbols
 pub mod DataBytes
 pub mod Beginning
+pub mod Promised

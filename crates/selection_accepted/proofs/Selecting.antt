@@ -1,12 +1,10 @@
 -- Each function of a file that the front accepts can be selected.
-use Rattle.std.proofs.Common.{◌≡◌, ℕ, ◌≤◌, Bool, true, false, List, [], ◌∷◌, Option, Some, Ok, refl, subst, arith, ◌⊎◌, inl, inr}
-use Rattle.std.specs.Prelude.{Contains, nat_le, not, slice_get}
+use Rattle.std.proofs.Common.{◌≡◌, ℕ, List, [], ◌∷◌, Option, Some, Ok, subst, arith, ◌⊎◌, inl, inr}
+use Rattle.std.specs.Prelude.{Contains, slice_get}
 use Rattle.std.proofs.lemmas.Option.{slice_get_within, get_or_from_slice_get}
-use Rattle.std.proofs.lemmas.Bool.{leb-true}
 use Rattle.std.proofs.lemmas.List.Elements.{All-contains}
 use Rattle.bs_fault.specs.declared.fault.Fault.{Fault}
-use Rattle.bs_fault.specs.Limits.{most_tokens}
-use Rattle.bs_fault.specs.Reported.{Faults, Among, here, first, second, one_if, Faultless}
+use Rattle.bs_fault.specs.Reported.{Faults, Among, here, first, second, Faultless}
 use Rattle.cmm_tree.specs.Symbols.{DefinedSymbol, definition_of}
 use Rattle.cmm_tree.specs.Tree.{FunctionTree, ItemTree, AFunction, AData, FileTree, functions, functions_among}
 use Rattle.cmm_limits.specs.Limits as limits
@@ -22,6 +20,7 @@ use Rattle.cmm_reader.proofs.Measured.{read_measured}
 use Rattle.cmm_front.specs.FileOf.{IsFileOf}
 use Rattle.selection_laws.specs.Accepted.{Accepted, HaveCases}
 use Rattle.selection_laws.proofs.Accepting.{left, right, accepted_fits}
+use Rattle.selection_promise.proofs.Promised.{few_tokens}
 use Rattle.selection_accepted.specs.Selectable.{Selectable}
 use Rattle.selection_accepted.proofs.HaveCases.{items_have_cases}
 use Rattle.selection_laws.proofs.Widths.{few_numbers}
@@ -80,13 +79,6 @@ front_accepts text file is f c =
       integers_fit = covered.integers_fit;
       have_cases = r.have_cases f c;
     }
-
-holds_if : (b : Bool) (f : Fault) → Faultless (one_if (not b) f) → b ≡ true
-holds_if true f none = refl
-holds_if false f none = absurd (none f here)
-
-few_tokens : (f : FunctionTree) → Faultless (limits.function_faults f) → f.tokens ≤ 32000
-few_tokens f none = leb-true f.tokens 32000 (holds_if (nat_le f.tokens most_tokens) _ (left (right none)))
 
 -- It can be selected.
 pub selectable : (text : List ℕ) (file : FileTree) → IsFileOf text file → (f : FunctionTree) → Contains (functions file) f → Selectable f

@@ -264,7 +264,8 @@ module _ (c : Place) (m : Mach) where
   FineRuns k = (rest : List Instr) (a : File) (around : Around) (t : Tally) → Fine rest a →
       FineRun (run c m k (record { rest = rest; file = a; around = around }) t)
 
-  handed_runs : (k : ℕ) (call : Asked) (x : Doing → Step State) (ds : List Doing) (t : Tally) → ((d : Doing) (t : Tally) → FineRun (onward (run c m k) (x d) t)) →
+  handed_runs : (k : ℕ) (call : Asked) (x : Doing → Step State) (ds : List Doing) (t : Tally) →
+      ((d : Doing) (t : Tally) → FineRun (onward (run c m k) (x d) t)) →
       FineRun (handed (λ d t. onward (run c m k) (x d) t) call ds t)
   handed_runs k call x [] t each = fine_asking
   handed_runs k call x (d ∷ ds) t each = each d (came_back call ds t)
@@ -299,7 +300,8 @@ module _ (c : Place) (m : Mach) where
       at_first : Holds (λ n. Live m n m.code) (put_all c.setting.end m.params arguments (λ n. None))
       at_first = put_all_holds c.setting.end m.params arguments {L = λ n. Live m n m.code} (λ n. None) (λ n l free. absurd (free (assigned.entry n l)))
 
-      by : (o : Option File) → put_all c.setting.end m.params arguments (λ n. None) ≡ o → Holds (λ n. Live m n m.code) o → begun m memory o ≡ Some s → Fine s.rest s.file
+      by : (o : Option File) → put_all c.setting.end m.params arguments (λ n. None) ≡ o → Holds (λ n. Live m n m.code) o → begun m memory o ≡ Some s →
+          Fine s.rest s.file
       by None e h b = absurd (no_state s b)
       by (Some a) e (a_file h) b =
           subst (λ (x : State). Fine x.rest x.file)
@@ -313,7 +315,10 @@ module _ (c : Place) (m : Mach) where
 
   vals_written : {u : State} {y : Tally} → FineRun (Running u y) → ValsWritten m u
   vals_written {u} (fine_running z) =
-      record { written = λ i next e pf r is val live. not_none (z.written r.number (subst (λ code. Live m r.number code) (sym e) (live_in c m r.number i next live))) }
+      record {
+        written = λ i next e pf r is val live.
+            not_none (z.written r.number (subst (λ code. Live m r.number code) (sym e) (live_in c m r.number i next live)));
+      }
 
   -- A run that does not go wrong is nowhere stuck, where registers of one origin never differ.
   pub runs_proper : Assigned → ((just_written : List Reg) (s : State) → OriginsAgree m just_written s) → (arguments : List Value) (memory : Memory)
@@ -323,6 +328,8 @@ module _ (c : Place) (m : Mach) where
       record {
         goes = right;
         vals = λ k less u y e.
-            vals_written (subst (λ r. FineRun r) e (fine_runs assigned k s.rest s.file s.around (first_tally c doings) (start_fine assigned arguments memory s is)));
+            vals_written
+            (subst (λ r. FineRun r) e
+            (fine_runs assigned k s.rest s.file s.around (first_tally c doings) (start_fine assigned arguments memory s is)));
         origins = λ k less u v y z e f. agree _ v;
       }

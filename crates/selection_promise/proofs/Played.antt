@@ -11,6 +11,9 @@ use Rattle.cmm_meaning.specs.Alone.{IsProperEnd}
 use Rattle.cmm_meaning.specs.Evaluation.{Evaluation}
 use Rattle.meaning_laws.specs.Pace.{pending}
 use Rattle.meaning_laws.specs.Units.{world_of}
+use Rattle.mach_ir.specs.Keeps.{Keeps}
+use Rattle.mach_ir.specs.Keeps as kept
+use Rattle.mach_ir.specs.declared.mach.Mach.{Mach}
 use Rattle.mach_ir.specs.Meaning.{State}
 use Rattle.mach_ir.specs.Runs.{Tally, Run, Wrong}
 use Rattle.selection_rules.specs.Select.{selected, width}
@@ -49,14 +52,38 @@ not_wrong (spec.asking b) e = cc
 pub plays_as : (defined : List ℕ → Option DefinedSymbol) (f : FunctionTree) → width f.body < 2 ^ 60 → FunctionFits f → Faultless (function_faults defined f) →
     ((b p u : ℕ) → IsLiveIn f b p u → ⊥) → PlaysAs f (selected f)
 plays_as defined f narrow fits faultless never c setting arguments memory doings n words fitting =
-    let k = accepted_keeps c defined f setting.bound_error narrow fits faultless never setting.symbols arguments memory doings n words.given words.cells words.handed
-    fitting in
+    let keeps = accepted_keeps c defined f setting.bound_error narrow fits faultless never setting.symbols in
+    let k = keeps arguments memory doings n words.given words.cells words.handed fitting in
     record {
       begun = k.begun;
       begins = k.begins;
-      steps = k.steps;
-      ends = λ is. ends_as f n k.units _ _ is k.no_more k.enough k.meets;
-      proper = λ is.
-          accepted_proper c defined f fits faultless never arguments memory doings k.begun k.begins k.steps
-          (not_wrong (ends_as f n k.units (evaluated c f arguments memory doings n) _ is k.no_more k.enough k.meets));
+      comes = λ is.
+          let ends = ends_as f n k.units (evaluated c f arguments memory doings n) _ is k.no_more k.enough k.meets in
+          record {
+            steps = k.steps;
+            ends = ends;
+            proper = accepted_proper c defined f fits faultless never arguments memory doings k.begun k.begins k.steps (not_wrong ends);
+          };
+    }
+
+-- what two runs that are alike have come to
+moved : {f : FunctionTree} {n : ℕ} {e : Evaluation} {Suit : State → State → Type 0} {r q : Run State} → EndsAs f n e r → kept.Alike Suit r q → EndsAs f n e q
+moved (spec.returned b) kept.both_ended = spec.returned b
+moved (spec.threw b) kept.both_ended = spec.threw b
+moved (spec.running b) (kept.both_running z) = spec.running b
+moved (spec.asking b) kept.both_asking = spec.asking b
+
+-- A Mach function that keeps what another does plays as the text's function where the other does.
+pub plays_on : (f : FunctionTree) (p q : Mach) → PlaysAs f p → Keeps p q → PlaysAs f q
+plays_on f p q plays keeps c setting arguments memory doings n words fitting =
+    let k = plays c setting arguments memory doings n words fitting in
+    let begun = keeps.does c arguments memory doings k.begun k.begins in
+    record {
+      begun = begun.state;
+      begins = begun.begins;
+      comes = λ is.
+          let x = k.comes is in
+          let follows = begun.follows x.steps x.proper in
+          let y = follows.no_less in
+          record { steps = y.steps; ends = moved x.ends y.alike; proper = y.proper };
     }

@@ -52,18 +52,20 @@ evaluated c f arguments memory doings n =
     alone c.setting.end c.setting.symbol c.setting.parameters c.frame f arguments c.below memory
     doings n
 
--- The function begins, and where the evaluation is proper, a run of so many steps comes to its end and
--- is nowhere stuck.
+-- A run of so many steps comes to the end of an evaluation, and is nowhere stuck on the way.
+pub record Comes (c : Place) (f : FunctionTree) (m : Mach) (n : ℕ) (e : Evaluation) (s : State)
+    (t : Tally) : Type 0 where
+  pub steps : ℕ
+  pub ends : EndsAs f n e (run c m steps s t)
+  pub proper : Proper c m steps s t
+
+-- The function begins, and where the evaluation is proper it comes to its end.
 pub record Plays (c : Place) (f : FunctionTree) (m : Mach) (arguments : List Value) (memory : Memory)
     (doings : List Doing) (n : ℕ) : Type 0 where
   pub begun : State
   pub begins : start c m arguments memory ≡ Some begun
-  pub steps : ℕ
-  pub ends : IsProperEnd (evaluated c f arguments memory doings n) →
-      EndsAs f n (evaluated c f arguments memory doings n)
-      (run c m steps begun (first_tally c doings))
-  pub proper : IsProperEnd (evaluated c f arguments memory doings n) →
-      Proper c m steps begun (first_tally c doings)
+  pub comes : IsProperEnd (evaluated c f arguments memory doings n) →
+      Comes c f m n (evaluated c f arguments memory doings n) begun (first_tally c doings)
 
 -- The symbols of a file stand for words and functions, and its data holds the block that a failed
 -- bound test raises.
