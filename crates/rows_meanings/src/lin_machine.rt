@@ -77,18 +77,16 @@ fn destroys_at(op: &LinOp, loc: Loc) -> bool {
     }
 }
 
-/// The place behind a label.
+/// The place behind a label; the end of the code where there is none.
 fn behind_label(code: &[Line], wanted: u32) -> usize {
-    let mut place = 0;
-    for line in code {
-        place += 1;
+    for (place, line) in code.iter().enumerate() {
         if let LinOp::Flow(Flow::Label(label)) = &line.op {
             if *label == wanted {
-                return place;
+                return place.wrapping_add(1);
             }
         }
     }
-    place
+    code.len()
 }
 
 /// A function with its world, its locations, and what the descriptors name.

@@ -86,26 +86,22 @@ fn is_handler(op: &MachOp, wanted: u32) -> bool {
 
 /// The place behind the mark that has a label; the end of the code where there is none.
 fn behind_label(code: &[Instr], label: u32) -> usize {
-    let mut place = 0;
-    for instr in code {
-        place += 1;
+    for (place, instr) in code.iter().enumerate() {
         if has_label(&instr.op, label) {
-            return place;
+            return place.wrapping_add(1);
         }
     }
-    place
+    code.len()
 }
 
 /// The place of a handler.
 fn handler_place(code: &[Instr], label: u32) -> usize {
-    let mut place = 0;
-    for instr in code {
+    for (place, instr) in code.iter().enumerate() {
         if is_handler(&instr.op, label) {
             return place;
         }
-        place += 1;
     }
-    place
+    code.len()
 }
 
 // ---- what is live
@@ -246,7 +242,7 @@ impl Live {
 }
 
 /// Where a register is live: as many sweeps as there are places.
-fn live(alloc: Global, function: &Mach, number: u32) -> Result<Live> {
+fn live_of(alloc: Global, function: &Mach, number: u32) -> Result<Live> {
     let code = function.code.as_slice();
     let handlers = handlers_of(alloc, code)?;
     let mut live = Live {
@@ -299,7 +295,7 @@ fn add_registers(
             is_new = is_new && known.0.number != reg.number;
         }
         if is_new {
-            live_at.push((*reg, live(alloc, function, reg.number)?))?;
+            live_at.push((*reg, live_of(alloc, function, reg.number)?))?;
         }
     }
     Ok(())

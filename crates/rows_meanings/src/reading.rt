@@ -2,7 +2,7 @@
 //!
 //! A line is `RESULTS = NAME WORDS` or `NAME WORDS`: the words that are registers are the operands, in their order.
 
-ghost use Rattle.std.specs.Prelude.{◌≤◌, OnSome};
+ghost use Rattle.std.specs.Prelude.{◌≤◌, IfSome};
 
 use crate::words::{chunk, number, operator, register, ret, right, test};
 use anyhow::Result;
@@ -36,7 +36,7 @@ pub(crate) fn words_of<'a>(alloc: Global, line: &'a str) -> Result<Vec<&'a str>>
 }
 
 /// The line taken apart, whose first word after the results is its name.
-pub(crate) fn parts<'a>(alloc: Global, line: &'a str) -> Result<Parts<'a>> {
+pub(crate) fn apart<'a>(alloc: Global, line: &'a str) -> Result<Parts<'a>> {
     let mut results = Vec::new(alloc);
     let body = match line.split_once(" = ") {
         Some((before, body)) => {
@@ -49,17 +49,16 @@ pub(crate) fn parts<'a>(alloc: Global, line: &'a str) -> Result<Parts<'a>> {
         }
         None => line,
     };
-    let mut name = "";
+    let (name, rest) = match body.split_once(" ") {
+        Some(split) => split,
+        None => (body, ""),
+    };
     let mut words = Vec::new(alloc);
     let mut args = Vec::new(alloc);
-    for word in words_of(alloc, body)? {
-        if name.is_empty() {
-            name = word;
-        } else {
-            match register(word) {
-                Some(reg) => args.push(reg)?,
-                None => words.push(word)?,
-            }
+    for word in words_of(alloc, rest)? {
+        match register(word) {
+            Some(reg) => args.push(reg)?,
+            None => words.push(word)?,
         }
     }
     Ok(Parts {
@@ -308,7 +307,7 @@ impl<'a> Parts<'a> {
 }
 
 fn new_block(word: &str) -> Option<NewBlock>
-    ensures { OnSome result (λ block. block.cells ≤ 255) }
+    ensures { IfSome result (λ block. block.cells ≤ 255) }
 {
     let (header, cells) = word.split_once(":")?;
     let header = number(header)?;

@@ -1,6 +1,6 @@
 //! The rows: functions that are put together line by line, and their runs.
 
-use crate::reading::{parts, spots, words_of};
+use crate::reading::{apart, spots, words_of};
 use crate::words::{register, value};
 use crate::world::{Asked, Call, Doing, End, World};
 use crate::{lin_machine, mach_machine};
@@ -146,7 +146,7 @@ impl<'a> Rows<'a> {
 
     /// An instruction of the function that is read; what is none is said.
     fn instruction(&mut self, text: &str) -> Result<()> {
-        let parts = parts(self.alloc, text)?;
+        let parts = apart(self.alloc, text)?;
         let is_one = if self.is_mach {
             match parts.instr()? {
                 Some(instr) => {
