@@ -1,0 +1,45 @@
+//! How functions of Mach and of Linear that are made by hand run, by a second reading of what these languages mean.
+//!
+//! `stdin` begins with a Cmm text, in one line, whose functions are called and whose symbols are named. Then come
+//! functions: `mach NAME PARAMETERS`, with `; COLOURS` where registers stand at places that operations destroy, or
+//! `lin NAME PARAMETERS`, an instruction a line, and a line for each run: `run ARGUMENTS`, then after bars what each call
+//! does, as `gives 5` or `raises 7`. A frame point of Linear is followed by a line `names LOCATIONS`. What is printed of
+//! each run, its calls, its end and its units, was written by hand from the rules.
+#![tactic(auto)]
+
+mod lin_machine;
+mod mach_machine;
+mod reading;
+mod runs;
+mod words;
+mod world;
+
+use anyhow::Result;
+use runs::Rows;
+use std::io::{self, BufRead, BufReader, BufWriter, Write};
+
+fn main(rt: HostRuntime) -> Result<()> {
+    let alloc = rt.alloc();
+    let mut lines = BufReader::new(alloc, rt.stdin())?.lines(alloc);
+    let mut out = BufWriter::new(alloc, rt.stdout())?;
+    let Some(text) = lines.next() else {
+        return Ok(());
+    };
+    let text = text?;
+    let checked = match cmm_front::front(alloc, text.as_str().as_bytes()) {
+        Ok(checked) => checked,
+        Err(_) => {
+            out.write_all(b"a fault\n")?;
+            out.flush()?;
+            return Ok(());
+        }
+    };
+    let mut rows = Rows::new(alloc, checked.typed().file());
+    for line in lines {
+        let line = line?;
+        rows.take(line.as_str())?;
+    }
+    out.write_all(rows.said())?;
+    out.flush()?;
+    Ok(())
+}
