@@ -1,0 +1,6 @@
+mod Coming
+mod Running
+mod Following
+mod Whole
+mod Directions
+mod Image
