@@ -32,6 +32,7 @@ use Rattle.linking.specs.Carries.{Outer, Comes}
 use Rattle.linking.specs.Pace.{Words}
 use Rattle.linking.specs.Program.{Program}
 use Rattle.linking.proofs.Directions.{Over, seen_of, told_of, forwards, backwards}
+use Rattle.linking.proofs.Known.{passed_known}
 use Rattle.linking.proofs.Whole.{AreKnown, does_whole}
 
 forwards_same : (run : ℕ → Run) (one two : ℕ → Seen) (stack heap words : ℕ) → ((m : ℕ) → one m ≡ two m) → Forwards run one stack heap words → Forwards run two stack heap words
@@ -115,3 +116,13 @@ module _ (S : Type 0) (p : Program S) (w : Words S) (most words : ℕ) (file : F
         forwards = λ entry f row args answers schedule entered. image_forwards stack heap stack_room heap_room entry f row args answers schedule entered;
         backwards = λ entry f row args answers schedule entered. image_backwards stack heap stack_room heap_room entry f row args answers schedule entered;
       }
+
+-- An image that is assembled for a file is correct for it.
+pub assembled_correct : (S : Type 0) (p : Program S) (w : Words S) (most words : ℕ) (file : FileTree)
+    (image : Tables) (IsGiven : List Value → Memory → Type 0) (IsDone : Doing → Type 0)
+    (Below : Type 0) (At : Setup → Below → ℕ → ℕ → S → Outer → Now → Type 0)
+    (Entry : Setup → Below → ℕ → ℕ → List Value → Memory → Outer → Now → Type 0)
+    (Back : Setup → Below → Doing → Outer → Now → Type 0) →
+    Assembled S p w most words file image IsGiven IsDone Below At Entry Back → IsCorrect file image
+assembled_correct S p w most words file image IsGiven IsDone Below At Entry Back a =
+    known_correct S p w most words file image IsGiven IsDone Below At Entry Back a (passed_known file (layout_of image) IsGiven IsDone a.passed)

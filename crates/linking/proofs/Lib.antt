@@ -3,4 +3,6 @@ mod Running
 mod Following
 mod Whole
 mod Directions
-mod Image
+mod Fewer
+mod Known
+pub mod Image
