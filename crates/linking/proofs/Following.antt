@@ -564,4 +564,4 @@ module _ (S : Type 0) (p : Program S) (pace : Words S) (file : FileTree) (layout
         let cost = forward.cost f c s reached in
         acts k (λ s w last calls asked units need x between given same m reached fits at. link k s w last calls asked units need x between given same m reached fits at) (p.step f c s)
         (p.stack c s) (p.heap s) (pace.cost f s) (pace.ahead f s - pace.cost f s) (pace.ahead f s) (omega (arith, cost)) (regular.step f c s) (forward.on f c s reached)
-        (λ u to. by_step reached to) w last calls asked units need x fits between given same m (carry.steps a f below s (outer_of w) x at)
+        (λ u to. by_step reached to) w last calls asked units need x fits between given same m (carry.steps a f below s (outer_of w) x reached at)

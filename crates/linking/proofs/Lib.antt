@@ -1,4 +1,4 @@
-mod Coming
+pub mod Coming
 mod Running
 mod Following
 mod Whole

@@ -17,7 +17,7 @@ use Rattle.rv_machine.specs.Run.{Seen}
 use Rattle.rv_machine.specs.Services.{Running, StackOut, HeapOut}
 use Rattle.rv_machine.specs.Services as machine
 use Rattle.linking.specs.Program.{Program, place_in}
-use Rattle.linking.specs.Pace.{Words}
+use Rattle.linking.specs.Pace.{Words, IsReached}
 
 -- What a run has with the outside: the calls that were made, and the answers that are left.
 pub record Outer : Type 0 where
@@ -130,7 +130,8 @@ module _ (S : Type 0) (p : Program S) (w : Words S) (file : FileTree) (layout : 
 
   -- What is shown of the machine for each step of the program, and for each entry.
   pub record Carries : Type 0 where
-    pub steps : (a : Below) (f below : ℕ) (s : S) (o : Outer) (x : X) → At a f below s o x →
+    pub steps : (a : Below) (f below : ℕ) (s : S) (o : Outer) (x : X) →
+        IsReached S p f (place_in file layout f below) s → At a f below s o x →
         CarriesStep (w.cost f s) f below a (p.step f (place_in file layout f below) s) o x
     -- what took a function's place leaves less
     pub kept : (a : Below) (kept : Ret) (d : Doing) (o : Outer) (x : X) → Back a d o x →
