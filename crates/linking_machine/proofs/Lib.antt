@@ -2,3 +2,4 @@ pub mod Carrying
 pub mod Answering
 pub mod Linked
 pub mod Compiled
+mod Example
