@@ -34,6 +34,7 @@ use Rattle.linking_stages.proofs.Regular.{linear_regular}
 use Rattle.linking_machine.specs.Emitted.{service_in, service_of, IsCalled, CallsSo, IsEmitted}
 use Rattle.linking_machine.specs.Standing.{Shows, At, Entry, Back}
 use Rattle.linking_machine.proofs.Answering.{outside_carried}
+use Rattle.linking_machine.proofs.Starting.{starts}
 use Rattle.linking_machine.proofs.Carrying.{AskedSo, code_asked, fixed, at_, entry_, back_, CarriesIt, place, stands_there, comes_free, tail_carried, call_carried, kept_back, seen_there}
 
 module _ (file : FileTree) (image : Tables) (lins : ℕ → Lin) (named : ℕ → NamedAt)
@@ -103,7 +104,7 @@ module _ (file : FileTree) (image : Tables) (lins : ℕ → Lin) (named : ℕ �
         regular = linear_regular lins named;
         forward = forward;
         bottom = nothing_below;
-        start = λ run f args answers tree entered. (emitted.starts run f args answers tree entered, refl);
+        start = λ run f args answers tree entered. (starts file image has bases entry emitted.entries run f args answers tree entered, refl);
         carries = carries;
         stub = emitted.stub;
       }

@@ -1,27 +1,31 @@
 -- What layout and emission give of an image, function by function and line by line.
-use Rattle.std.specs.Prelude.{◌≡◌, ℕ, ◌+◌, ◌-◌, ◌<◌, ◌≤◌, List, [], Some, map, length, slice_get, slice_index}
+use Rattle.std.specs.Prelude.{◌≡◌, ℕ, ◌+◌, ◌-◌, ◌*◌, ◌<◌, ◌≤◌, List, [], Some, map, length, slice_get, slice_index}
 use Rattle.std.specs.List.{AllByRecursion}
 use Rattle.bs_words.specs.Memory.{Memory}
 use Rattle.bs_words.specs.declared.values.Value.{Value}
 use Rattle.bs_words.specs.declared.values.Value.TheVariants.{Word, Block, Function}
 use Rattle.cmm_data.specs.Contents.{first_memory}
 use Rattle.cmm_data.specs.Placement.{data_end}
-use Rattle.cmm_tree.specs.Tree.{FunctionTree, FileTree, functions}
+use Rattle.cmm_tree.specs.Tree.{FunctionTree, FileTree, functions, comps_of}
 use Rattle.cmm_meaning.specs.State.{Doing, Asked, Callee, Inside, Outside}
 use Rattle.correctness.specs.Setting.{layout_of, Entered}
-use Rattle.image_form.specs.Tables.{Tables}
+use Rattle.image_form.specs.Tables.{Tables, Func}
 use Rattle.lin_ir.specs.Meaning.{NamedAt, State, step, start}
 use Rattle.lin_ir.specs.declared.lin.Lin.{Lin}
 use Rattle.lin_ir.specs.declared.lin.Line.{Line}
 use Rattle.machine_laws.specs.Steps.{next_of}
 use Rattle.mach_ir.specs.Runs.{Step, Continues, Pays, Deepens, Waits, FinishesBy, Finishes, FinishesRaising, IsStuck}
+use Rattle.moving_laws.specs.Stands.{StaticsStand}
 use Rattle.moving_laws.specs.Values.{HasFunctions}
 use Rattle.rv_machine.specs.Loading.{IsRoom}
 use Rattle.rv_machine.specs.Places.{stack_bottom}
-use Rattle.rv_machine.specs.Run.{seen, begun}
+use Rattle.rv_machine.specs.Relocation.{root_cells}
+use Rattle.rv_machine.specs.Run.{seen}
+use Rattle.rv_machine.specs.Start.{start_memory}
 use Rattle.rv_machine.specs.Services.{Now}
 use Rattle.rv_machine.specs.Sound.{IsStackBase}
 use Rattle.linear_machine.specs.Arrival.{ArrivesIn}
+use Rattle.linear_machine.specs.Contents.{statics_of}
 use Rattle.linear_machine.specs.Follows.{IsAt, IsEntered, used, needs_of, FollowsCall, FollowsAsked, FollowsStep}
 use Rattle.linear_machine.specs.Relation.{Below, Laid}
 use Rattle.linear_machine.specs.View.{Fixed, View}
@@ -79,6 +83,18 @@ pub record FollowsLine (most : ℕ) (s : Fixed) (laid : Laid) (live : List Line 
 
 -- ---- an image
 
+-- Entries lie where the rows say, and take their arguments in registers; the data stands in the first
+-- memory of a run.
+pub record AreEntries (file : FileTree) (image : Tables) (entry : ℕ → ℕ) : Type 0 where
+  pub places : (f : ℕ) (row : Func) → slice_get image.funcs f ≡ Some row →
+      row.offset ≡ 4 * entry f
+  pub few : (f : ℕ) (tree : FunctionTree) → slice_get (functions file) f ≡ Some tree →
+      length (comps_of tree) ≤ 16
+  pub bytes : AllByRecursion (λ b. b < 256) image.bytes
+  pub statics : (stack heap : ℕ) → IsRoom stack → IsRoom heap →
+      StaticsStand image [] (start_memory image stack heap) (root_cells image)
+      (statics_of (first_memory file))
+
 module _ (file : FileTree) (image : Tables) (lins : ℕ → Lin) (named : ℕ → NamedAt)
     (w : Words State) (laid : ℕ → Laid) (entry : ℕ → ℕ) (live : ℕ → List Line → Type 0)
     (has : HasFunctions image)
@@ -102,12 +118,7 @@ module _ (file : FileTree) (image : Tables) (lins : ℕ → Lin) (named : ℕ �
         ArrivesIn 0 (w.entry f) (fixed_of image has bases run) (needs_of (laid f) c u) v
         (IsAt (fixed_of image has bases run) (laid f) (live f) c u)
     -- so does the entry of a run, above the stub
-    pub starts : (run : Setup) (f : ℕ) (args answers : List ℕ) (tree : FunctionTree) →
-        Entered file image f tree run.row args answers →
-        Shows (fixed_of image has bases run) (record { made = []; answers = answers })
-        (IsEntered (fixed_of image has bases run) entry f (map Word args) (first_memory file)
-        nothing_below)
-        (begun image run.row args answers run.stack run.heap)
+    pub entries : AreEntries file image entry
     -- and the stub ends it
     pub stub : (run : Setup) (f : ℕ) → slice_get image.funcs f ≡ Some run.row →
         IsStub Now (next_of run.schedule) seen run.stack run.heap (layout_of image)
