@@ -1,5 +1,5 @@
 -- What is passed on from a function to those that it calls, and back, is known of all calls of a whole run.
-use Rattle.std.proofs.Common.{◌≡◌, ℕ, zero, suc, ◌+◌, ◌<◌, Bool, true, false, List, [], ◌∷◌, ◌++◌, Option, Some, cond, length, map, refl, ap, sym, subst, ◌∙◌, append_assoc, append-nil, arith}
+use Rattle.std.proofs.Common.{◌≡◌, ℕ, zero, suc, ◌+◌, ◌<◌, Bool, true, false, List, [], ◌∷◌, ◌++◌, Some, cond, length, map, refl, ap, sym, subst, ◌∙◌, append_assoc, arith}
 use Rattle.std.specs.Prelude.{slice_get, slice_index}
 use Rattle.std.specs.List.{AllByRecursion}
 use Rattle.bs_words.specs.External.{External}
@@ -14,10 +14,10 @@ use Rattle.bs_words.specs.declared.values.Value.TheVariants.{Word}
 use Rattle.cmm_data.specs.Placement.{data_end, value_of_symbol}
 use Rattle.cmm_tree.specs.Tree.{FunctionTree, FileTree, functions, comps_of}
 use Rattle.cmm_meaning.specs.Layout.{Layout, observed}
-use Rattle.cmm_meaning.specs.Run.{made, nobody, answered, frame_answered, answered_as, outside, callees}
+use Rattle.cmm_meaning.specs.Run.{made, nobody, answered, frame_answered, outside, callees}
 use Rattle.cmm_meaning.specs.Setting.{setting_of}
 use Rattle.cmm_meaning.specs.State.{Doing, Gave, Threw, Asked, Called, World}
-use Rattle.cmm_meaning.specs.Evaluation.{NotProper, Asking, Evaluation, Gives, Exits, Raises, Stops, fit_parameters}
+use Rattle.cmm_meaning.specs.Evaluation.{NotProper, Evaluation, Gives, Exits, Raises, Stops, fit_parameters}
 use Rattle.correctness.specs.Setting.{AreWords}
 use Rattle.meaning_fuel.specs.Whole.{whole}
 use Rattle.meaning_laws.specs.Fitting.{FitsCallee}
@@ -26,7 +26,7 @@ use Rattle.meaning_laws.specs.Links as links
 use Rattle.meaning_laws.specs.Units.{world_of, in_world}
 use Rattle.meaning_laws.proofs.Handed.{callee_of}
 use Rattle.meaning_laws.proofs.LinksCalls.{function_alone, whole_call_linked}
-use Rattle.linking.specs.Assembled.{IsKnownAsked, IsKnown, IsPassedOn}
+use Rattle.linking.specs.Assembled.{IsKnown, IsPassedOn}
 use Rattle.linking.proofs.Fewer.{Fewer, same_end, asks_here, refuses, with_doings, alone_fewer, alone_counts}
 use Rattle.linking.proofs.Following.{IsGivenTo, AllGiven}
 use Rattle.linking.proofs.Whole.{KnownLink, AreKnown}

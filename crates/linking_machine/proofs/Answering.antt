@@ -1,5 +1,5 @@
 -- What an external call does in the run of a text, the machine does at its ECALL.
-use Rattle.std.proofs.Common.{◌≡◌, ◌⊎◌, inl, inr, ⊎_elim, ℕ, zero, suc, ◌+◌, ◌-◌, ◌<◌, ◌≤◌, Bool, true, false, cond, List, [], ◌∷◌, ◌++◌, Option, Some, None, map, slice_get, slice_index, refl, ap, sym, subst, ◌∙◌, append-nil, arith}
+use Rattle.std.proofs.Common.{◌≡◌, ◌⊎◌, inl, inr, ⊎_elim, ℕ, zero, suc, ◌+◌, ◌-◌, ◌<◌, ◌≤◌, Bool, true, false, cond, List, [], ◌∷◌, ◌++◌, Some, None, map, slice_get, slice_index, refl, ap, sym, subst, ◌∙◌, arith}
 use Rattle.std.specs.List.{AllByRecursion}
 use Rattle.bs_words.specs.External.{External}
 use Rattle.bs_words.specs.Fits.{fits, misfit}
@@ -14,30 +14,29 @@ use Rattle.bs_words.specs.declared.values.Value.TheVariants.{Word}
 use Rattle.cmm_data.specs.Placement.{data_end}
 use Rattle.cmm_tree.specs.Tree.{FileTree}
 use Rattle.cmm_meaning.specs.Evaluation.{NoAnswer, NotProper, OutOfFuel, Asking, Evaluation, Gives, Exits, Raises, Stops}
-use Rattle.cmm_meaning.specs.Layout.{Layout, observed}
-use Rattle.cmm_meaning.specs.Run.{made, nobody, answered, frame_answered, answered_as, outside}
-use Rattle.cmm_meaning.specs.State.{Doing, Gave, Threw, Asked, Callee, Inside, Outside, World}
+use Rattle.cmm_meaning.specs.Layout.{observed}
+use Rattle.cmm_meaning.specs.Run.{made, nobody, answered, frame_answered, outside}
+use Rattle.cmm_meaning.specs.State.{Doing, Gave, Threw, Asked, Outside, World}
 use Rattle.correctness.specs.Setting.{layout_of, AreWords}
-use Rattle.image_form.specs.Tables.{Tables, Ext}
+use Rattle.image_form.specs.Tables.{Tables}
 use Rattle.lin_ir.specs.Meaning.{NamedAt, State}
 use Rattle.lin_ir.specs.declared.lin.Lin.{Lin}
 use Rattle.lin_ir.specs.declared.lin.Line.{Line}
-use Rattle.mach_ir.specs.Runs.{Step, Waits}
+use Rattle.mach_ir.specs.Runs.{Step}
 use Rattle.machine_laws.specs.Steps.{next_of, moments, IsFrontOf}
 use Rattle.meaning_laws.specs.Units.{world_of, Begins}
 use Rattle.meaning_laws.proofs.LinksWhole.{whole_calls_fit}
 use Rattle.meaning_laws.proofs.Units.{answered_later, Begins-same}
 use Rattle.moving_laws.specs.Values.{HasFunctions}
-use Rattle.rv_isa.specs.Registers.{t0, t2}
 use Rattle.rv_isa.specs.declared.instr.Instr.TheVariants.{Ecall}
 use Rattle.rv_machine.specs.Hart as hart
 use Rattle.rv_machine.specs.Loading.{IsRoom}
 use Rattle.rv_machine.specs.Places.{stack_bottom}
-use Rattle.rv_machine.specs.Run.{Seen, seen, after}
+use Rattle.rv_machine.specs.Run.{seen, after}
 use Rattle.rv_machine.specs.Services.{Machine, Now, Going, Over, call_made, external, external_at, frame_call, served}
 use Rattle.rv_machine.specs.Services as machine
 use Rattle.rv_machine.specs.Sound.{IsStackBase}
-use Rattle.linear_machine.specs.Arrival.{Gone, ArrivesIn, nothing}
+use Rattle.linear_machine.specs.Arrival.{Gone}
 use Rattle.linear_machine.specs.Follows as follows
 use Rattle.linear_machine.specs.Outside.{Taken, taken_of, service_of, counted, GoesOn, IsAsking}
 use Rattle.linear_machine.specs.Relation.{Below, Laid}

@@ -1,48 +1,45 @@
 -- The machine carries the Linear program out, where it follows each line.
-use Rattle.std.proofs.Common.{◌≡◌, ◌⊎◌, inl, inr, ⊎_elim, ℕ, zero, suc, ◌+◌, ◌-◌, ◌*◌, ◌<◌, ◌≤◌, Bool, true, false, cond, ◌||◌, not, List, [], ◌∷◌, ◌++◌, Option, Some, None, length, map, slice_get, slice_index, refl, ap, sym, subst, ◌∙◌, append-nil, append_assoc, arith}
+use Rattle.std.proofs.Common.{◌≡◌, ◌⊎◌, inl, inr, ⊎_elim, ℕ, zero, suc, ◌+◌, ◌-◌, ◌<◌, ◌≤◌, Bool, true, false, ◌||◌, not, List, [], ◌∷◌, Option, Some, None, length, map, slice_index, refl, ap, sym, subst, ◌∙◌, append-nil, arith}
 use Rattle.std.specs.List.{AllByRecursion}
-use Rattle.bs_words.specs.External.{External}
 use Rattle.bs_words.specs.Memory.{Memory, heap_need}
 use Rattle.bs_words.specs.Observed.{Made}
 use Rattle.bs_words.specs.declared.types.Ret.{Ret}
 use Rattle.bs_words.specs.declared.types.Ret.TheVariants as ret
-use Rattle.bs_words.specs.declared.values.Obs.{Obs}
 use Rattle.bs_words.specs.declared.values.Obs.TheVariants as obs
 use Rattle.bs_words.specs.declared.values.Value.{Value}
 use Rattle.bs_words.specs.declared.values.Value.TheVariants.{Word, Block, Function}
 use Rattle.cmm_tree.specs.Tree.{FileTree}
 use Rattle.cmm_meaning.specs.Layout.{observed}
-use Rattle.cmm_meaning.specs.State.{Doing, Gave, Threw, Asked, Callee, Inside, Outside, World}
-use Rattle.cmm_meaning.specs.State as state
+use Rattle.cmm_meaning.specs.State.{Doing, Gave, Threw, Asked, Callee, Inside, Outside}
 use Rattle.correctness.specs.Setting.{layout_of, AreWords}
 use Rattle.image_form.specs.Tables.{Tables, Func}
-use Rattle.lin_ir.specs.Meaning.{Locations, NamedAt, State, lin_act, wrote, on_act, unless_misnamed, on_values, at_code, step, put_all, code_at, clear, destroyed_by, past_frame, passes_frame, are_vals, values}
+use Rattle.lin_ir.specs.Meaning.{Locations, NamedAt, State, lin_act, wrote, on_act, unless_misnamed, on_values, at_code, put_all, code_at, clear, destroyed_by, past_frame, passes_frame, are_vals, values}
 use Rattle.lin_ir.specs.declared.lin.Lin.{Lin}
 use Rattle.lin_ir.specs.declared.lin.Line.{Line}
 use Rattle.bs_words.specs.declared.types.Loc.{Loc}
 use Rattle.mach_ir.specs.Acts.{Around, Act, Goes, Pushes, Jumps, Unwinds, Asks, Replaces, Ends, EndsRaising, Stuck}
-use Rattle.mach_ir.specs.Runs.{Place, taken, bytes_below, asked, kept_of, Step, Continues, Pays, Deepens, Waits, FinishesBy, Finishes, FinishesRaising, IsStuck}
-use Rattle.machine_laws.specs.Steps.{next_of, moments, IsFrontOf}
+use Rattle.mach_ir.specs.Runs.{Place, taken, bytes_below, kept_of, Step, Continues, Pays, Deepens, Waits, FinishesBy, Finishes, FinishesRaising, IsStuck}
+use Rattle.machine_laws.specs.Steps.{next_of, moments}
 use Rattle.moving_laws.specs.Values.{HasFunctions, function_at}
 use Rattle.rv_machine.specs.Loading.{IsRoom}
 use Rattle.rv_machine.specs.Memory.{code_start}
 use Rattle.rv_machine.specs.Places.{stack_bottom}
-use Rattle.rv_machine.specs.Run.{Schedule, Seen, seen, one, after}
+use Rattle.rv_machine.specs.Run.{Schedule, seen, one, after}
 use Rattle.rv_machine.specs.Services.{End, StackOut, HeapOut, Machine, Now, Going, Over}
 use Rattle.rv_machine.specs.Services as machine
 use Rattle.rv_machine.specs.Sound.{AllWords, IsStackBase}
-use Rattle.linear_machine.specs.Arrival.{Needs, IsShort, nothing, ArrivalIn, Gone, ArrivesIn}
+use Rattle.linear_machine.specs.Arrival.{Needs, nothing, ArrivalIn, Gone, ArrivesIn}
 use Rattle.linear_machine.specs.Follows.{IsAt, IsDone, IsEntered, used, needs_of, FollowsCall, FollowsAsked, FollowsTail, FollowsStep}
 use Rattle.linear_machine.specs.Follows as follows
 use Rattle.linear_machine.specs.Outside.{shown}
 use Rattle.linear_machine.specs.Relation.{Below, Laid}
-use Rattle.linear_machine.specs.View.{Fixed, View, Stands}
+use Rattle.linear_machine.specs.View.{Fixed, View}
 use Rattle.linking.specs.Assembled.{Setup}
-use Rattle.linking.specs.Carries.{Outer, outer_of, Out, no_stack, no_heap, Comes, Near, IsAfter, CarriesCall, CarriesTail, CarriesStep}
+use Rattle.linking.specs.Carries.{Outer, Out, no_stack, no_heap, Comes, Near, IsAfter, CarriesCall, CarriesTail, CarriesStep}
 use Rattle.linking.specs.Pace.{Words}
 use Rattle.linking.specs.Program.{place_in}
 use Rattle.linking_stages.specs.Stages.{linear_program}
-use Rattle.linking_machine.specs.Emitted.{FollowsLine, CallsSo, IsEmitted, IsInTable}
+use Rattle.linking_machine.specs.Emitted.{IsEmitted, IsInTable}
 use Rattle.linking_machine.specs.Standing.{Shows, fixed_of, At, Entry, Back}
 
 pub after_moments : (schedule : Schedule) (m : ℕ) (now : Now) → after schedule m now ≡ moments (next_of schedule) m now
@@ -262,16 +259,19 @@ module _ (file : FileTree) (image : Tables) (lins : ℕ → Lin) (named : ℕ �
         calls = back.calls;
         answers = back.answers;
         words = back.words;
-        holds = (back.holds.0, record {
-          place = r.place;
-          own = r.own;
-          usable = r.usable;
-          top = r.top;
-          value_in = λ x h. absurd (cc);
-          waits = r.waits;
-          traps = r.traps;
-          heap = r.heap;
-        });
+        holds = (
+          back.holds.0,
+          record {
+            place = r.place;
+            own = r.own;
+            usable = r.usable;
+            top = r.top;
+            value_in = λ x h. absurd (cc);
+            waits = r.waits;
+            traps = r.traps;
+            heap = r.heap;
+          },
+        );
       }
   kept_back c ret.Unit (Threw v memory) o x back = back
   kept_back c (ret.Comp t) d o x back = back

@@ -1,5 +1,5 @@
 -- An image that is compiled from a file is correct for it.
-use Rattle.std.proofs.Common.{ℕ, ◌-◌, List, arith}
+use Rattle.std.proofs.Common.{ℕ, ◌-◌, arith}
 use Rattle.cmm_tree.specs.Tree.{FileTree}
 use Rattle.correctness.specs.Correct.{IsCorrect}
 use Rattle.correctness.specs.Setting.{layout_of}

@@ -1,33 +1,29 @@
 -- A file of functions that each make 42 and return it, in two lines of Linear: what is asked of it holds.
-use Rattle.std.proofs.Common.{◌≡◌, ℕ, zero, suc, ◌+◌, ◌-◌, ◌*◌, ◌/◌, ◌≤◌, ◌⊎◌, inl, inr, ⊎_elim, Bool, true, false, cond, List, [], ◌∷◌, Option, Some, None, map, length, slice_index, refl, sym, ap, subst, ◌∙◌, arith}
+use Rattle.std.proofs.Common.{◌≡◌, ℕ, zero, suc, ◌+◌, ◌-◌, ◌*◌, ◌/◌, ◌≤◌, inl, ⊎_elim, Bool, true, false, List, [], ◌∷◌, Option, Some, None, length, slice_index, refl, sym, ap, subst, ◌∙◌, arith}
 use Rattle.std.specs.Prelude.{slice_get}
-use Rattle.std.specs.List.{AllByRecursion}
 use Rattle.bs_words.specs.Fits.{fits}
 use Rattle.bs_words.specs.declared.types.Ty.TheVariants as ty
-use Rattle.bs_words.specs.Memory.{Memory, heap_need}
+use Rattle.bs_words.specs.Memory.{Memory}
 use Rattle.bs_words.specs.Word.{add_word}
 use Rattle.bs_words.specs.declared.types.Comp.TheVariants as comp
 use Rattle.bs_words.specs.declared.types.Loc.TheVariants as loc
 use Rattle.bs_words.specs.declared.types.Ret.TheVariants as ret
 use Rattle.bs_words.specs.declared.values.Value.{Value}
 use Rattle.bs_words.specs.declared.values.Value.TheVariants.{Word}
-use Rattle.cmm_data.specs.Placement.{data_end, value_of_symbol}
+use Rattle.cmm_data.specs.Placement.{data_end}
 use Rattle.cmm_tree.specs.Tree.{FunctionTree, FileTree, Integer, functions, comps_of}
-use Rattle.cmm_meaning.specs.Alone.{IsProperEnd}
-use Rattle.cmm_meaning.specs.Evaluation.{OutOfFuel, Evaluation, Gives, Stops, fit_parameters}
+use Rattle.cmm_meaning.specs.Evaluation.{fit_parameters}
 use Rattle.cmm_meaning.specs.Layout.{Layout}
-use Rattle.cmm_meaning.specs.State.{Doing, Gave, Asked, World}
-use Rattle.mach_ir.specs.Runs.{Place, Step, Continues, Finishes, IsStuck, runs, first_tally, entered}
+use Rattle.cmm_meaning.specs.State.{Doing, Gave}
+use Rattle.mach_ir.specs.Runs.{Place, Step, Continues, Finishes, IsStuck, entered}
 use Rattle.mach_ir.specs.declared.op.Leaving.TheVariants as leaving
 use Rattle.mach_ir.specs.declared.op.Op.TheVariants as op
 use Rattle.mach_ir.specs.declared.op.Pure.TheVariants as pure
-use Rattle.lin_ir.specs.Meaning.{Locations, NamedAt, State, put, clear, destroyed_by, with_held, as_type, on_values, start, begun, step}
+use Rattle.lin_ir.specs.Meaning.{Locations, State, put, clear, destroyed_by, with_held, as_type, on_values, start, step}
 use Rattle.lin_ir.specs.declared.lin.LinOp.TheVariants as lin
 use Rattle.lin_ir.specs.declared.lin.Lin.{Lin}
 use Rattle.lin_ir.specs.declared.lin.Line.{Line}
 use Rattle.lin_ir.specs.declared.lin.Spot.{Spot}
-use Rattle.meaning_laws.specs.Units.{world_of}
-use Rattle.meaning_laws.specs.Handed.{AreHanded}
 use Rattle.correctness.specs.Setting.{layout_of}
 use Rattle.image_form.specs.Tables.{Tables}
 use Rattle.moving_laws.specs.Values.{HasFunctions}
@@ -40,7 +36,7 @@ use Rattle.rv_machine.specs.Places.{stack_bottom}
 use Rattle.rv_machine.specs.Sound.{IsStackBase}
 use Rattle.linear_machine.specs.Arrival.{ArrivesIn}
 use Rattle.linear_machine.specs.Follows.{IsAt, IsEntered, needs_of, FollowsStep}
-use Rattle.linear_machine.specs.Relation.{Below, IsLocation, Laid, Within}
+use Rattle.linear_machine.specs.Relation.{Below, IsLocation, Laid}
 use Rattle.linear_machine.specs.View.{Fixed, View, IsCode, HasCode}
 use Rattle.linear_machine.proofs.Arriving.{leads_in}
 use Rattle.linear_machine.proofs.Endings.{return_value}
@@ -329,11 +325,15 @@ module _ (image : Tables) (has : HasFunctions image) (bases : (stack : ℕ) → 
         let top = entry.top in
         let place = entry.place in
         subst (λ (u : State). ArrivesIn 0 0 s (needs_of (laid f) c u) v (IsAt s (laid f) (live f) c u)) same
-        (leads_in 0 0 s 0 (omega arith) (omega arith) v v _ (stays s v)
-        (is.0, (λ l. None), record { others = λ l n. refl; spare_too = λ b. absurd b }, record {
-          place = omega (arith, place);
-          within = begins s (laid f) v v is.0 (at f) [] memory c entry (omega (arith, low)) (record { are = entry.own.are; others = λ q n. refl; memory = refl; blocks = refl })
-              (omega (arith, top))
-              (λ l. None) (record { register = λ r x h. absurd (cc); slot = λ k x h. absurd (cc) });
-        }))
+        (leads_in 0 0 s 0 (omega arith) (omega arith) v v _ (stays s v) (
+          is.0,
+          (λ l. None),
+          record { others = λ l n. refl; spare_too = λ b. absurd b },
+          record {
+            place = omega (arith, place);
+            within = begins s (laid f) v v is.0 (at f) [] memory c entry (omega (arith, low)) (record { are = entry.own.are; others = λ q n. refl; memory = refl; blocks = refl })
+                (omega (arith, top))
+                (λ l. None) (record { register = λ r x h. absurd (cc); slot = λ k x h. absurd (cc) });
+          },
+        ))
     entered_there (a ∷ arguments) memory u e is = absurd (let no' : None ≡ Some u = e in cc)

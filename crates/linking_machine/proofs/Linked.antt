@@ -1,8 +1,6 @@
 -- An image whose lines are followed is assembled, and correct.
-use Rattle.std.proofs.Common.{◌≡◌, ℕ, ◌+◌, ◌-◌, ◌≤◌, false, List, [], ◌∷◌, Some, length, map, refl, ap, sym, subst, ◌∙◌, arith}
-use Rattle.std.specs.List.{AllByRecursion}
-use Rattle.bs_words.specs.Memory.{Memory, heap_need}
-use Rattle.bs_words.specs.declared.types.Ret.{Ret}
+use Rattle.std.proofs.Common.{◌≡◌, ℕ, ◌+◌, ◌-◌, ◌≤◌, false, List, length, refl, ap, arith}
+use Rattle.bs_words.specs.Memory.{Memory}
 use Rattle.bs_words.specs.declared.values.Value.{Value}
 use Rattle.cmm_tree.specs.Tree.{FileTree, functions}
 use Rattle.cmm_meaning.specs.State.{Doing, Asked, Callee, Inside, Outside}
@@ -12,7 +10,7 @@ use Rattle.image_form.specs.Tables.{Tables}
 use Rattle.lin_ir.specs.Meaning.{NamedAt, State, step}
 use Rattle.lin_ir.specs.declared.lin.Lin.{Lin}
 use Rattle.lin_ir.specs.declared.lin.Line.{Line}
-use Rattle.mach_ir.specs.Runs.{Place, taken, bytes_below, Step, Continues, Pays, Deepens, Waits, FinishesBy, Finishes, FinishesRaising, IsStuck}
+use Rattle.mach_ir.specs.Runs.{bytes_below, Step, Continues, Pays, Deepens, Waits, FinishesBy, Finishes, FinishesRaising, IsStuck}
 use Rattle.machine_laws.specs.Steps.{next_of}
 use Rattle.moving_laws.specs.Values.{HasFunctions}
 use Rattle.rv_machine.specs.Loading.{IsRoom}

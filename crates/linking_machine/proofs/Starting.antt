@@ -1,32 +1,29 @@
 -- Where a run begins its entry is about to begin, and below it there is only the stub.
-use Rattle.std.proofs.Common.{◌≡◌, ◌⊎◌, inl, inr, ℕ, zero, suc, ◌+◌, ◌-◌, ◌*◌, ◌/◌, ◌%◌, ◌^◌, ◌<◌, ◌≤◌, Bool, true, false, ◌&&◌, nat_le, List, [], ◌∷◌, ◌++◌, Some, length, map, replicate, slice_get, slice_index, refl, ap, sym, subst, ◌∙◌, arith}
-use Rattle.std.proofs.lemmas.Bool.{le-leb, lt-leb, and_from, and_right, cond-true, cond-false}
-use Rattle.std.specs.List.{AllByRecursion}
+use Rattle.std.proofs.Common.{◌≡◌, inl, ℕ, suc, ◌+◌, ◌-◌, ◌/◌, ◌≤◌, Bool, true, false, ◌&&◌, nat_le, List, [], ◌∷◌, Some, length, map, refl, ap, ◌∙◌, arith}
+use Rattle.std.proofs.lemmas.Bool.{lt-leb, and_right, cond-false}
 use Rattle.bs_words.specs.Fits.{fits, type_of_comp}
 use Rattle.bs_words.specs.declared.types.Comp.{Comp}
-use Rattle.bs_words.specs.declared.values.Value.{Value}
 use Rattle.bs_words.specs.declared.values.Value.TheVariants.{Word}
 use Rattle.cmm_data.specs.Contents.{first_memory}
 use Rattle.cmm_data.specs.Placement.{data_end}
 use Rattle.cmm_tree.specs.Tree.{FunctionTree, FileTree, comps_of}
 use Rattle.cmm_meaning.specs.Evaluation.{fit_parameters}
-use Rattle.correctness.specs.Setting.{AreWords, Entered}
+use Rattle.correctness.specs.Setting.{Entered}
 use Rattle.image_form.specs.Image.{AreTables}
-use Rattle.image_form.specs.Tables.{Tables, Func}
-use Rattle.lin_ir.specs.declared.lin.Line.{Line}
+use Rattle.image_form.specs.Tables.{Tables}
 use Rattle.machine_laws.proofs.Starting.{start_sound}
 use Rattle.moving_laws.specs.Values.{HasFunctions}
 use Rattle.rv_machine.specs.Loading.{IsRoom}
-use Rattle.rv_machine.specs.Memory.{Region, byte_in, code_start, is_inside, or_zero, part, read, word}
+use Rattle.rv_machine.specs.Memory.{Region, is_inside, or_zero, read, word}
 use Rattle.rv_machine.specs.Observation.{young_start}
 use Rattle.rv_machine.specs.Places.{domain_start, limit_at_rest, stack_bottom}
 use Rattle.rv_machine.specs.Run.{begun}
-use Rattle.rv_machine.specs.Sound.{AllWords, IsSound, IsStackBase}
+use Rattle.rv_machine.specs.Sound.{IsSound, IsStackBase}
 use Rattle.rv_machine.specs.Start.{data_region, domain_region, filler, half_start, stack_region, start, start_memory, start_registers, uniform}
 use Rattle.linear_machine.specs.Follows.{IsEntered}
 use Rattle.linear_machine.specs.Moments.{AtEntry}
-use Rattle.linear_machine.specs.View.{View, Stands}
-use Rattle.linear_machine.proofs.Beginning.{nothing_below, start_fixed, start_view, at_start}
+use Rattle.linear_machine.specs.View.{View}
+use Rattle.linear_machine.proofs.Beginning.{nothing_below, at_start}
 use Rattle.linear_machine.proofs.Likes.{like_refl}
 use Rattle.linking.specs.Assembled.{Setup}
 use Rattle.linking_machine.specs.Emitted.{AreEntries}

@@ -1,5 +1,5 @@
 -- What layout and emission give of an image, function by function and line by line.
-use Rattle.std.specs.Prelude.{◌≡◌, ℕ, ◌+◌, ◌-◌, ◌*◌, ◌<◌, ◌≤◌, List, [], Some, map, length, slice_get, slice_index}
+use Rattle.std.specs.Prelude.{◌≡◌, ℕ, ◌+◌, ◌-◌, ◌*◌, ◌<◌, ◌≤◌, List, [], Some, length, slice_get, slice_index}
 use Rattle.std.specs.List.{AllByRecursion}
 use Rattle.bs_words.specs.Memory.{Memory}
 use Rattle.bs_words.specs.declared.values.Value.{Value}
@@ -8,7 +8,7 @@ use Rattle.cmm_data.specs.Contents.{first_memory}
 use Rattle.cmm_data.specs.Placement.{data_end}
 use Rattle.cmm_tree.specs.Tree.{FunctionTree, FileTree, functions, comps_of}
 use Rattle.cmm_meaning.specs.State.{Doing, Asked, Callee, Inside, Outside}
-use Rattle.correctness.specs.Setting.{layout_of, Entered}
+use Rattle.correctness.specs.Setting.{layout_of}
 use Rattle.image_form.specs.Tables.{Tables, Func}
 use Rattle.lin_ir.specs.Meaning.{NamedAt, State, step, start}
 use Rattle.lin_ir.specs.declared.lin.Lin.{Lin}
@@ -26,16 +26,15 @@ use Rattle.rv_machine.specs.Services.{Now}
 use Rattle.rv_machine.specs.Sound.{IsStackBase}
 use Rattle.linear_machine.specs.Arrival.{ArrivesIn}
 use Rattle.linear_machine.specs.Contents.{statics_of}
-use Rattle.linear_machine.specs.Follows.{IsAt, IsEntered, used, needs_of, FollowsCall, FollowsAsked, FollowsStep}
+use Rattle.linear_machine.specs.Follows.{IsAt, IsEntered, used, needs_of, FollowsAsked, FollowsStep}
 use Rattle.linear_machine.specs.Relation.{Below, Laid}
 use Rattle.linear_machine.specs.View.{Fixed, View}
 use Rattle.linear_machine.proofs.Beginning.{nothing_below}
 use Rattle.linking.specs.Assembled.{Setup, IsStub}
-use Rattle.linking.specs.Carries.{Outer}
 use Rattle.linking.specs.Pace.{Words, IsReached}
 use Rattle.linking.specs.Program.{place_in}
 use Rattle.linking_stages.specs.Stages.{linear_program}
-use Rattle.linking_machine.specs.Standing.{Shows, fixed_of, Back}
+use Rattle.linking_machine.specs.Standing.{fixed_of, Back}
 
 -- ---- one line
 

@@ -1,9 +1,8 @@
 -- What selection promises and what each later stage keeps gives that the Linear functions do what the text does.
-use Rattle.std.proofs.Common.{◌≡◌, ℕ, ◌≤◌, true, List, [], ◌∷◌, ◌++◌, Some, map, refl, ap, sym, subst, ◌∙◌, arith}
-use Rattle.std.specs.Prelude.{slice_get}
+use Rattle.std.proofs.Common.{ℕ, ◌≤◌, List, [], refl, arith}
 use Rattle.bs_words.specs.Memory.{Memory, heap_need}
-use Rattle.cmm_tree.specs.Tree.{FileTree, functions}
-use Rattle.cmm_meaning.specs.Evaluation.{Evaluation, OutOfFuel, Asking, Gives, Raises, Stops}
+use Rattle.cmm_tree.specs.Tree.{FileTree}
+use Rattle.cmm_meaning.specs.Evaluation.{Evaluation}
 use Rattle.cmm_meaning.specs.Extends.{Extends}
 use Rattle.cmm_meaning.specs.Layout.{Layout}
 use Rattle.cmm_meaning.specs.State.{Doing, Asked}
@@ -19,9 +18,9 @@ use Rattle.lin_ir.specs.Meaning.{NamedAt}
 use Rattle.lin_ir.specs.Meaning as lin
 use Rattle.lin_ir.specs.declared.lin.Lin.{Lin}
 use Rattle.meaning_laws.proofs.Extends.{extends_need}
-use Rattle.linking.specs.Keeps.{EndsAs, gives, raises, out_of_units, asks, Same, Runs, Keeps}
+use Rattle.linking.specs.Keeps.{EndsAs, gives, raises, out_of_units, asks, Same, Keeps}
 use Rattle.linking_stages.specs.Stages.{mach_program, linear_program}
-use Rattle.linking_stages.specs.Chain.{RunsProper, Selects, AreLowered}
+use Rattle.linking_stages.specs.Chain.{Selects, AreLowered}
 
 -- one that has allocated no more has no greater need
 trails_need : (x y : Around) → Trails x y → heap_need y.memory ≤ heap_need x.memory

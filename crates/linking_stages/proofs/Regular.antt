@@ -1,27 +1,25 @@
 -- The Linear program is regular: its needs are what its tallies and its memories say.
-use Rattle.std.proofs.Common.{◌≡◌, ℕ, zero, suc, ◌+◌, ◌-◌, ◌*◌, ◌≤◌, Bool, true, false, cond, ◌&&◌, ◌||◌, not, List, [], ◌∷◌, ◌++◌, Option, Some, None, Result, Ok, Err, length, map, max, refl, ap, sym, subst, ◌∙◌, arith}
+use Rattle.std.proofs.Common.{◌≡◌, ℕ, zero, suc, ◌+◌, ◌≤◌, Bool, true, false, cond, ◌||◌, not, List, [], ◌∷◌, ◌++◌, Option, Some, None, Result, Ok, Err, length, refl, ap, sym, arith}
 use Rattle.std.specs.Prelude.{slice_get, nat_eq}
 use Rattle.std.proofs.lemmas.List.{map-append}
-use Rattle.bs_words.specs.Fits.{fits, type_of_comp}
-use Rattle.bs_words.specs.Memory.{Memory, Cell, InHeader, InBlock, InStatic, heap_need, loaded, stored, cell_at, width, value_in, sizes}
+use Rattle.bs_words.specs.Memory.{Memory, Cell, InHeader, InBlock, InStatic, heap_need, stored, value_in}
 use Rattle.bs_words.specs.declared.types.Chunk.{Chunk}
 use Rattle.bs_words.specs.declared.types.Chunk.TheVariants as chunk
 use Rattle.bs_words.specs.declared.types.Comp.{Comp}
 use Rattle.bs_words.specs.declared.types.Ret.{Ret}
 use Rattle.bs_words.specs.declared.types.Ret.TheVariants as ret
-use Rattle.bs_words.specs.declared.types.Ty.TheVariants as ty
 use Rattle.bs_words.specs.declared.values.Kind.{Kind}
 use Rattle.bs_words.specs.declared.values.Value.{Value}
 use Rattle.bs_words.specs.declared.values.Value.TheVariants as value
 use Rattle.bs_words.specs.Operators.{word_in}
-use Rattle.cmm_meaning.specs.Evaluation.{fit_parameters, bound_error}
+use Rattle.cmm_meaning.specs.Evaluation.{bound_error}
 use Rattle.cmm_meaning.specs.Extends.{Extends, shape_of}
 use Rattle.cmm_meaning.specs.Setting.{Setting}
 use Rattle.cmm_meaning.specs.State as state
 use Rattle.cmm_meaning.specs.State.{Doing, Gave, Threw, Inside, Outside}
 use Rattle.meaning_laws.specs.Fitting.{memory_after}
 use Rattle.meaning_laws.proofs.Extends.{Extended, extended, no_memory, stored_extended, extends_need}
-use Rattle.mach_ir.specs.Acts.{Around, Act, Goes, Pushes, Jumps, Unwinds, Asks, Replaces, Ends, EndsRaising, Stuck, On, At, Target, AtLabel, AtHandler, only_if, one_result, if_known, pure_act, loaded_act, after_store, header_written, first_written, stored_act, is_among, without, is_complete, with_block, fresh_block, new_blocks, access_act, moved_by, callee_raises, raised_by, raises, answered, as_list, after_call, after_external, asks, asks_value, asks_callee, calling_act, checked, leaving_act, act, branches, goes_to_case, switched, drop_tries, takes_raised, row_of}
+use Rattle.mach_ir.specs.Acts.{Around, Act, Goes, Pushes, Jumps, Unwinds, Asks, Replaces, Ends, EndsRaising, Stuck, On, At, Target, only_if, one_result, if_known, pure_act, loaded_act, after_store, header_written, first_written, stored_act, is_among, without, is_complete, with_block, fresh_block, new_blocks, access_act, callee_raises, raised_by, raises, answered, as_list, after_call, after_external, asks, asks_value, asks_callee, calling_act, checked, leaving_act, act, branches, goes_to_case, switched, drop_tries, row_of}
 use Rattle.mach_ir.specs.Runs.{Place, taken, Step, Continues, Pays, Deepens, Waits, FinishesBy, Finishes, FinishesRaising, IsStuck}
 use Rattle.mach_ir.specs.declared.blocks.NewBlock.{NewBlock}
 use Rattle.mach_ir.specs.declared.op.Access.{Access}
@@ -37,14 +35,14 @@ use Rattle.mach_ir.specs.declared.op.Op.TheVariants as op
 use Rattle.mach_ir.specs.declared.op.Pure.{Pure}
 use Rattle.mach_ir.specs.declared.op.Pure.TheVariants as pure
 use Rattle.mach_ir.specs.declared.op.Right.TheVariants as right
-use Rattle.lin_ir.specs.Meaning.{Locations, NamedAt, State, flow_act, lin_act, wrote, on_act, unless_misnamed, on_values, at_code, step, put_all, start, begun, code_at, landing_code, clear, destroyed_by, past_frame, passes_frame, are_vals, values}
+use Rattle.lin_ir.specs.Meaning.{Locations, NamedAt, State, flow_act, lin_act, wrote, on_act, unless_misnamed, on_values, at_code, put_all, begun, code_at, clear, destroyed_by, past_frame, passes_frame, are_vals, values}
 use Rattle.lin_ir.specs.declared.lin.Flow.{Flow}
 use Rattle.lin_ir.specs.declared.lin.Flow.TheVariants as flow
 use Rattle.lin_ir.specs.declared.lin.LinOp.{LinOp}
 use Rattle.lin_ir.specs.declared.lin.LinOp.TheVariants as lin
 use Rattle.lin_ir.specs.declared.lin.Lin.{Lin}
 use Rattle.lin_ir.specs.declared.lin.Line.{Line}
-use Rattle.linking.specs.Program.{Program, paid_by, unit_of, IsRegularStep, IsRegular}
+use Rattle.linking.specs.Program.{paid_by, unit_of, IsRegularStep, IsRegular}
 use Rattle.linking_stages.specs.Stages.{linear_program}
 
 -- ---- acts

@@ -1,17 +1,14 @@
 -- What selection gives of each function is what is asked of it, and words are passed on.
-use Rattle.std.proofs.Common.{◌≡◌, ℕ, suc, ◌+◌, ◌*◌, ◌≤◌, ◌<◌, ◌^◌, true, List, [], ◌∷◌, Option, Some, None, map, refl, ap, sym, subst, ◌∙◌, arith}
+use Rattle.std.proofs.Common.{◌≡◌, ℕ, suc, ◌+◌, ◌*◌, ◌≤◌, List, [], ◌∷◌, map, refl, ap, arith}
 use Rattle.std.proofs.Math.Nat.{mul-le-mul_right}
 use Rattle.std.specs.List.{AllByRecursion}
-use Rattle.std.specs.Prelude.{slice_get}
-use Rattle.bs_words.specs.Memory.{Memory, heap_need}
-use Rattle.bs_words.specs.declared.values.Value.{Value}
+use Rattle.bs_words.specs.Memory.{heap_need}
 use Rattle.bs_words.specs.declared.values.Value.TheVariants.{Word}
-use Rattle.cmm_data.specs.Contents.{first_memory}
-use Rattle.cmm_tree.specs.Tree.{FunctionTree, FileTree, functions}
+use Rattle.cmm_tree.specs.Tree.{FileTree}
 use Rattle.cmm_meaning.specs.Alone.{IsProperEnd}
 use Rattle.cmm_meaning.specs.Evaluation.{OutOfFuel, NotProper, NoAnswer, Asking, Evaluation, Gives, Exits, Raises, Stops}
 use Rattle.cmm_meaning.specs.Layout.{Layout}
-use Rattle.cmm_meaning.specs.State.{Doing, Gave, Threw, Asked, World}
+use Rattle.cmm_meaning.specs.State.{Doing, Asked, World}
 use Rattle.correctness.specs.Setting.{AreWords}
 use Rattle.mach_ir.specs.Runs.{Place, Tally, Run, first_tally}
 use Rattle.mach_ir.specs.Runs as run
@@ -20,13 +17,13 @@ use Rattle.mach_ir.specs.declared.mach.Mach.{Mach}
 use Rattle.meaning_laws.specs.Pace.{pending}
 use Rattle.meaning_laws.specs.Units.{world_of}
 use Rattle.meaning_laws.proofs.LinksWhole.{bound_error_fits}
-use Rattle.selection_rules.specs.Bounded.{AllBounded, BoundedMemory, BoundedDoing, BoundedDoings, BoundedAsked, AllAsked, BoundedEvaluation}
+use Rattle.selection_rules.specs.Bounded.{AllBounded, BoundedDoing, BoundedDoings, BoundedAsked, AllAsked, BoundedEvaluation}
 use Rattle.selection_rules.proofs.BoundedRuns.{alone_bounded}
 use Rattle.selection_rules.proofs.Plays.{Meets, returned, threw, running, asking, improper, left_by_exit}
 use Rattle.linking.specs.Assembled.{IsKnownAsked, IsKnown, IsPassedOn}
-use Rattle.linking.specs.Keeps.{EndsAs, gives, raises, out_of_units, asks, Same, alone_in}
-use Rattle.linking.specs.Program.{place_in, tally_of}
-use Rattle.linking_stages.specs.Chain.{RunsProper, Selects, IsGivenWords, SelectedSo, IsSelected, HoldsWords}
+use Rattle.linking.specs.Keeps.{gives, raises, out_of_units, asks, Same, alone_in}
+use Rattle.linking.specs.Program.{place_in}
+use Rattle.linking_stages.specs.Chain.{Selects, IsGivenWords, IsSelected, HoldsWords}
 use Rattle.linking_stages.specs.Stages.{mach_program}
 
 -- ---- what is selected
