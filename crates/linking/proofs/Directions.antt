@@ -102,7 +102,8 @@ pub record Over (X : Type 0) (see : X → Seen) (most words n : ℕ) (e : Seen) 
 -- ---- both directions
 
 module _ (X : Type 0) (turn : X → X) (see : X → Seen) (stack heap most words all : ℕ) (room : words + 1 ≤ all) (run : ℕ → Run) (x : X)
-    (told : (n : ℕ) → IsProper (run n).outcome → Comes X turn see stack heap (run n).stack_need (run n).heap_need (run n).calls (Over X see most words n (seen_of (run n)) (run n).left) x) where
+    (told : (n : ℕ) → IsProper (run n).outcome → Comes X turn see stack heap (run n).stack_need (run n).heap_need (run n).calls
+    (Over X see most words n (seen_of (run n)) (run n).left) x) where
   fits_out : (r : Run) (count : ℕ) (y : X) → IsGiven r stack heap → Out X turn see stack heap r.stack_need r.heap_need r.calls y → ⊥
   fits_out r count y given (no_stack lt e calls) = absurd (omega (arith, lt, given.stack_fits))
   fits_out r count y given (no_heap lt e calls) = absurd (omega (arith, lt, given.heap_fits))
@@ -111,10 +112,15 @@ module _ (X : Type 0) (turn : X → X) (see : X → Seen) (stack heap most words
   forwards = record { does = λ n given. by n given ((told n given.proper).count) ((told n given.proper).at) }
     where
       by : (n : ℕ) → IsGiven (run n) stack heap → (count : ℕ) →
-          Over X see most words n (seen_of (run n)) (run n).left count (moments turn count x) ⊎ Out X turn see stack heap (run n).stack_need (run n).heap_need (run n).calls (moments turn count x) →
+          Over X see most words n (seen_of (run n)) (run n).left count (moments turn count x) ⊎ Out X turn see stack heap (run n).stack_need
+          (run n).heap_need (run n).calls (moments turn count x) →
           (m : ℕ) × (m ≤ 2 * (n + 1) * all) × Alike (run n) (see (moments turn m x))
-      by n given count (inl o) =
-          (count, within n o.units words all count o.c o.d (omega (arith, o.no_more)) o.upper o.two room o.is, alike (run n) (see (moments turn count x)) o.at)
+      by n given count (inl o) = (
+        count,
+        within n o.units words all count o.c o.d (omega (arith, o.no_more)) o.upper o.two room o.is,
+        alike (run n)
+            (see (moments turn count x)) o.at,
+      )
       by n given count (inr o) = absurd (fits_out (run n) count (moments turn count x) given o)
 
   module _ (orderly : IsOrderly X turn see) (empty : (n : ℕ) → (run n).outcome ≡ More → (run n).left ≡ 0) where
@@ -130,7 +136,8 @@ module _ (X : Type 0) (turn : X → X) (see : X → Seen) (stack heap most words
     no_room n y (no_heap lt e calls) = record { calls = calls; end = subst (Accounted run stack heap (see y)) (sym e) (n, lt) }
 
     -- a state that is over, and what stands before or after it
-    around : (m count n : ℕ) → ((see (moments turn count x)).end ≡ Running → m ≤ count) → Explained n (see (moments turn count x)) → (m < count) ⊎ (count ≤ m) → Explained n (see (moments turn m x))
+    around : (m count n : ℕ) → ((see (moments turn count x)).end ≡ Running → m ≤ count) → Explained n (see (moments turn count x)) →
+        (m < count) ⊎ (count ≤ m) → Explained n (see (moments turn m x))
     around m count n early known (inl lt) = by (later X turn see orderly m count x (omega (arith, lt)))
       where
         by : Onwards X turn see orderly (moments turn m x) (moments turn count x) → Explained n (see (moments turn m x))
@@ -143,7 +150,11 @@ module _ (X : Type 0) (turn : X → X) (see : X → Seen) (stack heap most words
         by (runs r pre) = let e : count ≡ m = omega (arith, ge, early r) in subst (λ k. Explained n (see (moments turn k x))) e known
 
     explained_over : (n : ℕ) (now : Seen) → IsProper (run n).outcome → now ≡ seen_of (run n) → Explained n now
-    explained_over n now proper is = record { calls = subst (IsFrontOf now.calls) (ap (λ (s : Seen). s.calls) is) (front_same now.calls); end = by (run n).outcome refl }
+    explained_over n now proper is = record {
+      calls = subst (IsFrontOf now.calls) (ap (λ (s : Seen). s.calls) is) (front_same now.calls);
+      end = by
+          (run n).outcome refl;
+    }
       where
         ends : now.end ≡ end_of (run n).outcome
         ends = ap (λ (s : Seen). s.end) is
@@ -164,10 +175,12 @@ module _ (X : Type 0) (turn : X → X) (see : X → Seen) (stack heap most words
 
     -- with so many units the run of the text is past m instructions, or over
     explained : (proper : (n : ℕ) → IsProper (run n).outcome) (m : ℕ) → Explained (most * (2 * m + 1) + 1) (see (moments turn m x))
-    explained proper m = by (most * (2 * m + 1) + 1) refl ((told (most * (2 * m + 1) + 1) (proper (most * (2 * m + 1) + 1))).count) ((told (most * (2 * m + 1) + 1) (proper (most * (2 * m + 1) + 1))).at)
+    explained proper m = by (most * (2 * m + 1) + 1) refl ((told (most * (2 * m + 1) + 1) (proper (most * (2 * m + 1) + 1))).count)
+        ((told (most * (2 * m + 1) + 1) (proper (most * (2 * m + 1) + 1))).at)
       where
         by : (n : ℕ) → n ≡ most * (2 * m + 1) + 1 → (count : ℕ) →
-            Over X see most words n (seen_of (run n)) (run n).left count (moments turn count x) ⊎ Out X turn see stack heap (run n).stack_need (run n).heap_need (run n).calls (moments turn count x) →
+            Over X see most words n (seen_of (run n)) (run n).left count (moments turn count x) ⊎ Out X turn see stack heap (run n).stack_need
+            (run n).heap_need (run n).calls (moments turn count x) →
             Explained n (see (moments turn m x))
         by n is count (inl o) =
             around m count n
@@ -178,24 +191,38 @@ module _ (X : Type 0) (turn : X → X) (see : X → Seen) (stack heap most words
             (explained_over n (see (moments turn count x)) (proper n) o.at) (cases_lt m count)
         by n is count (inr o) = around m count n (λ r. absurd (not_running o r)) (no_room n (moments turn count x) o) (cases_lt m count)
           where
-            not_running : Out X turn see stack heap (run n).stack_need (run n).heap_need (run n).calls (moments turn count x) → (see (moments turn count x)).end ≡ Running → ⊥
+            not_running : Out X turn see stack heap (run n).stack_need (run n).heap_need (run n).calls (moments turn count x) →
+                (see (moments turn count x)).end ≡ Running → ⊥
             not_running (no_stack lt e calls) r = cc
             not_running (no_heap lt e calls) r = cc
 
     pub backwards : Backwards run (λ m. see (moments turn m x)) stack heap
     backwards = record { calls = λ proper m. (most * (2 * m + 1) + 1, (explained proper m).calls); end = λ proper m. (explained proper m).end }
 
-module _ (X : Type 0) (turn : X → X) (see : X → Seen) (stack heap most words : ℕ) (layout : Layout) (end : ℕ) (result : Ret) (Back : Doing → Outer → X → Type 0)
+module _ (X : Type 0) (turn : X → X) (see : X → Seen) (stack heap most words : ℕ) (layout : Layout) (end : ℕ) (result : Ret)
+    (Back : Doing → Outer → X → Type 0)
     (stub : IsStub X turn see stack heap layout end result Back) where
   abbrev pub IsOver : ℕ → Run → ℕ → X → Type 0
   IsOver n r = Over X see most words n (seen_of r) r.left
 
-  just : {n : ℕ} (r : Run) {left count : ℕ} {y : X} (P : X → Type 0) → r.left ≡ left → (P y → see y ≡ seen_of r) → Spends most words n left P count y → IsOver n r count y
+  just : {n : ℕ} (r : Run) {left count : ℕ} {y : X} (P : X → Type 0) → r.left ≡ left → (P y → see y ≡ seen_of r) → Spends most words n left P count y →
+      IsOver n r count y
   just r {count = count} P is to s =
       let no = s.no_more in
       let en = s.enough in
       let up = s.upper in
-      record { units = s.units; no_more = omega (arith, no, is); enough = omega (arith, en, is); lower = s.lower; c = count; d = 0; is = omega arith; upper = omega (arith, up); two = omega arith; at = to s.at }
+      record {
+        units = s.units;
+        no_more = omega (arith, no, is);
+        enough = omega (arith, en, is);
+        lower = s.lower;
+        c = count;
+        d = 0;
+        is = omega arith;
+        upper = omega (arith, up);
+        two = omega arith;
+        at = to s.at;
+      }
 
   given_fits : {v : Option Value} {h : Here} {u : World} → GivesFit end result (Gives v h u) → FitsResult end result v
   given_fits (gives_fit fit) = fit
@@ -204,24 +231,51 @@ module _ (X : Type 0) (turn : X → X) (see : X → Seen) (stack heap most words
   raise_fits (raised_fits fit) = fit
 
   -- what the machine does for the whole run is what is told of it
-  pub told_of : (w : World) (x : X) (e : Evaluation) → GivesFit end result e → RaisedFits end e → Does X turn see stack heap most words Back w x e → IsProper (finished layout e).outcome →
+  pub told_of : (w : World) (x : X) (e : Evaluation) → GivesFit end result e → RaisedFits end e → Does X turn see stack heap most words Back w x e →
+      IsProper (finished layout e).outcome →
       Comes X turn see stack heap (finished layout e).stack_need (finished layout e).heap_need (finished layout e).calls (IsOver w.left (finished layout e)) x
   told_of w x (Gives v h u) fit raised c proper =
       comes_on X turn see stack heap x (omega arith) (omega arith) (Begins-same u.made) c (λ c1 y spends.
-      comes_map X turn see stack heap y (omega arith) (omega arith) (Begins-same u.made) (stub.returned v u.memory (outer_of u) y (given_fits fit) spends.at) (λ d z near.
+      comes_map X turn see stack heap y (omega arith) (omega arith) (Begins-same u.made)
+      (stub.returned v u.memory (outer_of u) y (given_fits fit) spends.at) (λ d z near.
       let lo = spends.lower in
       let up = spends.upper in
-      record { units = spends.units; no_more = spends.no_more; enough = spends.enough; lower = omega (arith, lo); c = c1; d = d; is = refl; upper = omega (arith, up); two = near.upper; at = near.at }))
+      record {
+        units = spends.units;
+        no_more = spends.no_more;
+        enough = spends.enough;
+        lower = omega (arith, lo);
+        c = c1;
+        d = d;
+        is = refl;
+        upper = omega (arith, up);
+        two = near.upper;
+        at = near.at;
+      }))
   told_of w x (Raises v h u) fit raised c proper =
       comes_on X turn see stack heap x (omega arith) (omega arith) (Begins-same u.made) c (λ c1 y spends.
-      comes_map X turn see stack heap y (omega arith) (omega arith) (Begins-same u.made) (stub.raised v u.memory (outer_of u) y (raise_fits raised) spends.at) (λ d z near.
+      comes_map X turn see stack heap y (omega arith) (omega arith) (Begins-same u.made)
+      (stub.raised v u.memory (outer_of u) y (raise_fits raised) spends.at) (λ d z near.
       let lo = spends.lower in
       let up = spends.upper in
-      record { units = spends.units; no_more = spends.no_more; enough = spends.enough; lower = omega (arith, lo); c = c1; d = d; is = refl; upper = omega (arith, up); two = near.upper; at = near.at }))
+      record {
+        units = spends.units;
+        no_more = spends.no_more;
+        enough = spends.enough;
+        lower = omega (arith, lo);
+        c = c1;
+        d = d;
+        is = refl;
+        upper = omega (arith, up);
+        two = near.upper;
+        at = near.at;
+      }))
   told_of w x (Stops OutOfFuel u) fit raised c proper =
-      comes_map X turn see stack heap x (omega arith) (omega arith) (Begins-same u.made) c (λ d y s. just (finished layout (Stops OutOfFuel u)) _ refl (λ at. at) s)
+      comes_map X turn see stack heap x (omega arith) (omega arith) (Begins-same u.made) c
+      (λ d y s. just (finished layout (Stops OutOfFuel u)) _ refl (λ at. at) s)
   told_of w x (Stops (NoAnswer call) u) fit raised c proper =
-      comes_map X turn see stack heap x (omega arith) (omega arith) (Begins-same u.made) c (λ d y s. just (finished layout (Stops (NoAnswer call) u)) _ refl (λ at. at) s)
+      comes_map X turn see stack heap x (omega arith) (omega arith) (Begins-same u.made) c
+      (λ d y s. just (finished layout (Stops (NoAnswer call) u)) _ refl (λ at. at) s)
   told_of w x (Stops (NotProper kind) u) fit raised c proper = absurd proper
   told_of w x (Stops (Asking call) u) fit raised c proper = absurd proper
   told_of w x (Exits label values h u) fit raised c proper = absurd proper

@@ -25,7 +25,8 @@ with_doings more w = record w { doings = w.doings ++ more }
 
 pub data Fewer (more : List Doing) : Evaluation → Evaluation → Type 0 where
   same_end : (e : Evaluation) → Fewer more e (in_world (with_doings more) e)
-  asks_here : {call : Asked} {w : World} {e : Evaluation} → w.doings ≡ [] → Begins (w.asked ++ call ∷ []) (world_of e).asked → Fewer more (Stops (Asking call) w) e
+  asks_here : {call : Asked} {w : World} {e : Evaluation} → w.doings ≡ [] → Begins (w.asked ++ call ∷ []) (world_of e).asked →
+      Fewer more (Stops (Asking call) w) e
   -- what is handed in for it is no such thing
   refuses : {call : Asked} {kind : Kind} {w u : World} → u.doings ≢ [] → Fewer more (Stops (Asking call) w) (Stops (NotProper kind) u)
 
@@ -36,7 +37,8 @@ begins_trans : {a b c : List Asked} → Begins a b → Begins b c → Begins a c
 begins_trans {a} p q =
     record { further = p.further ++ q.further; is = q.is ∙ ap (λ l. l ++ q.further) p.is ∙ append_assoc a p.further q.further }
 
-after_asked : (asked : List Asked) (call : Asked) (go : Doing → World → Evaluation) → ((d : Doing) (v : World) → Begins v.asked (world_of (go d v)).asked) → (e : Evaluation) →
+after_asked : (asked : List Asked) (call : Asked) (go : Doing → World → Evaluation) →
+    ((d : Doing) (v : World) → Begins v.asked (world_of (go d v)).asked) → (e : Evaluation) →
     Begins (asked ++ call ∷ []) (world_of e).asked → Begins (asked ++ call ∷ []) (world_of (after_call go e)).asked
 after_asked asked call go on (Gives v h w) b = begins_trans b (on (Gave v w.memory) w)
 after_asked asked call go on (Exits label values h w) b = b
@@ -54,7 +56,8 @@ inside_fewer end (Threw v memory ∷ more) call [] w e = by (fits end ty.Val v)
         Fewer (Threw v memory ∷ more) (Stops (Asking call) w) (cond fit (Raises v nobody after) (Stops (NotProper (misfit ty.Val)) after))
     by true = asks_here e (begins_same (w.asked ++ call ∷ []))
     by false = asks_here e (begins_same (w.asked ++ call ∷ []))
-inside_fewer end more call (Gave v memory ∷ doings) w e = same_end (Gives v nobody (record w { memory = memory; asked = w.asked ++ call ∷ []; doings = doings }))
+inside_fewer end more call (Gave v memory ∷ doings) w e = same_end (Gives v nobody
+    (record w { memory = memory; asked = w.asked ++ call ∷ []; doings = doings }))
 inside_fewer end more call (Threw v memory ∷ doings) w e = by (fits end ty.Val v)
   where
     by : (fit : Bool) →
@@ -95,7 +98,8 @@ spend_fewer : (more : List Doing) (n : ℕ) (w : World) (go : World → Evaluati
 spend_fewer more zero w go same = same_end (Stops OutOfFuel w)
 spend_fewer more (suc n) w go same = same (record w { left = n })
 
-left_after : (go : Doing → World → Evaluation) → ((d : Doing) (v : World) → Begins v.asked (world_of (go d v)).asked) → (more : List Doing) {e longer : Evaluation} →
+left_after : (go : Doing → World → Evaluation) → ((d : Doing) (v : World) → Begins v.asked (world_of (go d v)).asked) →
+    (more : List Doing) {e longer : Evaluation} →
     ((d : Doing) (v : World) → Fewer more (go d v) (go d (with_doings more v))) →
     Fewer more e longer → Fewer more (after_call go e) (after_call go longer)
 left_after go on more same (same_end e) = by e
@@ -113,12 +117,14 @@ left_after go on more same (refuses n) = refuses n
 abbrev pub Counts : World → Evaluation → Type 0
 Counts w e = length (world_of e).asked + length (world_of e).doings ≡ length w.asked + length w.doings
 
-one_taken : (asked : List Asked) (call : Asked) (d : Doing) (doings : List Doing) → length (asked ++ call ∷ []) + length doings ≡ length asked + length (d ∷ doings)
+one_taken : (asked : List Asked) (call : Asked) (d : Doing) (doings : List Doing) →
+    length (asked ++ call ∷ []) + length doings ≡ length asked + length (d ∷ doings)
 one_taken asked call d doings = let e = length-append asked (call ∷ []) in omega (arith, e)
 
 inside_counts : (end : ℕ) (call : Asked) (doings : List Doing) (w : World) → w.doings ≡ doings → Counts w (done_inside end call doings w)
 inside_counts end call [] w e = refl
-inside_counts end call (Gave v memory ∷ doings) w e = one_taken w.asked call (Gave v memory) doings ∙ ap (λ (l : List Doing). length w.asked + length l) (sym e)
+inside_counts end call (Gave v memory ∷ doings) w e = one_taken w.asked call (Gave v memory) doings
+    ∙ ap (λ (l : List Doing). length w.asked + length l) (sym e)
 inside_counts end call (Threw v memory ∷ doings) w e = by (fits end ty.Val v)
   where
     by : (fit : Bool) →
@@ -127,9 +133,11 @@ inside_counts end call (Threw v memory ∷ doings) w e = by (fits end ty.Val v)
     by true = one_taken w.asked call (Threw v memory) doings ∙ ap (λ (l : List Doing). length w.asked + length l) (sym e)
     by false = one_taken w.asked call (Threw v memory) doings ∙ ap (λ (l : List Doing). length w.asked + length l) (sym e)
 
-outside_counts : (end : ℕ) (frame : Bool) (call : Asked) (doings : List Doing) (w : World) → w.doings ≡ doings → Counts w (done_outside end frame call doings w)
+outside_counts : (end : ℕ) (frame : Bool) (call : Asked) (doings : List Doing) (w : World) → w.doings ≡ doings →
+    Counts w (done_outside end frame call doings w)
 outside_counts end frame call [] w e = refl
-outside_counts end frame call (Gave v memory ∷ doings) w e = one_taken w.asked call (Gave v memory) doings ∙ ap (λ (l : List Doing). length w.asked + length l) (sym e)
+outside_counts end frame call (Gave v memory ∷ doings) w e = one_taken w.asked call (Gave v memory) doings
+    ∙ ap (λ (l : List Doing). length w.asked + length l) (sym e)
 outside_counts end true call (Threw v memory ∷ doings) w e = by (fits end ty.Val v)
   where
     by : (fit : Bool) →
@@ -139,7 +147,8 @@ outside_counts end true call (Threw v memory ∷ doings) w e = by (fits end ty.V
     by false = one_taken w.asked call (Threw v memory) doings ∙ ap (λ (l : List Doing). length w.asked + length l) (sym e)
 outside_counts end false call (Threw v memory ∷ doings) w e = refl
 
-after_counts : (w : World) (go : Doing → World → Evaluation) → ((d : Doing) (v : World) → Counts v (go d v)) → (e : Evaluation) → Counts w e → Counts w (after_call go e)
+after_counts : (w : World) (go : Doing → World → Evaluation) → ((d : Doing) (v : World) → Counts v (go d v)) → (e : Evaluation) → Counts w e →
+    Counts w (after_call go e)
 after_counts w go on (Gives v h u) b = on (Gave v u.memory) u ∙ b
 after_counts w go on (Exits label values h u) b = b
 after_counts w go on (Raises v h u) b = on (Threw v u.memory) u ∙ b
@@ -175,11 +184,13 @@ module _ (end : ℕ) (symbol : List ℕ → Option Value) (parameters : List (Li
   played_counts (Ends (Giving v h memory)) w = refl
   played_counts (Ends (Exiting label values h memory)) w = refl
   played_counts (Ends (Raising v h memory)) w = refl
-  played_counts (Pays memory rest) w = spend_counts w.left (record w { memory = memory }) (λ v. played (lonely end symbol parameters) rest v) (λ v. played_counts rest v)
+  played_counts (Pays memory rest) w = spend_counts w.left (record w { memory = memory }) (λ v. played (lonely end symbol parameters) rest v)
+      (λ v. played_counts rest v)
   played_counts (Deepens bytes rest) w = played_counts rest (deepened bytes w)
   played_counts (Jumps rest) w = played_counts rest w
   played_counts (Calls call memory go) w =
-      after_counts w (λ d v. played (lonely end symbol parameters) (go d) v) (λ d v. played_counts (go d) v) (done_inside end (asked_inside call memory) w.doings (record w { memory = memory }))
+      after_counts w (λ d v. played (lonely end symbol parameters) (go d) v) (λ d v. played_counts (go d) v)
+      (done_inside end (asked_inside call memory) w.doings (record w { memory = memory }))
       (inside_counts end (asked_inside call memory) w.doings (record w { memory = memory }) refl)
   played_counts (CallsOut row frame arguments memory go) w =
       after_counts w (λ d v. played (lonely end symbol parameters) (go d) v) (λ d v. played_counts (go d) v)
@@ -192,12 +203,14 @@ module _ (end : ℕ) (symbol : List ℕ → Option Value) (parameters : List (Li
     abbrev d : Does
     d = function_does (record { end = end; symbol = symbol; parameters = parameters }) n frame f arguments below memory
 
-    plays : (doings : List Doing) → played (lonely end symbol parameters) d (lone_world memory doings n) ≡ alone end symbol parameters frame f arguments below memory doings n
+    plays : (doings : List Doing) → played (lonely end symbol parameters) d (lone_world memory doings n) ≡ alone end symbol parameters frame f arguments
+        below memory doings n
     plays doings = alone_plays end symbol parameters n frame f arguments below memory doings n (omega arith)
 
     -- One function alone, on some doings and on more behind them.
     pub alone_fewer : (doings more : List Doing) →
-        Fewer more (alone end symbol parameters frame f arguments below memory doings n) (alone end symbol parameters frame f arguments below memory (doings ++ more) n)
+        Fewer more (alone end symbol parameters frame f arguments below memory doings n)
+        (alone end symbol parameters frame f arguments below memory (doings ++ more) n)
     alone_fewer doings more =
         subst (λ (e : Evaluation). Fewer more e (alone end symbol parameters frame f arguments below memory (doings ++ more) n)) (plays doings)
         (subst (λ (e : Evaluation). Fewer more (played (lonely end symbol parameters) d (lone_world memory doings n)) e) (plays (doings ++ more))

@@ -127,14 +127,16 @@ module _ (S : Type 0) (p : Program S) (pace : Words S) (file : FileTree) (layout
       Does X turn see stack heap most words (Back a) v x (callees file layout (suc v.left) call v)
 
   -- what the machine does for a call of a function that came back
-  pub came_so : (a : Below) (w : World) (x : X) {u : World} {e : Evaluation} {d : Doing} → CameBack e d u → Does X turn see stack heap most words (Back a) w x e →
+  pub came_so : (a : Below) (w : World) (x : X) {u : World} {e : Evaluation} {d : Doing} → CameBack e d u →
+      Does X turn see stack heap most words (Back a) w x e →
       Comes X turn see stack heap u.stack_need (heap_need u.memory) u.made (Spends most words w.left u.left (Back a d (outer_of u))) x
   came_so a w x gave does = does
   came_so a w x threw does = does
 
   out_so : (f below cost : ℕ) (a : Below) (go : Doing → Step S) (x : X) {u : World} {e : Evaluation} {d : Doing} → CameBack e d u →
       CarriesOutside S p pace file layout X turn see stack heap Below At Entry Back cost f below a go x e →
-      Comes X turn see stack heap 0 (heap_need u.memory) u.made (Near 1 cost (IsAfter S p pace file layout X turn see stack heap Below At Entry Back a f below (go d) (outer_of u))) x
+      Comes X turn see stack heap 0 (heap_need u.memory) u.made (Near 1 cost
+      (IsAfter S p pace file layout X turn see stack heap Below At Entry Back a f below (go d) (outer_of u))) x
   out_so f below cost a go x gave c = c
   out_so f below cost a go x threw c = c
 
@@ -158,7 +160,8 @@ module _ (S : Type 0) (p : Program S) (pace : Words S) (file : FileTree) (layout
         IsMoving (runs (p.step f c) k s (tally asked calls units need)) → IsReached S p f c s → p.stack c s ≤ need → At a f below s (outer_of w) x →
         Reaches a f below last calls units 0 (pace.ahead f s) (runs (p.step f c) k s (tally asked calls units need)) x
 
-    facts_of : (k : ℕ) (s : S) (w last : World) (calls : List Came) (asked : List Asked) (units need : ℕ) → CallsBetween (whole file layout) bound w calls last →
+    facts_of : (k : ℕ) (s : S) (w last : World) (calls : List Came) (asked : List Asked) (units need : ℕ) →
+        CallsBetween (whole file layout) bound w calls last →
         (tally_of (runs (p.step f c) k s (tally asked calls units need))).asked ≡ asked ++ map asked_by calls →
         IsMoving (runs (p.step f c) k s (tally asked calls units need)) →
         Facts S p (p.step f c) need (p.heap s) (units + units_called calls) (runs (p.step f c) k s (tally asked calls units need))
@@ -194,7 +197,16 @@ module _ (S : Type 0) (p : Program S) (pace : Words S) (file : FileTree) (layout
         (ih u w last calls asked units need y between given same m (reached u continues) (omega (arith, fit, fits)) at)
         (λ n z took.
         let upper = took.upper in
-        record { theirs = took.theirs; no_more = took.no_more; enough = took.enough; lower = took.lower; spare = took.spare; upper = omega (arith, upper, forth); at = took.at })
+        record {
+          theirs = took.theirs;
+          no_more = took.no_more;
+          enough = took.enough;
+          lower = took.lower;
+          spare = took.spare;
+          upper = omega
+              (arith, upper, forth);
+          at = took.at;
+        })
     after_step k ih (Pays u) stack' heap' left g forth reached {w} {last} {calls} asked units need y fits between given same m at =
         let fit = g.0 in
         comes_map X turn see stack heap y (omega arith) (omega arith) (Begins-same last.made)
@@ -202,34 +214,56 @@ module _ (S : Type 0) (p : Program S) (pace : Words S) (file : FileTree) (layout
         (λ n z took.
         let upper = took.upper in
         let lower = took.lower in
-        record { theirs = took.theirs; no_more = took.no_more; enough = took.enough; lower = omega (arith, lower); spare = took.spare; upper = omega (arith, upper, forth); at = took.at })
+        record {
+          theirs = took.theirs;
+          no_more = took.no_more;
+          enough = took.enough;
+          lower = omega (arith, lower);
+          spare = took.spare;
+          upper = omega
+              (arith, upper, forth);
+          at = took.at;
+        })
     after_step k ih (Deepens bytes u) stack' heap' left g forth reached {w} {last} {calls} asked units need y fits between given same m at =
         let fit = g.0 in
         comes_map X turn see stack heap y (omega arith) (omega arith) (Begins-same last.made)
         (ih u w last calls asked units (max need bytes) y between given same m (reached u deepens) (omega (arith, fit, fits)) at)
         (λ n z took.
         let upper = took.upper in
-        record { theirs = took.theirs; no_more = took.no_more; enough = took.enough; lower = took.lower; spare = took.spare; upper = omega (arith, upper, forth); at = took.at })
+        record {
+          theirs = took.theirs;
+          no_more = took.no_more;
+          enough = took.enough;
+          lower = took.lower;
+          spare = took.spare;
+          upper = omega
+              (arith, upper, forth);
+          at = took.at;
+        })
     after_step k ih (Waits call go) stack' heap' left g forth reached asked units need y fits between given same m at = absurd at
     after_step k ih (FinishesBy call kept) stack' heap' left g forth reached asked units need y fits between given same m at = absurd at
     after_step k ih (Finishes d) stack' heap' left g forth reached asked units need y fits (no_more o) given same m at =
         at_end d units 0 left (tally asked [] units need) y o (omega arith) at
-    after_step k ih (Finishes d) stack' heap' left g forth reached asked units need y fits (next {c = came} {calls = calls} o fewer fit did later rest) given same m at =
+    after_step k ih (Finishes d) stack' heap' left g forth reached asked units need y fits (next {c = came} {calls = calls} o fewer fit did later rest)
+        given same m at =
         absurd (no_longer asked (asked_by came) (map asked_by calls) same)
     after_step k ih (FinishesRaising d) stack' heap' left g forth reached asked units need y fits (no_more o) given same m at =
         at_end d units 1 left (tally asked [] (suc units) need) y o (omega arith) at
-    after_step k ih (FinishesRaising d) stack' heap' left g forth reached asked units need y fits (next {c = came} {calls = calls} o fewer fit did later rest) given same m at =
+    after_step k ih (FinishesRaising d) stack' heap' left g forth reached asked units need y fits
+        (next {c = came} {calls = calls} o fewer fit did later rest) given same m at =
         absurd (no_longer asked (asked_by came) (map asked_by calls) same)
     after_step k ih IsStuck stack' heap' left g forth reached asked units need y fits between given same m at = absurd m
 
     -- ---- a step that makes no call
 
     made_step : (k : ℕ) → LinkOf k → (x : Step S) (stack' heap' cost left ahead : ℕ) → cost + left ≤ ahead → IsRegularStep S p c stack' heap' x →
-        StepForward S words (pace.ahead f) left x → ((u : S) → LeadsTo S u x → IsReached S p f c u) → (w last : World) (calls : List Came) (asked : List Asked) (units need : ℕ)
+        StepForward S words (pace.ahead f) left x → ((u : S) → LeadsTo S u x → IsReached S p f c u) →
+        (w last : World) (calls : List Came) (asked : List Asked) (units need : ℕ)
         (y : X) → stack' ≤ need → CallsBetween (whole file layout) bound w calls last → AllGiven IsGiven calls →
         (tally_of (onward (runs (p.step f c) k) x (tally asked calls units need))).asked ≡ asked ++ map asked_by calls →
         IsMoving (onward (runs (p.step f c) k) x (tally asked calls units need)) → (s h : ℕ) →
-        s ≤ (tally_of (onward (runs (p.step f c) k) x (tally asked calls units need))).need → h ≤ top_heap p (onward (runs (p.step f c) k) x (tally asked calls units need)) →
+        s ≤ (tally_of (onward (runs (p.step f c) k) x (tally asked calls units need))).need →
+        h ≤ top_heap p (onward (runs (p.step f c) k) x (tally asked calls units need)) →
         Comes X turn see stack heap s h w.made (Near (paid_by x) cost (After x (outer_of w))) y →
         Reaches a f below last calls units 0 ahead (onward (runs (p.step f c) k) x (tally asked calls units need)) y
     made_step k ih x stack' heap' cost left ahead room g forth reached w last calls asked units need y fits between given same m s h st hp comes =
@@ -293,9 +327,11 @@ module _ (S : Type 0) (p : Program S) (pace : Words S) (file : FileTree) (layout
         }))
 
     outside_served : (cost : ℕ) (row : External) (frame : Bool) (arguments : List Value) (before : World) (x : X) (go : Doing → Step S) →
-        CarriesOutside S p pace file layout X turn see stack heap Below At Entry Back cost f below a go x (outside (data_end file) layout row frame arguments before) →
+        CarriesOutside S p pace file layout X turn see stack heap Below At Entry Back cost f below a go x
+        (outside (data_end file) layout row frame arguments before) →
         {d : Doing} {after : World} → CameBack (outside (data_end file) layout row frame arguments before) d after →
-        Comes X turn see stack heap after.stack_need (heap_need after.memory) after.made (Served 0 cost before.left after.left (After (go d) (outer_of after))) x
+        Comes X turn see stack heap after.stack_need (heap_need after.memory) after.made
+        (Served 0 cost before.left after.left (After (go d) (outer_of after))) x
     outside_served cost row frame arguments before x go carries {d} {after} did =
         let e = answered_left ((whole_calls_fit file layout).answers row frame arguments before) in
         let b = back_left did in
@@ -312,7 +348,8 @@ module _ (S : Type 0) (p : Program S) (pace : Words S) (file : FileTree) (layout
           at = near.at;
         })
 
-    asks_last : (cost ahead : ℕ) → cost ≤ ahead → {w last : World} (asked : List Asked) (units need : ℕ) (y : X) → OnItsOwn w last → (call : Asked) (go : Doing → Step S) (callee : Callee) →
+    asks_last : (cost ahead : ℕ) → cost ≤ ahead → {w last : World} (asked : List Asked) (units need : ℕ) (y : X) → OnItsOwn w last →
+        (call : Asked) (go : Doing → Step S) (callee : Callee) →
         call.callee ≡ callee → CarriesAsked S p pace file layout X turn see stack heap Below At Entry Back cost f below a call go callee (outer_of w) y →
         Reaches a f below last [] units 0 ahead (Asking call (tally asked [] units need)) y
     asks_last cost ahead room {w} {last} asked units need y o call go (Inside callee) e carries =
@@ -355,21 +392,25 @@ module _ (S : Type 0) (p : Program S) (pace : Words S) (file : FileTree) (layout
     -- it goes on behind a call that came back
     goes_on : (k : ℕ) → LinkOf k → (call : Asked) (go : Doing → Step S) (stack' heap' cost left ahead : ℕ) → cost + left ≤ ahead →
         IsRegularStep S p c stack' heap' (Waits call go) → StepForward S words (pace.ahead f) left (Waits call go) →
-        ((u : S) → LeadsTo S u (Waits call go) → IsReached S p f c u) → (last : World) (came : Came) (calls : List Came) (asked : List Asked) (units need : ℕ) (y : X) →
+        ((u : S) → LeadsTo S u (Waits call go) → IsReached S p f c u) →
+        (last : World) (came : Came) (calls : List Came) (asked : List Asked) (units need : ℕ) (y : X) →
         stack' ≤ need → CallsBetween (whole file layout) bound came.after calls last → AllGiven IsGiven calls →
         heap_need call.memory ≤ heap_need (memory_after came.doing) → call ≡ asked_by came →
-        (tally_of (onward (runs (p.step f c) k) (go came.doing) (tally (asked ++ call ∷ []) calls (units_of call.callee units) need))).asked ≡ (asked ++ call ∷ []) ++ map asked_by calls →
+        (tally_of (onward (runs (p.step f c) k) (go came.doing) (tally (asked ++ call ∷ []) calls (units_of call.callee units) need))).asked ≡
+        (asked ++ call ∷ []) ++ map asked_by calls →
         IsMoving (onward (runs (p.step f c) k) (go came.doing) (tally (asked ++ call ∷ []) calls (units_of call.callee units) need)) →
         Comes X turn see stack heap came.after.stack_need (heap_need came.after.memory) came.after.made
         (Served (unit_of call.callee) cost came.before.left came.after.left (After (go came.doing) (outer_of came.after))) y →
-        Reaches a f below last (came ∷ calls) units 0 ahead (onward (runs (p.step f c) k) (go came.doing) (tally (asked ++ call ∷ []) calls (units_of call.callee units) need)) y
+        Reaches a f below last (came ∷ calls) units 0 ahead (onward (runs (p.step f c) k) (go came.doing)
+        (tally (asked ++ call ∷ []) calls (units_of call.callee units) need)) y
     goes_on k ih call go stack' heap' cost left ahead room g forth reached last came calls asked units need y fits rest given grown head same m comes =
         let onto = called_later rest in
         let unit_is : unit_of (asked_by came).callee ≡ unit_of call.callee = ap (λ (q : Asked). unit_of q.callee) (sym head) in
         let one = units_came call.callee units in
         let paid : paid_by (go came.doing) + unit_of call.callee ≤ 1 = g.1 came.doing in
         let more = behind_room call.callee left in
-        comes_on X turn see stack heap y (let st = onto.onward.stack in omega (arith, st)) (let hp = extends_need onto.onward.memory in omega (arith, hp)) onto.onward.calls comes
+        comes_on X turn see stack heap y (let st = onto.onward.stack in omega (arith, st))
+        (let hp = extends_need onto.onward.memory in omega (arith, hp)) onto.onward.calls comes
         (λ n z served.
         comes_map X turn see stack heap z (omega arith) (omega arith) (Begins-same last.made)
         (after_step k ih (go came.doing) stack' heap' (left_behind S words (pace.ahead f) call.callee left) (g.2 came.doing grown) (forth came.doing)
@@ -386,7 +427,8 @@ module _ (S : Type 0) (p : Program S) (pace : Words S) (file : FileTree) (layout
         record {
           theirs = served.units + took.theirs;
           no_more = omega (arith, no, sn);
-          enough = enough_on most (came.before.left - came.after.left) (spent_by calls) served.units (unit_of call.callee) (unit_of (asked_by came).callee) took.theirs (units_called calls) se en unit_is;
+          enough = enough_on most (came.before.left - came.after.left) (spent_by calls) served.units (unit_of call.callee)
+              (unit_of (asked_by came).callee) took.theirs (units_called calls) se en unit_is;
           lower = omega (arith, lower, sl, paid, one);
           spare = took.spare;
           upper =
@@ -406,18 +448,24 @@ module _ (S : Type 0) (p : Program S) (pace : Words S) (file : FileTree) (layout
         Reaches a f below last calls units 0 ahead (onward (runs (p.step f c) k) (Waits call go) (tally asked calls units need)) y
     asks k ih call go stack' heap' cost left ahead room g forth reached asked units need y fits (no_more o) given same m carries =
         asks_last cost ahead (omega (arith, room)) asked units need y o call go call.callee refl carries
-    asks k ih call go stack' heap' cost left ahead room g forth reached {w} {last} asked units need y fits (next {c = came} {calls = calls} o fewer fit did onto rest) given same m carries =
+    asks k ih call go stack' heap' cost left ahead room g forth reached {w} {last} asked units need y fits
+        (next {c = came} {calls = calls} o fewer fit did onto rest) given same m carries =
         let further = onward_further S (runs (p.step f c) k) (λ s t m. runs_further (p.step f c) k s t m) (go came.doing)
         (tally (asked ++ call ∷ []) calls (units_of call.callee units) need) m in
         let at = matched asked call (asked_by came) (map asked_by calls) _ further same in
-        let heap_is : heap_need call.memory ≡ heap_need came.before.memory = ap (λ (q : Asked). heap_need q.memory) at.head ∙ ap heap_need (asked_memory came) in
+        let heap_is : heap_need call.memory ≡ heap_need came.before.memory = ap (λ (q : Asked). heap_need q.memory) at.head
+        ∙ ap heap_need (asked_memory came) in
         let after_is : heap_need (memory_after came.doing) ≡ heap_need came.after.memory = ap heap_need (memory_back did) in
         let later_heap = extends_need onto.onward.memory in
-        goes_on k ih call go stack' heap' cost left ahead room g forth reached last came calls asked units need y fits rest given.1 (omega (arith, heap_is, after_is, later_heap)) at.head at.tail m
-        (by came.call refl fit did given.0 (subst (λ q. CarriesThis cost (Waits q go) (outer_of w) y) at.head carries) (ap (λ (q : Asked). unit_of q.callee) at.head))
+        goes_on k ih call go stack' heap' cost left ahead room g forth reached last came calls asked units need y fits rest given.1
+        (omega (arith, heap_is, after_is, later_heap)) at.head at.tail m
+        (by came.call refl fit did given.0 (subst (λ q. CarriesThis cost (Waits q go) (outer_of w) y) at.head carries)
+        (ap (λ (q : Asked). unit_of q.callee) at.head))
       where
-        by : (q : Call) → came.call ≡ q → FitsCall (whole file layout) q → CameBack (done_by (whole file layout) q came.before) came.doing came.after → IsGivenTo IsGiven q came.before →
-            CarriesThis cost (Waits (asked_in came.before.memory q) go) (outer_of w) y → unit_of call.callee ≡ unit_of (asked_in came.before.memory q).callee →
+        by : (q : Call) → came.call ≡ q → FitsCall (whole file layout) q → CameBack (done_by (whole file layout) q came.before) came.doing came.after →
+            IsGivenTo IsGiven q came.before →
+            CarriesThis cost (Waits (asked_in came.before.memory q) go) (outer_of w) y →
+            unit_of call.callee ≡ unit_of (asked_in came.before.memory q).callee →
             Comes X turn see stack heap came.after.stack_need (heap_need came.after.memory) came.after.made
             (Served (unit_of call.callee) cost came.before.left came.after.left (After (go came.doing) (outer_of came.after))) y
         by (OfFunction called) e (fits_function fit) did known carries unit =
@@ -425,7 +473,8 @@ module _ (S : Type 0) (p : Program S) (pace : Words S) (file : FileTree) (layout
             subst (λ n. Comes X turn see stack heap came.after.stack_need (heap_need came.after.memory) came.after.made
             (Served n cost came.before.left came.after.left (After (go came.doing) (outer_of came.after))) y) (sym unit)
             (function_served cost called came.before y (λ d v z. After (go d) v z) carries.above
-            (subst (λ v. Comes X turn see stack heap 0 0 v.made (Near 1 cost (Entry carries.above called.function called.below called.arguments came.before.memory v)) y) same carries.enters)
+            (subst (λ v. Comes X turn see stack heap 0 0 v.made (Near 1 cost
+            (Entry carries.above called.function called.below called.arguments came.before.memory v)) y) same carries.enters)
             fewer fit known did onto (λ v z back. carries.resumes came.doing v z back))
         by (OfOutside row frame arguments) e fit did known carries unit =
             subst (λ n. Comes X turn see stack heap came.after.stack_need (heap_need came.after.memory) came.after.made
@@ -433,7 +482,8 @@ module _ (S : Type 0) (p : Program S) (pace : Words S) (file : FileTree) (layout
             (outside_served cost row frame arguments came.before y go (carries came.before refl (sym (same_outer o))) did)
 
     -- a call that takes the function's place
-    tail_last : (cost ahead : ℕ) → cost ≤ ahead → {w last : World} (asked : List Asked) (units need : ℕ) (y : X) → OnItsOwn w last → (call : Asked) (callee : Callee) →
+    tail_last : (cost ahead : ℕ) → cost ≤ ahead → {w last : World} (asked : List Asked) (units need : ℕ) (y : X) → OnItsOwn w last →
+        (call : Asked) (callee : Callee) →
         call.callee ≡ callee → CarriesTail S p pace file layout X turn see stack heap Below At Entry Back cost a call callee (outer_of w) y →
         Reaches a f below last [] units 0 ahead (Asking call (tally asked [] units need)) y
     tail_last cost ahead room {w} {last} asked units need y o call (Inside callee) e carries =
@@ -455,7 +505,8 @@ module _ (S : Type 0) (p : Program S) (pace : Words S) (file : FileTree) (layout
         })
     tail_last cost ahead room asked units need y o call (Outside row frame) e carries = absurd carries
 
-    tails : (k : ℕ) (call : Asked) (kept : Ret) (cost ahead : ℕ) → cost ≤ ahead → {w last : World} {calls : List Came} (asked : List Asked) (units need : ℕ) (y : X) →
+    tails : (k : ℕ) (call : Asked) (kept : Ret) (cost ahead : ℕ) → cost ≤ ahead →
+        {w last : World} {calls : List Came} (asked : List Asked) (units need : ℕ) (y : X) →
         CallsBetween (whole file layout) bound w calls last → AllGiven IsGiven calls →
         (tally_of (onward (runs (p.step f c) k) (FinishesBy call kept) (tally asked calls units need))).asked ≡ asked ++ map asked_by calls →
         CarriesThis cost (FinishesBy call kept) (outer_of w) y →
@@ -467,7 +518,8 @@ module _ (S : Type 0) (p : Program S) (pace : Words S) (file : FileTree) (layout
         let unit_is : unit_of (asked_by came).callee ≡ unit_of call.callee = ap (λ (q : Asked). unit_of q.callee) (sym at.head) in
         let one = units_came call.callee units in
         comes_map X turn see stack heap y (let st = own.stack in omega (arith, st)) (let hp = extends_need own.memory in omega (arith, hp)) (own_begins own)
-        (by came.call refl fit did given.0 (subst (λ q. CarriesThis cost (FinishesBy q kept) (outer_of w) y) at.head carries) (ap (λ (q : Asked). unit_of q.callee) at.head))
+        (by came.call refl fit did given.0 (subst (λ q. CarriesThis cost (FinishesBy q kept) (outer_of w) y) at.head carries)
+        (ap (λ (q : Asked). unit_of q.callee) at.head))
         (λ n z served.
         let su = served.upper in
         let sl = served.lower in
@@ -476,11 +528,13 @@ module _ (S : Type 0) (p : Program S) (pace : Words S) (file : FileTree) (layout
         record {
           theirs = served.units + 0;
           no_more = omega (arith, sn);
-          enough = enough_on most (came.before.left - came.after.left) 0 served.units (unit_of call.callee) (unit_of (asked_by came).callee) 0 0 se (omega arith) unit_is;
+          enough = enough_on most (came.before.left - came.after.left) 0 served.units (unit_of call.callee) (unit_of (asked_by came).callee) 0 0 se
+              (omega arith) unit_is;
           lower = omega (arith, sl, one, unit_at_most call.callee);
           spare = 0;
           upper = let q = upper_on words n 0 0 units (units_of call.callee units) (unit_of call.callee) (unit_of (asked_by came).callee) cost 0
-              (words * unit_of call.callee) ahead served.units 0 0 (units_of call.callee units) su (omega arith) (omega (arith, room)) (omega arith) one unit_is in
+              (words * unit_of call.callee) ahead served.units 0 0 (units_of call.callee units) su (omega arith) (omega (arith, room)) (omega arith) one
+              unit_is in
               omega (arith, q);
           at = subst (λ q. Back a (kept_of kept came.doing) q z) (same_outer own) (carry.kept a kept came.doing (outer_of came.after) z served.at);
         })
@@ -489,8 +543,10 @@ module _ (S : Type 0) (p : Program S) (pace : Words S) (file : FileTree) (layout
         unit_at_most (Inside callee) = omega arith
         unit_at_most (Outside row frame) = omega arith
 
-        by : (q : Call) → came.call ≡ q → FitsCall (whole file layout) q → CameBack (done_by (whole file layout) q came.before) came.doing came.after → IsGivenTo IsGiven q came.before →
-            CarriesThis cost (FinishesBy (asked_in came.before.memory q) kept) (outer_of w) y → unit_of call.callee ≡ unit_of (asked_in came.before.memory q).callee →
+        by : (q : Call) → came.call ≡ q → FitsCall (whole file layout) q → CameBack (done_by (whole file layout) q came.before) came.doing came.after →
+            IsGivenTo IsGiven q came.before →
+            CarriesThis cost (FinishesBy (asked_in came.before.memory q) kept) (outer_of w) y →
+            unit_of call.callee ≡ unit_of (asked_in came.before.memory q).callee →
             Comes X turn see stack heap came.after.stack_need (heap_need came.after.memory) came.after.made
             (Served (unit_of call.callee) cost came.before.left came.after.left (Back a came.doing (outer_of came.after))) y
         by (OfFunction called) e (fits_function fit) did known carries unit =
@@ -498,17 +554,20 @@ module _ (S : Type 0) (p : Program S) (pace : Words S) (file : FileTree) (layout
             subst (λ n. Comes X turn see stack heap came.after.stack_need (heap_need came.after.memory) came.after.made
             (Served n cost came.before.left came.after.left (Back a came.doing (outer_of came.after))) y) (sym unit)
             (function_served cost called came.before y (λ d v z. Back a d v z) a
-            (subst (λ v. Comes X turn see stack heap 0 0 v.made (Near 1 cost (Entry a called.function called.below called.arguments came.before.memory v)) y) same carries)
+            (subst (λ v. Comes X turn see stack heap 0 0 v.made (Near 1 cost
+            (Entry a called.function called.below called.arguments came.before.memory v)) y) same carries)
             fewer fit known did onto (λ v z back. back))
         by (OfOutside row frame arguments) e fit did known carries unit = absurd carries
-    tails k call kept cost ahead room asked units need y (next {c = came} o fewer fit did onto (next {c = other} {calls = calls} own fewer2 fit2 did2 onto2 rest)) given same carries =
+    tails k call kept cost ahead room asked units need y (next {c = came} o fewer fit did onto
+        (next {c = other} {calls = calls} own fewer2 fit2 did2 onto2 rest)) given same carries =
         let e : call ∷ [] ≡ asked_by came ∷ asked_by other ∷ map asked_by calls = append_cancel_left asked _ _ same in
         absurd (cc)
 
     -- ---- every step
 
     acts : (k : ℕ) → LinkOf k → (x : Step S) (stack' heap' cost left ahead : ℕ) → cost + left ≤ ahead → IsRegularStep S p c stack' heap' x →
-        StepForward S words (pace.ahead f) left x → ((u : S) → LeadsTo S u x → IsReached S p f c u) → (w last : World) (calls : List Came) (asked : List Asked) (units need : ℕ)
+        StepForward S words (pace.ahead f) left x → ((u : S) → LeadsTo S u x → IsReached S p f c u) →
+        (w last : World) (calls : List Came) (asked : List Asked) (units need : ℕ)
         (y : X) → stack' ≤ need → CallsBetween (whole file layout) bound w calls last → AllGiven IsGiven calls →
         (tally_of (onward (runs (p.step f c) k) x (tally asked calls units need))).asked ≡ asked ++ map asked_by calls →
         IsMoving (onward (runs (p.step f c) k) x (tally asked calls units need)) → CarriesThis cost x (outer_of w) y →
@@ -517,31 +576,37 @@ module _ (S : Type 0) (p : Program S) (pace : Words S) (file : FileTree) (layout
         let on = facts_of k u w last calls asked units need between same m in
         let n = on.need in
         let fit = g.0 in
-        made_step k ih (Continues u) stack' heap' cost left ahead room g forth reached w last calls asked units need y fits between given same m (p.stack c u) (p.heap u)
+        made_step k ih (Continues u) stack' heap' cost left ahead room g forth reached w last calls asked units need y fits between given same m
+        (p.stack c u) (p.heap u)
         (omega (arith, n, fit, fits)) on.heap carries
     acts k ih (Pays u) stack' heap' cost left ahead room g forth reached w last calls asked units need y fits between given same m carries =
         let on = facts_of k u w last calls asked (suc units) need between same m in
         let n = on.need in
         let fit = g.0 in
-        made_step k ih (Pays u) stack' heap' cost left ahead room g forth reached w last calls asked units need y fits between given same m (p.stack c u) (p.heap u)
+        made_step k ih (Pays u) stack' heap' cost left ahead room g forth reached w last calls asked units need y fits between given same m
+        (p.stack c u) (p.heap u)
         (omega (arith, n, fit, fits)) on.heap carries
     acts k ih (Deepens bytes u) stack' heap' cost left ahead room g forth reached w last calls asked units need y fits between given same m carries =
         let on = facts_of k u w last calls asked units (max need bytes) between same m in
         let n = on.need in
         let fit = g.0 in
-        made_step k ih (Deepens bytes u) stack' heap' cost left ahead room g forth reached w last calls asked units need y fits between given same m (p.stack c u) (p.heap u)
+        made_step k ih (Deepens bytes u) stack' heap' cost left ahead room g forth reached w last calls asked units need y fits between given same m
+        (p.stack c u) (p.heap u)
         (omega (arith, n, fit, fits)) on.heap carries
     acts k ih (Waits call go) stack' heap' cost left ahead room g forth reached w last calls asked units need y fits between given same m carries =
         asks k ih call go stack' heap' cost left ahead room g forth reached asked units need y fits between given same m carries
     acts k ih (FinishesBy call kept) stack' heap' cost left ahead room g forth reached w last calls asked units need y fits between given same m carries =
         tails k call kept cost ahead (omega (arith, room)) asked units need y between given same carries
     acts k ih (Finishes d) stack' heap' cost left ahead room g forth reached w last calls asked units need y fits between given same m carries =
-        made_step k ih (Finishes d) stack' heap' cost left ahead room g forth reached w last calls asked units need y fits between given same m 0 0 (omega arith) (omega arith) carries
+        made_step k ih (Finishes d) stack' heap' cost left ahead room g forth reached w last calls asked units need y fits between given same m 0 0
+        (omega arith) (omega arith) carries
     acts k ih (FinishesRaising d) stack' heap' cost left ahead room g forth reached w last calls asked units need y fits between given same m carries =
-        made_step k ih (FinishesRaising d) stack' heap' cost left ahead room g forth reached w last calls asked units need y fits between given same m 0 0 (omega arith) (omega arith) carries
+        made_step k ih (FinishesRaising d) stack' heap' cost left ahead room g forth reached w last calls asked units need y fits between given same m 0
+        0 (omega arith) (omega arith) carries
     acts k ih IsStuck stack' heap' cost left ahead room g forth reached w last calls asked units need y fits between given same m carries = absurd m
 
-    stands : (s : S) {w last : World} {calls : List Came} (asked : List Asked) (units need ahead : ℕ) (x : X) → CallsBetween (whole file layout) bound w calls last →
+    stands : (s : S) {w last : World} {calls : List Came} (asked : List Asked) (units need ahead : ℕ) (x : X) →
+        CallsBetween (whole file layout) bound w calls last →
         asked ≡ asked ++ map asked_by calls → At a f below s (outer_of w) x →
         Reaches a f below last calls units 0 ahead (Running s (tally asked calls units need)) x
     stands s {w} {last} asked units need ahead x (no_more o) same at =
@@ -555,13 +620,16 @@ module _ (S : Type 0) (p : Program S) (pace : Words S) (file : FileTree) (layout
           upper = omega arith;
           at = subst (λ z. At a f below s z x) (same_outer o) at;
         })
-    stands s asked units need ahead x (next {c = came} {calls = calls} o fewer fit did onto rest) same at = absurd (no_longer asked (asked_by came) (map asked_by calls) same)
+    stands s asked units need ahead x (next {c = came} {calls = calls} o fewer fit did onto rest) same at = absurd
+        (no_longer asked (asked_by came) (map asked_by calls) same)
 
     -- What a function does by the list of what its calls did, the machine does where it stands before it.
     pub link : (k : ℕ) → LinkOf k
     link zero s w last calls asked units need x between given same m reached fits at = stands s asked units need (pace.ahead f s) x between same at
     link (suc k) s w last calls asked units need x between given same m reached fits at =
         let cost = forward.cost f c s reached in
-        acts k (λ s w last calls asked units need x between given same m reached fits at. link k s w last calls asked units need x between given same m reached fits at) (p.step f c s)
-        (p.stack c s) (p.heap s) (pace.cost f s) (pace.ahead f s - pace.cost f s) (pace.ahead f s) (omega (arith, cost)) (regular.step f c s) (forward.on f c s reached)
+        acts k (λ s w last calls asked units need x between given same m reached fits at. link k s w last calls asked units need x between given same m
+        reached fits at) (p.step f c s)
+        (p.stack c s) (p.heap s) (pace.cost f s) (pace.ahead f s - pace.cost f s) (pace.ahead f s) (omega (arith, cost)) (regular.step f c s)
+        (forward.on f c s reached)
         (λ u to. by_step reached to) w last calls asked units need x fits between given same m (carry.steps a f below s (outer_of w) x reached at)

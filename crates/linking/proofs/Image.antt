@@ -35,11 +35,13 @@ use Rattle.linking.proofs.Directions.{Over, seen_of, told_of, forwards, backward
 use Rattle.linking.proofs.Known.{passed_known}
 use Rattle.linking.proofs.Whole.{AreKnown, does_whole}
 
-forwards_same : (run : ℕ → Run) (one two : ℕ → Seen) (stack heap words : ℕ) → ((m : ℕ) → one m ≡ two m) → Forwards run one stack heap words → Forwards run two stack heap words
+forwards_same : (run : ℕ → Run) (one two : ℕ → Seen) (stack heap words : ℕ) → ((m : ℕ) → one m ≡ two m) → Forwards run one stack heap words →
+    Forwards run two stack heap words
 forwards_same run one two stack heap words e f =
     record { does = λ n given. let d = f.does n given in (d.0, d.1, subst (Alike (run n)) (e d.0) d.2) }
 
-backwards_same : (run : ℕ → Run) (one two : ℕ → Seen) (stack heap : ℕ) → ((m : ℕ) → one m ≡ two m) → Backwards run one stack heap → Backwards run two stack heap
+backwards_same : (run : ℕ → Run) (one two : ℕ → Seen) (stack heap : ℕ) → ((m : ℕ) → one m ≡ two m) → Backwards run one stack heap →
+    Backwards run two stack heap
 backwards_same run one two stack heap e b =
     record {
       calls = λ proper m. let c = b.calls proper m in (c.0, subst (λ (s : Seen). IsFrontOf s.calls (run c.0).calls) (e m) c.1);
@@ -47,7 +49,8 @@ backwards_same run one two stack heap e b =
     }
 
 -- the row of a function has its result
-row_of : (fs : List FunctionTree) (rows : List Func) (k : ℕ) (f : FunctionTree) (row : Func) → AreRowsOf fs rows → slice_get fs k ≡ Some f → slice_get rows k ≡ Some row → IsRowOf f row
+row_of : (fs : List FunctionTree) (rows : List Func) (k : ℕ) (f : FunctionTree) (row : Func) → AreRowsOf fs rows → slice_get fs k ≡ Some f →
+    slice_get rows k ≡ Some row → IsRowOf f row
 row_of [] rows k f row are e d = absurd (cc)
 row_of (g ∷ fs) [] k f row are e d = absurd are
 row_of (g ∷ fs) (r ∷ rows) zero f row are e d =
@@ -62,7 +65,8 @@ module _ (S : Type 0) (p : Program S) (w : Words S) (most words : ℕ) (file : F
     (Entry : Setup → Below → ℕ → ℕ → List Value → Memory → Outer → Now → Type 0)
     (Back : Setup → Below → Doing → Outer → Now → Type 0)
     (a : Assembled S p w most words file image IsGiven IsDone Below At Entry Back) (known : AreKnown file (layout_of image) IsGiven IsDone) where
-  module _ (stack heap : ℕ) (stack_room : IsRoom stack) (heap_room : IsRoom heap) (entry : ℕ) (f : FunctionTree) (row : Func) (args answers : List ℕ) (schedule : Schedule)
+  module _ (stack heap : ℕ) (stack_room : IsRoom stack) (heap_room : IsRoom heap) (entry : ℕ) (f : FunctionTree) (row : Func) (args answers : List ℕ)
+      (schedule : Schedule)
       (entered : Entered file image entry f row args answers) where
     abbrev setup : Setup
     setup = record { stack = stack; heap = heap; stack_room = stack_room; heap_room = heap_room; schedule = schedule; row = row }
@@ -80,19 +84,25 @@ module _ (S : Type 0) (p : Program S) (w : Words S) (most words : ℕ) (file : F
         (a.stub setup entry entered.of_image)
 
     told : (n : ℕ) → IsProper (run n).outcome →
-        Comes Now (next_of schedule) seen stack heap (run n).stack_need (run n).heap_need (run n).calls (Over Now seen most words n (seen_of (run n)) (run n).left)
+        Comes Now (next_of schedule) seen stack heap (run n).stack_need (run n).heap_need (run n).calls
+        (Over Now seen most words n (seen_of (run n)) (run n).left)
         (begun image row args answers stack heap)
     told n proper =
         let world : World = first_world file answers n in
         let e : Evaluation = callees file layout (suc n) (first_call entry args) world in
-        let there : slice_get (map comps_of (functions file)) entry ≡ Some (comps_of f) = slice_get-map comps_of (functions file) entry ∙ ap (option_map comps_of) entered.of_file in
-        let fits : FitsCallee (setting_of (whole file layout)) entry (map Word args) = record { parameters = comps_of f; callee = there; fit = entered.args_fit } in
+        let there : slice_get (map comps_of (functions file)) entry ≡ Some (comps_of f) = slice_get-map comps_of (functions file) entry
+        ∙ ap (option_map comps_of) entered.of_file in
+        let fits : FitsCallee (setting_of (whole file layout)) entry (map Word args) = record
+        { parameters = comps_of f; callee = there; fit = entered.args_fit } in
         let calls : CallsFitAndGrow (whole file layout) = whole_calls_fit file layout in
-        told_of Now (next_of schedule) seen stack heap most words layout (data_end file) (result_of (body_type f)) (λ d o x. Back setup a.bottom d o x) stub_here world
+        told_of Now (next_of schedule) seen stack heap most words layout (data_end file) (result_of (body_type f)) (λ d o x. Back setup a.bottom d o x)
+        stub_here world
         (begun image row args answers stack heap) e (callees_give file layout (suc n) (first_call entry args) f world entered.of_file entered.args_fit)
         (calls.fit (first_call entry args) world)
-        (does_whole S p w file layout Now (next_of schedule) seen stack heap Below (At setup) (Entry setup) (Back setup) most words IsGiven IsDone a.regular a.forward (a.carries setup) a.keeps known
-        (first_call entry args) a.bottom world (begun image row args answers stack heap) fits (a.passed.entry args entered.args_are_words, entered.answers_are_words)
+        (does_whole S p w file layout Now (next_of schedule) seen stack heap Below (At setup) (Entry setup) (Back setup) most words IsGiven IsDone
+        a.regular a.forward (a.carries setup) a.keeps known
+        (first_call entry args) a.bottom world (begun image row args answers stack heap) fits
+        (a.passed.entry args entered.args_are_words, entered.answers_are_words)
         (a.start setup entry args answers f entered))
         proper
 

@@ -49,7 +49,8 @@ mapped_length : {A B : Type 0} (f : A → B) (xs : List A) → length (map f xs)
 mapped_length f [] = refl
 mapped_length f (x ∷ xs) = ap suc (mapped_length f xs)
 
-all_one_more : (P : Doing → Type 0) (done : List Came) (c : Came) → AllByRecursion P (map doing_of done) → P c.doing → AllByRecursion P (map doing_of (done ++ c ∷ []))
+all_one_more : (P : Doing → Type 0) (done : List Came) (c : Came) → AllByRecursion P (map doing_of done) → P c.doing →
+    AllByRecursion P (map doing_of (done ++ c ∷ []))
 all_one_more P [] c all p = (p, tt)
 all_one_more P (x ∷ done) c all p = (all.0, all_one_more P done c all.1 p)
 
@@ -89,13 +90,16 @@ module _ (file : FileTree) (layout : Layout) (IsGiven : List Value → Memory �
 
   outside_known : (row : External) (frame : Bool) (arguments : List Value) (w : World) → IsGiven arguments w.memory → AreWords w.answers →
       {d : Doing} {u : World} → CameBack (outside (data_end file) layout row frame arguments w) d u → BackKnown d u
-  outside_known row true arguments w given words came = frame_known arguments row.result (record { name = row.name; shown = map (observed layout) arguments }) w.answers w given words came
-  outside_known row false arguments w given words came = answered_known arguments row.result (record { name = row.name; shown = map (observed layout) arguments }) w.answers w given words came
+  outside_known row true arguments w given words came = frame_known arguments row.result
+      (record { name = row.name; shown = map (observed layout) arguments }) w.answers w given words came
+  outside_known row false arguments w given words came = answered_known arguments row.result
+      (record { name = row.name; shown = map (observed layout) arguments }) w.answers w given words came
 
   -- ---- one function
 
   -- the call that comes next, where it is asked by the function on what was handed in before it
-  next_known : {more : List Doing} {e run : Evaluation} (done : List Came) (c : Came) (calls : List Came) (d : Doing) (ds : List Doing) → more ≡ d ∷ ds → Fewer more e run →
+  next_known : {more : List Doing} {e run : Evaluation} (done : List Came) (c : Came) (calls : List Came) (d : Doing) (ds : List Doing) →
+      more ≡ d ∷ ds → Fewer more e run →
       IsKnown IsGiven IsDone e → (world_of run).asked ≡ map asked_by (done ++ c ∷ calls) → (world_of run).doings ≡ [] →
       length (world_of e).asked + length (world_of e).doings ≡ length done → IsGiven (asked_by c).arguments (asked_by c).memory
   next_known {more} done c calls d ds is (same_end e) known asked none count =
@@ -110,17 +114,20 @@ module _ (file : FileTree) (layout : Layout) (IsGiven : List Value → Memory �
       let n = mapped_length asked_by done in
       let here : w.asked ++ call ∷ b.further ≡ map asked_by done ++ asked_by c ∷ map asked_by calls =
       sym (append_assoc w.asked (call ∷ []) b.further) ∙ sym b.is ∙ asked ∙ mapped_append asked_by done (c ∷ calls) in
-      let same : call ≡ asked_by c = at_same w.asked (map asked_by done) call (asked_by c) b.further (map asked_by calls) (omega (arith, count, zero_left, n)) here in
+      let same : call ≡ asked_by c = at_same w.asked (map asked_by done) call (asked_by c) b.further (map asked_by calls)
+      (omega (arith, count, zero_left, n)) here in
       subst (λ (q : Asked). IsGiven q.arguments q.memory) same known.1
   next_known done c calls d ds is (refuses n) known asked none count = absurd (n none)
 
   abbrev ServesKnown : ℕ → Type 0
   ServesKnown bound =
-      (call : Called) (v : World) → v.left < bound → FitsCallee (setting_of (whole file layout)) call.function call.arguments → IsGiven call.arguments v.memory → AreWords v.answers →
+      (call : Called) (v : World) → v.left < bound → FitsCallee (setting_of (whole file layout)) call.function call.arguments →
+      IsGiven call.arguments v.memory → AreWords v.answers →
       (d : Doing) (u : World) → CameBack (callees file layout (suc v.left) call v) d u → BackKnown d u
 
   module _ (call : Called) (tree : FunctionTree) (is : slice_get (functions file) call.function ≡ Some tree)
-      (fit : fit_parameters (data_end file) (comps_of tree) call.arguments ≡ true) (w : World) (given : IsGiven call.arguments w.memory) (words : AreWords w.answers)
+      (fit : fit_parameters (data_end file) (comps_of tree) call.arguments ≡ true) (w : World) (given : IsGiven call.arguments w.memory)
+      (words : AreWords w.answers)
       (serves : ServesKnown w.left) where
     abbrev lone : ℕ → List Doing → Evaluation
     lone own doings = function_alone file layout call tree w.memory doings own
@@ -132,7 +139,8 @@ module _ (file : FileTree) (layout : Layout) (IsGiven : List Value → Memory �
     given_so (OfFunction call) v known words = (known, words)
     given_so (OfOutside row frame arguments) v known words = tt
 
-    back_so : (q : Call) (v : World) → v.left < w.left → FitsCall (whole file layout) q → IsGiven (asked_in v.memory q).arguments (asked_in v.memory q).memory → AreWords v.answers →
+    back_so : (q : Call) (v : World) → v.left < w.left → FitsCall (whole file layout) q →
+        IsGiven (asked_in v.memory q).arguments (asked_in v.memory q).memory → AreWords v.answers →
         (d : Doing) (u : World) → CameBack (done_by (whole file layout) q v) d u → BackKnown d u
     back_so (OfFunction call) v fewer (fits_function fit) known words d u came = serves call v fewer fit known words d u came
     back_so (OfOutside row frame arguments) v fewer fit known words d u came = outside_known row frame arguments v known words came
@@ -141,7 +149,8 @@ module _ (file : FileTree) (layout : Layout) (IsGiven : List Value → Memory �
       abbrev Rest : List Came → Type 0
       Rest rest = AllGiven IsGiven rest × AllByRecursion IsDone (map doing_of rest) × AreWords l.last.answers
 
-      known_from : (done : List Came) {rest : List Came} {v last : World} → CallsBetween (whole file layout) w.left v rest last → last ≡ l.last → l.calls ≡ done ++ rest →
+      known_from : (done : List Came) {rest : List Came} {v last : World} → CallsBetween (whole file layout) w.left v rest last → last ≡ l.last →
+          l.calls ≡ done ++ rest →
           AllByRecursion IsDone (map doing_of done) → AreWords v.answers → Rest rest
       known_from done (no_more o) same all known words = (tt, tt, subst (λ (z : World). AreWords z.answers) same (subst AreWords (sym o.answers) words))
       known_from done (next {c = c} {calls = calls} o fewer fit_so did later between) same all known words =
@@ -151,14 +160,18 @@ module _ (file : FileTree) (layout : Layout) (IsGiven : List Value → Memory �
           let run_is : lone l.own (ds ++ more) ≡ l.run = ap (λ (z : List Doing). lone l.own z) (sym whole_doings) ∙ l.is in
           let few : Fewer more (lone l.own ds) l.run =
           subst (λ (z : Evaluation). Fewer more (lone l.own ds) z) run_is
-          (alone_fewer (data_end file) (value_of_symbol file) (map comps_of (functions file)) (slice_index layout.frames call.function) tree call.arguments call.below w.memory l.own ds more) in
-          let count = alone_counts (data_end file) (value_of_symbol file) (map comps_of (functions file)) (slice_index layout.frames call.function) tree call.arguments call.below w.memory l.own ds in
+          (alone_fewer (data_end file) (value_of_symbol file) (map comps_of (functions file)) (slice_index layout.frames call.function) tree
+          call.arguments call.below w.memory l.own ds more) in
+          let count = alone_counts (data_end file) (value_of_symbol file) (map comps_of (functions file)) (slice_index layout.frames call.function) tree
+          call.arguments call.below w.memory l.own ds in
           let n = mapped_length doing_of done in
-          let known_call = next_known done c calls c.doing (map doing_of calls) refl few (lone_known l.own ds known) (l.asked ∙ ap (map asked_by) all) l.taken (omega (arith, count, n)) in
+          let known_call = next_known done c calls c.doing (map doing_of calls) refl few (lone_known l.own ds known) (l.asked ∙ ap (map asked_by) all)
+          l.taken (omega (arith, count, n)) in
           let answers : AreWords c.before.answers = subst AreWords (sym o.answers) words in
           let known_here : IsGiven (asked_in c.before.memory c.call).arguments (asked_in c.before.memory c.call).memory = known_call in
           let back = back_so c.call c.before fewer fit_so known_here answers c.doing c.after did in
-          let rest = known_from (done ++ c ∷ []) between same (all ∙ sym (append_assoc done (c ∷ []) calls)) (all_one_more IsDone done c known back.0) back.1 in
+          let rest = known_from (done ++ c ∷ []) between same (all ∙ sym (append_assoc done (c ∷ []) calls)) (all_one_more IsDone done c known back.0)
+          back.1 in
           ((given_so c.call c.before known_here answers, rest.0), (back.0, rest.1), rest.2)
 
       all_known : Rest l.calls
@@ -175,7 +188,8 @@ module _ (file : FileTree) (layout : Layout) (IsGiven : List Value → Memory �
             last = λ q u z. given_so q l.last ((subst (IsKnown IsGiven IsDone) z run_known).1) all_known.2;
           }
 
-      ends_known : {run all : Evaluation} {d : Doing} {u : World} → EndsSo (whole file layout) w.left l.last run all → CameBack all d u → IsKnown IsGiven IsDone run →
+      ends_known : {run all : Evaluation} {d : Doing} {u : World} → EndsSo (whole file layout) w.left l.last run all → CameBack all d u →
+          IsKnown IsGiven IsDone run →
           (world_of run).memory ≡ l.last.memory → BackKnown d u
       ends_known (links.gives {v = v}) gave known same = (subst (λ m. IsDone (Gave v m)) same known.1, all_known.2)
       ends_known (links.raises {v = v}) threw known same = (subst (λ m. IsDone (Threw v m)) same known.1, all_known.2)

@@ -70,7 +70,8 @@ module _ (S : Type 0) (go : S → Tally → Run S) (on : (s : S) (t : Tally) →
   onward_further (FinishesRaising d) t m = further_same t.asked
   onward_further IsStuck t m = absurd m
 
-pub runs_further : {S : Type 0} (step : S → Step S) (k : ℕ) (s : S) (t : Tally) → IsMoving (runs step k s t) → Further t.asked (tally_of (runs step k s t)).asked
+pub runs_further : {S : Type 0} (step : S → Step S) (k : ℕ) (s : S) (t : Tally) → IsMoving (runs step k s t) →
+    Further t.asked (tally_of (runs step k s t)).asked
 runs_further step zero s t m = further_same t.asked
 runs_further {S} step (suc k) s t m = onward_further S (runs step k) (λ s t m. runs_further step k s t m) (step s) t m
 
@@ -79,7 +80,8 @@ pub record Matched (asked : List Asked) (call : Asked) (c : Asked) (rest all : L
   pub head : call ≡ c
   pub tail : all ≡ (asked ++ call ∷ []) ++ rest
 
-pub matched : (asked : List Asked) (call c : Asked) (rest all : List Asked) → Further (asked ++ call ∷ []) all → all ≡ asked ++ c ∷ rest → Matched asked call c rest all
+pub matched : (asked : List Asked) (call c : Asked) (rest all : List Asked) → Further (asked ++ call ∷ []) all → all ≡ asked ++ c ∷ rest →
+    Matched asked call c rest all
 matched asked call c rest all f e =
     let both : call ∷ f.more ≡ c ∷ rest = append_cancel_left asked (call ∷ f.more) (c ∷ rest) (sym (append_assoc asked (call ∷ []) f.more) ∙ sym f.is ∙ e) in
     let head : call ≡ c = cc in
@@ -117,7 +119,8 @@ module _ (S : Type 0) (p : Program S) (step : S → Step S) where
         IsMoving (runs step k s (tally asked calls units need)) →
         Facts need (p.heap s) (units + units_called calls) (runs step k s (tally asked calls units need))
 
-    grown : (call : Asked) (came : Came) {e : Evaluation} → call ≡ asked_by came → CameBack e came.doing came.after → heap_need came.before.memory ≤ heap_need came.after.memory →
+    grown : (call : Asked) (came : Came) {e : Evaluation} → call ≡ asked_by came → CameBack e came.doing came.after →
+        heap_need came.before.memory ≤ heap_need came.after.memory →
         heap_need call.memory ≤ heap_need (memory_after came.doing)
     grown call came head did le =
         let a : heap_need call.memory ≡ heap_need came.before.memory = ap (λ (q : Asked). heap_need q.memory) head ∙ ap heap_need (asked_memory came) in
@@ -156,9 +159,11 @@ module _ (S : Type 0) (p : Program S) (step : S → Step S) where
         let one = units_came call.callee units in
         let callee : unit_of call.callee ≡ unit_of (asked_by came).callee = ap (λ (q : Asked). unit_of q.callee) at.head in
         let h = grown call came at.head did (extends_need later.onward.memory) in
-        let same_memory : heap_need (memory_after (kept_of kept came.doing)) ≡ heap_need (memory_after came.doing) = ap heap_need (kept_memory kept came.doing) in
+        let same_memory : heap_need (memory_after (kept_of kept came.doing)) ≡ heap_need (memory_after came.doing) = ap heap_need
+        (kept_memory kept came.doing) in
         record { need = omega arith; heap = omega (arith, g, h, same_memory); units = omega (arith, one, callee) }
-    facts_step k ih (FinishesBy call kept) stack heap g asked units need (next {c = came} o fewer fit did later (next {c = other} {calls = calls} own fewer2 fit2 did2 later2 rest)) same m =
+    facts_step k ih (FinishesBy call kept) stack heap g asked units need
+        (next {c = came} o fewer fit did later (next {c = other} {calls = calls} own fewer2 fit2 did2 later2 rest)) same m =
         let e : call ∷ [] ≡ asked_by came ∷ asked_by other ∷ map asked_by calls = append_cancel_left asked _ _ same in
         absurd (cc)
     facts_step k ih (Finishes d) stack heap g asked units need (no_more o) same m =
@@ -175,9 +180,11 @@ module _ (S : Type 0) (p : Program S) (step : S → Step S) where
         asked ≡ asked ++ map asked_by calls →
         Facts need (p.heap s) (units + units_called calls) (runs step 0 s (tally asked calls units need))
     facts_now s asked units need (no_more o) same = record { need = omega arith; heap = omega arith; units = omega arith }
-    facts_now s asked units need (next {c = came} {calls = calls} o fewer fit did later rest) same = absurd (no_longer asked (asked_by came) (map asked_by calls) same)
+    facts_now s asked units need (next {c = came} {calls = calls} o fewer fit did later rest) same = absurd
+        (no_longer asked (asked_by came) (map asked_by calls) same)
 
     pub facts : (k : ℕ) → FactsOf k
     facts zero s w last calls asked units need between same m = facts_now s asked units need between same
     facts (suc k) s w last calls asked units need between same m =
-        facts_step k (λ s w last calls asked units need between same m. facts k s w last calls asked units need between same m) (step s) (p.stack c s) (p.heap s) (regular s) asked units need between same m
+        facts_step k (λ s w last calls asked units need between same m. facts k s w last calls asked units need between same m) (step s) (p.stack c s)
+        (p.heap s) (regular s) asked units need between same m

@@ -96,7 +96,8 @@ moving p (keeps.asks e) = tt
 
 module _ (file : FileTree) (layout : Layout) (IsGiven : List Value → Memory → Type 0) (IsDone : Doing → Type 0) where
   -- its calls are given what is known, and what they did is known
-  pub record KnownLink {bound : ℕ} {lone : List Doing → ℕ → Evaluation} {w : World} {e : Evaluation} (l : Linked (whole file layout) bound lone w e) : Type 0 where
+  pub record KnownLink {bound : ℕ} {lone : List Doing → ℕ → Evaluation} {w : World} {e : Evaluation}
+      (l : Linked (whole file layout) bound lone w e) : Type 0 where
     pub given : AllGiven IsGiven l.calls
     pub done : AllByRecursion IsDone (map doing_of l.calls)
     pub last : (q : Call) (u : World) → l.run ≡ Stops (Asking (asked_in l.last.memory q)) u → IsGivenTo IsGiven q l.last
@@ -145,20 +146,24 @@ module _ (S : Type 0) (p : Program S) (pace : Words S) (file : FileTree) (layout
   reached : (call : Called) (tree : FunctionTree) (is : slice_get (functions file) call.function ≡ Some tree) →
       fit_parameters (data_end file) (comps_of tree) call.arguments ≡ true → (w : World) → ServesHere w.left → IsGiven call.arguments w.memory →
       (a : Below) (x : X) → Entry a call.function call.below call.arguments w.memory (outer_of w) x → {e : Evaluation}
-      (l : Linked (whole file layout) w.left (function_alone file layout call tree w.memory) w e) → KnownLink file layout IsGiven IsDone l → IsProperEnd l.run →
+      (l : Linked (whole file layout) w.left (function_alone file layout call tree w.memory) w e) → KnownLink file layout IsGiven IsDone l →
+      IsProperEnd l.run →
       Reached a call.function call.below w l.last l.calls l.own l.run x
   reached call tree is fit w serves given a x entry l know ok =
       let c : Place = place_in file layout call.function call.below in
       let doings : List Doing = map doing_of l.calls in
       let lone : Evaluation = function_alone file layout call tree w.memory doings l.own in
-      let handed : AreHanded file (world_of lone).asked doings = subst (λ (e : Evaluation). AreHanded file (world_of e).asked doings) (sym l.is) (linked_handed file layout l) in
-      let runs_so = keep.runs call.function tree is call.arguments fit call.below w.memory doings l.own given know.done (subst IsProperEnd (sym l.is) ok) handed in
+      let handed : AreHanded file (world_of lone).asked doings = subst (λ (e : Evaluation). AreHanded file (world_of e).asked doings) (sym l.is)
+      (linked_handed file layout l) in
+      let runs_so = keep.runs call.function tree is call.arguments fit call.below w.memory doings l.own given know.done
+      (subst IsProperEnd (sym l.is) ok) handed in
       let r : Run S = runs (p.step call.function c) runs_so.steps runs_so.begun (first_tally c doings) in
       let same : Same S p most l.own l.run r = subst (λ (e : Evaluation). Same S p most l.own e r) l.is runs_so.same in
       let m : IsMoving r = moving p same.end in
       let calls : (tally_of r).asked ≡ map asked_by l.calls = same.calls ∙ l.asked in
       let fits = regular.start call.function c call.arguments w.memory runs_so.begun runs_so.begins in
-      let fact = facts S p (p.step call.function c) c (λ s. regular.step call.function c s) (whole file layout) w.left runs_so.steps runs_so.begun w l.last l.calls [] 0 (c.below + c.frame) l.called calls m in
+      let fact = facts S p (p.step call.function c) c (λ s. regular.step call.function c s) (whole file layout) w.left runs_so.steps runs_so.begun w
+      l.last l.calls [] 0 (c.below + c.frame) l.called calls m in
       let forth = forward.enter call.function c call.arguments w.memory runs_so.begun runs_so.begins in
       let onto = called_later l.called in
       let counted = fact.units in
@@ -171,7 +176,8 @@ module _ (S : Type 0) (p : Program S) (pace : Words S) (file : FileTree) (layout
             (carry.enters a call.function call.below call.arguments w.memory runs_so.begun (outer_of w) x runs_so.begins entry)
             (λ n y near.
             comes_map X turn see stack heap y (omega arith) (omega arith) (Begins-same l.last.made)
-            (link S p pace file layout X turn see stack heap Below At Entry Back most words IsGiven regular forward carry w.left serves a call.function call.below runs_so.steps
+            (link S p pace file layout X turn see stack heap Below At Entry Back most words IsGiven regular forward carry w.left serves a call.function
+            call.below runs_so.steps
             runs_so.begun w l.last l.calls [] 0 (c.below + c.frame) y l.called know.given calls m (at_start runs_so.begins) fits near.at)
             (λ d z took.
             let few = near.upper in
@@ -209,11 +215,13 @@ module _ (S : Type 0) (p : Program S) (pace : Words S) (file : FileTree) (layout
       let b : heap_need q.memory ≡ heap_need last.memory = ap heap_need (asked q u refl) in
       omega (arith, a, b)
 
-  gave_back : (k f below : ℕ) (a : Below) (o : Outer) (y : X) {v : Option Value} {h : Here} {u : World} {r : Run S} → EndsAs S p (Gives v h u) r → Ends k a f below o y r →
+  gave_back : (k f below : ℕ) (a : Below) (o : Outer) (y : X) {v : Option Value} {h : Here} {u : World} {r : Run S} → EndsAs S p (Gives v h u) r →
+      Ends k a f below o y r →
       Back a (Gave v u.memory) o y
   gave_back k f below a o y (keeps.gives e) at = subst (λ d. Back a d o y) e at
 
-  threw_back : (k f below : ℕ) (a : Below) (o : Outer) (y : X) {v : Value} {h : Here} {u : World} {r : Run S} → EndsAs S p (Raises v h u) r → Ends k a f below o y r →
+  threw_back : (k f below : ℕ) (a : Below) (o : Outer) (y : X) {v : Value} {h : Here} {u : World} {r : Run S} → EndsAs S p (Raises v h u) r →
+      Ends k a f below o y r →
       Back a (Threw v u.memory) o y
   threw_back k f below a o y (keeps.raises e) at = subst (λ d. Back a d o y) e at
 
@@ -221,7 +229,8 @@ module _ (S : Type 0) (p : Program S) (pace : Words S) (file : FileTree) (layout
       see y ≡ record { calls = o.made; end = Runs_on }
   still_runs k f below a o y (keeps.out_of_units {s = s} le) at = carry.runs a f below s o y at
 
-  asked_there : (k f below : ℕ) (a : Below) (o : Outer) (y : X) {u : World} {asked : Asked} {r : Run S} → EndsAs S p (Stops (Asking asked) u) r → Ends k a f below o y r →
+  asked_there : (k f below : ℕ) (a : Below) (o : Outer) (y : X) {u : World} {asked : Asked} {r : Run S} → EndsAs S p (Stops (Asking asked) u) r →
+      Ends k a f below o y r →
       AskedAt S p pace file layout X turn see stack heap Below At Entry Back most words IsGiven k o y asked asked.callee
   asked_there k f below a o y (keeps.asks e) at =
       subst (λ (q : Asked). AskedAt S p pace file layout X turn see stack heap Below At Entry Back most words IsGiven k o y q q.callee) e at
@@ -241,7 +250,8 @@ module _ (S : Type 0) (p : Program S) (pace : Words S) (file : FileTree) (layout
     stack_fits : max (tally_of r.r).need last.stack_need ≤ last.stack_need
     stack_fits = let st = r.same.stack in let more = s.stack_need in omega (arith, st, more)
 
-    heap_fits : ((call : Asked) (u : World) → e ≡ Stops (Asking call) u → call.memory ≡ last.memory) → max (top_heap p r.r) (heap_need last.memory) ≤ heap_need last.memory
+    heap_fits : ((call : Asked) (u : World) → e ≡ Stops (Asking call) u → call.memory ≡ last.memory) →
+        max (top_heap p r.r) (heap_need last.memory) ≤ heap_need last.memory
     heap_fits asked = let hp = heap_reached w last own e r.same.end s.memory asked in omega (arith, hp)
 
     -- the function ends
@@ -261,7 +271,8 @@ module _ (S : Type 0) (p : Program S) (pace : Words S) (file : FileTree) (layout
         record {
           units = (tally_of r.r).units + took.theirs;
           no_more = omega (arith, no, own_no, units, left);
-          enough = enough_ended most w.left last.left own (spent_by calls) (tally_of r.r).units took.theirs (units_called calls) units (omega (arith, own_enough, left)) took.enough r.counted;
+          enough = enough_ended most w.left last.left own (spent_by calls) (tally_of r.r).units took.theirs (units_called calls) units
+              (omega (arith, own_enough, left)) took.enough r.counted;
           lower = omega (arith, lo);
           upper = upper_ended words n (tally_of r.r).units took.theirs (units_called calls) (omega (arith, up)) r.counted;
           at = to took.spare y took.at;
@@ -298,7 +309,8 @@ module _ (S : Type 0) (p : Program S) (pace : Words S) (file : FileTree) (layout
           units = (((tally_of r.r).units + took.theirs) + spends.units) + 1;
           no_more = omega (arith, no, own_no, units, left, cno, pend);
           enough =
-              enough_asking most w.left last.left v.left own (spent_by calls) (tally_of r.r).units took.theirs (units_called calls) spends.units units (omega (arith, own_enough, left))
+              enough_asking most w.left last.left v.left own (spent_by calls) (tally_of r.r).units took.theirs (units_called calls) spends.units units
+              (omega (arith, own_enough, left))
               took.enough spends.enough r.counted;
           lower = omega (arith, lo, clo, one);
           upper = upper_asking words n d (tally_of r.r).units took.theirs (units_called calls) spends.units (omega (arith, up)) spends.upper r.counted;
@@ -316,7 +328,8 @@ module _ (S : Type 0) (p : Program S) (pace : Words S) (file : FileTree) (layout
         let hp = heap_fits (λ c z ez. ap (λ (q : Asked). q.memory) (same_call ez is)) in
         let st2 = later.onward.stack in
         let hp2 = extends_need later.onward.memory in
-        let same_left : v.left ≡ last.left = ap (λ z. (world_of z).left) (sym no_answer) ∙ answered_left ((whole_calls_fit file layout).answers row frame arguments last) in
+        let same_left : v.left ≡ last.left = ap (λ z. (world_of z).left) (sym no_answer)
+        ∙ answered_left ((whole_calls_fit file layout).answers row frame arguments last) in
         comes_on X turn see stack heap x (omega (arith, st, st2)) (omega (arith, hp, hp2)) later.onward.calls r.comes
         (λ n y took.
         let end : EndsAs S p (Stops (Asking (asked_in last.memory (OfOutside row frame arguments))) u) r.r = subst (λ z. EndsAs S p z r.r) is r.same.end in
@@ -335,7 +348,8 @@ module _ (S : Type 0) (p : Program S) (pace : Words S) (file : FileTree) (layout
           units = (tally_of r.r).units + took.theirs;
           no_more = omega (arith, no, own_no, units, left, same_left);
           enough =
-              enough_ended most w.left v.left own (spent_by calls) (tally_of r.r).units took.theirs (units_called calls) units (omega (arith, own_enough, left, same_left)) took.enough r.counted;
+              enough_ended most w.left v.left own (spent_by calls) (tally_of r.r).units took.theirs (units_called calls) units
+              (omega (arith, own_enough, left, same_left)) took.enough r.counted;
           lower = omega (arith, lo);
           upper = upper_ended words (n + d) (tally_of r.r).units took.theirs (units_called calls) (omega (arith, up, few)) r.counted;
           at = near.at;
@@ -345,37 +359,44 @@ module _ (S : Type 0) (p : Program S) (pace : Words S) (file : FileTree) (layout
 
   module _ (f below : ℕ) (a : Below) (w : World) (x : X) (serves : ServesHere w.left) where
     -- the run stops in a callee, so
-    stopped_in : (last v : World) (calls : List Came) (own : ℕ) (q : Call) (u : World) (why : Stop) → Stands w last calls own (Stops (Asking (asked_in last.memory q)) u) →
-        Reached a f below w last calls own (Stops (Asking (asked_in last.memory q)) u) x → Later last v → last.left < w.left → FitsCall (whole file layout) q → IsGivenTo IsGiven q last →
+    stopped_in : (last v : World) (calls : List Came) (own : ℕ) (q : Call) (u : World) (why : Stop) →
+        Stands w last calls own (Stops (Asking (asked_in last.memory q)) u) →
+        Reached a f below w last calls own (Stops (Asking (asked_in last.memory q)) u) x → Later last v → last.left < w.left →
+        FitsCall (whole file layout) q → IsGivenTo IsGiven q last →
         StoppedIn (done_by (whole file layout) q last) why v → DoesSo a w x (Stops why v)
     stopped_in last v calls own (OfFunction call) u OutOfFuel s r later fewer (fits_function fit) given st =
         onward f below a w last calls own _ x s r call u v _ refl later
         (λ b y entry. stops_so b y (stopped_so st) (serves b call last y fewer fit given entry))
       where
-        stops_so : (b : Below) (y : X) {z : Evaluation} → (z ≡ Stops OutOfFuel v) ⊎ (OutOfFuel ≡ NotProper BadCall) → DoesSo b last y z → DoesSo b last y (Stops OutOfFuel v)
+        stops_so : (b : Below) (y : X) {z : Evaluation} → (z ≡ Stops OutOfFuel v) ⊎ (OutOfFuel ≡ NotProper BadCall) → DoesSo b last y z →
+            DoesSo b last y (Stops OutOfFuel v)
         stops_so b y (inl e) does = subst (DoesSo b last y) e does
         stops_so b y (inr e) does = absurd (cc)
     stopped_in last v calls own (OfFunction call) u (NoAnswer made) s r later fewer (fits_function fit) given st =
         onward f below a w last calls own _ x s r call u v _ refl later
         (λ b y entry. stops_so b y (stopped_so st) (serves b call last y fewer fit given entry))
       where
-        stops_so : (b : Below) (y : X) {z : Evaluation} → (z ≡ Stops (NoAnswer made) v) ⊎ (NoAnswer made ≡ NotProper BadCall) → DoesSo b last y z → DoesSo b last y (Stops (NoAnswer made) v)
+        stops_so : (b : Below) (y : X) {z : Evaluation} → (z ≡ Stops (NoAnswer made) v) ⊎ (NoAnswer made ≡ NotProper BadCall) → DoesSo b last y z →
+            DoesSo b last y (Stops (NoAnswer made) v)
         stops_so b y (inl e) does = subst (DoesSo b last y) e does
         stops_so b y (inr e) does = absurd (cc)
     stopped_in last v calls own (OfOutside row frame arguments) u OutOfFuel s r later fewer fit given st = in_time (stopped_so st)
       where
-        in_time : (outside (data_end file) layout row frame arguments last ≡ Stops OutOfFuel v) ⊎ (OutOfFuel ≡ NotProper BadCall) → DoesSo a w x (Stops OutOfFuel v)
+        in_time : (outside (data_end file) layout row frame arguments last ≡ Stops OutOfFuel v) ⊎ (OutOfFuel ≡ NotProper BadCall) →
+            DoesSo a w x (Stops OutOfFuel v)
         in_time (inl e) = absurd (answers_in_time ((whole_calls_fit file layout).answers row frame arguments last) e)
         in_time (inr e) = absurd (cc)
     stopped_in last v calls own (OfOutside row frame arguments) u (NoAnswer made) s r later fewer fit given st = wants (stopped_so st)
       where
-        wants : (outside (data_end file) layout row frame arguments last ≡ Stops (NoAnswer made) v) ⊎ (NoAnswer made ≡ NotProper BadCall) → DoesSo a w x (Stops (NoAnswer made) v)
+        wants : (outside (data_end file) layout row frame arguments last ≡ Stops (NoAnswer made) v) ⊎ (NoAnswer made ≡ NotProper BadCall) →
+            DoesSo a w x (Stops (NoAnswer made) v)
         wants (inl e) = unanswered_there f below a w last calls own _ x s r row frame arguments made u v refl later e
         wants (inr e) = absurd (cc)
     stopped_in last v calls own q u (NotProper kind) s r later fewer fit given st = tt
     stopped_in last v calls own q u (Asking asked) s r later fewer fit given st = tt
 
-    by_end : (last : World) (calls : List Came) (own : ℕ) (e all : Evaluation) → Stands w last calls own e → (IsProperEnd e → Reached a f below w last calls own e x) →
+    by_end : (last : World) (calls : List Came) (own : ℕ) (e all : Evaluation) → Stands w last calls own e →
+        (IsProperEnd e → Reached a f below w last calls own e x) →
         ((q : Call) (u : World) → e ≡ Stops (Asking (asked_in last.memory q)) u → IsGivenTo IsGiven q last) →
         EndsSo (whole file layout) w.left last e all → DoesSo a w x all
     by_end last calls own e all s reach given (links.gives {v = v} {h = h} {u = u}) =
@@ -398,12 +419,19 @@ module _ (S : Type 0) (p : Program S) (pace : Words S) (file : FileTree) (layout
         stopped_in last v calls own q u why s (reach tt) later fewer fit (given q u refl) st
 
   called : (call : Called) (a : Below) (w : World) (x : X) → ServesHere w.left → FitsCallee (setting_of (whole file layout)) call.function call.arguments →
-      IsGivenTo IsGiven (OfFunction call) w → Entry a call.function call.below call.arguments w.memory (outer_of w) x → DoesSo a w x (callees file layout (suc w.left) call w)
+      IsGivenTo IsGiven (OfFunction call) w → Entry a call.function call.below call.arguments w.memory (outer_of w) x →
+      DoesSo a w x (callees file layout (suc w.left) call w)
   called call a w x serves fits given entry =
       let found = callee_of file layout call.function call.arguments fits in
       let l = whole_call_linked file layout call found.tree found.is w in
       let know = known call found.tree found.is found.fit w given.0 given.1 in
-      let stands : Stands w l.last l.calls l.own l.run = record { units = l.units; left = l.left; memory = l.memory; stack_need = let n = l.need in omega (arith, n) } in
+      let stands : Stands w l.last l.calls l.own l.run = record {
+        units = l.units;
+        left = l.left;
+        memory = l.memory;
+        stack_need = let n = l.need in
+            omega (arith, n);
+      } in
       by_end call.function call.below a w x serves l.last l.calls l.own l.run (callees file layout (suc w.left) call w) stands
       (reached call found.tree found.is found.fit w serves given.0 a x entry l know) know.last l.ends
 
@@ -415,5 +443,6 @@ module _ (S : Type 0) (p : Program S) (pace : Words S) (file : FileTree) (layout
 
   -- The machine does what the whole run of a function does.
   pub does_whole : (call : Called) (a : Below) (w : World) (x : X) → FitsCallee (setting_of (whole file layout)) call.function call.arguments →
-      IsGivenTo IsGiven (OfFunction call) w → Entry a call.function call.below call.arguments w.memory (outer_of w) x → DoesSo a w x (callees file layout (suc w.left) call w)
+      IsGivenTo IsGiven (OfFunction call) w → Entry a call.function call.below call.arguments w.memory (outer_of w) x →
+      DoesSo a w x (callees file layout (suc w.left) call w)
   does_whole call a w x fits given entry = serving (suc w.left) a call w x (omega arith) fits given entry

@@ -72,7 +72,8 @@ module _ (file : FileTree) (image : Tables) (lins : ℕ → Lin) (named : ℕ �
 
     abbrev IsThere : Bool → View → Type 0
     IsThere frame z =
-        IsAsking s (record { top = s.base; stack = 0; heap = heap_need v.memory }) row frame arguments v.memory (λ d w. follows.IsAfter s (laid f) (live f) c (go d) w) z
+        IsAsking s (record { top = s.base; stack = 0; heap = heap_need v.memory }) row frame arguments v.memory
+        (λ d w. follows.IsAfter s (laid f) (live f) c (go d) w) z
 
     abbrev There : Bool → Type 0
     There frame = Shows s (outer_of v) (IsThere frame) y
@@ -86,35 +87,40 @@ module _ (file : FileTree) (image : Tables) (lins : ℕ → Lin) (named : ℕ �
     -- the call is answered
     goes_after : (frame : Bool) (sh : There frame) (t : Taken) → taken_of frame v.memory row.result sh.view.answers ≡ Some t → AreWords t.answers →
         Comes Now (next_of run.schedule) seen run.stack run.heap 0 (heap_need v.memory) (v.made ++ call ∷ [])
-        (Near 1 1 (After file image lins named w laid entry live has bases emitted run c f below (go t.doing) (record { made = v.made ++ call ∷ []; answers = t.answers }))) y
+        (Near 1 1 (After file image lins named w laid entry live has bases emitted run c f below (go t.doing)
+        (record { made = v.made ++ call ∷ []; answers = t.answers }))) y
     goes_after frame sh t is words =
         let ask = sh.holds in
-        by (ask.goes sh.machine t sh.stands (subst (λ answers. (i : ℕ) → slice_index answers i < 0x10000000000000000) (sym sh.answers) (words_all v.answers sh.words)) is)
+        by (ask.goes sh.machine t sh.stands (subst (λ answers. (i : ℕ) → slice_index answers i < 0x10000000000000000) (sym sh.answers)
+        (words_all v.answers sh.words)) is)
       where
         by : GoesOn s sh.machine (sh.view.calls ++ counted s row arguments ∷ []) t.answers (λ z. follows.IsAfter s (laid f) (live f) c (go t.doing) z)
             ⊎ Gone s (record { top = s.base; stack = 0; heap = heap_need v.memory }) sh.view sh.machine →
             Comes Now (next_of run.schedule) seen run.stack run.heap 0 (heap_need v.memory) (v.made ++ call ∷ [])
-            (Near 1 1 (After file image lins named w laid entry live has bases emitted run c f below (go t.doing) (record { made = v.made ++ call ∷ []; answers = t.answers }))) y
+            (Near 1 1 (After file image lins named w laid entry live has bases emitted run c f below (go t.doing)
+            (record { made = v.made ++ call ∷ []; answers = t.answers }))) y
         by (inl g) =
             record {
               count = 1;
               at = inl (record {
                 lower = omega arith;
                 upper = omega arith;
-                at = after_shows file image lins named w laid entry live has bases emitted run f below c (go t.doing) _ (moments (next_of run.schedule) 1 y) lies (record {
-                  machine = g.machine;
-                  is = moved frame sh 1 (Going g.machine) (g.by 1 0 (omega arith));
-                  view = g.view;
-                  stands = g.stands;
-                  calls = g.calls_are ∙ ap (λ l. l ++ counted s row arguments ∷ []) sh.calls ∙ ap (λ m. v.made ++ m ∷ []) counted_is;
-                  answers = g.answers_are;
-                  words = words;
-                  holds = g.holds;
-                });
+                at = after_shows file image lins named w laid entry live has bases emitted run f below c (go t.doing) _
+                    (moments (next_of run.schedule) 1 y) lies (record {
+                      machine = g.machine;
+                      is = moved frame sh 1 (Going g.machine) (g.by 1 0 (omega arith));
+                      view = g.view;
+                      stands = g.stands;
+                      calls = g.calls_are ∙ ap (λ l. l ++ counted s row arguments ∷ []) sh.calls ∙ ap (λ m. v.made ++ m ∷ []) counted_is;
+                      answers = g.answers_are;
+                      words = words;
+                      holds = g.holds;
+                    });
               });
             }
         by (inr g) =
-            let there : moments (next_of run.schedule) g.count y ≡ Over sh.view.calls g.end = moved frame sh g.count (Over sh.view.calls g.end) (g.by g.count 0 (omega arith)) in
+            let there : moments (next_of run.schedule) g.count y ≡ Over sh.view.calls g.end = moved frame sh g.count (Over sh.view.calls g.end)
+            (g.by g.count 0 (omega arith)) in
             let front : IsFrontOf sh.view.calls (v.made ++ call ∷ []) = (call ∷ [], ap (λ l. l ++ call ∷ []) (sym sh.calls)) in
             record {
               count = g.count;
@@ -140,10 +146,12 @@ module _ (file : FileTree) (image : Tables) (lins : ℕ → Lin) (named : ℕ �
       ext_there : external_at r.hart ≡ Some (sh.holds).ext
       ext_there =
           let ask = sh.holds in
-          ap (λ (i : Tables). slice_get i.extcs (slice_index r.hart.registers 5)) r_stands.image ∙ ap (λ xs. slice_get image.extcs (slice_index xs 5)) r_stands.registers ∙ ask.there
+          ap (λ (i : Tables). slice_get i.extcs (slice_index r.hart.registers 5)) r_stands.image
+          ∙ ap (λ xs. slice_get image.extcs (slice_index xs 5)) r_stands.registers ∙ ask.there
 
       wants : after run.schedule 1 (Going sh.machine) ≡ Over r.calls (machine.Asks (call_made (sh.holds).ext r.hart)) →
-          Comes Now (next_of run.schedule) seen run.stack run.heap 0 (heap_need v.memory) v.made (Near 0 1 (λ z. seen z ≡ record { calls = v.made; end = machine.Asks call })) y
+          Comes Now (next_of run.schedule) seen run.stack run.heap 0 (heap_need v.memory) v.made
+          (Near 0 1 (λ z. seen z ≡ record { calls = v.made; end = machine.Asks call })) y
       wants over =
           let ask = sh.holds in
           let made_is : call_made ask.ext r.hart ≡ call = ask.made r r_stands ∙ counted_is in
@@ -158,7 +166,8 @@ module _ (file : FileTree) (image : Tables) (lins : ℕ → Lin) (named : ℕ �
             });
           }
 
-      external_asks : (t : Comp) → frame ≡ false → row.result ≡ ret.Comp t → v.answers ≡ [] → after run.schedule 1 (Going sh.machine) ≡ Over r.calls (machine.Asks (call_made (sh.holds).ext r.hart))
+      external_asks : (t : Comp) → frame ≡ false → row.result ≡ ret.Comp t → v.answers ≡ [] →
+          after run.schedule 1 (Going sh.machine) ≡ Over r.calls (machine.Asks (call_made (sh.holds).ext r.hart))
       external_asks t is result none =
           let ask = sh.holds in
           let gone : r.answers ≡ [] = r_stands.answers ∙ sh.answers ∙ none in
@@ -168,7 +177,8 @@ module _ (file : FileTree) (image : Tables) (lins : ℕ → Lin) (named : ℕ �
           ∙ ap (λ l. machine.answered (ret.Comp t) (call_made ask.ext r.hart) l r) gone
 
       frame_asks : frame ≡ true → (l : List ℕ) → v.answers ≡ l →
-          machine.frame_answered (run.schedule.plan r.hart.services) (sh.holds).ext.result (call_made (sh.holds).ext r.hart) l r ≡ Over r.calls (machine.Asks (call_made (sh.holds).ext r.hart)) →
+          machine.frame_answered (run.schedule.plan r.hart.services) (sh.holds).ext.result (call_made (sh.holds).ext r.hart) l r ≡ Over r.calls
+          (machine.Asks (call_made (sh.holds).ext r.hart)) →
           after run.schedule 1 (Going sh.machine) ≡ Over r.calls (machine.Asks (call_made (sh.holds).ext r.hart))
       frame_asks is l few over =
           let ask = sh.holds in
@@ -187,13 +197,16 @@ module _ (file : FileTree) (image : Tables) (lins : ℕ → Lin) (named : ℕ �
     taken_is frame sh result answers er ea =
         ap (λ q. taken_of frame v.memory q sh.view.answers) er ∙ ap (λ l. taken_of frame v.memory result l) (sh.answers ∙ ea)
 
-    plain : (sh : There false) (result : Ret) (answers : List ℕ) → row.result ≡ result → v.answers ≡ answers → AreWords answers → Answers (answered result call answers v)
-    plain sh ret.Unit answers er ea words = goes_after false sh (record { doing = Gave None v.memory; answers = answers }) (taken_is false sh ret.Unit answers er ea) words
+    plain : (sh : There false) (result : Ret) (answers : List ℕ) → row.result ≡ result → v.answers ≡ answers → AreWords answers →
+        Answers (answered result call answers v)
+    plain sh ret.Unit answers er ea words = goes_after false sh (record { doing = Gave None v.memory; answers = answers })
+        (taken_is false sh ret.Unit answers er ea) words
     plain sh (ret.Comp t) [] er ea words = wants false sh (external_asks false sh t refl er ea)
     plain sh (ret.Comp t) (a ∷ answers) er ea words =
         goes_after false sh (record { doing = Gave (Some (Word a)) v.memory; answers = answers }) (taken_is false sh (ret.Comp t) (a ∷ answers) er ea) words.1
 
-    framed : (sh : There true) (result : Ret) (answers : List ℕ) → row.result ≡ result → v.answers ≡ answers → AreWords answers → Answers (frame_answered (data_end file) result call answers v)
+    framed : (sh : There true) (result : Ret) (answers : List ℕ) → row.result ≡ result → v.answers ≡ answers → AreWords answers →
+        Answers (frame_answered (data_end file) result call answers v)
     framed sh result [] er ea words = wants true sh (frame_asks true sh refl [] ea refl)
     framed sh ret.Unit (zero ∷ []) er ea words = wants true sh (frame_asks true sh refl (zero ∷ []) ea refl)
     framed sh (ret.Comp t) (zero ∷ []) er ea words = wants true sh (frame_asks true sh refl (zero ∷ []) ea refl)
@@ -201,11 +214,13 @@ module _ (file : FileTree) (image : Tables) (lins : ℕ → Lin) (named : ℕ �
     framed sh ret.Unit (zero ∷ a ∷ answers) er ea words =
         goes_after true sh (record { doing = Gave None v.memory; answers = answers }) (taken_is true sh ret.Unit (zero ∷ a ∷ answers) er ea) words.1.1
     framed sh (ret.Comp t) (zero ∷ a ∷ answers) er ea words =
-        goes_after true sh (record { doing = Gave (Some (Word a)) v.memory; answers = answers }) (taken_is true sh (ret.Comp t) (zero ∷ a ∷ answers) er ea) words.1.1
+        goes_after true sh (record { doing = Gave (Some (Word a)) v.memory; answers = answers })
+        (taken_is true sh (ret.Comp t) (zero ∷ a ∷ answers) er ea) words.1.1
     framed sh result (suc n ∷ a ∷ answers) er ea words = by (fits (data_end file) ty.Val (Word a))
       where
         by : (b : Bool) → Answers (cond b (Raises (Word a) nobody (made call answers v)) (Stops (NotProper (misfit ty.Val)) (made call answers v)))
-        by true = goes_after true sh (record { doing = Threw (Word a) v.memory; answers = answers }) (taken_is true sh result (suc n ∷ a ∷ answers) er ea) words.1.1
+        by true = goes_after true sh (record { doing = Threw (Word a) v.memory; answers = answers })
+            (taken_is true sh result (suc n ∷ a ∷ answers) er ea) words.1.1
         by false = tt
 
     answers_so : (frame : Bool) → There frame → Answers (outside (data_end file) (layout_of image) row frame arguments v)
@@ -214,18 +229,21 @@ module _ (file : FileTree) (image : Tables) (lins : ℕ → Lin) (named : ℕ �
 
   -- ---- from the line on
 
-  two_stages : (most n f below : ℕ) (c : Below) (go : Doing → Step State) (o : Outer) (x : Now) → n + 1 ≤ most → (e : Evaluation) → Begins o.made (world_of e).made →
+  two_stages : (most n f below : ℕ) (c : Below) (go : Doing → Step State) (o : Outer) (x : Now) → n + 1 ≤ most → (e : Evaluation) →
+      Begins o.made (world_of e).made →
       Comes Now (next_of run.schedule) seen run.stack run.heap 0 0 o.made (Near 0 n (λ z. OutsideIt 1 f below c go z e)) x → OutsideIt most f below c go x e
   two_stages most n f below c go o x room (Gives v h u) begins comes =
       comes_on Now (next_of run.schedule) seen run.stack run.heap x (omega arith) (omega arith) begins comes
       (λ i z near.
       comes_map Now (next_of run.schedule) seen run.stack run.heap z (omega arith) (omega arith) (Begins-same u.made) near.at
-      (λ j q last. let a = near.upper in let b = last.upper in let d = last.lower in record { lower = omega (arith, d); upper = omega (arith, a, b, room); at = last.at }))
+      (λ j q last. let a = near.upper in let b = last.upper in let d = last.lower in record
+      { lower = omega (arith, d); upper = omega (arith, a, b, room); at = last.at }))
   two_stages most n f below c go o x room (Raises v h u) begins comes =
       comes_on Now (next_of run.schedule) seen run.stack run.heap x (omega arith) (omega arith) begins comes
       (λ i z near.
       comes_map Now (next_of run.schedule) seen run.stack run.heap z (omega arith) (omega arith) (Begins-same u.made) near.at
-      (λ j q last. let a = near.upper in let b = last.upper in let d = last.lower in record { lower = omega (arith, d); upper = omega (arith, a, b, room); at = last.at }))
+      (λ j q last. let a = near.upper in let b = last.upper in let d = last.lower in record
+      { lower = omega (arith, d); upper = omega (arith, a, b, room); at = last.at }))
   two_stages most n f below c go o x room (Stops (NoAnswer call) u) begins comes =
       comes_on Now (next_of run.schedule) seen run.stack run.heap x (omega arith) (omega arith) begins comes
       (λ i z near.
@@ -237,7 +255,8 @@ module _ (file : FileTree) (image : Tables) (lins : ℕ → Lin) (named : ℕ �
   two_stages most n f below c go o x room (Exits label values h u) begins comes = tt
 
   -- An external call, from where its line begins.
-  pub outside_carried : (most n f below : ℕ) (c : Below) → c.top + below ≡ stack_bottom → (call : Asked) (go : Doing → Step State) (row : External) (frame : Bool) →
+  pub outside_carried : (most n f below : ℕ) (c : Below) → c.top + below ≡ stack_bottom →
+      (call : Asked) (go : Doing → Step State) (row : External) (frame : Bool) →
       n + 1 ≤ most → AllByRecursion (IsInTable image) call.arguments → (o : Outer) (x : Now) {Q : View → Type 0} (sh : Shows s o Q x) →
       follows.FollowsAsked n s (laid f) (live f) entry c sh.view call go (Outside row frame) → (v : World) → v.memory ≡ call.memory → outer_of v ≡ o →
       OutsideIt most f below c go x (outside (data_end file) (layout_of image) row frame call.arguments v)
@@ -250,5 +269,6 @@ module _ (file : FileTree) (image : Tables) (lins : ℕ → Lin) (named : ℕ �
       (λ z there.
       answers_so f below c lies go row asked.arguments known v z frame
       (subst (λ (q : Outer). Shows s q (IsThere f below c lies go row asked.arguments known v z frame) z) (sym eo)
-      (subst (λ (m : Memory). Shows s o (λ i. IsAsking s (record { top = s.base; stack = 0; heap = heap_need m }) row frame asked.arguments m (λ d w. follows.IsAfter s (laid f) (live f) c (go d) w) i) z)
+      (subst (λ (m : Memory). Shows s o (λ i. IsAsking s (record { top = s.base; stack = 0; heap = heap_need m }) row frame asked.arguments m
+      (λ d w. follows.IsAfter s (laid f) (live f) c (go d) w) i) z)
       (sym em) there))))

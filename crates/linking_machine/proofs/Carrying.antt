@@ -63,7 +63,8 @@ wrote_asked c n b a rest None = tt
 wrote_asked c n b a rest (Some f) = tt
 
 act_asked : (c : Place) (m : Lin) (i : Line) (next : List Line) (f : Locations) (a : Around) (x : Act) → AskedSo c 0 a (on_act c m i next f a x)
-act_asked c m i next f a (Goes vs to after) = wrote_asked c 0 a after (code_at m.code next to) (put_all c.setting.end i.results vs (clear (destroyed_by i.op) f))
+act_asked c m i next f a (Goes vs to after) = wrote_asked c 0 a after (code_at m.code next to)
+    (put_all c.setting.end i.results vs (clear (destroyed_by i.op) f))
 act_asked c m i next f a (Pushes after) = tt
 act_asked c m i next f a (Jumps to after) = tt
 act_asked c m i next f a (Unwinds after) = tt
@@ -77,10 +78,12 @@ misnamed_asked : (c : Place) (a : Around) (b : Bool) (x : Step State) → AskedS
 misnamed_asked c a true x s = s
 misnamed_asked c a false x s = tt
 
-values_asked : (c : Place) (names : List Loc) (m : Lin) (i : Line) (next : List Line) (f : Locations) (a : Around) (o : Option (List Value)) → AskedSo c 0 a (on_values c names m i next f a o)
+values_asked : (c : Place) (names : List Loc) (m : Lin) (i : Line) (next : List Line) (f : Locations) (a : Around) (o : Option (List Value)) →
+    AskedSo c 0 a (on_values c names m i next f a o)
 values_asked c names m i next f a None = tt
 values_asked c names m i next f a (Some vs) =
-    misnamed_asked c a (not (passes_frame i.op) || are_vals c.setting.end names f) _ (act_asked c m i next (past_frame (passes_frame i.op) names f) a (lin_act c.setting i.op vs a))
+    misnamed_asked c a (not (passes_frame i.op) || are_vals c.setting.end names f) _
+    (act_asked c m i next (past_frame (passes_frame i.op) names f) a (lin_act c.setting i.op vs a))
 
 pub code_asked : (c : Place) (named : NamedAt) (m : Lin) (rest : List Line) (f : Locations) (a : Around) → AskedSo c 0 a (at_code c named m rest f a)
 code_asked c named m [] f a = tt
@@ -100,7 +103,8 @@ value_shown image (Function f) l = ap obs.Word (function_shown image.funcs f l)
 
 pub values_shown : (image : Tables) (vs : List Value) → AllByRecursion (IsInTable image) vs → map (shown image) vs ≡ map (observed (layout_of image)) vs
 values_shown image [] all = refl
-values_shown image (v ∷ vs) all = ap (λ x. x ∷ map (shown image) vs) (value_shown image v all.0) ∙ ap (λ xs. observed (layout_of image) v ∷ xs) (values_shown image vs all.1)
+values_shown image (v ∷ vs) all = ap (λ x. x ∷ map (shown image) vs) (value_shown image v all.0)
+    ∙ ap (λ xs. observed (layout_of image) v ∷ xs) (values_shown image vs all.1)
 
 pub words_all : (words : List ℕ) → AreWords words → AllWords words
 words_all [] all i = omega arith
@@ -113,15 +117,18 @@ module _ (s : Fixed) (stack : ℕ) where
   abbrev pub ComesTo : ℕ → ℕ → List Made → (ℕ → Now → Type 0) → Now → Type 0
   ComesTo st hp made P x = Comes Now (next_of s.schedule) seen stack s.heap st hp made P x
 
-  gone_out : {q : Needs} {v : View} {a : Machine} (st hp : ℕ) (o : Outer) (g : Gone s q v a) → v.calls ≡ o.made → (q.top < s.base + q.stack → stack < st) → (s.heap < q.heap → s.heap < hp) →
+  gone_out : {q : Needs} {v : View} {a : Machine} (st hp : ℕ) (o : Outer) (g : Gone s q v a) → v.calls ≡ o.made →
+      (q.top < s.base + q.stack → stack < st) → (s.heap < q.heap → s.heap < hp) →
       Out Now (next_of s.schedule) seen stack s.heap st hp o.made (Over v.calls g.end)
   gone_out {q} {v} st hp o g calls one two = ⊎_elim
       (λ w. no_stack (one w.1) w.0 ([], sym calls ∙ sym (append-nil v.calls)))
       (λ w. no_heap (two w.1) w.0 ([], sym calls ∙ sym (append-nil v.calls)))
       g.want
 
-  pub arrives_comes : {q : Needs} {least n : ℕ} (most st hp : ℕ) {P Q : View → Type 0} {R : Now → Type 0} (o : Outer) (x : Now) → n ≤ most → (sh : Shows s o Q x) → ArrivesIn least n s q sh.view P →
-      (q.top < s.base + q.stack → stack < st) → (s.heap < q.heap → s.heap < hp) → ((y : Now) → Shows s o P y → R y) → ComesTo st hp o.made (Near least most R) x
+  pub arrives_comes : {q : Needs} {least n : ℕ} (most st hp : ℕ) {P Q : View → Type 0} {R : Now → Type 0} (o : Outer) (x : Now) → n ≤ most →
+      (sh : Shows s o Q x) → ArrivesIn least n s q sh.view P →
+      (q.top < s.base + q.stack → stack < st) → (s.heap < q.heap → s.heap < hp) → ((y : Now) → Shows s o P y → R y) →
+      ComesTo st hp o.made (Near least most R) x
   arrives_comes {q} {least} {n} most st hp {P} {Q} {R} o x few sh arrives one two onto = by (arrives.from sh.machine sh.stands)
     where
       moved : (k : ℕ) (y : Now) → after s.schedule k (Going sh.machine) ≡ y → moments (next_of s.schedule) k x ≡ y
@@ -150,7 +157,8 @@ module _ (s : Fixed) (stack : ℕ) where
             });
           }
       by (inr g) =
-          let there : moments (next_of s.schedule) g.count x ≡ Over sh.view.calls g.end = moved g.count (Over sh.view.calls g.end) (g.by g.count 0 (omega arith)) in
+          let there : moments (next_of s.schedule) g.count x ≡ Over sh.view.calls g.end = moved g.count (Over sh.view.calls g.end)
+          (g.by g.count 0 (omega arith)) in
           record {
             count = g.count;
             at = inr (subst (Out Now (next_of s.schedule) seen stack s.heap st hp o.made) (sym there) (gone_out st hp o g sh.calls one two));
@@ -176,11 +184,13 @@ module _ (file : FileTree) (image : Tables) (lins : ℕ → Lin) (named : ℕ �
   back_ c d o x = Back image has bases laid entry live run c d o x
 
   abbrev pub After : Below → ℕ → ℕ → Step State → Outer → Now → Type 0
-  After c f below x o y = IsAfter State (linear_program lins named) w file (layout_of image) Now (next_of run.schedule) seen run.stack run.heap Below at_ entry_ back_ c f below x o y
+  After c f below x o y = IsAfter State (linear_program lins named) w file (layout_of image) Now (next_of run.schedule) seen run.stack run.heap Below
+      at_ entry_ back_ c f below x o y
 
   abbrev pub CarriesIt : ℕ → ℕ → ℕ → Below → Step State → Outer → Now → Type 0
   CarriesIt most f below c x o y =
-      CarriesStep State (linear_program lins named) w file (layout_of image) Now (next_of run.schedule) seen run.stack run.heap Below at_ entry_ back_ most f below c x o y
+      CarriesStep State (linear_program lins named) w file (layout_of image) Now (next_of run.schedule) seen run.stack run.heap Below at_ entry_ back_
+      most f below c x o y
 
   abbrev pub place : ℕ → ℕ → Place
   place f below = place_in file (layout_of image) f below
@@ -197,37 +207,47 @@ module _ (file : FileTree) (image : Tables) (lins : ℕ → Lin) (named : ℕ �
   after_shows f below c IsStuck o y e sh = tt
 
   -- the bytes below an address and those of the text
-  room_is : (f below : ℕ) (c : Below) (u : State) → c.top + below ≡ stack_bottom → c.top < (stack_bottom - run.stack) + used (laid f) u → run.stack < taken (place f below) u.around
+  room_is : (f below : ℕ) (c : Below) (u : State) → c.top + below ≡ stack_bottom → c.top < (stack_bottom - run.stack) + used (laid f) u →
+      run.stack < taken (place f below) u.around
   room_is f below c u e short =
       let m = run.stack_room.most in
       let fr = emitted.frames f in
       omega (arith, e, short, m, fr)
 
   -- it comes to where the function stands
-  pub stands_there : {least n : ℕ} {Q : View → Type 0} (most f below : ℕ) (c : Below) (u : State) (o : Outer) (x : Now) → n ≤ most → c.top + below ≡ stack_bottom → (sh : Shows fixed o Q x) →
+  pub stands_there : {least n : ℕ} {Q : View → Type 0} (most f below : ℕ) (c : Below) (u : State) (o : Outer) (x : Now) → n ≤ most →
+      c.top + below ≡ stack_bottom → (sh : Shows fixed o Q x) →
       ArrivesIn least n fixed (needs_of (laid f) c u) sh.view (IsAt fixed (laid f) (live f) c u) →
-      Comes Now (next_of run.schedule) seen run.stack run.heap (taken (place f below) u.around) (heap_need u.around.memory) o.made (Near least most (at_ c f below u o)) x
+      Comes Now (next_of run.schedule) seen run.stack run.heap (taken (place f below) u.around) (heap_need u.around.memory) o.made
+      (Near least most (at_ c f below u o)) x
   stands_there most f below c u o x few e sh arrives =
-      arrives_comes fixed run.stack most (taken (place f below) u.around) (heap_need u.around.memory) o x few sh arrives (λ short. room_is f below c u e short) (λ short. short) (λ y at. (at, e))
+      arrives_comes fixed run.stack most (taken (place f below) u.around) (heap_need u.around.memory) o x few sh arrives
+      (λ short. room_is f below c u e short) (λ short. short) (λ y at. (at, e))
 
   -- it comes to where nothing more is needed
-  pub comes_free : {least n : ℕ} {P Q : View → Type 0} {R : Now → Type 0} (most : ℕ) (o : Outer) (x : Now) → n ≤ most → (sh : Shows fixed o Q x) → ArrivesIn least n fixed (nothing fixed) sh.view P →
+  pub comes_free : {least n : ℕ} {P Q : View → Type 0} {R : Now → Type 0} (most : ℕ) (o : Outer) (x : Now) → n ≤ most → (sh : Shows fixed o Q x) →
+      ArrivesIn least n fixed (nothing fixed) sh.view P →
       ((y : Now) → Shows fixed o P y → R y) → Comes Now (next_of run.schedule) seen run.stack run.heap 0 0 o.made (Near least most R) x
   comes_free most o x few sh arrives onto =
       arrives_comes fixed run.stack most 0 0 o x few sh arrives (λ short. absurd (omega (arith, short))) (λ short. absurd (omega (arith, short))) onto
 
-  module _ (most f below : ℕ) (c : Below) (u : State) (o : Outer) (y : Now) {Q : View → Type 0} (sh : Shows fixed o Q y) (e : c.top + below ≡ stack_bottom) (n : ℕ) where
-    pub tail_carried : (call : Asked) (callee : Callee) → call.callee ≡ callee → n ≤ most → call.below ≡ bytes_below call.callee true (place f below) u.around →
+  module _ (most f below : ℕ) (c : Below) (u : State) (o : Outer) (y : Now) {Q : View → Type 0} (sh : Shows fixed o Q y)
+      (e : c.top + below ≡ stack_bottom) (n : ℕ) where
+    pub tail_carried : (call : Asked) (callee : Callee) → call.callee ≡ callee → n ≤ most →
+        call.below ≡ bytes_below call.callee true (place f below) u.around →
         FollowsTail n fixed entry c sh.view call callee →
-        CarriesTail State (linear_program lins named) w file (layout_of image) Now (next_of run.schedule) seen run.stack run.heap Below at_ entry_ back_ most c call callee o y
+        CarriesTail State (linear_program lins named) w file (layout_of image) Now (next_of run.schedule) seen run.stack run.heap Below at_ entry_ back_
+        most c call callee o y
     tail_carried call (Inside g) is few lies follows =
         let same : call.below ≡ below = lies ∙ ap (λ (q : Callee). bytes_below q true (place f below) u.around) is in
         comes_free most o y few sh follows (λ z at. (at, omega (arith, e, same)))
     tail_carried call (Outside row frame) is few lies follows = absurd follows
 
-    pub call_carried : (call : Asked) (go : Doing → Step State) (g : ℕ) → call.callee ≡ Inside g → n ≤ most → call.below ≡ bytes_below call.callee false (place f below) u.around →
+    pub call_carried : (call : Asked) (go : Doing → Step State) (g : ℕ) → call.callee ≡ Inside g → n ≤ most →
+        call.below ≡ bytes_below call.callee false (place f below) u.around →
         (fc : FollowsCall n fixed (laid f) (live f) entry c sh.view g call.arguments call.memory go) → fc.below.top + used (laid f) u ≡ c.top →
-        CarriesCall State (linear_program lins named) w file (layout_of image) Now (next_of run.schedule) seen run.stack run.heap Below at_ entry_ back_ most f below c g call go o y
+        CarriesCall State (linear_program lins named) w file (layout_of image) Now (next_of run.schedule) seen run.stack run.heap Below at_ entry_ back_
+        most f below c g call go o y
     call_carried call go g is few lies fc lower =
         let same : call.below ≡ taken (place f below) u.around = lies ∙ ap (λ (q : Callee). bytes_below q false (place f below) u.around) is in
         let fr = emitted.frames f in

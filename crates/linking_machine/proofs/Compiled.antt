@@ -34,5 +34,6 @@ pub compiled_correct : (file : FileTree) (image : Tables) (machs : ℕ → Mach)
     IsCompiled file image machs lins named w most words laid entry has bases → IsCorrect file image
 compiled_correct file image machs lins named w most words laid entry has bases c =
     emitted_correct file image lins named w laid entry (spare_lives lins) has bases c.emitted most words IsGivenWords BoundedDoing c.rows c.words_fit
-    (lowered_keep machs lins named file (layout_of image) most IsGivenWords BoundedDoing (selected_selects file (layout_of image) machs most c.selected) c.lowered)
+    (lowered_keep machs lins named file (layout_of image) most IsGivenWords BoundedDoing (selected_selects file (layout_of image) machs most c.selected)
+    c.lowered)
     (words_passed file (layout_of image) c.holds) c.forward

@@ -114,14 +114,17 @@ pub data Returns (x : Step State) (memory : Memory) : Type 0 where
   stuck : x ≡ IsStuck → Returns x memory
   out : (v : Value) → x ≡ Finishes (Gave (Some v) memory) → Returns x memory
 
-second_step : (c : Place) (file : Locations) (memory : Memory) → Returns (step c (λ n. []) code (record { rest = returns ∷ []; file = file; around = entered memory })) memory
+second_step : (c : Place) (file : Locations) (memory : Memory) → Returns
+    (step c (λ n. []) code (record { rest = returns ∷ []; file = file; around = entered memory })) memory
 second_step c file memory = by (file (loc.Machine 10)) refl
   where
-    by : (o : Option Value) → file (loc.Machine 10) ≡ o → Returns (step c (λ n. []) code (record { rest = returns ∷ []; file = file; around = entered memory })) memory
+    by : (o : Option Value) → file (loc.Machine 10) ≡ o → Returns (step c (λ n. []) code
+        (record { rest = returns ∷ []; file = file; around = entered memory })) memory
     by None e = stuck (ap (λ (o : Option Value). on_values c [] code returns [] file (entered memory) (with_held c.setting.end comp.Int o (Some []))) e)
     by (Some v) e = test (fits c.setting.end ty.Int v) refl
       where
-        test : (b : Bool) → fits c.setting.end ty.Int v ≡ b → Returns (step c (λ n. []) code (record { rest = returns ∷ []; file = file; around = entered memory })) memory
+        test : (b : Bool) → fits c.setting.end ty.Int v ≡ b → Returns (step c (λ n. []) code
+            (record { rest = returns ∷ []; file = file; around = entered memory })) memory
         test true fit =
             out v (ap (λ (o : Option Value). on_values c [] code returns [] file (entered memory) (with_held c.setting.end comp.Int o (Some []))) e
             ∙ ap (λ b. on_values c [] code returns [] file (entered memory) (as_type b v (Some []))) fit)
@@ -131,7 +134,11 @@ second_step c file memory = by (file (loc.Machine 10)) refl
 
 leads_seen : (c : Place) {s u : State} → Seen s → LeadsTo State u (step c (λ n. []) code s) → Seen u
 leads_seen c {u = u} (first {file = file} {memory = memory}) l =
-    subst Seen (only_continues (record { rest = returns ∷ []; file = put a0_int (Word 42) (clear (destroyed_by makes.op) file); around = entered memory }) u l) second
+    subst Seen (only_continues (record {
+      rest = returns ∷ [];
+      file = put a0_int (Word 42) (clear (destroyed_by makes.op) file);
+      around = entered memory;
+    }) u l) second
 leads_seen c {u = u} (second {file = file} {memory = memory}) l = by (second_step c file memory)
   where
     by : Returns (step c (λ n. []) code (record { rest = returns ∷ []; file = file; around = entered memory })) memory → Seen u
@@ -199,9 +206,12 @@ module _ (file : FileTree) (layout : Layout) (all : (f : ℕ) (t : FunctionTree)
         runs = λ f t is arguments fit below memory doings n given done proper handed.
             let here = all f t is in
             let same : t ≡ tree here.0 = here.1 in
-            let none : arguments ≡ [] = no_arguments (data_end file) arguments (subst (λ (z : FunctionTree). fit_parameters (data_end file) (comps_of z) arguments ≡ true) same fit) in
-            subst (λ (z : FunctionTree). Runs State program 1 f (place_in file layout f below) arguments memory doings n (alone_in file (place_in file layout f below) z arguments memory doings n)) (sym same)
-            (subst (λ (vs : List Value). Runs State program 1 f (place_in file layout f below) vs memory doings n (alone_in file (place_in file layout f below) (tree here.0) vs memory doings n)) (sym none)
+            let none : arguments ≡ [] = no_arguments (data_end file) arguments
+            (subst (λ (z : FunctionTree). fit_parameters (data_end file) (comps_of z) arguments ≡ true) same fit) in
+            subst (λ (z : FunctionTree). Runs State program 1 f (place_in file layout f below) arguments memory doings n
+            (alone_in file (place_in file layout f below) z arguments memory doings n)) (sym same)
+            (subst (λ (vs : List Value). Runs State program 1 f (place_in file layout f below) vs memory doings n
+            (alone_in file (place_in file layout f below) (tree here.0) vs memory doings n)) (sym none)
             (alone_runs f here.0 below memory doings n));
       }
 
@@ -245,7 +255,8 @@ module _ (image : Tables) (has : HasFunctions image) (bases : (stack : ℕ) → 
     abbrev Line_of : State → Step State → Type 0
     Line_of u x = FollowsLine 1 s (laid f) (live f) at c v u x
 
-    first_line : (stored : Locations) (memory : Memory) → IsAt s (laid f) (live f) c (record { rest = makes ∷ returns ∷ []; file = stored; around = entered memory }) v →
+    first_line : (stored : Locations) (memory : Memory) → IsAt s (laid f) (live f) c
+        (record { rest = makes ∷ returns ∷ []; file = stored; around = entered memory }) v →
         Line_of (record { rest = makes ∷ returns ∷ []; file = stored; around = entered memory })
         (step here (λ n. []) code (record { rest = makes ∷ returns ∷ []; file = stored; around = entered memory }))
     first_line stored memory is =
@@ -261,15 +272,18 @@ module _ (image : Tables) (has : HasFunctions image) (bases : (stack : ℕ) → 
           words = 1;
           few = omega arith;
           follows =
-              constant_follows s (laid f) (live f) at c here (λ n. []) code (returns ∷ []) v young held stored (entered memory) refl within ⊥ agrees a0_int (λ b. absurd b)
+              constant_follows s (laid f) (live f) at c here (λ n. []) code (returns ∷ []) v young held stored (entered memory) refl within ⊥ agrees
+              a0_int (λ b. absurd b)
               10 (dropped 10 held) (target_register held 10 a0_is) (10 ∷ []) (λ q i. ⊎_elim (λ e. inl e) (λ x. absurd x) i) 42 1 0 (omega (arith, p))
-              (λ z. keep_register s (laid f) young (entered memory) c (dropped 10 held) (put a0_int z held) (v.place + 1) 10 z refl a0_is (target_put a0_int 10 z held refl))
+              (λ z. keep_register s (laid f) young (entered memory) c (dropped 10 held) (put a0_int z held) (v.place + 1) 10 z refl a0_is
+              (target_put a0_int 10 z held refl))
               (set_changes s v (OpImm Addi 10 0 42) 9 42 (subst (λ q. IsCode s q (OpImm Addi 10 0 42)) (sym place) first) (inl (λ q. omega (arith, q)))
               (sets_as s v (OpImm Addi 10 0 42) 10 _ 42 sum (sets_imm s v Addi 10 0 42)) within.own.are (omega arith) (omega arith));
           calls = tt;
         }
 
-    second_follows : (stored : Locations) (memory : Memory) → IsAt s (laid f) (live f) c (record { rest = returns ∷ []; file = stored; around = entered memory }) v →
+    second_follows : (stored : Locations) (memory : Memory) → IsAt s (laid f) (live f) c
+        (record { rest = returns ∷ []; file = stored; around = entered memory }) v →
         FollowsStep 1 s (laid f) (live f) at c v (step here (λ n. []) code (record { rest = returns ∷ []; file = stored; around = entered memory }))
     second_follows stored memory is =
         let young = is.0 in
@@ -303,9 +317,11 @@ module _ (image : Tables) (has : HasFunctions image) (bases : (stack : ℕ) → 
 
     second_line : (u : State) (x : Step State) (memory : Memory) → Returns x memory → FollowsStep 1 s (laid f) (live f) at c v x → Line_of u x
     second_line u x memory (stuck e) follows =
-        subst (λ (z : Step State). FollowsStep 1 s (laid f) (live f) at c v z → Line_of u z) (sym e) (λ g. record { words = 1; few = omega arith; follows = g; calls = tt }) follows
+        subst (λ (z : Step State). FollowsStep 1 s (laid f) (live f) at c v z → Line_of u z) (sym e)
+        (λ g. record { words = 1; few = omega arith; follows = g; calls = tt }) follows
     second_line u x memory (out w e) follows =
-        subst (λ (z : Step State). FollowsStep 1 s (laid f) (live f) at c v z → Line_of u z) (sym e) (λ g. record { words = 1; few = omega arith; follows = g; calls = tt }) follows
+        subst (λ (z : Step State). FollowsStep 1 s (laid f) (live f) at c v z → Line_of u z) (sym e)
+        (λ g. record { words = 1; few = omega arith; follows = g; calls = tt }) follows
 
     -- the machine follows each line that a run comes to
     pub line : (u : State) → IsReached State program f here u → IsAt s (laid f) (live f) c u v → Line_of u (step here (λ n. []) code u)
@@ -316,7 +332,8 @@ module _ (image : Tables) (has : HasFunctions image) (bases : (stack : ℕ) → 
         by (second {file = stored} {memory = memory}) is = second_line _ _ memory (second_step here stored memory) (second_follows stored memory is)
 
     -- where it is entered it begins, in no instruction
-    pub entered_there : (arguments : List Value) (memory : Memory) (u : State) → start here code arguments memory ≡ Some u → IsEntered s at f arguments memory c v →
+    pub entered_there : (arguments : List Value) (memory : Memory) (u : State) → start here code arguments memory ≡ Some u →
+        IsEntered s at f arguments memory c v →
         ArrivesIn 0 0 s (needs_of (laid f) c u) v (IsAt s (laid f) (live f) c u)
     entered_there [] memory u e is =
         let same : record { rest = makes ∷ returns ∷ []; file = λ l. None; around = entered memory } ≡ u = cc in
@@ -331,7 +348,8 @@ module _ (image : Tables) (has : HasFunctions image) (bases : (stack : ℕ) → 
           record { others = λ l n. refl; spare_too = λ b. absurd b },
           record {
             place = omega (arith, place);
-            within = begins s (laid f) v v is.0 (at f) [] memory c entry (omega (arith, low)) (record { are = entry.own.are; others = λ q n. refl; memory = refl; blocks = refl })
+            within = begins s (laid f) v v is.0 (at f) [] memory c entry (omega (arith, low))
+                (record { are = entry.own.are; others = λ q n. refl; memory = refl; blocks = refl })
                 (omega (arith, top))
                 (λ l. None) (record { register = λ r x h. absurd (cc); slot = λ k x h. absurd (cc) });
           },

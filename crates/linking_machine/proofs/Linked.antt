@@ -53,22 +53,31 @@ module _ (file : FileTree) (image : Tables) (lins : ℕ → Lin) (named : ℕ �
         (at_ file image lins named w laid entry live has bases emitted run) (entry_ file image lins named w laid entry live has bases emitted run)
         (back_ file image lins named w laid entry live has bases emitted run) most f below c call go callee o y
     asked_carried call go (Inside g) is few lies follow called =
-        call_carried file image lins named w laid entry live has bases emitted run most f below c u o y sh e n call go g is (omega (arith, few)) lies follow called
+        call_carried file image lins named w laid entry live has bases emitted run most f below c u o y sh e n call go g is (omega (arith, few)) lies
+        follow called
     asked_carried call go (Outside row frame) is few lies follow called =
         let one : service_of (Waits call go) ≡ 1 = ap (λ q. service_in q) is in
-        outside_carried file image lins named w laid entry live has bases emitted run most n f below c e call go row frame (omega (arith, few, one)) called o y sh follow
+        outside_carried file image lins named w laid entry live has bases emitted run most n f below c e call go row frame (omega (arith, few, one))
+        called o y sh follow
 
-    carried : (x : Step State) → n + service_of x ≤ most → AskedSo (place file image lins named w laid entry live has bases emitted run f below) 0 u.around x →
+    carried : (x : Step State) → n + service_of x ≤ most → AskedSo (place file image lins named w laid entry live has bases emitted run f below) 0
+        u.around x →
         (follow : FollowsStep n (fixed file image lins named w laid entry live has bases emitted run) (laid f) (live f) entry c sh.view x) →
         CallsSo n (fixed file image lins named w laid entry live has bases emitted run) (laid f) (live f) entry c sh.view u x follow → Carried x
-    carried (Continues z) few asks follow called = stands_there file image lins named w laid entry live has bases emitted run most f below c z o y (omega (arith, few)) e sh follow
-    carried (Pays z) few asks follow called = stands_there file image lins named w laid entry live has bases emitted run most f below c z o y (omega (arith, few)) e sh follow
-    carried (Deepens bytes z) few asks follow called = stands_there file image lins named w laid entry live has bases emitted run most f below c z o y (omega (arith, few)) e sh follow
+    carried (Continues z) few asks follow called = stands_there file image lins named w laid entry live has bases emitted run most f below c z o y
+        (omega (arith, few)) e sh follow
+    carried (Pays z) few asks follow called = stands_there file image lins named w laid entry live has bases emitted run most f below c z o y
+        (omega (arith, few)) e sh follow
+    carried (Deepens bytes z) few asks follow called = stands_there file image lins named w laid entry live has bases emitted run most f below c z o y
+        (omega (arith, few)) e sh follow
     carried (Waits call go) few asks follow called = asked_carried call go call.callee refl few asks follow called
     carried (FinishesBy call kept) few asks follow called =
-        tail_carried file image lins named w laid entry live has bases emitted run most f below c u o y sh e n call call.callee refl (omega (arith, few)) asks follow
-    carried (Finishes d) few asks follow called = comes_free file image lins named w laid entry live has bases emitted run most o y (omega (arith, few)) sh follow (λ z at. at)
-    carried (FinishesRaising d) few asks follow called = comes_free file image lins named w laid entry live has bases emitted run most o y (omega (arith, few)) sh follow (λ z at. at)
+        tail_carried file image lins named w laid entry live has bases emitted run most f below c u o y sh e n call call.callee refl
+        (omega (arith, few)) asks follow
+    carried (Finishes d) few asks follow called = comes_free file image lins named w laid entry live has bases emitted run most o y (omega (arith, few))
+        sh follow (λ z at. at)
+    carried (FinishesRaising d) few asks follow called = comes_free file image lins named w laid entry live has bases emitted run most o y
+        (omega (arith, few)) sh follow (λ z at. at)
     carried IsStuck few asks follow called = tt
 
   -- The machine carries the Linear program out.
@@ -78,8 +87,10 @@ module _ (file : FileTree) (image : Tables) (lins : ℕ → Lin) (named : ℕ �
       record {
         steps = λ c f below u o y reached at.
             let line = emitted.lines run f below c at.0.view u reached at.1 at.0.holds in
-            carried run (w.cost f u) f below c u o y at.0 at.1 line.words (step (place file image lins named w laid entry live has bases emitted run f below) (named f) (lins f) u) line.few
-            (code_asked (place file image lins named w laid entry live has bases emitted run f below) (named f) (lins f) u.rest u.file u.around) line.follows line.calls;
+            carried run (w.cost f u) f below c u o y at.0 at.1 line.words
+            (step (place file image lins named w laid entry live has bases emitted run f below) (named f) (lins f) u) line.few
+            (code_asked (place file image lins named w laid entry live has bases emitted run f below) (named f) (lins f) u.rest u.file u.around)
+            line.follows line.calls;
         kept = λ c kept d o x back. kept_back file image lins named w laid entry live has bases emitted run c kept d o x back;
         enters = λ c f below arguments memory u o x starts at.
             stands_there file image lins named w laid entry live has bases emitted run (w.entry f) f below c u o x (omega arith) at.1 at.0
@@ -88,10 +99,12 @@ module _ (file : FileTree) (image : Tables) (lins : ℕ → Lin) (named : ℕ �
       }
 
   -- An image whose lines are followed, and whose functions do what the text does, is assembled.
-  pub emitted_assembled : (most words : ℕ) (IsGiven : List Value → Memory → Type 0) (IsDone : Doing → Type 0) → AreRowsOf (functions file) image.funcs → words + 1 ≤ length image.code →
+  pub emitted_assembled : (most words : ℕ) (IsGiven : List Value → Memory → Type 0) (IsDone : Doing → Type 0) → AreRowsOf (functions file) image.funcs →
+      words + 1 ≤ length image.code →
       Keeps State (linear_program lins named) file (layout_of image) most IsGiven IsDone → IsPassedOn IsGiven IsDone file (layout_of image) →
       GoesForward State (linear_program lins named) w words →
-      Assembled State (linear_program lins named) w most words file image IsGiven IsDone Below (At image has bases laid entry live) (Entry image has bases laid entry live)
+      Assembled State (linear_program lins named) w most words file image IsGiven IsDone Below (At image has bases laid entry live)
+      (Entry image has bases laid entry live)
       (Back image has bases laid entry live)
   emitted_assembled most words IsGiven IsDone rows fit keeps passed forward =
       record {
@@ -107,9 +120,11 @@ module _ (file : FileTree) (image : Tables) (lins : ℕ → Lin) (named : ℕ �
         stub = emitted.stub;
       }
 
-  pub emitted_correct : (most words : ℕ) (IsGiven : List Value → Memory → Type 0) (IsDone : Doing → Type 0) → AreRowsOf (functions file) image.funcs → words + 1 ≤ length image.code →
+  pub emitted_correct : (most words : ℕ) (IsGiven : List Value → Memory → Type 0) (IsDone : Doing → Type 0) → AreRowsOf (functions file) image.funcs →
+      words + 1 ≤ length image.code →
       Keeps State (linear_program lins named) file (layout_of image) most IsGiven IsDone → IsPassedOn IsGiven IsDone file (layout_of image) →
       GoesForward State (linear_program lins named) w words → IsCorrect file image
   emitted_correct most words IsGiven IsDone rows fit keeps passed forward =
-      assembled_correct State (linear_program lins named) w most words file image IsGiven IsDone Below (At image has bases laid entry live) (Entry image has bases laid entry live)
+      assembled_correct State (linear_program lins named) w most words file image IsGiven IsDone Below (At image has bases laid entry live)
+      (Entry image has bases laid entry live)
       (Back image has bases laid entry live) (emitted_assembled most words IsGiven IsDone rows fit keeps passed forward)

@@ -45,7 +45,8 @@ limit_start image stack heap tables =
     let short = tables.bytes.short in
     ap or_zero
     (cond-false (is_inside (data_region image.bytes) domain_start 8) _ _ (past_region (data_region image.bytes) domain_start (omega (arith, short)))
-    ∙ in_domain (uniform (half_start 0) (heap / 8) filler ∷ uniform (half_start 1) (heap / 8) filler ∷ uniform young_start 8192 filler ∷ stack_region stack ∷ []))
+    ∙ in_domain (uniform (half_start 0) (heap / 8) filler ∷ uniform (half_start 1) (heap / 8) filler ∷ uniform young_start 8192 filler ∷ stack_region
+    stack ∷ []))
 
 -- ---- the arguments
 
@@ -59,8 +60,10 @@ fit_length end [] (a ∷ args) e = absurd (cc)
 fit_length end (c ∷ comps) [] e = absurd (cc)
 fit_length end (c ∷ comps) (a ∷ args) e = ap suc (fit_length end comps args (both_true (fits end (type_of_comp c) (Word a)) _ e))
 
-module _ (file : FileTree) (image : Tables) (has : HasFunctions image) (bases : (stack : ℕ) → IsRoom stack → IsStackBase (stack_bottom - stack)) (entry : ℕ → ℕ)
-    (entries : AreEntries file image entry) (run : Setup) (f : ℕ) (args answers : List ℕ) (tree : FunctionTree) (entered : Entered file image f tree run.row args answers) where
+module _ (file : FileTree) (image : Tables) (has : HasFunctions image) (bases : (stack : ℕ) → IsRoom stack → IsStackBase (stack_bottom - stack))
+    (entry : ℕ → ℕ)
+    (entries : AreEntries file image entry) (run : Setup) (f : ℕ) (args answers : List ℕ) (tree : FunctionTree)
+    (entered : Entered file image f tree run.row args answers) where
   few : length args ≤ 16
   few = let n = fit_length (data_end file) (comps_of tree) args entered.args_fit in let l = entries.few f tree entered.of_file in omega (arith, n, l)
 
@@ -68,12 +71,20 @@ module _ (file : FileTree) (image : Tables) (has : HasFunctions image) (bases : 
   sound = start_sound image run.row args run.stack run.heap has.tables entries.bytes (words_all args entered.args_are_words) run.stack_room run.heap_room
 
   abbrev view : View
-  view = record { place = entry f; registers = start_registers args; memory = start_memory image run.stack run.heap; blocks = []; answers = answers; calls = [] }
+  view = record {
+    place = entry f;
+    registers = start_registers args;
+    memory = start_memory image run.stack run.heap;
+    blocks = [];
+    answers = answers;
+    calls = [];
+  }
 
   is_entry : AtEntry (fixed_of image has bases run) view [] (entry f) (map Word args) (first_memory file) nothing_below
   is_entry =
       let e =
-      at_start image has entries.bytes run.schedule run.row args (words_all args entered.args_are_words) few run.stack run.heap run.stack_room run.heap_room (entry f) answers
+      at_start image has entries.bytes run.schedule run.row args (words_all args entered.args_are_words) few run.stack run.heap run.stack_room
+      run.heap_room (entry f) answers
       (first_memory file).statics (first_memory file).roots (entries.statics run.stack run.heap run.stack_room run.heap_room) in
       let wt = e.waits in
       let hp = e.heap in
@@ -99,7 +110,8 @@ module _ (file : FileTree) (image : Tables) (has : HasFunctions image) (bases : 
       }
 
   -- where the run begins its entry is about to begin
-  pub starts : Shows (fixed_of image has bases run) (record { made = []; answers = answers }) (IsEntered (fixed_of image has bases run) entry f (map Word args) (first_memory file) nothing_below)
+  pub starts : Shows (fixed_of image has bases run) (record { made = []; answers = answers })
+      (IsEntered (fixed_of image has bases run) entry f (map Word args) (first_memory file) nothing_below)
       (begun image run.row args answers run.stack run.heap)
   starts =
       let offset = entries.places f run.row entered.of_image in

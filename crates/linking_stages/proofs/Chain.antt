@@ -54,7 +54,8 @@ module _ (machs : ℕ → Mach) (lins : ℕ → Lin) (named : ℕ → NamedAt) w
 
   -- The Linear functions do what the functions of the text do.
   pub lowered_keep : (file : FileTree) (layout : Layout) (most : ℕ) (IsGiven : List Value → Memory → Type 0) (IsDone : Doing → Type 0) →
-      Selects file layout machs most IsGiven IsDone → AreLowered file machs lins named → Keeps lin.State (linear_program lins named) file layout most IsGiven IsDone
+      Selects file layout machs most IsGiven IsDone → AreLowered file machs lins named →
+      Keeps lin.State (linear_program lins named) file layout most IsGiven IsDone
   lowered_keep file layout most IsGiven IsDone selects lowered =
       record {
         runs = λ f tree is arguments fit below memory doings n given done proper handed.

@@ -137,7 +137,8 @@ header_grows chunk.Val a s old new = tt
 
 first_grows : (k : Chunk) (a : Around) (cell : Cell) (x v : Value) → Grows a (first_written k a cell x v)
 first_grows k a (InHeader s) x v = header_grows k a s (value_in a.memory (InHeader s)) v
-first_grows k a (InBlock s n) x v = grows_if a _ _ (store_grows a (without (InBlock s n) a.unwritten) (stored k a.memory x v) (stored_extended k a.memory x v))
+first_grows k a (InBlock s n) x v = grows_if a _ _ (store_grows a (without (InBlock s n) a.unwritten) (stored k a.memory x v)
+    (stored_extended k a.memory x v))
 first_grows k a (InStatic l n) x v = tt
 
 stored_grows : (k : Chunk) (a : Around) (o : Option Cell) (x v : Value) → Grows a (stored_act k a o x v)
@@ -155,11 +156,13 @@ block_further b a =
     record { heap = extends_need e; tries = omega arith }
 
 further_then : {a b c : Around} → Further a b → Further b c → Further a c
-further_then p q = let h = p.heap in let g = q.heap in let t = p.tries in let u = q.tries in record { heap = omega (arith, h, g); tries = omega (arith, t, u) }
+further_then p q = let h = p.heap in let g = q.heap in let t = p.tries in let u = q.tries in record
+    { heap = omega (arith, h, g); tries = omega (arith, t, u) }
 
 blocks_grow : (first : Around) (blocks : List NewBlock) (so_far : List Value) (a : Around) → Further first a → Grows first (new_blocks blocks so_far a)
 blocks_grow first [] so_far a f = f
-blocks_grow first (b ∷ blocks) so_far a f = blocks_grow first blocks (so_far ++ value.Block (length a.memory.blocks) 0 ∷ []) (with_block b a) (further_then f (block_further b a))
+blocks_grow first (b ∷ blocks) so_far a f = blocks_grow first blocks (so_far ++ value.Block (length a.memory.blocks) 0 ∷ []) (with_block b a)
+    (further_then f (block_further b a))
 
 access_grows : (f : Access) (vs : List Value) (a : Around) → Grows a (access_act f vs a)
 access_grows (access.Load k offset) [] a = tt
@@ -188,13 +191,15 @@ raises_grows c v a = grows_if a _ _ (raise_grows v a a.tries (omega arith))
 
 -- ---- calls
 
-answered_grows : (a : Around) (end : ℕ) (result : Ret) (v : Option Value) (go : Option Value → Act) → ((v : Option Value) → Grows a (go v)) → Grows a (answered end result v go)
+answered_grows : (a : Around) (end : ℕ) (result : Ret) (v : Option Value) (go : Option Value → Act) → ((v : Option Value) → Grows a (go v)) →
+    Grows a (answered end result v go)
 answered_grows a end ret.Unit v go g = g None
 answered_grows a end (ret.Comp t) (Some v) go g = grows_if a _ _ (g (Some v))
 answered_grows a end (ret.Comp t) None go g = tt
 
 after_call_grows : (c : Setting) (result : Ret) (a : Around) (d : Doing) → heap_need a.memory ≤ heap_need (memory_after d) → Grows a (after_call c result a d)
-after_call_grows c result a (Gave v m) h = answered_grows a c.end result v (λ v. Goes (as_list v) On (record a { memory = m })) (λ v. record { heap = h; tries = omega arith })
+after_call_grows c result a (Gave v m) h = answered_grows a c.end result v (λ v. Goes (as_list v) On (record a { memory = m }))
+    (λ v. record { heap = h; tries = omega arith })
 after_call_grows c result a (Threw v m) h = grows_if a _ _ (callee_raise_grows v m a h a.tries (omega arith))
 
 after_external_grows : (c : Setting) (result : Ret) (frame : Bool) (a : Around) (d : Doing) → Grows a (after_external c result frame a d)
@@ -206,7 +211,8 @@ free_if : (b : Bool) (x : Act) → IsFree x → IsFree (only_if b x)
 free_if true x f = f
 free_if false x f = tt
 
-answered_free : (end : ℕ) (result : Ret) (v : Option Value) (go : Option Value → Act) → ((v : Option Value) → IsFree (go v)) → IsFree (answered end result v go)
+answered_free : (end : ℕ) (result : Ret) (v : Option Value) (go : Option Value → Act) → ((v : Option Value) → IsFree (go v)) →
+    IsFree (answered end result v go)
 answered_free end ret.Unit v go g = g None
 answered_free end (ret.Comp t) (Some v) go g = free_if _ _ (g (Some v))
 answered_free end (ret.Comp t) None go g = tt
@@ -219,19 +225,22 @@ after_call_free : (c : Setting) (result : Ret) (a : Around) (d : Doing) → IsFr
 after_call_free c result a (Gave v m) = answered_free c.end result v (λ v. Goes (as_list v) On (record a { memory = m })) (λ v. tt)
 after_call_free c result a (Threw v m) = free_if _ _ (callee_raise_free v m a a.tries)
 
-asks_grows : (c : Setting) (o : Option (List Comp)) (f : ℕ) (vs : List Value) (a : Around) (call : state.Callee → List Value → Act) → ((vs : List Value) → Grows a (call (Inside f) vs)) →
+asks_grows : (c : Setting) (o : Option (List Comp)) (f : ℕ) (vs : List Value) (a : Around) (call : state.Callee → List Value → Act) →
+    ((vs : List Value) → Grows a (call (Inside f) vs)) →
     Grows a (asks c o f vs a call)
 asks_grows c None f vs a call g = tt
 asks_grows c (Some comps) f vs a call g = grows_if a _ _ (g vs)
 
-asks_value_grows : (c : Setting) (o : Option Value) (vs : List Value) (a : Around) (call : state.Callee → List Value → Act) → ((f : ℕ) (vs : List Value) → Grows a (call (Inside f) vs)) →
+asks_value_grows : (c : Setting) (o : Option Value) (vs : List Value) (a : Around) (call : state.Callee → List Value → Act) →
+    ((f : ℕ) (vs : List Value) → Grows a (call (Inside f) vs)) →
     Grows a (asks_value c o vs a call)
 asks_value_grows c (Some (value.Function f)) vs a call g = asks_grows c (slice_get c.parameters f) f vs a call (g f)
 asks_value_grows c (Some (value.Word w)) vs a call g = tt
 asks_value_grows c (Some (value.Block s o)) vs a call g = tt
 asks_value_grows c None vs a call g = tt
 
-asks_callee_grows : (c : Setting) (f : Callee) (vs : List Value) (a : Around) (call : state.Callee → List Value → Act) → ((f : ℕ) (vs : List Value) → Grows a (call (Inside f) vs)) →
+asks_callee_grows : (c : Setting) (f : Callee) (vs : List Value) (a : Around) (call : state.Callee → List Value → Act) →
+    ((f : ℕ) (vs : List Value) → Grows a (call (Inside f) vs)) →
     Grows a (asks_callee c f vs a call)
 asks_callee_grows c (callee.Symbol name) vs a call g = asks_value_grows c (c.symbol name) vs a call g
 asks_callee_grows c callee.Register [] a call g = tt
@@ -239,9 +248,11 @@ asks_callee_grows c callee.Register (v ∷ vs) a call g = asks_value_grows c (So
 
 calling_grows : (c : Setting) (f : Calling) (vs : List Value) (a : Around) → Grows a (calling_act c f vs a)
 calling_grows c (calling.Call whom result) vs a =
-    asks_callee_grows c whom vs a (λ f arguments. Asks f arguments (after_call c result a)) (λ f vs. (λ d h. after_call_grows c result a d h, λ d. after_call_free c result a d))
+    asks_callee_grows c whom vs a (λ f arguments. Asks f arguments (after_call c result a))
+    (λ f vs. (λ d h. after_call_grows c result a d h, λ d. after_call_free c result a d))
 calling_grows c (calling.TailCall whom result) vs a = asks_callee_grows c whom vs a (λ f arguments. Replaces f arguments result) (λ f vs. tt)
-calling_grows c (calling.External row frame) vs a = grows_if a (is_complete a) (Asks (Outside (row_of row) frame) vs (after_external c row.result frame a)) (λ d h. after_external_grows c row.result frame a d, λ d. tt)
+calling_grows c (calling.External row frame) vs a = grows_if a (is_complete a)
+    (Asks (Outside (row_of row) frame) vs (after_external c row.result frame a)) (λ d h. after_external_grows c row.result frame a d, λ d. tt)
 
 -- ---- leaving
 
@@ -327,7 +338,8 @@ module _ (functions : ℕ → Lin) (named : ℕ → NamedAt) (c : Place) where
   abbrev IsRegular' : ℕ → ℕ → Step State → Type 0
   IsRegular' stack heap x = IsRegularStep State (linear_program functions named) c stack heap x
 
-  wrote_regular : (a after : Around) (rest : List Line) (o : Option Locations) → Further a after → IsRegular' (taken c a) (heap_need a.memory) (wrote rest after o)
+  wrote_regular : (a after : Around) (rest : List Line) (o : Option Locations) → Further a after →
+      IsRegular' (taken c a) (heap_need a.memory) (wrote rest after o)
   wrote_regular a after rest None f = tt
   wrote_regular a after rest (Some file) f = let t = f.tries in (omega (arith, t), f.heap)
 
@@ -383,7 +395,8 @@ module _ (functions : ℕ → Lin) (named : ℕ → NamedAt) (c : Place) where
       misnamed_regular m i next file a (taken c a) (heap_need a.memory) (not (passes_frame i.op) || are_vals c.setting.end names file) _
       (act_regular m i next (past_frame (passes_frame i.op) names file) a (lin_act c.setting i.op vs a) (lin_grows c.setting i.op vs a))
 
-  code_regular : (named : NamedAt) (m : Lin) (rest : List Line) (file : Locations) (a : Around) → IsRegular' (taken c a) (heap_need a.memory) (at_code c named m rest file a)
+  code_regular : (named : NamedAt) (m : Lin) (rest : List Line) (file : Locations) (a : Around) →
+      IsRegular' (taken c a) (heap_need a.memory) (at_code c named m rest file a)
   code_regular named m [] file a = tt
   code_regular named m (i ∷ next) file a = values_regular m (named (length next)) i next file a (values c.setting.end file i.args)
 

@@ -37,17 +37,36 @@ met machs most n units nodes _ (returned {t = t} a b) ok no_more enough le heap 
     let need = a.need in
     let more : nodes * suc units ≤ most * suc units = mul-le-mul_right (suc units) le in
     let times : most * suc t.units ≡ most * suc units = ap (λ u. most * suc u) b in
-    record { calls = a.asked; no_more = omega (arith, b, no_more); enough = omega (arith, enough, more, times); stack = omega (arith, need); end = gives refl }
+    record {
+      calls = a.asked;
+      no_more = omega (arith, b, no_more);
+      enough = omega (arith, enough, more, times);
+      stack = omega (arith, need);
+      end = gives
+          refl;
+    }
 met machs most n units nodes _ (threw {t = t} a b) ok no_more enough le heap =
     let need = a.need in
     let more : nodes * suc units ≤ most * suc units = mul-le-mul_right (suc units) le in
     let times : most * suc t.units ≡ most * suc units = ap (λ u. most * suc u) b in
-    record { calls = a.asked; no_more = omega (arith, b, no_more); enough = omega (arith, enough, more, times); stack = omega (arith, need); end = raises refl }
+    record {
+      calls = a.asked;
+      no_more = omega (arith, b, no_more);
+      enough = omega (arith, enough, more, times);
+      stack = omega (arith, need);
+      end = raises refl;
+    }
 met machs most n units nodes _ (running {w = w} {s = s} {t = t} a b) ok no_more enough le heap =
     let need = a.need in
     let more : nodes * suc units ≤ most * suc units = mul-le-mul_right (suc units) le in
     let times : most * suc t.units ≡ most * suc units = ap (λ u. most * suc u) b in
-    record { calls = a.asked; no_more = omega (arith, b, no_more); enough = omega (arith, enough, more, times); stack = omega (arith, need); end = out_of_units (heap w s t refl refl) }
+    record {
+      calls = a.asked;
+      no_more = omega (arith, b, no_more);
+      enough = omega (arith, enough, more, times);
+      stack = omega (arith, need);
+      end = out_of_units (heap w s t refl refl);
+    }
 met machs most n units nodes _ (asking {t = t} a b) ok no_more enough le heap =
     let need = a.need in
     let more : nodes * suc units ≤ most * suc units = mul-le-mul_right (suc units) le in
@@ -73,7 +92,8 @@ selected_selects file layout machs most s =
               begun = k.run.begun;
               begins = k.run.begins;
               steps = k.run.steps;
-              same = met machs most n k.run.units _ (alone_in file c tree arguments memory doings n) k.run.meets ok k.run.no_more k.run.enough (s.nodes f tree is) k.heap;
+              same = met machs most n k.run.units _ (alone_in file c tree arguments memory doings n) k.run.meets ok k.run.no_more k.run.enough
+                  (s.nodes f tree is) k.heap;
             };
             proper = k.proper;
           };
@@ -104,7 +124,8 @@ words_passed file layout holds =
       entry = λ words all. (all_words words all, holds.memory);
       alone = λ f tree is arguments fit below memory doings n given done.
           known (alone_in file (place_in file layout f below) tree arguments memory doings n)
-          (alone_bounded (place_in file layout f below) tree (bound_error_fits file) (holds.width f tree is) holds.symbols (holds.code f tree is) arguments memory doings n
+          (alone_bounded (place_in file layout f below) tree (bound_error_fits file) (holds.width f tree is) holds.symbols (holds.code f tree is)
+          arguments memory doings n
           given.0 given.1 (all_doings doings done) fit);
       nothing = λ arguments memory given. (tt, given.1);
       answer = λ arguments memory a given word. ((word, given.1), (word, given.1));
