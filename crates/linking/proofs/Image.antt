@@ -1,0 +1,138 @@
+-- An image that is assembled so is correct for its file.
+use Rattle.std.proofs.Common.{◌≡◌, ℕ, zero, suc, List, [], ◌∷◌, Some, length, map, subst, ap, ◌∙◌}
+use Rattle.std.proofs.lemmas.Option.{slice_get-map}
+use Rattle.std.specs.Prelude.{slice_get, option_map}
+use Rattle.bs_words.specs.Memory.{Memory}
+use Rattle.bs_words.specs.declared.types.Ret.{Ret}
+use Rattle.bs_words.specs.declared.values.Value.{Value}
+use Rattle.bs_words.specs.declared.values.Value.TheVariants.{Word}
+use Rattle.cmm_data.specs.Placement.{data_end}
+use Rattle.cmm_tree.specs.Tree.{FunctionTree, FileTree, functions, comps_of}
+use Rattle.cmm_types.specs.Types.{body_type, result_of}
+use Rattle.cmm_meaning.specs.Evaluation.{Evaluation}
+use Rattle.cmm_meaning.specs.Layout.{Layout}
+use Rattle.cmm_meaning.specs.Run.{Run, callees, cmm_run, first_call, first_world}
+use Rattle.cmm_meaning.specs.Setting.{setting_of}
+use Rattle.cmm_meaning.specs.State.{Doing, World}
+use Rattle.correctness.specs.Correct.{Alike, IsProper, Forwards, Accounted, Backwards, IsCorrect}
+use Rattle.correctness.specs.Setting.{layout_of, IsRowOf, AreRowsOf, Entered}
+use Rattle.image_form.specs.Tables.{Tables, Func}
+use Rattle.machine_laws.specs.Steps.{next_of, IsFrontOf}
+use Rattle.machine_laws.proofs.Orderly.{machine_steps, machine_orderly}
+use Rattle.meaning_fuel.specs.Whole.{whole}
+use Rattle.meaning_laws.specs.Fitting.{FitsCallee, CallsFitAndGrow}
+use Rattle.meaning_laws.proofs.Given.{callees_give}
+use Rattle.meaning_laws.proofs.LinksWhole.{whole_calls_fit}
+use Rattle.meaning_laws.proofs.OutOfFuel.{run_empty}
+use Rattle.rv_machine.specs.Loading.{IsRoom}
+use Rattle.rv_machine.specs.Run.{Schedule, Seen, seen, begun, machine_run}
+use Rattle.rv_machine.specs.Services.{Now}
+use Rattle.linking.specs.Assembled.{IsStub, Setup, Assembled}
+use Rattle.linking.specs.Carries.{Outer, Comes}
+use Rattle.linking.specs.Pace.{Words}
+use Rattle.linking.specs.Program.{Program}
+use Rattle.linking.proofs.Directions.{Over, seen_of, told_of, forwards, backwards}
+use Rattle.linking.proofs.Known.{passed_known}
+use Rattle.linking.proofs.Whole.{AreKnown, does_whole}
+
+forwards_same : (run : ℕ → Run) (one two : ℕ → Seen) (stack heap words : ℕ) → ((m : ℕ) → one m ≡ two m) → Forwards run one stack heap words →
+    Forwards run two stack heap words
+forwards_same run one two stack heap words e f =
+    record { does = λ n given. let d = f.does n given in (d.0, d.1, subst (Alike (run n)) (e d.0) d.2) }
+
+backwards_same : (run : ℕ → Run) (one two : ℕ → Seen) (stack heap : ℕ) → ((m : ℕ) → one m ≡ two m) → Backwards run one stack heap →
+    Backwards run two stack heap
+backwards_same run one two stack heap e b =
+    record {
+      calls = λ proper m. let c = b.calls proper m in (c.0, subst (λ (s : Seen). IsFrontOf s.calls (run c.0).calls) (e m) c.1);
+      end = λ proper m. subst (λ (s : Seen). Accounted run stack heap s s.end) (e m) (b.end proper m);
+    }
+
+-- the row of a function has its result
+row_of : (fs : List FunctionTree) (rows : List Func) (k : ℕ) (f : FunctionTree) (row : Func) → AreRowsOf fs rows → slice_get fs k ≡ Some f →
+    slice_get rows k ≡ Some row → IsRowOf f row
+row_of [] rows k f row are e d = absurd (cc)
+row_of (g ∷ fs) [] k f row are e d = absurd are
+row_of (g ∷ fs) (r ∷ rows) zero f row are e d =
+    let same_f : g ≡ f = cc in
+    let same_row : r ≡ row = cc in
+    subst (λ f. IsRowOf f row) same_f (subst (IsRowOf g) same_row are.0)
+row_of (g ∷ fs) (r ∷ rows) (suc k) f row are e d = row_of fs rows k f row are.1 e d
+
+module _ (S : Type 0) (p : Program S) (w : Words S) (most words : ℕ) (file : FileTree)
+    (image : Tables) (IsGiven : List Value → Memory → Type 0) (IsDone : Doing → Type 0)
+    (Below : Type 0) (At : Setup → Below → ℕ → ℕ → S → Outer → Now → Type 0)
+    (Entry : Setup → Below → ℕ → ℕ → List Value → Memory → Outer → Now → Type 0)
+    (Back : Setup → Below → Doing → Outer → Now → Type 0)
+    (a : Assembled S p w most words file image IsGiven IsDone Below At Entry Back) (known : AreKnown file (layout_of image) IsGiven IsDone) where
+  module _ (stack heap : ℕ) (stack_room : IsRoom stack) (heap_room : IsRoom heap) (entry : ℕ) (f : FunctionTree) (row : Func) (args answers : List ℕ)
+      (schedule : Schedule)
+      (entered : Entered file image entry f row args answers) where
+    abbrev setup : Setup
+    setup = record { stack = stack; heap = heap; stack_room = stack_room; heap_room = heap_room; schedule = schedule; row = row }
+
+    abbrev layout : Layout
+    layout = layout_of image
+
+    abbrev run : ℕ → Run
+    run n = cmm_run file layout entry args answers n
+
+    stub_here : IsStub Now (next_of schedule) seen stack heap layout (data_end file) (result_of (body_type f)) (λ d o x. Back setup a.bottom d o x)
+    stub_here =
+        let r : IsRowOf f row = row_of (functions file) image.funcs entry f row a.rows entered.of_file entered.of_image in
+        subst (λ (result : Ret). IsStub Now (next_of schedule) seen stack heap layout (data_end file) result (λ d o x. Back setup a.bottom d o x)) r.result
+        (a.stub setup entry entered.of_image)
+
+    told : (n : ℕ) → IsProper (run n).outcome →
+        Comes Now (next_of schedule) seen stack heap (run n).stack_need (run n).heap_need (run n).calls
+        (Over Now seen most words n (seen_of (run n)) (run n).left)
+        (begun image row args answers stack heap)
+    told n proper =
+        let world : World = first_world file answers n in
+        let e : Evaluation = callees file layout (suc n) (first_call entry args) world in
+        let there : slice_get (map comps_of (functions file)) entry ≡ Some (comps_of f) = slice_get-map comps_of (functions file) entry
+        ∙ ap (option_map comps_of) entered.of_file in
+        let fits : FitsCallee (setting_of (whole file layout)) entry (map Word args) = record
+        { parameters = comps_of f; callee = there; fit = entered.args_fit } in
+        let calls : CallsFitAndGrow (whole file layout) = whole_calls_fit file layout in
+        told_of Now (next_of schedule) seen stack heap most words layout (data_end file) (result_of (body_type f)) (λ d o x. Back setup a.bottom d o x)
+        stub_here world
+        (begun image row args answers stack heap) e (callees_give file layout (suc n) (first_call entry args) f world entered.of_file entered.args_fit)
+        (calls.fit (first_call entry args) world)
+        (does_whole S p w file layout Now (next_of schedule) seen stack heap Below (At setup) (Entry setup) (Back setup) most words IsGiven IsDone
+        a.regular a.forward (a.carries setup) a.keeps known
+        (first_call entry args) a.bottom world (begun image row args answers stack heap) fits
+        (a.passed.entry args entered.args_are_words, entered.answers_are_words)
+        (a.start setup entry args answers f entered))
+        proper
+
+    image_forwards : Forwards run (machine_run image row args answers stack heap schedule) stack heap (length image.code)
+    image_forwards =
+        forwards_same run _ (machine_run image row args answers stack heap schedule) stack heap (length image.code)
+        (machine_steps image row args answers stack heap schedule)
+        (forwards Now (next_of schedule) seen stack heap most words (length image.code) a.words_fit run (begun image row args answers stack heap) told)
+
+    image_backwards : Backwards run (machine_run image row args answers stack heap schedule) stack heap
+    image_backwards =
+        backwards_same run _ (machine_run image row args answers stack heap schedule) stack heap
+        (machine_steps image row args answers stack heap schedule)
+        (backwards Now (next_of schedule) seen stack heap most words (length image.code) a.words_fit run (begun image row args answers stack heap) told
+        (machine_orderly schedule) (λ n e. run_empty file layout entry args answers n e))
+
+  pub known_correct : IsCorrect file image
+  known_correct stack heap stack_room heap_room =
+      record {
+        rows = a.rows;
+        forwards = λ entry f row args answers schedule entered. image_forwards stack heap stack_room heap_room entry f row args answers schedule entered;
+        backwards = λ entry f row args answers schedule entered. image_backwards stack heap stack_room heap_room entry f row args answers schedule entered;
+      }
+
+-- An image that is assembled for a file is correct for it.
+pub assembled_correct : (S : Type 0) (p : Program S) (w : Words S) (most words : ℕ) (file : FileTree)
+    (image : Tables) (IsGiven : List Value → Memory → Type 0) (IsDone : Doing → Type 0)
+    (Below : Type 0) (At : Setup → Below → ℕ → ℕ → S → Outer → Now → Type 0)
+    (Entry : Setup → Below → ℕ → ℕ → List Value → Memory → Outer → Now → Type 0)
+    (Back : Setup → Below → Doing → Outer → Now → Type 0) →
+    Assembled S p w most words file image IsGiven IsDone Below At Entry Back → IsCorrect file image
+assembled_correct S p w most words file image IsGiven IsDone Below At Entry Back a =
+    known_correct S p w most words file image IsGiven IsDone Below At Entry Back a (passed_known file (layout_of image) IsGiven IsDone a.passed)

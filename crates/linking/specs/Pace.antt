@@ -1,0 +1,55 @@
+-- Code that only goes forward between two units: then it takes no more instructions there than it
+-- has words.
+use Rattle.std.specs.Prelude.{◌≡◌, ℕ, ◌+◌, ◌-◌, ◌≤◌, List, Some}
+use Rattle.bs_words.specs.Memory.{Memory}
+use Rattle.bs_words.specs.declared.values.Value.{Value}
+use Rattle.cmm_meaning.specs.State.{Doing, Asked, Callee, Inside, Outside}
+use Rattle.mach_ir.specs.Runs.{Place, Step, Continues, Pays, Deepens, Waits, FinishesBy, Finishes, FinishesRaising, IsStuck}
+use Rattle.linking.specs.Program.{Program}
+
+-- the words of a function's code
+pub record Words (S : Type 0) : Type 0 where
+  -- how many instructions a step takes at most; an external call's own is one of them
+  pub cost : ℕ → S → ℕ
+  -- how many the function takes before its first step
+  pub entry : ℕ → ℕ
+  -- how many it may still take up to the next unit
+  pub ahead : ℕ → S → ℕ
+
+module _ (S : Type 0) (words : ℕ) (ahead : S → ℕ) where
+  -- behind a call of a function all words may come again, behind an external one those that are left
+  abbrev pub left_behind : Callee → ℕ → ℕ
+  left_behind (Inside f) left = words
+  left_behind (Outside row frame) left = left
+
+  -- where so many instructions are left up to the next unit
+  abbrev pub StepForward : ℕ → Step S → Type 0
+  StepForward left (Continues u) = ahead u ≤ left
+  StepForward left (Pays u) = ahead u ≤ words
+  StepForward left (Deepens bytes u) = ahead u ≤ left
+  StepForward left (Waits call go) =
+      (d : Doing) → StepForward (left_behind call.callee left) (go d)
+  StepForward left (FinishesBy call kept) = Unit {0}
+  StepForward left (Finishes d) = Unit {0}
+  StepForward left (FinishesRaising d) = Unit {0}
+  StepForward left IsStuck = Unit {0}
+
+-- where a step may lead, at once or behind calls
+pub data LeadsTo (S : Type 0) (u : S) : Step S → Type 0 where
+  continues : LeadsTo S u (Continues u)
+  pays : LeadsTo S u (Pays u)
+  deepens : {bytes : ℕ} → LeadsTo S u (Deepens bytes u)
+  behind : {call : Asked} {go : Doing → Step S} (d : Doing) → LeadsTo S u (go d) → LeadsTo S u (Waits call go)
+
+-- a state that some run of a function comes to
+pub data IsReached (S : Type 0) (p : Program S) (f : ℕ) (c : Place) : S → Type 0 where
+  at_start : {arguments : List Value} {memory : Memory} {s : S} →
+      p.start f c arguments memory ≡ Some s → IsReached S p f c s
+  by_step : {s u : S} → IsReached S p f c s → LeadsTo S u (p.step f c s) → IsReached S p f c u
+
+pub record GoesForward (S : Type 0) (p : Program S) (w : Words S) (words : ℕ) : Type 0 where
+  pub enter : (f : ℕ) (c : Place) (arguments : List Value) (memory : Memory) (s : S) →
+      p.start f c arguments memory ≡ Some s → w.entry f + w.ahead f s ≤ words
+  pub cost : (f : ℕ) (c : Place) (s : S) → IsReached S p f c s → w.cost f s ≤ w.ahead f s
+  pub on : (f : ℕ) (c : Place) (s : S) → IsReached S p f c s →
+      StepForward S words (w.ahead f) (w.ahead f s - w.cost f s) (p.step f c s)

@@ -1,0 +1,125 @@
+-- What layout and emission give of an image, function by function and line by line.
+use Rattle.std.specs.Prelude.{◌≡◌, ℕ, ◌+◌, ◌-◌, ◌*◌, ◌<◌, ◌≤◌, List, [], Some, length, slice_get, slice_index}
+use Rattle.std.specs.List.{AllByRecursion}
+use Rattle.bs_words.specs.Memory.{Memory}
+use Rattle.bs_words.specs.declared.values.Value.{Value}
+use Rattle.bs_words.specs.declared.values.Value.TheVariants.{Word, Block, Function}
+use Rattle.cmm_data.specs.Contents.{first_memory}
+use Rattle.cmm_data.specs.Placement.{data_end}
+use Rattle.cmm_tree.specs.Tree.{FunctionTree, FileTree, functions, comps_of}
+use Rattle.cmm_meaning.specs.State.{Doing, Asked, Callee, Inside, Outside}
+use Rattle.correctness.specs.Setting.{layout_of}
+use Rattle.image_form.specs.Tables.{Tables, Func}
+use Rattle.lin_ir.specs.Meaning.{NamedAt, State, step, start}
+use Rattle.lin_ir.specs.declared.lin.Lin.{Lin}
+use Rattle.lin_ir.specs.declared.lin.Line.{Line}
+use Rattle.machine_laws.specs.Steps.{next_of}
+use Rattle.mach_ir.specs.Runs.{Step, Continues, Pays, Deepens, Waits, FinishesBy, Finishes, FinishesRaising, IsStuck}
+use Rattle.moving_laws.specs.Stands.{StaticsStand}
+use Rattle.moving_laws.specs.Values.{HasFunctions}
+use Rattle.rv_machine.specs.Loading.{IsRoom}
+use Rattle.rv_machine.specs.Places.{stack_bottom}
+use Rattle.rv_machine.specs.Relocation.{root_cells}
+use Rattle.rv_machine.specs.Run.{seen}
+use Rattle.rv_machine.specs.Start.{start_memory}
+use Rattle.rv_machine.specs.Services.{Now}
+use Rattle.rv_machine.specs.Sound.{IsStackBase}
+use Rattle.linear_machine.specs.Arrival.{ArrivesIn}
+use Rattle.linear_machine.specs.Contents.{statics_of}
+use Rattle.linear_machine.specs.Follows.{IsAt, IsEntered, used, needs_of, FollowsAsked, FollowsStep}
+use Rattle.linear_machine.specs.Relation.{Below, Laid}
+use Rattle.linear_machine.specs.View.{Fixed, View}
+use Rattle.linear_machine.proofs.Beginning.{nothing_below}
+use Rattle.linking.specs.Assembled.{Setup, IsStub}
+use Rattle.linking.specs.Pace.{Words, IsReached}
+use Rattle.linking.specs.Program.{place_in}
+use Rattle.linking_stages.specs.Stages.{linear_program}
+use Rattle.linking_machine.specs.Standing.{fixed_of, Back}
+
+-- ---- one line
+
+-- an external call's own instruction, which comes behind those of its line
+abbrev pub service_in : Callee → ℕ
+service_in (Inside f) = 0
+service_in (Outside row frame) = 1
+
+abbrev pub service_of : Step State → ℕ
+service_of (Waits call go) = service_in call.callee
+service_of _ = 0
+
+-- the function that a value points to is in the table
+abbrev pub IsInTable : Tables → Value → Type 0
+IsInTable image (Word w) = Unit {0}
+IsInTable image (Block serial offset) = Unit {0}
+IsInTable image (Function f) = f < length image.funcs
+
+module _ (n : ℕ) (s : Fixed) (laid : Laid) (live : List Line → Type 0) (entry : ℕ → ℕ)
+    (c : Below) (v : View) (u : State) where
+  -- A callee stands below all that its caller has in use; what is shown to the outside is known.
+  abbrev pub IsCalled : (call : Asked) (go : Doing → Step State) (callee : Callee) →
+      FollowsAsked n s laid live entry c v call go callee → Type 0
+  IsCalled call go (Inside f) follows = follows.below.top + used laid u ≡ c.top
+  IsCalled call go (Outside row frame) follows =
+      AllByRecursion (IsInTable s.image) call.arguments
+
+  abbrev pub CallsSo : (x : Step State) → FollowsStep n s laid live entry c v x → Type 0
+  CallsSo (Waits call go) follows = IsCalled call go call.callee follows
+  CallsSo (Continues u) follows = Unit {0}
+  CallsSo (Pays u) follows = Unit {0}
+  CallsSo (Deepens bytes u) follows = Unit {0}
+  CallsSo (FinishesBy call kept) follows = Unit {0}
+  CallsSo (Finishes d) follows = Unit {0}
+  CallsSo (FinishesRaising d) follows = Unit {0}
+  CallsSo IsStuck follows = Unit {0}
+
+-- The machine follows a step from a view, in at most so many instructions.
+pub record FollowsLine (most : ℕ) (s : Fixed) (laid : Laid) (live : List Line → Type 0)
+    (entry : ℕ → ℕ) (c : Below) (v : View) (u : State) (x : Step State) : Type 0 where
+  pub words : ℕ
+  pub few : words + service_of x ≤ most
+  pub follows : FollowsStep words s laid live entry c v x
+  pub calls : CallsSo words s laid live entry c v u x follows
+
+-- ---- an image
+
+-- Entries lie where the rows say, and take their arguments in registers; the data stands in the first
+-- memory of a run.
+pub record AreEntries (file : FileTree) (image : Tables) (entry : ℕ → ℕ) : Type 0 where
+  pub places : (f : ℕ) (row : Func) → slice_get image.funcs f ≡ Some row →
+      row.offset ≡ 4 * entry f
+  pub few : (f : ℕ) (tree : FunctionTree) → slice_get (functions file) f ≡ Some tree →
+      length (comps_of tree) ≤ 16
+  pub bytes : AllByRecursion (λ b. b < 256) image.bytes
+  pub statics : (stack heap : ℕ) → IsRoom stack → IsRoom heap →
+      StaticsStand image [] (start_memory image stack heap) (root_cells image)
+      (statics_of (first_memory file))
+
+module _ (file : FileTree) (image : Tables) (lins : ℕ → Lin) (named : ℕ → NamedAt)
+    (w : Words State) (laid : ℕ → Laid) (entry : ℕ → ℕ) (live : ℕ → List Line → Type 0)
+    (has : HasFunctions image)
+    (bases : (stack : ℕ) → IsRoom stack → IsStackBase (stack_bottom - stack)) where
+  pub record IsEmitted : Type 0 where
+    -- the frames are those of the rows
+    pub frames : (f : ℕ) → (laid f).frame ≡ slice_index (layout_of image).frames f
+    -- each line does its step, wherever a run of its function comes to it
+    pub lines : (run : Setup) (f below : ℕ) (c : Below) (v : View) (u : State) →
+        IsReached State (linear_program lins named) f (place_in file (layout_of image) f below) u →
+        c.top + below ≡ stack_bottom →
+        IsAt (fixed_of image has bases run) (laid f) (live f) c u v →
+        FollowsLine (w.cost f u) (fixed_of image has bases run) (laid f) (live f) entry c v u
+        (step (place_in file (layout_of image) f below) (named f) (lins f) u)
+    -- a function begins where its frame fits
+    pub begins : (run : Setup) (f below : ℕ) (c : Below) (v : View) (arguments : List Value)
+        (memory : Memory) (u : State) →
+        start (place_in file (layout_of image) f below) (lins f) arguments memory ≡ Some u →
+        c.top + below ≡ stack_bottom →
+        IsEntered (fixed_of image has bases run) entry f arguments memory c v →
+        ArrivesIn 0 (w.entry f) (fixed_of image has bases run) (needs_of (laid f) c u) v
+        (IsAt (fixed_of image has bases run) (laid f) (live f) c u)
+    -- so does the entry of a run, above the stub
+    pub entries : AreEntries file image entry
+    -- and the stub ends it
+    pub stub : (run : Setup) (f : ℕ) → slice_get image.funcs f ≡ Some run.row →
+        IsStub Now (next_of run.schedule) seen run.stack run.heap (layout_of image)
+        (data_end file) run.row.result
+        (λ d o x. Back image has bases laid entry live run nothing_below d o x)

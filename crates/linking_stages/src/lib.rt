@@ -1,0 +1,36 @@
+//! Mach and Linear are programs, and what each stage keeps of a function composes: what the last one gives does
+//! what the text does.
+//!
+//! The crate holds definitions and laws alone.
+#![tactic(auto)]
+
+ghost use Rattle.std.specs.Prelude.{ℕ};
+ghost use Rattle.cmm_meaning.specs.Layout.{Layout};
+ghost use Rattle.cmm_tree.specs.Tree.{FileTree};
+ghost use Rattle.lin_ir.specs.Meaning.{NamedAt, State};
+ghost use Rattle.lin_ir.specs.declared.lin.Lin.{Lin};
+ghost use Rattle.linking.specs.Assembled.{IsPassedOn};
+ghost use Rattle.linking.specs.Keeps.{Keeps};
+ghost use Rattle.linking.specs.Program.{IsRegular};
+ghost use Rattle.linking_stages.specs.Chain.{AreLowered, HoldsWords, IsGivenWords, IsSelected};
+ghost use Rattle.linking_stages.specs.Stages.{linear_program};
+ghost use Rattle.mach_ir.specs.declared.mach.Mach.{Mach};
+ghost use Rattle.selection_rules.specs.Bounded.{BoundedDoing};
+
+/// Law: where Linear functions keep what is selected of a file, they do what its functions do.
+pub fn stages_compose()
+    ensures { (file : FileTree) (layout : Layout) (most : ℕ) (machs : ℕ → Mach) (lins : ℕ → Lin)
+        (named : ℕ → NamedAt) → IsSelected file layout machs most → AreLowered file machs lins named →
+        Keeps State (linear_program lins named) file layout most IsGivenWords BoundedDoing }
+{}
+
+/// Law: a function that is handed words hands words to those that it calls, and back.
+pub fn words_are_passed_on()
+    ensures { (file : FileTree) (layout : Layout) → HoldsWords file →
+        IsPassedOn IsGivenWords BoundedDoing file layout }
+{}
+
+/// Law: the needs of Linear functions are what their tallies and memories say.
+pub fn linear_is_regular()
+    ensures { (lins : ℕ → Lin) (named : ℕ → NamedAt) → IsRegular State (linear_program lins named) }
+{}
