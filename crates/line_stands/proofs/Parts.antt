@@ -1,0 +1,100 @@
+-- Parts are read piece by piece.
+use Rattle.std.proofs.Common.{◌≡◌, ℕ, ◌+◌, ◌≤◌, List, [], ◌∷◌, ◌++◌, refl, arith, subst, sym}
+use Rattle.layout_rules.specs.Forms.{ReachFrom, needed, rank, total_words, words_of}
+use Rattle.layout_rules.specs.Laid.{address_of_place}
+use Rattle.layout_rules.specs.Stands.{HasPieces}
+use Rattle.layout_rules.specs.Stands as layout
+use Rattle.layout_rules.specs.Words.{Named, code_of}
+use Rattle.layout_rules.specs.declared.form.Form.{Form}
+use Rattle.lin_ir.specs.declared.descr.Descr.{Descr}
+use Rattle.rv_isa.specs.declared.instr.Instr.{Instr}
+use Rattle.rv_pieces.specs.declared.piece.Piece.{Piece}
+use Rattle.rv_pieces.specs.declared.piece.Piece.TheVariants.{Descriptor, Known, Label}
+use Rattle.linear_machine.specs.View.{Fixed, HasCode, IsCode}
+use Rattle.line_stands.specs.Parts.{PartStands, label_place}
+
+module _ (s : Fixed) (n : Named) where
+  -- instructions that stand in the image's code
+  pub code_stands : (at : ℕ) (is : List Instr) → layout.HasCode s.image.code at is → HasCode s at is
+  code_stands at [] h = tt
+  code_stands at (i ∷ is) h = (record { there = h.0; fits = h.1 }, code_stands (at + 1) is h.2)
+
+  -- ---- one part behind another
+
+  -- the first pieces stand up to a place, and the others from it on
+  pub record Splits (at to : ℕ) (xs ys : List Piece) : Type 0 where
+    pub middle : ℕ
+    pub first : PartStands s n at middle xs
+    pub second : PartStands s n middle to ys
+
+  splits_by : (xs ys : List Piece) (forms : List Form) (at to : ℕ) → HasPieces s.image.code n at (xs ++ ys) forms →
+      ReachFrom (label_place n) at (xs ++ ys) forms → to ≡ at + total_words (xs ++ ys) forms → Splits at to xs ys
+  splits_by [] ys forms at to has reach past = record {
+    middle = at;
+    first = record { forms = []; has = tt; reach = tt; past = omega arith };
+    second = record { forms = forms; has = has; reach = reach; past = past };
+  }
+  splits_by (x ∷ xs) ys [] at to has reach past = absurd has
+  splits_by (x ∷ xs) ys (f ∷ forms) at to has reach past =
+      let rest = splits_by xs ys forms (at + words_of x f) to has.1 reach.1 (omega (arith, past)) in
+      let e = rest.first.past in
+      record {
+        middle = rest.middle;
+        first = record {
+          forms = f ∷ rest.first.forms;
+          has = (has.0, rest.first.has);
+          reach = (reach.0, rest.first.reach);
+          past = omega (arith, e);
+        };
+        second = rest.second;
+      }
+
+  pub splits : (at to : ℕ) (xs ys : List Piece) → PartStands s n at to (xs ++ ys) → Splits at to xs ys
+  splits at to xs ys p = splits_by xs ys p.forms at to p.has p.reach p.past
+
+  -- ---- one piece
+
+  -- the first piece stands in a form that reaches, and the others behind it
+  pub record Begins (at to : ℕ) (x : Piece) (ys : List Piece) : Type 0 where
+    pub form : Form
+    pub code : HasCode s at (code_of n (address_of_place at) x form)
+    pub reaches : rank (needed (label_place n) at x) ≤ rank form
+    pub rest : PartStands s n (at + words_of x form) to ys
+
+  begins_by : (x : Piece) (ys : List Piece) (forms : List Form) (at to : ℕ) → HasPieces s.image.code n at (x ∷ ys) forms →
+      ReachFrom (label_place n) at (x ∷ ys) forms → to ≡ at + total_words (x ∷ ys) forms → Begins at to x ys
+  begins_by x ys [] at to has reach past = absurd has
+  begins_by x ys (f ∷ forms) at to has reach past = record {
+    form = f;
+    code = code_stands at (code_of n (address_of_place at) x f) has.0;
+    reaches = reach.0;
+    rest = record { forms = forms; has = has.1; reach = reach.1; past = omega (arith, past) };
+  }
+
+  pub begins : (at to : ℕ) (x : Piece) (ys : List Piece) → PartStands s n at to (x ∷ ys) → Begins at to x ys
+  begins at to x ys p = begins_by x ys p.forms at to p.has p.reach p.past
+
+  -- an instruction is one word
+  pub known : (at to : ℕ) (i : Instr) (ys : List Piece) → PartStands s n at to (Known i ∷ ys) → IsCode s at i × PartStands s n (at + 1) to ys
+  known at to i ys p = let b = begins at to (Known i) ys p in (b.code.0, b.rest)
+
+  -- marks have no words
+  pub label_none : (at to l : ℕ) (ys : List Piece) → PartStands s n at to (Label l ∷ ys) → PartStands s n at to ys
+  label_none at to l ys p =
+      let b = begins at to (Label l) ys p in
+      let e : at + words_of (Label l) b.form ≡ at = omega arith in
+      subst (λ k. PartStands s n k to ys) e b.rest
+
+  pub mark_none : (at to : ℕ) (d : Descr) (ys : List Piece) → PartStands s n at to (Descriptor d ∷ ys) → PartStands s n at to ys
+  mark_none at to d ys p =
+      let b = begins at to (Descriptor d) ys p in
+      let e : at + words_of (Descriptor d) b.form ≡ at = omega arith in
+      subst (λ k. PartStands s n k to ys) e b.rest
+
+  -- no pieces
+  nothing_by : (forms : List Form) (at to : ℕ) → HasPieces s.image.code n at [] forms → to ≡ at + total_words [] forms → to ≡ at
+  nothing_by [] at to has past = omega (arith, past)
+  nothing_by (f ∷ forms) at to has past = absurd has
+
+  pub nothing_more : (at to : ℕ) → PartStands s n at to [] → to ≡ at
+  nothing_more at to p = nothing_by p.forms at to p.has p.past
