@@ -1,0 +1,4 @@
+pub mod Reaching
+pub mod Numbers
+pub mod Stack
+pub mod Leaving

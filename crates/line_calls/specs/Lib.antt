@@ -1,0 +1,3 @@
+pub mod Points
+pub mod Reaches
+pub mod Leading
