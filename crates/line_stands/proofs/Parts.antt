@@ -1,5 +1,5 @@
 -- Parts are read piece by piece.
-use Rattle.std.proofs.Common.{◌≡◌, ℕ, ◌+◌, ◌≤◌, List, [], ◌∷◌, ◌++◌, refl, arith, subst, sym}
+use Rattle.std.proofs.Common.{◌≡◌, ℕ, ◌+◌, ◌≤◌, List, [], ◌∷◌, ◌++◌, arith, subst, sym}
 use Rattle.layout_rules.specs.Forms.{ReachFrom, needed, rank, total_words, words_of}
 use Rattle.layout_rules.specs.Laid.{address_of_place}
 use Rattle.layout_rules.specs.Stands.{HasPieces}
@@ -98,3 +98,60 @@ module _ (s : Fixed) (n : Named) where
 
   pub nothing_more : (at to : ℕ) → PartStands s n at to [] → to ≡ at
   nothing_more at to p = nothing_by p.forms at to p.has p.past
+
+  -- ---- by numbers of words
+
+  -- the first pieces have so many words, and the others so many behind them
+  pub record Counts (at k : ℕ) (xs ys : List Piece) : Type 0 where
+    pub own : ℕ
+    pub others : ℕ
+    pub sum : k ≡ own + others
+    pub first : PartStands s n at (at + own) xs
+    pub second : PartStands s n (at + own) (at + own + others) ys
+
+  pub counts : (at k : ℕ) (xs ys : List Piece) → PartStands s n at (at + k) (xs ++ ys) → Counts at k xs ys
+  counts at k xs ys p =
+      let q = splits at (at + k) xs ys p in
+      let e = q.first.past in
+      let f = q.second.past in
+      let own : ℕ = total_words xs q.first.forms in
+      let others : ℕ = total_words ys q.second.forms in
+      let to : at + own + others ≡ at + k = omega (arith, e, f) in
+      record {
+        own = total_words xs q.first.forms;
+        others = total_words ys q.second.forms;
+        sum = omega (arith, e, f);
+        first = subst (λ z. PartStands s n at z xs) e q.first;
+        second = subst (λ z. PartStands s n z (at + own + others) ys) e (subst (λ z. PartStands s n q.middle z ys) (sym to) q.second);
+      }
+
+  -- one instruction, and so many words behind it
+  pub record Leads (at k : ℕ) (i : Instr) (ys : List Piece) : Type 0 where
+    pub others : ℕ
+    pub sum : k ≡ 1 + others
+    pub code : IsCode s at i
+    pub rest : PartStands s n (at + 1) (at + 1 + others) ys
+
+  pub leads : (at k : ℕ) (i : Instr) (ys : List Piece) → PartStands s n at (at + k) (Known i ∷ ys) → Leads at k i ys
+  leads at k i ys p =
+      let q = known at (at + k) i ys p in
+      let e = q.1.past in
+      let others : ℕ = total_words ys q.1.forms in
+      let to : at + 1 + others ≡ at + k = omega (arith, e) in
+      record {
+        others = total_words ys q.1.forms;
+        sum = omega (arith, e);
+        code = q.0;
+        rest = subst (λ z. PartStands s n (at + 1) z ys) (sym to) q.1;
+      }
+
+  pub none_left : (at k : ℕ) → PartStands s n at (at + k) [] → k ≡ 0
+  none_left at k p = let e = nothing_more at (at + k) p in omega (arith, e)
+
+  -- the last one
+  pub last : (at k : ℕ) (i : Instr) → PartStands s n at (at + k) (Known i ∷ []) → IsCode s at i × (k ≡ 1)
+  last at k i p =
+      let q = leads at k i [] p in
+      let e = q.sum in
+      let f = none_left (at + 1) q.others q.rest in
+      (q.code, omega (arith, e, f))

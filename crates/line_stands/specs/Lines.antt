@@ -1,5 +1,5 @@
 -- What is known of a line and of the words of its part.
-use Rattle.std.specs.Prelude.{◌≡◌, ◌⊎◌, ℕ, suc, true, List, ◌∷◌, length, Option, Contains}
+use Rattle.std.specs.Prelude.{◌≡◌, ◌⊎◌, ℕ, suc, ◌^◌, ◌<◌, true, List, ◌∷◌, length, Option, Contains, ⊤}
 use Rattle.bs_words.specs.declared.types.Comp.{Comp}
 use Rattle.cmm_meaning.specs.Setting.{Setting}
 use Rattle.emit_rules.specs.Emitted.{part_of}
@@ -10,10 +10,14 @@ use Rattle.lin_ir.specs.Meaning.{after_label, code_at}
 use Rattle.lin_ir.specs.Walks.{may_raise, targets}
 use Rattle.lin_ir.specs.declared.descr.Descr.{Descr}
 use Rattle.lin_ir.specs.declared.lin.Line.{Line}
+use Rattle.lin_ir.specs.declared.lin.LinOp.{LinOp}
+use Rattle.lin_ir.specs.declared.lin.LinOp.TheVariants as lin
 use Rattle.lin_ir.specs.declared.lin.Lin.{Lin}
 use Rattle.mach_ir.specs.Acts.{Target}
 use Rattle.mach_ir.specs.Seats.{AreSeated}
 use Rattle.mach_ir.specs.Walks.{OneOf}
+use Rattle.mach_ir.specs.declared.op.Access.TheVariants as access
+use Rattle.mach_ir.specs.declared.op.Op.TheVariants as op
 use Rattle.linear_machine.specs.Relation.{Laid}
 use Rattle.linear_machine.specs.View.{Fixed}
 use Rattle.line_stands.specs.Names.{NamesStand}
@@ -28,6 +32,13 @@ pub record SparePasses (m : Lin) (live : List Line → Type 0) (tries : List ℕ
   -- nowhere where a raise comes to
   pub aside : may_raise i.op ≡ true → (l : ℕ) → Contains tries l → live (after_label l m.code) → ⊥
 
+-- the offset of a load or of a store is a word
+abbrev pub OffsetFits : LinOp → Type 0
+OffsetFits (lin.Op (op.Access (access.Load k offset))) = offset < 2 ^ 64
+OffsetFits (lin.Op (op.Access (access.Store k offset))) = offset < 2 ^ 64
+OffsetFits (lin.Op _) = ⊤
+OffsetFits (lin.Flow _) = ⊤
+
 -- A line of the function, the code behind it, and the words of its part in the image, where these
 -- traps are pushed.
 pub record LineStands (s : Fixed) (laid : Laid) (n : Named) (m : Lin) (c : Setting)
@@ -41,6 +52,7 @@ pub record LineStands (s : Fixed) (laid : Laid) (n : Named) (m : Lin) (c : Setti
   pub slots : m.slots ≡ laid.slots
   pub among : Contains m.code i
   pub formed : IsFormed i
+  pub offset : OffsetFits i.op
   pub args : Locates m i.args
   pub results : Locates m i.results
   pub operand_seats : AreSeated (lin_operand_seats i.op) (places_of i.args)
