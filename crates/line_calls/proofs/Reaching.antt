@@ -1,11 +1,12 @@
 -- Words that lead to a place, one part behind another.
-use Rattle.std.proofs.Common.{◌≡◌, ℕ, suc, ◌+◌, ◌^◌, ◌<◌, List, [], ◌∷◌, slice_index, arith, subst}
+use Rattle.std.proofs.Common.{◌≡◌, ℕ, suc, ◌+◌, ◌^◌, ◌<◌, List, [], ◌∷◌, slice_index, arith, subst, inl, inr, ⊎_elim}
 use Rattle.rv_isa.specs.declared.instr.Instr.{Instr}
 use Rattle.rv_machine.specs.Memory.{Region}
 use Rattle.rv_machine.specs.Sound.{AreRegisters}
 use Rattle.rv_pieces.specs.declared.piece.Piece.TheVariants.{Known}
 use Rattle.layout_rules.specs.Words.{Named}
 use Rattle.moving_laws.specs.Stands.{Among}
+use Rattle.linear_machine.specs.Arrival.{ArrivalIn, ArrivesIn, Needs}
 use Rattle.linear_machine.specs.Straight.{IsPast}
 use Rattle.linear_machine.specs.View.{Fixed, View, IsCode}
 use Rattle.linear_machine.proofs.Sequences.{no_change, set_changes, then_here, widened}
@@ -73,3 +74,26 @@ module _ (s : Fixed) where
   -- the last piece is one instruction
   pub single : (n : Named) (at to : ℕ) (i : Instr) → PartStands s n at to (Known i ∷ []) → IsCode s at i × (to ≡ at + 1)
   single n at to i p = let k = known s n at to i [] p in (k.0, nothing_more s n (at + 1) to k.1)
+
+-- ---- arrivals
+
+-- to where more is known
+pub arrives_as : {q : Needs} (least most : ℕ) (s : Fixed) (v : View) (P Q : View → Type 0) → ((w : View) → P w → Q w) → ArrivesIn least most s q v P →
+    ArrivesIn least most s q v Q
+arrives_as least most s v P Q then' a = record {
+  from = λ m st. ⊎_elim
+      (λ (r : ArrivalIn least most s v m P). inl (record {
+        count = r.count;
+        some = r.some;
+        few = r.few;
+        view = r.view;
+        machine = r.machine;
+        stands = r.stands;
+        answers = r.answers;
+        calls = r.calls;
+        by = r.by;
+        holds = then' r.view r.holds;
+      }))
+      (λ g. inr g)
+      (a.from m st);
+}
