@@ -4,3 +4,4 @@ pub mod Stack
 pub mod Leaving
 pub mod Seats
 pub mod Entering
+pub mod Tailing

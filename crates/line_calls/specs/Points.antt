@@ -32,3 +32,10 @@ abbrev pub AreMarked : Fixed → (at : ℕ) → List Piece → List Form → Typ
 AreMarked s at [] forms = Unit {0}
 AreMarked s at (p ∷ ps) [] = Unit {0}
 AreMarked s at (p ∷ ps) (f ∷ forms) = IsMarked s at p × AreMarked s (at + words_of p f) ps forms
+
+-- ---- entries
+
+-- the functions of the image begin at these places
+pub record EntriesStand (s : Fixed) (entry : ℕ → ℕ) : Type 0 where
+  pub is : (f : ℕ) → f < length s.image.funcs →
+      function_at s.image.funcs f ≡ address_of_place (entry f)
