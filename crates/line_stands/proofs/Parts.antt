@@ -155,3 +155,27 @@ module _ (s : Fixed) (n : Named) where
       let e = q.sum in
       let f = none_left (at + 1) q.others q.rest in
       (q.code, omega (arith, e, f))
+
+  -- one piece, and so many words behind it
+  pub record Starts (at k : ℕ) (x : Piece) (ys : List Piece) : Type 0 where
+    pub form : Form
+    pub code : HasCode s at (code_of n (address_of_place at) x form)
+    pub reaches : rank (needed (label_place n) at x) ≤ rank form
+    pub others : ℕ
+    pub sum : k ≡ words_of x form + others
+    pub rest : PartStands s n (at + words_of x form) (at + words_of x form + others) ys
+
+  pub starts : (at k : ℕ) (x : Piece) (ys : List Piece) → PartStands s n at (at + k) (x ∷ ys) → Starts at k x ys
+  starts at k x ys p =
+      let b = begins at (at + k) x ys p in
+      let e = b.rest.past in
+      let others : ℕ = total_words ys b.rest.forms in
+      let to : at + words_of x b.form + others ≡ at + k = omega (arith, e) in
+      record {
+        form = b.form;
+        code = b.code;
+        reaches = b.reaches;
+        others = total_words ys b.rest.forms;
+        sum = omega (arith, e);
+        rest = subst (λ z. PartStands s n (at + words_of x b.form) z ys) (sym to) b.rest;
+      }
