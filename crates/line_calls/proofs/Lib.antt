@@ -5,3 +5,6 @@ pub mod Leaving
 pub mod Seats
 pub mod Entering
 pub mod Tailing
+pub mod Traps
+pub mod Handlers
+pub mod Calling

@@ -27,7 +27,9 @@ use Rattle.linear_machine.proofs.Jumps.{add_near, less_near}
 use Rattle.linear_machine.proofs.Immediates.{up}
 use Rattle.linear_machine.proofs.Sequences.{sets_as}
 use Rattle.linear_machine.proofs.Steps.{Passes, SetsRegister}
+use Rattle.layout_rules.specs.Forms.{total_words}
 use Rattle.line_stands.specs.Parts.{PartStands}
+use Rattle.line_values.proofs.Chains.{constant_comes}
 use Rattle.line_stands.proofs.Parts.{known, nothing_more, splits}
 use Rattle.line_calls.specs.Reaches.{Reaches}
 use Rattle.line_calls.proofs.Reaching.{arrived, reaches_as, reaches_more, reaches_none, reaches_set, reaches_then, single}
@@ -37,85 +39,18 @@ unfolding sub_word
 less_far a k l w = omega (arith, l, w)
 
 module _ (s : Fixed) (n : Named) where
-  -- ---- constants
-
-  module _ (r : Register) (k : ℕ) (is : number r ≡ suc k) (fits : suc k < 32) (other : suc k ≢ 2) where
-    -- a piece that makes a constant is one instruction
-    pub record Makes1 (v : View) (at to : ℕ) (p : Piece) (ps : List Piece) : Type 0 where
-      pub instr : Instr
-      pub code : IsCode s at instr
-      pub sets : SetsRegister s v instr (suc k) (piece_value p (slice_index v.registers (suc k)))
-      pub small : piece_value p (slice_index v.registers (suc k)) < 2 ^ 64
-      pub rest : PartStands s n (at + 1) to ps
-
-    made_one : (v : View) (at to : ℕ) (p : Piece) (ps : List Piece) → Makes r p → PartStands s n at to (p ∷ ps) → Makes1 v at to p ps
-    made_one v at to _ ps (makes_first w) st =
-        let c = known s n at to (OpImm Addi (number r) 0 (w % 4096)) ps st in
-        record {
-          instr = OpImm Addi (suc k) 0 (w % 4096);
-          code = subst (λ q. IsCode s at (OpImm Addi q 0 (w % 4096))) is c.0;
-          sets = sets_imm s v Addi (suc k) 0 (w % 4096);
-          small = add_word-below _ _;
-          rest = c.1;
-        }
-    made_one v at to _ ps (makes_upper w) st =
-        let c = known s n at to (Lui (number r) (w % 1048576)) ps st in
-        record {
-          instr = Lui (suc k) (w % 1048576);
-          code = subst (λ q. IsCode s at (Lui q (w % 1048576))) is c.0;
-          sets = sets_lui s v (suc k) (w % 1048576);
-          small = sext_word-below _ 32;
-          rest = c.1;
-        }
-    made_one v at to _ ps (makes_lower w) st =
-        let c = known s n at to (Addiw (number r) (number r) (w % 4096)) ps st in
-        record {
-          instr = Addiw (suc k) (suc k) (w % 4096);
-          code = subst (λ q. IsCode s at (Addiw q q (w % 4096))) is c.0;
-          sets = sets_addiw s v (suc k) (suc k) (w % 4096);
-          small = sext_word-below _ 32;
-          rest = c.1;
-        }
-    made_one v at to p ps (makes_sum w) st =
-        let c = known s n at to (OpImm Addi (number r) (number r) (w % 4096)) ps st in
-        let x : ℕ = slice_index v.registers (suc k) in
-        let e : add_word x (imm_i (w % 4096)) ≡ add_word (cond (nat_eq (number r) 0) 0 x) (imm_i (w % 4096)) =
-        ap (λ z. add_word z (imm_i (w % 4096))) (sym (cond-false (nat_eq (number r) 0) 0 x (ne_eqb (number r) 0 (λ q. omega (arith, q, is))))) in
-        record {
-          instr = OpImm Addi (suc k) (suc k) (w % 4096);
-          code = subst (λ q. IsCode s at (OpImm Addi q q (w % 4096))) is c.0;
-          sets = sets_as s v (OpImm Addi (suc k) (suc k) (w % 4096)) (suc k) _ _ e (sets_imm s v Addi (suc k) (suc k) (w % 4096));
-          small = add_word-below _ _;
-          rest = c.1;
-        }
-    made_one v at to _ ps (makes_shift a) st =
-        let c = known s n at to (Shift Slli (number r) (number r) (a % 64)) ps st in
-        record {
-          instr = Shift Slli (suc k) (suc k) (a % 64);
-          code = subst (λ q. IsCode s at (Shift Slli q q (a % 64))) is c.0;
-          sets = sets_shift s v Slli (suc k) (suc k) (a % 64);
-          small = shl_word-below _ _;
-          rest = c.1;
-        }
-
-    made : (v : View) (to : ℕ) (ps : List Piece) → Each (Makes r) ps → PartStands s n v.place to ps → AreRegisters v.registers →
-        Reaches s v to (suc k ∷ []) v.memory (λ w. slice_index w.registers (suc k) ≡ value_after ps (slice_index v.registers (suc k)))
-    made v to [] each_none st are = reaches_none s v to (suc k ∷ []) _ (nothing_more s n v.place to st) are refl
-    made v to (p ∷ ps) (each_more m ms) st are =
-        let one = made_one v v.place to p ps m st in
-        let x : ℕ = piece_value p (slice_index v.registers (suc k)) in
-        let first = reaches_set s v (v.place + 1) one.instr k x one.code refl (inl other) one.sets are fits one.small in
-        let u = first.changes.view in
-        let second = made u to ps ms (subst (λ q. PartStands s n q to ps) (sym (arrived s v (v.place + 1) (suc k ∷ []) v.memory _ first)) one.rest) first.changes.past.are in
-        reaches_as s v to (suc k ∷ []) (suc k ∷ []) v.memory _ _ (λ q i. i) (λ w c p h. h.0 ∙ ap (value_after ps) first.changes.holds)
-        (reaches_more s v (v.place + 1) to (suc k ∷ []) (suc k ∷ []) v.memory _ _ first (λ q i. i) second)
-
-    -- the register has the word
-    pub constant_reaches : (v : View) (to w : ℕ) → w < 2 ^ 64 → PartStands s n v.place to (constant r w) → AreRegisters v.registers →
-        Reaches s v to (suc k ∷ []) v.memory (λ u. slice_index u.registers (suc k) ≡ w)
-    constant_reaches v to w small st are =
-        reaches_as s v to (suc k ∷ []) (suc k ∷ []) v.memory _ _ (λ q i. i) (λ u c p h. h ∙ constant_is r k is w (slice_index v.registers (suc k)) small)
-        (made v to (constant r w) (constant_is_made r w) st are)
+  -- a constant comes into a register
+  pub constant_reaches : (r : Register) (k : ℕ) → number r ≡ suc k → suc k < 32 → suc k ≢ 2 → (v : View) (to w : ℕ) → w < 2 ^ 64 →
+      PartStands s n v.place to (constant r w) → AreRegisters v.registers →
+      Reaches s v to (suc k ∷ []) v.memory (λ u. slice_index u.registers (suc k) ≡ w)
+  constant_reaches r k is fits other v to w small st are =
+      let e = st.past in
+      let count : ℕ = total_words (constant r w) st.forms in
+      record {
+        count = total_words (constant r w) st.forms;
+        lands = sym e;
+        changes = constant_comes s n r k is fits other w small v count (subst (λ z. PartStands s n v.place z (constant r w)) e st) are;
+      }
 
   -- ---- sums
 

@@ -1,16 +1,22 @@
 -- Words that lead to a place, one part behind another.
-use Rattle.std.proofs.Common.{◌≡◌, ℕ, suc, ◌+◌, ◌^◌, ◌<◌, List, [], ◌∷◌, slice_index, arith, subst, inl, inr, ⊎_elim}
+use Rattle.std.proofs.Common.{◌≡◌, ℕ, suc, ◌+◌, ◌^◌, ◌<◌, List, [], ◌∷◌, ◌≢◌, slice_index, arith, subst, sym, inl, inr, ⊎_elim}
+use Rattle.std.specs.List.{AllByRecursion}
+use Rattle.bs_words.specs.Word.{add_word}
 use Rattle.rv_isa.specs.declared.instr.Instr.{Instr}
-use Rattle.rv_machine.specs.Memory.{Region}
-use Rattle.rv_machine.specs.Sound.{AreRegisters}
+use Rattle.rv_isa.specs.declared.instr.Instr.TheVariants.{Store}
+use Rattle.rv_isa.specs.declared.instr.StoreWidth.TheVariants.{Sd}
+use Rattle.rv_machine.specs.Arithmetic.{imm_i}
+use Rattle.rv_machine.specs.Memory.{Region, write}
+use Rattle.rv_machine.specs.Sound.{AreRegisters, IsRegion}
 use Rattle.rv_pieces.specs.declared.piece.Piece.TheVariants.{Known}
 use Rattle.layout_rules.specs.Words.{Named}
 use Rattle.moving_laws.specs.Stands.{Among}
+use Rattle.moving_laws.specs.Words.{IsReadable}
 use Rattle.linear_machine.specs.Arrival.{ArrivalIn, ArrivesIn, Needs}
 use Rattle.linear_machine.specs.Straight.{IsPast}
 use Rattle.linear_machine.specs.View.{Fixed, View, IsCode}
-use Rattle.linear_machine.proofs.Sequences.{no_change, set_changes, then_here, widened}
-use Rattle.linear_machine.proofs.Steps.{Passes, SetsRegister}
+use Rattle.linear_machine.proofs.Sequences.{no_change, set_changes, store_more, then_here, widened}
+use Rattle.linear_machine.proofs.Steps.{Passes, SetsRegister, reg}
 use Rattle.line_stands.specs.Parts.{PartStands}
 use Rattle.line_stands.proofs.Parts.{known, nothing_more}
 use Rattle.line_calls.specs.Reaches.{Reaches}
@@ -70,6 +76,20 @@ module _ (s : Fixed) where
       (subst (λ k. Reaches s u to rs k (λ w. Q w × ((q : ℕ) → (Among q rs2 → ⊥) → slice_index w.registers q ≡ slice_index u.registers q))) first.changes.past.memory
       (reaches_as u to rs2 rs u.memory Q (λ w. Q w × ((q : ℕ) → (Among q rs2 → ⊥) → slice_index w.registers q ≡ slice_index u.registers q)) sub
       (λ w n p x. (x, p.others)) second))
+
+  -- one that stores a word
+  pub reaches_store :
+      (v : View) (middle : ℕ) (rs : List ℕ) (m : List Region) (P : View → Type 0) (first : Reaches s v middle rs m P) (ra rb imm x value : ℕ) →
+      IsCode s middle (Store Sd ra rb imm) → add_word (reg first.changes.view.registers ra) (imm_i imm) ≡ x → reg first.changes.view.registers rb ≡ value →
+      x ≢ 0x20000000 → AllByRecursion IsRegion m → IsReadable m x →
+      Reaches s v (middle + 1) rs (write m x value) (λ w. w.registers ≡ first.changes.view.registers)
+  reaches_store v middle rs m P first ra rb imm x value code e is off regions can =
+      let l = first.lands in
+      record {
+        count = first.count + 1;
+        lands = omega (arith, l);
+        changes = store_more s v first.count rs m P first.changes ra rb imm x value (subst (λ q. IsCode s q (Store Sd ra rb imm)) (sym l) code) e is off regions can;
+      }
 
   -- the last piece is one instruction
   pub single : (n : Named) (at to : ℕ) (i : Instr) → PartStands s n at to (Known i ∷ []) → IsCode s at i × (to ≡ at + 1)

@@ -29,6 +29,7 @@ use Rattle.linear_machine.specs.Straight.{Differs}
 use Rattle.linear_machine.specs.View.{Fixed, IsCode, View}
 use Rattle.linear_machine.proofs.Formats.{sets_auipc}
 use Rattle.linear_machine.proofs.Frames.{heap_whole}
+use Rattle.linear_machine.proofs.Sequences.{sets_as}
 use Rattle.linear_machine.proofs.Standing.{own_past}
 use Rattle.linear_machine.proofs.Steps.{at_place}
 use Rattle.linear_machine.proofs.Turning.{placed_past, usable_past}
@@ -112,15 +113,40 @@ module _ (s : Fixed) (n : Named) (laid : Laid) (v : View) (young : List Placed) 
       let call = begins s n parts.middle to (TailCall name) [] parts.second in
       let past = nothing_more s n (parts.middle + 2) to call.rest in
       let first = given_back_reaches s n laid v young held a c within left parts.middle parts.first in
-      let u = first.changes.view in
-      let here = arrived s v parts.middle (1 ∷ 2 ∷ 7 ∷ []) v.memory _ first in
+      let wide : Reaches s v parts.middle (1 ∷ 2 ∷ 6 ∷ 7 ∷ []) v.memory (λ w. (slice_index w.registers 2 ≡ c.top) × (slice_index w.registers 1 ≡ c.back)) =
+      reaches_as s v parts.middle (1 ∷ 2 ∷ 7 ∷ []) (1 ∷ 2 ∷ 6 ∷ 7 ∷ []) v.memory _ _
+      (λ q i. ⊎_elim (λ h. inl h) (λ j. ⊎_elim (λ h. inr (inl h)) (λ h. inr (inr (inr h))) j) i) (λ w m p h. h) first in
+      let u = wide.changes.view in
+      let here = arrived s v parts.middle (1 ∷ 2 ∷ 6 ∷ 7 ∷ []) v.memory _ wide in
       let from : ℕ = address_of_place parts.middle in
       let address : n.symbol name ≡ code_start + 4 * entry f = is ∙ entries.is f inside in
       let near = place_near s parts.middle _ call.code.0 in
       let far = entry_near s entry f entries inside in
       let d : ℕ = distance from (n.symbol name) in
-      let half : ℕ = add_word (code_start + 4 * u.place) (imm_u (upper d)) in
-      let wide : Reaches s v parts.middle (1 ∷ 2 ∷ 6 ∷ 7 ∷ []) v.memory (λ w. (slice_index w.registers 2 ≡ c.top) × (slice_index w.registers 1 ≡ c.back)) =
-      reaches_as s v parts.middle (1 ∷ 2 ∷ 7 ∷ []) (1 ∷ 2 ∷ 6 ∷ 7 ∷ []) v.memory _ _
-      (λ q i. ⊎_elim (λ h. inl h) (λ j. ⊎_elim (λ h. inr (inl h)) (λ h. inr (inr (inr h))) j) i) (λ w m p h. h) first in
-      ?
+      let half : ℕ = add_word (code_start + 4 * parts.middle) (imm_u (upper d)) in
+      let same : add_word (code_start + 4 * u.place) (imm_u (upper d)) ≡ half = ap (λ p. add_word (code_start + 4 * p) (imm_u (upper d))) here in
+      let both = reaches_more s v parts.middle (parts.middle + 1) (1 ∷ 2 ∷ 6 ∷ 7 ∷ []) (6 ∷ []) v.memory _ _ wide
+      (λ q i. ⊎_elim (λ h. inr (inr (inl h))) (λ z. absurd z) i)
+      (reaches_set s u (parts.middle + 1) (Auipc 6 (upper d)) 5 half (subst (λ p. IsCode s p (Auipc 6 (upper d))) (sym here) call.code.0) (omega (arith, here))
+      (inl (λ q. omega (arith, q))) (sets_as s u (Auipc 6 (upper d)) 6 _ half same (sets_auipc s u 6 (upper d))) wide.changes.past.are (omega arith)
+      (add_word-below _ _)) in
+      let z = both.changes.view in
+      let six : slice_index z.registers 6 ≡ half = both.changes.holds.0 in
+      let lands : add_word (slice_index z.registers 6) (imm_i (lower d)) ≡ code_start + 4 * entry f =
+      subst (λ x. add_word x (imm_i (lower d)) ≡ add_word half (imm_i (lower d))) (sym six) refl ∙ far_lands from (n.symbol name) (omega (arith, near)) (omega (arith, address, far)) ∙ address in
+      let k = both.lands in
+      record {
+        count = both.count + 1;
+        lands = omega (arith, past, k);
+        view = at_place (entry f) z;
+        leads = jump_behind s v (parts.middle + 1) (1 ∷ 2 ∷ 6 ∷ 7 ∷ []) v.memory _ both 6 (lower d) (entry f) call.code.1.0 lands;
+        holds = replaces s laid v (at_place (entry f) z) young held a c within
+            (record {
+              are = both.changes.past.are;
+              others = both.changes.past.others;
+              memory = both.changes.past.memory;
+              blocks = both.changes.past.blocks;
+            })
+            (both.changes.holds.1 2 (λ i. ⊎_elim (λ q. omega (arith, q)) (λ z. z) i) ∙ wide.changes.holds.0)
+            (both.changes.holds.1 1 (λ i. ⊎_elim (λ q. omega (arith, q)) (λ z. z) i) ∙ wide.changes.holds.1) none left whole (entry f) arguments refl args;
+      }
