@@ -48,13 +48,14 @@ poisoned_same named held file l e = ap (λ o. cond (is_named l named) o (unless_
 pub vals_held : (end : ℕ) (before : Type 0) (held file : Locations) (ls : List Loc) → Agrees before held file → is_named spare ls ≡ false →
     are_vals end ls held ≡ are_vals end ls file
 vals_held end before held file [] agrees e = refl
-vals_held end before held file (l ∷ ls) agrees e = by_test (same_loc l spare) refl e
+vals_held end before held file (l ∷ ls) agrees e = by_test (same_loc l spare) refl e (vals_held end before held file ls agrees)
   where
-    by_test : (t : Bool) → same_loc l spare ≡ t → (t || is_named spare ls) ≡ false → are_vals end (l ∷ ls) held ≡ are_vals end (l ∷ ls) file
-    by_test true f e = absurd (cc)
-    by_test false f e =
+    by_test : (t : Bool) → same_loc l spare ≡ t → (t || is_named spare ls) ≡ false →
+        (is_named spare ls ≡ false → are_vals end ls held ≡ are_vals end ls file) → are_vals end (l ∷ ls) held ≡ are_vals end (l ∷ ls) file
+    by_test true f e later = absurd (cc)
+    by_test false f e later =
         let other : l ≡ spare → ⊥ = λ q. absurd (let g : same_loc spare spare ≡ false = subst (λ z. same_loc z spare ≡ false) q f in cc) in
-        ap₂ (λ x y. is_val end x && y) (agrees.others l other) (vals_held end before held file ls agrees e)
+        ap₂ (λ x y. is_val end x && y) (agrees.others l other) (later e)
 
 no_cells : (cells : List Cell) → nat_eq (length cells) 0 ≡ true → cells ≡ []
 no_cells [] e = refl
@@ -176,7 +177,7 @@ module _ (s : Fixed) (laid : Laid) (live : List Line → Type 0) (entry : ℕ �
         results = [];
       }) next (poisoned (named (length next)) file) a (only_if t (callee_raises x memory a a.tries))) u
       by_test false = tt
-      by_test true = raised_in u _ x memory a.tries refl r
+      by_test true = raised_in u (record { op = lin.Op (op.Calling (calling.Call whom ret.Unit)); args = args; results = [] }) x memory a.tries refl r
 
   -- with a result in a0
   pub resumes_with : (whom : Callee) (t : _) (args : List Spot) (p : Spot) → p.loc ≡ loc.Machine 10 → (doing : Doing) (u : View) → IsDone s below doing u →
@@ -215,7 +216,7 @@ module _ (s : Fixed) (laid : Laid) (live : List Line → Type 0) (entry : ℕ �
         results = p ∷ [];
       }) next (poisoned (named (length next)) file) a (only_if b (callee_raises x memory a a.tries))) u
       by_test false = tt
-      by_test true = raised_in u _ x memory a.tries refl r
+      by_test true = raised_in u (record { op = lin.Op (op.Calling (calling.Call whom (ret.Comp t))); args = args; results = p ∷ [] }) x memory a.tries refl r
 
   -- ---- the callee
 

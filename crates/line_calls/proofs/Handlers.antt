@@ -52,7 +52,7 @@ use Rattle.line_calls.specs.Leading.{Leaves}
 use Rattle.line_calls.specs.Reaches.{Reaches}
 use Rattle.line_calls.proofs.Leaving.{frame_in, return_leaves}
 use Rattle.line_calls.proofs.Reaching.{arrived}
-use Rattle.line_calls.proofs.Traps.{IsTrap, can0, can8, own_trap, pop_reaches, push_few, push_out, push_reaches, raise_code, trap_is}
+use Rattle.line_calls.proofs.Traps.{IsTrap, can0, can8, own_trap, pop_reaches, pop_words, push_out, push_reaches, raise_code, trap_is}
 
 -- ---- a handler takes the raised value from a0, and no other register holds anything
 
@@ -307,6 +307,7 @@ module _ (s : Fixed) (n : Named) (laid : Laid) (live : List Line → Type 0) (en
         (as_leading (λ w. IsAt s laid live c (record { rest = next; file = file; around = record a { tries = drop_tries 1 a.tries } }) w) (record {
           count = r.count;
           lands = r.lands;
+          some = let lands = r.lands in let two = pop_words s n laid v young held a c within l (v.place + k) rest e part in omega (arith, lands, two);
           view = w;
           leads = r.changes.leads;
           holds = (

@@ -142,6 +142,7 @@ module _ (s : Fixed) (n : Named) (laid : Laid) (v : View) (young : List Placed) 
       record {
         count = first.count + 1;
         lands = omega (arith, l, k);
+        some = omega arith;
         view = at_place place u;
         leads = jump_behind s v parts.middle (1 ∷ 2 ∷ 7 ∷ []) v.memory _ first 1 0 place last.0
             (no_offset (slice_index u.registers 1) (code_start + 4 * place) (first.changes.holds.1 ∙ sym (back_place c.back back))

@@ -8,3 +8,12 @@ pub mod Tailing
 pub mod Traps
 pub mod Handlers
 pub mod Calling
+pub mod Marks
+pub mod CallWords
+pub mod CallLines
+pub mod Callees
+pub mod TailLines
+pub mod Blocks
+pub mod Reserving
+pub mod Addresses
+pub mod AllocLines

@@ -138,6 +138,7 @@ module _ (s : Fixed) (n : Named) (laid : Laid) (v : View) (young : List Placed) 
       record {
         count = both.count + 1;
         lands = omega (arith, past, k);
+        some = omega arith;
         view = at_place (entry f) z;
         leads = jump_behind s v (parts.middle + 1) (1 ∷ 2 ∷ 6 ∷ 7 ∷ []) v.memory _ both 6 (lower d) (entry f) call.code.1.0 lands;
         holds = replaces s laid v (at_place (entry f) z) young held a c within

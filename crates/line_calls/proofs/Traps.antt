@@ -139,9 +139,6 @@ module _ (s : Fixed) (n : Named) (laid : Laid) (v : View) (young : List Placed) 
         (out_step s named.changes.view (OpImm Addi 2 2 4080) (slice_index v.registers 2 - 16)
         (subst (λ q. IsCode s q (OpImm Addi 2 2 4080)) (sym at_named) words.0.1.1.0) (omega (arith, short, lo, b)) lowers_sp)
 
-    pub push_few : named.count + 1 ≤ to - v.place
-    push_few = let k = named.lands in let e = words.1 in omega (arith, k, e)
-
     module _ (fits : s.base + 16 ≤ slice_index v.registers 2) where
       m1 : List Region
       m1 = write v.memory (slice_index v.registers 2 - 16) (laid.handler l)
@@ -238,6 +235,9 @@ module _ (s : Fixed) (n : Named) (laid : Laid) (v : View) (young : List Placed) 
   pub own_trap : (l : ℕ) (rest : List ℕ) → a.tries ≡ l ∷ rest → slice_index v.registers 9 ≡ slice_index v.registers 2
   own_trap l rest e = (subst (λ ts. TrapsFrom s.base v.memory (slice_index v.registers 9)
       (traps_at (slice_index v.registers 2) (map laid.handler ts) ++ traps_of c.waiting c.frames) stack_bottom) e within.traps).0
+
+  pub pop_words : (l to : ℕ) (rest : List ℕ) → a.tries ≡ l ∷ rest → PartStands s n v.place to pop_part → to ≡ v.place + 1 + 1
+  pop_words l to rest e st = (single s n (v.place + 1) to (OpImm Addi 2 2 16) (known s n v.place to (Load Ld 9 2 8) _ st).1).1
 
   pub pop_reaches :
       (l to : ℕ) (rest : List ℕ) → a.tries ≡ l ∷ rest → PartStands s n v.place to pop_part →
