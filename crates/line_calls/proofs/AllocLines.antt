@@ -102,17 +102,17 @@ put_all_is end (r ∷ rs) (x ∷ xs) f g e =
     w.is ∙ ap (put r x) (put_all_is end rs xs f w.before w.was)
 
 -- t0 is none of what is held
-no_t0 : (held : Locations) (x : Value) → dropped 5 held (loc.Machine 5) ≡ Some x → ⊥
+pub no_t0 : (held : Locations) (x : Value) → dropped 5 held (loc.Machine 5) ≡ Some x → ⊥
 no_t0 held x h = absurd (cc)
 
-dropped_less : (held : Locations) → HoldsLess (dropped 5 held) held
+pub dropped_less : (held : Locations) → HoldsLess (dropped 5 held) held
 dropped_less held = record { each = λ l x h. by_test l x (same_loc (loc.Machine 5) l) h }
   where
     by_test : (l : Loc) (x : Value) (t : Bool) → cond t None (held l) ≡ Some x → held l ≡ Some x
     by_test l x true h = absurd (cc)
     by_test l x false h = h
 
-dropped_others : (held : Locations) (l : Loc) → (l ≡ spare → ⊥) → dropped 5 held l ≡ held l
+pub dropped_others : (held : Locations) (l : Loc) → (l ≡ spare → ⊥) → dropped 5 held l ≡ held l
 dropped_others held l n = by_test (same_loc (loc.Machine 5) l) refl
   where
     by_test : (t : Bool) → same_loc (loc.Machine 5) l ≡ t → cond t None (held l) ≡ held l

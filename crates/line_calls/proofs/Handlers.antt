@@ -56,7 +56,7 @@ use Rattle.line_calls.proofs.Traps.{IsTrap, can0, can8, own_trap, pop_reaches, p
 
 -- ---- a handler takes the raised value from a0, and no other register holds anything
 
-a0_location : IsLocation 10
+pub a0_location : IsLocation 10
 a0_location = record {
   some = omega arith;
   below = omega arith;

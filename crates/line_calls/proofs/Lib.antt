@@ -17,3 +17,8 @@ pub mod Blocks
 pub mod Reserving
 pub mod Addresses
 pub mod AllocLines
+pub mod Shown
+pub mod Outside
+pub mod FrameServices
+pub mod ExternalLines
+pub mod ExternalCalls

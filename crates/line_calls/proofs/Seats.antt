@@ -13,14 +13,14 @@ use Rattle.linear_machine.proofs.Following.{same_loc-true}
 use Rattle.linear_machine.proofs.Turning.{IsBegun}
 
 -- registers one after the other
-abbrev Rising : ℕ → List ℕ → Type 0
+abbrev pub Rising : ℕ → List ℕ → Type 0
 Rising j [] = Unit {0}
 Rising j (r ∷ rs) = (r ≡ j) × Rising (suc j) rs
 
-abbrev argument_registers : List ℕ
+abbrev pub argument_registers : List ℕ
 argument_registers = 10 ∷ 11 ∷ 12 ∷ 13 ∷ 14 ∷ 15 ∷ 16 ∷ 17 ∷ 18 ∷ 19 ∷ 20 ∷ 21 ∷ 22 ∷ 23 ∷ 24 ∷ 25 ∷ []
 
-arguments_rise : Rising 10 argument_registers
+pub arguments_rise : Rising 10 argument_registers
 arguments_rise = (refl, (refl, (refl, (refl, (refl, (refl, (refl, (refl, (refl, (refl, (refl, (refl, (refl, (refl, (refl, (refl, tt))))))))))))))))
 
 -- ---- what is read
@@ -43,7 +43,7 @@ was_read end t (Some x) vs xs e = by_test (fits end (type_of_comp t) x) refl vs 
     by_test true f None e = absurd (cc)
     by_test true f (Some ys) e = record { value = x; others = ys; held = refl; fit = f; rest = refl; are = (let h : x ∷ ys ≡ xs = cc in sym h) }
 
-same_place : (p : Loc) (r : ℕ) (ls ms : List Loc) → p ∷ ls ≡ loc.Machine r ∷ ms → (p ≡ loc.Machine r) × (ls ≡ ms)
+pub same_place : (p : Loc) (r : ℕ) (ls ms : List Loc) → p ∷ ls ≡ loc.Machine r ∷ ms → (p ≡ loc.Machine r) × (ls ≡ ms)
 same_place p r ls ms e = (cc, cc)
 
 -- an operand, by its number

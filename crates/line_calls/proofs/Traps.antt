@@ -64,6 +64,12 @@ is_trap s m trap [] bottom t =
     }
 is_trap s m trap (x ∷ ts) bottom t = record { back = subst IsBack (sym t.4) t.5; low = t.1; high = t.2; even = t.3 }
 
+-- the innermost one is the function's own, where it has one
+pub own_trap_of : (s : Fixed) (laid : Laid) (v : View) (young : List Placed) (held : Locations) (a : Around) (c : Below) → Within s laid v young 0 held a c →
+    (l : ℕ) (rest : List ℕ) → a.tries ≡ l ∷ rest → slice_index v.registers 9 ≡ slice_index v.registers 2
+own_trap_of s laid v young held a c within l rest e = (subst (λ ts. TrapsFrom s.base v.memory (slice_index v.registers 9)
+    (traps_at (slice_index v.registers 2) (map laid.handler ts) ++ traps_of c.waiting c.frames) stack_bottom) e within.traps).0
+
 module _ (s : Fixed) (n : Named) (laid : Laid) (v : View) (young : List Placed) (held : Locations) (a : Around) (c : Below)
     (within : Within s laid v young 0 held a c) where
   abbrev changed : List ℕ
@@ -233,8 +239,7 @@ module _ (s : Fixed) (n : Named) (laid : Laid) (v : View) (young : List Placed) 
   -- ---- pop
 
   pub own_trap : (l : ℕ) (rest : List ℕ) → a.tries ≡ l ∷ rest → slice_index v.registers 9 ≡ slice_index v.registers 2
-  own_trap l rest e = (subst (λ ts. TrapsFrom s.base v.memory (slice_index v.registers 9)
-      (traps_at (slice_index v.registers 2) (map laid.handler ts) ++ traps_of c.waiting c.frames) stack_bottom) e within.traps).0
+  own_trap l rest e = own_trap_of s laid v young held a c within l rest e
 
   pub pop_words : (l to : ℕ) (rest : List ℕ) → a.tries ≡ l ∷ rest → PartStands s n v.place to pop_part → to ≡ v.place + 1 + 1
   pop_words l to rest e st = (single s n (v.place + 1) to (OpImm Addi 2 2 16) (known s n v.place to (Load Ld 9 2 8) _ st).1).1
