@@ -39,7 +39,7 @@ use Rattle.rv_machine.specs.Hart.{Placed}
 use Rattle.rv_machine.specs.Memory.{code_start}
 use Rattle.moving_laws.specs.Values.{function_at}
 use Rattle.linear_machine.specs.Arrival.{nothing}
-use Rattle.linear_machine.specs.Follows.{Agrees, FollowsCall, FollowsStep, IsAfter, IsDone, IsEntered}
+use Rattle.linear_machine.specs.Follows.{Agrees, IsAfter, IsDone, IsEntered}
 use Rattle.linear_machine.specs.Relation.{Below, IsDescribed, Laid, StandsFor, Within, all_of}
 use Rattle.linear_machine.specs.View.{Fixed, IsCode, Leads, View}
 use Rattle.linear_machine.proofs.Arriving.{leads_in}
@@ -49,6 +49,7 @@ use Rattle.linear_machine.proofs.Steps.{stays, then_leads}
 use Rattle.line_stands.specs.Parts.{PartStands}
 use Rattle.line_stands.proofs.Parts.{counts, last}
 use Rattle.line_values.proofs.Operands.{fetches}
+use Rattle.line_calls.specs.Calls.{CalledSo, FollowsSo}
 use Rattle.line_calls.specs.Points.{EntriesStand}
 use Rattle.line_calls.proofs.CallWords.{call_leads, call_words_are, named_leads}
 use Rattle.line_calls.proofs.Calling.{below, callee_begins, resumes_with, resumes_without, vals_held}
@@ -104,18 +105,22 @@ module _ (s : Fixed) (n : Named) (laid : Laid) (live : List Line → Type 0) (en
       Leads s n2 w (record w { place = entry f; registers = slice_set w.registers 1 (address_of_place (v.place + k)) }) →
       are_vals place.setting.end (named (length next)) file ≡ true → is_complete a ≡ true →
       ((j : ℕ) (x : Value) → slice_get arguments j ≡ Some x → (j < 16) × (held (loc.Machine (10 + j)) ≡ Some x)) →
-      FollowsCall k s laid live entry c v f arguments a.memory (λ doing. on_act place m (does whom args) next (poisoned (named (length next)) file) a
+      CalledSo k s laid live entry c v (laid.frame + 16 * length a.tries) f arguments a.memory (λ doing. on_act place m (does whom args) next (poisoned (named (length next)) file) a
       (after_call place.setting result a doing))
-  calls_at_view whom args f arguments w n1 n2 sum some first there_w second fits whole passed =
+  calls_at_view whom args g arguments w n1 n2 sum some first there_w second fits whole passed =
       let held_fit : are_vals (data_start + length s.image.bytes) (named (length next)) held ≡ true =
       subst (λ z. are_vals z (named (length next)) held ≡ true) end_is (vals_held place.setting.end before held file (named (length next)) agrees spared ∙ fits) in
+      let f = there_w.frame in
       record {
-        below = below s laid live entry c place named m next v young held file a before agrees k none behind saves (desc_at (v.place + k) e) is there inside
-            handlers dead held_fit whole w there_w;
-        enters = leads_in 1 k s (n1 + n2) (omega (arith, some)) (omega (arith, sum)) v _ _ (then_leads s n1 n2 v w _ first second)
-            (callee_begins s laid live entry c place named m next v young held file a before agrees k none behind saves (desc_at (v.place + k) e) is there inside
-            handlers dead held_fit whole w there_w f arguments registers (omega (arith, some, sum)) passed);
-        resumes = λ doing u done. resumes_by whom args held_fit whole w there_w result results typed seated doing u done;
+        call = record {
+          below = below s laid live entry c place named m next v young held file a before agrees k none behind saves (desc_at (v.place + k) e) is there inside
+              handlers dead held_fit whole w there_w;
+          enters = leads_in 1 k s (n1 + n2) (omega (arith, some)) (omega (arith, sum)) v _ _ (then_leads s n1 n2 v w _ first second)
+              (callee_begins s laid live entry c place named m next v young held file a before agrees k none behind saves (desc_at (v.place + k) e) is there inside
+              handlers dead held_fit whole w there_w g arguments registers (omega (arith, some, sum)) passed);
+          resumes = λ doing u done. resumes_by whom args held_fit whole w there_w result results typed seated doing u done;
+        };
+        top = omega (arith, f);
       }
 
   -- ---- by what a symbol or a register says
@@ -123,30 +128,30 @@ module _ (s : Fixed) (n : Named) (laid : Laid) (live : List Line → Type 0) (en
   asks_follows :
       (whom : Callee) (args : List Spot) (o : Option Value) (arguments : List Value) →
       ((f : ℕ) → o ≡ Some (Function f) → is_complete a ≡ true →
-      FollowsCall k s laid live entry c v f arguments a.memory (λ doing. on_act place m (does whom args) next (poisoned (named (length next)) file) a
+      CalledSo k s laid live entry c v (laid.frame + 16 * length a.tries) f arguments a.memory (λ doing. on_act place m (does whom args) next (poisoned (named (length next)) file) a
       (after_call place.setting result a doing))) →
-      FollowsStep k s laid live entry c v (on_act place m (does whom args) next (poisoned (named (length next)) file) a
+      FollowsSo k s laid live entry c v (laid.frame + 16 * length a.tries) (on_act place m (does whom args) next (poisoned (named (length next)) file) a
       (asks_value place.setting o arguments a (λ f xs. Asks f xs (after_call place.setting result a))))
-  asks_follows whom args None arguments calls = tt
-  asks_follows whom args (Some (Word w)) arguments calls = tt
-  asks_follows whom args (Some (Block b o)) arguments calls = tt
+  asks_follows whom args None arguments calls = record { follows = tt; calls = tt }
+  asks_follows whom args (Some (Word w)) arguments calls = record { follows = tt; calls = tt }
+  asks_follows whom args (Some (Block b o)) arguments calls = record { follows = tt; calls = tt }
   asks_follows whom args (Some (Function f)) arguments calls = by_parameters (slice_get place.setting.parameters f)
     where
       by_test : (b t : Bool) → (b && t) ≡ (b && is_complete a) → (b && t) ≡ (b && t) →
           ((b && t) ≡ true → is_complete a ≡ true) →
-          FollowsStep k s laid live entry c v (on_act place m (does whom args) next (poisoned (named (length next)) file) a
+          FollowsSo k s laid live entry c v (laid.frame + 16 * length a.tries) (on_act place m (does whom args) next (poisoned (named (length next)) file) a
           (only_if (b && t) (Asks (Inside f) arguments (after_call place.setting result a))))
       by_test b t same again whole = tested (b && t) whole
         where
           tested : (q : Bool) → (q ≡ true → is_complete a ≡ true) →
-              FollowsStep k s laid live entry c v (on_act place m (does whom args) next (poisoned (named (length next)) file) a
+              FollowsSo k s laid live entry c v (laid.frame + 16 * length a.tries) (on_act place m (does whom args) next (poisoned (named (length next)) file) a
               (only_if q (Asks (Inside f) arguments (after_call place.setting result a))))
-          tested false h = tt
-          tested true h = calls f refl (h refl)
+          tested false h = record { follows = tt; calls = tt }
+          tested true h = let g = calls f refl (h refl) in record { follows = g.call; calls = g.top }
 
-      by_parameters : (o : Option (List Comp)) → FollowsStep k s laid live entry c v (on_act place m (does whom args) next (poisoned (named (length next)) file) a
+      by_parameters : (o : Option (List Comp)) → FollowsSo k s laid live entry c v (laid.frame + 16 * length a.tries) (on_act place m (does whom args) next (poisoned (named (length next)) file) a
           (asks place.setting o f arguments a (λ f xs. Asks f xs (after_call place.setting result a))))
-      by_parameters None = tt
+      by_parameters None = record { follows = tt; calls = tt }
       by_parameters (Some cs) =
           by_test (fit_parameters place.setting.end cs arguments) (is_complete a) refl refl
           (λ h. (and_parts (fit_parameters place.setting.end cs arguments) (is_complete a) h).1)
@@ -168,7 +173,7 @@ module _ (s : Fixed) (n : Named) (laid : Laid) (live : List Line → Type 0) (en
       (name : List ℕ) (args : List Spot) → AreSeated (InOrder argument_places) (places_of args) →
       ((x : Value) → place.setting.symbol name ≡ Some x → StandsFor s [] (n.symbol name) x) →
       PartStands s n v.place (v.place + k) (call_words (length a.tries) (callee.Symbol name) args) →
-      FollowsStep k s laid live entry c v (step place named m (record {
+      FollowsSo k s laid live entry c v (laid.frame + 16 * length a.tries) (step place named m (record {
         rest = record { op = lin.Op (op.Calling (calling.Call (callee.Symbol name) result)); args = args; results = results } ∷ next;
         file = file;
         around = a;
@@ -177,7 +182,7 @@ module _ (s : Fixed) (n : Named) (laid : Laid) (live : List Line → Type 0) (en
     where
       found : (xs : List Value) → values place.setting.end file args ≡ Some xs → are_vals place.setting.end (named (length next)) file ≡ true →
           (f : ℕ) → place.setting.symbol name ≡ Some (Function f) → is_complete a ≡ true →
-          FollowsCall k s laid live entry c v f xs a.memory (λ doing. on_act place m (does (callee.Symbol name) args) next
+          CalledSo k s laid live entry c v (laid.frame + 16 * length a.tries) f xs a.memory (λ doing. on_act place m (does (callee.Symbol name) args) next
           (poisoned (named (length next)) file) a (after_call place.setting result a doing))
       found xs h fits f is_f whole =
           let known = symbol (Function f) is_f in
@@ -190,14 +195,14 @@ module _ (s : Fixed) (n : Named) (laid : Laid) (live : List Line → Type 0) (en
           (named_leads s n v within.own.are name (v.place + k) (entry f) address low part)) fits whole (passed_on args xs seats h)
 
       by_fit : (xs : List Value) → values place.setting.end file args ≡ Some xs → (t : Bool) → are_vals place.setting.end (named (length next)) file ≡ t →
-          FollowsStep k s laid live entry c v (unless_misnamed t (on_act place m (does (callee.Symbol name) args) next (poisoned (named (length next)) file) a
+          FollowsSo k s laid live entry c v (laid.frame + 16 * length a.tries) (unless_misnamed t (on_act place m (does (callee.Symbol name) args) next (poisoned (named (length next)) file) a
           (asks_value place.setting (place.setting.symbol name) xs a (λ f ys. Asks f ys (after_call place.setting result a)))))
-      by_fit xs h false f = tt
+      by_fit xs h false f = record { follows = tt; calls = tt }
       by_fit xs h true f = asks_follows (callee.Symbol name) args (place.setting.symbol name) xs (λ g q whole. found xs h f g q whole)
 
       by_values : (o : Option (List Value)) → values place.setting.end file args ≡ o →
-          FollowsStep k s laid live entry c v (on_values place (named (length next)) m (does (callee.Symbol name) args) next file a o)
-      by_values None h = tt
+          FollowsSo k s laid live entry c v (laid.frame + 16 * length a.tries) (on_values place (named (length next)) m (does (callee.Symbol name) args) next file a o)
+      by_values None h = record { follows = tt; calls = tt }
       by_values (Some xs) h = by_fit xs h (are_vals place.setting.end (named (length next)) file) refl
 
   -- ---- a call to the address in a location
@@ -205,7 +210,7 @@ module _ (s : Fixed) (n : Named) (laid : Laid) (live : List Line → Type 0) (en
   pub call_registered :
       (p : Spot) (args : List Spot) → IsLocation m p.loc → Reads before p.loc → AreSeated (AfterFirst argument_places) (places_of (p ∷ args)) →
       PartStands s n v.place (v.place + k) (call_words (length a.tries) callee.Register (p ∷ args)) →
-      FollowsStep k s laid live entry c v (step place named m (record {
+      FollowsSo k s laid live entry c v (laid.frame + 16 * length a.tries) (step place named m (record {
         rest = record { op = lin.Op (op.Calling (calling.Call callee.Register result)); args = p ∷ args; results = results } ∷ next;
         file = file;
         around = a;
@@ -214,7 +219,7 @@ module _ (s : Fixed) (n : Named) (laid : Laid) (live : List Line → Type 0) (en
     where
       found : (f : ℕ) (xs : List Value) → held p.loc ≡ Some (Function f) → values place.setting.end file args ≡ Some xs →
           are_vals place.setting.end (named (length next)) file ≡ true → is_complete a ≡ true →
-          FollowsCall k s laid live entry c v f xs a.memory (λ doing. on_act place m (does callee.Register (p ∷ args)) next
+          CalledSo k s laid live entry c v (laid.frame + 16 * length a.tries) f xs a.memory (λ doing. on_act place m (does callee.Register (p ∷ args)) next
           (poisoned (named (length next)) file) a (after_call place.setting result a doing))
       found f xs there_p h fits whole =
           let parts = counts s n v.place k (fetched (length a.tries) T1 p.loc) (calls_at (register_of T1 p.loc) ∷ []) part in
@@ -240,20 +245,20 @@ module _ (s : Fixed) (n : Named) (laid : Laid) (live : List Line → Type 0) (en
 
       by_fit : (x : Value) (xs : List Value) → held p.loc ≡ Some x → values place.setting.end file args ≡ Some xs → (t : Bool) →
           are_vals place.setting.end (named (length next)) file ≡ t →
-          FollowsStep k s laid live entry c v (unless_misnamed t (on_act place m (does callee.Register (p ∷ args)) next (poisoned (named (length next)) file) a
+          FollowsSo k s laid live entry c v (laid.frame + 16 * length a.tries) (unless_misnamed t (on_act place m (does callee.Register (p ∷ args)) next (poisoned (named (length next)) file) a
           (asks_value place.setting (Some x) xs a (λ f ys. Asks f ys (after_call place.setting result a)))))
-      by_fit x xs here h false f = tt
+      by_fit x xs here h false f = record { follows = tt; calls = tt }
       by_fit x xs here h true f = asks_follows callee.Register (p ∷ args) (Some x) xs (λ g e whole. found g xs (here ∙ e) h f whole)
 
       by_values : (o : Option (List Value)) → values place.setting.end file (p ∷ args) ≡ o →
-          FollowsStep k s laid live entry c v (on_values place (named (length next)) m (does callee.Register (p ∷ args)) next file a o)
-      by_values None h = tt
+          FollowsSo k s laid live entry c v (laid.frame + 16 * length a.tries) (on_values place (named (length next)) m (does callee.Register (p ∷ args)) next file a o)
+      by_values None h = record { follows = tt; calls = tt }
       by_values (Some []) h = by_none (are_vals place.setting.end (named (length next)) file)
         where
-          by_none : (t : Bool) → FollowsStep k s laid live entry c v (unless_misnamed t (on_act place m (does callee.Register (p ∷ args)) next
+          by_none : (t : Bool) → FollowsSo k s laid live entry c v (laid.frame + 16 * length a.tries) (unless_misnamed t (on_act place m (does callee.Register (p ∷ args)) next
               (poisoned (named (length next)) file) a Stuck))
-          by_none false = tt
-          by_none true = tt
+          by_none false = record { follows = tt; calls = tt }
+          by_none true = record { follows = tt; calls = tt }
       by_values (Some (x ∷ xs)) h =
           let w = was_read place.setting.end p.comp (file p.loc) (values place.setting.end file args) (x ∷ xs) h in
           let first : w.value ≡ x = (let q = w.are in cc) in

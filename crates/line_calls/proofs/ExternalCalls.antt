@@ -59,16 +59,17 @@ use Rattle.linear_machine.proofs.Standing.{IsFree, same_machine, within_changed,
 use Rattle.line_stands.specs.Names.{IsRowAt}
 use Rattle.line_stands.specs.Parts.{PartStands}
 use Rattle.line_stands.proofs.Parts.{begins, splits}
+use Rattle.line_calls.specs.Calls.{FollowsSo, IsInTable}
 use Rattle.line_calls.specs.Reaches.{Reaches}
 use Rattle.line_calls.proofs.AllocLines.{dropped_less, dropped_others, no_t0}
 use Rattle.line_calls.proofs.Calling.{poisoned_same, vals_held}
 use Rattle.line_calls.proofs.ExternalLines.{gave_after, threw_after}
 use Rattle.line_calls.proofs.FrameServices.{frame_goes}
 use Rattle.line_calls.proofs.Numbers.{constant_reaches}
-use Rattle.line_calls.proofs.Outside.{alone_goes, behind, behind_are, behind_others, behind_result, view_behind, within_behind}
+use Rattle.line_calls.proofs.Outside.{alone_goes, behind, behind_are, behind_others, behind_result, within_behind}
 use Rattle.line_calls.proofs.Reaching.{arrived, reaches_as, reaches_more, reaches_set, single}
 use Rattle.line_calls.proofs.Seats.{argument_registers, arguments_rise}
-use Rattle.line_calls.proofs.Shown.{each_at, few_externals, shown_from}
+use Rattle.line_calls.proofs.Shown.{each_at, few_externals, shown_from, tabled_from}
 
 -- ---- up to the service
 
@@ -115,6 +116,12 @@ module _ (s : Fixed) (n : Named) (v : View) (are : AreRegisters v.registers) (ro
         code = last.0;
         lands = last.1;
       }
+
+two_small : 2 < 2 ^ 64
+two_small = omega arith
+
+four_small : 4 < 2 ^ 64
+four_small = omega arith
 
 -- t0 and t2 change alone
 free_57 : (q : ℕ) → Among q (5 ∷ 7 ∷ []) → IsFree q
@@ -196,6 +203,18 @@ module _ (s : Fixed) (n : Named) (laid : Laid) (live : List Line → Type 0) (en
             ∙ ap₂ (λ name ys. record { name = name; shown = ys }) is.name
             (ap (λ cs. arguments_from 10 cs (hart_of s (with_memory reached.reach.changes.view b.hart) b.hart)) (sym params) ∙ arguments)
 
+  -- what is shown is known
+  in_table : (xs : List Value) → values place.setting.end file args ≡ Some xs → AllByRecursion (IsInTable s.image) xs
+  in_table xs read = by_seats seats
+    where
+      by_seats : AreSeated (InOrder argument_places) (places_of args) → AllByRecursion (IsInTable s.image) xs
+      by_seats (in_order more e) =
+          tabled_from s (all_of v young) v.registers place.setting.end file
+          (λ r x l h.
+          ((subst (λ o. AreCarried s (all_of v young) v.registers (dropped 5 held) o) none within'.carried) r x
+          (same_file (loc.Machine r) (λ q. let z = same_machine r 5 q in omega (arith, z, l)) ∙ h)).1)
+          args xs 9 argument_registers more (omega arith) e arguments_rise read
+
   -- ---- a call at which no block moves
 
   abbrev alone : Line
@@ -206,30 +225,36 @@ module _ (s : Fixed) (n : Named) (laid : Laid) (live : List Line → Type 0) (en
         ArrivesIn 0 k s (nothing s) v (IsAsking s (record { top = s.base; stack = 0; heap = heap_need a.memory }) (row_of row) false xs a.memory
         (λ doing w. IsAfter s laid live c (on_act place m alone next file a (after_external place.setting row.result false a doing)) w))
     alone_asks whole xs read =
-        let r = reached 2 (omega arith) (v.place + k) part whole xs read in
+        let r = reached 2 two_small (v.place + k) part whole xs read in
         let w = r.reach.changes.view in
         let l1 = r.reach.lands in
         let l2 = r.lands in
         let here = arrived s v r.middle (5 ∷ 7 ∷ []) v.memory _ r.reach in
         let b = behind_is in
         let next_place : laid.part (length next) ≡ w.place + 1 = omega (arith, b, l2, here) in
-        let ww = within_it 2 (omega arith) (v.place + k) part whole xs read in
+        let ww = within_it 2 two_small (v.place + k) part whole xs read in
         leads_in 0 k s r.reach.count (omega arith) (omega (arith, l1, l2)) v w _ r.reach.changes.leads (record {
           ext = is.ext;
-          there = row_there 2 (omega arith) (v.place + k) part whole xs read;
+          there = row_there 2 two_small (v.place + k) part whole xs read;
           name = is.name;
           params = is.params;
           result = is.result;
-          code = code_it 2 (omega arith) (v.place + k) part whole xs read;
+          code = code_it 2 two_small (v.place + k) part whole xs read;
           service = r.reach.changes.holds.1;
-          made = shows 2 (omega arith) (v.place + k) part whole xs read;
-          goes = λ b t ok words taken. inl (alone_goes s w (code_it 2 (omega arith) (v.place + k) part whole xs read) r.reach.changes.holds.1 is.ext
-              (row_there 2 (omega arith) (v.place + k) part whole xs read) (counted s (row_of row) xs)
-              (shows 2 (omega arith) (v.place + k) part whole xs read) a.memory
+          made = shows 2 two_small (v.place + k) part whole xs read;
+          goes = λ b t ok words taken. inl (alone_goes s w (code_it 2 two_small (v.place + k) part whole xs read) r.reach.changes.holds.1 is.ext
+              (row_there 2 two_small (v.place + k) part whole xs read) (counted s (row_of row) xs)
+              (shows 2 two_small (v.place + k) part whole xs read) a.memory
               (λ t u. IsAfter s laid live c (on_act place m alone next file a (after_external place.setting row.result false a t.doing)) u)
               (λ x answers fits. subst (λ q. IsAfter s laid live c (on_act place m alone next file a
-              (after_external place.setting row.result false a (Gave (given q x) a.memory))) (view_behind s w (counted s (row_of row) xs)
-              (behind is.ext.result x w.registers) answers)) (sym is.result)
+              (after_external place.setting row.result false a (Gave (given q x) a.memory))) (record {
+                place = w.place + 1;
+                registers = behind is.ext.result x w.registers;
+                memory = w.memory;
+                blocks = w.blocks;
+                answers = answers;
+                calls = w.calls ++ counted s (row_of row) xs ∷ [];
+              })) (sym is.result)
               (gave_after s laid live c place m next young (dropped 5 held) file same_file a none whole dead handlers no_live row false args row.result results
               typed seated x a.memory _
               (within_behind s laid w young (dropped 5 held) a c ww none (w.place + 1) (behind is.ext.result x w.registers) answers
@@ -239,7 +264,7 @@ module _ (s : Fixed) (n : Named) (laid : Laid) (live : List Line → Type 0) (en
               (subst (λ q. taken_alone a.memory q w.answers ≡ Some t) (sym is.result) taken));
         })
 
-    pub external_alone : FollowsStep k s laid live entry c v (step place named m (record {
+    pub external_alone : FollowsSo k s laid live entry c v (laid.frame + 16 * length a.tries) (step place named m (record {
       rest = record { op = lin.Op (op.Calling (calling.External row false)); args = args; results = results } ∷ next;
       file = file;
       around = a;
@@ -247,14 +272,14 @@ module _ (s : Fixed) (n : Named) (laid : Laid) (live : List Line → Type 0) (en
     external_alone = by_values (values place.setting.end file args) refl
       where
         by_whole : (xs : List Value) → values place.setting.end file args ≡ Some xs → (t : Bool) → is_complete a ≡ t →
-            FollowsStep k s laid live entry c v (on_act place m alone next file a (only_if t (Asks (Outside (row_of row) false) xs
+            FollowsSo k s laid live entry c v (laid.frame + 16 * length a.tries) (on_act place m alone next file a (only_if t (Asks (Outside (row_of row) false) xs
             (after_external place.setting row.result false a))))
-        by_whole xs h false e = tt
-        by_whole xs h true e = alone_asks e xs h
+        by_whole xs h false e = record { follows = tt; calls = tt }
+        by_whole xs h true e = record { follows = alone_asks e xs h; calls = in_table xs h }
 
         by_values : (o : Option (List Value)) → values place.setting.end file args ≡ o →
-            FollowsStep k s laid live entry c v (on_values place (named (length next)) m alone next file a o)
-        by_values None h = tt
+            FollowsSo k s laid live entry c v (laid.frame + 16 * length a.tries) (on_values place (named (length next)) m alone next file a o)
+        by_values None h = record { follows = tt; calls = tt }
         by_values (Some xs) h = by_whole xs h (is_complete a) refl
 
   -- ---- a frame call
@@ -273,18 +298,18 @@ module _ (s : Fixed) (n : Named) (laid : Laid) (live : List Line → Type 0) (en
         ArrivesIn 0 k s (nothing s) v (IsAsking s (record { top = s.base; stack = 0; heap = heap_need a.memory }) (row_of row) true xs a.memory
         (λ doing w. IsAfter s laid live c (on_act place m framed next (poisoned (named (length next)) file) a
         (after_external place.setting row.result true a doing)) w))
-    frame_asks whole xs read fits =
-        let r = reached 4 (omega arith) (v.place + k) part whole xs read in
+    frame_asks whole xs read vals =
+        let r = reached 4 four_small (v.place + k) part whole xs read in
         let w = r.reach.changes.view in
         let l1 = r.reach.lands in
         let l2 = r.lands in
         let here = arrived s v r.middle (5 ∷ 7 ∷ []) v.memory _ r.reach in
         let b = behind_is in
         let next_place : laid.part (length next) ≡ w.place + 1 = omega (arith, b, l2, here) in
-        let ww = within_it 4 (omega arith) (v.place + k) part whole xs read in
+        let ww = within_it 4 four_small (v.place + k) part whole xs read in
         let fit : are_vals (data_start + length s.image.bytes) (named (length next)) (dropped 5 held) ≡ true =
         subst (λ z. are_vals z (named (length next)) (dropped 5 held) ≡ true) end_is
-        (vals_held place.setting.end ⊥ (dropped 5 held) file (named (length next)) agrees' spared ∙ fits) in
+        (vals_held place.setting.end ⊥ (dropped 5 held) file (named (length next)) agrees' spared ∙ vals) in
         let address : address_of_place (v.place + k) ≡ code_start + 4 * w.place + 4 = omega (arith, l2, here) in
         let there : descriptor_at s.image.descs (code_start + 4 * w.place + 4) ≡ Some (desc_at (v.place + k) e) =
         subst (λ p. descriptor_at s.image.descs p ≡ Some (desc_at (v.place + k) e)) address marked in
@@ -294,16 +319,16 @@ module _ (s : Fixed) (n : Named) (laid : Laid) (live : List Line → Type 0) (en
         (after_external place.setting row.result true a t.doing)) u in
         leads_in 0 k s r.reach.count (omega arith) (omega (arith, l1, l2)) v w _ r.reach.changes.leads (record {
           ext = is.ext;
-          there = row_there 4 (omega arith) (v.place + k) part whole xs read;
+          there = row_there 4 four_small (v.place + k) part whole xs read;
           name = is.name;
           params = is.params;
           result = is.result;
-          code = code_it 4 (omega arith) (v.place + k) part whole xs read;
+          code = code_it 4 four_small (v.place + k) part whole xs read;
           service = r.reach.changes.holds.1;
-          made = shows 4 (omega arith) (v.place + k) part whole xs read;
-          goes = λ b t ok words taken. frame_goes s w (code_it 4 (omega arith) (v.place + k) part whole xs read) r.reach.changes.holds.1 is.ext
-              (row_there 4 (omega arith) (v.place + k) part whole xs read) (counted s (row_of row) xs)
-              (shows 4 (omega arith) (v.place + k) part whole xs read) laid young (dropped 5 held) a c ww (named (length next)) (desc_at (v.place + k) e) described
+          made = shows 4 four_small (v.place + k) part whole xs read;
+          goes = λ b t ok words taken. frame_goes s w (code_it 4 four_small (v.place + k) part whole xs read) r.reach.changes.holds.1 is.ext
+              (row_there 4 four_small (v.place + k) part whole xs read) (counted s (row_of row) xs)
+              (shows 4 four_small (v.place + k) part whole xs read) laid young (dropped 5 held) a c ww (named (length next)) (desc_at (v.place + k) e) described
               saves fit whole none there (record { top = s.base; stack = 0; heap = heap_need a.memory }) refl a.memory P words
               (λ x answers u wu at ten. subst (λ q. IsAfter s laid live c (on_act place m framed next (poisoned (named (length next)) file) a
               (after_external place.setting row.result true a (Gave (given q x) a.memory))) u) (sym is.result)
@@ -315,7 +340,7 @@ module _ (s : Fixed) (n : Named) (laid : Laid) (live : List Line → Type 0) (en
               b t ok (subst (λ q. taken_moving a.memory q w.answers ≡ Some t) (sym is.result) taken);
         })
 
-    pub external_framed : FollowsStep k s laid live entry c v (step place named m (record {
+    pub external_framed : FollowsSo k s laid live entry c v (laid.frame + 16 * length a.tries) (step place named m (record {
       rest = record { op = lin.Op (op.Calling (calling.External row true)); args = args; results = results } ∷ next;
       file = file;
       around = a;
@@ -324,18 +349,18 @@ module _ (s : Fixed) (n : Named) (laid : Laid) (live : List Line → Type 0) (en
       where
         by_whole : (xs : List Value) → values place.setting.end file args ≡ Some xs → are_vals place.setting.end (named (length next)) file ≡ true → (t : Bool) →
             is_complete a ≡ t →
-            FollowsStep k s laid live entry c v (on_act place m framed next (poisoned (named (length next)) file) a
+            FollowsSo k s laid live entry c v (laid.frame + 16 * length a.tries) (on_act place m framed next (poisoned (named (length next)) file) a
             (only_if t (Asks (Outside (row_of row) true) xs (after_external place.setting row.result true a))))
-        by_whole xs h f false e = tt
-        by_whole xs h f true e = frame_asks e xs h f
+        by_whole xs h f false e = record { follows = tt; calls = tt }
+        by_whole xs h f true e = record { follows = frame_asks e xs h f; calls = in_table xs h }
 
         by_fit : (xs : List Value) → values place.setting.end file args ≡ Some xs → (t : Bool) → are_vals place.setting.end (named (length next)) file ≡ t →
-            FollowsStep k s laid live entry c v (unless_misnamed t (on_act place m framed next (poisoned (named (length next)) file) a
+            FollowsSo k s laid live entry c v (laid.frame + 16 * length a.tries) (unless_misnamed t (on_act place m framed next (poisoned (named (length next)) file) a
             (only_if (is_complete a) (Asks (Outside (row_of row) true) xs (after_external place.setting row.result true a)))))
-        by_fit xs h false f = tt
+        by_fit xs h false f = record { follows = tt; calls = tt }
         by_fit xs h true f = by_whole xs h f (is_complete a) refl
 
         by_values : (o : Option (List Value)) → values place.setting.end file args ≡ o →
-            FollowsStep k s laid live entry c v (on_values place (named (length next)) m framed next file a o)
-        by_values None h = tt
+            FollowsSo k s laid live entry c v (laid.frame + 16 * length a.tries) (on_values place (named (length next)) m framed next file a o)
+        by_values None h = record { follows = tt; calls = tt }
         by_values (Some xs) h = by_fit xs h (are_vals place.setting.end (named (length next)) file) refl

@@ -22,3 +22,5 @@ pub mod Outside
 pub mod FrameServices
 pub mod ExternalLines
 pub mod ExternalCalls
+pub mod NoWaits
+pub mod Whole

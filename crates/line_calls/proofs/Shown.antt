@@ -24,7 +24,7 @@ use Rattle.rv_machine.specs.Hart.{Hart, Placed}
 use Rattle.rv_machine.specs.Observation.{all_blocks, block_or_word, blocks_or, observed, serial_from}
 use Rattle.rv_machine.specs.Services.{arguments_from}
 use Rattle.moving_laws.specs.Heap.{AllApart, AreApart, AreBlocks}
-use Rattle.moving_laws.specs.Values.{HasFunctions, IsVal, function_at, start_of, value_word}
+use Rattle.moving_laws.specs.Values.{HasFunctions, IsKnown, IsVal, function_at, start_of, value_word}
 use Rattle.moving_laws.specs.Young.{Rises}
 use Rattle.moving_laws.proofs.Fitting.{val_fits}
 use Rattle.moving_laws.proofs.Rewriting.{NoStart, at_start, far_no_start, odd_no_start, start_inside}
@@ -34,6 +34,7 @@ use Rattle.linear_machine.specs.Outside.{shown}
 use Rattle.linear_machine.specs.Relation.{Below, Laid, StandsFor, Within, all_of}
 use Rattle.linear_machine.specs.View.{Fixed, View}
 use Rattle.linear_machine.proofs.Moving.{hart_of, heads_of}
+use Rattle.line_calls.specs.Calls.{IsInTable}
 use Rattle.line_calls.proofs.Seats.{Rising, same_place, was_read}
 
 -- ---- serials
@@ -131,3 +132,27 @@ module _ (s : Fixed) (laid : Laid) (u : View) (young : List Placed) (held : Loca
       ap₂ (λ y ys. y ∷ ys) (shown_one p.comp w.value (slice_index u.registers (suc r)) w.fit is.0 stands)
       (shown_from file hold ps w.others (suc r) rs more (omega (arith, low)) at.1 up.1 w.rest is.1)
       ∙ ap (map (shown s.image)) (sym w.are)
+
+-- a value that is known points to a function that is there
+in_table : (image : Tables) (count : ℕ) (x : Value) → IsKnown image count x → IsInTable image x
+in_table image count (Word w) known = tt
+in_table image count (Block k o) known = tt
+in_table image count (Function f) known = known
+
+pub tabled_from :
+    (s : Fixed) (placed : List Placed) (registers : List ℕ) (end : ℕ) (file : Locations) →
+    ((r : ℕ) (x : Value) → 10 ≤ r → file (loc.Machine r) ≡ Some x → StandsFor s placed (slice_index registers r) x) →
+    (ps : List Spot) (xs : List Value) (r : ℕ) (rs : List ℕ) (more : List Loc) → 9 ≤ r → places_of ps ++ more ≡ map loc.Machine rs → Rising (suc r) rs →
+    values end file ps ≡ Some xs → AllByRecursion (IsInTable s.image) xs
+tabled_from s placed registers end file hold [] xs r rs more low e up g = subst (AllByRecursion (IsInTable s.image)) (let q : [] ≡ xs = cc in q) tt
+tabled_from s placed registers end file hold (p ∷ ps) xs r [] more low e up g = absurd (cc)
+tabled_from s placed registers end file hold (p ∷ ps) xs r (q ∷ rs) more low e up g =
+    let w = was_read end p.comp (file p.loc) (values end file ps) xs g in
+    let at = same_place p.loc q (places_of ps ++ more) (map loc.Machine rs) e in
+    let there : p.loc ≡ loc.Machine (suc r) = at.0 ∙ ap loc.Machine up.0 in
+    let stands = hold (suc r) w.value (omega (arith, low)) (subst (λ l. file l ≡ Some w.value) there w.held) in
+    subst (AllByRecursion (IsInTable s.image)) (sym w.are)
+    (
+      in_table s.image (length placed) w.value stands.known,
+      tabled_from s placed registers end file hold ps w.others (suc r) rs more (omega (arith, low)) at.1 up.1 w.rest,
+    )
