@@ -136,8 +136,6 @@ module _ (s : Fixed) (n : Named) (laid : Laid) (live : List Line → Type 0) (en
     (next : List Line) (v : View) (young : List Placed) (held file : Locations) (a : Around) (within : Within s laid v young 0 held a c) (before : Type 0)
     (agrees : Agrees before held file) (k : ℕ) (none : a.raised ≡ None) (behind_is : laid.part (length next) ≡ v.place + k)
     (end_is : place.setting.end ≡ data_start + length s.image.bytes) (dead : live next → ⊥)
-    (handlers : (l : ℕ) (rest : List ℕ) → a.tries ≡ l ∷ rest → laid.handler l ≡ address_of_place (laid.part (length (after_label l m.code))))
-    (no_live : (l : ℕ) (rest : List ℕ) → a.tries ≡ l ∷ rest → live (after_label l m.code) → ⊥)
     (row : declared.External) (is : IsRowAt s row (n.external (row_of row)))
     (args : List Spot) (seats : AreSeated (InOrder argument_places) (places_of args)) (of_row : comps args ≡ row.params)
     (results : List Spot) (typed : comps results ≡ results_of row.result) (seated : AreSeated (InOrder result_places) (places_of results)) where
@@ -255,7 +253,7 @@ module _ (s : Fixed) (n : Named) (laid : Laid) (live : List Line → Type 0) (en
                 answers = answers;
                 calls = w.calls ++ counted s (row_of row) xs ∷ [];
               })) (sym is.result)
-              (gave_after s laid live c place m next young (dropped 5 held) file same_file a none whole dead handlers no_live row false args row.result results
+              (gave_after s laid live c place m next young (dropped 5 held) file same_file a none whole dead row false args row.result results
               typed seated x a.memory _
               (within_behind s laid w young (dropped 5 held) a c ww none (w.place + 1) (behind is.ext.result x w.registers) answers
               (w.calls ++ counted s (row_of row) xs ∷ []) (behind_are is.ext.result x w.registers fits ww.own.are)
@@ -289,7 +287,10 @@ module _ (s : Fixed) (n : Named) (laid : Laid) (live : List Line → Type 0) (en
 
   module _ (saves : laid.saves ≡ true) (e : Descr) (described : IsDescribed laid (length a.tries) (named (length next)) (desc_at (v.place + k) e))
       (marked : descriptor_at s.image.descs (address_of_place (v.place + k)) ≡ Some (desc_at (v.place + k) e))
-      (spared : is_named spare (named (length next)) ≡ false) (part : PartStands s n v.place (v.place + k) (external_words row true)) where
+      (spared : is_named spare (named (length next)) ≡ false)
+      (handlers : (l : ℕ) (rest : List ℕ) → a.tries ≡ l ∷ rest → laid.handler l ≡ address_of_place (laid.part (length (after_label l m.code))))
+      (no_live : (l : ℕ) (rest : List ℕ) → a.tries ≡ l ∷ rest → live (after_label l m.code) → ⊥)
+      (part : PartStands s n v.place (v.place + k) (external_words row true)) where
     agrees' : Agrees ⊥ (dropped 5 held) file
     agrees' = record { others = same_file; spare_too = λ f. absurd f }
 
@@ -333,7 +334,7 @@ module _ (s : Fixed) (n : Named) (laid : Laid) (live : List Line → Type 0) (en
               (λ x answers u wu at ten. subst (λ q. IsAfter s laid live c (on_act place m framed next (poisoned (named (length next)) file) a
               (after_external place.setting row.result true a (Gave (given q x) a.memory))) u) (sym is.result)
               (gave_after s laid live c place m next [] (poisoned (named (length next)) (dropped 5 held)) (poisoned (named (length next)) file) same_lost a none whole
-              dead handlers no_live row true args row.result results typed seated x a.memory u wu (next_place ∙ sym at) (λ q f. ten q (is.result ∙ f))))
+              dead row true args row.result results typed seated x a.memory u wu (next_place ∙ sym at) (λ q f. ten q (is.result ∙ f))))
               (λ x answers v' u wv df h2 h9 hp h10.
               threw_after s laid live c place m next [] (poisoned (named (length next)) (dropped 5 held)) (poisoned (named (length next)) file) same_lost a none whole
               dead handlers no_live row args row.result results x v' u wv df h2 h9 hp h10)

@@ -52,9 +52,7 @@ clear_same held file loc.Unset e = e
 
 module _ (s : Fixed) (laid : Laid) (live : List Line → Type 0) (c : Below) (place : Place) (m : Lin) (next : List Line) (young : List Placed)
     (held file : Locations) (same : (l : Loc) → (l ≡ spare → ⊥) → held l ≡ file l) (a : Around) (none : a.raised ≡ None) (whole : is_complete a ≡ true)
-    (dead : live next → ⊥)
-    (handlers : (l : ℕ) (rest : List ℕ) → a.tries ≡ l ∷ rest → laid.handler l ≡ address_of_place (laid.part (length (after_label l m.code))))
-    (no_live : (l : ℕ) (rest : List ℕ) → a.tries ≡ l ∷ rest → live (after_label l m.code) → ⊥) where
+    (dead : live next → ⊥) where
   -- it gave a value, or none
   pub gave_after :
       (row : declared.External) (frame : Bool) (args : List Spot) (r : Ret) (results : List Spot) → comps results ≡ results_of r →
@@ -106,13 +104,15 @@ module _ (s : Fixed) (laid : Laid) (live : List Line → Type 0) (c : Below) (pl
 
   -- it raised one
   pub threw_after :
+      (handlers : (l : ℕ) (rest : List ℕ) → a.tries ≡ l ∷ rest → laid.handler l ≡ address_of_place (laid.part (length (after_label l m.code)))) →
+      (no_live : (l : ℕ) (rest : List ℕ) → a.tries ≡ l ∷ rest → live (after_label l m.code) → ⊥) →
       (row : declared.External) (args : List Spot) (r : Ret) (results : List Spot) (x : ℕ) (v u : View) → Within s laid v young 0 (clear Temporaries held) a c →
       Differs (2 ∷ 6 ∷ 7 ∷ 9 ∷ []) v.memory v u → slice_index u.registers 2 ≡ slice_index v.registers 9 + 16 →
       slice_index u.registers 9 ≡ word v.memory (slice_index v.registers 9 + 8) → code_start + 4 * u.place ≡ word v.memory (slice_index v.registers 9) →
       slice_index u.registers 10 ≡ x →
       IsAfter s laid live c (on_act place m (record { op = lin.Op (op.Calling (calling.External row true)); args = args; results = results }) next file a
       (after_external place.setting r true a (Threw (Word x) a.memory))) u
-  threw_after row args r results x v u within differs high points goes ten = by_fit (fits place.setting.end ty.Val (Word x))
+  threw_after handlers no_live row args r results x v u within differs high points goes ten = by_fit (fits place.setting.end ty.Val (Word x))
     where
       stands : StandsFor s (all_of v young) (slice_index u.registers 10) (Word x)
       stands = record { is = ten; known = tt }
