@@ -5,3 +5,4 @@ pub mod Moves
 pub mod Compared
 pub mod Agreeing
 pub mod Rows
+pub mod Operations
