@@ -6,3 +6,4 @@ pub mod Compared
 pub mod Agreeing
 pub mod Rows
 pub mod Operations
+pub mod Jumping
