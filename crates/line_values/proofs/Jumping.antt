@@ -25,16 +25,15 @@ use Rattle.linear_machine.specs.Straight.{Changes, Differs, IsPast}
 use Rattle.linear_machine.specs.View.{Fixed, View, HasCode, IsCode, Leads}
 use Rattle.linear_machine.proofs.Formats.{goes_branch_on, goes_branch_taken, goes_jal, sets_auipc, sets_jalr}
 use Rattle.linear_machine.proofs.Immediates.{low_12}
-use Rattle.linear_machine.proofs.Jumps.{past_differs}
 use Rattle.linear_machine.proofs.Sequences.{code_past, set_changes}
 use Rattle.linear_machine.proofs.Steps.{at_place, go_step, reg, set_to_step, then_leads}
 
--- so many instructions lead to a place, where t1 alone may have changed
+-- so many instructions lead to a place, where t1 and t2 alone may have changed
 pub record Goes (s : Fixed) (u : View) (k to : ℕ) : Type 0 where
   pub view : View
   pub leads : Leads s k u view
   pub place : view.place ≡ to
-  pub differs : Differs (6 ∷ []) u.memory u view
+  pub differs : Differs (6 ∷ 7 ∷ []) u.memory u view
 
 -- the words of a place of the code lie below 2^28
 abbrev pub IsPlace : ℕ → Type 0
@@ -88,7 +87,12 @@ module _ (s : Fixed) (u : View) (are : AreRegisters u.registers) (to : ℕ) (nea
             (set_to_step s w (Jalr 0 6 low) 0 (code_start + 4 * (w.place + 1)) to (code_past s 1 (6 ∷ []) u.memory u w (Jalr 0 6 low) first.past code.1.0)
             (inl (λ q. omega (arith, q))) (sets_jalr s w 0 6 low to target));
         place = refl;
-        differs = past_differs 1 (6 ∷ []) u.memory u w to first.past;
+        differs = record {
+          are = first.past.are;
+          others = λ q n. first.past.others q (λ i. n (⊎_elim (λ f. inl f) (λ f. absurd f) i));
+          memory = first.past.memory;
+          blocks = first.past.blocks;
+        };
       }
 
 -- a jump is one word or two
@@ -203,19 +207,29 @@ module _ (s : Fixed) (u : View) (are : AreRegisters u.registers) (to : ℕ) (nea
       (middle_test (branch_reaches u.place to) (jal_reaches (u.place + 1) to) l)
 
   -- a branch is one word to three
-  pub record Branched (k there : ℕ) : Type 0 where
+  pub record Branched (t : Bool) (k there : ℕ) : Type 0 where
     pub count : ℕ
     pub few : count ≤ k
     pub goes : Goes s u count there
+    -- t1 is lost on the way to a label alone
+    pub same : t ≡ false → goes.view.registers ≡ u.registers
 
   -- To the label where the condition holds, else behind the branch.
   pub branch_goes : (t : Bool) → is_taken c (reg u.registers (number a)) (reg u.registers (number b)) ≡ t → (f : Form) →
       rank (branch_form u.place to) ≤ rank f → HasCode s u.place (branch_code f c a b (address_of_place u.place) (address_of_place to)) →
-      Branched (branch_words f) (cond t to (u.place + branch_words f))
-  branch_goes t e Near reach code = record {
+      Branched t (branch_words f) (cond t to (u.place + branch_words f))
+  unfolding near_branch goes_at goes_over
+  branch_goes true e Near reach code = record {
     count = 1;
     few = omega arith;
-    goes = near_branch (near_test (branch_reaches u.place to) (jal_reaches (u.place + 1) to) reach) t e code.0;
+    goes = near_branch (near_test (branch_reaches u.place to) (jal_reaches (u.place + 1) to) reach) true e code.0;
+    same = λ q. absurd (cc);
+  }
+  branch_goes false e Near reach code = record {
+    count = 1;
+    few = omega arith;
+    goes = near_branch (near_test (branch_reaches u.place to) (jal_reaches (u.place + 1) to) reach) false e code.0;
+    same = λ q. refl;
   }
   branch_goes true e Middle reach code =
       let next : IsCode s (u.place + 1) (Jal 0 (jal_offset (address_of_place (u.place + 1)) (address_of_place to))) =
@@ -225,8 +239,9 @@ module _ (s : Fixed) (u : View) (are : AreRegisters u.registers) (to : ℕ) (nea
         few = omega arith;
         goes = goes_then s u (u.place + 1) 1 to (goes_on 8 e code.0)
             (near_jump s (at_place (u.place + 1) u) are to (omega (arith, near_u)) near_to (jal_after reach) next);
+        same = λ q. absurd (cc);
       }
-  branch_goes false e Middle reach code = record { count = 1; few = omega arith; goes = goes_over 2 (omega arith) e code.0 }
+  branch_goes false e Middle reach code = record { count = 1; few = omega arith; goes = goes_over 2 (omega arith) e code.0; same = λ q. refl }
   branch_goes true e Far reach code =
       let next : HasCode s (u.place + 1) (far_jump 0 6 (address_of_place (u.place + 1)) (address_of_place to)) =
       subst (λ z. HasCode s (u.place + 1) (far_jump 0 6 z (address_of_place to))) next_address code.1 in
@@ -235,8 +250,9 @@ module _ (s : Fixed) (u : View) (are : AreRegisters u.registers) (to : ℕ) (nea
         few = omega arith;
         goes = goes_then s u (u.place + 1) 2 to (goes_on 12 e code.0)
             (far_goes s (at_place (u.place + 1) u) are to (omega (arith, near_u)) near_to next);
+        same = λ q. absurd (cc);
       }
-  branch_goes false e Far reach code = record { count = 1; few = omega arith; goes = goes_over 3 (omega arith) e code.0 }
+  branch_goes false e Far reach code = record { count = 1; few = omega arith; goes = goes_over 3 (omega arith) e code.0; same = λ q. refl }
 
 -- ---- code lies in the image
 

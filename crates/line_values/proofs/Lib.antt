@@ -7,3 +7,4 @@ pub mod Agreeing
 pub mod Rows
 pub mod Operations
 pub mod Jumping
+pub mod Landing
