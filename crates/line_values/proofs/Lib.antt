@@ -8,3 +8,4 @@ pub mod Rows
 pub mod Operations
 pub mod Jumping
 pub mod Landing
+pub mod Testing
