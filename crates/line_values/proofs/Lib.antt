@@ -9,3 +9,5 @@ pub mod Operations
 pub mod Jumping
 pub mod Landing
 pub mod Testing
+pub mod Switching
+pub mod Bytes
