@@ -82,23 +82,22 @@ module _ (x b w : ℕ) (some : 1 ≤ w) (even : x % 8 ≡ 0) (inside : b + w ≤
       read m (x + b) w ≡ Some (part old b w)
   read_part [] each whole old e = absurd (cc)
   read_part (r ∷ rs) each whole old e =
-      by_test (is_inside r x 8) refl e
+      by_test (is_inside r x 8) refl (read_part rs each.1 whole.1 old) e
     where
       some_same : {X : Type 0} {p q : X} → Some p ≡ Some q → p ≡ q
       some_same e = cc
 
-      by_test : (t : Bool) → is_inside r x 8 ≡ t →
+      by_test : (t : Bool) → is_inside r x 8 ≡ t → (read rs x 8 ≡ Some old → read rs (x + b) w ≡ Some (part old b w)) →
           cond t (Some (part (slice_index r.words (index_in r x)) (byte_in r x) 8)) (read rs x 8) ≡ Some old →
           read (r ∷ rs) (x + b) w ≡ Some (part old b w)
-      by_test true t e =
+      by_test true t later e =
           let at = read_at r each.0 whole.0 t in
           let k : ℕ = slice_index r.words (index_in r x) in
           let same : k ≡ old =
           sym (part_is k (each.0.words (index_in r x))) ∙ ap (λ z. part k z 8) (sym at.2) ∙ some_same e in
           cond-true (is_inside r (x + b) w) _ _ (inside_same r whole.0 ∙ t)
           ∙ ap Some (ap (λ z. part (slice_index r.words z) (byte_in r (x + b)) w) at.0 ∙ ap (λ z. part k z w) at.1 ∙ ap (λ z. part z b w) same)
-      by_test false t e =
-          cond-false (is_inside r (x + b) w) _ _ (inside_same r whole.0 ∙ t) ∙ read_part rs each.1 whole.1 old e
+      by_test false t later e = cond-false (is_inside r (x + b) w) _ _ (inside_same r whole.0 ∙ t) ∙ later e
 
   -- ---- writes
 
@@ -108,15 +107,16 @@ module _ (x b w : ℕ) (some : 1 ≤ w) (even : x % 8 ≡ 0) (inside : b + w ≤
   written_part : (m : List Region) → AllByRecursion IsRegion m → AllByRecursion (λ r. IsWholeAt x (extent r)) m → (old value : ℕ) → read m x 8 ≡ Some old →
       replaced old b w value < 2 ^ 64 → written m (x + b) w value ≡ written m x 8 (replaced old b w value)
   written_part [] each whole old value e small = absurd (cc)
-  written_part (r ∷ rs) each whole old value e small = by_test (is_inside r x 8) refl e
+  written_part (r ∷ rs) each whole old value e small = by_test (is_inside r x 8) refl (λ f. written_part rs each.1 whole.1 old value f small) e
     where
       some_same : {X : Type 0} {p q : X} → Some p ≡ Some q → p ≡ q
       some_same e = cc
 
       by_test : (t : Bool) → is_inside r x 8 ≡ t →
+          (read rs x 8 ≡ Some old → written rs (x + b) w value ≡ written rs x 8 (replaced old b w value)) →
           cond t (Some (part (slice_index r.words (index_in r x)) (byte_in r x) 8)) (read rs x 8) ≡ Some old →
           written (r ∷ rs) (x + b) w value ≡ written (r ∷ rs) x 8 (replaced old b w value)
-      by_test true t e =
+      by_test true t later e =
           let at = read_at r each.0 whole.0 t in
           let k : ℕ = slice_index r.words (index_in r x) in
           let same : k ≡ old = sym (part_is k (each.0.words (index_in r x))) ∙ ap (λ z. part k z 8) (sym at.2) ∙ some_same e in
@@ -130,9 +130,9 @@ module _ (x b w : ℕ) (some : 1 ≤ w) (even : x % 8 ≡ 0) (inside : b + w ≤
           (ap (λ i. slice_set r.words i (replaced (slice_index r.words (index_in r (x + b))) (byte_in r (x + b)) w value)) at.0
           ∙ ap (slice_set r.words (index_in r x)) (one ∙ sym two))
           ∙ sym (cond-true (is_inside r x 8) _ _ t)
-      by_test false t e =
+      by_test false t later e =
           cond-false (is_inside r (x + b) w) _ _ (inside_same r whole.0 ∙ t)
-          ∙ ap (option_map (λ rest. r ∷ rest)) (written_part rs each.1 whole.1 old value e small)
+          ∙ ap (option_map (λ rest. r ∷ rest)) (later e)
           ∙ sym (cond-false (is_inside r x 8) _ _ t)
 
 -- ---- the regions of a machine
@@ -192,10 +192,67 @@ module _ (s : Fixed) (v : View) (x b : ℕ) (even : x % 8 ≡ 0) (low : 0x100000
       let r' = like_readable v.memory a.hart.memory x st.memory r in
       let old : ℕ = word a.hart.memory x in
       let same = st.memory.words x n in
-      let small : replaced (word a.hart.memory x) b w value < 2 ^ 64 = ? in
+      let small : replaced (word a.hart.memory x) b w value < 2 ^ 64 =
+      replaced-below (word a.hart.memory x) b w value inside (word_below a.hart.memory x) in
       cond-true ((x + b) % w == 0) _ _ (eq-eqb ((x + b) % w) 0 aligned)
       ∙ written_part x b w (width_some w width) even inside a.hart.memory st.memory.each (all_whole s a.hart.memory x st.regions at) (word a.hart.memory x)
       value (read_is a.hart.memory x r') small
       ∙ sym (cond-true (x % 8 == 0) _ _ (eq-eqb (x % 8) 0 even))
       ∙ stored_is a.hart.memory x (replaced (word a.hart.memory x) b w value) r'
       ∙ ap (λ z. Some (write a.hart.memory x (replaced z b w value))) same
+
+  -- ---- instructions
+
+  pub sets_load_part : (kind : LoadWidth) → bytes_loaded kind ≡ w → (rd ra imm : ℕ) → add_word (reg v.registers ra) (imm_i imm) ≡ x + b →
+      SetsRegister s v (Load kind rd ra imm) rd (register_loaded kind (part (word v.memory x) b w))
+  sets_load_part kind same rd ra imm e = record {
+    effect = λ a st.
+        ap (λ y. loads (loaded (readable a.hart) (add_word y (imm_i imm)) (bytes_loaded kind)) kind rd a.hart) (register_reg s a v ra st)
+        ∙ ap (λ y. loads (loaded (readable a.hart) y (bytes_loaded kind)) kind rd a.hart) e
+        ∙ ap (λ z. loads (loaded (readable a.hart) (x + b) z) kind rd a.hart) same
+        ∙ ap (λ o. loads o kind rd a.hart) (loaded_part a st);
+  }
+
+  -- the word with some of its bytes replaced
+  abbrev pub with_part : ℕ → ℕ
+  with_part value = replaced (word v.memory x) b w value
+
+  pub store_part_step : (kind : StoreWidth) → bytes_stored kind ≡ w → (ra rb imm : ℕ) → IsCode s v.place (Store kind ra rb imm) →
+      add_word (reg v.registers ra) (imm_i imm) ≡ x + b → AllByRecursion IsRegion v.memory →
+      Leads s 1 v (stored_in s v x (replaced (word v.memory x) b w (reg v.registers rb)))
+  store_part_step kind same ra rb imm c e f = record {
+    answers = refl;
+    calls = refl;
+    by = λ a st.
+        let d = ready s a in
+        let ok = ready_stands s a v st in
+        let value : ℕ = replaced (word v.memory x) b w (reg v.registers rb) in
+        let m = write d.hart.memory x value in
+        let effect : executed (Store kind ra rb imm) d.hart ≡ stores (Some m) d.hart =
+        ap₂ (λ y z. stores (stored d.hart.memory (add_word y (imm_i imm)) (bytes_stored kind) z) d.hart) (register_reg s d v ra ok)
+        (register_reg s d v rb ok)
+        ∙ ap (λ y. stores (stored d.hart.memory y (bytes_stored kind) (reg v.registers rb)) d.hart) e
+        ∙ ap (λ z. stores (stored d.hart.memory (x + b) z (reg v.registers rb)) d.hart) same
+        ∙ ap (λ o. stores o d.hart) (stored_part d ok (reg v.registers rb)) in (
+          with_hart a (record (d.hart) { memory = m; pc = d.hart.pc + 4; retired = suc d.hart.retired }),
+          record {
+            image = ok.image;
+            pc = next (d.hart.pc) ok.pc;
+            registers = ok.registers;
+            memory = like_write v.memory d.hart.memory x value f r (replaced-below (word v.memory x) b w (reg v.registers rb) inside (word_below v.memory x))
+                ok.memory;
+            regions = has_write (extents s.image s.heap s.base) d.hart.memory x value ok.regions;
+            limit = ⊎_elim (λ q. inl (other_word d.hart.memory x 0x20000000 value n ∙ q))
+                (λ q. inr (other_word d.hart.memory x 0x20000000 value n ∙ q)) ok.limit;
+            stack_base = ok.stack_base;
+            heap = ok.heap;
+            blocks = ok.blocks;
+            result = ok.result;
+            answers = ok.answers;
+            calls = ok.calls;
+          },
+          one_step s a v (Store kind ra rb imm) (stores (Some m) d.hart) st c effect,
+        );
+  } where
+    next : (pc : ℕ) → pc ≡ code_start + 4 * v.place → pc + 4 ≡ code_start + 4 * (v.place + 1)
+    next pc e = omega arith
