@@ -24,13 +24,13 @@ use Rattle.linear_machine.proofs.Formats.{stored_in}
 use Rattle.linear_machine.proofs.Likes.{like_readable, like_write}
 use Rattle.linear_machine.proofs.Steps.{SetsRegister, one_step, ready, ready_stands, reg, register_reg, with_hart}
 
-bool_same : (p q : Bool) → (p ≡ true → q ≡ true) → (q ≡ true → p ≡ true) → p ≡ q
+pub bool_same : (p q : Bool) → (p ≡ true → q ≡ true) → (q ≡ true → p ≡ true) → p ≡ q
 bool_same true true f g = refl
 bool_same true false f g = sym (f refl)
 bool_same false true f g = g refl
 bool_same false false f g = refl
 
-width_some : (w : ℕ) → IsWidth w → 1 ≤ w
+pub width_some : (w : ℕ) → IsWidth w → 1 ≤ w
 width_some w (inl e) = omega (arith, e)
 width_some w (inr (inl e)) = omega (arith, e)
 width_some w (inr (inr (inl e))) = omega (arith, e)

@@ -11,3 +11,5 @@ pub mod Landing
 pub mod Testing
 pub mod Switching
 pub mod Bytes
+pub mod Cells
+pub mod Addresses
