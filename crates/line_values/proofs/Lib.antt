@@ -13,3 +13,4 @@ pub mod Switching
 pub mod Bytes
 pub mod Cells
 pub mod Addresses
+pub mod Loading
