@@ -14,3 +14,4 @@ pub mod Bytes
 pub mod Cells
 pub mod Addresses
 pub mod Loading
+pub mod Statics
