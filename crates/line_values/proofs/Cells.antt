@@ -21,6 +21,10 @@ use Rattle.std.proofs.lemmas.Option.{slice_get_within}
 use Rattle.line_values.specs.Statics.{IsWholeList}
 use Rattle.line_values.proofs.Bytes.{IsDataOrAbove, bool_same, width_some}
 use Rattle.line_values.proofs.Compared.{block_end}
+use Rattle.line_values.proofs.Statics.{is_in}
+use Rattle.moving_laws.specs.Words.{IsReadable}
+use Rattle.moving_laws.proofs.Usable.{data_readable}
+use Rattle.bs_words.specs.Memory.{HeapBlock, InBlock, InHeader}
 
 -- ---- widths
 
@@ -91,6 +95,14 @@ statics_same k (l ∷ lists) x w cell whole some inside e =
 
 -- ---- where it lies
 
+-- the header or a cell of a block, or a cell of static data, by the address
+pub data Lies (placed : List Placed) (a : Around) (at : ℕ) : Cell → Type 0 where
+  head_cell : {k : ℕ} {b : HeapBlock} → k < length placed → slice_get a.memory.blocks k ≡ Some b → at ≡ start_of placed k - 8 →
+      Lies placed a at (InHeader k)
+  own_cell : {k j : ℕ} {b : HeapBlock} → k < length placed → slice_get a.memory.blocks k ≡ Some b → j < length b.cells → j < words_of placed k →
+      at ≡ start_of placed k + 8 * j → Lies placed a at (InBlock k j)
+  static_cell : {l j : ℕ} → cell_at a.memory 8 (Word at) ≡ Some (InStatic l j) → Lies placed a at (InStatic l j)
+
 -- a cell at the address of its first byte, and so many bytes further the access
 pub record Reached (s : Fixed) (placed : List Placed) (m : List Region) (a : Around) (x : Value) (w : ℕ) (cell : Cell) : Type 0 where
   pub at : ℕ
@@ -103,7 +115,12 @@ pub record Reached (s : Fixed) (placed : List Placed) (m : List Region) (a : Aro
   pub there : cell_at a.memory 8 (first_byte x) ≡ Some cell
   pub first : value_word s.image placed (first_byte x) ≡ at
   pub area : IsDataOrAbove s at
-  pub is : IsCellAt s placed m at (value_in a.memory cell)
+  pub readable : IsReadable m at
+  pub low : 0x10000000 ≤ at
+  pub no_limit : at ≢ 0x20000000
+  pub lies : Lies placed a at cell
+  -- what stands there once it has been written
+  pub is : is_among cell a.unwritten ≡ false → IsCellAt s placed m at (value_in a.memory cell)
 
 module _ (s : Fixed) (placed : List Placed) (m : List Region) (regions : HasRegions (extents s.image s.heap s.base) m) (a : Around)
     (h : HeapStands s placed m a) (whole : AllByRecursion IsWholeList a.memory.statics) (w : ℕ) (width : IsWidth w) where
@@ -128,19 +145,19 @@ module _ (s : Fixed) (placed : List Placed) (m : List Region) (regions : HasRegi
       cond-true (nat_le ((o - o % 8 + 8) % 2 ^ 64 + 8) (8 * (n + 1))) _ _ (le-leb ((o - o % 8 + 8) % 2 ^ 64 + 8) (8 * (n + 1)) (omega (arith, room, one)))
       ∙ ap (λ i. Some (cell_of_block k i)) same ∙ p.1
 
-  -- a block's cells lie above the data
-  high_by : (start o n words : ℕ) → 0x30000008 ≤ start → start + 8 * words ≤ 0x38010000 → words ≡ n → (o + 8) % 2 ^ 64 + 8 ≤ 8 * (n + 1) → o % 8 ≡ 0 →
-      0x20000000 ≤ add_word start o
+  place_by : (start o n words from i : ℕ) → 0x30000008 ≤ start → start % 8 ≡ 0 → start + 8 * words ≤ 0x38010000 → words ≡ n → from ≡ (o + 8) % 2 ^ 64 →
+      from + 8 ≤ 8 * (n + 1) → o % 8 ≡ 0 → from / 8 ≡ i → (add_word start o + 8 ≡ start + 8 * i) × (i ≤ n)
   unfolding add_word
-  high_by start o n words low high e room even = omega (arith, low, high, e, room, even)
+  place_by start o n words from i low al high e f room even g = (omega (arith, low, al, high, e, f, room, even, g), omega (arith, room, g))
 
-  block_high : (k o : ℕ) (cell : Cell) → cell_at a.memory 8 (Block k o) ≡ Some cell → (k < length placed) × (0x20000000 ≤ add_word (start_of placed k) o)
-  block_high k o cell e =
+  -- where a cell of a block lies
+  block_cell : (k o : ℕ) (cell : Cell) → cell_at a.memory 8 (Block k o) ≡ Some cell → Lies placed a (add_word (start_of placed k) o) cell
+  block_cell k o cell e =
       let p = if_true (o % 8 == 0) (in_block k (slice_get (sizes a.memory) k) ((o + 8) % 2 ^ 64) 8) cell e in
       by_size (slice_get (sizes a.memory) k) refl (eqb-true (o % 8) 0 p.0) p.1
     where
       by_size : (n : Option ℕ) → slice_get (sizes a.memory) k ≡ n → o % 8 ≡ 0 → in_block k n ((o + 8) % 2 ^ 64) 8 ≡ Some cell →
-          (k < length placed) × (0x20000000 ≤ add_word (start_of placed k) o)
+          Lies placed a (add_word (start_of placed k) o) cell
       by_size None f even g = absurd (cc)
       by_size (Some n) f even g =
           let p = if_true (nat_le ((o + 8) % 2 ^ 64 + 8) (8 * (n + 1))) (Some (cell_of_block k ((o + 8) % 2 ^ 64 / 8))) cell g in
@@ -151,7 +168,73 @@ module _ (s : Fixed) (placed : List Placed) (m : List Region) (regions : HasRegi
           let i : k < length placed = omega (arith, within, count) in
           let near = start_inside placed k h.old.inside i in
           let size : words_of placed k ≡ n = h.stand.sizes k i ∙ ap size_in b.1 ∙ b.2 in
-          (i, high_by (start_of placed k) o n (words_of placed k) near.1 (block_end placed k h.old.inside i) size room even)
+          by_index ((o + 8) % 2 ^ 64 / 8) (some_is p.1)
+          (place_by (start_of placed k) o n (words_of placed k) ((o + 8) % 2 ^ 64) ((o + 8) % 2 ^ 64 / 8) near.1 near.0 (block_end placed k h.old.inside i) size refl
+          room even refl)
+          b.0 b.1 b.2 i near.1 size
+        where
+          by_index : (x : ℕ) → cell_of_block k x ≡ cell → (add_word (start_of placed k) o + 8 ≡ start_of placed k + 8 * x) × (x ≤ n) → (b : HeapBlock) →
+              slice_get a.memory.blocks k ≡ Some b → length b.cells ≡ n → k < length placed → 0x30000008 ≤ start_of placed k → words_of placed k ≡ n →
+              Lies placed a (add_word (start_of placed k) o) cell
+          by_index zero c p b there len i low size =
+              let e = p.0 in
+              let here : add_word (start_of placed k) o ≡ start_of placed k - 8 = omega (arith, e, low) in
+              subst (Lies placed a (add_word (start_of placed k) o)) c (head_cell i there here)
+          by_index (suc j) c p b there len i low size =
+              let e = p.0 in
+              let few = p.1 in
+              let here : add_word (start_of placed k) o ≡ start_of placed k + 8 * j = omega (arith, e) in
+              let inside : j < length b.cells = omega (arith, few, len) in
+              let inside' : j < words_of placed k = omega (arith, few, size) in
+              subst (Lies placed a (add_word (start_of placed k) o)) c (own_cell i there inside inside' here)
+
+  -- it lies above the data, and can be read
+  record IsHigh (at : ℕ) : Type 0 where
+    pub high : 0x20000008 ≤ at
+    pub readable : IsReadable m at
+
+  high_of : (at : ℕ) (cell : Cell) → at % 8 ≡ 0 → Lies placed a at cell → ((l j : ℕ) → cell ≡ InStatic l j → ⊥) → IsHigh at
+  high_of at cell even (head_cell {k} {b} l there e) none =
+      let near = start_inside placed k h.old.inside l in
+      record {
+        high = omega (arith, e, near);
+        readable = h.readable.each k at l even (omega (arith, e)) (omega (arith, e, near));
+      }
+  high_of at cell even (own_cell {k} {j} {b} l there inside inside' e) none =
+      let near = start_inside placed k h.old.inside l in
+      record {
+        high = omega (arith, e, near);
+        readable = h.readable.each k at l even (omega (arith, e)) (omega (arith, e, inside'));
+      }
+  high_of at cell even (static_cell {l} {j} f) none = absurd (none l j refl)
+
+  no_static : (k o l j : ℕ) → cell_at a.memory 8 (Block k o) ≡ Some (InStatic l j) → ⊥
+  no_static k o l j e =
+      let p = if_true (o % 8 == 0) (in_block k (slice_get (sizes a.memory) k) ((o + 8) % 2 ^ 64) 8) (InStatic l j) e in
+      by_size (slice_get (sizes a.memory) k) p.1
+    where
+      by_size : (n : Option ℕ) → in_block k n ((o + 8) % 2 ^ 64) 8 ≡ Some (InStatic l j) → ⊥
+      by_size None g = absurd (cc)
+      by_size (Some n) g =
+          by_index ((o + 8) % 2 ^ 64 / 8)
+          (some_is (if_true (nat_le ((o + 8) % 2 ^ 64 + 8) (8 * (n + 1))) (Some (cell_of_block k ((o + 8) % 2 ^ 64 / 8))) (InStatic l j) g).1)
+        where
+          by_index : (x : ℕ) → cell_of_block k x ≡ InStatic l j → ⊥
+          by_index zero c = absurd (cc)
+          by_index (suc x) c = absurd (cc)
+
+  block_in : (k o : ℕ) (cell : Cell) → cell_at a.memory 8 (Block k o) ≡ Some cell → k < length placed
+  block_in k o cell e =
+      let p = if_true (o % 8 == 0) (in_block k (slice_get (sizes a.memory) k) ((o + 8) % 2 ^ 64) 8) cell e in
+      by_size (slice_get (sizes a.memory) k) refl p.1
+    where
+      by_size : (n : Option ℕ) → slice_get (sizes a.memory) k ≡ n → in_block k n ((o + 8) % 2 ^ 64) 8 ≡ Some cell → k < length placed
+      by_size None f g = absurd (cc)
+      by_size (Some n) f g =
+          let b = block_there a.memory k n f in
+          let within = slice_get_within a.memory.blocks k b.0 b.1 in
+          let count = h.stand.count in
+          omega (arith, within, count)
 
   block_bytes : (start o : ℕ) → start % 8 ≡ 0 →
       (add_word start o ≡ add_word start (o - o % 8) + o % 8) × (add_word start (o - o % 8) % 8 ≡ 0)
@@ -159,8 +242,14 @@ module _ (s : Fixed) (placed : List Placed) (m : List Region) (regions : HasRegi
   unfolding add_word
   block_bytes start o e = (omega (arith, e), omega (arith, e), omega (arith, e))
 
-  pub reached : (x : Value) (cell : Cell) → cell_at a.memory w x ≡ Some cell → is_among cell a.unwritten ≡ false → Reached s placed m a x w cell
-  reached (Word x) cell e written =
+  static_of : (x : ℕ) (cell : Cell) → cell_at a.memory 8 (Word x) ≡ Some cell → Lies placed a x cell
+  static_of x cell e =
+      let p = if_true (x % 8 == 0) (in_statics 0 a.memory.statics x 8) cell e in
+      let r = is_in 0 a.memory.statics x cell p.1 in
+      subst (Lies placed a x) (sym r.is) (static_cell (e ∙ ap Some r.is))
+
+  pub reached : (x : Value) (cell : Cell) → cell_at a.memory w x ≡ Some cell → Reached s placed m a x w cell
+  reached (Word x) cell e =
       let p = if_true (x % w == 0) (in_statics 0 a.memory.statics x w) cell e in
       let al : x % w ≡ 0 = eqb-true (x % w) 0 p.0 in
       let inside = in_a_word x w width al in
@@ -177,18 +266,25 @@ module _ (s : Fixed) (placed : List Placed) (m : List Region) (regions : HasRegi
         there = there;
         first = refl;
         area = inl place.2;
-        is = cell_there s placed m regions a h (Word (x - x % 8)) cell there written;
+        readable = data_readable s.image s.heap s.base m regions (x - x % 8) place.0 place.1 place.2;
+        low = place.1;
+        no_limit = (let short = s.functions.tables.bytes.short in let high = place.2 in λ q. omega (arith, q, short, high));
+        lies = static_of (x - x % 8) cell there;
+        is = λ written. cell_there s placed m regions a h (Word (x - x % 8)) cell there written;
       }
-  reached (Block k o) cell e written =
+  reached (Block k o) cell e =
       let p = if_true (o % w == 0) (in_block k (slice_get (sizes a.memory) k) ((o + 8) % 2 ^ 64) w) cell e in
       let al : o % w ≡ 0 = eqb-true (o % w) 0 p.0 in
       let inside = in_a_word o w width al in
       let there : cell_at a.memory 8 (Block k (o - o % 8)) ≡ Some cell =
       cond-true ((o - o % 8) % 8 == 0) _ _ (eq-eqb ((o - o % 8) % 8) 0 (omega arith))
       ∙ block_same k o (slice_get (sizes a.memory) k) cell inside p.1 in
-      let high = block_high k (o - o % 8) cell there in
-      let near = start_inside placed k h.old.inside high.0 in
+      let i = block_in k (o - o % 8) cell there in
+      let near = start_inside placed k h.old.inside i in
       let bytes = block_bytes (start_of placed k) o near.0 in
+      let lies = block_cell k (o - o % 8) cell there in
+      let up = high_of (add_word (start_of placed k) (o - o % 8)) cell bytes.1 lies (λ l j q. no_static k (o - o % 8) l j (there ∙ ap Some q)) in
+      let high = up.high in
       record {
         at = add_word (start_of placed k) (o - o % 8);
         byte = o % 8;
@@ -199,7 +295,11 @@ module _ (s : Fixed) (placed : List Placed) (m : List Region) (regions : HasRegi
         even = bytes.1;
         there = there;
         first = refl;
-        area = inr high.1;
-        is = cell_there s placed m regions a h (Block k (o - o % 8)) cell there written;
+        area = inr (omega (arith, high));
+        readable = up.readable;
+        low = omega (arith, high);
+        no_limit = λ q. omega (arith, q, high);
+        lies = lies;
+        is = λ written. cell_there s placed m regions a h (Block k (o - o % 8)) cell there written;
       }
-  reached (Function f) cell e written = absurd (cc)
+  reached (Function f) cell e = absurd (cc)

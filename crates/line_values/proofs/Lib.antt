@@ -11,7 +11,8 @@ pub mod Landing
 pub mod Testing
 pub mod Switching
 pub mod Bytes
+pub mod Statics
 pub mod Cells
 pub mod Addresses
 pub mod Loading
-pub mod Statics
+pub mod Storing

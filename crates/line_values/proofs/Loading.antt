@@ -202,8 +202,8 @@ module _ (s : Fixed) (n : Named) (laid : Laid) (m : Lin) (slots : m.slots ≡ la
       (unary s laid young a c none held tg.rest (put r z held) v.place g1.own g2.own g2.others (suc f1.r) (suc tg.t) f1.list (suc tg.t ∷ 6 ∷ 7 ∷ []) x z
       (f1.gets x h) tg.makes (target_or_scratch (suc tg.t)) (tg.keeps r refl z (v.place + g1.own + g2.own) g2.others g2.second)
       (λ u at w sx.
-      let reach = reached s (all_of u young) u.memory w.usable.regions a w.heap whole (width ch) (chunk_width ch) (moved_by offset x) cell there written in
-      let lies = reach.is in
+      let reach = reached s (all_of u young) u.memory w.usable.regions a w.heap whole (width ch) (chunk_width ch) (moved_by offset x) cell there in
+      let lies = reach.is written in
       let from : ℕ = reach.byte in
       let value : ℕ = register_loaded (load_width ch) (part (word u.memory reach.at) reach.byte (width ch)) in
       let stands : StandsFor s (all_of u young) (register_loaded (load_width ch) (part (word u.memory reach.at) reach.byte (width ch))) z =

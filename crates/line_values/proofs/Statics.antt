@@ -51,7 +51,7 @@ still_of end (Function f) e = tt
 -- ---- lists of cells
 
 -- the list in which so many bytes lie, and the number of their cell
-record IsIn (k : ℕ) (lists : List StaticList) (x : ℕ) (cell : Cell) : Type 0 where
+pub record IsIn (k : ℕ) (lists : List StaticList) (x : ℕ) (cell : Cell) : Type 0 where
   pub index : ℕ
   pub list : StaticList
   pub there : slice_get lists index ≡ Some list
@@ -59,7 +59,7 @@ record IsIn (k : ℕ) (lists : List StaticList) (x : ℕ) (cell : Cell) : Type 0
   pub high : x + 8 ≤ list.start + list.size
   pub is : cell ≡ InStatic (k + index) ((x - list.start) / 8)
 
-is_in : (k : ℕ) (lists : List StaticList) (x : ℕ) (cell : Cell) → in_statics k lists x 8 ≡ Some cell → IsIn k lists x cell
+pub is_in : (k : ℕ) (lists : List StaticList) (x : ℕ) (cell : Cell) → in_statics k lists x 8 ≡ Some cell → IsIn k lists x cell
 is_in k [] x cell e = absurd (cc)
 is_in k (l ∷ lists) x cell e = by_test (nat_le l.start x && nat_le (x + 8) (l.start + l.size)) refl (is_in (suc k) lists x cell) e
   where
