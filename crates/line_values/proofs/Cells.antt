@@ -118,6 +118,7 @@ pub record Reached (s : Fixed) (placed : List Placed) (m : List Region) (a : Aro
   pub readable : IsReadable m at
   pub low : 0x10000000 ≤ at
   pub no_limit : at ≢ 0x20000000
+  pub below : at < 0x38010000
   pub lies : Lies placed a at cell
   -- what stands there once it has been written
   pub is : is_among cell a.unwritten ≡ false → IsCellAt s placed m at (value_in a.memory cell)
@@ -191,6 +192,7 @@ module _ (s : Fixed) (placed : List Placed) (m : List Region) (regions : HasRegi
   -- it lies above the data, and can be read
   record IsHigh (at : ℕ) : Type 0 where
     pub high : 0x20000008 ≤ at
+    pub below : at < 0x38010000
     pub readable : IsReadable m at
 
   high_of : (at : ℕ) (cell : Cell) → at % 8 ≡ 0 → Lies placed a at cell → ((l j : ℕ) → cell ≡ InStatic l j → ⊥) → IsHigh at
@@ -198,12 +200,14 @@ module _ (s : Fixed) (placed : List Placed) (m : List Region) (regions : HasRegi
       let near = start_inside placed k h.old.inside l in
       record {
         high = omega (arith, e, near);
+        below = omega (arith, e, near);
         readable = h.readable.each k at l even (omega (arith, e)) (omega (arith, e, near));
       }
   high_of at cell even (own_cell {k} {j} {b} l there inside inside' e) none =
       let near = start_inside placed k h.old.inside l in
       record {
         high = omega (arith, e, near);
+        below = (let top = block_end placed k h.old.inside l in omega (arith, e, top, inside'));
         readable = h.readable.each k at l even (omega (arith, e)) (omega (arith, e, inside'));
       }
   high_of at cell even (static_cell {l} {j} f) none = absurd (none l j refl)
@@ -269,6 +273,7 @@ module _ (s : Fixed) (placed : List Placed) (m : List Region) (regions : HasRegi
         readable = data_readable s.image s.heap s.base m regions (x - x % 8) place.0 place.1 place.2;
         low = place.1;
         no_limit = (let short = s.functions.tables.bytes.short in let high = place.2 in λ q. omega (arith, q, short, high));
+        below = (let short = s.functions.tables.bytes.short in let high = place.2 in omega (arith, short, high));
         lies = static_of (x - x % 8) cell there;
         is = λ written. cell_there s placed m regions a h (Word (x - x % 8)) cell there written;
       }
@@ -299,6 +304,7 @@ module _ (s : Fixed) (placed : List Placed) (m : List Region) (regions : HasRegi
         readable = up.readable;
         low = omega (arith, high);
         no_limit = λ q. omega (arith, q, high);
+        below = up.below;
         lies = lies;
         is = λ written. cell_there s placed m regions a h (Block k (o - o % 8)) cell there written;
       }

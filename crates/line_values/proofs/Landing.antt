@@ -39,7 +39,7 @@ back_at : (b : Bool) (v : View) (p : ℕ) (c : Below) → ReturnStands b v c →
 back_at true v p c h = h
 back_at false v p c h = h
 
-within_at : (s : Fixed) (laid : Laid) (v : View) (young : List Placed) (held : Locations) (a : Around) (c : Below) (p : ℕ) → Within s laid v young 0 held a c →
+pub within_at : (s : Fixed) (laid : Laid) (v : View) (young : List Placed) (held : Locations) (a : Around) (c : Below) (p : ℕ) → Within s laid v young 0 held a c →
     Within s laid (at_place p v) young 0 held a c
 within_at s laid v young held a c p w = record {
   own = w.own;

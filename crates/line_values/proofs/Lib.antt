@@ -16,3 +16,4 @@ pub mod Cells
 pub mod Addresses
 pub mod Loading
 pub mod Storing
+pub mod Writing
