@@ -1,0 +1,11 @@
+pub mod Places
+pub mod Operands
+pub mod Chains
+pub mod Moves
+pub mod Compared
+pub mod Agreeing
+pub mod Rows
+pub mod Operations
+pub mod Jumping
+pub mod Landing
+pub mod Testing
