@@ -1,0 +1,4 @@
+pub mod Points
+pub mod Reaches
+pub mod Leading
+pub mod Calls
