@@ -2,7 +2,7 @@
 ghost use Rattle.std.specs.Prelude.{◌≡◌, ◌≤◌};
 ghost use Rattle.lin_ir.specs.Descriptors.{has_frame_point, frame_bytes};
 
-use crate::control::passes_frame;
+use lin_flow::passes_frame;
 use lin_ir::{Lin, Line};
 
 /// Whether one of the lines is a frame point that is no tail call.

@@ -11,14 +11,8 @@
 #![tactic(auto)]
 
 mod after;
-mod control;
 mod entries;
 mod frame;
-mod labels;
-mod lines;
-mod nodes;
-mod search;
 mod tables;
-mod tries;
 
 pub use tables::descriptors;
