@@ -25,7 +25,7 @@ fn is_val(comp: Comp) -> bool
 }
 
 /// The number of a location. That a slot has none counts as want of memory: no frame holds it.
-fn number_of(loc: Loc) -> Result<u32, AllocError>
+pub fn number_of(loc: Loc) -> Result<u32, AllocError>
     ensures { IfOk result (λ n. n ≡ number_in loc) }
 {
     match loc {
