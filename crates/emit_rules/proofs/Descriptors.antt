@@ -17,7 +17,8 @@ use Rattle.emit_rules.specs.Calls.{call_words, external_words}
 use Rattle.emit_rules.specs.Emitted.{part_of, parts, descriptor, left_after, emitted}
 use Rattle.emit_rules.specs.Entry.{Frame, frame_of, entry}
 use Rattle.emit_rules.specs.Memory.{reserved, addresses}
-use Rattle.emit_rules.specs.Named.{mark_in, marks_in, points}
+use Rattle.rv_pieces.specs.Named.{mark_in, marks_in}
+use Rattle.lin_ir.specs.Descriptors.{frame_points}
 use Rattle.emit_rules.specs.Traversal.{Each, each_none, each_more, Allows}
 use Rattle.emit_rules.proofs.Traverse.{entry-in, part-in}
 
@@ -96,9 +97,9 @@ part-marked t f e (lin.Op (op.Calling (calling.External row frame))) args result
     one-last (external_words row frame) e (part-unmarked t f (record { op = lin.Op (op.Calling (calling.External row frame)); args = args; results = results }))
 
 module _ (f : Frame) (traps : ℕ → ℕ) where
-  marks-by : (i : Line) (next : List Line) (b : Bool) → passes_frame i.op ≡ b → ((ds : List Descr) → length ds ≡ points next →
+  marks-by : (i : Line) (next : List Line) (b : Bool) → passes_frame i.op ≡ b → ((ds : List Descr) → length ds ≡ frame_points next →
       marks_in (parts traps f ds next) ≡ ds) →
-      (ds : List Descr) → length ds ≡ cond b (suc (points next)) (points next) →
+      (ds : List Descr) → length ds ≡ cond b (suc (frame_points next)) (frame_points next) →
       marks_in (part_of (traps (length next)) f (descriptor b ds) i ++ parts traps f (left_after b ds) next) ≡ ds
   marks-by i next true p rest [] e = absurd (omega arith)
   marks-by i next true p rest (d ∷ ds) e =
@@ -110,13 +111,13 @@ module _ (f : Frame) (traps : ℕ → ℕ) where
       ∙ ap (λ (x : List Descr). x ++ marks_in (parts traps f ds next)) (part-unmarked (traps (length next)) f i)
       ∙ rest ds e
 
-  parts-marks : (is : List Line) (ds : List Descr) → length ds ≡ points is → marks_in (parts traps f ds is) ≡ ds
+  parts-marks : (is : List Line) (ds : List Descr) → length ds ≡ frame_points is → marks_in (parts traps f ds is) ≡ ds
   parts-marks [] [] e = refl
   parts-marks [] (d ∷ ds) e = absurd (omega arith)
   parts-marks (i ∷ next) ds e = marks-by i next (passes_frame i.op) refl (parts-marks next) ds e
 
 -- a descriptor for each frame point: they are carried unchanged
-pub descriptors_are_carried : (m : Lin) (traps : ℕ → ℕ) (ds : List Descr) → length ds ≡ points m.code → marks_in (emitted m traps ds).code ≡ ds
+pub descriptors_are_carried : (m : Lin) (traps : ℕ → ℕ) (ds : List Descr) → length ds ≡ frame_points m.code → marks_in (emitted m traps ds).code ≡ ds
 descriptors_are_carried m traps ds e =
     marks-join (entry (frame_of m)) (parts traps (frame_of m) ds m.code)
     ∙ ap (λ (x : List Descr). x ++ marks_in (parts traps (frame_of m) ds m.code)) (no-marks (entry-in NoMark (λ j h. refl) (frame_of m)))

@@ -21,7 +21,8 @@ use Rattle.rv_pieces.specs.declared.piece.Piece.{Piece}
 use Rattle.rv_pieces.specs.declared.piece.Piece.TheVariants as piece
 use Rattle.emit_rules.specs.Entry.{Frame, frame_of, entry}
 use Rattle.emit_rules.specs.Emitted.{part_of, parts, descriptor, left_after, emitted}
-use Rattle.emit_rules.specs.Named.{PieceFits, label_named, symbol_named, external_named, place_in, places_in, IsLabelOf, IsExternalOf}
+use Rattle.rv_pieces.specs.Named.{PieceFits, label_named, symbol_named, external_named, place_in, places_in}
+use Rattle.emit_rules.specs.Named.{IsLabelOf, IsExternalOf}
 use Rattle.emit_rules.specs.Traversal.{Each, each_none, each_more, Names, Allows}
 use Rattle.emit_rules.proofs.Traverse.{join, entry-in, part-in}
 

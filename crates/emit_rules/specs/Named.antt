@@ -1,66 +1,13 @@
--- What pieces name, and what places and marks they have.
-use Rattle.std.specs.Prelude.{◌≡◌, ℕ, suc, cond, List, [], ◌∷◌, ◌++◌, Option, Some, None, Contains}
+-- What lines name.
+use Rattle.std.specs.Prelude.{◌≡◌, ℕ, List, Contains}
 use Rattle.mach_ir.specs.declared.op.External.{External}
 use Rattle.mach_ir.specs.declared.op.Calling.TheVariants as calling
 use Rattle.mach_ir.specs.declared.op.Op.TheVariants as op
 use Rattle.lin_ir.specs.Formed.{NamesLabel}
-use Rattle.lin_ir.specs.Meaning.{passes_frame}
 use Rattle.lin_ir.specs.Walks.{Stands}
-use Rattle.lin_ir.specs.declared.descr.Descr.{Descr}
 use Rattle.lin_ir.specs.declared.lin.LinOp.TheVariants as lin
 use Rattle.lin_ir.specs.declared.lin.Line.{Line}
 use Rattle.lin_ir.specs.declared.lin.Lin.{Lin}
-use Rattle.rv_isa.specs.Encoding.{InstrFits}
-use Rattle.rv_pieces.specs.declared.piece.Piece.{Piece}
-use Rattle.rv_pieces.specs.declared.piece.Piece.TheVariants as piece
-
--- the numbers of an instruction fit their fields, but for those that a name gives
-abbrev pub PieceFits : Piece → Type 0
-PieceFits (piece.Known j) = InstrFits j
-PieceFits _ = Unit {0}
-
--- the label to which a piece leads, or whose address it has
-abbrev pub label_named : Piece → Option ℕ
-label_named (piece.Branch c a b l) = Some l
-label_named (piece.Jump l) = Some l
-label_named (piece.Row l) = Some l
-label_named (piece.LabelAddress r l) = Some l
-label_named _ = None
-
-abbrev pub symbol_named : Piece → Option (List ℕ)
-symbol_named (piece.Call name) = Some name
-symbol_named (piece.TailCall name) = Some name
-symbol_named (piece.SymbolAddress r name) = Some name
-symbol_named _ = None
-
-abbrev pub external_named : Piece → Option External
-external_named (piece.ExternalNumber r row) = Some row
-external_named _ = None
-
--- the labels whose places are among the pieces, in order
-abbrev pub place_in : Piece → List ℕ
-place_in (piece.Label l) = l ∷ []
-place_in _ = []
-
-abbrev pub places_in : List Piece → List ℕ
-places_in [] = []
-places_in (p ∷ ps) = place_in p ++ places_in ps
-
--- the descriptors, in order
-abbrev pub mark_in : Piece → List Descr
-mark_in (piece.Descriptor d) = d ∷ []
-mark_in _ = []
-
-abbrev pub marks_in : List Piece → List Descr
-marks_in [] = []
-marks_in (p ∷ ps) = mark_in p ++ marks_in ps
-
--- the frame points that are no tail calls
-abbrev pub points : List Line → ℕ
-points [] = 0
-points (i ∷ is) = cond (passes_frame i.op) (suc (points is)) (points is)
-
--- ---- what lines name
 
 pub record IsLabelOf (m : Lin) (l : ℕ) : Type 0 where
   pub line : Line

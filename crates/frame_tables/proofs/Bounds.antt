@@ -25,6 +25,9 @@ rounded s c f e le = omega (arith, e, le)
 pub slots_small : (m : Lin) → IsWithin m → m.slots ≤ 131072
 slots_small m h = rounded m.slots (cond (has_frame_point m.code) 8 0) (frame_bytes m) refl (h.frame m.code [] (by_walk at_entry))
 
+pub frame_small : (m : Lin) → IsWithin m → frame_bytes m < 4294967296
+frame_small m h = let le : frame_bytes m + 16 * 0 ≤ 1048576 = h.frame m.code [] (by_walk at_entry) in omega (arith, le)
+
 pub points_small : (m : Lin) (all : List Position) (nodes : List place.Place) (points : List Point) (k : ℕ) → IsWithin m →
     ArePoints m all nodes points k → All (λ (point : Point). frame_bytes m + 16 * point.traps < 2 ^ 31) points
 points_small m all nodes points k within is = λ j d lt.

@@ -7,7 +7,7 @@ use Rattle.dataflow.specs.Flow.{WellFormed}
 use Rattle.dataflow.specs.Live.{IsLiveness}
 use Rattle.dataflow.specs.declared.flow.Flow as flow
 use Rattle.dataflow.specs.declared.flow.Place as place
-use Rattle.lin_ir.specs.Descriptors.{frame_bytes, IsWithin, AreExact}
+use Rattle.lin_ir.specs.Descriptors.{frame_points, frame_bytes, IsWithin, AreExact}
 use Rattle.lin_ir.specs.Walks.{OneDepth}
 use Rattle.lin_ir.specs.declared.descr.Descr.{Descr}
 use Rattle.lin_ir.specs.declared.lin.Lin.{Lin}
@@ -16,7 +16,7 @@ use Rattle.lin_laws.specs.declared.position.Position.{Position}
 use Rattle.frame_tables.proofs.Bounds.{slots_small, points_small, sizes_small}
 use Rattle.frame_tables.proofs.Deriving.{well_formed, are_exact}
 use Rattle.frame_tables.specs.Described.{AreDescribed}
-use Rattle.frame_tables.specs.Points.{ArePoints, frame_points}
+use Rattle.frame_tables.specs.Points.{ArePoints}
 use Rattle.frame_tables.specs.declared.after.Point.{Point}
 
 module _ (m : Lin) (all : List Position) (nodes : List place.Place) (points : List Point)

@@ -3,3 +3,4 @@ pub mod Pointing
 pub mod Deriving
 pub mod Bounds
 pub mod Composing
+pub mod Pushing

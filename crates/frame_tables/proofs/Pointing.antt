@@ -9,6 +9,7 @@ use Rattle.std.proofs.lemmas.List.Quantifiers.{all_pairs_push}
 use Rattle.std.proofs.lemmas.Option.{slice_get_within}
 use Rattle.bs_words.specs.Contents.{contents}
 use Rattle.dataflow.specs.declared.flow.Place as place
+use Rattle.lin_ir.specs.Descriptors.{frame_points}
 use Rattle.lin_ir.specs.Meaning.{passes_frame}
 use Rattle.lin_ir.specs.Walks.{Reached, Traps, by_walk, unreached}
 use Rattle.lin_ir.specs.declared.lin.Line.{Line}
@@ -20,7 +21,7 @@ use Rattle.lin_laws.specs.Graph.{place_of, position, steps, raise_steps, AreWrit
 use Rattle.lin_laws.specs.declared.position.Position.{Position}
 use Rattle.lin_flow.proofs.Searching.{pushed_cases, pushed_kept, pushed_here}
 use Rattle.lin_flow.proofs.Visiting.{results_numbered}
-use Rattle.frame_tables.specs.Points.{IsOneOf, IsChosen, IsChoice, HasTraps, edges_of, ComesFrom, Gathers, IsGathered, IsAfterNode, IsFramePoint, IsRooted, HasRoots, IsSearched, IsPoint, ArePoints, frame_points}
+use Rattle.frame_tables.specs.Points.{IsOneOf, IsChosen, IsChoice, HasTraps, edges_of, ComesFrom, Gathers, IsGathered, IsAfterNode, IsFramePoint, IsRooted, HasRoots, IsSearched, IsPoint, ArePoints}
 use Rattle.lin_flow.specs.Search.{all_of, groups_of, members, Entered, HasFirst}
 use Rattle.frame_tables.specs.declared.after.Choice.{Choice}
 use Rattle.frame_tables.specs.declared.after.Point.{Point}

@@ -1,7 +1,8 @@
 -- Frame points, and the places of the flow graph before which is live what is live after them.
-use Rattle.std.specs.Prelude.{◌≡◌, ◌⊎◌, ℕ, suc, ◌+◌, ◌<◌, Bool, true, false, cond, List, [], ◌∷◌, Some, length, drop, slice_get, All, AllPairs, Contains}
+use Rattle.std.specs.Prelude.{◌≡◌, ◌⊎◌, ℕ, ◌+◌, ◌<◌, Bool, true, false, List, [], ◌∷◌, Some, length, drop, slice_get, All, AllPairs, Contains}
 use Rattle.bs_words.specs.Contents.{contents}
 use Rattle.dataflow.specs.declared.flow.Place as place
+use Rattle.lin_ir.specs.Descriptors.{frame_points}
 use Rattle.lin_ir.specs.Meaning.{passes_frame}
 use Rattle.lin_ir.specs.Walks.{Reached, Traps}
 use Rattle.lin_ir.specs.declared.lin.Line.{Line}
@@ -128,11 +129,6 @@ pub record IsPoint (m : Lin) (all : List Position) (point : Point) (node : place
   pub pushed : Traps m (drop point.place m.code) tries
   pub traps : point.traps ≡ length tries
   pub after : IsAfter m (m.slots + 32) all point.place node
-
--- how many lines are frame points
-abbrev pub frame_points : List Line → ℕ
-frame_points [] = 0
-frame_points (i ∷ is) = cond (passes_frame i.op) (suc (frame_points is)) (frame_points is)
 
 -- the frame points before place k, and the places of the graph
 pub record ArePoints (m : Lin) (all : List Position) (nodes : List place.Place)

@@ -11,7 +11,7 @@ use bs_words::List;
 use dataflow::Place;
 use lin_flow::lines::writes_of;
 use lin_flow::nodes::node_numbered;
-use lin_flow::{Search, passes_frame};
+use lin_flow::Search;
 use lin_ir::{Lin, LinOp, Line};
 use lin_laws::Position;
 use std::alloc::{AllocError, Global};
@@ -173,7 +173,7 @@ fn enter_point(
     requires { place < length (groups_of search.old) }
     ensures { IfOk result (λ _. IsRooted search.old search.new op.now place reached) }
 {
-    if !passes_frame(op) {
+    if !op.passes_frame() {
         return Ok(());
     }
     if search.has_first(place, reached) {
@@ -219,7 +219,7 @@ pub fn add_points(
     let code = lin.code.as_slice();
     for place in 0..code.len() as u32 {
         let line = &code[place as usize];
-        if passes_frame(&line.op) {
+        if line.op.passes_frame() {
             let choice = choice_at(search, place, reached);
             let traps = traps_at(search, choice);
             let node = after_node(alloc, search, nodes, choice, line)?;

@@ -7,12 +7,13 @@
 //! A raise goes to the handler of the innermost trap that is pushed, which depends on the walk. So
 //! what is live is asked of places together with the traps that are pushed there: those that walks
 //! from the entry come to are searched first, and then those that come after a frame point to which
-//! no walk comes.
+//! no walk comes. The first search tells also how many traps are pushed before each line.
 #![tactic(auto)]
 
 mod after;
 mod entries;
-mod frame;
+mod pushed;
 mod tables;
 
+pub use pushed::pushed_traps;
 pub use tables::descriptors;

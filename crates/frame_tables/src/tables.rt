@@ -1,14 +1,13 @@
 //! The descriptors of a function.
 ghost use Rattle.std.specs.Prelude.{◌≡◌, length, IfOk};
-ghost use Rattle.lin_ir.specs.Descriptors.{AreExact, IsWithin};
+ghost use Rattle.lin_ir.specs.Descriptors.{AreExact, IsWithin, frame_points};
+ghost use Rattle.lin_ir.specs.Formed.{AreLocated};
 ghost use Rattle.lin_ir.specs.Walks.{OneDepth};
-ghost use Rattle.lin_flow.specs.Located.{AreLocated};
 ghost use Rattle.lin_flow.specs.Nodes.{IsText};
-ghost use Rattle.frame_tables.specs.Points.{IsSearched, frame_points};
+ghost use Rattle.frame_tables.specs.Points.{IsSearched};
 
 use crate::after::{add_points, enter_points};
 use crate::entries::describe_all;
-use crate::frame::frame_bytes;
 use bs_words::List;
 use dataflow::{Flow, Place, live_in_any_order};
 use lin_flow::lines::REGISTERS;
@@ -66,7 +65,7 @@ fn describe_searched(
         bound: lin.slots + REGISTERS,
     };
     let live = live_in_any_order(alloc, &flow)?;
-    let frame = frame_bytes(lin);
+    let frame = lin.frame_bytes();
     let descrs = describe_all(alloc, frame, &points, first, &live)?;
     Ok(descrs)
 }

@@ -6,7 +6,8 @@ use Rattle.std.proofs.lemmas.List.{length-map, get_or_at}
 use Rattle.std.proofs.lemmas.Option.{slice_get-get_or}
 use Rattle.layout_rules.specs.declared.form.Form.{Form}
 use Rattle.layout_rules.specs.declared.form.Form.TheVariants.{Near, Middle, Far}
-use Rattle.layout_rules.specs.Conditions.{PieceFits, LeadsTo}
+use Rattle.layout_rules.specs.Conditions.{LeadsTo}
+use Rattle.rv_pieces.specs.Named.{PieceFits}
 use Rattle.layout_rules.specs.Forms.{words_of, total_words}
 use Rattle.layout_rules.specs.Laid.{address_of_place}
 use Rattle.layout_rules.specs.Stands.{HasCode, HasPieces}

@@ -10,21 +10,15 @@ use Rattle.cmm_types.specs.Types.{body_type, result_of}
 use Rattle.image_form.specs.Image.{EachNext, AllDiffer, IsEntry, IsNextEntry, IsParam, IsResult, IsArgument, IsExtResult}
 use Rattle.layout_rules.specs.Externals.{externals}
 use Rattle.layout_rules.specs.Forms.{is_label}
-use Rattle.layout_rules.specs.Named.{label_named, symbol_named, external_named, has_words}
 use Rattle.lin_ir.specs.declared.descr.Descr.{Descr}
 use Rattle.mach_ir.specs.Acts.{row_of}
 use Rattle.mach_ir.specs.declared.op.External as declared
-use Rattle.rv_isa.specs.Encoding.{InstrFits}
+use Rattle.rv_pieces.specs.Named.{PieceFits, label_named, symbol_named, external_named, has_words}
 use Rattle.rv_pieces.specs.declared.piece.Piece.{Piece}
 use Rattle.rv_pieces.specs.declared.piece.Piece.TheVariants as piece
 use Rattle.rv_pieces.specs.declared.piece.Pieces.{Pieces}
 
 -- ---- pieces
-
--- the numbers of an instruction fit their fields, but for those that a name gives
-abbrev pub PieceFits : Piece → Type 0
-PieceFits (piece.Known i) = InstrFits i
-PieceFits _ = ⊤
 
 -- a branch and a jump lead to where an instruction may stand
 abbrev pub LeadsTo : ℕ → Piece → Type 0

@@ -1,5 +1,4 @@
 pub mod Forms
-pub mod Named
 pub mod Words
 pub mod Externals
 pub mod Laid

@@ -8,7 +8,7 @@ use Rattle.bs_words.specs.declared.types.Loc.{Loc}
 use Rattle.bs_words.specs.declared.types.Loc.TheVariants as loc
 use Rattle.dataflow.specs.declared.flow.Place as place
 use Rattle.mach_ir.specs.Placed.{colours}
-use Rattle.lin_ir.specs.Formed.{IsHome, is_colour, is_slot, IsLocation, is_home, is_spare, Locates}
+use Rattle.lin_ir.specs.Formed.{IsHome, is_colour, is_slot, IsLocation, is_home, is_spare, Locates, AreLocated}
 use Rattle.lin_ir.specs.Walks.{Reached, at_entry}
 use Rattle.lin_ir.specs.declared.lin.Spot.{Spot}
 use Rattle.lin_ir.specs.declared.lin.Line.{Line}
@@ -49,7 +49,7 @@ location_numbered m l (is_spare e) = let P : Loc → Type 0 = HasNumber m.slots 
 spots_numbered : (m : Lin) (ss : List Spot) → Locates m ss → HaveNumbers m.slots ss
 spots_numbered m ss h = λ k d lt. location_numbered m (slice_index_or ss k d).loc (h k d lt)
 
-pub are_numbered : (m : Lin) → All (λ (i : Line). Locates m i.args × Locates m i.results) m.code → AreNumbered m
+pub are_numbered : (m : Lin) → AreLocated m → AreNumbered m
 are_numbered m h =
     record {
       args = λ k d lt. spots_numbered m (slice_index_or m.code k d).args (h k d lt).0;

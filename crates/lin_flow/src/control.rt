@@ -1,15 +1,14 @@
 //! Where control goes from a line.
 ghost use Rattle.std.specs.Prelude.{◌≡◌, ◌<◌, ◌^◌, ℕ, suc, map, [], ◌∷◌, IfOk};
-ghost use Rattle.mach_ir.specs.Acts.{At, goes_on, has_descriptor};
+ghost use Rattle.mach_ir.specs.Acts.{At, goes_on};
 ghost use Rattle.mach_ir.specs.Acts as acts;
-ghost use Rattle.lin_ir.specs.Meaning.{passes_frame};
 ghost use Rattle.lin_ir.specs.Walks.{targets};
 ghost use Rattle.lin_ir.specs.Walks as walks;
 ghost use Rattle.lin_flow.specs.Labels.{place_to, next_place};
 
 use crate::labels::Labels;
 use lin_ir::{Flow, LinOp};
-use mach_ir::{Access, Calling, Leaving, Op};
+use mach_ir::{Calling, Leaving, Op};
 use std::alloc::{AllocError, Global};
 
 fn call_goes_on(calling: &Calling) -> bool
@@ -80,47 +79,6 @@ pub fn may_raise(op: &LinOp) -> bool
 {
     match op {
         LinOp::Op(op) => op_may_raise(op),
-        LinOp::Flow(_) => false,
-    }
-}
-
-fn call_has_descriptor(calling: &Calling) -> bool
-    ensures { result ≡ has_descriptor (Op.Calling calling.now) }
-{
-    match calling {
-        Calling::Call { .. } => true,
-        Calling::TailCall { .. } => false,
-        Calling::External { row: _, frame } => *frame,
-    }
-}
-
-fn access_has_descriptor(access: &Access) -> bool
-    ensures { result ≡ has_descriptor (Op.Access access.now) }
-{
-    match access {
-        Access::Load { .. } => false,
-        Access::Store { .. } => false,
-        Access::Alloc(_) => true,
-    }
-}
-
-fn has_descriptor(op: &Op) -> bool
-    ensures { result ≡ has_descriptor op.now }
-{
-    match op {
-        Op::Pure(_) => false,
-        Op::Access(access) => access_has_descriptor(access),
-        Op::Calling(calling) => call_has_descriptor(calling),
-        Op::Leaving(_) => false,
-    }
-}
-
-/// Whether it is a frame point that is no tail call.
-pub fn passes_frame(op: &LinOp) -> bool
-    ensures { result ≡ passes_frame op.now }
-{
-    match op {
-        LinOp::Op(op) => has_descriptor(op),
         LinOp::Flow(_) => false,
     }
 }

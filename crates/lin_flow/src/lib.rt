@@ -14,7 +14,6 @@ pub mod search;
 mod tries;
 pub mod walks;
 
-pub use control::passes_frame;
 pub use labels::Labels;
 pub use live::{LiveWalks, live_walks};
 pub use nodes::spread;

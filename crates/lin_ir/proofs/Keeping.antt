@@ -1,8 +1,5 @@
 -- What keeps a Mach function, linearised, keeps what that function was made from.
-use Rattle.std.proofs.Common.{◌≡◌, ℕ, List, ◌∙◌}
-use Rattle.bs_words.specs.Memory.{Memory}
-use Rattle.bs_words.specs.declared.values.Value.{Value}
-use Rattle.cmm_meaning.specs.State.{Doing}
+use Rattle.std.proofs.Common.{ℕ, ◌∙◌}
 use Rattle.mach_ir.specs.Runs.{Place, Tally, first_tally}
 use Rattle.mach_ir.specs.Meaning as mach
 use Rattle.mach_ir.specs.Keeps as kept

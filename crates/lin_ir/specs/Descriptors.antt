@@ -1,9 +1,9 @@
 -- Frames of a Linear function, and descriptors that are exact.
-use Rattle.std.specs.Prelude.{◌≡◌, ◌↔◌, ℕ, ◌+◌, ◌*◌, ◌/◌, ◌%◌, ◌<◌, ◌≤◌, suc, Bool, true, false, cond, ◌||◌, List, [], ◌∷◌, length, All, AllPairs, Contains}
+use Rattle.std.specs.Prelude.{◌≡◌, ◌≢◌, ◌↔◌, ℕ, ◌+◌, ◌*◌, ◌/◌, ◌%◌, ◌<◌, ◌≤◌, suc, Bool, true, false, cond, ◌||◌, List, [], ◌∷◌, length, All, AllPairs, Contains}
 use Rattle.bs_words.specs.declared.types.Comp.TheVariants as comp
 use Rattle.bs_words.specs.declared.types.Loc.{Loc}
 use Rattle.bs_words.specs.declared.types.Loc.TheVariants as loc
-use Rattle.lin_ir.specs.Meaning.{NamedAt, passes_frame, is_named}
+use Rattle.lin_ir.specs.Meaning.{NamedAt, passes_frame}
 use Rattle.lin_ir.specs.Walks.{Stands, Traps, LiveAt}
 use Rattle.lin_ir.specs.declared.descr.Descr.{Descr}
 use Rattle.lin_ir.specs.declared.lin.Line.{Line}
@@ -14,6 +14,11 @@ use Rattle.lin_ir.specs.declared.lin.Lin.{Lin}
 abbrev pub has_frame_point : List Line → Bool
 has_frame_point [] = false
 has_frame_point (i ∷ is) = passes_frame i.op || has_frame_point is
+
+-- how many lines are frame points that are no tail calls
+abbrev pub frame_points : List Line → ℕ
+frame_points [] = 0
+frame_points (i ∷ is) = cond (passes_frame i.op) (suc (frame_points is)) (frame_points is)
 
 -- The least multiple of 16 that holds 8 bytes for each slot, and 8 bytes for the return address
 -- where there is a frame point that is no tail call.
@@ -78,8 +83,9 @@ pub record NoAddrLive (m : Lin) : Type 0 where
   pub none : (i : Line) (next : List Line) → Stands i next m.code → passes_frame i.op ≡ true →
       (l : Loc) → LiveAt m l comp.Addr i next → ⊥
 
--- each frame point names exactly what is live after it as val
+-- Each frame point names exactly the locations that are live after it as val, each once.
 pub record NamesLives (m : Lin) (named : NamedAt) : Type 0 where
   pub exact : (i : Line) (next : List Line) → Stands i next m.code → passes_frame i.op ≡ true →
-      (l : Loc) →
-      (is_named l (named (length next)) ≡ true) ↔ LiveAt m l comp.Val i next
+      (l : Loc) → Contains (named (length next)) l ↔ LiveAt m l comp.Val i next
+  pub once : (i : Line) (next : List Line) → Stands i next m.code → passes_frame i.op ≡ true →
+      AllPairs (λ k l. k ≢ l) (named (length next))

@@ -16,7 +16,7 @@ use Rattle.mach_ir.specs.declared.op.Leaving.TheVariants as leaving
 use Rattle.mach_ir.specs.declared.op.Op.{Op}
 use Rattle.mach_ir.specs.declared.op.Op.TheVariants as op
 use Rattle.mach_ir.specs.declared.mach.Test.{Test}
-use Rattle.lin_ir.specs.Walks.{targets, may_raise, Live, LiveAfter, Stands, Reached, Traps, OneDepth}
+use Rattle.lin_ir.specs.Walks.{targets, may_raise, Live, LiveAfter, Stands, Reached, Traps, TrapsBalance}
 use Rattle.lin_ir.specs.declared.lin.Spot.{Spot}
 use Rattle.lin_ir.specs.declared.lin.Flow.{Flow}
 use Rattle.lin_ir.specs.declared.lin.Flow.TheVariants as flow
@@ -91,6 +91,10 @@ pub data IsLocation (m : Lin) (l : Loc) : Type 0 where
 
 abbrev pub Locates : Lin → List Spot → Type 0
 Locates m spots = All (λ (s : Spot). IsLocation m s.loc) spots
+
+-- each location that the code names
+abbrev pub AreLocated : Lin → Type 0
+AreLocated m = All (λ (i : Line). Locates m i.args × Locates m i.results) m.code
 
 -- what may stand between a write of t0 and its read: what reads registers alone, loads and stores
 pub data IsQuiet : LinOp → Type 0 where
@@ -179,7 +183,7 @@ pub record WellFormed (m : Lin) : Type 0 where
   pub returns : (i : Line) → Contains m.code i → i.op ≡ lin.Op (op.Leaving leaving.Return) →
       comps i.args ≡ results_of m.result
   pub params : All (λ (s : Spot). IsHome m s.loc) m.params
-  pub locations : All (λ (i : Line). Locates m i.args × Locates m i.results) m.code
+  pub locations : AreLocated m
   pub spare : SpareIsPassing m
   -- each label that is named stands once
   pub labels : AllPairs (λ k l. k ≢ l) (labels_in m.code)
@@ -188,4 +192,4 @@ pub record WellFormed (m : Lin) : Type 0 where
   pub handlers : (i : Line) → Contains m.code i → (l : ℕ) →
       i.op ≡ lin.Flow (flow.PushTrap l) → EntersAt l m.code
   -- each place is found by one number of pushed traps
-  pub depth : OneDepth m
+  pub traps : TrapsBalance m

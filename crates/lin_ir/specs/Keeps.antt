@@ -3,8 +3,8 @@ use Rattle.std.specs.Prelude.{◌≡◌, ℕ, List, Some, Contains}
 use Rattle.bs_words.specs.External.{External}
 use Rattle.bs_words.specs.Memory.{Memory}
 use Rattle.bs_words.specs.declared.values.Value.{Value}
-use Rattle.cmm_meaning.specs.State.{Doing, Asked}
-use Rattle.mach_ir.specs.Runs.{Place, Tally, Run, Running, Asking, Ended, first_tally}
+use Rattle.cmm_meaning.specs.State.{Doing}
+use Rattle.mach_ir.specs.Runs.{Place, Tally, Run, first_tally}
 use Rattle.mach_ir.specs.Meaning as mach
 use Rattle.mach_ir.specs.Acts.{Around}
 use Rattle.mach_ir.specs.Keeps.{Proper, Ahead, Trails, Alike, NamesSymbol, NamesExternal}

@@ -113,16 +113,23 @@ pub data Traps (m : Lin) (code : List Line) : List ℕ → Type 0 where
   by_walk : {tries : List ℕ} → Reached m code tries → Traps m code tries
   unreached : ((tries : List ℕ) → Reached m code tries → ⊥) → Traps m code []
 
--- Each place has one number of pushed traps, with which every walk reaches it, and none is popped
--- where there is none.
+-- Each place has one number of pushed traps, with which every walk reaches it.
 pub record OneDepth (m : Lin) : Type 0 where
   pub one : (code : List Line) (tries others : List ℕ) → Traps m code tries → Traps m code others →
       length tries ≡ length others
+
+-- None is popped where there is none, and a function is left with no trap pushed.
+pub record TrapsBalance (m : Lin) : Type 0 where
+  pub depth : OneDepth m
   pub pops : (i : Line) (next : List Line) (tries : List ℕ) → Reached m (i ∷ next) tries →
       i.op ≡ lin.Flow flow.PopTrap → (length tries ≡ 0) → ⊥
-  -- a function is left with no trap pushed
   pub leaves : (i : Line) (next : List Line) (tries : List ℕ) → Reached m (i ∷ next) tries →
       leaves i.op ≡ true → tries ≡ []
+
+-- So many traps are pushed before each line to which a walk comes, by the number of lines after it.
+pub record ArePushed (m : Lin) (traps : ℕ → ℕ) : Type 0 where
+  pub pushed : (i : Line) (next : List Line) → Stands i next m.code → (tries : List ℕ) →
+      Reached m (i ∷ next) tries → traps (length next) ≡ length tries
 
 -- a location is live after a frame point with this component
 pub record LiveAt (m : Lin) (l : Loc) (t : Comp) (i : Line) (next : List Line) : Type 0 where

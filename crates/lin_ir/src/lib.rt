@@ -6,6 +6,7 @@
 #![tactic(auto)]
 
 pub mod descr;
+mod frame;
 pub mod lin;
 mod lines;
 

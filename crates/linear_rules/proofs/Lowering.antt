@@ -18,11 +18,11 @@ use Rattle.lin_ir.specs.Descriptors.{NoAddrLive}
 use Rattle.lin_ir.specs.Formed as formed
 use Rattle.lin_ir.specs.Formed.{IsHome, IsSelfMove, GoesForward, labels_in}
 use Rattle.lin_ir.specs.Meaning.{passes_frame}
-use Rattle.lin_ir.specs.Walks.{Stands, Traps, by_walk, unreached, Reached, LiveAcross, OneDepth}
+use Rattle.lin_ir.specs.Walks.{Stands, Traps, by_walk, unreached, Reached, LiveAcross, TrapsBalance}
 use Rattle.lin_ir.specs.declared.lin.Line.{Line}
 use Rattle.lin_ir.specs.declared.lin.Lin.{Lin}
 use Rattle.lin_ir.specs.declared.lin.Spot.{Spot}
-use Rattle.linear_rules.specs.Keeps.{NoAddrReached, OneTraps, KeepsReached, ExitsWithin}
+use Rattle.linear_rules.specs.Keeps.{NoAddrReached, OneTraps, KeepsReached}
 use Rattle.linear_rules.specs.Kept.{Does}
 use Rattle.linear_rules.specs.Lowered.{home, is_among, slots_of, slot_number, slot_count, lowered}
 use Rattle.linear_rules.specs.Sizes.{tries_ended}
@@ -31,7 +31,7 @@ use Rattle.linear_rules.proofs.Slots.{slot_occurs_in_code, slot_occurs_in_params
 use Rattle.linear_rules.proofs.Lines.{source, params_seated, source_operands, source_results, named_from, labels_same, lines_few}
 use Rattle.linear_rules.proofs.Does.{begins}
 use Rattle.linear_rules.proofs.Moves.{changes}
-use Rattle.linear_rules.proofs.Walked.{goes_forward, one_depth, one_traps, no_addr, homes_lines, well_formed}
+use Rattle.linear_rules.proofs.Walked.{goes_forward, balance, one_traps, no_addr, homes_lines, well_formed}
 
 slot_same : (m n : ℕ) → loc.Slot m ≡ loc.Slot n → m ≡ n
 slot_same m n e = cc
@@ -99,8 +99,8 @@ module _ (p : Mach) (well : WellFormed p) (full : FullyPlaced p) where
   pub lowered_no_addr : mach_walks.NoAddrLive p → NoAddrReached (lowered p)
   lowered_no_addr h = no_addr (slot_number p) (slot_count p) p well full h
 
-  pub lowered_well_formed : ExitsWithin p → formed.WellFormed (lowered p)
-  lowered_well_formed x = well_formed (slot_number p) (slot_count p) p well full homes x
+  pub lowered_well_formed : formed.WellFormed (lowered p)
+  lowered_well_formed = well_formed (slot_number p) (slot_count p) p well full homes
 
   pub lowered_homes : All (λ (j : Line). All (λ (s : Spot). IsHome (lowered p) s.loc) j.args × All (λ (s : Spot). IsHome (lowered p) s.loc) j.results) (lowered p).code
   lowered_homes = homes_lines (slot_number p) (slot_count p) p well full homes
@@ -112,8 +112,8 @@ module _ (p : Mach) (well : WellFormed p) (full : FullyPlaced p) where
   pub lowered_forward : GoesForward (lowered p)
   lowered_forward = goes_forward (slot_number p) (slot_count p) p well full
 
-  pub lowered_depth : ExitsWithin p → OneDepth (lowered p)
-  lowered_depth x = one_depth (slot_number p) (slot_count p) p well full x
+  pub lowered_balance : TrapsBalance (lowered p)
+  lowered_balance = balance (slot_number p) (slot_count p) p well full
 
   pub lowered_traps : OneTraps (lowered p)
   lowered_traps = one_traps (slot_number p) (slot_count p) p well full

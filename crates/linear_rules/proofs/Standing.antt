@@ -19,7 +19,6 @@ use Rattle.lin_ir.specs.declared.lin.LinOp.{LinOp}
 use Rattle.lin_ir.specs.declared.lin.LinOp.TheVariants as lin
 use Rattle.lin_ir.specs.declared.lin.Line.{Line}
 use Rattle.lin_ir.specs.declared.lin.Lin.{Lin}
-use Rattle.linear_rules.specs.Keeps.{ExitsWithin}
 use Rattle.linear_rules.specs.Lowered.{is_idle, line_of, bare, pops, lines_of, lowered_code, numbered}
 use Rattle.linear_rules.proofs.Homes.{IsIn, is_first, is_later}
 use Rattle.linear_rules.proofs.Marks.{all_in, in_ending, stands_of, instr, AsLine, op_line, if_line, switch_line, try_line, handler_line, is_bare, IsIdle, idle_of, idle_tries, label_lowered, EntryOf, entry_of}
@@ -124,7 +123,7 @@ module _ (number : ℕ → ℕ) (slots : ℕ) (p : Mach) (well : WellFormed p) w
         StandsFor next ys tries → StandsFor (i ∷ next) ys tries
     label_before : {l : ℕ} {rest : List Instr} {ys : List Line} {tries : List ℕ} → IsAt (bare number (flow.Label l) ∷ ys) tries → StandsFor rest ys tries →
         StandsFor rest (bare number (flow.Label l) ∷ ys) tries
-    pop_before : {rest : List Instr} {ys : List Line} {tries : List ℕ} → IsAt (bare number flow.PopTrap ∷ ys) tries → (ExitsWithin p → 0 < length tries) → StandsFor rest ys (drop_tries 1 tries) →
+    pop_before : {rest : List Instr} {ys : List Line} {tries : List ℕ} → IsAt (bare number flow.PopTrap ∷ ys) tries → 0 < length tries → StandsFor rest ys (drop_tries 1 tries) →
         StandsFor rest (bare number flow.PopTrap ∷ ys) tries
     exit_to : {l : ℕ} {ys : List Line} {tries : List ℕ} → HasPlace l p.code → tries ≡ tries_at (after_label l p.code) → IsAt (bare number (flow.Exit l) ∷ ys) tries →
         StandsFor (after_label l p.code) (bare number (flow.Exit l) ∷ ys) tries
@@ -163,12 +162,12 @@ module _ (number : ℕ → ℕ) (slots : ℕ) (p : Mach) (well : WellFormed p) w
   one_less n (t ∷ ts) le = omega (arith, le)
 
   pops_stand : (n : ℕ) {rest : List Instr} {ys : List Line} (tries : List ℕ) → ((k : ℕ) → k ≤ n → IsAt (pops number k ys) (drop_tries (n - k) tries)) →
-      (ExitsWithin p → n ≤ length tries) → StandsFor rest ys (drop_tries n tries) → StandsFor rest (pops number n ys) tries
+      n ≤ length tries → StandsFor rest ys (drop_tries n tries) → StandsFor rest (pops number n ys) tries
   pops_stand zero tries at enough s = s
   pops_stand (suc n) {rest} {ys} tries at enough s =
-      pop_before (sym (ap (λ k. drop_tries k tries) (minus_zero (suc n))) ∙ at (suc n) (omega arith)) (λ w. some_left n (length tries) (enough w))
+      pop_before (sym (ap (λ k. drop_tries k tries) (minus_zero (suc n))) ∙ at (suc n) (omega arith)) (some_left n (length tries) enough)
       (pops_stand n (drop_tries 1 tries)
-      (λ k le. sym (drop_more (n - k) tries) ∙ ap (λ k. drop_tries k tries) (sym (minus_suc n k le)) ∙ at k (omega (arith, le))) (λ w. one_less n tries (enough w))
+      (λ k le. sym (drop_more (n - k) tries) ∙ ap (λ k. drop_tries k tries) (sym (minus_suc n k le)) ∙ at k (omega (arith, le))) (one_less n tries enough)
       (subst (StandsFor rest ys) (drop_more n tries) s))
 
   pub stands : (rest : List Instr) → Ending rest p.code → StandsFor rest (L rest) (tries_at rest)
@@ -184,7 +183,7 @@ module _ (number : ℕ → ℕ) (slots : ℕ) (p : Mach) (well : WellFormed p) w
           one_line (lin.Op f) e op_line refl (subst (λ t. IsAt (cond t (L next) (line_of number (lin.Op f) (instr (mach.Op f) args results) ∷ L next)) (tries_at next)) w at)
       by (mach.Mark (mark.Exit l k)) args results e w at s =
           via l e refl this
-          (pops_stand k (tries_at next) (λ m le. left m le) (λ w. w.within (instr (mach.Mark (mark.Exit l k)) args results) next (stands_of e) l k refl)
+          (pops_stand k (tries_at next) (λ m le. left m le) (well.nested.at_exit (instr (mach.Mark (mark.Exit l k)) args results) next (stands_of e) l k refl)
           (exit_to (label_of e l this) (sym (marked e l this))
           (ap (λ n. drop_tries n (tries_at next)) (sym (minus_k k)) ∙ left 0 (omega arith))))
         where
@@ -219,7 +218,7 @@ module _ (number : ℕ → ℕ) (slots : ℕ) (p : Mach) (well : WellFormed p) w
       by (mach.Mark (mark.Try l)) args results e w at s = one_line _ e try_line refl at
       by (mach.Mark (mark.Leave l end)) args results e w at s =
           via end e refl this
-          (pop_before at (λ w. some_one (length (tries_at next)))
+          (pop_before at (some_one (length (tries_at next)))
           (jump_to (label_of e end this) (sym (marked e end this))
           (sym (at_left number e 1 (length (bare number (flow.Jump end) ∷ L next)) (one (length (L next))) (omega arith) (less (length (L next)))))))
         where

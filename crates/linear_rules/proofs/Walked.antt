@@ -30,7 +30,7 @@ use Rattle.lin_ir.specs.Formed.{IsHome, IsLocation, is_home, Locates, SpareIsPas
 use Rattle.lin_ir.specs.Meaning as lines
 use Rattle.lin_ir.specs.Meaning.{NamedAt, is_named}
 use Rattle.lin_ir.specs.Walks as walks
-use Rattle.lin_ir.specs.Walks.{Stands, here, below, Traps, by_walk, unreached, OneDepth, LiveAt}
+use Rattle.lin_ir.specs.Walks.{Stands, here, below, Traps, by_walk, unreached, TrapsBalance, LiveAt}
 use Rattle.lin_ir.specs.declared.lin.Flow.{Flow}
 use Rattle.lin_ir.specs.declared.lin.Flow.TheVariants as flow
 use Rattle.lin_ir.specs.declared.lin.LinOp.{LinOp}
@@ -38,7 +38,7 @@ use Rattle.lin_ir.specs.declared.lin.LinOp.TheVariants as lin
 use Rattle.lin_ir.specs.declared.lin.Line.{Line}
 use Rattle.lin_ir.specs.declared.lin.Lin.{Lin}
 use Rattle.lin_ir.specs.declared.lin.Spot.{Spot}
-use Rattle.linear_rules.specs.Keeps.{NoAddrReached, OneTraps, ExitsWithin}
+use Rattle.linear_rules.specs.Keeps.{NoAddrReached, OneTraps}
 use Rattle.linear_rules.specs.Lowered.{is_among, home, spots, is_idle, line_of, bare, pops, lines_of, lowered_code}
 use Rattle.linear_rules.proofs.Homes.{IsIn, is_first, is_later, in_of, contains_of, spot_of}
 use Rattle.linear_rules.proofs.Marks.{Differ, stands_of, instr, AsLine, op_line, if_line, switch_line, try_line, handler_line, idle_of, idle_handler, place_label, handler_label, handler_split}
@@ -382,21 +382,21 @@ module _ (number : ℕ → ℕ) (slots : ℕ) (p : Mach) (well : WellFormed p) (
       out : lin.Flow flow.EnterTrap ≡ lin.Flow flow.PopTrap → ⊥
       out e = cc
 
-  pops_some : ExitsWithin p → {rest : List Instr} {j : Line} {ys : List Line} {tries : List ℕ} → StandsFor number slots p well rest (j ∷ ys) tries → j.op ≡ lin.Flow flow.PopTrap → 0 < length tries
-  pops_some x (one_line f e z same u) r = absurd (line_not_pop z r)
-  pops_some x (via k e b o s) r = pops_some x s r
-  pops_some x (onto e b o s) r = pops_some x s r
-  pops_some x (idle_before e w s) r = pops_some x s r
-  pops_some x (label_before {l = l} u s) r = absurd (out l r)
+  pops_some : {rest : List Instr} {j : Line} {ys : List Line} {tries : List ℕ} → StandsFor number slots p well rest (j ∷ ys) tries → j.op ≡ lin.Flow flow.PopTrap → 0 < length tries
+  pops_some (one_line f e z same u) r = absurd (line_not_pop z r)
+  pops_some (via k e b o s) r = pops_some s r
+  pops_some (onto e b o s) r = pops_some s r
+  pops_some (idle_before e w s) r = pops_some s r
+  pops_some (label_before {l = l} u s) r = absurd (out l r)
     where
       out : (l : ℕ) → lin.Flow (flow.Label l) ≡ lin.Flow flow.PopTrap → ⊥
       out l e = cc
-  pops_some x (pop_before u w s) r = w x
-  pops_some x (exit_to {l = l} h same u) r = absurd (out l r)
+  pops_some (pop_before u w s) r = w
+  pops_some (exit_to {l = l} h same u) r = absurd (out l r)
     where
       out : (l : ℕ) → lin.Flow (flow.Exit l) ≡ lin.Flow flow.PopTrap → ⊥
       out l e = cc
-  pops_some x (jump_to {l = l} h same u) r = absurd (out l r)
+  pops_some (jump_to {l = l} h same u) r = absurd (out l r)
     where
       out : (l : ℕ) → lin.Flow (flow.Jump l) ≡ lin.Flow flow.PopTrap → ⊥
       out l e = cc
@@ -404,11 +404,12 @@ module _ (number : ℕ → ℕ) (slots : ℕ) (p : Mach) (well : WellFormed p) (
   none_is_not_some : (k : ℕ) → 0 < k → k ≡ 0 → ⊥
   none_is_not_some k lt e = omega (arith, lt, e)
 
-  pub one_depth : ExitsWithin p → OneDepth Q
-  one_depth x =
+  -- every place has one number of pushed traps, and pushes and pops balance
+  pub balance : TrapsBalance Q
+  balance =
       record {
-        one = λ code tries others a b. one code tries others a b;
-        pops = λ j ys tries r e none. none_is_not_some (length tries) (pops_some x (comes number slots p well full r).stands e) none;
+        depth = record { one = λ code tries others a b. one code tries others a b };
+        pops = λ j ys tries r e none. none_is_not_some (length tries) (pops_some (comes number slots p well full r).stands e) none;
         leaves = λ j ys tries r e. leaves_none (comes number slots p well full r).stands e;
       }
     where
@@ -593,8 +594,8 @@ module _ (number : ℕ → ℕ) (slots : ℕ) (p : Mach) (well : WellFormed p) (
             no_push : lin.Flow flow.PopTrap ≡ lin.Flow (flow.PushTrap l) → ⊥
             no_push s = cc
 
-    pub well_formed : ExitsWithin p → formed.WellFormed Q
-    well_formed x =
+    pub well_formed : formed.WellFormed Q
+    well_formed =
         record {
           forms = all_of formed.IsFormed Q.code (λ j z. source_formed number well.instrs (source number p.code z));
           returns = λ j c e. source_returns (line_source c) e;
@@ -608,5 +609,5 @@ module _ (number : ℕ → ℕ) (slots : ℕ) (p : Mach) (well : WellFormed p) (
           labels = subst (AllPairs Differ) (sym (labels_same number p.code)) well.labels_once;
           named = named_label;
           handlers = λ j c l e. handlers_enter l (line_source c) e;
-          depth = one_depth x;
+          traps = balance;
         }

@@ -1,19 +1,14 @@
 -- What is kept of a Mach function by Linear code in which some lines may be reached by no walk. The
 -- passes over Linear that drop such lines go on from here.
-use Rattle.std.specs.Prelude.{◌≡◌, ◌≢◌, ◌↔◌, ℕ, ◌≤◌, true, List, ◌∷◌, length, All}
+use Rattle.std.specs.Prelude.{◌≡◌, ◌↔◌, ℕ, true, List, ◌∷◌, length, Contains}
 use Rattle.bs_words.specs.External.{External}
 use Rattle.bs_words.specs.declared.types.Comp.TheVariants as comp
 use Rattle.bs_words.specs.declared.types.Loc.{Loc}
-use Rattle.bs_words.specs.declared.types.Loc.TheVariants as loc
 use Rattle.mach_ir.specs.Keeps.{NamesSymbol, NamesExternal}
 use Rattle.mach_ir.specs.Keeps as kept
-use Rattle.mach_ir.specs.Meaning.{tries_at}
 use Rattle.mach_ir.specs.Walks as walks
-use Rattle.mach_ir.specs.declared.mach.Mark.TheVariants as mark
-use Rattle.mach_ir.specs.declared.mach.MachOp.TheVariants as mach
-use Rattle.mach_ir.specs.declared.mach.Instr.{Instr}
 use Rattle.mach_ir.specs.declared.mach.Mach.{Mach}
-use Rattle.lin_ir.specs.Meaning.{NamedAt, is_named, passes_frame}
+use Rattle.lin_ir.specs.Meaning.{NamedAt, passes_frame}
 use Rattle.lin_ir.specs.Walks.{Reached, LiveAcross}
 use Rattle.lin_ir.specs.Keeps.{IsNamedIn}
 use Rattle.lin_ir.specs.declared.lin.Line.{Line}
@@ -24,9 +19,7 @@ use Rattle.linear_rules.specs.Kept.{Does}
 pub record NamesReached (m : Lin) (named : NamedAt) : Type 0 where
   pub exact : (i : Line) (next : List Line) (tries : List ℕ) → Reached m (i ∷ next) tries →
       passes_frame i.op ≡ true → (l : Loc) →
-      (is_named l (named (length next)) ≡ true) ↔ LiveAcross m l comp.Val i next tries
-  -- and names locations alone
-  pub fixed : (n : ℕ) → All (λ l. l ≢ loc.Unset) (named n)
+      Contains (named (length next)) l ↔ LiveAcross m l comp.Val i next tries
 
 -- Every walk reaches a place with the same pushed traps.
 pub record OneTraps (m : Lin) : Type 0 where
@@ -49,8 +42,3 @@ pub record KeepsReached (p : Mach) (q : Lin) : Type 0 where
   pub externals : (row : External) → IsNamedIn (NamesExternal row) q →
       kept.IsNamedIn (NamesExternal row) p
   pub addrs : walks.NoAddrLive p → NoAddrReached q
-
--- An exit ends no more tries than are round it.
-pub record ExitsWithin (m : Mach) : Type 0 where
-  pub within : (i : Instr) (next : List Instr) → walks.Stands i next m.code → (l n : ℕ) →
-      i.op ≡ mach.Mark (mark.Exit l n) → n ≤ length (tries_at (i ∷ next))

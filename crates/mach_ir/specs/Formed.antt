@@ -1,6 +1,6 @@
 -- What holds of every Mach function that the passes hand on, whatever it does: the forms of its
 -- instructions, its labels, and how its tries nest. Each of these can be read off the text.
-use Rattle.std.specs.Prelude.{◌≡◌, ◌≢◌, ℕ, ◌<◌, Bool, true, false, cond, ◌+◌, nat_eq, List, [], ◌∷◌, ◌++◌, map, All, AllPairs, Contains}
+use Rattle.std.specs.Prelude.{◌≡◌, ◌≢◌, ℕ, ◌<◌, ◌≤◌, Bool, true, false, cond, ◌+◌, nat_eq, List, [], ◌∷◌, ◌++◌, length, map, All, AllPairs, Contains}
 use Rattle.bs_words.specs.declared.types.Comp.{Comp}
 use Rattle.bs_words.specs.declared.types.Comp.TheVariants as comp
 use Rattle.mach_ir.specs.Acts.{At, drop_tries, leaves_function}
@@ -123,6 +123,12 @@ pub record IsNested (m : Mach) : Type 0 where
   pub at_handler : (i : Instr) (next : List Instr) → Stands i next m.code →
       may_raise i.op ≡ true → (l : ℕ) (tries : List ℕ) → tries_at (i ∷ next) ≡ l ∷ tries →
       tries_at (from_handler l m.code) ≡ tries
+  -- also where nothing in the body of the try can raise
+  pub at_own_handler : (i : Instr) (next : List Instr) → Stands i next m.code → (l : ℕ) →
+      i.op ≡ mach.Mark (mark.Try l) → tries_at (from_handler l m.code) ≡ tries_at (i ∷ next)
+  -- an exit ends no more tries than stand round it
+  pub at_exit : (i : Instr) (next : List Instr) → Stands i next m.code → (l n : ℕ) →
+      i.op ≡ mach.Mark (mark.Exit l n) → n ≤ length (tries_at (i ∷ next))
   -- a function is left outside its tries
   pub at_end : (i : Instr) (next : List Instr) → Stands i next m.code → leaves i.op ≡ true →
       tries_at (i ∷ next) ≡ []

@@ -7,7 +7,7 @@ use Rattle.mach_ir.specs.Meaning.{File, written, values, past_frame, passes_fram
 use Rattle.mach_ir.specs.Keeps.{ValsWritten, Proper, Follows}
 use Rattle.mach_ir.specs.declared.mach.Instr.{Instr}
 use Rattle.mach_ir.specs.declared.mach.Mach.{Mach}
-use Rattle.mach_laws.specs.Expand.{KeepsMarks, no_label, not_labelled, no_handler, not_handled, expand}
+use Rattle.mach_laws.specs.Expand.{KeepsMarks, no_label, not_labelled, no_handler, not_handled, no_bound, not_bound, expand}
 use Rattle.mach_laws.proofs.General as general
 use Rattle.mach_laws.proofs.General.{at}
 use Rattle.mach_laws.proofs.Level as level
@@ -27,6 +27,8 @@ keeps_marks =
       none = λ l n i e. not_labelled e no_label;
       handler = λ l n i e. (i, [], refl, refl);
       no_other = λ l n i e. not_handled e no_handler;
+      bound = λ n i e. (i, refl, refl);
+      unbound = λ n i e. not_bound e no_bound;
     }
 
 module _ (c : Place) (p : Mach) where

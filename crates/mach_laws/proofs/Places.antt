@@ -1,10 +1,13 @@
 -- The places of code that is replaced instruction by instruction.
 use Rattle.std.proofs.Common.{◌≡◌, ℕ, Bool, true, false, cond, ⊎_elim, List, [], ◌∷◌, ◌++◌, length, refl, sym, ap, ◌∙◌}
-use Rattle.std.proofs.lemmas.Bool.{cases_Bool}
+use Rattle.std.proofs.lemmas.Bool.{cases_Bool, true≢false}
 use Rattle.mach_ir.specs.Acts.{Landing, AtLabel, AtHandler}
-use Rattle.mach_ir.specs.Meaning.{has_label, is_handler_of, after_label, from_handler, at_handler, landing_code, tries_at}
+use Rattle.mach_ir.specs.Meaning.{has_label, is_handler_of, after_label, from_handler, at_handler, landing_code, tries_at, tries_past}
+use Rattle.mach_ir.specs.declared.mach.Mark.TheVariants as mark
+use Rattle.mach_ir.specs.declared.mach.MachOp.{MachOp}
+use Rattle.mach_ir.specs.declared.mach.MachOp.TheVariants as mach
 use Rattle.mach_ir.specs.declared.mach.Instr.{Instr}
-use Rattle.mach_laws.specs.Expand.{expand, NoLabel, no_label, not_labelled, NoHandler, no_handler, not_handled, KeepsMarks, Ending, all, more}
+use Rattle.mach_laws.specs.Expand.{expand, NoLabel, no_label, not_labelled, NoHandler, no_handler, not_handled, bounds_try, NoBound, no_bound, not_bound, KeepsMarks, Ending, all, more}
 
 label_past : (l : ℕ) (xs ys : List Instr) → NoLabel l xs → after_label l (xs ++ ys) ≡ after_label l ys
 label_past l [] ys no_label = refl
@@ -45,6 +48,39 @@ module _ (f : ℕ → Instr → List Instr) (m : KeepsMarks f) (l : ℕ) where
       handler_past l (f (length is) i) (expand f is) (m.no_other l (length is) i e)
       ∙ handler_expand is ∙ ap (λ b. expand f (cond b (i ∷ is) (from_handler l is))) (sym e))
       (cases_Bool (is_handler_of l i.op))
+
+-- what bounds no try leaves the tries as they are
+tries_stay : (op : MachOp) → bounds_try op ≡ false → (ts : List ℕ) → tries_past op ts ≡ ts
+tries_stay (mach.Op g) e ts = refl
+tries_stay (mach.Mark (mark.Exit l n)) e ts = refl
+tries_stay (mach.Mark (mark.If t l)) e ts = refl
+tries_stay (mach.Mark (mark.Else l end)) e ts = refl
+tries_stay (mach.Mark (mark.Switch ls)) e ts = refl
+tries_stay (mach.Mark (mark.Case ns l end)) e ts = refl
+tries_stay (mach.Mark mark.Catch) e ts = refl
+tries_stay (mach.Mark (mark.With l end)) e ts = refl
+tries_stay (mach.Mark (mark.Try l)) e ts = absurd (true≢false e)
+tries_stay (mach.Mark (mark.Leave l end)) e ts = absurd (true≢false e)
+tries_stay (mach.Mark (mark.Handler l)) e ts = refl
+tries_stay (mach.Mark (mark.End l)) e ts = refl
+
+tries_over : (xs ys : List Instr) → NoBound xs → tries_at (xs ++ ys) ≡ tries_at ys
+tries_over [] ys no_bound = refl
+tries_over (x ∷ xs) ys (not_bound e n) = ap (tries_past x.op) (tries_over xs ys n) ∙ tries_stay x.op e (tries_at ys)
+
+-- The tries round a place stay.
+pub tries_expand : (f : ℕ → Instr → List Instr) → KeepsMarks f → (code : List Instr) → tries_at (expand f code) ≡ tries_at code
+tries_expand f m [] = refl
+tries_expand f m (i ∷ is) =
+    ⊎_elim
+    (λ e.
+    let h = m.bound (length is) i e in
+    ap (λ xs. tries_at (xs ++ expand f is)) h.1 ∙ ap (λ op. tries_past op (tries_at (expand f is))) h.2
+    ∙ ap (tries_past i.op) (tries_expand f m is))
+    (λ e.
+    tries_over (f (length is) i) (expand f is) (m.unbound (length is) i e)
+    ∙ tries_expand f m is ∙ sym (tries_stay i.op e (tries_at is)))
+    (cases_Bool (bounds_try i.op))
 
 -- ---- what a code ends with
 

@@ -6,7 +6,7 @@ use Rattle.mach_ir.specs.Meaning.{File, put_if, put_all, with_held, values}
 use Rattle.mach_ir.specs.Walks.{Among, first, later}
 use Rattle.mach_ir.specs.declared.reg.Reg.{Reg}
 use Rattle.mach_ir.specs.declared.mach.Instr.{Instr}
-use Rattle.mach_laws.specs.Expand.{KeepsMarks, no_label, not_labelled, no_handler, not_handled, expand}
+use Rattle.mach_laws.specs.Expand.{KeepsMarks, no_label, not_labelled, no_handler, not_handled, no_bound, not_bound, expand}
 use Rattle.places_rules.specs.Places.{Placing, placed, all_placed, placed_instr, placed_code}
 
 module _ (place : Placing) where
@@ -56,4 +56,6 @@ module _ (place : Placing) where
         none = λ l n i e. not_labelled e no_label;
         handler = λ l n i e. (placed_instr place i, [], refl, refl);
         no_other = λ l n i e. not_handled e no_handler;
+        bound = λ n i e. (placed_instr place i, refl, refl);
+        unbound = λ n i e. not_bound e no_bound;
       }

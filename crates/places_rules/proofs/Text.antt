@@ -1,6 +1,6 @@
 -- The text of a function whose registers have been placed: its labels, tries and forms are as they were, wherever the
 -- registers stand.
-use Rattle.std.proofs.Common.{◌≡◌, ◌≢◌, ℕ, ◌<◌, Bool, true, false, cond, List, [], ◌∷◌, ◌++◌, refl, sym, ap, ◌∙◌, subst}
+use Rattle.std.proofs.Common.{◌≡◌, ◌≢◌, ℕ, ◌<◌, ◌≤◌, Bool, true, false, cond, List, [], ◌∷◌, ◌++◌, length, refl, sym, ap, ◌∙◌, subst}
 use Rattle.std.specs.List.{All, AllPairs}
 use Rattle.mach_ir.specs.Acts.{Target, On, At}
 use Rattle.mach_ir.specs.Forms.{HasForm, results_of}
@@ -192,6 +192,15 @@ module _ (place : Placing) where
               ∙ (well.nested).at_handler w.instr w.after w.stands
               (subst (λ (i : Instr). may_raise i.op ≡ true) (sym w.same) r) l tries
               (sym (here_same w.instr w.after i next w.same w.same_after) ∙ e);
+          at_own_handler = λ i next s l e.
+              let w = was_at m.code s in
+              ap tries_at (same_handler l m.code) ∙ same_tries (from_handler l m.code)
+              ∙ (well.nested).at_own_handler w.instr w.after w.stands l (op_of w.instr w.same e)
+              ∙ sym (here_same w.instr w.after i next w.same w.same_after);
+          at_exit = λ i next s l n e.
+              let w = was_at m.code s in
+              subst (λ ts. n ≤ length ts) (sym (here_same w.instr w.after i next w.same w.same_after))
+              ((well.nested).at_exit w.instr w.after w.stands l n (op_of w.instr w.same e));
           at_end = λ i next s e.
               let w = was_at m.code s in
               here_same w.instr w.after i next w.same w.same_after

@@ -1,20 +1,21 @@
 //! The pieces of a function: its entry, and a part for each line, in their order.
-ghost use Rattle.std.specs.Prelude.{◌≡◌, ◌-◌, ◌≤◌, IfOk, option_copied, slice_index};
-ghost use Rattle.lin_ir.specs.Descriptors.{frame_bytes};
+ghost use Rattle.std.specs.Prelude.{◌≡◌, ◌≤◌, IfOk, option_copied, slice_index};
+ghost use Rattle.lin_ir.specs.Descriptors.{frame_bytes, IsWithin};
+ghost use Rattle.lin_ir.specs.Formed.{AreLocated};
+ghost use Rattle.lin_ir.specs.Walks.{OneDepth};
 ghost use Rattle.emit_rules.specs.Calls.{mark_of};
 ghost use Rattle.emit_rules.specs.Emitted.{operator_part, pure_part, access_part, calling_part, leaving_part, op_part, flow_part, part_of, descriptor, left_after, parts, emitted, IsEmitted};
-ghost use Rattle.pushed_traps.specs.Depths.{IsCounted};
 ghost use Rattle.rv_emit.specs.Outputs.{Adds};
 ghost use Rattle.rv_emit.specs.Frames.{form_of};
 
 use crate::form::FrameForm;
-use crate::frames::{frame_of, passes_frame};
+use crate::frames::frame_of;
 use crate::output::Output;
 use crate::slots::{first, register_of, second, target};
 use bs_words::IntOp;
+use frame_tables::pushed_traps;
 use lin_ir::{Descr, Flow, Lin, LinOp, Line, Spot};
 use mach_ir::{Access, Calling, Leaving, Op, Pure, Right, Seq};
-use pushed_traps::{mark_at, marks};
 use rv_isa::Register;
 use rv_pieces::{Piece, Pieces};
 use std::alloc::{AllocError, Global};
@@ -202,30 +203,37 @@ impl Output {
         }
     }
 
-    /// The parts of lines. `marks`: by the number of lines after a line, one more than the number of
-    /// traps that are pushed before it.
+    /// The parts of lines. `pushed`: by the number of lines after a line, the number of traps that
+    /// are pushed before it.
     fn parts(
         &mut self,
         frame: FrameForm,
-        marks: &[u32],
+        pushed: &[u32],
         descriptors: &[Descr],
         code: &[Line],
     ) -> Result<(), AllocError>
         ensures { IfOk result (λ _.
             Adds self.old self.new
-            (parts (λ left. slice_index marks.now left - 1) (form_of frame) descriptors.now code.now)) }
+            (parts (λ left. slice_index pushed.now left) (form_of frame) descriptors.now code.now)) }
     {
         let mut rest = code;
         let mut left = descriptors;
         while let Some((line, next)) = rest.split_first() {
-            let passes = passes_frame(&line.op);
-            let traps = mark_at(marks, next.len()).saturating_sub(1);
+            let passes = line.op.passes_frame();
+            let traps = traps_at(pushed, next.len());
             self.part(traps, frame, descriptor(passes, left), line)?;
             left = left_after(passes, left);
             rest = next;
         }
         Ok(())
     }
+}
+
+/// The number of traps before the line with so many lines after it.
+fn traps_at(pushed: &[u32], left: usize) -> u32
+    ensures { result ≡ slice_index pushed.now left }
+{
+    if left < pushed.len() { pushed[left] } else { 0 }
 }
 
 /// The descriptor of a line, which is a frame point or not: the first that is left.
@@ -248,22 +256,22 @@ fn left_after(passes: bool, left: &[Descr]) -> &[Descr]
     }
 }
 
-/// The pieces of a function whose marks are known: by the number of lines after a line, one more
-/// than the number of traps that are pushed before it.
+/// The pieces of a function. `pushed`: by the number of lines after a line, the number of traps that
+/// are pushed before it.
 fn emit_with(
     alloc: Global,
     lin: &Lin,
-    marks: &[u32],
+    pushed: &[u32],
     descriptors: &[Descr],
 ) -> Result<Pieces, AllocError>
     requires { frame_bytes lin.now ≤ 1048576 }
     ensures { IfOk result (λ pieces.
-        pieces ≡ emitted lin.now (λ left. slice_index marks.now left - 1) descriptors.now) }
+        pieces ≡ emitted lin.now (λ left. slice_index pushed.now left) descriptors.now) }
 {
     let frame = frame_of(lin);
     let mut output = Output::new(alloc);
     output.entry(frame)?;
-    output.parts(frame, marks, descriptors, lin.code.as_slice())?;
+    output.parts(frame, pushed, descriptors, lin.code.as_slice())?;
     let Output { pieces, alloc: _ } = output;
     Ok(Pieces {
         frame: frame.bytes,
@@ -271,12 +279,16 @@ fn emit_with(
     })
 }
 
-/// The pieces of a function, in which the traps that are pushed can be counted. `descriptors`: one
-/// for each frame point that is no tail call, in the order of the lines.
+/// The pieces of a function. `descriptors`: one for each frame point that is no tail call, in the
+/// order of the lines.
+///
+/// What is asked of the function is what its descriptors ask too.
 pub fn emit(alloc: Global, lin: &Lin, descriptors: &[Descr]) -> Result<Pieces, AllocError>
-    requires { IsCounted lin.now }
+    requires located { AreLocated lin.now }
+    requires depth { OneDepth lin.now }
+    requires within { IsWithin lin.now }
     ensures { IfOk result (λ pieces. IsEmitted lin.now descriptors.now pieces) }
 {
-    let marks = marks(alloc, lin)?;
-    emit_with(alloc, lin, marks.as_slice(), descriptors)
+    let pushed = pushed_traps(alloc, lin)?;
+    emit_with(alloc, lin, pushed.as_slice(), descriptors)
 }

@@ -1,87 +1,24 @@
 //! The frame of a function: its entry, and how it gives the frame back.
 ghost use Rattle.std.specs.Prelude.{◌≡◌, ◌≤◌, IfOk};
-ghost use Rattle.lin_ir.specs.Descriptors.{has_frame_point, frame_bytes};
-ghost use Rattle.lin_ir.specs.Meaning.{passes_frame};
-ghost use Rattle.mach_ir.specs.Acts.{has_descriptor};
+ghost use Rattle.lin_ir.specs.Descriptors.{frame_bytes};
 ghost use Rattle.emit_rules.specs.Entry.{frame_of, taken, entry, restored, raised, given_back, return_offset};
 ghost use Rattle.rv_emit.specs.Outputs.{Adds};
 ghost use Rattle.rv_emit.specs.Frames.{form_of};
 
 use crate::form::FrameForm;
 use crate::output::Output;
-use lin_ir::{Lin, LinOp, Line};
-use mach_ir::{Access, Calling, Op};
+use lin_ir::Lin;
 use rv_isa::Register;
 use std::alloc::AllocError;
-
-/// Whether the operation is a frame point that has a descriptor.
-fn has_descriptor(op: &Op) -> bool
-    ensures { result ≡ has_descriptor op.now }
-{
-    match op {
-        Op::Pure(_) => false,
-        Op::Access(
-            Access::Load {
-                chunk: _,
-                offset: _,
-            },
-        ) => false,
-        Op::Access(
-            Access::Store {
-                chunk: _,
-                offset: _,
-            },
-        ) => false,
-        Op::Access(Access::Alloc(_)) => true,
-        Op::Calling(
-            Calling::Call {
-                callee: _,
-                result: _,
-            },
-        ) => true,
-        Op::Calling(
-            Calling::TailCall {
-                callee: _,
-                result: _,
-            },
-        ) => false,
-        Op::Calling(Calling::External { row: _, frame }) => *frame,
-        Op::Leaving(_) => false,
-    }
-}
-
-/// Whether the line is a frame point that has a descriptor.
-pub fn passes_frame(op: &LinOp) -> bool
-    ensures { result ≡ passes_frame op.now }
-{
-    match op {
-        LinOp::Op(op) => has_descriptor(op),
-        LinOp::Flow(_) => false,
-    }
-}
-
-fn has_frame_point(code: &[Line]) -> bool
-    ensures { result ≡ has_frame_point code.now }
-{
-    for line in code {
-        if passes_frame(&line.op) {
-            return true;
-        }
-    }
-    false
-}
 
 /// The frame of a function.
 pub fn frame_of(lin: &Lin) -> FrameForm
     requires { frame_bytes lin.now ≤ 1048576 }
     ensures { form_of result ≡ frame_of lin.now }
 {
-    let saves = has_frame_point(lin.code.as_slice());
-    let address: u64 = if saves { 8 } else { 0 };
-    let bytes = (8 * u64::from(lin.slots) + address + 15) / 16 * 16;
     FrameForm {
-        bytes: bytes as u32,
-        saves,
+        bytes: lin.frame_bytes(),
+        saves: lin.has_frame_point(),
     }
 }
 

@@ -1,7 +1,8 @@
 //! The words of a function.
 ghost use Rattle.std.specs.Prelude.{◌≡◌, ◌+◌, ◌*◌, ◌%◌, ◌<◌, ◌^◌, ◌++◌, length, OnOk};
 ghost use Rattle.std.specs.List.{AllByRecursion};
-ghost use Rattle.layout_rules.specs.Conditions.{PieceFits, AllLead};
+ghost use Rattle.layout_rules.specs.Conditions.{AllLead};
+ghost use Rattle.rv_pieces.specs.Named.{PieceFits};
 ghost use Rattle.layout_rules.specs.Forms.{total_words};
 ghost use Rattle.layout_rules.specs.Words.{words_to};
 

@@ -63,6 +63,9 @@ pub data Caught (code : List Instr) : List ℕ → Type 0 where
   uncaught : Caught code []
   caught : {l : ℕ} {ts : List ℕ} → Handled l ts code → Caught code ts → Caught code (l ∷ ts)
 
+caught_handler : {code : List Instr} {l : ℕ} {ts : List ℕ} → Caught code (l ∷ ts) → Handled l ts code
+caught_handler (caught h c) = h
+
 -- the case that a switch takes to a label stands in a code
 pub record Taken (l : ℕ) (labels : List ℕ) (ts : List ℕ) (code : List Instr) : Type 0 where
   pub end : ℕ
@@ -100,6 +103,8 @@ pub record IsKept (whole : List Instr) (i : Instr) (next : List Instr) : Type 0 
   pub exits : (l : ℕ) → LeadsTo i.op l → is_exit i.op ≡ true → Found l (tries_left i.op (tries_at (i ∷ next))) whole
   pub handles : (l end : ℕ) → i.op ≡ mach.Mark (mark.Leave l end) → HasHandler l next
   pub pushed : (l : ℕ) → i.op ≡ mach.Mark (mark.Try l) → tries_at next ≡ l ∷ tries_at (i ∷ next)
+  pub handled : (l : ℕ) → i.op ≡ mach.Mark (mark.Try l) → Handled l (tries_at (i ∷ next)) whole
+  pub ends : (l n : ℕ) → i.op ≡ mach.Mark (mark.Exit l n) → n ≤ length (tries_at (i ∷ next))
   pub catches : Caught whole (tries_at (i ∷ next))
   pub left : leaves i.op ≡ true → tries_at (i ∷ next) ≡ []
   pub takes : (labels : List ℕ) → i.op ≡ mach.Mark (mark.Switch labels) → (l : ℕ) → Contains labels l → Taken l labels (tries_at (i ∷ next)) next
@@ -140,6 +145,8 @@ module _ (whole : List Instr) where
         exits = λ l o e. absurd (true≢false (sym e ∙ no_exit));
         handles = λ l end e. absurd (true≢false (sym (ap is_leave e) ∙ no_leave));
         pushed = λ l e. absurd (true≢false (sym (ap is_try e) ∙ no_try));
+        handled = λ l e. absurd (true≢false (sym (ap is_try e) ∙ no_try));
+        ends = λ l n e. absurd (true≢false (sym (ap is_exit e) ∙ no_exit));
         catches = c;
         left = λ e. absurd (true≢false (sym e ∙ stays));
         takes = takes;
@@ -161,6 +168,8 @@ module _ (whole : List Instr) where
         exits = λ l o e. absurd (true≢false (sym e));
         handles = λ l end e. absurd (true≢false (sym (ap is_leave e)));
         pushed = λ l e. absurd (true≢false (sym (ap is_try e)));
+        handled = λ l e. absurd (true≢false (sym (ap is_try e)));
+        ends = λ l n e. absurd (true≢false (sym (ap is_exit e)));
         catches = subst (Caught whole) (sym e) uncaught;
         left = λ _. e;
         takes = λ labels e. absurd (true≢false (sym (ap is_choice e)));
@@ -263,42 +272,45 @@ module _ (whole : List Instr) where
   -- the label of a handler in scope stands in the code
   data FoundOne (ts : List ℕ) : Option Label → Type 0 where
     no_label : FoundOne ts None
-    a_label : {t : Label} → Found t.number (drop_tries t.tries ts) whole → FoundOne ts (Some t)
+    a_label : {t : Label} → Found t.number (drop_tries t.tries ts) whole → t.tries ≤ length ts → FoundOne ts (Some t)
 
   pub data AllFound (ts : List ℕ) : List Label → Type 0 where
     nil : AllFound ts []
-    cons : {t : Label} {labels : List Label} → Found t.number (drop_tries t.tries ts) whole → AllFound ts labels → AllFound ts (t ∷ labels)
+    cons : {t : Label} {labels : List Label} → Found t.number (drop_tries t.tries ts) whole → t.tries ≤ length ts → AllFound ts labels → AllFound ts (t ∷ labels)
 
   found_one : {ts : List ℕ} {labels : List Label} → AllFound ts labels → (l : LabelTree) → FoundOne ts (label_of labels l)
   found_one nil l = no_label
-  found_one {ts} (cons {t = t} {labels = labels} x xs) l = by (same_label l t.label) (found_one xs l)
+  found_one {ts} (cons {t = t} {labels = labels} x le xs) l = by (same_label l t.label) (found_one xs l)
     where
       by : (b : Bool) → FoundOne ts (label_of labels l) → FoundOne ts (cond b (Some t) (label_of labels l))
-      by true others = a_label x
+      by true others = a_label x le
       by false others = others
 
   found_append : {ts : List ℕ} {xs ys : List Label} → AllFound ts xs → AllFound ts ys → AllFound ts (xs ++ ys)
   found_append nil y = y
-  found_append (cons x xs) y = cons x (found_append xs y)
+  found_append (cons x le xs) y = cons x le (found_append xs y)
 
   found_inside : {ts : List ℕ} {labels : List Label} → AllFound ts labels → AllFound ts (in_handlers labels)
   found_inside nil = nil
-  found_inside {ts} (cons {t = t} {labels = labels} x xs) = by (is_bare t.label) (found_inside xs)
+  found_inside {ts} (cons {t = t} {labels = labels} x le xs) = by (is_bare t.label) (found_inside xs)
     where
       by : (b : Bool) → AllFound ts (in_handlers labels) → AllFound ts (unless_bare b t (in_handlers labels))
       by true others = others
-      by false others = cons x others
+      by false others = cons x le others
 
   found_deeper : {ts : List ℕ} {labels : List Label} (l : ℕ) → AllFound ts labels → AllFound (l ∷ ts) (deeper labels)
   found_deeper l nil = nil
-  found_deeper l (cons x xs) = cons x (found_deeper l xs)
+  found_deeper l (cons x le xs) = cons x (omega (arith, le)) (found_deeper l xs)
 
   walks_exit : {ts : List ℕ} {o : Option Label} → Caught whole ts → FoundOne ts o → (from : List Reg) → Walks ts (exit_to o from)
   walks_exit c no_label from = idle
-  walks_exit {ts} c (a_label {t = t} f) from = then (walks_moves c from t.params) (step (bare (mark.Exit t.number t.tries)) (λ next. refl) exit_kept)
+  walks_exit {ts} c (a_label {t = t} f le) from = then (walks_moves c from t.params) (step (bare (mark.Exit t.number t.tries)) (λ next. refl) exit_kept)
     where
       at_target : (next : List Instr) → tries_at next ≡ ts → (l : ℕ) → t.number ≡ l → Found l (drop_tries t.tries (tries_at next)) whole
       at_target next e l same = subst (λ k. Found k (drop_tries t.tries (tries_at next)) whole) same (subst (λ z. Found t.number (drop_tries t.tries z) whole) (sym e) f)
+
+      same_ended : (l n : ℕ) → mach.Mark (mark.Exit t.number t.tries) ≡ mach.Mark (mark.Exit l n) → t.tries ≡ n
+      same_ended l n e = cc
 
       exit_kept : (next : List Instr) → tries_at next ≡ ts → IsKept whole (bare (mark.Exit t.number t.tries)) next
       exit_kept next e =
@@ -307,6 +319,8 @@ module _ (whole : List Instr) where
             exits = λ l o _. at_target next e l (one_target l t.number o);
             handles = λ l end e. absurd (true≢false (sym (ap is_leave e)));
             pushed = λ l e. absurd (true≢false (sym (ap is_try e)));
+            handled = λ l e. absurd (true≢false (sym (ap is_try e)));
+            ends = λ l n same. subst (λ k. k ≤ length (tries_at next)) (same_ended l n same) (subst (λ z. t.tries ≤ length z) (sym e) le);
             catches = subst (Caught whole) (sym e) c;
             left = λ e. absurd (true≢false (sym e));
             takes = λ labels e. absurd (true≢false (sym (ap is_choice e)));
@@ -514,7 +528,7 @@ module _ (whole : List Instr) where
   found_own env labels valued tail d end l b (Handle at label params body rest) next e ends =
       let wr = ending_handlers env labels valued tail d end (suc l + length params) (b + width body) rest next in
       let wb = ending_select (with_params params (params_from (suc l) params) env) labels valued tail d b body (select_handlers env labels valued tail d end (suc l + length params) (b + width body) rest next) in
-      cons (record { at = bare (mark.With l end); rest = _; there = ends; has = self l; tries = wb.tries ∙ wr.tries ∙ e })
+      cons (record { at = bare (mark.With l end); rest = _; there = ends; has = self l; tries = wb.tries ∙ wr.tries ∙ e }) (omega arith)
       (found_own env labels valued tail d end (suc l + length params) (b + width body) rest next e (ending_in wb.ending (ending_next ends)))
 
   walks_catch : {ts : List ℕ} {body handlers_code : Code} → Caught whole ts → (end : ℕ) → ((next : List Instr) → Within next (body next)) → ((next : List Instr) → Within next (handlers_code next)) →
@@ -565,7 +579,7 @@ module _ (whole : List Instr) where
             let found = subst (λ z. Found end z entry) (sym eh) (found_in (more (more wh.ending)) (found_end end next e)) in
             let inside = b c' in
             let eb = outer.tries ∙ el in
-            one (try_kept (body leave) eb) (inside.kept leave el ends_body (one (leave_kept (emit.move y r ∷ code) found (subst (λ z. Caught whole (l ∷ z)) (sym eh) c')) kept_entry));
+            one (try_kept (body leave) eb c') (inside.kept leave el ends_body (one (leave_kept (emit.move y r ∷ code) found (subst (λ z. Caught whole (l ∷ z)) (sym eh) c')) kept_entry));
       }
     where
       same_try : (k : ℕ) → mach.Mark (mark.Try l) ≡ mach.Mark (mark.Try k) → l ≡ k
@@ -574,13 +588,15 @@ module _ (whole : List Instr) where
       same_leave : (k there : ℕ) → mach.Mark (mark.Leave l end) ≡ mach.Mark (mark.Leave k there) → l ≡ k
       same_leave k there e = cc
 
-      try_kept : (code : List Instr) → tries_at code ≡ l ∷ ts → IsKept whole (bare (mark.Try l)) code
-      try_kept code eb =
+      try_kept : (code : List Instr) → tries_at code ≡ l ∷ ts → Caught whole (l ∷ ts) → IsKept whole (bare (mark.Try l)) code
+      try_kept code eb caught_here =
           record {
             lands = λ k o _. absurd (none_on k o);
             exits = λ k o e. absurd (true≢false (sym e));
             handles = λ k there e. absurd (true≢false (sym (ap is_leave e)));
             pushed = λ k e. subst (λ z. z ≡ k ∷ drop_tries 1 z) (sym eb) (ap (λ n. n ∷ ts) (same_try k e));
+            handled = λ k e. subst (λ z. Handled k (drop_tries 1 z) whole) (sym eb) (subst (λ n. Handled n ts whole) (same_try k e) (caught_handler caught_here));
+            ends = λ k n e. absurd (true≢false (sym (ap is_exit e)));
             catches = subst (λ z. Caught whole (drop_tries 1 z)) (sym eb) c;
             left = λ e. absurd (true≢false (sym e));
             takes = λ labels e. absurd (true≢false (sym (ap is_choice e)));
@@ -594,6 +610,8 @@ module _ (whole : List Instr) where
             exits = λ k o e. absurd (true≢false (sym e));
             handles = λ k there e. subst (λ n. HasHandler n (emit.handler l y ∷ rest)) (same_leave k there e) (handler_here (self l));
             pushed = λ k e. absurd (true≢false (sym (ap is_try e)));
+            handled = λ k e. absurd (true≢false (sym (ap is_try e)));
+            ends = λ k n e. absurd (true≢false (sym (ap is_exit e)));
             catches = c';
             left = λ e. absurd (true≢false (sym e));
             takes = λ labels e. absurd (true≢false (sym (ap is_choice e)));
@@ -785,9 +803,6 @@ selected_labels_stand f fits =
       handlers = λ i next s l end e. let k = kept_of all_kept i next s in k.handles l end e;
     }
 
-caught_handler : {whole : List Instr} {l : ℕ} {ts : List ℕ} → Caught whole (l ∷ ts) → Handled l ts whole
-caught_handler (caught h c) = h
-
 -- The tries that are pushed are those round the place, and the function is left outside its tries.
 pub selected_nested : (f : FunctionTree) → FunctionFits f → IsNested (selected f)
 selected_nested f fits =
@@ -803,5 +818,10 @@ selected_nested f fits =
           let k = kept_of all_kept i next s in
           let h = caught_handler (subst (Caught (selected f).code) e k.catches) in
           ap tries_at (labelled.onto_is l h.at h.rest h.there h.handles) ∙ h.tries;
+      at_own_handler = λ i next s l e.
+          let k = kept_of all_kept i next s in
+          let h = k.handled l e in
+          ap tries_at (labelled.onto_is l h.at h.rest h.there h.handles) ∙ h.tries;
+      at_exit = λ i next s l n e. let k = kept_of all_kept i next s in k.ends l n e;
       at_end = λ i next s e. let k = kept_of all_kept i next s in k.left e;
     }

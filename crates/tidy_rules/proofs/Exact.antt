@@ -32,7 +32,7 @@ use Rattle.linear_rules.specs.Kept.{step, ValsHeld, Proper}
 use Rattle.linear_rules.specs.Keeps.{NamesReached, NoAddrReached}
 use Rattle.linear_rules.proofs.Homes.{IsIn, is_first, is_later, in_of, contains_of, all_vals, named_of}
 use Rattle.linear_rules.proofs.Marks.{all_in}
-use Rattle.linear_rules.proofs.Walked.{reached_stands, tail_in, stands_tail}
+use Rattle.linear_rules.proofs.Walked.{Tail, reached_tail, reached_stands, tail_in, stands_tail, live_read}
 use Rattle.tidy_rules.specs.Keeps.{SameRound}
 use Rattle.tidy_rules.proofs.Turns.{is_bare, turns}
 use Rattle.tidy_rules.proofs.Simulate.{Arrives, Answers, stuck, steps, Closed, Leads, acts, simulates}
@@ -230,6 +230,14 @@ module _ (c : Place) (m : Lin) (well : WellFormed m) (safe : NoAddrReached m) (n
       out : loc.Machine 5 ≡ loc.Unset → ⊥
       out e = cc
 
+  -- what is live is a location
+  live_fixed : {l : Loc} {t : Comp} {is : List Line} {tries : List ℕ} → Live m l t is tries → Tail is m.code → l ≢ loc.Unset
+  live_fixed {l} {t} v w =
+      let y = live_read m v w in
+      location_fixed l (all_in (λ (s : Spot). IsLocation m s.loc)
+      (all_in (λ (i : Line). Locates m i.args × Locates m i.results) well.locations y.inside).0
+      (in_of (record { loc = l; comp = t }) y.line.args y.reads))
+
   across_here : {l : Loc} {t : Comp} {i : Line} {next : List Line} {tries : List ℕ} → LiveAcross m l t i next tries → Live m l t (i ∷ next) tries
   across_here (across_step free x v) = on free x v
   across_here (across_raise x v) = aside x v
@@ -268,7 +276,8 @@ module _ (c : Place) (m : Lin) (well : WellFormed m) (safe : NoAddrReached m) (n
               offset = k;
               held = u;
               lost = ap (λ b. cond b (g l) (unless_pointer (g l))) n ∙ ap unless_pointer w;
-              val = λ v. true≢false (sym ((exact.exact i next a.tries reached t l).1 v) ∙ n);
+              val = λ v. true≢false
+                  (sym (named_of l names (in_of l names ((exact.exact i next a.tries reached t l).1 v)) (same_self l fixed)) ∙ n);
               addr = λ v. safe.none i next a.tries reached t l v;
             })
 
@@ -379,8 +388,8 @@ module _ (c : Place) (m : Lin) (well : WellFormed m) (safe : NoAddrReached m) (n
       where
         by : (l : Loc) → IsIn l names → is_val end (g l) ≡ true
         by l z =
-            let fixed : l ≢ loc.Unset = all_in (λ l. l ≢ loc.Unset) (exact.fixed (length next)) z in
-            let v = (exact.exact i next a.tries reached t l).0 (named_of l names z (same_self l fixed)) in
+            let v = (exact.exact i next a.tries reached t l).0 (contains_of z) in
+            let fixed : l ≢ loc.Unset = live_fixed (across_here v) (reached_tail m reached) in
             ⊎_elim (λ e. ap (is_val end) e ∙ vals.held i next refl t l v) (λ q. absurd (q.val (across_here v))) (near l fixed)
 
     answers : ValsHeld c m (at (i ∷ next) f a) → Answer (at (i ∷ next) g a) (step c m (at (i ∷ next) f a))

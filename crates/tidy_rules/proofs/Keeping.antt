@@ -1,9 +1,8 @@
 -- What keeps a Linear function that keeps a Mach function keeps that; and with exact names it reads no poison.
-use Rattle.std.proofs.Common.{◌≡◌, ◌≢◌, ℕ, true, List, ◌∷◌, All, Option, Some, None, refl, sym, ◌∙◌, subst}
+use Rattle.std.proofs.Common.{◌≡◌, ℕ, true, List, ◌∷◌, Option, Some, None, refl, sym, ◌∙◌, subst}
 use Rattle.bs_words.specs.Memory.{Memory}
 use Rattle.bs_words.specs.declared.types.Comp.{Comp}
 use Rattle.bs_words.specs.declared.types.Loc.{Loc}
-use Rattle.bs_words.specs.declared.types.Loc.TheVariants as loc
 use Rattle.bs_words.specs.declared.values.Value.{Value}
 use Rattle.mach_ir.specs.Acts.{Around}
 use Rattle.mach_ir.specs.Runs.{Place, Tally, Run, Running, Asking, Ended, Wrong, entered}
@@ -168,13 +167,12 @@ does_named p m well safe named exact does c arguments memory doings s e =
     }
 
 -- names that are exact everywhere are exact where walks come
-pub names_reached : (m : Lin) → OneTraps m → (named : NamedAt) → NamesLives m named → ((n : ℕ) → All (λ l. l ≢ loc.Unset) (named n)) → NamesReached m named
-names_reached m traps named exact fixed =
+pub names_reached : (m : Lin) → OneTraps m → (named : NamedAt) → NamesLives m named → NamesReached m named
+names_reached m traps named exact =
     record {
       exact = λ i next tries r frame l.
           let y = exact.exact i next (reached_stands m r) frame l in
           (λ n. across r (y.0 n), λ v. y.1 (record { tries = tries; traps = by_walk r; across = v }));
-      fixed = fixed;
     }
   where
     across : {i : Line} {next : List Line} {l : Loc} {t : Comp} {tries : List ℕ} → Reached m (i ∷ next) tries → LiveAt m l t i next →
@@ -189,12 +187,12 @@ names_reached m traps named exact fixed =
 -- points is reached, and no addr is live after one of the Mach function.
 pub keeps_named : (p : Mach) (m : Lin) → KeepsReached p m → WellFormed m → OneTraps m →
     ((i : Line) (next : List Line) → Stands i next m.code → passes_frame i.op ≡ true → (tries : List ℕ) × Reached m (i ∷ next) tries) →
-    mach_walks.NoAddrLive p → (named : NamedAt) → NamesLives m named → ((n : ℕ) → All (λ l. l ≢ loc.Unset) (named n)) → Keeps p m named
-keeps_named p m keeps well traps points safe named exact fixed =
+    mach_walks.NoAddrLive p → (named : NamedAt) → NamesLives m named → Keeps p m named
+keeps_named p m keeps well traps points safe named exact =
     record {
       name = keeps.name;
       result = keeps.result;
-      does = does_named p m well (keeps.addrs safe) named (names_reached m traps named exact fixed) keeps.does;
+      does = does_named p m well (keeps.addrs safe) named (names_reached m traps named exact) keeps.does;
       symbols = keeps.symbols;
       externals = keeps.externals;
       addrs = λ h. no_addr_live m points (keeps.addrs h);

@@ -3,16 +3,15 @@ use Rattle.mach_ir.specs.Formed.{WellFormed}
 use Rattle.mach_ir.specs.Placed.{FullyPlaced}
 use Rattle.mach_ir.specs.Seats.{Seated}
 use Rattle.mach_ir.specs.declared.mach.Mach.{Mach}
-use Rattle.linear_rules.specs.Keeps.{ExitsWithin}
 use Rattle.linear_rules.specs.Lowered.{lowered}
 use Rattle.linear_rules.proofs.Lowering.{lowered_well_formed, lowered_homes, lowered_traps, lowered_forward, lowered_seated, lowered_changes}
 use Rattle.tidy_rules.specs.Regular.{IsRegular}
 
 -- The lowered function is regular.
-pub lowered_regular : (p : Mach) → WellFormed p → FullyPlaced p → ExitsWithin p → Seated p → IsRegular (lowered p)
-lowered_regular p well full exits seated =
+pub lowered_regular : (p : Mach) → WellFormed p → FullyPlaced p → Seated p → IsRegular (lowered p)
+lowered_regular p well full seated =
     record {
-      well = lowered_well_formed p well full exits;
+      well = lowered_well_formed p well full;
       homes = lowered_homes p well full;
       traps = lowered_traps p well full;
       forward = lowered_forward p well full;

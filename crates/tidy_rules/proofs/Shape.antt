@@ -8,7 +8,7 @@ use Rattle.mach_ir.specs.Acts.{At}
 use Rattle.mach_ir.specs.Walks.{this}
 use Rattle.lin_ir.specs.Formed.{IsFormed, IsHome, is_colour, is_slot, is_home, IsLocation, Locates, spare, SpareIsPassing, label_of, labels_in, EntersAt, enters_here, enters_below, GoesForward, WellFormed}
 use Rattle.lin_ir.specs.Walks as walks
-use Rattle.lin_ir.specs.Walks.{Stands, here, below, Reached, by_step, Live, LiveAfter, after_step, Traps, by_walk, unreached, OneDepth, may_raise}
+use Rattle.lin_ir.specs.Walks.{Stands, here, below, Reached, by_step, Live, LiveAfter, after_step, Traps, by_walk, unreached, TrapsBalance, may_raise}
 use Rattle.lin_ir.specs.declared.lin.Flow.TheVariants as flow
 use Rattle.lin_ir.specs.declared.lin.LinOp.{LinOp}
 use Rattle.lin_ir.specs.declared.lin.LinOp.TheVariants as lin
@@ -68,11 +68,11 @@ spare_free m homes =
 
 -- ---- depth
 
--- where every walk comes with the same traps, it comes with one number of them
-pub depth_of : (m : Lin) → OneTraps m →
+-- where every walk comes with the same traps, it comes with one number of them, and pushes and pops balance
+pub balance_of : (m : Lin) → OneTraps m →
     ((i : Line) (next : List Line) (tries : List ℕ) → Reached m (i ∷ next) tries → i.op ≡ lin.Flow flow.PopTrap → (length tries ≡ 0) → ⊥) →
-    ((i : Line) (next : List Line) (tries : List ℕ) → Reached m (i ∷ next) tries → walks.leaves i.op ≡ true → tries ≡ []) → OneDepth m
-depth_of m traps pops leaves = record { one = λ code tries others s t. one s t; pops = pops; leaves = leaves }
+    ((i : Line) (next : List Line) (tries : List ℕ) → Reached m (i ∷ next) tries → walks.leaves i.op ≡ true → tries ≡ []) → TrapsBalance m
+balance_of m traps pops leaves = record { depth = record { one = λ code tries others s t. one s t }; pops = pops; leaves = leaves }
   where
     one : {code : List Line} {tries others : List ℕ} → Traps m code tries → Traps m code others → length tries ≡ length others
     one {code} {tries} {others} (by_walk s) (by_walk t) = ap length (traps.one code tries others s t)
@@ -212,11 +212,11 @@ module _ (m : Lin) (goes : ℕ → Bool) (each : (i : Line) (next : List Line) �
             let same : x.next ≡ y.next = one_place (comes_tail x.reached) (comes_tail y.reached) x.stays y.stays (x.same ∙ sym y.same) in
             comes_same regular.traps (subst (λ ks. Comes m (j ∷ ks) tries) same x.reached) y.reached
 
-    depth_rest : OneDepth R
-    depth_rest =
-        depth_of R traps_rest
-        (λ j js tries r e n. let x = source_line m goes each r in regular.well.depth.pops j x.next tries (comes_line x.reached (ap is_landing e)) e n)
-        (λ j js tries r e. let x = source_line m goes each r in regular.well.depth.leaves j x.next tries (comes_line x.reached (leaves_landing j.op e)) e)
+    balance_rest : TrapsBalance R
+    balance_rest =
+        balance_of R traps_rest
+        (λ j js tries r e n. let x = source_line m goes each r in regular.well.traps.pops j x.next tries (comes_line x.reached (ap is_landing e)) e n)
+        (λ j js tries r e. let x = source_line m goes each r in regular.well.traps.leaves j x.next tries (comes_line x.reached (leaves_landing j.op e)) e)
 
     -- ---- lines and locations
 
@@ -257,7 +257,7 @@ module _ (m : Lin) (goes : ℕ → Bool) (each : (i : Line) (next : List Line) �
           labels = subst (λ ls. AllPairs (λ k l. k ≢ l) ls) (sym labels_same) regular.well.labels;
           named = λ j c l n. subst (λ ls. Contains ls l) (sym labels_same) (regular.well.named j (was_among j c) l n);
           handlers = λ j c l e. enters_rest m.code tail_all (regular.well.handlers j (was_among j c) l e);
-          depth = depth_rest;
+          traps = balance_rest;
         }
 
     -- ---- where lines stand

@@ -12,7 +12,7 @@ use Rattle.mach_ir.specs.declared.op.Leaving.TheVariants as leaving
 use Rattle.lin_ir.specs.Formed.{comps, FlowHasForm, label_form, jump_form, exit_form, branch_form, switch_form, push_form, pop_form, enter_form, IsFormed, formed_op, formed_flow, IsHome, is_colour, is_slot, is_home, IsLocation, Locates, IsSelfMove, is_self_move, label_of, labels_in, NamesLabel, goes_to, pushes, EntersAt, enters_here, enters_below, is_exit, GoesForward, places_of, lin_operand_seats, lin_result_seats, WellFormed}
 use Rattle.lin_ir.specs.Meaning.{has_label, after_label}
 use Rattle.lin_ir.specs.Walks as walks
-use Rattle.lin_ir.specs.Walks.{targets, may_raise, Stands, Reached, OneDepth}
+use Rattle.lin_ir.specs.Walks.{targets, may_raise, Stands, Reached, TrapsBalance}
 use Rattle.lin_ir.specs.declared.lin.Flow.{Flow}
 use Rattle.lin_ir.specs.declared.lin.Flow.TheVariants as flow
 use Rattle.lin_ir.specs.declared.lin.LinOp.{LinOp}
@@ -29,7 +29,7 @@ use Rattle.tidy_rules.specs.Leaving.{bare, LabelsBetween, none_between, label_be
 use Rattle.tidy_rules.specs.Redirecting.{redirected, redirect, GoesOnTo, itself, and_on, Redirects, Tidies, as_it_is, then_leaves, then_redirects}
 use Rattle.tidy_rules.specs.Regular.{AtHomes, IsRegular}
 use Rattle.tidy_rules.proofs.Redirecting.{same_raise, same_exit, same_labels, same_leaves, same_operands, same_results, T, turned, split, source, source_line, line_was, op_was}
-use Rattle.tidy_rules.proofs.Shape.{compare, spare_free, depth_of, SameShape, leaving_regular, leaving_shape}
+use Rattle.tidy_rules.proofs.Shape.{compare, spare_free, balance_of, SameShape, leaving_regular, leaving_shape}
 
 -- ---- ends of a list
 
@@ -220,12 +220,12 @@ module _ (m : Lin) (to : ℕ → ℕ) (each : (l : ℕ) → GoesOnTo m l (to l))
           regular.traps.one y.code tries others
           (subst (λ is. Reached m is tries) (same_tail (reached_tail m x.reached) (reached_tail m y.reached) len) x.reached) y.reached
 
-  depth_turned : OneDepth R
-  depth_turned =
-      depth_of R traps_turned
-      (λ j js tries r e n. let x = source_line m to each r in regular.well.depth.pops x.line x.next tries x.reached
+  balance_turned : TrapsBalance R
+  balance_turned =
+      balance_of R traps_turned
+      (λ j js tries r e n. let x = source_line m to each r in regular.well.traps.pops x.line x.next tries x.reached
       (pop_was to x.line.op (ap (λ (j : Line). j.op) x.is_line ∙ e)) n)
-      (λ j js tries r e. let x = source_line m to each r in regular.well.depth.leaves x.line x.next tries x.reached
+      (λ j js tries r e. let x = source_line m to each r in regular.well.traps.leaves x.line x.next tries x.reached
       (sym (same_leaves to x.line.op) ∙ ap (λ (j : Line). walks.leaves j.op) x.is_line ∙ e))
 
   -- ---- lines
@@ -277,7 +277,7 @@ module _ (m : Lin) (to : ℕ → ℕ) (each : (l : ℕ) → GoesOnTo m l (to l))
         named = λ j c l n. named_turned j (in_of j R.code c) l n;
         handlers = λ j c. from_line (λ j. (l : ℕ) → j.op ≡ lin.Flow (flow.PushTrap l) → EntersAt l R.code)
             (λ i z l e. enters_turned (regular.well.handlers i (contains_of z) l (push_was to l i.op e))) j (in_of j R.code c);
-        depth = depth_turned;
+        traps = balance_turned;
       }
 
   -- ---- where lines stand

@@ -1,7 +1,6 @@
 -- The tidy function: each of its frame points is reached, it is tight, and it keeps what it was made from.
-use Rattle.std.proofs.Common.{◌≡◌, ◌≢◌, ℕ, true, false, List, ◌∷◌, All, refl, sym, subst}
+use Rattle.std.proofs.Common.{◌≡◌, ℕ, true, false, List, ◌∷◌, refl, sym, subst}
 use Rattle.std.proofs.lemmas.Bool.{true≢false}
-use Rattle.bs_words.specs.declared.types.Loc.TheVariants as loc
 use Rattle.mach_ir.specs.Walks as mach_walks
 use Rattle.mach_ir.specs.declared.mach.Mach.{Mach}
 use Rattle.lin_ir.specs.Descriptors.{NamesLives, NoAddrLive}
@@ -53,11 +52,10 @@ module _ (m : Lin) (regular : IsRegular m) (tidy : IsTidy m) where
 
 -- What has been made tidy keeps the Mach function with exact names, and so never reads poison where that is not stuck.
 pub tidied_keeps : {p : Mach} {m r : Lin} → KeepsReached p m → IsRegular m → Tidies m r → IsTidy r → mach_walks.NoAddrLive p → (named : NamedAt) →
-    NamesLives r named →
-    ((n : ℕ) → All (λ l. l ≢ loc.Unset) (named n)) → Keeps p r named
-tidied_keeps {p} {m} {r} keeps regular tidies tidy safe named exact fixed =
+    NamesLives r named → Keeps p r named
+tidied_keeps {p} {m} {r} keeps regular tidies tidy safe named exact =
     let left = tidied_regular tidies regular in
-    keeps_named p r (keeps_tidied keeps tidies) left.well left.traps (points_reached r left tidy) safe named exact fixed
+    keeps_named p r (keeps_tidied keeps tidies) left.well left.traps (points_reached r left tidy) safe named exact
 
 -- no location is live as addr after any of its frame points, where that is so of the Mach function
 pub tidied_no_addr : {p : Mach} {m r : Lin} → KeepsReached p m → IsRegular m → Tidies m r → IsTidy r → mach_walks.NoAddrLive p → NoAddrLive r
@@ -67,7 +65,7 @@ tidied_no_addr {p} {m} {r} keeps regular tidies tidy safe =
 -- what holds of a function that was made tidy
 pub record Whole (p : Mach) (m r : Lin) : Type 0 where
   -- with exact names it does what the Mach function does, and so never reads poison where that is not stuck
-  pub keeps : (named : NamedAt) → NamesLives r named → ((n : ℕ) → All (λ l. l ≢ loc.Unset) (named n)) → Keeps p r named
+  pub keeps : (named : NamedAt) → NamesLives r named → Keeps p r named
   pub tight : IsTight r
   pub no_addr : NoAddrLive r
   -- it is well formed, goes forward and is seated, and each place is reached with the same traps
@@ -77,7 +75,7 @@ pub record Whole (p : Mach) (m r : Lin) : Type 0 where
 pub tidied_whole : {p : Mach} {m r : Lin} → KeepsReached p m → IsRegular m → Tidies m r → IsTidy r → mach_walks.NoAddrLive p → Whole p m r
 tidied_whole {p} {m} {r} keeps regular tidies tidy safe =
     record {
-      keeps = λ named exact fixed. tidied_keeps keeps regular tidies tidy safe named exact fixed;
+      keeps = λ named exact. tidied_keeps keeps regular tidies tidy safe named exact;
       tight = tidy_tight r (tidied_regular tidies regular) tidy;
       no_addr = tidied_no_addr keeps regular tidies tidy safe;
       regular = tidied_regular tidies regular;

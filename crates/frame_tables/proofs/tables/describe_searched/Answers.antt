@@ -1,5 +1,5 @@
 use Rattle.std.proofs.Common.{◌≡◌, ◌+◌, length, arith, refl}
-use Rattle.frame_tables.proofs.Bounds.{slots_small}
+use Rattle.frame_tables.proofs.Bounds.{slots_small, frame_small}
 use Rattle.frame_tables.proofs.Composing.{well_formed_by, exact_by, count_by, sizes_by, small_by}
 use Rattle.lin_flow.specs.Search.{all_of}
 use Rattle.frame_tables.proofs.tables.describe_searched.Goals as goal
@@ -13,7 +13,7 @@ live_in_any_order-requires c =
     (record { places = c.from_vec.result; bound = c.args.lin.now.slots + 32 }) c.from_vec.ensures refl
 
 pub frame_bytes-frame-requires : goal.frame_bytes-frame-requires
-frame_bytes-frame-requires c = slots_small c.args.lin.now c.requires.within
+frame_bytes-frame-requires c = frame_small c.args.lin.now c.requires.within
 
 pub describe_all-requires-clause-sizes : goal.describe_all-requires-clause-sizes
 describe_all-requires-clause-sizes c =

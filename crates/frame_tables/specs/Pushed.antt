@@ -1,0 +1,10 @@
+-- How many traps are pushed before each line, as it is found.
+use Rattle.std.specs.Prelude.{◌≡◌, ℕ, suc, ◌-◌, ◌<◌, List, Some, length, slice_get, slice_index}
+use Rattle.lin_ir.specs.declared.lin.Lin.{Lin}
+use Rattle.lin_laws.specs.declared.position.Position.{Position}
+
+-- the table has the numbers of traps of the first k positions, by the lines after each
+pub record AreTabled (m : Lin) (all : List Position) (k : ℕ) (table : List ℕ) : Type 0 where
+  pub len : length table ≡ length m.code
+  pub each : (q : ℕ) (x : Position) → q < k → slice_get all q ≡ Some x → x.place < length m.code →
+      slice_index table (length m.code - suc x.place) ≡ length x.tries

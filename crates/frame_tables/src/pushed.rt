@@ -1,0 +1,48 @@
+//! How many traps are pushed before each line.
+ghost use Rattle.std.specs.Prelude.{◌≡◌, ◌<◌, length, slice_index, IfOk};
+ghost use Rattle.lin_ir.specs.Formed.{AreLocated};
+ghost use Rattle.lin_ir.specs.Walks.{OneDepth, ArePushed};
+ghost use Rattle.lin_flow.specs.Nodes.{AreWalkedTo};
+ghost use Rattle.frame_tables.specs.Pushed.{AreTabled};
+
+use lin_flow::{Labels, Walks, number_after, search_walks};
+use lin_ir::Lin;
+use lin_laws::Position;
+use std::alloc::{AllocError, Global};
+
+/// The number of traps at each of these positions, by the number of lines after it.
+fn table_of(alloc: Global, lin: &Lin, positions: &[Position]) -> Result<Vec<u32>, AllocError>
+    requires depth { OneDepth lin.now }
+    requires walked { AreWalkedTo lin.now positions.now }
+    ensures { IfOk result (λ traps. AreTabled lin.now positions.now (length positions.now) traps.items) }
+{
+    let lines = lin.code.len();
+    let mut traps = vec![in alloc; 0; lines]?;
+    for position in positions {
+        let count = number_after(position.tries.len())?;
+        let place = position.place as usize;
+        // After the last line there is none.
+        if place < lines {
+            traps[lines - 1 - place] = count;
+        }
+    }
+    Ok(traps)
+}
+
+/// How many traps are pushed before each line, by the number of lines after it: 0 before a line that
+/// no walk comes to.
+///
+/// Walks are followed with the traps that are pushed, so that a handler counts only where something
+/// is raised to it. Each location of the function has to be a colour, t0 or one of its slots, and
+/// each place has to have one number of pushed traps.
+pub fn pushed_traps(alloc: Global, lin: &Lin) -> Result<Vec<u32>, AllocError>
+    requires located { AreLocated lin.now }
+    requires depth { OneDepth lin.now }
+    requires lines { length lin.now.code < 4294967296 }
+    ensures { IfOk result (λ traps. ArePushed lin.now (λ left. slice_index traps.items left)) }
+{
+    let labels = Labels::of_function(alloc, lin)?;
+    let Walks { search, nodes: _ } = search_walks(alloc, lin, &labels)?;
+    let traps = table_of(alloc, lin, search.positions.as_slice())?;
+    Ok(traps)
+}
