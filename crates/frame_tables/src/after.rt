@@ -9,9 +9,9 @@ ghost use Rattle.frame_tables.specs.Points.{IsAsked, IsChosen, IsChoice, edges_o
 
 use bs_words::List;
 use dataflow::Place;
+use lin_flow::Search;
 use lin_flow::lines::writes_of;
 use lin_flow::nodes::node_numbered;
-use lin_flow::Search;
 use lin_ir::{Lin, LinOp, Line};
 use lin_laws::Position;
 use std::alloc::{AllocError, Global};

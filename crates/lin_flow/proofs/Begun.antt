@@ -11,7 +11,6 @@ use Rattle.mach_ir.specs.Placed.{colours}
 use Rattle.lin_ir.specs.Formed.{IsHome, is_colour, is_slot, IsLocation, is_home, is_spare, Locates, AreLocated}
 use Rattle.lin_ir.specs.Walks.{Reached, at_entry}
 use Rattle.lin_ir.specs.declared.lin.Spot.{Spot}
-use Rattle.lin_ir.specs.declared.lin.Line.{Line}
 use Rattle.lin_ir.specs.declared.lin.Lin.{Lin}
 use Rattle.lin_laws.proofs.Places.{none_in, in_cons, drop_none}
 use Rattle.lin_laws.proofs.Reaching.{all_reached}

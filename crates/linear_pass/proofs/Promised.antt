@@ -1,5 +1,5 @@
 -- What holds of the Linear function.
-use Rattle.std.proofs.Common.{◌≡◌, ℕ, ◌+◌, ◌*◌, ◌≤◌, true, ⊎_elim, Result, Ok, Err, length, sym, ◌∙◌, subst, arith}
+use Rattle.std.proofs.Common.{◌≡◌, ℕ, ◌≤◌, true, ⊎_elim, Result, Ok, Err, sym, ◌∙◌, subst, arith}
 use Rattle.std.specs.Prelude.{IfOk}
 use Rattle.mach_ir.specs.Formed.{WellFormed}
 use Rattle.mach_ir.specs.Placed.{FullyPlaced}
@@ -10,7 +10,6 @@ use Rattle.lin_laws.specs.Graph.{AreNumbered}
 use Rattle.lin_flow.proofs.Begun.{are_numbered}
 use Rattle.linear_rules.specs.Keeps.{KeepsReached}
 use Rattle.linear_rules.specs.Lowered.{is_among, slots_of, slot_number, slot_count, lowered}
-use Rattle.linear_rules.specs.Sizes.{tries_ended}
 use Rattle.linear_rules.proofs.Lowering.{lowered_keeps_reached, lowered_well_formed, lowered_slots, lowered_lines, lowered_labels}
 use Rattle.linear_rules.proofs.Slots.{slot_occurs_in_code, slot_occurs_in_params, slot_stands, numbers_apart, numbers_below, numbers_onto}
 use Rattle.tidy_rules.specs.Regular.{IsRegular}

@@ -1,20 +1,17 @@
 -- Lines by their flags.
-use Rattle.std.proofs.Common.{◌≡◌, ℕ, zero, suc, ◌+◌, ◌-◌, ◌<◌, ◌≤◌, Bool, true, false, cond, ⊎_elim, List, [], ◌∷◌, ◌++◌, map, length, drop, get_or, refl, sym, ap, ◌∙◌, subst, arith, append_assoc}
-use Rattle.std.proofs.lemmas.Bool.{true≢false, cases_lt}
-use Rattle.std.proofs.lemmas.List.{append-nil, drop_more, get_or_append_left, get_or_push, length_push, length-drop}
+use Rattle.std.proofs.Common.{◌≡◌, ℕ, zero, suc, ◌+◌, ◌-◌, ◌<◌, ◌≤◌, Bool, true, false, cond, ⊎_elim, List, [], ◌∷◌, ◌++◌, length, drop, get_or, refl, sym, ap, ◌∙◌, subst, arith, append_assoc}
+use Rattle.std.proofs.lemmas.Bool.{cases_lt}
+use Rattle.std.proofs.lemmas.List.{append-nil, drop_more, get_or_append_left, get_or_push, length_push}
 use Rattle.std.specs.List.{All}
-use Rattle.std.specs.Prelude.{slice_index_or, IsTrue, IsFalse}
-use Rattle.lin_ir.specs.Formed.{IsSelfMove}
+use Rattle.std.specs.Prelude.{slice_index_or}
 use Rattle.lin_ir.specs.Walks.{Stands, here, below}
 use Rattle.lin_ir.specs.declared.lin.Line.{Line}
 use Rattle.lin_ir.specs.declared.lin.Lin.{Lin}
-use Rattle.lin_laws.proofs.Places.{drop_is}
 use Rattle.lin_laws.specs.Graph.{HaveNumbers, AreNumbered}
-use Rattle.linear_rules.proofs.Homes.{IsIn}
 use Rattle.linear_rules.proofs.Lines.{all_of}
 use Rattle.linear_rules.proofs.Marks.{all_in}
-use Rattle.tidy_rules.specs.Leaving.{is_landing, IsUseless, without, with_code, LeavesOut}
-use Rattle.tidy_rules.specs.Redirecting.{redirect, GoesOnTo, Redirects, Tidies, as_it_is, then_leaves, then_redirects}
+use Rattle.tidy_rules.specs.Leaving.{IsUseless, without, with_code, LeavesOut}
+use Rattle.tidy_rules.specs.Redirecting.{redirect, Redirects, Tidies, as_it_is, then_leaves, then_redirects}
 use Rattle.tidy_rules.specs.Regular.{IsTidy}
 use Rattle.tidy_rules.specs.Tidied.{IsTidied, IsUseful}
 use Rattle.tidy_rules.proofs.Leaving.{in_code}

@@ -1,8 +1,8 @@
 -- What lines are for, by what walks of the function as vals read.
-use Rattle.std.proofs.Common.{◌≡◌, ◌↔◌, ℕ, zero, suc, ◌+◌, ◌-◌, ◌<◌, ◌≤◌, Bool, true, false, not, ⊎_elim, List, [], ◌∷◌, Result, Ok, Err, map, length, drop, get_or, refl, sym, ap, ◌∙◌, subst, arith}
+use Rattle.std.proofs.Common.{◌≡◌, ◌↔◌, ℕ, zero, suc, ◌+◌, ◌<◌, ◌≤◌, Bool, true, false, not, List, [], ◌∷◌, Result, Ok, Err, map, length, drop, get_or, refl, sym, ap, ◌∙◌, subst, arith}
 use Rattle.std.proofs.lemmas.Bool.{true≢false}
-use Rattle.std.specs.List.{All, Contains}
-use Rattle.std.specs.Prelude.{IsTrue, IsFalse, IfOk}
+use Rattle.std.specs.List.{All}
+use Rattle.std.specs.Prelude.{IsTrue, IfOk}
 use Rattle.bs_words.specs.declared.types.Comp.{Comp}
 use Rattle.bs_words.specs.declared.types.Comp.TheVariants as comp
 use Rattle.bs_words.specs.declared.types.Loc.{Loc}
@@ -29,11 +29,10 @@ use Rattle.linear_rules.proofs.Marks.{all_in}
 use Rattle.linear_rules.proofs.Walked.{Tail, tail_all, tail_more, tail_in}
 use Rattle.tidy_rules.specs.Leaving.{is_landing, bare, IsUseless, unreached, unread, skipped, LabelsBetween}
 use Rattle.tidy_rules.specs.Regular.{IsReadBehind}
-use Rattle.tidy_rules.specs.Tidied.{IsUseful}
 use Rattle.tidy_rules.specs.Vals.{as_val, line_as_vals, as_vals}
 use Rattle.tidy_rules.proofs.Leaving.{first_same, rest_same, GoesOn, self_goes}
 use Rattle.tidy_rules.proofs.Vals.{reached_vals, reached_of, live_vals, live_of}
-use Rattle.linear_tidy.specs.Flags.{IsIdle, not_read, not_needed, IsBusy, TellsIdle, TellsUse}
+use Rattle.linear_tidy.specs.Flags.{IsIdle, not_read, not_needed, TellsIdle, TellsUse}
 use Rattle.linear_tidy.specs.Forms.{copies, MovesItself}
 use Rattle.linear_tidy.proofs.Between.{drop_line}
 use Rattle.linear_tidy.proofs.SelfMoves.{self_copies, self_place}

@@ -1,6 +1,5 @@
 -- Which lines have no use, told by tests.
-use Rattle.std.specs.Prelude.{◌≡◌, ◌↔◌, ℕ, suc, ◌-◌, ◌<◌, Bool, true, false, List, [], ◌∷◌, drop, length, slice_index_or, IsTrue, IsFalse}
-use Rattle.bs_words.specs.declared.types.Loc.{Loc}
+use Rattle.std.specs.Prelude.{◌≡◌, ℕ, suc, ◌-◌, ◌<◌, Bool, true, false, List, [], ◌∷◌, drop, length, slice_index_or, IsTrue, IsFalse}
 use Rattle.lin_ir.specs.Formed.{IsSelfMove}
 use Rattle.lin_ir.specs.Meaning.{after_label}
 use Rattle.lin_ir.specs.declared.lin.Flow.TheVariants as flow

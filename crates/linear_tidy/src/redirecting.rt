@@ -82,12 +82,7 @@ impl Targets {
     }
 
     /// Enters where jumps to the label of a line go, if it has one.
-    fn put_line(
-        &mut self,
-        lin: &Lin,
-        labels: &Labels,
-        line: &Line,
-    ) -> Result<(), AllocError>
+    fn put_line(&mut self, lin: &Lin, labels: &Labels, line: &Line) -> Result<(), AllocError>
         requires labels { AreLabelsOf lin.now labels.now }
         requires targets { AreTargets lin.now self.old }
         ensures { IfOk result (λ _. AreTargets lin.now self.new) }

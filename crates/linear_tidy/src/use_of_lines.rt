@@ -32,12 +32,7 @@ fn labels_between(code: &[Line], from: usize, to: usize) -> bool
 
 /// Whether the line at a place that walks come to has no use: it moves a location to itself that is
 /// not read, or jumps to where control comes without it.
-fn is_idle(
-    lin: &Lin,
-    walks: &LiveWalks,
-    labels: &Labels,
-    place: u32,
-) -> Result<bool, AllocError>
+fn is_idle(lin: &Lin, walks: &LiveWalks, labels: &Labels, place: u32) -> Result<bool, AllocError>
     requires place { place < length lin.now.code }
     requires small { length lin.now.code < 2 ^ 32 }
     requires labels { AreLabelsOf lin.now labels.now }
@@ -60,12 +55,7 @@ fn is_idle(
 
 /// Whether the line at the place has no use. What walks come to, and what they read, is that of the
 /// function as vals.
-fn is_useless(
-    lin: &Lin,
-    walks: &LiveWalks,
-    labels: &Labels,
-    place: u32,
-) -> Result<bool, AllocError>
+fn is_useless(lin: &Lin, walks: &LiveWalks, labels: &Labels, place: u32) -> Result<bool, AllocError>
     requires place { place < length lin.now.code }
     requires small { length lin.now.code < 2 ^ 32 }
     requires numbered { AreNumbered lin.now }

@@ -1,4 +1,4 @@
-use Rattle.std.proofs.Common.{◌≡◌, length, sym, ◌∙◌, ap}
+use Rattle.std.proofs.Common.{◌∙◌, ap}
 use Rattle.tidy_rules.specs.Leaving.{with_code}
 use Rattle.linear_tidy.specs.Flags.{kept}
 use Rattle.linear_tidy.proofs.Flagged.{kept_without}

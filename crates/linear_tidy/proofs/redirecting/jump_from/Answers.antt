@@ -1,4 +1,3 @@
-use Rattle.std.proofs.Common.{◌∙◌, sym, ap}
 use Rattle.linear_tidy.proofs.Between.{leads_now, leads_before}
 use Rattle.linear_tidy.proofs.redirecting.jump_from.Goals as goal
 

@@ -1,6 +1,5 @@
-use Rattle.std.proofs.Common.{◌≡◌, false, sym, ◌∙◌, ap, subst, refl, arith, length}
+use Rattle.std.proofs.Common.{sym, ◌∙◌, ap, refl, arith}
 use Rattle.std.proofs.lemmas.Bool.{true≢false}
-use Rattle.std.specs.Prelude.{IfOk}
 use Rattle.lin_ir.specs.declared.lin.Line.{Line}
 use Rattle.tidy_rules.specs.Leaving.{is_landing}
 use Rattle.tidy_rules.specs.Vals.{as_vals}

@@ -1,6 +1,6 @@
 use Rattle.std.proofs.Common.{sym, subst}
 use Rattle.lin_laws.specs.Graph.{AreNumbered}
-use Rattle.linear_tidy.proofs.Flagged.{flags_none, flags_more, flags_all}
+use Rattle.linear_tidy.proofs.Flagged.{flags_more}
 use Rattle.linear_tidy.proofs.Useful.{vals_numbered}
 use Rattle.linear_tidy.proofs.use_of_lines.useless_lines.Goals as goal
 
