@@ -1,9 +1,8 @@
 //! The Linear function of a Mach function.
-ghost use Rattle.std.specs.Prelude.{◌<◌, IfOk};
+ghost use Rattle.std.specs.Prelude.{IfOk};
 ghost use Rattle.mach_ir.specs.Formed.{WellFormed};
 ghost use Rattle.mach_ir.specs.Placed.{FullyPlaced};
 ghost use Rattle.mach_ir.specs.Seats.{Seated};
-ghost use Rattle.linear_rules.specs.Lowered.{slot_count};
 ghost use Rattle.linear_pass.specs.Linear.{IsLinearOf};
 
 use lin_ir::Lin;
@@ -21,7 +20,6 @@ pub fn linear(alloc: Global, mach: &Mach) -> Result<Lin, AllocError>
     requires well_formed { WellFormed mach.now }
     requires placed { FullyPlaced mach.now }
     requires seated { Seated mach.now }
-    requires slots { slot_count mach.now < 4294967296 }
     ensures { IfOk result (IsLinearOf mach.now) }
 {
     let lowered = lower(alloc, mach)?;
