@@ -37,7 +37,7 @@ tail_then : {a b zs : List Line} → Tail a b → Tail b zs → Tail a zs
 tail_then s tail_all = s
 tail_then s (tail_more t) = tail_more (tail_then s t)
 
-tail_length : {a b : List Line} → Tail a b → length a ≤ length b
+pub tail_length : {a b : List Line} → Tail a b → length a ≤ length b
 tail_length tail_all = omega arith
 tail_length (tail_more t) = let le = tail_length t in omega (arith, le)
 
@@ -81,7 +81,7 @@ pairs_past [] ls h = h
 pairs_past (k ∷ ks) ls h = pairs_past ks ls (pairs_later Differ k (ks ++ ls) h)
 
 -- where labels stand once, what is after one is what is after it from any place before it on
-later_after : (l : ℕ) {ys zs : List Line} → Tail ys zs → AllPairs Differ (labels_in zs) → IsIn l (labels_in ys) → after_label l zs ≡ after_label l ys
+pub later_after : (l : ℕ) {ys zs : List Line} → Tail ys zs → AllPairs Differ (labels_in zs) → IsIn l (labels_in ys) → after_label l zs ≡ after_label l ys
 later_after l tail_all once z = refl
 later_after l {ys} (tail_more {j = j} {zs = zs} t) once z = by (has_label l j.op) refl (later_after l t (pairs_past (label_of j.op) (labels_in zs) once) z)
   where
