@@ -1,6 +1,5 @@
 -- The addresses of an allocation's blocks come to their locations.
-use Rattle.std.proofs.Common.{◌≡◌, ◌≢◌, ℕ, zero, suc, ◌+◌, ◌-◌, ◌*◌, ◌%◌, ◌^◌, ◌<◌, ◌≤◌, ◌⊎◌, inl, inr, Bool, true, false, cond, List, [], ◌∷◌, ◌++◌, length, reverse, Option, Some, None, slice_index, refl, ap, arith, ◌∙◌, sym, subst, ⊎_elim}
-use Rattle.std.specs.List.{All}
+use Rattle.std.proofs.Common.{◌≡◌, ℕ, suc, ◌+◌, ◌≤◌, inl, inr, cond, List, [], ◌∷◌, ◌++◌, length, Some, None, slice_index, refl, ap, arith, ◌∙◌, sym, subst, ⊎_elim}
 use Rattle.std.proofs.lemmas.List.Elements.{All-head, All-tail}
 use Rattle.bs_words.specs.declared.types.Loc.{Loc}
 use Rattle.bs_words.specs.declared.values.Value.{Value}
@@ -18,8 +17,6 @@ use Rattle.mach_ir.specs.Blocks.{bytes_of}
 use Rattle.mach_ir.specs.declared.blocks.NewBlock.{NewBlock}
 use Rattle.rv_isa.specs.declared.register.Register.TheVariants.{S10, T1}
 use Rattle.rv_machine.specs.Hart.{Placed}
-use Rattle.moving_laws.specs.Stands.{Among}
-use Rattle.moving_laws.specs.Young.{Rises}
 use Rattle.linear_machine.specs.Relation.{Below, Laid, StandsFor, Within, all_of}
 use Rattle.linear_machine.specs.Straight.{Changes, Comes}
 use Rattle.linear_machine.specs.View.{Fixed, View}
@@ -27,7 +24,6 @@ use Rattle.linear_machine.proofs.Moving.{rises_top}
 use Rattle.linear_machine.proofs.Operating.{worked}
 use Rattle.linear_machine.proofs.Parts.{comes_here, comes_then}
 use Rattle.linear_machine.proofs.Sequences.{widened}
-use Rattle.linear_machine.proofs.Standing.{IsScratch}
 use Rattle.line_stands.specs.Parts.{PartStands}
 use Rattle.line_stands.proofs.Parts.{nothing_more, splits}
 use Rattle.line_values.proofs.Operands.{targeted}
@@ -65,15 +61,18 @@ module _ (s : Fixed) (n : Named) (laid : Laid) (m : Lin) (slots : m.slots ≡ la
   addresses_come (b ∷ bs) [] xs held e is small st to w within at part = absurd (omega (arith, e))
   addresses_come (b ∷ bs) (r ∷ rs) [] held e is small st to w within at part = absurd st
   addresses_come (b ∷ bs) (r ∷ rs) (x ∷ xs) held e is small st to w within at part =
-      let ends = splits s n w.place to (addresses (length a.tries) bs rs ++ sum_to T1 (target r.loc) S10 (bytes_of bs + 8)) (kept (length a.tries) r.loc) part in
+      let ends = splits s n w.place to (addresses (length a.tries) bs rs ++ sum_to T1 (target r.loc) S10 (bytes_of bs + 8)) (kept
+      (length a.tries) r.loc) part in
       let parts = splits s n w.place ends.middle (addresses (length a.tries) bs rs) (sum_to T1 (target r.loc) S10 (bytes_of bs + 8)) ends.first in
-      let first = addresses_come bs rs xs held (omega (arith, e)) (All-tail (λ (p : Spot). IsLocation m p.loc) r rs is) (omega (arith, small)) st.1 parts.middle w within at parts.first in
+      let first = addresses_come bs rs xs held (omega (arith, e)) (All-tail (λ (p : Spot). IsLocation m p.loc) r rs is) (omega
+      (arith, small)) st.1 parts.middle w within at parts.first in
       let u = first.comes.view in
       let c1 = first.comes.place in
       let l1 = first.lands in
       let here : u.place ≡ parts.middle = omega (arith, c1, l1) in
       let second = one r x (put_values rs xs held) (bytes_of bs + 8) (All-head (λ (p : Spot). IsLocation m p.loc) r rs is) u first.comes.holds
-      (let q = rises_same (slice_index w.registers 26 + 0) (slice_index u.registers 26 + 0) new within.own.rises first.comes.holds.own.rises in omega (arith, q, at)) (omega (arith, small))
+      (let q = rises_same (slice_index w.registers 26 + 0) (slice_index u.registers 26 + 0) new within.own.rises first.comes.holds.own.rises in omega
+      (arith, q, at)) (omega (arith, small))
       ends.middle to (st.0.by u.blocks first.comes.holds.heap.stand.count)
       (subst (λ p. PartStands s n p ends.middle (sum_to T1 (target r.loc) S10 (bytes_of bs + 8))) (sym here) parts.second) ends.second in
       let l2 = second.lands in
@@ -86,13 +85,15 @@ module _ (s : Fixed) (n : Named) (laid : Laid) (m : Lin) (slots : m.slots ≡ la
       }
     where
       one :
-          (r : Spot) (x : Value) (held : Locations) (bytes : ℕ) → IsLocation m r.loc → (u : View) → Within s laid u new 0 held a c → base ≡ slice_index u.registers 26 → bytes ≤ 2056 → (middle to : ℕ) →
+          (r : Spot) (x : Value) (held : Locations) (bytes : ℕ) → IsLocation m r.loc → (u : View) → Within s laid u new 0 held a c →
+          base ≡ slice_index u.registers 26 → bytes ≤ 2056 → (middle to : ℕ) →
           StandsFor s (all_of u new) (base + bytes) x → PartStands s n u.place middle (sum_to T1 (target r.loc) S10 bytes) →
           PartStands s n middle to (kept (length a.tries) r.loc) → ComesTo s u to (λ z. Within s laid z new 0 (put r x held) a c)
       one r x held bytes is u within at small middle to stands sum part =
           let g = targeted s n laid m slots u new held a c none within r.loc is in
           let top = rises_top (slice_index u.registers 26 + 0) new within.own.rises in
-          let reach = sum_reaches s n T1 (target r.loc) S10 5 g.t 25 refl g.is refl (omega arith) g.fits (λ q. omega (arith, q)) (λ q. omega (arith, q)) u middle bytes sum
+          let reach = sum_reaches s n T1 (target r.loc) S10 5 g.t 25 refl g.is refl (omega arith) g.fits (λ q. omega (arith, q)) (λ q. omega
+          (arith, q)) u middle bytes sum
           within.own.are (omega (arith, top, small)) (inl g.no_sp) in
           let there : Changes s u reach.count (suc g.t ∷ 6 ∷ []) u.memory (λ w. StandsFor s (all_of u new) (slice_index w.registers (suc g.t)) x) =
           widened s u reach.count (suc g.t ∷ 6 ∷ []) (suc g.t ∷ 6 ∷ []) u.memory _ _ (λ q i. i)
@@ -102,10 +103,12 @@ module _ (s : Fixed) (n : Named) (laid : Laid) (m : Lin) (slots : m.slots ≡ la
           let e1 = part.past in
           let here : middle ≡ u.place + reach.count = omega (arith, l1) in
           let last : PartStands s n (u.place + reach.count) (u.place + reach.count + k) (kept (length a.tries) r.loc) =
-          subst (λ p. PartStands s n p (p + k) (kept (length a.tries) r.loc)) here (subst (λ z. PartStands s n middle z (kept (length a.tries) r.loc)) e1 part) in
+          subst (λ p. PartStands s n p (p + k) (kept (length a.tries) r.loc)) here (subst (λ z. PartStands s n middle z (kept
+          (length a.tries) r.loc)) e1 part) in
           record {
             count = reach.count + k;
             lands = omega (arith, l1, e1);
             comes = worked s laid new a c none held g.rest (put r x held) u.place reach.count (suc g.t) (suc g.t ∷ 6 ∷ []) x g.makes
-                (λ q i. ⊎_elim (λ e. inl e) (λ j. ⊎_elim (λ e. inr (inl e)) (λ f. absurd f) j) i) k (g.keeps r refl x (u.place + reach.count) k last) u refl within there;
+                (λ q i. ⊎_elim (λ e. inl e) (λ j. ⊎_elim (λ e. inr (inl e)) (λ f. absurd f) j) i) k (g.keeps r refl x
+                (u.place + reach.count) k last) u refl within there;
           }

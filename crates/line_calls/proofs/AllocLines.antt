@@ -1,29 +1,26 @@
 -- The lines that allocate blocks.
-use Rattle.std.proofs.Common.{◌≡◌, ◌≢◌, ℕ, zero, suc, ◌+◌, ◌-◌, ◌*◌, ◌/◌, ◌%◌, ◌^◌, ◌<◌, ◌≤◌, ◌⊎◌, inl, inr, Bool, true, false, cond, ◌&&◌, ◌==◌, nat_le, List, [], ◌∷◌, ◌++◌, length, map, Option, Some, None, slice_index, refl, ap, arith, ◌∙◌, sym, subst, ⊎_elim}
-use Rattle.std.specs.Prelude.{sum}
+use Rattle.std.proofs.Common.{◌≡◌, ℕ, ◌+◌, ◌/◌, ◌%◌, ◌≤◌, Bool, true, false, cond, ◌==◌, nat_le, List, [], ◌∷◌, ◌++◌, length, map, Option, Some, None, slice_index, refl, ap, arith, ◌∙◌, sym, subst}
 use Rattle.std.specs.List.{All, fold}
 use Rattle.std.proofs.lemmas.Bool.{and_parts, eqb-true, leb-true}
 use Rattle.std.proofs.lemmas.List.{map-append}
 use Rattle.std.proofs.lemmas.List.Elements.{All-head, All-tail}
-use Rattle.bs_words.specs.Fits.{data_start, fits, type_of_comp}
+use Rattle.bs_words.specs.Fits.{data_start, fits}
 use Rattle.bs_words.specs.Memory.{block_bytes, heap_need}
 use Rattle.bs_words.specs.declared.types.Loc.{Loc}
 use Rattle.bs_words.specs.declared.types.Loc.TheVariants as loc
 use Rattle.bs_words.specs.declared.values.Value.{Value}
-use Rattle.cmm_types.specs.Faults.{is_header}
 use Rattle.emit_rules.specs.Memory.{addresses, alloc_part, reserved}
-use Rattle.image_form.specs.Tables.{Desc}
-use Rattle.layout_rules.specs.Laid.{address_of_place, desc_at}
+use Rattle.layout_rules.specs.Laid.{desc_at}
 use Rattle.layout_rules.specs.Forms.{total_words}
 use Rattle.layout_rules.specs.Words.{Named}
 use Rattle.lin_ir.specs.Formed.{Locates, spare}
-use Rattle.lin_ir.specs.Meaning.{Locations, NamedAt, are_vals, is_named, on_act, on_values, poisoned, put, put_all, put_if, same_loc, step, unless_misnamed, wrote}
+use Rattle.lin_ir.specs.Meaning.{Locations, NamedAt, are_vals, is_named, on_act, poisoned, put, put_all, same_loc, step, unless_misnamed, wrote}
 use Rattle.lin_ir.specs.declared.descr.Descr.{Descr}
 use Rattle.lin_ir.specs.declared.lin.Lin.{Lin}
 use Rattle.lin_ir.specs.declared.lin.Line.{Line}
 use Rattle.lin_ir.specs.declared.lin.LinOp.TheVariants as lin
 use Rattle.lin_ir.specs.declared.lin.Spot.{Spot}
-use Rattle.mach_ir.specs.Acts.{Act, Around, Goes, On, fresh_block, is_complete, new_blocks, only_if, with_block}
+use Rattle.mach_ir.specs.Acts.{Around, fresh_block, is_complete, new_blocks, only_if, with_block}
 use Rattle.mach_ir.specs.Blocks.{bytes_of}
 use Rattle.mach_ir.specs.Forms.{IsBlock}
 use Rattle.mach_ir.specs.Runs.{Place}
@@ -39,7 +36,7 @@ use Rattle.linear_machine.specs.Relation.{Below, IsDescribed, Laid, Within}
 use Rattle.linear_machine.specs.View.{Fixed, View}
 use Rattle.linear_machine.proofs.Arriving.{at_least, leads_in, then_arrives}
 use Rattle.linear_machine.proofs.Following.{same_loc-true}
-use Rattle.linear_machine.proofs.Operating.{dropped, target_register}
+use Rattle.linear_machine.proofs.Operating.{dropped}
 use Rattle.linear_machine.proofs.Standing.{within_less}
 use Rattle.line_stands.specs.Parts.{PartStands}
 use Rattle.line_calls.specs.Points.{AreMarked}
@@ -58,8 +55,7 @@ are_new (b ∷ bs) all =
     let h = and_parts (b.header / 1024 == b.cells) _ (All-head IsBlock b bs all) in
     let i = and_parts (nat_le 1 b.cells) _ h.1 in
     let j = and_parts (nat_le b.cells 256) _ i.1 in
-    let e = eqb-true (b.header / 1024) b.cells h.0 in
-    (
+    let e = eqb-true (b.header / 1024) b.cells h.0 in (
       record { some = leb-true 1 b.cells i.0; most = leb-true b.cells 256 j.0; head = e },
       are_new bs (All-tail IsBlock b bs all),
     )
@@ -165,7 +161,8 @@ module _ (s : Fixed) (n : Named) (laid : Laid) (live : List Line → Type 0) (en
       cut.middle cut.there (needs_of laid c (record { rest = next; file = new; around = around_made blocks a })) need k1 e1 cut.first)
       (λ w h. lands new is_new cut.middle w h.0 h.1 cut.second k2 e2))
     where
-      lands : (new : Locations) → new ≡ put_values rs (values_made blocks a) (poisoned (named (length next)) file) → (middle : ℕ) (w : View) → w.place ≡ middle →
+      lands : (new : Locations) → new ≡ put_values rs (values_made blocks a) (poisoned (named (length next)) file) → (middle : ℕ) (w : View) →
+          w.place ≡ middle →
           IsReserved s laid (bytes_of blocks) (poisoned (named (length next)) (dropped 5 held)) a c w →
           PartStands s n middle (v.place + k) (addresses (length a.tries) blocks rs) → (k2 : ℕ) → v.place + k ≡ middle + k2 →
           ArrivesIn 0 k2 s (needs_of laid c (record { rest = next; file = new; around = around_made blocks a })) w
@@ -176,7 +173,8 @@ module _ (s : Fixed) (n : Named) (laid : Laid) (live : List Line → Type 0) (en
           let words : PartStands s n w.place (v.place + k) (addresses (length (around_made blocks a).tries) blocks rs) =
           subst (λ ts. PartStands s n w.place (v.place + k) (addresses (length ts) blocks rs)) (sym (tries_made blocks a))
           (subst (λ p. PartStands s n p (v.place + k) (addresses (length a.tries) blocks rs)) (sym at) st) in
-          let come = addresses_come s n laid m slots_are made.new (around_made blocks a) c (raised_made blocks a ∙ none) (slice_index w.registers 26) blocks rs
+          let come = addresses_come s n laid m slots_are made.new (around_made blocks a) c (raised_made blocks a ∙ none)
+          (slice_index w.registers 26) blocks rs
           (values_made blocks a) (poisoned (named (length next)) (dropped 5 held)) as_many located most made.stand (v.place + k) w made.within refl words in
           let u = come.comes.view in
           let l = come.lands in
@@ -207,7 +205,8 @@ module _ (s : Fixed) (n : Named) (laid : Laid) (live : List Line → Type 0) (en
       FollowsStep k s laid live entry c v (on_act place m line next (poisoned (named (length next)) file) a (only_if t (new_blocks blocks [] a)))
   by_complete fits false h = tt
   by_complete fits true h =
-      subst (λ act. FollowsStep k s laid live entry c v (on_act place m line next (poisoned (named (length next)) file) a act)) (sym (blocks_are_made blocks [] a))
+      subst (λ act. FollowsStep k s laid live entry c v (on_act place m line next (poisoned (named (length next)) file) a act)) (sym
+      (blocks_are_made blocks [] a))
       (put_follows fits h (put_all place.setting.end rs (values_made blocks a) (poisoned (named (length next)) file)) refl)
 
   by_fit : (t : Bool) → are_vals place.setting.end (named (length next)) file ≡ t →

@@ -1,9 +1,9 @@
 -- The blocks of one allocation, and their addresses.
-use Rattle.std.proofs.Common.{◌≡◌, ◌≢◌, ℕ, zero, suc, ◌+◌, ◌-◌, ◌*◌, ◌%◌, ◌^◌, ◌<◌, ◌≤◌, ◌⊎◌, inl, inr, Bool, true, false, List, [], ◌∷◌, ◌++◌, append_assoc, length, reverse, Option, Some, None, slice_index, refl, ap, arith, ◌∙◌, sym, subst, ⊎_elim, append-nil, length-append}
+use Rattle.std.proofs.Common.{◌≡◌, ℕ, suc, ◌+◌, ◌*◌, ◌^◌, ◌<◌, ◌≤◌, List, [], ◌∷◌, ◌++◌, append_assoc, length, reverse, slice_index, refl, ap, arith, ◌∙◌, sym, subst, append-nil, length-append}
 use Rattle.bs_words.specs.declared.values.Value.{Value}
 use Rattle.bs_words.specs.declared.values.Value.TheVariants.{Block}
 use Rattle.lin_ir.specs.Meaning.{Locations}
-use Rattle.mach_ir.specs.Acts.{Act, Around, Goes, On, fresh_block, new_blocks, with_block}
+use Rattle.mach_ir.specs.Acts.{Around, Goes, On, fresh_block, new_blocks, with_block}
 use Rattle.mach_ir.specs.Blocks.{bytes_of}
 use Rattle.mach_ir.specs.declared.blocks.NewBlock.{NewBlock}
 use Rattle.rv_machine.specs.Hart.{Placed}
@@ -11,7 +11,7 @@ use Rattle.rv_machine.specs.Observation.{cells_of, young_start}
 use Rattle.moving_laws.specs.Values.{start_of}
 use Rattle.moving_laws.specs.Young.{Rises}
 use Rattle.moving_laws.proofs.Rewriting.{at_start}
-use Rattle.linear_machine.specs.Relation.{Below, Laid, StandsFor, Within, all_of}
+use Rattle.linear_machine.specs.Relation.{Below, Laid, StandsFor, Within}
 use Rattle.linear_machine.specs.View.{Fixed, View}
 use Rattle.linear_machine.proofs.Fresh.{placed_more, stands_more, start_last}
 use Rattle.linear_machine.proofs.Making.{made, within_made}
@@ -27,7 +27,8 @@ abbrev pub values_made : List NewBlock → Around → List Value
 values_made [] a = []
 values_made (b ∷ bs) a = Block (length a.memory.blocks) 0 ∷ values_made bs (with_block b a)
 
-pub blocks_are_made : (bs : List NewBlock) (before : List Value) (a : Around) → new_blocks bs before a ≡ Goes (before ++ values_made bs a) On (around_made bs a)
+pub blocks_are_made : (bs : List NewBlock) (before : List Value) (a : Around) → new_blocks bs before a ≡ Goes (before ++ values_made bs a) On
+    (around_made bs a)
 blocks_are_made [] before a = ap (λ xs. Goes xs On a) (sym (append-nil before))
 blocks_are_made (b ∷ bs) before a =
     let x : Value = Block (length a.memory.blocks) 0 in
@@ -85,7 +86,8 @@ anywhere_more s young p count w x st = record {
 }
 
 -- and the new one does
-pub anywhere_new : (s : Fixed) (young : List Placed) (p : Placed) (count : ℕ) → p.start < 2 ^ 64 → StandsAnywhere s (p ∷ young) (suc count) p.start (Block count 0)
+pub anywhere_new : (s : Fixed) (young : List Placed) (p : Placed) (count : ℕ) → p.start < 2 ^ 64 →
+    StandsAnywhere s (p ∷ young) (suc count) p.start (Block count 0)
 anywhere_new s young p count small = record {
   by = λ table e.
       let n = length_one_more s table young p in
@@ -127,7 +129,8 @@ all_made s laid v held c young (b ∷ bs) a new room within =
     let count = block_count b a in
     let top = rises_top (slice_index v.registers 26 + bytes_of (b ∷ bs)) young within.own.rises in
     let address : p.start ≡ slice_index v.registers 26 + (bytes_of bs + 8) = omega arith in
-    let first : StandsAnywhere s (p ∷ young) (length (with_block b a).memory.blocks) (slice_index v.registers 26 + (bytes_of bs + 8)) (Block (length a.memory.blocks) 0) =
+    let first : StandsAnywhere s (p ∷ young) (length (with_block b a).memory.blocks) (slice_index v.registers 26 + (bytes_of bs + 8)) (Block
+    (length a.memory.blocks) 0) =
     subst (λ z. StandsAnywhere s (p ∷ young) z (slice_index v.registers 26 + (bytes_of bs + 8)) (Block (length a.memory.blocks) 0)) (sym count)
     (subst (λ z. StandsAnywhere s (p ∷ young) (suc (length a.memory.blocks)) z (Block (length a.memory.blocks) 0)) address
     (anywhere_new s young p (length a.memory.blocks) (omega (arith, top)))) in

@@ -1,9 +1,8 @@
 -- The lines that call a function.
-use Rattle.std.proofs.Common.{◌≡◌, ◌≢◌, ℕ, zero, suc, ◌+◌, ◌-◌, ◌*◌, ◌%◌, ◌^◌, ◌<◌, ◌≤◌, ◌⊎◌, inl, inr, Bool, true, false, cond, ◌&&◌, List, [], ◌∷◌, ◌++◌, length, map, Option, Some, None, slice_get, slice_index, slice_set, refl, ap, arith, ◌∙◌, sym, subst, ⊎_elim}
+use Rattle.std.proofs.Common.{◌≡◌, ℕ, suc, ◌+◌, ◌*◌, ◌<◌, ◌≤◌, inl, Bool, true, false, ◌&&◌, List, [], ◌∷◌, length, Option, Some, None, slice_get, slice_index, slice_set, refl, ap, arith, ◌∙◌, sym, subst}
 use Rattle.std.proofs.lemmas.Bool.{and_parts}
 use Rattle.bs_words.specs.Fits.{data_start}
 use Rattle.bs_words.specs.declared.types.Comp.{Comp}
-use Rattle.bs_words.specs.declared.types.Loc.{Loc}
 use Rattle.bs_words.specs.declared.types.Loc.TheVariants as loc
 use Rattle.bs_words.specs.declared.types.Ret.{Ret}
 use Rattle.bs_words.specs.declared.types.Ret.TheVariants as ret
@@ -23,7 +22,7 @@ use Rattle.lin_ir.specs.declared.lin.Lin.{Lin}
 use Rattle.lin_ir.specs.declared.lin.Line.{Line}
 use Rattle.lin_ir.specs.declared.lin.LinOp.TheVariants as lin
 use Rattle.lin_ir.specs.declared.lin.Spot.{Spot}
-use Rattle.mach_ir.specs.Acts.{Around, Asks, Stuck, after_call, asks, asks_callee, asks_value, is_complete, only_if}
+use Rattle.mach_ir.specs.Acts.{Around, Asks, Stuck, after_call, asks, asks_value, is_complete, only_if}
 use Rattle.mach_ir.specs.Forms.{results_of}
 use Rattle.mach_ir.specs.Runs.{Place}
 use Rattle.mach_ir.specs.Seats.{AfterFirst, AreSeated, InOrder, after_first, argument_places, in_order, result_places}
@@ -37,10 +36,8 @@ use Rattle.rv_isa.specs.declared.register.Register.TheVariants.{T1}
 use Rattle.rv_machine.specs.Frames.{descriptor_at, names_register}
 use Rattle.rv_machine.specs.Hart.{Placed}
 use Rattle.rv_machine.specs.Memory.{code_start}
-use Rattle.moving_laws.specs.Values.{function_at}
-use Rattle.linear_machine.specs.Arrival.{nothing}
-use Rattle.linear_machine.specs.Follows.{Agrees, IsAfter, IsDone, IsEntered}
-use Rattle.linear_machine.specs.Relation.{Below, IsDescribed, Laid, StandsFor, Within, all_of}
+use Rattle.linear_machine.specs.Follows.{Agrees, IsAfter, IsDone}
+use Rattle.linear_machine.specs.Relation.{Below, IsDescribed, Laid, StandsFor, Within}
 use Rattle.linear_machine.specs.View.{Fixed, IsCode, Leads, View}
 use Rattle.linear_machine.proofs.Arriving.{leads_in}
 use Rattle.linear_machine.proofs.Pure.{Reads, reads_held}
@@ -54,7 +51,7 @@ use Rattle.line_calls.specs.Points.{EntriesStand}
 use Rattle.line_calls.proofs.CallWords.{call_leads, call_words_are, named_leads}
 use Rattle.line_calls.proofs.Calling.{below, callee_begins, resumes_with, resumes_without, vals_held}
 use Rattle.line_calls.proofs.Leaving.{no_offset}
-use Rattle.line_calls.proofs.Seats.{IsOperand, arguments_read, first_seated, was_read}
+use Rattle.line_calls.proofs.Seats.{arguments_read, first_seated, was_read}
 use Rattle.line_calls.proofs.Tailing.{entry_near}
 
 module _ (s : Fixed) (n : Named) (laid : Laid) (live : List Line → Type 0) (entry : ℕ → ℕ) (c : Below) (place : Place) (named : NamedAt) (m : Lin)
@@ -92,7 +89,12 @@ module _ (s : Fixed) (n : Named) (laid : Laid) (live : List Line → Type 0) (en
   resumes_by whom args fit whole w there_w (ret.Comp q) [] t seats doing u done = absurd (cc)
   resumes_by whom args fit whole w there_w (ret.Comp q) (p ∷ ps) t seats doing u done =
       let one = first_seated p ps seats in
-      subst (λ z. IsAfter s laid live c (on_act place m (record { op = lin.Op (op.Calling (calling.Call whom (ret.Comp q))); args = args; results = p ∷ z }) next
+      subst (λ z. IsAfter s laid live c (on_act place m (record {
+        op = lin.Op (op.Calling (calling.Call whom
+            (ret.Comp q)));
+        args = args;
+        results = p ∷ z;
+      }) next
       (poisoned (named (length next)) file) a (after_call place.setting (ret.Comp q) a doing)) u) (sym one.1)
       (resumes_with s laid live entry c place named m next v young held file a before agrees k none behind saves (desc_at (v.place + k) e) is there inside
       handlers dead fit whole w there_w whom q args p one.0 doing u done)
@@ -105,18 +107,21 @@ module _ (s : Fixed) (n : Named) (laid : Laid) (live : List Line → Type 0) (en
       Leads s n2 w (record w { place = entry f; registers = slice_set w.registers 1 (address_of_place (v.place + k)) }) →
       are_vals place.setting.end (named (length next)) file ≡ true → is_complete a ≡ true →
       ((j : ℕ) (x : Value) → slice_get arguments j ≡ Some x → (j < 16) × (held (loc.Machine (10 + j)) ≡ Some x)) →
-      CalledSo k s laid live entry c v (laid.frame + 16 * length a.tries) f arguments a.memory (λ doing. on_act place m (does whom args) next (poisoned (named (length next)) file) a
+      CalledSo k s laid live entry c v (laid.frame + 16 * length a.tries) f arguments a.memory (λ doing. on_act place m (does whom args) next (poisoned
+      (named (length next)) file) a
       (after_call place.setting result a doing))
   calls_at_view whom args g arguments w n1 n2 sum some first there_w second fits whole passed =
       let held_fit : are_vals (data_start + length s.image.bytes) (named (length next)) held ≡ true =
-      subst (λ z. are_vals z (named (length next)) held ≡ true) end_is (vals_held place.setting.end before held file (named (length next)) agrees spared ∙ fits) in
+      subst (λ z. are_vals z (named (length next)) held ≡ true) end_is (vals_held place.setting.end before held file (named
+      (length next)) agrees spared ∙ fits) in
       let f = there_w.frame in
       record {
         call = record {
           below = below s laid live entry c place named m next v young held file a before agrees k none behind saves (desc_at (v.place + k) e) is there inside
               handlers dead held_fit whole w there_w;
           enters = leads_in 1 k s (n1 + n2) (omega (arith, some)) (omega (arith, sum)) v _ _ (then_leads s n1 n2 v w _ first second)
-              (callee_begins s laid live entry c place named m next v young held file a before agrees k none behind saves (desc_at (v.place + k) e) is there inside
+              (callee_begins s laid live entry c place named m next v young held file a before agrees k none behind saves (desc_at
+              (v.place + k) e) is there inside
               handlers dead held_fit whole w there_w g arguments registers (omega (arith, some, sum)) passed);
           resumes = λ doing u done. resumes_by whom args held_fit whole w there_w result results typed seated doing u done;
         };
@@ -128,7 +133,8 @@ module _ (s : Fixed) (n : Named) (laid : Laid) (live : List Line → Type 0) (en
   asks_follows :
       (whom : Callee) (args : List Spot) (o : Option Value) (arguments : List Value) →
       ((f : ℕ) → o ≡ Some (Function f) → is_complete a ≡ true →
-      CalledSo k s laid live entry c v (laid.frame + 16 * length a.tries) f arguments a.memory (λ doing. on_act place m (does whom args) next (poisoned (named (length next)) file) a
+      CalledSo k s laid live entry c v (laid.frame + 16 * length a.tries) f arguments a.memory (λ doing. on_act place m (does whom args) next (poisoned
+      (named (length next)) file) a
       (after_call place.setting result a doing))) →
       FollowsSo k s laid live entry c v (laid.frame + 16 * length a.tries) (on_act place m (does whom args) next (poisoned (named (length next)) file) a
       (asks_value place.setting o arguments a (λ f xs. Asks f xs (after_call place.setting result a))))
@@ -144,12 +150,14 @@ module _ (s : Fixed) (n : Named) (laid : Laid) (live : List Line → Type 0) (en
       by_test b t same again whole = tested (b && t) whole
         where
           tested : (q : Bool) → (q ≡ true → is_complete a ≡ true) →
-              FollowsSo k s laid live entry c v (laid.frame + 16 * length a.tries) (on_act place m (does whom args) next (poisoned (named (length next)) file) a
+              FollowsSo k s laid live entry c v (laid.frame + 16 * length a.tries) (on_act place m (does whom args) next (poisoned (named
+              (length next)) file) a
               (only_if q (Asks (Inside f) arguments (after_call place.setting result a))))
           tested false h = record { follows = tt; calls = tt }
           tested true h = let g = calls f refl (h refl) in record { follows = g.call; calls = g.top }
 
-      by_parameters : (o : Option (List Comp)) → FollowsSo k s laid live entry c v (laid.frame + 16 * length a.tries) (on_act place m (does whom args) next (poisoned (named (length next)) file) a
+      by_parameters : (o : Option (List Comp)) → FollowsSo k s laid live entry c v (laid.frame + 16 * length a.tries) (on_act place m (does whom args) next
+          (poisoned (named (length next)) file) a
           (asks place.setting o f arguments a (λ f xs. Asks f xs (after_call place.setting result a))))
       by_parameters None = record { follows = tt; calls = tt }
       by_parameters (Some cs) =
@@ -195,13 +203,15 @@ module _ (s : Fixed) (n : Named) (laid : Laid) (live : List Line → Type 0) (en
           (named_leads s n v within.own.are name (v.place + k) (entry f) address low part)) fits whole (passed_on args xs seats h)
 
       by_fit : (xs : List Value) → values place.setting.end file args ≡ Some xs → (t : Bool) → are_vals place.setting.end (named (length next)) file ≡ t →
-          FollowsSo k s laid live entry c v (laid.frame + 16 * length a.tries) (unless_misnamed t (on_act place m (does (callee.Symbol name) args) next (poisoned (named (length next)) file) a
+          FollowsSo k s laid live entry c v (laid.frame + 16 * length a.tries) (unless_misnamed t (on_act place m (does (callee.Symbol name) args) next
+          (poisoned (named (length next)) file) a
           (asks_value place.setting (place.setting.symbol name) xs a (λ f ys. Asks f ys (after_call place.setting result a)))))
       by_fit xs h false f = record { follows = tt; calls = tt }
       by_fit xs h true f = asks_follows (callee.Symbol name) args (place.setting.symbol name) xs (λ g q whole. found xs h f g q whole)
 
       by_values : (o : Option (List Value)) → values place.setting.end file args ≡ o →
-          FollowsSo k s laid live entry c v (laid.frame + 16 * length a.tries) (on_values place (named (length next)) m (does (callee.Symbol name) args) next file a o)
+          FollowsSo k s laid live entry c v (laid.frame + 16 * length a.tries) (on_values place (named (length next)) m (does
+          (callee.Symbol name) args) next file a o)
       by_values None h = record { follows = tt; calls = tt }
       by_values (Some xs) h = by_fit xs h (are_vals place.setting.end (named (length next)) file) refl
 
@@ -240,22 +250,26 @@ module _ (s : Fixed) (n : Named) (laid : Laid) (live : List Line → Type 0) (en
           calls_at_view callee.Register (p ∷ args) f xs w parts.own 1 (omega (arith, sum, last_one)) (omega arith) ch.leads
           (within_past s laid v w young 0 held a c parts.own g.list ch.past get.are within)
           (subst (λ z. Leads s 1 w (record w { place = entry f; registers = slice_set w.registers 1 (address_of_place z) })) same
-          (call_leads s w (suc g.r) 0 (entry f) code (no_offset (slice_index w.registers (suc g.r)) (code_start + 4 * entry f) address (omega (arith, near)))))
+          (call_leads s w (suc g.r) 0 (entry f) code (no_offset (slice_index w.registers (suc g.r)) (code_start + 4 * entry f) address (omega
+          (arith, near)))))
           fits whole (passed_on args xs (in_order more q) h)
 
       by_fit : (x : Value) (xs : List Value) → held p.loc ≡ Some x → values place.setting.end file args ≡ Some xs → (t : Bool) →
           are_vals place.setting.end (named (length next)) file ≡ t →
-          FollowsSo k s laid live entry c v (laid.frame + 16 * length a.tries) (unless_misnamed t (on_act place m (does callee.Register (p ∷ args)) next (poisoned (named (length next)) file) a
+          FollowsSo k s laid live entry c v (laid.frame + 16 * length a.tries) (unless_misnamed t (on_act place m (does callee.Register (p ∷ args)) next
+          (poisoned (named (length next)) file) a
           (asks_value place.setting (Some x) xs a (λ f ys. Asks f ys (after_call place.setting result a)))))
       by_fit x xs here h false f = record { follows = tt; calls = tt }
       by_fit x xs here h true f = asks_follows callee.Register (p ∷ args) (Some x) xs (λ g e whole. found g xs (here ∙ e) h f whole)
 
       by_values : (o : Option (List Value)) → values place.setting.end file (p ∷ args) ≡ o →
-          FollowsSo k s laid live entry c v (laid.frame + 16 * length a.tries) (on_values place (named (length next)) m (does callee.Register (p ∷ args)) next file a o)
+          FollowsSo k s laid live entry c v (laid.frame + 16 * length a.tries) (on_values place (named (length next)) m (does callee.Register
+          (p ∷ args)) next file a o)
       by_values None h = record { follows = tt; calls = tt }
       by_values (Some []) h = by_none (are_vals place.setting.end (named (length next)) file)
         where
-          by_none : (t : Bool) → FollowsSo k s laid live entry c v (laid.frame + 16 * length a.tries) (unless_misnamed t (on_act place m (does callee.Register (p ∷ args)) next
+          by_none : (t : Bool) → FollowsSo k s laid live entry c v (laid.frame + 16 * length a.tries) (unless_misnamed t (on_act place m
+              (does callee.Register (p ∷ args)) next
               (poisoned (named (length next)) file) a Stuck))
           by_none false = record { follows = tt; calls = tt }
           by_none true = record { follows = tt; calls = tt }

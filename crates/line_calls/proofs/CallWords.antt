@@ -1,5 +1,5 @@
 -- The words of a call: by name, and to the address in a register.
-use Rattle.std.proofs.Common.{◌≡◌, ◌≢◌, ℕ, zero, suc, ◌+◌, ◌-◌, ◌*◌, ◌%◌, ◌^◌, ◌<◌, ◌≤◌, ◌⊎◌, inl, inr, Bool, true, false, List, [], ◌∷◌, ◌++◌, length, Option, Some, None, slice_index, slice_set, refl, ap, arith, ◌∙◌, sym, subst, set-set, get_or-set_same}
+use Rattle.std.proofs.Common.{◌≡◌, ℕ, ◌+◌, ◌*◌, ◌^◌, ◌<◌, inl, List, [], ◌∷◌, slice_index, slice_set, ap, arith, ◌∙◌, subst, set-set, get_or-set_same}
 use Rattle.bs_words.specs.Word.{add_word}
 use Rattle.layout_rules.specs.Laid.{address_of_place}
 use Rattle.layout_rules.specs.Words.{Named, distance, lower, upper}
@@ -55,7 +55,8 @@ module _ (s : Fixed) (n : Named) (v : View) (are : AreRegisters v.registers) (na
   second =
       let near = place_near s v.place _ code.0.0 in
       call_leads s (set_in 1 half v) 1 (lower apart) dest code.0.1.0
-      (ap (λ x. add_word x (imm_i (lower apart))) in_ra ∙ far_lands (address_of_place v.place) (n.symbol name) (omega (arith, near)) (omega (arith, address, low))
+      (ap (λ x. add_word x (imm_i (lower apart))) in_ra ∙ far_lands (address_of_place v.place) (n.symbol name) (omega (arith, near)) (omega
+      (arith, address, low))
       ∙ address)
 
   pub named_leads : Leads s 2 v (record v { place = dest; registers = slice_set v.registers 1 (address_of_place (v.place + 2)) })

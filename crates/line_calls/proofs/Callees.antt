@@ -1,5 +1,5 @@
 -- The callee of a tail call is in a location: its address comes into t1, and then the frame is given back.
-use Rattle.std.proofs.Common.{◌≡◌, ◌≢◌, ℕ, zero, suc, ◌+◌, ◌-◌, ◌*◌, ◌%◌, ◌^◌, ◌<◌, ◌≤◌, inl, inr, true, List, [], ◌∷◌, ◌++◌, length, Option, Some, None, slice_get, slice_index, refl, ap, arith, ◌∙◌, sym, subst, ⊎_elim}
+use Rattle.std.proofs.Common.{◌≡◌, ℕ, suc, ◌+◌, ◌-◌, ◌*◌, ◌<◌, inl, inr, true, List, [], ◌∷◌, ◌++◌, length, Some, None, slice_get, slice_index, refl, arith, ◌∙◌, sym, subst, ⊎_elim}
 use Rattle.bs_words.specs.declared.types.Loc.{Loc}
 use Rattle.bs_words.specs.declared.types.Loc.TheVariants as loc
 use Rattle.bs_words.specs.declared.values.Value.{Value}
@@ -18,7 +18,6 @@ use Rattle.rv_isa.specs.declared.instr.Instr.TheVariants.{Jalr, OpImm}
 use Rattle.rv_isa.specs.declared.register.Register.TheVariants.{T1}
 use Rattle.rv_machine.specs.Hart.{Placed}
 use Rattle.rv_machine.specs.Memory.{code_start}
-use Rattle.moving_laws.specs.Stands.{Among}
 use Rattle.linear_machine.specs.Moments.{AtEntry}
 use Rattle.linear_machine.specs.Relation.{Below, Laid, StandsFor, Within, all_of}
 use Rattle.linear_machine.specs.View.{Fixed, IsCode, View}
@@ -34,7 +33,8 @@ use Rattle.line_values.proofs.Places.{no_unset, slot_of, usual_of}
 use Rattle.line_calls.specs.Leading.{Leaves}
 use Rattle.line_calls.specs.Points.{EntriesStand}
 use Rattle.line_calls.specs.Reaches.{Reaches}
-use Rattle.line_calls.proofs.Leaving.{frame_in, given_back_reaches, jump_behind, no_offset}
+use Rattle.line_calls.specs.Laws.{frame_in}
+use Rattle.line_calls.proofs.Leaving.{given_back_reaches, jump_behind, no_offset}
 use Rattle.line_calls.proofs.Reaching.{arrived, reaches_as, reaches_set, single}
 use Rattle.line_calls.proofs.Stack.{load_reaches}
 use Rattle.line_calls.proofs.Tailing.{entry_near, replaces}
@@ -90,7 +90,8 @@ module _ (s : Fixed) (n : Named) (laid : Laid) (m : Lin) (slots : m.slots ≡ la
       let stands = first.changes.holds in
       let near = entry_near s entry f entries stands.known in
       let six : slice_index z.registers 6 ≡ slice_index u.registers 6 =
-      second.changes.past.others 6 (λ i. ⊎_elim (λ q. omega (arith, q)) (λ j. ⊎_elim (λ q. omega (arith, q)) (λ k. ⊎_elim (λ q. omega (arith, q)) (λ z. z) k) j) i) in
+      second.changes.past.others 6 (λ i. ⊎_elim (λ q. omega (arith, q)) (λ j. ⊎_elim (λ q. omega (arith, q)) (λ k. ⊎_elim (λ q. omega (arith, q))
+      (λ z. z) k) j) i) in
       let address : slice_index z.registers 6 ≡ code_start + 4 * entry f = six ∙ stands.is ∙ entries.is f stands.known in
       let a1 = first.lands in
       let a2 = second.lands in

@@ -1,11 +1,10 @@
 -- A call: the callee begins above a function that waits, and the function goes on behind it.
-use Rattle.std.proofs.Common.{◌≡◌, ◌≢◌, ℕ, zero, suc, ◌+◌, ◌-◌, ◌*◌, ◌%◌, ◌^◌, ◌<◌, ◌≤◌, ◌⊎◌, inl, inr, Bool, true, false, cond, ◌&&◌, ◌||◌, nat_eq, List, [], ◌∷◌, ◌++◌, length, map, Option, Some, None, slice_get, slice_index, slice_set, refl, ap, ap₂, arith, ◌∙◌, sym, subst, ⊎_elim}
+use Rattle.std.proofs.Common.{◌≡◌, ℕ, ◌+◌, ◌<◌, ◌≤◌, Bool, true, false, cond, ◌&&◌, ◌||◌, nat_eq, List, [], ◌∷◌, length, Option, Some, None, slice_get, slice_index, slice_set, refl, ap, ap₂, arith, ◌∙◌, sym, subst}
 use Rattle.std.proofs.lemmas.Bool.{eqb-true}
 use Rattle.bs_words.specs.Fits.{data_start, fits, type_of_comp}
 use Rattle.bs_words.specs.Memory.{Cell, Memory}
 use Rattle.bs_words.specs.declared.types.Loc.{Loc}
 use Rattle.bs_words.specs.declared.types.Loc.TheVariants as loc
-use Rattle.bs_words.specs.declared.types.Ret.{Ret}
 use Rattle.bs_words.specs.declared.types.Ret.TheVariants as ret
 use Rattle.bs_words.specs.declared.types.Ty.TheVariants as ty
 use Rattle.bs_words.specs.declared.values.Value.{Value}
@@ -18,7 +17,7 @@ use Rattle.lin_ir.specs.declared.lin.Lin.{Lin}
 use Rattle.lin_ir.specs.declared.lin.Line.{Line}
 use Rattle.lin_ir.specs.declared.lin.LinOp.TheVariants as lin
 use Rattle.lin_ir.specs.declared.lin.Spot.{Spot}
-use Rattle.mach_ir.specs.Acts.{Around, Goes, On, after_call, answered, callee_raises, is_complete, only_if}
+use Rattle.mach_ir.specs.Acts.{Around, Goes, On, after_call, callee_raises, is_complete, only_if}
 use Rattle.mach_ir.specs.Meaning.{Everything}
 use Rattle.mach_ir.specs.Runs.{Place}
 use Rattle.mach_ir.specs.declared.op.Callee.{Callee}
@@ -26,17 +25,12 @@ use Rattle.mach_ir.specs.declared.op.Calling.TheVariants as calling
 use Rattle.mach_ir.specs.declared.op.Op.TheVariants as op
 use Rattle.rv_machine.specs.Frames.{descriptor_at, names_register}
 use Rattle.rv_machine.specs.Hart.{Placed}
-use Rattle.rv_machine.specs.Memory.{code_start}
 use Rattle.moving_laws.specs.Waiting.{IsBack}
-use Rattle.linear_machine.specs.Arrival.{nothing}
-use Rattle.linear_machine.specs.Follows.{Agrees, FollowsCall, IsAfter, IsAt, IsDone, IsEntered}
-use Rattle.linear_machine.specs.Relation.{AreCarried, Below, IsDescribed, Laid, StandsFor, Within, all_of, pushed}
-use Rattle.linear_machine.specs.View.{Fixed, Leads, View}
-use Rattle.linear_machine.proofs.Arriving.{leads_in}
+use Rattle.linear_machine.specs.Follows.{Agrees, IsAfter, IsAt, IsDone, IsEntered}
+use Rattle.linear_machine.specs.Relation.{AreCarried, Below, IsDescribed, Laid, Within, all_of, pushed}
+use Rattle.linear_machine.specs.View.{Fixed, View}
 use Rattle.linear_machine.proofs.Calls.{IsCaller, IsFresh, catches, catches_place, comes_back, enters, passes_on}
-use Rattle.linear_machine.proofs.Following.{same_loc-true}
 use Rattle.linear_machine.proofs.Frames.{poisoned_some}
-use Rattle.linear_machine.proofs.Steps.{then_leads}
 use Rattle.line_calls.proofs.Handlers.{cleared_alone}
 
 -- ---- what the machine holds of a file, at a frame point
@@ -149,15 +143,19 @@ module _ (s : Fixed) (laid : Laid) (live : List Line → Type 0) (entry : ℕ �
         rest = at_handler m.code ts;
         file = poisoned (named (length next)) file;
         around = record a { memory = memory; tries = rest; raised = Some x };
-      }) u) (sym e)
-      (r.0, slots, record {
-        others = λ q n. poisoned_same (named (length next)) held file q (agrees.others q n);
-        spare_too = λ q. absurd (dead l rest e q);
-      }, record {
-        place = omega (arith, goes);
-        within = subst (λ z. Within s laid u r.0 0 slots z c) (around_raised a memory rest x whole)
-            (catches s laid slots a.tries c (slice_index w.registers 2) d back caller u r.0 x memory r.1 l rest e slots (λ j y q. q));
-      })
+      }) u) (sym e) (
+        r.0,
+        slots,
+        record {
+          others = λ q n. poisoned_same (named (length next)) held file q (agrees.others q n);
+          spare_too = λ q. absurd (dead l rest e q);
+        },
+        record {
+          place = omega (arith, goes);
+          within = subst (λ z. Within s laid u r.0 0 slots z c) (around_raised a memory rest x whole)
+              (catches s laid slots a.tries c (slice_index w.registers 2) d back caller u r.0 x memory r.1 l rest e slots (λ j y q. q));
+        },
+      )
 
   -- with no result
   pub resumes_without : (whom : Callee) (args : List Spot) (doing : Doing) (u : View) → IsDone s below doing u →
@@ -227,6 +225,7 @@ module _ (s : Fixed) (laid : Laid) (live : List Line → Type 0) (entry : ℕ �
   callee_begins f arguments registers some args =
       let hold = subst (λ o. AreCarried s (all_of w young) w.registers held o) none within.carried in (
         young,
-        enters s laid w young held a c within (named (length next)) d is saves fit (entry f) back arguments back_is (λ e. omega (arith, e, some)) there registers whole
+        enters s laid w young held a c within (named (length next)) d is saves fit (entry f) back arguments back_is (λ e. omega
+            (arith, e, some)) there registers whole
             (λ j x h. let g = args j x h in (g.0, (hold (10 + j) x g.1).1)),
       )

@@ -1,17 +1,15 @@
 -- The words of an external call, and what its line does.
-use Rattle.std.proofs.Common.{◌≡◌, ◌≢◌, ℕ, zero, suc, ◌+◌, ◌-◌, ◌*◌, ◌%◌, ◌^◌, ◌<◌, ◌≤◌, ◌⊎◌, inl, inr, Bool, true, false, cond, ◌&&◌, not, ◌||◌, List, [], ◌∷◌, ◌++◌, length, map, Option, Some, None, slice_get, slice_index, refl, ap, ap₂, arith, ◌∙◌, sym, subst, ⊎_elim}
+use Rattle.std.proofs.Common.{◌≡◌, ℕ, ◌+◌, ◌*◌, ◌^◌, ◌<◌, inl, inr, Bool, true, false, List, [], ◌∷◌, ◌++◌, length, map, Option, Some, None, slice_get, slice_index, refl, ap, ap₂, arith, ◌∙◌, sym, subst, ⊎_elim}
 use Rattle.std.specs.List.{AllByRecursion}
-use Rattle.bs_words.specs.Fits.{data_start, fits, type_of_comp}
+use Rattle.bs_words.specs.Fits.{data_start}
 use Rattle.bs_words.specs.Memory.{heap_need}
 use Rattle.bs_words.specs.Word.{add_word}
 use Rattle.bs_words.proofs.Below.{sext_word-below}
 use Rattle.bs_words.specs.declared.types.Loc.{Loc}
 use Rattle.bs_words.specs.declared.types.Loc.TheVariants as loc
-use Rattle.bs_words.specs.declared.types.Ret.{Ret}
-use Rattle.bs_words.specs.declared.types.Ret.TheVariants as ret
 use Rattle.bs_words.specs.declared.values.Value.{Value}
-use Rattle.cmm_meaning.specs.State.{Doing, Gave, Outside, Threw}
-use Rattle.emit_rules.specs.Calls.{external_service, external_words}
+use Rattle.cmm_meaning.specs.State.{Gave, Outside}
+use Rattle.emit_rules.specs.Calls.{external_words}
 use Rattle.emit_rules.specs.Constants.{constant}
 use Rattle.emit_rules.specs.Instructions.{ecall}
 use Rattle.image_form.specs.Image.{IsArgument, IsExt}
@@ -19,7 +17,7 @@ use Rattle.layout_rules.specs.Laid.{address_of_place, desc_at}
 use Rattle.layout_rules.specs.Words.{Named, lower, upper}
 use Rattle.layout_rules.proofs.Offsets.{number_lands}
 use Rattle.lin_ir.specs.Formed.{comps, places_of, spare}
-use Rattle.lin_ir.specs.Meaning.{Locations, NamedAt, after_label, are_vals, is_named, on_act, on_values, past_frame, poisoned, step, unless_misnamed, values}
+use Rattle.lin_ir.specs.Meaning.{Locations, NamedAt, after_label, are_vals, is_named, on_act, on_values, poisoned, step, unless_misnamed, values}
 use Rattle.lin_ir.specs.declared.descr.Descr.{Descr}
 use Rattle.lin_ir.specs.declared.lin.Lin.{Lin}
 use Rattle.lin_ir.specs.declared.lin.Line.{Line}
@@ -27,8 +25,7 @@ use Rattle.lin_ir.specs.declared.lin.LinOp.TheVariants as lin
 use Rattle.lin_ir.specs.declared.lin.Spot.{Spot}
 use Rattle.mach_ir.specs.Acts.{Around, Asks, after_external, is_complete, only_if, row_of}
 use Rattle.mach_ir.specs.Forms.{results_of}
-use Rattle.mach_ir.specs.Meaning.{Temporaries}
-use Rattle.mach_ir.specs.Runs.{Place, asked}
+use Rattle.mach_ir.specs.Runs.{Place}
 use Rattle.mach_ir.specs.Seats.{AreSeated, InOrder, argument_places, in_order, result_places}
 use Rattle.mach_ir.specs.declared.op.External as declared
 use Rattle.mach_ir.specs.declared.op.Calling.TheVariants as calling
@@ -41,14 +38,14 @@ use Rattle.rv_machine.specs.Frames.{descriptor_at}
 use Rattle.rv_machine.specs.Hart.{Placed}
 use Rattle.rv_machine.specs.Memory.{code_start}
 use Rattle.rv_machine.specs.Services.{Machine, arguments_from, call_made}
-use Rattle.rv_machine.specs.Sound.{AllWords, AreRegisters}
+use Rattle.rv_machine.specs.Sound.{AreRegisters}
 use Rattle.rv_pieces.specs.declared.piece.Piece.TheVariants.{ExternalNumber}
 use Rattle.moving_laws.specs.Stands.{Among}
-use Rattle.linear_machine.specs.Arrival.{ArrivesIn, Gone, Needs, nothing}
-use Rattle.linear_machine.specs.Follows.{Agrees, FollowsStep, IsAfter}
-use Rattle.linear_machine.specs.Outside.{GoesOn, IsAsking, Taken, counted, given, shown, taken_alone, taken_moving}
-use Rattle.linear_machine.specs.Relation.{AreCarried, Below, IsDescribed, Laid, StandsFor, Within, all_of}
-use Rattle.linear_machine.specs.View.{Fixed, IsCode, Leads, Stands, View}
+use Rattle.linear_machine.specs.Arrival.{ArrivesIn, nothing}
+use Rattle.linear_machine.specs.Follows.{Agrees, IsAfter}
+use Rattle.linear_machine.specs.Outside.{IsAsking, Taken, counted, given, shown, taken_alone, taken_moving}
+use Rattle.linear_machine.specs.Relation.{AreCarried, Below, IsDescribed, Laid, Within, all_of}
+use Rattle.linear_machine.specs.View.{Fixed, IsCode, Stands, View}
 use Rattle.linear_machine.proofs.Arriving.{leads_in}
 use Rattle.linear_machine.proofs.Formats.{sets_imm, sets_lui}
 use Rattle.linear_machine.proofs.Moving.{hart_of, within_like}
@@ -91,7 +88,8 @@ module _ (s : Fixed) (n : Named) (v : View) (are : AreRegisters v.registers) (ro
       let last = single s n ends.middle to Ecall ends.second in
       let few = few_externals s number is.ext is.there in
       let high : ℕ = imm_u (upper number) in
-      let one = reaches_set s v (v.place + 1) (Lui 5 (upper number)) 4 high open'.code.0 refl (inl (λ q. omega (arith, q))) (sets_lui s v 5 (upper number)) are
+      let one = reaches_set s v (v.place + 1) (Lui 5 (upper number)) 4 high open'.code.0 refl (inl (λ q. omega (arith, q))) (sets_lui s v 5
+      (upper number)) are
       (omega arith) (sext_word-below _ 32) in
       let u = one.changes.view in
       let here = arrived s v (v.place + 1) (5 ∷ []) v.memory _ one in
@@ -102,7 +100,8 @@ module _ (s : Fixed) (n : Named) (v : View) (are : AreRegisters v.registers) (ro
       (reaches_more s v (v.place + 1) (v.place + 1 + 1) (5 ∷ []) (5 ∷ []) v.memory _ _ one (λ q i. i)
       (reaches_set s u (v.place + 1 + 1) (OpImm Addi 5 5 (lower number)) 4 number
       (subst (λ p. IsCode s p (OpImm Addi 5 5 (lower number))) (sym here) open'.code.1.0) (omega (arith, here)) (inl (λ q. omega (arith, q)))
-      (sets_as s u (OpImm Addi 5 5 (lower number)) 5 _ _ sum (sets_imm s u Addi 5 5 (lower number))) one.changes.past.are (omega arith) (omega (arith, few)))) in
+      (sets_as s u (OpImm Addi 5 5 (lower number)) 5 _ _ sum (sets_imm s u Addi 5 5 (lower number))) one.changes.past.are (omega arith) (omega
+      (arith, few)))) in
       let z = two.changes.view in
       let at = arrived s v (v.place + 1 + 1) (5 ∷ 7 ∷ []) v.memory _ two in
       let there : z.place ≡ v.place + 2 = omega (arith, at) in
@@ -194,7 +193,8 @@ module _ (s : Fixed) (n : Named) (laid : Laid) (live : List Line → Type 0) (en
             let arguments : arguments_from 10 (comps args) (hart_of s (with_memory reached.reach.changes.view b.hart) b.hart) ≡ map (shown s.image) xs =
             shown_from s laid (with_memory reached.reach.changes.view b.hart) young (dropped 5 held) a c there whole b.hart file
             (λ r x l h.
-            ((subst (λ o. AreCarried s (all_of (with_memory reached.reach.changes.view b.hart) young) reached.reach.changes.view.registers (dropped 5 held) o) none
+            ((subst (λ o. AreCarried s (all_of (with_memory reached.reach.changes.view b.hart) young) reached.reach.changes.view.registers
+            (dropped 5 held) o) none
             there.carried) r x (same_file (loc.Machine r) (λ q. let z = same_machine r 5 q in omega (arith, z, l)) ∙ h)).1)
             args xs 9 argument_registers more (omega arith) e arguments_rise (subst (λ z. values z file args ≡ Some xs) end_is read) allowed in
             ap (call_made is.ext) (hart_is s b reached.reach.changes.view ok)
@@ -270,7 +270,8 @@ module _ (s : Fixed) (n : Named) (laid : Laid) (live : List Line → Type 0) (en
     external_alone = by_values (values place.setting.end file args) refl
       where
         by_whole : (xs : List Value) → values place.setting.end file args ≡ Some xs → (t : Bool) → is_complete a ≡ t →
-            FollowsSo k s laid live entry c v (laid.frame + 16 * length a.tries) (on_act place m alone next file a (only_if t (Asks (Outside (row_of row) false) xs
+            FollowsSo k s laid live entry c v (laid.frame + 16 * length a.tries) (on_act place m alone next file a (only_if t (Asks (Outside
+            (row_of row) false) xs
             (after_external place.setting row.result false a))))
         by_whole xs h false e = record { follows = tt; calls = tt }
         by_whole xs h true e = record { follows = alone_asks e xs h; calls = in_table xs h }
@@ -329,14 +330,17 @@ module _ (s : Fixed) (n : Named) (laid : Laid) (live : List Line → Type 0) (en
           made = shows 4 four_small (v.place + k) part whole xs read;
           goes = λ b t ok words taken. frame_goes s w (code_it 4 four_small (v.place + k) part whole xs read) r.reach.changes.holds.1 is.ext
               (row_there 4 four_small (v.place + k) part whole xs read) (counted s (row_of row) xs)
-              (shows 4 four_small (v.place + k) part whole xs read) laid young (dropped 5 held) a c ww (named (length next)) (desc_at (v.place + k) e) described
+              (shows 4 four_small (v.place + k) part whole xs read) laid young (dropped 5 held) a c ww (named (length next)) (desc_at
+              (v.place + k) e) described
               saves fit whole none there (record { top = s.base; stack = 0; heap = heap_need a.memory }) refl a.memory P words
               (λ x answers u wu at ten. subst (λ q. IsAfter s laid live c (on_act place m framed next (poisoned (named (length next)) file) a
               (after_external place.setting row.result true a (Gave (given q x) a.memory))) u) (sym is.result)
-              (gave_after s laid live c place m next [] (poisoned (named (length next)) (dropped 5 held)) (poisoned (named (length next)) file) same_lost a none whole
+              (gave_after s laid live c place m next [] (poisoned (named (length next)) (dropped 5 held)) (poisoned (named
+              (length next)) file) same_lost a none whole
               dead row true args row.result results typed seated x a.memory u wu (next_place ∙ sym at) (λ q f. ten q (is.result ∙ f))))
               (λ x answers v' u wv df h2 h9 hp h10.
-              threw_after s laid live c place m next [] (poisoned (named (length next)) (dropped 5 held)) (poisoned (named (length next)) file) same_lost a none whole
+              threw_after s laid live c place m next [] (poisoned (named (length next)) (dropped 5 held)) (poisoned (named
+              (length next)) file) same_lost a none whole
               dead handlers no_live row args row.result results x v' u wv df h2 h9 hp h10)
               b t ok (subst (λ q. taken_moving a.memory q w.answers ≡ Some t) (sym is.result) taken);
         })
@@ -348,7 +352,8 @@ module _ (s : Fixed) (n : Named) (laid : Laid) (live : List Line → Type 0) (en
     }))
     external_framed = by_values (values place.setting.end file args) refl
       where
-        by_whole : (xs : List Value) → values place.setting.end file args ≡ Some xs → are_vals place.setting.end (named (length next)) file ≡ true → (t : Bool) →
+        by_whole : (xs : List Value) → values place.setting.end file args ≡ Some xs → are_vals place.setting.end (named (length next)) file ≡ true →
+            (t : Bool) →
             is_complete a ≡ t →
             FollowsSo k s laid live entry c v (laid.frame + 16 * length a.tries) (on_act place m framed next (poisoned (named (length next)) file) a
             (only_if t (Asks (Outside (row_of row) true) xs (after_external place.setting row.result true a))))
@@ -356,7 +361,8 @@ module _ (s : Fixed) (n : Named) (laid : Laid) (live : List Line → Type 0) (en
         by_whole xs h f true e = record { follows = frame_asks e xs h f; calls = in_table xs h }
 
         by_fit : (xs : List Value) → values place.setting.end file args ≡ Some xs → (t : Bool) → are_vals place.setting.end (named (length next)) file ≡ t →
-            FollowsSo k s laid live entry c v (laid.frame + 16 * length a.tries) (unless_misnamed t (on_act place m framed next (poisoned (named (length next)) file) a
+            FollowsSo k s laid live entry c v (laid.frame + 16 * length a.tries) (unless_misnamed t (on_act place m framed next (poisoned (named
+            (length next)) file) a
             (only_if (is_complete a) (Asks (Outside (row_of row) true) xs (after_external place.setting row.result true a)))))
         by_fit xs h false f = record { follows = tt; calls = tt }
         by_fit xs h true f = by_whole xs h f (is_complete a) refl

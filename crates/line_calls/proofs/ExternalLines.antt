@@ -1,25 +1,21 @@
 -- The lines that make an external call.
-use Rattle.std.proofs.Common.{◌≡◌, ◌≢◌, ℕ, zero, suc, ◌+◌, ◌-◌, ◌*◌, ◌%◌, ◌^◌, ◌<◌, ◌≤◌, ◌⊎◌, inl, inr, Bool, true, false, cond, ◌&&◌, List, [], ◌∷◌, ◌++◌, length, map, Option, Some, None, slice_get, slice_index, refl, ap, ap₂, arith, ◌∙◌, sym, subst, ⊎_elim}
-use Rattle.std.proofs.lemmas.Bool.{and_parts}
-use Rattle.bs_words.specs.External.{External}
-use Rattle.bs_words.specs.Fits.{data_start, fits, type_of_comp}
-use Rattle.bs_words.specs.Memory.{Memory, heap_need}
-use Rattle.bs_words.specs.Word.{add_word}
+use Rattle.std.proofs.Common.{◌≡◌, ℕ, ◌+◌, ◌*◌, Bool, true, false, cond, List, [], ◌∷◌, length, Some, None, slice_index, refl, ap, arith, ◌∙◌, sym, subst}
+use Rattle.bs_words.specs.Fits.{fits, type_of_comp}
+use Rattle.bs_words.specs.Memory.{Memory}
 use Rattle.bs_words.specs.declared.types.Loc.{Loc}
 use Rattle.bs_words.specs.declared.types.Loc.TheVariants as loc
 use Rattle.bs_words.specs.declared.types.Ret.{Ret}
 use Rattle.bs_words.specs.declared.types.Ret.TheVariants as ret
 use Rattle.bs_words.specs.declared.types.Ty.TheVariants as ty
-use Rattle.bs_words.specs.declared.values.Value.{Value}
 use Rattle.bs_words.specs.declared.values.Value.TheVariants.{Word}
-use Rattle.cmm_meaning.specs.State.{Doing, Gave, Threw}
+use Rattle.cmm_meaning.specs.State.{Gave, Threw}
 use Rattle.lin_ir.specs.Formed.{comps, places_of, spare}
-use Rattle.lin_ir.specs.Meaning.{Locations, NamedAt, after_label, at_handler, clear, on_act, past_frame, put, put_if, same_loc, wrote}
+use Rattle.lin_ir.specs.Meaning.{Locations, after_label, at_handler, clear, on_act, put, put_if, same_loc, wrote}
 use Rattle.lin_ir.specs.declared.lin.Lin.{Lin}
 use Rattle.lin_ir.specs.declared.lin.Line.{Line}
 use Rattle.lin_ir.specs.declared.lin.LinOp.TheVariants as lin
 use Rattle.lin_ir.specs.declared.lin.Spot.{Spot}
-use Rattle.mach_ir.specs.Acts.{Act, Around, Goes, On, after_external, answered, as_list, is_complete, only_if, raised_by}
+use Rattle.mach_ir.specs.Acts.{Around, Goes, On, after_external, is_complete, only_if, raised_by}
 use Rattle.mach_ir.specs.Forms.{results_of}
 use Rattle.mach_ir.specs.Meaning.{Temporaries, is_temporary}
 use Rattle.mach_ir.specs.Runs.{Place}
@@ -31,9 +27,9 @@ use Rattle.rv_machine.specs.Hart.{Placed}
 use Rattle.rv_machine.specs.Memory.{code_start, word}
 use Rattle.layout_rules.specs.Laid.{address_of_place}
 use Rattle.linear_machine.specs.Files.{IsPut}
-use Rattle.linear_machine.specs.Follows.{Agrees, IsAfter, IsAt}
+use Rattle.linear_machine.specs.Follows.{IsAfter, IsAt}
 use Rattle.linear_machine.specs.Outside.{given}
-use Rattle.linear_machine.specs.Relation.{Below, IsLocation, Laid, StandsFor, Within, all_of}
+use Rattle.linear_machine.specs.Relation.{Below, Laid, StandsFor, Within, all_of}
 use Rattle.linear_machine.specs.Straight.{Differs}
 use Rattle.linear_machine.specs.View.{Fixed, View}
 use Rattle.linear_machine.proofs.Following.{put_is, same_loc-machine}
@@ -70,7 +66,8 @@ module _ (s : Fixed) (laid : Laid) (live : List Line → Type 0) (c : Below) (pl
   gave_after row frame args (ret.Comp t) [] typed seats x memory z within at ten = absurd (cc)
   gave_after row frame args (ret.Comp t) (p ∷ ps) typed seats x memory z within at ten =
       let one = first_seated p ps seats in
-      subst (λ q. IsAfter s laid live c (on_act place m (record { op = lin.Op (op.Calling (calling.External row frame)); args = args; results = p ∷ q }) next file a
+      subst (λ q. IsAfter s laid live c (on_act place m (record { op = lin.Op (op.Calling (calling.External row frame)); args = args; results = p ∷ q })
+      next file a
       (after_external place.setting (ret.Comp t) frame a (Gave (given (ret.Comp t) x) memory))) z) (sym one.1)
       (by_fit one.0 (fits place.setting.end (type_of_comp t) (Word x)))
     where
@@ -106,7 +103,8 @@ module _ (s : Fixed) (laid : Laid) (live : List Line → Type 0) (c : Below) (pl
   pub threw_after :
       (handlers : (l : ℕ) (rest : List ℕ) → a.tries ≡ l ∷ rest → laid.handler l ≡ address_of_place (laid.part (length (after_label l m.code)))) →
       (no_live : (l : ℕ) (rest : List ℕ) → a.tries ≡ l ∷ rest → live (after_label l m.code) → ⊥) →
-      (row : declared.External) (args : List Spot) (r : Ret) (results : List Spot) (x : ℕ) (v u : View) → Within s laid v young 0 (clear Temporaries held) a c →
+      (row : declared.External) (args : List Spot) (r : Ret) (results : List Spot) (x : ℕ) (v u : View) →
+      Within s laid v young 0 (clear Temporaries held) a c →
       Differs (2 ∷ 6 ∷ 7 ∷ 9 ∷ []) v.memory v u → slice_index u.registers 2 ≡ slice_index v.registers 9 + 16 →
       slice_index u.registers 9 ≡ word v.memory (slice_index v.registers 9 + 8) → code_start + 4 * u.place ≡ word v.memory (slice_index v.registers 9) →
       slice_index u.registers 10 ≡ x →
@@ -131,11 +129,15 @@ module _ (s : Fixed) (laid : Laid) (live : List Line → Type 0) (c : Below) (pl
             rest = at_handler m.code ts;
             file = file;
             around = record a { tries = rest; raised = Some (Word x) };
-          }) u) (sym e)
-          (young, held, record { others = same; spare_too = λ q. absurd (no_live l rest e q) }, record {
-            place = omega (arith, there);
-            within = popped s laid v u young (clear Temporaries held) a c within differs l rest e up next_trap (Some (Word x)) held stands (λ j y q. q);
-          })
+          }) u) (sym e) (
+            young,
+            held,
+            record { others = same; spare_too = λ q. absurd (no_live l rest e q) },
+            record {
+              place = omega (arith, there);
+              within = popped s laid v u young (clear Temporaries held) a c within differs l rest e up next_trap (Some (Word x)) held stands (λ j y q. q);
+            },
+          )
 
       by_fit : (b : Bool) →
           IsAfter s laid live c (on_act place m (record { op = lin.Op (op.Calling (calling.External row true)); args = args; results = results }) next file a

@@ -1,5 +1,5 @@
 -- The service of a frame call: the blocks move, and then the call gives a value or raises one.
-use Rattle.std.proofs.Common.{◌≡◌, ◌≢◌, ℕ, zero, suc, ◌+◌, ◌-◌, ◌*◌, ◌/◌, ◌%◌, ◌^◌, ◌<◌, ◌≤◌, ◌⊎◌, inl, inr, Bool, true, false, cond, List, [], ◌∷◌, ◌++◌, length, map, reverse, Option, Some, None, slice_get, slice_index, slice_set, refl, ap, ap₂, arith, ◌∙◌, sym, subst, ⊎_elim, get_or-set_same, get_or-set_other, length-set}
+use Rattle.std.proofs.Common.{◌≡◌, ℕ, zero, suc, ◌+◌, ◌-◌, ◌*◌, ◌/◌, ◌%◌, ◌^◌, ◌<◌, ◌≤◌, ◌⊎◌, inl, inr, true, List, [], ◌∷◌, ◌++◌, length, reverse, Some, None, slice_get, slice_index, refl, ap, arith, ◌∙◌, sym, subst, ⊎_elim, get_or-set_same}
 use Rattle.std.proofs.lemmas.Bool.{and_from, cases_lt, cond-true, eq-eqb, le-leb}
 use Rattle.bs_words.specs.Fits.{data_start}
 use Rattle.bs_words.specs.Memory.{Memory, heap_need}
@@ -19,17 +19,15 @@ use Rattle.rv_machine.specs.FrameCalls.{collected, has_trap_frame, raised, with_
 use Rattle.rv_machine.specs.Frames.{descriptor_at}
 use Rattle.rv_machine.specs.Hart.{Hart, Placed, past_ecall, with_register}
 use Rattle.rv_machine.specs.Hart as next
-use Rattle.rv_machine.specs.Memory.{Region, code_start, word}
+use Rattle.rv_machine.specs.Memory.{code_start, word}
 use Rattle.rv_machine.specs.Placement.{bytes_used}
 use Rattle.rv_machine.specs.Places.{stack_end}
-use Rattle.rv_machine.specs.Relocation.{Goes, NoHeap}
+use Rattle.rv_machine.specs.Relocation.{Goes}
 use Rattle.rv_machine.specs.Run.{after}
-use Rattle.rv_machine.specs.Services.{HeapOut, Machine, Going, Over, after_collection, call_made, called, cleared, concluded, destroyed, filled, frame_answered, frame_call, served}
-use Rattle.rv_machine.specs.Sound.{AllWords, AreRegisters}
+use Rattle.rv_machine.specs.Services.{HeapOut, Machine, Going, Over, after_collection, call_made, cleared, concluded, destroyed, filled, frame_answered, frame_call, served}
+use Rattle.rv_machine.specs.Sound.{AllWords}
 use Rattle.machine_laws.proofs.Memory.{word_below}
 use Rattle.machine_laws.proofs.Words.{other_register, with_registers}
-use Rattle.moving_laws.specs.Service.{IsRestored}
-use Rattle.moving_laws.specs.Stands.{Among}
 use Rattle.moving_laws.proofs.Words.{same_or_not}
 use Rattle.linear_machine.specs.Arrival.{Gone, Needs}
 use Rattle.linear_machine.specs.Outside.{GoesOn, Taken, given, taken_moving}
@@ -38,11 +36,11 @@ use Rattle.linear_machine.specs.Straight.{Differs}
 use Rattle.linear_machine.specs.View.{Fixed, IsCode, Stands, View}
 use Rattle.linear_machine.proofs.Jumps.{back_place}
 use Rattle.linear_machine.proofs.Likes.{like_refl}
-use Rattle.linear_machine.proofs.Moving.{contents, hart_of, left, left_is, own_frame_of, view_after, within_after}
+use Rattle.linear_machine.proofs.Moving.{left, left_is, within_after}
 use Rattle.linear_machine.proofs.Serving.{collection, collection_not, hart_is, with_memory, within_there}
 use Rattle.linear_machine.proofs.Steps.{one_step, ready, ready_stands}
 use Rattle.linear_machine.proofs.Storing.{bytes_need}
-use Rattle.line_calls.proofs.Outside.{behind, behind_are, behind_others, behind_result, filled_are, filled_others, lost, within_behind}
+use Rattle.line_calls.proofs.Outside.{behind, behind_are, behind_others, behind_result, filled_are, within_behind}
 use Rattle.line_calls.proofs.Traps.{IsTrap, is_trap}
 
 answer_is : (r : Ret) (x : ℕ) (registers : List ℕ) → with_answer r x (filled destroyed registers) ≡ behind r x registers
@@ -61,14 +59,16 @@ module _ (s : Fixed) (w : View) (code : IsCode s w.place Ecall) (service : slice
       let ok = ready_stands s a w st in
       let t : slice_index b.hart.registers 7 ≡ 4 = ap (λ xs. slice_index xs 7) ok.registers ∙ service in
       let row : slice_get b.hart.image.extcs (slice_index b.hart.registers 5) ≡ Some e =
-      ap (λ (i : Tables). slice_get i.extcs (slice_index b.hart.registers 5)) ok.image ∙ ap (λ xs. slice_get s.image.extcs (slice_index xs 5)) ok.registers ∙ there in
+      ap (λ (i : Tables). slice_get i.extcs (slice_index b.hart.registers 5)) ok.image ∙ ap (λ xs. slice_get s.image.extcs
+      (slice_index xs 5)) ok.registers ∙ there in
       one_step s a w Ecall (next.Service b.hart) st code refl j k q
       ∙ ap (λ y. after s.schedule k (served s.schedule.plan y b)) t
       ∙ ap (λ o. after s.schedule k (frame_call (s.schedule.plan b.hart.services) o b)) row
       ∙ ap (λ y. after s.schedule k (frame_answered (s.schedule.plan b.hart.services) e.result y b.answers b)) (shows b ok)
       ∙ ap (λ y. after s.schedule k (frame_answered (s.schedule.plan b.hart.services) e.result call y b)) ok.answers
 
-  module _ (laid : Laid) (young : List Placed) (held : Locations) (a : Around) (c : Below) (within : Within s laid w young 0 held a c) (point : List Loc) (d : Desc)
+  module _ (laid : Laid) (young : List Placed) (held : Locations) (a : Around) (c : Below) (within : Within s laid w young 0 held a c) (point : List Loc)
+      (d : Desc)
       (is : IsDescribed laid (length a.tries) point d) (saves : laid.saves ≡ true) (fit : are_vals (data_start + length s.image.bytes) point held ≡ true)
       (whole : is_complete a ≡ true) (none : a.raised ≡ None) (marked : descriptor_at s.image.descs (code_start + 4 * w.place + 4) ≡ Some d) where
     -- the blocks have moved, and nothing else has happened
@@ -201,8 +201,10 @@ module _ (s : Fixed) (w : View) (code : IsCode s w.place Ecall) (service : slice
         let sp_set : List ℕ = with_register 2 (slice_index (filled destroyed m.new.registers) 9 + 16) (filled destroyed m.new.registers) in
         let both_set : List ℕ = with_register 9 (word m.new.memory (slice_index (filled destroyed m.new.registers) 9 + 8))
         (with_register 2 (slice_index (filled destroyed m.new.registers) 9 + 16) (filled destroyed m.new.registers)) in
-        let are_sp = with_registers (filled destroyed m.new.registers) 2 (slice_index (filled destroyed m.new.registers) 9 + 16) is_lost (omega (arith, high)) in
-        let are_both = with_registers sp_set 9 (word m.new.memory (slice_index (filled destroyed m.new.registers) 9 + 8)) are_sp (word_below m.new.memory _) in
+        let are_sp = with_registers (filled destroyed m.new.registers) 2 (slice_index (filled destroyed m.new.registers) 9 + 16) is_lost (omega
+        (arith, high)) in
+        let are_both = with_registers sp_set 9 (word m.new.memory (slice_index (filled destroyed m.new.registers) 9 + 8)) are_sp
+        (word_below m.new.memory _) in
         let are_all = with_registers both_set 10 x are_both small in
         let count_sp = are_sp.count in
         let count_both = are_both.count in
@@ -216,15 +218,17 @@ module _ (s : Fixed) (w : View) (code : IsCode s w.place Ecall) (service : slice
           calls = w.calls ++ call ∷ [];
         } in
         let place : code_start + 4 * ((word m.new.memory (slice_index (filled destroyed m.new.registers) 9) - 0x10000) / 4)
-            ≡ word m.new.memory (slice_index (filled destroyed m.new.registers) 9) = back_place _ at.back in
+        ≡ word m.new.memory (slice_index (filled destroyed m.new.registers) 9) = back_place _ at.back in
         let ten : slice_index (with_register 10 x both_set) 10 ≡ x = get_or-set_same both_set 10 x 0 (omega (arith, count_both)) in
         let differs : Differs (2 ∷ 6 ∷ 7 ∷ 9 ∷ []) m.new.memory v u = record {
           are = are_all;
           others = λ q none. ⊎_elim
-              (λ (e : q ≡ 10). subst (λ z. slice_index (with_register 10 x both_set) z ≡ slice_index (with_register 10 x (filled destroyed m.new.registers)) z) (sym e)
+              (λ (e : q ≡ 10). subst (λ z. slice_index (with_register 10 x both_set) z ≡ slice_index (with_register 10 x
+              (filled destroyed m.new.registers)) z) (sym e)
               (ten ∙ sym (get_or-set_same (filled destroyed m.new.registers) 10 x 0 (omega (arith, count)))))
               (λ no. other_register both_set 10 q x (λ e. no (sym e))
-              ∙ other_register sp_set 9 q (word m.new.memory (slice_index (filled destroyed m.new.registers) 9 + 8)) (λ e. none (inr (inr (inr (inl (sym e))))))
+              ∙ other_register sp_set 9 q (word m.new.memory (slice_index (filled destroyed m.new.registers) 9 + 8)) (λ e. none (inr (inr (inr (inl
+              (sym e))))))
               ∙ other_register (filled destroyed m.new.registers) 2 q (slice_index (filled destroyed m.new.registers) 9 + 16) (λ e. none (inl (sym e)))
               ∙ sym (other_register (filled destroyed m.new.registers) 10 q x (λ e. no (sym e))))
               (same_or_not q 10);

@@ -1,8 +1,6 @@
 -- The lines that return, raise, and push, pop and enter a try.
-use Rattle.std.proofs.Common.{◌≡◌, ◌≢◌, ℕ, zero, suc, ◌+◌, ◌-◌, ◌*◌, ◌%◌, ◌^◌, ◌<◌, ◌≤◌, ◌⊎◌, inl, inr, Bool, true, false, cond, List, [], ◌∷◌, ◌++◌, length, map, Option, Some, None, slice_index, refl, ap, arith, ◌∙◌, sym, subst, ⊎_elim}
-use Rattle.std.specs.List.{Contains}
+use Rattle.std.proofs.Common.{◌≡◌, ℕ, ◌+◌, ◌*◌, ◌<◌, ◌≤◌, inl, inr, Bool, true, false, cond, List, [], ◌∷◌, length, Option, Some, None, slice_index, refl, ap, arith, ◌∙◌, sym, subst, ⊎_elim}
 use Rattle.std.proofs.lemmas.Bool.{cases_lt}
-use Rattle.bs_words.specs.Fits.{fits, type_of_comp}
 use Rattle.bs_words.specs.declared.types.Loc.{Loc}
 use Rattle.bs_words.specs.declared.types.Loc.TheVariants as loc
 use Rattle.bs_words.specs.declared.values.Value.{Value}
@@ -28,7 +26,6 @@ use Rattle.rv_isa.specs.declared.instr.LoadWidth.TheVariants.{Ld}
 use Rattle.rv_machine.specs.Hart.{Placed}
 use Rattle.rv_machine.specs.Memory.{code_start, word}
 use Rattle.rv_machine.specs.Services.{StackOut}
-use Rattle.moving_laws.specs.Stands.{Among}
 use Rattle.moving_laws.specs.Waiting.{IsBack}
 use Rattle.moving_laws.specs.Words.{IsReadable}
 use Rattle.linear_machine.specs.Follows.{Agrees, FollowsStep, IsAt, needs_of}
@@ -49,8 +46,8 @@ use Rattle.linear_machine.proofs.Turning.{placed_past}
 use Rattle.line_stands.specs.Parts.{PartStands}
 use Rattle.line_stands.proofs.Parts.{nothing_more}
 use Rattle.line_calls.specs.Leading.{Leaves}
-use Rattle.line_calls.specs.Reaches.{Reaches}
-use Rattle.line_calls.proofs.Leaving.{frame_in, return_leaves}
+use Rattle.line_calls.specs.Laws.{frame_in}
+use Rattle.line_calls.proofs.Leaving.{return_leaves}
 use Rattle.line_calls.proofs.Reaching.{arrived}
 use Rattle.line_calls.proofs.Traps.{IsTrap, can0, can8, own_trap, pop_reaches, pop_words, push_out, push_reaches, raise_code, trap_is}
 
@@ -332,7 +329,8 @@ module _ (s : Fixed) (n : Named) (laid : Laid) (live : List Line → Type 0) (en
   enter_line p seat behind part = by_raised a.raised refl
     where
       nothing : (l : Loc) → l ≡ loc.Machine 10 → PartStands s n v.place (v.place + k) (moved (length a.tries) (loc.Machine 10) l) → v.place + k ≡ v.place
-      nothing l e st = nothing_more s n v.place (v.place + k) (subst (λ q. PartStands s n v.place (v.place + k) (moved (length a.tries) (loc.Machine 10) q)) e st)
+      nothing l e st = nothing_more s n v.place (v.place + k) (subst (λ q. PartStands s n v.place (v.place + k) (moved (length a.tries)
+          (loc.Machine 10) q)) e st)
 
       by_raised : (o : Option Value) → a.raised ≡ o →
           FollowsStep k s laid live entry c v (on_act place m (record { op = lin.Flow flow.EnterTrap; args = []; results = p ∷ [] }) next file a

@@ -1,6 +1,5 @@
 -- Steps that make no call: what follows them says nothing of calls.
-use Rattle.std.proofs.Common.{◌≡◌, ℕ, ◌+◌, Bool, true, false, List, [], ◌∷◌, Option, Some, None}
-use Rattle.bs_words.specs.declared.values.Value.{Value}
+use Rattle.std.proofs.Common.{ℕ, List, Option, Some, None}
 use Rattle.lin_ir.specs.Meaning.{Locations, on_act, wrote}
 use Rattle.lin_ir.specs.declared.lin.Lin.{Lin}
 use Rattle.lin_ir.specs.declared.lin.Line.{Line}
@@ -37,7 +36,8 @@ wrote_no : (rest : List Line) (a : Around) (o : Option Locations) → NoWait (wr
 wrote_no rest a None = tt
 wrote_no rest a (Some f) = tt
 
-pub act_no : (place : Place) (m : Lin) (i : Line) (next : List Line) (f : Locations) (a : Around) (act : Act) → NoAsk act → NoWait (on_act place m i next f a act)
+pub act_no : (place : Place) (m : Lin) (i : Line) (next : List Line) (f : Locations) (a : Around) (act : Act) → NoAsk act →
+    NoWait (on_act place m i next f a act)
 act_no place m i next f a (Asks callee xs go) h = absurd h
 act_no place m i next f a (Goes xs to b) h =
     wrote_no (code_at m.code next to) b (put_all place.setting.end i.results xs (clear (destroyed_by i.op) f))

@@ -1,28 +1,19 @@
 -- Constants and sums, in one instruction or through a scratch register.
-use Rattle.std.proofs.Common.{◌≡◌, ◌≢◌, ℕ, suc, ◌+◌, ◌-◌, ◌%◌, ◌^◌, ◌<◌, ◌≤◌, inl, inr, Bool, true, false, cond, nat_eq, nat_le, nat_lt, List, [], ◌∷◌, ◌++◌, slice_index, refl, ap, ap₂, arith, ◌∙◌, sym, subst, ⊎_elim}
-use Rattle.std.proofs.lemmas.Bool.{cond-false, leb-true, ltb-true, ne_eqb}
+use Rattle.std.proofs.Common.{◌≡◌, ◌≢◌, ℕ, suc, ◌+◌, ◌-◌, ◌%◌, ◌^◌, ◌<◌, ◌≤◌, inl, inr, Bool, true, false, cond, nat_le, nat_lt, [], ◌∷◌, ◌++◌, slice_index, refl, ap₂, arith, ◌∙◌, sym, subst, ⊎_elim}
+use Rattle.std.proofs.lemmas.Bool.{leb-true, ltb-true}
 use Rattle.bs_words.specs.Word.{add_word, sub_word}
-use Rattle.bs_words.proofs.Below.{add_word-below, sext_word-below, shl_word-below}
 use Rattle.emit_rules.specs.Constants.{constant, lowered, sum_to}
 use Rattle.emit_rules.specs.Instructions.{add, operation, with_immediate}
-use Rattle.emit_rules.specs.Traversal.{Each, each_none, each_more}
-use Rattle.emit_rules.specs.Values.{Makes, makes_first, makes_lower, makes_shift, makes_sum, makes_upper, piece_value, value_after}
-use Rattle.emit_rules.proofs.Values.{constant_is, constant_is_made}
 use Rattle.layout_rules.specs.Words.{Named}
 use Rattle.rv_isa.specs.Registers.{number}
 use Rattle.rv_isa.specs.declared.instr.AluImmOp.TheVariants.{Addi}
 use Rattle.rv_isa.specs.declared.instr.AluOp.TheVariants.{Add, Sub}
 use Rattle.rv_isa.specs.declared.instr.Instr.{Instr}
-use Rattle.rv_isa.specs.declared.instr.Instr.TheVariants.{Addiw, Lui, Op, OpImm, Shift}
-use Rattle.rv_isa.specs.declared.instr.ShiftOp.TheVariants.{Slli}
+use Rattle.rv_isa.specs.declared.instr.Instr.TheVariants.{Op, OpImm}
 use Rattle.rv_isa.specs.declared.register.Register.{Register}
-use Rattle.rv_machine.specs.Arithmetic.{imm_i}
 use Rattle.rv_machine.specs.Sound.{AreRegisters}
-use Rattle.rv_pieces.specs.declared.piece.Piece.{Piece}
-use Rattle.rv_pieces.specs.declared.piece.Piece.TheVariants.{Known}
-use Rattle.moving_laws.specs.Stands.{Among}
 use Rattle.linear_machine.specs.View.{Fixed, View, IsCode}
-use Rattle.linear_machine.proofs.Formats.{sets_addiw, sets_imm, sets_lui, sets_op, sets_shift}
+use Rattle.linear_machine.proofs.Formats.{sets_imm, sets_op}
 use Rattle.linear_machine.proofs.Jumps.{add_near, less_near}
 use Rattle.linear_machine.proofs.Immediates.{up}
 use Rattle.linear_machine.proofs.Sequences.{sets_as}
@@ -30,9 +21,9 @@ use Rattle.linear_machine.proofs.Steps.{Passes, SetsRegister}
 use Rattle.layout_rules.specs.Forms.{total_words}
 use Rattle.line_stands.specs.Parts.{PartStands}
 use Rattle.line_values.proofs.Chains.{constant_comes}
-use Rattle.line_stands.proofs.Parts.{known, nothing_more, splits}
+use Rattle.line_stands.proofs.Parts.{splits}
 use Rattle.line_calls.specs.Reaches.{Reaches}
-use Rattle.line_calls.proofs.Reaching.{arrived, reaches_as, reaches_more, reaches_none, reaches_set, reaches_then, single}
+use Rattle.line_calls.proofs.Reaching.{arrived, reaches_as, reaches_more, reaches_none, reaches_set, single}
 
 less_far : (a k : ℕ) → k ≤ a → a < 2 ^ 64 → sub_word a k ≡ a - k
 unfolding sub_word
@@ -58,7 +49,8 @@ module _ (s : Fixed) (n : Named) where
   module _ (x t f : Register) (kx kt kf : ℕ) (x_is : number x ≡ suc kx) (t_is : number t ≡ suc kt) (f_is : number f ≡ suc kf) (x_fits : suc kx < 32)
       (t_fits : suc kt < 32) (x_other : suc kx ≢ 2) (apart : suc kf ≢ suc kx) where
     sum_by :
-        (v : View) (to k : ℕ) (b : Bool) → nat_lt k 2048 ≡ b → PartStands s n v.place to (cond b (with_immediate Addi t f k ∷ []) (constant x k ++ add t f x ∷ [])) →
+        (v : View) (to k : ℕ) (b : Bool) → nat_lt k 2048 ≡ b → PartStands s n v.place to (cond b (with_immediate Addi t f k ∷ [])
+        (constant x k ++ add t f x ∷ [])) →
         AreRegisters v.registers → slice_index v.registers (suc kf) + k < 2 ^ 64 → Passes s (suc kt) (slice_index v.registers (suc kf) + k) →
         Reaches s v to (suc kt ∷ suc kx ∷ []) v.memory (λ w. slice_index w.registers (suc kt) ≡ slice_index v.registers (suc kf) + k)
     sum_by v to k true e st are fits passes =
@@ -81,7 +73,8 @@ module _ (s : Fixed) (n : Named) where
         let u = first.changes.view in
         let at : u.place ≡ parts.middle = arrived s v parts.middle (suc kt ∷ suc kx ∷ []) v.memory _ first in
         let c = single s n parts.middle to (Op Add (number t) (number f) (number x)) parts.second in
-        let c0 : IsCode s u.place (Op Add (number t) (number f) (number x)) = subst (λ q. IsCode s q (Op Add (number t) (number f) (number x))) (sym at) c.0 in
+        let c0 : IsCode s u.place (Op Add (number t) (number f) (number x)) = subst (λ q. IsCode s q (Op Add (number t) (number f) (number x)))
+        (sym at) c.0 in
         let there : IsCode s u.place (Op Add (suc kt) (suc kf) (suc kx)) =
         subst (λ q. IsCode s u.place (Op Add (suc kt) (suc kf) q)) x_is (subst (λ q. IsCode s u.place (Op Add (suc kt) q (number x))) f_is
         (subst (λ q. IsCode s u.place (Op Add q (number f) (number x))) t_is c0)) in

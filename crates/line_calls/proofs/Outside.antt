@@ -1,5 +1,5 @@
 -- The service of an external call, and where the machine stands behind it.
-use Rattle.std.proofs.Common.{◌≡◌, ◌≢◌, ℕ, zero, suc, ◌+◌, ◌-◌, ◌*◌, ◌%◌, ◌^◌, ◌<◌, ◌≤◌, ◌⊎◌, inl, inr, Bool, true, false, cond, List, [], ◌∷◌, ◌++◌, length, map, reverse, Option, Some, None, slice_get, slice_index, slice_set, refl, ap, ap₂, arith, ◌∙◌, sym, subst, ⊎_elim, get_or-set_same, get_or-set_other}
+use Rattle.std.proofs.Common.{◌≡◌, ◌≢◌, ℕ, ◌+◌, ◌^◌, ◌<◌, ◌≤◌, inl, inr, Bool, true, false, cond, List, [], ◌∷◌, ◌++◌, Some, None, slice_get, slice_index, refl, ap, arith, ◌∙◌, sym, subst, get_or-set_same}
 use Rattle.std.specs.List.{AllByRecursion}
 use Rattle.bs_words.specs.Memory.{Memory}
 use Rattle.bs_words.specs.Observed.{Made}
@@ -9,7 +9,7 @@ use Rattle.bs_words.specs.declared.types.Ret.{Ret}
 use Rattle.bs_words.specs.declared.types.Ret.TheVariants as ret
 use Rattle.bs_words.specs.declared.values.Value.{Value}
 use Rattle.bs_words.specs.declared.values.Value.TheVariants.{Word}
-use Rattle.cmm_meaning.specs.State.{Gave, Threw}
+use Rattle.cmm_meaning.specs.State.{Gave}
 use Rattle.image_form.specs.Tables.{Ext, Tables}
 use Rattle.lin_ir.specs.Meaning.{Locations, clear}
 use Rattle.mach_ir.specs.Acts.{Around}
@@ -17,16 +17,14 @@ use Rattle.mach_ir.specs.Meaning.{Temporaries, is_temporary}
 use Rattle.rv_isa.specs.declared.instr.Instr.TheVariants.{Ecall}
 use Rattle.rv_machine.specs.Hart.{Hart, Placed, past_ecall, with_register}
 use Rattle.rv_machine.specs.Hart as next
-use Rattle.rv_machine.specs.Memory.{Region, code_start}
 use Rattle.rv_machine.specs.Run.{after}
-use Rattle.rv_machine.specs.Services.{Machine, Going, answered, call_made, called, destroyed, external, external_at, filled, served}
+use Rattle.rv_machine.specs.Services.{Machine, Going, answered, call_made, called, destroyed, external, filled, served}
 use Rattle.rv_machine.specs.Sound.{AllWords, AreRegisters}
 use Rattle.machine_laws.proofs.Words.{other_register, with_registers}
 use Rattle.moving_laws.specs.Stands.{Among}
 use Rattle.linear_machine.specs.Files.{HoldsLess}
 use Rattle.linear_machine.specs.Outside.{GoesOn, Taken, given, taken_alone}
 use Rattle.linear_machine.specs.Relation.{Below, Laid, ReturnStands, Within}
-use Rattle.linear_machine.specs.Straight.{IsPast}
 use Rattle.linear_machine.specs.View.{Fixed, IsCode, Stands, View}
 use Rattle.linear_machine.proofs.Standing.{IsFree, within_changed}
 use Rattle.linear_machine.proofs.Steps.{one_step, ready, ready_stands}
@@ -58,7 +56,49 @@ lost_one : (q : ℕ) → 10 ≤ q → q ≢ 26 → q ≢ 27 → is_temporary q �
 lost_one q l a b t = record { low = l; no_young = a; no_domain = b; temporary = t }
 
 all_lost : AllByRecursion IsLost destroyed
-all_lost = (lost_one 10 (omega arith) (λ e. omega (arith, e)) (λ e. omega (arith, e)) refl, (lost_one 11 (omega arith) (λ e. omega (arith, e)) (λ e. omega (arith, e)) refl, (lost_one 12 (omega arith) (λ e. omega (arith, e)) (λ e. omega (arith, e)) refl, (lost_one 13 (omega arith) (λ e. omega (arith, e)) (λ e. omega (arith, e)) refl, (lost_one 14 (omega arith) (λ e. omega (arith, e)) (λ e. omega (arith, e)) refl, (lost_one 15 (omega arith) (λ e. omega (arith, e)) (λ e. omega (arith, e)) refl, (lost_one 16 (omega arith) (λ e. omega (arith, e)) (λ e. omega (arith, e)) refl, (lost_one 17 (omega arith) (λ e. omega (arith, e)) (λ e. omega (arith, e)) refl, (lost_one 28 (omega arith) (λ e. omega (arith, e)) (λ e. omega (arith, e)) refl, (lost_one 29 (omega arith) (λ e. omega (arith, e)) (λ e. omega (arith, e)) refl, (lost_one 30 (omega arith) (λ e. omega (arith, e)) (λ e. omega (arith, e)) refl, (lost_one 31 (omega arith) (λ e. omega (arith, e)) (λ e. omega (arith, e)) refl, tt))))))))))))
+all_lost = (
+  lost_one 10 (omega arith) (λ e. omega (arith, e)) (λ e. omega (arith, e)) refl,
+  (
+    lost_one 11 (omega arith) (λ e. omega (arith, e)) (λ e. omega
+        (arith, e)) refl,
+    (
+      lost_one 12 (omega arith) (λ e. omega (arith, e)) (λ e. omega (arith, e)) refl,
+      (
+        lost_one 13 (omega arith) (λ e. omega (arith, e))
+            (λ e. omega (arith, e)) refl,
+        (
+          lost_one 14 (omega arith) (λ e. omega (arith, e)) (λ e. omega (arith, e)) refl,
+          (
+            lost_one 15 (omega arith)
+                (λ e. omega (arith, e)) (λ e. omega (arith, e)) refl,
+            (
+              lost_one 16 (omega arith) (λ e. omega (arith, e)) (λ e. omega (arith, e)) refl,
+              (
+                lost_one 17 (omega arith) (λ e. omega (arith, e)) (λ e. omega (arith, e)) refl,
+                (
+                  lost_one 28 (omega arith) (λ e. omega (arith, e))
+                      (λ e. omega (arith, e)) refl,
+                  (
+                    lost_one 29 (omega arith) (λ e. omega (arith, e)) (λ e. omega (arith, e)) refl,
+                    (
+                      lost_one 30
+                          (omega arith) (λ e. omega (arith, e)) (λ e. omega (arith, e)) refl,
+                      (
+                        lost_one 31 (omega arith) (λ e. omega (arith, e)) (λ e. omega
+                            (arith, e)) refl,
+                        tt,
+                      ),
+                    ),
+                  ),
+                ),
+              ),
+            ),
+          ),
+        ),
+      ),
+    ),
+  ),
+)
 
 pub lost : (q : ℕ) → Among q destroyed → IsLost q
 lost q i = all_among IsLost destroyed q all_lost i
@@ -100,7 +140,8 @@ pub behind_are : (result : Ret) (x : ℕ) (registers : List ℕ) → x < 2 ^ 64 
 behind_are ret.Unit x registers small are = filled_are destroyed registers are
 behind_are (ret.Comp t) x registers small are = with_registers (filled destroyed registers) 10 x (filled_are destroyed registers are) small
 
-pub behind_others : (result : Ret) (x : ℕ) (registers : List ℕ) (q : ℕ) → (Among q destroyed → ⊥) → slice_index (behind result x registers) q ≡ slice_index registers q
+pub behind_others : (result : Ret) (x : ℕ) (registers : List ℕ) (q : ℕ) → (Among q destroyed → ⊥) →
+    slice_index (behind result x registers) q ≡ slice_index registers q
 behind_others ret.Unit x registers q none = filled_others destroyed registers q none
 behind_others (ret.Comp t) x registers q none =
     other_register (filled destroyed registers) 10 q x (λ e. none (inl (sym e))) ∙ filled_others destroyed registers q none
@@ -110,7 +151,8 @@ behind_result t x registers are = let n = (filled_are destroyed registers are).c
 
 -- the function stands behind it with what is not destroyed
 pub within_behind :
-    (s : Fixed) (laid : Laid) (v : View) (young : List Placed) (held : Locations) (a : Around) (c : Below) → Within s laid v young 0 held a c → a.raised ≡ None →
+    (s : Fixed) (laid : Laid) (v : View) (young : List Placed) (held : Locations) (a : Around) (c : Below) → Within s laid v young 0 held a c →
+    a.raised ≡ None →
     (place : ℕ) (registers answers : List ℕ) (calls : List Made) → AreRegisters registers →
     ((q : ℕ) → (Among q destroyed → ⊥) → slice_index registers q ≡ slice_index v.registers q) →
     Within s laid (record { place = place; registers = registers; memory = v.memory; blocks = v.blocks; answers = answers; calls = calls }) young 0
@@ -151,7 +193,8 @@ module _ (s : Fixed) (w : View) (code : IsCode s w.place Ecall) (service : slice
       let ok = ready_stands s a w st in
       let t : slice_index b.hart.registers 7 ≡ 2 = ap (λ xs. slice_index xs 7) ok.registers ∙ service in
       let row : slice_get b.hart.image.extcs (slice_index b.hart.registers 5) ≡ Some e =
-      ap (λ (i : Tables). slice_get i.extcs (slice_index b.hart.registers 5)) ok.image ∙ ap (λ xs. slice_get s.image.extcs (slice_index xs 5)) ok.registers ∙ there in
+      ap (λ (i : Tables). slice_get i.extcs (slice_index b.hart.registers 5)) ok.image ∙ ap (λ xs. slice_get s.image.extcs
+      (slice_index xs 5)) ok.registers ∙ there in
       one_step s a w Ecall (next.Service b.hart) st code refl j k q
       ∙ ap (λ y. after s.schedule k (served s.schedule.plan y b)) t
       ∙ ap (λ o. after s.schedule k (external o b)) row

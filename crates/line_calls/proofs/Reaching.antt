@@ -72,8 +72,10 @@ module _ (s : Fixed) where
       Reaches s v to rs m (λ w. Q w × ((q : ℕ) → (Among q rs2 → ⊥) → slice_index w.registers q ≡ slice_index first.changes.view.registers q))
   reaches_more v middle to rs rs2 m P Q first sub second =
       let u = first.changes.view in
-      reaches_then v middle to rs m m P (λ w. Q w × ((q : ℕ) → (Among q rs2 → ⊥) → slice_index w.registers q ≡ slice_index first.changes.view.registers q)) first
-      (subst (λ k. Reaches s u to rs k (λ w. Q w × ((q : ℕ) → (Among q rs2 → ⊥) → slice_index w.registers q ≡ slice_index u.registers q))) first.changes.past.memory
+      reaches_then v middle to rs m m P (λ w. Q w × ((q : ℕ) → (Among q rs2 → ⊥) → slice_index w.registers q ≡ slice_index first.changes.view.registers q))
+      first
+      (subst (λ k. Reaches s u to rs k (λ w. Q w × ((q : ℕ) → (Among q rs2 → ⊥) → slice_index w.registers q ≡ slice_index u.registers q)))
+      first.changes.past.memory
       (reaches_as u to rs2 rs u.memory Q (λ w. Q w × ((q : ℕ) → (Among q rs2 → ⊥) → slice_index w.registers q ≡ slice_index u.registers q)) sub
       (λ w n p x. (x, p.others)) second))
 
@@ -88,7 +90,8 @@ module _ (s : Fixed) where
       record {
         count = first.count + 1;
         lands = omega (arith, l);
-        changes = store_more s v first.count rs m P first.changes ra rb imm x value (subst (λ q. IsCode s q (Store Sd ra rb imm)) (sym l) code) e is off regions can;
+        changes = store_more s v first.count rs m P first.changes ra rb imm x value (subst (λ q. IsCode s q (Store Sd ra rb imm))
+            (sym l) code) e is off regions can;
       }
 
   -- the last piece is one instruction

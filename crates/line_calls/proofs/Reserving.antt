@@ -1,5 +1,5 @@
 -- Bytes are taken off s10, and the allocation service is asked where that is then below the limit.
-use Rattle.std.proofs.Common.{◌≡◌, ◌≢◌, ℕ, zero, suc, ◌+◌, ◌-◌, ◌*◌, ◌%◌, ◌^◌, ◌<◌, ◌≤◌, ◌⊎◌, inl, inr, Bool, true, false, not, nat_lt, List, [], ◌∷◌, ◌++◌, length, map, reverse, Option, Some, None, slice_index, refl, ap, ap₂, arith, ◌∙◌, sym, subst, ⊎_elim, length-append}
+use Rattle.std.proofs.Common.{◌≡◌, ◌≢◌, ℕ, ◌+◌, ◌-◌, ◌*◌, ◌%◌, ◌<◌, ◌≤◌, inl, inr, Bool, true, false, not, nat_lt, List, [], ◌∷◌, ◌++◌, length, map, Option, Some, None, slice_index, refl, ap, arith, ◌∙◌, sym, subst, ⊎_elim, length-append}
 use Rattle.std.proofs.lemmas.Bool.{and_from, eq-eqb, le-leb, ltb-false}
 use Rattle.bs_words.specs.Fits.{data_start}
 use Rattle.bs_words.specs.Memory.{heap_need}
@@ -13,7 +13,7 @@ use Rattle.emit_rules.specs.Memory.{ask, reserved}
 use Rattle.emit_rules.specs.Sizes.{words_at_most}
 use Rattle.emit_rules.specs.Traversal.{Each, each_none, each_more}
 use Rattle.emit_rules.specs.Values.{Makes, makes_first, makes_lower, makes_shift, makes_sum, makes_upper}
-use Rattle.emit_rules.proofs.Sizes.{Short, constant-in}
+use Rattle.emit_rules.proofs.Sizes.{constant-in}
 use Rattle.emit_rules.proofs.Values.{constant_is_made}
 use Rattle.image_form.specs.Tables.{Desc}
 use Rattle.layout_rules.specs.Words.{Named}
@@ -28,31 +28,26 @@ use Rattle.rv_isa.specs.declared.instr.ShiftOp.TheVariants.{Slli}
 use Rattle.rv_isa.specs.declared.instr.LoadWidth.TheVariants.{Ld}
 use Rattle.rv_isa.specs.declared.register.Register.{Register}
 use Rattle.rv_isa.specs.declared.register.Register.TheVariants.{S10, S11, T0, T1, T2}
-use Rattle.rv_machine.specs.Allocation.{is_request}
-use Rattle.rv_machine.specs.Arithmetic.{imm_b, is_taken}
+use Rattle.rv_machine.specs.Arithmetic.{imm_b}
 use Rattle.rv_machine.specs.Frames.{descriptor_at}
 use Rattle.rv_machine.specs.Hart.{Placed}
 use Rattle.rv_machine.specs.Memory.{code_start, word}
 use Rattle.rv_machine.specs.Observation.{young_start, young_top}
-use Rattle.rv_machine.specs.Placement.{are_apart, bytes_used}
-use Rattle.rv_machine.specs.Places.{limit_asked, limit_at_rest}
+use Rattle.rv_machine.specs.Placement.{are_apart}
 use Rattle.rv_machine.specs.Sound.{HasRegions, extents}
 use Rattle.rv_machine.specs.Space.{IsHeap}
 use Rattle.rv_pieces.specs.declared.piece.Piece.{Piece}
-use Rattle.rv_pieces.specs.declared.piece.Piece.TheVariants.{Known}
 use Rattle.moving_laws.specs.Stands.{Among}
 use Rattle.moving_laws.specs.Waiting.{traps_at}
 use Rattle.moving_laws.specs.Young.{Rises}
 use Rattle.linear_machine.specs.Arrival.{Arrives, ArrivesIn, Needs}
-use Rattle.linear_machine.specs.Files.{HoldsLess}
 use Rattle.linear_machine.specs.Relation.{AreCarried, Below, HeapStands, IsDescribed, Laid, ReturnStands, SlotsHold, StandsFor, TrapsStand, Waits, Within, all_of}
 use Rattle.linear_machine.specs.Straight.{IsPast}
-use Rattle.linear_machine.specs.View.{Fixed, IsCode, Leads, View}
+use Rattle.linear_machine.specs.View.{Fixed, IsCode, View}
 use Rattle.linear_machine.proofs.Arriving.{at_least, leads_arrives, then_arrives}
 use Rattle.linear_machine.proofs.Formats.{goes_branch_on, goes_branch_taken}
 use Rattle.linear_machine.proofs.Frames.{poisoned_some}
 use Rattle.linear_machine.proofs.Limits.{HasLimit, limit_arrives}
-use Rattle.linear_machine.proofs.Moving.{rises_top}
 use Rattle.linear_machine.proofs.Serving.{allocation_any}
 use Rattle.linear_machine.proofs.Standing.{IsFree, within_changed, within_less, within_past}
 use Rattle.linear_machine.proofs.Steps.{SetsRegister, at_place, go_step}
@@ -279,10 +274,12 @@ module _ (s : Fixed) (n : Named) (laid : Laid) (v : View) (young : List Placed) 
       let off : ℕ = 4 * (1 + length (ask bytes)) in
       let same : off % 8192 ≡ off = omega (arith, few) in
       let offset : imm_b (4 * (1 + length (ask bytes)) % 8192) ≡ off =
-      ap imm_b same ∙ ⊎_elim (λ (p : (off < 4096) × (imm_b off ≡ off)). p.1) (λ p. absurd (let z = p.0 in omega (arith, z, few))) (by_13 off (omega (arith, few))) in
+      ap imm_b same ∙ ⊎_elim (λ (p : (off < 4096) × (imm_b off ≡ off)). p.1) (λ p. absurd (let z = p.0 in omega (arith, z, few))) (by_13 off (omega
+      (arith, few))) in
       let near = place_near s u.place _ k.0 in
       let target : add_word (code_start + 4 * u.place) (imm_b (4 * (1 + length (ask bytes)) % 8192)) ≡ code_start + 4 * middle =
-      ap (add_word (code_start + 4 * u.place)) offset ∙ up (code_start + 4 * u.place) off (code_start + 4 * middle) (omega (arith, lands)) (omega (arith, lands, near, few)) in
+      ap (add_word (code_start + 4 * u.place)) offset ∙ up (code_start + 4 * u.place) off (code_start + 4 * middle) (omega (arith, lands)) (omega
+      (arith, lands, near, few)) in
       let dest = at_place middle u in
       let more : ℕ = 1 + length (ask bytes) in
       let at : u.place + more ≡ middle = omega (arith, lands) in
@@ -291,13 +288,15 @@ module _ (s : Fixed) (n : Named) (laid : Laid) (v : View) (young : List Placed) 
       at_least 0 0 1 (1 + length (ask bytes)) s u Final (omega arith) (omega arith)
       (leads_arrives s 1 u dest Final
       (go_step s u (Branch Bgeu 26 6 (4 * (1 + length (ask bytes)) % 8192)) middle k.0
-      (goes_branch_taken s u Bgeu 26 6 (4 * (1 + length (ask bytes)) % 8192) middle (ap not e) target))
-      (refl, record {
-        young = young;
-        within = within_less s laid dest young bytes held (poisoned point held) a c (record { each = λ l x h. (poisoned_some point held l x h).0 })
-            (subst (λ p. Within s laid (at_place p u) young bytes held a c) at (moved_to u more wu));
-        room = omega (arith, low, not_less);
-      }))
+      (goes_branch_taken s u Bgeu 26 6 (4 * (1 + length (ask bytes)) % 8192) middle (ap not e) target)) (
+        refl,
+        record {
+          young = young;
+          within = within_less s laid dest young bytes held (poisoned point held) a c (record { each = λ l x h. (poisoned_some point held l x h).0 })
+              (subst (λ p. Within s laid (at_place p u) young bytes held a c) at (moved_to u more wu));
+          room = omega (arith, low, not_less);
+        },
+      ))
 
   -- ---- from the first word on
 

@@ -57,7 +57,8 @@ read_from :
     (end : ℕ) (file : Locations) (ps : List Spot) (xs : List Value) (j : ℕ) (rs : List ℕ) (more : List Loc) → places_of ps ++ more ≡ map loc.Machine rs →
     Rising j rs → values end file ps ≡ Some xs →
     (k : ℕ) (x : Value) → slice_get xs k ≡ Some x → (k < length rs) × IsOperand end file ps j k x
-read_from end file [] xs j rs more e up h k x g = absurd (let none : [] ≡ xs = cc in let n : slice_get xs k ≡ None = subst (λ ys. slice_get ys k ≡ None) none refl in cc)
+read_from end file [] xs j rs more e up h k x g = absurd (let none : [] ≡ xs = cc in let n : slice_get xs k ≡ None = subst
+    (λ ys. slice_get ys k ≡ None) none refl in cc)
 read_from end file (p ∷ ps) xs j [] more e up h k x g = absurd (cc)
 read_from end file (p ∷ ps) xs j (r ∷ rs) more e up h zero x g =
     let w = was_read end p.comp (file p.loc) (values end file ps) xs h in
@@ -96,7 +97,8 @@ pub record WasPut (end : ℕ) (p : Spot) (x : Value) (o : Option Locations) (f :
   pub fit : fits end (type_of_comp p.comp) x ≡ true
   pub is : f ≡ put p x before
 
-pub was_put : (end : ℕ) (p : Spot) (x : Value) (o : Option Locations) (f : Locations) → put_if (fits end (type_of_comp p.comp) x) p x o ≡ Some f → WasPut end p x o f
+pub was_put : (end : ℕ) (p : Spot) (x : Value) (o : Option Locations) (f : Locations) → put_if (fits end (type_of_comp p.comp) x) p x o ≡ Some f →
+    WasPut end p x o f
 was_put end p x o f e = by_test (fits end (type_of_comp p.comp) x) refl o e
   where
     by_test : (b : Bool) → fits end (type_of_comp p.comp) x ≡ b → (o : Option Locations) → put_if b p x o ≡ Some f → WasPut end p x o f
@@ -116,7 +118,11 @@ put_from end (p ∷ ps) (y ∷ ys) j (r ∷ rs) more f e up h l x g =
     let w = was_put end p y (put_all end ps ys (λ l. None)) f h in
     let at = same_place p.loc r (places_of ps ++ more) (map loc.Machine rs) e in
     by_test (same_loc p.loc l) refl (subst (λ z. z l ≡ Some x) w.is g)
-    (λ i. let k = put_from end ps ys (suc j) rs more w.before at.1 up.1 w.was l x i in (suc k.0, (let s : suc j + k.0 ≡ j + suc k.0 = omega arith in k.1 ∙ ap loc.Machine s), k.2))
+    (λ i. let k = put_from end ps ys (suc j) rs more w.before at.1 up.1 w.was l x i in (
+      suc k.0,
+      (let s : suc j + k.0 ≡ j + suc k.0 = omega arith in k.1 ∙ ap loc.Machine s),
+      k.2,
+    ))
     (at.0 ∙ ap loc.Machine up.0)
   where
     by_test : (b : Bool) → same_loc p.loc l ≡ b → {o : Option Value} → cond b (Some y) o ≡ Some x →
@@ -133,7 +139,8 @@ parameters_put end ps xs f (in_order more e) h = record {
   register = λ r x g.
       let k = put_from end ps xs 10 argument_registers more f e arguments_rise h (loc.Machine r) x g in
       (k.0, (let s : loc.Machine r ≡ loc.Machine (10 + k.0) = k.1 in cc), k.2);
-  slot = λ q x g. let k = put_from end ps xs 10 argument_registers more f e arguments_rise h (loc.Slot q) x g in absurd (let s : loc.Slot q ≡ loc.Machine (10 + k.0) = k.1 in cc);
+  slot = λ q x g. let k = put_from end ps xs 10 argument_registers more f e arguments_rise h (loc.Slot q) x g in absurd (let s : loc.Slot q ≡ loc.Machine
+      (10 + k.0) = k.1 in cc);
 }
 
 -- ---- one place

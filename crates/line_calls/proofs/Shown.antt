@@ -1,5 +1,5 @@
 -- What is observed of the arguments of an external call: it does not depend on where the blocks lie.
-use Rattle.std.proofs.Common.{◌≡◌, ◌≢◌, ℕ, zero, suc, ◌+◌, ◌-◌, ◌*◌, ◌%◌, ◌^◌, ◌<◌, ◌≤◌, ◌⊎◌, inl, inr, true, ◌==◌, List, [], ◌∷◌, ◌++◌, length, map, reverse, Option, Some, None, slice_get, slice_index, refl, ap, ap₂, arith, ◌∙◌, sym, subst, ⊎_elim, length-append}
+use Rattle.std.proofs.Common.{◌≡◌, ◌≢◌, ℕ, zero, suc, ◌+◌, ◌^◌, ◌<◌, ◌≤◌, inl, true, ◌==◌, List, [], ◌∷◌, ◌++◌, length, map, reverse, Some, None, slice_get, slice_index, refl, ap, ap₂, arith, ◌∙◌, sym, subst, ⊎_elim, length-append}
 use Rattle.std.specs.Prelude.{option_map}
 use Rattle.std.specs.List.{AllByRecursion, flat_map}
 use Rattle.std.proofs.lemmas.Bool.{eq-eqb, ne_eqb, cond-true, cond-false}
@@ -9,13 +9,12 @@ use Rattle.bs_words.specs.declared.types.Comp.{Comp}
 use Rattle.bs_words.specs.declared.types.Comp.TheVariants as comp
 use Rattle.bs_words.specs.declared.types.Loc.{Loc}
 use Rattle.bs_words.specs.declared.types.Loc.TheVariants as loc
-use Rattle.bs_words.specs.declared.types.Ty.TheVariants as ty
 use Rattle.bs_words.specs.declared.values.Obs.TheVariants as obs
 use Rattle.bs_words.specs.declared.values.Value.{Value}
 use Rattle.bs_words.specs.declared.values.Value.TheVariants.{Word, Block, Function}
-use Rattle.image_form.specs.Image.{IsArgument, IsExt, ext_bytes, le32, table_bytes}
+use Rattle.image_form.specs.Image.{IsArgument, ext_bytes, le32, table_bytes}
 use Rattle.image_form.specs.Tables.{Ext, Tables}
-use Rattle.image_form.proofs.Lengths.{Nonempty, ext_nonempty, length-le32}
+use Rattle.image_form.proofs.Lengths.{Nonempty, ext_nonempty}
 use Rattle.lin_ir.specs.Formed.{comps, places_of}
 use Rattle.lin_ir.specs.Meaning.{Locations, values}
 use Rattle.lin_ir.specs.declared.lin.Spot.{Spot}
@@ -105,7 +104,8 @@ module _ (s : Fixed) (laid : Laid) (u : View) (young : List Placed) (held : Loca
       (found u.memory (λ x e lo hi. young_readable s.image s.heap s.base u.memory within.usable.regions x e lo hi) (slice_index u.registers 26) young
       (omega (arith, even)) (omega (arith, low)) (subst (λ x. Rises x young) same within.own.rises) (heads_of s u young u.memory a whole within.heap))
 
-  shown_one : (t : Comp) (x : Value) (w : ℕ) → fits (data_start + length s.image.bytes) (type_of_comp t) x ≡ true → IsArgument t → StandsFor s (all_of u young) w x →
+  shown_one : (t : Comp) (x : Value) (w : ℕ) → fits (data_start + length s.image.bytes) (type_of_comp t) x ≡ true → IsArgument t →
+      StandsFor s (all_of u young) w x →
       observed (hart_of s u h) t w ≡ shown s.image x
   shown_one comp.Int (Word b) w fit is st = ap obs.Word st.is
   shown_one comp.Int (Block k o) w fit is st = absurd (cc)
@@ -151,8 +151,7 @@ tabled_from s placed registers end file hold (p ∷ ps) xs r (q ∷ rs) more low
     let at = same_place p.loc q (places_of ps ++ more) (map loc.Machine rs) e in
     let there : p.loc ≡ loc.Machine (suc r) = at.0 ∙ ap loc.Machine up.0 in
     let stands = hold (suc r) w.value (omega (arith, low)) (subst (λ l. file l ≡ Some w.value) there w.held) in
-    subst (AllByRecursion (IsInTable s.image)) (sym w.are)
-    (
+    subst (AllByRecursion (IsInTable s.image)) (sym w.are) (
       in_table s.image (length placed) w.value stands.known,
       tabled_from s placed registers end file hold ps w.others (suc r) rs more (omega (arith, low)) at.1 up.1 w.rest,
     )

@@ -1,5 +1,5 @@
 -- Words of the stack are loaded and stored, near sp and far from it.
-use Rattle.std.proofs.Common.{◌≡◌, ◌≢◌, ℕ, suc, ◌+◌, ◌%◌, ◌^◌, ◌<◌, Bool, true, false, cond, nat_lt, List, [], ◌∷◌, ◌++◌, slice_index, refl, arith, sym, subst, ⊎_elim, inl, inr}
+use Rattle.std.proofs.Common.{◌≡◌, ◌≢◌, ℕ, suc, ◌+◌, ◌%◌, ◌^◌, ◌<◌, Bool, true, false, cond, nat_lt, [], ◌∷◌, ◌++◌, slice_index, refl, arith, subst, ⊎_elim, inl}
 use Rattle.std.specs.List.{AllByRecursion}
 use Rattle.std.proofs.lemmas.Bool.{ltb-true}
 use Rattle.emit_rules.specs.Slots.{far_stack, stack_load, stack_store}
@@ -15,11 +15,9 @@ use Rattle.rv_isa.specs.declared.register.Register.TheVariants.{Sp}
 use Rattle.rv_machine.specs.Memory.{word, write}
 use Rattle.rv_machine.specs.Sound.{AreRegisters, IsRegion}
 use Rattle.linear_machine.specs.View.{Fixed, View, HasCode}
-use Rattle.linear_machine.proofs.Sequences.{widened}
 use Rattle.linear_machine.proofs.Slots.{IsStackWord, above_12, load_far, load_near, store_far, store_near}
-use Rattle.linear_machine.proofs.Steps.{reg}
 use Rattle.line_stands.specs.Parts.{PartStands}
-use Rattle.line_stands.proofs.Parts.{known, nothing_more}
+use Rattle.line_stands.proofs.Parts.{known}
 use Rattle.line_calls.specs.Reaches.{Reaches}
 use Rattle.line_calls.proofs.Reaching.{reaches_as, single}
 
@@ -40,7 +38,8 @@ module _ (s : Fixed) (n : Named) (v : View) (are : AreRegisters v.registers) (of
         let a = known s n v.place to (Lui (number x) (above_12 offset % 2 ^ 20)) _ st in
         let b = known s n (v.place + 1) to (Op Add (number x) (number x) 2) _ a.1 in
         let c = single s n (v.place + 1 + 1) to (Load Ld (number t) (number x) (offset % 4096)) b.1 in
-        let code = subst (λ q. HasCode s v.place (Lui (suc kx) (above_12 offset % 2 ^ 20) ∷ Op Add (suc kx) (suc kx) 2 ∷ Load Ld q (suc kx) (offset % 4096) ∷ [])) t_is
+        let code = subst (λ q. HasCode s v.place (Lui (suc kx) (above_12 offset % 2 ^ 20) ∷ Op Add (suc kx) (suc kx) 2 ∷ Load Ld q (suc kx)
+        (offset % 4096) ∷ [])) t_is
         (subst (λ q. HasCode s v.place (Lui q (above_12 offset % 2 ^ 20) ∷ Op Add q q 2 ∷ Load Ld (number t) q (offset % 4096) ∷ [])) x_is
         (a.0, (b.0, (c.0, tt)))) in
         let e = c.1 in
@@ -66,7 +65,8 @@ module _ (s : Fixed) (n : Named) (v : View) (are : AreRegisters v.registers) (of
         let a = known s n v.place to (Lui (number x) (above_12 offset % 2 ^ 20)) _ st in
         let b = known s n (v.place + 1) to (Op Add (number x) (number x) 2) _ a.1 in
         let c = single s n (v.place + 1 + 1) to (Store Sd (number x) (number r) (offset % 4096)) b.1 in
-        let code = subst (λ q. HasCode s v.place (Lui (suc kx) (above_12 offset % 2 ^ 20) ∷ Op Add (suc kx) (suc kx) 2 ∷ Store Sd (suc kx) q (offset % 4096) ∷ [])) r_is
+        let code = subst (λ q. HasCode s v.place (Lui (suc kx) (above_12 offset % 2 ^ 20) ∷ Op Add (suc kx) (suc kx) 2 ∷ Store Sd (suc kx) q
+        (offset % 4096) ∷ [])) r_is
         (subst (λ q. HasCode s v.place (Lui q (above_12 offset % 2 ^ 20) ∷ Op Add q q 2 ∷ Store Sd q (number r) (offset % 4096) ∷ [])) x_is
         (a.0, (b.0, (c.0, tt)))) in
         let e = c.1 in

@@ -1,5 +1,5 @@
 -- The lines in which a callee takes the function's place.
-use Rattle.std.proofs.Common.{◌≡◌, ◌≢◌, ℕ, zero, suc, ◌+◌, ◌-◌, ◌*◌, ◌<◌, ◌≤◌, inl, inr, Bool, true, false, ◌&&◌, List, [], ◌∷◌, ◌++◌, length, Option, Some, None, slice_get, refl, ap, arith, ◌∙◌, sym, subst}
+use Rattle.std.proofs.Common.{◌≡◌, ℕ, ◌+◌, ◌<◌, Bool, true, false, ◌&&◌, List, [], ◌∷◌, length, Option, Some, None, slice_get, refl, ap, arith, ◌∙◌}
 use Rattle.std.proofs.lemmas.Bool.{and_parts}
 use Rattle.bs_words.specs.declared.types.Comp.{Comp}
 use Rattle.bs_words.specs.declared.types.Loc.TheVariants as loc
@@ -16,7 +16,7 @@ use Rattle.lin_ir.specs.declared.lin.Lin.{Lin}
 use Rattle.lin_ir.specs.declared.lin.Line.{Line}
 use Rattle.lin_ir.specs.declared.lin.LinOp.TheVariants as lin
 use Rattle.lin_ir.specs.declared.lin.Spot.{Spot}
-use Rattle.mach_ir.specs.Acts.{Around, Replaces, asks, asks_callee, asks_value, is_complete, only_if}
+use Rattle.mach_ir.specs.Acts.{Around, Replaces, asks, asks_value, is_complete, only_if}
 use Rattle.mach_ir.specs.Runs.{Place}
 use Rattle.mach_ir.specs.Seats.{AfterFirst, AreSeated, InOrder, after_first, argument_places, in_order}
 use Rattle.mach_ir.specs.declared.op.Callee.{Callee}
@@ -24,7 +24,6 @@ use Rattle.mach_ir.specs.declared.op.Callee.TheVariants as callee
 use Rattle.mach_ir.specs.declared.op.Calling.TheVariants as calling
 use Rattle.mach_ir.specs.declared.op.Op.TheVariants as op
 use Rattle.rv_machine.specs.Hart.{Placed}
-use Rattle.moving_laws.specs.Values.{function_at}
 use Rattle.linear_machine.specs.Arrival.{ArrivesIn, nothing}
 use Rattle.linear_machine.specs.Follows.{Agrees, FollowsStep, IsEntered}
 use Rattle.linear_machine.specs.Moments.{AtEntry}
@@ -37,7 +36,7 @@ use Rattle.line_stands.specs.Parts.{PartStands}
 use Rattle.line_calls.specs.Leading.{Leaves}
 use Rattle.line_calls.specs.Points.{EntriesStand}
 use Rattle.line_calls.proofs.Callees.{registered_replaces}
-use Rattle.line_calls.proofs.Leaving.{frame_in}
+use Rattle.line_calls.specs.Laws.{frame_in}
 use Rattle.line_calls.proofs.Seats.{arguments_read, was_read}
 use Rattle.line_calls.proofs.Tailing.{named_replaces}
 
@@ -106,7 +105,8 @@ module _ (s : Fixed) (n : Named) (laid : Laid) (live : List Line → Type 0) (en
           replaces_follows (callee.Symbol name) args (place.setting.symbol name) xs
           (λ f q whole.
           let known = symbol (Function f) q in
-          arrives f xs (named_replaces s n laid v young held a c within left none whole xs (passed_on args xs seats h) entry f entries known.known name (v.place + k)
+          arrives f xs (named_replaces s n laid v young held a c within left none whole xs (passed_on args xs seats h) entry f entries known.known name
+          (v.place + k)
           known.is part))
 
   -- ---- to the address in a location

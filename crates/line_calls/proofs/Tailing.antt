@@ -1,12 +1,11 @@
 -- A callee takes a function's place: it begins where the function began.
-use Rattle.std.proofs.Common.{◌≡◌, ◌≢◌, ℕ, zero, suc, ◌+◌, ◌-◌, ◌*◌, ◌%◌, ◌^◌, ◌<◌, ◌≤◌, inl, inr, Bool, true, false, List, [], ◌∷◌, ◌++◌, length, map, Option, Some, None, slice_get, slice_index, refl, ap, arith, ◌∙◌, sym, subst, ⊎_elim}
+use Rattle.std.proofs.Common.{◌≡◌, ◌≢◌, ℕ, ◌+◌, ◌*◌, ◌^◌, ◌<◌, inl, inr, true, List, [], ◌∷◌, ◌++◌, length, map, Some, None, slice_get, slice_index, refl, ap, arith, ◌∙◌, sym, subst, ⊎_elim}
 use Rattle.std.proofs.lemmas.Option.{slice_get_within}
 use Rattle.bs_words.specs.Word.{add_word}
 use Rattle.bs_words.proofs.Below.{add_word-below}
 use Rattle.bs_words.specs.declared.types.Loc.TheVariants as loc
 use Rattle.bs_words.specs.declared.values.Value.{Value}
 use Rattle.emit_rules.specs.Entry.{given_back}
-use Rattle.emit_rules.specs.Instructions.{goes_to}
 use Rattle.layout_rules.specs.Laid.{address_of_place}
 use Rattle.layout_rules.specs.Words.{Named, distance, lower, upper}
 use Rattle.layout_rules.proofs.Offsets.{far_lands}
@@ -15,8 +14,7 @@ use Rattle.mach_ir.specs.Acts.{Around, is_complete}
 use Rattle.mach_ir.specs.Runs.{entered}
 use Rattle.rv_isa.specs.Encoding.{encoded}
 use Rattle.rv_isa.specs.declared.instr.Instr.{Instr}
-use Rattle.rv_isa.specs.declared.instr.Instr.TheVariants.{Auipc, Jalr}
-use Rattle.rv_isa.specs.declared.register.Register.TheVariants.{T1}
+use Rattle.rv_isa.specs.declared.instr.Instr.TheVariants.{Auipc}
 use Rattle.rv_machine.specs.Arithmetic.{imm_i, imm_u}
 use Rattle.rv_machine.specs.Hart.{Placed}
 use Rattle.rv_machine.specs.Memory.{code_start}
@@ -38,8 +36,9 @@ use Rattle.line_stands.proofs.Parts.{begins, nothing_more, splits}
 use Rattle.line_calls.specs.Leading.{Leaves}
 use Rattle.line_calls.specs.Points.{EntriesStand}
 use Rattle.line_calls.specs.Reaches.{Reaches}
-use Rattle.line_calls.proofs.Leaving.{frame_in, given_back_reaches, jump_behind, no_offset}
-use Rattle.line_calls.proofs.Reaching.{arrived, reaches_as, reaches_more, reaches_set, single}
+use Rattle.line_calls.specs.Laws.{frame_in}
+use Rattle.line_calls.proofs.Leaving.{given_back_reaches, jump_behind}
+use Rattle.line_calls.proofs.Reaching.{arrived, reaches_as, reaches_more, reaches_set}
 
 -- ---- places of the code
 
@@ -92,9 +91,11 @@ module _ (s : Fixed) (laid : Laid) (v w : View) (young : List Placed) (held : Lo
         waits = subst (λ b. Waits s b w.memory c) (sym same) (subst (λ m. Waits s (all_of v young) m c) (sym differs.memory) within.waits);
         traps = subst (λ m. TrapsStand s m (slice_index w.registers 9) [] c) (sym differs.memory)
             (subst (λ t. TrapsStand s v.memory t [] c) (sym e9)
-            (subst (λ ts. TrapsStand s v.memory (slice_index v.registers 9) (traps_at (slice_index v.registers 2) (map laid.handler ts)) c) left within.traps));
+            (subst (λ ts. TrapsStand s v.memory (slice_index v.registers 9) (traps_at (slice_index v.registers 2)
+            (map laid.handler ts)) c) left within.traps));
         heap = subst (λ b. HeapStands s b w.memory (entered a.memory)) (sym same)
-            (subst (λ m. HeapStands s (all_of v young) m (entered a.memory)) (sym differs.memory) (heap_whole s (all_of v young) v.memory a whole within.heap));
+            (subst (λ m. HeapStands s (all_of v young) m (entered a.memory)) (sym differs.memory) (heap_whole s
+            (all_of v young) v.memory a whole within.heap));
       }
 
 -- ---- its frame is given back, and then it goes to the callee
@@ -127,13 +128,15 @@ module _ (s : Fixed) (n : Named) (laid : Laid) (v : View) (young : List Placed) 
       let same : add_word (code_start + 4 * u.place) (imm_u (upper d)) ≡ half = ap (λ p. add_word (code_start + 4 * p) (imm_u (upper d))) here in
       let both = reaches_more s v parts.middle (parts.middle + 1) (1 ∷ 2 ∷ 6 ∷ 7 ∷ []) (6 ∷ []) v.memory _ _ wide
       (λ q i. ⊎_elim (λ h. inr (inr (inl h))) (λ z. absurd z) i)
-      (reaches_set s u (parts.middle + 1) (Auipc 6 (upper d)) 5 half (subst (λ p. IsCode s p (Auipc 6 (upper d))) (sym here) call.code.0) (omega (arith, here))
+      (reaches_set s u (parts.middle + 1) (Auipc 6 (upper d)) 5 half (subst (λ p. IsCode s p (Auipc 6 (upper d))) (sym here) call.code.0) (omega
+      (arith, here))
       (inl (λ q. omega (arith, q))) (sets_as s u (Auipc 6 (upper d)) 6 _ half same (sets_auipc s u 6 (upper d))) wide.changes.past.are (omega arith)
       (add_word-below _ _)) in
       let z = both.changes.view in
       let six : slice_index z.registers 6 ≡ half = both.changes.holds.0 in
       let lands : add_word (slice_index z.registers 6) (imm_i (lower d)) ≡ code_start + 4 * entry f =
-      subst (λ x. add_word x (imm_i (lower d)) ≡ add_word half (imm_i (lower d))) (sym six) refl ∙ far_lands from (n.symbol name) (omega (arith, near)) (omega (arith, address, far)) ∙ address in
+      subst (λ x. add_word x (imm_i (lower d)) ≡ add_word half (imm_i (lower d))) (sym six) refl ∙ far_lands from (n.symbol name) (omega (arith, near))
+      (omega (arith, address, far)) ∙ address in
       let k = both.lands in
       record {
         count = both.count + 1;

@@ -1,15 +1,14 @@
 -- Tries are pushed and popped, a handler is entered, and a raise goes to the innermost one.
-use Rattle.std.proofs.Common.{◌≡◌, ◌≢◌, ℕ, zero, suc, ◌+◌, ◌-◌, ◌*◌, ◌%◌, ◌^◌, ◌<◌, ◌≤◌, ◌⊎◌, inl, inr, Bool, true, false, cond, List, [], ◌∷◌, ◌++◌, length, map, Option, Some, None, slice_index, refl, ap, arith, ◌∙◌, sym, subst, ⊎_elim}
+use Rattle.std.proofs.Common.{◌≡◌, ◌≢◌, ℕ, ◌+◌, ◌-◌, ◌*◌, ◌%◌, ◌<◌, ◌≤◌, inl, inr, List, [], ◌∷◌, ◌++◌, map, slice_index, refl, ap, arith, ◌∙◌, sym, subst, ⊎_elim}
 use Rattle.bs_words.specs.Word.{add_word}
 use Rattle.bs_words.proofs.Below.{add_word-below}
-use Rattle.bs_words.specs.declared.values.Value.{Value}
 use Rattle.emit_rules.specs.Instructions.{addi, mv, store}
 use Rattle.emit_rules.specs.Traps.{pop_part, push_part, raise_words}
 use Rattle.layout_rules.specs.Laid.{address_of_place}
 use Rattle.layout_rules.specs.Words.{Named, distance, lower, upper}
 use Rattle.layout_rules.proofs.Offsets.{far_lands}
 use Rattle.lin_ir.specs.Meaning.{Locations}
-use Rattle.mach_ir.specs.Acts.{Around, is_complete}
+use Rattle.mach_ir.specs.Acts.{Around}
 use Rattle.rv_isa.specs.declared.instr.AluImmOp.TheVariants.{Addi}
 use Rattle.rv_isa.specs.declared.instr.Instr.TheVariants.{Auipc, Jalr, Load, OpImm, Store}
 use Rattle.rv_isa.specs.declared.instr.LoadWidth.TheVariants.{Ld}
@@ -27,16 +26,14 @@ use Rattle.moving_laws.specs.Stands.{Among}
 use Rattle.moving_laws.specs.Waiting.{IsBack, TrapsFrom, traps_at}
 use Rattle.moving_laws.specs.Words.{IsReadable}
 use Rattle.moving_laws.proofs.Usable.{stack_readable}
-use Rattle.linear_machine.specs.Relation.{Below, Laid, TrapsStand, Within, traps_of}
-use Rattle.linear_machine.specs.Straight.{Differs}
+use Rattle.linear_machine.specs.Relation.{Below, Laid, Within, traps_of}
 use Rattle.linear_machine.specs.View.{Ends, Fixed, HasCode, IsCode, View}
 use Rattle.linear_machine.proofs.Formats.{sets_auipc, sets_imm, sets_load}
-use Rattle.linear_machine.proofs.Immediates.{low_12, up}
 use Rattle.linear_machine.proofs.Jumps.{add_near, less_near}
-use Rattle.linear_machine.proofs.Sequences.{load_there, sets_as}
+use Rattle.linear_machine.proofs.Sequences.{sets_as}
 use Rattle.linear_machine.proofs.Steps.{SetsRegister, out_step, then_ends}
 use Rattle.line_stands.specs.Parts.{PartStands}
-use Rattle.line_stands.proofs.Parts.{begins, known, nothing_more}
+use Rattle.line_stands.proofs.Parts.{begins, known}
 use Rattle.line_calls.specs.Reaches.{Reaches}
 use Rattle.line_calls.proofs.Leaving.{no_offset}
 use Rattle.line_calls.proofs.Reaching.{arrived, reaches_as, reaches_more, reaches_set, reaches_store, single}
@@ -119,7 +116,8 @@ module _ (s : Fixed) (n : Named) (laid : Laid) (v : View) (young : List Placed) 
         reaches_as s v (v.place + 1 + 1) (6 ∷ []) (2 ∷ 6 ∷ 7 ∷ 9 ∷ []) v.memory _ _ (λ q i. ⊎_elim (λ h. inr (inl h)) (λ z. absurd z) i)
         (λ w m p h. (h.0, λ q other. p.others q (λ i. ⊎_elim other (λ z. z) i)))
         (reaches_more s v (v.place + 1) (v.place + 1 + 1) (6 ∷ []) (6 ∷ []) v.memory _ _ first (λ q i. i)
-        (reaches_set s u (v.place + 1 + 1) (OpImm Addi 6 6 (lower d)) 5 (laid.handler l) (subst (λ q. IsCode s q (OpImm Addi 6 6 (lower d))) (sym here) words.0.1.0)
+        (reaches_set s u (v.place + 1 + 1) (OpImm Addi 6 6 (lower d)) 5 (laid.handler l) (subst (λ q. IsCode s q (OpImm Addi 6 6 (lower d)))
+        (sym here) words.0.1.0)
         (omega (arith, here)) (inl (λ q. omega (arith, q))) (sets_as s u (OpImm Addi 6 6 (lower d)) 6 _ _ sum (sets_imm s u Addi 6 6 (lower d)))
         first.changes.past.are (omega arith) (omega (arith, high))))
 
@@ -167,7 +165,8 @@ module _ (s : Fixed) (n : Named) (laid : Laid) (v : View) (young : List Placed) 
           let e = sp_even in
           let h = sp_high in
           let b = s.stack.low in
-          reaches_store s v (v.place + 1 + 1 + 1) (2 ∷ 6 ∷ 7 ∷ 9 ∷ []) v.memory _ lowered 2 6 0 (slice_index v.registers 2 - 16) (laid.handler l) words.0.1.1.1.0
+          reaches_store s v (v.place + 1 + 1 + 1) (2 ∷ 6 ∷ 7 ∷ 9 ∷ []) v.memory _ lowered 2 6 0 (slice_index v.registers 2 - 16)
+          (laid.handler l) words.0.1.1.1.0
           (no_offset (slice_index lowered.changes.view.registers 2) (slice_index v.registers 2 - 16) lowered.changes.holds.0 (omega (arith, h)))
           (lowered.changes.holds.1 6 (λ i. ⊎_elim (λ q. omega (arith, q)) (λ z. z) i) ∙ named.changes.holds.0)
           (λ q. omega (arith, q, fits, b)) within.usable.regions.each
@@ -188,9 +187,11 @@ module _ (s : Fixed) (n : Named) (laid : Laid) (v : View) (young : List Placed) 
           let h = sp_high in
           let b = s.stack.low in
           let sp = same_registers 2 ∙ lowered.changes.holds.0 in
-          reaches_store s v (v.place + 1 + 1 + 1 + 1) (2 ∷ 6 ∷ 7 ∷ 9 ∷ []) (write v.memory (slice_index v.registers 2 - 16) (laid.handler l)) _ stored_handler 2 9 8
+          reaches_store s v (v.place + 1 + 1 + 1 + 1) (2 ∷ 6 ∷ 7 ∷ 9 ∷ []) (write v.memory (slice_index v.registers 2 - 16)
+          (laid.handler l)) _ stored_handler 2 9 8
           (slice_index v.registers 2 - 8) (slice_index v.registers 9) words.0.1.1.1.1.0
-          (add_near (slice_index stored_handler.changes.view.registers 2) 8 (slice_index v.registers 2 - 8) (omega arith) (omega (arith, sp, fits)) (omega (arith, h)))
+          (add_near (slice_index stored_handler.changes.view.registers 2) 8 (slice_index v.registers 2 - 8) (omega arith) (omega (arith, sp, fits)) (omega
+          (arith, h)))
           (same_registers 9 ∙ lowered.changes.holds.1 9 (λ i. ⊎_elim (λ q. omega (arith, q)) (λ z. z) i) ∙ named.changes.holds.1 9 (λ q. omega (arith, q)))
           (λ q. omega (arith, q, fits, b)) regions1.each
           (stack_readable s.image s.heap s.base (write v.memory (slice_index v.registers 2 - 16) (laid.handler l)) regions1 (slice_index v.registers 2 - 8)
@@ -209,11 +210,14 @@ module _ (s : Fixed) (n : Named) (laid : Laid) (v : View) (young : List Placed) 
           reaches_as s v to (2 ∷ 6 ∷ 7 ∷ 9 ∷ []) (2 ∷ 6 ∷ 7 ∷ 9 ∷ []) _ _ _ (λ q i. i)
           (λ w m p k. (k.1 2 (λ i. ⊎_elim (λ q. omega (arith, q)) (λ z. z) i) ∙ sp, k.0))
           (reaches_more s v (v.place + 1 + 1 + 1 + 1 + 1) to (2 ∷ 6 ∷ 7 ∷ 9 ∷ []) (9 ∷ [])
-          (write (write v.memory (slice_index v.registers 2 - 16) (laid.handler l)) (slice_index v.registers 2 - 8) (slice_index v.registers 9)) _ _ stored_both
+          (write (write v.memory (slice_index v.registers 2 - 16) (laid.handler l)) (slice_index v.registers 2 - 8)
+          (slice_index v.registers 9)) _ _ stored_both
           (λ q i. ⊎_elim (λ h. inr (inr (inr (inl h)))) (λ z. absurd z) i)
-          (reaches_set s u to (OpImm Addi 9 2 0) 8 (slice_index v.registers 2 - 16) (subst (λ q. IsCode s q (OpImm Addi 9 2 0)) (sym here) words.0.1.1.1.1.1.0)
+          (reaches_set s u to (OpImm Addi 9 2 0) 8 (slice_index v.registers 2 - 16) (subst (λ q. IsCode s q (OpImm Addi 9 2 0))
+          (sym here) words.0.1.1.1.1.1.0)
           (omega (arith, here, e)) (inl (λ q. omega (arith, q)))
-          (sets_as s u (OpImm Addi 9 2 0) 9 _ _ (no_offset (slice_index u.registers 2) (slice_index v.registers 2 - 16) sp (omega (arith, h))) (sets_imm s u Addi 9 2 0))
+          (sets_as s u (OpImm Addi 9 2 0) 9 _ _ (no_offset (slice_index u.registers 2) (slice_index v.registers 2 - 16) sp (omega (arith, h)))
+          (sets_imm s u Addi 9 2 0))
           stored_both.changes.past.are (omega arith) (omega (arith, h))))
 
   -- ---- the innermost trap frame
@@ -231,7 +235,8 @@ module _ (s : Fixed) (n : Named) (laid : Laid) (v : View) (young : List Placed) 
       let e = innermost.even in
       let l = innermost.low in
       let h = innermost.high in
-      stack_readable s.image s.heap s.base v.memory within.usable.regions (slice_index v.registers 9 + 8) (omega (arith, e)) (omega (arith, l)) (omega (arith, h))
+      stack_readable s.image s.heap s.base v.memory within.usable.regions (slice_index v.registers 9 + 8) (omega (arith, e)) (omega (arith, l)) (omega
+      (arith, h))
 
   pub trap_is : IsTrap s v.memory (slice_index v.registers 9)
   trap_is = innermost

@@ -1,10 +1,8 @@
 -- Every line that calls, leaves a function, raises, allocates, or pushes, pops or enters a try is followed.
-use Rattle.std.proofs.Common.{◌≡◌, ◌≢◌, ℕ, zero, suc, ◌+◌, ◌-◌, ◌*◌, ◌%◌, ◌<◌, ◌≤◌, ◌⊎◌, inl, inr, Bool, true, false, cond, ◌&&◌, ◌||◌, not, List, [], ◌∷◌, ◌++◌, length, map, Option, Some, None, slice_get, slice_index, refl, ap, ap₂, arith, ◌∙◌, sym, subst, ⊎_elim}
+use Rattle.std.proofs.Common.{◌≡◌, ℕ, suc, ◌+◌, ◌*◌, ◌%◌, ◌<◌, ◌≤◌, ◌⊎◌, inl, inr, Bool, true, false, ◌&&◌, ◌||◌, not, List, [], ◌∷◌, ◌++◌, length, Option, Some, None, slice_get, refl, ap, ap₂, arith, ◌∙◌, sym, subst, ⊎_elim}
 use Rattle.std.specs.List.{All, Contains}
 use Rattle.std.proofs.lemmas.List.Elements.{All-head, Contains-get_or}
-use Rattle.bs_words.specs.Fits.{data_start}
 use Rattle.bs_words.specs.declared.types.Comp.{Comp}
-use Rattle.bs_words.specs.declared.types.Loc.TheVariants as loc
 use Rattle.bs_words.specs.declared.types.Ret.{Ret}
 use Rattle.bs_words.specs.declared.types.Ret.TheVariants as ret
 use Rattle.bs_words.specs.declared.values.Value.{Value}
@@ -14,56 +12,51 @@ use Rattle.cmm_meaning.specs.Setting.{Setting}
 use Rattle.emit_rules.specs.Calls.{call_words, external_words, mark_of}
 use Rattle.emit_rules.specs.Emitted.{part_of}
 use Rattle.emit_rules.specs.Entry.{Frame}
-use Rattle.emit_rules.specs.Named.{IsExternalOf}
 use Rattle.layout_rules.specs.Laid.{address_of_place, desc_at}
 use Rattle.layout_rules.specs.Words.{Named}
-use Rattle.lin_ir.specs.Formed.{IsFormed, IsLocation, IsQuiet, NamesLabel, comps, formed_flow, formed_op, FlowHasForm, enter_form, pop_form, push_form, places_of, pushes, spare}
-use Rattle.lin_ir.specs.Meaning.{Locations, NamedAt, State, after_label, are_vals, lin_act, on_act, on_values, past_frame, passes_frame, step, unless_misnamed, values}
+use Rattle.lin_ir.specs.Formed.{IsFormed, IsLocation, IsQuiet, comps, formed_flow, formed_op, FlowHasForm, enter_form, pop_form, push_form, pushes}
+use Rattle.lin_ir.specs.Meaning.{Locations, NamedAt, after_label, are_vals, lin_act, on_values, past_frame, passes_frame, step, unless_misnamed, values}
 use Rattle.lin_ir.specs.Walks.{may_raise, targets}
 use Rattle.lin_ir.specs.declared.descr.Descr.{Descr}
 use Rattle.lin_ir.specs.declared.lin.Flow.{Flow}
 use Rattle.lin_ir.specs.declared.lin.Flow.TheVariants as flow
 use Rattle.lin_ir.specs.declared.lin.Lin.{Lin}
-use Rattle.lin_ir.specs.declared.lin.LinOp.{LinOp}
 use Rattle.lin_ir.specs.declared.lin.LinOp.TheVariants as lin
 use Rattle.lin_ir.specs.declared.lin.Line.{Line}
 use Rattle.lin_ir.specs.declared.lin.Spot.{Spot}
-use Rattle.mach_ir.specs.Acts.{Act, Around, On, Replaces, if_known, asks, asks_callee, asks_value, is_complete, new_blocks, only_if, raised_by, row_of}
+use Rattle.mach_ir.specs.Acts.{Act, Around, On, Replaces, if_known, asks, asks_callee, asks_value, is_complete, only_if, raised_by}
 use Rattle.mach_ir.specs.Blocks.{bytes_of}
-use Rattle.mach_ir.specs.Forms.{HasForm, IsBlock, IsCallee, allocates, by_register, by_symbol, calls, calls_out, raises, results_of, returns, tail_calls}
+use Rattle.mach_ir.specs.Forms.{HasForm, IsBlock, IsCallee, allocates, by_register, calls, calls_out, raises, results_of, returns, tail_calls}
 use Rattle.mach_ir.specs.Runs.{Place}
-use Rattle.mach_ir.specs.Seats.{AreSeated}
 use Rattle.mach_ir.specs.Walks.{OneOf, this}
 use Rattle.mach_ir.specs.declared.blocks.NewBlock.{NewBlock}
 use Rattle.mach_ir.specs.declared.op.Access.TheVariants as access
 use Rattle.mach_ir.specs.declared.op.Callee.{Callee}
 use Rattle.mach_ir.specs.declared.op.Callee.TheVariants as callee
-use Rattle.mach_ir.specs.declared.op.Calling.{Calling}
 use Rattle.mach_ir.specs.declared.op.Calling.TheVariants as calling
 use Rattle.mach_ir.specs.declared.op.External as declared
 use Rattle.mach_ir.specs.declared.op.Leaving.TheVariants as leaving
 use Rattle.mach_ir.specs.declared.op.Op.{Op}
 use Rattle.mach_ir.specs.declared.op.Op.TheVariants as op
-use Rattle.rv_machine.specs.Frames.{descriptor_at, names_register}
+use Rattle.rv_machine.specs.Frames.{descriptor_at}
 use Rattle.rv_machine.specs.Hart.{Placed}
 use Rattle.rv_pieces.specs.declared.piece.Piece.{Piece}
 use Rattle.rv_pieces.specs.declared.piece.Piece.TheVariants.{Descriptor}
 use Rattle.moving_laws.specs.Waiting.{IsBack}
 use Rattle.linear_machine.specs.Follows.{Agrees, IsAt}
-use Rattle.linear_machine.specs.Relation.{Below, IsDescribed, Laid, Within}
+use Rattle.linear_machine.specs.Relation.{Below, Laid, Within}
 use Rattle.linear_machine.specs.View.{Fixed, View}
-use Rattle.linear_machine.proofs.Pure.{Reads}
 use Rattle.line_stands.specs.Lines.{LineStands}
 use Rattle.line_stands.specs.Parts.{PartStands}
 use Rattle.line_stands.proofs.Parts.{mark_none, nothing_more, splits}
 use Rattle.line_calls.specs.Calls.{FollowsSo}
-use Rattle.line_calls.specs.Points.{AreMarked, IsReadyFor, IsTurn, PointStands, it_allocates, it_calls, it_enters, it_pops, it_pushes, it_raises, it_returns}
+use Rattle.line_calls.specs.Points.{AreMarked, IsReadyFor, IsTurn, PointStands}
 use Rattle.line_calls.proofs.AllocLines.{alloc_line}
-use Rattle.line_calls.proofs.Blocks.{around_made, blocks_are_made, values_made}
+use Rattle.line_calls.proofs.Blocks.{blocks_are_made}
 use Rattle.line_calls.proofs.CallLines.{call_named, call_registered}
 use Rattle.line_calls.proofs.ExternalCalls.{external_alone, external_framed}
 use Rattle.line_calls.proofs.Handlers.{enter_line, pop_line, push_line, raise_line, return_with, return_without}
-use Rattle.line_calls.proofs.Leaving.{frame_in}
+use Rattle.line_calls.specs.Laws.{frame_in}
 use Rattle.line_calls.proofs.Marks.{marked}
 use Rattle.line_calls.proofs.NoWaits.{NoAsk, NoWait, act_no, so_without}
 use Rattle.line_calls.proofs.Seats.{first_seated}
@@ -268,7 +261,8 @@ module _ (s : Fixed) (n : Named) (laid : Laid) (live : List Line → Type 0) (en
       let mark = g.points.mark refl in
       let e = mark.0 in
       let cut = ended (call_words (length a.tries) (callee.Symbol name) args) e (some_part i g e mark.1) in
-      call_named s n laid live entry c place named m g.lines.slots next v young held file a within (live (i ∷ next)) g.agrees k (g.fit.raised (λ q. absurd (cc)))
+      call_named s n laid live entry c place named m g.lines.slots next v young held file a within (live (i ∷ next)) g.agrees k (g.fit.raised (λ q. absurd
+      (cc)))
       g.behind (g.points.saves refl) e (g.points.described e mark.1 (v.place + k)) cut.there cut.inside (handlers_of i g) (no_live_of i g refl) g.points.end
       (g.points.spared refl) (g.points.unnamed e mark.1 (callee.Symbol name) result refl) g.points.entries result results
       (call_results (callee.Symbol name) result (comps args) (comps results) form) g.lines.result_seats name args g.lines.operand_seats
@@ -284,7 +278,8 @@ module _ (s : Fixed) (n : Named) (laid : Laid) (live : List Line → Type 0) (en
       (no_live_of i g refl) g.points.end (g.points.spared refl) (g.points.unnamed e mark.1 callee.Register result refl) g.points.entries result results
       (call_results callee.Register result (comps (p ∷ args)) (comps results) form) g.lines.result_seats p args
       (All-head (λ (q : Spot). IsLocation m q.loc) p args g.lines.args)
-      (λ q. g.lines.spare.reads p.comp (subst (λ l. Contains (p ∷ args) (record { loc = l; comp = p.comp })) q (Contains-get_or (p ∷ args) 0 p (omega arith))))
+      (λ q. g.lines.spare.reads p.comp (subst (λ l. Contains (p ∷ args) (record { loc = l; comp = p.comp })) q (Contains-get_or (p ∷ args) 0 p
+      (omega arith))))
       g.lines.operand_seats cut.part
 
   tail_follows : (whom : Callee) (result : Ret) (args results : List Spot) →
@@ -297,7 +292,8 @@ module _ (s : Fixed) (n : Named) (laid : Laid) (live : List Line → Type 0) (en
       so_without k s laid live entry c v _ _
       (values_no place (named (length next)) m i next file a (values place.setting.end file args)
       (λ vs. tail_no place.setting (callee.Symbol name) result vs a))
-      (tail_named s n laid live entry c place named m g.lines.slots next v young held file a within (live (i ∷ next)) g.agrees k (g.fit.raised (λ q. absurd (cc)))
+      (tail_named s n laid live entry c place named m g.lines.slots next v young held file a within (live (i ∷ next)) g.agrees k (g.fit.raised (λ q. absurd
+      (cc)))
       (g.fit.left refl) g.points.entries result name args g.lines.operand_seats (λ x q. (g.lines.names.symbol name x q).0) (part_at i g).part)
   tail_follows callee.Register result [] [] form g = absurd (let q = (tail_operands result [] [] form).is in cc)
   tail_follows callee.Register result (p ∷ args) [] form g =
@@ -308,7 +304,8 @@ module _ (s : Fixed) (n : Named) (laid : Laid) (live : List Line → Type 0) (en
       (tail_registered s n laid live entry c place named m g.lines.slots next v young held file a within (live (i ∷ next)) g.agrees k
       (g.fit.raised (λ q. absurd (cc))) (g.fit.left refl) g.points.entries result p args
       (All-head (λ (q : Spot). IsLocation m q.loc) p args g.lines.args)
-      (λ q. g.lines.spare.reads p.comp (subst (λ l. Contains (p ∷ args) (record { loc = l; comp = p.comp })) q (Contains-get_or (p ∷ args) 0 p (omega arith))))
+      (λ q. g.lines.spare.reads p.comp (subst (λ l. Contains (p ∷ args) (record { loc = l; comp = p.comp })) q (Contains-get_or (p ∷ args) 0 p
+      (omega arith))))
       g.lines.operand_seats (part_at i g).part)
 
   external_follows : (row : declared.External) (frame : Bool) (args results : List Spot) →
@@ -318,7 +315,8 @@ module _ (s : Fixed) (n : Named) (laid : Laid) (live : List Line → Type 0) (en
   external_follows row false args results form g =
       let i : Line = record { op = lin.Op (op.Calling (calling.External row false)); args = args; results = results } in
       let shape = external_form row false (comps args) (comps results) form in
-      external_alone s n laid live entry c place named m next v young held file a within (live (i ∷ next)) g.agrees k (g.fit.raised (λ q. absurd (cc))) g.behind
+      external_alone s n laid live entry c place named m next v young held file a within (live (i ∷ next)) g.agrees k (g.fit.raised (λ q. absurd
+      (cc))) g.behind
       g.points.end (dead_of i g this (λ q. elim q [ ])) row
       (g.lines.names.external row (record { line = i; among = g.lines.among; frame = false; is = refl })) args g.lines.operand_seats shape.0 results shape.1
       g.lines.result_seats (unmarked (external_words row false) d (part_at i g).part)
@@ -328,7 +326,8 @@ module _ (s : Fixed) (n : Named) (laid : Laid) (live : List Line → Type 0) (en
       let mark = g.points.mark refl in
       let e = mark.0 in
       let cut = ended (external_words row true) e (some_part i g e mark.1) in
-      external_framed s n laid live entry c place named m next v young held file a within (live (i ∷ next)) g.agrees k (g.fit.raised (λ q. absurd (cc))) g.behind
+      external_framed s n laid live entry c place named m next v young held file a within (live (i ∷ next)) g.agrees k (g.fit.raised (λ q. absurd
+      (cc))) g.behind
       g.points.end (dead_of i g this (λ q. elim q [ ])) row
       (g.lines.names.external row (record { line = i; among = g.lines.among; frame = true; is = refl })) args g.lines.operand_seats shape.0 results shape.1
       g.lines.result_seats (g.points.saves refl) e (g.points.described e mark.1 (v.place + k)) cut.there (g.points.spared refl)
@@ -348,8 +347,10 @@ module _ (s : Fixed) (n : Named) (laid : Laid) (live : List Line → Type 0) (en
       let p = some_part i g e mark.1 in
       so_without k s laid live entry c v _ _
       (values_no place (named (length next)) m i next file a (Some []) (λ vs. alloc_no place.setting blocks vs a))
-      (alloc_line s n laid live entry c place named m g.lines.slots next v young held file a within (live (i ∷ next)) g.agrees k (g.fit.raised (λ q. absurd (cc)))
-      g.behind (g.points.saves refl) e (g.points.described e mark.1) g.points.end (g.points.spared refl) (dead_of i g this (λ q. elim q [ ])) blocks shape.some
+      (alloc_line s n laid live entry c place named m g.lines.slots next v young held file a within (live (i ∷ next)) g.agrees k (g.fit.raised (λ q. absurd
+      (cc)))
+      g.behind (g.points.saves refl) e (g.points.described e mark.1) g.points.end (g.points.spared refl) (dead_of i g this
+      (λ q. elim q [ ])) blocks shape.some
       shape.all shape.most results (sym (length_comps results) ∙ shape.as_many) g.lines.results p.part p.marks)
 
   -- ---- returns and raises
@@ -429,8 +430,10 @@ module _ (s : Fixed) (n : Named) (laid : Laid) (live : List Line → Type 0) (en
   enter_follows [] [] form g = absurd (let q = (enter_flow [] [] form).1.1 in cc)
   enter_follows [] (p ∷ []) form g =
       let i : Line = record { op = lin.Flow flow.EnterTrap; args = []; results = p ∷ [] } in
-      so_without k s laid live entry c v _ _ (act_no place m i next file a (if_known (record a { raised = None }) a.raised) (enter_no place.setting a a.raised))
-      (enter_line s n laid live entry c place named m next v young held file a within (live (i ∷ next)) g.agrees k p (first_seated p [] g.lines.result_seats).0
+      so_without k s laid live entry c v _ _ (act_no place m i next file a (if_known (record a { raised = None }) a.raised)
+      (enter_no place.setting a a.raised))
+      (enter_line s n laid live entry c place named m next v young held file a within (live (i ∷ next)) g.agrees k p
+      (first_seated p [] g.lines.result_seats).0
       g.behind (part_at i g).part)
   enter_follows [] (p ∷ q ∷ results) form g = absurd (let z = (first_seated p (q ∷ results) g.lines.result_seats).1 in cc)
 

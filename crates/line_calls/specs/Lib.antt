@@ -2,3 +2,4 @@ pub mod Points
 pub mod Reaches
 pub mod Leading
 pub mod Calls
+pub mod Laws

@@ -4,7 +4,8 @@ use Rattle.rv_machine.specs.Memory.{Region}
 use Rattle.linear_machine.specs.Straight.{Changes}
 use Rattle.linear_machine.specs.View.{Fixed, View}
 
--- They lead to this place, where these registers alone may have changed, and the memory is this one.
+-- They lead to this place, where these registers alone may have changed, and the memory is this
+-- one.
 pub record Reaches (s : Fixed) (v : View) (to : ℕ) (rs : List ℕ) (m : List Region)
     (P : View → Type 0) : Type 0 where
   pub count : ℕ
