@@ -1,5 +1,5 @@
 -- The lines that compute, load, store, test and jump, and that the machine follows them.
-use Rattle.std.specs.Prelude.{◌≡◌, ℕ, List, ◌∷◌, length, Option, None}
+use Rattle.std.specs.Prelude.{◌≡◌, ℕ, Bool, true, List, ◌∷◌, length, Option, None}
 use Rattle.cmm_meaning.specs.Setting.{Setting}
 use Rattle.emit_rules.specs.Emitted.{part_of}
 use Rattle.emit_rules.specs.Entry.{Frame}
@@ -46,3 +46,11 @@ Followed s laid n m place named live entry c f d i next =
     IsAt s laid live c (record { rest = i ∷ next; file = file; around = a }) v →
     FollowsStep (total_words (part_of (length a.tries) f d i) stands.part.forms) s laid live entry c
     v (step place named m (record { rest = i ∷ next; file = file; around = a }))
+
+-- The law, of every function, line and machine; t0 is live where this test says so.
+abbrev pub PlainLinesAreFollowed : Type 0
+PlainLinesAreFollowed =
+    (s : Fixed) (laid : Laid) (n : Named) (m : Lin) (place : Place) (named : NamedAt)
+    (live : List Line → Bool) (entry : ℕ → ℕ) (c : Below) (f : Frame) (d : Option Descr) (i : Line)
+    (next : List Line) → IsPlain i.op →
+    Followed s laid n m place named (λ code. live code ≡ true) entry c f d i next
