@@ -17,3 +17,4 @@ pub mod Addresses
 pub mod Loading
 pub mod Storing
 pub mod Writing
+pub mod Following
