@@ -1,11 +1,12 @@
 -- What an exact descriptor says of a frame point in the machine.
-use Rattle.std.proofs.Common.{◌≡◌, ℕ, zero, suc, ◌+◌, ◌*◌, ◌/◌, ◌%◌, ◌<◌, ◌==◌, Bool, true, false, cond, ◌⊎◌, inl, inr, ⊎_elim, List, [], ◌∷◌, length, refl, sym, ap, ◌∙◌, subst, arith}
+use Rattle.std.proofs.Common.{◌≡◌, ℕ, zero, suc, ◌+◌, ◌*◌, ◌/◌, ◌%◌, ◌<◌, ◌==◌, ◌||◌, Bool, true, false, cond, ◌⊎◌, inl, inr, ⊎_elim, List, [], ◌∷◌, length, refl, sym, ap, ◌∙◌, subst, arith}
 use Rattle.std.specs.List.{Contains}
 use Rattle.std.proofs.lemmas.Bool.{true≢false, eqb-true}
 use Rattle.bs_words.specs.declared.types.Comp.{Comp}
 use Rattle.bs_words.specs.declared.types.Comp.TheVariants as comp
 use Rattle.bs_words.specs.declared.types.Loc.{Loc}
 use Rattle.bs_words.specs.declared.types.Loc.TheVariants as loc
+use Rattle.bs_words.specs.declared.types.Ret.{Ret}
 use Rattle.layout_rules.specs.Laid.{desc_at}
 use Rattle.lin_ir.specs.Descriptors.{IsDescr, IsEntry, of_register, of_slot, NamesLives, frame_bytes}
 use Rattle.lin_ir.specs.Formed.{IsHome, IsLocation, Locates, WellFormed, is_colour, is_home, is_slot, is_spare}
@@ -14,14 +15,19 @@ use Rattle.lin_ir.specs.Walks.{Leads, goes, Raises, raises, Live, read, on, asid
 use Rattle.lin_ir.specs.declared.descr.Descr.{Descr}
 use Rattle.lin_ir.specs.declared.lin.Line.{Line}
 use Rattle.lin_ir.specs.declared.lin.Lin.{Lin}
+use Rattle.lin_ir.specs.declared.lin.LinOp.TheVariants as lin
 use Rattle.lin_ir.specs.declared.lin.Spot.{Spot}
 use Rattle.linear_machine.specs.Relation.{IsDescribed, Laid}
 use Rattle.linear_rules.proofs.Homes.{IsIn, contains_of, in_of, is_first, is_later, is_one_of, named_of}
 use Rattle.linear_rules.proofs.Marks.{all_in}
 use Rattle.linear_rules.proofs.Walked.{Tail, stands_tail, tail_in, tail_label, tail_target}
 use Rattle.moving_laws.specs.Stands.{Among}
-use Rattle.rv_machine.specs.Frames.{is_register, registers_named}
+use Rattle.mach_ir.specs.declared.op.Callee.{Callee}
+use Rattle.mach_ir.specs.declared.op.Calling.TheVariants as calling
+use Rattle.mach_ir.specs.declared.op.Op.TheVariants as op
+use Rattle.rv_machine.specs.Frames.{is_register, names_register, registers_named}
 use Rattle.function_stands.proofs.Parts.{same_yes}
+use Rattle.function_stands.proofs.Spare.{call_loses}
 
 -- ---- members
 
@@ -38,12 +44,12 @@ in_among e [] z = absurd z
 
 -- what an entry names
 pub data Names (traps : ℕ) (l : Loc) (e : ℕ) : Type 0 where
-  names_register : {r : ℕ} → l ≡ loc.Machine r → e ≡ 2 * r + 1 → Names traps l e
-  names_slot : {k : ℕ} → l ≡ loc.Slot k → e ≡ 8 * k + 16 * traps → Names traps l e
+  by_register : {r : ℕ} → l ≡ loc.Machine r → e ≡ 2 * r + 1 → Names traps l e
+  by_slot : {k : ℕ} → l ≡ loc.Slot k → e ≡ 8 * k + 16 * traps → Names traps l e
 
 names_of : {traps : ℕ} {l : Loc} {e : ℕ} → IsEntry traps l e → Names traps l e
-names_of of_register = names_register refl refl
-names_of of_slot = names_slot refl refl
+names_of of_register = by_register refl refl
+names_of of_slot = by_slot refl refl
 
 first_or_later : (x e : ℕ) (es : List ℕ) → IsIn x (e ∷ es) → (x ≡ e) ⊎ IsIn x es
 first_or_later x e es is_first = inl refl
@@ -127,8 +133,8 @@ module _ (m : Lin) (formed : WellFormed m) where
           where
             by : (l : Loc) → LiveAt m l comp.Val i next → Names (length tries) l e →
                 (k : ℕ) × (e ≡ 8 * k + 16 * length tries) × (k < laid.slots) × (is_named (loc.Slot k) (named (length next)) ≡ true)
-            by l live (names_register {r} same is) = absurd (omega (arith, even, is))
-            by l live (names_slot {k} same is) =
+            by l live (by_register {r} same is) = absurd (omega (arith, even, is))
+            by l live (by_slot {k} same is) =
                 let at : LiveAt m (loc.Slot k) comp.Val i next = subst (λ l. LiveAt m l comp.Val i next) same live in
                 let below = slot_below k (across_located (loc.Slot k) comp.Val at.across (stands_tail stands)) in
                 (k, is, subst (λ n. k < n) (sym slots) below, live_named (loc.Slot k) at (same_yes k))
@@ -138,8 +144,29 @@ module _ (m : Lin) (formed : WellFormed m) where
             by n.location n.live (names_of n.entry)
           where
             by : (l : Loc) → LiveAt m l comp.Val i next → Names (length tries) l e → is_named (loc.Machine r) (named (length next)) ≡ true
-            by l live (names_register {r = q} same is) =
+            by l live (by_register {r = q} same is) =
                 let e' : q ≡ r = omega (arith, is, half) in
                 let at : LiveAt m (loc.Machine r) comp.Val i next = subst (λ l. LiveAt m l comp.Val i next) (same ∙ ap loc.Machine e') live in
                 live_named (loc.Machine r) at (same_yes r)
-            by l live (names_slot {k} same is) = absurd (omega (arith, odd, is))
+            by l live (by_slot {k} same is) = absurd (omega (arith, odd, is))
+
+-- No register is named over a call.
+none_named : (es : List ℕ) → ((e : ℕ) → IsIn e es → e % 2 ≡ 1 → ⊥) → names_register es ≡ false
+none_named [] none = refl
+none_named (e ∷ es) none = by (is_register e) refl (none_named es (λ x z. none x (is_later z)))
+  where
+    by : (b : Bool) → is_register e ≡ b → names_register es ≡ false → b || names_register es ≡ false
+    by true odd rest = absurd (none e is_first (eqb-true (e % 2) 1 odd))
+    by false even rest = rest
+
+pub none_over_calls : (m : Lin) (formed : WellFormed m) (i : Line) (next : List Line) (tries : List ℕ) (d : Descr) (whom : Callee) (result : Ret) →
+    IsDescr m i next tries d → i.op ≡ lin.Op (op.Calling (calling.Call whom result)) → names_register d.entries ≡ false
+none_over_calls m formed i next tries d whom result is e = none_named d.entries (λ k z odd.
+    let n = (is.exact k).0 (contains_of z) in
+    by k odd n.location n.live (names_of n.entry))
+  where
+    by : (k : ℕ) → k % 2 ≡ 1 → (l : Loc) → LiveAt m l comp.Val i next → Names (length tries) l k → ⊥
+    by k odd l live (by_register {r} same is) =
+        let at : LiveAt m (loc.Machine r) comp.Val i next = subst (λ l. LiveAt m l comp.Val i next) same live in
+        call_loses m formed r comp.Val i next at.tries whom result e at.traps at.across
+    by k odd l live (by_slot {k = j} same is) = absurd (omega (arith, odd, is))

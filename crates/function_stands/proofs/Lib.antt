@@ -10,3 +10,5 @@ pub mod Spare
 pub mod Described
 pub mod Symbols
 pub mod Rows
+pub mod Points
+pub mod Whole

@@ -5,6 +5,8 @@ use Rattle.std.proofs.lemmas.Bool.{true≢false}
 use Rattle.bs_words.specs.declared.types.Comp.{Comp}
 use Rattle.bs_words.specs.declared.types.Comp.TheVariants as comp
 use Rattle.bs_words.specs.declared.types.Loc.{Loc}
+use Rattle.bs_words.specs.declared.types.Loc.TheVariants as loc
+use Rattle.bs_words.specs.declared.types.Ret.{Ret}
 use Rattle.lin_ir.specs.Descriptors.{NamesLives}
 use Rattle.lin_ir.specs.Formed.{IsFormed, formed_op, formed_flow, enter_form, IsQuiet, quiet_pure, quiet_load, quiet_store, FlowHasForm, label_form, jump_form, exit_form, branch_form, switch_form, push_form, pop_form, Sets, WellFormed, comps, spare}
 use Rattle.lin_ir.specs.Meaning.{after_label, code_at, destroyed_by, passes_frame, same_loc, NamedAt, is_named}
@@ -21,8 +23,11 @@ use Rattle.linear_rules.proofs.Homes.{IsIn, contains_of, in_of, is_first, is_lat
 use Rattle.linear_rules.proofs.Marks.{all_in}
 use Rattle.linear_rules.proofs.Walked.{Tail, reached_tail, tail_in, tail_label}
 use Rattle.mach_ir.specs.Acts.{Target}
-use Rattle.mach_ir.specs.Meaning.{is_destroyed}
+use Rattle.mach_ir.specs.Meaning.{Everything, is_destroyed}
 use Rattle.mach_ir.specs.Walks.{OneOf}
+use Rattle.mach_ir.specs.declared.op.Callee.{Callee}
+use Rattle.mach_ir.specs.declared.op.Calling.TheVariants as calling
+use Rattle.mach_ir.specs.declared.op.Op.TheVariants as op
 use Rattle.function_stands.specs.Spare.{SpareLive}
 use Rattle.function_stands.proofs.Handlers.{Enters, Pushed, pushed, pushed_enters}
 
@@ -83,20 +88,22 @@ quiet_no_point f quiet_load = refl
 quiet_no_point f quiet_store = refl
 
 module _ (m : Lin) (formed : WellFormed m) where
-  dead_at : (t : Comp) (i : Line) (next : List Line) (tries : List ℕ) → IsIn i m.code → i.op ≡ lin.Flow flow.EnterTrap →
-      Live m spare t (i ∷ next) tries → ⊥
-  dead_at t i next tries among e (read r) =
-      elim (in_of (record { loc = spare; comp = t }) [] (subst (λ args. Contains args (record { loc = spare; comp = t })) (enters_alone i (all_in IsFormed formed.forms among) e) r)) [ ]
-  dead_at t i next tries among e (on off l live) = off (inr (ap (λ f. is_destroyed (destroyed_by f) spare) e))
-  dead_at t i next tries among e (aside (raises h) live) = absurd (true≢false (sym h ∙ ap may_raise e))
+  -- no register is live where a handler is entered
+  dead_at : (l : Loc) (t : Comp) (i : Line) (next : List Line) (tries : List ℕ) → is_destroyed Everything l ≡ true → IsIn i m.code →
+      i.op ≡ lin.Flow flow.EnterTrap → Live m l t (i ∷ next) tries → ⊥
+  dead_at l t i next tries lost among e (read r) =
+      elim (in_of (record { loc = l; comp = t }) [] (subst (λ args. Contains args (record { loc = l; comp = t }))
+      (enters_alone i (all_in IsFormed formed.forms among) e) r)) [ ]
+  dead_at l t i next tries lost among e (on off leads live) = off (inr (ap (λ f. is_destroyed (destroyed_by f) l) e ∙ lost))
+  dead_at l t i next tries lost among e (aside (raises h) live) = absurd (true≢false (sym h ∙ ap may_raise e))
 
   -- so it is at the handler of a raise
-  dead_aside : {i : Line} {next to : List Line} {tries left : List ℕ} (t : Comp) → Reached m (i ∷ next) tries → Raises m i tries to left →
-      Live m spare t to left → ⊥
-  dead_aside t r (raises {h} {tries} e) live =
+  dead_aside : {i : Line} {next to : List Line} {tries left : List ℕ} (l : Loc) (t : Comp) → is_destroyed Everything l ≡ true → Reached m (i ∷ next) tries →
+      Raises m i tries to left → Live m l t to left → ⊥
+  dead_aside l t lost r (raises {h} {tries} e) live =
       let entry = pushed_enters m formed h (pushed m r h is_first) in
       let tail = subst (λ code. Tail code m.code) entry.is (tail_label h m.code) in
-      dead_at t entry.line entry.next tries (tail_in tail) entry.enters (subst (λ code. Live m spare t code tries) entry.is live)
+      dead_at l t entry.line entry.next tries lost (tail_in tail) entry.enters (subst (λ code. Live m l t code tries) entry.is live)
 
   -- whatever traps are pushed, it is live or not
   spare_any : (t : Comp) {code : List Line} {tries : List ℕ} → Reached m code tries → Live m spare t code tries → (others : List ℕ) →
@@ -104,7 +111,7 @@ module _ (m : Lin) (formed : WellFormed m) where
   spare_any t r (read z) others = read z
   spare_any t r (on {i} off (goes to o) live) others =
       on off (goes to o) (spare_any t (by_step r (goes to o)) live (tries_after i.op others))
-  spare_any t r (aside a live) others = absurd (dead_aside t r a live)
+  spare_any t r (aside a live) others = absurd (dead_aside spare t refl r a live)
 
   -- no walk reads it that has not written it
   pub spare_entry : SpareLive m m.code → ⊥
@@ -125,7 +132,7 @@ module _ (m : Lin) (formed : WellFormed m) where
     aside = λ e l among live.
         let entry = pushed_enters m formed l (pushed m reached l (in_of l tries among)) in
         let tail = subst (λ code. Tail code m.code) entry.is (tail_label l m.code) in
-        dead_at live.comp entry.line entry.next live.tries (tail_in tail) entry.enters
+        dead_at spare live.comp entry.line entry.next live.tries refl (tail_in tail) entry.enters
         (subst (λ code. Live m spare live.comp code live.tries) entry.is live.live);
   }
 
@@ -139,7 +146,7 @@ module _ (m : Lin) (formed : WellFormed m) where
   across_dead i next tries t stands point traps (across_raise r live) = by traps r live
     where
       by : {tries : List ℕ} {to : List Line} {left : List ℕ} → Traps m (i ∷ next) tries → Raises m i tries to left → Live m spare t to left → ⊥
-      by (by_walk reached) r live = dead_aside t reached r live
+      by (by_walk reached) r live = dead_aside spare t refl reached r live
       by (unreached none) r live = elim r [ ]
 
   -- no descriptor names it
@@ -152,3 +159,13 @@ module _ (m : Lin) (formed : WellFormed m) where
       by true e =
           let at = (names.exact i next stands point spare).0 (contains_of (is_one_of spare (named (length next)) e)) in
           absurd (across_dead i next at.tries comp.Val stands point at.traps at.across)
+
+  -- no register is live over a call
+  pub call_loses : (r : ℕ) (t : Comp) (i : Line) (next : List Line) (tries : List ℕ) (whom : Callee) (result : Ret) →
+      i.op ≡ lin.Op (op.Calling (calling.Call whom result)) → Traps m (i ∷ next) tries → LiveAcross m (loc.Machine r) t i next tries → ⊥
+  call_loses r t i next tries whom result e traps (across_step off leads live) = off (inr (ap (λ f. is_destroyed (destroyed_by f) (loc.Machine r)) e))
+  call_loses r t i next tries whom result e traps (across_raise a live) = by traps a live
+    where
+      by : {tries : List ℕ} {to : List Line} {left : List ℕ} → Traps m (i ∷ next) tries → Raises m i tries to left → Live m (loc.Machine r) t to left → ⊥
+      by (by_walk reached) a live = dead_aside (loc.Machine r) t refl reached a live
+      by (unreached none) a live = elim a [ ]

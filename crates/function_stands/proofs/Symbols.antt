@@ -21,20 +21,20 @@ use Rattle.moving_laws.specs.Values.{function_at}
 use Rattle.rv_pieces.specs.declared.piece.Pieces.{Pieces}
 
 -- a function below this number, or an address of the data
-pub data IsPlaced (count : ℕ) : Value → Type 0 where
-  of_function : {f : ℕ} → f < count → IsPlaced count (Function f)
-  of_data : {a : ℕ} → a ≤ data_start + data_limit → IsPlaced count (Word a)
+pub data IsInFile (count : ℕ) : Value → Type 0 where
+  of_function : {f : ℕ} → f < count → IsInFile count (Function f)
+  of_data : {a : ℕ} → a ≤ data_start + data_limit → IsInFile count (Word a)
 
 abbrev AllPlaced : ℕ → List Definition → Type 0
-AllPlaced count ds = (d : Definition) → IsIn d ds → IsPlaced count d.value
+AllPlaced count ds = (d : Definition) → IsIn d ds → IsInFile count d.value
 
 no_definition : (count : ℕ) → AllPlaced count []
 no_definition count d z = elim z [ ]
 
-one_more : (count : ℕ) (d : Definition) (ds : List Definition) → IsPlaced count d.value → AllPlaced count ds → AllPlaced count (d ∷ ds)
+one_more : (count : ℕ) (d : Definition) (ds : List Definition) → IsInFile count d.value → AllPlaced count ds → AllPlaced count (d ∷ ds)
 one_more count d ds h all e z = by e z h all
   where
-    by : (e : Definition) → IsIn e (d ∷ ds) → IsPlaced count d.value → AllPlaced count ds → IsPlaced count e.value
+    by : (e : Definition) → IsIn e (d ∷ ds) → IsInFile count d.value → AllPlaced count ds → IsInFile count e.value
     by e is_first h all = h
     by e (is_later z) h all = all e z
 
@@ -98,17 +98,17 @@ file_placed file none =
     (list_placed (length (functions file)) data_start built_in within sound.0)
     (from_placed (length (functions file)) 0 (end_behind data_start built_in) file.items (list_within data_start built_in within sound.0) (omega arith) sound.1)
 
-value_placed : (count : ℕ) (ds : List Definition) (name : List ℕ) (v : Value) → AllPlaced count ds → value_among ds name ≡ Some v → IsPlaced count v
+value_placed : (count : ℕ) (ds : List Definition) (name : List ℕ) (v : Value) → AllPlaced count ds → value_among ds name ≡ Some v → IsInFile count v
 value_placed count [] name v all e = cc
 value_placed count (d ∷ ds) name v all e = by (bytes_eq d.name name) e (λ q. value_placed count ds name v (λ x z. all x (is_later z)) q)
   where
-    by : (b : Bool) → cond b (Some d.value) (value_among ds name) ≡ Some v → (value_among ds name ≡ Some v → IsPlaced count v) → IsPlaced count v
-    by true e go = let same : d.value ≡ v = cc in subst (IsPlaced count) same (all d is_first)
+    by : (b : Bool) → cond b (Some d.value) (value_among ds name) ≡ Some v → (value_among ds name ≡ Some v → IsInFile count v) → IsInFile count v
+    by true e go = let same : d.value ≡ v = cc in subst (IsInFile count) same (all d is_first)
     by false e go = go e
 
 -- what a symbol of the file stands for
 pub symbol_placed : (file : FileTree) (name : List ℕ) (v : Value) → data_fault_of file ≡ None → value_of_symbol file name ≡ Some v →
-    IsPlaced (length (functions file)) v
+    IsInFile (length (functions file)) v
 symbol_placed file name v none e = value_placed (length (functions file)) (definitions file) name v (file_placed file none) e
 
 -- ---- the addresses of functions

@@ -1,2 +1,3 @@
-pub mod Marks
 pub mod Spare
+pub mod Compiled
+pub mod Functions
