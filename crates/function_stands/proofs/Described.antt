@@ -1,5 +1,5 @@
 -- What an exact descriptor says of a frame point in the machine.
-use Rattle.std.proofs.Common.{◌≡◌, ℕ, zero, suc, ◌+◌, ◌*◌, ◌/◌, ◌%◌, ◌<◌, ◌==◌, ◌||◌, Bool, true, false, cond, ◌⊎◌, inl, inr, ⊎_elim, List, [], ◌∷◌, length, refl, sym, ap, ◌∙◌, subst, arith}
+use Rattle.std.proofs.Common.{◌≡◌, ℕ, ◌+◌, ◌*◌, ◌/◌, ◌%◌, ◌<◌, ◌==◌, ◌||◌, Bool, true, false, cond, ◌⊎◌, inl, inr, ⊎_elim, List, [], ◌∷◌, length, refl, sym, ap, ◌∙◌, subst, arith}
 use Rattle.std.specs.List.{Contains}
 use Rattle.std.proofs.lemmas.Bool.{true≢false, eqb-true}
 use Rattle.bs_words.specs.declared.types.Comp.{Comp}
@@ -9,9 +9,9 @@ use Rattle.bs_words.specs.declared.types.Loc.TheVariants as loc
 use Rattle.bs_words.specs.declared.types.Ret.{Ret}
 use Rattle.layout_rules.specs.Laid.{desc_at}
 use Rattle.lin_ir.specs.Descriptors.{IsDescr, IsEntry, of_register, of_slot, NamesLives, frame_bytes}
-use Rattle.lin_ir.specs.Formed.{IsHome, IsLocation, Locates, WellFormed, is_colour, is_home, is_slot, is_spare}
+use Rattle.lin_ir.specs.Formed.{IsLocation, Locates, WellFormed, is_home, is_slot, is_spare}
 use Rattle.lin_ir.specs.Meaning.{NamedAt, is_named, passes_frame, same_loc}
-use Rattle.lin_ir.specs.Walks.{Leads, goes, Raises, raises, Live, read, on, aside, LiveAcross, across_step, across_raise, LiveAt, Stands}
+use Rattle.lin_ir.specs.Walks.{goes, raises, Live, read, on, aside, LiveAcross, across_step, across_raise, LiveAt, Stands}
 use Rattle.lin_ir.specs.declared.descr.Descr.{Descr}
 use Rattle.lin_ir.specs.declared.lin.Line.{Line}
 use Rattle.lin_ir.specs.declared.lin.Lin.{Lin}
@@ -57,7 +57,7 @@ first_or_later x e es (is_later z) = inr z
 
 register_named : (r : ℕ) (es : List ℕ) → IsIn (2 * r + 1) es → Among r (registers_named es)
 register_named r [] z = elim z [ ]
-register_named r (e ∷ es) z = 
+register_named r (e ∷ es) z =
     by (is_register e) refl (⊎_elim (λ same. inl same) (λ y. inr (register_named r es y)) (first_or_later (2 * r + 1) e es z))
   where
     by : (b : Bool) → is_register e ≡ b → (2 * r + 1 ≡ e) ⊎ Among r (registers_named es) → Among r (cond b (e / 2 ∷ registers_named es) (registers_named es))
@@ -80,6 +80,7 @@ named_register r (e ∷ es) z = by (is_register e) refl z (λ y. named_register 
   where
     later : Odd r es → Odd r (e ∷ es)
     later o = record { entry = o.entry; inside = is_later o.inside; odd = o.odd; half = o.half }
+
     by : (b : Bool) → is_register e ≡ b → Among r (cond b (e / 2 ∷ registers_named es) (registers_named es)) → (Among r (registers_named es) → Odd r es) →
         Odd r (e ∷ es)
     by true odd (inl half) go = record { entry = e; inside = is_first; odd = eqb-true (e % 2) 1 odd; half = half }
@@ -123,8 +124,10 @@ module _ (m : Lin) (formed : WellFormed m) where
         entry l e of h =
             let live = (names.exact i next stands point l).0 (contains_of (is_one_of l (named (length next)) h)) in
             in_of e d.entries ((is.exact e).1 (record { location = l; live = live; entry = of }))
+
         live_named : (l : Loc) → LiveAt m l comp.Val i next → same_loc l l ≡ true → is_named l (named (length next)) ≡ true
         live_named l live same = named_of l (named (length next)) (in_of l (named (length next)) ((names.exact i next stands point l).1 live)) same
+
         slot_of : (e : ℕ) → e % 2 ≡ 0 → IsIn e d.entries →
             (k : ℕ) × (e ≡ 8 * k + 16 * length tries) × (k < laid.slots) × (is_named (loc.Slot k) (named (length next)) ≡ true)
         slot_of e even z =
@@ -138,6 +141,7 @@ module _ (m : Lin) (formed : WellFormed m) where
                 let at : LiveAt m (loc.Slot k) comp.Val i next = subst (λ l. LiveAt m l comp.Val i next) same live in
                 let below = slot_below k (across_located (loc.Slot k) comp.Val at.across (stands_tail stands)) in
                 (k, is, subst (λ n. k < n) (sym slots) below, live_named (loc.Slot k) at (same_yes k))
+
         register_of : (r e : ℕ) → e % 2 ≡ 1 → r ≡ e / 2 → IsIn e d.entries → is_named (loc.Machine r) (named (length next)) ≡ true
         register_of r e odd half z =
             let n = (is.exact e).0 (contains_of z) in

@@ -1,8 +1,7 @@
 -- Control does not go past the last line, which has an instruction: every part but what is behind it begins before the end.
-use Rattle.std.proofs.Common.{◌≡◌, ℕ, suc, ◌+◌, ◌<◌, ◌≤◌, Bool, true, false, cond, nat_lt, List, [], ◌∷◌, ◌++◌, length, drop, refl, sym, ap, ◌∙◌, subst, arith}
-use Rattle.emit_rules.specs.Emitted.{descriptor, part_of, parts}
+use Rattle.std.proofs.Common.{◌≡◌, ℕ, ◌+◌, ◌<◌, ◌≤◌, Bool, true, false, cond, nat_lt, List, [], ◌∷◌, ◌++◌, length, drop, ap, arith}
+use Rattle.emit_rules.specs.Emitted.{descriptor, parts}
 use Rattle.emit_rules.specs.Entry.{Frame}
-use Rattle.emit_rules.specs.Sizes.{words_at_least}
 use Rattle.emit_rules.proofs.Acts.{ActsAt, part_acts}
 use Rattle.layout_rules.specs.declared.form.Form.{Form}
 use Rattle.layout_rules.specs.Forms.{total_words}
@@ -17,14 +16,11 @@ use Rattle.lin_ir.specs.declared.lin.LinOp.{LinOp}
 use Rattle.lin_ir.specs.declared.lin.LinOp.TheVariants as lin
 use Rattle.lin_ir.specs.declared.lin.Spot.{Spot}
 use Rattle.linear_machine.specs.View.{Fixed}
-use Rattle.mach_ir.specs.Acts.{Target, On}
-use Rattle.mach_ir.specs.Walks.{OneOf, this, other}
+use Rattle.mach_ir.specs.Acts.{On}
+use Rattle.mach_ir.specs.Walks.{OneOf, this}
 use Rattle.mach_ir.specs.declared.op.Access.TheVariants as access
 use Rattle.mach_ir.specs.declared.op.Calling.TheVariants as calling
-use Rattle.mach_ir.specs.declared.op.Leaving.TheVariants as leaving
-use Rattle.mach_ir.specs.declared.op.Op.{Op}
 use Rattle.mach_ir.specs.declared.op.Op.TheVariants as op
-use Rattle.rv_pieces.specs.declared.piece.Piece.{Piece}
 use Rattle.function_stands.proofs.Parts.{Place, left_in, part_in, place_within}
 use Rattle.function_stands.proofs.Splitting.{has_first, has_second, least, words_both, words_first}
 

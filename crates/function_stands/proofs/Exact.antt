@@ -1,6 +1,6 @@
 -- Exact descriptors, one for each frame point: each line has its own.
-use Rattle.std.proofs.Common.{◌≡◌, ℕ, suc, ◌+◌, ◌<◌, ◌≤◌, Bool, true, false, cond, nat_eq, ◌⊎◌, inl, inr, ⊎_elim, List, [], ◌∷◌, length, All, AllPairs, Option, Some, refl, sym, ap, ◌∙◌, subst, arith}
-use Rattle.std.specs.List.{AllByRecursion, Contains}
+use Rattle.std.proofs.Common.{◌≡◌, ℕ, suc, ◌+◌, ◌<◌, ◌≤◌, Bool, true, false, cond, ◌⊎◌, inl, inr, ⊎_elim, List, [], ◌∷◌, length, AllPairs, Some, refl, sym, ap, ◌∙◌, subst, arith}
+use Rattle.std.specs.List.{AllByRecursion}
 use Rattle.std.proofs.lemmas.Bool.{true≢false}
 use Rattle.std.proofs.lemmas.List.Elements.{recursion_from_All}
 use Rattle.emit_rules.specs.Emitted.{descriptor, left_after}
@@ -114,6 +114,7 @@ module _ (total : ℕ) where
       skipped : (ds : List Descr) → descriptor_of ds (j ∷ js) (length next) ≡ descriptor_of (left_in ds j) js (length next)
       skipped ds = ap (λ b. cond b (descriptor (passes_frame j.op) ds) (descriptor_of (left_in ds j) js (length next)))
           (same_no (length js) (length next) (shorter stands))
+
       moved : (ds left : List Descr) → left_in ds j ≡ left → Own whole left js next → Own whole ds (j ∷ js) next
       moved ds left e o = record {
         of = o.of;
@@ -121,6 +122,7 @@ module _ (total : ℕ) where
         among = o.among;
         after = o.after;
       }
+
       by : (b : Bool) → passes_frame j.op ≡ b → (ds : List Descr) → AllPoint total (j ∷ js) ds → Rises ds →
           length ds ≡ cond b (suc (frame_points js)) (frame_points js) → ((d : Descr) → IsIn d ds → IsIn d whole) →
           ((es : List Descr) → AllPoint total js es → Rises es → length es ≡ frame_points js → ((d : Descr) → IsIn d es → IsIn d whole) → Own whole es js next) →
@@ -139,9 +141,10 @@ module _ (total : ℕ) where
 rises_of : (ds : List Descr) → AllPairs (λ (d e : Descr). d.after < e.after) ds → Rises ds
 unfolding Rises
 rises_of [] h = tt
-rises_of (d ∷ ds) h =
-    (recursion_from_All (λ (e : Descr). d.after < e.after) ds (pairs_here (λ (d e : Descr). d.after < e.after) d ds h),
-    rises_of ds (pairs_later (λ (d e : Descr). d.after < e.after) d ds h))
+rises_of (d ∷ ds) h = (
+  recursion_from_All (λ (e : Descr). d.after < e.after) ds (pairs_here (λ (d e : Descr). d.after < e.after) d ds h),
+  rises_of ds (pairs_later (λ (d e : Descr). d.after < e.after) d ds h),
+)
 
 above_in : (at : ℕ) (ds : List Descr) (d : Descr) → AllByRecursion (λ (e : Descr). at < e.after) ds → IsIn d ds → at < d.after
 above_in at (d ∷ ds) d' above is_first = above.0

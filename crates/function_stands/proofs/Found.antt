@@ -1,14 +1,12 @@
 -- The descriptors of a function's pieces are found in the image at their return addresses.
-use Rattle.std.proofs.Common.{◌≡◌, ℕ, zero, suc, ◌+◌, ◌*◌, ◌<◌, ◌≤◌, Bool, true, false, cond, ◌==◌, ◌⊎◌, inl, inr, List, [], ◌∷◌, ◌++◌, Some, refl, sym, ap, ◌∙◌, subst, arith}
+use Rattle.std.proofs.Common.{◌≡◌, ℕ, zero, suc, ◌+◌, ◌<◌, false, cond, ◌==◌, List, [], ◌∷◌, ◌++◌, Some, refl, ap, ◌∙◌, subst, arith}
 use Rattle.std.specs.Prelude.{find, slice_get}
-use Rattle.std.specs.List.{AllByRecursion}
 use Rattle.std.proofs.lemmas.Bool.{ne_eqb}
-use Rattle.image_form.specs.Image.{EachNext, First}
+use Rattle.image_form.specs.Image.{EachNext}
 use Rattle.image_form.specs.Tables.{Desc}
 use Rattle.layout_rules.specs.declared.form.Form.{Form}
 use Rattle.layout_rules.specs.Forms.{AreForms, total_words, words_of}
-use Rattle.layout_rules.specs.Laid.{AreAllForms, address_of_place, desc_at, descs_from, descs_in, entries_from}
-use Rattle.lin_ir.specs.declared.descr.Descr.{Descr}
+use Rattle.layout_rules.specs.Laid.{AreAllForms, desc_at, descs_from, descs_in, entries_from}
 use Rattle.linear_machine.specs.View.{Fixed}
 use Rattle.linear_rules.proofs.Homes.{IsIn, is_first, is_later}
 use Rattle.rv_machine.specs.Frames.{descriptor_at}
@@ -44,9 +42,10 @@ module _ (s : Fixed) (rises : Rising s.image.descs) where
   all_found at [] fs among = tt
   all_found at (p ∷ ps) [] among = tt
   all_found at (Descriptor d ∷ ps) (f ∷ fs) among =
-      let e : at ≡ at + 0 = omega arith in
-      (found_at s.image.descs (desc_at at d) rises (among (desc_at at d) is_first),
-      subst (λ k. AreFound s k ps fs) e (all_found at ps fs (λ x z. among x (is_later z))))
+      let e : at ≡ at + 0 = omega arith in (
+        found_at s.image.descs (desc_at at d) rises (among (desc_at at d) is_first),
+        subst (λ k. AreFound s k ps fs) e (all_found at ps fs (λ x z. among x (is_later z))),
+      )
   all_found at (Known i ∷ ps) (f ∷ fs) among = (tt, all_found (at + words_of (Known i) f) ps fs among)
   all_found at (Label l ∷ ps) (f ∷ fs) among = (tt, all_found (at + words_of (Label l) f) ps fs among)
   all_found at (Branch c a b l ∷ ps) (f ∷ fs) among = (tt, all_found (at + words_of (Branch c a b l) f) ps fs among)

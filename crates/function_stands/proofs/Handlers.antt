@@ -1,16 +1,16 @@
 -- Where the handlers of pushed traps are entered.
-use Rattle.std.proofs.Common.{◌≡◌, ◌≢◌, ℕ, Bool, true, false, cond, ◌⊎◌, inl, inr, ⊎_elim, List, [], ◌∷◌, ◌++◌, AllPairs, refl, sym, ap, ◌∙◌, subst, arith}
+use Rattle.std.proofs.Common.{◌≡◌, ◌≢◌, ℕ, Bool, true, false, cond, List, [], ◌∷◌, ◌++◌, AllPairs, refl, sym, ap, ◌∙◌, subst}
 use Rattle.std.specs.List.{Contains}
 use Rattle.std.proofs.lemmas.Bool.{true≢false, eqb-true}
-use Rattle.lin_ir.specs.Formed.{EntersAt, enters_here, enters_below, NamesLabel, pushes, WellFormed, label_of, labels_in}
+use Rattle.lin_ir.specs.Formed.{EntersAt, enters_here, enters_below, pushes, WellFormed, label_of, labels_in}
 use Rattle.lin_ir.specs.Meaning.{after_label, has_label}
-use Rattle.lin_ir.specs.Walks.{Leads, goes, Raises, raises, Reached, at_entry, by_step, by_raise, tries_after}
+use Rattle.lin_ir.specs.Walks.{goes, raises, Reached, at_entry, by_step, by_raise, tries_after}
 use Rattle.lin_ir.specs.declared.lin.Flow.TheVariants as flow
 use Rattle.lin_ir.specs.declared.lin.Line.{Line}
 use Rattle.lin_ir.specs.declared.lin.Lin.{Lin}
 use Rattle.lin_ir.specs.declared.lin.LinOp.{LinOp}
 use Rattle.lin_ir.specs.declared.lin.LinOp.TheVariants as lin
-use Rattle.linear_rules.proofs.Homes.{IsIn, contains_of, in_of, is_first, is_later}
+use Rattle.linear_rules.proofs.Homes.{IsIn, contains_of, is_first, is_later}
 use Rattle.linear_rules.proofs.Marks.{all_in, pairs_here, pairs_later}
 use Rattle.linear_rules.proofs.Walked.{reached_tail, tail_in}
 use Rattle.function_stands.proofs.Parts.{same_yes}

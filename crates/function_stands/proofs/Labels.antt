@@ -1,11 +1,11 @@
 -- Labels lie where the parts behind their marks begin.
-use Rattle.std.proofs.Common.{◌≡◌, ℕ, ◌+◌, ◌≤◌, Bool, true, false, cond, nat_eq, ◌⊎◌, ⊎_elim, List, [], ◌∷◌, ◌++◌, length, drop, Some, None, refl, sym, ap, ◌∙◌, subst, arith}
+use Rattle.std.proofs.Common.{◌≡◌, ℕ, ◌+◌, ◌≤◌, Bool, true, false, cond, nat_eq, ⊎_elim, List, [], ◌∷◌, ◌++◌, length, drop, Some, refl, sym, ap, ◌∙◌, arith}
 use Rattle.std.specs.List.{Contains}
 use Rattle.std.proofs.lemmas.Bool.{true≢false}
 use Rattle.std.proofs.lemmas.List.Elements.{Contains-append_cases}
-use Rattle.emit_rules.specs.Emitted.{descriptor, left_after, part_of, parts}
+use Rattle.emit_rules.specs.Emitted.{descriptor, parts}
 use Rattle.emit_rules.specs.Entry.{Frame, entry}
-use Rattle.emit_rules.specs.Traversal.{Allows, Each, each_none, each_more}
+use Rattle.emit_rules.specs.Traversal.{Allows, Each, each_more}
 use Rattle.emit_rules.proofs.Traverse.{entry-in, part-in}
 use Rattle.layout_rules.specs.declared.form.Form.{Form}
 use Rattle.layout_rules.specs.Forms.{is_label, label_from, total_words, words_of}
@@ -22,7 +22,6 @@ use Rattle.lin_ir.specs.declared.lin.Spot.{Spot}
 use Rattle.linear_machine.specs.View.{Fixed}
 use Rattle.linear_rules.proofs.Homes.{IsIn, in_of, is_first, is_later}
 use Rattle.rv_pieces.specs.declared.piece.Piece.{Piece}
-use Rattle.rv_pieces.specs.declared.piece.Piece.TheVariants as piece
 use Rattle.function_stands.proofs.Parts.{Place, left_in, part_in, place_first, place_later, same_yes}
 use Rattle.function_stands.proofs.Splitting.{has_second}
 
@@ -113,12 +112,16 @@ module _ (s : Fixed) (n : Named) (traps : ℕ → ℕ) (f : Frame) where
     where
       part : List Piece
       part = part_in traps f ds i next
+
       rest : List Piece
       rest = parts traps f (left_in ds i) next
+
       left : List Form
       left = drop (length part) fs
+
       later : has_label l i.op ≡ false → Contains (labels_in next) l
       later e = ⊎_elim (λ own. absurd (true≢false (sym (labelled l i.op (in_of l (label_of i.op) own)) ∙ e))) (λ z. z) (Contains-append_cases (label_of i.op) (labels_in next) l c)
+
       by : (b : Bool) → has_label l i.op ≡ b →
           (Contains (labels_in next) l →
           label_from l (at + total_words part fs) rest left

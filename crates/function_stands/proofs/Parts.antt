@@ -14,7 +14,7 @@ use Rattle.lin_ir.specs.declared.descr.Descr.{Descr}
 use Rattle.lin_ir.specs.declared.lin.Line.{Line}
 use Rattle.rv_machine.specs.Frames.{descriptor_at}
 use Rattle.rv_pieces.specs.declared.piece.Piece.{Piece}
-use Rattle.rv_pieces.specs.declared.piece.Piece.TheVariants.{Known, Label, Branch, Jump, Row, LabelAddress, Call, TailCall, SymbolAddress, ExternalNumber, Descriptor}
+use Rattle.rv_pieces.specs.declared.piece.Piece.TheVariants.{Descriptor}
 use Rattle.linear_machine.specs.View.{Fixed}
 use Rattle.line_stands.specs.Parts.{PartStands, label_place}
 use Rattle.function_stands.proofs.Splitting.{has_first, has_second, reach_first, reach_second, words_both, words_first}
@@ -134,8 +134,10 @@ module _ (s : Fixed) (n : Named) (traps : ℕ → ℕ) (f : Frame) where
     where
       words : ℕ
       words = total_words (part_in traps f ds i next) fs
+
       left : List Form
       left = drop (length (part_in traps f ds i next)) fs
+
       by : (t : Bool) → Place (left_in ds i) next left (b + (at + words)) k ≡ b + Place (left_in ds i) next left (at + words) k →
           cond t (b + at) (Place (left_in ds i) next left (b + at + words) k) ≡ b + cond t at (Place (left_in ds i) next left (at + words) k)
       by true e = refl

@@ -1,13 +1,11 @@
 -- What is known of the lines of a function besides their words.
-use Rattle.std.proofs.Common.{◌≡◌, ℕ, suc, ◌+◌, ◌<◌, ◌≤◌, Bool, true, false, cond, ◌||◌, nat_eq, List, [], ◌∷◌, ◌++◌, length, Option, Some, None, refl, sym, ap, ◌∙◌, subst, arith}
+use Rattle.std.proofs.Common.{◌≡◌, ℕ, ◌+◌, ◌<◌, Bool, true, false, cond, ◌||◌, List, [], ◌∷◌, ◌++◌, length, Option, None, refl, ap, ◌∙◌, subst, arith}
 use Rattle.std.specs.List.{AllByRecursion, Contains}
-use Rattle.std.proofs.lemmas.Bool.{true≢false}
 use Rattle.std.proofs.lemmas.List.Elements.{Contains-append_right}
 use Rattle.bs_words.specs.declared.types.Comp.{Comp}
 use Rattle.emit_rules.specs.Emitted.{descriptor, part_of, parts}
 use Rattle.emit_rules.specs.Entry.{Frame}
-use Rattle.emit_rules.specs.Named.{IsExternalOf}
-use Rattle.emit_rules.specs.Traversal.{Allows, Each, each_none, each_more}
+use Rattle.emit_rules.specs.Traversal.{Allows, Each, each_more}
 use Rattle.emit_rules.proofs.Traverse.{part-in}
 use Rattle.layout_rules.specs.declared.form.Form.{Form}
 use Rattle.layout_rules.specs.Forms.{total_words, words_of}

@@ -1,7 +1,6 @@
 -- External calls by their rows in the image.
-use Rattle.std.proofs.Common.{◌≡◌, ℕ, ◌+◌, Bool, true, false, cond, ◌&&◌, ◌==◌, ◌⊎◌, inl, inr, List, [], ◌∷◌, map, bytes_eq, Some, refl, sym, ap, ◌∙◌, subst, arith}
+use Rattle.std.proofs.Common.{◌≡◌, Bool, true, false, cond, ◌&&◌, ◌==◌, ◌⊎◌, inl, inr, List, [], ◌∷◌, map, bytes_eq, Some, refl, sym, ap, ◌∙◌, arith}
 use Rattle.std.specs.Prelude.{find, slice_get}
-use Rattle.std.specs.List.{position_or_len}
 use Rattle.std.specs.Option.{option_map}
 use Rattle.std.proofs.lemmas.Bool.{true≢false, eqb-true}
 use Rattle.std.proofs.lemmas.List.Folds.{find_at}
@@ -85,8 +84,11 @@ same_row_is a b e =
 
 row_itself : (e : External) → same_row e e ≡ true
 row_itself e =
-    rw ((bytes_eq-Decides e.name e.name).1 refl, (bytes_eq-Decides (map comp_byte e.params) (map comp_byte e.params)).1 refl,
-    same_yes (ret_byte e.result)) refl
+    rw (
+      (bytes_eq-Decides e.name e.name).1 refl,
+      (bytes_eq-Decides (map comp_byte e.params) (map comp_byte e.params)).1 refl,
+      same_yes (ret_byte e.result),
+    ) refl
 
 -- the first row that is the call's
 record First (rows : List External) (e : External) : Type 0 where
@@ -101,6 +103,7 @@ first (x ∷ rows) e z = by (same_row x e) refl (later e z) (λ y. first rows e 
     later : (e : External) → IsIn e (x ∷ rows) → (same_row x e ≡ true) ⊎ IsIn e rows
     later e is_first = inl (row_itself x)
     later e (is_later y) = inr y
+
     by : (b : Bool) → same_row x e ≡ b → (same_row x e ≡ true) ⊎ IsIn e rows → (IsIn e rows → First rows e) → First (x ∷ rows) e
     by true h z go = record { row = x; found = ap (λ b. cond b (Some x) (find (λ y. same_row y e) rows)) h; same = h }
     by false h (inl own) go = absurd (true≢false (sym own ∙ h))

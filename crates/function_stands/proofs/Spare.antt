@@ -1,5 +1,5 @@
 -- T0 is dead where a handler is entered, and so wherever the traps are those of another walk it is live alike.
-use Rattle.std.proofs.Common.{◌≡◌, ℕ, Bool, true, false, ◌⊎◌, inl, inr, ⊎_elim, List, [], ◌∷◌, length, refl, sym, ap, ◌∙◌, subst, arith}
+use Rattle.std.proofs.Common.{◌≡◌, ℕ, Bool, true, false, ◌⊎◌, inl, inr, ⊎_elim, List, [], ◌∷◌, length, refl, sym, ap, ◌∙◌, subst}
 use Rattle.std.specs.List.{Contains}
 use Rattle.std.proofs.lemmas.Bool.{true≢false}
 use Rattle.bs_words.specs.declared.types.Comp.{Comp}
@@ -9,8 +9,8 @@ use Rattle.bs_words.specs.declared.types.Loc.TheVariants as loc
 use Rattle.bs_words.specs.declared.types.Ret.{Ret}
 use Rattle.lin_ir.specs.Descriptors.{NamesLives}
 use Rattle.lin_ir.specs.Formed.{IsFormed, formed_op, formed_flow, enter_form, IsQuiet, quiet_pure, quiet_load, quiet_store, FlowHasForm, label_form, jump_form, exit_form, branch_form, switch_form, push_form, pop_form, Sets, WellFormed, comps, spare}
-use Rattle.lin_ir.specs.Meaning.{after_label, code_at, destroyed_by, passes_frame, same_loc, NamedAt, is_named}
-use Rattle.lin_ir.specs.Walks.{Leads, goes, Raises, raises, Live, read, on, aside, LiveAcross, across_step, across_raise, LiveAfter, after_step, Reached, at_entry, by_step, by_raise, Stands, Traps, by_walk, unreached, Writes, targets, tries_after, may_raise}
+use Rattle.lin_ir.specs.Meaning.{destroyed_by, passes_frame, same_loc, NamedAt, is_named}
+use Rattle.lin_ir.specs.Walks.{goes, Raises, raises, Live, read, on, aside, LiveAcross, across_step, across_raise, after_step, Reached, by_step, Stands, Traps, by_walk, unreached, tries_after, may_raise}
 use Rattle.lin_ir.specs.declared.lin.Flow.{Flow}
 use Rattle.lin_ir.specs.declared.lin.Flow.TheVariants as flow
 use Rattle.lin_ir.specs.declared.lin.Line.{Line}
@@ -21,15 +21,13 @@ use Rattle.lin_ir.specs.declared.lin.Spot.{Spot}
 use Rattle.line_stands.specs.Lines.{SparePasses}
 use Rattle.linear_rules.proofs.Homes.{IsIn, contains_of, in_of, is_first, is_later, is_one_of, same_loc_is}
 use Rattle.linear_rules.proofs.Marks.{all_in}
-use Rattle.linear_rules.proofs.Walked.{Tail, reached_tail, tail_in, tail_label}
-use Rattle.mach_ir.specs.Acts.{Target}
+use Rattle.linear_rules.proofs.Walked.{Tail, tail_in, tail_label}
 use Rattle.mach_ir.specs.Meaning.{Everything, is_destroyed}
-use Rattle.mach_ir.specs.Walks.{OneOf}
 use Rattle.mach_ir.specs.declared.op.Callee.{Callee}
 use Rattle.mach_ir.specs.declared.op.Calling.TheVariants as calling
 use Rattle.mach_ir.specs.declared.op.Op.TheVariants as op
 use Rattle.function_stands.specs.Spare.{SpareLive}
-use Rattle.function_stands.proofs.Handlers.{Enters, Pushed, pushed, pushed_enters}
+use Rattle.function_stands.proofs.Handlers.{pushed, pushed_enters}
 
 -- the entry of a handler reads nothing
 enters_comps : (f : Flow) (args results : List Comp) → FlowHasForm f args results → f ≡ flow.EnterTrap → args ≡ []
@@ -123,12 +121,15 @@ module _ (m : Lin) (formed : WellFormed m) where
     reads = λ t z. record { comp = t; tries = tries; reached = reached; live = read z };
     on = λ t o live.
         let there = spare_any live.comp live.reached live.live (tries_after i.op tries) in
-        ⊎_elim (λ set. inl set) (λ quiet. ⊎_elim (λ set. inl set) (λ none. inr (quiet, record {
-          comp = live.comp;
-          tries = tries;
-          reached = reached;
-          live = on (λ writes. ⊎_elim (λ set. none set) (λ lost. true≢false (sym lost ∙ quiet_keeps i.op quiet)) writes) (goes t o) there;
-        })) (sets i)) (formed.spare.written i next tries stands (by_walk reached) live.comp (after_step (goes t o) there));
+        ⊎_elim (λ set. inl set) (λ quiet. ⊎_elim (λ set. inl set) (λ none. inr (
+          quiet,
+          record {
+            comp = live.comp;
+            tries = tries;
+            reached = reached;
+            live = on (λ writes. ⊎_elim (λ set. none set) (λ lost. true≢false (sym lost ∙ quiet_keeps i.op quiet)) writes) (goes t o) there;
+          },
+        )) (sets i)) (formed.spare.written i next tries stands (by_walk reached) live.comp (after_step (goes t o) there));
     aside = λ e l among live.
         let entry = pushed_enters m formed l (pushed m reached l (in_of l tries among)) in
         let tail = subst (λ code. Tail code m.code) entry.is (tail_label l m.code) in

@@ -1,18 +1,16 @@
 -- What symbols stand for in the image: addresses of functions and of static data.
-use Rattle.std.proofs.Common.{◌≡◌, ℕ, zero, suc, ◌+◌, ◌*◌, ◌^◌, ◌<◌, ◌≤◌, Bool, true, false, cond, List, [], ◌∷◌, ◌++◌, length, map, bytes_eq, Option, Some, None, refl, sym, ap, ◌∙◌, subst, arith}
+use Rattle.std.proofs.Common.{◌≡◌, ℕ, zero, suc, ◌+◌, ◌<◌, ◌≤◌, Bool, true, false, cond, List, [], ◌∷◌, ◌++◌, length, map, bytes_eq, Some, None, refl, sym, subst, arith}
 use Rattle.std.specs.Prelude.{slice_index}
 use Rattle.std.specs.Option.{option_to_list}
-use Rattle.bs_fault.specs.declared.fault.Fault.{Fault}
 use Rattle.bs_words.specs.Fits.{data_start}
 use Rattle.bs_words.specs.declared.values.Value.{Value}
-use Rattle.bs_words.specs.declared.values.Value.TheVariants.{Word, Block, Function}
+use Rattle.bs_words.specs.declared.values.Value.TheVariants.{Word, Function}
 use Rattle.cmm_data.specs.Faults.{data_fault_of, data_limit, first_fault}
-use Rattle.cmm_data.specs.Placement.{DataSymbolTree, Definition, PlacedItem, built_in, defined_at, defined_by_list, defined_from, definition_of_data, definitions, end_behind, end_of_items, items_from, items_of_lists, lists_behind, size_at, start_behind, symbol_at, symbols_among, value_among, value_of_symbol}
+use Rattle.cmm_data.specs.Placement.{Definition, built_in, defined_at, defined_by_list, defined_from, definition_of_data, definitions, end_behind, items_from, items_of_lists, lists_behind, size_at, start_behind, symbol_at, value_among, value_of_symbol}
 use Rattle.cmm_data.proofs.Steps.{end-within}
 use Rattle.cmm_data.proofs.Table.{defined_at-next}
 use Rattle.cmm_data.proofs.Walk.{sound-first, sound-list, start-within}
 use Rattle.cmm_tree.specs.Tree.{AData, AFunction, Address, AFloat, Align, Byte, DataItemTree, DataListTree, DatumTree, Define, FileTree, FunctionTree, Global, Half, Int, ItemTree, Skip, Text, Val, data_among, functions, functions_among}
-use Rattle.image_form.specs.Tables.{Func}
 use Rattle.layout_rules.specs.declared.form.Form.{Form}
 use Rattle.layout_rules.specs.Forms.{total_words}
 use Rattle.layout_rules.specs.Laid.{AreAllForms, address_of_place, entries_from, rows_from}

@@ -1,10 +1,7 @@
 -- A function that was compiled stands in the image.
-use Rattle.std.proofs.Common.{◌≡◌, ℕ, zero, suc, ◌+◌, ◌-◌, ◌*◌, ◌/◌, ◌%◌, ◌^◌, ◌<◌, ◌≤◌, Bool, true, false, cond, ◌⊎◌, inl, inr, ⊎_elim, List, [], ◌∷◌, ◌++◌, length, drop, take, map, Option, Some, None, refl, sym, ap, ◌∙◌, subst, arith}
+use Rattle.std.proofs.Common.{◌≡◌, ℕ, zero, suc, ◌+◌, ◌*◌, ◌^◌, ◌<◌, ◌≤◌, Bool, true, false, List, [], ◌∷◌, ◌++◌, length, drop, take, Option, Some, None, refl, sym, ap, ◌∙◌, subst, arith}
 use Rattle.std.specs.Prelude.{slice_get, slice_index}
 use Rattle.std.specs.List.{AllByRecursion, Contains}
-use Rattle.std.proofs.lemmas.Bool.{true≢false}
-use Rattle.bs_words.specs.declared.types.Comp.{Comp}
-use Rattle.bs_words.specs.declared.types.Ret.{Ret}
 use Rattle.bs_words.specs.declared.values.Value.{Value}
 use Rattle.bs_words.specs.declared.values.Value.TheVariants.{Word, Block, Function}
 use Rattle.cmm_data.specs.Placement.{value_of_symbol}
@@ -16,18 +13,18 @@ use Rattle.emit_rules.specs.Named.{IsExternalOf}
 use Rattle.image_form.specs.Tables.{Desc, Tables}
 use Rattle.layout_rules.specs.declared.form.Form.{Form}
 use Rattle.layout_rules.specs.Conditions.{IsFunctionLaid, IsNamed}
-use Rattle.layout_rules.specs.Externals.{ext_of, externals}
+use Rattle.layout_rules.specs.Externals.{externals}
 use Rattle.layout_rules.specs.Forms.{ReachFrom, label_from, place_of, place_or_entry, total_words}
-use Rattle.layout_rules.specs.Laid.{address_of_place, address_of_value, descs_from, descs_in, entries_from, laid_out, names_at, stub_words}
+use Rattle.layout_rules.specs.Laid.{address_of_place, address_of_value, descs_in, entries_from, names_at, stub_words}
 use Rattle.layout_rules.specs.Stands as layout
 use Rattle.layout_rules.specs.Stands.{HasPieces}
 use Rattle.layout_rules.specs.Words.{Named}
 use Rattle.layout_rules.proofs.Functions.{stands}
 use Rattle.layout_rules.proofs.Relaxing.{forms_once}
 use Rattle.lin_ir.specs.Descriptors.{IsDescr, frame_bytes, has_frame_point}
-use Rattle.lin_ir.specs.Formed.{IsFormed, Locates, NamesLabel, labels_in, spare}
-use Rattle.lin_ir.specs.Meaning.{NamedAt, after_label, is_named, passes_frame}
-use Rattle.lin_ir.specs.Walks.{Reached, Stands, Traps, at_entry, by_walk}
+use Rattle.lin_ir.specs.Formed.{IsFormed, Locates, labels_in}
+use Rattle.lin_ir.specs.Meaning.{NamedAt, after_label, passes_frame}
+use Rattle.lin_ir.specs.Walks.{Reached, Stands, at_entry, by_walk}
 use Rattle.lin_ir.specs.declared.descr.Descr.{Descr}
 use Rattle.lin_ir.specs.declared.lin.Flow.TheVariants as flow
 use Rattle.lin_ir.specs.declared.lin.Lin.{Lin}
@@ -37,19 +34,14 @@ use Rattle.line_calls.specs.Points.{AreMarked, EntriesStand, IsTurn, PointStands
 use Rattle.line_stands.specs.Lines.{LineStands, OffsetFits}
 use Rattle.line_stands.specs.Names.{IsRowAt, NamesStand}
 use Rattle.line_stands.specs.Parts.{PartStands, label_place}
-use Rattle.linear_machine.specs.Relation.{IsDescribed, Laid, StandsFor}
+use Rattle.linear_machine.specs.Relation.{Laid, StandsFor}
 use Rattle.linear_machine.specs.View.{Fixed}
-use Rattle.linear_rules.proofs.Homes.{IsIn, in_of, is_first, is_later}
+use Rattle.linear_rules.proofs.Homes.{IsIn, in_of}
 use Rattle.linear_rules.proofs.Marks.{all_in}
 use Rattle.emit_rules.proofs.Names.{stands-contains}
 use Rattle.mach_ir.specs.Acts.{row_of}
-use Rattle.mach_ir.specs.declared.op.Callee.{Callee}
-use Rattle.mach_ir.specs.declared.op.Calling.TheVariants as calling
 use Rattle.mach_ir.specs.declared.op.External.{External}
-use Rattle.mach_ir.specs.declared.op.Op.TheVariants as op
 use Rattle.moving_laws.specs.Values.{function_at}
-use Rattle.rv_machine.specs.Frames.{names_register}
-use Rattle.rv_machine.specs.Memory.{code_start}
 use Rattle.rv_pieces.specs.declared.piece.Piece.{Piece}
 use Rattle.rv_pieces.specs.declared.piece.Pieces.{Pieces}
 use Rattle.function_stands.specs.Compiled.{IsCompiled}
@@ -241,7 +233,6 @@ module _ (s : Fixed) (file : FileTree) (ps : List Pieces) (c : Setting) (k : ℕ
       let short = s.functions.tables.code.short in
       let e = rows_are g h in
       (record { is = sym e; known = inside }, omega (arith, below, short, e))
-
   value_stands (Block serial offset) of = elim of [ ]
 
   symbol_is : (name : List ℕ) (v : Value) → c.symbol name ≡ Some v → StandsFor s [] (n.symbol name) v × (n.symbol name < 2 ^ 30)
@@ -274,9 +265,10 @@ module _ (s : Fixed) (file : FileTree) (ps : List Pieces) (c : Setting) (k : ℕ
   }
 
   entries_stand : EntriesStand s (entry_place s)
-  entries_stand = record { is = λ g inside.
-      let e = rows_are g (omega (arith, inside, as_many)) in
-      omega (arith, e)
+  entries_stand = record {
+    is = λ g inside.
+        let e = rows_are g (omega (arith, inside, as_many)) in
+        omega (arith, e);
   }
 
   -- ---- lines

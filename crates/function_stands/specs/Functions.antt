@@ -1,5 +1,5 @@
 -- How a function stands in the image: what the laws of its lines and of its entry take as known.
-use Rattle.std.specs.Prelude.{◌≡◌, ℕ, ◌-◌, ◌/◌, ◌≤◌, List, ◌∷◌, length, Option}
+use Rattle.std.specs.Prelude.{ℕ, ◌-◌, ◌/◌, ◌≤◌, List, ◌∷◌, length, Option}
 use Rattle.cmm_meaning.specs.Setting.{Setting}
 use Rattle.emit_rules.specs.Entry.{entry, frame_of}
 use Rattle.layout_rules.specs.Words.{Named}
