@@ -64,12 +64,12 @@ module _ (s : Fixed) (n : Named) (traps : ℕ → ℕ) (f : Frame) (m : Lin) (un
       let rest = parts traps f (left_in ds i) next in
       let both = words_both part rest fs in
       ⊎_elim (λ goes_on.
-          let later = some_words (left_in ds i) next (drop (length part) fs) (at' + total_words part fs) (tries_after i.op tries)
-          (by_step reached (goes On goes_on)) (has_second s.image.code n at' part rest fs has) in
-          omega (arith, later, both)) (λ acts.
-          let some = part_acts (traps (length next)) f (descriptor (passes_frame i.op) ds) i.op i.args i.results acts in
-          let enough = least s.image.code n at' part _ (has_first s.image.code n at' part rest fs has) in
-          omega (arith, some, enough, words_first part fs, both)) (on_or_acts i.op i.args i.results)
+      let later = some_words (left_in ds i) next (drop (length part) fs) (at' + total_words part fs) (tries_after i.op tries)
+      (by_step reached (goes On goes_on)) (has_second s.image.code n at' part rest fs has) in
+      omega (arith, later, both)) (λ acts.
+      let some = part_acts (traps (length next)) f (descriptor (passes_frame i.op) ds) i.op i.args i.results acts in
+      let enough = least s.image.code n at' part _ (has_first s.image.code n at' part rest fs has) in
+      omega (arith, some, enough, words_first part fs, both)) (on_or_acts i.op i.args i.results)
 
   cond_before : (b : Bool) (high x y : ℕ) → x < high → y < high → cond b x y < high
   cond_before true high x y h k = h

@@ -52,7 +52,7 @@ use Rattle.function_stands.proofs.Described.{is_described, none_over_calls}
 use Rattle.function_stands.proofs.Ending.{place_before, points_go_on}
 use Rattle.function_stands.proofs.Exact.{Described, described}
 use Rattle.function_stands.proofs.Found.{all_found, shares}
-use Rattle.function_stands.proofs.Handlers.{pushed, pushed_enters, pushed_stands}
+use Rattle.function_stands.proofs.Handlers.{pushed, pushed_stands}
 use Rattle.function_stands.proofs.Labels.{entry_past, label_past, label_place_is}
 use Rattle.function_stands.proofs.Parts.{AreFound, PartFound, found_second, Place, descriptor_of, line_part, place_first, place_moved, place_within, shorter}
 use Rattle.function_stands.proofs.Points.{external_in, found_marked, no_descriptor, none_marked, point_saves, unwritten}
