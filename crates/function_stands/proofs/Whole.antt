@@ -250,7 +250,8 @@ module _ (s : Fixed) (file : FileTree) (ps : List Pieces) (c : Setting) (k : ℕ
   external_is : (row : External) → IsExternalOf m row → IsRowAt s row (n.external (row_of row))
   external_is row is =
       let laid_one = all_at (IsFunctionLaid file) ps k pieces it.image.can.each there in
-      let named_one = external_in (IsNamed file pieces.code) traps f (entry f) ds m.code is.line row is.frame laid_one.named (in_of is.line m.code is.among) is.is in
+      let line = in_of is.line m.code is.among in
+      let named_one = external_in (IsNamed file pieces.code) traps f (entry f) ds m.code is.line row is.frame laid_one.named line is.is in
       let at = row_found (externals file) (row_of row) (in_of (row_of row) (externals file) (named_one.external row refl)) in
       record {
         ext = at.0;
@@ -327,7 +328,8 @@ module _ (s : Fixed) (file : FileTree) (ps : List Pieces) (c : Setting) (k : ℕ
         found_marked s (part_place (suc (length next))) (part_of (length tries) f (descr_of next) i) line_found.part.forms line_found.found
         (omega (arith, past, before))
     line_marked false none =
-        subst (λ d. AreMarked s (part_place (suc (length next))) (part_of (length tries) f d i) line_found.part.forms) (sym (no_descriptor ds m.code stands none))
+        let no_descr = no_descriptor ds m.code stands none in
+        subst (λ d. AreMarked s (part_place (suc (length next))) (part_of (length tries) f d i) line_found.part.forms) (sym no_descr)
         (none_marked s (length tries) f i (part_place (suc (length next))) line_found.part.forms)
 
     point_described : passes_frame i.op ≡ true → Described m ds it.descriptors.exact it.descriptors.count i next tries

@@ -41,7 +41,7 @@ pub record IsWhole (m : Lin) : Type 0 where
   pub handlers : (i : Line) → Contains m.code i → (l : ℕ) → i.op ≡ lin.Flow (flow.PushTrap l) →
       IsReached m (after_label l m.code)
 
--- Its descriptors: exact, one for each frame point, and these locations are the ones that are named.
+-- Its descriptors: exact, one for each frame point, where these locations are named.
 pub record HasDescriptors (m : Lin) (ds : List Descr) (named : NamedAt) : Type 0 where
   pub exact : AreExact m ds
   pub count : length ds ≡ frame_points m.code
