@@ -109,7 +109,8 @@ module _ (total : ℕ) where
     among = within d is_first;
     after = own_first i next d ds all rises (count ∙ ap (λ b. cond b (suc (frame_points next)) (frame_points next)) point);
   }
-  own {i} {next} whole (j ∷ js) ds (below stands) point all rises count within = by (passes_frame j.op) refl ds all rises count within (λ es a r c w. own whole js es stands point a r c w)
+  own {i} {next} whole (j ∷ js) ds (below stands) point all rises count within =
+      by (passes_frame j.op) refl ds all rises count within (λ es a r c w. own whole js es stands point a r c w)
     where
       skipped : (ds : List Descr) → descriptor_of ds (j ∷ js) (length next) ≡ descriptor_of (left_in ds j) js (length next)
       skipped ds = ap (λ b. cond b (descriptor (passes_frame j.op) ds) (descriptor_of (left_in ds j) js (length next)))
@@ -125,7 +126,8 @@ module _ (total : ℕ) where
 
       by : (b : Bool) → passes_frame j.op ≡ b → (ds : List Descr) → AllPoint total (j ∷ js) ds → Rises ds →
           length ds ≡ cond b (suc (frame_points js)) (frame_points js) → ((d : Descr) → IsIn d ds → IsIn d whole) →
-          ((es : List Descr) → AllPoint total js es → Rises es → length es ≡ frame_points js → ((d : Descr) → IsIn d es → IsIn d whole) → Own whole es js next) →
+          ((es : List Descr) → AllPoint total js es → Rises es → length es ≡ frame_points js → ((d : Descr) → IsIn d es → IsIn d whole) →
+          Own whole es js next) →
           Own whole ds (j ∷ js) next
       by true e [] all rises count within go = absurd (omega (arith, count))
       by true e (d ∷ ds) all rises count within go =

@@ -32,7 +32,8 @@ found_at (x ∷ xs) x' rises is_first =
     ap (λ b. cond b (Some x) (find (λ (e : Desc). code_start + e.after == code_start + x.after) xs)) (same_yes (code_start + x.after))
 found_at (x ∷ xs) d rises (is_later z) =
     let less = above x xs rises d z in
-    let apart : code_start + x.after == code_start + d.after ≡ false = ne_eqb (code_start + x.after) (code_start + d.after) (λ e. absurd (omega (arith, less, e))) in
+    let apart : code_start + x.after == code_start + d.after ≡ false =
+    ne_eqb (code_start + x.after) (code_start + d.after) (λ e. absurd (omega (arith, less, e))) in
     ap (λ b. cond b (Some x) (find (λ (e : Desc). code_start + e.after == code_start + d.after) xs)) apart ∙ found_at xs d rises.1 z
 
 -- ---- those of pieces

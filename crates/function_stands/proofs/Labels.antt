@@ -120,7 +120,9 @@ module _ (s : Fixed) (n : Named) (traps : ℕ → ℕ) (f : Frame) where
       left = drop (length part) fs
 
       later : has_label l i.op ≡ false → Contains (labels_in next) l
-      later e = ⊎_elim (λ own. absurd (true≢false (sym (labelled l i.op (in_of l (label_of i.op) own)) ∙ e))) (λ z. z) (Contains-append_cases (label_of i.op) (labels_in next) l c)
+      later e =
+          let apart = λ (own : Contains (label_of i.op) l). absurd (true≢false (sym (labelled l i.op (in_of l (label_of i.op) own)) ∙ e)) in
+          ⊎_elim apart (λ z. z) (Contains-append_cases (label_of i.op) (labels_in next) l c)
 
       by : (b : Bool) → has_label l i.op ≡ b →
           (Contains (labels_in next) l →

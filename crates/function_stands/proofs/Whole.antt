@@ -24,7 +24,7 @@ use Rattle.layout_rules.proofs.Relaxing.{forms_once}
 use Rattle.lin_ir.specs.Descriptors.{IsDescr, frame_bytes, has_frame_point}
 use Rattle.lin_ir.specs.Formed.{IsFormed, Locates, labels_in}
 use Rattle.lin_ir.specs.Meaning.{NamedAt, after_label, passes_frame}
-use Rattle.lin_ir.specs.Walks.{Reached, Stands, at_entry, by_walk}
+use Rattle.lin_ir.specs.Walks.{Reached, Stands, at_entry, by_step, by_walk, goes}
 use Rattle.lin_ir.specs.declared.descr.Descr.{Descr}
 use Rattle.lin_ir.specs.declared.lin.Flow.TheVariants as flow
 use Rattle.lin_ir.specs.declared.lin.Lin.{Lin}
@@ -39,7 +39,8 @@ use Rattle.linear_machine.specs.View.{Fixed}
 use Rattle.linear_rules.proofs.Homes.{IsIn, in_of}
 use Rattle.linear_rules.proofs.Marks.{all_in}
 use Rattle.emit_rules.proofs.Names.{stands-contains}
-use Rattle.mach_ir.specs.Acts.{row_of}
+use Rattle.linear_rules.proofs.Walked.{Tail, stands_tail, tail_all, tail_label, tail_more, tail_next}
+use Rattle.mach_ir.specs.Acts.{On, row_of}
 use Rattle.mach_ir.specs.declared.op.External.{External}
 use Rattle.moving_laws.specs.Values.{function_at}
 use Rattle.rv_pieces.specs.declared.piece.Piece.{Piece}
@@ -51,7 +52,7 @@ use Rattle.function_stands.proofs.Described.{is_described, none_over_calls}
 use Rattle.function_stands.proofs.Ending.{place_before, points_go_on}
 use Rattle.function_stands.proofs.Exact.{Described, described}
 use Rattle.function_stands.proofs.Found.{all_found, shares}
-use Rattle.function_stands.proofs.Handlers.{pushed, pushed_enters, pushed_stands}
+use Rattle.function_stands.proofs.Handlers.{pushed, pushed_stands}
 use Rattle.function_stands.proofs.Labels.{entry_past, label_past, label_place_is}
 use Rattle.function_stands.proofs.Parts.{AreFound, PartFound, found_second, Place, descriptor_of, line_part, place_first, place_moved, place_within, shorter}
 use Rattle.function_stands.proofs.Points.{external_in, found_marked, no_descriptor, none_marked, point_saves, unwritten}
@@ -76,6 +77,10 @@ index_is : (xs : List ℕ) (k x : ℕ) → slice_get xs k ≡ Some x → slice_i
 index_is [] k x e = cc
 index_is (y ∷ xs) zero x e = some_same y x e
 index_is (y ∷ xs) (suc k) x e = index_is xs k x e
+
+tail_within : {xs ys zs : List Line} → Tail xs ys → Tail ys zs → Tail xs zs
+tail_within t tail_all = t
+tail_within t (tail_more u) = tail_more (tail_within t u)
 
 index_below : {A : Type 0} (xs : List A) (k : ℕ) (x : A) → slice_get xs k ≡ Some x → k < length xs
 index_below [] k x e = cc
@@ -184,10 +189,11 @@ module _ (s : Fixed) (file : FileTree) (ps : List Pieces) (c : Setting) (k : ℕ
       let within = placed.stands.within in
       omega (arith, high, both, within)
 
-  -- what has a line behind it is no end of the code
-  part_before : (q : ℕ) → 1 ≤ q → 1 ≤ length m.code → part_place q < length s.image.code
-  part_before q some more =
-      let high = place_before s n traps f ds m.code left start start q some more it.whole.ends body_has in
+  -- what has a line behind it to which a walk comes is no end of the code
+  part_before : (q : ℕ) {suffix : List Line} {tries : List ℕ} → Reached m suffix tries → Tail suffix m.code → length suffix ≤ q →
+      part_place q < length s.image.code
+  part_before q reached tail h =
+      let high = place_before s n traps f m it.whole.unended ds m.code left start start q reached tail h body_has in
       let both = words_both (entry f) body fs in
       let within = placed.stands.within in
       omega (arith, high, both, within)
@@ -244,7 +250,8 @@ module _ (s : Fixed) (file : FileTree) (ps : List Pieces) (c : Setting) (k : ℕ
   external_is : (row : External) → IsExternalOf m row → IsRowAt s row (n.external (row_of row))
   external_is row is =
       let laid_one = all_at (IsFunctionLaid file) ps k pieces it.image.can.each there in
-      let named_one = external_in (IsNamed file pieces.code) traps f (entry f) ds m.code is.line row is.frame laid_one.named (in_of is.line m.code is.among) is.is in
+      let line = in_of is.line m.code is.among in
+      let named_one = external_in (IsNamed file pieces.code) traps f (entry f) ds m.code is.line row is.frame laid_one.named line is.is in
       let at = row_found (externals file) (row_of row) (in_of (row_of row) (externals file) (named_one.external row refl)) in
       record {
         ext = at.0;
@@ -308,26 +315,21 @@ module _ (s : Fixed) (file : FileTree) (ps : List Pieces) (c : Setting) (k : ℕ
       spare = spare_passes m it.whole.formed i next tries stands reached;
     }
 
-    -- what goes on has a line behind it
-    some_behind : passes_frame i.op ≡ true → 1 ≤ length next
-    some_behind point = by next stands
-      where
-        by : (next : List Line) → Stands i next m.code → 1 ≤ length next
-        by [] stands = absurd (it.whole.ends i stands (points_go_on i.op point))
-        by (j ∷ js) stands = omega arith
-
-    some_lines : 1 ≤ length m.code
-    some_lines = let h = shorter stands in omega (arith, h)
+    -- a walk comes to what stands behind a frame point
+    point_before : passes_frame i.op ≡ true → part_place (length next) < length s.image.code
+    point_before point =
+        part_before (length next) (by_step reached (goes On (points_go_on i.op point))) (tail_next (stands_tail stands)) (omega arith)
 
     line_marked : (b : Bool) → passes_frame i.op ≡ b →
         AreMarked s (part_place (suc (length next))) (part_of (length tries) f (descr_of next) i) line_found.part.forms
     line_marked true point =
         let past = line_found.part.past in
-        let before = part_before (length next) (some_behind point) some_lines in
+        let before = point_before point in
         found_marked s (part_place (suc (length next))) (part_of (length tries) f (descr_of next) i) line_found.part.forms line_found.found
         (omega (arith, past, before))
     line_marked false none =
-        subst (λ d. AreMarked s (part_place (suc (length next))) (part_of (length tries) f d i) line_found.part.forms) (sym (no_descriptor ds m.code stands none))
+        let no_descr = no_descriptor ds m.code stands none in
+        subst (λ d. AreMarked s (part_place (suc (length next))) (part_of (length tries) f d i) line_found.part.forms) (sym no_descr)
         (none_marked s (length tries) f i (part_place (suc (length next))) line_found.part.forms)
 
     point_described : passes_frame i.op ≡ true → Described m ds it.descriptors.exact it.descriptors.count i next tries
@@ -345,9 +347,9 @@ module _ (s : Fixed) (file : FileTree) (ps : List Pieces) (c : Setting) (k : ℕ
 
     pushed_before : (l : ℕ) → i.op ≡ lin.Flow (flow.PushTrap l) → part_place (length (after_label l m.code)) < length s.image.code
     pushed_before l e =
-        let entered = pushed_enters m it.whole.formed l (record { line = i; among = line_in; is = e }) in
-        let many : length (after_label l m.code) ≡ suc (length entered.next) = ap (λ (code : List Line). length code) entered.is in
-        part_before (length (after_label l m.code)) (omega (arith, many)) some_lines
+        let there = it.whole.handlers i line_among l e in
+        let behind = shorter there.stands in
+        part_before (length (after_label l m.code)) there.reached (tail_within (stands_tail there.stands) (tail_label l m.code)) (omega (arith, behind))
 
     line_point : IsTurn i.op → PointStands s laid m c named (entry_place s) (length tries) f (descr_of next) i next line_found.part.forms
     unfolding laid
