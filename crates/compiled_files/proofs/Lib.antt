@@ -1,2 +1,4 @@
 pub mod Forward
 pub mod Rows
+pub mod Stages
+pub mod Stub

@@ -1,5 +1,5 @@
 -- The words of an external call, and what its line does.
-use Rattle.std.proofs.Common.{◌≡◌, ℕ, ◌+◌, ◌*◌, ◌^◌, ◌<◌, inl, inr, Bool, true, false, List, [], ◌∷◌, ◌++◌, length, map, Option, Some, None, slice_get, slice_index, refl, ap, ap₂, arith, ◌∙◌, sym, subst, ⊎_elim}
+use Rattle.std.proofs.Common.{◌≡◌, ℕ, ◌+◌, ◌-◌, ◌*◌, ◌^◌, ◌<◌, inl, inr, Bool, true, false, List, [], ◌∷◌, ◌++◌, length, map, Option, Some, None, slice_get, slice_index, refl, ap, ap₂, arith, ◌∙◌, sym, subst, ⊎_elim}
 use Rattle.std.specs.List.{AllByRecursion}
 use Rattle.bs_words.specs.Fits.{data_start}
 use Rattle.bs_words.specs.Memory.{heap_need}
@@ -220,7 +220,7 @@ module _ (s : Fixed) (n : Named) (laid : Laid) (live : List Line → Type 0) (en
 
   module _ (part : PartStands s n v.place (v.place + k) (external_words row false)) where
     alone_asks : (whole : is_complete a ≡ true) (xs : List Value) (read : values place.setting.end file args ≡ Some xs) →
-        ArrivesIn 0 k s (nothing s) v (IsAsking s (record { top = s.base; stack = 0; heap = heap_need a.memory }) (row_of row) false xs a.memory
+        ArrivesIn 0 (k - 1) s (nothing s) v (IsAsking s (record { top = s.base; stack = 0; heap = heap_need a.memory }) (row_of row) false xs a.memory
         (λ doing w. IsAfter s laid live c (on_act place m alone next file a (after_external place.setting row.result false a doing)) w))
     alone_asks whole xs read =
         let r = reached 2 two_small (v.place + k) part whole xs read in
@@ -231,7 +231,7 @@ module _ (s : Fixed) (n : Named) (laid : Laid) (live : List Line → Type 0) (en
         let b = behind_is in
         let next_place : laid.part (length next) ≡ w.place + 1 = omega (arith, b, l2, here) in
         let ww = within_it 2 two_small (v.place + k) part whole xs read in
-        leads_in 0 k s r.reach.count (omega arith) (omega (arith, l1, l2)) v w _ r.reach.changes.leads (record {
+        leads_in 0 (k - 1) s r.reach.count (omega arith) (omega (arith, l1, l2)) v w _ r.reach.changes.leads (record {
           ext = is.ext;
           there = row_there 2 two_small (v.place + k) part whole xs read;
           name = is.name;
@@ -262,7 +262,7 @@ module _ (s : Fixed) (n : Named) (laid : Laid) (live : List Line → Type 0) (en
               (subst (λ q. taken_alone a.memory q w.answers ≡ Some t) (sym is.result) taken));
         })
 
-    pub external_alone : FollowsSo k s laid live entry c v (laid.frame + 16 * length a.tries) (step place named m (record {
+    pub external_alone : FollowsSo (k - 1) s laid live entry c v (laid.frame + 16 * length a.tries) (step place named m (record {
       rest = record { op = lin.Op (op.Calling (calling.External row false)); args = args; results = results } ∷ next;
       file = file;
       around = a;
@@ -270,14 +270,14 @@ module _ (s : Fixed) (n : Named) (laid : Laid) (live : List Line → Type 0) (en
     external_alone = by_values (values place.setting.end file args) refl
       where
         by_whole : (xs : List Value) → values place.setting.end file args ≡ Some xs → (t : Bool) → is_complete a ≡ t →
-            FollowsSo k s laid live entry c v (laid.frame + 16 * length a.tries) (on_act place m alone next file a (only_if t (Asks (Outside
+            FollowsSo (k - 1) s laid live entry c v (laid.frame + 16 * length a.tries) (on_act place m alone next file a (only_if t (Asks (Outside
             (row_of row) false) xs
             (after_external place.setting row.result false a))))
         by_whole xs h false e = record { follows = tt; calls = tt }
         by_whole xs h true e = record { follows = alone_asks e xs h; calls = in_table xs h }
 
         by_values : (o : Option (List Value)) → values place.setting.end file args ≡ o →
-            FollowsSo k s laid live entry c v (laid.frame + 16 * length a.tries) (on_values place (named (length next)) m alone next file a o)
+            FollowsSo (k - 1) s laid live entry c v (laid.frame + 16 * length a.tries) (on_values place (named (length next)) m alone next file a o)
         by_values None h = record { follows = tt; calls = tt }
         by_values (Some xs) h = by_whole xs h (is_complete a) refl
 
@@ -297,7 +297,7 @@ module _ (s : Fixed) (n : Named) (laid : Laid) (live : List Line → Type 0) (en
 
     frame_asks : (whole : is_complete a ≡ true) (xs : List Value) (read : values place.setting.end file args ≡ Some xs) →
         are_vals place.setting.end (named (length next)) file ≡ true →
-        ArrivesIn 0 k s (nothing s) v (IsAsking s (record { top = s.base; stack = 0; heap = heap_need a.memory }) (row_of row) true xs a.memory
+        ArrivesIn 0 (k - 1) s (nothing s) v (IsAsking s (record { top = s.base; stack = 0; heap = heap_need a.memory }) (row_of row) true xs a.memory
         (λ doing w. IsAfter s laid live c (on_act place m framed next (poisoned (named (length next)) file) a
         (after_external place.setting row.result true a doing)) w))
     frame_asks whole xs read vals =
@@ -319,7 +319,7 @@ module _ (s : Fixed) (n : Named) (laid : Laid) (live : List Line → Type 0) (en
         λ l q. poisoned_same (named (length next)) (dropped 5 held) file l (same_file l q) in
         let P : Taken → View → Type 0 = λ t u. IsAfter s laid live c (on_act place m framed next (poisoned (named (length next)) file) a
         (after_external place.setting row.result true a t.doing)) u in
-        leads_in 0 k s r.reach.count (omega arith) (omega (arith, l1, l2)) v w _ r.reach.changes.leads (record {
+        leads_in 0 (k - 1) s r.reach.count (omega arith) (omega (arith, l1, l2)) v w _ r.reach.changes.leads (record {
           ext = is.ext;
           there = row_there 4 four_small (v.place + k) part whole xs read;
           name = is.name;
@@ -345,7 +345,7 @@ module _ (s : Fixed) (n : Named) (laid : Laid) (live : List Line → Type 0) (en
               b t ok (subst (λ q. taken_moving a.memory q w.answers ≡ Some t) (sym is.result) taken);
         })
 
-    pub external_framed : FollowsSo k s laid live entry c v (laid.frame + 16 * length a.tries) (step place named m (record {
+    pub external_framed : FollowsSo (k - 1) s laid live entry c v (laid.frame + 16 * length a.tries) (step place named m (record {
       rest = record { op = lin.Op (op.Calling (calling.External row true)); args = args; results = results } ∷ next;
       file = file;
       around = a;
@@ -355,19 +355,19 @@ module _ (s : Fixed) (n : Named) (laid : Laid) (live : List Line → Type 0) (en
         by_whole : (xs : List Value) → values place.setting.end file args ≡ Some xs → are_vals place.setting.end (named (length next)) file ≡ true →
             (t : Bool) →
             is_complete a ≡ t →
-            FollowsSo k s laid live entry c v (laid.frame + 16 * length a.tries) (on_act place m framed next (poisoned (named (length next)) file) a
+            FollowsSo (k - 1) s laid live entry c v (laid.frame + 16 * length a.tries) (on_act place m framed next (poisoned (named (length next)) file) a
             (only_if t (Asks (Outside (row_of row) true) xs (after_external place.setting row.result true a))))
         by_whole xs h f false e = record { follows = tt; calls = tt }
         by_whole xs h f true e = record { follows = frame_asks e xs h f; calls = in_table xs h }
 
         by_fit : (xs : List Value) → values place.setting.end file args ≡ Some xs → (t : Bool) → are_vals place.setting.end (named (length next)) file ≡ t →
-            FollowsSo k s laid live entry c v (laid.frame + 16 * length a.tries) (unless_misnamed t (on_act place m framed next (poisoned (named
+            FollowsSo (k - 1) s laid live entry c v (laid.frame + 16 * length a.tries) (unless_misnamed t (on_act place m framed next (poisoned (named
             (length next)) file) a
             (only_if (is_complete a) (Asks (Outside (row_of row) true) xs (after_external place.setting row.result true a)))))
         by_fit xs h false f = record { follows = tt; calls = tt }
         by_fit xs h true f = by_whole xs h f (is_complete a) refl
 
         by_values : (o : Option (List Value)) → values place.setting.end file args ≡ o →
-            FollowsSo k s laid live entry c v (laid.frame + 16 * length a.tries) (on_values place (named (length next)) m framed next file a o)
+            FollowsSo (k - 1) s laid live entry c v (laid.frame + 16 * length a.tries) (on_values place (named (length next)) m framed next file a o)
         by_values None h = record { follows = tt; calls = tt }
         by_values (Some xs) h = by_fit xs h (are_vals place.setting.end (named (length next)) file) refl

@@ -55,7 +55,7 @@ serial_is k (suc q) r (b ∷ bs) apart l e =
     ∙ serial_is (suc k) q r bs apart.1 (omega (arith, l)) (omega (arith, e))
 
 -- a val is shown as its block or as its word
-val_shown : (image : Tables) (bs : List Placed) (v : Value) → HasFunctions image → AreBlocks bs → IsVal image (length bs) v →
+pub val_shown : (image : Tables) (bs : List Placed) (v : Value) → HasFunctions image → AreBlocks bs → IsVal image (length bs) v →
     block_or_word (serial_from 0 bs (value_word image bs v)) (value_word image bs v) ≡ shown image v
 val_shown image bs (Word w) has are fit =
     let d = has.tables.bytes.short in

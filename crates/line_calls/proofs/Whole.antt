@@ -50,7 +50,7 @@ use Rattle.line_stands.specs.Lines.{LineStands}
 use Rattle.line_stands.specs.Parts.{PartStands}
 use Rattle.line_stands.proofs.Parts.{mark_none, nothing_more, splits}
 use Rattle.line_calls.specs.Calls.{FollowsSo}
-use Rattle.line_calls.specs.Points.{AreMarked, IsReadyFor, IsTurn, PointStands}
+use Rattle.line_calls.specs.Points.{AreMarked, IsReadyFor, IsTurn, PointStands, before_service}
 use Rattle.line_calls.proofs.AllocLines.{alloc_line}
 use Rattle.line_calls.proofs.Blocks.{blocks_are_made}
 use Rattle.line_calls.proofs.CallLines.{call_named, call_registered}
@@ -199,7 +199,7 @@ module _ (s : Fixed) (n : Named) (laid : Laid) (live : List Line → Type 0) (en
     pub behind : laid.part (length next) ≡ v.place + k
 
   abbrev pub Followed : Line → Type 0
-  Followed i = FollowsSo k s laid live entry c v (laid.frame + 16 * length a.tries) (step place named m (record { rest = i ∷ next; file = file; around = a }))
+  Followed i = FollowsSo (before_service i.op k) s laid live entry c v (laid.frame + 16 * length a.tries) (step place named m (record { rest = i ∷ next; file = file; around = a }))
 
   part_at : (i : Line) → Given i → PartAt s n v.place (v.place + k) (part_of (length a.tries) (frame_in laid) d i)
   part_at i g =
@@ -475,7 +475,7 @@ pub lines_follow :
     PointStands s laid m place.setting named entry (length a.tries) f d i next lines.part.forms → IsReadyFor i a →
     laid.part (length next) ≡ laid.part (suc (length next)) + k →
     IsAt s laid live c (record { rest = i ∷ next; file = file; around = a }) v →
-    FollowsSo k s laid live entry c v (laid.frame + 16 * length a.tries) (step place named m (record { rest = i ∷ next; file = file; around = a }))
+    FollowsSo (before_service i.op k) s laid live entry c v (laid.frame + 16 * length a.tries) (step place named m (record { rest = i ∷ next; file = file; around = a }))
 lines_follow s n laid live entry c place named m f d i next v file a k turn lines points fit behind at =
     let here = at.3.place in
     line_follows s n laid live entry c place named m f d next v at.0 at.1 file a at.3.within k i lines.formed turn

@@ -21,7 +21,7 @@ use Rattle.linear_machine.specs.View.{Fixed, View}
 use Rattle.line_stands.specs.Lines.{LineStands}
 use Rattle.line_stands.specs.Parts.{PartStands}
 use Rattle.line_calls.specs.Calls.{FollowsSo}
-use Rattle.line_calls.specs.Points.{IsReadyFor, IsTurn, PointStands}
+use Rattle.line_calls.specs.Points.{IsReadyFor, IsTurn, PointStands, before_service}
 
 -- some walk from this code on reads t0 before it writes it
 abbrev pub spare_live : Lin → List Line → Type 0
@@ -32,7 +32,8 @@ abbrev pub frame_in : Laid → Frame
 frame_in laid = record { bytes = laid.frame; saves = laid.saves }
 
 -- A line of one of these kinds, whose part stands in the image from its place on, is followed in at
--- most as many instructions as the part has words, and its calls stand below what it has in use.
+-- most as many instructions as the part has words, the service of an external call not counted. Its
+-- calls stand below what it has in use.
 abbrev pub LineFollows : Type 0
 LineFollows =
     (s : Fixed) (n : Named) (laid : Laid) (entries : ℕ → ℕ) (c : Below) (place : Place)
@@ -43,7 +44,7 @@ LineFollows =
     lines.part.forms →
     IsReadyFor i a → laid.part (length next) ≡ laid.part (suc (length next)) + words →
     IsAt s laid (spare_live m) c (record { rest = i ∷ next; file = file; around = a }) v →
-    FollowsSo words s laid (spare_live m) entries c v (laid.frame + 16 * length a.tries)
+    FollowsSo (before_service i.op words) s laid (spare_live m) entries c v (laid.frame + 16 * length a.tries)
     (step place named m (record { rest = i ∷ next; file = file; around = a }))
 
 -- Where a function is entered whose entry stands in the image, it comes to its first line with its

@@ -1,5 +1,5 @@
 -- What is known of the lines that enter, leave, call, raise and allocate, besides their words.
-use Rattle.std.specs.Prelude.{◌≡◌, ℕ, suc, ◌+◌, ◌<◌, true, false, List, [], ◌∷◌, length, Option, Some, None, Contains}
+use Rattle.std.specs.Prelude.{◌≡◌, ℕ, suc, ◌+◌, ◌-◌, ◌<◌, true, false, List, [], ◌∷◌, length, Option, Some, None, Contains}
 use Rattle.bs_words.specs.Fits.{data_start}
 use Rattle.bs_words.specs.declared.types.Comp.{Comp}
 use Rattle.bs_words.specs.declared.types.Ret.{Ret}
@@ -98,3 +98,9 @@ pub data IsTurn : LinOp → Type 0 where
   it_pushes : {l : ℕ} → IsTurn (lin.Flow (flow.PushTrap l))
   it_pops : IsTurn (lin.Flow flow.PopTrap)
   it_enters : IsTurn (lin.Flow flow.EnterTrap)
+
+-- the last word of an external call is the instruction that serves it; these stand before it
+abbrev pub before_service : LinOp → ℕ → ℕ
+before_service (lin.Flow g) words = words
+before_service (lin.Op (op.Calling (calling.External row frame))) words = words - 1
+before_service (lin.Op g) words = words

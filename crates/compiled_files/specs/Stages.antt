@@ -1,0 +1,40 @@
+-- What the stages make of each function of a file.
+use Rattle.std.specs.Prelude.{◌≡◌, ℕ, ◌≤◌, List, Some, slice_get}
+use Rattle.bs_words.specs.Memory.{Memory, heap_need}
+use Rattle.bs_words.specs.declared.values.Value.{Value}
+use Rattle.cmm_tree.specs.Tree.{FunctionTree, FileTree, functions}
+use Rattle.cmm_meaning.specs.Evaluation.{OutOfFuel, Evaluation, Stops}
+use Rattle.cmm_meaning.specs.State.{Doing, World}
+use Rattle.mach_ir.specs.Meaning as mach
+use Rattle.mach_ir.specs.Runs.{Place, Tally, Running, first_tally}
+use Rattle.mach_ir.specs.declared.mach.Mach.{Mach}
+use Rattle.places_rules.specs.Places.{rest_in_slots}
+use Rattle.lin_ir.specs.Descriptors.{NamesLives}
+use Rattle.lin_ir.specs.Meaning.{NamedAt}
+use Rattle.lin_ir.specs.declared.lin.Lin.{Lin}
+use Rattle.linear_rules.specs.Lowered.{lowered}
+use Rattle.tidy_rules.specs.Tidied.{IsTidied}
+use Rattle.selection_rules.proofs.Selection.{SelectedRun}
+use Rattle.selection_rules.specs.Select.{selected}
+
+-- Selected, its open registers in slots, as lines, and tidy; each frame point names what is live after
+-- it.
+pub record IsMade (tree : FunctionTree) (m : Lin) (named : NamedAt) : Type 0 where
+  pub tidied : IsTidied (lowered (rest_in_slots (selected tree))) m
+  pub names : NamesLives m named
+
+pub record AreMade (file : FileTree) (machs : ℕ → Mach) (lins : ℕ → Lin) (named : ℕ → NamedAt)
+    : Type 0 where
+  pub selects : (f : ℕ) (tree : FunctionTree) → slice_get (functions file) f ≡ Some tree →
+      machs f ≡ selected tree
+  pub makes : (f : ℕ) (tree : FunctionTree) → slice_get (functions file) f ≡ Some tree →
+      IsMade tree (lins f) (named f)
+
+-- A run of selected code that comes to the end of the text's function; where that has no units left,
+-- the run has asked for no more heap.
+pub record SelectedInHeap (c : Place) (tree : FunctionTree) (arguments : List Value)
+    (memory : Memory) (doings : List Doing) (n : ℕ) (e : Evaluation) : Type 0 where
+  pub run : SelectedRun mach.run c (selected tree) tree arguments memory doings n
+  pub heap : (u : World) (s : mach.State) (t : Tally) → e ≡ Stops OutOfFuel u →
+      mach.run c (selected tree) run.steps run.begun (first_tally c doings) ≡ Running s t →
+      heap_need s.around.memory ≤ heap_need u.memory
