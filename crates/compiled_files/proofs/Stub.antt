@@ -1,5 +1,5 @@
 -- The stub ends a run: behind the return of its entry, or a raise that none has caught, two instructions tell the outside.
-use Rattle.std.proofs.Common.{◌≡◌, ◌≢◌, ℕ, zero, suc, ◌+◌, ◌*◌, ◌^◌, ◌<◌, ◌≤◌, ◌⊎◌, inl, inr, ⊎_elim, Bool, true, false, List, [], ◌∷◌, ◌++◌, length, map, reverse, Option, Some, None, slice_get, slice_index, refl, ap, ap₂, sym, subst, ◌∙◌, arith}
+use Rattle.std.proofs.Common.{◌≡◌, ◌≢◌, ℕ, zero, suc, ◌+◌, ◌-◌, ◌*◌, ◌^◌, ◌<◌, ◌≤◌, ◌⊎◌, inl, inr, ⊎_elim, Bool, true, false, List, [], ◌∷◌, ◌++◌, length, map, reverse, Option, Some, None, slice_get, slice_index, refl, ap, ap₂, sym, subst, ◌∙◌, arith}
 use Rattle.std.specs.Prelude.{option_map}
 use Rattle.std.specs.List.{AllByRecursion}
 use Rattle.bs_words.specs.Fits.{data_start, fits, type_of_comp}
@@ -14,11 +14,16 @@ use Rattle.bs_words.specs.declared.values.Obs.{Obs}
 use Rattle.bs_words.specs.declared.values.Obs.TheVariants as obs
 use Rattle.bs_words.specs.declared.values.Value.{Value}
 use Rattle.bs_words.specs.declared.values.Value.TheVariants.{Word, Block, Function}
+use Rattle.cmm_data.specs.Placement.{data_end}
 use Rattle.cmm_meaning.specs.Layout.{observed}
 use Rattle.cmm_meaning.specs.State.{Doing, Gave, Threw}
+use Rattle.cmm_tree.specs.Tree.{FileTree}
+use Rattle.compiled_files.specs.Image.{IsImageOf}
 use Rattle.correctness.specs.Setting.{layout_of}
-use Rattle.image_form.specs.Image.{IsResult}
+use Rattle.image_form.specs.Image.{IsFunc, IsResult, stub}
 use Rattle.image_form.specs.Tables.{Tables}
+use Rattle.layout_rules.specs.Laid.{code_from, entries_from, stub_words}
+use Rattle.lin_ir.specs.declared.lin.Line.{Line}
 use Rattle.mach_ir.specs.Runs.{entered}
 use Rattle.machine_laws.specs.Steps.{next_of, moments}
 use Rattle.meaning_laws.specs.Fitting.{FitsResult, nothing, value}
@@ -40,10 +45,12 @@ use Rattle.rv_machine.specs.Observation as observation
 use Rattle.rv_machine.specs.Run.{after, seen}
 use Rattle.rv_machine.specs.Services.{Machine, Now, Going, Over, End, served, value_returned}
 use Rattle.rv_machine.specs.Services as machine
-use Rattle.rv_machine.specs.Sound.{extents}
+use Rattle.rv_machine.specs.Places.{stack_bottom}
+use Rattle.rv_machine.specs.Sound.{IsStackBase, extents}
+use Rattle.rv_pieces.specs.declared.piece.Pieces.{Pieces}
 use Rattle.linear_machine.specs.Follows.{IsDone}
 use Rattle.linear_machine.specs.Outside.{shown}
-use Rattle.linear_machine.specs.Relation.{HeapStands, IsUsable, OwnRegisters, StandsFor, all_of}
+use Rattle.linear_machine.specs.Relation.{HeapStands, IsUsable, OwnRegisters, Laid, StandsFor, all_of}
 use Rattle.linear_machine.specs.Straight.{Changes}
 use Rattle.linear_machine.specs.View.{Fixed, IsCode, Stands, View}
 use Rattle.linear_machine.proofs.Beginning.{nothing_below}
@@ -56,11 +63,11 @@ use Rattle.linear_machine.proofs.Sequences.{set_changes, sets_as}
 use Rattle.linear_machine.proofs.Serving.{hart_is, with_memory}
 use Rattle.linear_machine.proofs.Standing.{own_past}
 use Rattle.linear_machine.proofs.Steps.{one_step, ready, ready_stands}
-use Rattle.line_calls.proofs.Shown.{val_shown}
-use Rattle.linking.specs.Assembled.{IsStub}
+use Rattle.line_calls.proofs.Shown.{each_at, val_shown}
+use Rattle.linking.specs.Assembled.{IsStub, Setup}
 use Rattle.linking.specs.Carries.{Comes, Near, Outer}
 use Rattle.linking_machine.specs.Emitted.{IsInTable}
-use Rattle.linking_machine.specs.Standing.{Shows}
+use Rattle.linking_machine.specs.Standing.{Back, Shows, fixed_of}
 use Rattle.linking_machine.proofs.Carrying.{after_moments, values_shown}
 
 first_same : {A : Type 0} (x y : A) (xs ys : List A) → x ∷ xs ≡ y ∷ ys → x ≡ y
@@ -241,3 +248,45 @@ module _ (s : Fixed) (end : ℕ) (end_is : end ≡ data_start + length s.image.b
           (machine.Raised (observed (layout_of s.image) v))
           (ap (λ z. Over bm.calls (machine.Raised z))
           (told s end end_is 1 low sh.view one two young memory r.own r.usable r.heap sh.machine sh.stands comp.Val v fit (λ q. absurd (cc)) r.value_in))
+
+-- ---- the stub of an image
+
+clear_word : encoded (OpImm Addi 7 0 0) ≡ 0x00000393
+unfolding encoded
+clear_word = refl
+
+raise_word : encoded (OpImm Addi 7 0 1) ≡ 0x00100393
+unfolding encoded
+raise_word = refl
+
+service_word : encoded Ecall ≡ 0x00000073
+unfolding encoded
+service_word = refl
+
+module _ (file : FileTree) (ps : List Pieces) (s : Fixed) (it : IsImageOf file s.image ps) where
+  code_is : s.image.code ≡ stub ++ code_from file (entries_from stub_words ps it.laid.forms) stub_words ps it.laid.forms
+  code_is = ap (λ (t : Tables). t.code) it.laid.is
+
+  stub_there : HasStub s
+  stub_there = record {
+    returns = record {
+      there = ap (λ (code : List ℕ). slice_get code 0) code_is ∙ ap Some (sym clear_word);
+      fits = (omega arith, omega arith, omega arith);
+    };
+    tells = record { there = ap (λ (code : List ℕ). slice_get code 1) code_is ∙ ap Some (sym service_word); fits = tt };
+    raises = record {
+      there = ap (λ (code : List ℕ). slice_get code 2) code_is ∙ ap Some (sym raise_word);
+      fits = (omega arith, omega arith, omega arith);
+    };
+    tells_raise = record { there = ap (λ (code : List ℕ). slice_get code 3) code_is ∙ ap Some (sym service_word); fits = tt };
+  }
+
+-- The stub ends each run of an image.
+pub stub_so : (file : FileTree) (image : Tables) (ps : List Pieces) (has : HasFunctions image)
+    (bases : (stack : ℕ) → IsRoom stack → IsStackBase (stack_bottom - stack)) (laid : ℕ → Laid) (entry : ℕ → ℕ) (live : ℕ → List Line → Type 0) →
+    IsImageOf file image ps → (run : Setup) (f : ℕ) → slice_get image.funcs f ≡ Some run.row →
+    IsStub Now (next_of run.schedule) seen run.stack run.heap (layout_of image) (data_end file) run.row.result
+    (λ d o x. Back image has bases laid entry live run nothing_below d o x)
+stub_so file image ps has bases laid entry live it run f row =
+    let s = fixed_of image has bases run in
+    stub_ends s (data_end file) it.end (stub_there file ps s it) (each_at IsFunc image.funcs f run.row has.tables.funcs.each row).result run.stack run.heap
