@@ -1,5 +1,6 @@
 -- What is passed on from a function to those that it calls, and back, is known of all calls of a whole run.
 use Rattle.std.proofs.Common.{◌≡◌, ℕ, zero, suc, ◌+◌, ◌<◌, Bool, true, false, List, [], ◌∷◌, ◌++◌, Some, cond, length, map, refl, ap, sym, subst, ◌∙◌, append_assoc, arith}
+use Rattle.std.proofs.lemmas.List.{length-map, map-append}
 use Rattle.std.specs.Prelude.{slice_get, slice_index}
 use Rattle.std.specs.List.{AllByRecursion}
 use Rattle.bs_words.specs.External.{External}
@@ -40,14 +41,6 @@ at_same (x ∷ xs) [] a b ys vs n e = absurd (omega (arith, n))
 at_same (x ∷ xs) (u ∷ us) a b ys vs n e =
     let tail : xs ++ a ∷ ys ≡ us ++ b ∷ vs = cc in
     at_same xs us a b ys vs (omega (arith, n)) tail
-
-mapped_append : {A B : Type 0} (f : A → B) (xs ys : List A) → map f (xs ++ ys) ≡ map f xs ++ map f ys
-mapped_append f [] ys = refl
-mapped_append f (x ∷ xs) ys = ap (λ l. f x ∷ l) (mapped_append f xs ys)
-
-mapped_length : {A B : Type 0} (f : A → B) (xs : List A) → length (map f xs) ≡ length xs
-mapped_length f [] = refl
-mapped_length f (x ∷ xs) = ap suc (mapped_length f xs)
 
 all_one_more : (P : Doing → Type 0) (done : List Came) (c : Came) → AllByRecursion P (map doing_of done) → P c.doing →
     AllByRecursion P (map doing_of (done ++ c ∷ []))
@@ -111,9 +104,9 @@ module _ (file : FileTree) (layout : Layout) (IsGiven : List Value → Memory �
       not_nil (x ∷ xs) e = cc
   next_known {more} done c calls d ds is (asks_here {call = call} {w = w} {e = e} none b) known asked empty count =
       let zero_left : length w.doings ≡ 0 = ap (λ (l : List Doing). length l) none in
-      let n = mapped_length asked_by done in
+      let n = length-map done asked_by in
       let here : w.asked ++ call ∷ b.further ≡ map asked_by done ++ asked_by c ∷ map asked_by calls =
-      sym (append_assoc w.asked (call ∷ []) b.further) ∙ sym b.is ∙ asked ∙ mapped_append asked_by done (c ∷ calls) in
+      sym (append_assoc w.asked (call ∷ []) b.further) ∙ sym b.is ∙ asked ∙ map-append asked_by done (c ∷ calls) in
       let same : call ≡ asked_by c = at_same w.asked (map asked_by done) call (asked_by c) b.further (map asked_by calls)
       (omega (arith, count, zero_left, n)) here in
       subst (λ (q : Asked). IsGiven q.arguments q.memory) same known.1
@@ -156,7 +149,7 @@ module _ (file : FileTree) (layout : Layout) (IsGiven : List Value → Memory �
       known_from done (next {c = c} {calls = calls} o fewer fit_so did later between) same all known words =
           let ds : List Doing = map doing_of done in
           let more : List Doing = map doing_of (c ∷ calls) in
-          let whole_doings : map doing_of l.calls ≡ ds ++ more = ap (map doing_of) all ∙ mapped_append doing_of done (c ∷ calls) in
+          let whole_doings : map doing_of l.calls ≡ ds ++ more = ap (map doing_of) all ∙ map-append doing_of done (c ∷ calls) in
           let run_is : lone l.own (ds ++ more) ≡ l.run = ap (λ (z : List Doing). lone l.own z) (sym whole_doings) ∙ l.is in
           let few : Fewer more (lone l.own ds) l.run =
           subst (λ (z : Evaluation). Fewer more (lone l.own ds) z) run_is
@@ -164,7 +157,7 @@ module _ (file : FileTree) (layout : Layout) (IsGiven : List Value → Memory �
           call.arguments call.below w.memory l.own ds more) in
           let count = alone_counts (data_end file) (value_of_symbol file) (map comps_of (functions file)) (slice_index layout.frames call.function) tree
           call.arguments call.below w.memory l.own ds in
-          let n = mapped_length doing_of done in
+          let n = length-map done doing_of in
           let known_call = next_known done c calls c.doing (map doing_of calls) refl few (lone_known l.own ds known) (l.asked ∙ ap (map asked_by) all)
           l.taken (omega (arith, count, n)) in
           let answers : AreWords c.before.answers = subst AreWords (sym o.answers) words in

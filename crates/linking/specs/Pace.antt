@@ -7,9 +7,9 @@ use Rattle.cmm_meaning.specs.State.{Doing, Asked, Callee, Inside, Outside}
 use Rattle.mach_ir.specs.Runs.{Place, Step, Continues, Pays, Deepens, Waits, FinishesBy, Finishes, FinishesRaising, IsStuck}
 use Rattle.linking.specs.Program.{Program}
 
--- the words of a function's code
+-- How many instructions are taken where a function stands, by its number.
 pub record Words (S : Type 0) : Type 0 where
-  -- how many instructions a step takes at most; an external call's own is one of them
+  -- at most so many by its step; an external call's own is one of them
   pub cost : ℕ → S → ℕ
   -- how many the function takes before its first step
   pub entry : ℕ → ℕ
@@ -47,6 +47,8 @@ pub data IsReached (S : Type 0) (p : Program S) (f : ℕ) (c : Place) : S → Ty
       p.start f c arguments memory ≡ Some s → IsReached S p f c s
   by_step : {s u : S} → IsReached S p f c s → LeadsTo S u (p.step f c s) → IsReached S p f c u
 
+-- From every state that a run comes to control goes forward, but by a unit: the words that are still
+-- ahead are those of the step and those ahead of where it leads.
 pub record GoesForward (S : Type 0) (p : Program S) (w : Words S) (words : ℕ) : Type 0 where
   pub enter : (f : ℕ) (c : Place) (arguments : List Value) (memory : Memory) (s : S) →
       p.start f c arguments memory ≡ Some s → w.entry f + w.ahead f s ≤ words

@@ -29,6 +29,7 @@ use Rattle.linking.specs.Pace.{Words, GoesForward}
 use Rattle.linking.proofs.Image.{assembled_correct}
 use Rattle.linking_stages.specs.Stages.{linear_program}
 use Rattle.linking_stages.proofs.Regular.{linear_regular}
+use Rattle.linking_stages.proofs.Walking.{reached_walks}
 use Rattle.linking_machine.specs.Emitted.{service_in, service_of, IsCalled, CallsSo, IsEmitted}
 use Rattle.linking_machine.specs.Standing.{Shows, At, Entry, Back}
 use Rattle.linking_machine.proofs.Answering.{outside_carried}
@@ -86,7 +87,7 @@ module _ (file : FileTree) (image : Tables) (lins : ℕ → Lin) (named : ℕ �
   carries run =
       record {
         steps = λ c f below u o y reached at.
-            let line = emitted.lines run f below c at.0.view u reached at.1 at.0.holds in
+            let line = emitted.lines run f below c at.0.view u reached (reached_walks lins named f _ reached) at.1 at.0.holds in
             carried run (w.cost f u) f below c u o y at.0 at.1 line.words
             (step (place file image lins named w laid entry live has bases emitted run f below) (named f) (lins f) u) line.few
             (code_asked (place file image lins named w laid entry live has bases emitted run f below) (named f) (lins f) u.rest u.file u.around)

@@ -11,6 +11,7 @@ use Rattle.cmm_meaning.specs.State.{Doing, Asked, Callee, Inside, Outside}
 use Rattle.correctness.specs.Setting.{layout_of}
 use Rattle.image_form.specs.Tables.{Tables, Func}
 use Rattle.lin_ir.specs.Meaning.{NamedAt, State, step, start}
+use Rattle.lin_ir.specs.Walks.{Reached}
 use Rattle.lin_ir.specs.declared.lin.Lin.{Lin}
 use Rattle.lin_ir.specs.declared.lin.Line.{Line}
 use Rattle.machine_laws.specs.Steps.{next_of}
@@ -101,9 +102,10 @@ module _ (file : FileTree) (image : Tables) (lins : ℕ → Lin) (named : ℕ �
   pub record IsEmitted : Type 0 where
     -- the frames are those of the rows
     pub frames : (f : ℕ) → (laid f).frame ≡ slice_index (layout_of image).frames f
-    -- each line does its step, wherever a run of its function comes to it
+    -- each line does its step, wherever a run of its function comes to it; some walk comes there too
     pub lines : (run : Setup) (f below : ℕ) (c : Below) (v : View) (u : State) →
         IsReached State (linear_program lins named) f (place_in file (layout_of image) f below) u →
+        Reached (lins f) u.rest u.around.tries →
         c.top + below ≡ stack_bottom →
         IsAt (fixed_of image has bases run) (laid f) (live f) c u v →
         FollowsLine (w.cost f u) (fixed_of image has bases run) (laid f) (live f) entry c v u

@@ -1,3 +1,4 @@
 pub mod Chain
 pub mod Regular
 pub mod Selected
+pub mod Walking

@@ -8,12 +8,15 @@ ghost use Rattle.std.specs.Prelude.{ℕ};
 ghost use Rattle.cmm_meaning.specs.Layout.{Layout};
 ghost use Rattle.cmm_tree.specs.Tree.{FileTree};
 ghost use Rattle.lin_ir.specs.Meaning.{NamedAt, State};
+ghost use Rattle.lin_ir.specs.Walks.{Reached};
 ghost use Rattle.lin_ir.specs.declared.lin.Lin.{Lin};
 ghost use Rattle.linking.specs.Assembled.{IsPassedOn};
 ghost use Rattle.linking.specs.Keeps.{Keeps};
+ghost use Rattle.linking.specs.Pace.{IsReached};
 ghost use Rattle.linking.specs.Program.{IsRegular};
 ghost use Rattle.linking_stages.specs.Chain.{AreLowered, HoldsWords, IsGivenWords, IsSelected};
 ghost use Rattle.linking_stages.specs.Stages.{linear_program};
+ghost use Rattle.mach_ir.specs.Runs.{Place};
 ghost use Rattle.mach_ir.specs.declared.mach.Mach.{Mach};
 ghost use Rattle.selection_rules.specs.Bounded.{BoundedDoing};
 
@@ -33,4 +36,11 @@ pub fn words_are_passed_on()
 /// Law: the needs of Linear functions are what their tallies and memories say.
 pub fn linear_is_regular()
     ensures { (lins : ℕ → Lin) (named : ℕ → NamedAt) → IsRegular State (linear_program lins named) }
+{}
+
+/// Law: where a run of a Linear function comes, some walk comes with the tries that are pushed there.
+pub fn runs_keep_to_walks()
+    ensures { (lins : ℕ → Lin) (named : ℕ → NamedAt) (f : ℕ) (c : Place) (u : State) →
+        IsReached State (linear_program lins named) f c u →
+        Reached (lins f) u.rest u.around.tries }
 {}
