@@ -133,6 +133,15 @@ header_one true o w e = absurd (cc)
 header_one false None w e = absurd (cc)
 header_one false (Some x) w e = (x, refl, let same : Some x.header ≡ Some w = e in cc)
 
+-- the young blocks say theirs, where every block is whole
+pub heads_of : (s : Fixed) (v : View) (young : List Placed) (m : List Region) (a : Around) → is_complete a ≡ true →
+    HeapStands s (v.blocks ++ reverse young) m a → HaveHeads m young
+heads_of s v young m a whole h =
+    heads_young m v.blocks young (heads_by m (v.blocks ++ reverse young)
+    (λ k l. let n = h.stand.count in
+    let b = block_at a.memory.blocks k (omega (arith, l, n)) in
+    ap cells_of (h.stand.header k b.0.header l (header_whole a k b.0 whole b.1)) ∙ h.heads k b.0 b.1 ∙ sym (h.stand.sizes k l ∙ ap size_in b.1)))
+
 -- ---- before the service
 
 module _ (s : Fixed) (laid : Laid) (v : View) (young : List Placed) (taken : ℕ) (held : Locations) (a : Around) (c : Below)
@@ -210,10 +219,7 @@ module _ (s : Fixed) (laid : Laid) (v : View) (young : List Placed) (taken : ℕ
         from_even = ap (λ x. x % 8) e ∙ within.own.from_even;
         from_low = omega (arith, e, low);
         rises = subst (λ x. Rises x young) (sym e) within.own.rises;
-        heads = heads_young v.memory v.blocks young (heads_by v.memory (v.blocks ++ reverse young)
-            (λ k l. let b = header_there k l in
-            ap cells_of (within.heap.stand.header k b.0.header l (header_whole a k b.0 whole b.1)) ∙ within.heap.heads k b.0 b.1
-            ∙ sym (within.heap.stand.sizes k l ∙ ap size_in b.1)));
+        heads = heads_of s v young v.memory a whole within.heap;
         named = record {
           value = λ r x e. let o = poisoned_some named held (loc.Machine r) x e in ⊎_elim (λ t. inl t) (λ t. inr (is.register r t)) o.1;
           named = λ r i.

@@ -1,0 +1,61 @@
+-- What is proved of lines and of entries. T0 is live where some walk reads it before it is written.
+use Rattle.std.specs.Prelude.{◌≡◌, ℕ, suc, ◌+◌, ◌*◌, ◌≤◌, List, ◌∷◌, length, Option, Some}
+use Rattle.bs_words.specs.Memory.{Memory}
+use Rattle.bs_words.specs.declared.types.Comp.{Comp}
+use Rattle.bs_words.specs.declared.values.Value.{Value}
+use Rattle.emit_rules.specs.Entry.{Frame, entry}
+use Rattle.layout_rules.specs.Words.{Named}
+use Rattle.lin_ir.specs.Formed.{places_of, spare}
+use Rattle.lin_ir.specs.Meaning.{Locations, NamedAt, State, start, step}
+use Rattle.lin_ir.specs.Walks.{Live}
+use Rattle.lin_ir.specs.declared.descr.Descr.{Descr}
+use Rattle.lin_ir.specs.declared.lin.Lin.{Lin}
+use Rattle.lin_ir.specs.declared.lin.Line.{Line}
+use Rattle.mach_ir.specs.Acts.{Around}
+use Rattle.mach_ir.specs.Runs.{Place}
+use Rattle.mach_ir.specs.Seats.{AreSeated, InOrder, argument_places}
+use Rattle.linear_machine.specs.Arrival.{ArrivesIn}
+use Rattle.linear_machine.specs.Follows.{IsAt, IsEntered, needs_of}
+use Rattle.linear_machine.specs.Relation.{Below, Laid}
+use Rattle.linear_machine.specs.View.{Fixed, View}
+use Rattle.line_stands.specs.Lines.{LineStands}
+use Rattle.line_stands.specs.Parts.{PartStands}
+use Rattle.line_calls.specs.Calls.{FollowsSo}
+use Rattle.line_calls.specs.Points.{IsReadyFor, IsTurn, PointStands}
+
+-- some walk from this code on reads t0 before it writes it
+abbrev pub spare_live : Lin → List Line → Type 0
+spare_live m rest = (t : Comp) × (tries : List ℕ) × Live m spare t rest tries
+
+-- the frame of a function that is laid so
+abbrev pub frame_in : Laid → Frame
+frame_in laid = record { bytes = laid.frame; saves = laid.saves }
+
+-- A line of one of these kinds, whose part stands in the image from its place on, is followed in at
+-- most as many instructions as the part has words, and its calls stand below what it has in use.
+abbrev pub LineFollows : Type 0
+LineFollows =
+    (s : Fixed) (n : Named) (laid : Laid) (entries : ℕ → ℕ) (c : Below) (place : Place)
+    (named : NamedAt) (m : Lin) (f : Frame) (d : Option Descr) (i : Line) (next : List Line)
+    (v : View) (file : Locations) (a : Around) (words : ℕ) → IsTurn i.op →
+    (lines : LineStands s laid n m place.setting (spare_live m) a.tries f d i next) →
+    PointStands s laid m place.setting named entries (length a.tries) f d i next
+    lines.part.forms →
+    IsReadyFor i a → laid.part (length next) ≡ laid.part (suc (length next)) + words →
+    IsAt s laid (spare_live m) c (record { rest = i ∷ next; file = file; around = a }) v →
+    FollowsSo words s laid (spare_live m) entries c v (laid.frame + 16 * length a.tries)
+    (step place named m (record { rest = i ∷ next; file = file; around = a }))
+
+-- Where a function is entered whose entry stands in the image, it comes to its first line with its
+-- arguments in its parameters, or the stack is passed.
+abbrev pub EntryFollows : Type 0
+EntryFollows =
+    (s : Fixed) (n : Named) (laid : Laid) (entries : ℕ → ℕ) (k : ℕ) (c : Below) (place : Place)
+    (m : Lin) (v : View) (arguments : List Value) (memory : Memory) (words : ℕ) →
+    laid.frame ≤ 1048576 →
+    PartStands s n (entries k) (entries k + words) (entry (frame_in laid)) →
+    laid.part (length m.code) ≡ entries k + words →
+    AreSeated (InOrder argument_places) (places_of m.params) →
+    IsEntered s entries k arguments memory c v → (u : State) →
+    start place m arguments memory ≡ Some u →
+    ArrivesIn 0 words s (needs_of laid c u) v (IsAt s laid (spare_live m) c u)

@@ -1,0 +1,5 @@
+pub mod Points
+pub mod Reaches
+pub mod Leading
+pub mod Calls
+pub mod Laws

@@ -1,0 +1,18 @@
+//! The step from a Linear line to the machine, for the lines that leave a function or enter it: entries, returns,
+//! calls, raises, tries, allocations and external calls, wherever the blocks lie and whenever the mover asks.
+//!
+//! The crate holds definitions and laws alone.
+#![tactic(auto)]
+
+ghost use Rattle.line_calls.specs.Laws.{EntryFollows, LineFollows};
+
+/// Law: the words of a line that calls, leaves a function, raises, allocates, or pushes, pops or enters a try do
+/// what the line does.
+pub fn lines_are_followed()
+    ensures { LineFollows }
+{}
+
+/// Law: the words of a function's entry come to its first line with its arguments, or the stack is passed.
+pub fn entries_are_followed()
+    ensures { EntryFollows }
+{}

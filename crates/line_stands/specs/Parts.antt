@@ -1,0 +1,21 @@
+-- How the pieces of a part stand in the image.
+use Rattle.std.specs.Prelude.{◌≡◌, ℕ, ◌+◌, ◌-◌, ◌/◌, List}
+use Rattle.rv_machine.specs.Memory.{code_start}
+use Rattle.rv_pieces.specs.declared.piece.Piece.{Piece}
+use Rattle.layout_rules.specs.declared.form.Form.{Form}
+use Rattle.layout_rules.specs.Forms.{total_words, ReachFrom}
+use Rattle.layout_rules.specs.Stands.{HasPieces}
+use Rattle.layout_rules.specs.Words.{Named}
+use Rattle.linear_machine.specs.View.{Fixed}
+
+-- how many words of the code stand before a label
+abbrev pub label_place : Named → ℕ → ℕ
+label_place n l = (n.label l - code_start) / 4
+
+-- The words of these pieces stand from one place of the code to another, each piece in a form that
+-- reaches.
+pub record PartStands (s : Fixed) (n : Named) (at to : ℕ) (ps : List Piece) : Type 0 where
+  pub forms : List Form
+  pub has : HasPieces s.image.code n at ps forms
+  pub reach : ReachFrom (label_place n) at ps forms
+  pub past : to ≡ at + total_words ps forms

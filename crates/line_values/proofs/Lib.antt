@@ -1,0 +1,4 @@
+pub mod Places
+pub mod Operands
+pub mod Chains
+pub mod Moves
