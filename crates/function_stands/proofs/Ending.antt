@@ -1,0 +1,98 @@
+-- No walk comes to the end of the code: each part with a line behind it to which one comes begins before the end.
+use Rattle.std.proofs.Common.{◌≡◌, ℕ, ◌+◌, ◌<◌, ◌≤◌, Bool, true, false, cond, nat_lt, List, [], ◌∷◌, ◌++◌, ◌⊎◌, inl, inr, ⊎_elim, length, drop, ap, arith}
+use Rattle.std.proofs.lemmas.Bool.{lt-ltb}
+use Rattle.emit_rules.specs.Emitted.{descriptor, parts}
+use Rattle.emit_rules.specs.Entry.{Frame}
+use Rattle.emit_rules.proofs.Acts.{ActsAt, part_acts}
+use Rattle.layout_rules.specs.declared.form.Form.{Form}
+use Rattle.layout_rules.specs.Forms.{total_words}
+use Rattle.layout_rules.specs.Stands.{HasPieces}
+use Rattle.layout_rules.specs.Words.{Named}
+use Rattle.lin_ir.specs.Meaning.{passes_frame}
+use Rattle.lin_ir.specs.Walks.{Reached, by_step, goes, targets, tries_after}
+use Rattle.lin_ir.specs.declared.descr.Descr.{Descr}
+use Rattle.lin_ir.specs.declared.lin.Flow.TheVariants as flow
+use Rattle.lin_ir.specs.declared.lin.Lin.{Lin}
+use Rattle.lin_ir.specs.declared.lin.Line.{Line}
+use Rattle.lin_ir.specs.declared.lin.LinOp.{LinOp}
+use Rattle.lin_ir.specs.declared.lin.LinOp.TheVariants as lin
+use Rattle.lin_ir.specs.declared.lin.Spot.{Spot}
+use Rattle.linear_machine.specs.View.{Fixed}
+use Rattle.linear_rules.proofs.Walked.{Tail, tail_all, tail_more}
+use Rattle.mach_ir.specs.Acts.{On}
+use Rattle.mach_ir.specs.Walks.{OneOf, this}
+use Rattle.mach_ir.specs.declared.op.Access.TheVariants as access
+use Rattle.mach_ir.specs.declared.op.Calling.TheVariants as calling
+use Rattle.mach_ir.specs.declared.op.Op.TheVariants as op
+use Rattle.function_stands.proofs.Parts.{Place, left_in, part_in, place_within}
+use Rattle.function_stands.proofs.Splitting.{has_first, has_second, least, words_both, words_first}
+
+-- a line goes on, or has an instruction
+on_or_acts : (g : LinOp) (args results : List Spot) → OneOf On (targets g) ⊎ ActsAt g args results
+on_or_acts (lin.Flow (flow.Label l)) args results = inl this
+on_or_acts (lin.Flow (flow.Jump l)) args results = inr tt
+on_or_acts (lin.Flow (flow.Exit l)) args results = inr tt
+on_or_acts (lin.Flow (flow.Branch t l)) args results = inl this
+on_or_acts (lin.Flow (flow.Switch ls)) args results = inr tt
+on_or_acts (lin.Flow (flow.PushTrap l)) args results = inl this
+on_or_acts (lin.Flow flow.PopTrap) args results = inl this
+on_or_acts (lin.Flow flow.EnterTrap) args results = inl this
+on_or_acts (lin.Op (op.Pure g)) args results = inl this
+on_or_acts (lin.Op (op.Access g)) args results = inl this
+on_or_acts (lin.Op (op.Calling g)) args results = inr tt
+on_or_acts (lin.Op (op.Leaving g)) args results = inr tt
+
+-- a line that is a frame point goes on
+pub points_go_on : (g : LinOp) → passes_frame g ≡ true → OneOf On (targets g)
+points_go_on (lin.Flow g) e = cc
+points_go_on (lin.Op (op.Pure g)) e = cc
+points_go_on (lin.Op (op.Access (access.Load k offset))) e = cc
+points_go_on (lin.Op (op.Access (access.Store k offset))) e = cc
+points_go_on (lin.Op (op.Access (access.Alloc blocks))) e = this
+points_go_on (lin.Op (op.Calling (calling.Call whom result))) e = this
+points_go_on (lin.Op (op.Calling (calling.TailCall whom result))) e = cc
+points_go_on (lin.Op (op.Calling (calling.External row frame))) e = this
+points_go_on (lin.Op (op.Leaving g)) e = cc
+
+module _ (s : Fixed) (n : Named) (traps : ℕ → ℕ) (f : Frame) (m : Lin) (unended : (tries : List ℕ) → Reached m [] tries → ⊥) where
+  -- code that a walk comes to has an instruction
+  some_words : (ds : List Descr) (code : List Line) (fs : List Form) (at' : ℕ) (tries : List ℕ) → Reached m code tries →
+      HasPieces s.image.code n at' (parts traps f ds code) fs → 1 ≤ total_words (parts traps f ds code) fs
+  some_words ds [] fs at' tries reached has = absurd (unended tries reached)
+  some_words ds (i ∷ next) fs at' tries reached has =
+      let part = part_in traps f ds i next in
+      let rest = parts traps f (left_in ds i) next in
+      let both = words_both part rest fs in
+      ⊎_elim (λ goes_on.
+      let later = some_words (left_in ds i) next (drop (length part) fs) (at' + total_words part fs) (tries_after i.op tries)
+      (by_step reached (goes On goes_on)) (has_second s.image.code n at' part rest fs has) in
+      omega (arith, later, both)) (λ acts.
+      let some = part_acts (traps (length next)) f (descriptor (passes_frame i.op) ds) i.op i.args i.results acts in
+      let enough = least s.image.code n at' part _ (has_first s.image.code n at' part rest fs has) in
+      omega (arith, some, enough, words_first part fs, both)) (on_or_acts i.op i.args i.results)
+
+  cond_before : (b : Bool) (high x y : ℕ) → x < high → y < high → cond b x y < high
+  cond_before true high x y h k = h
+  cond_before false high x y h k = k
+
+  -- so each part before such code begins before the end
+  pub place_before : {suffix : List Line} {tries : List ℕ} (ds : List Descr) (code : List Line) (fs : List Form) (at at' k : ℕ) → Reached m suffix tries →
+      Tail suffix code → length suffix ≤ k → HasPieces s.image.code n at' (parts traps f ds code) fs →
+      Place s n traps f ds code fs at k < at + total_words (parts traps f ds code) fs
+  place_before {tries = tries} ds [] fs at at' k reached tail_all h has = absurd (unended tries reached)
+  place_before {tries = tries} ds (i ∷ next) fs at at' k reached tail_all h has =
+      let part = part_in traps f ds i next in
+      let some = some_words ds (i ∷ next) fs at' tries reached has in
+      let e : Place s n traps f ds (i ∷ next) fs at k ≡ at =
+      ap (λ b. cond b at (Place s n traps f (left_in ds i) next (drop (length part) fs) (at + total_words part fs) k)) (lt-ltb (length next) k h) in
+      omega (arith, some, e)
+  place_before ds (i ∷ next) fs at at' k reached (tail_more tail) h has =
+      let part = part_in traps f ds i next in
+      let rest = parts traps f (left_in ds i) next in
+      let left = drop (length part) fs in
+      let both = words_both part rest fs in
+      let later = place_before (left_in ds i) next left (at + total_words part fs) (at' + total_words part fs) k reached tail h
+      (has_second s.image.code n at' part rest fs has) in
+      let within = (place_within s n traps f (left_in ds i) next left (at + total_words part fs) k).0 in
+      cond_before (nat_lt (length next) k) (at + total_words (part ++ rest) fs) at (Place s n traps f (left_in ds i) next left (at + total_words part fs) k)
+      (omega (arith, later, within, both)) (omega (arith, later, both))

@@ -1,0 +1,139 @@
+-- Labels lie where the parts behind their marks begin.
+use Rattle.std.proofs.Common.{◌≡◌, ℕ, ◌+◌, ◌≤◌, Bool, true, false, cond, nat_eq, ⊎_elim, List, [], ◌∷◌, ◌++◌, length, drop, Some, refl, sym, ap, ◌∙◌, arith}
+use Rattle.std.specs.List.{Contains}
+use Rattle.std.proofs.lemmas.Bool.{true≢false}
+use Rattle.std.proofs.lemmas.List.Elements.{Contains-append_cases}
+use Rattle.emit_rules.specs.Emitted.{descriptor, parts}
+use Rattle.emit_rules.specs.Entry.{Frame, entry}
+use Rattle.emit_rules.specs.Traversal.{Allows, Each, each_more}
+use Rattle.emit_rules.proofs.Traverse.{entry-in, part-in}
+use Rattle.layout_rules.specs.declared.form.Form.{Form}
+use Rattle.layout_rules.specs.Forms.{is_label, label_from, total_words, words_of}
+use Rattle.layout_rules.specs.Stands.{HasPieces}
+use Rattle.layout_rules.specs.Words.{Named}
+use Rattle.lin_ir.specs.Formed.{label_of, labels_in}
+use Rattle.lin_ir.specs.Meaning.{after_label, has_label, passes_frame}
+use Rattle.lin_ir.specs.declared.descr.Descr.{Descr}
+use Rattle.lin_ir.specs.declared.lin.Flow.TheVariants as flow
+use Rattle.lin_ir.specs.declared.lin.Line.{Line}
+use Rattle.lin_ir.specs.declared.lin.LinOp.{LinOp}
+use Rattle.lin_ir.specs.declared.lin.LinOp.TheVariants as lin
+use Rattle.lin_ir.specs.declared.lin.Spot.{Spot}
+use Rattle.linear_machine.specs.View.{Fixed}
+use Rattle.linear_rules.proofs.Homes.{IsIn, in_of, is_first, is_later}
+use Rattle.rv_pieces.specs.declared.piece.Piece.{Piece}
+use Rattle.function_stands.proofs.Parts.{Place, left_in, part_in, place_first, place_later, same_yes}
+use Rattle.function_stands.proofs.Splitting.{has_second}
+
+-- the label does not stand at this piece
+abbrev pub NoLabel : ℕ → Piece → Type 0
+NoLabel l p = is_label l p ≡ false
+
+allows_none : (l : ℕ) (f : LinOp) (d : _) → has_label l f ≡ false → Allows (NoLabel l) f d
+allows_none l f d none = record {
+  known = λ j h. refl;
+  place = λ k is. sym (ap (has_label l) is) ∙ none;
+  branch = λ k n c a b. refl;
+  jump = λ k n. refl;
+  row = λ k n. refl;
+  address = λ k n r. refl;
+  call = λ name n. refl;
+  tail_call = λ name n. refl;
+  symbol = λ name n r. refl;
+  external = λ row frame e r. refl;
+  mark = λ e is. refl;
+}
+
+-- what has no such label is passed
+pub label_past : (l at : ℕ) (xs ys : List Piece) (fs : List Form) → Each (NoLabel l) xs →
+    label_from l at (xs ++ ys) fs ≡ label_from l (at + total_words xs fs) ys (drop (length xs) fs)
+label_past l at [] ys fs none = let e : at ≡ at + 0 = omega arith in ap (λ k. label_from l k ys fs) e
+label_past l at (x ∷ xs) [] [] none = refl
+label_past l at (x ∷ xs) (y ∷ ys) [] none = refl
+label_past l at (x ∷ xs) ys (f ∷ fs) (each_more none rest) =
+    let e : at + words_of x f + total_words xs fs ≡ at + (words_of x f + total_words xs fs) = omega arith in
+    ap (λ b. cond b (Some at) (label_from l (at + words_of x f) (xs ++ ys) fs)) none ∙ label_past l (at + words_of x f) xs ys fs rest
+    ∙ ap (λ k. label_from l k ys (drop (length xs) fs)) e
+
+-- the entry has no label
+pub entry_past : (l : ℕ) (f : Frame) → Each (NoLabel l) (entry f)
+entry_past l f = entry-in (NoLabel l) (λ j h. refl) f
+
+pub label_within : (l : ℕ) (code : List Line) → length (after_label l code) ≤ length code
+label_within l [] = omega arith
+label_within l (i ∷ next) = by (has_label l i.op) (label_within l next)
+  where
+    by : (b : Bool) → length (after_label l next) ≤ length next → length (cond b next (after_label l next)) ≤ length (i ∷ next)
+    by true h = omega arith
+    by false h = omega (arith, h)
+
+-- a line has the label or not
+only : (l k : ℕ) → IsIn l (k ∷ []) → nat_eq k l ≡ true
+only l k is_first = same_yes l
+only l k (is_later i) = elim i [ ]
+
+labelled : (l : ℕ) (f : LinOp) → IsIn l (label_of f) → has_label l f ≡ true
+labelled l (lin.Flow (flow.Label k)) c = only l k c
+labelled l (lin.Flow (flow.Jump k)) c = elim c [ ]
+labelled l (lin.Flow (flow.Exit k)) c = elim c [ ]
+labelled l (lin.Flow (flow.Branch t k)) c = elim c [ ]
+labelled l (lin.Flow (flow.Switch ks)) c = elim c [ ]
+labelled l (lin.Flow (flow.PushTrap k)) c = elim c [ ]
+labelled l (lin.Flow flow.PopTrap) c = elim c [ ]
+labelled l (lin.Flow flow.EnterTrap) c = elim c [ ]
+labelled l (lin.Op f) c = elim c [ ]
+
+module _ (s : Fixed) (n : Named) (traps : ℕ → ℕ) (f : Frame) where
+  -- a part with the label is its mark alone
+  label_here : (l at at' : ℕ) (ds : List Descr) (g : LinOp) (args results : List Spot) (next : List Line) (fs : List Form) → has_label l g ≡ true →
+      HasPieces s.image.code n at' (parts traps f ds (record { op = g; args = args; results = results } ∷ next)) fs →
+      label_from l at (parts traps f ds (record { op = g; args = args; results = results } ∷ next)) fs
+      ≡ Some (at + total_words (part_in traps f ds (record { op = g; args = args; results = results }) next) fs)
+  label_here l at at' ds (lin.Flow (flow.Label k)) args results next [] e has = absurd has
+  label_here l at at' ds (lin.Flow (flow.Label k)) args results next (g ∷ fs) e has =
+      let h : at ≡ at + (0 + 0) = omega arith in
+      ap (λ b. cond b (Some at) (label_from l (at + 0) (parts traps f ds next) fs)) e ∙ ap Some h
+  label_here l at at' ds (lin.Flow (flow.Jump k)) args results next fs e has = absurd (true≢false (sym e))
+  label_here l at at' ds (lin.Flow (flow.Exit k)) args results next fs e has = absurd (true≢false (sym e))
+  label_here l at at' ds (lin.Flow (flow.Branch t k)) args results next fs e has = absurd (true≢false (sym e))
+  label_here l at at' ds (lin.Flow (flow.Switch ks)) args results next fs e has = absurd (true≢false (sym e))
+  label_here l at at' ds (lin.Flow (flow.PushTrap k)) args results next fs e has = absurd (true≢false (sym e))
+  label_here l at at' ds (lin.Flow flow.PopTrap) args results next fs e has = absurd (true≢false (sym e))
+  label_here l at at' ds (lin.Flow flow.EnterTrap) args results next fs e has = absurd (true≢false (sym e))
+  label_here l at at' ds (lin.Op g) args results next fs e has = absurd (true≢false (sym e))
+
+  -- The place of a label is that of the part behind its mark.
+  pub label_place_is : (l at at' : ℕ) (ds : List Descr) (code : List Line) (fs : List Form) → Contains (labels_in code) l →
+      HasPieces s.image.code n at' (parts traps f ds code) fs →
+      label_from l at (parts traps f ds code) fs ≡ Some (Place s n traps f ds code fs at (length (after_label l code)))
+  label_place_is l at at' ds [] fs c has = elim (in_of l [] c) [ ]
+  label_place_is l at at' ds (i ∷ next) fs c has = by (has_label l i.op) refl
+      (λ z. label_place_is l (at + total_words part fs) (at' + total_words part fs) (left_in ds i) next left z (has_second s.image.code n at' part rest fs has))
+    where
+      part : List Piece
+      part = part_in traps f ds i next
+
+      rest : List Piece
+      rest = parts traps f (left_in ds i) next
+
+      left : List Form
+      left = drop (length part) fs
+
+      later : has_label l i.op ≡ false → Contains (labels_in next) l
+      later e =
+          let apart = λ (own : Contains (label_of i.op) l). absurd (true≢false (sym (labelled l i.op (in_of l (label_of i.op) own)) ∙ e)) in
+          ⊎_elim apart (λ z. z) (Contains-append_cases (label_of i.op) (labels_in next) l c)
+
+      by : (b : Bool) → has_label l i.op ≡ b →
+          (Contains (labels_in next) l →
+          label_from l (at + total_words part fs) rest left
+          ≡ Some (Place s n traps f (left_in ds i) next left (at + total_words part fs) (length (after_label l next)))) →
+          label_from l at (part ++ rest) fs ≡ Some (Place s n traps f ds (i ∷ next) fs at (length (cond b next (after_label l next))))
+      by true e go =
+          label_here l at at' ds i.op i.args i.results next fs e has
+          ∙ ap Some (sym (place_first s n traps f (left_in ds i) next left (at + total_words part fs)))
+          ∙ ap Some (sym (place_later s n traps f ds i next fs at (length next) (omega arith)))
+      by false e go =
+          label_past l at part rest fs (part-in (NoLabel l) (descriptor (passes_frame i.op) ds) (traps (length next)) f i (allows_none l i.op _ e))
+          ∙ go (later e)
+          ∙ ap Some (sym (place_later s n traps f ds i next fs at (length (after_label l next)) (label_within l next)))

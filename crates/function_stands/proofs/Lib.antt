@@ -1,0 +1,14 @@
+pub mod Reaching
+pub mod Splitting
+pub mod Parts
+pub mod Labels
+pub mod Ending
+pub mod Exact
+pub mod Found
+pub mod Handlers
+pub mod Spare
+pub mod Described
+pub mod Symbols
+pub mod Rows
+pub mod Points
+pub mod Whole

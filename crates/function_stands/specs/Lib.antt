@@ -1,0 +1,3 @@
+pub mod Spare
+pub mod Compiled
+pub mod Functions
