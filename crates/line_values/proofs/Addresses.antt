@@ -1,0 +1,168 @@
+-- Addresses with an offset come into a register, and loads follow their lines.
+use Rattle.std.proofs.Common.{◌≡◌, ◌≢◌, ℕ, zero, suc, ◌+◌, ◌-◌, ◌*◌, ◌/◌, ◌%◌, ◌^◌, ◌<◌, ◌≤◌, ◌⊎◌, inl, inr, Bool, true, false, cond, ◌==◌, List, [], ◌∷◌, ◌++◌, length, Option, Some, None, Result, Ok, Err, slice_index, refl, ap, ap₂, arith, ◌∙◌, sym, subst, ⊎_elim, append_assoc}
+use Rattle.std.specs.List.{AllByRecursion}
+use Rattle.bs_words.specs.Fits.{fits, misfit}
+use Rattle.bs_words.specs.Memory.{Cell, cell_at, end_of_data, extended, loaded_as, loaded_from, of_type, offset_in_cell, part, value_in, width}
+use Rattle.bs_words.specs.Memory as memory
+use Rattle.bs_words.specs.Word.{add_word}
+use Rattle.bs_words.proofs.Below.{add_word-below}
+use Rattle.bs_words.specs.declared.types.Chunk.{Chunk}
+use Rattle.bs_words.specs.declared.types.Chunk.TheVariants as chunk
+use Rattle.bs_words.specs.declared.types.Ty.{Ty}
+use Rattle.bs_words.specs.declared.types.Ty.TheVariants as ty
+use Rattle.bs_words.specs.declared.values.Kind.{Kind}
+use Rattle.bs_words.specs.declared.values.Value.{Value}
+use Rattle.bs_words.specs.declared.values.Value.TheVariants.{Word, Block, Function}
+use Rattle.emit_rules.specs.Constants.{constant}
+use Rattle.emit_rules.specs.Instructions.{add, load}
+use Rattle.emit_rules.specs.Memory.{address_offset, address_register, address_words, load_from, load_part, load_width, store_width}
+use Rattle.emit_rules.specs.Slots.{fetched, kept, register_of, target}
+use Rattle.layout_rules.specs.Words.{Named}
+use Rattle.lin_ir.specs.Formed.{IsLocation}
+use Rattle.lin_ir.specs.Meaning.{Locations, NamedAt, on_act, on_values, put, step}
+use Rattle.lin_ir.specs.declared.lin.Lin.{Lin}
+use Rattle.lin_ir.specs.declared.lin.Line.{Line}
+use Rattle.lin_ir.specs.declared.lin.LinOp.TheVariants as lin
+use Rattle.lin_ir.specs.declared.lin.Spot.{Spot}
+use Rattle.mach_ir.specs.Acts.{Around, Stuck, is_among, loaded_act, moved_by, one_result}
+use Rattle.mach_ir.specs.Forms.{is_immediate_12}
+use Rattle.mach_ir.specs.Runs.{Place}
+use Rattle.mach_ir.specs.declared.op.Access.TheVariants as access
+use Rattle.mach_ir.specs.declared.op.Op.TheVariants as op
+use Rattle.moving_laws.specs.Stands.{Among}
+use Rattle.moving_laws.specs.Values.{value_word}
+use Rattle.rv_isa.specs.Registers.{number}
+use Rattle.rv_isa.specs.declared.instr.AluOp.TheVariants.{Add}
+use Rattle.rv_isa.specs.declared.instr.Instr.TheVariants.{Load, Op}
+use Rattle.rv_isa.specs.declared.instr.LoadWidth.{LoadWidth}
+use Rattle.rv_isa.specs.declared.register.Register.{Register}
+use Rattle.rv_isa.specs.declared.register.Register.TheVariants.{T1, T2}
+use Rattle.rv_machine.specs.Arithmetic.{imm_i}
+use Rattle.rv_machine.specs.Hart.{Placed, bytes_loaded, register_loaded}
+use Rattle.rv_machine.specs.Memory.{Region, word}
+use Rattle.rv_machine.specs.Width.{IsWidth}
+use Rattle.machine_laws.proofs.Memory.{word_below}
+use Rattle.machine_laws.proofs.Values.{loaded_word}
+use Rattle.rv_pieces.specs.declared.piece.Piece.{Piece}
+use Rattle.linear_machine.specs.Follows.{Agrees, FollowsStep}
+use Rattle.linear_machine.specs.Relation.{Below, Laid, StandsFor, Within, all_of}
+use Rattle.linear_machine.specs.Relation as relation
+use Rattle.linear_machine.specs.Straight.{Changes, Comes}
+use Rattle.linear_machine.specs.View.{Fixed, View, IsCode}
+use Rattle.linear_machine.proofs.Following.{PassesSpare, result_follows}
+use Rattle.linear_machine.proofs.Formats.{sets_op}
+use Rattle.linear_machine.proofs.Immediates.{low_12, up}
+use Rattle.linear_machine.proofs.Loading.{IsCellAt, moved_word}
+use Rattle.linear_machine.proofs.Operating.{worked}
+use Rattle.linear_machine.proofs.Parts.{changes_come, comes_here, comes_then}
+use Rattle.linear_machine.proofs.Pure.{Reads, reads_held}
+use Rattle.linear_machine.proofs.Reading.{reads_one}
+use Rattle.linear_machine.proofs.Rows.{immediate_is}
+use Rattle.linear_machine.proofs.Sequences.{no_change, set_changes, set_then, sets_as, then_changes, widened}
+use Rattle.linear_machine.proofs.Standing.{within_past}
+use Rattle.linear_machine.proofs.Steps.{reg}
+use Rattle.line_stands.specs.Parts.{PartStands}
+use Rattle.line_stands.proofs.Parts.{counts, last, none_left}
+use Rattle.line_values.specs.Statics.{IsWholeList}
+use Rattle.line_values.proofs.Bytes.{sets_load_part}
+use Rattle.line_values.proofs.Cells.{Reached, reached}
+use Rattle.line_values.proofs.Chains.{constant_comes}
+use Rattle.line_values.proofs.Moves.{alone}
+use Rattle.line_values.proofs.Operands.{fetches, targeted}
+use Rattle.line_values.proofs.Operations.{no_second}
+use Rattle.line_values.proofs.Testing.{first_comes}
+
+-- ---- values that are addresses of memory
+
+pub moved_function : (o f : ℕ) → moved_by o (Function f) ≡ Function f
+moved_function zero f = refl
+moved_function (suc o) f = refl
+
+-- a function is no address of memory, whatever is added
+pub no_function : (a : Around) (w offset : ℕ) (x : Value) (cell : Cell) → cell_at a.memory w (moved_by offset x) ≡ Some cell → (f : ℕ) → x ≡ Function f → ⊥
+no_function a w offset x cell e f q =
+    let g : cell_at a.memory w (Function f) ≡ Some cell = subst (λ y. cell_at a.memory w y ≡ Some cell) (ap (moved_by offset) q ∙ moved_function offset f) e in
+    absurd (cc)
+
+-- ---- an address comes into a register
+
+module _ (s : Fixed) (n : Named) (laid : Laid) (young : List Placed) (held : Locations) (a : Around) (c : Below) (base : Register) (rb : ℕ)
+    (base_is : number base ≡ suc rb) (which : (suc rb ≡ 6) ⊎ relation.IsLocation (suc rb)) (offset : ℕ) (fits : offset < 2 ^ 64) where
+  -- So many words bring the address so far from a value's into a register, as an instruction with an
+  -- immediate reads it.
+  pub record Addresses (at k : ℕ) : Type 0 where
+    pub list : List ℕ
+    pub scratch : (q : ℕ) → Among q list → (q ≡ 6) ⊎ (q ≡ 7)
+    pub r : ℕ
+    pub is : number (address_register base offset) ≡ suc r
+    pub apart : suc r ≢ 7
+    pub gets : (x : Value) → ((f : ℕ) → x ≡ Function f → ⊥) → (u : View) → u.place ≡ at → Within s laid u young 0 held a c →
+        StandsFor s (all_of u young) (slice_index u.registers (suc rb)) x →
+        Changes s u k list u.memory (λ w. add_word (slice_index w.registers (suc r)) (imm_i (address_offset offset % 4096))
+        ≡ value_word s.image (all_of u young) (moved_by offset x))
+
+  addresses_by : (at k : ℕ) (t : Bool) → is_immediate_12 offset ≡ t → PartStands s n at (at + k) (cond t [] (constant T2 offset ++ add T1 base T2 ∷ [])) →
+      Addresses at k
+  addresses_by at k true t part =
+      let zero = none_left s n at k part in
+      let same : address_register base offset ≡ base = ap (λ b. cond b base T1) t in
+      let imm : address_offset offset ≡ offset = ap (λ b. cond b offset 0) t in
+      record {
+        list = [];
+        scratch = λ q i. absurd i;
+        r = rb;
+        is = ap number same ∙ base_is;
+        apart = no_second (suc rb) which;
+        gets = λ x other u p w st.
+            subst (λ z. Changes s u z [] u.memory (λ w. add_word (slice_index w.registers (suc rb)) (imm_i (address_offset offset % 4096))
+            ≡ value_word s.image (all_of u young) (moved_by offset x))) (sym zero)
+            (no_change s u [] _ w.own.are
+            (ap (λ z. add_word (slice_index u.registers (suc rb)) (imm_i (z % 4096))) imm
+            ∙ ap (add_word (slice_index u.registers (suc rb))) (immediate_is offset t)
+            ∙ moved_word s (all_of u young) offset (slice_index u.registers (suc rb)) x fits (w.own.are.words (suc rb)) other st.is));
+      }
+  addresses_by at k false t part =
+      let g = counts s n at k (constant T2 offset) (add T1 base T2 ∷ []) part in
+      let l = last s n (at + g.own) g.others (Op Add 6 (number base) 7) g.second in
+      let same : address_register base offset ≡ T1 = ap (λ b. cond b base T1) t in
+      let imm : address_offset offset ≡ 0 = ap (λ b. cond b offset 0) t in
+      let sum = g.sum in
+      let one = l.1 in
+      let all : k ≡ g.own + 1 = omega (arith, sum, one) in
+      record {
+        list = 6 ∷ 7 ∷ [];
+        scratch = λ q i. ⊎_elim (λ e. inl e) (λ f. ⊎_elim (λ e. inr e) (λ z. absurd z) f) i;
+        r = 5;
+        is = ap number same ∙ refl;
+        apart = λ e. omega (arith, e);
+        gets = λ x other u p w st.
+            let code : IsCode s (u.place + g.own) (Op Add 6 (suc rb) 7) =
+            subst (λ z. IsCode s (z + g.own) (Op Add 6 (suc rb) 7)) (sym p) (subst (λ z. IsCode s (at + g.own) (Op Add 6 z 7)) base_is l.0) in
+            let first : PartStands s n u.place (u.place + g.own) (constant T2 offset) =
+            subst (λ z. PartStands s n z (z + g.own) (constant T2 offset)) (sym p) g.first in
+            let value : ℕ = add_word (slice_index u.registers (suc rb)) offset in
+            subst (λ z. Changes s u z (6 ∷ 7 ∷ []) u.memory (λ w. add_word (slice_index w.registers 6) (imm_i (address_offset offset % 4096))
+            ≡ value_word s.image (all_of u young) (moved_by offset x))) (sym all)
+            (widened s u (g.own + 1) (6 ∷ 7 ∷ []) (6 ∷ 7 ∷ []) u.memory
+            (λ w. slice_index w.registers 6 ≡ add_word (slice_index u.registers (suc rb)) offset) _ (λ q i. i)
+            (λ o past e.
+            ap (λ z. add_word (slice_index o.registers 6) (imm_i (z % 4096))) imm
+            ∙ ap (add_word (slice_index o.registers 6)) (low_12 0 (omega arith))
+            ∙ up (slice_index o.registers 6) 0 (slice_index o.registers 6) (omega arith) (past.are.words 6)
+            ∙ e
+            ∙ moved_word s (all_of u young) offset (slice_index u.registers (suc rb)) x fits (w.own.are.words (suc rb)) other st.is)
+            (set_then s u g.own (6 ∷ 7 ∷ []) u.memory
+            (λ w. (slice_index w.registers 7 ≡ offset) × (slice_index w.registers (suc rb) ≡ slice_index u.registers (suc rb)))
+            (Op Add 6 (suc rb) 7) 5 value
+            (widened s u g.own (7 ∷ []) (6 ∷ 7 ∷ []) u.memory
+            (λ w. (slice_index w.registers 7 ≡ offset) × (slice_index w.registers (suc rb) ≡ slice_index u.registers (suc rb))) _ (λ q i. inr i) (λ w p h. h)
+            (widened s u g.own (7 ∷ []) (7 ∷ []) u.memory (λ w. slice_index w.registers 7 ≡ offset) _ (λ q i. i)
+            (λ o past h. (h, past.others (suc rb) (λ i. ⊎_elim (λ e. no_second (suc rb) which e) (λ f. f) i)))
+            (constant_comes s n T2 6 refl (omega arith) (λ e. omega (arith, e)) offset fits u g.own first w.own.are)))
+            (inl refl)
+            (λ o past h. sets_as s o (Op Add 6 (suc rb) 7) 6 _ value (ap₂ add_word h.1 h.0) (sets_op s o Add 6 (suc rb) 7))
+            code (inl (λ e. omega (arith, e))) (omega arith) (add_word-below (slice_index u.registers (suc rb)) offset)));
+      }
+
+  pub addresses : (at k : ℕ) → PartStands s n at (at + k) (address_words base offset) → Addresses at k
+  addresses at k part = addresses_by at k (is_immediate_12 offset) refl part

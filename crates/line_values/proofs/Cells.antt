@@ -1,0 +1,311 @@
+-- The cell of an access of any width lies at the address of its first byte.
+use Rattle.std.proofs.Common.{◌≡◌, ◌≢◌, ℕ, zero, suc, ◌+◌, ◌-◌, ◌*◌, ◌/◌, ◌%◌, ◌^◌, ◌<◌, ◌≤◌, ◌⊎◌, inl, inr, Bool, true, false, cond, ◌&&◌, ◌==◌, nat_le, List, [], ◌∷◌, length, Option, Some, None, slice_get, refl, ap, ap₂, arith, ◌∙◌, sym, subst, ⊎_elim}
+use Rattle.std.specs.List.{AllByRecursion}
+use Rattle.std.proofs.lemmas.Bool.{and_from, and_parts, cond-true, eq-eqb, eqb-true, le-leb, leb-true}
+use Rattle.bs_words.specs.Memory.{Cell, Memory, StaticList, InStatic, cell_at, cell_of_block, in_block, in_statics, offset_in_cell, sizes, value_in}
+use Rattle.bs_words.specs.Word.{add_word}
+use Rattle.bs_words.specs.declared.values.Value.{Value}
+use Rattle.bs_words.specs.declared.values.Value.TheVariants.{Word, Block, Function}
+use Rattle.mach_ir.specs.Acts.{Around, is_among}
+use Rattle.rv_machine.specs.Hart.{Placed}
+use Rattle.rv_machine.specs.Memory.{Region}
+use Rattle.rv_machine.specs.Sound.{HasRegions, extents}
+use Rattle.rv_machine.specs.Width.{IsWidth}
+use Rattle.moving_laws.specs.Values.{start_of, value_word, words_of}
+use Rattle.moving_laws.proofs.Rewriting.{start_inside}
+use Rattle.linear_machine.specs.Contents.{static_in, statics_of, size_in}
+use Rattle.linear_machine.specs.Relation.{HeapStands}
+use Rattle.linear_machine.specs.View.{Fixed}
+use Rattle.linear_machine.proofs.Loading.{IsCellAt, block_there, cell_there}
+use Rattle.std.proofs.lemmas.Option.{slice_get_within}
+use Rattle.line_values.specs.Statics.{IsWholeList}
+use Rattle.line_values.proofs.Bytes.{IsDataOrAbove, bool_same, width_some}
+use Rattle.line_values.proofs.Compared.{block_end}
+use Rattle.line_values.proofs.Statics.{is_in}
+use Rattle.moving_laws.specs.Words.{IsReadable}
+use Rattle.moving_laws.proofs.Usable.{data_readable}
+use Rattle.bs_words.specs.Memory.{HeapBlock, InBlock, InHeader}
+
+-- ---- widths
+
+-- the bytes of an access that is aligned lie in one word
+pub in_a_word : (a w : ℕ) → IsWidth w → a % w ≡ 0 → a % 8 + w ≤ 8
+in_a_word a w (inl e) m = omega (arith, e)
+in_a_word a w (inr (inl e)) m = let n : a % 2 ≡ 0 = subst (λ k. a % k ≡ 0) e m in omega (arith, e, n)
+in_a_word a w (inr (inr (inl e))) m = let n : a % 4 ≡ 0 = subst (λ k. a % k ≡ 0) e m in omega (arith, e, n)
+in_a_word a w (inr (inr (inr e))) m = let n : a % 8 ≡ 0 = subst (λ k. a % k ≡ 0) e m in omega (arith, e, n)
+
+-- and so they do where a multiple of 8 is added
+still_aligned : (a b w : ℕ) → IsWidth w → b % 8 ≡ a % 8 → a % w ≡ 0 → b % w ≡ 0
+still_aligned a b w (inl e) q m = let h : b % 1 ≡ 0 = omega arith in subst (λ k. b % k ≡ 0) (sym e) h
+still_aligned a b w (inr (inl e)) q m =
+    let n : a % 2 ≡ 0 = subst (λ k. a % k ≡ 0) e m in let h : b % 2 ≡ 0 = omega (arith, n, q) in subst (λ k. b % k ≡ 0) (sym e) h
+still_aligned a b w (inr (inr (inl e))) q m =
+    let n : a % 4 ≡ 0 = subst (λ k. a % k ≡ 0) e m in let h : b % 4 ≡ 0 = omega (arith, n, q) in subst (λ k. b % k ≡ 0) (sym e) h
+still_aligned a b w (inr (inr (inr e))) q m =
+    let n : a % 8 ≡ 0 = subst (λ k. a % k ≡ 0) e m in let h : b % 8 ≡ 0 = omega (arith, n, q) in subst (λ k. b % k ≡ 0) (sym e) h
+
+-- ---- static cells
+
+-- the first byte of the cell
+abbrev pub first_byte : Value → Value
+first_byte (Word x) = Word (x - x % 8)
+first_byte (Block k o) = Block k (o - o % 8)
+first_byte (Function f) = Function f
+
+list_same : (l : StaticList) (x w : ℕ) → IsWholeList l → 1 ≤ w → x % 8 + w ≤ 8 →
+    (nat_le l.start x && nat_le (x + w) (l.start + l.size)) ≡ (nat_le l.start (x - x % 8) && nat_le (x - x % 8 + 8) (l.start + l.size))
+list_same l x w whole some inside =
+    let al = whole.0 in
+    let size = whole.1 in
+    bool_same _ _
+    (λ h.
+    let p = and_parts (nat_le l.start x) (nat_le (x + w) (l.start + l.size)) h in
+    let low = leb-true l.start x p.0 in
+    let high = leb-true (x + w) (l.start + l.size) p.1 in
+    and_from _ _ (le-leb l.start (x - x % 8) (omega (arith, low, al))) (le-leb (x - x % 8 + 8) (l.start + l.size) (omega (arith, high, al, size, some))))
+    (λ h.
+    let p = and_parts (nat_le l.start (x - x % 8)) (nat_le (x - x % 8 + 8) (l.start + l.size)) h in
+    let low = leb-true l.start (x - x % 8) p.0 in
+    let high = leb-true (x - x % 8 + 8) (l.start + l.size) p.1 in
+    and_from _ _ (le-leb l.start x (omega (arith, low))) (le-leb (x + w) (l.start + l.size) (omega (arith, high, inside))))
+
+-- the list and the cell are those of the whole word
+statics_same : (k : ℕ) (lists : List StaticList) (x w : ℕ) (cell : Cell) → AllByRecursion IsWholeList lists → 1 ≤ w → x % 8 + w ≤ 8 →
+    in_statics k lists x w ≡ Some cell → in_statics k lists (x - x % 8) 8 ≡ Some cell
+statics_same k [] x w cell whole some inside e = absurd (cc)
+statics_same k (l ∷ lists) x w cell whole some inside e =
+    by_test (nat_le l.start x && nat_le (x + w) (l.start + l.size)) refl (statics_same (suc k) lists x w cell whole.1 some inside) e
+  where
+    by_test : (t : Bool) → (nat_le l.start x && nat_le (x + w) (l.start + l.size)) ≡ t →
+        (in_statics (suc k) lists x w ≡ Some cell → in_statics (suc k) lists (x - x % 8) 8 ≡ Some cell) →
+        cond t (Some (InStatic k ((x - l.start) / 8))) (in_statics (suc k) lists x w) ≡ Some cell → in_statics k (l ∷ lists) (x - x % 8) 8 ≡ Some cell
+    by_test true t later e =
+        let p = and_parts (nat_le l.start x) (nat_le (x + w) (l.start + l.size)) t in
+        let low = leb-true l.start x p.0 in
+        let al = whole.0.0 in
+        let same : (x - x % 8 - l.start) / 8 ≡ (x - l.start) / 8 = omega (arith, low, al) in
+        ap (λ b. cond b (Some (InStatic k ((x - x % 8 - l.start) / 8))) (in_statics (suc k) lists (x - x % 8) 8))
+        (sym (list_same l x w whole.0 some inside) ∙ t)
+        ∙ ap (λ i. Some (InStatic k i)) same ∙ e
+    by_test false t later e =
+        ap (λ b. cond b (Some (InStatic k ((x - x % 8 - l.start) / 8))) (in_statics (suc k) lists (x - x % 8) 8))
+        (sym (list_same l x w whole.0 some inside) ∙ t)
+        ∙ later e
+
+-- ---- where it lies
+
+-- the header or a cell of a block, or a cell of static data, by the address
+pub data Lies (placed : List Placed) (a : Around) (at : ℕ) : Cell → Type 0 where
+  head_cell : {k : ℕ} {b : HeapBlock} → k < length placed → slice_get a.memory.blocks k ≡ Some b → at ≡ start_of placed k - 8 →
+      Lies placed a at (InHeader k)
+  own_cell : {k j : ℕ} {b : HeapBlock} → k < length placed → slice_get a.memory.blocks k ≡ Some b → j < length b.cells → j < words_of placed k →
+      at ≡ start_of placed k + 8 * j → Lies placed a at (InBlock k j)
+  static_cell : {l j : ℕ} → cell_at a.memory 8 (Word at) ≡ Some (InStatic l j) → Lies placed a at (InStatic l j)
+
+-- a cell at the address of its first byte, and so many bytes further the access
+pub record Reached (s : Fixed) (placed : List Placed) (m : List Region) (a : Around) (x : Value) (w : ℕ) (cell : Cell) : Type 0 where
+  pub at : ℕ
+  pub byte : ℕ
+  pub address : value_word s.image placed x ≡ at + byte
+  pub offset : offset_in_cell x ≡ byte
+  pub inside : byte + w ≤ 8
+  pub aligned : (at + byte) % w ≡ 0
+  pub even : at % 8 ≡ 0
+  pub there : cell_at a.memory 8 (first_byte x) ≡ Some cell
+  pub first : value_word s.image placed (first_byte x) ≡ at
+  pub area : IsDataOrAbove s at
+  pub readable : IsReadable m at
+  pub low : 0x10000000 ≤ at
+  pub no_limit : at ≢ 0x20000000
+  pub below : at < 0x38010000
+  pub lies : Lies placed a at cell
+  -- what stands there once it has been written
+  pub is : is_among cell a.unwritten ≡ false → IsCellAt s placed m at (value_in a.memory cell)
+
+module _ (s : Fixed) (placed : List Placed) (m : List Region) (regions : HasRegions (extents s.image s.heap s.base) m) (a : Around)
+    (h : HeapStands s placed m a) (whole : AllByRecursion IsWholeList a.memory.statics) (w : ℕ) (width : IsWidth w) where
+  some_is : {p q : Cell} → Some p ≡ Some q → p ≡ q
+  some_is e = cc
+
+  if_true : (t : Bool) (o : Option Cell) (cell : Cell) → cond t o None ≡ Some cell → (t ≡ true) × (o ≡ Some cell)
+  if_true true o cell e = (refl, e)
+  if_true false o cell e = absurd (cc)
+
+  whole_there : (x : ℕ) (cell : Cell) → x % 8 ≡ 0 → in_statics 0 a.memory.statics x 8 ≡ Some cell → cell_at a.memory 8 (Word x) ≡ Some cell
+  whole_there x cell e f = cond-true (x % 8 == 0) _ _ (eq-eqb (x % 8) 0 e) ∙ f
+
+  block_same : (k o : ℕ) (n : Option ℕ) (cell : Cell) → o % 8 + w ≤ 8 → in_block k n ((o + 8) % 2 ^ 64) w ≡ Some cell →
+      in_block k n ((o - o % 8 + 8) % 2 ^ 64) 8 ≡ Some cell
+  block_same k o None cell inside e = absurd (cc)
+  block_same k o (Some n) cell inside e =
+      let p = if_true (nat_le ((o + 8) % 2 ^ 64 + w) (8 * (n + 1))) (Some (cell_of_block k ((o + 8) % 2 ^ 64 / 8))) cell e in
+      let room = leb-true ((o + 8) % 2 ^ 64 + w) (8 * (n + 1)) p.0 in
+      let one = width_some w width in
+      let same : (o - o % 8 + 8) % 2 ^ 64 / 8 ≡ (o + 8) % 2 ^ 64 / 8 = omega arith in
+      cond-true (nat_le ((o - o % 8 + 8) % 2 ^ 64 + 8) (8 * (n + 1))) _ _ (le-leb ((o - o % 8 + 8) % 2 ^ 64 + 8) (8 * (n + 1)) (omega (arith, room, one)))
+      ∙ ap (λ i. Some (cell_of_block k i)) same ∙ p.1
+
+  place_by : (start o n words from i : ℕ) → 0x30000008 ≤ start → start % 8 ≡ 0 → start + 8 * words ≤ 0x38010000 → words ≡ n → from ≡ (o + 8) % 2 ^ 64 →
+      from + 8 ≤ 8 * (n + 1) → o % 8 ≡ 0 → from / 8 ≡ i → (add_word start o + 8 ≡ start + 8 * i) × (i ≤ n)
+  unfolding add_word
+  place_by start o n words from i low al high e f room even g = (omega (arith, low, al, high, e, f, room, even, g), omega (arith, room, g))
+
+  -- where a cell of a block lies
+  block_cell : (k o : ℕ) (cell : Cell) → cell_at a.memory 8 (Block k o) ≡ Some cell → Lies placed a (add_word (start_of placed k) o) cell
+  block_cell k o cell e =
+      let p = if_true (o % 8 == 0) (in_block k (slice_get (sizes a.memory) k) ((o + 8) % 2 ^ 64) 8) cell e in
+      by_size (slice_get (sizes a.memory) k) refl (eqb-true (o % 8) 0 p.0) p.1
+    where
+      by_size : (n : Option ℕ) → slice_get (sizes a.memory) k ≡ n → o % 8 ≡ 0 → in_block k n ((o + 8) % 2 ^ 64) 8 ≡ Some cell →
+          Lies placed a (add_word (start_of placed k) o) cell
+      by_size None f even g = absurd (cc)
+      by_size (Some n) f even g =
+          let p = if_true (nat_le ((o + 8) % 2 ^ 64 + 8) (8 * (n + 1))) (Some (cell_of_block k ((o + 8) % 2 ^ 64 / 8))) cell g in
+          let room = leb-true ((o + 8) % 2 ^ 64 + 8) (8 * (n + 1)) p.0 in
+          let b = block_there a.memory k n f in
+          let within = slice_get_within a.memory.blocks k b.0 b.1 in
+          let count = h.stand.count in
+          let i : k < length placed = omega (arith, within, count) in
+          let near = start_inside placed k h.old.inside i in
+          let size : words_of placed k ≡ n = h.stand.sizes k i ∙ ap size_in b.1 ∙ b.2 in
+          by_index ((o + 8) % 2 ^ 64 / 8) (some_is p.1)
+          (place_by (start_of placed k) o n (words_of placed k) ((o + 8) % 2 ^ 64) ((o + 8) % 2 ^ 64 / 8) near.1 near.0 (block_end placed k h.old.inside i) size refl
+          room even refl)
+          b.0 b.1 b.2 i near.1 size
+        where
+          by_index : (x : ℕ) → cell_of_block k x ≡ cell → (add_word (start_of placed k) o + 8 ≡ start_of placed k + 8 * x) × (x ≤ n) → (b : HeapBlock) →
+              slice_get a.memory.blocks k ≡ Some b → length b.cells ≡ n → k < length placed → 0x30000008 ≤ start_of placed k → words_of placed k ≡ n →
+              Lies placed a (add_word (start_of placed k) o) cell
+          by_index zero c p b there len i low size =
+              let e = p.0 in
+              let here : add_word (start_of placed k) o ≡ start_of placed k - 8 = omega (arith, e, low) in
+              subst (Lies placed a (add_word (start_of placed k) o)) c (head_cell i there here)
+          by_index (suc j) c p b there len i low size =
+              let e = p.0 in
+              let few = p.1 in
+              let here : add_word (start_of placed k) o ≡ start_of placed k + 8 * j = omega (arith, e) in
+              let inside : j < length b.cells = omega (arith, few, len) in
+              let inside' : j < words_of placed k = omega (arith, few, size) in
+              subst (Lies placed a (add_word (start_of placed k) o)) c (own_cell i there inside inside' here)
+
+  -- it lies above the data, and can be read
+  record IsHigh (at : ℕ) : Type 0 where
+    pub high : 0x20000008 ≤ at
+    pub below : at < 0x38010000
+    pub readable : IsReadable m at
+
+  high_of : (at : ℕ) (cell : Cell) → at % 8 ≡ 0 → Lies placed a at cell → ((l j : ℕ) → cell ≡ InStatic l j → ⊥) → IsHigh at
+  high_of at cell even (head_cell {k} {b} l there e) none =
+      let near = start_inside placed k h.old.inside l in
+      record {
+        high = omega (arith, e, near);
+        below = omega (arith, e, near);
+        readable = h.readable.each k at l even (omega (arith, e)) (omega (arith, e, near));
+      }
+  high_of at cell even (own_cell {k} {j} {b} l there inside inside' e) none =
+      let near = start_inside placed k h.old.inside l in
+      record {
+        high = omega (arith, e, near);
+        below = (let top = block_end placed k h.old.inside l in omega (arith, e, top, inside'));
+        readable = h.readable.each k at l even (omega (arith, e)) (omega (arith, e, inside'));
+      }
+  high_of at cell even (static_cell {l} {j} f) none = absurd (none l j refl)
+
+  no_static : (k o l j : ℕ) → cell_at a.memory 8 (Block k o) ≡ Some (InStatic l j) → ⊥
+  no_static k o l j e =
+      let p = if_true (o % 8 == 0) (in_block k (slice_get (sizes a.memory) k) ((o + 8) % 2 ^ 64) 8) (InStatic l j) e in
+      by_size (slice_get (sizes a.memory) k) p.1
+    where
+      by_size : (n : Option ℕ) → in_block k n ((o + 8) % 2 ^ 64) 8 ≡ Some (InStatic l j) → ⊥
+      by_size None g = absurd (cc)
+      by_size (Some n) g =
+          by_index ((o + 8) % 2 ^ 64 / 8)
+          (some_is (if_true (nat_le ((o + 8) % 2 ^ 64 + 8) (8 * (n + 1))) (Some (cell_of_block k ((o + 8) % 2 ^ 64 / 8))) (InStatic l j) g).1)
+        where
+          by_index : (x : ℕ) → cell_of_block k x ≡ InStatic l j → ⊥
+          by_index zero c = absurd (cc)
+          by_index (suc x) c = absurd (cc)
+
+  block_in : (k o : ℕ) (cell : Cell) → cell_at a.memory 8 (Block k o) ≡ Some cell → k < length placed
+  block_in k o cell e =
+      let p = if_true (o % 8 == 0) (in_block k (slice_get (sizes a.memory) k) ((o + 8) % 2 ^ 64) 8) cell e in
+      by_size (slice_get (sizes a.memory) k) refl p.1
+    where
+      by_size : (n : Option ℕ) → slice_get (sizes a.memory) k ≡ n → in_block k n ((o + 8) % 2 ^ 64) 8 ≡ Some cell → k < length placed
+      by_size None f g = absurd (cc)
+      by_size (Some n) f g =
+          let b = block_there a.memory k n f in
+          let within = slice_get_within a.memory.blocks k b.0 b.1 in
+          let count = h.stand.count in
+          omega (arith, within, count)
+
+  block_bytes : (start o : ℕ) → start % 8 ≡ 0 →
+      (add_word start o ≡ add_word start (o - o % 8) + o % 8) × (add_word start (o - o % 8) % 8 ≡ 0)
+      × ((add_word start (o - o % 8) + o % 8) % 8 ≡ o % 8)
+  unfolding add_word
+  block_bytes start o e = (omega (arith, e), omega (arith, e), omega (arith, e))
+
+  static_of : (x : ℕ) (cell : Cell) → cell_at a.memory 8 (Word x) ≡ Some cell → Lies placed a x cell
+  static_of x cell e =
+      let p = if_true (x % 8 == 0) (in_statics 0 a.memory.statics x 8) cell e in
+      let r = is_in 0 a.memory.statics x cell p.1 in
+      subst (Lies placed a x) (sym r.is) (static_cell (e ∙ ap Some r.is))
+
+  pub reached : (x : Value) (cell : Cell) → cell_at a.memory w x ≡ Some cell → Reached s placed m a x w cell
+  reached (Word x) cell e =
+      let p = if_true (x % w == 0) (in_statics 0 a.memory.statics x w) cell e in
+      let al : x % w ≡ 0 = eqb-true (x % w) 0 p.0 in
+      let inside = in_a_word x w width al in
+      let there = whole_there (x - x % 8) cell (omega arith) (statics_same 0 a.memory.statics x w cell whole (width_some w width) inside p.1) in
+      let place = h.statics.place (x - x % 8) (value_in a.memory cell) (ap (static_in a.memory) there) in
+      record {
+        at = x - x % 8;
+        byte = x % 8;
+        address = omega arith;
+        offset = refl;
+        inside = inside;
+        aligned = let same : x ≡ x - x % 8 + x % 8 = omega arith in subst (λ z. z % w ≡ 0) same al;
+        even = omega arith;
+        there = there;
+        first = refl;
+        area = inl place.2;
+        readable = data_readable s.image s.heap s.base m regions (x - x % 8) place.0 place.1 place.2;
+        low = place.1;
+        no_limit = (let short = s.functions.tables.bytes.short in let high = place.2 in λ q. omega (arith, q, short, high));
+        below = (let short = s.functions.tables.bytes.short in let high = place.2 in omega (arith, short, high));
+        lies = static_of (x - x % 8) cell there;
+        is = λ written. cell_there s placed m regions a h (Word (x - x % 8)) cell there written;
+      }
+  reached (Block k o) cell e =
+      let p = if_true (o % w == 0) (in_block k (slice_get (sizes a.memory) k) ((o + 8) % 2 ^ 64) w) cell e in
+      let al : o % w ≡ 0 = eqb-true (o % w) 0 p.0 in
+      let inside = in_a_word o w width al in
+      let there : cell_at a.memory 8 (Block k (o - o % 8)) ≡ Some cell =
+      cond-true ((o - o % 8) % 8 == 0) _ _ (eq-eqb ((o - o % 8) % 8) 0 (omega arith))
+      ∙ block_same k o (slice_get (sizes a.memory) k) cell inside p.1 in
+      let i = block_in k (o - o % 8) cell there in
+      let near = start_inside placed k h.old.inside i in
+      let bytes = block_bytes (start_of placed k) o near.0 in
+      let lies = block_cell k (o - o % 8) cell there in
+      let up = high_of (add_word (start_of placed k) (o - o % 8)) cell bytes.1 lies (λ l j q. no_static k (o - o % 8) l j (there ∙ ap Some q)) in
+      let high = up.high in
+      record {
+        at = add_word (start_of placed k) (o - o % 8);
+        byte = o % 8;
+        address = bytes.0;
+        offset = refl;
+        inside = inside;
+        aligned = still_aligned o (add_word (start_of placed k) (o - o % 8) + o % 8) w width bytes.2 al;
+        even = bytes.1;
+        there = there;
+        first = refl;
+        area = inr (omega (arith, high));
+        readable = up.readable;
+        low = omega (arith, high);
+        no_limit = λ q. omega (arith, q, high);
+        below = up.below;
+        lies = lies;
+        is = λ written. cell_there s placed m regions a h (Block k (o - o % 8)) cell there written;
+      }
+  reached (Function f) cell e = absurd (cc)

@@ -1,0 +1,370 @@
+-- Each plain line is followed.
+use Rattle.std.proofs.Common.{◌≡◌, ℕ, zero, suc, ◌+◌, ◌^◌, ◌<◌, ◌⊎◌, inl, inr, true, ◌&&◌, nat_le, nat_lt, List, [], ◌∷◌, length, map, Option, Some, None, slice_get, refl, ap, arith, ◌∙◌, sym, subst, ⊎_elim}
+use Rattle.std.specs.List.{AllByRecursion, Contains}
+use Rattle.std.proofs.lemmas.Bool.{and_parts, leb-true, ltb-true, or_cases}
+use Rattle.std.proofs.lemmas.List.Elements.{recursion_from_All}
+use Rattle.bs_words.specs.declared.types.Comp.{Comp}
+use Rattle.emit_rules.specs.Emitted.{part_of}
+use Rattle.emit_rules.specs.Entry.{Frame}
+use Rattle.layout_rules.specs.Forms.{total_words}
+use Rattle.layout_rules.specs.Words.{Named}
+use Rattle.lin_ir.specs.Formed.{FlowHasForm, label_form, jump_form, exit_form, branch_form, switch_form, IsFormed, formed_op, formed_flow, IsLocation, IsQuiet, Locates, NamesLabel, goes_to, Sets, comps, spare}
+use Rattle.lin_ir.specs.Meaning.{Locations, NamedAt, after_label, code_at, step}
+use Rattle.lin_ir.specs.Walks.{targets}
+use Rattle.lin_ir.specs.declared.descr.Descr.{Descr}
+use Rattle.lin_ir.specs.declared.lin.Flow.{Flow}
+use Rattle.lin_ir.specs.declared.lin.Flow.TheVariants as flow
+use Rattle.lin_ir.specs.declared.lin.Lin.{Lin}
+use Rattle.lin_ir.specs.declared.lin.Line.{Line}
+use Rattle.lin_ir.specs.declared.lin.LinOp.{LinOp}
+use Rattle.lin_ir.specs.declared.lin.LinOp.TheVariants as lin
+use Rattle.lin_ir.specs.declared.lin.Spot.{Spot}
+use Rattle.mach_ir.specs.Acts.{Around, At, On}
+use Rattle.mach_ir.specs.Forms.{IsTested, HasForm, copies, constant, symbol, operates, loads, stores, IsRight, a_register, a_constant, is_immediate, is_immediate_12, is_opposite_immediate_12}
+use Rattle.mach_ir.specs.Runs.{Place}
+use Rattle.mach_ir.specs.Walks.{OneOf, this, other}
+use Rattle.mach_ir.specs.declared.op.Access.TheVariants as access
+use Rattle.mach_ir.specs.declared.op.Op.{Op}
+use Rattle.mach_ir.specs.declared.op.Op.TheVariants as op
+use Rattle.mach_ir.specs.declared.op.Pure.{Pure}
+use Rattle.mach_ir.specs.declared.op.Pure.TheVariants as pure
+use Rattle.bs_words.specs.declared.operators.IntOp.{IntOp}
+use Rattle.bs_words.specs.declared.operators.IntOp.TheVariants as operator
+use Rattle.mach_ir.specs.declared.op.Right.TheVariants as right
+use Rattle.linear_machine.specs.Follows.{FollowsStep, IsAt}
+use Rattle.linear_machine.specs.Relation.{Below, Laid}
+use Rattle.linear_machine.specs.View.{Fixed, View}
+use Rattle.linear_machine.proofs.Pure.{Reads}
+use Rattle.linear_machine.proofs.Rows.{immediate_small}
+use Rattle.line_stands.specs.Lines.{LineStands}
+use Rattle.line_stands.specs.Parts.{PartStands}
+use Rattle.line_values.specs.Followed.{Followed, IsPlain, plain_pure, plain_load, plain_store, plain_label, plain_jump, plain_exit, plain_branch, plain_switch}
+use Rattle.line_values.specs.Statics.{StaticsLie}
+use Rattle.line_values.proofs.Landing.{Lies, exit_line, jump_line, label_line}
+use Rattle.line_values.proofs.Loading.{load_line}
+use Rattle.line_values.proofs.Moves.{constant_line, copy_line, symbol_line}
+use Rattle.line_values.proofs.Operations.{operator_line, operator_with_line}
+use Rattle.line_values.proofs.Switching.{switch_line}
+use Rattle.line_values.proofs.Testing.{branch_line}
+use Rattle.line_values.proofs.Writing.{store_line}
+
+-- ---- forms
+
+with_none : (xs : List Spot) → comps xs ≡ [] → (P : List Spot → Type 0) → P [] → P xs
+with_none [] e P p = p
+with_none (x ∷ xs) e P p = absurd (cc)
+
+with_one : (xs : List Spot) (t : Comp) → comps xs ≡ t ∷ [] → (P : List Spot → Type 0) → ((x : Spot) → P (x ∷ [])) → P xs
+with_one [] t e P p = absurd (cc)
+with_one (x ∷ []) t e P p = p x
+with_one (x ∷ y ∷ xs) t e P p = absurd (cc)
+
+with_two : (xs : List Spot) (t u : Comp) → comps xs ≡ t ∷ u ∷ [] → (P : List Spot → Type 0) → ((x y : Spot) → P (x ∷ y ∷ [])) → P xs
+with_two [] t u e P p = absurd (cc)
+with_two (x ∷ []) t u e P p = absurd (cc)
+with_two (x ∷ y ∷ []) t u e P p = p x y
+with_two (x ∷ y ∷ z ∷ xs) t u e P p = absurd (cc)
+
+constant_inv : (w : ℕ) (xs ys : List Comp) → HasForm (op.Pure (pure.Constant w)) xs ys → (xs ≡ []) × ((u : Comp) × (ys ≡ u ∷ [])) × (w < 2 ^ 64)
+constant_inv w xs ys (constant {to = u} l) = (refl, (u, refl), l)
+
+symbol_inv : (name : List ℕ) (xs ys : List Comp) → HasForm (op.Pure (pure.Symbol name)) xs ys → (xs ≡ []) × ((u : Comp) × (ys ≡ u ∷ []))
+symbol_inv name xs ys (symbol {to = u}) = (refl, (u, refl))
+
+copy_inv : (kind : _) (xs ys : List Comp) → HasForm (op.Pure (pure.Copy kind)) xs ys → (t : Comp) × (u : Comp) × (xs ≡ t ∷ []) × (ys ≡ u ∷ [])
+copy_inv kind xs ys (copies {from = t} {to = u}) = (t, u, refl, refl)
+
+load_inv : (k : _) (offset : ℕ) (xs ys : List Comp) → HasForm (op.Access (access.Load k offset)) xs ys → (t : Comp) × (u : Comp) × (xs ≡ t ∷ []) × (ys ≡ u ∷ [])
+load_inv k offset xs ys (loads {address = t} {to = u}) = (t, u, refl, refl)
+
+store_inv : (k : _) (offset : ℕ) (xs ys : List Comp) → HasForm (op.Access (access.Store k offset)) xs ys →
+    (t : Comp) × (u : Comp) × (xs ≡ t ∷ u ∷ []) × (ys ≡ [])
+store_inv k offset xs ys (stores {address = t} {value = u}) = (t, u, refl, refl)
+
+register_inv : (f : _) (xs ys : List Comp) → HasForm (op.Pure (pure.Operator f right.Register)) xs ys →
+    (t : Comp) × (u : Comp) × (o : Comp) × (xs ≡ t ∷ u ∷ []) × (ys ≡ o ∷ [])
+register_inv f xs ys (operates {left = t} {to = o} (a_register {t = u})) = (t, u, o, refl, refl)
+
+with_inv : (f : _) (w : ℕ) (xs ys : List Comp) → HasForm (op.Pure (pure.Operator f (right.Constant w))) xs ys →
+    (t : Comp) × (o : Comp) × (xs ≡ t ∷ []) × (ys ≡ o ∷ []) × (is_immediate f w ≡ true)
+with_inv f w xs ys (operates {left = t} {to = o} (a_constant e)) = (t, o, refl, refl, e)
+
+label_inv : (l : ℕ) (xs ys : List Comp) → FlowHasForm (flow.Label l) xs ys → (xs ≡ []) × (ys ≡ [])
+label_inv l xs ys label_form = (refl, refl)
+
+jump_inv : (l : ℕ) (xs ys : List Comp) → FlowHasForm (flow.Jump l) xs ys → (xs ≡ []) × (ys ≡ [])
+jump_inv l xs ys jump_form = (refl, refl)
+
+exit_inv : (l : ℕ) (xs ys : List Comp) → FlowHasForm (flow.Exit l) xs ys → (xs ≡ []) × (ys ≡ [])
+exit_inv l xs ys exit_form = (refl, refl)
+
+branch_inv : (t : _) (l : ℕ) (xs ys : List Comp) → FlowHasForm (flow.Branch t l) xs ys → IsTested t xs × (ys ≡ [])
+branch_inv t l xs ys (branch_form h) = (h, refl)
+
+switch_inv : (labels : List ℕ) (xs ys : List Comp) → FlowHasForm (flow.Switch labels) xs ys → ((t : Comp) × (xs ≡ t ∷ [])) × (ys ≡ [])
+switch_inv labels xs ys (switch_form {index = t}) = ((t, refl), refl)
+
+form_of : (f : Op) (args results : List Spot) → IsFormed (record { op = lin.Op f; args = args; results = results }) → HasForm f (comps args) (comps results)
+form_of f args results (formed_op h) = h
+
+flow_form_of : (f : Flow) (args results : List Spot) → IsFormed (record { op = lin.Flow f; args = args; results = results }) →
+    FlowHasForm f (comps args) (comps results)
+flow_form_of f args results (formed_flow h) = h
+
+-- a constant for which the machine has an immediate is a word
+immediate_word : (f : IntOp) (w : ℕ) → is_immediate f w ≡ true → w < 2 ^ 64
+immediate_word operator.Add w h = immediate_small w h
+immediate_word operator.AddV w h = immediate_small w h
+immediate_word operator.AddA w h = immediate_small w h
+immediate_word operator.Sub w h =
+    ⊎_elim (λ l. let g = leb-true w 2048 l in omega (arith, g))
+    (λ l. ltb-true w 0x10000000000000000 (and_parts (nat_lt 0xFFFFFFFFFFFFF800 w) (nat_lt w 0x10000000000000000) l).1)
+    (or_cases (nat_le w 2048) (nat_lt 0xFFFFFFFFFFFFF800 w && nat_lt w 0x10000000000000000) h)
+immediate_word operator.And w h = immediate_small w h
+immediate_word operator.Or w h = immediate_small w h
+immediate_word operator.Xor w h = immediate_small w h
+immediate_word operator.Shl w h = let g = ltb-true w 64 h in omega (arith, g)
+immediate_word operator.Shr w h = let g = ltb-true w 64 h in omega (arith, g)
+immediate_word operator.Sar w h = let g = ltb-true w 64 h in omega (arith, g)
+immediate_word (operator.Cmp f) w h = immediate_small w h
+immediate_word (operator.CmpU f) w h = immediate_small w h
+immediate_word operator.Mul w h = absurd (cc)
+immediate_word operator.Mulh w h = absurd (cc)
+immediate_word operator.Div w h = absurd (cc)
+immediate_word operator.Mod w h = absurd (cc)
+
+-- ---- places
+
+first_in : {X : Type 0} (x : X) (xs : List X) → Contains (x ∷ xs) x
+first_in x xs = (0, omega arith, refl)
+
+second_in : {X : Type 0} (x y : X) (xs : List X) → Contains (x ∷ y ∷ xs) y
+second_in x y xs = (1, omega arith, refl)
+
+no_member : {X : Type 0} (x : X) → Contains [] x → ⊥
+no_member x (k, l, e) = omega (arith, l)
+
+one_member : (r : Spot) (t : Comp) → Contains (r ∷ []) (record { loc = spare; comp = t }) → r.loc ≡ spare
+one_member r t (zero, l, e) = ap (λ (x : Spot). x.loc) e
+one_member r t (suc k, l, e) = absurd (omega (arith, l))
+
+case_of : (labels : List ℕ) (j l : ℕ) → slice_get labels j ≡ Some l → OneOf (At l) (map At labels)
+case_of [] j l e = absurd (cc)
+case_of (x ∷ labels) zero l e = let same : x ≡ l = cc in subst (λ z. OneOf (At l) (At z ∷ map At labels)) (sym same) this
+case_of (x ∷ labels) (suc j) l e = other (case_of labels j l e)
+
+module _ (s : Fixed) (laid : Laid) (n : Named) (m : Lin) (place : Place) (named : NamedAt) (live : List Line → Type 0) (entry : ℕ → ℕ) (c : Below) (f : Frame)
+    (d : Option Descr) (next : List Line) where
+  abbrev Goal : LinOp → List Spot → List Spot → Type 0
+  Goal o args results = Followed s laid n m place named live entry c f d (record { op = o; args = args; results = results }) next
+
+  module _ (o : LinOp) (args results : List Spot) (a : Around)
+      (st : LineStands s laid n m place.setting live a.tries f d (record { op = o; args = args; results = results }) next) where
+    abbrev line : Line
+    line = record { op = o; args = args; results = results }
+
+    abbrev words : ℕ
+    words = total_words (part_of (length a.tries) f d (record { op = o; args = args; results = results })) st.part.forms
+
+    part_at : (v : View) → v.place ≡ laid.part (suc (length next)) →
+        PartStands s n v.place (v.place + total_words (part_of (length a.tries) f d (record { op = o; args = args; results = results })) st.part.forms)
+        (part_of (length a.tries) f d (record { op = o; args = args; results = results }))
+    part_at v e =
+        let p = st.part.past in
+        let to : laid.part (length next) ≡ v.place + total_words (part_of (length a.tries) f d (record { op = o; args = args; results = results }))
+        st.part.forms = omega (arith, p, e) in
+        subst (λ z. PartStands s n v.place z (part_of (length a.tries) f d (record { op = o; args = args; results = results }))) to
+        (subst (λ z. PartStands s n z (laid.part (length next)) (part_of (length a.tries) f d (record { op = o; args = args; results = results }))) (sym e) st.part)
+
+    behind : (v : View) → v.place ≡ laid.part (suc (length next)) →
+        laid.part (length next) ≡ v.place + total_words (part_of (length a.tries) f d (record { op = o; args = args; results = results })) st.part.forms
+    behind v e = let p = st.part.past in omega (arith, p, e)
+
+    locates : AllByRecursion (λ (p : Spot). IsLocation m p.loc) args
+    locates = recursion_from_All (λ (p : Spot). IsLocation m p.loc) args st.args
+
+    result_locates : AllByRecursion (λ (p : Spot). IsLocation m p.loc) results
+    result_locates = recursion_from_All (λ (p : Spot). IsLocation m p.loc) results st.results
+
+    reads : (p : Spot) → Contains args p → Reads (live (record { op = o; args = args; results = results } ∷ next)) p.loc
+    reads p i e = st.spare.reads p.comp (subst (Contains args) (ap (λ l. record { loc = l; comp = p.comp }) e) i)
+
+    lies : (l : ℕ) → OneOf (At l) (targets o) → Lies s laid n m l
+    lies l i = let k = st.named l (goes_to i) in record { address = st.names.label l k; inside = st.names.within l k }
+
+    -- with no result
+    passes_to : (to : _) → OneOf to (targets o) → results ≡ [] → live (code_at m.code next to) → live (record { op = o; args = args; results = results } ∷ next)
+    passes_to to i none l =
+        ⊎_elim (λ w. absurd (no_member (record { loc = spare; comp = w.0 }) (subst (λ rs. Contains rs (record { loc = spare; comp = w.0 })) none w.1)))
+        (λ q. q.1) (st.spare.on to i l)
+
+    -- with one
+    passes_one : (r : Spot) → OneOf On (targets o) → results ≡ r ∷ [] → live next → (r.loc ≡ spare) ⊎ live (record { op = o; args = args; results = results } ∷ next)
+    passes_one r i one l =
+        ⊎_elim (λ w. inl (one_member r w.0 (subst (λ rs. Contains rs (record { loc = spare; comp = w.0 })) one w.1)))
+        (λ q. inr q.1) (st.spare.on On i l)
+
+  -- ---- each kind
+
+  constant_case : (w : ℕ) → w < 2 ^ 64 → (r : Spot) → Goal (lin.Op (op.Pure (pure.Constant w))) [] (r ∷ [])
+  constant_case w small r file a v st none lie (young, held, agrees, during) =
+      let o = lin.Op (op.Pure (pure.Constant w)) in
+      constant_line s n laid m st.slots live entry c place named next v young held file a none during.within
+      (live (record { op = o; args = []; results = r ∷ [] } ∷ next)) agrees (words o [] (r ∷ []) a st) (behind o [] (r ∷ []) a st v during.place) r
+      (result_locates o [] (r ∷ []) a st).0 (passes_one o [] (r ∷ []) a st r this refl) w small (part_at o [] (r ∷ []) a st v during.place)
+
+  symbol_case : (name : List ℕ) (r : Spot) → Goal (lin.Op (op.Pure (pure.Symbol name))) [] (r ∷ [])
+  symbol_case name r file a v st none lie (young, held, agrees, during) =
+      let o = lin.Op (op.Pure (pure.Symbol name)) in
+      symbol_line s n laid m st.slots live entry c place named next v young held file a none during.within
+      (live (record { op = o; args = []; results = r ∷ [] } ∷ next)) agrees (words o [] (r ∷ []) a st) (behind o [] (r ∷ []) a st v during.place) r
+      (result_locates o [] (r ∷ []) a st).0 (passes_one o [] (r ∷ []) a st r this refl) name (st.names.symbol name) (part_at o [] (r ∷ []) a st v during.place)
+
+  copy_case : (kind : _) (p r : Spot) → Goal (lin.Op (op.Pure (pure.Copy kind))) (p ∷ []) (r ∷ [])
+  copy_case kind p r file a v st none lie (young, held, agrees, during) =
+      let o = lin.Op (op.Pure (pure.Copy kind)) in
+      copy_line s n laid m st.slots live entry c place named next v young held file a none during.within
+      (live (record { op = o; args = p ∷ []; results = r ∷ [] } ∷ next)) agrees (words o (p ∷ []) (r ∷ []) a st)
+      (behind o (p ∷ []) (r ∷ []) a st v during.place) r (result_locates o (p ∷ []) (r ∷ []) a st).0 (passes_one o (p ∷ []) (r ∷ []) a st r this refl) kind p
+      (locates o (p ∷ []) (r ∷ []) a st).0 (reads o (p ∷ []) (r ∷ []) a st p (first_in p [])) (part_at o (p ∷ []) (r ∷ []) a st v during.place)
+
+  register_case : (g : _) (p q r : Spot) → Goal (lin.Op (op.Pure (pure.Operator g right.Register))) (p ∷ q ∷ []) (r ∷ [])
+  register_case g p q r file a v st none lie (young, held, agrees, during) =
+      let o = lin.Op (op.Pure (pure.Operator g right.Register)) in
+      operator_line s n laid m st.slots live entry c place named next v young held file a none during.within
+      (live (record { op = o; args = p ∷ q ∷ []; results = r ∷ [] } ∷ next)) agrees (words o (p ∷ q ∷ []) (r ∷ []) a st)
+      (behind o (p ∷ q ∷ []) (r ∷ []) a st v during.place) r (result_locates o (p ∷ q ∷ []) (r ∷ []) a st).0
+      (passes_one o (p ∷ q ∷ []) (r ∷ []) a st r this refl) g p q (locates o (p ∷ q ∷ []) (r ∷ []) a st).0 (locates o (p ∷ q ∷ []) (r ∷ []) a st).1.0
+      (reads o (p ∷ q ∷ []) (r ∷ []) a st p (first_in p (q ∷ []))) (reads o (p ∷ q ∷ []) (r ∷ []) a st q (second_in p q []))
+      (part_at o (p ∷ q ∷ []) (r ∷ []) a st v during.place)
+
+  with_case : (g : _) (w : ℕ) → is_immediate g w ≡ true → w < 2 ^ 64 → (p r : Spot) →
+      Goal (lin.Op (op.Pure (pure.Operator g (right.Constant w)))) (p ∷ []) (r ∷ [])
+  with_case g w has small p r file a v st none lie (young, held, agrees, during) =
+      let o = lin.Op (op.Pure (pure.Operator g (right.Constant w))) in
+      operator_with_line s n laid m st.slots live entry c place named next v young held file a none during.within
+      (live (record { op = o; args = p ∷ []; results = r ∷ [] } ∷ next)) agrees (words o (p ∷ []) (r ∷ []) a st)
+      (behind o (p ∷ []) (r ∷ []) a st v during.place) r (result_locates o (p ∷ []) (r ∷ []) a st).0 (passes_one o (p ∷ []) (r ∷ []) a st r this refl) g w has
+      small p (locates o (p ∷ []) (r ∷ []) a st).0 (reads o (p ∷ []) (r ∷ []) a st p (first_in p [])) (part_at o (p ∷ []) (r ∷ []) a st v during.place)
+
+  load_case : (k : _) (offset : ℕ) (p r : Spot) → Goal (lin.Op (op.Access (access.Load k offset))) (p ∷ []) (r ∷ [])
+  load_case k offset p r file a v st none lie (young, held, agrees, during) =
+      let o = lin.Op (op.Access (access.Load k offset)) in
+      load_line s n laid m st.slots live entry c place named next v young held file a none during.within
+      (live (record { op = o; args = p ∷ []; results = r ∷ [] } ∷ next)) agrees (words o (p ∷ []) (r ∷ []) a st)
+      (behind o (p ∷ []) (r ∷ []) a st v during.place) lie.whole r (result_locates o (p ∷ []) (r ∷ []) a st).0
+      (passes_one o (p ∷ []) (r ∷ []) a st r this refl) k offset st.offset p (locates o (p ∷ []) (r ∷ []) a st).0
+      (reads o (p ∷ []) (r ∷ []) a st p (first_in p [])) (part_at o (p ∷ []) (r ∷ []) a st v during.place)
+
+  store_case : (k : _) (offset : ℕ) (p q : Spot) → Goal (lin.Op (op.Access (access.Store k offset))) (p ∷ q ∷ []) []
+  store_case k offset p q file a v st none lie (young, held, agrees, during) =
+      let o = lin.Op (op.Access (access.Store k offset)) in
+      store_line s n laid m st.slots live entry c place named next v young held file a none during.within
+      (live (record { op = o; args = p ∷ q ∷ []; results = [] } ∷ next)) agrees (words o (p ∷ q ∷ []) [] a st)
+      (behind o (p ∷ q ∷ []) [] a st v during.place) lie (passes_to o (p ∷ q ∷ []) [] a st On this refl) k offset st.offset p q
+      (locates o (p ∷ q ∷ []) [] a st).0 (locates o (p ∷ q ∷ []) [] a st).1.0 (reads o (p ∷ q ∷ []) [] a st p (first_in p (q ∷ [])))
+      (reads o (p ∷ q ∷ []) [] a st q (second_in p q [])) (part_at o (p ∷ q ∷ []) [] a st v during.place)
+
+  label_case : (l : ℕ) → Goal (lin.Flow (flow.Label l)) [] []
+  label_case l file a v st none lie (young, held, agrees, during) =
+      let o = lin.Flow (flow.Label l) in
+      label_line s n laid m live entry c place named next v young held file a during.within (live (record { op = o; args = []; results = [] } ∷ next)) agrees
+      (words o [] [] a st) l (behind o [] [] a st v during.place) (part_at o [] [] a st v during.place) (passes_to o [] [] a st On this refl)
+
+  jump_case : (l : ℕ) → Goal (lin.Flow (flow.Jump l)) [] []
+  jump_case l file a v st none lie (young, held, agrees, during) =
+      let o = lin.Flow (flow.Jump l) in
+      jump_line s n laid m live entry c place named next v young held file a during.within (live (record { op = o; args = []; results = [] } ∷ next)) agrees
+      (words o [] [] a st) l (lies o [] [] a st l this) (part_at o [] [] a st v during.place) (passes_to o [] [] a st (At l) this refl)
+
+  exit_case : (l : ℕ) → Goal (lin.Flow (flow.Exit l)) [] []
+  exit_case l file a v st none lie (young, held, agrees, during) =
+      let o = lin.Flow (flow.Exit l) in
+      exit_line s n laid m live entry c place named next v young held file a during.within (live (record { op = o; args = []; results = [] } ∷ next)) agrees
+      (words o [] [] a st) l (lies o [] [] a st l this) (part_at o [] [] a st v during.place) (passes_to o [] [] a st (At l) this refl)
+
+  -- operands that are read where they stand
+  all_read : (before : Type 0) (xs : List Spot) → AllByRecursion (λ (p : Spot). IsLocation m p.loc) xs → ((p : Spot) → Contains xs p → Reads before p.loc) →
+      AllByRecursion (λ (p : Spot). IsLocation m p.loc × Reads before p.loc) xs
+  all_read before [] all h = tt
+  all_read before (x ∷ xs) all h =
+      ((all.0, h x (first_in x xs)), all_read before xs all.1 (λ p i. h p (later x xs p i)))
+    where
+      later : (x : Spot) (xs : List Spot) (p : Spot) → Contains xs p → Contains (x ∷ xs) p
+      later x xs p (k, l, e) = (suc k, omega (arith, l), e)
+
+  branch_case : (t : _) (l : ℕ) (args : List Spot) → IsTested t (comps args) → Goal (lin.Flow (flow.Branch t l)) args []
+  branch_case t l args tested file a v st none lie (young, held, agrees, during) =
+      let o = lin.Flow (flow.Branch t l) in
+      branch_line s n laid m st.slots live entry c place named next v young held file a none during.within
+      (live (record { op = o; args = args; results = [] } ∷ next)) agrees (words o args [] a st) (behind o args [] a st v during.place) l
+      (lies o args [] a st l (other this)) (passes_to o args [] a st On this refl, passes_to o args [] a st (At l) (other this) refl) t args tested
+      (all_read (live (record { op = o; args = args; results = [] } ∷ next)) args (locates o args [] a st) (reads o args [] a st))
+      (part_at o args [] a st v during.place)
+
+  switch_case : (labels : List ℕ) (p : Spot) → Goal (lin.Flow (flow.Switch labels)) (p ∷ []) []
+  switch_case labels p file a v st none lie (young, held, agrees, during) =
+      let o = lin.Flow (flow.Switch labels) in
+      switch_line s n laid m st.slots live entry c place named next v young held file a none during.within
+      (live (record { op = o; args = p ∷ []; results = [] } ∷ next)) agrees (words o (p ∷ []) [] a st) labels
+      (λ j l e. lies o (p ∷ []) [] a st l (case_of labels j l e)) (λ j l e. passes_to o (p ∷ []) [] a st (At l) (case_of labels j l e) refl) p
+      (locates o (p ∷ []) [] a st).0 (reads o (p ∷ []) [] a st p (first_in p [])) (part_at o (p ∷ []) [] a st v during.place)
+
+  -- ---- by the line's form
+
+  by_pure : (g : Pure) (args results : List Spot) → HasForm (op.Pure g) (comps args) (comps results) → Goal (lin.Op (op.Pure g)) args results
+  by_pure (pure.Constant w) args results h =
+      let i = constant_inv w (comps args) (comps results) h in
+      with_none args i.0 (λ xs. Goal (lin.Op (op.Pure (pure.Constant w))) xs results)
+      (with_one results i.1.0 i.1.1 (λ ys. Goal (lin.Op (op.Pure (pure.Constant w))) [] ys) (λ r. constant_case w i.2 r))
+  by_pure (pure.Symbol name) args results h =
+      let i = symbol_inv name (comps args) (comps results) h in
+      with_none args i.0 (λ xs. Goal (lin.Op (op.Pure (pure.Symbol name))) xs results)
+      (with_one results i.1.0 i.1.1 (λ ys. Goal (lin.Op (op.Pure (pure.Symbol name))) [] ys) (λ r. symbol_case name r))
+  by_pure (pure.Copy kind) args results h =
+      let i = copy_inv kind (comps args) (comps results) h in
+      with_one args i.0 i.2 (λ xs. Goal (lin.Op (op.Pure (pure.Copy kind))) xs results)
+      (λ p. with_one results i.1 i.3 (λ ys. Goal (lin.Op (op.Pure (pure.Copy kind))) (p ∷ []) ys) (λ r. copy_case kind p r))
+  by_pure (pure.Operator g right.Register) args results h =
+      let i = register_inv g (comps args) (comps results) h in
+      with_two args i.0 i.1 i.3 (λ xs. Goal (lin.Op (op.Pure (pure.Operator g right.Register))) xs results)
+      (λ p q. with_one results i.2 i.4 (λ ys. Goal (lin.Op (op.Pure (pure.Operator g right.Register))) (p ∷ q ∷ []) ys) (λ r. register_case g p q r))
+  by_pure (pure.Operator g (right.Constant w)) args results h =
+      let i = with_inv g w (comps args) (comps results) h in
+      with_one args i.0 i.2 (λ xs. Goal (lin.Op (op.Pure (pure.Operator g (right.Constant w)))) xs results)
+      (λ p. with_one results i.1 i.3 (λ ys. Goal (lin.Op (op.Pure (pure.Operator g (right.Constant w)))) (p ∷ []) ys)
+      (λ r. with_case g w i.4 (immediate_word g w i.4) p r))
+
+  by_op : (o : LinOp) (args results : List Spot) → IsPlain o → IsFormed (record { op = o; args = args; results = results }) → Goal o args results
+  by_op o args results (plain_pure {g}) h = by_pure g args results (form_of (op.Pure g) args results h)
+  by_op o args results (plain_load {k} {offset}) h =
+      let i = load_inv k offset (comps args) (comps results) (form_of (op.Access (access.Load k offset)) args results h) in
+      with_one args i.0 i.2 (λ xs. Goal (lin.Op (op.Access (access.Load k offset))) xs results)
+      (λ p. with_one results i.1 i.3 (λ ys. Goal (lin.Op (op.Access (access.Load k offset))) (p ∷ []) ys) (λ r. load_case k offset p r))
+  by_op o args results (plain_store {k} {offset}) h =
+      let i = store_inv k offset (comps args) (comps results) (form_of (op.Access (access.Store k offset)) args results h) in
+      with_two args i.0 i.1 i.2 (λ xs. Goal (lin.Op (op.Access (access.Store k offset))) xs results)
+      (λ p q. with_none results i.3 (λ ys. Goal (lin.Op (op.Access (access.Store k offset))) (p ∷ q ∷ []) ys) (store_case k offset p q))
+  by_op o args results (plain_label {l}) h =
+      let i = label_inv l (comps args) (comps results) (flow_form_of (flow.Label l) args results h) in
+      with_none args i.0 (λ xs. Goal (lin.Flow (flow.Label l)) xs results)
+      (with_none results i.1 (λ ys. Goal (lin.Flow (flow.Label l)) [] ys) (label_case l))
+  by_op o args results (plain_jump {l}) h =
+      let i = jump_inv l (comps args) (comps results) (flow_form_of (flow.Jump l) args results h) in
+      with_none args i.0 (λ xs. Goal (lin.Flow (flow.Jump l)) xs results)
+      (with_none results i.1 (λ ys. Goal (lin.Flow (flow.Jump l)) [] ys) (jump_case l))
+  by_op o args results (plain_exit {l}) h =
+      let i = exit_inv l (comps args) (comps results) (flow_form_of (flow.Exit l) args results h) in
+      with_none args i.0 (λ xs. Goal (lin.Flow (flow.Exit l)) xs results)
+      (with_none results i.1 (λ ys. Goal (lin.Flow (flow.Exit l)) [] ys) (exit_case l))
+  by_op o args results (plain_branch {t} {l}) h =
+      let i = branch_inv t l (comps args) (comps results) (flow_form_of (flow.Branch t l) args results h) in
+      with_none results i.1 (λ ys. Goal (lin.Flow (flow.Branch t l)) args ys) (branch_case t l args i.0)
+  by_op o args results (plain_switch {labels}) h =
+      let i = switch_inv labels (comps args) (comps results) (flow_form_of (flow.Switch labels) args results h) in
+      with_one args i.0.0 i.0.1 (λ xs. Goal (lin.Flow (flow.Switch labels)) xs results)
+      (λ p. with_none results i.1 (λ ys. Goal (lin.Flow (flow.Switch labels)) (p ∷ []) ys) (switch_case labels p))
+
+  -- Whatever plain line it is.
+  pub plain_followed : (i : Line) → IsPlain i.op → Followed s laid n m place named live entry c f d i next
+  plain_followed i plain file a v st none lie at = by_op i.op i.args i.results plain st.formed file a v st none lie at

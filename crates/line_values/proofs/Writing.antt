@@ -1,0 +1,254 @@
+-- Stores of every chunk follow their lines.
+use Rattle.std.proofs.Common.{◌≡◌, ◌≢◌, ℕ, zero, suc, ◌+◌, ◌-◌, ◌*◌, ◌/◌, ◌%◌, ◌^◌, ◌<◌, ◌≤◌, ◌⊎◌, inl, inr, Bool, true, false, cond, ◌==◌, List, [], ◌∷◌, ◌++◌, length, Option, Some, None, Result, Ok, Err, slice_index, refl, ap, ap₂, arith, ◌∙◌, sym, subst, ⊎_elim, append_assoc}
+use Rattle.std.specs.List.{AllByRecursion}
+use Rattle.bs_words.specs.Fits.{data_start, fits, misfit}
+use Rattle.bs_words.specs.Memory.{Cell, cell_at, end_of_data, extended, loaded_as, loaded_from, of_type, offset_in_cell, part, value_in, width}
+use Rattle.bs_words.specs.Memory as memory
+use Rattle.bs_words.specs.Word.{add_word}
+use Rattle.bs_words.proofs.Below.{add_word-below}
+use Rattle.bs_words.specs.declared.types.Chunk.{Chunk}
+use Rattle.bs_words.specs.declared.types.Chunk.TheVariants as chunk
+use Rattle.bs_words.specs.declared.types.Ty.{Ty}
+use Rattle.bs_words.specs.declared.types.Ty.TheVariants as ty
+use Rattle.bs_words.specs.declared.values.Kind.{Kind}
+use Rattle.bs_words.specs.declared.values.Value.{Value}
+use Rattle.bs_words.specs.declared.values.Value.TheVariants.{Word, Block, Function}
+use Rattle.emit_rules.specs.Constants.{constant}
+use Rattle.emit_rules.specs.Instructions.{add, load}
+use Rattle.emit_rules.specs.Memory.{address_offset, address_register, address_words, load_from, load_part, load_width, store_width}
+use Rattle.emit_rules.specs.Slots.{fetched, kept, register_of, target}
+use Rattle.layout_rules.specs.Words.{Named}
+use Rattle.lin_ir.specs.Formed.{IsLocation}
+use Rattle.lin_ir.specs.Meaning.{Locations, NamedAt, on_act, on_values, put, step}
+use Rattle.lin_ir.specs.declared.lin.Lin.{Lin}
+use Rattle.lin_ir.specs.declared.lin.Line.{Line}
+use Rattle.lin_ir.specs.declared.lin.LinOp.TheVariants as lin
+use Rattle.lin_ir.specs.declared.lin.Spot.{Spot}
+use Rattle.mach_ir.specs.Acts.{Act, Around, Goes, On, Stuck, is_among, loaded_act, moved_by, one_result}
+use Rattle.mach_ir.specs.Forms.{is_immediate_12}
+use Rattle.mach_ir.specs.Runs.{Place}
+use Rattle.mach_ir.specs.declared.op.Access.TheVariants as access
+use Rattle.mach_ir.specs.declared.op.Op.TheVariants as op
+use Rattle.moving_laws.specs.Stands.{Among}
+use Rattle.moving_laws.specs.Values.{value_word}
+use Rattle.moving_laws.specs.Words.{IsReadable}
+use Rattle.rv_isa.specs.Registers.{number}
+use Rattle.rv_isa.specs.declared.instr.AluOp.TheVariants.{Add}
+use Rattle.rv_isa.specs.declared.instr.Instr.TheVariants.{Load, Op}
+use Rattle.rv_isa.specs.declared.instr.LoadWidth.{LoadWidth}
+use Rattle.rv_isa.specs.declared.register.Register.{Register}
+use Rattle.rv_isa.specs.declared.register.Register.TheVariants.{T1, T2}
+use Rattle.rv_machine.specs.Arithmetic.{imm_i}
+use Rattle.rv_machine.specs.Hart.{Placed, bytes_loaded, register_loaded}
+use Rattle.rv_machine.specs.Memory.{Region, word}
+use Rattle.rv_machine.specs.Width.{IsWidth}
+use Rattle.machine_laws.proofs.Memory.{word_below}
+use Rattle.machine_laws.proofs.Values.{loaded_word}
+use Rattle.rv_pieces.specs.declared.piece.Piece.{Piece}
+use Rattle.linear_machine.specs.Follows.{Agrees, FollowsStep}
+use Rattle.linear_machine.specs.Relation.{Below, Laid, StandsFor, Within, all_of}
+use Rattle.linear_machine.specs.Relation as relation
+use Rattle.linear_machine.specs.Straight.{Changes, Comes}
+use Rattle.linear_machine.specs.View.{Fixed, View, IsCode}
+use Rattle.linear_machine.proofs.Following.{PassesSpare, result_follows}
+use Rattle.linear_machine.proofs.Formats.{sets_op}
+use Rattle.linear_machine.proofs.Immediates.{low_12, up}
+use Rattle.linear_machine.proofs.Loading.{IsCellAt, moved_word}
+use Rattle.linear_machine.proofs.Parts.{changes_come, comes_here, comes_then}
+use Rattle.linear_machine.proofs.Pure.{Reads, reads_held}
+use Rattle.linear_machine.proofs.Reading.{reads_one}
+use Rattle.linear_machine.proofs.Rows.{immediate_is}
+use Rattle.linear_machine.proofs.Sequences.{no_change, set_changes, set_then, sets_as, then_changes, widened}
+use Rattle.linear_machine.proofs.Standing.{within_past}
+use Rattle.linear_machine.proofs.Steps.{reg}
+use Rattle.line_stands.specs.Parts.{PartStands}
+use Rattle.line_stands.proofs.Parts.{counts, last, none_left}
+use Rattle.line_values.specs.Statics.{IsWholeList}
+use Rattle.line_values.proofs.Bytes.{sets_load_part}
+use Rattle.line_values.proofs.Cells.{Lies, head_cell, own_cell, static_cell, Reached, reached}
+use Rattle.line_values.proofs.Chains.{constant_comes}
+use Rattle.line_values.proofs.Moves.{alone}
+use Rattle.line_values.proofs.Operands.{fetches, targeted}
+use Rattle.line_values.proofs.Operations.{no_second}
+use Rattle.line_values.proofs.Testing.{first_comes}
+use Rattle.std.proofs.Math.Nat.{mod-lt}
+use Rattle.std.proofs.lemmas.Nat.{pow_pos}
+use Rattle.linear_machine.proofs.Operating.{unary}
+use Rattle.linear_machine.proofs.Standing.{IsScratch}
+use Rattle.line_values.proofs.Addresses.{addresses, no_function}
+use Rattle.std.proofs.Common.{slice_get, slice_set, slice_index_or, nat_eq, ◌&&◌, nat_lt, nat_le}
+use Rattle.std.proofs.lemmas.Bool.{and_parts, eqb-true, leb-true, le-leb, ltb-true, lt-ltb}
+use Rattle.std.proofs.lemmas.Option.{get_or_from_slice_get, slice_get_within}
+use Rattle.rv_machine.proofs.Bytes.{replaced-below}
+use Rattle.bs_words.specs.Memory.{HeapBlock, InBlock, InHeader, InStatic, Memory, cell_of_block, in_block, in_statics, put_in, put_part, put_whole, replaced, sizes, stored_as, stored_in, type_in, type_of_cells, type_of_chunk, with_value}
+use Rattle.lin_ir.specs.Meaning.{wrote}
+use Rattle.mach_ir.specs.Acts.{after_store, first_written, header_written, only_if, stored_act, without}
+use Rattle.moving_laws.specs.Values.{FitsCell, IsKnown, start_of, words_of}
+use Rattle.moving_laws.proofs.Rewriting.{start_inside}
+use Rattle.rv_isa.specs.declared.instr.Instr.TheVariants.{Store}
+use Rattle.rv_isa.specs.declared.instr.StoreWidth.{StoreWidth}
+use Rattle.rv_machine.specs.Hart.{bytes_stored}
+use Rattle.rv_machine.specs.Memory.{write}
+use Rattle.rv_machine.specs.Moving.{is_scanned}
+use Rattle.rv_machine.specs.Sound.{HasRegions, extents}
+use Rattle.linear_machine.specs.Contents.{size_in}
+use Rattle.linear_machine.specs.Relation.{HeapStands}
+use Rattle.linear_machine.proofs.Loading.{block_there}
+use Rattle.linear_machine.proofs.Storing.{heap_stored, without_is}
+use Rattle.linear_machine.proofs.Writing.{heap_headed, within_written}
+use Rattle.line_values.specs.Statics.{StaticsLie}
+use Rattle.line_values.proofs.Bytes.{bool_same, store_part_step}
+use Rattle.line_values.proofs.Loading.{chunk_width}
+use Rattle.line_values.proofs.Statics.{static_stored, still_of, val_of}
+use Rattle.emit_rules.specs.Instructions.{store}
+use Rattle.emit_rules.specs.Memory.{store_part, store_width}
+use Rattle.lin_ir.specs.Meaning.{lin_act}
+use Rattle.linear_machine.specs.View.{Leads}
+use Rattle.linear_machine.proofs.Following.{agrees_on, goes_follows}
+use Rattle.linear_machine.proofs.Reading.{reads_two}
+use Rattle.linear_machine.proofs.Steps.{at_place, reg_below, then_leads}
+use Rattle.line_values.proofs.Landing.{within_at}
+use Rattle.line_values.proofs.Storing.{store_goes}
+use Rattle.line_values.proofs.Testing.{Seconded, second_location}
+
+store_bytes : (k : Chunk) → bytes_stored (store_width k) ≡ width k
+store_bytes chunk.U8 = refl
+store_bytes chunk.I8 = refl
+store_bytes chunk.U16 = refl
+store_bytes chunk.I16 = refl
+store_bytes chunk.U32 = refl
+store_bytes chunk.I32 = refl
+store_bytes chunk.Int = refl
+store_bytes chunk.Val = refl
+
+one_more : (u p k : ℕ) → u ≡ p + k → u + 1 ≡ p + (k + 1)
+one_more u p k e = omega (arith, e)
+
+module _ (s : Fixed) (n : Named) (laid : Laid) (m : Lin) (slots : m.slots ≡ laid.slots) (live : List Line → Type 0) (entry : ℕ → ℕ) (c : Below)
+    (place : Place) (named : NamedAt) (next : List Line) (v : View) (young : List Placed) (held file : Locations) (a : Around) (none : a.raised ≡ None)
+    (within : Within s laid v young 0 held a c) (before : Type 0) (agrees : Agrees before held file) (k : ℕ) (behind : laid.part (length next) ≡ v.place + k)
+    (lie : StaticsLie s a.memory) (passes : live next → before)
+    (ch : Chunk) (offset : ℕ) (fits_64 : offset < 2 ^ 64) (p q : Spot) (at_p : IsLocation m p.loc) (at_q : IsLocation m q.loc) (reads_p : Reads before p.loc)
+    (reads_q : Reads before q.loc)
+    (part_is : PartStands s n v.place (v.place + k) (store_part (length a.tries) ch offset (p ∷ q ∷ []))) where
+  -- the address and the value stand in registers
+  record Ready (r : ℕ) (from : Register) (x y : Value) (u : View) : Type 0 where
+    pub stands : Within s laid u young 0 held a c
+    pub address : add_word (slice_index u.registers (suc r)) (imm_i (address_offset offset % 4096)) ≡ value_word s.image (all_of u young) (moved_by offset x)
+    pub value : StandsFor s (all_of u young) (reg u.registers (number from)) y
+
+  stores : (x y : Value) (cell : Cell) → held p.loc ≡ Some x → held q.loc ≡ Some y → cell_at a.memory (width ch) (moved_by offset x) ≡ Some cell →
+      FollowsStep k s laid live entry c v (on_act place m (record {
+        op = lin.Op (op.Access (access.Store ch offset));
+        args = p ∷ q ∷ [];
+        results = [];
+      }) next file a (stored_act ch a (Some cell) (moved_by offset x) y))
+  stores x y cell hx hy there =
+      let one : List Piece = fetched (length a.tries) T1 p.loc in
+      let two : List Piece = address_words (register_of T1 p.loc) offset in
+      let three : List Piece = fetched (length a.tries) T2 q.loc in
+      let instr : Piece = store (store_width ch) (register_of T2 q.loc) (address_register (register_of T1 p.loc) offset) (address_offset offset) in
+      let turned : PartStands s n v.place (v.place + k) (one ++ (two ++ (three ++ instr ∷ []))) =
+      subst (PartStands s n v.place (v.place + k)) (append_assoc (one ++ two) three (instr ∷ []) ∙ append_assoc one two (three ++ instr ∷ [])) part_is in
+      let g1 = counts s n v.place k one (two ++ (three ++ instr ∷ [])) turned in
+      let g2 = counts s n (v.place + g1.own) g1.others two (three ++ instr ∷ []) g1.second in
+      let g3 = counts s n (v.place + g1.own + g2.own) g2.others three (instr ∷ []) g2.second in
+      let l = last s n (v.place + g1.own + g2.own + g3.own) g3.others
+      (Store (store_width ch) (number (address_register (register_of T1 p.loc) offset)) (number (register_of T2 q.loc)) (address_offset offset % 4096)) g3.second in
+      let f1 = fetches s n laid m slots v young held a c none within T1 5 refl (inl refl) v.place g1.own p.loc at_p g1.first in
+      let ad = addresses s n laid young held a c (register_of T1 p.loc) f1.r f1.is f1.apart offset fits_64 (v.place + g1.own) g2.own g2.first in
+      let snd = second_location s n laid m slots v young held a c none within q.loc at_q (v.place + g1.own + g2.own) g3.own g3.first in
+      let e1 = g1.sum in
+      let e2 = g2.sum in
+      let e3 = g3.sum in
+      let e4 = l.1 in
+      let all : k ≡ g1.own + (g2.own + g3.own) + 1 = omega (arith, e1, e2, e3, e4) in
+      let ready : Comes s v (g1.own + (g2.own + g3.own)) (Ready ad.r (register_of T2 q.loc) x y) =
+      comes_then s v g1.own (g2.own + g3.own) (λ u. Within s laid u young 0 held a c × StandsFor s (all_of u young) (slice_index u.registers (suc f1.r)) x) _
+      (changes_come s v g1.own f1.list v.memory _ _
+      (λ u past st. (
+        within_past s laid v u young 0 held a c g1.own f1.list past (λ o i. inl (f1.only o i)) within,
+        (let same : all_of u young ≡ all_of v young = ap (λ bs. all_of (record v { blocks = bs }) young) past.blocks in
+            subst (λ b. StandsFor s b (slice_index u.registers (suc f1.r)) x) (sym same) st),
+      ))
+      ((f1.gets x hx).by v refl within))
+      (λ u at both.
+      comes_then s u g2.own g3.own
+      (λ w. Within s laid w young 0 held a c
+      × (add_word (slice_index w.registers (suc ad.r)) (imm_i (address_offset offset % 4096)) ≡ value_word s.image (all_of w young) (moved_by offset x))) _
+      (changes_come s u g2.own ad.list u.memory _ _
+      (λ w past e. (
+        within_past s laid u w young 0 held a c g2.own ad.list past ad.scratch both.0,
+        (let same : all_of w young ≡ all_of u young = ap (λ bs. all_of (record u { blocks = bs }) young) past.blocks in
+            e ∙ ap (λ b. value_word s.image b (moved_by offset x)) (sym same)),
+      ))
+      (ad.gets x (no_function a (width ch) offset x cell there) u at both.0 both.1))
+      (λ w at' both'.
+      changes_come s w g3.own snd.list w.memory _ _
+      (λ o past st.
+      let same : all_of o young ≡ all_of w young = ap (λ bs. all_of (record w { blocks = bs }) young) past.blocks in
+      let kept : slice_index o.registers (suc ad.r) ≡ slice_index w.registers (suc ad.r) = past.others (suc ad.r) (λ i. ad.apart (snd.only (suc ad.r) i)) in
+      record {
+        stands = within_past s laid w o young 0 held a c g3.own snd.list past (λ z i. inr (snd.only z i)) both'.0;
+        address = ap (λ z. add_word z (imm_i (address_offset offset % 4096))) kept ∙ both'.1
+            ∙ ap (λ b. value_word s.image b (moved_by offset x)) (sym same);
+        value = subst (λ b. StandsFor s b (reg o.registers (number (register_of T2 q.loc))) y) (sym same) st;
+      })
+      (snd.gets y hy w (omega (arith, at, at')) both'.0))) in
+      let u = ready.view in
+      let at = ready.place in
+      let w = ready.holds.stands in
+      let value : ℕ = reg u.registers (number (register_of T2 q.loc)) in
+      let reach = reached s (all_of u young) u.memory w.usable.regions a w.heap lie.whole (width ch) (chunk_width ch) (moved_by offset x) cell there in
+      let here : v.place + g1.own + g2.own + g3.own ≡ u.place = omega (arith, at) in
+      let code : IsCode s u.place (Store (store_width ch) (suc ad.r) (number (register_of T2 q.loc)) (address_offset offset % 4096)) =
+      subst (λ z. IsCode s z (Store (store_width ch) (suc ad.r) (number (register_of T2 q.loc)) (address_offset offset % 4096))) here
+      (subst (λ z. IsCode s (v.place + g1.own + g2.own + g3.own) (Store (store_width ch) z (number (register_of T2 q.loc)) (address_offset offset % 4096)))
+      ad.is l.0) in
+      let step1 = store_part_step s u reach.at reach.byte reach.even reach.low reach.area reach.no_limit reach.readable (width ch) (chunk_width ch) reach.inside
+      reach.aligned (store_width ch) (store_bytes ch) (suc ad.r) (number (register_of T2 q.loc)) (address_offset offset % 4096) code
+      (ready.holds.address ∙ reach.address) w.usable.regions.each in
+      let new : ℕ = replaced (word u.memory reach.at) reach.byte (width ch) (reg u.registers (number (register_of T2 q.loc))) in
+      store_goes s (all_of u young) u.memory w.usable.regions a w.heap lie ch (moved_by offset x) y value
+      (reg_below u.registers (number (register_of T2 q.loc)) w.own.are.words) ready.holds.value
+      (λ act. FollowsStep k s laid live entry c v (on_act place m (record {
+        op = lin.Op (op.Access (access.Store ch offset));
+        args = p ∷ q ∷ [];
+        results = [];
+      }) next file a act)) tt cell there reach
+      (λ memory unwritten heap.
+      goes_follows s laid live entry c v next k young held file (record a { memory = memory; unwritten = unwritten }) behind
+      (agrees_on before (live next) held file passes agrees)
+      (subst (λ z. Comes s v z (λ o. Within s laid o young 0 held (record a { memory = memory; unwritten = unwritten }) c)) (sym all)
+      (record {
+        view = record u { place = u.place + 1; memory = write u.memory reach.at new };
+        leads = then_leads s (g1.own + (g2.own + g3.own)) 1 v u (record u { place = u.place + 1; memory = write u.memory reach.at new }) ready.leads step1;
+        place = one_more u.place v.place (g1.own + (g2.own + g3.own)) ready.place;
+        holds = within_at s laid (record u { memory = write u.memory reach.at new }) young held (record a { memory = memory; unwritten = unwritten }) c
+            (u.place + 1) (within_written s laid u young 0 held a c reach.at new memory unwritten reach.below heap w);
+      })))
+      reach.lies
+
+  pub store_line : FollowsStep k s laid live entry c v (step place named m (record {
+    rest = record { op = lin.Op (op.Access (access.Store ch offset)); args = p ∷ q ∷ []; results = [] } ∷ next;
+    file = file;
+    around = a;
+  }))
+  store_line =
+      reads_two place.setting.end file
+      (λ vs. FollowsStep k s laid live entry c v (on_values place (named (length next)) m (record {
+        op = lin.Op (op.Access (access.Store ch offset));
+        args = p ∷ q ∷ [];
+        results = [];
+      }) next file a vs)) tt p q
+      (λ x y h e i g. by_cell x y (cell_at a.memory (width ch) (moved_by offset x)) refl (reads_held before held file p.loc agrees reads_p ∙ h)
+      (reads_held before held file q.loc agrees reads_q ∙ i))
+    where
+      by_cell : (x y : Value) (o : Option Cell) → cell_at a.memory (width ch) (moved_by offset x) ≡ o → held p.loc ≡ Some x → held q.loc ≡ Some y →
+          FollowsStep k s laid live entry c v (on_act place m (record {
+            op = lin.Op (op.Access (access.Store ch offset));
+            args = p ∷ q ∷ [];
+            results = [];
+          }) next file a (stored_act ch a o (moved_by offset x) y))
+      by_cell x y None e hx hy = tt
+      by_cell x y (Some cell) e hx hy = stores x y cell hx hy e

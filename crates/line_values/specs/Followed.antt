@@ -1,0 +1,56 @@
+-- The lines that compute, load, store, test and jump, and that the machine follows them.
+use Rattle.std.specs.Prelude.{◌≡◌, ℕ, Bool, true, List, ◌∷◌, length, Option, None}
+use Rattle.cmm_meaning.specs.Setting.{Setting}
+use Rattle.emit_rules.specs.Emitted.{part_of}
+use Rattle.emit_rules.specs.Entry.{Frame}
+use Rattle.layout_rules.specs.Forms.{total_words}
+use Rattle.layout_rules.specs.Words.{Named}
+use Rattle.lin_ir.specs.Meaning.{Locations, NamedAt, step}
+use Rattle.lin_ir.specs.declared.descr.Descr.{Descr}
+use Rattle.lin_ir.specs.declared.lin.Flow.TheVariants as flow
+use Rattle.lin_ir.specs.declared.lin.Lin.{Lin}
+use Rattle.lin_ir.specs.declared.lin.Line.{Line}
+use Rattle.lin_ir.specs.declared.lin.LinOp.{LinOp}
+use Rattle.lin_ir.specs.declared.lin.LinOp.TheVariants as lin
+use Rattle.mach_ir.specs.Acts.{Around}
+use Rattle.mach_ir.specs.Runs.{Place}
+use Rattle.mach_ir.specs.declared.mach.Test.{Test}
+use Rattle.mach_ir.specs.declared.op.Access.TheVariants as access
+use Rattle.mach_ir.specs.declared.op.Op.TheVariants as op
+use Rattle.mach_ir.specs.declared.op.Pure.{Pure}
+use Rattle.linear_machine.specs.Follows.{FollowsStep, IsAt}
+use Rattle.linear_machine.specs.Relation.{Below, Laid}
+use Rattle.linear_machine.specs.View.{Fixed, View}
+use Rattle.line_stands.specs.Lines.{LineStands}
+use Rattle.line_values.specs.Statics.{StaticsLie}
+
+-- what neither leaves the function nor is a frame point nor changes the pushed traps
+pub data IsPlain : LinOp → Type 0 where
+  plain_pure : {g : Pure} → IsPlain (lin.Op (op.Pure g))
+  plain_load : {k : _} {offset : ℕ} → IsPlain (lin.Op (op.Access (access.Load k offset)))
+  plain_store : {k : _} {offset : ℕ} → IsPlain (lin.Op (op.Access (access.Store k offset)))
+  plain_label : {l : ℕ} → IsPlain (lin.Flow (flow.Label l))
+  plain_jump : {l : ℕ} → IsPlain (lin.Flow (flow.Jump l))
+  plain_exit : {l : ℕ} → IsPlain (lin.Flow (flow.Exit l))
+  plain_branch : {t : Test} {l : ℕ} → IsPlain (lin.Flow (flow.Branch t l))
+  plain_switch : {labels : List ℕ} → IsPlain (lin.Flow (flow.Switch labels))
+
+-- From wherever the function stands before the line, the machine does what the line does, in at most
+-- the words of its part.
+abbrev pub Followed : Fixed → Laid → Named → Lin → Place → NamedAt → (List Line → Type 0) →
+    (ℕ → ℕ) → Below → Frame → Option Descr → Line → List Line → Type 0
+Followed s laid n m place named live entry c f d i next =
+    (file : Locations) (a : Around) (v : View)
+    (stands : LineStands s laid n m place.setting live a.tries f d i next) → a.raised ≡ None →
+    StaticsLie s a.memory →
+    IsAt s laid live c (record { rest = i ∷ next; file = file; around = a }) v →
+    FollowsStep (total_words (part_of (length a.tries) f d i) stands.part.forms) s laid live entry c
+    v (step place named m (record { rest = i ∷ next; file = file; around = a }))
+
+-- The law, of every function, line and machine; t0 is live where this test says so.
+abbrev pub PlainLinesAreFollowed : Type 0
+PlainLinesAreFollowed =
+    (s : Fixed) (laid : Laid) (n : Named) (m : Lin) (place : Place) (named : NamedAt)
+    (live : List Line → Bool) (entry : ℕ → ℕ) (c : Below) (f : Frame) (d : Option Descr) (i : Line)
+    (next : List Line) → IsPlain i.op →
+    Followed s laid n m place named (λ code. live code ≡ true) entry c f d i next
