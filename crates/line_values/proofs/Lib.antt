@@ -18,3 +18,4 @@ pub mod Loading
 pub mod Storing
 pub mod Writing
 pub mod Following
+pub mod Checking
