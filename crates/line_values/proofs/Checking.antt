@@ -112,6 +112,7 @@ use Rattle.linear_machine.specs.View.{IsCode}
 use Rattle.linear_machine.proofs.Operating.{dropped, target_register}
 use Rattle.linear_machine.proofs.Standing.{IsFree, within_changed}
 use Rattle.line_values.proofs.Landing.{within_at}
+use Rattle.line_values.proofs.Testing.{Seconded, both_come, second_constant, second_location}
 
 -- ---- the innermost trap
 
@@ -204,9 +205,10 @@ module _ (s : Fixed) (n : Named) (laid : Laid) (v : View) (young : List Placed) 
       raise_points s v within.own.are trap.back trap.low trap.high trap0 trap8 code.0 ∙ ap (λ q. word v.memory (q + 8)) own in
       let goes : code_start + 4 * there.place ≡ code_start + 4 * laid.part (length (after_label l m.code)) =
       raise_place s v within.own.are trap.back trap.low trap.high trap0 trap8 code.0 ∙ ap (word v.memory) own
-      ∙ handler_is s laid v there young held a c within differs l rest e up points ∙ handler in
-      (four_times there.place (laid.part (length (after_label l m.code))) goes,
-      popped s laid v there young held a c within differs l rest e up points (Some x) held' value_there sub)
+      ∙ handler_is s laid v there young held a c within differs l rest e up points ∙ handler in (
+        four_times there.place (laid.part (length (after_label l m.code))) goes,
+        popped s laid v there young held a c within differs l rest e up points (Some x) held' value_there sub,
+      )
     where
       four_times : (p q : ℕ) → code_start + 4 * p ≡ code_start + 4 * q → p ≡ q
       four_times p q e = omega (arith, e)
@@ -247,9 +249,12 @@ module _ (s : Fixed) (n : Named) (laid : Laid) (m : Lin) (slots : m.slots ≡ la
         let g5 = last s n (v.place + k1 + 1 + 1 + 1 + 1 + 1 + 1) g4.others (Jalr 0 6 0) g4.rest in
         let five : l2.others ≡ 5 = five_by l2.others g1.others g2.others g3.others g4.others g1.sum g2.sum g3.sum g4.sum g5.1 in
         let e1 = l1.sum in
-        let e2 = l2.sum in
-        (l1.code, l2.code, subst (λ z. PartStands s n (v.place + k1 + 1 + 1) (v.place + k1 + 1 + 1 + z) raise_words) five l2.rest,
-        seven_by k2 l1.others l2.others l1.sum l2.sum five)
+        let e2 = l2.sum in (
+          l1.code,
+          l2.code,
+          subst (λ z. PartStands s n (v.place + k1 + 1 + 1) (v.place + k1 + 1 + 1 + z) raise_words) five l2.rest,
+          seven_by k2 l1.others l2.others l1.sum l2.sum five,
+        )
       where
         five_by : (o a b c d : ℕ) → o ≡ 1 + a → a ≡ 1 + b → b ≡ 1 + c → c ≡ 1 + d → d ≡ 1 → o ≡ 5
         five_by o a b c d e f g h i = omega (arith, e, f, g, h, i)
@@ -391,3 +396,93 @@ module _ (s : Fixed) (n : Named) (laid : Laid) (m : Lin) (slots : m.slots ≡ la
     }) next file a (cond t (Goes [] On a) (raises place.setting bound_error a)))
     check_by true h = goes_on h
     check_by false h = raised_line h
+
+  -- ---- lines
+
+  checked_by : (r : Right) (args : List Spot) (ob oi : Result ℕ Kind) →
+      ((bound index : ℕ) → ob ≡ Ok bound → oi ≡ Ok index → FollowsStep k s laid live entry c v (on_act place m (record {
+        op = lin.Op (op.Leaving (leaving.Checkbound r));
+        args = args;
+        results = [];
+      }) next file a (cond (nat_lt index bound) (Goes [] On a) (raises place.setting bound_error a)))) →
+      FollowsStep k s laid live entry c v (on_act place m (record {
+        op = lin.Op (op.Leaving (leaving.Checkbound r));
+        args = args;
+        results = [];
+      }) next file a (checked place.setting ob oi a))
+  checked_by r args (Ok bound) (Ok index) f = f bound index refl refl
+  checked_by r args (Ok bound) (Err kind) f = tt
+  checked_by r args (Err kind) (Ok index) f = tt
+  checked_by r args (Err kind) (Err other) f = tt
+
+  -- whatever the right operand is
+  operands_by : (r : Right) (args : List Spot) (p : Spot) → IsLocation m p.loc → Reads before p.loc → (words : List Piece) (right : Register)
+      (holds : Value → Type 0) →
+      PartStands s n v.place (v.place + k) (fetched (length a.tries) T1 p.loc ++ words ++ skip condition.Bltu right (register_of T1 p.loc) 28 ∷ raise_bound_error) →
+      ((at j : ℕ) → PartStands s n at (at + j) words → Seconded s n laid m slots v young held a c none within holds at j right) →
+      (bound index : ℕ) → held p.loc ≡ Some (Word bound) → holds (Word index) →
+      FollowsStep k s laid live entry c v (on_act place m (record {
+        op = lin.Op (op.Leaving (leaving.Checkbound r));
+        args = args;
+        results = [];
+      }) next file a (cond (nat_lt index bound) (Goes [] On a) (raises place.setting bound_error a)))
+  operands_by r args p at_p reads_p words right holds part second bound index hp hi =
+      let one : List Piece = fetched (length a.tries) T1 p.loc in
+      let test : List Piece = skip condition.Bltu right (register_of T1 p.loc) 28 ∷ raise_bound_error in
+      let turned : PartStands s n v.place (v.place + k) (one ++ (words ++ test)) =
+      subst (PartStands s n v.place (v.place + k)) (append_assoc one words test) part in
+      let g1 = counts s n v.place k one (words ++ test) turned in
+      let g2 = counts s n (v.place + g1.own) g1.others words test g1.second in
+      let e1 = g1.sum in
+      let e2 = g2.sum in
+      let q : v.place + g1.own + g2.own ≡ v.place + (g1.own + g2.own) = omega arith in
+      let comes = both_come s n laid m slots v young held a c none within p.loc at_p g1.own g2.own g1.first holds right
+      (second (v.place + g1.own) g2.own g2.first) (Word bound) (Word index) hp hi in
+      check_by r args (register_of T1 p.loc) right (g1.own + g2.own) g2.others (omega (arith, e1, e2)) bound index
+      (subst (λ z. PartStands s n z (z + g2.others) test) q g2.second) comes (nat_lt index bound) refl
+
+  pub check_line : (p q : Spot) → IsLocation m p.loc → IsLocation m q.loc → Reads before p.loc → Reads before q.loc →
+      PartStands s n v.place (v.place + k) (check_part (length a.tries) right.Register (p ∷ q ∷ [])) →
+      FollowsStep k s laid live entry c v (step place named m (record {
+        rest = record { op = lin.Op (op.Leaving (leaving.Checkbound right.Register)); args = p ∷ q ∷ []; results = [] } ∷ next;
+        file = file;
+        around = a;
+      }))
+  check_line p q at_p at_q reads_p reads_q part =
+      reads_two place.setting.end file
+      (λ vs. FollowsStep k s laid live entry c v (on_values place (named (length next)) m (record {
+        op = lin.Op (op.Leaving (leaving.Checkbound right.Register));
+        args = p ∷ q ∷ [];
+        results = [];
+      }) next file a vs)) tt p q
+      (λ x y h e i g.
+      checked_by right.Register (p ∷ q ∷ []) (word_in x) (word_in y)
+      (λ bound index b o.
+      operands_by right.Register (p ∷ q ∷ []) p at_p reads_p (fetched (length a.tries) T2 q.loc) (register_of T2 q.loc) (λ z. held q.loc ≡ Some z) part
+      (λ at j pt. second_location s n laid m slots v young held a c none within q.loc at_q at j pt) bound index
+      (reads_held before held file p.loc agrees reads_p ∙ h ∙ ap Some (word_of x bound b))
+      (reads_held before held file q.loc agrees reads_q ∙ i ∙ ap Some (word_of y index o))))
+
+  pub check_with_line : (w : ℕ) → w < 2 ^ 64 → (p : Spot) → IsLocation m p.loc → Reads before p.loc →
+      PartStands s n v.place (v.place + k) (check_part (length a.tries) (right.Constant w) (p ∷ [])) →
+      FollowsStep k s laid live entry c v (step place named m (record {
+        rest = record { op = lin.Op (op.Leaving (leaving.Checkbound (right.Constant w))); args = p ∷ []; results = [] } ∷ next;
+        file = file;
+        around = a;
+      }))
+  check_with_line w small p at_p reads_p part =
+      reads_one place.setting.end file
+      (λ vs. FollowsStep k s laid live entry c v (on_values place (named (length next)) m (record {
+        op = lin.Op (op.Leaving (leaving.Checkbound (right.Constant w)));
+        args = p ∷ [];
+        results = [];
+      }) next file a vs)) tt p
+      (λ x h e.
+      checked_by (right.Constant w) (p ∷ []) (word_in x) (Ok w)
+      (λ bound index b o.
+      operands_by (right.Constant w) (p ∷ []) p at_p reads_p (constant_words w) (constant_register w) (λ z. z ≡ Word w) part
+      (λ at j pt. second_constant s n laid m slots v young held a c none within w small at j pt) bound index
+      (reads_held before held file p.loc agrees reads_p ∙ h ∙ ap Some (word_of x bound b)) (ap Word (sym (same_word o)))))
+    where
+      same_word : {i j : ℕ} → ◌≡◌ {A = Result ℕ Kind} (Ok i) (Ok j) → i ≡ j
+      same_word e = cc
