@@ -24,3 +24,4 @@ pub mod ExternalLines
 pub mod ExternalCalls
 pub mod NoWaits
 pub mod Whole
+pub mod Example

@@ -1,5 +1,5 @@
 -- The lines that compute, load, store, test and jump, and that the machine follows them.
-use Rattle.std.specs.Prelude.{◌≡◌, ℕ, List, ◌∷◌, length, Option, None}
+use Rattle.std.specs.Prelude.{◌≡◌, ℕ, Bool, true, List, ◌∷◌, length, Option, None}
 use Rattle.cmm_meaning.specs.Setting.{Setting}
 use Rattle.emit_rules.specs.Emitted.{part_of}
 use Rattle.emit_rules.specs.Entry.{Frame}
@@ -16,19 +16,22 @@ use Rattle.mach_ir.specs.Acts.{Around}
 use Rattle.mach_ir.specs.Runs.{Place}
 use Rattle.mach_ir.specs.declared.mach.Test.{Test}
 use Rattle.mach_ir.specs.declared.op.Access.TheVariants as access
+use Rattle.mach_ir.specs.declared.op.Leaving.TheVariants as leaving
 use Rattle.mach_ir.specs.declared.op.Op.TheVariants as op
 use Rattle.mach_ir.specs.declared.op.Pure.{Pure}
+use Rattle.mach_ir.specs.declared.op.Right.{Right}
 use Rattle.linear_machine.specs.Follows.{FollowsStep, IsAt}
 use Rattle.linear_machine.specs.Relation.{Below, Laid}
 use Rattle.linear_machine.specs.View.{Fixed, View}
 use Rattle.line_stands.specs.Lines.{LineStands}
 use Rattle.line_values.specs.Statics.{StaticsLie}
 
--- what neither leaves the function nor is a frame point nor changes the pushed traps
+-- what is no frame point, and neither returns nor pushes or enters a trap
 pub data IsPlain : LinOp → Type 0 where
   plain_pure : {g : Pure} → IsPlain (lin.Op (op.Pure g))
   plain_load : {k : _} {offset : ℕ} → IsPlain (lin.Op (op.Access (access.Load k offset)))
   plain_store : {k : _} {offset : ℕ} → IsPlain (lin.Op (op.Access (access.Store k offset)))
+  plain_check : {r : Right} → IsPlain (lin.Op (op.Leaving (leaving.Checkbound r)))
   plain_label : {l : ℕ} → IsPlain (lin.Flow (flow.Label l))
   plain_jump : {l : ℕ} → IsPlain (lin.Flow (flow.Jump l))
   plain_exit : {l : ℕ} → IsPlain (lin.Flow (flow.Exit l))
@@ -46,3 +49,11 @@ Followed s laid n m place named live entry c f d i next =
     IsAt s laid live c (record { rest = i ∷ next; file = file; around = a }) v →
     FollowsStep (total_words (part_of (length a.tries) f d i) stands.part.forms) s laid live entry c
     v (step place named m (record { rest = i ∷ next; file = file; around = a }))
+
+-- The law, of every function, line and machine; t0 is live where this test says so.
+abbrev pub PlainLinesAreFollowed : Type 0
+PlainLinesAreFollowed =
+    (s : Fixed) (laid : Laid) (n : Named) (m : Lin) (place : Place) (named : NamedAt)
+    (live : List Line → Bool) (entry : ℕ → ℕ) (c : Below) (f : Frame) (d : Option Descr) (i : Line)
+    (next : List Line) → IsPlain i.op →
+    Followed s laid n m place named (λ code. live code ≡ true) entry c f d i next
