@@ -19,3 +19,4 @@ pub mod Storing
 pub mod Writing
 pub mod Checking
 pub mod Following
+pub mod Example
