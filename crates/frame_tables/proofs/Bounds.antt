@@ -14,7 +14,7 @@ use Rattle.lin_ir.specs.declared.descr.Descr.{Descr}
 use Rattle.lin_ir.specs.declared.lin.Lin.{Lin}
 use Rattle.lin_laws.proofs.Places.{got}
 use Rattle.lin_laws.specs.declared.position.Position.{Position}
-use Rattle.frame_tables.proofs.Searching.{pushed_kept, pushed_here}
+use Rattle.lin_flow.proofs.Searching.{pushed_kept, pushed_here}
 use Rattle.frame_tables.specs.Described.{described, AreDescribed}
 use Rattle.frame_tables.specs.Points.{ArePoints}
 use Rattle.frame_tables.specs.declared.after.Point.{Point}

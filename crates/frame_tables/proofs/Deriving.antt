@@ -1,77 +1,39 @@
 -- From a search to exact descriptors.
-use Rattle.std.proofs.Common.{◌≡◌, ℕ, zero, suc, ◌+◌, ◌-◌, ◌<◌, ◌≤◌, Bool, true, ◌&&◌, nat_lt, inl, inr, ⊎_elim, List, [], ◌∷◌, Some, None, length, drop, refl, sym, ap, ◌∙◌, subst, arith}
+use Rattle.std.proofs.Common.{◌≡◌, ℕ, zero, suc, ◌+◌, ◌-◌, ◌<◌, ◌≤◌, Bool, inl, inr, ⊎_elim, List, [], ◌∷◌, Some, length, drop, refl, sym, ap, ◌∙◌, subst, arith}
 use Rattle.std.specs.List.{All, Contains}
 use Rattle.std.specs.Prelude.{slice_get, slice_index_or}
-use Rattle.std.proofs.lemmas.Bool.{cases_lt, and_parts, ltb-true}
-use Rattle.std.proofs.lemmas.List.Elements.{All-contains, All-nil, All-cons, Contains-get_or}
+use Rattle.std.proofs.lemmas.Bool.{cases_lt}
+use Rattle.std.proofs.lemmas.List.Elements.{All-nil}
 use Rattle.std.proofs.lemmas.Option.{slice_get_within, slice_get-get_or, get_or_from_slice_get}
 use Rattle.bs_words.specs.Contents.{contents}
-use Rattle.bs_words.specs.declared.types.Loc.{Loc}
-use Rattle.bs_words.specs.declared.types.Loc.TheVariants as loc
 use Rattle.dataflow.specs.Flow.{IsPlace, WellFormed}
 use Rattle.dataflow.specs.Live.{IsLiveness}
 use Rattle.dataflow.specs.Rows.{row}
 use Rattle.dataflow.specs.declared.flow.Flow as flow
 use Rattle.dataflow.specs.declared.flow.Place as place
-use Rattle.mach_ir.specs.Placed.{colours}
 use Rattle.lin_ir.specs.Descriptors.{frame_bytes, IsDescr, Describes, AreExact}
-use Rattle.lin_ir.specs.Formed.{IsHome, is_colour, is_slot, IsLocation, is_home, is_spare, Locates, AreLocated}
-use Rattle.lin_ir.specs.Walks.{Reached, at_entry, Traps, Stands, here, below as under, OneDepth}
+use Rattle.lin_ir.specs.Walks.{Traps, Stands, here, below as under, OneDepth}
 use Rattle.lin_ir.specs.declared.descr.Descr.{Descr}
-use Rattle.lin_ir.specs.declared.lin.Spot.{Spot}
 use Rattle.lin_ir.specs.declared.lin.Line.{Line}
 use Rattle.lin_ir.specs.declared.lin.Lin.{Lin}
 use Rattle.lin_laws.proofs.Entries.{is_descr}
-use Rattle.lin_laws.proofs.Places.{none_in, in_cons, got, drop_none, drop_is, number_is}
-use Rattle.lin_laws.proofs.Reaching.{all_reached}
+use Rattle.lin_laws.proofs.Places.{got, drop_is}
 use Rattle.lin_laws.proofs.Walking.{live_at_by_graph}
-use Rattle.lin_laws.specs.Graph.{place_of, position, steps, raise_steps, HasNumber, HaveNumbers, AreNumbered, AreNodes, IsAfter, IsGraphOf}
+use Rattle.lin_laws.specs.Graph.{place_of, position, AreNumbered, IsAfter, IsGraphOf}
 use Rattle.lin_laws.specs.declared.position.Position.{Position}
 use Rattle.frame_tables.proofs.Pointing.{first_kept}
-use Rattle.frame_tables.proofs.Visiting.{AreKept, still_ready}
+use Rattle.lin_flow.proofs.Living.{numbers_within, position_place, graph_of}
+use Rattle.lin_flow.proofs.Visiting.{AreKept, still_ready}
 use Rattle.frame_tables.specs.Described.{described, AreDescribed}
-use Rattle.frame_tables.specs.Nodes.{IsReady, AreWalkedTo, Spread}
+use Rattle.lin_flow.specs.Nodes.{IsReady, Spread}
+use Rattle.lin_flow.specs.Walked.{IsWalked}
 use Rattle.frame_tables.specs.Points.{HasRoots, IsSearched, IsPoint, ArePoints}
-use Rattle.frame_tables.specs.Search.{all_of, AreGrouped, Entered, Starts}
+use Rattle.lin_flow.specs.Search.{all_of}
 use Rattle.frame_tables.specs.declared.after.Point.{Point}
-use Rattle.frame_tables.specs.declared.search.Search.{Search}
+use Rattle.lin_flow.specs.declared.search.Search.{Search}
 
 same_some : {A : Type 0} (x y : A) → Some x ≡ Some y → x ≡ y
 same_some x y e = cc
-
--- ---- locations have numbers
-
-abbrev all_low : List ℕ → Bool
-all_low [] = true
-all_low (x ∷ xs) = nat_lt x 32 && all_low xs
-
-from_tests : (xs : List ℕ) → all_low xs ≡ true → All (λ n. n < 32) xs
-from_tests [] e = All-nil (λ n. n < 32)
-from_tests (x ∷ xs) e =
-    let p = and_parts (nat_lt x 32) (all_low xs) e in
-    All-cons (λ n. n < 32) x xs (ltb-true x 32 p.0) (from_tests xs p.1)
-
-colours_low : All (λ n. n < 32) colours
-colours_low = from_tests colours refl
-
-home_numbered : (m : Lin) (l : Loc) → IsHome m l → HasNumber m.slots l
-home_numbered m loc.Unset h = elim h [ ]
-home_numbered m (loc.Machine n) (is_colour c) = All-contains (λ n. n < 32) colours n colours_low c
-home_numbered m (loc.Slot k) (is_slot lt) = lt
-
-location_numbered : (m : Lin) (l : Loc) → IsLocation m l → HasNumber m.slots l
-location_numbered m l (is_home h) = home_numbered m l h
-location_numbered m l (is_spare e) = let P : Loc → Type 0 = HasNumber m.slots in subst P (sym e) (let lt : 5 < 32 = omega arith in lt)
-
-spots_numbered : (m : Lin) (ss : List Spot) → Locates m ss → HaveNumbers m.slots ss
-spots_numbered m ss h = λ k d lt. location_numbered m (slice_index_or ss k d).loc (h k d lt)
-
-pub are_numbered : (m : Lin) → AreLocated m → AreNumbered m
-are_numbered m h =
-    record {
-      args = λ k d lt. spots_numbered m (slice_index_or m.code k d).args (h k d lt).0;
-      results = λ k d lt. spots_numbered m (slice_index_or m.code k d).results (h k d lt).1;
-    }
 
 -- ---- the search
 
@@ -79,55 +41,24 @@ module _ (m : Lin) where
   abbrev bound : ℕ
   bound = m.slots + 32
 
-  pub begun_ready : (s0 s1 : Search) (number : ℕ) (nodes : List place.Place) → Starts (length m.code) s0 →
-      Entered s0 s1 (position 0 []) number → nodes ≡ [] → IsReady m s1 nodes
-  begun_ready s0 s1 number nodes start entry none =
-      record {
-        groups = entry.grown.len ∙ start.len;
-        fewer = (let e : length nodes ≡ 0 = ap length none in omega (arith, e));
-        are = λ q x node at is. absurd (let f : None ≡ Some node = subst (λ xs. slice_get xs q ≡ Some node) none is in cc);
-      }
-
-  pub begun_walked : (s0 s1 : Search) (number : ℕ) → Starts (length m.code) s0 → Entered s0 s1 (position 0 []) number →
-      AreWalkedTo m (all_of s1)
-  begun_walked s0 s1 number start entry =
-      record {
-        each = λ q x e.
-            ⊎_elim (λ f. absurd (let g : None ≡ Some x = subst (λ xs. slice_get xs q ≡ Some x) start.positions f in cc))
-            (λ c.
-            let same : position 0 [] ≡ x = only c in
-            subst (λ (y : Position). Reached m (drop y.place m.code) y.tries) same
-            (subst (λ xs. Reached m xs []) (sym (drop_none m.code)) at_entry)) (entry.grown.fresh q x e);
-      }
-    where
-      only : {x : Position} → Contains (position 0 [] ∷ []) x → position 0 [] ≡ x
-      only {x} c = ⊎_elim (λ e. e) (λ d. absurd (none_in x d)) (in_cons (position 0 []) x [] c)
-
-  begun_grouped : (s0 : Search) → Starts (length m.code) s0 → AreGrouped s0
-  begun_grouped s0 start =
-      record { grouped = λ q x e. absurd (let g : None ≡ Some x = subst (λ xs. slice_get xs q ≡ Some x) start.positions e in cc) }
-
-  module _ (s0 s1 s2 s3 s4 : Search) (number reached : ℕ) (nodes others : List place.Place) (numbered : AreNumbered m)
-      (start : Starts (length m.code) s0) (entry : Entered s0 s1 (position 0 []) number) (one : Spread m s1 s2 nodes)
+  module _ (s2 s3 s4 : Search) (reached : ℕ) (nodes others : List place.Place) (one : IsWalked m s2 nodes)
       (count : reached ≡ length nodes) (roots : HasRoots m s2 s3 reached (length m.code)) where
     pub rooted_ready : IsReady m s3 nodes
-    rooted_ready = still_ready m s2 s3 nodes one.spreads.ready one.all roots.kept roots.groups
+    rooted_ready = still_ready m s2 s3 nodes one.ready one.all roots.kept roots.groups
 
     pub is_searched : Spread m s3 s4 others → IsSearched m s4 reached others
     is_searched two =
         let len : length nodes ≡ length (all_of s2) = one.all in
         let kept : AreKept (all_of s2) (all_of s4) = λ q x e. two.spreads.kept q x (roots.kept q x e) in
-        let walked = one.spreads.walked (begun_walked s0 s1 number start entry) in
-        let begun : slice_get (all_of s2) number ≡ Some (position 0 []) = one.spreads.kept number (position 0 []) entry.here in
         record {
-          numbered = numbered;
-          grouped = two.spreads.grouped (roots.grouped (one.spreads.grouped (entry.grown.grouped (begun_grouped s0 start))));
+          numbered = one.numbered;
+          grouped = two.spreads.grouped (roots.grouped one.grouped);
           walked = λ q x lt e.
               let was = got (all_of s2) q (omega (arith, lt, count, len)) in
               let same : was.0 ≡ x = same_some was.0 x (sym (kept q was.0 was.1) ∙ e) in
-              walked.each q x (was.1 ∙ ap Some same);
+              one.reached.sound q x (was.1 ∙ ap Some same);
           complete = λ rest tries r.
-              let h = all_reached m bound (all_of s2) nodes (omega (arith, len)) one.spreads.ready.are (number, begun) r in
+              let h = one.reached.complete rest tries r in
               let lt : h.0 < length (all_of s2) = slice_get_within (all_of s2) h.0 (position (place_of m rest) tries) h.1 in
               (h.0, omega (arith, lt, count, len), kept h.0 (position (place_of m rest) tries) h.1);
           roots = λ p f.
@@ -142,32 +73,14 @@ module _ (m : Lin) where
 
   module _ (all : List Position) (f : flow.Flow) (points : List Point) (is : ArePoints m all (contents f.places) points (length m.code))
       (at_bound : f.bound ≡ m.slots + 32) where
-    numbers_within : (ns : List ℕ) (ys : List Position) → ((q : ℕ) → Contains ns q → (y : Position) × (slice_get all q ≡ Some y)) →
-        All (λ q. q < length (contents f.places)) ns
-    numbers_within ns ys named = λ k d lt.
-        let q : ℕ = slice_index_or ns k d in
-        let y = named q (Contains-get_or ns k d lt) in
-        let less : q < length all = slice_get_within all q y.0 y.1 in
-        let len = is.len in omega (arith, less, len)
-
-    position_place : (q : ℕ) (x : Position) (node : place.Place) → slice_get all q ≡ Some x → slice_get (contents f.places) q ≡ Some node →
-        IsPlace (length (contents f.places)) f.bound node
-    position_place q x node at stands =
-        let n = is.are q x node at stands in
-        record {
-          next = numbers_within (contents node.next) (steps m x)
-              (λ k c. let y = number_is all (contents node.next) (steps m x) k n.next c in (y.0, y.2));
-          aside = numbers_within (contents node.aside) (raise_steps m x)
-              (λ k c. let y = number_is all (contents node.aside) (raise_steps m x) k n.aside c in (y.0, y.2));
-          reads = subst (λ b. All (λ k. k < b) (contents node.reads)) (sym at_bound) n.reads.within;
-          writes = subst (λ b. All (λ k. k < b) (contents node.writes)) (sym at_bound) n.writes.within;
-        }
+    enough : length all ≤ length (contents f.places)
+    enough = let len = is.len in omega (arith, len)
 
     point_place : (j : ℕ) (point : Point) (node : place.Place) → IsPoint m all point node → IsPlace (length (contents f.places)) f.bound node
     point_place j point node p =
         record {
-          next = numbers_within (contents node.next) [] (λ k c. let y = p.after.next_is k c in ((y.2).0, (y.2).2));
-          aside = numbers_within (contents node.aside) [] (λ k c. let y = p.after.aside_is k c in ((y.2).0, (y.2).2));
+          next = numbers_within m all f enough is.are at_bound (contents node.next) (λ k c. let y = p.after.next_is k c in ((y.2).0, (y.2).2));
+          aside = numbers_within m all f enough is.are at_bound (contents node.aside) (λ k c. let y = p.after.aside_is k c in ((y.2).0, (y.2).2));
           reads = subst (All (λ k. k < f.bound)) (sym p.after.reads) (All-nil (λ k. k < f.bound));
           writes = subst (λ b. All (λ k. k < b) (contents node.writes)) (sym at_bound) p.after.writes.within;
         }
@@ -177,7 +90,7 @@ module _ (m : Lin) where
     node_is_place q node e =
         let lt : q < length (contents f.places) = slice_get_within (contents f.places) q node e in
         let len = is.len in
-        ⊎_elim (λ (b : q < length all). let x = got all q b in position_place q x.0 node x.1 e)
+        ⊎_elim (λ (b : q < length all). let x = got all q b in position_place m all f enough is.are at_bound q x.0 node x.1 e)
         (λ (b : length all ≤ q).
         let j : ℕ = q - length all in
         let same : q ≡ length all + j = omega (arith, b) in
@@ -192,11 +105,7 @@ module _ (m : Lin) where
     -- ---- descriptors
 
     is_graph : IsGraphOf m all f
-    is_graph =
-        record {
-          len = (let len = is.len in omega (arith, len));
-          nodes = subst (λ b. AreNodes m b all (contents f.places)) (sym at_bound) is.are;
-        }
+    is_graph = graph_of m all f enough is.are at_bound
 
     stands_at : (i : Line) (next code : List Line) → Stands i next code → (p : ℕ) × (drop p code ≡ i ∷ next)
     stands_at i next code here = (0, refl)

@@ -1,6 +1,4 @@
 pub mod Lists
-pub mod Searching
-pub mod Visiting
 pub mod Pointing
 pub mod Deriving
 pub mod Bounds

@@ -19,13 +19,13 @@ use Rattle.lin_laws.proofs.Numbers.{are_writes}
 use Rattle.lin_laws.proofs.Places.{none_in, got, drop_none, drop_is, place_drop, number_is, number_all}
 use Rattle.lin_laws.specs.Graph.{place_of, position, steps, raise_steps, AreWrites, AreNodes, IsAfter}
 use Rattle.lin_laws.specs.declared.position.Position.{Position}
-use Rattle.frame_tables.proofs.Searching.{pushed_cases, pushed_kept, pushed_here}
-use Rattle.frame_tables.proofs.Visiting.{results_numbered}
+use Rattle.lin_flow.proofs.Searching.{pushed_cases, pushed_kept, pushed_here}
+use Rattle.lin_flow.proofs.Visiting.{results_numbered}
 use Rattle.frame_tables.specs.Points.{IsOneOf, IsChosen, IsChoice, HasTraps, edges_of, ComesFrom, Gathers, IsGathered, IsAfterNode, IsFramePoint, IsRooted, HasRoots, IsSearched, IsPoint, ArePoints}
-use Rattle.frame_tables.specs.Search.{all_of, groups_of, members, Entered, HasFirst}
+use Rattle.lin_flow.specs.Search.{all_of, groups_of, members, Entered, HasFirst}
 use Rattle.frame_tables.specs.declared.after.Choice.{Choice}
 use Rattle.frame_tables.specs.declared.after.Point.{Point}
-use Rattle.frame_tables.specs.declared.search.Search.{Search}
+use Rattle.lin_flow.specs.declared.search.Search.{Search}
 
 same_some : {A : Type 0} (x y : A) → Some x ≡ Some y → x ≡ y
 same_some x y e = cc

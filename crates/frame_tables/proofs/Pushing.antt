@@ -1,31 +1,15 @@
 -- The table of pushed traps is that of the walks.
-use Rattle.std.proofs.Common.{◌≡◌, ◌≢◌, ℕ, suc, ◌+◌, ◌-◌, ◌<◌, ◌≤◌, ◌⊎◌, inl, inr, ⊎_elim, List, [], ◌∷◌, Some, length, drop, slice_index, slice_set, sym, ap, ◌∙◌, subst, arith, get_or-set_same, get_or-set_other, length-set}
+use Rattle.std.proofs.Common.{◌≡◌, ◌≢◌, ℕ, suc, ◌+◌, ◌-◌, ◌<◌, ◌≤◌, ◌⊎◌, inl, inr, ⊎_elim, List, ◌∷◌, Some, length, drop, slice_index, slice_set, sym, ap, ◌∙◌, subst, arith, get_or-set_same, get_or-set_other, length-set}
 use Rattle.std.specs.Prelude.{slice_get}
 use Rattle.std.proofs.lemmas.Bool.{cases_lt}
 use Rattle.std.proofs.lemmas.Option.{slice_get_within}
-use Rattle.dataflow.specs.declared.flow.Place as place
 use Rattle.lin_ir.specs.Walks.{Reached, Stands, here, below, OneDepth, ArePushed, by_walk}
 use Rattle.lin_ir.specs.declared.lin.Line.{Line}
 use Rattle.lin_ir.specs.declared.lin.Lin.{Lin}
-use Rattle.lin_laws.proofs.Reaching.{all_reached}
-use Rattle.lin_laws.specs.Graph.{place_of, position}
+use Rattle.lin_laws.specs.Graph.{place_of, position, AreReached}
 use Rattle.lin_laws.specs.declared.position.Position.{Position}
-use Rattle.frame_tables.proofs.Deriving.{begun_walked}
-use Rattle.frame_tables.specs.Nodes.{AreWalkedTo, Spread}
-use Rattle.frame_tables.specs.Pushed.{IsWalked, AreTabled}
-use Rattle.frame_tables.specs.Search.{all_of, Entered, Starts}
-use Rattle.frame_tables.specs.declared.search.Search.{Search}
-
-pub is_walked : (m : Lin) (s0 s1 s2 : Search) (number : ℕ) (nodes : List place.Place) → Starts (length m.code) s0 →
-    Entered s0 s1 (position 0 []) number → Spread m s1 s2 nodes → IsWalked m (all_of s2)
-is_walked m s0 s1 s2 number nodes start entry one =
-    let len : length nodes ≡ length (all_of s2) = one.all in
-    record {
-      walked = one.spreads.walked (begun_walked m s0 s1 number start entry);
-      complete = λ rest tries r.
-          all_reached m (m.slots + 32) (all_of s2) nodes (omega (arith, len)) one.spreads.ready.are
-          (number, one.spreads.kept number (position 0 []) entry.here) r;
-    }
+use Rattle.lin_flow.specs.Nodes.{AreWalkedTo}
+use Rattle.frame_tables.specs.Pushed.{AreTabled}
 
 same_some : {A : Type 0} (x y : A) → Some x ≡ Some y → x ≡ y
 same_some x y e = cc
@@ -105,7 +89,7 @@ module _ (m : Lin) (all : List Position) where
           no_less a b less e = omega (arith, less, e)
 
   -- the table is that of the walks
-  pub pushed_by : IsWalked m all → (table : List ℕ) → AreTabled m all (length all) table → ArePushed m (λ left. slice_index table left)
+  pub pushed_by : AreReached m all → (table : List ℕ) → AreTabled m all (length all) table → ArePushed m (λ left. slice_index table left)
   pushed_by all_walks table t =
       record {
         pushed = λ i next s tries r.

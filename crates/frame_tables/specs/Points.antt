@@ -11,8 +11,8 @@ use Rattle.lin_ir.specs.declared.lin.Lin.{Lin}
 use Rattle.lin_laws.specs.Graph.{place_of, position, AreNumbered, AreNodes, IsAfter}
 use Rattle.lin_laws.specs.declared.position.Position.{Position}
 use Rattle.lin_laws.specs.Numbers.{written_numbers}
-use Rattle.frame_tables.specs.Search.{all_of, groups_of, members, AreGrouped, HasFirst}
-use Rattle.frame_tables.specs.declared.search.Search.{Search}
+use Rattle.lin_flow.specs.Search.{all_of, groups_of, members, AreGrouped, HasFirst}
+use Rattle.lin_flow.specs.declared.search.Search.{Search}
 use Rattle.frame_tables.specs.declared.after.Choice.{Choice}
 use Rattle.frame_tables.specs.declared.after.Point.{Point}
 

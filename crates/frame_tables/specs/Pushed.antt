@@ -1,17 +1,7 @@
 -- How many traps are pushed before each line, as it is found.
 use Rattle.std.specs.Prelude.{◌≡◌, ℕ, suc, ◌-◌, ◌<◌, List, Some, length, slice_get, slice_index}
-use Rattle.lin_ir.specs.Walks.{Reached}
-use Rattle.lin_ir.specs.declared.lin.Line.{Line}
 use Rattle.lin_ir.specs.declared.lin.Lin.{Lin}
-use Rattle.lin_laws.specs.Graph.{place_of, position}
 use Rattle.lin_laws.specs.declared.position.Position.{Position}
-use Rattle.frame_tables.specs.Nodes.{AreWalkedTo}
-
--- exactly the positions that walks come to
-pub record IsWalked (m : Lin) (all : List Position) : Type 0 where
-  pub walked : AreWalkedTo m all
-  pub complete : (rest : List Line) (tries : List ℕ) → Reached m rest tries →
-      (q : ℕ) × (slice_get all q ≡ Some (position (place_of m rest) tries))
 
 -- the table has the numbers of traps of the first k positions, by the lines after each
 pub record AreTabled (m : Lin) (all : List Position) (k : ℕ) (table : List ℕ) : Type 0 where

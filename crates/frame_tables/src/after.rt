@@ -1,16 +1,17 @@
 //! The places of the flow graph before which is live what is live after a frame point.
-ghost use Rattle.std.specs.Prelude.{◌≡◌, ◌<◌, ◌↔◌, ℕ, suc, Some, length, option_copied, slice_get, Contains, IfOk, IsTrue};
+ghost use Rattle.std.specs.Prelude.{◌≡◌, ◌<◌, ◌↔◌, ℕ, suc, Some, length, slice_get, Contains, IfOk, IsTrue};
 ghost use Rattle.bs_words.specs.Contents.{contents};
 ghost use Rattle.lin_ir.specs.Meaning.{passes_frame};
 ghost use Rattle.lin_laws.specs.Numbers.{written_numbers};
-ghost use Rattle.frame_tables.specs.Search.{all_of, groups_of, members};
-ghost use Rattle.frame_tables.specs.Nodes.{IsText};
+ghost use Rattle.lin_flow.specs.Search.{all_of, groups_of, members};
+ghost use Rattle.lin_flow.specs.Nodes.{IsText};
 ghost use Rattle.frame_tables.specs.Points.{IsAsked, IsChosen, IsChoice, edges_of, IsGathered, Gathers, HasTraps, IsAfterNode, IsSearched, IsRooted, ArePoints, HasRoots};
 
-use crate::lines::writes_of;
-use crate::search::Search;
 use bs_words::List;
 use dataflow::Place;
+use lin_flow::Search;
+use lin_flow::lines::writes_of;
+use lin_flow::nodes::node_numbered;
 use lin_ir::{Lin, LinOp, Line};
 use lin_laws::Position;
 use std::alloc::{AllocError, Global};
@@ -76,13 +77,6 @@ fn edges(node: &Place, aside: bool) -> &[u32]
     }
 }
 
-/// The place of the graph that has the number.
-fn node_at(nodes: &[Place], number: u32) -> Option<&Place>
-    ensures { option_copied result ≡ slice_get nodes.now number }
-{
-    nodes.get(number as usize)
-}
-
 /// Adds where control goes from the position with this number, if it is chosen.
 fn gather_from(
     numbers: &mut Vec<u32>,
@@ -95,7 +89,7 @@ fn gather_from(
     ensures { IfOk result (λ _. Gathers search.now nodes.now choice aside number numbers.old.items numbers.new.items) }
 {
     if is_chosen(search, number, choice) {
-        match node_at(nodes, number) {
+        match node_numbered(nodes, number) {
             None => {}
             Some(node) => {
                 numbers.extend_from_slice(edges(node, aside))?;

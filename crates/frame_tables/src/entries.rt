@@ -6,9 +6,9 @@ ghost use Rattle.lin_laws.specs.Numbers.{entry_of, entries_from};
 ghost use Rattle.frame_tables.specs.Described.{described, entry_if, AreDescribed};
 
 use crate::after::Point;
-use crate::lines::REGISTERS;
 use bs_bits::Bits;
 use dataflow::Rows;
+use lin_flow::lines::REGISTERS;
 use lin_ir::Descr;
 use mach_ir::Seq;
 use std::alloc::{AllocError, Global};

@@ -11,15 +11,9 @@
 #![tactic(auto)]
 
 mod after;
-mod control;
 mod entries;
-mod labels;
-mod lines;
-mod nodes;
 mod pushed;
-mod search;
 mod tables;
-mod tries;
 
 pub use pushed::pushed_traps;
 pub use tables::descriptors;

@@ -2,28 +2,13 @@
 ghost use Rattle.std.specs.Prelude.{◌≡◌, ◌<◌, length, slice_index, IfOk};
 ghost use Rattle.lin_ir.specs.Formed.{AreLocated};
 ghost use Rattle.lin_ir.specs.Walks.{OneDepth, ArePushed};
-ghost use Rattle.frame_tables.specs.Nodes.{IsText, AreWalkedTo};
-ghost use Rattle.frame_tables.specs.Pushed.{IsWalked, AreTabled};
-ghost use Rattle.frame_tables.specs.Search.{all_of};
+ghost use Rattle.lin_flow.specs.Nodes.{AreWalkedTo};
+ghost use Rattle.frame_tables.specs.Pushed.{AreTabled};
 
-use crate::labels::Labels;
-use crate::nodes::spread;
-use crate::search::{Search, number_after};
+use lin_flow::{Labels, Walks, number_after, search_walks};
 use lin_ir::Lin;
 use lin_laws::Position;
 use std::alloc::{AllocError, Global};
-
-/// The positions that walks come to.
-fn search_reached(alloc: Global, lin: &Lin, labels: &Labels) -> Result<Search, AllocError>
-    requires { IsText lin.now labels.now }
-    ensures { IfOk result (λ s. IsWalked lin.now (all_of s)) }
-{
-    let mut search = Search::new(alloc, lin.code.len())?;
-    let mut nodes = Vec::new(alloc);
-    let _entry = search.enter(alloc, 0, &[])?;
-    spread(alloc, lin, labels, &mut search, &mut nodes)?;
-    Ok(search)
-}
 
 /// The number of traps at each of these positions, by the number of lines after it.
 fn table_of(alloc: Global, lin: &Lin, positions: &[Position]) -> Result<Vec<u32>, AllocError>
@@ -57,7 +42,7 @@ pub fn pushed_traps(alloc: Global, lin: &Lin) -> Result<Vec<u32>, AllocError>
     ensures { IfOk result (λ traps. ArePushed lin.now (λ left. slice_index traps.items left)) }
 {
     let labels = Labels::of_function(alloc, lin)?;
-    let search = search_reached(alloc, lin, &labels)?;
+    let Walks { search, nodes: _ } = search_walks(alloc, lin, &labels)?;
     let traps = table_of(alloc, lin, search.positions.as_slice())?;
     Ok(traps)
 }

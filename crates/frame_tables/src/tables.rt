@@ -3,17 +3,15 @@ ghost use Rattle.std.specs.Prelude.{◌≡◌, length, IfOk};
 ghost use Rattle.lin_ir.specs.Descriptors.{AreExact, IsWithin, frame_points};
 ghost use Rattle.lin_ir.specs.Formed.{AreLocated};
 ghost use Rattle.lin_ir.specs.Walks.{OneDepth};
-ghost use Rattle.frame_tables.specs.Nodes.{IsText};
+ghost use Rattle.lin_flow.specs.Nodes.{IsText};
 ghost use Rattle.frame_tables.specs.Points.{IsSearched};
 
 use crate::after::{add_points, enter_points};
 use crate::entries::describe_all;
-use crate::labels::Labels;
-use crate::lines::REGISTERS;
-use crate::nodes::spread;
-use crate::search::{Search, number_after};
 use bs_words::List;
 use dataflow::{Flow, Place, live_in_any_order};
+use lin_flow::lines::REGISTERS;
+use lin_flow::{Labels, Search, Walks, number_after, search_walks, spread};
 use lin_ir::{Descr, Lin};
 use mach_ir::Seq;
 use std::alloc::{AllocError, Global};
@@ -28,14 +26,14 @@ struct Searched {
 }
 
 /// Searches what walks come to, and what comes after frame points to which none comes.
-fn search_walks(alloc: Global, lin: &Lin, labels: &Labels) -> Result<Searched, AllocError>
+fn search_points(alloc: Global, lin: &Lin, labels: &Labels) -> Result<Searched, AllocError>
     requires { IsText lin.now labels.now }
     ensures { IfOk result (λ s. IsSearched lin.now s.search s.reached s.nodes.items) }
 {
-    let mut search = Search::new(alloc, lin.code.len())?;
-    let mut nodes = Vec::new(alloc);
-    let _entry = search.enter(alloc, 0, &[])?;
-    spread(alloc, lin, labels, &mut search, &mut nodes)?;
+    let Walks {
+        mut search,
+        mut nodes,
+    } = search_walks(alloc, lin, labels)?;
     let reached = number_after(nodes.len())?;
     enter_points(alloc, lin, &mut search, reached)?;
     spread(alloc, lin, labels, &mut search, &mut nodes)?;
@@ -93,7 +91,7 @@ pub fn descriptors(alloc: Global, lin: &Lin) -> Result<Seq<Descr>, AllocError>
         search,
         nodes,
         reached,
-    } = search_walks(alloc, lin, &labels)?;
+    } = search_points(alloc, lin, &labels)?;
     let descrs = describe_searched(alloc, lin, &search, nodes, reached)?;
     Ok(descrs)
 }

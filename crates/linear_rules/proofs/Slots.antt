@@ -163,6 +163,12 @@ code_split k (i ∷ is) e =
     (regs_split k i.args (slots_of_regs i.results (slots_of_code is)) e)
 
 module _ (m : Mach) where
+  -- a slot that occurs is that of a parameter, an operand or a result
+  pub slot_stands : (k : ℕ) → is_among k (slots_of m) ≡ true → (r : Reg) × (Contains m.params r ⊎ InCode r m.code) × (r.loc ≡ loc.Slot k)
+  slot_stands k e =
+      ⊎_elim (λ y. (y.reg, inl y.among, y.stands)) (λ u. let y = code_split k m.code u in (y.0, inr y.1, y.2))
+      (regs_split k m.params (slots_of_code m.code) e)
+
   -- where each register's slot is below a number, so is the count
   pub slots_few : (n : ℕ) → ((k : ℕ) (r : Reg) → IsRegister m r → r.loc ≡ loc.Slot k → k < n) → slot_count m ≤ n
   slots_few n h =

@@ -15,7 +15,7 @@ use Rattle.lin_ir.specs.declared.lin.Line.{Line}
 use Rattle.lin_ir.specs.declared.lin.Spot.{Spot}
 use Rattle.linear_rules.specs.Lowered.{slot_of, slots_of_regs, slots_of_code, slots_of, is_among, count_below, limit_of, slot_number, slot_count, home, spot, spots, is_idle, line_of, bare, pops, lines_of, lowered_code, lowered}
 use Rattle.linear_rules.proofs.Slots.{among_below}
-use Rattle.linearise.specs.Numbers.{number_in, AreFlags, IsTable, count_set, running}
+use Rattle.linearise.specs.Numbers.{number_in, AreFlags, IsTable, running}
 
 zero_is : (k : ℕ) → k ≤ 0 → k ≡ 0
 zero_is k le = omega (arith, le)
@@ -51,23 +51,8 @@ module _ (ns : List ℕ) where
       ap (λ n. get_or (running n fs) k 0) (counted o false (holds_here o false fs h))
       ∙ running_at fs (suc o) (holds_later o false fs h) k (omega (arith, le)) ∙ ap (count_below ns) (plus_suc o k)
 
-  one_less : (a b c : ℕ) → suc a ≡ b → a + suc c ≡ b + c
-  one_less a b c e = omega (arith, e)
-
-  count_at : (fs : List Bool) (o : ℕ) → Holds o fs → count_below ns o + count_set fs ≡ count_below ns (o + length fs)
-  count_at [] o h = plus_zero (count_below ns o) ∙ ap (count_below ns) (sym (plus_zero o))
-  count_at (true ∷ fs) o h =
-      one_less (count_below ns o) (count_below ns (suc o)) (count_set fs) (counted o true (holds_here o true fs h))
-      ∙ count_at fs (suc o) (holds_later o true fs h) ∙ ap (count_below ns) (plus_suc o (length fs))
-  count_at (false ∷ fs) o h =
-      ap (λ n. n + count_set fs) (counted o false (holds_here o false fs h))
-      ∙ count_at fs (suc o) (holds_later o false fs h) ∙ ap (count_below ns) (plus_suc o (length fs))
-
 zero_plus : (k : ℕ) → 0 + k ≡ k
 zero_plus k = omega arith
-
-none_plus : (k : ℕ) → k ≡ 0 + k
-none_plus k = omega arith
 
 module _ (slots : List ℕ) (flags : List Bool) (are : AreFlags slots flags) where
   all_hold : Holds slots 0 flags
@@ -76,9 +61,6 @@ module _ (slots : List ℕ) (flags : List Bool) (are : AreFlags slots flags) whe
   pub number_at : (numbers : List ℕ) → numbers ≡ running 0 flags → (k : ℕ) → k ≤ limit_of slots → number_in numbers k ≡ count_below slots k
   number_at numbers e k le =
       ap (λ ns. get_or ns k 0) e ∙ running_at slots flags 0 all_hold k (subst (λ n. k ≤ n) (sym are.len) le) ∙ ap (count_below slots) (zero_plus k)
-
-  pub set_count : count_set flags ≡ count_below slots (limit_of slots)
-  set_count = none_plus (count_set flags) ∙ count_at slots flags 0 all_hold ∙ ap (count_below slots) (zero_plus (length flags) ∙ are.len)
 
 -- ---- two ways to number that agree on what occurs
 

@@ -11,12 +11,6 @@ pub record AreFlags (slots : List ℕ) (flags : List Bool) : Type 0 where
   pub len : length flags ≡ limit_of slots
   pub same : (k : ℕ) → k < limit_of slots → slice_index_or flags k false ≡ is_among k slots
 
--- how many flags are set
-abbrev pub count_set : List Bool → ℕ
-count_set [] = 0
-count_set (true ∷ flags) = suc (count_set flags)
-count_set (false ∷ flags) = count_set flags
-
 -- before each flag and after the last, this number and how many are set before it
 abbrev pub running : ℕ → List Bool → List ℕ
 running n [] = n ∷ []

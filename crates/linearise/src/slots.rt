@@ -1,7 +1,7 @@
 //! Which slots occur in a function, and the numbers that they get.
-ghost use Rattle.std.specs.Prelude.{◌≡◌, ◌<◌, ◌++◌, [], IfOk};
-ghost use Rattle.linear_rules.specs.Lowered.{slots_of_regs, slots_of, count_below, limit_of};
-ghost use Rattle.linearise.specs.Numbers.{AreFlags, IsTable, count_set, running};
+ghost use Rattle.std.specs.Prelude.{◌≡◌, ◌++◌, suc, [], IfOk};
+ghost use Rattle.linear_rules.specs.Lowered.{slots_of_regs, slots_of, limit_of};
+ghost use Rattle.linearise.specs.Numbers.{AreFlags, IsTable, running};
 
 use bs_words::Loc;
 use mach_ir::{Mach, Reg};
@@ -60,9 +60,15 @@ fn flags(alloc: Global, slots: &[u32], limit: usize) -> Result<Vec<bool>, AllocE
     Ok(flags)
 }
 
+/// One more. That no number is counts as want of memory.
+fn count_one_more(count: u32) -> Result<u32, AllocError>
+    ensures { IfOk result (λ more. more ≡ suc count) }
+{
+    count.checked_add(1).ok_or(AllocError)
+}
+
 /// Before each flag and after the last, how many are set before it.
 fn counts(alloc: Global, flags: &[bool]) -> Result<Vec<u32>, AllocError>
-    requires { count_set flags.now < 4294967296 }
     ensures { IfOk result (λ numbers. numbers.items ≡ running 0 flags.now) }
 {
     let mut numbers = Vec::new(alloc);
@@ -70,7 +76,7 @@ fn counts(alloc: Global, flags: &[bool]) -> Result<Vec<u32>, AllocError>
     for flag in flags {
         numbers.push(count)?;
         if *flag {
-            count += 1;
+            count = count_one_more(count)?;
         }
     }
     numbers.push(count)?;
@@ -79,8 +85,7 @@ fn counts(alloc: Global, flags: &[bool]) -> Result<Vec<u32>, AllocError>
 
 /// How many of the slots, each counted once, are below each number up to their limit.
 pub fn table(alloc: Global, slots: &[u32], limit: usize) -> Result<Vec<u32>, AllocError>
-    requires limit { limit ≡ limit_of slots.now }
-    requires few { count_below slots.now (limit_of slots.now) < 4294967296 }
+    requires { limit ≡ limit_of slots.now }
     ensures { IfOk result (λ numbers. IsTable slots.now numbers.items) }
 {
     let flags = flags(alloc, slots, limit)?;

@@ -3,3 +3,4 @@ pub mod Leaving
 pub mod Regular
 pub mod Redirecting
 pub mod Vals
+pub mod Tidied

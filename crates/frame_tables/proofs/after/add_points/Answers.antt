@@ -1,6 +1,6 @@
 use Rattle.std.proofs.Common.{◌<◌, length, sym, ◌∙◌, arith}
 use Rattle.frame_tables.proofs.Pointing.{points_begun, points_skip, pointed_more, no_frame_at, no_point_at}
-use Rattle.frame_tables.specs.Search.{all_of}
+use Rattle.lin_flow.specs.Search.{all_of}
 use Rattle.frame_tables.proofs.after.add_points.Goals as goal
 use Rattle.frame_tables.proofs.after.add_points.Goals.{then-passes_frame+in_ok-node+in_ok-push+in_ok-push-2, else-passes_frame}
 

@@ -1,5 +1,5 @@
 use Rattle.frame_tables.specs.Points.{ArePoints}
-use Rattle.frame_tables.specs.Search.{all_of}
+use Rattle.lin_flow.specs.Search.{all_of}
 use Rattle.frame_tables.proofs.after.add_points.Given as goal
 
 abbrev pub invariant-loop-place : goal.invariant-loop-place

@@ -1,7 +1,7 @@
 use Rattle.std.proofs.Common.{◌≡◌, ◌+◌, length, arith, refl}
 use Rattle.frame_tables.proofs.Bounds.{slots_small, frame_small}
 use Rattle.frame_tables.proofs.Composing.{well_formed_by, exact_by, count_by, sizes_by, small_by}
-use Rattle.frame_tables.specs.Search.{all_of}
+use Rattle.lin_flow.specs.Search.{all_of}
 use Rattle.frame_tables.proofs.tables.describe_searched.Goals as goal
 
 pub overflow_add-flow : goal.overflow_add-flow

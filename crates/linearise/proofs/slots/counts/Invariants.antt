@@ -1,10 +1,6 @@
-use Rattle.std.proofs.Common.{◌≡◌, ◌+◌, ◌++◌, drop}
-use Rattle.linearise.specs.Numbers.{count_set, running}
+use Rattle.std.proofs.Common.{◌≡◌, ◌++◌, drop}
+use Rattle.linearise.specs.Numbers.{running}
 use Rattle.linearise.proofs.slots.counts.Given as goal
 
 abbrev pub invariant-loop-flag : goal.invariant-loop-flag
-invariant-loop-flag l =
-    record {
-      numbers : l.numbers.items ++ running l.count (drop l.flag-index l.flags) ≡ running 0 l.flags;
-      count : l.count + count_set (drop l.flag-index l.flags) ≡ count_set l.flags;
-    }
+invariant-loop-flag l = l.numbers.items ++ running l.count (drop l.flag-index l.flags) ≡ running 0 l.flags

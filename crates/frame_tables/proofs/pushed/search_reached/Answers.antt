@@ -1,9 +1,0 @@
-use Rattle.std.proofs.Common.{ℕ, subst}
-use Rattle.frame_tables.proofs.Pushing.{is_walked}
-use Rattle.frame_tables.specs.Search.{Starts}
-use Rattle.frame_tables.proofs.pushed.search_reached.Goals as goal
-
-pub returns : goal.returns
-returns c =
-    is_walked c.args.lin.now c.in_ok-search.search c.enter.new.self c.spread.new.search c.in_ok-_entry._entry c.spread.new.nodes.items
-    (subst (λ (k : ℕ). Starts k c.in_ok-search.search) c.len.ensures c.in_ok-search.ensures) c.in_ok-_entry.ensures c.in_ok-spread.ensures

@@ -1,9 +1,0 @@
-use Rattle.std.proofs.Common.{ℕ, ◌<◌}
-use Rattle.std.specs.Prelude.{slice_index}
-use Rattle.frame_tables.specs.Search.{IsThere}
-use Rattle.frame_tables.proofs.search.Search.has_first.Given as goal
-
-abbrev pub invariant-loop-number : goal.invariant-loop-number
-invariant-loop-number l =
-    (k : ℕ) → k < l.number-index → slice_index l.number-items k < l.first →
-    IsThere l.self l.place (slice_index l.number-items k) → ⊥

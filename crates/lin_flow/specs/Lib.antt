@@ -1,0 +1,5 @@
+pub mod Labels
+pub mod Live
+pub mod Nodes
+pub mod Search
+pub mod Walked

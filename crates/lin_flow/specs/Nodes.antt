@@ -1,0 +1,77 @@
+-- The places of the flow graph that are positions.
+use Rattle.std.specs.Prelude.{◌≡◌, ℕ, suc, ◌+◌, ◌<◌, ◌≤◌, Bool, true, false, List, [], ◌∷◌, ◌++◌, Some, map, length, drop, slice_get}
+use Rattle.bs_words.specs.Contents.{contents}
+use Rattle.dataflow.specs.declared.flow.Place as place
+use Rattle.lin_ir.specs.Walks.{targets, may_raise, tries_after, Reached}
+use Rattle.lin_ir.specs.declared.lin.Line.{Line}
+use Rattle.lin_ir.specs.declared.lin.Lin.{Lin}
+use Rattle.lin_laws.specs.Graph.{position, steps, raise_steps, AreNumbered, AreNumbersOf, IsNode, AreNodes}
+use Rattle.lin_laws.specs.declared.position.Position.{Position}
+use Rattle.lin_flow.specs.Labels.{AreLabelsOf, place_in, place_to}
+use Rattle.lin_laws.specs.Numbers.{val_numbers, written_numbers}
+use Rattle.lin_flow.specs.Search.{all_of, groups_of, Grown, AreGrouped}
+use Rattle.lin_flow.specs.declared.labels.Labels.{Labels}
+use Rattle.lin_flow.specs.declared.search.Search.{Search}
+
+-- where a raise leads, by the table of labels
+abbrev pub landing_to : Labels → Bool → List ℕ → List Position
+landing_to labels false tries = []
+landing_to labels true [] = []
+landing_to labels true (h ∷ tries) = position (place_in labels h) tries ∷ []
+
+-- where a line goes on, by the table of labels
+abbrev pub steps_to : Labels → Line → ℕ → List ℕ → List Position
+steps_to labels i p tries =
+    map (λ q. position q (tries_after i.op tries)) (map (place_to labels p) (targets i.op))
+
+-- these positions have come in, and these are their numbers
+pub record Landed (old new : Search) (ys : List Position) (ns : List ℕ) : Type 0 where
+  pub grown : Grown old new ys
+  pub numbers : AreNumbersOf (all_of new) ns ys
+
+-- a function whose locations have numbers, and the table of its labels
+pub record IsText (m : Lin) (labels : Labels) : Type 0 where
+  pub numbered : AreNumbered m
+  pub table : AreLabelsOf m labels
+  pub lines : length m.code < 4294967296
+
+-- the place of the graph for a line, and the positions after it
+pub record IsNodeOfLine (labels : Labels) (old new : Search) (i : Line) (p : ℕ) (tries : List ℕ)
+    (node : place.Place) : Type 0 where
+  pub grown : Grown old new (steps_to labels i p tries ++ landing_to labels (may_raise i.op) tries)
+  pub next : AreNumbersOf (all_of new) (contents node.next) (steps_to labels i p tries)
+  pub aside : AreNumbersOf (all_of new) (contents node.aside)
+      (landing_to labels (may_raise i.op) tries)
+  pub reads : contents node.reads ≡ val_numbers i.args
+  pub writes : contents node.writes ≡ written_numbers i
+
+-- a position was visited
+pub record Visited (m : Lin) (old new : Search) (number : ℕ) (node : place.Place) : Type 0 where
+  pub at : Position
+  pub is : slice_get (all_of old) number ≡ Some at
+  pub grown : Grown old new (steps m at ++ raise_steps m at)
+  pub is_node : IsNode m (m.slots + 32) (all_of new) at node
+
+-- the first positions were visited
+pub record IsReady (m : Lin) (s : Search) (nodes : List place.Place) : Type 0 where
+  pub groups : length (groups_of s) ≡ suc (length m.code)
+  pub fewer : length nodes ≤ length (all_of s)
+  pub are : AreNodes m (m.slots + 32) (all_of s) nodes
+
+-- some walk comes to each position
+pub record AreWalkedTo (m : Lin) (all : List Position) : Type 0 where
+  pub each : (q : ℕ) (x : Position) → slice_get all q ≡ Some x →
+      Reached m (drop x.place m.code) x.tries
+
+-- positions were visited, some of them new
+pub record Spreads (m : Lin) (old new : Search) (nodes : List place.Place) : Type 0 where
+  pub kept : (q : ℕ) (x : Position) → slice_get (all_of old) q ≡ Some x →
+      slice_get (all_of new) q ≡ Some x
+  pub walked : AreWalkedTo m (all_of old) → AreWalkedTo m (all_of new)
+  pub grouped : AreGrouped old → AreGrouped new
+  pub ready : IsReady m new nodes
+
+-- all positions were visited
+pub record Spread (m : Lin) (old new : Search) (nodes : List place.Place) : Type 0 where
+  pub spreads : Spreads m old new nodes
+  pub all : length nodes ≡ length (all_of new)

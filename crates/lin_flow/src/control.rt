@@ -1,0 +1,161 @@
+//! Where control goes from a line.
+ghost use Rattle.std.specs.Prelude.{◌≡◌, ◌<◌, ◌^◌, ℕ, suc, map, [], ◌∷◌, IfOk};
+ghost use Rattle.mach_ir.specs.Acts.{At, goes_on};
+ghost use Rattle.mach_ir.specs.Acts as acts;
+ghost use Rattle.lin_ir.specs.Walks.{targets};
+ghost use Rattle.lin_ir.specs.Walks as walks;
+ghost use Rattle.lin_flow.specs.Labels.{place_to, next_place};
+
+use crate::labels::Labels;
+use lin_ir::{Flow, LinOp};
+use mach_ir::{Calling, Leaving, Op};
+use std::alloc::{AllocError, Global};
+
+fn call_goes_on(calling: &Calling) -> bool
+    ensures { result ≡ goes_on (Op.Calling calling.now) }
+{
+    match calling {
+        Calling::Call { .. } => true,
+        Calling::TailCall { .. } => false,
+        Calling::External { .. } => true,
+    }
+}
+
+fn leaving_goes_on(leaving: Leaving) -> bool
+    ensures { result ≡ goes_on (Op.Leaving leaving) }
+{
+    match leaving {
+        Leaving::Checkbound(_) => true,
+        Leaving::Raise => false,
+        Leaving::Return => false,
+    }
+}
+
+fn goes_on(op: &Op) -> bool
+    ensures { result ≡ goes_on op.now }
+{
+    match op {
+        Op::Pure(_) => true,
+        Op::Access(_) => true,
+        Op::Calling(calling) => call_goes_on(calling),
+        Op::Leaving(leaving) => leaving_goes_on(*leaving),
+    }
+}
+
+fn call_may_raise(calling: &Calling) -> bool
+    ensures { result ≡ acts.may_raise (Op.Calling calling.now) }
+{
+    match calling {
+        Calling::Call { .. } => true,
+        Calling::TailCall { .. } => false,
+        Calling::External { row: _, frame } => *frame,
+    }
+}
+
+fn leaving_may_raise(leaving: Leaving) -> bool
+    ensures { result ≡ acts.may_raise (Op.Leaving leaving) }
+{
+    match leaving {
+        Leaving::Checkbound(_) => true,
+        Leaving::Raise => true,
+        Leaving::Return => false,
+    }
+}
+
+fn op_may_raise(op: &Op) -> bool
+    ensures { result ≡ acts.may_raise op.now }
+{
+    match op {
+        Op::Pure(_) => false,
+        Op::Access(_) => false,
+        Op::Calling(calling) => call_may_raise(calling),
+        Op::Leaving(leaving) => leaving_may_raise(*leaving),
+    }
+}
+
+/// Whether it leads to the innermost handler too: a call, a frame call, a raise or a bound test.
+pub fn may_raise(op: &LinOp) -> bool
+    ensures { result ≡ walks.may_raise op.now }
+{
+    match op {
+        LinOp::Op(op) => op_may_raise(op),
+        LinOp::Flow(_) => false,
+    }
+}
+
+fn one_place(alloc: Global, place: u32) -> Result<Vec<u32>, AllocError>
+    ensures { IfOk result (λ places. places.items ≡ place ∷ []) }
+{
+    let mut places = Vec::new(alloc);
+    places.push(place)?;
+    Ok(places)
+}
+
+fn two_places(alloc: Global, first: u32, second: u32) -> Result<Vec<u32>, AllocError>
+    ensures { IfOk result (λ places. places.items ≡ first ∷ second ∷ []) }
+{
+    let mut places = one_place(alloc, first)?;
+    places.push(second)?;
+    Ok(places)
+}
+
+fn places_of_labels(alloc: Global, labels: &Labels, among: &[u32]) -> Result<Vec<u32>, AllocError>
+    ensures { IfOk result (λ places. (p : ℕ) → places.items ≡ map (place_to labels.now p) (map At among.now)) }
+{
+    let mut places = Vec::new(alloc);
+    for label in among {
+        places.push(labels.place_of(*label))?;
+    }
+    Ok(places)
+}
+
+fn places_after_op(alloc: Global, op: &Op, place: u32) -> Result<Vec<u32>, AllocError>
+    requires { suc place < 2 ^ 32 }
+    ensures { IfOk result (λ places. places.items ≡ next_place (goes_on op.now) place) }
+{
+    if goes_on(op) {
+        one_place(alloc, place + 1)
+    } else {
+        Ok(Vec::new(alloc))
+    }
+}
+
+fn places_after_flow(
+    alloc: Global,
+    labels: &Labels,
+    flow: &Flow,
+    place: u32,
+) -> Result<Vec<u32>, AllocError>
+    requires { suc place < 2 ^ 32 }
+    ensures { IfOk result (λ places. places.items ≡ map (place_to labels.now place) (targets (LinOp.Flow flow.now))) }
+{
+    match flow {
+        Flow::Label(_) => one_place(alloc, place + 1),
+        Flow::Jump(label) => one_place(alloc, labels.place_of(*label)),
+        Flow::Exit(label) => one_place(alloc, labels.place_of(*label)),
+        Flow::Branch { test: _, label } => { two_places(alloc, place + 1, labels.place_of(*label)) }
+        Flow::Switch(among) => {
+            let places = places_of_labels(alloc, labels, among.as_slice())?;
+            Ok(places)
+        }
+        Flow::PushTrap(_) => one_place(alloc, place + 1),
+        Flow::PopTrap => one_place(alloc, place + 1),
+        Flow::EnterTrap => one_place(alloc, place + 1),
+    }
+}
+
+/// Where the line at the place goes on, conditions ignored.
+pub fn places_after(
+    alloc: Global,
+    labels: &Labels,
+    op: &LinOp,
+    place: u32,
+) -> Result<Vec<u32>, AllocError>
+    requires { suc place < 2 ^ 32 }
+    ensures { IfOk result (λ places. places.items ≡ map (place_to labels.now place) (targets op.now)) }
+{
+    match op {
+        LinOp::Op(op) => places_after_op(alloc, op, place),
+        LinOp::Flow(flow) => places_after_flow(alloc, labels, flow, place),
+    }
+}

@@ -1,0 +1,89 @@
+//! The places of labels.
+ghost use Rattle.std.specs.Prelude.{◌≡◌, ◌<◌, ℕ, ◌^◌, cond, length, IfOk};
+ghost use Rattle.lin_ir.specs.Meaning.{has_label};
+ghost use Rattle.lin_flow.specs.Labels.{is_that_label, place_in, AreLabelsOf};
+
+use lin_ir::{Flow, Lin, LinOp};
+use std::alloc::{AllocError, Global};
+use std::collections::BTreeMap;
+
+/// The label of a line that has one.
+fn flow_label(flow: &Flow) -> Option<u32>
+    ensures { (l : ℕ) → has_label l (LinOp.Flow flow.now) ≡ is_that_label result l }
+{
+    match flow {
+        Flow::Label(label) => Some(*label),
+        Flow::Jump(_) => None,
+        Flow::Exit(_) => None,
+        Flow::Branch { test: _, label: _ } => None,
+        Flow::Switch(_) => None,
+        Flow::PushTrap(_) => None,
+        Flow::PopTrap => None,
+        Flow::EnterTrap => None,
+    }
+}
+
+fn own_label(op: &LinOp) -> Option<u32>
+    ensures { (l : ℕ) → has_label l op.now ≡ is_that_label result l }
+{
+    match op {
+        LinOp::Op(_) => None,
+        LinOp::Flow(flow) => flow_label(flow),
+    }
+}
+
+/// The place after each label, of a label that stands twice after the first.
+#[derive(Drop)]
+pub struct Labels {
+    places: BTreeMap<u32, u32>,
+
+    /// The place of every other label, after the last line.
+    end: u32,
+}
+
+impl Labels {
+    /// The table of a function.
+    pub fn of_function(alloc: Global, lin: &Lin) -> Result<Labels, AllocError>
+        requires { length lin.now.code < 2 ^ 32 }
+        ensures { IfOk result (AreLabelsOf lin.now) }
+    {
+        let code = lin.code.as_slice();
+        let end = code.len() as u32;
+        let mut labels = Labels {
+            places: BTreeMap::new(alloc),
+            end,
+        };
+        let mut place = end;
+        while place > 0 {
+            let after = place;
+            place -= 1;
+            labels.put(&code[place as usize].op, after)?;
+        }
+        Ok(labels)
+    }
+
+    /// Enters the label that the line has, if it has one.
+    fn put(&mut self, op: &LinOp, after: u32) -> Result<(), AllocError>
+        ensures end { IfOk result (λ _. self.new.end ≡ self.old.end) }
+        ensures each { IfOk result (λ _. (l : ℕ) → place_in self.new l ≡
+            cond (has_label l op.now) after (place_in self.old l)) }
+    {
+        match own_label(op) {
+            None => Ok(()),
+            Some(label) => {
+                self.places.insert(label, after)?;
+                Ok(())
+            }
+        }
+    }
+
+    /// The place after the label.
+    pub fn place_of(&self, label: u32) -> u32
+        ensures { result ≡ place_in self.now label }
+    {
+        match self.places.get(&label) {
+            None => self.end,
+            Some(place) => *place,
+        }
+    }
+}

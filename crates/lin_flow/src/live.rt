@@ -1,0 +1,102 @@
+//! What is live where walks come.
+ghost use Rattle.std.specs.Prelude.{◌<◌, ◌↔◌, length, IfOk, IsTrue};
+ghost use Rattle.lin_ir.specs.declared.lin.Lin.{Lin};
+ghost use Rattle.lin_laws.specs.Graph.{AreNumbered, loc_of};
+ghost use Rattle.lin_flow.specs.Live.{ReadsOnFrom, ReadsOnAmong};
+ghost use Rattle.lin_flow.specs.Walked.{AreLive, IsReachedAt, IsReadAfter};
+
+use crate::labels::Labels;
+use crate::lines::bound_of;
+use crate::nodes::node_numbered;
+use crate::search::{Search, number_after};
+use crate::walks::{Walks, search_walks};
+use bs_words::List;
+use dataflow::{Flow, Rows, live_in_any_order};
+use lin_ir::Lin;
+use std::alloc::{AllocError, Global};
+
+/// The positions of a function to which walks come, and what is live as val before each.
+#[derive(Drop)]
+pub struct LiveWalks {
+    pub search: Search,
+
+    /// How many positions there are.
+    pub reached: u32,
+
+    /// Its places have the numbers of positions.
+    pub flow: Flow,
+    pub live: Rows,
+}
+
+/// Searches where walks from the entry come, and what is live there as val.
+///
+/// A function with more lines or slots than a number can count is want of memory.
+pub fn live_walks(alloc: Global, lin: &Lin) -> Result<LiveWalks, AllocError>
+    requires { AreNumbered lin.now }
+    ensures { IfOk result (AreLive lin.now) }
+{
+    let _last = number_after(lin.code.len())?;
+    let bound = bound_of(lin.slots)?;
+    let labels = Labels::of_function(alloc, lin)?;
+    let Walks { search, nodes } = search_walks(alloc, lin, &labels)?;
+    let reached = number_after(nodes.len())?;
+    let flow = Flow {
+        places: List::from_vec(nodes),
+        bound,
+    };
+    let live = live_in_any_order(alloc, &flow)?;
+    Ok(LiveWalks {
+        search,
+        reached,
+        flow,
+        live,
+    })
+}
+
+impl LiveWalks {
+    /// Whether some walk comes to the place.
+    pub fn is_reached(&self, place: u32) -> bool
+        ensures { (m : Lin) → AreLive m self.now → place < length m.code → IsTrue result ↔ IsReachedAt m place }
+    {
+        self.search.has_first(place, self.reached)
+    }
+
+    /// Whether the location of the number is live before one of the positions.
+    fn is_live_before(&self, positions: &[u32], number: u32) -> bool
+        ensures { IsTrue result ↔ ReadsOnAmong self.now positions.now number }
+    {
+        for position in positions {
+            if self.live.contains(*position as usize, number) {
+                return true;
+            }
+        }
+        false
+    }
+
+    /// Whether the position is at the place, and the location of the number is live where control
+    /// goes on from it.
+    fn is_live_after_position(&self, position: u32, place: u32, number: u32) -> bool
+        ensures { IsTrue result ↔ ReadsOnFrom self.now place number position }
+    {
+        if !self.search.is_there(position, place) {
+            return false;
+        }
+        match node_numbered(self.flow.places.as_slice(), position) {
+            None => false,
+            Some(node) => self.is_live_before(node.next.as_slice(), number),
+        }
+    }
+
+    /// Whether some walk comes to the line at the place and goes on to where the location of the
+    /// number is live as val.
+    pub fn is_live_after(&self, place: u32, number: u32) -> bool
+        ensures { (m : Lin) → AreLive m self.now → IsTrue result ↔ IsReadAfter m place (loc_of number) }
+    {
+        for position in self.search.members(place) {
+            if self.is_live_after_position(*position, place, number) {
+                return true;
+            }
+        }
+        false
+    }
+}

@@ -1,0 +1,27 @@
+//! The Linear function of a Mach function.
+ghost use Rattle.std.specs.Prelude.{IfOk};
+ghost use Rattle.mach_ir.specs.Formed.{WellFormed};
+ghost use Rattle.mach_ir.specs.Placed.{FullyPlaced};
+ghost use Rattle.mach_ir.specs.Seats.{Seated};
+ghost use Rattle.linear_pass.specs.Linear.{IsLinearOf};
+
+use lin_ir::Lin;
+use linear_tidy::tidy;
+use linearise::lower;
+use mach_ir::Mach;
+use std::alloc::{AllocError, Global};
+
+/// The Linear function of a Mach function all of whose registers have places: its operations over
+/// places, structures as labels, jumps and branches, tries as traps; then what has no use is left
+/// out (OCaml's `asmcomp/linearize.ml`).
+///
+/// The only error is want of memory, which more lines or slots than a number can count are too.
+pub fn linear(alloc: Global, mach: &Mach) -> Result<Lin, AllocError>
+    requires well_formed { WellFormed mach.now }
+    requires placed { FullyPlaced mach.now }
+    requires seated { Seated mach.now }
+    ensures { IfOk result (IsLinearOf mach.now) }
+{
+    let lowered = lower(alloc, mach)?;
+    tidy(alloc, lowered)
+}

@@ -1,0 +1,5 @@
+pub mod SelfMoves
+pub mod Between
+pub mod Useful
+pub mod Flagged
+pub mod Leading

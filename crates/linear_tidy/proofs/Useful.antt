@@ -1,0 +1,291 @@
+-- What lines are for, by what walks of the function as vals read.
+use Rattle.std.proofs.Common.{◌≡◌, ◌↔◌, ℕ, zero, suc, ◌+◌, ◌<◌, ◌≤◌, Bool, true, false, not, List, [], ◌∷◌, Result, Ok, Err, map, length, drop, get_or, refl, sym, ap, ◌∙◌, subst, arith}
+use Rattle.std.proofs.lemmas.Bool.{true≢false}
+use Rattle.std.specs.List.{All}
+use Rattle.std.specs.Prelude.{IsTrue, IfOk}
+use Rattle.bs_words.specs.declared.types.Comp.{Comp}
+use Rattle.bs_words.specs.declared.types.Comp.TheVariants as comp
+use Rattle.bs_words.specs.declared.types.Loc.{Loc}
+use Rattle.mach_ir.specs.Acts.{Target, On}
+use Rattle.mach_ir.specs.Walks.{OneOf, this, other}
+use Rattle.lin_ir.specs.Formed.{IsSelfMove, is_self_move}
+use Rattle.lin_ir.specs.Meaning.{after_label, code_at}
+use Rattle.lin_ir.specs.Walks.{targets, tries_after, Reached, Live, LiveAfter, after_step, goes}
+use Rattle.lin_ir.specs.declared.lin.Flow.TheVariants as flow
+use Rattle.lin_ir.specs.declared.lin.LinOp.{LinOp}
+use Rattle.lin_ir.specs.declared.lin.LinOp.TheVariants as lin
+use Rattle.lin_ir.specs.declared.lin.Line.{Line}
+use Rattle.lin_ir.specs.declared.lin.Lin.{Lin}
+use Rattle.lin_ir.specs.declared.lin.Spot.{Spot}
+use Rattle.lin_laws.proofs.Numbers.{loc_of_number}
+use Rattle.lin_laws.proofs.Places.{drop_none, drop_is, ends_label, place_is}
+use Rattle.lin_laws.specs.Graph.{loc_of, place_of, HasNumber, HaveNumbers, AreNumbered}
+use Rattle.lin_laws.specs.Numbers.{number_in}
+use Rattle.lin_flow.specs.Walked.{AreLive, IsReachedAt, IsReadAfter}
+use Rattle.lin_flow.specs.declared.live.LiveWalks.{LiveWalks}
+use Rattle.linear_rules.proofs.Homes.{IsIn, is_first, is_later}
+use Rattle.linear_rules.proofs.Lines.{all_of}
+use Rattle.linear_rules.proofs.Marks.{all_in}
+use Rattle.linear_rules.proofs.Walked.{Tail, tail_all, tail_more, tail_in}
+use Rattle.tidy_rules.specs.Leaving.{is_landing, bare, IsUseless, unreached, unread, skipped, LabelsBetween}
+use Rattle.tidy_rules.specs.Regular.{IsReadBehind}
+use Rattle.tidy_rules.specs.Vals.{as_val, line_as_vals, as_vals}
+use Rattle.tidy_rules.proofs.Leaving.{first_same, rest_same, GoesOn, self_goes}
+use Rattle.tidy_rules.proofs.Vals.{reached_vals, reached_of, live_vals, live_of}
+use Rattle.linear_tidy.specs.Flags.{IsIdle, not_read, not_needed, TellsIdle, TellsUse}
+use Rattle.linear_tidy.specs.Forms.{copies, MovesItself}
+use Rattle.linear_tidy.proofs.Between.{drop_line}
+use Rattle.linear_tidy.proofs.SelfMoves.{self_copies, self_place}
+
+-- ---- lists
+
+pub drop_tail : (p : ℕ) (code : List Line) → Tail (drop p code) code
+drop_tail zero code = subst (λ xs. Tail xs code) (sym (drop_none code)) tail_all
+drop_tail (suc p) [] = tail_all
+drop_tail (suc p) (i ∷ is) = tail_more (drop_tail p is)
+
+vals_drop : (p : ℕ) (is : List Line) → drop p (map line_as_vals is) ≡ map line_as_vals (drop p is)
+vals_drop zero is = drop_none (map line_as_vals is) ∙ ap (map line_as_vals) (sym (drop_none is))
+vals_drop (suc p) [] = refl
+vals_drop (suc p) (i ∷ is) = vals_drop p is
+
+pub vals_length : (is : List Line) → length (map line_as_vals is) ≡ length is
+vals_length [] = refl
+vals_length (i ∷ is) = ap suc (vals_length is)
+
+vals_here : (p : ℕ) (is : List Line) (i : Line) (next : List Line) → drop p is ≡ i ∷ next →
+    drop p (map line_as_vals is) ≡ line_as_vals i ∷ map line_as_vals next
+vals_here p is i next e = vals_drop p is ∙ ap (map line_as_vals) e
+
+-- each of a mapped list comes from one
+mapped : {A B : Type 0} (f : A → B) (P : B → Type 0) (xs : List A) → ((x : A) → IsIn x xs → P (f x)) → (y : B) → IsIn y (map f xs) → P y
+mapped f P [] h y z = elim z [ ]
+mapped {A} {B} f P (x ∷ xs) h y z = by (f x) refl (map f xs) z (λ u. mapped f P xs (λ a i. h a (is_later i)) y u)
+  where
+    by : (k : B) → f x ≡ k → (ks : List B) → IsIn y (k ∷ ks) → (IsIn y ks → P y) → P y
+    by k e ks is_first ih = subst P e (h x is_first)
+    by k e ks (is_later u) ih = ih u
+
+pub all_map : {A B : Type 0} (f : A → B) (P : B → Type 0) (xs : List A) → ((x : A) → IsIn x xs → P (f x)) → All P (map f xs)
+all_map f P xs h = all_of P (map f xs) (mapped f P xs h)
+
+vals_spots : (slots : ℕ) (ss : List Spot) → HaveNumbers slots ss → HaveNumbers slots (map as_val ss)
+vals_spots slots ss h =
+    all_map as_val (λ (s : Spot). HasNumber slots s.loc) ss (λ s z. all_in (λ (s : Spot). HasNumber slots s.loc) h z)
+
+-- the function as vals has its locations
+pub vals_numbered : (m : Lin) → AreNumbered m → AreNumbered (as_vals m)
+vals_numbered m h =
+    record {
+      args = all_map line_as_vals (λ (i : Line). HaveNumbers m.slots i.args) m.code
+          (λ i z. vals_spots m.slots i.args (all_in (λ (i : Line). HaveNumbers m.slots i.args) h.args z));
+      results = all_map line_as_vals (λ (i : Line). HaveNumbers m.slots i.results) m.code
+          (λ i z. vals_spots m.slots i.results (all_in (λ (i : Line). HaveNumbers m.slots i.results) h.results z));
+    }
+
+-- ---- moves of a location to itself
+
+first_spot : (s t : Spot) (ss ts : List Spot) → s ∷ ss ≡ t ∷ ts → s ≡ t
+first_spot s t ss ts e = cc
+
+-- a line moves one location to itself
+pub self_one : {i : Line} {from to other into : Spot} → IsSelfMove i from to → IsSelfMove i other into → to.loc ≡ into.loc
+self_one a b =
+    let x = self_place a in
+    let y = self_place b in
+    sym x.at ∙ ap (λ (s : Spot). s.loc) (first_spot x.to y.to [] [] (sym x.is_to ∙ y.is_to)) ∙ y.at
+
+self_landing : {i : Line} {from to : Spot} → IsSelfMove i from to → is_landing i.op ≡ false
+self_landing (is_self_move same) = refl
+
+only_on : {i : Line} {from to : Spot} {t : Target} → IsSelfMove i from to → OneOf t (targets i.op) → t ≡ On
+only_on (is_self_move same) this = refl
+only_on (is_self_move same) (other o) = elim o [ ]
+
+self_numbered : (slots : ℕ) {i : Line} {from to : Spot} → IsSelfMove i from to → HaveNumbers slots i.results → HasNumber slots to.loc
+self_numbered slots (is_self_move same) h = all_in (λ (s : Spot). HasNumber slots s.loc) h (is_first {xs = []})
+
+jump_copies : {i : Line} {l : ℕ} {from to : Spot} → i ≡ bare (flow.Jump l) → IsSelfMove i from to → ⊥
+jump_copies e z = true≢false (sym (self_copies z) ∙ ap (λ (i : Line). copies i.op) e)
+
+jump_landing : {i : Line} {l : ℕ} → i ≡ bare (flow.Jump l) → is_landing i.op ≡ false
+jump_landing e = ap (λ (i : Line). is_landing i.op) e
+
+-- ---- idle lines
+
+-- the line at a place
+pub line_at : (m : Lin) (p : ℕ) (i : Line) (slice : List Line) → p < length m.code → slice ≡ m.code → i ≡ get_or slice p i →
+    (j : Line) (next : List Line) → drop p m.code ≡ j ∷ next → i ≡ j
+line_at m p i slice lt same e j next d =
+    first_same i j (drop (p + 1) m.code) next (sym (drop_line m.code p i lt (e ∙ ap (λ xs. get_or xs p i) same)) ∙ d)
+
+not_false : (b : Bool) → not b ≡ true → b ≡ false
+not_false false e = refl
+not_false true e = absurd (true≢false (sym e))
+
+not_true : (b : Bool) → not b ≡ false → b ≡ true
+not_true true e = refl
+not_true false e = absurd (true≢false e)
+
+module _ (m : Lin) (w : LiveWalks) (p : ℕ) (i : Line) (at : (j : Line) (next : List Line) → drop p m.code ≡ j ∷ next → i ≡ j) where
+  pub idle_move : (l : Loc) (n : ℕ) (b : Bool) → MovesItself i l → n ≡ number_in l →
+      ((v : Lin) → AreLive v w → IsTrue b ↔ IsReadAfter v p (loc_of n)) → TellsIdle m w p (not b)
+  idle_move l n b moves e same =
+      let Named : Lin → ℕ → Type 0 = λ v k. IsReadAfter v p (loc_of k) in
+      record {
+        yes = λ t v h j next d.
+            let z : IsSelfMove j moves.from moves.to = subst (λ (k : Line). IsSelfMove k moves.from moves.to) (at j next d) moves.is in
+            not_read z
+            (λ r. true≢false (sym ((same v h).1 (subst (Named v) (ap number_in moves.at ∙ sym e) r)) ∙ not_false b t));
+        no = λ t v h j next d.
+            let z : IsSelfMove j moves.from moves.to = subst (λ (k : Line). IsSelfMove k moves.from moves.to) (at j next d) moves.is in
+            record {
+              read = λ from to y.
+                  subst (Named v) (e ∙ ap number_in (sym moves.at ∙ self_one z y)) ((same v h).0 (not_true b t));
+              jumps = λ k u q. jump_copies u z;
+            };
+      }
+
+  pub idle_other : ((from to : Spot) → IsSelfMove i from to → ⊥) → ((l : ℕ) → i ≡ bare (flow.Jump l) → ⊥) → TellsIdle m w p false
+  idle_other still none =
+      record {
+        yes = λ t. absurd (true≢false (sym t));
+        no = λ t v h j next d.
+            record {
+              read = λ from to y. absurd (still from to (subst (λ (k : Line). IsSelfMove k from to) (sym (at j next d)) y));
+              jumps = λ k u q. none k (at j next d ∙ u);
+            };
+      }
+
+  pub idle_jump : (l to : ℕ) (b : Bool) → i ≡ bare (flow.Jump l) → to ≡ place_of m (after_label l m.code) → p < length m.code →
+      (p + 1 ≤ length m.code → IsTrue b ↔ LabelsBetween (drop (p + 1) m.code) (drop to m.code)) → TellsIdle m w p b
+  idle_jump l to b is e lt same =
+      let both = same (omega (arith, lt)) in
+      let there : drop to m.code ≡ after_label l m.code = ap (λ k. drop k m.code) e ∙ place_is m (ends_label l m.code) in
+      let next_is : (j : Line) (next : List Line) → drop p m.code ≡ j ∷ next → drop (p + 1) m.code ≡ next =
+      λ j next d. (let k : p + 1 ≡ suc p = omega arith in ap (λ k. drop k m.code) k) ∙ (drop_is p m.code j next d).1 in
+      record {
+        yes = λ t v h j next d.
+            not_needed (sym (at j next d) ∙ is)
+            (subst (LabelsBetween next) there (subst (λ xs. LabelsBetween xs (drop to m.code)) (next_is j next d) (both.0 t)));
+        no = λ t v h j next d.
+            record {
+              read = λ from into y. absurd (jump_copies (sym (at j next d) ∙ is) y);
+              jumps = λ k u q.
+                  let same_label : k ≡ l = label_one k l (sym u ∙ sym (at j next d) ∙ is) in
+                  let past : LabelsBetween next (drop to m.code) =
+                  subst (LabelsBetween next) (ap (λ k. after_label k m.code) same_label ∙ sym there) q in
+                  true≢false (sym (both.1 (subst (λ xs. LabelsBetween xs (drop to m.code)) (sym (next_is j next d)) past)) ∙ t);
+            };
+      }
+    where
+      label_of : LinOp → ℕ
+      label_of (lin.Flow (flow.Jump k)) = k
+      label_of _ = 0
+
+      label_one : (k l : ℕ) → bare (flow.Jump k) ≡ bare (flow.Jump l) → k ≡ l
+      label_one k l e = ap (λ (i : Line). label_of i.op) e
+
+-- ---- by what the walks read
+
+module _ (m : Lin) (numbered : AreNumbered m) (p : ℕ) where
+  abbrev V : Lin
+  V = as_vals m
+
+  here_tail : (i : Line) (next : List Line) → drop p m.code ≡ i ∷ next → Tail (i ∷ next) m.code
+  here_tail i next d = subst (λ xs. Tail xs m.code) d (drop_tail p m.code)
+
+  self_loc : (i : Line) (next : List Line) → drop p m.code ≡ i ∷ next → {from to : Spot} → IsSelfMove i from to → loc_of (number_in to.loc) ≡ to.loc
+  self_loc i next d {to = to} z =
+      loc_of_number m.slots to.loc
+      (self_numbered m.slots z (all_in (λ (i : Line). HaveNumbers m.slots i.results) numbered.results (tail_in (here_tail i next d))))
+
+  pub use_unreached : (IsReachedAt V p → ⊥) → (b : Bool) → ((i : Line) (next : List Line) → drop p m.code ≡ i ∷ next → is_landing i.op ≡ false) → b ≡ true →
+      TellsUse m p b
+  use_unreached out b low is =
+      record {
+        yes = λ t i next d.
+            unreached (low i next d)
+            (λ tries r. out (record { tries = tries; reached = subst (λ xs. Reached V xs tries) (sym (vals_here p m.code i next d)) (reached_vals m r) }));
+        no = λ t. absurd (true≢false (sym is ∙ t));
+      }
+
+  pub use_landing : ((i : Line) (next : List Line) → drop p m.code ≡ i ∷ next → is_landing i.op ≡ true) → TellsUse m p false
+  use_landing high =
+      record {
+        yes = λ t. absurd (true≢false (sym t));
+        no = λ t i next d.
+            record {
+              reached = λ e. absurd (true≢false (sym (high i next d) ∙ e));
+              read = λ from to z. absurd (true≢false (sym (high i next d) ∙ self_landing z));
+              jumps = λ l e q. true≢false (sym (high i next d) ∙ jump_landing e);
+            };
+      }
+
+  -- what is read after it as anything
+  read_vals : (i : Line) (next : List Line) → drop p m.code ≡ i ∷ next → {from to : Spot} → IsSelfMove i from to → (tries : List ℕ) →
+      Reached m (i ∷ next) tries → (t : Comp) → Live m to.loc t next tries → IsReadAfter V p (loc_of (number_in to.loc))
+  read_vals i next d {to = to} z tries r t v =
+      let g : GoesOn i to = self_goes z in
+      record {
+        line = line_as_vals i;
+        next = map line_as_vals next;
+        at = vals_here p m.code i next d;
+        tries = tries;
+        reached = reached_vals m r;
+        live = after_step (goes On g.on)
+            (subst (λ ts. Live V (loc_of (number_in to.loc)) comp.Val (map line_as_vals next) ts) (sym (g.tries tries))
+            (subst (λ l. Live V l comp.Val (map line_as_vals next) tries) (sym (self_loc i next d z)) (live_vals m v)));
+      }
+
+  vals_read : (i : Line) (next : List Line) → drop p m.code ≡ i ∷ next → {from to : Spot} → IsSelfMove i from to →
+      IsReadAfter V p (loc_of (number_in to.loc)) → IsReadBehind m i next to
+  vals_read i next d {from} {to} z x =
+      let same : x.line ∷ x.next ≡ line_as_vals i ∷ map line_as_vals next = sym x.at ∙ vals_here p m.code i next d in
+      let line : x.line ≡ line_as_vals i = first_same x.line (line_as_vals i) x.next (map line_as_vals next) same in
+      let rest : x.next ≡ map line_as_vals next = rest_same x.line (line_as_vals i) x.next (map line_as_vals next) same in
+      let g : GoesOn i to = self_goes z in
+      let live : Live V to.loc comp.Val (map line_as_vals next) x.tries = by line rest g x.live in
+      let y = live_of m live next refl in
+      record {
+        tries = x.tries;
+        reached = reached_of m (here_tail i next d) (subst (λ xs. Reached V xs x.tries) same x.reached);
+        type = y.0;
+        live = y.1;
+      }
+    where
+      by : x.line ≡ line_as_vals i → x.next ≡ map line_as_vals next → GoesOn i to → LiveAfter V (loc_of (number_in to.loc)) comp.Val x.line x.next x.tries →
+          Live V to.loc comp.Val (map line_as_vals next) x.tries
+      by line rest g (after_step (goes t o) v) =
+          let on : t ≡ On = only_on z (subst (λ (j : Line). OneOf t (targets j.op)) line o) in
+          let same : tries_after x.line.op x.tries ≡ x.tries = ap (λ (j : Line). tries_after j.op x.tries) line ∙ g.tries x.tries in
+          subst (λ l. Live V l comp.Val (map line_as_vals next) x.tries) (self_loc i next d z)
+          (subst (λ xs. Live V (loc_of (number_in to.loc)) comp.Val xs x.tries) rest
+          (subst (λ ts. Live V (loc_of (number_in to.loc)) comp.Val x.next ts) same
+          (subst (λ t. Live V (loc_of (number_in to.loc)) comp.Val (code_at V.code x.next t) (tries_after x.line.op x.tries)) on v)))
+
+  pub use_idle : (w : LiveWalks) (b : Bool) → AreLive V w → IsReachedAt V p →
+      ((i : Line) (next : List Line) → drop p m.code ≡ i ∷ next → is_landing i.op ≡ false) → TellsIdle m w p b → TellsUse m p b
+  use_idle w b live r low tells =
+      record {
+        yes = λ t i next d. useless i next d (tells.yes t V live i next d);
+        no = λ t i next d.
+            let busy = tells.no t V live i next d in
+            record {
+              reached = λ e. (
+                r.tries,
+                reached_of m (here_tail i next d) (subst (λ xs. Reached V xs r.tries) (vals_here p m.code i next d) r.reached),
+              );
+              read = λ from to z. vals_read i next d z (busy.read from to z);
+              jumps = busy.jumps;
+            };
+      }
+    where
+      useless : (i : Line) (next : List Line) → drop p m.code ≡ i ∷ next → IsIdle m V p i next → IsUseless m i next
+      useless i next d (not_read z dead) = unread z (λ tries r t v. dead (read_vals i next d z tries r t v))
+      useless i next d (not_needed e q) = skipped e q
+
+  pub use_idle_ok : {E : Type 0} (w : LiveWalks) (o : Result Bool E) → AreLive V w → IsReachedAt V p →
+      ((i : Line) (next : List Line) → drop p m.code ≡ i ∷ next → is_landing i.op ≡ false) → IfOk o (λ b. TellsIdle m w p b) → IfOk o (λ b. TellsUse m p b)
+  use_idle_ok w (Ok b) live r low tells = use_idle w b live r low tells
+  use_idle_ok w (Err e) live r low tells = tells

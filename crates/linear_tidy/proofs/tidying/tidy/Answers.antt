@@ -1,0 +1,37 @@
+use Rattle.std.proofs.Common.{◌≡◌, false, sym, ◌∙◌, subst}
+use Rattle.std.proofs.lemmas.Bool.{true≢false}
+use Rattle.std.specs.List.{All}
+use Rattle.linear_tidy.proofs.Flagged.{redirected_numbered, first_round, next_numbered, next_round, last_round, fewer_left, left_by}
+use Rattle.linear_tidy.proofs.tidying.tidy.Goals as goal
+
+pub useless_lines-requires : goal.useless_lines-requires
+useless_lines-requires c = redirected_numbered c.args.lin c.in_ok-now.now c.in_ok-now.ensures c.requires
+
+pub loop-alloc-init : goal.loop-alloc-init
+loop-alloc-init c =
+    first_round c.args.lin c.in_ok-now.now c.in_ok-flags.flags.items c.in_ok-now.ensures c.requires c.in_ok-flags.ensures
+
+pub useless_lines-requires-in-loop-alloc : goal.useless_lines-requires-in-loop-alloc
+useless_lines-requires-in-loop-alloc c =
+    next_numbered c.args.lin c.loop-alloc.now c.in_ok-now-2.now c.loop-alloc.flags.items c.loop-alloc.invariant
+    (left_by c.loop-alloc.now c.in_ok-now-2.now c.as_slice-in-loop-alloc.result.now c.loop-alloc.flags.items c.as_slice-in-loop-alloc.ensures.value
+    c.in_ok-now-2.ensures)
+
+pub loop-alloc-smaller : goal.loop-alloc-smaller
+loop-alloc-smaller c =
+    fewer_left c.loop-alloc.now c.in_ok-now-2.now c.loop-alloc.flags.items c.loop-alloc.invariant.told.len
+    (λ none. true≢false
+    (sym (c.none_set.ensures.1 (subst (All (λ b. b ≡ false)) (sym c.as_slice.ensures.value) none)) ∙ c.loop-alloc-test.true))
+    (left_by c.loop-alloc.now c.in_ok-now-2.now c.as_slice-in-loop-alloc.result.now c.loop-alloc.flags.items c.as_slice-in-loop-alloc.ensures.value
+    c.in_ok-now-2.ensures)
+
+pub loop-alloc-preserved : goal.loop-alloc-preserved
+loop-alloc-preserved c =
+    next_round c.args.lin c.loop-alloc.now c.in_ok-now-2.now c.loop-alloc.flags.items c.in_ok-flags-2.flags.items c.loop-alloc.invariant
+    (left_by c.loop-alloc.now c.in_ok-now-2.now c.as_slice-in-loop-alloc.result.now c.loop-alloc.flags.items c.as_slice-in-loop-alloc.ensures.value
+    c.in_ok-now-2.ensures) c.in_ok-flags-2.ensures
+
+pub returns : goal.returns
+returns c =
+    last_round c.args.lin c.loop-alloc.now c.loop-alloc.flags.items c.loop-alloc.invariant
+    (subst (All (λ b. b ≡ false)) c.as_slice.ensures.value (c.none_set.ensures.0 c.loop-alloc-test.false))

@@ -1,0 +1,61 @@
+-- Which lines have no use, told by tests.
+use Rattle.std.specs.Prelude.{◌≡◌, ℕ, suc, ◌-◌, ◌<◌, Bool, true, false, List, [], ◌∷◌, drop, length, slice_index_or, IsTrue, IsFalse}
+use Rattle.lin_ir.specs.Formed.{IsSelfMove}
+use Rattle.lin_ir.specs.Meaning.{after_label}
+use Rattle.lin_ir.specs.declared.lin.Flow.TheVariants as flow
+use Rattle.lin_ir.specs.declared.lin.Spot.{Spot}
+use Rattle.lin_ir.specs.declared.lin.Line.{Line}
+use Rattle.lin_ir.specs.declared.lin.Lin.{Lin}
+use Rattle.lin_laws.specs.Graph.{loc_of}
+use Rattle.lin_laws.specs.Numbers.{number_in}
+use Rattle.lin_flow.specs.Walked.{AreLive, IsReadAfter}
+use Rattle.lin_flow.specs.declared.live.LiveWalks.{LiveWalks}
+use Rattle.tidy_rules.specs.Leaving.{bare, IsUseless, LabelsBetween}
+use Rattle.tidy_rules.specs.Tidied.{IsUseful}
+
+-- Why a line to which walks come has no use, by what is live after it in a function.
+pub data IsIdle (m v : Lin) (p : ℕ) (i : Line) (next : List Line) : Type 0 where
+  not_read : {from to : Spot} → IsSelfMove i from to →
+      (IsReadAfter v p (loc_of (number_in to.loc)) → ⊥) → IsIdle m v p i next
+  not_needed : {l : ℕ} → i ≡ bare (flow.Jump l) → LabelsBetween next (after_label l m.code) →
+      IsIdle m v p i next
+
+-- and what it is for
+pub record IsBusy (m v : Lin) (p : ℕ) (i : Line) (next : List Line) : Type 0 where
+  pub read : (from to : Spot) → IsSelfMove i from to → IsReadAfter v p (loc_of (number_in to.loc))
+  pub jumps : (l : ℕ) → i ≡ bare (flow.Jump l) → LabelsBetween next (after_label l m.code) → ⊥
+
+-- whether the line at the place is idle, by what is live after it in any function of these walks
+pub record TellsIdle (m : Lin) (walks : LiveWalks) (p : ℕ) (idle : Bool) : Type 0 where
+  pub yes : IsTrue idle → (v : Lin) → AreLive v walks → (i : Line) (next : List Line) →
+      drop p m.code ≡ i ∷ next → IsIdle m v p i next
+  pub no : IsFalse idle → (v : Lin) → AreLive v walks → (i : Line) (next : List Line) →
+      drop p m.code ≡ i ∷ next → IsBusy m v p i next
+
+-- whether the line at the place has no use
+pub record TellsUse (m : Lin) (p : ℕ) (useless : Bool) : Type 0 where
+  pub yes : IsTrue useless → (i : Line) (next : List Line) → drop p m.code ≡ i ∷ next →
+      IsUseless m i next
+  pub no : IsFalse useless → (i : Line) (next : List Line) → drop p m.code ≡ i ∷ next →
+      IsUseful m i next
+
+-- for each line
+pub record AreFlags (m : Lin) (flags : List Bool) : Type 0 where
+  pub len : length flags ≡ length m.code
+  pub each : (p : ℕ) → p < length m.code → TellsUse m p (slice_index_or flags p false)
+
+-- by the number of lines after it, whether a line goes
+abbrev pub goes_by : List Bool → ℕ → Bool
+goes_by flags n = slice_index_or flags (length flags - suc n) false
+
+-- the lines whose flags are not set
+abbrev pub kept : List Bool → List Line → List Line
+kept [] code = code
+kept flags [] = []
+kept (true ∷ flags) (i ∷ next) = kept flags next
+kept (false ∷ flags) (i ∷ next) = i ∷ kept flags next
+
+-- a line, unless it goes
+abbrev pub unless_gone : Bool → Line → List Line
+unless_gone true i = []
+unless_gone false i = i ∷ []

@@ -1,0 +1,3 @@
+pub mod Flags
+pub mod Forms
+pub mod Targets

@@ -1,0 +1,180 @@
+//! Jumps that go at once where others lead.
+ghost use Rattle.std.specs.Prelude.{◌≡◌, ◌<◌, ◌^◌, ℕ, cond, drop, length, map, nat_eq, IfOk, IfSome, List, ◌∷◌};
+ghost use Rattle.lin_ir.specs.declared.lin.Line.{Line};
+ghost use Rattle.lin_flow.specs.Labels.{AreLabelsOf};
+ghost use Rattle.tidy_rules.specs.Leaving.{bare, LabelsBetween};
+ghost use Rattle.tidy_rules.specs.Redirecting.{redirected, redirect, GoesOnTo, Redirects};
+ghost use Rattle.linear_tidy.specs.Targets.{target_in, LeadsTo, AreTargets};
+
+use crate::forms::{is_label, jump_of};
+use lin_flow::{Labels, number_after};
+use lin_ir::{Flow, Lin, LinOp, Line};
+use mach_ir::Seq;
+use std::alloc::{AllocError, Global};
+use std::collections::BTreeMap;
+
+/// The label to which the first line from the place on that is no label jumps, if it is a jump.
+fn jump_from(code: &[Line], place: usize) -> Option<u32>
+    ensures { IfSome result (λ label. LeadsTo (drop place code.now) label) }
+{
+    for at in place..code.len() {
+        let line = &code[at];
+        if let Some(label) = jump_of(line) {
+            return Some(label);
+        }
+        if !is_label(line) {
+            return None;
+        }
+    }
+    None
+}
+
+/// The label to which control goes on from a label by labels and jumps alone. Jumps that lead round
+/// are followed once for each line.
+fn last_label(lin: &Lin, labels: &Labels, label: u32) -> u32
+    requires { AreLabelsOf lin.now labels.now }
+    ensures { GoesOnTo lin.now label result }
+{
+    let mut last = label;
+    for _line in 0..lin.code.len() {
+        match jump_from(lin.code.as_slice(), labels.place_of(last) as usize) {
+            None => return last,
+            Some(next) => {
+                last = next;
+            }
+        }
+    }
+    last
+}
+
+/// Where jumps to labels go instead.
+#[derive(Drop)]
+pub struct Targets {
+    targets: BTreeMap<u32, u32>,
+}
+
+impl Targets {
+    /// Every label is its own target.
+    fn new(alloc: Global) -> Targets
+        ensures { (l : ℕ) → target_in result l ≡ l }
+    {
+        Targets {
+            targets: BTreeMap::new(alloc),
+        }
+    }
+
+    /// Where jumps to the label go: to itself where nothing is known of it.
+    fn target_of(&self, label: u32) -> u32
+        ensures { result ≡ target_in self.now label }
+    {
+        match self.targets.get(&label) {
+            None => label,
+            Some(target) => *target,
+        }
+    }
+
+    /// Enters where jumps to the label go.
+    fn put(&mut self, label: u32, target: u32) -> Result<(), AllocError>
+        ensures { IfOk result (λ _. (l : ℕ) → target_in self.new l ≡ cond (nat_eq label l) target (target_in self.old l)) }
+    {
+        self.targets.insert(label, target)?;
+        Ok(())
+    }
+
+    /// Enters where jumps to the label of a line go, if it has one.
+    fn put_line(&mut self, lin: &Lin, labels: &Labels, line: &Line) -> Result<(), AllocError>
+        requires labels { AreLabelsOf lin.now labels.now }
+        requires targets { AreTargets lin.now self.old }
+        ensures { IfOk result (λ _. AreTargets lin.now self.new) }
+    {
+        match &line.op {
+            LinOp::Flow(Flow::Label(label)) => {
+                let target = last_label(lin, labels, *label);
+                self.put(*label, target)
+            }
+            LinOp::Flow(Flow::Jump(_)) => Ok(()),
+            LinOp::Flow(Flow::Exit(_)) => Ok(()),
+            LinOp::Flow(Flow::Branch { test: _, label: _ }) => Ok(()),
+            LinOp::Flow(Flow::Switch(_)) => Ok(()),
+            LinOp::Flow(Flow::PushTrap(_)) => Ok(()),
+            LinOp::Flow(Flow::PopTrap) => Ok(()),
+            LinOp::Flow(Flow::EnterTrap) => Ok(()),
+            LinOp::Op(_) => Ok(()),
+        }
+    }
+
+    /// For each label of a function, where control goes on to from it.
+    fn of_function(alloc: Global, lin: &Lin) -> Result<Targets, AllocError>
+        requires { length lin.now.code < 2 ^ 32 }
+        ensures { IfOk result (AreTargets lin.now) }
+    {
+        let labels = Labels::of_function(alloc, lin)?;
+        let mut targets = Targets::new(alloc);
+        for line in lin.code.as_slice() {
+            targets.put_line(lin, &labels, line)?;
+        }
+        Ok(targets)
+    }
+
+    fn redirect_flow(&self, flow: Flow) -> Flow
+        ensures { LinOp.Flow result ≡ redirected (target_in self.now) (LinOp.Flow flow) }
+    {
+        match flow {
+            Flow::Jump(label) => Flow::Jump(self.target_of(label)),
+            Flow::Exit(label) => Flow::Exit(self.target_of(label)),
+            Flow::Branch { test, label } => Flow::Branch {
+                test,
+                label: self.target_of(label),
+            },
+            Flow::Label(label) => Flow::Label(label),
+            Flow::Switch(labels) => Flow::Switch(labels),
+            Flow::PushTrap(label) => Flow::PushTrap(label),
+            Flow::PopTrap => Flow::PopTrap,
+            Flow::EnterTrap => Flow::EnterTrap,
+        }
+    }
+
+    fn redirect(&self, line: Line) -> Line
+        ensures { result ≡ redirect (target_in self.now) line }
+    {
+        let Line { op, args, results } = line;
+        let op = match op {
+            LinOp::Op(op) => LinOp::Op(op),
+            LinOp::Flow(flow) => LinOp::Flow(self.redirect_flow(flow)),
+        };
+        Line { op, args, results }
+    }
+
+    fn redirect_code(&self, alloc: Global, code: Seq<Line>) -> Result<Seq<Line>, AllocError>
+        ensures { IfOk result (λ turned. turned ≡ map (redirect (target_in self.now)) code) }
+    {
+        let mut turned = Vec::with_capacity(alloc, code.len())?;
+        for line in code.into_vec() {
+            turned.push(self.redirect(line))?;
+        }
+        Ok(Seq::from_vec(turned))
+    }
+}
+
+/// The function in which jumps, exits and branches go at once where the jumps lead to which they go.
+pub fn redirect_jumps(alloc: Global, lin: Lin) -> Result<Lin, AllocError>
+    ensures { IfOk result (Redirects lin) }
+{
+    let _count = number_after(lin.code.len())?;
+    let targets = Targets::of_function(alloc, &lin)?;
+    let Lin {
+        name,
+        params,
+        result,
+        slots,
+        code,
+    } = lin;
+    let code = targets.redirect_code(alloc, code)?;
+    Ok(Lin {
+        name,
+        params,
+        result,
+        slots,
+        code,
+    })
+}

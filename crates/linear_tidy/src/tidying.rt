@@ -1,0 +1,31 @@
+//! A function made tidy.
+ghost use Rattle.std.specs.Prelude.{IfOk};
+ghost use Rattle.lin_laws.specs.Graph.{AreNumbered};
+ghost use Rattle.tidy_rules.specs.Tidied.{IsTidied};
+
+use crate::leaving::{leave_out, none_set};
+use crate::redirecting::redirect_jumps;
+use crate::use_of_lines::useless_lines;
+use lin_ir::Lin;
+use std::alloc::{AllocError, Global};
+
+/// The function made tidy: its jumps go at once where others lead, each line that is left is reached
+/// by some walk, each move of a location to itself is read later, and no jump leads to where control
+/// comes without it. Labels and the entries of handlers stay.
+///
+/// Each location has to be a register of the machine or one of the function's slots. Walks are
+/// searched once and again after each time that lines went: most functions take two or three
+/// searches. The only error is want of memory, which more lines or slots than a number can count
+/// are too.
+pub fn tidy(alloc: Global, lin: Lin) -> Result<Lin, AllocError>
+    requires { AreNumbered lin }
+    ensures { IfOk result (IsTidied lin) }
+{
+    let mut now = redirect_jumps(alloc, lin)?;
+    let mut flags = useless_lines(alloc, &now)?;
+    while !none_set(flags.as_slice()) {
+        now = leave_out(alloc, now, flags.as_slice())?;
+        flags = useless_lines(alloc, &now)?;
+    }
+    Ok(now)
+}

@@ -1,0 +1,24 @@
+-- What a function is made into: one that is tidy.
+use Rattle.std.specs.Prelude.{◌≡◌, ℕ, false, List, ◌∷◌}
+use Rattle.lin_ir.specs.Formed.{IsSelfMove}
+use Rattle.lin_ir.specs.Meaning.{after_label}
+use Rattle.lin_ir.specs.Walks.{Reached}
+use Rattle.lin_ir.specs.declared.lin.Flow.TheVariants as flow
+use Rattle.lin_ir.specs.declared.lin.Spot.{Spot}
+use Rattle.lin_ir.specs.declared.lin.Line.{Line}
+use Rattle.lin_ir.specs.declared.lin.Lin.{Lin}
+use Rattle.tidy_rules.specs.Leaving.{is_landing, bare, LabelsBetween}
+use Rattle.tidy_rules.specs.Redirecting.{Tidies}
+use Rattle.tidy_rules.specs.Regular.{IsReadBehind, IsTidy}
+
+-- The second function is the first without lines that have no use, jumps going at once where others
+-- lead, and no line is left in it that has no use.
+pub record IsTidied (m r : Lin) : Type 0 where
+  pub tidies : Tidies m r
+  pub tidy : IsTidy r
+
+-- what a line, before this code, is for: the opposite of having no use
+pub record IsUseful (m : Lin) (i : Line) (next : List Line) : Type 0 where
+  pub reached : is_landing i.op ≡ false → (tries : List ℕ) × Reached m (i ∷ next) tries
+  pub read : (from to : Spot) → IsSelfMove i from to → IsReadBehind m i next to
+  pub jumps : (l : ℕ) → i ≡ bare (flow.Jump l) → LabelsBetween next (after_label l m.code) → ⊥
