@@ -1,5 +1,5 @@
 -- How rows grow while nodes are walked.
-use Rattle.std.proofs.Common.{◌≡◌, ℕ, zero, suc, ◌+◌, ◌<◌, ◌≤◌, List, [], ◌∷◌, ◌++◌, length, get_or, drop, refl, sym, ap, ap₂, ◌∙◌, subst, OnOk, Ok, Err, Result, drop-cons, arith}
+use Rattle.std.proofs.Common.{◌≡◌, ℕ, suc, ◌+◌, ◌<◌, ◌≤◌, List, [], ◌∷◌, ◌++◌, length, get_or, drop, refl, sym, ap, ap₂, ◌∙◌, subst, OnOk, Ok, Err, Result, drop-cons, arith}
 use Rattle.std.proofs.lemmas.List.{drop_all, append-nil}
 use Rattle.bs_words.specs.External.{External}
 use Rattle.cmm_tree.specs.declared.expr.Expr.{Expr}

@@ -4,7 +4,15 @@ ghost use Rattle.bs_words.specs.Contents.{contents};
 ghost use Rattle.cmm_meaning.specs.Evaluation.{comp_of_argument};
 ghost use Rattle.cmm_tree.specs.View.{file_view};
 ghost use Rattle.cmm_types.specs.Typing.{AreItemsAnnotated};
-ghost use Rattle.image_rules.specs.Held.{calls_held, comps_among, calls_among, calls_among_bindings, calls_among_cases, calls_among_handlers, calls_among_items};
+ghost use Rattle.image_rules.specs.Held.{
+  calls_held,
+  comps_among,
+  calls_among,
+  calls_among_bindings,
+  calls_among_cases,
+  calls_among_handlers,
+  calls_among_items,
+};
 ghost use Rattle.layout_rules.specs.Externals.{firsts_behind, externals};
 
 use crate::rows::ExternalRows;

@@ -14,7 +14,7 @@ use Rattle.cmm_data.specs.Placement.{DataSymbolTree, PlacedItem, size_at, items_
 use Rattle.cmm_data.proofs.Laws.{end_of_items-above}
 use Rattle.cmm_data.proofs.Steps.{length-bytes_at}
 
-end_of_lists-above : (end : ℕ) (lists : List DataListTree) → end ≤ end_of_lists end lists
+pub end_of_lists-above : (end : ℕ) (lists : List DataListTree) → end ≤ end_of_lists end lists
 end_of_lists-above end [] = omega arith
 end_of_lists-above end (d ∷ lists) =
     omega (arith, end_of_items-above (start_behind end) d.items, end_of_lists-above (end_behind end d) lists)
@@ -107,7 +107,7 @@ symbol_lies address size high (Text bytes) rest lie = lie_less address (address 
 symbol_lies address size high (Global name_at name) rest lie = lie_less address (address + size) high rest (omega arith) lie
 symbol_lies address size high AFloat rest lie = lie_less address (address + size) high rest (omega arith) lie
 
-items_lie : (address : ℕ) (items : List DataItemTree) → Lie address (end_of_items address items) (symbols_among (items_from address items))
+pub items_lie : (address : ℕ) (items : List DataItemTree) → Lie address (end_of_items address items) (symbols_among (items_from address items))
 items_lie address [] = omega arith
 items_lie address (i ∷ items) =
     let size = size_at address i.datum in

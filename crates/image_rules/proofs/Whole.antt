@@ -54,7 +54,7 @@ words_below file n at (p ∷ ps) (f ∷ fs) aligned low fits leads =
     (encoded_below (code_of n at p f) (code_fits at (target_of n p) p f fits.0 aligned (omega (arith, low)) (leads p)))
     (words_below file n next ps fs (omega (arith, aligned)) (omega (arith, low)) fits.1 leads)
 
-all_length : (file : FileTree) (entries : List ℕ) (at : ℕ) (ps : List Pieces) (forms : List (List Form)) → length (code_from file entries at ps forms) ≡ all_words ps forms
+pub all_length : (file : FileTree) (entries : List ℕ) (at : ℕ) (ps : List Pieces) (forms : List (List Form)) → length (code_from file entries at ps forms) ≡ all_words ps forms
 all_length file entries at [] forms = refl
 all_length file entries at (p ∷ ps) [] = refl
 all_length file entries at (p ∷ ps) (f ∷ forms) =

@@ -1,4 +1,4 @@
-use Rattle.std.proofs.Common.{[], ◌∷◌, List, refl, ap, ◌∙◌}
+use Rattle.std.proofs.Common.{[], ◌∷◌, refl, ap, ◌∙◌}
 use Rattle.bs_words.specs.Contents.{contents}
 use Rattle.cmm_tree.specs.declared.file.Item.{Item}
 use Rattle.image_rules.specs.Held.{calls_among_items}

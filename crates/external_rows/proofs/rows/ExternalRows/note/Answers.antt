@@ -1,4 +1,4 @@
-use Rattle.std.proofs.Common.{◌≡◌, Bool, true, false, not, ap, sym, ◌∙◌}
+use Rattle.std.proofs.Common.{ap, sym, ◌∙◌}
 use Rattle.external_rows.specs.Entries.{key_of, noted}
 use Rattle.external_rows.proofs.Lookups.{row, row_parts, added, known}
 use Rattle.external_rows.proofs.rows.ExternalRows.note.Goals as goal

@@ -1,6 +1,5 @@
-use Rattle.std.proofs.Common.{◌≡◌, List, map, take, length, ap, sym, ◌∙◌, refl}
-use Rattle.std.proofs.lemmas.List.{length-map}
-use Rattle.image_form.specs.Tables.{ext, Ext}
+use Rattle.std.proofs.Common.{map, ap, sym, ◌∙◌}
+use Rattle.image_form.specs.Tables.{ext}
 use Rattle.layout_rules.specs.Externals.{ext_of}
 use Rattle.external_rows.proofs.Lookups.{next_row, all_rows}
 use Rattle.external_rows.proofs.rows.ExternalRows.to_list.Goals as goal
