@@ -1,5 +1,5 @@
 -- Every line, of whatever kind.
-use Rattle.std.proofs.Common.{◌≡◌, ◌⊎◌, inl, inr, ⊎_elim, ℕ, suc, ◌+◌, ◌*◌, List, ◌∷◌, length, Option, refl, subst, arith}
+use Rattle.std.proofs.Common.{◌≡◌, ◌⊎◌, inl, inr, ⊎_elim, ℕ, suc, ◌+◌, ◌*◌, List, ◌∷◌, length, Option, subst, arith}
 use Rattle.emit_rules.specs.Emitted.{part_of}
 use Rattle.emit_rules.specs.Entry.{Frame}
 use Rattle.layout_rules.specs.Forms.{total_words}
@@ -86,6 +86,6 @@ every_line s n laid live entry c place named m f d i next v file a k lines point
     let same : many ≡ k = omega (arith, past, behind) in
     ⊎_elim
     (λ plain. so_without k s laid live entry c v (laid.frame + 16 * length a.tries) does (step_no place named m i next file a (never_waits i.op plain))
-            (subst (λ w. FollowsStep w s laid live entry c v does) same
-             (plain_followed s laid n m place named live entry c f d next i plain file a v lines (fit.raised (begins_none i.op plain)) lie at)))
+    (subst (λ w. FollowsStep w s laid live entry c v does) same
+    (plain_followed s laid n m place named live entry c f d next i plain file a v lines (fit.raised (begins_none i.op plain)) lie at)))
     (λ turn. lines_follow s n laid live entry c place named m f d i next v file a k turn lines points fit behind at) (kinds i.op)
