@@ -1,9 +1,9 @@
 -- A cell of static data is written: what the heap and the data stand for then.
-use Rattle.std.proofs.Common.{◌≡◌, ◌≢◌, ℕ, zero, suc, ◌+◌, ◌-◌, ◌*◌, ◌/◌, ◌%◌, ◌^◌, ◌<◌, ◌≤◌, ◌⊎◌, inl, inr, Bool, true, false, cond, ◌&&◌, ◌||◌, ◌==◌, nat_le, nat_lt, List, [], ◌∷◌, length, Option, Some, None, slice_get, slice_set, slice_index_or, refl, ap, ap₂, arith, ◌∙◌, sym, subst, ⊎_elim, length-set, get_or-set_same, get_or-set_other}
+use Rattle.std.proofs.Common.{◌≡◌, ◌≢◌, ℕ, zero, suc, ◌+◌, ◌-◌, ◌*◌, ◌/◌, ◌%◌, ◌^◌, ◌<◌, ◌≤◌, ◌⊎◌, inl, inr, Bool, true, false, cond, ◌&&◌, ◌==◌, nat_le, List, [], ◌∷◌, length, Option, Some, None, slice_get, slice_set, slice_index_or, refl, ap, arith, ◌∙◌, sym, subst, ⊎_elim, get_or-set_same, get_or-set_other}
 use Rattle.std.specs.List.{AllByRecursion}
-use Rattle.std.proofs.lemmas.Bool.{and_parts, cond-false, cond-true, eq-eqb, eqb-true, leb-true, ltb-true, or_cases}
-use Rattle.bs_words.specs.Fits.{data_start, fits, is_still}
-use Rattle.bs_words.specs.Memory.{Cell, HeapBlock, InStatic, Memory, StaticList, cell_at, end_of_data, in_statics, is_root, type_in, type_of_static, value_in, with_value}
+use Rattle.std.proofs.lemmas.Bool.{and_parts, eqb-true, leb-true, or_cases}
+use Rattle.bs_words.specs.Fits.{data_start, fits}
+use Rattle.bs_words.specs.Memory.{Cell, InStatic, Memory, StaticList, cell_at, end_of_data, in_statics, is_root, type_in, type_of_static, value_in, with_value}
 use Rattle.bs_words.specs.declared.types.Ty.TheVariants as ty
 use Rattle.bs_words.specs.declared.values.Value.{Value}
 use Rattle.bs_words.specs.declared.values.Value.TheVariants.{Word, Block, Function}
@@ -14,13 +14,13 @@ use Rattle.rv_machine.specs.Memory.{Region, word, write}
 use Rattle.rv_machine.specs.Relocation.{root_cells}
 use Rattle.rv_machine.specs.Sound.{HasRegions, extents}
 use Rattle.machine_laws.proofs.Memory.{other_word}
-use Rattle.moving_laws.specs.Stands.{Among, StaticsStand}
-use Rattle.moving_laws.specs.Values.{FitsCell, IsKnown, IsStill, IsVal, start_of, value_word}
+use Rattle.moving_laws.specs.Stands.{Among}
+use Rattle.moving_laws.specs.Values.{IsKnown, IsStill, IsVal, start_of, value_word}
 use Rattle.moving_laws.specs.Words.{IsReadable}
 use Rattle.moving_laws.proofs.Rewriting.{start_inside}
 use Rattle.moving_laws.proofs.Usable.{data_readable, formed_regions}
 use Rattle.moving_laws.proofs.Words.{readable_write, same_or_not, word_same}
-use Rattle.linear_machine.specs.Contents.{blocks_of, static_in, statics_of}
+use Rattle.linear_machine.specs.Contents.{static_in, statics_of}
 use Rattle.linear_machine.specs.Relation.{HeapStands, StandsFor}
 use Rattle.linear_machine.specs.View.{Fixed}
 use Rattle.line_values.specs.Statics.{IsWholeList, StaticsLie}

@@ -1,9 +1,8 @@
 -- Switches follow their lines, by tests in turn and by tables of jumps.
-use Rattle.std.proofs.Common.{◌≡◌, ◌≢◌, ℕ, zero, suc, ◌+◌, ◌-◌, ◌*◌, ◌%◌, ◌^◌, ◌<◌, ◌≤◌, inl, inr, Bool, true, false, cond, ◌==◌, nat_le, List, [], ◌∷◌, ◌++◌, length, map, slice_get, slice_index, Option, Some, None, Result, Ok, Err, refl, ap, arith, ◌∙◌, sym, subst, ⊎_elim}
+use Rattle.std.proofs.Common.{◌≡◌, ◌≢◌, ℕ, zero, suc, ◌+◌, ◌-◌, ◌*◌, ◌^◌, ◌<◌, ◌≤◌, inl, inr, Bool, true, false, cond, nat_le, List, [], ◌∷◌, length, map, slice_get, slice_index, Some, None, Result, Ok, Err, refl, ap, arith, ◌∙◌, sym, subst, ⊎_elim}
 use Rattle.std.proofs.lemmas.Bool.{eq-eqb, ne_eqb}
 use Rattle.bs_words.specs.Operators.{word_in}
 use Rattle.bs_words.specs.Word.{add_word, shl_word}
-use Rattle.bs_words.proofs.Below.{add_word-below, shl_word-below}
 use Rattle.bs_words.specs.declared.types.Loc.{Loc}
 use Rattle.bs_words.specs.declared.types.Loc.TheVariants as loc
 use Rattle.bs_words.specs.declared.values.Kind.{Kind}
@@ -20,9 +19,8 @@ use Rattle.lin_ir.specs.declared.lin.Lin.{Lin}
 use Rattle.lin_ir.specs.declared.lin.Line.{Line}
 use Rattle.lin_ir.specs.declared.lin.LinOp.TheVariants as lin
 use Rattle.lin_ir.specs.declared.lin.Spot.{Spot}
-use Rattle.mach_ir.specs.Acts.{Around, goes_to_case, switched}
+use Rattle.mach_ir.specs.Acts.{Around, goes_to_case}
 use Rattle.mach_ir.specs.Runs.{Place}
-use Rattle.moving_laws.specs.Stands.{Among}
 use Rattle.rv_isa.specs.Registers.{number}
 use Rattle.rv_isa.specs.declared.instr.AluImmOp.TheVariants.{Addi}
 use Rattle.rv_isa.specs.declared.instr.AluOp.TheVariants.{Add}
@@ -30,15 +28,14 @@ use Rattle.rv_isa.specs.declared.instr.Condition.TheVariants as condition
 use Rattle.rv_isa.specs.declared.instr.Instr.TheVariants.{Auipc, Jalr, Op, OpImm, Shift}
 use Rattle.rv_isa.specs.declared.instr.ShiftOp.TheVariants.{Slli}
 use Rattle.rv_isa.specs.declared.register.Register.TheVariants.{T1, Zero}
-use Rattle.rv_machine.specs.Arithmetic.{imm_i, imm_u, is_taken}
+use Rattle.rv_machine.specs.Arithmetic.{imm_i, imm_u}
 use Rattle.rv_machine.specs.Hart.{Placed}
 use Rattle.rv_machine.specs.Memory.{code_start}
 use Rattle.rv_machine.specs.Sound.{AreRegisters}
-use Rattle.rv_pieces.specs.declared.piece.Piece.{Piece}
-use Rattle.rv_pieces.specs.declared.piece.Piece.TheVariants.{Branch, Jump, Known, Row}
+use Rattle.rv_pieces.specs.declared.piece.Piece.TheVariants.{Jump, Row}
 use Rattle.linear_machine.specs.Follows.{Agrees, FollowsStep}
-use Rattle.linear_machine.specs.Relation.{Below, Laid, StandsFor, Within, all_of}
-use Rattle.linear_machine.specs.Straight.{Changes, Comes, Differs, IsPast}
+use Rattle.linear_machine.specs.Relation.{Below, Laid, Within}
+use Rattle.linear_machine.specs.Straight.{Changes, Comes, Differs}
 use Rattle.linear_machine.specs.View.{Fixed, View, HasCode, IsCode, Leads}
 use Rattle.linear_machine.proofs.Formats.{sets_auipc, sets_imm, sets_jalr, sets_op, sets_shift}
 use Rattle.linear_machine.proofs.Immediates.{by_20, down, high_12, low_12, up}
@@ -51,10 +48,9 @@ use Rattle.linear_machine.proofs.Standing.{within_past}
 use Rattle.linear_machine.proofs.Steps.{at_place, reg, set_to_step, then_leads}
 use Rattle.line_stands.specs.Parts.{PartStands}
 use Rattle.line_stands.proofs.Parts.{counts, last, leads, starts}
-use Rattle.line_values.proofs.Jumping.{Goes, IsPlace, Jumped, code_near, far_goes}
+use Rattle.line_values.proofs.Jumping.{Goes, code_near, far_goes}
 use Rattle.line_values.proofs.Landing.{Lies, jump_lands, lands, lies_near, within_gone}
-use Rattle.line_values.proofs.Operands.{fetches}
-use Rattle.line_values.proofs.Places.{no_unset, slot_of, usual_of}
+use Rattle.line_values.proofs.Places.{no_unset, usual_of}
 use Rattle.line_values.proofs.Testing.{branch_lands, first_comes}
 
 -- instructions that change t1 and t2 alone, and then some that lead to a place
