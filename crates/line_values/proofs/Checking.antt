@@ -145,7 +145,11 @@ module _ (s : Fixed) (n : Named) (laid : Laid) (v : View) (young : List Placed) 
   pub caught : (m : Lin) (l : ℕ) (rest : List ℕ) → a.tries ≡ l ∷ rest → laid.handler l ≡ address_of_place (laid.part (length (after_label l m.code))) →
       (held' : Locations) → ((j : ℕ) (y : Value) → held' (loc.Slot j) ≡ Some y → held (loc.Slot j) ≡ Some y) →
       ((raised_at s v within.own.are trap.back trap.low trap.high trap0 trap8 code.0).place ≡ laid.part (length (after_label l m.code)))
-      × Within s laid (raised_at s v within.own.are trap.back trap.low trap.high trap0 trap8 code.0) young 0 held' (record a { tries = rest; raised = Some x }) c
+      × Within s laid (raised_at s v within.own.are trap.back trap.low trap.high trap0 trap8 code.0) young 0 held' (record a {
+        tries = rest;
+        raised =
+            Some x;
+      }) c
   caught m l rest e handler held' sub =
       let own : slice_index v.registers 9 ≡ slice_index v.registers 2 =
       (subst (λ ts. TrapsFrom s.base v.memory (slice_index v.registers 9) (traps_at (slice_index v.registers 2) (map laid.handler ts)
@@ -328,7 +332,15 @@ module _ (s : Fixed) (n : Named) (laid : Laid) (m : Lin) (slots : m.slots ≡ la
             (then_leads s (k1 + 2) 5 v ready.view
             (there s n laid ready.view young (dropped 10 held) a c ready.holds.stands (Word 0x10000000) ready.holds.error 5 here) ready.leads
             (led s n laid ready.view young (dropped 10 held) a c ready.holds.stands (Word 0x10000000) ready.holds.error 5 here))
-            (subst (λ ts. IsAt s laid live c (record { rest = at_handler m.code ts; file = file; around = record a { tries = rest; raised = Some bound_error } })
+            (subst (λ ts. IsAt s laid live c (record {
+              rest = at_handler m.code ts;
+              file = file;
+              around = record a {
+                tries = rest;
+                raised =
+                    Some bound_error;
+              };
+            })
             (there s n laid ready.view young (dropped 10 held) a c ready.holds.stands (Word 0x10000000) ready.holds.error 5 here)) (sym e)
             (young, held, record { others = agrees.others; spare_too = λ q. absurd (dead l rest e q) }, record { place = got.0; within = got.1 }))
 
@@ -370,7 +382,8 @@ module _ (s : Fixed) (n : Named) (laid : Laid) (m : Lin) (slots : m.slots ≡ la
   -- whatever the right operand is
   operands_by : (r : Right) (args : List Spot) (p : Spot) → IsLocation m p.loc → Reads before p.loc → (words : List Piece) (right : Register)
       (holds : Value → Type 0) →
-      PartStands s n v.place (v.place + k) (fetched (length a.tries) T1 p.loc ++ words ++ skip condition.Bltu right (register_of T1 p.loc) 28 ∷ raise_bound_error) →
+      PartStands s n v.place (v.place + k) (fetched (length a.tries) T1 p.loc ++ words ++ skip condition.Bltu right (register_of T1 p.loc) 28
+      ∷ raise_bound_error) →
       ((at j : ℕ) → PartStands s n at (at + j) words → Seconded s n laid m slots v young held a c none within holds at j right) →
       (bound index : ℕ) → held p.loc ≡ Some (Word bound) → holds (Word index) →
       FollowsStep k s laid live entry c v (on_act place m (record {

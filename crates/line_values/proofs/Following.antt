@@ -183,7 +183,12 @@ module _ (s : Fixed) (laid : Laid) (n : Named) (m : Lin) (place : Place) (named 
         let to : laid.part (length next) ≡ v.place + total_words (part_of (length a.tries) f d (record { op = o; args = args; results = results }))
         st.part.forms = omega (arith, p, e) in
         subst (λ z. PartStands s n v.place z (part_of (length a.tries) f d (record { op = o; args = args; results = results }))) to
-        (subst (λ z. PartStands s n z (laid.part (length next)) (part_of (length a.tries) f d (record { op = o; args = args; results = results }))) (sym e) st.part)
+        (subst (λ z. PartStands s n z (laid.part (length next)) (part_of (length a.tries) f d (record {
+          op = o;
+          args = args;
+          results =
+              results;
+        }))) (sym e) st.part)
 
     behind : (v : View) → v.place ≡ laid.part (suc (length next)) →
         laid.part (length next) ≡ v.place + total_words (part_of (length a.tries) f d (record { op = o; args = args; results = results })) st.part.forms
@@ -208,7 +213,12 @@ module _ (s : Fixed) (laid : Laid) (n : Named) (m : Lin) (place : Place) (named 
         (λ q. q.1) (st.spare.on to i l)
 
     -- with one
-    passes_one : (r : Spot) → OneOf On (targets o) → results ≡ r ∷ [] → live next → (r.loc ≡ spare) ⊎ live (record { op = o; args = args; results = results } ∷ next)
+    passes_one : (r : Spot) → OneOf On (targets o) → results ≡ r ∷ [] → live next → (r.loc ≡ spare) ⊎ live (record {
+      op = o;
+      args = args;
+      results =
+          results;
+    } ∷ next)
     passes_one r i one l =
         ⊎_elim (λ w. inl (one_member r w.0 (subst (λ rs. Contains rs (record { loc = spare; comp = w.0 })) one w.1)))
         (λ q. inr q.1) (st.spare.on On i l)
@@ -301,7 +311,8 @@ module _ (s : Fixed) (laid : Laid) (n : Named) (m : Lin) (place : Place) (named 
       let o = lin.Op (op.Leaving (leaving.Checkbound (right.Constant w))) in
       check_with_line s n laid m st.slots live entry c place named next v young held file a none during.within
       (live (record { op = o; args = p ∷ []; results = [] } ∷ next)) agrees (words o (p ∷ []) [] a st)
-      (behind o (p ∷ []) [] a st v during.place) (passes_to o (p ∷ []) [] a st On this refl) (handled o (p ∷ []) a st refl) (dead o (p ∷ []) a st refl) w small p
+      (behind o (p ∷ []) [] a st v during.place) (passes_to o (p ∷ []) [] a st On this refl) (handled o (p ∷ []) a st refl) (dead o (p
+      ∷ []) a st refl) w small p
       (locates o (p ∷ []) [] a st).0 (reads o (p ∷ []) [] a st p (first_in p [])) (part_at o (p ∷ []) [] a st v during.place)
 
   label_case : (l : ℕ) → Goal (lin.Flow (flow.Label l)) [] []

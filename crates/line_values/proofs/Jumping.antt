@@ -104,7 +104,8 @@ jump_test : (t : Bool) → rank (cond t Near Far) ≤ 0 → t ≡ true
 jump_test true l = refl
 jump_test false l = absurd (omega (arith, l))
 
-pub jump_goes : (s : Fixed) (u : View) → AreRegisters u.registers → (to : ℕ) → u.place < 2 ^ 26 → IsPlace to → (f : Form) → rank (jump_form u.place to) ≤ rank f →
+pub jump_goes : (s : Fixed) (u : View) → AreRegisters u.registers → (to : ℕ) → u.place < 2 ^ 26 → IsPlace to → (f : Form) →
+    rank (jump_form u.place to) ≤ rank f →
     HasCode s u.place (jump_code f (address_of_place u.place) (address_of_place to)) → (k : ℕ) → k ≡ length (jump_code f 0 0) → Jumped s u k to
 jump_goes s u are to near_u near_to Near reach code k e = record {
   count = 1;

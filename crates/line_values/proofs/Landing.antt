@@ -35,7 +35,8 @@ back_at : (b : Bool) (v : View) (p : ℕ) (c : Below) → ReturnStands b v c →
 back_at true v p c h = h
 back_at false v p c h = h
 
-pub within_at : (s : Fixed) (laid : Laid) (v : View) (young : List Placed) (held : Locations) (a : Around) (c : Below) (p : ℕ) → Within s laid v young 0 held a c →
+pub within_at : (s : Fixed) (laid : Laid) (v : View) (young : List Placed) (held : Locations) (a : Around) (c : Below) (p : ℕ) →
+    Within s laid v young 0 held a c →
     Within s laid (at_place p v) young 0 held a c
 within_at s laid v young held a c p w = record {
   own = w.own;
@@ -82,7 +83,8 @@ jump_length Middle = refl
 jump_length Far = refl
 
 -- a jump piece leads to its label
-pub jump_lands : (s : Fixed) (laid : Laid) (n : Named) (m : Lin) (u : View) → AreRegisters u.registers → (l : ℕ) → Lies s laid n m l → (k : ℕ) (ys : List Piece) →
+pub jump_lands : (s : Fixed) (laid : Laid) (n : Named) (m : Lin) (u : View) → AreRegisters u.registers → (l : ℕ) → Lies s laid n m l →
+    (k : ℕ) (ys : List Piece) →
     PartStands s n u.place (u.place + k) (Jump l ∷ ys) → Jumped s u k (laid.part (length (after_label l m.code)))
 jump_lands s laid n m u are l lies k ys part =
     let g = starts s n u.place k (Jump l) ys part in

@@ -91,7 +91,8 @@ module _ (s : Fixed) (n : Named) (laid : Laid) (m : Lin) (slots : m.slots ≡ la
   -- ---- symbols
 
   -- the two instructions of an address below 2^30
-  number_comes : (t : ℕ) → suc t < 32 → suc t ≢ 2 → (x : ℕ) → x < 2 ^ 30 → HasCode s v.place (Lui (suc t) (upper x) ∷ OpImm Addi (suc t) (suc t) (lower x) ∷ []) →
+  number_comes : (t : ℕ) → suc t < 32 → suc t ≢ 2 → (x : ℕ) → x < 2 ^ 30 → HasCode s v.place (Lui (suc t) (upper x)
+      ∷ OpImm Addi (suc t) (suc t) (lower x) ∷ []) →
       Changes s v 2 (suc t ∷ []) v.memory (λ w. slice_index w.registers (suc t) ≡ x)
   number_comes t fits no_sp x small code =
       set_then s v 1 (suc t ∷ []) v.memory (λ w. slice_index w.registers (suc t) ≡ imm_u (upper x)) (OpImm Addi (suc t) (suc t) (lower x)) t x

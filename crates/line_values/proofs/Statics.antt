@@ -63,7 +63,8 @@ pub is_in : (k : ℕ) (lists : List StaticList) (x : ℕ) (cell : Cell) → in_s
 is_in k [] x cell e = absurd (cc)
 is_in k (l ∷ lists) x cell e = by_test (nat_le l.start x && nat_le (x + 8) (l.start + l.size)) refl (is_in (suc k) lists x cell) e
   where
-    by_test : (t : Bool) → (nat_le l.start x && nat_le (x + 8) (l.start + l.size)) ≡ t → (in_statics (suc k) lists x 8 ≡ Some cell → IsIn (suc k) lists x cell) →
+    by_test : (t : Bool) → (nat_le l.start x && nat_le (x + 8) (l.start + l.size)) ≡ t → (in_statics (suc k) lists x 8 ≡ Some cell →
+        IsIn (suc k) lists x cell) →
         cond t (Some (InStatic k ((x - l.start) / 8))) (in_statics (suc k) lists x 8) ≡ Some cell → IsIn k (l ∷ lists) x cell
     by_test true t later e =
         let p = and_parts (nat_le l.start x) (nat_le (x + 8) (l.start + l.size)) t in
@@ -213,12 +214,14 @@ module _ (s : Fixed) (placed : List Placed) (m : List Region) (regions : HasRegi
           let is = r.is in
           ⊎_elim
           (λ (q : y ≡ at).
-          let g : cell_at a.memory 8 (Word y) ≡ Some (InStatic list index) = subst (λ z. cell_at a.memory 8 (Word z) ≡ Some (InStatic list index)) (sym q) there in
+          let g : cell_at a.memory 8 (Word y) ≡ Some (InStatic list index) =
+          subst (λ z. cell_at a.memory 8 (Word z) ≡ Some (InStatic list index)) (sym q) there in
           let same : cell ≡ InStatic list index = same_static f g in
           inl (q, sym (some_same (sym (ap (λ c. Some (value_in (with_value a.memory (InStatic list index) x) c)) same) ∙ e)) ∙ value_here))
           (λ (n : y ≢ at).
           let apart : (0 + r.index ≡ list) → (y - r.list.start) / 8 ≢ index = λ i k.
-          n (let same : r.list ≡ inside.list = same_static (subst (λ z. slice_get a.memory.statics z ≡ Some r.list) (sym (zero_more r.index) ∙ i) r.there) own_there in
+          n (let same : r.list ≡ inside.list = same_static (subst (λ z. slice_get a.memory.statics z ≡ Some r.list) (sym (zero_more r.index)
+          ∙ i) r.there) own_there in
           let start : r.list.start ≡ inside.list.start = ap (λ (l : StaticList). l.start) same in
           let lo = r.low in let w = own_whole in let ev = p.0 in let al = at_is in omega (arith, start, lo, w, ev, al, k)) in
           inr (

@@ -227,7 +227,8 @@ module _ (s : Fixed) (laid : Laid) (n : Named) (m : Lin) where
       let sum3 : add_word (slice_index c2.view.registers 7) (slice_index c2.view.registers 6) ≡ code_start + 4 * (u.place + 1) + 8 * j =
       up (slice_index c2.view.registers 7) (slice_index c2.view.registers 6) (code_start + 4 * (u.place + 1) + 8 * j) (omega (arith, e6, e7))
       (omega (arith, near)) in
-      let code3 : IsCode s (u.place + 2) (Op Add 7 7 6) = let q : u.place + 1 + 1 ≡ u.place + 2 = omega arith in subst (λ z. IsCode s z (Op Add 7 7 6)) q g3.code in
+      let code3 : IsCode s (u.place + 2) (Op Add 7 7 6) = let q : u.place + 1 + 1 ≡ u.place + 2 =
+      omega arith in subst (λ z. IsCode s z (Op Add 7 7 6)) q g3.code in
       let c3 =
       set_more s u 2 (6 ∷ 7 ∷ []) u.memory _ (Op Add 7 7 6) 6 base c2 (inr (inl refl))
       (sets_as s c2.view (Op Add 7 7 6) 7 _ base sum3 (sets_op s c2.view Add 7 7 6)) code3 (inl (λ q. omega (arith, q))) (omega arith)
@@ -273,7 +274,8 @@ module _ (s : Fixed) (n : Named) (laid : Laid) (m : Lin) (slots : m.slots ≡ la
     (place : Place) (named : NamedAt) (next : List Line) (v : View) (young : List Placed) (held file : Locations) (a : Around) (none : a.raised ≡ None)
     (within : Within s laid v young 0 held a c) (before : Type 0) (agrees : Agrees before held file) (k : ℕ) where
   -- the index comes into t1
-  index_comes : (l : Loc) → IsLocation m l → (j : ℕ) → PartStands s n v.place (v.place + j) (value_words (length a.tries) l) → (i : ℕ) → held l ≡ Some (Word i) →
+  index_comes : (l : Loc) → IsLocation m l → (j : ℕ) → PartStands s n v.place (v.place + j) (value_words (length a.tries) l) → (i : ℕ) →
+      held l ≡ Some (Word i) →
       Comes s v j (λ u. Within s laid u young 0 held a c × (slice_index u.registers 6 ≡ i))
   index_comes (loc.Slot o) is j part i h =
       let g = first_comes s n laid m slots v young held a c none within (loc.Slot o) is j part (Word i) h in

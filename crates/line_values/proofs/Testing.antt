@@ -198,7 +198,8 @@ module _ (s : Fixed) (n : Named) (laid : Laid) (m : Lin) (slots : m.slots ≡ la
       Within s laid u young 0 held a c × StandsFor s (all_of u young) (reg u.registers (number left)) x
       × StandsFor s (all_of u young) (reg u.registers (number right)) y
 
-  pub first_comes : (l : Loc) → IsLocation m l → (k : ℕ) → PartStands s n v.place (v.place + k) (fetched (length a.tries) T1 l) → (x : Value) → held l ≡ Some x →
+  pub first_comes : (l : Loc) → IsLocation m l → (k : ℕ) → PartStands s n v.place (v.place + k) (fetched (length a.tries) T1 l) → (x : Value) →
+      held l ≡ Some x →
       Comes s v k (λ u. Within s laid u young 0 held a c × StandsFor s (all_of u young) (reg u.registers (number (register_of T1 l))) x)
   first_comes l is k part x h =
       let f = fetches s n laid m slots v young held a c none within T1 5 refl (inl refl) v.place k l is part in
