@@ -169,7 +169,8 @@ module _ (s : Fixed) (placed : List Placed) (m : List Region) (regions : HasRegi
           let near = start_inside placed k h.old.inside i in
           let size : words_of placed k ≡ n = h.stand.sizes k i ∙ ap size_in b.1 ∙ b.2 in
           by_index ((o + 8) % 2 ^ 64 / 8) (some_is p.1)
-          (place_by (start_of placed k) o n (words_of placed k) ((o + 8) % 2 ^ 64) ((o + 8) % 2 ^ 64 / 8) near.1 near.0 (block_end placed k h.old.inside i) size refl
+          (place_by (start_of placed k) o n (words_of placed k) ((o + 8) % 2 ^ 64) ((o + 8) % 2 ^ 64 / 8) near.1 near.0
+          (block_end placed k h.old.inside i) size refl
           room even refl)
           b.0 b.1 b.2 i near.1 size
         where

@@ -106,7 +106,8 @@ module _ (s : Fixed) (n : Named) (laid : Laid) (v : View) (young : List Placed) 
       let h = trap.high in
       let l = trap.low in
       let e = trap.even in
-      stack_readable s.image s.heap s.base v.memory within.usable.regions (slice_index v.registers 9 + 8) (omega (arith, e)) (omega (arith, l)) (omega (arith, h))
+      stack_readable s.image s.heap s.base v.memory within.usable.regions (slice_index v.registers 9 + 8) (omega (arith, e)) (omega (arith, l))
+      (omega (arith, h))
 
   pub code : HasCode s v.place (OpImm Addi 2 9 0 ∷ Load Ld 6 2 0 ∷ Load Ld 9 2 8 ∷ OpImm Addi 2 2 16 ∷ Jalr 0 6 0 ∷ []) × (k ≡ 5)
   code =

@@ -103,7 +103,8 @@ module _ (s : Fixed) (no_roots : s.image.roots ≡ []) (at : ℕ) (first : IsCod
     formed = formed_op (constant_form (omega arith));
     offset = tt;
     args = All-nil (λ (p : Spot). IsLocation one p.loc);
-    results = All-cons (λ (p : Spot). IsLocation one p.loc) a0_int [] (is_home (is_colour (0, omega arith, refl))) (All-nil (λ (p : Spot). IsLocation one p.loc));
+    results = All-cons (λ (p : Spot). IsLocation one p.loc) a0_int [] (is_home (is_colour (0, omega arith, refl))) (All-nil (λ
+        (p : Spot). IsLocation one p.loc));
     operand_seats = anywhere;
     result_seats = anywhere;
     named = λ l i. absurd (no_label l i);

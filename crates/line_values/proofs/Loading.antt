@@ -207,7 +207,8 @@ module _ (s : Fixed) (n : Named) (laid : Laid) (m : Lin) (slots : m.slots ≡ la
       sets_as s o (Load (load_width ch) (suc tg.t) (suc ad.r) (address_offset offset % 4096)) (suc tg.t) _ value
       (ap (λ y. register_loaded (load_width ch) (part (word y reach.at) reach.byte (width ch))) past.memory)
       (sets_load_part s o reach.at reach.byte reach.even lies.low reach.area lies.no_limit
-      (subst (λ y. IsReadable y reach.at) (sym past.memory) lies.readable) (width ch) (chunk_width ch) reach.inside reach.aligned (load_width ch) (load_bytes ch)
+      (subst (λ y. IsReadable y reach.at) (sym past.memory) lies.readable) (width ch) (chunk_width ch) reach.inside reach.aligned (load_width ch)
+      (load_bytes ch)
       (suc tg.t) (suc ad.r) (address_offset offset % 4096) (f ∙ reach.address)))
       code (inl tg.no_sp) tg.fits
       (loaded_word (load_width ch) (part (word u.memory reach.at) reach.byte (width ch))

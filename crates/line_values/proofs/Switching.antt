@@ -247,8 +247,10 @@ module _ (s : Fixed) (laid : Laid) (n : Named) (m : Lin) where
       (inl zero_no_sp) (sets_jalr s w 0 7 12 here target)) in
       let jump : HasCode s (u.place + 1 + 1 + 1 + 1 + 2 * j) (far_jump 0 6 (address_of_place (u.place + 1 + 1 + 1 + 1 + 2 * j))
       (address_of_place (laid.part (length (after_label l m.code))))) =
-      subst (λ z. HasCode s (u.place + 1 + 1 + 1 + 1 + 2 * j) (far_jump 0 6 (address_of_place (u.place + 1 + 1 + 1 + 1 + 2 * j)) z)) (lie j l e).address row.0 in
-      let last = far_goes s (at_place (u.place + 1 + 1 + 1 + 1 + 2 * j) w) c3.past.are to (place_small (u.place + 1 + 1 + 1 + 1 + 2 * j) near) (lies_near s laid n m l (lie j l e)) jump in
+      subst (λ z. HasCode s (u.place + 1 + 1 + 1 + 1 + 2 * j) (far_jump 0 6 (address_of_place (u.place + 1 + 1 + 1 + 1 + 2 * j)) z))
+      (lie j l e).address row.0 in
+      let last = far_goes s (at_place (u.place + 1 + 1 + 1 + 1 + 2 * j) w) c3.past.are to (place_small (u.place + 1 + 1 + 1 + 1 + 2 * j) near)
+      (lies_near s laid n m l (lie j l e)) jump in
       record {
         count = 4 + 2;
         few = six_words k g1.others g2.others g3.others g4.others j g1.sum g2.sum g3.sum g4.sum row.1;

@@ -94,7 +94,8 @@ module _ (s : Fixed) (n : Named) (laid : Laid) (m : Lin) (slots : m.slots ≡ la
       let g2 = counts s n (v.place + g1.own) g1.others two (three ++ instr ∷ []) g1.second in
       let g3 = counts s n (v.place + g1.own + g2.own) g2.others three (instr ∷ []) g2.second in
       let l = last s n (v.place + g1.own + g2.own + g3.own) g3.others
-      (Store (store_width ch) (number (address_register (register_of T1 p.loc) offset)) (number (register_of T2 q.loc)) (address_offset offset % 4096)) g3.second in
+      (Store (store_width ch) (number (address_register (register_of T1 p.loc) offset)) (number (register_of T2 q.loc))
+      (address_offset offset % 4096)) g3.second in
       let f1 = fetches s n laid m slots v young held a c none within T1 5 refl (inl refl) v.place g1.own p.loc at_p g1.first in
       let ad = addresses s n laid young held a c (register_of T1 p.loc) f1.r f1.is f1.apart offset fits_64 (v.place + g1.own) g2.own g2.first in
       let snd = second_location s n laid m slots v young held a c none within q.loc at_q (v.place + g1.own + g2.own) g3.own g3.first in
