@@ -1,82 +1,49 @@
 -- Bound tests follow their lines: on where the index is below the bound, else to the innermost handler.
-use Rattle.std.proofs.Common.{◌≡◌, ◌≢◌, ℕ, zero, suc, ◌+◌, ◌*◌, ◌^◌, ◌<◌, ◌≤◌, ◌⊎◌, inl, inr, Bool, true, false, cond, not, ◌==◌, nat_eq, nat_lt, List, [], ◌∷◌, ◌++◌, length, Option, Some, None, Result, Ok, Err, slice_index, refl, ap, ap₂, arith, ◌∙◌, sym, subst, ⊎_elim, append_assoc, append-nil}
-use Rattle.std.specs.List.{AllByRecursion}
-use Rattle.std.proofs.lemmas.Bool.{eqb-true}
-use Rattle.bs_words.specs.Memory.{sizes}
-use Rattle.bs_words.specs.Operators.{apply, condition_of, signed_holds, truth, unsigned_holds}
-use Rattle.bs_words.specs.Word.{signed_of}
-use Rattle.bs_words.specs.declared.operators.CmpOp.{CmpOp}
-use Rattle.bs_words.specs.declared.operators.CmpOp.TheVariants as compare
-use Rattle.bs_words.specs.declared.operators.IntOp.TheVariants as operator
-use Rattle.bs_words.specs.declared.types.Loc.{Loc}
+use Rattle.std.proofs.Common.{◌≡◌, ℕ, ◌+◌, ◌*◌, ◌^◌, ◌<◌, ◌≤◌, inl, Bool, true, false, cond, nat_lt, List, [], ◌∷◌, ◌++◌, length, Some, None, Result, Ok, Err, slice_index, refl, ap, ap₂, arith, ◌∙◌, sym, subst, ⊎_elim, append_assoc, ◌%◌, ◌&&◌, map}
 use Rattle.bs_words.specs.declared.values.Kind.{Kind}
 use Rattle.bs_words.specs.declared.values.Value.{Value}
-use Rattle.bs_words.specs.declared.values.Value.TheVariants.{Word}
-use Rattle.emit_rules.specs.Constants.{constant}
-use Rattle.emit_rules.specs.Slots.{fetched, first, register_of, second}
-use Rattle.emit_rules.specs.Tests.{branch_part, constant_register, constant_words, right_register, right_words, signed_branch, test_branch, test_words, unsigned_branch}
-use Rattle.layout_rules.specs.Forms.{branch_form, branch_words, rank, words_of}
+use Rattle.bs_words.specs.declared.values.Value.TheVariants.{Word, Block, Function}
+use Rattle.emit_rules.specs.Slots.{fetched, register_of, second}
+use Rattle.emit_rules.specs.Tests.{constant_register, constant_words}
 use Rattle.layout_rules.specs.Laid.{address_of_place}
-use Rattle.layout_rules.specs.Words.{Named, branch_code}
-use Rattle.layout_rules.specs.declared.form.Form.{Form}
-use Rattle.layout_rules.specs.declared.form.Form.TheVariants.{Near, Middle, Far}
-use Rattle.lin_ir.specs.Formed.{IsLocation, comps}
-use Rattle.lin_ir.specs.Meaning.{Locations, NamedAt, after_label, code_at, on_act, on_values, step}
-use Rattle.lin_ir.specs.declared.lin.Flow.TheVariants as flow
+use Rattle.layout_rules.specs.Words.{Named}
+use Rattle.lin_ir.specs.Formed.{IsLocation}
+use Rattle.lin_ir.specs.Meaning.{Locations, NamedAt, after_label, on_act, on_values, step, at_handler, wrote}
 use Rattle.lin_ir.specs.declared.lin.Lin.{Lin}
 use Rattle.lin_ir.specs.declared.lin.Line.{Line}
 use Rattle.lin_ir.specs.declared.lin.LinOp.TheVariants as lin
 use Rattle.lin_ir.specs.declared.lin.Spot.{Spot}
-use Rattle.mach_ir.specs.Acts.{Around, At, On, as_condition, branches, opposite, proper, truth_of}
-use Rattle.mach_ir.specs.Forms.{IsRight, a_constant, IsTested, is_immediate_12, signed, unsigned}
+use Rattle.mach_ir.specs.Acts.{Around, On, checked, is_complete, only_if, raised_by, raises, Goes}
 use Rattle.mach_ir.specs.Runs.{Place}
-use Rattle.mach_ir.specs.declared.mach.Test.{Test}
-use Rattle.mach_ir.specs.declared.mach.Test.TheVariants as test
 use Rattle.mach_ir.specs.declared.op.Right.{Right}
 use Rattle.mach_ir.specs.declared.op.Right.TheVariants as right
-use Rattle.moving_laws.specs.Stands.{Among}
 use Rattle.rv_isa.specs.Registers.{number}
-use Rattle.rv_isa.specs.declared.instr.Condition.{Condition}
 use Rattle.rv_isa.specs.declared.instr.Condition.TheVariants as condition
 use Rattle.rv_isa.specs.declared.register.Register.{Register}
-use Rattle.rv_isa.specs.declared.register.Register.TheVariants.{Zero, T1, T2}
-use Rattle.rv_machine.specs.Arithmetic.{is_taken}
+use Rattle.rv_isa.specs.declared.register.Register.TheVariants.{T1, T2}
+use Rattle.rv_machine.specs.Arithmetic.{is_taken, imm_u}
 use Rattle.rv_machine.specs.Hart.{Placed}
-use Rattle.rv_machine.specs.Sound.{AreRegisters}
 use Rattle.rv_pieces.specs.declared.piece.Piece.{Piece}
-use Rattle.rv_pieces.specs.declared.piece.Piece.TheVariants as piece
-use Rattle.linear_machine.specs.Follows.{Agrees, FollowsStep}
-use Rattle.linear_machine.specs.Relation.{Below, Laid, StandsFor, Within, all_of}
+use Rattle.linear_machine.specs.Follows.{Agrees, FollowsStep, IsAt, IsDone}
+use Rattle.linear_machine.specs.Relation.{Below, Laid, StandsFor, Within, all_of, AreCarried, traps_of}
 use Rattle.linear_machine.specs.Relation as relation
-use Rattle.linear_machine.specs.Straight.{Changes, Comes}
-use Rattle.linear_machine.specs.View.{Fixed, View, HasCode}
-use Rattle.linear_machine.proofs.Following.{agrees_on}
-use Rattle.linear_machine.proofs.Parts.{changes_come, comes_then}
+use Rattle.linear_machine.specs.Straight.{Comes}
+use Rattle.linear_machine.specs.View.{Fixed, View, HasCode, Leads, IsCode}
 use Rattle.linear_machine.proofs.Pure.{Reads, reads_held}
 use Rattle.linear_machine.proofs.Reading.{reads_one, reads_two}
-use Rattle.linear_machine.proofs.Rows.{immediate_small}
-use Rattle.linear_machine.proofs.Sequences.{no_change, widened}
-use Rattle.linear_machine.proofs.Standing.{IsScratch, within_past}
-use Rattle.linear_machine.proofs.Steps.{reg, then_leads}
-use Rattle.line_stands.specs.Parts.{PartStands, label_place}
-use Rattle.line_stands.proofs.Parts.{counts, none_left, starts}
-use Rattle.line_values.proofs.Agreeing.{compared_words, condition_word, signed_agrees, unsigned_agrees}
-use Rattle.line_values.proofs.Chains.{constant_comes}
-use Rattle.line_values.proofs.Compared.{int_le_is, le_is}
-use Rattle.line_values.proofs.Jumping.{code_near}
-use Rattle.line_values.proofs.Landing.{Lies, lands, lies_near, lies_place, within_gone}
-use Rattle.line_values.proofs.Operands.{fetches}
-use Rattle.line_values.proofs.Operations.{no_second, sized}
+use Rattle.linear_machine.proofs.Steps.{reg, then_leads, at_place, go_step}
+use Rattle.line_stands.specs.Parts.{PartStands}
+use Rattle.line_stands.proofs.Parts.{counts, last, leads}
+use Rattle.line_values.proofs.Jumping.{code_near, skips}
+use Rattle.line_values.proofs.Landing.{lands, within_at}
 use Rattle.std.proofs.lemmas.Bool.{and_parts}
-use Rattle.bs_words.specs.Fits.{data_start, fits}
+use Rattle.bs_words.specs.Fits.{fits}
 use Rattle.bs_words.specs.Operators.{word_in}
 use Rattle.bs_words.specs.declared.types.Ty.TheVariants as ty
 use Rattle.bs_words.proofs.Below.{sext_word-below}
 use Rattle.cmm_meaning.specs.Evaluation.{bound_error}
 use Rattle.cmm_meaning.specs.State.{Threw}
 use Rattle.emit_rules.specs.Traps.{check_part, raise_bound_error, raise_words}
-use Rattle.lin_ir.specs.Meaning.{at_handler}
-use Rattle.mach_ir.specs.Acts.{checked, is_complete, only_if, raised_by, raises}
 use Rattle.mach_ir.specs.declared.op.Leaving.TheVariants as leaving
 use Rattle.mach_ir.specs.declared.op.Op.TheVariants as op
 use Rattle.bs_words.specs.declared.types.Loc.TheVariants as loc
@@ -84,34 +51,19 @@ use Rattle.moving_laws.specs.Waiting.{IsBack, TrapsFrom, traps_at}
 use Rattle.rv_isa.specs.declared.instr.AluImmOp.TheVariants.{Addi}
 use Rattle.rv_isa.specs.declared.instr.Instr.TheVariants.{Branch, Jalr, Load, Lui, OpImm}
 use Rattle.rv_isa.specs.declared.instr.LoadWidth.TheVariants.{Ld}
-use Rattle.rv_machine.specs.Memory.{code_start, word}
-use Rattle.rv_machine.specs.Arithmetic.{imm_b, imm_u}
-use Rattle.linear_machine.specs.Follows.{IsAt, IsDone}
-use Rattle.linear_machine.specs.Relation.{AreCarried}
-use Rattle.linear_machine.specs.View.{Leads}
+use Rattle.rv_machine.specs.Memory.{code_start, word, Region}
 use Rattle.linear_machine.proofs.Arriving.{leads_in}
 use Rattle.linear_machine.proofs.Formats.{goes_branch_on, goes_branch_taken, sets_lui}
 use Rattle.linear_machine.proofs.Immediates.{by_20}
 use Rattle.linear_machine.proofs.Sequences.{set_changes}
-use Rattle.linear_machine.proofs.Steps.{at_place, go_step}
-use Rattle.line_stands.proofs.Parts.{last, leads}
-use Rattle.line_values.proofs.Jumping.{skips}
 use Rattle.linear_machine.specs.Moments.{AtThrow}
-use Rattle.linear_machine.specs.Relation.{traps_of}
 use Rattle.linear_machine.proofs.Jumps.{raise_differs, raise_high, raise_leads, raise_place, raise_points, raise_value, raised_at}
 use Rattle.linear_machine.proofs.Trapping.{handler_is, popped, throws}
 use Rattle.moving_laws.specs.Words.{IsReadable}
 use Rattle.moving_laws.proofs.Usable.{stack_readable}
-use Rattle.rv_machine.specs.Memory.{Region}
-use Rattle.bs_words.specs.declared.values.Value.TheVariants.{Block, Function}
 use Rattle.emit_rules.specs.Instructions.{skip}
-use Rattle.std.proofs.Common.{◌%◌, ◌&&◌, map}
-use Rattle.mach_ir.specs.Acts.{Goes}
-use Rattle.lin_ir.specs.Meaning.{wrote}
-use Rattle.linear_machine.specs.View.{IsCode}
 use Rattle.linear_machine.proofs.Operating.{dropped, target_register}
 use Rattle.linear_machine.proofs.Standing.{IsFree, within_changed}
-use Rattle.line_values.proofs.Landing.{within_at}
 use Rattle.line_values.proofs.Testing.{Seconded, both_come, second_constant, second_location}
 
 -- ---- the innermost trap
@@ -154,7 +106,8 @@ module _ (s : Fixed) (n : Named) (laid : Laid) (v : View) (young : List Placed) 
       let h = trap.high in
       let l = trap.low in
       let e = trap.even in
-      stack_readable s.image s.heap s.base v.memory within.usable.regions (slice_index v.registers 9 + 8) (omega (arith, e)) (omega (arith, l)) (omega (arith, h))
+      stack_readable s.image s.heap s.base v.memory within.usable.regions (slice_index v.registers 9 + 8) (omega (arith, e)) (omega (arith, l))
+      (omega (arith, h))
 
   pub code : HasCode s v.place (OpImm Addi 2 9 0 ∷ Load Ld 6 2 0 ∷ Load Ld 9 2 8 ∷ OpImm Addi 2 2 16 ∷ Jalr 0 6 0 ∷ []) × (k ≡ 5)
   code =
@@ -193,7 +146,11 @@ module _ (s : Fixed) (n : Named) (laid : Laid) (v : View) (young : List Placed) 
   pub caught : (m : Lin) (l : ℕ) (rest : List ℕ) → a.tries ≡ l ∷ rest → laid.handler l ≡ address_of_place (laid.part (length (after_label l m.code))) →
       (held' : Locations) → ((j : ℕ) (y : Value) → held' (loc.Slot j) ≡ Some y → held (loc.Slot j) ≡ Some y) →
       ((raised_at s v within.own.are trap.back trap.low trap.high trap0 trap8 code.0).place ≡ laid.part (length (after_label l m.code)))
-      × Within s laid (raised_at s v within.own.are trap.back trap.low trap.high trap0 trap8 code.0) young 0 held' (record a { tries = rest; raised = Some x }) c
+      × Within s laid (raised_at s v within.own.are trap.back trap.low trap.high trap0 trap8 code.0) young 0 held' (record a {
+        tries = rest;
+        raised =
+            Some x;
+      }) c
   caught m l rest e handler held' sub =
       let own : slice_index v.registers 9 ≡ slice_index v.registers 2 =
       (subst (λ ts. TrapsFrom s.base v.memory (slice_index v.registers 9) (traps_at (slice_index v.registers 2) (map laid.handler ts)
@@ -376,7 +333,15 @@ module _ (s : Fixed) (n : Named) (laid : Laid) (m : Lin) (slots : m.slots ≡ la
             (then_leads s (k1 + 2) 5 v ready.view
             (there s n laid ready.view young (dropped 10 held) a c ready.holds.stands (Word 0x10000000) ready.holds.error 5 here) ready.leads
             (led s n laid ready.view young (dropped 10 held) a c ready.holds.stands (Word 0x10000000) ready.holds.error 5 here))
-            (subst (λ ts. IsAt s laid live c (record { rest = at_handler m.code ts; file = file; around = record a { tries = rest; raised = Some bound_error } })
+            (subst (λ ts. IsAt s laid live c (record {
+              rest = at_handler m.code ts;
+              file = file;
+              around = record a {
+                tries = rest;
+                raised =
+                    Some bound_error;
+              };
+            })
             (there s n laid ready.view young (dropped 10 held) a c ready.holds.stands (Word 0x10000000) ready.holds.error 5 here)) (sym e)
             (young, held, record { others = agrees.others; spare_too = λ q. absurd (dead l rest e q) }, record { place = got.0; within = got.1 }))
 
@@ -418,7 +383,8 @@ module _ (s : Fixed) (n : Named) (laid : Laid) (m : Lin) (slots : m.slots ≡ la
   -- whatever the right operand is
   operands_by : (r : Right) (args : List Spot) (p : Spot) → IsLocation m p.loc → Reads before p.loc → (words : List Piece) (right : Register)
       (holds : Value → Type 0) →
-      PartStands s n v.place (v.place + k) (fetched (length a.tries) T1 p.loc ++ words ++ skip condition.Bltu right (register_of T1 p.loc) 28 ∷ raise_bound_error) →
+      PartStands s n v.place (v.place + k) (fetched (length a.tries) T1 p.loc ++ words ++ skip condition.Bltu right (register_of T1 p.loc) 28
+      ∷ raise_bound_error) →
       ((at j : ℕ) → PartStands s n at (at + j) words → Seconded s n laid m slots v young held a c none within holds at j right) →
       (bound index : ℕ) → held p.loc ≡ Some (Word bound) → holds (Word index) →
       FollowsStep k s laid live entry c v (on_act place m (record {

@@ -1,5 +1,5 @@
 -- A function of one line, which makes 42: what the law asks for holds of it.
-use Rattle.std.proofs.Common.{◌≡◌, ℕ, zero, suc, ◌+◌, ◌-◌, ◌<◌, ◌≤◌, false, true, List, [], ◌∷◌, length, None, Some, refl, arith, sym, subst, ap, ◌∙◌, map}
+use Rattle.std.proofs.Common.{◌≡◌, ℕ, zero, suc, ◌+◌, ◌-◌, false, List, [], ◌∷◌, None, refl, arith, subst, ap, ◌∙◌, map}
 use Rattle.std.specs.List.{Contains}
 use Rattle.std.proofs.lemmas.List.Elements.{All-nil, All-cons}
 use Rattle.bs_words.specs.Memory.{Memory}
@@ -23,7 +23,7 @@ use Rattle.lin_ir.specs.declared.lin.Spot.{Spot}
 use Rattle.mach_ir.specs.Forms.{constant as constant_form}
 use Rattle.mach_ir.specs.Runs.{Place, entered}
 use Rattle.mach_ir.specs.Seats.{anywhere}
-use Rattle.mach_ir.specs.Walks.{other, this}
+use Rattle.mach_ir.specs.Walks.{other}
 use Rattle.mach_ir.specs.declared.op.Op.TheVariants as op
 use Rattle.mach_ir.specs.declared.op.Pure.TheVariants as pure
 use Rattle.rv_isa.specs.declared.instr.AluImmOp.TheVariants.{Addi}
@@ -32,8 +32,7 @@ use Rattle.rv_machine.specs.Hart.{Placed}
 use Rattle.linear_machine.specs.Follows.{FollowsStep}
 use Rattle.linear_machine.specs.Relation.{Below, Laid, Within}
 use Rattle.linear_machine.specs.View.{Fixed, View, IsCode}
-use Rattle.line_stands.specs.Lines.{LineStands, SparePasses}
-use Rattle.line_stands.specs.Names.{NamesStand}
+use Rattle.line_stands.specs.Lines.{LineStands}
 use Rattle.line_stands.specs.Parts.{PartStands}
 use Rattle.line_values.specs.Followed.{plain_pure}
 use Rattle.line_values.specs.Statics.{StaticsLie}
@@ -104,7 +103,8 @@ module _ (s : Fixed) (no_roots : s.image.roots ≡ []) (at : ℕ) (first : IsCod
     formed = formed_op (constant_form (omega arith));
     offset = tt;
     args = All-nil (λ (p : Spot). IsLocation one p.loc);
-    results = All-cons (λ (p : Spot). IsLocation one p.loc) a0_int [] (is_home (is_colour (0, omega arith, refl))) (All-nil (λ (p : Spot). IsLocation one p.loc));
+    results = All-cons (λ (p : Spot). IsLocation one p.loc) a0_int [] (is_home (is_colour (0, omega arith, refl))) (All-nil (λ
+        (p : Spot). IsLocation one p.loc));
     operand_seats = anywhere;
     result_seats = anywhere;
     named = λ l i. absurd (no_label l i);

@@ -1,5 +1,5 @@
 -- Each plain line is followed.
-use Rattle.std.proofs.Common.{◌≡◌, ℕ, zero, suc, ◌+◌, ◌^◌, ◌<◌, ◌⊎◌, inl, inr, true, ◌&&◌, nat_le, nat_lt, List, [], ◌∷◌, length, map, Option, Some, None, slice_get, refl, ap, arith, ◌∙◌, sym, subst, ⊎_elim}
+use Rattle.std.proofs.Common.{◌≡◌, ℕ, zero, suc, ◌+◌, ◌^◌, ◌<◌, ◌⊎◌, inl, inr, true, ◌&&◌, nat_le, nat_lt, List, [], ◌∷◌, length, map, Option, Some, slice_get, refl, ap, arith, ◌∙◌, sym, subst, ⊎_elim}
 use Rattle.std.specs.List.{AllByRecursion, Contains}
 use Rattle.std.proofs.lemmas.Bool.{and_parts, leb-true, ltb-true, or_cases}
 use Rattle.std.proofs.lemmas.List.Elements.{recursion_from_All}
@@ -8,8 +8,8 @@ use Rattle.emit_rules.specs.Emitted.{part_of}
 use Rattle.emit_rules.specs.Entry.{Frame}
 use Rattle.layout_rules.specs.Forms.{total_words}
 use Rattle.layout_rules.specs.Words.{Named}
-use Rattle.lin_ir.specs.Formed.{FlowHasForm, label_form, jump_form, exit_form, branch_form, switch_form, IsFormed, formed_op, formed_flow, IsLocation, IsQuiet, Locates, NamesLabel, goes_to, Sets, comps, spare}
-use Rattle.lin_ir.specs.Meaning.{Locations, NamedAt, after_label, code_at, step}
+use Rattle.lin_ir.specs.Formed.{FlowHasForm, label_form, jump_form, exit_form, branch_form, switch_form, IsFormed, formed_op, formed_flow, IsLocation, goes_to, comps, spare}
+use Rattle.lin_ir.specs.Meaning.{NamedAt, after_label, code_at}
 use Rattle.lin_ir.specs.Walks.{may_raise, targets}
 use Rattle.lin_ir.specs.declared.descr.Descr.{Descr}
 use Rattle.lin_ir.specs.declared.lin.Flow.{Flow}
@@ -20,7 +20,7 @@ use Rattle.lin_ir.specs.declared.lin.LinOp.{LinOp}
 use Rattle.lin_ir.specs.declared.lin.LinOp.TheVariants as lin
 use Rattle.lin_ir.specs.declared.lin.Spot.{Spot}
 use Rattle.mach_ir.specs.Acts.{Around, At, On}
-use Rattle.mach_ir.specs.Forms.{IsTested, HasForm, checks, copies, constant, symbol, operates, loads, stores, IsRight, a_register, a_constant, is_immediate, is_immediate_12, is_opposite_immediate_12}
+use Rattle.mach_ir.specs.Forms.{IsTested, HasForm, checks, copies, constant, symbol, operates, loads, stores, a_register, a_constant, is_immediate, is_immediate_12}
 use Rattle.mach_ir.specs.Runs.{Place}
 use Rattle.mach_ir.specs.Walks.{OneOf, this, other}
 use Rattle.mach_ir.specs.declared.op.Access.TheVariants as access
@@ -33,7 +33,6 @@ use Rattle.bs_words.specs.declared.operators.IntOp.{IntOp}
 use Rattle.bs_words.specs.declared.operators.IntOp.TheVariants as operator
 use Rattle.mach_ir.specs.declared.op.Right.{Right}
 use Rattle.mach_ir.specs.declared.op.Right.TheVariants as right
-use Rattle.linear_machine.specs.Follows.{FollowsStep, IsAt}
 use Rattle.linear_machine.specs.Relation.{Below, Laid}
 use Rattle.linear_machine.specs.View.{Fixed, View}
 use Rattle.linear_machine.proofs.Pure.{Reads}
@@ -41,7 +40,6 @@ use Rattle.linear_machine.proofs.Rows.{immediate_small}
 use Rattle.line_stands.specs.Lines.{LineStands}
 use Rattle.line_stands.specs.Parts.{PartStands}
 use Rattle.line_values.specs.Followed.{Followed, IsPlain, plain_pure, plain_load, plain_store, plain_check, plain_label, plain_jump, plain_exit, plain_branch, plain_switch}
-use Rattle.line_values.specs.Statics.{StaticsLie}
 use Rattle.layout_rules.specs.Laid.{address_of_place}
 use Rattle.line_values.proofs.Checking.{check_line, check_with_line}
 use Rattle.line_values.proofs.Landing.{Lies, exit_line, jump_line, label_line}
@@ -185,7 +183,12 @@ module _ (s : Fixed) (laid : Laid) (n : Named) (m : Lin) (place : Place) (named 
         let to : laid.part (length next) ≡ v.place + total_words (part_of (length a.tries) f d (record { op = o; args = args; results = results }))
         st.part.forms = omega (arith, p, e) in
         subst (λ z. PartStands s n v.place z (part_of (length a.tries) f d (record { op = o; args = args; results = results }))) to
-        (subst (λ z. PartStands s n z (laid.part (length next)) (part_of (length a.tries) f d (record { op = o; args = args; results = results }))) (sym e) st.part)
+        (subst (λ z. PartStands s n z (laid.part (length next)) (part_of (length a.tries) f d (record {
+          op = o;
+          args = args;
+          results =
+              results;
+        }))) (sym e) st.part)
 
     behind : (v : View) → v.place ≡ laid.part (suc (length next)) →
         laid.part (length next) ≡ v.place + total_words (part_of (length a.tries) f d (record { op = o; args = args; results = results })) st.part.forms
@@ -210,7 +213,12 @@ module _ (s : Fixed) (laid : Laid) (n : Named) (m : Lin) (place : Place) (named 
         (λ q. q.1) (st.spare.on to i l)
 
     -- with one
-    passes_one : (r : Spot) → OneOf On (targets o) → results ≡ r ∷ [] → live next → (r.loc ≡ spare) ⊎ live (record { op = o; args = args; results = results } ∷ next)
+    passes_one : (r : Spot) → OneOf On (targets o) → results ≡ r ∷ [] → live next → (r.loc ≡ spare) ⊎ live (record {
+      op = o;
+      args = args;
+      results =
+          results;
+    } ∷ next)
     passes_one r i one l =
         ⊎_elim (λ w. inl (one_member r w.0 (subst (λ rs. Contains rs (record { loc = spare; comp = w.0 })) one w.1)))
         (λ q. inr q.1) (st.spare.on On i l)
@@ -303,7 +311,8 @@ module _ (s : Fixed) (laid : Laid) (n : Named) (m : Lin) (place : Place) (named 
       let o = lin.Op (op.Leaving (leaving.Checkbound (right.Constant w))) in
       check_with_line s n laid m st.slots live entry c place named next v young held file a none during.within
       (live (record { op = o; args = p ∷ []; results = [] } ∷ next)) agrees (words o (p ∷ []) [] a st)
-      (behind o (p ∷ []) [] a st v during.place) (passes_to o (p ∷ []) [] a st On this refl) (handled o (p ∷ []) a st refl) (dead o (p ∷ []) a st refl) w small p
+      (behind o (p ∷ []) [] a st v during.place) (passes_to o (p ∷ []) [] a st On this refl) (handled o (p ∷ []) a st refl) (dead o (p
+      ∷ []) a st refl) w small p
       (locates o (p ∷ []) [] a st).0 (reads o (p ∷ []) [] a st p (first_in p [])) (part_at o (p ∷ []) [] a st v during.place)
 
   label_case : (l : ℕ) → Goal (lin.Flow (flow.Label l)) [] []

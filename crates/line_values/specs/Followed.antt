@@ -1,6 +1,5 @@
 -- The lines that compute, load, store, test and jump, and that the machine follows them.
 use Rattle.std.specs.Prelude.{◌≡◌, ℕ, Bool, true, List, ◌∷◌, length, Option, None}
-use Rattle.cmm_meaning.specs.Setting.{Setting}
 use Rattle.emit_rules.specs.Emitted.{part_of}
 use Rattle.emit_rules.specs.Entry.{Frame}
 use Rattle.layout_rules.specs.Forms.{total_words}
