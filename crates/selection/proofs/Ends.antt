@@ -74,14 +74,6 @@ pub cases-width-last : (xs : List Case) (c : Case) → width_cases (cases_of (xs
 cases-width-last [] c = omega arith
 cases-width-last (x ∷ xs) c = let more = cases-width-last xs c in omega (arith, more)
 
-pub count-cases : (xs : List Case) → count_cases (cases_of xs) ≡ length xs
-count-cases [] = refl
-count-cases (x ∷ xs) = ap suc (count-cases xs)
-
-pub count-row : (xs : List Expr) → count_of (row_of xs) ≡ length xs
-count-row [] = refl
-count-row (x ∷ xs) = ap suc (count-row xs)
-
 pub cases-last : (env : List Named) (labels : List Label) (valued tail : Bool) (d : Reg) (all : List ℕ) (end l b : ℕ) (xs : List Case) (c : Case) (next : List Instr)
     → select_cases env labels valued tail d all end l b (cases_of (xs ++ c ∷ [])) next
     ≡ select_cases env labels valued tail d all end l b (cases_of xs)
@@ -144,15 +136,3 @@ handlers-last env labels valued tail d end l b (x ∷ xs) h next =
     (handlers-last env labels valued tail d end (suc l + n) (b + w) xs h next
     ∙ ap (λ k. select_handlers env labels valued tail d end (suc l + n) (b + w) (handlers_of xs) (here k (b + w + width_handlers (handlers_of xs)))) label
     ∙ ap (λ m. select_handlers env labels valued tail d end (suc l + n) (b + w) (handlers_of xs) (here (l + width_labels (handlers_of (x ∷ xs))) m)) number)
-
--- ---- the cells of a block
-
-pub cells-last : (k : Chunk) (p : Reg) (i : ℕ) (rs : List Reg) (r : Reg) (next : List Instr)
-    → cell_stores k p i (rs ++ r ∷ []) next ≡ cell_stores k p i rs (emit.store k (8 * (i + length rs)) p r ∷ next)
-cells-last k p i [] r next =
-    let none : i ≡ i + 0 = omega arith in
-    ap (λ n. emit.store k (8 * n) p r ∷ next) none
-cells-last k p i (x ∷ rs) r next =
-    let same : suc i + length rs ≡ i + length (x ∷ rs) = omega arith in
-    ap (λ rest. emit.store k (8 * i) p x ∷ rest)
-    (cells-last k p (suc i) rs r next ∙ ap (λ n. cell_stores k p (suc i) rs (emit.store k (8 * n) p r ∷ next)) same)

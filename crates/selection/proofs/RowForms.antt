@@ -18,12 +18,12 @@ use Rattle.mach_ir.specs.declared.mach.Instr.{Instr}
 use Rattle.mach_ir.specs.declared.reg.Reg.{Reg}
 use Rattle.selection_rules.specs.Instructions as emit
 use Rattle.selection_rules.specs.Select.{Named, Label, Code, fresh, inner_dest, inner_valued, select, select_waiting, select_filled, only_when, unless_symbol, symbol_of, call_of, moves_all, seats, result_seat, from_seat, regs_of, label_of, exit_to, cell_stores, chunk_for, header_offset, count_of, width}
-use Rattle.selection.proofs.Ends.{count-row}
+use Rattle.selection_scope.proofs.Counts.{count-row}
 use Rattle.selection.proofs.Waiting.{called-here}
 use Rattle.selection.specs.Below.{node_code}
 use Rattle.selection.specs.Operands.{lacks}
-use Rattle.selection.specs.Scoping.{Visible, names_in}
-use Rattle.selection.specs.declared.place.Place.{Place}
+use Rattle.selection_scope.specs.Scoping.{Visible, names_in}
+use Rattle.selection_scope.specs.declared.place.Place.{Place}
 
 pub exit-is : (scope : Visible) (place : Place) (label : LabelTree) (arguments : List Expr) (row base : ℕ) (regs : List Reg) (target : Option Label) (next left filled made : List Instr) (at label_at : ℕ)
     → row ≡ place.base + 1

@@ -9,9 +9,9 @@ use Rattle.mach_ir.specs.declared.op.Right.{Right}
 use Rattle.mach_ir.specs.declared.reg.Reg.{Reg}
 use Rattle.selection_rules.specs.Instructions as emit
 use Rattle.selection_rules.specs.Select.{Named, Label, Code, Shape, scopes, fresh, select, select_base, base_of, offset_of, ordered, only_when, unless_left, unless_right, unless_constant, width}
-use Rattle.selection.proofs.Integers.{based}
+use Rattle.selection.proofs.Addresses.{based}
 use Rattle.selection.proofs.Ordered.{ordered_same, operands_are, bound_operands_are}
-use Rattle.selection.specs.Shapes.{needs_left, needs_right, is_register}
+use Rattle.selection_code.specs.Shapes.{needs_left, needs_right, is_register}
 
 -- an expression into a fresh register, which the code that follows reads
 pub read-by : (env : List Named) (labels : List Label) (n b number first : ℕ) (e other : Expression) (r : Reg) (made : List Instr) (follows : Reg → List Instr)

@@ -11,7 +11,7 @@ use Rattle.mach_ir.specs.declared.mach.Instr.{Instr}
 use Rattle.mach_ir.specs.declared.reg.Reg.{Reg}
 use Rattle.selection_rules.specs.Select.{Named, Label, Code, fresh, select, only_when, unless_symbol, select_waiting, select_filled, width}
 use Rattle.selection.specs.Operands.{lacks}
-use Rattle.selection.specs.Scoping.{Visible, names_in}
+use Rattle.selection_scope.specs.Scoping.{Visible, names_in}
 
 -- the code of an operand, if it is needed here
 abbrev here : Visible → ℕ → Expr → List Instr → Bool → Reg → List Instr

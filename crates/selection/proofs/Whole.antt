@@ -17,7 +17,7 @@ use Rattle.mach_ir.specs.declared.mach.Mach.{Mach}
 use Rattle.mach_ir.specs.declared.reg.Reg.{Reg}
 use Rattle.selection_rules.specs.Select.{Named, Label, scopes, fresh, is_no_value, select, seats, with_params, params_from, moves_all, returns, colour_regs, selected, width}
 use Rattle.selection.proofs.Bindings.{scopes-params}
-use Rattle.selection.specs.Scoping.{Visible, names_in}
+use Rattle.selection_scope.specs.Scoping.{Visible, names_in}
 
 -- so many parameters
 pub count-params : (f : Function) (params : List Param) (n : ℕ) → n ≡ length params → params ≡ contents f.params → n ≡ length (params_view (contents f.params))

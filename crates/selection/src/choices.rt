@@ -15,20 +15,21 @@ ghost use Rattle.selection_rules.specs.Select.{select, select_seq, select_cases,
 ghost use Rattle.selection.specs.Below.{node_code, MayCall, Selects};
 ghost use Rattle.mach_ir.specs.declared.mach.Instr.{Instr};
 ghost use Rattle.selection.specs.Rows.{select_dropped};
-ghost use Rattle.selection.specs.Shapes.{shape_view};
-ghost use Rattle.selection.specs.Scoping.{names_in};
+ghost use Rattle.selection_code.specs.Shapes.{shape_view};
+ghost use Rattle.selection_scope.specs.Scoping.{names_in};
 
-use crate::backwards::Backwards;
-use crate::light::is_left_first;
-use crate::numbers::{number_of, plus};
 use crate::operands::{Operand, both, one};
-use crate::place::{Node, Place, fresh, operand_at};
-use crate::scope::Scope;
-use crate::shape::{Shape, comparison, shape_of};
-use crate::width::{behind, behind_cases, behind_row, width_of};
 use bs_words::IntOp;
-use cmm_tree::{Case, CaseIndex, Expr, Form};
+use cmm_tree::{Case, CaseIndex, Expr};
 use mach_ir::{Mark, Reg, Seq, Test};
+use selection_code::backwards::Backwards;
+use selection_code::shape::{Shape, comparison, shape_of};
+use selection_scope::light::is_left_first;
+use selection_scope::numbers::{number_of, plus};
+use selection_scope::outline::{Outline, outline_of};
+use selection_scope::place::{Node, Place, fresh, operand_at};
+use selection_scope::scope::Scope;
+use selection_scope::width::{behind, behind_cases, behind_row, width_of};
 use std::alloc::{AllocError, Global};
 
 /// An operator on two operands.
@@ -170,6 +171,7 @@ fn tested<F: Fn(&mut Scope, &mut Backwards, Place, &Expr) -> Result<(), AllocErr
 }
 
 /// What an `if` tests: where it fails the code goes on at the label `otherwise`.
+#[tactic(auto, using(crate::proofs::Outlines::other_test))]
 fn condition<F: Fn(&mut Scope, &mut Backwards, Place, &Expr) -> Result<(), AllocError>>(
     below: &F,
     scope: &mut Scope,
@@ -189,10 +191,10 @@ fn condition<F: Fn(&mut Scope, &mut Backwards, Place, &Expr) -> Result<(), Alloc
         (emit.branch test.Holds otherwise (place.dest ∷ []) ∷ code.old)) code.old) }
     ensures scope { OnOk result (scope.new ≡ scope.old) }
 {
-    match &condition.form {
-        Form::Operator(op, left, right) => {
-            let shape = shape_of(*op, left, right);
-            match comparison(shape.op(*op), shape.right()) {
+    match outline_of(condition) {
+        Outline::Operator(op, left, right) => {
+            let shape = shape_of(op, left, right);
+            match comparison(shape.op(op), shape.right()) {
                 Some(test) => {
                     let branch = Branch {
                         shape,
@@ -205,27 +207,9 @@ fn condition<F: Fn(&mut Scope, &mut Backwards, Place, &Expr) -> Result<(), Alloc
                 None => tested(below, scope, code, otherwise, place, condition),
             }
         }
-        Form::Integer(_)
-        | Form::Pointer(_)
-        | Form::Symbol(_)
-        | Form::Name(_)
-        | Form::Nothing
-        | Form::Float { .. }
-        | Form::Let(_, _)
-        | Form::Assign { .. }
-        | Form::Load(_, _)
-        | Form::Store(_, _, _)
-        | Form::Alloc { .. }
-        | Form::App { .. }
-        | Form::Extcall { .. }
-        | Form::Checkbound(_, _)
-        | Form::Raise(_)
-        | Form::Seq(_)
-        | Form::If(_, _, _)
-        | Form::Switch { .. }
-        | Form::Catch(_, _)
-        | Form::Exit { .. }
-        | Form::Try { .. } => tested(below, scope, code, otherwise, place, condition),
+        Outline::Integer(_) | Outline::Symbol(_) | Outline::Name(_) | Outline::Other => {
+            tested(below, scope, code, otherwise, place, condition)
+        }
     }
 }
 

@@ -9,18 +9,18 @@ ghost use Rattle.cmm_types.specs.Lists.{AreBindingsAnnotated, AreHandlersAnnotat
 ghost use Rattle.cmm_types.specs.Types.{type_of, with_bindings, with_parameters};
 ghost use Rattle.selection_rules.specs.Select.{scopes, select, select_bound, select_handlers, env_after, with_params, params_from, deeper};
 ghost use Rattle.selection.specs.Below.{node_code, MayCall, Selects};
-ghost use Rattle.selection.specs.Scoping.{names_in};
+ghost use Rattle.selection_scope.specs.Scoping.{names_in};
 
-use crate::backwards::Backwards;
-use crate::numbers::{number_of, plus};
 use crate::operands::one;
-use crate::place::{Node, Place, fresh, is_mutable, operand_at, type_bound};
-use crate::scope::Scope;
-use crate::seats::seat;
-use crate::width::{behind, behind_bindings, behind_handlers, behind_labels, width_of};
 use bs_words::{Comp, Name, Ty};
 use cmm_tree::{Binding, Expr, Handler};
 use mach_ir::{Mark, Reg};
+use selection_code::backwards::Backwards;
+use selection_scope::numbers::{number_of, plus};
+use selection_scope::place::{Node, Place, fresh, is_mutable, operand_at, type_bound};
+use selection_scope::scope::Scope;
+use selection_scope::seats::seat;
+use selection_scope::width::{behind, behind_bindings, behind_handlers, behind_labels, width_of};
 use std::alloc::AllocError;
 
 /// A new value for a name.
