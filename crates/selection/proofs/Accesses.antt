@@ -12,7 +12,7 @@ use Rattle.mach_ir.specs.declared.mach.Instr.{Instr}
 use Rattle.mach_ir.specs.declared.op.Right.{Right}
 use Rattle.mach_ir.specs.declared.reg.Reg.{Reg}
 use Rattle.selection_rules.specs.Instructions as emit
-use Rattle.selection_rules.specs.Select.{Named, Label, Code, fresh, inner_dest, select, select_base, base_of, offset_of, right_of, bound_test, ordered, only_when, unless_constant, width}
+use Rattle.selection_rules.specs.Select.{Named, Label, Code, fresh, inner_dest, select, base_of, offset_of, right_of, bound_test, ordered, only_when, width}
 use Rattle.selection.proofs.Addresses.{based}
 use Rattle.selection.proofs.Ordered.{ordered_same, constant_needed}
 use Rattle.selection.proofs.Steps.{based-by}

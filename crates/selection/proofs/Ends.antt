@@ -1,9 +1,7 @@
 -- The code of rows, by their last parts: it is made from the end.
-use Rattle.std.proofs.Common.{◌≡◌, ℕ, suc, ◌+◌, ◌*◌, Bool, false, List, [], ◌∷◌, ◌++◌, length, map, refl, ap, sym, ◌∙◌, arith}
-use Rattle.bs_words.specs.declared.types.Chunk.{Chunk}
+use Rattle.std.proofs.Common.{◌≡◌, ℕ, suc, ◌+◌, Bool, false, List, [], ◌∷◌, ◌++◌, length, refl, ap, ◌∙◌, arith}
 use Rattle.cmm_tree.specs.Rows.{row_of, cases_of, handlers_of}
-use Rattle.cmm_tree.specs.Tree.{LabelTree}
-use Rattle.cmm_tree.specs.View.{expr_view, index_view, params_view, label_view}
+use Rattle.cmm_tree.specs.View.{expr_view, params_view}
 use Rattle.cmm_tree.specs.declared.expr.Case.{Case}
 use Rattle.cmm_tree.specs.declared.expr.Expr.{Expr}
 use Rattle.cmm_tree.specs.declared.expr.Handler.{Handler}
@@ -15,8 +13,7 @@ use Rattle.mach_ir.specs.declared.mach.Instr.{Instr}
 use Rattle.mach_ir.specs.declared.mach.Mark.TheVariants as mark
 use Rattle.mach_ir.specs.declared.reg.Reg.{Reg}
 use Rattle.selection_rules.specs.Instructions.{bare}
-use Rattle.selection_rules.specs.Instructions as emit
-use Rattle.selection_rules.specs.Select.{Named, Label, scopes, fresh, select, select_seq, select_cases, select_handlers, width, width_row, width_cases, width_handlers, width_labels, with_params, params_from, cell_stores, count_cases, count_of}
+use Rattle.selection_rules.specs.Select.{Named, Label, scopes, fresh, select, select_seq, select_cases, select_handlers, width, width_row, width_cases, width_handlers, width_labels, with_params, params_from}
 use Rattle.selection.specs.Rows.{select_dropped}
 
 -- ---- rows of expressions

@@ -1,6 +1,5 @@
 -- A node and the form that it holds.
-use Rattle.std.proofs.Common.{◌≡◌, ℕ, List, sym, ap, ◌∙◌, subst}
-use Rattle.bs_words.specs.declared.types.Ty.{Ty}
+use Rattle.std.proofs.Common.{◌≡◌, List, sym, ap, ◌∙◌, subst}
 use Rattle.cmm_tree.specs.Tree.{Expression}
 use Rattle.cmm_tree.specs.View.{expr_view, form_view}
 use Rattle.cmm_tree.specs.declared.expr.Expr.{Expr}

@@ -11,7 +11,8 @@ ghost use Rattle.cmm_types.specs.Types.{type_of};
 ghost use Rattle.mach_ir.specs.Formed.{indexes_of};
 ghost use Rattle.mach_ir.specs.declared.mach.Test.TheVariants as test;
 ghost use Rattle.selection_rules.specs.Instructions as emit;
-ghost use Rattle.selection_rules.specs.Select.{select, select_seq, select_cases, select_test, comparison, shape_of, shape_op, shape_right, last_label, switch_labels};
+ghost use Rattle.selection_rules.specs.Select.{select, select_cases, select_test, comparison, shape_of, shape_op, shape_right, last_label};
+ghost use Rattle.selection_rules.specs.Select.{switch_labels};
 ghost use Rattle.selection.specs.Below.{node_code, MayCall, Selects};
 ghost use Rattle.mach_ir.specs.declared.mach.Instr.{Instr};
 ghost use Rattle.selection.specs.Rows.{select_dropped};
@@ -46,7 +47,8 @@ pub fn operator<F: Fn(&mut Scope, &mut Backwards, Place, &Expr) -> Result<(), Al
     requires selects { Selects (F.post below.now) }
     requires left_typed { IsAnnotated (names_in scope.old) left.now }
     requires right_typed { IsAnnotated (names_in scope.old) right.now }
-    requires ty { (at : ℕ) → node.ty ≡ type_of (names_in scope.old) (Operator at op (expr_view left.now) (expr_view right.now)) }
+    requires ty { (at : ℕ) → node.ty ≡ type_of (names_in scope.old) (Operator at op (expr_view
+        left.now) (expr_view right.now)) }
     ensures code { OnOk result ((at : ℕ) → code.new ≡ node_code scope.old node.place
         (Operator at op (expr_view left.now) (expr_view right.now)) code.old) }
     ensures scope { OnOk result (scope.new ≡ scope.old) }
@@ -228,7 +230,8 @@ pub fn if_else<F: Fn(&mut Scope, &mut Backwards, Place, &Expr) -> Result<(), All
     requires condition_typed { IsAnnotated (names_in scope.old) condition_of.now }
     requires true_typed { IsAnnotated (names_in scope.old) on_true.now }
     requires false_typed { IsAnnotated (names_in scope.old) on_false.now }
-    requires ty { (at : ℕ) → node.ty ≡ type_of (names_in scope.old) (If at (expr_view condition_of.now) (expr_view on_true.now)
+    requires ty { (at : ℕ) → node.ty ≡ type_of (names_in scope.old) (If at (expr_view
+        condition_of.now) (expr_view on_true.now)
         (expr_view on_false.now)) }
     ensures code { OnOk result ((at : ℕ) → code.new ≡ node_code scope.old node.place
         (If at (expr_view condition_of.now) (expr_view on_true.now)
@@ -285,7 +288,8 @@ pub fn seq<F: Fn(&mut Scope, &mut Backwards, Place, &Expr) -> Result<(), AllocEr
     requires callable { MayCall (F.pre below.now) }
     requires selects { Selects (F.post below.now) }
     requires typed { AreAnnotated (names_in scope.old) elements.now }
-    requires ty { (at : ℕ) → node.ty ≡ type_of (names_in scope.old) (Sequence at (row_of elements.now)) }
+    requires ty { (at : ℕ) → node.ty ≡ type_of (names_in scope.old) (Sequence at (row_of
+        elements.now)) }
     ensures code { OnOk result ((at : ℕ) → code.new ≡ node_code scope.old node.place
         (Sequence at (row_of elements.now)) code.old) }
     ensures scope { OnOk result (scope.new ≡ scope.old) }
@@ -385,8 +389,8 @@ fn case_bodies<F: Fn(&mut Scope, &mut Backwards, Place, &Expr) -> Result<(), All
     requires callable { MayCall (F.pre below.now) }
     requires selects { Selects (F.post below.now) }
     requires typed { AreCasesAnnotated (names_in scope.old) choices.cases.now }
-    ensures code { OnOk result (code.new ≡ select_cases scope.old.names scope.old.labels place.valued
-        place.tail place.dest choices.entry.all.now choices.entry.end choices.entry.first
+    ensures code { OnOk result (code.new ≡ select_cases scope.old.names scope.old.labels
+        place.valued place.tail place.dest choices.entry.all.now choices.entry.end choices.entry.first
         place.base (cases_of choices.entry.cases.now) code.old) }
     ensures scope { OnOk result (scope.new ≡ scope.old) }
 {
@@ -424,7 +428,8 @@ pub fn switch<F: Fn(&mut Scope, &mut Backwards, Place, &Expr) -> Result<(), Allo
     requires selects { Selects (F.post below.now) }
     requires selector_typed { IsAnnotated (names_in scope.old) selector.now }
     requires typed { AreCasesAnnotated (names_in scope.old) cases.now }
-    requires ty { (at size_at : ℕ) → node.ty ≡ type_of (names_in scope.old) (Switch at size_at size (expr_view selector.now) (cases_of cases.now)) }
+    requires ty { (at size_at : ℕ) → node.ty ≡ type_of (names_in scope.old) (Switch at size_at size
+        (expr_view selector.now) (cases_of cases.now)) }
     ensures code { OnOk result ((at size_at : ℕ) → code.new ≡ node_code scope.old node.place
         (Switch at size_at size (expr_view selector.now) (cases_of cases.now)) code.old) }
     ensures scope { OnOk result (scope.new ≡ scope.old) }

@@ -59,7 +59,8 @@ pub fn app<F: Fn(&mut Scope, &mut Backwards, Place, &Expr) -> Result<(), AllocEr
     requires selects { Selects (F.post below.now) }
     requires callee_typed { IsAnnotated (names_in scope.old) callee.now }
     requires typed { AreAnnotated (names_in scope.old) arguments.now }
-    requires ty { (at result_at : ℕ) → node.ty ≡ type_of (names_in scope.old) (App at (expr_view callee.now) (row_of arguments.now) written result_at) }
+    requires ty { (at result_at : ℕ) → node.ty ≡ type_of (names_in scope.old) (App at (expr_view
+        callee.now) (row_of arguments.now) written result_at) }
     ensures code { OnOk result ((at result_at : ℕ) → code.new ≡ node_code scope.old node.place
         (App at (expr_view callee.now) (row_of arguments.now) written result_at) code.old) }
     ensures scope { OnOk result (scope.new ≡ scope.old) }
@@ -114,7 +115,8 @@ pub fn extcall<F: Fn(&mut Scope, &mut Backwards, Place, &Expr) -> Result<(), All
     requires callable { MayCall (F.pre below.now) }
     requires selects { Selects (F.post below.now) }
     requires typed { AreAnnotated (names_in scope.old) arguments.now }
-    requires ty { (at result_at : ℕ) → node.ty ≡ type_of (names_in scope.old) (Extcall at outside.frame outside.name.now (row_of arguments.now)
+    requires ty { (at result_at : ℕ) → node.ty ≡ type_of (names_in scope.old) (Extcall at
+        outside.frame outside.name.now (row_of arguments.now)
         outside.result result_at) }
     ensures code { OnOk result ((at result_at : ℕ) → code.new ≡ node_code scope.old node.place
         (Extcall at outside.entry.frame outside.entry.name.now (row_of arguments.now)
@@ -156,7 +158,8 @@ pub fn exit<F: Fn(&mut Scope, &mut Backwards, Place, &Expr) -> Result<(), AllocE
     requires callable { MayCall (F.pre below.now) }
     requires selects { Selects (F.post below.now) }
     requires typed { AreAnnotated (names_in scope.old) arguments.now }
-    requires ty { (at label_at : ℕ) → node.ty ≡ type_of (names_in scope.old) (Exit at label_at (label_view label.now) (row_of arguments.now)) }
+    requires ty { (at label_at : ℕ) → node.ty ≡ type_of (names_in scope.old) (Exit at label_at
+        (label_view label.now) (row_of arguments.now)) }
     ensures code { OnOk result ((at label_at : ℕ) → code.new ≡ node_code scope.old node.place
         (Exit at label_at (label_view label.now) (row_of arguments.now)) code.old) }
     ensures scope { OnOk result (scope.new ≡ scope.old) }
@@ -180,7 +183,8 @@ pub fn raise<F: Fn(&mut Scope, &mut Backwards, Place, &Expr) -> Result<(), Alloc
     requires callable { MayCall (F.pre below.now) }
     requires selects { Selects (F.post below.now) }
     requires typed { IsAnnotated (names_in scope.old) value.now }
-    requires ty { (at : ℕ) → node.ty ≡ type_of (names_in scope.old) (Raise at (expr_view value.now)) }
+    requires ty { (at : ℕ) → node.ty ≡ type_of (names_in scope.old) (Raise at (expr_view
+        value.now)) }
     ensures code { OnOk result ((at : ℕ) → code.new ≡ node_code scope.old node.place
         (Raise at (expr_view value.now)) code.old) }
     ensures scope { OnOk result (scope.new ≡ scope.old) }

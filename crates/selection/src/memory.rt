@@ -73,7 +73,8 @@ pub fn load<F: Fn(&mut Scope, &mut Backwards, Place, &Expr) -> Result<(), AllocE
     requires callable { MayCall (F.pre below.now) }
     requires selects { Selects (F.post below.now) }
     requires typed { IsAnnotated (names_in scope.old) address.now }
-    requires ty { (at : ℕ) → node.ty ≡ type_of (names_in scope.old) (Load at chunk (expr_view address.now)) }
+    requires ty { (at : ℕ) → node.ty ≡ type_of (names_in scope.old) (Load at chunk (expr_view
+        address.now)) }
     ensures code { OnOk result ((at : ℕ) → code.new ≡ node_code scope.old node.place
         (Load at chunk (expr_view address.now)) code.old) }
     ensures scope { OnOk result (scope.new ≡ scope.old) }
@@ -99,7 +100,8 @@ pub fn store<F: Fn(&mut Scope, &mut Backwards, Place, &Expr) -> Result<(), Alloc
     requires selects { Selects (F.post below.now) }
     requires address_typed { IsAnnotated (names_in scope.old) address.now }
     requires value_typed { IsAnnotated (names_in scope.old) value.now }
-    requires ty { (at : ℕ) → node.ty ≡ type_of (names_in scope.old) (Store at chunk (expr_view address.now) (expr_view value.now)) }
+    requires ty { (at : ℕ) → node.ty ≡ type_of (names_in scope.old) (Store at chunk (expr_view
+        address.now) (expr_view value.now)) }
     ensures code { OnOk result ((at : ℕ) → code.new ≡ node_code scope.old node.place
         (Store at chunk (expr_view address.now) (expr_view value.now)) code.old) }
     ensures scope { OnOk result (scope.new ≡ scope.old) }
@@ -137,7 +139,8 @@ pub fn checkbound<F: Fn(&mut Scope, &mut Backwards, Place, &Expr) -> Result<(), 
     requires selects { Selects (F.post below.now) }
     requires bound_typed { IsAnnotated (names_in scope.old) bound.now }
     requires index_typed { IsAnnotated (names_in scope.old) index.now }
-    requires ty { (at : ℕ) → node.ty ≡ type_of (names_in scope.old) (Checkbound at (expr_view bound.now) (expr_view index.now)) }
+    requires ty { (at : ℕ) → node.ty ≡ type_of (names_in scope.old) (Checkbound at (expr_view
+        bound.now) (expr_view index.now)) }
     ensures code { OnOk result ((at : ℕ) → code.new ≡ node_code scope.old node.place
         (Checkbound at (expr_view bound.now) (expr_view index.now)) code.old) }
     ensures scope { OnOk result (scope.new ≡ scope.old) }
@@ -185,7 +188,8 @@ pub fn alloc<F: Fn(&mut Scope, &mut Backwards, Place, &Expr) -> Result<(), Alloc
     requires callable { MayCall (F.pre below.now) }
     requires selects { Selects (F.post below.now) }
     requires typed { AreAnnotated (names_in scope.old) operands.now }
-    requires ty { (at header_at : ℕ) → node.ty ≡ type_of (names_in scope.old) (Alloc at header_at header (row_of operands.now)) }
+    requires ty { (at header_at : ℕ) → node.ty ≡ type_of (names_in scope.old) (Alloc at header_at
+        header (row_of operands.now)) }
     ensures code { OnOk result ((at header_at : ℕ) → code.new ≡ node_code scope.old node.place
         (Alloc at header_at header (row_of operands.now)) code.old) }
     ensures scope { OnOk result (scope.new ≡ scope.old) }

@@ -1,10 +1,9 @@
 //! Operands: the order of their code, and those that need none.
-ghost use Rattle.std.specs.Prelude.{◌≡◌, ◌+◌, suc, not, false, OnOk};
+ghost use Rattle.std.specs.Prelude.{◌≡◌, ◌+◌, OnOk};
 ghost use Rattle.cmm_tree.specs.Rows.{row_of};
-ghost use Rattle.cmm_tree.specs.View.{expr_view};
 ghost use Rattle.cmm_types.specs.Annotated.{IsAnnotated};
 ghost use Rattle.cmm_types.specs.Lists.{AreAnnotated};
-ghost use Rattle.selection_rules.specs.Select.{select, ordered, only_when, select_waiting, select_filled};
+ghost use Rattle.selection_rules.specs.Select.{ordered, select_waiting, select_filled};
 ghost use Rattle.selection.specs.Below.{code_at, MayCall, Selects};
 ghost use Rattle.selection.specs.Operands.{operand_code};
 ghost use Rattle.selection_scope.specs.Scoping.{names_in};

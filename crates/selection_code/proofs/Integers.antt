@@ -1,13 +1,10 @@
 -- Expressions that are integers, and those that are not.
-use Rattle.std.proofs.Common.{◌≡◌, ℕ, Bool, true, false, cond, List, [], ◌∷◌, ◌++◌, Option, Some, None, refl, ap, sym, ◌∙◌}
+use Rattle.std.proofs.Common.{◌≡◌, ℕ, cond, Option, Some, None, refl, ap, sym, ◌∙◌}
 use Rattle.bs_words.specs.declared.operators.IntOp.{IntOp}
 use Rattle.cmm_tree.specs.Tree.{Expression, Integer, Pointer, Symbol, Name, Nothing, Float, Let, Assign, Operator, Load, Store, Alloc, App, Extcall, Checkbound, Raise, Seq, If, Switch, Catch, Exit, Try}
-use Rattle.cmm_types.specs.Types.{type_of}
-use Rattle.mach_ir.specs.declared.mach.Instr.{Instr}
-use Rattle.mach_ir.specs.declared.op.Right.{Right}
 use Rattle.mach_ir.specs.declared.op.Right.TheVariants as right
 use Rattle.mach_ir.specs.Forms.{is_immediate}
-use Rattle.selection_rules.specs.Select.{Named, Label, Immediate, Code, scopes, fresh, immediate_of, commuted, if_commuted, right_immediate, left_immediate, power_of, exponent_from, right_of, base_of, offset_of, is_based, select, select_base}
+use Rattle.selection_rules.specs.Select.{immediate_of, commuted, if_commuted, right_immediate, left_immediate, power_of, exponent_from, right_of}
 use Rattle.selection_code.specs.Shapes.{integer_of}
 
 -- what is told of the word, if there is one

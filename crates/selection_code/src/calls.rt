@@ -3,7 +3,8 @@ ghost use Rattle.std.specs.Prelude.{◌≡◌, [], ◌∷◌, ◌++◌, true, fa
 ghost use Rattle.cmm_tree.specs.View.{expr_view};
 ghost use Rattle.mach_ir.specs.declared.op.Callee.{Callee};
 ghost use Rattle.selection_rules.specs.Instructions as emit;
-ghost use Rattle.selection_rules.specs.Select.{symbol_of, callee_of, callee_regs, call_of, from_seat, result_seat, seat, tail_result, exit_to, to_seat, returns};
+ghost use Rattle.selection_rules.specs.Select.{symbol_of, callee_of, callee_regs, call_of, from_seat, result_seat, seat, tail_result, exit_to, to_seat};
+ghost use Rattle.selection_rules.specs.Select.{returns};
 ghost use Rattle.selection_scope.specs.Scoping.{target_view};
 
 use crate::backwards::Backwards;

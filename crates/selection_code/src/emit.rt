@@ -1,14 +1,12 @@
 //! The instructions that selection makes.
-ghost use Rattle.std.specs.Prelude.{◌≡◌, ◌+◌, ◌*◌, ◌-◌, ◌<◌, ◌≤◌, [], ◌∷◌, ◌++◌, IfOk, OnOk, option_map};
-ghost use Rattle.std.specs.Option.{option_copied};
+ghost use Rattle.std.specs.Prelude.{◌≡◌, ◌+◌, ◌*◌, ◌-◌, ◌<◌, ◌≤◌, [], ◌∷◌, ◌++◌, IfOk, OnOk};
 ghost use Rattle.selection_rules.specs.Instructions as emit;
-ghost use Rattle.selection_rules.specs.Select.{move_from, move_to, moves_all, rounded, power_code, operator_code, shape_args, call_of, result_seat, from_seat, seat, callee_of, callee_regs, tail_result, chunk_for, header_offset, cell_stores, exit_to, to_seat};
+ghost use Rattle.selection_rules.specs.Select.{move_from, move_to, moves_all, rounded, power_code, operator_code, shape_args};
+ghost use Rattle.selection_rules.specs.Select.{cell_stores};
 ghost use Rattle.selection_code.specs.Shapes.{shape_view};
 ghost use Rattle.mach_ir.specs.declared.op.Right.TheVariants as second;
 ghost use Rattle.mach_ir.specs.declared.mach.Test.TheVariants as test;
 ghost use Rattle.bs_words.specs.declared.operators.IntOp.TheVariants as operator;
-ghost use Rattle.bs_words.specs.declared.types.Chunk.TheVariants as chunk;
-ghost use Rattle.bs_words.specs.declared.types.Comp.TheVariants as comp;
 
 use crate::backwards::Backwards;
 use crate::shape::Shape;
@@ -97,7 +95,8 @@ impl Backwards {
         rest: Reg,
         to: Reg,
     ) -> Result<(), AllocError>
-        ensures { OnOk result (self.new ≡ power_code operator.Div exponent dividend rest to self.old) }
+        ensures { OnOk result (self.new ≡ power_code operator.Div exponent dividend rest to
+            self.old) }
     {
         self.with_constant(IntOp::Sar, rest, u64::from(exponent), to)?;
         self.rounded(exponent, dividend, rest)
@@ -111,7 +110,8 @@ impl Backwards {
         rest: Reg,
         to: Reg,
     ) -> Result<(), AllocError>
-        ensures { OnOk result (self.new ≡ power_code operator.Mod exponent dividend rest to self.old) }
+        ensures { OnOk result (self.new ≡ power_code operator.Mod exponent dividend rest to
+            self.old) }
     {
         self.on_both(IntOp::Sub, dividend, rest, to)?;
         self.with_constant(IntOp::Shl, rest, u64::from(exponent), rest)?;

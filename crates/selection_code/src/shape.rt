@@ -2,7 +2,9 @@
 ghost use Rattle.std.specs.Prelude.{◌≡◌, ◌+◌, ◌^◌, ◌≤◌, option_map};
 ghost use Rattle.cmm_tree.specs.View.{expr_view};
 ghost use Rattle.mach_ir.specs.Forms.{is_immediate, is_immediate_12, is_opposite_immediate_12};
-ghost use Rattle.selection_rules.specs.Select.{exponent_from, immediate_of, turned_round, commuted, immediate_if, shift_by, if_commuted, right_immediate, left_immediate, power_of, power_shape, shape, shape_of, shape_op, shape_right, right_of, bound_test, comparison, is_address_sum, is_based};
+ghost use Rattle.selection_rules.specs.Select.{exponent_from, immediate_of, turned_round, commuted, immediate_if, shift_by, if_commuted, right_immediate};
+ghost use Rattle.selection_rules.specs.Select.{left_immediate, power_of, power_shape, shape, shape_of, shape_op, shape_right, right_of, bound_test};
+ghost use Rattle.selection_rules.specs.Select.{comparison, is_address_sum, is_based};
 ghost use Rattle.selection_code.specs.Shapes.{immediate_view, shape_view, integer_of, needs_left, needs_right, is_register};
 
 use bs_words::{CmpOp, IntOp};

@@ -1,6 +1,6 @@
 -- The stacks of names and labels, which contracts see from their tops.
-use Rattle.std.proofs.Common.{◌≡◌, ℕ, suc, ◌+◌, ◌-◌, Bool, true, false, List, [], ◌∷◌, ◌++◌, length, map, reverse, take, drop, refl, ap, sym, ◌∙◌, append_assoc, arith}
-use Rattle.std.proofs.lemmas.List.{length-append, map-append, reverse-append}
+use Rattle.std.proofs.Common.{◌≡◌, ℕ, suc, ◌-◌, Bool, true, false, List, [], ◌∷◌, ◌++◌, length, map, reverse, take, drop, refl, ap, ◌∙◌, append_assoc, arith}
+use Rattle.std.proofs.lemmas.List.{length-append, reverse-append}
 use Rattle.cmm_tree.specs.Tree.{is_bare}
 use Rattle.cmm_types.proofs.Leaving.{drop_front}
 use Rattle.cmm_types.proofs.Stacks.{lowest}

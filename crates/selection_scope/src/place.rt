@@ -4,7 +4,7 @@ ghost use Rattle.bs_words.specs.Fits.{type_of_comp};
 ghost use Rattle.cmm_types.specs.Types.{type_bound, is_mutable, result_of};
 ghost use Rattle.cmm_tree.specs.View.{declared_view};
 ghost use Rattle.std.specs.Option.{option_map};
-ghost use Rattle.selection_rules.specs.Select.{comp_of, fresh, inner_dest, inner_valued, is_no_value, seat, tail_result};
+ghost use Rattle.selection_rules.specs.Select.{comp_of, fresh, inner_dest, inner_valued, is_no_value};
 ghost use Rattle.mach_ir.specs.declared.reg.Reg.{Reg};
 
 use bs_words::{Comp, Loc, Ret, Ty};

@@ -1,5 +1,5 @@
 //! Registers in a row.
-ghost use Rattle.std.specs.Prelude.{◌≡◌, [], ◌∷◌, ◌++◌, length, IfOk, OnOk};
+ghost use Rattle.std.specs.Prelude.{◌≡◌, [], ◌∷◌, ◌++◌, IfOk, OnOk};
 ghost use Rattle.selection_scope.specs.Row.{regs_in};
 
 use bs_words::{Comp, Loc};

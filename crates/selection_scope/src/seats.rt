@@ -1,12 +1,12 @@
 //! Registers in rows: operands, parameters, and the seats that the convention of calls gives them.
-ghost use Rattle.std.specs.Prelude.{◌≡◌, ◌+◌, length, slice_index_or, IfOk};
+ghost use Rattle.std.specs.Prelude.{◌≡◌, ◌+◌, slice_index_or, IfOk};
 ghost use Rattle.bs_words.specs.declared.types.Loc.TheVariants as loc;
 ghost use Rattle.cmm_tree.specs.Rows.{row_of};
 ghost use Rattle.cmm_types.specs.Lists.{AreAnnotated};
 ghost use Rattle.cmm_meaning.specs.Evaluation.{comp_of_argument, comps_of_arguments};
 ghost use Rattle.mach_ir.specs.Placed.{colours};
 ghost use Rattle.mach_ir.specs.Seats.{argument_places};
-ghost use Rattle.selection_rules.specs.Select.{seat, seats, result_seat, regs_of, colour_regs, count_of};
+ghost use Rattle.selection_rules.specs.Select.{seat, seats, result_seat, regs_of, colour_regs};
 ghost use Rattle.selection_scope.specs.Scoping.{names_in};
 
 use crate::numbers::plus;

@@ -2,7 +2,7 @@
 ghost use Rattle.std.specs.Prelude.{◌≡◌, ◌+◌, ◌<◌, IfOk};
 ghost use Rattle.cmm_tree.specs.Rows.{row_of, bindings_of, cases_of, handlers_of};
 ghost use Rattle.cmm_tree.specs.View.{expr_view};
-ghost use Rattle.selection_rules.specs.Select.{width, width_row, width_bound, width_cases, width_handlers, width_labels, count_of, count_cases};
+ghost use Rattle.selection_rules.specs.Select.{width, width_row, width_bound, width_cases, width_handlers, width_labels};
 ghost use Rattle.selection_scope.specs.Widths.{capped};
 
 use cmm_tree::{Binding, Case, Expr, Form, Handler};

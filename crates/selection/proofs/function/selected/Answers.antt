@@ -1,7 +1,6 @@
-use Rattle.std.proofs.Common.{◌≡◌, ◌+◌, ◌-◌, length, not, true, ap, sym, ◌∙◌}
-use Rattle.bs_words.specs.Contents.{contents}
+use Rattle.std.proofs.Common.{◌+◌, ◌-◌, not, true, ap, ◌∙◌}
 use Rattle.cmm_tree.specs.View.{params_view, expr_view}
-use Rattle.selection_rules.specs.Select.{params_from, seats, moves_all, returns as returned_by, select}
+use Rattle.selection_rules.specs.Select.{params_from, returns as returned_by, select}
 use Rattle.selection.proofs.Whole.{typed-body, selected-is, count-params, scope-is, mach-is}
 use Rattle.selection_scope.specs.Scoping.{Visible}
 use Rattle.selection.proofs.function.selected.Goals as goal

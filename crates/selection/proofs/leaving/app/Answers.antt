@@ -2,7 +2,7 @@ use Rattle.std.proofs.Common.{false, refl, ap, ◌∙◌}
 use Rattle.std.proofs.lemmas.Result.{on_ok_weaker}
 use Rattle.cmm_tree.specs.Rows.{row_of}
 use Rattle.cmm_tree.specs.View.{expr_view}
-use Rattle.selection_rules.specs.Select.{call_of, moves_all, only_when, seats, select, select_filled, select_waiting, symbol_of}
+use Rattle.selection_rules.specs.Select.{only_when, select, select_filled, select_waiting, symbol_of}
 use Rattle.selection.proofs.RowForms.{app-is}
 use Rattle.selection.specs.Operands.{lacks}
 use Rattle.selection_scope.specs.Scoping.{Visible}

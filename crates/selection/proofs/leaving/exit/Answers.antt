@@ -3,7 +3,7 @@ use Rattle.std.proofs.lemmas.Result.{on_ok_weaker}
 use Rattle.std.specs.Option.{option_copied}
 use Rattle.cmm_tree.specs.Rows.{row_of}
 use Rattle.cmm_tree.specs.View.{label_view}
-use Rattle.selection_rules.specs.Select.{exit_to, select_waiting}
+use Rattle.selection_rules.specs.Select.{select_waiting}
 use Rattle.selection.proofs.RowForms.{exit-is}
 use Rattle.selection_scope.specs.Scoping.{Visible, target_view}
 use Rattle.selection.proofs.leaving.exit.Goals as goal

@@ -1,8 +1,7 @@
-use Rattle.std.proofs.Common.{◌∷◌, ap, ◌∙◌}
+use Rattle.std.proofs.Common.{ap, ◌∙◌}
 use Rattle.std.proofs.lemmas.Result.{on_ok_weaker}
 use Rattle.cmm_tree.specs.Rows.{row_of}
-use Rattle.selection_rules.specs.Instructions as emit
-use Rattle.selection_rules.specs.Select.{moves_all, seats, select_waiting}
+use Rattle.selection_rules.specs.Select.{select_waiting}
 use Rattle.selection.proofs.RowForms.{extcall-is}
 use Rattle.selection_scope.specs.Scoping.{Visible}
 use Rattle.selection.proofs.leaving.extcall.Goals as goal

@@ -1,4 +1,4 @@
-use Rattle.std.proofs.Common.{◌≡◌, ◌+◌, ◌<◌, ◌^◌, suc, arith}
+use Rattle.std.proofs.Common.{◌<◌, ◌^◌, suc, arith}
 use Rattle.std.proofs.Math.Pow.{pow-lt}
 use Rattle.selection_code.proofs.shape.+exponent_from.Goals as goal
 

@@ -1,4 +1,4 @@
-use Rattle.std.proofs.Common.{◌≡◌, ◌+◌, ◌++◌, length, map, reverse}
+use Rattle.std.proofs.Common.{◌≡◌, ◌++◌, length, map, reverse}
 use Rattle.selection_rules.specs.Select.{deeper}
 use Rattle.selection_scope.specs.Scoping.{target_view}
 use Rattle.selection_scope.proofs.scope.one_deeper.Given as goal

@@ -1,4 +1,4 @@
-use Rattle.std.proofs.Common.{◌≡◌, ◌+◌, ◌++◌, length}
+use Rattle.std.proofs.Common.{◌≡◌, ◌++◌, length}
 use Rattle.cmm_tree.specs.View.{params_view}
 use Rattle.selection_rules.specs.Select.{params_from}
 use Rattle.selection_scope.proofs.scope.params_from.Given as goal

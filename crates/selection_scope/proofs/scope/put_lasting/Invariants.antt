@@ -1,4 +1,4 @@
-use Rattle.std.proofs.Common.{◌≡◌, ◌+◌, ◌++◌, length, map, reverse}
+use Rattle.std.proofs.Common.{◌≡◌, ◌++◌, length, map, reverse}
 use Rattle.selection_scope.specs.Scoping.{target_view}
 use Rattle.selection_rules.specs.Select.{in_handlers}
 use Rattle.selection_scope.proofs.scope.put_lasting.Given as goal

@@ -1,4 +1,4 @@
-use Rattle.std.proofs.Common.{◌≡◌, ◌+◌, ◌++◌, length, map}
+use Rattle.std.proofs.Common.{◌≡◌, ◌++◌, length, map}
 use Rattle.cmm_tree.specs.Rows.{handlers_of}
 use Rattle.selection_scope.specs.Scoping.{target_view}
 use Rattle.selection_rules.specs.Select.{labels_from}

@@ -1,4 +1,4 @@
-use Rattle.std.proofs.Common.{◌≡◌, ◌+◌, ◌-◌, ◌++◌, List, length, map, reverse, drop, vec_len}
+use Rattle.std.proofs.Common.{◌≡◌, ◌++◌, length}
 use Rattle.mach_ir.specs.Placed.{colours}
 use Rattle.selection_rules.specs.Select.{colour_regs}
 use Rattle.selection_scope.proofs.seats.colour_regs.Given as goal

@@ -1,7 +1,7 @@
-use Rattle.std.proofs.Common.{◌≡◌, ◌+◌, ◌-◌, ◌++◌, List, length, map, reverse, drop, vec_len}
-use Rattle.cmm_tree.specs.Rows.{row_of, bindings_of, cases_of, handlers_of}
-use Rattle.cmm_types.specs.Lists.{AreAnnotated, AreBindingsAnnotated, AreCasesAnnotated, AreHandlersAnnotated}
-use Rattle.selection_scope.specs.Scoping.{named_view, target_view, names_in, higher}
+use Rattle.std.proofs.Common.{◌≡◌, ◌++◌, length}
+use Rattle.cmm_tree.specs.Rows.{row_of}
+use Rattle.cmm_types.specs.Lists.{AreAnnotated}
+use Rattle.selection_scope.specs.Scoping.{names_in}
 use Rattle.cmm_meaning.specs.Evaluation.{comps_of_arguments}
 use Rattle.selection_scope.proofs.seats.comps_of_arguments.Given as goal
 

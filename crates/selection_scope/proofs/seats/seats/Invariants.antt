@@ -1,4 +1,4 @@
-use Rattle.std.proofs.Common.{◌≡◌, ◌+◌, ◌-◌, ◌++◌, List, length, map, reverse, drop, vec_len}
+use Rattle.std.proofs.Common.{◌≡◌, ◌++◌, length}
 use Rattle.selection_rules.specs.Select.{seats}
 use Rattle.selection_scope.specs.Row.{regs_in}
 use Rattle.selection_scope.proofs.seats.seats.Given as goal

@@ -1,6 +1,6 @@
-use Rattle.std.proofs.Common.{◌≡◌, ◌+◌, ◌-◌, ◌≤◌, ◌++◌, List, length, map, reverse, drop, vec_len}
+use Rattle.std.proofs.Common.{◌≡◌, ◌+◌, ◌≤◌, drop}
 use Rattle.cmm_tree.specs.Rows.{row_of, bindings_of, cases_of, handlers_of}
-use Rattle.selection_rules.specs.Select.{width_row, width_bound, width_cases, width_handlers, width_labels}
+use Rattle.selection_rules.specs.Select.{width_row, width_bound, width_cases, width_handlers}
 use Rattle.selection_scope.specs.Widths.{capped}
 use Rattle.selection_scope.proofs.width.+width.Given as goal
 

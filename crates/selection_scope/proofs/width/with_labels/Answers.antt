@@ -1,4 +1,4 @@
-use Rattle.std.proofs.Common.{◌≡◌, ap, arith}
+use Rattle.std.proofs.Common.{ap, arith}
 use Rattle.std.proofs.lemmas.List.{drop_all}
 use Rattle.cmm_tree.specs.Rows.{handlers_of}
 use Rattle.selection_rules.specs.Select.{width_labels}
