@@ -44,9 +44,10 @@ fn count_functions(items: &[Item]) -> Result<u32, AllocError>
 {
     let mut count: u32 = 0;
     let mut rest = items;
-    while let Some((last, others)) = rest.split_last() {
-        if let Item::Function(_) = last {
-            count = count.checked_add(1).ok_or(AllocError)?;
+    while let [item, others @ ..] = rest {
+        match item {
+            Item::Function(_) => count = count.checked_add(1).ok_or(AllocError)?,
+            Item::Data(_) => {}
         }
         rest = others;
     }
