@@ -18,11 +18,11 @@ use Rattle.image_rules.proofs.Limits.{are_short}
 use Rattle.image_rules.proofs.Placed.{Lie, CellsLie, data_length, data_nonempty, symbols_in_data, roots_in_data}
 use Rattle.layout_rules.specs.declared.form.Form.{Form}
 use Rattle.layout_rules.specs.declared.form.Form.TheVariants.{Near, Middle, Far}
-use Rattle.layout_rules.specs.Conditions.{PieceFits, LeadsTo, IsFunctionLaid, CanBeLaid}
+use Rattle.layout_rules.specs.Conditions.{LeadsTo, IsFunctionLaid, CanBeLaid}
 use Rattle.layout_rules.specs.Externals.{externals}
 use Rattle.layout_rules.specs.Forms.{words_of, total_words, place_of}
 use Rattle.layout_rules.specs.Laid.{stub_words, address_of_place, entries_from, names_at, function_words, code_from, row_at, rows_from, cell_bytes, data_of, sym_of, laid_out, AreAllForms}
-use Rattle.layout_rules.specs.Named.{has_words}
+use Rattle.rv_pieces.specs.Named.{PieceFits, has_words}
 use Rattle.layout_rules.specs.TooLarge.{first_too_large}
 use Rattle.layout_rules.specs.Words.{Named, target_of, words_from, code_of}
 use Rattle.layout_rules.proofs.Functions.{forms_length, names_lead, function_length}
