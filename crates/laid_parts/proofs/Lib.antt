@@ -1,2 +1,5 @@
 pub mod Registers
+pub mod Operators
+pub mod Lines
+pub mod Each
 pub mod Examples

@@ -165,7 +165,7 @@ module _ (n : ℕ) (apart : IsApart n) where
   -- ---- constants
 
   -- what changes a register that was set before
-  over : {xs ys : List Piece} (r : Register) → Names n xs false (hits n r) → Names n ys (hits n r) (hits n r) → Names n (xs ++ ys) false (hits n r)
+  pub over : {xs ys : List Piece} (r : Register) → Names n xs false (hits n r) → Names n ys (hits n r) (hits n r) → Names n (xs ++ ys) false (hits n r)
   over r x y = same (joined x y) (not_both (hits n r)) (or_same (hits n r))
 
   over_if : (b : Bool) {xs ys : List Piece} (r : Register) → Names n xs false (hits n r) → Names n ys (hits n r) (hits n r) →
@@ -205,10 +205,10 @@ module _ (n : ℕ) (apart : IsApart n) where
   pub constant-none : (r : Register) (w : ℕ) → hits n r ≡ false → Names n (constant r w) false false
   constant-none r w e = same (constant-names r w) refl e
 
-  last_none : (a b : Bool) → b ≡ false → (a || b) ≡ a
+  pub last_none : (a b : Bool) → b ≡ false → (a || b) ≡ a
   last_none a b e = ap (λ (z : Bool). a || z) e ∙ or_false a
 
-  first_none : (a b : Bool) → a ≡ false → (a || b) ≡ b
+  pub first_none : (a b : Bool) → a ≡ false → (a || b) ≡ b
   first_none a b e = ap (λ (z : Bool). z || b) e
 
   pub sum_to-names : (scratch to from : Register) (w : ℕ) → hits n scratch ≡ false → Names n (sum_to scratch to from w) (hits n from) (hits n to)
