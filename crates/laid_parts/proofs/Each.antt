@@ -24,7 +24,7 @@ use Rattle.mach_ir.specs.declared.op.Op.TheVariants as op
 use Rattle.mach_ir.specs.declared.op.Pure.TheVariants as pure
 use Rattle.mach_ir.specs.declared.op.Right.{Right}
 use Rattle.mach_ir.specs.declared.op.Right.TheVariants as right
-use Rattle.lin_ir.specs.Formed.{FlowHasForm, label_form, jump_form, exit_form, branch_form, switch_form, push_form, pop_form, enter_form, IsFormed, formed_op, formed_flow, IsHome, is_colour, is_slot, IsLocation, is_home, is_spare, IsSelfMove, is_self_move, Locates, comps, places_of, lin_operand_seats, lin_result_seats}
+use Rattle.lin_ir.specs.Formed.{FlowHasForm, label_form, jump_form, exit_form, branch_form, switch_form, push_form, pop_form, enter_form, IsFormed, formed_op, formed_flow, IsHome, is_colour, is_slot, IsLocation, is_home, is_spare, IsSelfMove, is_self_move, Locates, comps, places_of, lin_operand_seats, lin_result_seats, WellFormed, Seated}
 use Rattle.lin_ir.specs.Meaning.{same_loc, is_named}
 use Rattle.lin_ir.specs.declared.descr.Descr.{Descr}
 use Rattle.lin_ir.specs.declared.lin.Flow.{Flow}
@@ -42,7 +42,7 @@ use Rattle.emit_rules.specs.Instructions.{register_at}
 use Rattle.emit_rules.specs.Emitted.{part_of, lin_part}
 use Rattle.emit_rules.specs.Entry.{Frame}
 use Rattle.emit_rules.specs.Slots.{first, second, copied}
-use Rattle.laid_parts.specs.Laid.{is_reserved, is_handed_on, is_left, NamesRegisters}
+use Rattle.laid_parts.specs.Laid.{is_reserved, is_handed_on, is_left, NamesRegisters, IsCarried, moves_nothing, names}
 use Rattle.laid_parts.specs.Named.{is_source, is_target}
 use Rattle.laid_parts.proofs.Registers.{neither, or_false, Names, same, nothing, alone, hits, is-apart, IsApart}
 use Rattle.laid_parts.proofs.Operators.{IsNumbered, numbered, in_slot, copied-names}
@@ -287,6 +287,15 @@ module _ (m : Lin) (t : ℕ) (f : Frame) (d : Option Descr) (args results : List
       same (lines.pop-names n apart t) (sym (named_none (loc.Machine n) args i.0)) (sym (named_none (loc.Machine n) results i.1))
   flow-plain flow.EnterTrap h o n apart = absurd (o refl)
 
+same_is : (k l : Loc) → same_loc k l ≡ true → k ≡ l
+same_is (loc.Machine k) (loc.Machine l) e = ap (λ (z : ℕ). loc.Machine z) (eqb-true k l e)
+same_is (loc.Slot k) (loc.Slot l) e = ap (λ (z : ℕ). loc.Slot z) (eqb-true k l e)
+same_is (loc.Machine k) (loc.Slot l) e = absurd (cc)
+same_is (loc.Machine k) loc.Unset e = absurd (cc)
+same_is (loc.Slot k) (loc.Machine l) e = absurd (cc)
+same_is (loc.Slot k) loc.Unset e = absurd (cc)
+same_is loc.Unset l e = absurd (cc)
+
 -- ---- registers that conventions hand over
 
 prefix_none : (l : Loc) (ls more : List Loc) → is_named l (ls ++ more) ≡ false → is_named l ls ≡ false
@@ -395,3 +404,65 @@ module _ (m : Lin) (t : ℕ) (f : Frame) (d : Option Descr) (args results : List
       from_a0 n e true c g = refl
       from_a0 n e false c g =
           (copied-names n (is-apart n e) t (loc.Machine 10) (first results) (numbered {r = 10} refl) c).reads ∙ (sym (or_false (nat_eq 10 n)) ∙ g)
+
+-- ---- every line
+
+module _ (m : Lin) (t : ℕ) (f : Frame) (d : Option Descr) where
+  abbrev CarriedIn : LinOp → List Spot → List Spot → Type 0
+  CarriedIn o args results =
+      IsCarried (record { op = o; args = args; results = results }) (part_of t f d (record { op = o; args = args; results = results }))
+
+  copy-carried : (kind : _) (args results : List Spot) → (u v : Comp) → comps args ≡ u ∷ [] → comps results ≡ v ∷ [] → Locates m args → Locates m results →
+      CarriedIn (lin.Op (op.Pure (pure.Copy kind))) args results
+  copy-carried kind [] results u v e g a r = absurd (cc)
+  copy-carried kind (x ∷ y ∷ args) results u v e g a r = absurd (cc)
+  copy-carried kind (x ∷ []) [] u v e g a r = absurd (cc)
+  copy-carried kind (x ∷ []) (y ∷ z ∷ results) u v e g a r = absurd (cc)
+  copy-carried kind (x ∷ []) (y ∷ []) u v e g a r = by (same_loc x.loc y.loc) refl
+    where
+      by : (b : Bool) → same_loc x.loc y.loc ≡ b →
+          IsCarried (record { op = lin.Op (op.Pure (pure.Copy kind)); args = x ∷ []; results = y ∷ [] }) (cond b [] (copied t x.loc y.loc))
+      by true k = moves_nothing (is_self_move (same_is x.loc y.loc k))
+      by false k = names (record {
+        reads = λ n o w. (copied-names n (is-apart n o) t x.loc y.loc (first_numbered m (x ∷ []) u [] e a) (first_numbered m (y ∷ []) v [] g r)).reads
+            ∙ sym (or_false (same_loc x.loc (loc.Machine n)));
+        writes = λ n o w. (copied-names n (is-apart n o) t x.loc y.loc (first_numbered m (x ∷ []) u [] e a) (first_numbered m (y ∷ []) v [] g r)).sets
+            ∙ sym (or_false (same_loc y.loc (loc.Machine n)));
+      })
+
+  pub line_carried : (o : LinOp) (args results : List Spot) → IsFormed (record { op = o; args = args; results = results }) →
+      Locates m args → Locates m results → AreSeated (lin_operand_seats o) (places_of args) → AreSeated (lin_result_seats o) (places_of results) →
+      CarriedIn o args results
+  line_carried (lin.Op (op.Pure (pure.Copy kind))) args results (formed_op h) a r s u =
+      let i = copy_inv kind (comps args) (comps results) h in copy-carried kind args results i.0 i.1 i.2 i.3 a r
+  line_carried (lin.Op (op.Pure (pure.Constant w))) args results (formed_op h) a r s u =
+      names (registers_of (constant-plain m t f d args results a r w h))
+  line_carried (lin.Op (op.Pure (pure.Symbol name))) args results (formed_op h) a r s u =
+      names (registers_of (symbol-plain m t f d args results a r name h))
+  line_carried (lin.Op (op.Pure (pure.Operator g o))) args results (formed_op h) a r s u =
+      names (registers_of (operator-plain m t f d args results a r g o h))
+  line_carried (lin.Op (op.Access g)) args results (formed_op h) a r s u = names (registers_of (access-plain m t f d args results a r g h))
+  line_carried (lin.Op (op.Calling g)) args results (formed_op h) a r s u = names (calling-names m t f d args results a r g h s u)
+  line_carried (lin.Op (op.Leaving g)) args results (formed_op h) a r s u = names (leaving-names m t f d args results a r g h s)
+  line_carried (lin.Flow flow.EnterTrap) args results (formed_flow h) a r s u = names (enter-names m t f d args results a r h)
+  line_carried (lin.Flow (flow.Label l)) args results (formed_flow h) a r s u =
+      names (registers_of (flow-plain m t f d args results a r (flow.Label l) h (λ k. absurd (cc))))
+  line_carried (lin.Flow (flow.Jump l)) args results (formed_flow h) a r s u =
+      names (registers_of (flow-plain m t f d args results a r (flow.Jump l) h (λ k. absurd (cc))))
+  line_carried (lin.Flow (flow.Exit l)) args results (formed_flow h) a r s u =
+      names (registers_of (flow-plain m t f d args results a r (flow.Exit l) h (λ k. absurd (cc))))
+  line_carried (lin.Flow (flow.Branch g l)) args results (formed_flow h) a r s u =
+      names (registers_of (flow-plain m t f d args results a r (flow.Branch g l) h (λ k. absurd (cc))))
+  line_carried (lin.Flow (flow.Switch ls)) args results (formed_flow h) a r s u =
+      names (registers_of (flow-plain m t f d args results a r (flow.Switch ls) h (λ k. absurd (cc))))
+  line_carried (lin.Flow (flow.PushTrap l)) args results (formed_flow h) a r s u =
+      names (registers_of (flow-plain m t f d args results a r (flow.PushTrap l) h (λ k. absurd (cc))))
+  line_carried (lin.Flow flow.PopTrap) args results (formed_flow h) a r s u =
+      names (registers_of (flow-plain m t f d args results a r flow.PopTrap h (λ k. absurd (cc))))
+
+-- ---- every line of a function
+
+pub carried : (m : Lin) → WellFormed m → Seated m → (i : Line) → Contains m.code i → (t : ℕ) (f : Frame) (d : Option Descr) → IsCarried i (part_of t f d i)
+carried m w s i c t f d =
+    let at = All-contains (λ (i : Line). Locates m i.args × Locates m i.results) m.code i w.locations c in
+    line_carried m t f d i.op i.args i.results (All-contains IsFormed m.code i w.forms c) at.0 at.1 (s.operands i c) (s.results i c)

@@ -59,6 +59,11 @@ pub record NamesRegisters (i : Line) (part : List Piece) : Type 0 where
   pub writes : (n : ℕ) → is_reserved n ≡ false → is_left i.op n ≡ false →
       is_target n part ≡ is_named (loc.Machine n) (places_of i.results)
 
+-- A move from a location to itself has no words.
+pub data IsCarried (i : Line) : List Piece → Type 0 where
+  moves_nothing : {from to : Spot} → IsSelfMove i from to → IsCarried i []
+  names : {part : List Piece} → NamesRegisters i part → IsCarried i part
+
 -- Slot k lies 8 bytes for each lower slot, and 16 for each pushed trap, from sp.
 pub record NamesSlots (slots traps : ℕ) (i : Line) (part : List Piece) : Type 0 where
   pub reads : (k : ℕ) → k < slots →
