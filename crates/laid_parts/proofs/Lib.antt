@@ -3,3 +3,4 @@ pub mod Operators
 pub mod Lines
 pub mod Each
 pub mod Examples
+pub mod Words

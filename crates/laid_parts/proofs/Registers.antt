@@ -47,12 +47,12 @@ or_turned true false = refl
 or_turned false true = refl
 or_turned false false = refl
 
-regroup : (a t s u y : Bool) → (a || (not t && (s || (not u && y)))) ≡ ((a || (not t && s)) || (not (t || u) && y))
+pub regroup : (a t s u y : Bool) → (a || (not t && (s || (not u && y)))) ≡ ((a || (not t && s)) || (not (t || u) && y))
 regroup true t s u y = refl
 regroup false true s u y = refl
 regroup false false s u y = refl
 
-or_grouped : (a b c : Bool) → (a || (b || c)) ≡ ((a || b) || c)
+pub or_grouped : (a b c : Bool) → (a || (b || c)) ≡ ((a || b) || c)
 or_grouped true b c = refl
 or_grouped false b c = refl
 
