@@ -4,3 +4,4 @@ pub mod Lines
 pub mod Each
 pub mod Examples
 pub mod Words
+pub mod SlotParts
