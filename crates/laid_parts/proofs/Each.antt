@@ -42,7 +42,7 @@ use Rattle.emit_rules.specs.Instructions.{register_at}
 use Rattle.emit_rules.specs.Emitted.{part_of, lin_part}
 use Rattle.emit_rules.specs.Entry.{Frame}
 use Rattle.emit_rules.specs.Slots.{first, second, copied}
-use Rattle.laid_parts.specs.Laid.{is_reserved, is_handed_on, is_left, NamesRegisters, IsCarried, moves_nothing, names}
+use Rattle.laid_parts.specs.Laid.{is_reserved, is_handed_on, is_left, NamesRegisters, CarriesRegisters, moves_nothing, names}
 use Rattle.laid_parts.specs.Named.{is_source, is_target}
 use Rattle.laid_parts.proofs.Registers.{neither, or_false, Names, same, nothing, alone, hits, is-apart, IsApart}
 use Rattle.laid_parts.proofs.Operators.{IsNumbered, numbered, in_slot, copied-names}
@@ -120,13 +120,13 @@ registers_of : {o : LinOp} {args results : List Spot} {part : List Piece} → Pl
 unfolding Plain
 registers_of h = record { reads = λ n e g. (h n (is-apart n e)).reads; writes = λ n e g. (h n (is-apart n e)).sets }
 
-constant_inv : (w : ℕ) (xs ys : List Comp) → HasForm (op.Pure (pure.Constant w)) xs ys → (xs ≡ []) × ((u : Comp) × (ys ≡ u ∷ []))
+pub constant_inv : (w : ℕ) (xs ys : List Comp) → HasForm (op.Pure (pure.Constant w)) xs ys → (xs ≡ []) × ((u : Comp) × (ys ≡ u ∷ []))
 constant_inv w xs ys (constant {to = u} l) = (refl, (u, refl))
 
-symbol_inv : (name : List ℕ) (xs ys : List Comp) → HasForm (op.Pure (pure.Symbol name)) xs ys → (xs ≡ []) × ((u : Comp) × (ys ≡ u ∷ []))
+pub symbol_inv : (name : List ℕ) (xs ys : List Comp) → HasForm (op.Pure (pure.Symbol name)) xs ys → (xs ≡ []) × ((u : Comp) × (ys ≡ u ∷ []))
 symbol_inv name xs ys (symbol {to = u}) = (refl, (u, refl))
 
-copy_inv : (kind : _) (xs ys : List Comp) → HasForm (op.Pure (pure.Copy kind)) xs ys → (t : Comp) × (u : Comp) × (xs ≡ t ∷ []) × (ys ≡ u ∷ [])
+pub copy_inv : (kind : _) (xs ys : List Comp) → HasForm (op.Pure (pure.Copy kind)) xs ys → (t : Comp) × (u : Comp) × (xs ≡ t ∷ []) × (ys ≡ u ∷ [])
 copy_inv kind xs ys (copies {from = t} {to = u}) = (t, u, refl, refl)
 
 load_inv : (k : _) (offset : ℕ) (xs ys : List Comp) → HasForm (op.Access (access.Load k offset)) xs ys →
@@ -140,11 +140,11 @@ store_inv k offset xs ys (stores {address = t} {value = u}) = (t, u, refl, refl)
 alloc_inv : (blocks : _) (xs ys : List Comp) → HasForm (op.Access (access.Alloc blocks)) xs ys → (xs ≡ []) × (length ys ≡ length blocks)
 alloc_inv blocks xs ys (allocates some all most as_many) = (refl, as_many)
 
-register_inv : (f : _) (xs ys : List Comp) → HasForm (op.Pure (pure.Operator f right.Register)) xs ys →
+pub register_inv : (f : _) (xs ys : List Comp) → HasForm (op.Pure (pure.Operator f right.Register)) xs ys →
     (t : Comp) × (u : Comp) × (o : Comp) × (xs ≡ t ∷ u ∷ []) × (ys ≡ o ∷ [])
 register_inv f xs ys (operates {left = t} {to = o} (a_register {t = u})) = (t, u, o, refl, refl)
 
-with_inv : (f : _) (w : ℕ) (xs ys : List Comp) → HasForm (op.Pure (pure.Operator f (right.Constant w))) xs ys →
+pub with_inv : (f : _) (w : ℕ) (xs ys : List Comp) → HasForm (op.Pure (pure.Operator f (right.Constant w))) xs ys →
     (t : Comp) × (o : Comp) × (xs ≡ t ∷ []) × (ys ≡ o ∷ [])
 with_inv f w xs ys (operates {left = t} {to = o} (a_constant e)) = (t, o, refl, refl)
 
@@ -287,7 +287,7 @@ module _ (m : Lin) (t : ℕ) (f : Frame) (d : Option Descr) (args results : List
       same (lines.pop-names n apart t) (sym (named_none (loc.Machine n) args i.0)) (sym (named_none (loc.Machine n) results i.1))
   flow-plain flow.EnterTrap h o n apart = absurd (o refl)
 
-same_is : (k l : Loc) → same_loc k l ≡ true → k ≡ l
+pub same_is : (k l : Loc) → same_loc k l ≡ true → k ≡ l
 same_is (loc.Machine k) (loc.Machine l) e = ap (λ (z : ℕ). loc.Machine z) (eqb-true k l e)
 same_is (loc.Slot k) (loc.Slot l) e = ap (λ (z : ℕ). loc.Slot z) (eqb-true k l e)
 same_is (loc.Machine k) (loc.Slot l) e = absurd (cc)
@@ -410,7 +410,7 @@ module _ (m : Lin) (t : ℕ) (f : Frame) (d : Option Descr) (args results : List
 module _ (m : Lin) (t : ℕ) (f : Frame) (d : Option Descr) where
   abbrev CarriedIn : LinOp → List Spot → List Spot → Type 0
   CarriedIn o args results =
-      IsCarried (record { op = o; args = args; results = results }) (part_of t f d (record { op = o; args = args; results = results }))
+      CarriesRegisters (record { op = o; args = args; results = results }) (part_of t f d (record { op = o; args = args; results = results }))
 
   copy-carried : (kind : _) (args results : List Spot) → (u v : Comp) → comps args ≡ u ∷ [] → comps results ≡ v ∷ [] → Locates m args → Locates m results →
       CarriedIn (lin.Op (op.Pure (pure.Copy kind))) args results
@@ -421,7 +421,7 @@ module _ (m : Lin) (t : ℕ) (f : Frame) (d : Option Descr) where
   copy-carried kind (x ∷ []) (y ∷ []) u v e g a r = by (same_loc x.loc y.loc) refl
     where
       by : (b : Bool) → same_loc x.loc y.loc ≡ b →
-          IsCarried (record { op = lin.Op (op.Pure (pure.Copy kind)); args = x ∷ []; results = y ∷ [] }) (cond b [] (copied t x.loc y.loc))
+          CarriesRegisters (record { op = lin.Op (op.Pure (pure.Copy kind)); args = x ∷ []; results = y ∷ [] }) (cond b [] (copied t x.loc y.loc))
       by true k = moves_nothing (is_self_move (same_is x.loc y.loc k))
       by false k = names (record {
         reads = λ n o w. (copied-names n (is-apart n o) t x.loc y.loc (first_numbered m (x ∷ []) u [] e a) (first_numbered m (y ∷ []) v [] g r)).reads
@@ -462,7 +462,7 @@ module _ (m : Lin) (t : ℕ) (f : Frame) (d : Option Descr) where
 
 -- ---- every line of a function
 
-pub carried : (m : Lin) → WellFormed m → Seated m → (i : Line) → Contains m.code i → (t : ℕ) (f : Frame) (d : Option Descr) → IsCarried i (part_of t f d i)
+pub carried : (m : Lin) → WellFormed m → Seated m → (i : Line) → Contains m.code i → (t : ℕ) (f : Frame) (d : Option Descr) → CarriesRegisters i (part_of t f d i)
 carried m w s i c t f d =
     let at = All-contains (λ (i : Line). Locates m i.args × Locates m i.results) m.code i w.locations c in
     line_carried m t f d i.op i.args i.results (All-contains IsFormed m.code i w.forms c) at.0 at.1 (s.operands i c) (s.results i c)

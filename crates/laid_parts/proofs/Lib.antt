@@ -5,3 +5,4 @@ pub mod Each
 pub mod Examples
 pub mod Words
 pub mod SlotParts
+pub mod PureSlots

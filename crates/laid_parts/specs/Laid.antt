@@ -59,17 +59,23 @@ pub record NamesRegisters (i : Line) (part : List Piece) : Type 0 where
   pub writes : (n : ℕ) → is_reserved n ≡ false → is_left i.op n ≡ false →
       is_target n part ≡ is_named (loc.Machine n) (places_of i.results)
 
--- A move from a location to itself has no words.
-pub data IsCarried (i : Line) : List Piece → Type 0 where
-  moves_nothing : {from to : Spot} → IsSelfMove i from to → IsCarried i []
-  names : {part : List Piece} → NamesRegisters i part → IsCarried i part
-
 -- Slot k lies 8 bytes for each lower slot, and 16 for each pushed trap, from sp.
 pub record NamesSlots (slots traps : ℕ) (i : Line) (part : List Piece) : Type 0 where
   pub reads : (k : ℕ) → k < slots →
       is_loaded at_first (8 * k + 16 * traps) part ≡ is_named (loc.Slot k) (places_of i.args)
   pub writes : (k : ℕ) → k < slots →
       is_stored at_first (8 * k + 16 * traps) part ≡ is_named (loc.Slot k) (places_of i.results)
+
+-- The part names what it should; but a move from a location to itself has no words.
+pub data IsCarried (Named : List Piece → Type 0) (i : Line) : List Piece → Type 0 where
+  moves_nothing : {from to : Spot} → IsSelfMove i from to → IsCarried Named i []
+  names : {part : List Piece} → Named part → IsCarried Named i part
+
+abbrev pub CarriesRegisters : Line → List Piece → Type 0
+CarriesRegisters i part = IsCarried (NamesRegisters i) i part
+
+abbrev pub CarriesSlots : (slots traps : ℕ) → Line → List Piece → Type 0
+CarriesSlots slots traps i part = IsCarried (NamesSlots slots traps i) i part
 
 -- what a return address may follow: a call, or an ECALL
 pub data ReturnsAfter : Piece → Type 0 where
@@ -85,16 +91,13 @@ pub data IsMarked : Bool → List Descr → List Descr → List Piece → Type 0
       ReturnsAfter p → marks_in before ≡ [] → marks_in rest ≡ [] →
       IsMarked true (d ∷ ds) ds (before ++ p ∷ piece.Descriptor d ∷ rest)
 
--- The part of a line, before this code. A move from a location to itself has no words. Where a walk comes to
--- a line, its slots have places.
-pub data IsPartOf (m : Lin) (ds left : List Descr) (i : Line) (next : List Line) :
-    List Piece → Type 0 where
-  no_words : {from to : Spot} → IsSelfMove i from to → ds ≡ left →
-      IsPartOf m ds left i next []
-  words : {part : List Piece} → NamesRegisters i part →
-      ((tries : List ℕ) → Reached m (i ∷ next) tries →
-      NamesSlots m.slots (length tries) i part) →
-      IsMarked (passes_frame i.op) ds left part → IsPartOf m ds left i next part
+-- The part of a line, before this code. Where a walk comes to the line, its slots have places.
+pub record IsPartOf (m : Lin) (ds left : List Descr) (i : Line) (next : List Line)
+    (part : List Piece) : Type 0 where
+  pub registers : CarriesRegisters i part
+  pub slots : (tries : List ℕ) → Reached m (i ∷ next) tries →
+      CarriesSlots m.slots (length tries) i part
+  pub mark : IsMarked (passes_frame i.op) ds left part
 
 -- ---- whole
 
