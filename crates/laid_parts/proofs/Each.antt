@@ -152,19 +152,19 @@ length_comps : (ss : List Spot) → length (comps ss) ≡ length ss
 length_comps [] = refl
 length_comps (s ∷ ss) = ap suc (length_comps ss)
 
-label_inv : (l : ℕ) (xs ys : List Comp) → FlowHasForm (flow.Label l) xs ys → (xs ≡ []) × (ys ≡ [])
+pub label_inv : (l : ℕ) (xs ys : List Comp) → FlowHasForm (flow.Label l) xs ys → (xs ≡ []) × (ys ≡ [])
 label_inv l xs ys label_form = (refl, refl)
 
-jump_inv : (l : ℕ) (xs ys : List Comp) → FlowHasForm (flow.Jump l) xs ys → (xs ≡ []) × (ys ≡ [])
+pub jump_inv : (l : ℕ) (xs ys : List Comp) → FlowHasForm (flow.Jump l) xs ys → (xs ≡ []) × (ys ≡ [])
 jump_inv l xs ys jump_form = (refl, refl)
 
-exit_inv : (l : ℕ) (xs ys : List Comp) → FlowHasForm (flow.Exit l) xs ys → (xs ≡ []) × (ys ≡ [])
+pub exit_inv : (l : ℕ) (xs ys : List Comp) → FlowHasForm (flow.Exit l) xs ys → (xs ≡ []) × (ys ≡ [])
 exit_inv l xs ys exit_form = (refl, refl)
 
-branch_inv : (g : _) (l : ℕ) (xs ys : List Comp) → FlowHasForm (flow.Branch g l) xs ys → IsTested g xs × (ys ≡ [])
+pub branch_inv : (g : _) (l : ℕ) (xs ys : List Comp) → FlowHasForm (flow.Branch g l) xs ys → IsTested g xs × (ys ≡ [])
 branch_inv g l xs ys (branch_form h) = (h, refl)
 
-switch_inv : (ls : List ℕ) (xs ys : List Comp) → FlowHasForm (flow.Switch ls) xs ys → ((t : Comp) × (xs ≡ t ∷ [])) × (ys ≡ [])
+pub switch_inv : (ls : List ℕ) (xs ys : List Comp) → FlowHasForm (flow.Switch ls) xs ys → ((t : Comp) × (xs ≡ t ∷ [])) × (ys ≡ [])
 switch_inv ls xs ys (switch_form {index = t}) = ((t, refl), refl)
 
 push_inv : (l : ℕ) (xs ys : List Comp) → FlowHasForm (flow.PushTrap l) xs ys → (xs ≡ []) × (ys ≡ [])
@@ -181,7 +181,7 @@ pub data RightIs : Right → List Comp → Type 0 where
   one_right : (t : Comp) → RightIs right.Register (t ∷ [])
   no_right : {w : ℕ} → RightIs (right.Constant w) []
 
-right_inv : (g : _) (o : Right) (xs : List Comp) → IsRight g o xs → RightIs o xs
+pub right_inv : (g : _) (o : Right) (xs : List Comp) → IsRight g o xs → RightIs o xs
 right_inv g right.Register xs (a_register {t}) = one_right t
 right_inv g (right.Constant w) xs (a_constant e) = no_right
 
@@ -304,10 +304,10 @@ prefix_none l (k ∷ ks) more e =
     let p = neither (same_loc k l) (is_named l (ks ++ more)) e in
     ap (λ (z : Bool). z || is_named l ks) p.0 ∙ prefix_none l ks more p.1
 
-seated_none : (l : Loc) (places ls : List Loc) → AreSeated (InOrder places) ls → is_named l places ≡ false → is_named l ls ≡ false
+pub seated_none : (l : Loc) (places ls : List Loc) → AreSeated (InOrder places) ls → is_named l places ≡ false → is_named l ls ≡ false
 seated_none l places ls (in_order more e) h = prefix_none l ls more (ap (λ (z : List Loc). is_named l z) e ∙ h)
 
-seated_after : (l : Loc) (places : List Loc) (ss : List Spot) → AreSeated (AfterFirst places) (places_of ss) → is_named l places ≡ false →
+pub seated_after : (l : Loc) (places : List Loc) (ss : List Spot) → AreSeated (AfterFirst places) (places_of ss) → is_named l places ≡ false →
     same_loc (first ss) l ≡ is_named l (places_of ss)
 seated_after l places [] s h = elim s [ ]
 seated_after l places (x ∷ ss) (after_first more e) h =
@@ -338,7 +338,7 @@ raise_inv xs ys raises = refl
 return_inv : (xs ys : List Comp) → HasForm (op.Leaving leaving.Return) xs ys → ys ≡ []
 return_inv xs ys (returns result) = refl
 
-call_more : (result : _) (xs ys : List Comp) → HasForm (op.Calling (calling.Call callee.Register result)) xs ys → (t : Comp) × (ts : List Comp) × (xs ≡ t ∷ ts)
+pub call_more : (result : _) (xs ys : List Comp) → HasForm (op.Calling (calling.Call callee.Register result)) xs ys → (t : Comp) × (ts : List Comp) × (xs ≡ t ∷ ts)
 call_more result xs ys (calls {first} more is) = callee_more first more is
 
 module _ (m : Lin) (t : ℕ) (f : Frame) (d : Option Descr) (args results : List Spot) (a : Locates m args) (r : Locates m results) where

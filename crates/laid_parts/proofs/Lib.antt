@@ -6,3 +6,4 @@ pub mod Examples
 pub mod Words
 pub mod SlotParts
 pub mod PureSlots
+pub mod FlowSlots

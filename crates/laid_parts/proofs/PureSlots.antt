@@ -69,26 +69,26 @@ apart_of (r ∷ rs) e = by (is_sp (register_at r)) refl e (λ h. apart_of rs h)
     by true h e rest = absurd (cc)
     by false h e rest = All-cons (λ r. is_sp (register_at r) ≡ false) r rs h (rest e)
 
-within : (m : Lin) (t : ℕ) → 8 * m.slots + 16 * t < 1073741824 → (l : Loc) → IsLocation m l → IsWithinFrame t l
+pub within : (m : Lin) (t : ℕ) → 8 * m.slots + 16 * t < 1073741824 → (l : Loc) → IsLocation m l → IsWithinFrame t l
 within m t b l (is_home (is_colour {n} c)) = in_register (All-contains (λ r. is_sp (register_at r) ≡ false) colours n (apart_of colours refl) c)
 within m t b l (is_home (is_slot {k} h)) = in_frame (let g : k < m.slots = h in omega (arith, g, b))
 within m t b l (is_spare e) = subst (IsWithinFrame t) (sym e) (in_register {r = 5} refl)
 
-frame_holds : (s x t : ℕ) → (8 * s + x + 15) / 16 * 16 + 16 * t ≤ 1048576 → 8 * s + 16 * t < 1073741824
+pub frame_holds : (s x t : ℕ) → (8 * s + x + 15) / 16 * 16 + 16 * t ≤ 1048576 → 8 * s + 16 * t < 1073741824
 frame_holds s x t h = omega (arith, h)
 
 module _ (m : Lin) (t : ℕ) (b : 8 * m.slots + 16 * t < 1073741824) where
-  first_within : (ss : List Spot) (u : Comp) (us : List Comp) → comps ss ≡ u ∷ us → Locates m ss → IsWithinFrame t (first ss)
+  pub first_within : (ss : List Spot) (u : Comp) (us : List Comp) → comps ss ≡ u ∷ us → Locates m ss → IsWithinFrame t (first ss)
   first_within [] u us e h = absurd (cc)
   first_within (s ∷ ss) u us e h = within m t b s.loc (All-head (λ (s : Spot). IsLocation m s.loc) s ss h)
 
-  second_within : (ss : List Spot) (u v : Comp) (us : List Comp) → comps ss ≡ u ∷ v ∷ us → Locates m ss → IsWithinFrame t (second ss)
+  pub second_within : (ss : List Spot) (u v : Comp) (us : List Comp) → comps ss ≡ u ∷ v ∷ us → Locates m ss → IsWithinFrame t (second ss)
   second_within [] u v us e h = absurd (cc)
   second_within (s ∷ []) u v us e h = absurd (cc)
   second_within (s ∷ r ∷ ss) u v us e h =
       within m t b r.loc (All-head (λ (s : Spot). IsLocation m s.loc) r ss (All-tail (λ (s : Spot). IsLocation m s.loc) s (r ∷ ss) h))
 
-slots_of : {o : LinOp} {args results : List Spot} {part : List Piece} (slots t : ℕ) →
+pub slots_of : {o : LinOp} {args results : List Spot} {part : List Piece} (slots t : ℕ) →
     ((k : ℕ) → Chunk (8 * k + 16 * t) part (is_named (loc.Slot k) (places_of args)) (is_named (loc.Slot k) (places_of results))) →
     NamesSlots slots t (record { op = o; args = args; results = results }) part
 slots_of slots t h = record { reads = λ k l. ((h k).each at_first refl).loads; writes = λ k l. ((h k).each at_first refl).stores }

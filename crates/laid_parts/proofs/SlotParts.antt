@@ -49,13 +49,13 @@ use Rattle.std.proofs.lemmas.Bool.Decides.{nat_tests}
 use Rattle.std.proofs.Common.{◌*◌, ◌<◌, arith}
 
 module _ (c : ℕ) where
-  immediate-still : (f : AluImmOp) (to from : Register) (w : ℕ) → is_sp to ≡ false → Chunk c (with_immediate f to from w ∷ []) false false
+  pub immediate-still : (f : AluImmOp) (to from : Register) (w : ℕ) → is_sp to ≡ false → Chunk c (with_immediate f to from w ∷ []) false false
   immediate-still f to from w e = still c (with_immediate f to from w) (λ h. refl) (λ h. refl) (ap (λ (z : Bool). (z || false)) e)
 
-  operation-still : (f : AluOp) (to a b : Register) → is_sp to ≡ false → Chunk c (operation f to a b ∷ []) false false
+  pub operation-still : (f : AluOp) (to a b : Register) → is_sp to ≡ false → Chunk c (operation f to a b ∷ []) false false
   operation-still f to a b e = still c (operation f to a b) (λ h. refl) (λ h. refl) (ap (λ (z : Bool). (z || false)) e)
 
-  shift-still : (f : _) (to from : Register) (w : ℕ) → is_sp to ≡ false → Chunk c (shift f to from w ∷ []) false false
+  pub shift-still : (f : _) (to from : Register) (w : ℕ) → is_sp to ≡ false → Chunk c (shift f to from w ∷ []) false false
   shift-still f to from w e = still c (shift f to from w) (λ h. refl) (λ h. refl) (ap (λ (z : Bool). (z || false)) e)
 
   made-still : (r : Register) {p : Piece} → is_sp r ≡ false → Makes r p → Chunk c (p ∷ []) false false
@@ -132,7 +132,7 @@ pub data IsWithinFrame (t : ℕ) : Loc → Type 0 where
   in_register : {r : ℕ} → is_sp (register_at r) ≡ false → IsWithinFrame t (loc.Machine r)
   in_frame : {j : ℕ} → 8 * j + 16 * t < 1073741824 → IsWithinFrame t (loc.Slot j)
 
-offsets : (j k t : ℕ) → nat_eq (8 * j + 16 * t) (8 * k + 16 * t) ≡ nat_eq j k
+pub offsets : (j k t : ℕ) → nat_eq (8 * j + 16 * t) (8 * k + 16 * t) ≡ nat_eq j k
 offsets j k t = by (nat_eq j k) (nat_eq (8 * j + 16 * t) (8 * k + 16 * t)) refl refl
   where
     by : (a b : Bool) → nat_eq j k ≡ a → nat_eq (8 * j + 16 * t) (8 * k + 16 * t) ≡ b → b ≡ a
@@ -153,7 +153,7 @@ module _ (k t : ℕ) where
   target-apart (loc.Slot j) a = refl
   target-apart loc.Unset a = elim a [ ]
 
-  fetched-slot : (scratch : Register) (l : Loc) → IsScratch scratch → is_sp scratch ≡ false → IsWithinFrame t l →
+  pub fetched-slot : (scratch : Register) (l : Loc) → IsScratch scratch → is_sp scratch ≡ false → IsWithinFrame t l →
       Chunk place (fetched t scratch l) (is_slot l) false
   fetched-slot scratch (loc.Machine r) s e a = nothing place
   fetched-slot scratch (loc.Slot j) s e (in_frame b) = same place (stack_load-words place scratch scratch (slot_offset t j) s b e) (offsets j k t) refl
