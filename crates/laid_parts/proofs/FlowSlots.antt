@@ -8,7 +8,7 @@ use Rattle.bs_words.specs.declared.operators.IntOp.TheVariants as operator
 use Rattle.bs_words.specs.declared.types.Comp.{Comp}
 use Rattle.bs_words.specs.declared.types.Loc.{Loc}
 use Rattle.bs_words.specs.declared.types.Loc.TheVariants as loc
-use Rattle.mach_ir.specs.Forms.{HasForm, copies, constant, symbol, operates, loads, stores, allocates, calls, tail_calls, calls_out, checks, raises, returns, IsRight, a_register, a_constant, IsCallee, by_register, by_symbol, IsTested, holds, fails, signed, unsigned}
+use Rattle.mach_ir.specs.Forms.{HasForm, IsTested, holds, fails, signed, unsigned}
 use Rattle.mach_ir.specs.Meaning.{is_temporary}
 use Rattle.mach_ir.specs.Placed.{colours}
 use Rattle.mach_ir.specs.Seats.{AreSeated, InOrder, AfterFirst, in_order, after_first, argument_places, result_places}
@@ -39,7 +39,7 @@ use Rattle.rv_pieces.specs.declared.piece.Piece.TheVariants as piece
 use Rattle.std.specs.Prelude.{◌*◌, ◌<◌, ◌≤◌, ◌/◌, nat_le}
 use Rattle.std.proofs.Common.{◌+◌}
 use Rattle.bs_words.specs.declared.operators.CmpOp.{CmpOp}
-use Rattle.lin_ir.specs.Walks.{Reached}
+use Rattle.lin_ir.specs.Walks.{Reached, by_walk}
 use Rattle.mach_ir.specs.declared.op.External.{External}
 use Rattle.rv_isa.specs.declared.instr.AluImmOp.TheVariants as imm
 use Rattle.rv_isa.specs.declared.instr.AluOp.TheVariants as alu
@@ -56,11 +56,12 @@ use Rattle.emit_rules.specs.Entry.{Frame}
 use Rattle.emit_rules.specs.Calls.{mark_of, call_words, external_words, external_service}
 use Rattle.emit_rules.specs.Slots.{first, second, register_of, fetched, slot_offset}
 use Rattle.emit_rules.specs.Tests.{signed_branch, unsigned_branch, constant_words, right_register, right_words, branch_part, value_words, tests_in_turn, table_of_jumps, switch_part}
-use Rattle.laid_parts.specs.Laid.{NamesSlots}
+use Rattle.laid_parts.specs.Laid.{NamesSlots, CarriesSlots, names, WorksInPlace, computes, stands, jumps, exits, tests, switches, calls, calls_out}
+use Rattle.lin_ir.specs.Descriptors.{IsWithin, has_frame_point}
 use Rattle.laid_parts.proofs.Registers.{or_false}
 use Rattle.laid_parts.proofs.Words.{Chunk, joined, same, then_none, either, nothing, still, IsScratch, is_t1, is_t2, is_sp, stack_load-words}
 use Rattle.laid_parts.proofs.SlotParts.{IsWithinFrame, in_register, in_frame, immediate-still, operation-still, shift-still, constant-still, fetched-slot, offsets}
-use Rattle.laid_parts.proofs.PureSlots.{within, first_within, second_within, slots_of}
+use Rattle.laid_parts.proofs.PureSlots.{first_within, second_within, slots_of, frame_holds, pure-slots}
 use Rattle.laid_parts.proofs.Each.{RightIs, one_right, no_right, named_none, named_one, named_two, label_inv, jump_inv, exit_inv, branch_inv, switch_inv, right_inv, seated_none, seated_after, call_more}
 
 module _ (k t : ℕ) where
@@ -230,3 +231,45 @@ module _ (m : Lin) (t : ℕ) (b : 8 * m.slots + 16 * t < 1073741824) (f : Frame)
   external-named row frame s u =
       slots_of m.slots t (λ k. same (8 * k + 16 * t) (external-slots k t row frame d)
       (sym (seated_none (loc.Slot k) argument_places (places_of args) s refl)) (sym (seated_none (loc.Slot k) result_places (places_of results) u refl)))
+
+  pub label-named : (l : ℕ) → FlowHasForm (flow.Label l) (comps args) (comps results) → NamesIn (lin.Flow (flow.Label l))
+  label-named l h =
+      let i = label_inv l (comps args) (comps results) h in
+      slots_of m.slots t (λ k. same (8 * k + 16 * t) (still (8 * k + 16 * t) (piece.Label l) (λ h. refl) (λ h. refl) refl)
+      (sym (named_none (loc.Slot k) args i.0)) (sym (named_none (loc.Slot k) results i.1)))
+
+  pub jump-named : (l : ℕ) → FlowHasForm (flow.Jump l) (comps args) (comps results) → NamesIn (lin.Flow (flow.Jump l))
+  jump-named l h =
+      let i = jump_inv l (comps args) (comps results) h in
+      slots_of m.slots t (λ k. same (8 * k + 16 * t) (still (8 * k + 16 * t) (piece.Jump l) (λ h. refl) (λ h. refl) refl)
+      (sym (named_none (loc.Slot k) args i.0)) (sym (named_none (loc.Slot k) results i.1)))
+
+  pub exit-named : (l : ℕ) → FlowHasForm (flow.Exit l) (comps args) (comps results) → NamesIn (lin.Flow (flow.Exit l))
+  exit-named l h =
+      let i = exit_inv l (comps args) (comps results) h in
+      slots_of m.slots t (λ k. same (8 * k + 16 * t) (still (8 * k + 16 * t) (piece.Jump l) (λ h. refl) (λ h. refl) refl)
+      (sym (named_none (loc.Slot k) args i.0)) (sym (named_none (loc.Slot k) results i.1)))
+
+-- ---- every line of these kinds
+
+pub line_slots : (m : Lin) (t : ℕ) → 8 * m.slots + 16 * t < 1073741824 → (f : Frame) (d : Option Descr) (o : LinOp) (args results : List Spot) →
+    WorksInPlace o → IsFormed (record { op = o; args = args; results = results }) → Locates m args → Locates m results →
+    AreSeated (lin_operand_seats o) (places_of args) → AreSeated (lin_result_seats o) (places_of results) →
+    CarriesSlots m.slots t (record { op = o; args = args; results = results }) (part_of t f d (record { op = o; args = args; results = results }))
+line_slots m t b f d o args results (computes {g}) h a r s u = pure-slots m t b f d g args results h a r
+line_slots m t b f d o args results (stands {l}) (formed_flow h) a r s u = names (label-named m t b f d args results a r l h)
+line_slots m t b f d o args results (jumps {l}) (formed_flow h) a r s u = names (jump-named m t b f d args results a r l h)
+line_slots m t b f d o args results (exits {l}) (formed_flow h) a r s u = names (exit-named m t b f d args results a r l h)
+line_slots m t b f d o args results (tests {g} {l}) (formed_flow h) a r s u = names (branch-named m t b f d args results a r g l h)
+line_slots m t b f d o args results (switches {ls}) (formed_flow h) a r s u = names (switch-named m t b f d args results a r ls h)
+line_slots m t b f d o args results (calls {whom} {result}) (formed_op h) a r s u = names (call-named m t b f d args results a r whom result h s u)
+line_slots m t b f d o args results (calls_out {row} {frame}) (formed_op h) a r s u = names (external-named m t b f d args results a r row frame s u)
+
+pub slots_carried : (m : Lin) → WellFormed m → Seated m → IsWithin m → (i : Line) (next : List Line) (tries : List ℕ) → Contains m.code i →
+    Reached m (i ∷ next) tries → WorksInPlace i.op → (f : Frame) (d : Option Descr) →
+    CarriesSlots m.slots (length tries) i (part_of (length tries) f d i)
+slots_carried m w seated within i next tries c reached kind f d =
+    let at = All-contains (λ (i : Line). Locates m i.args × Locates m i.results) m.code i w.locations c in
+    line_slots m (length tries)
+    (frame_holds m.slots (cond (has_frame_point m.code) 8 0) (length tries) (within.frame (i ∷ next) tries (by_walk reached)))
+    f d i.op i.args i.results kind (All-contains IsFormed m.code i w.forms c) at.0 at.1 (seated.operands i c) (seated.results i c)

@@ -138,21 +138,3 @@ module _ (m : Lin) (t : ℕ) (b : 8 * m.slots + 16 * t < 1073741824) (f : Frame)
       names (slots_of m.slots t (λ k. same (8 * k + 16 * t)
       (operator_constant-slots k t g w args results (first_within m t b args i.0 [] i.2 a) (first_within m t b results i.1 [] i.3 r))
       (sym (named_one (loc.Slot k) args i.0 i.2)) (sym (named_one (loc.Slot k) results i.1 i.3))))
-
-pub pure_carried : (m : Lin) → WellFormed m → IsWithin m → (i : Line) (next : List Line) (tries : List ℕ) → Contains m.code i →
-    Reached m (i ∷ next) tries → (g : Pure) → i.op ≡ lin.Op (op.Pure g) → (f : Frame) (d : Option Descr) →
-    CarriesSlots m.slots (length tries) i (part_of (length tries) f d i)
-pure_carried m w within i next tries c reached g e f d =
-    let at = All-contains (λ (i : Line). Locates m i.args × Locates m i.results) m.code i w.locations c in
-    by i.op e (All-contains IsFormed m.code i w.forms c)
-    (frame_holds m.slots (cond (has_frame_point m.code) 8 0) (length tries) (within.frame (i ∷ next) tries (by_walk reached))) at.0 at.1
-  where
-    by : (o : LinOp) → o ≡ lin.Op (op.Pure g) → IsFormed (record { op = o; args = i.args; results = i.results }) →
-        8 * m.slots + 16 * length tries < 1073741824 → Locates m i.args → Locates m i.results →
-        CarriesSlots m.slots (length tries) (record { op = o; args = i.args; results = i.results })
-        (part_of (length tries) f d (record { op = o; args = i.args; results = i.results }))
-    by (lin.Op (op.Pure g)) e h b a r = pure-slots m (length tries) b f d g i.args i.results h a r
-    by (lin.Op (op.Access g)) e h b a r = absurd (cc)
-    by (lin.Op (op.Calling g)) e h b a r = absurd (cc)
-    by (lin.Op (op.Leaving g)) e h b a r = absurd (cc)
-    by (lin.Flow g) e h b a r = absurd (cc)

@@ -3,6 +3,11 @@
 use Rattle.std.specs.Prelude.{◌≡◌, ℕ, ◌+◌, ◌*◌, ◌<◌, Bool, true, false, List, [], ◌∷◌, ◌++◌, length, codes}
 use Rattle.bs_words.specs.declared.types.Loc.TheVariants as loc
 use Rattle.mach_ir.specs.Meaning.{is_destroyed}
+use Rattle.bs_words.specs.declared.types.Ret.{Ret}
+use Rattle.mach_ir.specs.declared.mach.Test.{Test}
+use Rattle.mach_ir.specs.declared.op.Callee.{Callee}
+use Rattle.mach_ir.specs.declared.op.External.{External}
+use Rattle.mach_ir.specs.declared.op.Pure.{Pure}
 use Rattle.mach_ir.specs.declared.op.Calling.TheVariants as calling
 use Rattle.mach_ir.specs.declared.op.Leaving.TheVariants as leaving
 use Rattle.mach_ir.specs.declared.op.Op.TheVariants as op
@@ -98,6 +103,21 @@ pub record IsPartOf (m : Lin) (ds left : List Descr) (i : Line) (next : List Lin
   pub slots : (tries : List ℕ) → Reached m (i ∷ next) tries →
       CarriesSlots m.slots (length tries) i part
   pub mark : IsMarked (passes_frame i.op) ds left part
+
+-- ---- kinds of lines
+
+-- lines that work on registers and slots alone, tests and labels, and calls that come back
+pub data WorksInPlace : LinOp → Type 0 where
+  computes : {g : Pure} → WorksInPlace (lin.Op (op.Pure g))
+  stands : {l : ℕ} → WorksInPlace (lin.Flow (flow.Label l))
+  jumps : {l : ℕ} → WorksInPlace (lin.Flow (flow.Jump l))
+  exits : {l : ℕ} → WorksInPlace (lin.Flow (flow.Exit l))
+  tests : {g : Test} {l : ℕ} → WorksInPlace (lin.Flow (flow.Branch g l))
+  switches : {ls : List ℕ} → WorksInPlace (lin.Flow (flow.Switch ls))
+  calls : {whom : Callee} {result : Ret} →
+      WorksInPlace (lin.Op (op.Calling (calling.Call whom result)))
+  calls_out : {row : External} {frame : Bool} →
+      WorksInPlace (lin.Op (op.Calling (calling.External row frame)))
 
 -- ---- whole
 

@@ -3,19 +3,16 @@
 //! The crate holds definitions and laws alone.
 #![tactic(auto)]
 
-ghost use Rattle.std.specs.Prelude.{◌≡◌, ℕ, List, ◌∷◌, length, Option, Contains};
+ghost use Rattle.std.specs.Prelude.{ℕ, List, ◌∷◌, length, Option, Contains};
 ghost use Rattle.emit_rules.specs.Emitted.{part_of};
 ghost use Rattle.emit_rules.specs.Entry.{Frame};
-ghost use Rattle.laid_parts.specs.Laid.{CarriesRegisters, CarriesSlots};
+ghost use Rattle.laid_parts.specs.Laid.{CarriesRegisters, CarriesSlots, WorksInPlace};
 ghost use Rattle.lin_ir.specs.Descriptors.{IsWithin};
 ghost use Rattle.lin_ir.specs.Formed.{Seated, WellFormed};
 ghost use Rattle.lin_ir.specs.Walks.{Reached};
 ghost use Rattle.lin_ir.specs.declared.descr.Descr.{Descr};
 ghost use Rattle.lin_ir.specs.declared.lin.Lin.{Lin};
 ghost use Rattle.lin_ir.specs.declared.lin.Line.{Line};
-ghost use Rattle.lin_ir.specs.declared.lin.LinOp.TheVariants as lin;
-ghost use Rattle.mach_ir.specs.declared.op.Op.TheVariants as op;
-ghost use Rattle.mach_ir.specs.declared.op.Pure.{Pure};
 
 /// Law: the part that emission makes of a line names, as sources that it has not set before, exactly the registers
 /// that the line reads, and as targets exactly those that it writes; or the line moves a location to itself, and its
@@ -25,10 +22,11 @@ pub fn parts_name_registers()
         (traps : ℕ) (f : Frame) (d : Option Descr) → CarriesRegisters i (part_of traps f d i) }
 {}
 
-/// Law: the part of a line that copies, or computes from registers and slots alone, names exactly the slots that the
-/// line reads and writes, near ones and far ones; or the line moves a location to itself.
-pub fn pure_parts_name_slots()
-    ensures { (m : Lin) → WellFormed m → IsWithin m → (i : Line) (next : List Line) (tries : List ℕ) →
-        Contains m.code i → Reached m (i ∷ next) tries → (g : Pure) → i.op ≡ lin.Op (op.Pure g) →
-        (f : Frame) (d : Option Descr) → CarriesSlots m.slots (length tries) i (part_of (length tries) f d i) }
+/// Law: where a walk comes to a line that works on registers and slots alone, that tests, or that calls and comes
+/// back, its part names exactly the slots that the line reads and writes, near ones and far ones; or the line moves a
+/// location to itself.
+pub fn parts_name_slots()
+    ensures { (m : Lin) → WellFormed m → Seated m → IsWithin m → (i : Line) (next : List Line) (tries : List ℕ) →
+        Contains m.code i → Reached m (i ∷ next) tries → WorksInPlace i.op → (f : Frame) (d : Option Descr) →
+        CarriesSlots m.slots (length tries) i (part_of (length tries) f d i) }
 {}
