@@ -1,30 +1,28 @@
 -- The part of each line names the registers that the line reads and writes.
-use Rattle.std.proofs.Common.{◌≡◌, ◌⊎◌, inl, inr, ℕ, suc, Bool, true, false, cond, nat_eq, not, ◌||◌, List, [], ◌∷◌, ◌++◌, length, map, refl, sym, subst, ◌∙◌, ap, Option, arith}
+use Rattle.std.proofs.Common.{◌≡◌, ℕ, suc, Bool, true, false, cond, nat_eq, ◌||◌, List, [], ◌∷◌, ◌++◌, length, refl, sym, subst, ◌∙◌, ap, Option}
 use Rattle.std.specs.List.{All, Contains}
-use Rattle.std.proofs.lemmas.Bool.{eq-eqb, eqb-true, and_parts}
+use Rattle.std.proofs.lemmas.Bool.{eqb-true}
 use Rattle.std.proofs.lemmas.List.Elements.{All-contains, All-nil, All-cons, All-head, All-tail}
 use Rattle.bs_words.specs.declared.operators.CmpOp.TheVariants as compare
 use Rattle.bs_words.specs.declared.operators.IntOp.TheVariants as operator
 use Rattle.bs_words.specs.declared.types.Comp.{Comp}
 use Rattle.bs_words.specs.declared.types.Loc.{Loc}
 use Rattle.bs_words.specs.declared.types.Loc.TheVariants as loc
-use Rattle.mach_ir.specs.Forms.{HasForm, copies, constant, symbol, operates, loads, stores, allocates, calls, tail_calls, calls_out, checks, raises, returns, IsRight, a_register, a_constant, IsCallee, by_register, by_symbol, IsTested, holds, fails, signed, unsigned}
+use Rattle.mach_ir.specs.Forms.{HasForm, copies, constant, symbol, operates, loads, stores, allocates, calls, tail_calls, checks, raises, returns, IsRight, a_register, a_constant, IsCallee, by_register, IsTested, holds, fails, signed, unsigned}
 use Rattle.mach_ir.specs.Meaning.{is_temporary}
 use Rattle.mach_ir.specs.Placed.{colours}
 use Rattle.mach_ir.specs.Seats.{AreSeated, InOrder, AfterFirst, in_order, after_first, argument_places, result_places}
 use Rattle.mach_ir.specs.declared.mach.Test.{Test}
 use Rattle.mach_ir.specs.declared.mach.Test.TheVariants as test
 use Rattle.mach_ir.specs.declared.op.Access.TheVariants as access
-use Rattle.mach_ir.specs.declared.op.Callee.{Callee}
 use Rattle.mach_ir.specs.declared.op.Callee.TheVariants as callee
 use Rattle.mach_ir.specs.declared.op.Calling.TheVariants as calling
 use Rattle.mach_ir.specs.declared.op.Leaving.TheVariants as leaving
-use Rattle.mach_ir.specs.declared.op.Op.{Op}
 use Rattle.mach_ir.specs.declared.op.Op.TheVariants as op
 use Rattle.mach_ir.specs.declared.op.Pure.TheVariants as pure
 use Rattle.mach_ir.specs.declared.op.Right.{Right}
 use Rattle.mach_ir.specs.declared.op.Right.TheVariants as right
-use Rattle.lin_ir.specs.Formed.{FlowHasForm, label_form, jump_form, exit_form, branch_form, switch_form, push_form, pop_form, enter_form, IsFormed, formed_op, formed_flow, IsHome, is_colour, is_slot, IsLocation, is_home, is_spare, IsSelfMove, is_self_move, Locates, comps, places_of, lin_operand_seats, lin_result_seats, WellFormed, Seated}
+use Rattle.lin_ir.specs.Formed.{FlowHasForm, label_form, jump_form, exit_form, branch_form, switch_form, push_form, pop_form, enter_form, IsFormed, formed_op, formed_flow, is_colour, is_slot, IsLocation, is_home, is_spare, is_self_move, Locates, comps, places_of, lin_operand_seats, lin_result_seats, WellFormed, Seated}
 use Rattle.lin_ir.specs.Meaning.{same_loc, is_named}
 use Rattle.lin_ir.specs.declared.descr.Descr.{Descr}
 use Rattle.lin_ir.specs.declared.lin.Flow.{Flow}
@@ -35,16 +33,15 @@ use Rattle.lin_ir.specs.declared.lin.LinOp.TheVariants as lin
 use Rattle.lin_ir.specs.declared.lin.Lin.{Lin}
 use Rattle.lin_ir.specs.declared.lin.Spot.{Spot}
 use Rattle.rv_isa.specs.Registers.{number}
-use Rattle.rv_isa.specs.declared.register.Register.TheVariants.{T1, T2}
 use Rattle.rv_pieces.specs.declared.piece.Piece.{Piece}
 use Rattle.rv_pieces.specs.declared.piece.Piece.TheVariants as piece
 use Rattle.emit_rules.specs.Instructions.{register_at}
-use Rattle.emit_rules.specs.Emitted.{part_of, lin_part}
+use Rattle.emit_rules.specs.Emitted.{part_of}
 use Rattle.emit_rules.specs.Entry.{Frame}
 use Rattle.emit_rules.specs.Slots.{first, second, copied}
-use Rattle.laid_parts.specs.Laid.{is_reserved, is_handed_on, is_left, NamesRegisters, CarriesRegisters, moves_nothing, names}
-use Rattle.laid_parts.specs.Named.{is_source, is_target}
-use Rattle.laid_parts.proofs.Registers.{neither, or_false, Names, same, nothing, alone, hits, is-apart, IsApart}
+use Rattle.laid_parts.specs.Laid.{is_reserved, NamesRegisters, CarriesRegisters, moves_nothing, names}
+use Rattle.laid_parts.specs.Named.{is_source}
+use Rattle.laid_parts.proofs.Registers.{neither, or_false, Names, same, alone, is-apart, IsApart}
 use Rattle.laid_parts.proofs.Operators.{IsNumbered, numbered, in_slot, copied-names}
 use Rattle.laid_parts.proofs.Lines as lines
 
@@ -338,7 +335,8 @@ raise_inv xs ys raises = refl
 return_inv : (xs ys : List Comp) → HasForm (op.Leaving leaving.Return) xs ys → ys ≡ []
 return_inv xs ys (returns result) = refl
 
-pub call_more : (result : _) (xs ys : List Comp) → HasForm (op.Calling (calling.Call callee.Register result)) xs ys → (t : Comp) × (ts : List Comp) × (xs ≡ t ∷ ts)
+pub call_more : (result : _) (xs ys : List Comp) → HasForm (op.Calling (calling.Call callee.Register result)) xs ys →
+    (t : Comp) × (ts : List Comp) × (xs ≡ t ∷ ts)
 call_more result xs ys (calls {first} more is) = callee_more first more is
 
 module _ (m : Lin) (t : ℕ) (f : Frame) (d : Option Descr) (args results : List Spot) (a : Locates m args) (r : Locates m results) where
@@ -353,7 +351,8 @@ module _ (m : Lin) (t : ℕ) (f : Frame) (d : Option Descr) (args results : List
   }
   calling-names (calling.Call callee.Register result) h s u = record {
     reads = λ n e g. let i = call_more result (comps args) (comps results) h in
-        (lines.call_register-names n (is-apart n e) t d args (first_numbered m args i.0 i.1 i.2 a)).reads ∙ seated_after (loc.Machine n) argument_places args s g;
+        (lines.call_register-names n (is-apart n e) t d args (first_numbered m args i.0 i.1 i.2 a)).reads ∙ seated_after
+        (loc.Machine n) argument_places args s g;
     writes = λ n e g. absurd (cc);
   }
   calling-names (calling.TailCall (callee.Symbol name) result) h s u = record {
@@ -362,7 +361,8 @@ module _ (m : Lin) (t : ℕ) (f : Frame) (d : Option Descr) (args results : List
   }
   calling-names (calling.TailCall callee.Register result) h s u = record {
     reads = λ n e g. let i = tail_more result (comps args) (comps results) h in
-        (lines.tail_register-names n (is-apart n e) t f args (first_numbered m args i.0 i.1 i.2 a)).reads ∙ seated_after (loc.Machine n) argument_places args s g;
+        (lines.tail_register-names n (is-apart n e) t f args (first_numbered m args i.0 i.1 i.2 a)).reads ∙ seated_after
+        (loc.Machine n) argument_places args s g;
     writes = λ n e g. absurd (cc);
   }
   calling-names (calling.External row frame) h s u = record {
@@ -462,7 +462,8 @@ module _ (m : Lin) (t : ℕ) (f : Frame) (d : Option Descr) where
 
 -- ---- every line of a function
 
-pub carried : (m : Lin) → WellFormed m → Seated m → (i : Line) → Contains m.code i → (t : ℕ) (f : Frame) (d : Option Descr) → CarriesRegisters i (part_of t f d i)
+pub carried : (m : Lin) → WellFormed m → Seated m → (i : Line) → Contains m.code i → (t : ℕ) (f : Frame) (d : Option Descr) →
+    CarriesRegisters i (part_of t f d i)
 carried m w s i c t f d =
     let at = All-contains (λ (i : Line). Locates m i.args × Locates m i.results) m.code i w.locations c in
     line_carried m t f d i.op i.args i.results (All-contains IsFormed m.code i w.forms c) at.0 at.1 (s.operands i c) (s.results i c)

@@ -1,13 +1,11 @@
 -- What some parts name, written out: a near slot and a far one, a call, an allocation, a branch.
-use Rattle.std.proofs.Common.{◌≡◌, ℕ, true, false, [], ◌∷◌, ◌++◌, refl}
-use Rattle.std.specs.Prelude.{codes}
+use Rattle.std.proofs.Common.{◌≡◌, true, false, [], ◌∷◌, refl}
 use Rattle.bs_words.specs.Word.{add_word, sext_word, word_of, signed_in}
 use Rattle.bs_words.specs.declared.operators.CmpOp.TheVariants as compare
 use Rattle.bs_words.specs.declared.types.Comp.TheVariants as comp
 use Rattle.bs_words.specs.declared.types.Loc.TheVariants as loc
 use Rattle.mach_ir.specs.declared.mach.Test.TheVariants as test
 use Rattle.mach_ir.specs.declared.op.Callee.TheVariants as callee
-use Rattle.mach_ir.specs.declared.op.CopyKind.TheVariants as copy
 use Rattle.mach_ir.specs.declared.op.Right.TheVariants as right
 use Rattle.emit_rules.specs.Slots.{moved}
 use Rattle.emit_rules.specs.Calls.{call_words}

@@ -1,42 +1,32 @@
 -- The part of each line that tests, switches or calls names the slots that the line reads and writes.
-use Rattle.std.proofs.Common.{◌≡◌, ◌⊎◌, inl, inr, ℕ, suc, Bool, true, false, cond, nat_eq, not, ◌||◌, List, [], ◌∷◌, ◌++◌, length, map, refl, sym, subst, ◌∙◌, ap, Option, Some, None, arith}
-use Rattle.std.specs.List.{All, Contains}
-use Rattle.std.proofs.lemmas.Bool.{eq-eqb, eqb-true, and_parts}
-use Rattle.std.proofs.lemmas.List.Elements.{All-contains, All-nil, All-cons, All-head, All-tail}
+use Rattle.std.proofs.Common.{◌≡◌, ℕ, Bool, false, cond, nat_eq, ◌||◌, List, [], ◌∷◌, ◌++◌, length, map, refl, sym, ◌∙◌, Option, Some, None}
+use Rattle.std.specs.List.{Contains}
+use Rattle.std.proofs.lemmas.List.Elements.{All-contains}
 use Rattle.bs_words.specs.declared.operators.CmpOp.TheVariants as compare
-use Rattle.bs_words.specs.declared.operators.IntOp.TheVariants as operator
 use Rattle.bs_words.specs.declared.types.Comp.{Comp}
 use Rattle.bs_words.specs.declared.types.Loc.{Loc}
 use Rattle.bs_words.specs.declared.types.Loc.TheVariants as loc
 use Rattle.mach_ir.specs.Forms.{HasForm, IsTested, holds, fails, signed, unsigned}
-use Rattle.mach_ir.specs.Meaning.{is_temporary}
-use Rattle.mach_ir.specs.Placed.{colours}
-use Rattle.mach_ir.specs.Seats.{AreSeated, InOrder, AfterFirst, in_order, after_first, argument_places, result_places}
+use Rattle.mach_ir.specs.Seats.{AreSeated, InOrder, argument_places, result_places}
 use Rattle.mach_ir.specs.declared.mach.Test.{Test}
 use Rattle.mach_ir.specs.declared.mach.Test.TheVariants as test
-use Rattle.mach_ir.specs.declared.op.Access.TheVariants as access
 use Rattle.mach_ir.specs.declared.op.Callee.{Callee}
 use Rattle.mach_ir.specs.declared.op.Callee.TheVariants as callee
 use Rattle.mach_ir.specs.declared.op.Calling.TheVariants as calling
-use Rattle.mach_ir.specs.declared.op.Leaving.TheVariants as leaving
-use Rattle.mach_ir.specs.declared.op.Op.{Op}
 use Rattle.mach_ir.specs.declared.op.Op.TheVariants as op
-use Rattle.mach_ir.specs.declared.op.Pure.TheVariants as pure
 use Rattle.mach_ir.specs.declared.op.Right.{Right}
 use Rattle.mach_ir.specs.declared.op.Right.TheVariants as right
-use Rattle.lin_ir.specs.Formed.{FlowHasForm, label_form, jump_form, exit_form, branch_form, switch_form, push_form, pop_form, enter_form, IsFormed, formed_op, formed_flow, IsHome, is_colour, is_slot, IsLocation, is_home, is_spare, IsSelfMove, is_self_move, Locates, comps, places_of, lin_operand_seats, lin_result_seats, WellFormed, Seated}
+use Rattle.lin_ir.specs.Formed.{FlowHasForm, IsFormed, formed_op, formed_flow, Locates, comps, places_of, lin_operand_seats, lin_result_seats, WellFormed, Seated}
 use Rattle.lin_ir.specs.Meaning.{same_loc, is_named}
 use Rattle.lin_ir.specs.declared.descr.Descr.{Descr}
-use Rattle.lin_ir.specs.declared.lin.Flow.{Flow}
 use Rattle.lin_ir.specs.declared.lin.Flow.TheVariants as flow
 use Rattle.lin_ir.specs.declared.lin.Line.{Line}
 use Rattle.lin_ir.specs.declared.lin.LinOp.{LinOp}
 use Rattle.lin_ir.specs.declared.lin.LinOp.TheVariants as lin
 use Rattle.lin_ir.specs.declared.lin.Lin.{Lin}
 use Rattle.lin_ir.specs.declared.lin.Spot.{Spot}
-use Rattle.rv_pieces.specs.declared.piece.Piece.{Piece}
 use Rattle.rv_pieces.specs.declared.piece.Piece.TheVariants as piece
-use Rattle.std.specs.Prelude.{◌*◌, ◌<◌, ◌≤◌, ◌/◌, nat_le}
+use Rattle.std.specs.Prelude.{◌*◌, ◌<◌, nat_le}
 use Rattle.std.proofs.Common.{◌+◌}
 use Rattle.bs_words.specs.declared.operators.CmpOp.{CmpOp}
 use Rattle.lin_ir.specs.Walks.{Reached, by_walk}
@@ -47,20 +37,19 @@ use Rattle.rv_isa.specs.declared.instr.Condition.{Condition}
 use Rattle.rv_isa.specs.declared.instr.Condition.TheVariants as condition
 use Rattle.rv_isa.specs.declared.instr.ShiftOp.TheVariants as shifts
 use Rattle.rv_isa.specs.declared.register.Register.{Register}
-use Rattle.rv_isa.specs.declared.register.Register.TheVariants.{Zero, Ra, T0, T1, T2}
-use Rattle.rv_pieces.specs.declared.piece.Piece.{Piece}
+use Rattle.rv_isa.specs.declared.register.Register.TheVariants.{Zero, T0, T1, T2}
 use Rattle.rv_pieces.specs.declared.piece.Piece.TheVariants as piece
 use Rattle.emit_rules.specs.Instructions.{register_at, addi, operation, shift, auipc, goes_to, calls_at, ecall}
 use Rattle.emit_rules.specs.Emitted.{part_of}
 use Rattle.emit_rules.specs.Entry.{Frame}
 use Rattle.emit_rules.specs.Calls.{mark_of, call_words, external_words, external_service}
-use Rattle.emit_rules.specs.Slots.{first, second, register_of, fetched, slot_offset}
-use Rattle.emit_rules.specs.Tests.{signed_branch, unsigned_branch, constant_words, right_register, right_words, branch_part, value_words, tests_in_turn, table_of_jumps, switch_part}
+use Rattle.emit_rules.specs.Slots.{first, second, register_of, slot_offset}
+use Rattle.emit_rules.specs.Tests.{signed_branch, unsigned_branch, right_register, right_words, branch_part, value_words, tests_in_turn, table_of_jumps, switch_part}
 use Rattle.laid_parts.specs.Laid.{NamesSlots, CarriesSlots, names, WorksInPlace, computes, stands, jumps, exits, tests, switches, calls, calls_out}
 use Rattle.lin_ir.specs.Descriptors.{IsWithin, has_frame_point}
 use Rattle.laid_parts.proofs.Registers.{or_false}
-use Rattle.laid_parts.proofs.Words.{Chunk, joined, same, then_none, either, nothing, still, IsScratch, is_t1, is_t2, is_sp, stack_load-words}
-use Rattle.laid_parts.proofs.SlotParts.{IsWithinFrame, in_register, in_frame, immediate-still, operation-still, shift-still, constant-still, fetched-slot, offsets}
+use Rattle.laid_parts.proofs.Words.{Chunk, joined, same, then_none, either, nothing, still, is_t1, is_t2, stack_load-words}
+use Rattle.laid_parts.proofs.SlotParts.{IsWithinFrame, in_frame, immediate-still, operation-still, shift-still, constant-still, fetched-slot, offsets}
 use Rattle.laid_parts.proofs.PureSlots.{first_within, second_within, slots_of, frame_holds, pure-slots}
 use Rattle.laid_parts.proofs.Each.{RightIs, one_right, no_right, named_none, named_one, named_two, label_inv, jump_inv, exit_inv, branch_inv, switch_inv, right_inv, seated_none, seated_after, call_more}
 

@@ -1,9 +1,8 @@
 -- The registers that the parts of lines name, by their first and second operands.
-use Rattle.std.proofs.Common.{◌≡◌, ℕ, zero, suc, ◌+◌, ◌-◌, ◌*◌, ◌%◌, Bool, true, false, cond, nat_eq, nat_lt, nat_le, not, ◌||◌, ◌&&◌, List, [], ◌∷◌, ◌++◌, length, map, refl, sym, ◌∙◌, ap, Option, Some, None}
+use Rattle.std.proofs.Common.{◌≡◌, ℕ, ◌+◌, ◌*◌, Bool, true, false, cond, nat_eq, nat_le, not, ◌||◌, List, [], ◌∷◌, ◌++◌, length, map, refl, ◌∙◌, ap, Option, Some, None}
 use Rattle.bs_words.specs.declared.operators.CmpOp.{CmpOp}
 use Rattle.bs_words.specs.declared.operators.CmpOp.TheVariants as compare
 use Rattle.bs_words.specs.declared.operators.IntOp.{IntOp}
-use Rattle.bs_words.specs.declared.operators.IntOp.TheVariants as operator
 use Rattle.bs_words.specs.declared.types.Loc.{Loc}
 use Rattle.bs_words.specs.declared.types.Loc.TheVariants as loc
 use Rattle.mach_ir.specs.Blocks.{bytes_of}
@@ -16,43 +15,33 @@ use Rattle.mach_ir.specs.declared.op.Right.TheVariants as right
 use Rattle.lin_ir.specs.Formed.{places_of}
 use Rattle.lin_ir.specs.Meaning.{same_loc, is_named}
 use Rattle.lin_ir.specs.declared.lin.Spot.{Spot}
-use Rattle.rv_isa.specs.Registers.{number}
-use Rattle.rv_isa.specs.declared.instr.AluImmOp.{AluImmOp}
-use Rattle.rv_isa.specs.declared.instr.AluImmOp.TheVariants as imm
-use Rattle.rv_isa.specs.declared.instr.AluOp.{AluOp}
 use Rattle.rv_isa.specs.declared.instr.AluOp.TheVariants as alu
 use Rattle.rv_isa.specs.declared.instr.Condition.{Condition}
 use Rattle.rv_isa.specs.declared.instr.Condition.TheVariants as condition
-use Rattle.rv_isa.specs.declared.instr.LoadWidth.{LoadWidth}
 use Rattle.rv_isa.specs.declared.instr.LoadWidth.TheVariants as loads
 use Rattle.rv_isa.specs.declared.instr.ShiftOp.TheVariants as shifts
-use Rattle.rv_isa.specs.declared.instr.StoreWidth.{StoreWidth}
 use Rattle.rv_isa.specs.declared.instr.StoreWidth.TheVariants as stores
 use Rattle.rv_isa.specs.declared.register.Register.{Register}
 use Rattle.rv_isa.specs.declared.register.Register.TheVariants.{Zero, Ra, Sp, T0, T1, T2, S1, S10, S11, A0}
-use Rattle.rv_pieces.specs.declared.piece.Piece.{Piece}
 use Rattle.rv_pieces.specs.declared.piece.Piece.TheVariants as piece
-use Rattle.emit_rules.specs.Instructions.{with_immediate, addi, operation, shift, load, store, register_at, skip, ecall}
-use Rattle.emit_rules.specs.Constants.{constant, sum_to, lowered}
+use Rattle.emit_rules.specs.Instructions.{addi, operation, shift, load, store, register_at, skip, ecall}
+use Rattle.emit_rules.specs.Constants.{constant}
 use Rattle.emit_rules.specs.Memory.{ask, reserved, addresses, allocation_service}
-use Rattle.emit_rules.specs.Operators.{opposed, is_none, is_some, compared, operated, operated_far, compared_with, operated_with}
-use Rattle.emit_rules.specs.Slots.{register_of, target, kept, copied, slot_offset}
-use Rattle.emit_rules.specs.Tests.{signed_branch, unsigned_branch, constant_words, constant_register, tests_in_turn, table_of_jumps, value_words}
-use Rattle.laid_parts.specs.Named.{is_among, piece_sources, piece_targets, is_source, is_target}
-use Rattle.laid_parts.proofs.Registers.{or_false, and_false, or_same, not_both, or_turned, Names, same, joined, then_none, either, nothing, alone, hits, IsApart, with_immediate-names, addi-names, operation-names, shift-names, load-names, store-names, constant-names, constant-none, sum_to-names, lowered-names, stack_load-names, stack_store-names, fetched-names, kept-names, last_none, first_none}
-use Rattle.mach_ir.specs.declared.op.Callee.{Callee}
+use Rattle.emit_rules.specs.Slots.{register_of, target, kept, slot_offset}
+use Rattle.emit_rules.specs.Tests.{signed_branch, unsigned_branch, constant_words, tests_in_turn, table_of_jumps, value_words}
+use Rattle.laid_parts.proofs.Registers.{or_false, and_false, or_turned, Names, same, joined, then_none, either, nothing, alone, hits, IsApart, addi-names, operation-names, shift-names, load-names, store-names, constant-names, constant-none, sum_to-names, lowered-names, stack_load-names, fetched-names, kept-names, first_none}
 use Rattle.mach_ir.specs.declared.op.Callee.TheVariants as callee
 use Rattle.mach_ir.specs.declared.op.External.{External}
 use Rattle.lin_ir.specs.declared.descr.Descr.{Descr}
 use Rattle.emit_rules.specs.Instructions.{mv, lui, goes_to, calls_at, auipc}
-use Rattle.emit_rules.specs.Slots.{first, second, fetched, stack_load, stack_store}
+use Rattle.emit_rules.specs.Slots.{first, second}
 use Rattle.emit_rules.specs.Emitted.{operator_part}
-use Rattle.emit_rules.specs.Memory.{address_words, load_width, store_width, load_part, store_part, alloc_part, address_offset}
-use Rattle.emit_rules.specs.Tests.{right_register, right_words, test_words, test_branch, branch_part, switch_part}
+use Rattle.emit_rules.specs.Memory.{load_width, store_width, load_part, store_part, alloc_part, address_offset}
+use Rattle.emit_rules.specs.Tests.{right_register, right_words, branch_part, switch_part}
 use Rattle.emit_rules.specs.Traps.{raise_words, push_part, pop_part, raise_bound_error, check_part}
-use Rattle.emit_rules.specs.Entry.{Frame, restored, raised, given_back, return_offset}
-use Rattle.emit_rules.specs.Calls.{mark_of, call_words, callee_words, goes_to_callee, tail_call_part, external_service, external_words, return_part}
-use Rattle.laid_parts.proofs.Operators.{IsNumbered, numbered, in_slot, at_place, operated-names, operated_with-names, copied-names, load_from-names, store_to-names}
+use Rattle.emit_rules.specs.Entry.{Frame, given_back, return_offset}
+use Rattle.emit_rules.specs.Calls.{mark_of, call_words, tail_call_part, external_service, external_words, return_part}
+use Rattle.laid_parts.proofs.Operators.{IsNumbered, numbered, at_place, operated-names, operated_with-names, load_from-names, store_to-names}
 
 module _ (n : ℕ) (apart : IsApart n) (t : ℕ) where
   -- the location is this register

@@ -1,44 +1,28 @@
 -- The registers that the parts of lines name, but for the reserved ones.
-use Rattle.std.proofs.Common.{◌≡◌, ℕ, zero, suc, ◌+◌, ◌-◌, ◌%◌, Bool, true, false, cond, nat_eq, nat_lt, nat_le, not, ◌||◌, ◌&&◌, List, [], ◌∷◌, ◌++◌, length, map, refl, sym, ◌∙◌, ap, Option, Some, None}
+use Rattle.std.proofs.Common.{◌≡◌, ℕ, ◌-◌, ◌%◌, Bool, true, false, cond, nat_eq, not, ◌||◌, List, [], ◌∷◌, ◌++◌, refl, ◌∙◌, ap}
 use Rattle.bs_words.specs.declared.operators.CmpOp.{CmpOp}
 use Rattle.bs_words.specs.declared.operators.CmpOp.TheVariants as compare
 use Rattle.bs_words.specs.declared.operators.IntOp.{IntOp}
 use Rattle.bs_words.specs.declared.operators.IntOp.TheVariants as operator
 use Rattle.bs_words.specs.declared.types.Loc.{Loc}
 use Rattle.bs_words.specs.declared.types.Loc.TheVariants as loc
-use Rattle.mach_ir.specs.Blocks.{bytes_of}
-use Rattle.mach_ir.specs.Forms.{is_immediate_12}
-use Rattle.mach_ir.specs.declared.blocks.NewBlock.{NewBlock}
-use Rattle.mach_ir.specs.declared.mach.Test.{Test}
-use Rattle.mach_ir.specs.declared.mach.Test.TheVariants as test
-use Rattle.mach_ir.specs.declared.op.Right.{Right}
-use Rattle.mach_ir.specs.declared.op.Right.TheVariants as right
-use Rattle.lin_ir.specs.Formed.{places_of}
-use Rattle.lin_ir.specs.Meaning.{same_loc, is_named}
-use Rattle.lin_ir.specs.declared.lin.Spot.{Spot}
+use Rattle.lin_ir.specs.Meaning.{same_loc}
 use Rattle.rv_isa.specs.Registers.{number}
 use Rattle.rv_isa.specs.declared.instr.AluImmOp.{AluImmOp}
 use Rattle.rv_isa.specs.declared.instr.AluImmOp.TheVariants as imm
 use Rattle.rv_isa.specs.declared.instr.AluOp.{AluOp}
 use Rattle.rv_isa.specs.declared.instr.AluOp.TheVariants as alu
-use Rattle.rv_isa.specs.declared.instr.Condition.{Condition}
-use Rattle.rv_isa.specs.declared.instr.Condition.TheVariants as condition
 use Rattle.rv_isa.specs.declared.instr.LoadWidth.{LoadWidth}
-use Rattle.rv_isa.specs.declared.instr.LoadWidth.TheVariants as loads
 use Rattle.rv_isa.specs.declared.instr.ShiftOp.TheVariants as shifts
 use Rattle.rv_isa.specs.declared.instr.StoreWidth.{StoreWidth}
 use Rattle.rv_isa.specs.declared.register.Register.{Register}
-use Rattle.rv_isa.specs.declared.register.Register.TheVariants.{Zero, Ra, Sp, T0, T1, T2, S1, S10, S11, A0}
+use Rattle.rv_isa.specs.declared.register.Register.TheVariants.{Zero, T1, T2}
 use Rattle.rv_pieces.specs.declared.piece.Piece.{Piece}
-use Rattle.rv_pieces.specs.declared.piece.Piece.TheVariants as piece
-use Rattle.emit_rules.specs.Instructions.{with_immediate, addi, operation, shift, load, store, register_at, skip, ecall}
-use Rattle.emit_rules.specs.Constants.{constant, sum_to, lowered}
-use Rattle.emit_rules.specs.Memory.{ask, reserved, addresses, allocation_service}
-use Rattle.emit_rules.specs.Operators.{opposed, is_none, is_some, compared, operated, operated_far, compared_with, operated_with}
-use Rattle.emit_rules.specs.Slots.{register_of, target, kept, copied, slot_offset}
-use Rattle.emit_rules.specs.Tests.{signed_branch, unsigned_branch, constant_words, constant_register, tests_in_turn, table_of_jumps, value_words}
-use Rattle.laid_parts.specs.Named.{is_among, piece_sources, piece_targets, is_source, is_target}
-use Rattle.laid_parts.proofs.Registers.{or_false, and_false, or_same, not_both, or_turned, Names, same, joined, then_none, either, nothing, alone, hits, IsApart, with_immediate-names, addi-names, operation-names, shift-names, load-names, store-names, constant-names, constant-none, sum_to-names, lowered-names, stack_load-names, stack_store-names, fetched-names, kept-names, last_none, first_none}
+use Rattle.emit_rules.specs.Instructions.{with_immediate, operation, load, store, register_at}
+use Rattle.emit_rules.specs.Constants.{constant}
+use Rattle.emit_rules.specs.Operators.{is_some, compared, operated, compared_with, operated_with}
+use Rattle.emit_rules.specs.Slots.{register_of, target, copied, slot_offset}
+use Rattle.laid_parts.proofs.Registers.{or_false, and_false, or_same, not_both, or_turned, Names, same, joined, then_none, nothing, hits, IsApart, with_immediate-names, addi-names, operation-names, shift-names, load-names, store-names, constant-none, stack_load-names, stack_store-names, kept-names, last_none, first_none}
 
 -- a location that a line may name: its register has its number
 pub data IsNumbered : Loc → Type 0 where
@@ -95,7 +79,8 @@ module _ (n : ℕ) (apart : IsApart n) where
       Names n (constant T2 w ++ ys) (hits n a) (hits n to)
   far-names to a w y = joined (constant-none n apart T2 w apart.t2) (same y (last_none n apart (hits n a) (hits n T2) apart.t2) refl)
 
-  compared_with-names : (less : AluImmOp) (far : AluOp) (f : CmpOp) (to a : Register) (w : ℕ) → Names n (compared_with less far f to a w) (hits n a) (hits n to)
+  compared_with-names : (less : AluImmOp) (far : AluOp) (f : CmpOp) (to a : Register) (w : ℕ) →
+      Names n (compared_with less far f to a w) (hits n a) (hits n to)
   compared_with-names less far compare.Eq to a w =
       again to {xs = with_immediate imm.Xori to a w ∷ []} (with_immediate-names n apart imm.Xori to a w) (with_immediate-names n apart imm.Sltiu to to 1)
   compared_with-names less far compare.Ne to a w =

@@ -1,51 +1,28 @@
 -- The part of each line that copies or computes names the slots that the line reads and writes.
-use Rattle.std.proofs.Common.{◌≡◌, ◌⊎◌, inl, inr, ℕ, suc, Bool, true, false, cond, nat_eq, not, ◌||◌, List, [], ◌∷◌, ◌++◌, length, map, refl, sym, subst, ◌∙◌, ap, Option, arith}
-use Rattle.std.specs.List.{All, Contains}
-use Rattle.std.proofs.lemmas.Bool.{eq-eqb, eqb-true, and_parts}
+use Rattle.std.proofs.Common.{◌≡◌, ℕ, Bool, true, false, cond, List, [], ◌∷◌, refl, sym, subst, Option, arith}
+use Rattle.std.specs.List.{All}
 use Rattle.std.proofs.lemmas.List.Elements.{All-contains, All-nil, All-cons, All-head, All-tail}
-use Rattle.bs_words.specs.declared.operators.CmpOp.TheVariants as compare
-use Rattle.bs_words.specs.declared.operators.IntOp.TheVariants as operator
 use Rattle.bs_words.specs.declared.types.Comp.{Comp}
 use Rattle.bs_words.specs.declared.types.Loc.{Loc}
 use Rattle.bs_words.specs.declared.types.Loc.TheVariants as loc
-use Rattle.mach_ir.specs.Forms.{HasForm, copies, constant, symbol, operates, loads, stores, allocates, calls, tail_calls, calls_out, checks, raises, returns, IsRight, a_register, a_constant, IsCallee, by_register, by_symbol, IsTested, holds, fails, signed, unsigned}
-use Rattle.mach_ir.specs.Meaning.{is_temporary}
 use Rattle.mach_ir.specs.Placed.{colours}
-use Rattle.mach_ir.specs.Seats.{AreSeated, InOrder, AfterFirst, in_order, after_first, argument_places, result_places}
-use Rattle.mach_ir.specs.declared.mach.Test.{Test}
-use Rattle.mach_ir.specs.declared.mach.Test.TheVariants as test
-use Rattle.mach_ir.specs.declared.op.Access.TheVariants as access
-use Rattle.mach_ir.specs.declared.op.Callee.{Callee}
-use Rattle.mach_ir.specs.declared.op.Callee.TheVariants as callee
-use Rattle.mach_ir.specs.declared.op.Calling.TheVariants as calling
-use Rattle.mach_ir.specs.declared.op.Leaving.TheVariants as leaving
-use Rattle.mach_ir.specs.declared.op.Op.{Op}
 use Rattle.mach_ir.specs.declared.op.Op.TheVariants as op
 use Rattle.mach_ir.specs.declared.op.Pure.TheVariants as pure
-use Rattle.mach_ir.specs.declared.op.Right.{Right}
 use Rattle.mach_ir.specs.declared.op.Right.TheVariants as right
-use Rattle.lin_ir.specs.Formed.{FlowHasForm, label_form, jump_form, exit_form, branch_form, switch_form, push_form, pop_form, enter_form, IsFormed, formed_op, formed_flow, IsHome, is_colour, is_slot, IsLocation, is_home, is_spare, IsSelfMove, is_self_move, Locates, comps, places_of, lin_operand_seats, lin_result_seats, WellFormed, Seated}
+use Rattle.lin_ir.specs.Formed.{IsFormed, formed_op, is_colour, is_slot, IsLocation, is_home, is_spare, is_self_move, Locates, comps, places_of}
 use Rattle.lin_ir.specs.Meaning.{same_loc, is_named}
 use Rattle.lin_ir.specs.declared.descr.Descr.{Descr}
-use Rattle.lin_ir.specs.declared.lin.Flow.{Flow}
-use Rattle.lin_ir.specs.declared.lin.Flow.TheVariants as flow
-use Rattle.lin_ir.specs.declared.lin.Line.{Line}
 use Rattle.lin_ir.specs.declared.lin.LinOp.{LinOp}
 use Rattle.lin_ir.specs.declared.lin.LinOp.TheVariants as lin
 use Rattle.lin_ir.specs.declared.lin.Lin.{Lin}
 use Rattle.lin_ir.specs.declared.lin.Spot.{Spot}
-use Rattle.rv_isa.specs.Registers.{number}
-use Rattle.rv_isa.specs.declared.register.Register.TheVariants.{T1, T2}
 use Rattle.rv_pieces.specs.declared.piece.Piece.{Piece}
-use Rattle.rv_pieces.specs.declared.piece.Piece.TheVariants as piece
 use Rattle.emit_rules.specs.Instructions.{register_at}
-use Rattle.emit_rules.specs.Emitted.{part_of, lin_part}
+use Rattle.emit_rules.specs.Emitted.{part_of}
 use Rattle.emit_rules.specs.Entry.{Frame}
 use Rattle.emit_rules.specs.Slots.{first, second, copied}
 use Rattle.std.specs.Prelude.{◌*◌, ◌<◌, ◌≤◌, ◌/◌}
 use Rattle.std.proofs.Common.{cond, ◌+◌}
-use Rattle.lin_ir.specs.Descriptors.{IsWithin, frame_bytes, has_frame_point}
-use Rattle.lin_ir.specs.Walks.{Reached, by_walk}
 use Rattle.mach_ir.specs.declared.op.Pure.{Pure}
 use Rattle.laid_parts.specs.Laid.{NamesSlots, CarriesSlots, moves_nothing, names}
 use Rattle.laid_parts.specs.Stack.{at_first}

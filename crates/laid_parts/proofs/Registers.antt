@@ -1,9 +1,8 @@
 -- The registers that chunks of a part name, but for the reserved ones.
-use Rattle.std.proofs.Common.{◌≡◌, ℕ, zero, suc, ◌+◌, ◌-◌, ◌%◌, Bool, true, false, cond, nat_eq, nat_lt, nat_le, not, ◌||◌, ◌&&◌, List, [], ◌∷◌, ◌++◌, map, refl, sym, ◌∙◌, ap}
+use Rattle.std.proofs.Common.{◌≡◌, ℕ, zero, suc, ◌+◌, ◌-◌, ◌%◌, Bool, true, false, cond, nat_eq, nat_lt, nat_le, not, ◌||◌, ◌&&◌, List, [], ◌∷◌, ◌++◌, refl, ◌∙◌, ap}
 use Rattle.bs_words.specs.declared.types.Loc.{Loc}
 use Rattle.bs_words.specs.declared.types.Loc.TheVariants as loc
 use Rattle.mach_ir.specs.Forms.{is_immediate_12}
-use Rattle.lin_ir.specs.Meaning.{same_loc}
 use Rattle.rv_isa.specs.Registers.{number}
 use Rattle.rv_isa.specs.declared.instr.AluImmOp.{AluImmOp}
 use Rattle.rv_isa.specs.declared.instr.AluOp.{AluOp}
@@ -17,9 +16,9 @@ use Rattle.rv_isa.specs.declared.instr.StoreWidth.TheVariants as stores
 use Rattle.rv_isa.specs.declared.register.Register.{Register}
 use Rattle.rv_isa.specs.declared.register.Register.TheVariants.{Zero, Ra, Sp, T0, T1, T2, S1, S10, S11}
 use Rattle.rv_pieces.specs.declared.piece.Piece.{Piece}
-use Rattle.emit_rules.specs.Instructions.{low_12, with_immediate, addi, operation, shift, lui, addiw, load, store, register_at}
-use Rattle.emit_rules.specs.Constants.{is_word_32, above_12, lower_part, constant_32, higher, shifted, constant_shifted, constant, sum_to, lowered}
-use Rattle.emit_rules.specs.Slots.{far_stack, stack_load, stack_store, slot_offset, register_of, fetched, target, kept, copied}
+use Rattle.emit_rules.specs.Instructions.{low_12, with_immediate, addi, operation, shift, lui, addiw, load, store}
+use Rattle.emit_rules.specs.Constants.{is_word_32, above_12, constant_32, higher, shifted, constant_shifted, constant, sum_to, lowered}
+use Rattle.emit_rules.specs.Slots.{far_stack, stack_load, stack_store, slot_offset, fetched, kept}
 use Rattle.laid_parts.specs.Named.{is_among, piece_sources, piece_targets, is_source, is_target}
 use Rattle.laid_parts.specs.Laid.{is_reserved}
 

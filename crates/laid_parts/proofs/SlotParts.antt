@@ -1,42 +1,27 @@
 -- The slots that the parts of lines over registers and slots name.
-use Rattle.std.proofs.Common.{◌≡◌, ℕ, zero, suc, ◌+◌, ◌-◌, ◌%◌, Bool, true, false, cond, nat_eq, nat_lt, nat_le, not, ◌||◌, ◌&&◌, List, [], ◌∷◌, ◌++◌, length, map, refl, sym, ◌∙◌, ap, Option, Some, None}
+use Rattle.std.proofs.Common.{◌≡◌, ℕ, ◌+◌, ◌-◌, ◌%◌, Bool, true, false, nat_eq, ◌||◌, List, [], ◌∷◌, ◌++◌, refl, ap}
 use Rattle.bs_words.specs.declared.operators.CmpOp.{CmpOp}
 use Rattle.bs_words.specs.declared.operators.CmpOp.TheVariants as compare
 use Rattle.bs_words.specs.declared.operators.IntOp.{IntOp}
 use Rattle.bs_words.specs.declared.operators.IntOp.TheVariants as operator
 use Rattle.bs_words.specs.declared.types.Loc.{Loc}
 use Rattle.bs_words.specs.declared.types.Loc.TheVariants as loc
-use Rattle.mach_ir.specs.Blocks.{bytes_of}
-use Rattle.mach_ir.specs.Forms.{is_immediate_12}
-use Rattle.mach_ir.specs.declared.blocks.NewBlock.{NewBlock}
-use Rattle.mach_ir.specs.declared.mach.Test.{Test}
-use Rattle.mach_ir.specs.declared.mach.Test.TheVariants as test
-use Rattle.mach_ir.specs.declared.op.Right.{Right}
 use Rattle.mach_ir.specs.declared.op.Right.TheVariants as right
-use Rattle.lin_ir.specs.Formed.{places_of}
-use Rattle.lin_ir.specs.Meaning.{same_loc, is_named}
+use Rattle.lin_ir.specs.Meaning.{same_loc}
 use Rattle.lin_ir.specs.declared.lin.Spot.{Spot}
-use Rattle.rv_isa.specs.Registers.{number}
 use Rattle.rv_isa.specs.declared.instr.AluImmOp.{AluImmOp}
 use Rattle.rv_isa.specs.declared.instr.AluImmOp.TheVariants as imm
 use Rattle.rv_isa.specs.declared.instr.AluOp.{AluOp}
 use Rattle.rv_isa.specs.declared.instr.AluOp.TheVariants as alu
-use Rattle.rv_isa.specs.declared.instr.Condition.{Condition}
-use Rattle.rv_isa.specs.declared.instr.Condition.TheVariants as condition
-use Rattle.rv_isa.specs.declared.instr.LoadWidth.{LoadWidth}
-use Rattle.rv_isa.specs.declared.instr.LoadWidth.TheVariants as loads
 use Rattle.rv_isa.specs.declared.instr.ShiftOp.TheVariants as shifts
-use Rattle.rv_isa.specs.declared.instr.StoreWidth.{StoreWidth}
 use Rattle.rv_isa.specs.declared.register.Register.{Register}
-use Rattle.rv_isa.specs.declared.register.Register.TheVariants.{Zero, Ra, Sp, T0, T1, T2, S1, S10, S11, A0}
+use Rattle.rv_isa.specs.declared.register.Register.TheVariants.{Zero, T1, T2}
 use Rattle.rv_pieces.specs.declared.piece.Piece.{Piece}
 use Rattle.rv_pieces.specs.declared.piece.Piece.TheVariants as piece
-use Rattle.emit_rules.specs.Instructions.{with_immediate, addi, operation, shift, load, store, register_at, skip, ecall}
-use Rattle.emit_rules.specs.Constants.{constant, sum_to, lowered}
-use Rattle.emit_rules.specs.Memory.{ask, reserved, addresses, allocation_service}
-use Rattle.emit_rules.specs.Operators.{opposed, is_none, is_some, compared, operated, operated_far, compared_with, operated_with}
+use Rattle.emit_rules.specs.Instructions.{with_immediate, operation, shift, register_at}
+use Rattle.emit_rules.specs.Constants.{constant}
+use Rattle.emit_rules.specs.Operators.{compared, operated, compared_with, operated_with}
 use Rattle.emit_rules.specs.Slots.{register_of, target, kept, copied, slot_offset}
-use Rattle.emit_rules.specs.Tests.{signed_branch, unsigned_branch, constant_words, constant_register, tests_in_turn, table_of_jumps, value_words}
 use Rattle.emit_rules.specs.Instructions.{lui, addiw}
 use Rattle.emit_rules.specs.Emitted.{operator_part}
 use Rattle.emit_rules.specs.Slots.{first, second, fetched}
@@ -44,7 +29,7 @@ use Rattle.emit_rules.specs.Traversal.{Each, each_none, each_more}
 use Rattle.emit_rules.specs.Values.{Makes, makes_first, makes_upper, makes_lower, makes_sum, makes_shift}
 use Rattle.emit_rules.proofs.Values.{constant_is_made}
 use Rattle.laid_parts.proofs.Registers.{or_false}
-use Rattle.laid_parts.proofs.Words.{Chunk, joined, same, then_none, either, nothing, still, IsScratch, is_t1, is_t2, is_sp, stack_load-words, stack_store-words}
+use Rattle.laid_parts.proofs.Words.{Chunk, joined, same, then_none, nothing, still, IsScratch, is_t1, is_t2, is_sp, stack_load-words, stack_store-words}
 use Rattle.std.proofs.lemmas.Bool.Decides.{nat_tests}
 use Rattle.std.proofs.Common.{◌*◌, ◌<◌, arith}
 
@@ -73,8 +58,10 @@ module _ (c : ℕ) where
   constant-still r w e = each-still r e (constant_is_made r w)
 
   compared-still : (less : AluOp) (f : CmpOp) (to a b : Register) → is_sp to ≡ false → Chunk c (compared less f to a b) false false
-  compared-still less compare.Eq to a b e = joined c {xs = operation alu.Xor to a b ∷ []} (operation-still alu.Xor to a b e) (immediate-still imm.Sltiu to to 1 e)
-  compared-still less compare.Ne to a b e = joined c {xs = operation alu.Xor to a b ∷ []} (operation-still alu.Xor to a b e) (operation-still alu.Sltu to Zero to e)
+  compared-still less compare.Eq to a b e = joined c {xs =
+      operation alu.Xor to a b ∷ []} (operation-still alu.Xor to a b e) (immediate-still imm.Sltiu to to 1 e)
+  compared-still less compare.Ne to a b e = joined c {xs =
+      operation alu.Xor to a b ∷ []} (operation-still alu.Xor to a b e) (operation-still alu.Sltu to Zero to e)
   compared-still less compare.Lt to a b e = operation-still less to a b e
   compared-still less compare.Ge to a b e = joined c {xs = operation less to a b ∷ []} (operation-still less to a b e) (immediate-still imm.Xori to to 1 e)
   compared-still less compare.Gt to a b e = operation-still less to b a e
@@ -101,11 +88,15 @@ module _ (c : ℕ) where
   far-still : (w : ℕ) {ys : List Piece} → Chunk c ys false false → Chunk c (constant T2 w ++ ys) false false
   far-still w y = joined c (constant-still T2 w refl) y
 
-  compared_with-still : (less : AluImmOp) (far : AluOp) (f : CmpOp) (to a : Register) (w : ℕ) → is_sp to ≡ false → Chunk c (compared_with less far f to a w) false false
-  compared_with-still less far compare.Eq to a w e = joined c {xs = with_immediate imm.Xori to a w ∷ []} (immediate-still imm.Xori to a w e) (immediate-still imm.Sltiu to to 1 e)
-  compared_with-still less far compare.Ne to a w e = joined c {xs = with_immediate imm.Xori to a w ∷ []} (immediate-still imm.Xori to a w e) (operation-still alu.Sltu to Zero to e)
+  compared_with-still : (less : AluImmOp) (far : AluOp) (f : CmpOp) (to a : Register) (w : ℕ) → is_sp to ≡ false →
+      Chunk c (compared_with less far f to a w) false false
+  compared_with-still less far compare.Eq to a w e = joined c {xs =
+      with_immediate imm.Xori to a w ∷ []} (immediate-still imm.Xori to a w e) (immediate-still imm.Sltiu to to 1 e)
+  compared_with-still less far compare.Ne to a w e = joined c {xs =
+      with_immediate imm.Xori to a w ∷ []} (immediate-still imm.Xori to a w e) (operation-still alu.Sltu to Zero to e)
   compared_with-still less far compare.Lt to a w e = immediate-still less to a w e
-  compared_with-still less far compare.Ge to a w e = joined c {xs = with_immediate less to a w ∷ []} (immediate-still less to a w e) (immediate-still imm.Xori to to 1 e)
+  compared_with-still less far compare.Ge to a w e = joined c {xs =
+      with_immediate less to a w ∷ []} (immediate-still less to a w e) (immediate-still imm.Xori to to 1 e)
   compared_with-still less far compare.Gt to a w e = far-still w (compared-still far compare.Gt to a T2 e)
   compared_with-still less far compare.Le to a w e = far-still w (compared-still far compare.Le to a T2 e)
 

@@ -1,23 +1,17 @@
 -- The words of the stack that chunks of a part name.
-use Rattle.std.proofs.Common.{◌≡◌, ℕ, zero, suc, ◌+◌, ◌-◌, ◌*◌, ◌%◌, ◌^◌, ◌<◌, ◌≤◌, ◌⊎◌, inl, inr, Bool, true, false, cond, nat_eq, nat_lt, nat_le, not, ◌||◌, ◌&&◌, List, [], ◌∷◌, ◌++◌, map, refl, sym, subst, ◌∙◌, ap, arith}
-use Rattle.std.proofs.lemmas.Bool.{ltb-true, eq-eqb}
+use Rattle.std.proofs.Common.{◌≡◌, ℕ, ◌+◌, ◌*◌, ◌%◌, ◌^◌, ◌<◌, ◌≤◌, ◌⊎◌, inl, inr, Bool, true, false, cond, nat_eq, nat_lt, not, ◌||◌, ◌&&◌, List, [], ◌∷◌, ◌++◌, refl, ◌∙◌, ap, arith}
+use Rattle.std.proofs.lemmas.Bool.{ltb-true}
 use Rattle.std.proofs.lemmas.Bool.Decides.{nat_tests}
-use Rattle.bs_words.specs.Word.{add_word, shl_word, sext_word}
-use Rattle.bs_words.specs.declared.types.Loc.{Loc}
-use Rattle.bs_words.specs.declared.types.Loc.TheVariants as loc
-use Rattle.mach_ir.specs.Forms.{is_immediate_12}
-use Rattle.lin_ir.specs.Meaning.{same_loc}
+use Rattle.bs_words.specs.Word.{add_word, sext_word}
 use Rattle.rv_isa.specs.Registers.{number}
-use Rattle.rv_isa.specs.declared.instr.LoadWidth.{LoadWidth}
 use Rattle.rv_isa.specs.declared.instr.LoadWidth.TheVariants as loads
-use Rattle.rv_isa.specs.declared.instr.StoreWidth.{StoreWidth}
 use Rattle.rv_isa.specs.declared.instr.StoreWidth.TheVariants as stores
 use Rattle.rv_isa.specs.declared.register.Register.{Register}
-use Rattle.rv_isa.specs.declared.register.Register.TheVariants.{Zero, Ra, Sp, T0, T1, T2, S1, S10, S11}
+use Rattle.rv_isa.specs.declared.register.Register.TheVariants.{Sp, T1, T2}
 use Rattle.rv_pieces.specs.declared.piece.Piece.{Piece}
-use Rattle.emit_rules.specs.Instructions.{low_12, addi, operation, lui, add, load, store}
+use Rattle.emit_rules.specs.Instructions.{low_12, load, store}
 use Rattle.emit_rules.specs.Constants.{above_12}
-use Rattle.emit_rules.specs.Slots.{far_stack, stack_load, stack_store, slot_offset}
+use Rattle.emit_rules.specs.Slots.{far_stack, stack_load, stack_store}
 use Rattle.emit_rules.proofs.Values.{by_12, by_32, first_is}
 use Rattle.laid_parts.specs.Named.{is_among, piece_targets}
 use Rattle.laid_parts.specs.Stack.{Form, Unknown, Is, FromSp, Held, after, loaded, stored, is_loaded, is_stored, piece_made, plus, word_at}
@@ -89,7 +83,8 @@ module _ (c : ℕ) where
   nothing = record { each = λ h e. record { loads = refl; stores = refl; sp = e } }
 
   -- one that loads and stores nothing, and leaves sp
-  pub still : (p : Piece) → ((h : Held) → loaded h p ≡ []) → ((h : Held) → stored h p ≡ []) → is_among 2 (piece_targets p) ≡ false → Chunk c (p ∷ []) false false
+  pub still : (p : Piece) → ((h : Held) → loaded h p ≡ []) → ((h : Held) → stored h p ≡ []) → is_among 2 (piece_targets p) ≡ false →
+      Chunk c (p ∷ []) false false
   unfolding later
   still p a b t = record {
     each = λ h e. record {
@@ -109,8 +104,10 @@ far_is : (w : ℕ) → w < 1073741824 →
 unfolding add_word
 far_is w l = by (by_32 (4096 * (above_12 w % 1048576))) (by_12 w)
   where
-    by : ((4096 * (above_12 w % 1048576) % 4294967296 < 2147483648) × (sext_word (4096 * (above_12 w % 1048576)) 32 ≡ 4096 * (above_12 w % 1048576) % 4294967296))
-        ⊎ ((2147483648 ≤ 4096 * (above_12 w % 1048576) % 4294967296) × (sext_word (4096 * (above_12 w % 1048576)) 32 ≡ 4096 * (above_12 w % 1048576) % 4294967296 + 0xFFFFFFFF00000000)) →
+    by : ((4096 * (above_12 w % 1048576) % 4294967296 < 2147483648) × (sext_word (4096 * (above_12 w % 1048576)) 32 ≡ 4096 *
+        (above_12 w % 1048576) % 4294967296))
+        ⊎ ((2147483648 ≤ 4096 * (above_12 w % 1048576) % 4294967296) × (sext_word (4096 * (above_12 w % 1048576)) 32 ≡ 4096 *
+        (above_12 w % 1048576) % 4294967296 + 0xFFFFFFFF00000000)) →
         ((w % 4096 < 2048) × (sext_word (low_12 w) 12 ≡ w % 4096)) ⊎ ((2048 ≤ w % 4096) × (sext_word (low_12 w) 12 ≡ w % 4096 + 0xFFFFFFFFFFFFF000)) →
         ((sext_word (4096 * (above_12 w % 1048576)) 32 + 0) % 2 ^ 64 + sext_word (low_12 w) 12) % 2 ^ 64 ≡ w
     by (inl x) (inl y) = let e = x.1 in let f = y.1 in let g = y.0 in omega (arith, e, f, g, l)

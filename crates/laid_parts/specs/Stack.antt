@@ -1,7 +1,7 @@
 -- The words of the stack that pieces name: by loads and stores whose address is sp and a constant.
-use Rattle.std.specs.Prelude.{ℕ, ◌*◌, Bool, true, false, cond, nat_eq, not, ◌||◌, ◌&&◌, List, [], ◌∷◌}
+use Rattle.std.specs.Prelude.{ℕ, ◌*◌, Bool, false, cond, nat_eq, not, ◌||◌, ◌&&◌, List, [], ◌∷◌}
 use Rattle.bs_words.specs.Word.{add_word, shl_word, sext_word}
-use Rattle.rv_isa.specs.Registers.{number, sp, t0, t1, t2}
+use Rattle.rv_isa.specs.Registers.{sp, t0, t1, t2}
 use Rattle.rv_isa.specs.declared.instr.AluImmOp.TheVariants as imm
 use Rattle.rv_isa.specs.declared.instr.AluOp.TheVariants as alu
 use Rattle.rv_isa.specs.declared.instr.ShiftOp.TheVariants as shifts
