@@ -29,7 +29,7 @@ forms_length places at (p ∷ ps) (f ∷ fs) reach =
     let rest = forms_length places (at + words_of p f) ps fs reach.1 in omega (arith, rest)
 
 -- labels lie at multiples of 4
-names_lead : (file : FileTree) (entries : List ℕ) (at : ℕ) (ps : List Piece) (fs : List Form) (p : Piece) → LeadsTo (target_of (names_at file entries at ps fs) p) p
+pub names_lead : (file : FileTree) (entries : List ℕ) (at : ℕ) (ps : List Piece) (fs : List Form) (p : Piece) → LeadsTo (target_of (names_at file entries at ps fs) p) p
 names_lead file entries at ps fs (Known i) = tt
 names_lead file entries at ps fs (Label l) = tt
 names_lead file entries at ps fs (Branch c a b l) = omega arith
@@ -50,7 +50,7 @@ pub record Found (file : FileTree) (entries starts code : List ℕ) (forms : Lis
   pub entry : slice_get starts k ≡ Some place
   pub stands : StandsAt file entries code place p of row
 
-function_length : (file : FileTree) (entries : List ℕ) (at : ℕ) (p : Pieces) (fs : List Form) → length (function_words file entries at p.code fs) ≡ total_words p.code fs
+pub function_length : (file : FileTree) (entries : List ℕ) (at : ℕ) (p : Pieces) (fs : List Form) → length (function_words file entries at p.code fs) ≡ total_words p.code fs
 function_length file entries at p fs = words_length (names_at file entries at p.code fs) (address_of_place at) p.code fs
 
 pub found : (file : FileTree) (entries : List ℕ) (fs : List FunctionTree) (ps : List Pieces) (forms : List (List Form)) (pre : List ℕ) (at k : ℕ) (p : Pieces) (row : Func) →

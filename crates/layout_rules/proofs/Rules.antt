@@ -165,12 +165,12 @@ descs_keep len prev at behind (ExternalNumber r row ∷ ps) (f ∷ fs) m h k are
     let some : 1 ≤ w = omega arith in
     descs_keep len prev (at + w) true ps fs m (omega (arith, h)) (λ e. omega (arith, h, some)) are (omega (arith, in_code))
 
-all_append : {A : Type 0} (P : A → Type 0) (xs ys : List A) → AllByRecursion P xs → AllByRecursion P ys → AllByRecursion P (xs ++ ys)
+pub all_append : {A : Type 0} (P : A → Type 0) (xs ys : List A) → AllByRecursion P xs → AllByRecursion P ys → AllByRecursion P (xs ++ ys)
 all_append P [] ys a b = b
 all_append P (x ∷ xs) ys a b = (a.0, all_append P xs ys a.1 b)
 
 -- the words of all functions
-pub all_words : List Pieces → List (List Form) → ℕ
+abbrev pub all_words : List Pieces → List (List Form) → ℕ
 all_words [] forms = 0
 all_words (p ∷ ps) [] = 0
 all_words (p ∷ ps) (f ∷ forms) = total_words p.code f + all_words ps forms
@@ -191,7 +191,6 @@ descs_in_order file at ps forms laid = in_order (4 * at) (descs_from at ps forms
 -- Each descriptor keeps the rules.
 pub each_desc : (file : FileTree) (len at : ℕ) (ps : List Pieces) (forms : List (List Form)) → 4 ≤ at → AllByRecursion (IsFunctionLaid file) ps → 4 * (at + all_words ps forms) ≤ len →
     AllByRecursion (IsDesc 2 len) (descs_from at ps forms)
-unfolding all_words
 each_desc file len at [] forms m laid in_code = tt
 each_desc file len at (p ∷ ps) [] m laid in_code = tt
 each_desc file len at (p ∷ ps) (f ∷ forms) m laid in_code =

@@ -3,6 +3,7 @@ use Rattle.std.specs.Prelude.{◌≡◌, ℕ, ◌+◌, ◌%◌, ◌^◌, ◌<◌
 use Rattle.std.specs.List.{AllByRecursion}
 use Rattle.bs_words.specs.Symbol.{IsSymbol}
 use Rattle.bs_words.specs.External.{External}
+use Rattle.cmm_data.specs.Contents.{root_cells}
 use Rattle.cmm_data.specs.Faults.{data_fault_of}
 use Rattle.cmm_data.specs.Placement.{DataSymbolTree, symbols_of, value_of_symbol}
 use Rattle.cmm_tree.specs.Tree.{FunctionTree, FileTree, functions, comps_of}
@@ -90,7 +91,8 @@ pub record IsExternalLaid (e : External) : Type 0 where
   pub result : IsExtResult e.result
 
 -- What each file keeps that was accepted: its names and types may stand in an image, no symbol is
--- defined twice, its data has no fault, and it is no longer than a text.
+-- defined twice, its data has no fault, and it is no longer than a text. A root cell lies at a multiple
+-- of 8: that is a rule of data, but for integers out of range, which no file has that was accepted.
 pub record IsFileLaid (file : FileTree) : Type 0 where
   pub rows : AllByRecursion IsRowLaid (functions file)
   pub symbols : AllByRecursion (λ (s : DataSymbolTree). IsSymbol s.name) (symbols_of file)
@@ -98,6 +100,7 @@ pub record IsFileLaid (file : FileTree) : Type 0 where
       ++ map (λ (s : DataSymbolTree). s.name) (symbols_of file))
   pub calls : AllByRecursion IsExternalLaid (externals file)
   pub no_fault : data_fault_of file ≡ None
+  pub roots : AllByRecursion (λ address. address % 8 ≡ 0) (root_cells file)
   pub few_functions : length (functions file) < 2 ^ 32
   pub few_symbols : length (symbols_of file) < 2 ^ 32
   pub few_externals : length (externals file) < 2 ^ 32

@@ -24,3 +24,5 @@ pub mod ExternalLines
 pub mod ExternalCalls
 pub mod NoWaits
 pub mod Whole
+pub mod Every
+pub mod Example

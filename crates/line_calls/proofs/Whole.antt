@@ -1,21 +1,17 @@
 -- Every line that calls, leaves a function, raises, allocates, or pushes, pops or enters a try is followed.
-use Rattle.std.proofs.Common.{◌≡◌, ℕ, suc, ◌+◌, ◌*◌, ◌%◌, ◌<◌, ◌≤◌, ◌⊎◌, inl, inr, Bool, true, false, ◌&&◌, ◌||◌, not, List, [], ◌∷◌, ◌++◌, length, Option, Some, None, slice_get, refl, ap, ap₂, arith, ◌∙◌, sym, subst, ⊎_elim}
+use Rattle.std.proofs.Common.{◌≡◌, ℕ, suc, ◌+◌, ◌*◌, ◌%◌, ◌<◌, ◌≤◌, ◌⊎◌, inl, inr, Bool, true, false, List, [], ◌∷◌, ◌++◌, length, Option, Some, None, refl, ap, ap₂, arith, ◌∙◌, sym, subst, ⊎_elim}
 use Rattle.std.specs.List.{All, Contains}
 use Rattle.std.proofs.lemmas.List.Elements.{All-head, Contains-get_or}
 use Rattle.bs_words.specs.declared.types.Comp.{Comp}
 use Rattle.bs_words.specs.declared.types.Ret.{Ret}
 use Rattle.bs_words.specs.declared.types.Ret.TheVariants as ret
-use Rattle.bs_words.specs.declared.values.Value.{Value}
-use Rattle.bs_words.specs.declared.values.Value.TheVariants.{Word, Block, Function}
-use Rattle.cmm_meaning.specs.Evaluation.{fit_parameters}
-use Rattle.cmm_meaning.specs.Setting.{Setting}
 use Rattle.emit_rules.specs.Calls.{call_words, external_words, mark_of}
 use Rattle.emit_rules.specs.Emitted.{part_of}
 use Rattle.emit_rules.specs.Entry.{Frame}
 use Rattle.layout_rules.specs.Laid.{address_of_place, desc_at}
 use Rattle.layout_rules.specs.Words.{Named}
 use Rattle.lin_ir.specs.Formed.{IsFormed, IsLocation, IsQuiet, comps, formed_flow, formed_op, FlowHasForm, enter_form, pop_form, push_form, pushes}
-use Rattle.lin_ir.specs.Meaning.{Locations, NamedAt, after_label, are_vals, lin_act, on_values, past_frame, passes_frame, step, unless_misnamed, values}
+use Rattle.lin_ir.specs.Meaning.{Locations, NamedAt, after_label, step, values}
 use Rattle.lin_ir.specs.Walks.{may_raise, targets}
 use Rattle.lin_ir.specs.declared.descr.Descr.{Descr}
 use Rattle.lin_ir.specs.declared.lin.Flow.{Flow}
@@ -24,7 +20,7 @@ use Rattle.lin_ir.specs.declared.lin.Lin.{Lin}
 use Rattle.lin_ir.specs.declared.lin.LinOp.TheVariants as lin
 use Rattle.lin_ir.specs.declared.lin.Line.{Line}
 use Rattle.lin_ir.specs.declared.lin.Spot.{Spot}
-use Rattle.mach_ir.specs.Acts.{Act, Around, On, Replaces, if_known, asks, asks_callee, asks_value, is_complete, only_if, raised_by}
+use Rattle.mach_ir.specs.Acts.{Around, On, if_known}
 use Rattle.mach_ir.specs.Blocks.{bytes_of}
 use Rattle.mach_ir.specs.Forms.{HasForm, IsBlock, IsCallee, allocates, by_register, calls, calls_out, raises, results_of, returns, tail_calls}
 use Rattle.mach_ir.specs.Runs.{Place}
@@ -52,13 +48,12 @@ use Rattle.line_stands.proofs.Parts.{mark_none, nothing_more, splits}
 use Rattle.line_calls.specs.Calls.{FollowsSo}
 use Rattle.line_calls.specs.Points.{AreMarked, IsReadyFor, IsTurn, PointStands, before_service}
 use Rattle.line_calls.proofs.AllocLines.{alloc_line}
-use Rattle.line_calls.proofs.Blocks.{blocks_are_made}
 use Rattle.line_calls.proofs.CallLines.{call_named, call_registered}
 use Rattle.line_calls.proofs.ExternalCalls.{external_alone, external_framed}
 use Rattle.line_calls.proofs.Handlers.{enter_line, pop_line, push_line, raise_line, return_with, return_without}
 use Rattle.line_calls.specs.Laws.{frame_in}
 use Rattle.line_calls.proofs.Marks.{marked}
-use Rattle.line_calls.proofs.NoWaits.{NoAsk, NoWait, act_no, so_without}
+use Rattle.line_calls.proofs.NoWaits.{act_no, alloc_no, enter_no, raise_no, return_no, so_without, tail_no, values_no}
 use Rattle.line_calls.proofs.Seats.{first_seated}
 use Rattle.line_calls.proofs.TailLines.{tail_named, tail_registered}
 
@@ -121,61 +116,6 @@ pop_flow cs ds pop_form = (refl, refl)
 
 enter_flow : (cs ds : List Comp) → FlowHasForm flow.EnterTrap cs ds → (cs ≡ []) × ((t : Comp) × (ds ≡ t ∷ []))
 enter_flow cs ds enter_form = (refl, (_, refl))
-
--- ---- steps without calls
-
-unless_no : (t : Bool) (x : _) → NoWait x → NoWait (unless_misnamed t x)
-unless_no false x h = tt
-unless_no true x h = h
-
-values_no :
-    (place : Place) (named : _) (m : Lin) (i : Line) (next : List Line) (f : Locations) (a : Around) (o : Option (List Value)) →
-    ((vs : List Value) → NoAsk (lin_act place.setting i.op vs a)) → NoWait (on_values place named m i next f a o)
-values_no place named m i next f a None h = tt
-values_no place named m i next f a (Some vs) h =
-    unless_no (not (passes_frame i.op) || are_vals place.setting.end named f) _
-    (act_no place m i next (past_frame (passes_frame i.op) named f) a (lin_act place.setting i.op vs a) (h vs))
-
-only_no : (t : Bool) (x : Act) → NoAsk x → NoAsk (only_if t x)
-only_no false x h = tt
-only_no true x h = h
-
-asks_no : (c : Setting) (result : Ret) (o : Option Value) (xs : List Value) (a : Around) → NoAsk (asks_value c o xs a (λ f ys. Replaces f ys result))
-asks_no c result None xs a = tt
-asks_no c result (Some (Word w)) xs a = tt
-asks_no c result (Some (Block b q)) xs a = tt
-asks_no c result (Some (Function f)) xs a = by_parameters (slice_get c.parameters f)
-  where
-    by_parameters : (o : Option (List Comp)) → NoAsk (asks c o f xs a (λ f ys. Replaces f ys result))
-    by_parameters None = tt
-    by_parameters (Some cs) = only_no (fit_parameters c.end cs xs && is_complete a) _ tt
-
-tail_no : (c : Setting) (whom : Callee) (result : Ret) (vs : List Value) (a : Around) → NoAsk (asks_callee c whom vs a (λ f ys. Replaces f ys result))
-tail_no c (callee.Symbol name) result vs a = asks_no c result (c.symbol name) vs a
-tail_no c callee.Register result [] a = tt
-tail_no c callee.Register result (x ∷ xs) a = asks_no c result (Some x) xs a
-
-return_no : (c : Setting) (vs : List Value) (a : Around) → NoAsk (lin_act c (lin.Op (op.Leaving leaving.Return)) vs a)
-return_no c [] a = only_no (is_complete a) _ tt
-return_no c (x ∷ []) a = only_no (is_complete a) _ tt
-return_no c (x ∷ y ∷ ys) a = tt
-
-raised_no : (x : Value) (a : Around) (tries : List ℕ) → NoAsk (raised_by x a tries)
-raised_no x a [] = tt
-raised_no x a (l ∷ rest) = tt
-
-raise_no : (c : Setting) (vs : List Value) (a : Around) → NoAsk (lin_act c (lin.Op (op.Leaving leaving.Raise)) vs a)
-raise_no c [] a = tt
-raise_no c (x ∷ []) a = only_no _ _ (raised_no x a a.tries)
-raise_no c (x ∷ y ∷ ys) a = tt
-
-alloc_no : (c : Setting) (blocks : List NewBlock) (vs : List Value) (a : Around) → NoAsk (lin_act c (lin.Op (op.Access (access.Alloc blocks))) vs a)
-alloc_no c blocks [] a = only_no (is_complete a) _ (subst NoAsk (sym (blocks_are_made blocks [] a)) tt)
-alloc_no c blocks (x ∷ xs) a = tt
-
-enter_no : (c : Setting) (a : Around) (o : Option Value) → NoAsk (if_known (record a { raised = None }) o)
-enter_no c a None = tt
-enter_no c a (Some x) = tt
 
 -- ---- lines
 

@@ -20,6 +20,7 @@ use Rattle.linear_machine.specs.Relation.{Below, Laid}
 use Rattle.linear_machine.specs.View.{Fixed, View}
 use Rattle.line_stands.specs.Lines.{LineStands}
 use Rattle.line_stands.specs.Parts.{PartStands}
+use Rattle.line_values.specs.Statics.{StaticsLie}
 use Rattle.line_calls.specs.Calls.{FollowsSo}
 use Rattle.line_calls.specs.Points.{IsReadyFor, IsTurn, PointStands, before_service}
 
@@ -45,6 +46,21 @@ LineFollows =
     IsReadyFor i a → laid.part (length next) ≡ laid.part (suc (length next)) + words →
     IsAt s laid (spare_live m) c (record { rest = i ∷ next; file = file; around = a }) v →
     FollowsSo (before_service i.op words) s laid (spare_live m) entries c v (laid.frame + 16 * length a.tries)
+    (step place named m (record { rest = i ∷ next; file = file; around = a }))
+
+-- Every line is followed so, of whatever kind it is.
+abbrev pub EveryLineFollows : Type 0
+EveryLineFollows =
+    (s : Fixed) (n : Named) (laid : Laid) (entries : ℕ → ℕ) (c : Below) (place : Place)
+    (named : NamedAt) (m : Lin) (f : Frame) (d : Option Descr) (i : Line) (next : List Line)
+    (v : View) (file : Locations) (a : Around) (words : ℕ) →
+    (lines : LineStands s laid n m place.setting (spare_live m) a.tries f d i next) →
+    PointStands s laid m place.setting named entries (length a.tries) f d i next
+    lines.part.forms →
+    IsReadyFor i a → StaticsLie s a.memory →
+    laid.part (length next) ≡ laid.part (suc (length next)) + words →
+    IsAt s laid (spare_live m) c (record { rest = i ∷ next; file = file; around = a }) v →
+    FollowsSo words s laid (spare_live m) entries c v (laid.frame + 16 * length a.tries)
     (step place named m (record { rest = i ∷ next; file = file; around = a }))
 
 -- Where a function is entered whose entry stands in the image, it comes to its first line with its

@@ -4,12 +4,17 @@
 //! The crate holds definitions and laws alone.
 #![tactic(auto)]
 
-ghost use Rattle.line_calls.specs.Laws.{EntryFollows, LineFollows};
+ghost use Rattle.line_calls.specs.Laws.{EntryFollows, EveryLineFollows, LineFollows};
 
 /// Law: the words of a line that calls, leaves a function, raises, allocates, or pushes, pops or enters a try do
 /// what the line does.
 pub fn lines_are_followed()
     ensures { LineFollows }
+{}
+
+/// Law: the words of every line do what the line does, of whatever kind it is.
+pub fn every_line_is_followed()
+    ensures { EveryLineFollows }
 {}
 
 /// Law: the words of a function's entry come to its first line with its arguments, or the stack is passed.

@@ -1,76 +1,39 @@
 -- Addresses with an offset come into a register, and loads follow their lines.
-use Rattle.std.proofs.Common.{◌≡◌, ◌≢◌, ℕ, zero, suc, ◌+◌, ◌-◌, ◌*◌, ◌/◌, ◌%◌, ◌^◌, ◌<◌, ◌≤◌, ◌⊎◌, inl, inr, Bool, true, false, cond, ◌==◌, List, [], ◌∷◌, ◌++◌, length, Option, Some, None, Result, Ok, Err, slice_index, refl, ap, ap₂, arith, ◌∙◌, sym, subst, ⊎_elim, append_assoc}
-use Rattle.std.specs.List.{AllByRecursion}
-use Rattle.bs_words.specs.Fits.{fits, misfit}
-use Rattle.bs_words.specs.Memory.{Cell, cell_at, end_of_data, extended, loaded_as, loaded_from, of_type, offset_in_cell, part, value_in, width}
-use Rattle.bs_words.specs.Memory as memory
+use Rattle.std.proofs.Common.{◌≡◌, ◌≢◌, ℕ, zero, suc, ◌+◌, ◌%◌, ◌^◌, ◌<◌, ◌⊎◌, inl, inr, Bool, true, false, cond, List, [], ◌∷◌, ◌++◌, Some, slice_index, refl, ap, ap₂, arith, ◌∙◌, sym, subst, ⊎_elim}
+use Rattle.bs_words.specs.Memory.{Cell, cell_at, part}
 use Rattle.bs_words.specs.Word.{add_word}
 use Rattle.bs_words.proofs.Below.{add_word-below}
-use Rattle.bs_words.specs.declared.types.Chunk.{Chunk}
-use Rattle.bs_words.specs.declared.types.Chunk.TheVariants as chunk
-use Rattle.bs_words.specs.declared.types.Ty.{Ty}
-use Rattle.bs_words.specs.declared.types.Ty.TheVariants as ty
-use Rattle.bs_words.specs.declared.values.Kind.{Kind}
 use Rattle.bs_words.specs.declared.values.Value.{Value}
-use Rattle.bs_words.specs.declared.values.Value.TheVariants.{Word, Block, Function}
+use Rattle.bs_words.specs.declared.values.Value.TheVariants.{Function}
 use Rattle.emit_rules.specs.Constants.{constant}
-use Rattle.emit_rules.specs.Instructions.{add, load}
-use Rattle.emit_rules.specs.Memory.{address_offset, address_register, address_words, load_from, load_part, load_width, store_width}
-use Rattle.emit_rules.specs.Slots.{fetched, kept, register_of, target}
+use Rattle.emit_rules.specs.Instructions.{add}
+use Rattle.emit_rules.specs.Memory.{address_offset, address_register, address_words}
 use Rattle.layout_rules.specs.Words.{Named}
-use Rattle.lin_ir.specs.Formed.{IsLocation}
-use Rattle.lin_ir.specs.Meaning.{Locations, NamedAt, on_act, on_values, put, step}
-use Rattle.lin_ir.specs.declared.lin.Lin.{Lin}
-use Rattle.lin_ir.specs.declared.lin.Line.{Line}
-use Rattle.lin_ir.specs.declared.lin.LinOp.TheVariants as lin
-use Rattle.lin_ir.specs.declared.lin.Spot.{Spot}
-use Rattle.mach_ir.specs.Acts.{Around, Stuck, is_among, loaded_act, moved_by, one_result}
+use Rattle.lin_ir.specs.Meaning.{Locations}
+use Rattle.mach_ir.specs.Acts.{Around, moved_by}
 use Rattle.mach_ir.specs.Forms.{is_immediate_12}
-use Rattle.mach_ir.specs.Runs.{Place}
-use Rattle.mach_ir.specs.declared.op.Access.TheVariants as access
-use Rattle.mach_ir.specs.declared.op.Op.TheVariants as op
 use Rattle.moving_laws.specs.Stands.{Among}
 use Rattle.moving_laws.specs.Values.{value_word}
 use Rattle.rv_isa.specs.Registers.{number}
 use Rattle.rv_isa.specs.declared.instr.AluOp.TheVariants.{Add}
-use Rattle.rv_isa.specs.declared.instr.Instr.TheVariants.{Load, Op}
-use Rattle.rv_isa.specs.declared.instr.LoadWidth.{LoadWidth}
+use Rattle.rv_isa.specs.declared.instr.Instr.TheVariants.{Op}
 use Rattle.rv_isa.specs.declared.register.Register.{Register}
 use Rattle.rv_isa.specs.declared.register.Register.TheVariants.{T1, T2}
 use Rattle.rv_machine.specs.Arithmetic.{imm_i}
-use Rattle.rv_machine.specs.Hart.{Placed, bytes_loaded, register_loaded}
-use Rattle.rv_machine.specs.Memory.{Region, word}
-use Rattle.rv_machine.specs.Width.{IsWidth}
-use Rattle.machine_laws.proofs.Memory.{word_below}
-use Rattle.machine_laws.proofs.Values.{loaded_word}
-use Rattle.rv_pieces.specs.declared.piece.Piece.{Piece}
-use Rattle.linear_machine.specs.Follows.{Agrees, FollowsStep}
+use Rattle.rv_machine.specs.Hart.{Placed}
 use Rattle.linear_machine.specs.Relation.{Below, Laid, StandsFor, Within, all_of}
 use Rattle.linear_machine.specs.Relation as relation
-use Rattle.linear_machine.specs.Straight.{Changes, Comes}
+use Rattle.linear_machine.specs.Straight.{Changes}
 use Rattle.linear_machine.specs.View.{Fixed, View, IsCode}
-use Rattle.linear_machine.proofs.Following.{PassesSpare, result_follows}
 use Rattle.linear_machine.proofs.Formats.{sets_op}
 use Rattle.linear_machine.proofs.Immediates.{low_12, up}
-use Rattle.linear_machine.proofs.Loading.{IsCellAt, moved_word}
-use Rattle.linear_machine.proofs.Operating.{worked}
-use Rattle.linear_machine.proofs.Parts.{changes_come, comes_here, comes_then}
-use Rattle.linear_machine.proofs.Pure.{Reads, reads_held}
-use Rattle.linear_machine.proofs.Reading.{reads_one}
+use Rattle.linear_machine.proofs.Loading.{moved_word}
 use Rattle.linear_machine.proofs.Rows.{immediate_is}
-use Rattle.linear_machine.proofs.Sequences.{no_change, set_changes, set_then, sets_as, then_changes, widened}
-use Rattle.linear_machine.proofs.Standing.{within_past}
-use Rattle.linear_machine.proofs.Steps.{reg}
+use Rattle.linear_machine.proofs.Sequences.{no_change, set_then, sets_as, widened}
 use Rattle.line_stands.specs.Parts.{PartStands}
 use Rattle.line_stands.proofs.Parts.{counts, last, none_left}
-use Rattle.line_values.specs.Statics.{IsWholeList}
-use Rattle.line_values.proofs.Bytes.{sets_load_part}
-use Rattle.line_values.proofs.Cells.{Reached, reached}
 use Rattle.line_values.proofs.Chains.{constant_comes}
-use Rattle.line_values.proofs.Moves.{alone}
-use Rattle.line_values.proofs.Operands.{fetches, targeted}
 use Rattle.line_values.proofs.Operations.{no_second}
-use Rattle.line_values.proofs.Testing.{first_comes}
 
 -- ---- values that are addresses of memory
 

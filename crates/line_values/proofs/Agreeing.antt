@@ -1,6 +1,6 @@
 -- What a comparison or a condition says of two values, it says of their words.
-use Rattle.std.proofs.Common.{◌≡◌, ◌≢◌, ℕ, suc, ◌+◌, ◌-◌, ◌*◌, ◌%◌, ◌^◌, ◌<◌, ◌≤◌, ◌⊎◌, inl, inr, Bool, true, false, cond, not, ◌&&◌, ◌||◌, ◌==◌, nat_lt, nat_le, List, length, Option, Some, None, Result, Ok, Err, int_lt, int_le, slice_index, refl, ap, ap₂, arith, ◌∙◌, sym, subst, ⊎_elim}
-use Rattle.std.proofs.lemmas.Bool.{and_parts, eq-eqb, eqb-true, leb-true, ltb-true, ne_eqb, or_cases}
+use Rattle.std.proofs.Common.{◌≡◌, ◌≢◌, ℕ, ◌+◌, ◌*◌, ◌%◌, ◌^◌, ◌<◌, ◌≤◌, inl, inr, Bool, true, false, cond, not, ◌&&◌, ◌||◌, ◌==◌, nat_lt, List, length, Result, Ok, Err, slice_index, refl, ap, ap₂, arith, ◌∙◌, sym, subst, ⊎_elim}
+use Rattle.std.proofs.lemmas.Bool.{and_parts, eq-eqb, eqb-true, ltb-true, ne_eqb, or_cases}
 use Rattle.bs_words.specs.Operators.{as_value, comparison_of, condition_of, equality_of, is_apart_from_block, is_apart_from_code, is_in, is_near, only_if, order_of, signed_holds, truth, unequal_if, unsigned_holds}
 use Rattle.bs_words.specs.Word.{add_word, signed_of}
 use Rattle.bs_words.specs.declared.operators.CmpOp.{CmpOp}
@@ -14,7 +14,6 @@ use Rattle.rv_machine.specs.Hart.{Placed}
 use Rattle.moving_laws.specs.Heap.{AreBlocks}
 use Rattle.moving_laws.specs.Values.{function_at, start_of, words_of}
 use Rattle.moving_laws.proofs.Rewriting.{start_inside}
-use Rattle.moving_laws.proofs.Words.{same_or_not}
 use Rattle.linear_machine.specs.Relation.{StandsFor}
 use Rattle.linear_machine.specs.View.{Fixed}
 use Rattle.linear_machine.proofs.Storing.{blocks_apart}

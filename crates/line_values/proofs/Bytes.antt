@@ -1,7 +1,6 @@
 -- Accesses of a few bytes are accesses of parts of words.
-use Rattle.std.proofs.Common.{◌≡◌, ◌≢◌, ℕ, suc, ◌+◌, ◌-◌, ◌*◌, ◌/◌, ◌%◌, ◌^◌, ◌<◌, ◌≤◌, ◌⊎◌, inl, inr, Bool, true, false, cond, ◌==◌, nat_le, List, [], ◌∷◌, length, map, slice_index, slice_set, Option, Some, None, option_map, refl, ap, ap₂, arith, ◌∙◌, sym, subst, ⊎_elim}
+use Rattle.std.proofs.Common.{◌≡◌, ◌≢◌, ℕ, suc, ◌+◌, ◌-◌, ◌*◌, ◌%◌, ◌^◌, ◌<◌, ◌≤◌, ◌⊎◌, inl, inr, Bool, true, false, cond, ◌==◌, nat_le, List, [], ◌∷◌, length, map, slice_index, slice_set, Some, option_map, refl, ap, ap₂, arith, ◌∙◌, sym, subst, ⊎_elim}
 use Rattle.std.specs.List.{AllByRecursion}
-use Rattle.std.specs.Option.{is_some}
 use Rattle.std.proofs.lemmas.Bool.{and_from, and_parts, and_right, cond-false, cond-true, eq-eqb, le-leb, leb-true, lt-leb}
 use Rattle.bs_words.specs.Word.{add_word}
 use Rattle.image_form.specs.Tables.{Tables}
@@ -10,14 +9,14 @@ use Rattle.rv_isa.specs.declared.instr.LoadWidth.{LoadWidth}
 use Rattle.rv_isa.specs.declared.instr.StoreWidth.{StoreWidth}
 use Rattle.rv_machine.specs.Arithmetic.{imm_i}
 use Rattle.rv_machine.specs.Hart.{bytes_loaded, bytes_stored, executed, loads, readable, register_loaded, stores}
-use Rattle.rv_machine.specs.Memory.{Region, byte_in, code_region, code_start, index_in, is_inside, loaded, part, read, replaced, stored, with_written, word, write, written}
+use Rattle.rv_machine.specs.Memory.{Region, byte_in, code_region, code_start, index_in, is_inside, loaded, part, read, replaced, stored, word, write, written}
 use Rattle.rv_machine.specs.Services.{Machine}
 use Rattle.rv_machine.specs.Sound.{Extent, HasRegions, IsRegion, extent, extents}
 use Rattle.rv_machine.specs.Width.{IsWidth}
 use Rattle.rv_machine.proofs.Bytes.{replaced-below}
 use Rattle.machine_laws.proofs.Memory.{has_write, other_word, word_below}
 use Rattle.moving_laws.specs.Words.{IsReadable}
-use Rattle.moving_laws.proofs.Words.{readable_even, stored_is}
+use Rattle.moving_laws.proofs.Words.{stored_is}
 use Rattle.moving_laws.proofs.Young.{read_is}
 use Rattle.linear_machine.specs.View.{Fixed, View, Stands, Leads, IsCode}
 use Rattle.linear_machine.proofs.Formats.{stored_in}

@@ -1,8 +1,8 @@
 -- The cell of an access of any width lies at the address of its first byte.
-use Rattle.std.proofs.Common.{◌≡◌, ◌≢◌, ℕ, zero, suc, ◌+◌, ◌-◌, ◌*◌, ◌/◌, ◌%◌, ◌^◌, ◌<◌, ◌≤◌, ◌⊎◌, inl, inr, Bool, true, false, cond, ◌&&◌, ◌==◌, nat_le, List, [], ◌∷◌, length, Option, Some, None, slice_get, refl, ap, ap₂, arith, ◌∙◌, sym, subst, ⊎_elim}
+use Rattle.std.proofs.Common.{◌≡◌, ◌≢◌, ℕ, zero, suc, ◌+◌, ◌-◌, ◌*◌, ◌/◌, ◌%◌, ◌^◌, ◌<◌, ◌≤◌, inl, inr, Bool, true, false, cond, ◌&&◌, ◌==◌, nat_le, List, [], ◌∷◌, length, Option, Some, None, slice_get, refl, ap, arith, ◌∙◌, sym, subst}
 use Rattle.std.specs.List.{AllByRecursion}
 use Rattle.std.proofs.lemmas.Bool.{and_from, and_parts, cond-true, eq-eqb, eqb-true, le-leb, leb-true}
-use Rattle.bs_words.specs.Memory.{Cell, Memory, StaticList, InStatic, cell_at, cell_of_block, in_block, in_statics, offset_in_cell, sizes, value_in}
+use Rattle.bs_words.specs.Memory.{Cell, StaticList, InStatic, cell_at, cell_of_block, in_block, in_statics, offset_in_cell, sizes, value_in, HeapBlock, InBlock, InHeader}
 use Rattle.bs_words.specs.Word.{add_word}
 use Rattle.bs_words.specs.declared.values.Value.{Value}
 use Rattle.bs_words.specs.declared.values.Value.TheVariants.{Word, Block, Function}
@@ -13,7 +13,7 @@ use Rattle.rv_machine.specs.Sound.{HasRegions, extents}
 use Rattle.rv_machine.specs.Width.{IsWidth}
 use Rattle.moving_laws.specs.Values.{start_of, value_word, words_of}
 use Rattle.moving_laws.proofs.Rewriting.{start_inside}
-use Rattle.linear_machine.specs.Contents.{static_in, statics_of, size_in}
+use Rattle.linear_machine.specs.Contents.{static_in, size_in}
 use Rattle.linear_machine.specs.Relation.{HeapStands}
 use Rattle.linear_machine.specs.View.{Fixed}
 use Rattle.linear_machine.proofs.Loading.{IsCellAt, block_there, cell_there}
@@ -24,7 +24,6 @@ use Rattle.line_values.proofs.Compared.{block_end}
 use Rattle.line_values.proofs.Statics.{is_in}
 use Rattle.moving_laws.specs.Words.{IsReadable}
 use Rattle.moving_laws.proofs.Usable.{data_readable}
-use Rattle.bs_words.specs.Memory.{HeapBlock, InBlock, InHeader}
 
 -- ---- widths
 
@@ -170,7 +169,8 @@ module _ (s : Fixed) (placed : List Placed) (m : List Region) (regions : HasRegi
           let near = start_inside placed k h.old.inside i in
           let size : words_of placed k ≡ n = h.stand.sizes k i ∙ ap size_in b.1 ∙ b.2 in
           by_index ((o + 8) % 2 ^ 64 / 8) (some_is p.1)
-          (place_by (start_of placed k) o n (words_of placed k) ((o + 8) % 2 ^ 64) ((o + 8) % 2 ^ 64 / 8) near.1 near.0 (block_end placed k h.old.inside i) size refl
+          (place_by (start_of placed k) o n (words_of placed k) ((o + 8) % 2 ^ 64) ((o + 8) % 2 ^ 64 / 8) near.1 near.0
+          (block_end placed k h.old.inside i) size refl
           room even refl)
           b.0 b.1 b.2 i near.1 size
         where

@@ -1,10 +1,9 @@
 -- The instructions that make a constant leave it in their register.
-use Rattle.std.proofs.Common.{◌≡◌, ◌≢◌, ℕ, suc, ◌+◌, ◌-◌, ◌*◌, ◌%◌, ◌^◌, ◌<◌, inl, inr, cond, nat_eq, List, [], ◌∷◌, length, slice_index, refl, ap, arith, ◌∙◌, sym, subst}
+use Rattle.std.proofs.Common.{◌≡◌, ◌≢◌, ℕ, suc, ◌+◌, ◌*◌, ◌%◌, ◌^◌, ◌<◌, inl, cond, nat_eq, List, [], ◌∷◌, slice_index, refl, ap, arith, ◌∙◌, sym, subst}
 use Rattle.std.proofs.lemmas.Bool.{cond-false, ne_eqb}
 use Rattle.bs_words.specs.Word.{add_word, sext_word, shl_word}
 use Rattle.bs_words.proofs.Below.{add_word-below, sext_word-below, shl_word-below}
 use Rattle.emit_rules.specs.Constants.{constant}
-use Rattle.emit_rules.specs.Instructions.{addi, addiw, lui, shift}
 use Rattle.emit_rules.specs.Traversal.{Each, each_none, each_more}
 use Rattle.emit_rules.specs.Values.{piece_value, value_after, Makes, makes_first, makes_upper, makes_lower, makes_sum, makes_shift}
 use Rattle.emit_rules.proofs.Values.{constant_is, constant_is_made}
@@ -19,10 +18,10 @@ use Rattle.rv_machine.specs.Sound.{AreRegisters}
 use Rattle.rv_pieces.specs.declared.piece.Piece.{Piece}
 use Rattle.rv_pieces.specs.declared.piece.Piece.TheVariants.{Known}
 use Rattle.linear_machine.specs.Straight.{Changes}
-use Rattle.linear_machine.specs.View.{Fixed, View, IsCode}
+use Rattle.linear_machine.specs.View.{Fixed, View}
 use Rattle.linear_machine.proofs.Formats.{sets_addiw, sets_imm, sets_lui, sets_shift}
 use Rattle.linear_machine.proofs.Sequences.{no_change, sets_as, set_changes, then_changes, widened}
-use Rattle.linear_machine.proofs.Steps.{SetsRegister, reg}
+use Rattle.linear_machine.proofs.Steps.{SetsRegister}
 use Rattle.line_stands.specs.Parts.{PartStands}
 use Rattle.line_stands.proofs.Parts.{leads, none_left}
 

@@ -1,29 +1,21 @@
 -- Comparisons of values are comparisons of their words, wherever the blocks and the functions lie.
-use Rattle.std.proofs.Common.{◌≡◌, ◌≢◌, ℕ, zero, suc, ◌+◌, ◌-◌, ◌*◌, ◌%◌, ◌^◌, ◌<◌, ◌≤◌, ◌⊎◌, inl, inr, Bool, true, false, cond, not, ◌&&◌, ◌||◌, ◌==◌, nat_lt, nat_le, List, [], ◌∷◌, length, Result, Ok, Err, ℤ, pos, negsuc, int_lt, int_le, slice_index, bit_xor, refl, ap, ap₂, arith, ◌∙◌, sym, subst, ⊎_elim}
+use Rattle.std.proofs.Common.{◌≡◌, ℕ, zero, suc, ◌+◌, ◌-◌, ◌*◌, ◌%◌, ◌^◌, ◌<◌, ◌≤◌, ◌⊎◌, inl, inr, Bool, true, false, not, ◌||◌, ◌==◌, nat_lt, nat_le, List, [], ◌∷◌, length, ℤ, pos, negsuc, int_lt, int_le, bit_xor, refl, ap, ap₂, arith, ◌∙◌, sym, ⊎_elim}
 use Rattle.std.specs.List.{AllByRecursion}
-use Rattle.std.proofs.lemmas.Bool.{and_parts, cases_lt, cond-false, cond-true, eq-eqb, eqb-true, le-leb, le-ltb, lt-leb, lt-ltb, leb-true, ltb-true, ne_eqb, or_cases}
+use Rattle.std.proofs.lemmas.Bool.{cases_lt, cond-false, cond-true, eq-eqb, le-leb, le-ltb, lt-leb, lt-ltb, leb-true, ne_eqb, or_cases}
 use Rattle.std.proofs.lemmas.Grind.{common_steps}
-use Rattle.bs_words.specs.Operators.{as_value, comparison_of, condition_of, equality_of, is_apart_from_block, is_apart_from_code, is_in, is_near, only_if, order_of, signed_holds, truth, unequal_if, unsigned_holds}
+use Rattle.bs_words.specs.Operators.{signed_holds, unsigned_holds}
 use Rattle.bs_words.specs.Word.{add_word, signed_of}
 use Rattle.bs_words.specs.declared.operators.CmpOp.{CmpOp}
 use Rattle.bs_words.specs.declared.operators.CmpOp.TheVariants as compare
-use Rattle.bs_words.specs.declared.values.Kind.{Kind}
-use Rattle.bs_words.specs.declared.values.Kind.TheVariants.{PointerOrder}
-use Rattle.bs_words.specs.declared.values.Value.{Value}
-use Rattle.bs_words.specs.declared.values.Value.TheVariants.{Word, Block, Function}
 use Rattle.image_form.specs.Image.{EachNext, IsBehind, IsFunc}
 use Rattle.image_form.specs.Tables.{Func}
 use Rattle.rv_isa.specs.declared.instr.AluOp.TheVariants.{Slt, Sltu}
 use Rattle.rv_machine.specs.Arithmetic.{alu, bit_of, imm_i, is_less}
 use Rattle.rv_machine.specs.Hart.{Placed}
-use Rattle.moving_laws.specs.Heap.{AreBlocks, IsInHeap}
+use Rattle.moving_laws.specs.Heap.{IsInHeap}
 use Rattle.moving_laws.specs.Values.{function_at, start_of, words_of}
-use Rattle.moving_laws.proofs.Rewriting.{start_inside}
 use Rattle.moving_laws.proofs.Words.{same_or_not}
-use Rattle.linear_machine.specs.Relation.{StandsFor}
-use Rattle.linear_machine.specs.View.{Fixed}
 use Rattle.linear_machine.proofs.Immediates.{low_12}
-use Rattle.linear_machine.proofs.Storing.{blocks_apart}
 
 -- ---- tests
 

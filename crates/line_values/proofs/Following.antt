@@ -1,5 +1,5 @@
 -- Each plain line is followed.
-use Rattle.std.proofs.Common.{◌≡◌, ℕ, zero, suc, ◌+◌, ◌^◌, ◌<◌, ◌⊎◌, inl, inr, true, ◌&&◌, nat_le, nat_lt, List, [], ◌∷◌, length, map, Option, Some, None, slice_get, refl, ap, arith, ◌∙◌, sym, subst, ⊎_elim}
+use Rattle.std.proofs.Common.{◌≡◌, ℕ, zero, suc, ◌+◌, ◌^◌, ◌<◌, ◌⊎◌, inl, inr, true, ◌&&◌, nat_le, nat_lt, List, [], ◌∷◌, length, map, Option, Some, slice_get, refl, ap, arith, ◌∙◌, sym, subst, ⊎_elim}
 use Rattle.std.specs.List.{AllByRecursion, Contains}
 use Rattle.std.proofs.lemmas.Bool.{and_parts, leb-true, ltb-true, or_cases}
 use Rattle.std.proofs.lemmas.List.Elements.{recursion_from_All}
@@ -8,9 +8,9 @@ use Rattle.emit_rules.specs.Emitted.{part_of}
 use Rattle.emit_rules.specs.Entry.{Frame}
 use Rattle.layout_rules.specs.Forms.{total_words}
 use Rattle.layout_rules.specs.Words.{Named}
-use Rattle.lin_ir.specs.Formed.{FlowHasForm, label_form, jump_form, exit_form, branch_form, switch_form, IsFormed, formed_op, formed_flow, IsLocation, IsQuiet, Locates, NamesLabel, goes_to, Sets, comps, spare}
-use Rattle.lin_ir.specs.Meaning.{Locations, NamedAt, after_label, code_at, step}
-use Rattle.lin_ir.specs.Walks.{targets}
+use Rattle.lin_ir.specs.Formed.{FlowHasForm, label_form, jump_form, exit_form, branch_form, switch_form, IsFormed, formed_op, formed_flow, IsLocation, goes_to, comps, spare}
+use Rattle.lin_ir.specs.Meaning.{NamedAt, after_label, code_at}
+use Rattle.lin_ir.specs.Walks.{may_raise, targets}
 use Rattle.lin_ir.specs.declared.descr.Descr.{Descr}
 use Rattle.lin_ir.specs.declared.lin.Flow.{Flow}
 use Rattle.lin_ir.specs.declared.lin.Flow.TheVariants as flow
@@ -20,26 +20,28 @@ use Rattle.lin_ir.specs.declared.lin.LinOp.{LinOp}
 use Rattle.lin_ir.specs.declared.lin.LinOp.TheVariants as lin
 use Rattle.lin_ir.specs.declared.lin.Spot.{Spot}
 use Rattle.mach_ir.specs.Acts.{Around, At, On}
-use Rattle.mach_ir.specs.Forms.{IsTested, HasForm, copies, constant, symbol, operates, loads, stores, IsRight, a_register, a_constant, is_immediate, is_immediate_12, is_opposite_immediate_12}
+use Rattle.mach_ir.specs.Forms.{IsTested, HasForm, checks, copies, constant, symbol, operates, loads, stores, a_register, a_constant, is_immediate, is_immediate_12}
 use Rattle.mach_ir.specs.Runs.{Place}
 use Rattle.mach_ir.specs.Walks.{OneOf, this, other}
 use Rattle.mach_ir.specs.declared.op.Access.TheVariants as access
+use Rattle.mach_ir.specs.declared.op.Leaving.TheVariants as leaving
 use Rattle.mach_ir.specs.declared.op.Op.{Op}
 use Rattle.mach_ir.specs.declared.op.Op.TheVariants as op
 use Rattle.mach_ir.specs.declared.op.Pure.{Pure}
 use Rattle.mach_ir.specs.declared.op.Pure.TheVariants as pure
 use Rattle.bs_words.specs.declared.operators.IntOp.{IntOp}
 use Rattle.bs_words.specs.declared.operators.IntOp.TheVariants as operator
+use Rattle.mach_ir.specs.declared.op.Right.{Right}
 use Rattle.mach_ir.specs.declared.op.Right.TheVariants as right
-use Rattle.linear_machine.specs.Follows.{FollowsStep, IsAt}
 use Rattle.linear_machine.specs.Relation.{Below, Laid}
 use Rattle.linear_machine.specs.View.{Fixed, View}
 use Rattle.linear_machine.proofs.Pure.{Reads}
 use Rattle.linear_machine.proofs.Rows.{immediate_small}
 use Rattle.line_stands.specs.Lines.{LineStands}
 use Rattle.line_stands.specs.Parts.{PartStands}
-use Rattle.line_values.specs.Followed.{Followed, IsPlain, plain_pure, plain_load, plain_store, plain_label, plain_jump, plain_exit, plain_branch, plain_switch}
-use Rattle.line_values.specs.Statics.{StaticsLie}
+use Rattle.line_values.specs.Followed.{Followed, IsPlain, plain_pure, plain_load, plain_store, plain_check, plain_label, plain_jump, plain_exit, plain_branch, plain_switch}
+use Rattle.layout_rules.specs.Laid.{address_of_place}
+use Rattle.line_values.proofs.Checking.{check_line, check_with_line}
 use Rattle.line_values.proofs.Landing.{Lies, exit_line, jump_line, label_line}
 use Rattle.line_values.proofs.Loading.{load_line}
 use Rattle.line_values.proofs.Moves.{constant_line, copy_line, symbol_line}
@@ -88,6 +90,13 @@ register_inv f xs ys (operates {left = t} {to = o} (a_register {t = u})) = (t, u
 with_inv : (f : _) (w : ℕ) (xs ys : List Comp) → HasForm (op.Pure (pure.Operator f (right.Constant w))) xs ys →
     (t : Comp) × (o : Comp) × (xs ≡ t ∷ []) × (ys ≡ o ∷ []) × (is_immediate f w ≡ true)
 with_inv f w xs ys (operates {left = t} {to = o} (a_constant e)) = (t, o, refl, refl, e)
+
+check_inv : (xs ys : List Comp) → HasForm (op.Leaving (leaving.Checkbound right.Register)) xs ys → (t : Comp) × (u : Comp) × (xs ≡ t ∷ u ∷ []) × (ys ≡ [])
+check_inv xs ys (checks {bound = t} (a_register {t = u})) = (t, u, refl, refl)
+
+check_with_inv : (w : ℕ) (xs ys : List Comp) → HasForm (op.Leaving (leaving.Checkbound (right.Constant w))) xs ys →
+    (t : Comp) × (xs ≡ t ∷ []) × (ys ≡ []) × (is_immediate_12 w ≡ true)
+check_with_inv w xs ys (checks {bound = t} (a_constant e)) = (t, refl, refl, e)
 
 label_inv : (l : ℕ) (xs ys : List Comp) → FlowHasForm (flow.Label l) xs ys → (xs ≡ []) × (ys ≡ [])
 label_inv l xs ys label_form = (refl, refl)
@@ -174,7 +183,12 @@ module _ (s : Fixed) (laid : Laid) (n : Named) (m : Lin) (place : Place) (named 
         let to : laid.part (length next) ≡ v.place + total_words (part_of (length a.tries) f d (record { op = o; args = args; results = results }))
         st.part.forms = omega (arith, p, e) in
         subst (λ z. PartStands s n v.place z (part_of (length a.tries) f d (record { op = o; args = args; results = results }))) to
-        (subst (λ z. PartStands s n z (laid.part (length next)) (part_of (length a.tries) f d (record { op = o; args = args; results = results }))) (sym e) st.part)
+        (subst (λ z. PartStands s n z (laid.part (length next)) (part_of (length a.tries) f d (record {
+          op = o;
+          args = args;
+          results =
+              results;
+        }))) (sym e) st.part)
 
     behind : (v : View) → v.place ≡ laid.part (suc (length next)) →
         laid.part (length next) ≡ v.place + total_words (part_of (length a.tries) f d (record { op = o; args = args; results = results })) st.part.forms
@@ -199,7 +213,12 @@ module _ (s : Fixed) (laid : Laid) (n : Named) (m : Lin) (place : Place) (named 
         (λ q. q.1) (st.spare.on to i l)
 
     -- with one
-    passes_one : (r : Spot) → OneOf On (targets o) → results ≡ r ∷ [] → live next → (r.loc ≡ spare) ⊎ live (record { op = o; args = args; results = results } ∷ next)
+    passes_one : (r : Spot) → OneOf On (targets o) → results ≡ r ∷ [] → live next → (r.loc ≡ spare) ⊎ live (record {
+      op = o;
+      args = args;
+      results =
+          results;
+    } ∷ next)
     passes_one r i one l =
         ⊎_elim (λ w. inl (one_member r w.0 (subst (λ rs. Contains rs (record { loc = spare; comp = w.0 })) one w.1)))
         (λ q. inr q.1) (st.spare.on On i l)
@@ -264,6 +283,37 @@ module _ (s : Fixed) (laid : Laid) (n : Named) (m : Lin) (place : Place) (named 
       (behind o (p ∷ q ∷ []) [] a st v during.place) lie (passes_to o (p ∷ q ∷ []) [] a st On this refl) k offset st.offset p q
       (locates o (p ∷ q ∷ []) [] a st).0 (locates o (p ∷ q ∷ []) [] a st).1.0 (reads o (p ∷ q ∷ []) [] a st p (first_in p (q ∷ [])))
       (reads o (p ∷ q ∷ []) [] a st q (second_in p q [])) (part_at o (p ∷ q ∷ []) [] a st v during.place)
+
+  -- the handlers of the pushed traps
+  module _ (o : LinOp) (args : List Spot) (a : Around)
+      (st : LineStands s laid n m place.setting live a.tries f d (record { op = o; args = args; results = [] }) next) (may : may_raise o ≡ true) where
+    among : (l : ℕ) (rest : List ℕ) → a.tries ≡ l ∷ rest → Contains a.tries l
+    among l rest e = subst (λ ts. Contains ts l) (sym e) (first_in l rest)
+
+    handled : (l : ℕ) (rest : List ℕ) → a.tries ≡ l ∷ rest → laid.handler l ≡ address_of_place (laid.part (length (after_label l m.code)))
+    handled l rest e = st.names.handler l ∙ st.names.label l (st.handlers l (among l rest e))
+
+    dead : (l : ℕ) (rest : List ℕ) → a.tries ≡ l ∷ rest → live (after_label l m.code) → ⊥
+    dead l rest e = st.spare.aside may l (among l rest e)
+
+  check_case : (p q : Spot) → Goal (lin.Op (op.Leaving (leaving.Checkbound right.Register))) (p ∷ q ∷ []) []
+  check_case p q file a v st none lie (young, held, agrees, during) =
+      let o = lin.Op (op.Leaving (leaving.Checkbound right.Register)) in
+      check_line s n laid m st.slots live entry c place named next v young held file a none during.within
+      (live (record { op = o; args = p ∷ q ∷ []; results = [] } ∷ next)) agrees (words o (p ∷ q ∷ []) [] a st)
+      (behind o (p ∷ q ∷ []) [] a st v during.place) (passes_to o (p ∷ q ∷ []) [] a st On this refl) (handled o (p ∷ q ∷ []) a st refl)
+      (dead o (p ∷ q ∷ []) a st refl) p q (locates o (p ∷ q ∷ []) [] a st).0 (locates o (p ∷ q ∷ []) [] a st).1.0
+      (reads o (p ∷ q ∷ []) [] a st p (first_in p (q ∷ []))) (reads o (p ∷ q ∷ []) [] a st q (second_in p q []))
+      (part_at o (p ∷ q ∷ []) [] a st v during.place)
+
+  check_with_case : (w : ℕ) → w < 2 ^ 64 → (p : Spot) → Goal (lin.Op (op.Leaving (leaving.Checkbound (right.Constant w)))) (p ∷ []) []
+  check_with_case w small p file a v st none lie (young, held, agrees, during) =
+      let o = lin.Op (op.Leaving (leaving.Checkbound (right.Constant w))) in
+      check_with_line s n laid m st.slots live entry c place named next v young held file a none during.within
+      (live (record { op = o; args = p ∷ []; results = [] } ∷ next)) agrees (words o (p ∷ []) [] a st)
+      (behind o (p ∷ []) [] a st v during.place) (passes_to o (p ∷ []) [] a st On this refl) (handled o (p ∷ []) a st refl) (dead o (p
+      ∷ []) a st refl) w small p
+      (locates o (p ∷ []) [] a st).0 (reads o (p ∷ []) [] a st p (first_in p [])) (part_at o (p ∷ []) [] a st v during.place)
 
   label_case : (l : ℕ) → Goal (lin.Flow (flow.Label l)) [] []
   label_case l file a v st none lie (young, held, agrees, during) =
@@ -335,6 +385,18 @@ module _ (s : Fixed) (laid : Laid) (n : Named) (m : Lin) (place : Place) (named 
       (λ p. with_one results i.1 i.3 (λ ys. Goal (lin.Op (op.Pure (pure.Operator g (right.Constant w)))) (p ∷ []) ys)
       (λ r. with_case g w i.4 (immediate_word g w i.4) p r))
 
+  by_check : (r : Right) (args results : List Spot) → HasForm (op.Leaving (leaving.Checkbound r)) (comps args) (comps results) →
+      Goal (lin.Op (op.Leaving (leaving.Checkbound r))) args results
+  by_check right.Register args results h =
+      let i = check_inv (comps args) (comps results) h in
+      with_two args i.0 i.1 i.2 (λ xs. Goal (lin.Op (op.Leaving (leaving.Checkbound right.Register))) xs results)
+      (λ p q. with_none results i.3 (λ ys. Goal (lin.Op (op.Leaving (leaving.Checkbound right.Register))) (p ∷ q ∷ []) ys) (check_case p q))
+  by_check (right.Constant w) args results h =
+      let i = check_with_inv w (comps args) (comps results) h in
+      with_one args i.0 i.1 (λ xs. Goal (lin.Op (op.Leaving (leaving.Checkbound (right.Constant w)))) xs results)
+      (λ p. with_none results i.2 (λ ys. Goal (lin.Op (op.Leaving (leaving.Checkbound (right.Constant w)))) (p ∷ []) ys)
+      (check_with_case w (immediate_small w i.3) p))
+
   by_op : (o : LinOp) (args results : List Spot) → IsPlain o → IsFormed (record { op = o; args = args; results = results }) → Goal o args results
   by_op o args results (plain_pure {g}) h = by_pure g args results (form_of (op.Pure g) args results h)
   by_op o args results (plain_load {k} {offset}) h =
@@ -345,6 +407,7 @@ module _ (s : Fixed) (laid : Laid) (n : Named) (m : Lin) (place : Place) (named 
       let i = store_inv k offset (comps args) (comps results) (form_of (op.Access (access.Store k offset)) args results h) in
       with_two args i.0 i.1 i.2 (λ xs. Goal (lin.Op (op.Access (access.Store k offset))) xs results)
       (λ p q. with_none results i.3 (λ ys. Goal (lin.Op (op.Access (access.Store k offset))) (p ∷ q ∷ []) ys) (store_case k offset p q))
+  by_op o args results (plain_check {r}) h = by_check r args results (form_of (op.Leaving (leaving.Checkbound r)) args results h)
   by_op o args results (plain_label {l}) h =
       let i = label_inv l (comps args) (comps results) (flow_form_of (flow.Label l) args results h) in
       with_none args i.0 (λ xs. Goal (lin.Flow (flow.Label l)) xs results)

@@ -1,16 +1,15 @@
 -- Jumps and branches come to their labels, in every form that reaches.
-use Rattle.std.proofs.Common.{◌≡◌, ◌≢◌, ℕ, zero, suc, ◌+◌, ◌-◌, ◌*◌, ◌/◌, ◌%◌, ◌^◌, ◌<◌, ◌≤◌, ◌⊎◌, inl, inr, Bool, true, false, cond, not, ◌&&◌, ◌==◌, nat_le, nat_lt, List, [], ◌∷◌, ◌++◌, length, slice_index, refl, ap, arith, ◌∙◌, sym, subst, ⊎_elim}
+use Rattle.std.proofs.Common.{◌≡◌, ℕ, ◌+◌, ◌-◌, ◌*◌, ◌^◌, ◌<◌, ◌≤◌, ◌⊎◌, inl, inr, Bool, true, false, cond, not, ◌==◌, nat_le, nat_lt, [], ◌∷◌, length, refl, ap, arith, ◌∙◌, subst, ⊎_elim}
 use Rattle.std.proofs.lemmas.Bool.{and_from, and_parts, le-leb, leb-true, lt-ltb, ltb-true}
 use Rattle.std.proofs.lemmas.Option.{slice_get_within}
 use Rattle.bs_words.specs.Word.{add_word}
 use Rattle.bs_words.proofs.Below.{add_word-below}
-use Rattle.layout_rules.specs.Forms.{branch_form, branch_reaches, branch_words, jal_reaches, jump_form, rank, words_of}
+use Rattle.layout_rules.specs.Forms.{branch_form, branch_reaches, branch_words, jal_reaches, jump_form, rank}
 use Rattle.layout_rules.specs.Laid.{address_of_place}
-use Rattle.layout_rules.specs.Words.{Named, branch_code, branch_offset, code_of, distance, far_jump, inverted, jal_offset, jump_code, lower, upper}
+use Rattle.layout_rules.specs.Words.{branch_code, branch_offset, distance, far_jump, inverted, jal_offset, jump_code, lower, upper}
 use Rattle.layout_rules.specs.declared.form.Form.{Form}
 use Rattle.layout_rules.specs.declared.form.Form.TheVariants.{Near, Middle, Far}
 use Rattle.layout_rules.proofs.Offsets.{branch_lands, by_13, far_lands, jal_lands}
-use Rattle.moving_laws.specs.Stands.{Among}
 use Rattle.rv_isa.specs.Registers.{number}
 use Rattle.rv_isa.specs.declared.instr.Condition.{Condition}
 use Rattle.rv_isa.specs.declared.instr.Condition.TheVariants as condition
@@ -18,13 +17,12 @@ use Rattle.rv_isa.specs.Encoding.{encoded}
 use Rattle.rv_isa.specs.declared.instr.Instr.{Instr}
 use Rattle.rv_isa.specs.declared.instr.Instr.TheVariants.{Auipc, Branch, Jal, Jalr}
 use Rattle.rv_isa.specs.declared.register.Register.{Register}
-use Rattle.rv_machine.specs.Arithmetic.{imm_b, imm_i, imm_j, imm_u, is_less, is_taken}
+use Rattle.rv_machine.specs.Arithmetic.{imm_b, imm_i, imm_u, is_less, is_taken}
 use Rattle.rv_machine.specs.Memory.{code_start}
 use Rattle.rv_machine.specs.Sound.{AreRegisters}
-use Rattle.linear_machine.specs.Straight.{Changes, Differs, IsPast}
+use Rattle.linear_machine.specs.Straight.{Differs}
 use Rattle.linear_machine.specs.View.{Fixed, View, HasCode, IsCode, Leads}
 use Rattle.linear_machine.proofs.Formats.{goes_branch_on, goes_branch_taken, goes_jal, sets_auipc, sets_jalr}
-use Rattle.linear_machine.proofs.Immediates.{low_12}
 use Rattle.linear_machine.proofs.Sequences.{code_past, set_changes}
 use Rattle.linear_machine.proofs.Steps.{at_place, go_step, reg, set_to_step, then_leads}
 
@@ -106,7 +104,8 @@ jump_test : (t : Bool) → rank (cond t Near Far) ≤ 0 → t ≡ true
 jump_test true l = refl
 jump_test false l = absurd (omega (arith, l))
 
-pub jump_goes : (s : Fixed) (u : View) → AreRegisters u.registers → (to : ℕ) → u.place < 2 ^ 26 → IsPlace to → (f : Form) → rank (jump_form u.place to) ≤ rank f →
+pub jump_goes : (s : Fixed) (u : View) → AreRegisters u.registers → (to : ℕ) → u.place < 2 ^ 26 → IsPlace to → (f : Form) →
+    rank (jump_form u.place to) ≤ rank f →
     HasCode s u.place (jump_code f (address_of_place u.place) (address_of_place to)) → (k : ℕ) → k ≡ length (jump_code f 0 0) → Jumped s u k to
 jump_goes s u are to near_u near_to Near reach code k e = record {
   count = 1;

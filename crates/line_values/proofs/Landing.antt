@@ -1,8 +1,8 @@
 -- Labels, jumps and exits follow their lines.
-use Rattle.std.proofs.Common.{◌≡◌, ◌≢◌, ℕ, ◌+◌, ◌-◌, ◌*◌, ◌/◌, ◌^◌, ◌<◌, ◌≤◌, ◌⊎◌, inl, inr, Bool, true, false, List, [], ◌∷◌, length, Some, slice_index, refl, ap, arith, ◌∙◌, sym, subst, ⊎_elim}
-use Rattle.layout_rules.specs.Forms.{branch_form, branch_words, jump_form, jump_words, rank, words_of}
+use Rattle.std.proofs.Common.{◌≡◌, ℕ, ◌+◌, ◌^◌, ◌<◌, ◌≤◌, inl, inr, Bool, true, false, List, [], ◌∷◌, length, Some, refl, arith, sym, subst, ⊎_elim}
+use Rattle.layout_rules.specs.Forms.{jump_form, jump_words, rank, words_of}
 use Rattle.layout_rules.specs.Laid.{address_of_place}
-use Rattle.layout_rules.specs.Words.{Named, branch_code, jump_code}
+use Rattle.layout_rules.specs.Words.{Named, jump_code}
 use Rattle.layout_rules.specs.declared.form.Form.{Form}
 use Rattle.layout_rules.specs.declared.form.Form.TheVariants.{Near, Middle, Far}
 use Rattle.lin_ir.specs.Meaning.{Locations, NamedAt, after_label, step, wrote}
@@ -12,11 +12,7 @@ use Rattle.lin_ir.specs.declared.lin.Line.{Line}
 use Rattle.lin_ir.specs.declared.lin.LinOp.TheVariants as lin
 use Rattle.mach_ir.specs.Acts.{Around}
 use Rattle.mach_ir.specs.Runs.{Place}
-use Rattle.moving_laws.specs.Stands.{Among}
-use Rattle.rv_isa.specs.declared.instr.Condition.{Condition}
-use Rattle.rv_isa.specs.declared.register.Register.{Register}
 use Rattle.rv_machine.specs.Hart.{Placed}
-use Rattle.rv_machine.specs.Memory.{code_start}
 use Rattle.rv_machine.specs.Sound.{AreRegisters}
 use Rattle.rv_pieces.specs.declared.piece.Piece.{Piece}
 use Rattle.rv_pieces.specs.declared.piece.Piece.TheVariants.{Jump, Label}
@@ -31,7 +27,7 @@ use Rattle.linear_machine.proofs.Standing.{within_past}
 use Rattle.linear_machine.proofs.Steps.{at_place}
 use Rattle.line_stands.specs.Parts.{PartStands, label_place}
 use Rattle.line_stands.proofs.Parts.{none_left, starts}
-use Rattle.line_values.proofs.Jumping.{Goes, IsPlace, Jumped, code_near, jump_goes}
+use Rattle.line_values.proofs.Jumping.{IsPlace, Jumped, code_near, jump_goes}
 
 -- ---- the relation does not depend on the place
 
@@ -39,7 +35,8 @@ back_at : (b : Bool) (v : View) (p : ℕ) (c : Below) → ReturnStands b v c →
 back_at true v p c h = h
 back_at false v p c h = h
 
-pub within_at : (s : Fixed) (laid : Laid) (v : View) (young : List Placed) (held : Locations) (a : Around) (c : Below) (p : ℕ) → Within s laid v young 0 held a c →
+pub within_at : (s : Fixed) (laid : Laid) (v : View) (young : List Placed) (held : Locations) (a : Around) (c : Below) (p : ℕ) →
+    Within s laid v young 0 held a c →
     Within s laid (at_place p v) young 0 held a c
 within_at s laid v young held a c p w = record {
   own = w.own;
@@ -86,7 +83,8 @@ jump_length Middle = refl
 jump_length Far = refl
 
 -- a jump piece leads to its label
-pub jump_lands : (s : Fixed) (laid : Laid) (n : Named) (m : Lin) (u : View) → AreRegisters u.registers → (l : ℕ) → Lies s laid n m l → (k : ℕ) (ys : List Piece) →
+pub jump_lands : (s : Fixed) (laid : Laid) (n : Named) (m : Lin) (u : View) → AreRegisters u.registers → (l : ℕ) → Lies s laid n m l →
+    (k : ℕ) (ys : List Piece) →
     PartStands s n u.place (u.place + k) (Jump l ∷ ys) → Jumped s u k (laid.part (length (after_label l m.code)))
 jump_lands s laid n m u are l lies k ys part =
     let g = starts s n u.place k (Jump l) ys part in

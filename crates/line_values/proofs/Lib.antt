@@ -17,4 +17,6 @@ pub mod Addresses
 pub mod Loading
 pub mod Storing
 pub mod Writing
+pub mod Checking
 pub mod Following
+pub mod Example

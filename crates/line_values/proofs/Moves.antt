@@ -1,19 +1,17 @@
 -- Lines that make a constant or a symbol's value, or copy a value.
-use Rattle.std.proofs.Common.{◌≡◌, ◌≢◌, ℕ, zero, suc, ◌+◌, ◌-◌, ◌*◌, ◌%◌, ◌^◌, ◌<◌, ◌≤◌, ◌⊎◌, inl, inr, Bool, true, false, cond, nat_lt, List, [], ◌∷◌, ◌++◌, length, Option, Some, None, slice_index, refl, ap, arith, ◌∙◌, sym, subst, ⊎_elim}
+use Rattle.std.proofs.Common.{◌≡◌, ◌≢◌, ℕ, suc, ◌+◌, ◌-◌, ◌*◌, ◌%◌, ◌^◌, ◌<◌, ◌⊎◌, inl, inr, Bool, true, false, cond, nat_lt, List, [], ◌∷◌, ◌++◌, length, Option, Some, None, slice_index, refl, ap, arith, ◌∙◌, sym, subst, ⊎_elim}
 use Rattle.std.proofs.lemmas.Bool.{ltb-true}
 use Rattle.bs_words.specs.Word.{add_word}
-use Rattle.bs_words.proofs.Below.{add_word-below, sext_word-below}
+use Rattle.bs_words.proofs.Below.{sext_word-below}
 use Rattle.bs_words.specs.declared.types.Loc.{Loc}
 use Rattle.bs_words.specs.declared.types.Loc.TheVariants as loc
 use Rattle.bs_words.specs.declared.values.Value.{Value}
 use Rattle.bs_words.specs.declared.values.Value.TheVariants.{Word, Block, Function}
-use Rattle.cmm_meaning.specs.Setting.{Setting}
 use Rattle.emit_rules.specs.Constants.{above_12, constant}
 use Rattle.emit_rules.specs.Emitted.{pure_part}
 use Rattle.emit_rules.specs.Instructions.{load, register_at}
-use Rattle.emit_rules.specs.Slots.{copied, far_stack, fetched, kept, moved, register_of, stack_load, target}
-use Rattle.layout_rules.specs.Laid.{address_of_place}
-use Rattle.layout_rules.specs.Words.{Named, code_of, lower, upper}
+use Rattle.emit_rules.specs.Slots.{copied, far_stack, kept, stack_load, target}
+use Rattle.layout_rules.specs.Words.{Named, lower, upper}
 use Rattle.layout_rules.proofs.Offsets.{number_lands}
 use Rattle.lin_ir.specs.Formed.{IsLocation}
 use Rattle.lin_ir.specs.Meaning.{Locations, NamedAt, on_act, put, same_loc, step}
@@ -32,13 +30,10 @@ use Rattle.rv_isa.specs.declared.instr.AluImmOp.TheVariants.{Addi}
 use Rattle.rv_isa.specs.declared.instr.AluOp.TheVariants.{Add}
 use Rattle.rv_isa.specs.declared.instr.Instr.TheVariants.{Load, Lui, Op, OpImm}
 use Rattle.rv_isa.specs.declared.instr.LoadWidth.TheVariants.{Ld}
-use Rattle.rv_isa.specs.declared.register.Register.{Register}
-use Rattle.rv_isa.specs.declared.register.Register.TheVariants.{Sp, T1, T2}
+use Rattle.rv_isa.specs.declared.register.Register.TheVariants.{Sp, T2}
 use Rattle.rv_machine.specs.Arithmetic.{imm_i, imm_u}
 use Rattle.rv_machine.specs.Hart.{Placed}
-use Rattle.rv_machine.specs.Sound.{AreRegisters}
-use Rattle.rv_pieces.specs.declared.piece.Piece.{Piece}
-use Rattle.rv_pieces.specs.declared.piece.Piece.TheVariants.{Known, SymbolAddress}
+use Rattle.rv_pieces.specs.declared.piece.Piece.TheVariants.{SymbolAddress}
 use Rattle.linear_machine.specs.Follows.{Agrees, FollowsStep}
 use Rattle.linear_machine.specs.Relation.{Below, Laid, StandsFor, Within, all_of}
 use Rattle.linear_machine.specs.Straight.{Changes, Comes}
@@ -54,7 +49,7 @@ use Rattle.linear_machine.proofs.Standing.{IsScratch}
 use Rattle.line_stands.specs.Parts.{PartStands}
 use Rattle.line_stands.proofs.Parts.{counts, last, leads, none_left, starts}
 use Rattle.line_values.proofs.Chains.{constant_comes}
-use Rattle.line_values.proofs.Operands.{Targeted, offset_small, spilled, targeted}
+use Rattle.line_values.proofs.Operands.{offset_small, spilled, targeted}
 use Rattle.line_values.proofs.Places.{no_unset, slot_of, usual_of}
 
 -- what is known among no blocks is known among any
@@ -96,7 +91,8 @@ module _ (s : Fixed) (n : Named) (laid : Laid) (m : Lin) (slots : m.slots ≡ la
   -- ---- symbols
 
   -- the two instructions of an address below 2^30
-  number_comes : (t : ℕ) → suc t < 32 → suc t ≢ 2 → (x : ℕ) → x < 2 ^ 30 → HasCode s v.place (Lui (suc t) (upper x) ∷ OpImm Addi (suc t) (suc t) (lower x) ∷ []) →
+  number_comes : (t : ℕ) → suc t < 32 → suc t ≢ 2 → (x : ℕ) → x < 2 ^ 30 → HasCode s v.place (Lui (suc t) (upper x)
+      ∷ OpImm Addi (suc t) (suc t) (lower x) ∷ []) →
       Changes s v 2 (suc t ∷ []) v.memory (λ w. slice_index w.registers (suc t) ≡ x)
   number_comes t fits no_sp x small code =
       set_then s v 1 (suc t ∷ []) v.memory (λ w. slice_index w.registers (suc t) ≡ imm_u (upper x)) (OpImm Addi (suc t) (suc t) (lower x)) t x

@@ -1,5 +1,5 @@
 -- Operands are fetched from their locations, and results are kept there.
-use Rattle.std.proofs.Common.{◌≡◌, ◌≢◌, ℕ, suc, ◌+◌, ◌-◌, ◌*◌, ◌%◌, ◌^◌, ◌<◌, ◌≤◌, ◌⊎◌, inl, inr, Bool, true, false, cond, nat_lt, List, [], ◌∷◌, ◌++◌, length, Some, None, slice_index, refl, ap, arith, ◌∙◌, sym, subst, ⊎_elim}
+use Rattle.std.proofs.Common.{◌≡◌, ◌≢◌, ℕ, suc, ◌+◌, ◌-◌, ◌*◌, ◌%◌, ◌^◌, ◌<◌, ◌≤◌, ◌⊎◌, inl, inr, Bool, true, false, cond, nat_lt, List, [], ◌∷◌, ◌++◌, length, Some, None, refl, arith, ◌∙◌, sym, subst, ⊎_elim}
 use Rattle.std.proofs.lemmas.Bool.{ltb-true}
 use Rattle.bs_words.specs.declared.types.Loc.{Loc}
 use Rattle.bs_words.specs.declared.types.Loc.TheVariants as loc
@@ -22,11 +22,10 @@ use Rattle.rv_isa.specs.declared.instr.StoreWidth.TheVariants.{Sd}
 use Rattle.rv_isa.specs.declared.register.Register.{Register}
 use Rattle.rv_isa.specs.declared.register.Register.TheVariants.{Sp, T1, T2}
 use Rattle.rv_machine.specs.Hart.{Placed}
-use Rattle.rv_pieces.specs.declared.piece.Piece.{Piece}
 use Rattle.linear_machine.specs.Files.{IsPut}
 use Rattle.linear_machine.specs.Relation.{Below, Laid, Within}
 use Rattle.linear_machine.specs.Relation as relation
-use Rattle.linear_machine.specs.View.{Fixed, View, HasCode, IsCode}
+use Rattle.linear_machine.specs.View.{Fixed, View, HasCode}
 use Rattle.linear_machine.proofs.Following.{put_is, same_loc-slot}
 use Rattle.linear_machine.proofs.Operating.{IsTarget, dropped, target_put, target_register, target_slot}
 use Rattle.linear_machine.proofs.Parts.{Fetches, Keeps, fetch_far, fetch_near, fetch_register, keep_far, keep_near, keep_register}

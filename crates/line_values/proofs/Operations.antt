@@ -1,5 +1,5 @@
 -- Lines that apply an operator to two locations, or to a location and a constant.
-use Rattle.std.proofs.Common.{◌≡◌, ◌≢◌, ℕ, zero, suc, ◌+◌, ◌*◌, ◌^◌, ◌<◌, ◌⊎◌, inl, inr, Bool, true, false, List, [], ◌∷◌, ◌++◌, length, map, slice_get, slice_index, Ok, Some, None, refl, ap, arith, ◌∙◌, sym, subst, ⊎_elim, append_assoc}
+use Rattle.std.proofs.Common.{◌≡◌, ◌≢◌, ℕ, zero, suc, ◌+◌, ◌^◌, ◌<◌, ◌⊎◌, inl, inr, Bool, true, List, [], ◌∷◌, ◌++◌, length, map, slice_get, slice_index, Ok, None, refl, arith, ◌∙◌, sym, subst, ⊎_elim, append_assoc}
 use Rattle.bs_words.specs.Memory.{HeapBlock, sizes}
 use Rattle.bs_words.specs.Operators.{apply, signed_holds, truth, unsigned_holds}
 use Rattle.bs_words.specs.declared.operators.IntOp.{IntOp}
@@ -24,7 +24,6 @@ use Rattle.mach_ir.specs.declared.op.Pure.TheVariants as pure
 use Rattle.mach_ir.specs.declared.op.Right.TheVariants as right
 use Rattle.moving_laws.specs.Heap.{AreBlocks}
 use Rattle.moving_laws.specs.Stands.{Among}
-use Rattle.rv_isa.specs.Registers.{number}
 use Rattle.rv_isa.specs.declared.register.Register.TheVariants.{T1, T2}
 use Rattle.rv_machine.specs.Arithmetic.{bit_of}
 use Rattle.rv_machine.specs.Hart.{Placed}
@@ -34,7 +33,6 @@ use Rattle.linear_machine.specs.Contents.{size_in}
 use Rattle.linear_machine.specs.Follows.{Agrees, FollowsStep}
 use Rattle.linear_machine.specs.Relation.{Below, HeapStands, Laid, StandsFor, Within, all_of}
 use Rattle.linear_machine.specs.Relation as relation
-use Rattle.linear_machine.specs.Straight.{Changes}
 use Rattle.linear_machine.specs.View.{Fixed, View}
 use Rattle.linear_machine.proofs.Following.{PassesSpare}
 use Rattle.linear_machine.proofs.Operators.{add_row, add_val_row, add_addr_row, sub_row, mul_row, mulh_row, div_row, mod_row, and_row, or_row, xor_row, shl_row, shr_row, sar_row}

@@ -1,7 +1,6 @@
 -- What the rows of an operator leave in its target.
-use Rattle.std.proofs.Common.{◌≡◌, ◌≢◌, ℕ, suc, ◌+◌, ◌-◌, ◌*◌, ◌%◌, ◌^◌, ◌<◌, ◌≤◌, ◌⊎◌, inl, inr, Bool, true, false, ◌&&◌, ◌||◌, nat_le, nat_lt, List, [], ◌∷◌, ◌++◌, bit_xor, slice_index, refl, ap, ap₂, arith, ◌∙◌, sym, subst, ⊎_elim}
+use Rattle.std.proofs.Common.{◌≡◌, ◌≢◌, ℕ, suc, ◌+◌, ◌-◌, ◌*◌, ◌%◌, ◌^◌, ◌<◌, ◌≤◌, ◌⊎◌, inl, inr, Bool, true, false, ◌&&◌, nat_le, nat_lt, [], ◌∷◌, ◌++◌, bit_xor, slice_index, refl, ap, ap₂, arith, ◌∙◌, sym, subst, ⊎_elim}
 use Rattle.std.proofs.lemmas.Bool.{and_parts, leb-true, ltb-true, or_cases}
-use Rattle.std.proofs.lemmas.Nat.{xor_lt}
 use Rattle.bs_words.specs.Word.{add_word, sub_word}
 use Rattle.bs_words.proofs.Below.{sub_word-below}
 use Rattle.bs_words.specs.declared.operators.CmpOp.{CmpOp}
@@ -13,7 +12,6 @@ use Rattle.emit_rules.specs.Instructions.{addi, operation, shift, with_immediate
 use Rattle.emit_rules.specs.Operators.{compared, compared_with, operated, operated_with}
 use Rattle.layout_rules.specs.Words.{Named}
 use Rattle.mach_ir.specs.Forms.{is_immediate, is_immediate_12, is_opposite_immediate_12}
-use Rattle.moving_laws.specs.Stands.{Among}
 use Rattle.rv_isa.specs.Registers.{number}
 use Rattle.rv_isa.specs.declared.instr.AluImmOp.{AluImmOp}
 use Rattle.rv_isa.specs.declared.instr.AluImmOp.TheVariants as imm
@@ -29,13 +27,13 @@ use Rattle.rv_isa.specs.declared.register.Register.TheVariants.{T2}
 use Rattle.rv_machine.specs.Arithmetic.{alu, bit_of, imm_i}
 use Rattle.rv_machine.specs.Sound.{AreRegisters}
 use Rattle.machine_laws.proofs.Values.{alu-below, alu_imm-below}
-use Rattle.linear_machine.specs.Straight.{Changes, IsPast}
+use Rattle.linear_machine.specs.Straight.{Changes}
 use Rattle.linear_machine.specs.View.{Fixed, View, IsCode}
 use Rattle.linear_machine.proofs.Formats.{sets_imm, sets_op}
 use Rattle.linear_machine.proofs.Immediates.{by_12}
 use Rattle.linear_machine.proofs.Rows.{IsImmediateRow, adds, less, less_unsigned, and_bits, or_bits, xor_bits, immediate_sets, immediate_small, shift_sets}
 use Rattle.linear_machine.proofs.Sequences.{set_changes, set_then, sets_as, then_changes, widened}
-use Rattle.linear_machine.proofs.Steps.{SetsRegister, reg}
+use Rattle.linear_machine.proofs.Steps.{SetsRegister}
 use Rattle.line_stands.specs.Parts.{PartStands}
 use Rattle.line_stands.proofs.Parts.{counts, last, leads}
 use Rattle.line_values.proofs.Chains.{constant_comes}

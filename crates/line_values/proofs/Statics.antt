@@ -1,9 +1,9 @@
 -- A cell of static data is written: what the heap and the data stand for then.
-use Rattle.std.proofs.Common.{◌≡◌, ◌≢◌, ℕ, zero, suc, ◌+◌, ◌-◌, ◌*◌, ◌/◌, ◌%◌, ◌^◌, ◌<◌, ◌≤◌, ◌⊎◌, inl, inr, Bool, true, false, cond, ◌&&◌, ◌||◌, ◌==◌, nat_le, nat_lt, List, [], ◌∷◌, length, Option, Some, None, slice_get, slice_set, slice_index_or, refl, ap, ap₂, arith, ◌∙◌, sym, subst, ⊎_elim, length-set, get_or-set_same, get_or-set_other}
+use Rattle.std.proofs.Common.{◌≡◌, ◌≢◌, ℕ, zero, suc, ◌+◌, ◌-◌, ◌*◌, ◌/◌, ◌%◌, ◌^◌, ◌<◌, ◌≤◌, ◌⊎◌, inl, inr, Bool, true, false, cond, ◌&&◌, ◌==◌, nat_le, List, [], ◌∷◌, length, Option, Some, None, slice_get, slice_set, slice_index_or, refl, ap, arith, ◌∙◌, sym, subst, ⊎_elim, get_or-set_same, get_or-set_other}
 use Rattle.std.specs.List.{AllByRecursion}
-use Rattle.std.proofs.lemmas.Bool.{and_parts, cond-false, cond-true, eq-eqb, eqb-true, leb-true, ltb-true, or_cases}
-use Rattle.bs_words.specs.Fits.{data_start, fits, is_still}
-use Rattle.bs_words.specs.Memory.{Cell, HeapBlock, InStatic, Memory, StaticList, cell_at, end_of_data, in_statics, is_root, type_in, type_of_static, value_in, with_value}
+use Rattle.std.proofs.lemmas.Bool.{and_parts, eqb-true, leb-true, or_cases}
+use Rattle.bs_words.specs.Fits.{data_start, fits}
+use Rattle.bs_words.specs.Memory.{Cell, InStatic, Memory, StaticList, cell_at, end_of_data, in_statics, is_root, type_in, type_of_static, value_in, with_value}
 use Rattle.bs_words.specs.declared.types.Ty.TheVariants as ty
 use Rattle.bs_words.specs.declared.values.Value.{Value}
 use Rattle.bs_words.specs.declared.values.Value.TheVariants.{Word, Block, Function}
@@ -14,13 +14,13 @@ use Rattle.rv_machine.specs.Memory.{Region, word, write}
 use Rattle.rv_machine.specs.Relocation.{root_cells}
 use Rattle.rv_machine.specs.Sound.{HasRegions, extents}
 use Rattle.machine_laws.proofs.Memory.{other_word}
-use Rattle.moving_laws.specs.Stands.{Among, StaticsStand}
-use Rattle.moving_laws.specs.Values.{FitsCell, IsKnown, IsStill, IsVal, start_of, value_word}
+use Rattle.moving_laws.specs.Stands.{Among}
+use Rattle.moving_laws.specs.Values.{IsKnown, IsStill, IsVal, start_of, value_word}
 use Rattle.moving_laws.specs.Words.{IsReadable}
 use Rattle.moving_laws.proofs.Rewriting.{start_inside}
 use Rattle.moving_laws.proofs.Usable.{data_readable, formed_regions}
 use Rattle.moving_laws.proofs.Words.{readable_write, same_or_not, word_same}
-use Rattle.linear_machine.specs.Contents.{blocks_of, static_in, statics_of}
+use Rattle.linear_machine.specs.Contents.{static_in, statics_of}
 use Rattle.linear_machine.specs.Relation.{HeapStands, StandsFor}
 use Rattle.linear_machine.specs.View.{Fixed}
 use Rattle.line_values.specs.Statics.{IsWholeList, StaticsLie}
@@ -63,7 +63,8 @@ pub is_in : (k : ℕ) (lists : List StaticList) (x : ℕ) (cell : Cell) → in_s
 is_in k [] x cell e = absurd (cc)
 is_in k (l ∷ lists) x cell e = by_test (nat_le l.start x && nat_le (x + 8) (l.start + l.size)) refl (is_in (suc k) lists x cell) e
   where
-    by_test : (t : Bool) → (nat_le l.start x && nat_le (x + 8) (l.start + l.size)) ≡ t → (in_statics (suc k) lists x 8 ≡ Some cell → IsIn (suc k) lists x cell) →
+    by_test : (t : Bool) → (nat_le l.start x && nat_le (x + 8) (l.start + l.size)) ≡ t → (in_statics (suc k) lists x 8 ≡ Some cell →
+        IsIn (suc k) lists x cell) →
         cond t (Some (InStatic k ((x - l.start) / 8))) (in_statics (suc k) lists x 8) ≡ Some cell → IsIn k (l ∷ lists) x cell
     by_test true t later e =
         let p = and_parts (nat_le l.start x) (nat_le (x + 8) (l.start + l.size)) t in
@@ -213,12 +214,14 @@ module _ (s : Fixed) (placed : List Placed) (m : List Region) (regions : HasRegi
           let is = r.is in
           ⊎_elim
           (λ (q : y ≡ at).
-          let g : cell_at a.memory 8 (Word y) ≡ Some (InStatic list index) = subst (λ z. cell_at a.memory 8 (Word z) ≡ Some (InStatic list index)) (sym q) there in
+          let g : cell_at a.memory 8 (Word y) ≡ Some (InStatic list index) =
+          subst (λ z. cell_at a.memory 8 (Word z) ≡ Some (InStatic list index)) (sym q) there in
           let same : cell ≡ InStatic list index = same_static f g in
           inl (q, sym (some_same (sym (ap (λ c. Some (value_in (with_value a.memory (InStatic list index) x) c)) same) ∙ e)) ∙ value_here))
           (λ (n : y ≢ at).
           let apart : (0 + r.index ≡ list) → (y - r.list.start) / 8 ≢ index = λ i k.
-          n (let same : r.list ≡ inside.list = same_static (subst (λ z. slice_get a.memory.statics z ≡ Some r.list) (sym (zero_more r.index) ∙ i) r.there) own_there in
+          n (let same : r.list ≡ inside.list = same_static (subst (λ z. slice_get a.memory.statics z ≡ Some r.list) (sym (zero_more r.index)
+          ∙ i) r.there) own_there in
           let start : r.list.start ≡ inside.list.start = ap (λ (l : StaticList). l.start) same in
           let lo = r.low in let w = own_whole in let ev = p.0 in let al = at_is in omega (arith, start, lo, w, ev, al, k)) in
           inr (

@@ -1,11 +1,8 @@
 -- Stores of every chunk follow their lines.
-use Rattle.std.proofs.Common.{◌≡◌, ◌≢◌, ℕ, zero, suc, ◌+◌, ◌-◌, ◌*◌, ◌/◌, ◌%◌, ◌^◌, ◌<◌, ◌≤◌, ◌⊎◌, inl, inr, Bool, true, false, cond, ◌==◌, List, [], ◌∷◌, ◌++◌, length, Option, Some, None, Result, Ok, Err, slice_index, refl, ap, ap₂, arith, ◌∙◌, sym, subst, ⊎_elim, append_assoc}
-use Rattle.std.specs.List.{AllByRecursion}
+use Rattle.std.proofs.Common.{◌≡◌, ℕ, ◌+◌, ◌-◌, ◌*◌, ◌%◌, ◌^◌, ◌<◌, ◌≤◌, ◌⊎◌, inl, inr, Bool, true, false, cond, List, [], length, Some, Result, Ok, Err, refl, ap, arith, ◌∙◌, sym, subst, ⊎_elim, slice_get, slice_set, slice_index_or, nat_eq, nat_lt, nat_le}
 use Rattle.bs_words.specs.Fits.{data_start, fits, misfit}
-use Rattle.bs_words.specs.Memory.{Cell, cell_at, end_of_data, extended, loaded_as, loaded_from, of_type, offset_in_cell, part, value_in, width}
+use Rattle.bs_words.specs.Memory.{Cell, cell_at, end_of_data, extended, loaded_as, loaded_from, of_type, offset_in_cell, part, value_in, width, HeapBlock, InBlock, InHeader, InStatic, Memory, cell_of_block, in_block, in_statics, put_in, put_part, put_whole, replaced, sizes, stored_as, stored_in, type_in, type_of_cells, type_of_chunk, with_value}
 use Rattle.bs_words.specs.Memory as memory
-use Rattle.bs_words.specs.Word.{add_word}
-use Rattle.bs_words.proofs.Below.{add_word-below}
 use Rattle.bs_words.specs.declared.types.Chunk.{Chunk}
 use Rattle.bs_words.specs.declared.types.Chunk.TheVariants as chunk
 use Rattle.bs_words.specs.declared.types.Ty.{Ty}
@@ -13,92 +10,23 @@ use Rattle.bs_words.specs.declared.types.Ty.TheVariants as ty
 use Rattle.bs_words.specs.declared.values.Kind.{Kind}
 use Rattle.bs_words.specs.declared.values.Value.{Value}
 use Rattle.bs_words.specs.declared.values.Value.TheVariants.{Word, Block, Function}
-use Rattle.emit_rules.specs.Constants.{constant}
-use Rattle.emit_rules.specs.Instructions.{add, load}
-use Rattle.emit_rules.specs.Memory.{address_offset, address_register, address_words, load_from, load_part, load_width, store_width}
-use Rattle.emit_rules.specs.Slots.{fetched, kept, register_of, target}
-use Rattle.layout_rules.specs.Words.{Named}
-use Rattle.lin_ir.specs.Formed.{IsLocation}
-use Rattle.lin_ir.specs.Meaning.{Locations, NamedAt, on_act, on_values, put, step}
-use Rattle.lin_ir.specs.declared.lin.Lin.{Lin}
-use Rattle.lin_ir.specs.declared.lin.Line.{Line}
-use Rattle.lin_ir.specs.declared.lin.LinOp.TheVariants as lin
-use Rattle.lin_ir.specs.declared.lin.Spot.{Spot}
-use Rattle.mach_ir.specs.Acts.{Act, Around, Goes, On, Stuck, is_among, loaded_act, moved_by, one_result}
-use Rattle.mach_ir.specs.Forms.{is_immediate_12}
-use Rattle.mach_ir.specs.Runs.{Place}
-use Rattle.mach_ir.specs.declared.op.Access.TheVariants as access
-use Rattle.mach_ir.specs.declared.op.Op.TheVariants as op
-use Rattle.moving_laws.specs.Stands.{Among}
-use Rattle.moving_laws.specs.Values.{value_word}
-use Rattle.moving_laws.specs.Words.{IsReadable}
-use Rattle.rv_isa.specs.Registers.{number}
-use Rattle.rv_isa.specs.declared.instr.AluOp.TheVariants.{Add}
-use Rattle.rv_isa.specs.declared.instr.Instr.TheVariants.{Load, Op}
-use Rattle.rv_isa.specs.declared.instr.LoadWidth.{LoadWidth}
-use Rattle.rv_isa.specs.declared.register.Register.{Register}
-use Rattle.rv_isa.specs.declared.register.Register.TheVariants.{T1, T2}
-use Rattle.rv_machine.specs.Arithmetic.{imm_i}
-use Rattle.rv_machine.specs.Hart.{Placed, bytes_loaded, register_loaded}
-use Rattle.rv_machine.specs.Memory.{Region, word}
-use Rattle.rv_machine.specs.Width.{IsWidth}
+use Rattle.mach_ir.specs.Acts.{Act, Around, Goes, On, Stuck, is_among, after_store, first_written, only_if, stored_act, without}
+use Rattle.rv_machine.specs.Hart.{Placed}
+use Rattle.rv_machine.specs.Memory.{Region, word, write}
 use Rattle.machine_laws.proofs.Memory.{word_below}
-use Rattle.machine_laws.proofs.Values.{loaded_word}
-use Rattle.rv_pieces.specs.declared.piece.Piece.{Piece}
-use Rattle.linear_machine.specs.Follows.{Agrees, FollowsStep}
-use Rattle.linear_machine.specs.Relation.{Below, Laid, StandsFor, Within, all_of}
-use Rattle.linear_machine.specs.Relation as relation
-use Rattle.linear_machine.specs.Straight.{Changes, Comes}
-use Rattle.linear_machine.specs.View.{Fixed, View, IsCode}
-use Rattle.linear_machine.proofs.Following.{PassesSpare, result_follows}
-use Rattle.linear_machine.proofs.Formats.{sets_op}
-use Rattle.linear_machine.proofs.Immediates.{low_12, up}
-use Rattle.linear_machine.proofs.Loading.{IsCellAt, moved_word}
-use Rattle.linear_machine.proofs.Parts.{changes_come, comes_here, comes_then}
-use Rattle.linear_machine.proofs.Pure.{Reads, reads_held}
-use Rattle.linear_machine.proofs.Reading.{reads_one}
-use Rattle.linear_machine.proofs.Rows.{immediate_is}
-use Rattle.linear_machine.proofs.Sequences.{no_change, set_changes, set_then, sets_as, then_changes, widened}
-use Rattle.linear_machine.proofs.Standing.{within_past}
-use Rattle.linear_machine.proofs.Steps.{reg}
-use Rattle.line_stands.specs.Parts.{PartStands}
-use Rattle.line_stands.proofs.Parts.{counts, last, none_left}
-use Rattle.line_values.specs.Statics.{IsWholeList}
-use Rattle.line_values.proofs.Bytes.{sets_load_part}
-use Rattle.line_values.proofs.Cells.{Lies, head_cell, own_cell, static_cell, Reached, reached}
-use Rattle.line_values.proofs.Chains.{constant_comes}
-use Rattle.line_values.proofs.Moves.{alone}
-use Rattle.line_values.proofs.Operands.{fetches, targeted}
-use Rattle.line_values.proofs.Operations.{no_second}
-use Rattle.line_values.proofs.Testing.{first_comes}
-use Rattle.std.proofs.Math.Nat.{mod-lt}
-use Rattle.std.proofs.lemmas.Nat.{pow_pos}
-use Rattle.linear_machine.proofs.Operating.{unary}
-use Rattle.linear_machine.proofs.Standing.{IsScratch}
-use Rattle.line_values.proofs.Addresses.{addresses, no_function}
-use Rattle.std.proofs.Common.{slice_get, slice_set, slice_index_or, nat_eq, ◌&&◌, nat_lt, nat_le}
-use Rattle.std.proofs.lemmas.Bool.{and_parts, eqb-true, leb-true, le-leb, ltb-true, lt-ltb}
-use Rattle.std.proofs.lemmas.Option.{get_or_from_slice_get, slice_get_within}
+use Rattle.linear_machine.specs.Relation.{StandsFor, HeapStands}
+use Rattle.linear_machine.specs.View.{Fixed}
+use Rattle.line_values.proofs.Cells.{Lies, head_cell, own_cell, static_cell, Reached}
+use Rattle.std.proofs.lemmas.Bool.{eqb-true, leb-true, le-leb, ltb-true, lt-ltb}
+use Rattle.std.proofs.lemmas.Option.{get_or_from_slice_get}
 use Rattle.rv_machine.proofs.Bytes.{replaced-below}
-use Rattle.bs_words.specs.Memory.{HeapBlock, InBlock, InHeader, InStatic, Memory, cell_of_block, in_block, in_statics, put_in, put_part, put_whole, replaced, sizes, stored_as, stored_in, type_in, type_of_cells, type_of_chunk, with_value}
-use Rattle.lin_ir.specs.Meaning.{wrote}
-use Rattle.mach_ir.specs.Acts.{after_store, first_written, header_written, only_if, stored_act, without}
-use Rattle.moving_laws.specs.Values.{FitsCell, IsKnown, start_of, words_of}
-use Rattle.moving_laws.proofs.Rewriting.{start_inside}
-use Rattle.rv_isa.specs.declared.instr.Instr.TheVariants.{Store}
-use Rattle.rv_isa.specs.declared.instr.StoreWidth.{StoreWidth}
-use Rattle.rv_machine.specs.Hart.{bytes_stored}
-use Rattle.rv_machine.specs.Memory.{write}
+use Rattle.moving_laws.specs.Values.{FitsCell, IsKnown, start_of}
 use Rattle.rv_machine.specs.Moving.{is_scanned}
 use Rattle.rv_machine.specs.Sound.{HasRegions, extents}
-use Rattle.linear_machine.specs.Contents.{size_in}
-use Rattle.linear_machine.specs.Relation.{HeapStands}
-use Rattle.linear_machine.proofs.Loading.{block_there}
 use Rattle.linear_machine.proofs.Storing.{heap_stored, without_is}
-use Rattle.linear_machine.proofs.Writing.{heap_headed, within_written}
+use Rattle.linear_machine.proofs.Writing.{heap_headed}
 use Rattle.line_values.specs.Statics.{StaticsLie}
-use Rattle.line_values.proofs.Bytes.{bool_same, store_part_step}
-use Rattle.line_values.proofs.Loading.{chunk_width}
+use Rattle.line_values.proofs.Bytes.{bool_same}
 use Rattle.line_values.proofs.Statics.{static_stored, still_of, val_of}
 
 -- ---- the value of a cell after a store

@@ -1,9 +1,8 @@
 -- Switches follow their lines, by tests in turn and by tables of jumps.
-use Rattle.std.proofs.Common.{◌≡◌, ◌≢◌, ℕ, zero, suc, ◌+◌, ◌-◌, ◌*◌, ◌%◌, ◌^◌, ◌<◌, ◌≤◌, inl, inr, Bool, true, false, cond, ◌==◌, nat_le, List, [], ◌∷◌, ◌++◌, length, map, slice_get, slice_index, Option, Some, None, Result, Ok, Err, refl, ap, arith, ◌∙◌, sym, subst, ⊎_elim}
+use Rattle.std.proofs.Common.{◌≡◌, ◌≢◌, ℕ, zero, suc, ◌+◌, ◌-◌, ◌*◌, ◌^◌, ◌<◌, ◌≤◌, inl, inr, Bool, true, false, cond, nat_le, List, [], ◌∷◌, length, map, slice_get, slice_index, Some, None, Result, Ok, Err, refl, ap, arith, ◌∙◌, sym, subst, ⊎_elim}
 use Rattle.std.proofs.lemmas.Bool.{eq-eqb, ne_eqb}
 use Rattle.bs_words.specs.Operators.{word_in}
 use Rattle.bs_words.specs.Word.{add_word, shl_word}
-use Rattle.bs_words.proofs.Below.{add_word-below, shl_word-below}
 use Rattle.bs_words.specs.declared.types.Loc.{Loc}
 use Rattle.bs_words.specs.declared.types.Loc.TheVariants as loc
 use Rattle.bs_words.specs.declared.values.Kind.{Kind}
@@ -20,9 +19,8 @@ use Rattle.lin_ir.specs.declared.lin.Lin.{Lin}
 use Rattle.lin_ir.specs.declared.lin.Line.{Line}
 use Rattle.lin_ir.specs.declared.lin.LinOp.TheVariants as lin
 use Rattle.lin_ir.specs.declared.lin.Spot.{Spot}
-use Rattle.mach_ir.specs.Acts.{Around, goes_to_case, switched}
+use Rattle.mach_ir.specs.Acts.{Around, goes_to_case}
 use Rattle.mach_ir.specs.Runs.{Place}
-use Rattle.moving_laws.specs.Stands.{Among}
 use Rattle.rv_isa.specs.Registers.{number}
 use Rattle.rv_isa.specs.declared.instr.AluImmOp.TheVariants.{Addi}
 use Rattle.rv_isa.specs.declared.instr.AluOp.TheVariants.{Add}
@@ -30,15 +28,14 @@ use Rattle.rv_isa.specs.declared.instr.Condition.TheVariants as condition
 use Rattle.rv_isa.specs.declared.instr.Instr.TheVariants.{Auipc, Jalr, Op, OpImm, Shift}
 use Rattle.rv_isa.specs.declared.instr.ShiftOp.TheVariants.{Slli}
 use Rattle.rv_isa.specs.declared.register.Register.TheVariants.{T1, Zero}
-use Rattle.rv_machine.specs.Arithmetic.{imm_i, imm_u, is_taken}
+use Rattle.rv_machine.specs.Arithmetic.{imm_i, imm_u}
 use Rattle.rv_machine.specs.Hart.{Placed}
 use Rattle.rv_machine.specs.Memory.{code_start}
 use Rattle.rv_machine.specs.Sound.{AreRegisters}
-use Rattle.rv_pieces.specs.declared.piece.Piece.{Piece}
-use Rattle.rv_pieces.specs.declared.piece.Piece.TheVariants.{Branch, Jump, Known, Row}
+use Rattle.rv_pieces.specs.declared.piece.Piece.TheVariants.{Jump, Row}
 use Rattle.linear_machine.specs.Follows.{Agrees, FollowsStep}
-use Rattle.linear_machine.specs.Relation.{Below, Laid, StandsFor, Within, all_of}
-use Rattle.linear_machine.specs.Straight.{Changes, Comes, Differs, IsPast}
+use Rattle.linear_machine.specs.Relation.{Below, Laid, Within}
+use Rattle.linear_machine.specs.Straight.{Changes, Comes, Differs}
 use Rattle.linear_machine.specs.View.{Fixed, View, HasCode, IsCode, Leads}
 use Rattle.linear_machine.proofs.Formats.{sets_auipc, sets_imm, sets_jalr, sets_op, sets_shift}
 use Rattle.linear_machine.proofs.Immediates.{by_20, down, high_12, low_12, up}
@@ -51,10 +48,9 @@ use Rattle.linear_machine.proofs.Standing.{within_past}
 use Rattle.linear_machine.proofs.Steps.{at_place, reg, set_to_step, then_leads}
 use Rattle.line_stands.specs.Parts.{PartStands}
 use Rattle.line_stands.proofs.Parts.{counts, last, leads, starts}
-use Rattle.line_values.proofs.Jumping.{Goes, IsPlace, Jumped, code_near, far_goes}
+use Rattle.line_values.proofs.Jumping.{Goes, code_near, far_goes}
 use Rattle.line_values.proofs.Landing.{Lies, jump_lands, lands, lies_near, within_gone}
-use Rattle.line_values.proofs.Operands.{fetches}
-use Rattle.line_values.proofs.Places.{no_unset, slot_of, usual_of}
+use Rattle.line_values.proofs.Places.{no_unset, usual_of}
 use Rattle.line_values.proofs.Testing.{branch_lands, first_comes}
 
 -- instructions that change t1 and t2 alone, and then some that lead to a place
@@ -231,7 +227,8 @@ module _ (s : Fixed) (laid : Laid) (n : Named) (m : Lin) where
       let sum3 : add_word (slice_index c2.view.registers 7) (slice_index c2.view.registers 6) ≡ code_start + 4 * (u.place + 1) + 8 * j =
       up (slice_index c2.view.registers 7) (slice_index c2.view.registers 6) (code_start + 4 * (u.place + 1) + 8 * j) (omega (arith, e6, e7))
       (omega (arith, near)) in
-      let code3 : IsCode s (u.place + 2) (Op Add 7 7 6) = let q : u.place + 1 + 1 ≡ u.place + 2 = omega arith in subst (λ z. IsCode s z (Op Add 7 7 6)) q g3.code in
+      let code3 : IsCode s (u.place + 2) (Op Add 7 7 6) = let q : u.place + 1 + 1 ≡ u.place + 2 =
+      omega arith in subst (λ z. IsCode s z (Op Add 7 7 6)) q g3.code in
       let c3 =
       set_more s u 2 (6 ∷ 7 ∷ []) u.memory _ (Op Add 7 7 6) 6 base c2 (inr (inl refl))
       (sets_as s c2.view (Op Add 7 7 6) 7 _ base sum3 (sets_op s c2.view Add 7 7 6)) code3 (inl (λ q. omega (arith, q))) (omega arith)
@@ -250,8 +247,10 @@ module _ (s : Fixed) (laid : Laid) (n : Named) (m : Lin) where
       (inl zero_no_sp) (sets_jalr s w 0 7 12 here target)) in
       let jump : HasCode s (u.place + 1 + 1 + 1 + 1 + 2 * j) (far_jump 0 6 (address_of_place (u.place + 1 + 1 + 1 + 1 + 2 * j))
       (address_of_place (laid.part (length (after_label l m.code))))) =
-      subst (λ z. HasCode s (u.place + 1 + 1 + 1 + 1 + 2 * j) (far_jump 0 6 (address_of_place (u.place + 1 + 1 + 1 + 1 + 2 * j)) z)) (lie j l e).address row.0 in
-      let last = far_goes s (at_place (u.place + 1 + 1 + 1 + 1 + 2 * j) w) c3.past.are to (place_small (u.place + 1 + 1 + 1 + 1 + 2 * j) near) (lies_near s laid n m l (lie j l e)) jump in
+      subst (λ z. HasCode s (u.place + 1 + 1 + 1 + 1 + 2 * j) (far_jump 0 6 (address_of_place (u.place + 1 + 1 + 1 + 1 + 2 * j)) z))
+      (lie j l e).address row.0 in
+      let last = far_goes s (at_place (u.place + 1 + 1 + 1 + 1 + 2 * j) w) c3.past.are to (place_small (u.place + 1 + 1 + 1 + 1 + 2 * j) near)
+      (lies_near s laid n m l (lie j l e)) jump in
       record {
         count = 4 + 2;
         few = six_words k g1.others g2.others g3.others g4.others j g1.sum g2.sum g3.sum g4.sum row.1;
@@ -277,7 +276,8 @@ module _ (s : Fixed) (n : Named) (laid : Laid) (m : Lin) (slots : m.slots ≡ la
     (place : Place) (named : NamedAt) (next : List Line) (v : View) (young : List Placed) (held file : Locations) (a : Around) (none : a.raised ≡ None)
     (within : Within s laid v young 0 held a c) (before : Type 0) (agrees : Agrees before held file) (k : ℕ) where
   -- the index comes into t1
-  index_comes : (l : Loc) → IsLocation m l → (j : ℕ) → PartStands s n v.place (v.place + j) (value_words (length a.tries) l) → (i : ℕ) → held l ≡ Some (Word i) →
+  index_comes : (l : Loc) → IsLocation m l → (j : ℕ) → PartStands s n v.place (v.place + j) (value_words (length a.tries) l) → (i : ℕ) →
+      held l ≡ Some (Word i) →
       Comes s v j (λ u. Within s laid u young 0 held a c × (slice_index u.registers 6 ≡ i))
   index_comes (loc.Slot o) is j part i h =
       let g = first_comes s n laid m slots v young held a c none within (loc.Slot o) is j part (Word i) h in

@@ -1,5 +1,5 @@
 -- Branches follow their lines, whatever they test.
-use Rattle.std.proofs.Common.{◌≡◌, ◌≢◌, ℕ, zero, suc, ◌+◌, ◌*◌, ◌^◌, ◌<◌, ◌≤◌, ◌⊎◌, inl, inr, Bool, true, false, cond, not, ◌==◌, nat_eq, nat_lt, List, [], ◌∷◌, ◌++◌, length, Option, Some, None, Result, Ok, Err, slice_index, refl, ap, ap₂, arith, ◌∙◌, sym, subst, ⊎_elim, append_assoc, append-nil}
+use Rattle.std.proofs.Common.{◌≡◌, ℕ, suc, ◌+◌, ◌^◌, ◌<◌, ◌≤◌, inl, inr, Bool, true, false, cond, not, ◌==◌, nat_eq, List, [], ◌∷◌, ◌++◌, length, Option, Some, None, Result, Ok, Err, slice_index, refl, ap, arith, ◌∙◌, sym, subst, ⊎_elim, append_assoc, append-nil}
 use Rattle.std.specs.List.{AllByRecursion}
 use Rattle.std.proofs.lemmas.Bool.{eqb-true}
 use Rattle.bs_words.specs.Memory.{sizes}
@@ -13,26 +13,25 @@ use Rattle.bs_words.specs.declared.values.Kind.{Kind}
 use Rattle.bs_words.specs.declared.values.Value.{Value}
 use Rattle.bs_words.specs.declared.values.Value.TheVariants.{Word}
 use Rattle.emit_rules.specs.Constants.{constant}
-use Rattle.emit_rules.specs.Slots.{fetched, first, register_of, second}
-use Rattle.emit_rules.specs.Tests.{branch_part, constant_register, constant_words, right_register, right_words, signed_branch, test_branch, test_words, unsigned_branch}
-use Rattle.layout_rules.specs.Forms.{branch_form, branch_words, rank, words_of}
+use Rattle.emit_rules.specs.Slots.{fetched, register_of, second}
+use Rattle.emit_rules.specs.Tests.{branch_part, constant_register, constant_words, signed_branch, unsigned_branch}
+use Rattle.layout_rules.specs.Forms.{branch_form, branch_words, rank}
 use Rattle.layout_rules.specs.Laid.{address_of_place}
 use Rattle.layout_rules.specs.Words.{Named, branch_code}
 use Rattle.layout_rules.specs.declared.form.Form.{Form}
 use Rattle.layout_rules.specs.declared.form.Form.TheVariants.{Near, Middle, Far}
 use Rattle.lin_ir.specs.Formed.{IsLocation, comps}
-use Rattle.lin_ir.specs.Meaning.{Locations, NamedAt, after_label, code_at, on_act, on_values, step}
+use Rattle.lin_ir.specs.Meaning.{Locations, NamedAt, after_label, on_act, on_values, step}
 use Rattle.lin_ir.specs.declared.lin.Flow.TheVariants as flow
 use Rattle.lin_ir.specs.declared.lin.Lin.{Lin}
 use Rattle.lin_ir.specs.declared.lin.Line.{Line}
 use Rattle.lin_ir.specs.declared.lin.LinOp.TheVariants as lin
 use Rattle.lin_ir.specs.declared.lin.Spot.{Spot}
 use Rattle.mach_ir.specs.Acts.{Around, At, On, as_condition, branches, opposite, proper, truth_of}
-use Rattle.mach_ir.specs.Forms.{IsRight, a_constant, IsTested, is_immediate_12, signed, unsigned}
+use Rattle.mach_ir.specs.Forms.{a_constant, IsTested, is_immediate_12, signed, unsigned}
 use Rattle.mach_ir.specs.Runs.{Place}
 use Rattle.mach_ir.specs.declared.mach.Test.{Test}
 use Rattle.mach_ir.specs.declared.mach.Test.TheVariants as test
-use Rattle.mach_ir.specs.declared.op.Right.{Right}
 use Rattle.mach_ir.specs.declared.op.Right.TheVariants as right
 use Rattle.moving_laws.specs.Stands.{Among}
 use Rattle.rv_isa.specs.Registers.{number}
@@ -47,23 +46,21 @@ use Rattle.rv_pieces.specs.declared.piece.Piece.{Piece}
 use Rattle.rv_pieces.specs.declared.piece.Piece.TheVariants as piece
 use Rattle.linear_machine.specs.Follows.{Agrees, FollowsStep}
 use Rattle.linear_machine.specs.Relation.{Below, Laid, StandsFor, Within, all_of}
-use Rattle.linear_machine.specs.Relation as relation
 use Rattle.linear_machine.specs.Straight.{Changes, Comes}
 use Rattle.linear_machine.specs.View.{Fixed, View, HasCode}
-use Rattle.linear_machine.proofs.Following.{agrees_on}
 use Rattle.linear_machine.proofs.Parts.{changes_come, comes_then}
 use Rattle.linear_machine.proofs.Pure.{Reads, reads_held}
 use Rattle.linear_machine.proofs.Reading.{reads_one, reads_two}
 use Rattle.linear_machine.proofs.Rows.{immediate_small}
 use Rattle.linear_machine.proofs.Sequences.{no_change, widened}
-use Rattle.linear_machine.proofs.Standing.{IsScratch, within_past}
+use Rattle.linear_machine.proofs.Standing.{within_past}
 use Rattle.linear_machine.proofs.Steps.{reg, then_leads}
-use Rattle.line_stands.specs.Parts.{PartStands, label_place}
+use Rattle.line_stands.specs.Parts.{PartStands}
 use Rattle.line_stands.proofs.Parts.{counts, none_left, starts}
 use Rattle.line_values.proofs.Agreeing.{compared_words, condition_word, signed_agrees, unsigned_agrees}
 use Rattle.line_values.proofs.Chains.{constant_comes}
 use Rattle.line_values.proofs.Compared.{int_le_is, le_is}
-use Rattle.line_values.proofs.Jumping.{Branched, Goes, branch_goes, code_near}
+use Rattle.line_values.proofs.Jumping.{Goes, branch_goes, code_near}
 use Rattle.line_values.proofs.Landing.{Lies, lands, lies_near, lies_place, within_gone}
 use Rattle.line_values.proofs.Operands.{fetches}
 use Rattle.line_values.proofs.Operations.{no_second, sized}
@@ -201,7 +198,8 @@ module _ (s : Fixed) (n : Named) (laid : Laid) (m : Lin) (slots : m.slots ≡ la
       Within s laid u young 0 held a c × StandsFor s (all_of u young) (reg u.registers (number left)) x
       × StandsFor s (all_of u young) (reg u.registers (number right)) y
 
-  pub first_comes : (l : Loc) → IsLocation m l → (k : ℕ) → PartStands s n v.place (v.place + k) (fetched (length a.tries) T1 l) → (x : Value) → held l ≡ Some x →
+  pub first_comes : (l : Loc) → IsLocation m l → (k : ℕ) → PartStands s n v.place (v.place + k) (fetched (length a.tries) T1 l) → (x : Value) →
+      held l ≡ Some x →
       Comes s v k (λ u. Within s laid u young 0 held a c × StandsFor s (all_of u young) (reg u.registers (number (register_of T1 l))) x)
   first_comes l is k part x h =
       let f = fetches s n laid m slots v young held a c none within T1 5 refl (inl refl) v.place k l is part in

@@ -1,6 +1,5 @@
 -- The lines that compute, load, store, test and jump, and that the machine follows them.
 use Rattle.std.specs.Prelude.{◌≡◌, ℕ, Bool, true, List, ◌∷◌, length, Option, None}
-use Rattle.cmm_meaning.specs.Setting.{Setting}
 use Rattle.emit_rules.specs.Emitted.{part_of}
 use Rattle.emit_rules.specs.Entry.{Frame}
 use Rattle.layout_rules.specs.Forms.{total_words}
@@ -16,19 +15,22 @@ use Rattle.mach_ir.specs.Acts.{Around}
 use Rattle.mach_ir.specs.Runs.{Place}
 use Rattle.mach_ir.specs.declared.mach.Test.{Test}
 use Rattle.mach_ir.specs.declared.op.Access.TheVariants as access
+use Rattle.mach_ir.specs.declared.op.Leaving.TheVariants as leaving
 use Rattle.mach_ir.specs.declared.op.Op.TheVariants as op
 use Rattle.mach_ir.specs.declared.op.Pure.{Pure}
+use Rattle.mach_ir.specs.declared.op.Right.{Right}
 use Rattle.linear_machine.specs.Follows.{FollowsStep, IsAt}
 use Rattle.linear_machine.specs.Relation.{Below, Laid}
 use Rattle.linear_machine.specs.View.{Fixed, View}
 use Rattle.line_stands.specs.Lines.{LineStands}
 use Rattle.line_values.specs.Statics.{StaticsLie}
 
--- what neither leaves the function nor is a frame point nor changes the pushed traps
+-- what is no frame point, and neither returns nor pushes or enters a trap
 pub data IsPlain : LinOp → Type 0 where
   plain_pure : {g : Pure} → IsPlain (lin.Op (op.Pure g))
   plain_load : {k : _} {offset : ℕ} → IsPlain (lin.Op (op.Access (access.Load k offset)))
   plain_store : {k : _} {offset : ℕ} → IsPlain (lin.Op (op.Access (access.Store k offset)))
+  plain_check : {r : Right} → IsPlain (lin.Op (op.Leaving (leaving.Checkbound r)))
   plain_label : {l : ℕ} → IsPlain (lin.Flow (flow.Label l))
   plain_jump : {l : ℕ} → IsPlain (lin.Flow (flow.Jump l))
   plain_exit : {l : ℕ} → IsPlain (lin.Flow (flow.Exit l))

@@ -73,7 +73,10 @@ slot_count traps (suc n) = ap suc (slot_count traps n)
 has_slot : (traps k n : ℕ) → k < n → IsIn (8 * k + 16 * traps) (slot_entries traps n)
 has_slot traps k zero lt = absurd (omega (arith, lt))
 has_slot traps k (suc n) lt =
-    ⊎_elim (λ less. is_later (has_slot traps k n less)) (λ le. let same : n ≡ k = omega (arith, lt, le) in subst (λ j. IsIn (8 * j + 16 * traps) (slot_entries traps (suc n))) same is_first)
+    ⊎_elim (λ less. is_later (has_slot traps k n less))
+    (λ le.
+    let same : n ≡ k = omega (arith, lt, le) in
+    subst (λ j. IsIn (8 * j + 16 * traps) (slot_entries traps (suc n))) same is_first)
     (cases_lt k n)
 
 left_in : {x : ℕ} {xs : List ℕ} (ys : List ℕ) → IsIn x xs → IsIn x (xs ++ ys)

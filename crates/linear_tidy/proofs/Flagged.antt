@@ -52,7 +52,8 @@ flags_all m flags k e h = record { len = h.len ∙ e; each = λ p lt. h.each p (
 -- ---- the lines that are kept
 
 kept_begun : (k : ℕ) (flags : List Bool) (code : List Line) (b : Bool) (i : Line) → k < length flags → k < length code → get_or flags k false ≡ b →
-    get_or code k i ≡ i → kept (drop k flags) (drop k code) ≡ cond b (kept (drop (k + 1) flags) (drop (k + 1) code)) (i ∷ kept (drop (k + 1) flags) (drop (k + 1) code))
+    get_or code k i ≡ i →
+    kept (drop k flags) (drop k code) ≡ cond b (kept (drop (k + 1) flags) (drop (k + 1) code)) (i ∷ kept (drop (k + 1) flags) (drop (k + 1) code))
 kept_begun k flags code b i lt less e same =
     ap (λ xs. kept xs (drop k code)) (drop_more flags k false lt ∙ ap (λ b. b ∷ drop (k + 1) flags) e)
     ∙ ap (kept (b ∷ drop (k + 1) flags)) (drop_more code k i less ∙ ap (λ j. j ∷ drop (k + 1) code) same) ∙ by b

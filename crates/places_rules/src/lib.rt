@@ -8,3 +8,14 @@
 //!
 //! The crate holds definitions and laws alone.
 #![tactic(auto)]
+
+ghost use Rattle.mach_ir.specs.Formed.{WellFormed};
+ghost use Rattle.mach_ir.specs.Placed.{WellPlaced};
+ghost use Rattle.mach_ir.specs.declared.mach.Mach.{Mach};
+ghost use Rattle.places_rules.specs.Places.{rest_in_slots};
+ghost use Rattle.places_rules.specs.Rest.{IsKept};
+
+/// Law: a function whose open registers go to the slots of their origins is kept.
+pub fn the_rest_is_kept()
+    ensures { (m : Mach) → WellFormed m → WellPlaced m → IsKept m (rest_in_slots m) }
+{}

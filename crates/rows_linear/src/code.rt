@@ -4,27 +4,71 @@ use bs_words::{Comp, Loc, Name, Ret};
 use mach_ir::{Instr, Mach, MachOp, Mark, Op, Reg, Seq};
 use std::alloc::Global;
 
-/// A register at a place. Its number does not matter to linearisation.
-const fn at(loc: Loc, comp: Comp) -> Reg {
+// Registers by their places: their numbers do not matter to linearisation.
+
+pub(crate) const A0_INT: Reg = Reg {
+    number: 0,
+    comp: Comp::Int,
+    loc: Loc::Machine(10),
+    origin: 0,
+};
+
+pub(crate) const A0: Reg = Reg {
+    number: 0,
+    comp: Comp::Val,
+    loc: Loc::Machine(10),
+    origin: 0,
+};
+
+pub(crate) const A1: Reg = Reg {
+    number: 0,
+    comp: Comp::Val,
+    loc: Loc::Machine(11),
+    origin: 0,
+};
+
+pub(crate) const S2_INT: Reg = Reg {
+    number: 0,
+    comp: Comp::Int,
+    loc: Loc::Machine(18),
+    origin: 0,
+};
+
+pub(crate) const S2: Reg = Reg {
+    number: 0,
+    comp: Comp::Val,
+    loc: Loc::Machine(18),
+    origin: 0,
+};
+
+pub(crate) const S3_INT: Reg = Reg {
+    number: 0,
+    comp: Comp::Int,
+    loc: Loc::Machine(19),
+    origin: 0,
+};
+
+pub(crate) const S3: Reg = Reg {
+    number: 0,
+    comp: Comp::Val,
+    loc: Loc::Machine(19),
+    origin: 0,
+};
+
+pub(crate) const S3_ADDR: Reg = Reg {
+    number: 0,
+    comp: Comp::Addr,
+    loc: Loc::Machine(19),
+    origin: 0,
+};
+
+pub(crate) fn slot(number: u32) -> Reg {
     Reg {
         number: 0,
-        comp,
-        loc,
+        comp: Comp::Val,
+        loc: Loc::Slot(number),
         origin: 0,
     }
-}
-
-pub(crate) const A0_INT: Reg = at(Loc::Machine(10), Comp::Int);
-pub(crate) const A0: Reg = at(Loc::Machine(10), Comp::Val);
-pub(crate) const A1: Reg = at(Loc::Machine(11), Comp::Val);
-pub(crate) const S2_INT: Reg = at(Loc::Machine(18), Comp::Int);
-pub(crate) const S2: Reg = at(Loc::Machine(18), Comp::Val);
-pub(crate) const S3_INT: Reg = at(Loc::Machine(19), Comp::Int);
-pub(crate) const S3: Reg = at(Loc::Machine(19), Comp::Val);
-pub(crate) const S3_ADDR: Reg = at(Loc::Machine(19), Comp::Addr);
-
-pub(crate) const fn slot(number: u32) -> Reg {
-    at(Loc::Slot(number), Comp::Val)
 }
 
 pub(crate) fn name(alloc: Global, name: &str) -> Result<Name> {

@@ -1,7 +1,5 @@
 //! The functions of the rows.
-use crate::code::{
-    A0, A0_INT, A1, Code, S2, S2_INT, S3, S3_ADDR, S3_INT, name, numbers, slot,
-};
+use crate::code::{A0, A0_INT, A1, Code, S2, S2_INT, S3, S3_ADDR, S3_INT, name, numbers, slot};
 use anyhow::Result;
 use bs_words::{CmpOp, Comp, IntOp, Ret};
 use mach_ir::{
@@ -11,15 +9,18 @@ use mach_ir::{
 use std::alloc::Global;
 
 const MOVE: Op = Op::Pure(Pure::Copy(CopyKind::Move));
+
 const SPILL: Op = Op::Pure(Pure::Copy(CopyKind::Spill));
+
 const RELOAD: Op = Op::Pure(Pure::Copy(CopyKind::Reload));
+
 const RETURN: Op = Op::Leaving(Leaving::Return);
 
-const fn constant(word: u64) -> Op {
+fn constant(word: u64) -> Op {
     Op::Pure(Pure::Constant(word))
 }
 
-const fn add(word: u64) -> Op {
+fn add(word: u64) -> Op {
     Op::Pure(Pure::Operator(IntOp::Add, Right::Constant(word)))
 }
 

@@ -25,13 +25,15 @@ fn have_numbers(slots: u32, spots: &[Spot]) -> bool
 fn args_have_numbers(slots: u32, code: &[Line]) -> bool
     ensures { IsTrue result ↔ All (λ (i : Line). HaveNumbers slots i.args) code.now }
 {
-    code.iter().all(|line| have_numbers(slots, line.args.as_slice()))
+    code.iter()
+        .all(|line| have_numbers(slots, line.args.as_slice()))
 }
 
 fn results_have_numbers(slots: u32, code: &[Line]) -> bool
     ensures { IsTrue result ↔ All (λ (i : Line). HaveNumbers slots i.results) code.now }
 {
-    code.iter().all(|line| have_numbers(slots, line.results.as_slice()))
+    code.iter()
+        .all(|line| have_numbers(slots, line.results.as_slice()))
 }
 
 /// Whether every operand and result is a register of the machine or a slot of the function.

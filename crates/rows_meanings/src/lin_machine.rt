@@ -200,45 +200,76 @@ impl<'a, 'b> Machine<'a, 'b> {
         }
     }
 
-    /// One line. None where the run goes on.
-    fn step(&mut self) -> Result<Option<End>> {
-        let function = self.function;
-        let code = function.code.as_slice();
-        let Some(line) = code.get(self.place) else {
-            return Ok(Some(End::Stuck));
-        };
-        let Some(args) = self.values(line.args.as_slice())? else {
-            return Ok(Some(End::Stuck));
-        };
-        let mut results = Vec::new(self.world.alloc);
-        let next = match &line.op {
-            LinOp::Flow(flow) => self.flow(flow, args.as_slice(), &mut results)?,
-            LinOp::Op(op) => {
-                if is_frame_point(op) {
-                    let named = self.named_here();
-                    if !self.are_vals(named) {
-                        return Ok(Some(End::Stuck));
-                    }
-                    self.locations.poison(named)?;
-                }
-                self.world.does(op, args.as_slice(), &mut results)?
-            }
-        };
-        match next {
-            Next::Over(end) => return Ok(Some(end)),
-            Next::Handler(label) => {
-                self.place = behind_label(code, label);
-                return Ok(None);
-            }
-            Next::On => self.place = self.place.wrapping_add(1),
-            Next::To(label) => self.place = behind_label(code, label),
+    /// At a frame point what is named holds vals, and other pointers become poison. False where a name is wrong.
+    fn passes_frame(&mut self) -> Result<bool> {
+        let named = self.named_here();
+        if !self.are_vals(named) {
+            return Ok(false);
         }
+        self.locations.poison(named)?;
+        Ok(true)
+    }
+
+    /// What the operation of a line does, once its operands are read.
+    fn does(&mut self, line: &Line, args: &[Value], results: &mut Vec<Value>) -> Result<Next> {
+        match &line.op {
+            LinOp::Flow(flow) => self.flow(flow, args, results),
+            LinOp::Op(op) => {
+                if is_frame_point(op) && !self.passes_frame()? {
+                    return Ok(Next::Over(End::Stuck));
+                }
+                self.world.does(op, args, results)
+            }
+        }
+    }
+
+    /// Reads the operands, and does the operation.
+    fn acts(&mut self, line: &Line, results: &mut Vec<Value>) -> Result<Next> {
+        match self.values(line.args.as_slice())? {
+            Some(args) => self.does(line, args.as_slice(), results),
+            None => Ok(Next::Over(End::Stuck)),
+        }
+    }
+
+    /// Writes the results, once the operation has destroyed what it destroys.
+    fn finishes(&mut self, line: &Line, results: &[Value]) -> Result<Option<End>> {
         self.locations.destroy(&line.op)?;
-        if self.write(line.results.as_slice(), results.as_slice())? {
+        if self.write(line.results.as_slice(), results)? {
             Ok(None)
         } else {
             Ok(Some(End::Stuck))
         }
+    }
+
+    fn goes(&mut self, line: &Line, next: Next, results: &[Value]) -> Result<Option<End>> {
+        let function = self.function;
+        let code = function.code.as_slice();
+        match next {
+            Next::Over(end) => Ok(Some(end)),
+            Next::Handler(label) => {
+                self.place = behind_label(code, label);
+                Ok(None)
+            }
+            Next::On => {
+                self.place = self.place.wrapping_add(1);
+                self.finishes(line, results)
+            }
+            Next::To(label) => {
+                self.place = behind_label(code, label);
+                self.finishes(line, results)
+            }
+        }
+    }
+
+    /// One line. None where the run goes on.
+    fn step(&mut self) -> Result<Option<End>> {
+        let function = self.function;
+        let Some(line) = function.code.as_slice().get(self.place) else {
+            return Ok(Some(End::Stuck));
+        };
+        let mut results = Vec::new(self.world.alloc);
+        let next = self.acts(line, &mut results)?;
+        self.goes(line, next, results.as_slice())
     }
 
     /// The run from the entry, in at most so many steps.

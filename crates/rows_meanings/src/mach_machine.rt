@@ -431,48 +431,76 @@ impl<'a, 'b> Machine<'a, 'b> {
         }
     }
 
+    /// At a frame point addresses are lost, and each val that is live across it has been written.
+    fn passes_frame(&mut self, instr: &Instr) -> bool {
+        let is_written = self.vals_are_written(instr);
+        self.registers.lose_addresses();
+        is_written
+    }
+
+    /// What the operation of an instruction does, once its operands are read.
+    fn does(&mut self, instr: &Instr, args: &[Value], results: &mut Vec<Value>) -> Result<Next> {
+        match &instr.op {
+            MachOp::Mark(mark) => self.mark(mark, args, results),
+            MachOp::Op(op) => {
+                if is_frame_point(op) && !self.passes_frame(instr) {
+                    return Ok(Next::Over(End::Stuck));
+                }
+                self.world.does(op, args, results)
+            }
+        }
+    }
+
+    /// Reads the operands, and does the operation.
+    fn acts(&mut self, instr: &Instr, results: &mut Vec<Value>) -> Result<Next> {
+        let args = self
+            .registers
+            .values(self.world.alloc, instr.args.as_slice())?;
+        match args {
+            Some(args) => self.does(instr, args.as_slice(), results),
+            None => Ok(Next::Over(End::Stuck)),
+        }
+    }
+
+    /// Writes the results, once the operation has destroyed what it destroys. False where one does not fit, or registers
+    /// of one origin then differ.
+    fn finishes(&mut self, instr: &Instr, results: &[Value]) -> Result<bool> {
+        self.destroy(instr)?;
+        let fits = self.write(instr.results.as_slice(), results)?;
+        Ok(fits && self.origins_agree())
+    }
+
+    fn goes(&mut self, instr: &Instr, next: Next, results: &[Value]) -> Result<Option<End>> {
+        let function = self.function;
+        let code = function.code.as_slice();
+        let goes_on = match next {
+            Next::Over(end) => return Ok(Some(end)),
+            Next::Handler(label) => {
+                self.place = handler_place(code, label);
+                self.origins_agree()
+            }
+            Next::On => {
+                self.place = self.place.wrapping_add(1);
+                self.finishes(instr, results)?
+            }
+            Next::To(label) => {
+                self.place = behind_label(code, label);
+                self.finishes(instr, results)?
+            }
+        };
+        Ok(if goes_on { None } else { Some(End::Stuck) })
+    }
+
     /// One instruction. None where the run goes on.
     fn step(&mut self) -> Result<Option<End>> {
         let function = self.function;
-        let code = function.code.as_slice();
-        let Some(instr) = code.get(self.place) else {
+        let Some(instr) = function.code.as_slice().get(self.place) else {
             return Ok(Some(End::Stuck));
         };
-        let alloc = self.world.alloc;
-        let Some(args) = self.registers.values(alloc, instr.args.as_slice())? else {
-            return Ok(Some(End::Stuck));
-        };
-        let mut results = Vec::new(alloc);
-        self.just_written = Vec::new(alloc);
-        let next = match &instr.op {
-            MachOp::Mark(mark) => self.mark(mark, args.as_slice(), &mut results)?,
-            MachOp::Op(op) => {
-                if is_frame_point(op) {
-                    if !self.vals_are_written(instr) {
-                        return Ok(Some(End::Stuck));
-                    }
-                    self.registers.lose_addresses();
-                }
-                self.world.does(op, args.as_slice(), &mut results)?
-            }
-        };
-        match next {
-            Next::Over(end) => return Ok(Some(end)),
-            Next::Handler(label) => self.place = handler_place(code, label),
-            Next::On => self.place = self.place.wrapping_add(1),
-            Next::To(label) => self.place = behind_label(code, label),
-        }
-        if !matches!(next, Next::Handler(_)) {
-            self.destroy(instr)?;
-            if !self.write(instr.results.as_slice(), results.as_slice())? {
-                return Ok(Some(End::Stuck));
-            }
-        }
-        if self.origins_agree() {
-            Ok(None)
-        } else {
-            Ok(Some(End::Stuck))
-        }
+        self.just_written = Vec::new(self.world.alloc);
+        let mut results = Vec::new(self.world.alloc);
+        let next = self.acts(instr, &mut results)?;
+        self.goes(instr, next, results.as_slice())
     }
 
     /// The run from the entry, in at most so many steps.

@@ -17,18 +17,25 @@ use std::fmt::Write;
 /// The most steps of a run.
 const FUEL: u32 = 1_000;
 
-/// The rows so far, and what is said of them.
+/// The function that is read.
 #[derive(Drop)]
-pub(crate) struct Rows<'a> {
-    alloc: Global,
-    file: &'a File,
+struct Function {
     name: String,
     is_mach: bool,
     params: Vec<Reg>,
     colours: Vec<Reg>,
     instrs: Vec<Instr>,
     lines: Vec<Line>,
+    /// What the frame points of a Linear function name, in the order of the text.
     named: Vec<Vec<Loc>>,
+}
+
+/// The rows so far, and what is said of them.
+#[derive(Drop)]
+pub(crate) struct Rows<'a> {
+    alloc: Global,
+    file: &'a File,
+    function: Function,
     said: String,
 }
 
@@ -95,11 +102,9 @@ fn put_end(said: &mut String, end: End) -> Result<()> {
     Ok(())
 }
 
-impl<'a> Rows<'a> {
-    pub(crate) fn new(alloc: Global, file: &'a File) -> Self {
-        Rows {
-            alloc,
-            file,
+impl Function {
+    fn new(alloc: Global) -> Self {
+        Function {
             name: String::new(alloc),
             is_mach: true,
             params: Vec::new(alloc),
@@ -107,16 +112,11 @@ impl<'a> Rows<'a> {
             instrs: Vec::new(alloc),
             lines: Vec::new(alloc),
             named: Vec::new(alloc),
-            said: String::new(alloc),
         }
     }
 
-    pub(crate) fn said(&self) -> &[u8] {
-        self.said.as_str().as_bytes()
-    }
-
-    /// A function begins.
-    fn begin(&mut self, is_mach: bool, head: &str) -> Result<()> {
+    /// A function without instructions: its name, its parameters, and its colours after a semicolon.
+    fn begin(alloc: Global, is_mach: bool, head: &str) -> Result<Self> {
         let (name, regs) = match head.split_once(" ") {
             Some(parts) => parts,
             None => (head, ""),
@@ -125,54 +125,50 @@ impl<'a> Rows<'a> {
             Some(parts) => parts,
             None => (regs, ""),
         };
-        self.is_mach = is_mach;
-        self.name = String::from_str(self.alloc, name)?;
-        self.params = registers(self.alloc, params)?;
-        self.colours = registers(self.alloc, colours)?;
-        self.instrs = Vec::new(self.alloc);
-        self.lines = Vec::new(self.alloc);
-        self.named = Vec::new(self.alloc);
-        Ok(())
+        let mut function = Function::new(alloc);
+        function.is_mach = is_mach;
+        function.name = String::from_str(alloc, name)?;
+        function.params = registers(alloc, params)?;
+        function.colours = registers(alloc, colours)?;
+        Ok(function)
     }
 
-    fn names(&mut self, text: &str) -> Result<()> {
-        let mut locs = Vec::new(self.alloc);
-        for reg in registers(self.alloc, text)?.as_slice() {
+    fn add_names(&mut self, alloc: Global, text: &str) -> Result<()> {
+        let mut locs = Vec::new(alloc);
+        for reg in registers(alloc, text)?.as_slice() {
             locs.push(reg.loc)?;
         }
         self.named.push(locs)?;
         Ok(())
     }
 
-    /// An instruction of the function that is read; what is none is said.
-    fn instruction(&mut self, text: &str) -> Result<()> {
-        let parts = apart(self.alloc, text)?;
-        let is_one = if self.is_mach {
-            match parts.instr()? {
-                Some(instr) => {
-                    self.instrs.push(instr)?;
-                    true
-                }
-                None => false,
+    fn add_instr(&mut self, alloc: Global, text: &str) -> Result<bool> {
+        match apart(alloc, text)?.instr()? {
+            Some(instr) => {
+                self.instrs.push(instr)?;
+                Ok(true)
             }
-        } else {
-            match parts.line()? {
-                Some(line) => {
-                    self.lines.push(line)?;
-                    true
-                }
-                None => false,
-            }
-        };
-        if !is_one {
-            write!(self.said, "no instruction: {text}\n")?;
+            None => Ok(false),
         }
-        Ok(())
     }
 
-    fn mach(&self) -> Result<Mach> {
+    fn add_line(&mut self, alloc: Global, text: &str) -> Result<bool> {
+        match apart(alloc, text)?.line()? {
+            Some(line) => {
+                self.lines.push(line)?;
+                Ok(true)
+            }
+            None => Ok(false),
+        }
+    }
+
+    fn called(&self, alloc: Global) -> Result<Name> {
+        Ok(Name::from_vec(self.name.as_str().as_bytes().to_vec(alloc)?))
+    }
+
+    fn mach(&self, alloc: Global) -> Result<Mach> {
         Ok(Mach {
-            name: self.name()?,
+            name: self.called(alloc)?,
             params: Seq::from_vec(self.params.clone()?),
             result: Ret::Comp(Comp::Int),
             labels: 64,
@@ -181,70 +177,130 @@ impl<'a> Rows<'a> {
         })
     }
 
-    fn lin(&self) -> Result<Lin> {
+    fn lin(&self, alloc: Global) -> Result<Lin> {
         Ok(Lin {
-            name: self.name()?,
-            params: spots(self.alloc, self.params.as_slice())?,
+            name: self.called(alloc)?,
+            params: spots(alloc, self.params.as_slice())?,
             result: Ret::Comp(Comp::Int),
             slots: 8,
             code: Seq::from_vec(self.lines.clone()?),
         })
     }
 
-    fn name(&self) -> Result<Name> {
-        Ok(Name::from_vec(self.name.as_str().as_bytes().to_vec(self.alloc)?))
+    /// Runs it, and says what came.
+    fn run(&self, world: World, args: &[Value], said: &mut String) -> Result<()> {
+        if self.is_mach {
+            self.run_mach(world, args, said)
+        } else {
+            self.run_lin(world, args, said)
+        }
+    }
+
+    fn run_mach(&self, world: World, args: &[Value], said: &mut String) -> Result<()> {
+        let function = self.mach(world.alloc)?;
+        let mut machine = mach_machine::Machine::new(&function, world)?;
+        let end = machine.run(args, FUEL)?;
+        put_outcome(&machine.world, end, said)
+    }
+
+    fn run_lin(&self, world: World, args: &[Value], said: &mut String) -> Result<()> {
+        let function = self.lin(world.alloc)?;
+        let mut machine = lin_machine::Machine::new(&function, self.named.as_slice(), world);
+        let end = machine.run(args, FUEL)?;
+        put_outcome(&machine.world, end, said)
+    }
+}
+
+fn put_outcome(world: &World, end: End, said: &mut String) -> Result<()> {
+    for call in world.calls.as_slice() {
+        put_call(world.alloc, said, call)?;
+    }
+    put_end(said, end)?;
+    write!(said, ", units {}\n", world.units)?;
+    Ok(())
+}
+
+/// The arguments of a run, before the first bar.
+fn arguments(alloc: Global, text: &str) -> Result<Vec<Value>> {
+    let words = match text.split_once("|") {
+        Some((words, _)) => words,
+        None => text,
+    };
+    let mut args = Vec::new(alloc);
+    for word in words_of(alloc, words)? {
+        if let Some(value) = value(word) {
+            args.push(value)?;
+        }
+    }
+    Ok(args)
+}
+
+/// What calls do, each after a bar.
+fn doings(alloc: Global, text: &str) -> Result<Vec<Doing>> {
+    let mut doings = Vec::new(alloc);
+    for part in text.split('|') {
+        if let Some(doing) = doing(part.trim()) {
+            doings.push(doing)?;
+        }
+    }
+    Ok(doings)
+}
+
+/// What stands round a run, where the text's data has no fault.
+fn world_of<'a>(alloc: Global, file: &'a File, text: &str) -> Result<Option<World<'a>>> {
+    if data_fault(file).is_some() {
+        return Ok(None);
+    }
+    let doings = doings(alloc, text)?;
+    let memory = Memory::of_file(alloc, file)?;
+    let symbols = SymbolTable::of_file(alloc, file)?;
+    Ok(Some(World::new(alloc, file, symbols, memory, doings)))
+}
+
+impl<'a> Rows<'a> {
+    pub(crate) fn new(alloc: Global, file: &'a File) -> Self {
+        Rows {
+            alloc,
+            file,
+            function: Function::new(alloc),
+            said: String::new(alloc),
+        }
+    }
+
+    pub(crate) fn said(&self) -> &[u8] {
+        self.said.as_str().as_bytes()
+    }
+
+    fn begin(&mut self, is_mach: bool, head: &str) -> Result<()> {
+        self.function = Function::begin(self.alloc, is_mach, head)?;
+        Ok(())
+    }
+
+    /// An instruction of the function that is read; what is none is said.
+    fn instruction(&mut self, text: &str) -> Result<()> {
+        let is_one = if self.function.is_mach {
+            self.function.add_instr(self.alloc, text)?
+        } else {
+            self.function.add_line(self.alloc, text)?
+        };
+        if !is_one {
+            write!(self.said, "no instruction: {text}\n")?;
+        }
+        Ok(())
     }
 
     /// A run: arguments, and what calls do.
     fn run(&mut self, text: &str) -> Result<()> {
-        let mut args = Vec::new(self.alloc);
-        let mut doings = Vec::new(self.alloc);
-        let mut is_first = true;
-        for part in text.split('|') {
-            if is_first {
-                for word in words_of(self.alloc, part)? {
-                    if let Some(value) = value(word) {
-                        args.push(value)?;
-                    }
-                }
-                is_first = false;
-            } else if let Some(doing) = doing(part.trim()) {
-                doings.push(doing)?;
-            }
-        }
-        let file = self.file;
-        if data_fault(file).is_some() {
-            return Ok(());
-        }
-        let memory = Memory::of_file(self.alloc, file)?;
-        let symbols = SymbolTable::of_file(self.alloc, file)?;
-        let world = World::new(self.alloc, file, symbols, memory, doings);
-        write!(self.said, "{}", self.name)?;
+        let args = arguments(self.alloc, text)?;
+        write!(self.said, "{}", self.function.name)?;
         for arg in args.as_slice() {
             put_value(&mut self.said, *arg)?;
         }
         self.said.push_str(":")?;
-        if self.is_mach {
-            let function = self.mach()?;
-            let mut machine = mach_machine::Machine::new(&function, world)?;
-            let end = machine.run(args.as_slice(), FUEL)?;
-            self.put_outcome(&machine.world, end)
-        } else {
-            let function = self.lin()?;
-            let named = self.named.clone()?;
-            let mut machine = lin_machine::Machine::new(&function, named.as_slice(), world);
-            let end = machine.run(args.as_slice(), FUEL)?;
-            self.put_outcome(&machine.world, end)
+        match world_of(self.alloc, self.file, text)? {
+            Some(world) => self.function.run(world, args.as_slice(), &mut self.said),
+            None => Ok(()),
         }
-    }
-
-    fn put_outcome(&mut self, world: &World, end: End) -> Result<()> {
-        for call in world.calls.as_slice() {
-            put_call(self.alloc, &mut self.said, call)?;
-        }
-        put_end(&mut self.said, end)?;
-        write!(self.said, ", units {}\n", world.units)?;
-        Ok(())
     }
 
     /// A line of the rows.
@@ -254,10 +310,10 @@ impl<'a> Rows<'a> {
             Some(("mach", head)) => self.begin(true, head),
             Some(("lin", head)) => self.begin(false, head),
             Some(("run", text)) => self.run(text),
-            Some(("names", text)) => self.names(text),
+            Some(("names", text)) => self.function.add_names(self.alloc, text),
             _ if line.is_empty() => Ok(()),
             _ if line == "run" => self.run(""),
-            _ if line == "names" => self.names(""),
+            _ if line == "names" => self.function.add_names(self.alloc, ""),
             _ => self.instruction(line),
         }
     }

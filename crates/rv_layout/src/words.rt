@@ -14,6 +14,7 @@ use std::alloc::AllocError;
 
 /// Pieces in their forms, with what the name of each stands for: an address, or the number of an
 /// external call.
+#[derive(Clone, Copy)]
 pub struct Placed<'a> {
     pub code: &'a [Piece],
     pub forms: &'a [Form],

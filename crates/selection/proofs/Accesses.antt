@@ -12,14 +12,14 @@ use Rattle.mach_ir.specs.declared.mach.Instr.{Instr}
 use Rattle.mach_ir.specs.declared.op.Right.{Right}
 use Rattle.mach_ir.specs.declared.reg.Reg.{Reg}
 use Rattle.selection_rules.specs.Instructions as emit
-use Rattle.selection_rules.specs.Select.{Named, Label, Code, fresh, inner_dest, select, select_base, base_of, offset_of, right_of, bound_test, ordered, only_when, unless_constant, width}
-use Rattle.selection.proofs.Integers.{based}
+use Rattle.selection_rules.specs.Select.{Named, Label, Code, fresh, inner_dest, select, base_of, offset_of, right_of, bound_test, ordered, only_when, width}
+use Rattle.selection.proofs.Addresses.{based}
 use Rattle.selection.proofs.Ordered.{ordered_same, constant_needed}
 use Rattle.selection.proofs.Steps.{based-by}
 use Rattle.selection.specs.Below.{node_code}
-use Rattle.selection.specs.Scoping.{Visible, names_in}
-use Rattle.selection.specs.Shapes.{is_register}
-use Rattle.selection.specs.declared.place.Place.{Place}
+use Rattle.selection_scope.specs.Scoping.{Visible, names_in}
+use Rattle.selection_code.specs.Shapes.{is_register}
+use Rattle.selection_scope.specs.declared.place.Place.{Place}
 
 -- an expression, where its register, its first number and its tree are told by equations
 pub put-same : (env : List Named) (labels : List Label) (r x : Reg) (first b : ℕ) (e other : Expression) (next : List Instr)

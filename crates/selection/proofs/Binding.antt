@@ -16,9 +16,9 @@ use Rattle.selection_rules.specs.Select.{Named, Label, scopes, fresh, env_after,
 use Rattle.selection.proofs.Bindings.{name_of, after-last, bound-last, bindings-typed-last, scopes-after, scopes-params, before}
 use Rattle.selection.proofs.LastParts.{part_place}
 use Rattle.selection.specs.Below.{code_at, node_code}
-use Rattle.selection.specs.Scoping.{Visible, names_in}
-use Rattle.selection.specs.declared.place.Node.{Node}
-use Rattle.selection.specs.declared.place.Place.{Place}
+use Rattle.selection_scope.specs.Scoping.{Visible, names_in}
+use Rattle.selection_scope.specs.declared.place.Node.{Node}
+use Rattle.selection_scope.specs.declared.place.Place.{Place}
 
 -- the names and labels are all that is in scope
 pub visible-is : (old new : Visible) (ns : List Named) → new.names ≡ ns → new.labels ≡ old.labels → new ≡ record old { names = ns }

@@ -1,5 +1,5 @@
 -- Bindings, by the last of them, and the names behind them.
-use Rattle.std.proofs.Common.{◌≡◌, ℕ, zero, suc, ◌+◌, Bool, false, List, [], ◌∷◌, ◌++◌, length, drop, map, option_map, refl, ap, sym, ◌∙◌, subst, arith}
+use Rattle.std.proofs.Common.{◌≡◌, ℕ, zero, suc, ◌+◌, false, List, [], ◌∷◌, ◌++◌, length, drop, option_map, refl, ap, ◌∙◌, arith}
 use Rattle.cmm_tree.specs.Rows.{bindings_of}
 use Rattle.cmm_tree.specs.Tree.{Parameter, Bindings, NoBinding, Bind}
 use Rattle.cmm_tree.specs.View.{expr_view, declared_view}

@@ -1,5 +1,5 @@
 -- Forms that hold expressions in boxes: what they stand for, and that their parts hold their types.
-use Rattle.std.proofs.Common.{◌≡◌, ℕ, List, refl, ap, sym, ◌∙◌, subst, ◌∷◌, false, Box, Global}
+use Rattle.std.proofs.Common.{◌≡◌, ℕ, List, ap, sym, ◌∙◌, subst, ◌∷◌, false, Box, Global}
 use Rattle.bs_words.specs.declared.operators.IntOp.{IntOp}
 use Rattle.bs_words.specs.declared.types.Chunk.{Chunk}
 use Rattle.bs_words.specs.declared.types.Ty.TheVariants as ty

@@ -18,12 +18,12 @@ use Rattle.mach_ir.specs.declared.reg.Reg.{Reg}
 use Rattle.selection_rules.specs.Instructions.{bare}
 use Rattle.selection_rules.specs.Instructions as emit
 use Rattle.selection_rules.specs.Select.{fresh, seat, inner_dest, inner_valued, select, select_test, select_cases, select_handlers, switch_labels, labels_from, in_handlers, deeper, count_cases, width, width_labels}
-use Rattle.selection.proofs.Ends.{count-cases}
+use Rattle.selection_scope.proofs.Counts.{count-cases}
 use Rattle.selection.proofs.LastParts.{operand_place, part_place}
 use Rattle.selection.specs.Below.{code_at, node_code}
-use Rattle.selection.specs.Scoping.{Visible, names_in}
-use Rattle.selection.specs.declared.place.Node.{Node}
-use Rattle.selection.specs.declared.place.Place.{Place}
+use Rattle.selection_scope.specs.Scoping.{Visible, names_in}
+use Rattle.selection_scope.specs.declared.place.Node.{Node}
+use Rattle.selection_scope.specs.declared.place.Place.{Place}
 
 -- a part of a node, whose numbers begin with `m`
 abbrev part : Visible → Node → Ty → ℕ → Expr → List Instr → List Instr

@@ -1,9 +1,7 @@
 -- The code of rows, by their last parts: it is made from the end.
-use Rattle.std.proofs.Common.{◌≡◌, ℕ, suc, ◌+◌, ◌*◌, Bool, false, List, [], ◌∷◌, ◌++◌, length, map, refl, ap, sym, ◌∙◌, arith}
-use Rattle.bs_words.specs.declared.types.Chunk.{Chunk}
+use Rattle.std.proofs.Common.{◌≡◌, ℕ, suc, ◌+◌, Bool, false, List, [], ◌∷◌, ◌++◌, length, refl, ap, ◌∙◌, arith}
 use Rattle.cmm_tree.specs.Rows.{row_of, cases_of, handlers_of}
-use Rattle.cmm_tree.specs.Tree.{LabelTree}
-use Rattle.cmm_tree.specs.View.{expr_view, index_view, params_view, label_view}
+use Rattle.cmm_tree.specs.View.{expr_view, params_view}
 use Rattle.cmm_tree.specs.declared.expr.Case.{Case}
 use Rattle.cmm_tree.specs.declared.expr.Expr.{Expr}
 use Rattle.cmm_tree.specs.declared.expr.Handler.{Handler}
@@ -15,8 +13,7 @@ use Rattle.mach_ir.specs.declared.mach.Instr.{Instr}
 use Rattle.mach_ir.specs.declared.mach.Mark.TheVariants as mark
 use Rattle.mach_ir.specs.declared.reg.Reg.{Reg}
 use Rattle.selection_rules.specs.Instructions.{bare}
-use Rattle.selection_rules.specs.Instructions as emit
-use Rattle.selection_rules.specs.Select.{Named, Label, scopes, fresh, select, select_seq, select_cases, select_handlers, width, width_row, width_cases, width_handlers, width_labels, with_params, params_from, cell_stores, count_cases, count_of}
+use Rattle.selection_rules.specs.Select.{Named, Label, scopes, fresh, select, select_seq, select_cases, select_handlers, width, width_row, width_cases, width_handlers, width_labels, with_params, params_from}
 use Rattle.selection.specs.Rows.{select_dropped}
 
 -- ---- rows of expressions
@@ -73,14 +70,6 @@ cases-typed-last names (x ∷ xs) c t = let more = cases-typed-last names xs c t
 pub cases-width-last : (xs : List Case) (c : Case) → width_cases (cases_of (xs ++ c ∷ [])) ≡ width_cases (cases_of xs) + width (expr_view c.body)
 cases-width-last [] c = omega arith
 cases-width-last (x ∷ xs) c = let more = cases-width-last xs c in omega (arith, more)
-
-pub count-cases : (xs : List Case) → count_cases (cases_of xs) ≡ length xs
-count-cases [] = refl
-count-cases (x ∷ xs) = ap suc (count-cases xs)
-
-pub count-row : (xs : List Expr) → count_of (row_of xs) ≡ length xs
-count-row [] = refl
-count-row (x ∷ xs) = ap suc (count-row xs)
 
 pub cases-last : (env : List Named) (labels : List Label) (valued tail : Bool) (d : Reg) (all : List ℕ) (end l b : ℕ) (xs : List Case) (c : Case) (next : List Instr)
     → select_cases env labels valued tail d all end l b (cases_of (xs ++ c ∷ [])) next
@@ -144,15 +133,3 @@ handlers-last env labels valued tail d end l b (x ∷ xs) h next =
     (handlers-last env labels valued tail d end (suc l + n) (b + w) xs h next
     ∙ ap (λ k. select_handlers env labels valued tail d end (suc l + n) (b + w) (handlers_of xs) (here k (b + w + width_handlers (handlers_of xs)))) label
     ∙ ap (λ m. select_handlers env labels valued tail d end (suc l + n) (b + w) (handlers_of xs) (here (l + width_labels (handlers_of (x ∷ xs))) m)) number)
-
--- ---- the cells of a block
-
-pub cells-last : (k : Chunk) (p : Reg) (i : ℕ) (rs : List Reg) (r : Reg) (next : List Instr)
-    → cell_stores k p i (rs ++ r ∷ []) next ≡ cell_stores k p i rs (emit.store k (8 * (i + length rs)) p r ∷ next)
-cells-last k p i [] r next =
-    let none : i ≡ i + 0 = omega arith in
-    ap (λ n. emit.store k (8 * n) p r ∷ next) none
-cells-last k p i (x ∷ rs) r next =
-    let same : suc i + length rs ≡ i + length (x ∷ rs) = omega arith in
-    ap (λ rest. emit.store k (8 * i) p x ∷ rest)
-    (cells-last k p (suc i) rs r next ∙ ap (λ n. cell_stores k p (suc i) rs (emit.store k (8 * n) p r ∷ next)) same)

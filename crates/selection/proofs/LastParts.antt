@@ -20,9 +20,9 @@ use Rattle.selection_rules.specs.Select.{fresh, inner_dest, inner_valued, select
 use Rattle.selection.proofs.Ends.{typed-last, width-last, dropped-last, seq-last, cases-typed-last, cases-width-last, cases-last, HandlerTyped, handlers-typed-last, handlers-width-last, labels-width-last, handlers-last}
 use Rattle.selection.specs.Below.{code_at, node_code}
 use Rattle.selection.specs.Rows.{select_dropped}
-use Rattle.selection.specs.Scoping.{Visible, names_in}
-use Rattle.selection.specs.declared.place.Node.{Node}
-use Rattle.selection.specs.declared.place.Place.{Place}
+use Rattle.selection_scope.specs.Scoping.{Visible, names_in}
+use Rattle.selection_scope.specs.declared.place.Node.{Node}
+use Rattle.selection_scope.specs.declared.place.Place.{Place}
 
 -- where the value of an operand goes
 abbrev pub operand_place : Reg → ℕ → Place

@@ -1,13 +1,10 @@
-pub mod Integers
+pub mod Addresses
 pub mod Ends
 pub mod Bindings
-pub mod Scopes
 pub mod Nodes
 pub mod Ordered
 pub mod Steps
 pub mod Accesses
-pub mod Innermost
-pub mod Lasting
 pub mod Choosing
 pub mod Binding
 pub mod LastParts
@@ -17,3 +14,4 @@ pub mod Waiting
 pub mod RowForms
 pub mod BoxedForms
 pub mod Whole
+pub mod Outlines

@@ -1,6 +1,5 @@
 -- A node and the form that it holds.
-use Rattle.std.proofs.Common.{◌≡◌, ℕ, List, sym, ap, ◌∙◌, subst}
-use Rattle.bs_words.specs.declared.types.Ty.{Ty}
+use Rattle.std.proofs.Common.{◌≡◌, List, sym, ap, ◌∙◌, subst}
 use Rattle.cmm_tree.specs.Tree.{Expression}
 use Rattle.cmm_tree.specs.View.{expr_view, form_view}
 use Rattle.cmm_tree.specs.declared.expr.Expr.{Expr}
@@ -10,8 +9,8 @@ use Rattle.cmm_types.specs.Types.{Scoped, type_of}
 use Rattle.cmm_walks.proofs.Shapes.{Shape}
 use Rattle.mach_ir.specs.declared.mach.Instr.{Instr}
 use Rattle.selection.specs.Below.{code_at, node_code}
-use Rattle.selection.specs.Scoping.{Visible}
-use Rattle.selection.specs.declared.place.Place.{Place}
+use Rattle.selection_scope.specs.Scoping.{Visible}
+use Rattle.selection_scope.specs.declared.place.Place.{Place}
 
 -- the tree of a node is that of its form
 pub tree-is : (ns : List Scoped) (e : Expr) (f : Form) (t : Expression) (Parts : Type 0) → e.form ≡ f → Shape ns e.at f t Parts → expr_view e ≡ t

@@ -1,10 +1,10 @@
 -- The code of two operands, in either order, where one of them may need none.
-use Rattle.std.proofs.Common.{◌≡◌, Bool, true, false, List, refl, ap, sym, ◌∙◌}
+use Rattle.std.proofs.Common.{◌≡◌, Bool, true, false, List, refl, ap, ◌∙◌}
 use Rattle.mach_ir.specs.declared.mach.Instr.{Instr}
 use Rattle.mach_ir.specs.declared.op.Right.{Right}
 use Rattle.mach_ir.specs.declared.op.Right.TheVariants as right
 use Rattle.selection_rules.specs.Select.{Code, Shape, InRegisters, ConstantRight, ConstantLeft, PowerRight, ordered, only_when, unless_left, unless_right, unless_constant}
-use Rattle.selection.specs.Shapes.{needs_left, needs_right, is_register}
+use Rattle.selection_code.specs.Shapes.{needs_left, needs_right, is_register}
 
 pub ordered_same : (b : Bool) (l k r q : Code) (next : List Instr) → ((n : List Instr) → l n ≡ k n) → ((n : List Instr) → r n ≡ q n) → ordered b l r next ≡ ordered b k q next
 ordered_same true l k r q next el er = ap l (er next) ∙ el (q next)

@@ -1,5 +1,5 @@
 -- The code of forms that take a row of operands, where each part of it is told by an equation.
-use Rattle.std.proofs.Common.{◌≡◌, ℕ, suc, ◌+◌, ◌-◌, ◌&&◌, Bool, true, false, not, List, [], ◌∷◌, Option, length, refl, ap, sym, ◌∙◌, nat_le, ◌%◌, arith}
+use Rattle.std.proofs.Common.{◌≡◌, ℕ, suc, ◌+◌, ◌-◌, ◌&&◌, Bool, false, not, List, ◌∷◌, Option, length, ap, ◌∙◌, nat_le, ◌%◌, arith}
 use Rattle.bs_words.specs.declared.types.Chunk.{Chunk}
 use Rattle.bs_words.specs.declared.types.Chunk.TheVariants as chunk
 use Rattle.bs_words.specs.declared.types.Comp.{Comp}
@@ -7,7 +7,7 @@ use Rattle.bs_words.specs.declared.types.Ret.{Ret}
 use Rattle.bs_words.specs.declared.types.Ty.{Ty}
 use Rattle.bs_words.specs.declared.types.Ty.TheVariants as ty
 use Rattle.cmm_tree.specs.Rows.{row_of}
-use Rattle.cmm_tree.specs.Tree.{Expression, Expressions, LabelTree, App, Extcall, Exit, Alloc}
+use Rattle.cmm_tree.specs.Tree.{LabelTree, App, Extcall, Exit, Alloc}
 use Rattle.cmm_tree.specs.View.{expr_view}
 use Rattle.cmm_tree.specs.declared.expr.Expr.{Expr}
 use Rattle.cmm_types.specs.Annotated.{IsAnnotated}
@@ -17,13 +17,13 @@ use Rattle.cmm_meaning.specs.Evaluation.{comps_of_arguments}
 use Rattle.mach_ir.specs.declared.mach.Instr.{Instr}
 use Rattle.mach_ir.specs.declared.reg.Reg.{Reg}
 use Rattle.selection_rules.specs.Instructions as emit
-use Rattle.selection_rules.specs.Select.{Named, Label, Code, fresh, inner_dest, inner_valued, select, select_waiting, select_filled, only_when, unless_symbol, symbol_of, call_of, moves_all, seats, result_seat, from_seat, regs_of, label_of, exit_to, cell_stores, chunk_for, header_offset, count_of, width}
-use Rattle.selection.proofs.Ends.{count-row}
+use Rattle.selection_rules.specs.Select.{Label, Code, fresh, inner_dest, inner_valued, select, select_waiting, select_filled, only_when, unless_symbol, symbol_of, call_of, moves_all, seats, result_seat, from_seat, regs_of, label_of, exit_to, cell_stores, chunk_for, header_offset, count_of, width}
+use Rattle.selection_scope.proofs.Counts.{count-row}
 use Rattle.selection.proofs.Waiting.{called-here}
 use Rattle.selection.specs.Below.{node_code}
 use Rattle.selection.specs.Operands.{lacks}
-use Rattle.selection.specs.Scoping.{Visible, names_in}
-use Rattle.selection.specs.declared.place.Place.{Place}
+use Rattle.selection_scope.specs.Scoping.{Visible, names_in}
+use Rattle.selection_scope.specs.declared.place.Place.{Place}
 
 pub exit-is : (scope : Visible) (place : Place) (label : LabelTree) (arguments : List Expr) (row base : ℕ) (regs : List Reg) (target : Option Label) (next left filled made : List Instr) (at label_at : ℕ)
     → row ≡ place.base + 1

@@ -1,17 +1,11 @@
 -- The code of forms with one or two operands, where each part of it is told by an equation.
-use Rattle.std.proofs.Common.{◌≡◌, ℕ, suc, Bool, false, List, [], ◌∷◌, refl, ap, sym, ◌∙◌}
-use Rattle.bs_words.specs.declared.operators.IntOp.{IntOp}
-use Rattle.bs_words.specs.declared.types.Chunk.{Chunk}
+use Rattle.std.proofs.Common.{◌≡◌, ℕ, false, List, ap, sym, ◌∙◌}
 use Rattle.cmm_tree.specs.Tree.{Expression}
 use Rattle.cmm_types.specs.Types.{type_of}
 use Rattle.mach_ir.specs.declared.mach.Instr.{Instr}
-use Rattle.mach_ir.specs.declared.op.Right.{Right}
 use Rattle.mach_ir.specs.declared.reg.Reg.{Reg}
-use Rattle.selection_rules.specs.Instructions as emit
-use Rattle.selection_rules.specs.Select.{Named, Label, Code, Shape, scopes, fresh, select, select_base, base_of, offset_of, ordered, only_when, unless_left, unless_right, unless_constant, width}
-use Rattle.selection.proofs.Integers.{based}
-use Rattle.selection.proofs.Ordered.{ordered_same, operands_are, bound_operands_are}
-use Rattle.selection.specs.Shapes.{needs_left, needs_right, is_register}
+use Rattle.selection_rules.specs.Select.{Named, Label, scopes, fresh, select, select_base, base_of}
+use Rattle.selection.proofs.Addresses.{based}
 
 -- an expression into a fresh register, which the code that follows reads
 pub read-by : (env : List Named) (labels : List Label) (n b number first : ℕ) (e other : Expression) (r : Reg) (made : List Instr) (follows : Reg → List Instr)

@@ -14,9 +14,9 @@ use Rattle.selection_rules.specs.Instructions as emit
 use Rattle.selection_rules.specs.Select.{Shape, fresh, inner_dest, select, select_test, ordered, only_when, unless_left, unless_right, operator_code, shape_of, shape_op, shape_right, shape_args, comparison, tested, width}
 use Rattle.selection.proofs.Ordered.{operands_are}
 use Rattle.selection.specs.Below.{node_code}
-use Rattle.selection.specs.Scoping.{Visible, names_in}
-use Rattle.selection.specs.Shapes.{needs_left, needs_right}
-use Rattle.selection.specs.declared.place.Node.{Node}
+use Rattle.selection_scope.specs.Scoping.{Visible, names_in}
+use Rattle.selection_code.specs.Shapes.{needs_left, needs_right}
+use Rattle.selection_scope.specs.declared.place.Node.{Node}
 
 -- an operand into a register
 abbrev into : Visible → Reg → ℕ → Expr → List Instr → List Instr

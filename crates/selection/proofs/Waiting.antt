@@ -1,7 +1,6 @@
 -- Operands in a row, from the first on: each is put into its register at once, or waits.
-use Rattle.std.proofs.Common.{◌≡◌, ℕ, suc, ◌+◌, ◌-◌, ◌≤◌, ◌&&◌, Bool, true, false, not, List, [], ◌∷◌, Option, Some, None, length, get_or, take, drop, refl, ap, sym, ◌∙◌, arith}
+use Rattle.std.proofs.Common.{◌≡◌, ℕ, suc, ◌+◌, ◌-◌, ◌≤◌, ◌&&◌, Bool, true, false, not, List, [], ◌∷◌, Option, Some, None, length, get_or, take, drop, refl, ap, ◌∙◌, arith}
 use Rattle.cmm_tree.specs.Rows.{row_of}
-use Rattle.cmm_tree.specs.Tree.{Expression}
 use Rattle.cmm_tree.specs.View.{expr_view}
 use Rattle.cmm_tree.specs.declared.expr.Expr.{Expr}
 use Rattle.cmm_types.specs.Annotated.{IsAnnotated}
@@ -9,9 +8,9 @@ use Rattle.cmm_types.specs.Light.{is_light_address}
 use Rattle.cmm_types.specs.Types.{type_of}
 use Rattle.mach_ir.specs.declared.mach.Instr.{Instr}
 use Rattle.mach_ir.specs.declared.reg.Reg.{Reg}
-use Rattle.selection_rules.specs.Select.{Named, Label, Code, fresh, select, only_when, unless_symbol, select_waiting, select_filled, width}
+use Rattle.selection_rules.specs.Select.{Code, fresh, select, only_when, unless_symbol, select_waiting, select_filled, width}
 use Rattle.selection.specs.Operands.{lacks}
-use Rattle.selection.specs.Scoping.{Visible, names_in}
+use Rattle.selection_scope.specs.Scoping.{Visible, names_in}
 
 -- the code of an operand, if it is needed here
 abbrev here : Visible → ℕ → Expr → List Instr → Bool → Reg → List Instr

@@ -1,5 +1,5 @@
 -- The code of a whole function, where each part of it is told by an equation.
-use Rattle.std.proofs.Common.{◌≡◌, ℕ, suc, ◌+◌, ◌-◌, Bool, true, false, not, List, [], ◌∷◌, length, map, refl, ap, sym, ◌∙◌, subst, arith}
+use Rattle.std.proofs.Common.{◌≡◌, ℕ, suc, ◌+◌, ◌-◌, true, not, List, [], length, ap, sym, ◌∙◌, subst, arith}
 use Rattle.std.proofs.lemmas.List.{length-map}
 use Rattle.bs_words.specs.Contents.{contents}
 use Rattle.bs_words.specs.declared.types.Ret.{Ret}
@@ -9,15 +9,15 @@ use Rattle.cmm_tree.specs.View.{expr_view, function_view, param_view, params_vie
 use Rattle.cmm_tree.specs.declared.file.Param.{Param}
 use Rattle.cmm_tree.specs.declared.file.Function.{Function}
 use Rattle.cmm_types.specs.Annotated.{IsAnnotated}
-use Rattle.cmm_types.specs.Types.{Scoped, type_of, with_parameters, result_of, body_type}
+use Rattle.cmm_types.specs.Types.{Scoped, type_of, with_parameters, result_of}
 use Rattle.cmm_types.specs.Typing.{IsFunctionAnnotated}
 use Rattle.mach_ir.specs.Placed.{colours}
 use Rattle.mach_ir.specs.declared.mach.Instr.{Instr}
 use Rattle.mach_ir.specs.declared.mach.Mach.{Mach}
 use Rattle.mach_ir.specs.declared.reg.Reg.{Reg}
-use Rattle.selection_rules.specs.Select.{Named, Label, scopes, fresh, is_no_value, select, seats, with_params, params_from, moves_all, returns, colour_regs, selected, width}
+use Rattle.selection_rules.specs.Select.{scopes, fresh, is_no_value, select, seats, with_params, params_from, moves_all, returns, colour_regs, selected, width}
 use Rattle.selection.proofs.Bindings.{scopes-params}
-use Rattle.selection.specs.Scoping.{Visible, names_in}
+use Rattle.selection_scope.specs.Scoping.{Visible, names_in}
 
 -- so many parameters
 pub count-params : (f : Function) (params : List Param) (n : ℕ) → n ≡ length params → params ≡ contents f.params → n ≡ length (params_view (contents f.params))

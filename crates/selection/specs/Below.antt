@@ -8,8 +8,8 @@ use Rattle.cmm_tree.specs.declared.expr.Expr.{Expr}
 use Rattle.cmm_types.specs.Annotated.{IsAnnotated}
 use Rattle.mach_ir.specs.declared.mach.Instr.{Instr}
 use Rattle.selection_rules.specs.Select.{Code, select}
-use Rattle.selection.specs.Scoping.{Visible, names_in}
-use Rattle.selection.specs.declared.place.Place.{Place}
+use Rattle.selection_scope.specs.Scoping.{Visible, names_in}
+use Rattle.selection_scope.specs.declared.place.Place.{Place}
 
 -- the code of an expression at a place
 abbrev pub code_at : Visible → Place → Expr → Code

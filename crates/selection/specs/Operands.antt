@@ -2,7 +2,7 @@
 use Rattle.std.specs.Prelude.{ℕ, Bool, true, false, List, Option, Some, None}
 use Rattle.cmm_tree.specs.View.{expr_view}
 use Rattle.selection_rules.specs.Select.{Code, select, only_when}
-use Rattle.selection.specs.Scoping.{Visible}
+use Rattle.selection_scope.specs.Scoping.{Visible}
 use Rattle.selection.specs.declared.operands.Operand.{Operand}
 
 abbrev pub operand_code : Visible → Operand → Code

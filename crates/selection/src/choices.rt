@@ -11,24 +11,26 @@ ghost use Rattle.cmm_types.specs.Types.{type_of};
 ghost use Rattle.mach_ir.specs.Formed.{indexes_of};
 ghost use Rattle.mach_ir.specs.declared.mach.Test.TheVariants as test;
 ghost use Rattle.selection_rules.specs.Instructions as emit;
-ghost use Rattle.selection_rules.specs.Select.{select, select_seq, select_cases, select_test, comparison, shape_of, shape_op, shape_right, last_label, switch_labels};
+ghost use Rattle.selection_rules.specs.Select.{select, select_cases, select_test, comparison, shape_of, shape_op, shape_right, last_label};
+ghost use Rattle.selection_rules.specs.Select.{switch_labels};
 ghost use Rattle.selection.specs.Below.{node_code, MayCall, Selects};
 ghost use Rattle.mach_ir.specs.declared.mach.Instr.{Instr};
 ghost use Rattle.selection.specs.Rows.{select_dropped};
-ghost use Rattle.selection.specs.Shapes.{shape_view};
-ghost use Rattle.selection.specs.Scoping.{names_in};
+ghost use Rattle.selection_code.specs.Shapes.{shape_view};
+ghost use Rattle.selection_scope.specs.Scoping.{names_in};
 
-use crate::backwards::Backwards;
-use crate::light::is_left_first;
-use crate::numbers::{number_of, plus};
 use crate::operands::{Operand, both, one};
-use crate::place::{Node, Place, fresh, operand_at};
-use crate::scope::Scope;
-use crate::shape::{Shape, comparison, shape_of};
-use crate::width::{behind, behind_cases, behind_row, width_of};
 use bs_words::IntOp;
-use cmm_tree::{Case, CaseIndex, Expr, Form};
+use cmm_tree::{Case, CaseIndex, Expr};
 use mach_ir::{Mark, Reg, Seq, Test};
+use selection_code::backwards::Backwards;
+use selection_code::shape::{Shape, comparison, shape_of};
+use selection_scope::light::is_left_first;
+use selection_scope::numbers::{number_of, plus};
+use selection_scope::outline::{Outline, outline_of};
+use selection_scope::place::{Node, Place, fresh, operand_at};
+use selection_scope::scope::Scope;
+use selection_scope::width::{behind, behind_cases, behind_row, width_of};
 use std::alloc::{AllocError, Global};
 
 /// An operator on two operands.
@@ -45,7 +47,8 @@ pub fn operator<F: Fn(&mut Scope, &mut Backwards, Place, &Expr) -> Result<(), Al
     requires selects { Selects (F.post below.now) }
     requires left_typed { IsAnnotated (names_in scope.old) left.now }
     requires right_typed { IsAnnotated (names_in scope.old) right.now }
-    requires ty { (at : ℕ) → node.ty ≡ type_of (names_in scope.old) (Operator at op (expr_view left.now) (expr_view right.now)) }
+    requires ty { (at : ℕ) → node.ty ≡ type_of (names_in scope.old) (Operator at op (expr_view
+        left.now) (expr_view right.now)) }
     ensures code { OnOk result ((at : ℕ) → code.new ≡ node_code scope.old node.place
         (Operator at op (expr_view left.now) (expr_view right.now)) code.old) }
     ensures scope { OnOk result (scope.new ≡ scope.old) }
@@ -170,6 +173,7 @@ fn tested<F: Fn(&mut Scope, &mut Backwards, Place, &Expr) -> Result<(), AllocErr
 }
 
 /// What an `if` tests: where it fails the code goes on at the label `otherwise`.
+#[tactic(auto, using(crate::proofs::Outlines::other_test))]
 fn condition<F: Fn(&mut Scope, &mut Backwards, Place, &Expr) -> Result<(), AllocError>>(
     below: &F,
     scope: &mut Scope,
@@ -189,10 +193,10 @@ fn condition<F: Fn(&mut Scope, &mut Backwards, Place, &Expr) -> Result<(), Alloc
         (emit.branch test.Holds otherwise (place.dest ∷ []) ∷ code.old)) code.old) }
     ensures scope { OnOk result (scope.new ≡ scope.old) }
 {
-    match &condition.form {
-        Form::Operator(op, left, right) => {
-            let shape = shape_of(*op, left, right);
-            match comparison(shape.op(*op), shape.right()) {
+    match outline_of(condition) {
+        Outline::Operator(op, left, right) => {
+            let shape = shape_of(op, left, right);
+            match comparison(shape.op(op), shape.right()) {
                 Some(test) => {
                     let branch = Branch {
                         shape,
@@ -205,27 +209,9 @@ fn condition<F: Fn(&mut Scope, &mut Backwards, Place, &Expr) -> Result<(), Alloc
                 None => tested(below, scope, code, otherwise, place, condition),
             }
         }
-        Form::Integer(_)
-        | Form::Pointer(_)
-        | Form::Symbol(_)
-        | Form::Name(_)
-        | Form::Nothing
-        | Form::Float { .. }
-        | Form::Let(_, _)
-        | Form::Assign { .. }
-        | Form::Load(_, _)
-        | Form::Store(_, _, _)
-        | Form::Alloc { .. }
-        | Form::App { .. }
-        | Form::Extcall { .. }
-        | Form::Checkbound(_, _)
-        | Form::Raise(_)
-        | Form::Seq(_)
-        | Form::If(_, _, _)
-        | Form::Switch { .. }
-        | Form::Catch(_, _)
-        | Form::Exit { .. }
-        | Form::Try { .. } => tested(below, scope, code, otherwise, place, condition),
+        Outline::Integer(_) | Outline::Symbol(_) | Outline::Name(_) | Outline::Other => {
+            tested(below, scope, code, otherwise, place, condition)
+        }
     }
 }
 
@@ -244,7 +230,8 @@ pub fn if_else<F: Fn(&mut Scope, &mut Backwards, Place, &Expr) -> Result<(), All
     requires condition_typed { IsAnnotated (names_in scope.old) condition_of.now }
     requires true_typed { IsAnnotated (names_in scope.old) on_true.now }
     requires false_typed { IsAnnotated (names_in scope.old) on_false.now }
-    requires ty { (at : ℕ) → node.ty ≡ type_of (names_in scope.old) (If at (expr_view condition_of.now) (expr_view on_true.now)
+    requires ty { (at : ℕ) → node.ty ≡ type_of (names_in scope.old) (If at (expr_view
+        condition_of.now) (expr_view on_true.now)
         (expr_view on_false.now)) }
     ensures code { OnOk result ((at : ℕ) → code.new ≡ node_code scope.old node.place
         (If at (expr_view condition_of.now) (expr_view on_true.now)
@@ -301,7 +288,8 @@ pub fn seq<F: Fn(&mut Scope, &mut Backwards, Place, &Expr) -> Result<(), AllocEr
     requires callable { MayCall (F.pre below.now) }
     requires selects { Selects (F.post below.now) }
     requires typed { AreAnnotated (names_in scope.old) elements.now }
-    requires ty { (at : ℕ) → node.ty ≡ type_of (names_in scope.old) (Sequence at (row_of elements.now)) }
+    requires ty { (at : ℕ) → node.ty ≡ type_of (names_in scope.old) (Sequence at (row_of
+        elements.now)) }
     ensures code { OnOk result ((at : ℕ) → code.new ≡ node_code scope.old node.place
         (Sequence at (row_of elements.now)) code.old) }
     ensures scope { OnOk result (scope.new ≡ scope.old) }
@@ -401,8 +389,8 @@ fn case_bodies<F: Fn(&mut Scope, &mut Backwards, Place, &Expr) -> Result<(), All
     requires callable { MayCall (F.pre below.now) }
     requires selects { Selects (F.post below.now) }
     requires typed { AreCasesAnnotated (names_in scope.old) choices.cases.now }
-    ensures code { OnOk result (code.new ≡ select_cases scope.old.names scope.old.labels place.valued
-        place.tail place.dest choices.entry.all.now choices.entry.end choices.entry.first
+    ensures code { OnOk result (code.new ≡ select_cases scope.old.names scope.old.labels
+        place.valued place.tail place.dest choices.entry.all.now choices.entry.end choices.entry.first
         place.base (cases_of choices.entry.cases.now) code.old) }
     ensures scope { OnOk result (scope.new ≡ scope.old) }
 {
@@ -440,7 +428,8 @@ pub fn switch<F: Fn(&mut Scope, &mut Backwards, Place, &Expr) -> Result<(), Allo
     requires selects { Selects (F.post below.now) }
     requires selector_typed { IsAnnotated (names_in scope.old) selector.now }
     requires typed { AreCasesAnnotated (names_in scope.old) cases.now }
-    requires ty { (at size_at : ℕ) → node.ty ≡ type_of (names_in scope.old) (Switch at size_at size (expr_view selector.now) (cases_of cases.now)) }
+    requires ty { (at size_at : ℕ) → node.ty ≡ type_of (names_in scope.old) (Switch at size_at size
+        (expr_view selector.now) (cases_of cases.now)) }
     ensures code { OnOk result ((at size_at : ℕ) → code.new ≡ node_code scope.old node.place
         (Switch at size_at size (expr_view selector.now) (cases_of cases.now)) code.old) }
     ensures scope { OnOk result (scope.new ≡ scope.old) }

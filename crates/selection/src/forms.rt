@@ -2,16 +2,16 @@
 ghost use Rattle.std.specs.Prelude.{◌≡◌, OnOk};
 ghost use Rattle.cmm_types.specs.Annotated.{IsAnnotated};
 ghost use Rattle.selection.specs.Below.{code_at, MayCall, Selects};
-ghost use Rattle.selection.specs.Scoping.{names_in};
+ghost use Rattle.selection_scope.specs.Scoping.{names_in};
 
-use crate::backwards::Backwards;
 use crate::choices::{if_else, operator, seq, switch};
 use crate::leaving::{Outside, app, exit, extcall, raise};
 use crate::memory::{alloc, checkbound, load, store};
-use crate::place::{Node, Place};
-use crate::scope::Scope;
 use crate::scoping::{assign, catch, let_in, try_with};
 use cmm_tree::{Expr, Form};
+use selection_code::backwards::Backwards;
+use selection_scope::place::{Node, Place};
+use selection_scope::scope::Scope;
 use std::alloc::AllocError;
 
 /// How deep expressions nest at most. No text that is read has expressions that nest as deep: past it there would be no

@@ -7,16 +7,16 @@ ghost use Rattle.cmm_types.specs.Typing.{AreItemsAnnotated, IsFunctionAnnotated,
 ghost use Rattle.cmm_walks.specs.Checked.{typed_of};
 ghost use Rattle.selection_rules.specs.Select.{selected};
 
-use crate::backwards::Backwards;
 use crate::forms::expr;
-use crate::numbers::{number_of, plus};
-use crate::place::{Place, fresh, is_no_value, result_of};
-use crate::scope::{Scope, params_from};
-use crate::seats::{colour_regs, seats};
-use crate::width::behind;
 use cmm_tree::{Function, Item};
 use cmm_walks::Checked;
-use mach_ir::{Mach, Seq};
+use mach_ir::Mach;
+use selection_code::backwards::Backwards;
+use selection_scope::numbers::{number_of, plus};
+use selection_scope::place::{Place, fresh, is_no_value, result_of};
+use selection_scope::scope::{Scope, params_from};
+use selection_scope::seats::{colour_regs, seats};
+use selection_scope::width::behind;
 use std::alloc::{AllocError, Global};
 
 /// The function with this number.
@@ -29,11 +29,14 @@ fn function_at(items: &[Item], number: u32) -> Option<&Function>
     let mut left = number;
     let mut rest = items;
     while let [item, others @ ..] = rest {
-        if let Item::Function(function) = item {
-            if left == 0 {
-                return Some(function);
+        match item {
+            Item::Function(function) => {
+                if left == 0 {
+                    return Some(function);
+                }
+                left -= 1;
             }
-            left -= 1;
+            Item::Data(_) => {}
         }
         rest = others;
     }
@@ -52,7 +55,7 @@ fn selected(alloc: Global, function: &Function) -> Result<Mach, AllocError>
     let params = function.params.as_slice();
     let moved = plus(FIRST, number_of(params.len())?)?;
     let own = params_from(alloc, moved, params)?;
-    let given = seats(alloc, FIRST, own.as_slice())?;
+    let given = seats(alloc, FIRST, &own)?;
     let number = plus(moved, number_of(params.len())?)?;
     let base = plus(number, 2)?;
     let labels = behind(base, &function.body)?;
@@ -68,10 +71,10 @@ fn selected(alloc: Global, function: &Function) -> Result<Mach, AllocError>
         base,
     };
     expr(&mut scope, &mut code, place, &function.body)?;
-    code.moves_all(given.as_slice(), own.as_slice())?;
+    code.moves_all(&given, &own)?;
     Ok(Mach {
         name: code.copy_of(&function.name)?,
-        params: Seq::from_vec(Vec::from_slice(alloc, given.as_slice())?),
+        params: given.to_seq(alloc)?,
         result: result_of(ty),
         labels,
         colours: colour_regs(alloc)?,

@@ -9,19 +9,19 @@ ghost use Rattle.cmm_types.specs.Types.{type_of};
 ghost use Rattle.selection_rules.specs.Select.{symbol_of as symbol_in};
 ghost use Rattle.selection.specs.Operands.{lacks};
 ghost use Rattle.selection.specs.Below.{node_code, MayCall, Selects};
-ghost use Rattle.selection.specs.Scoping.{names_in};
+ghost use Rattle.selection_scope.specs.Scoping.{names_in};
 
-use crate::backwards::Backwards;
-use crate::calls::{Call, symbol_of};
-use crate::light::is_light_address;
-use crate::numbers::{number_of, plus};
 use crate::operands::{Operand, filled, one, put_operand, waiting};
-use crate::place::{Node, Place, fresh, operand_at};
-use crate::scope::Scope;
-use crate::seats::{comps_of_arguments, regs_of, result_seat, seat, seats};
-use crate::width::behind;
 use bs_words::{Comp, Name, Ret};
 use cmm_tree::{Expr, Label};
+use selection_code::backwards::Backwards;
+use selection_code::calls::{Call, symbol_of};
+use selection_scope::light::is_light_address;
+use selection_scope::numbers::{number_of, plus};
+use selection_scope::place::{Node, Place, fresh, operand_at};
+use selection_scope::scope::Scope;
+use selection_scope::seats::{comps_of_arguments, regs_of, result_seat, seat, seats};
+use selection_scope::width::behind;
 use std::alloc::AllocError;
 
 /// An external call, as the text has it.
@@ -59,7 +59,8 @@ pub fn app<F: Fn(&mut Scope, &mut Backwards, Place, &Expr) -> Result<(), AllocEr
     requires selects { Selects (F.post below.now) }
     requires callee_typed { IsAnnotated (names_in scope.old) callee.now }
     requires typed { AreAnnotated (names_in scope.old) arguments.now }
-    requires ty { (at result_at : ℕ) → node.ty ≡ type_of (names_in scope.old) (App at (expr_view callee.now) (row_of arguments.now) written result_at) }
+    requires ty { (at result_at : ℕ) → node.ty ≡ type_of (names_in scope.old) (App at (expr_view
+        callee.now) (row_of arguments.now) written result_at) }
     ensures code { OnOk result ((at result_at : ℕ) → code.new ≡ node_code scope.old node.place
         (App at (expr_view callee.now) (row_of arguments.now) written result_at) code.old) }
     ensures scope { OnOk result (scope.new ≡ scope.old) }
@@ -73,7 +74,7 @@ pub fn app<F: Fn(&mut Scope, &mut Backwards, Place, &Expr) -> Result<(), AllocEr
     let register = fresh(row - 1, callee.ty);
     let light = is_light_address(scope, callee);
     let regs = regs_of(scope, row, arguments)?;
-    let args = seats(scope.alloc(), seated, regs.as_slice())?;
+    let args = seats(scope.alloc(), seated, &regs)?;
     let call = Call {
         written,
         tail: node.place.tail,
@@ -82,8 +83,8 @@ pub fn app<F: Fn(&mut Scope, &mut Backwards, Place, &Expr) -> Result<(), AllocEr
         given,
         dest: node.dest(),
     };
-    code.call(call, callee, args.as_slice())?;
-    code.moves_all(regs.as_slice(), args.as_slice())?;
+    code.call(call, callee, &args)?;
+    code.moves_all(&regs, &args)?;
     let late = Operand {
         expr: callee,
         reg: register,
@@ -114,7 +115,8 @@ pub fn extcall<F: Fn(&mut Scope, &mut Backwards, Place, &Expr) -> Result<(), All
     requires callable { MayCall (F.pre below.now) }
     requires selects { Selects (F.post below.now) }
     requires typed { AreAnnotated (names_in scope.old) arguments.now }
-    requires ty { (at result_at : ℕ) → node.ty ≡ type_of (names_in scope.old) (Extcall at outside.frame outside.name.now (row_of arguments.now)
+    requires ty { (at result_at : ℕ) → node.ty ≡ type_of (names_in scope.old) (Extcall at
+        outside.frame outside.name.now (row_of arguments.now)
         outside.result result_at) }
     ensures code { OnOk result ((at result_at : ℕ) → code.new ≡ node_code scope.old node.place
         (Extcall at outside.entry.frame outside.entry.name.now (row_of arguments.now)
@@ -127,7 +129,7 @@ pub fn extcall<F: Fn(&mut Scope, &mut Backwards, Place, &Expr) -> Result<(), All
     let given = plus(seated, count)?;
     let base = plus(given, 1)?;
     let regs = regs_of(scope, row, arguments)?;
-    let args = seats(scope.alloc(), seated, regs.as_slice())?;
+    let args = seats(scope.alloc(), seated, &regs)?;
     let comps = comps_of_arguments(scope, arguments)?;
     let results = result_seat(scope.alloc(), given, outside.result)?;
     code.from_seat(given, outside.result, node.dest())?;
@@ -136,10 +138,10 @@ pub fn extcall<F: Fn(&mut Scope, &mut Backwards, Place, &Expr) -> Result<(), All
         comps,
         outside.result,
         outside.frame,
-        args.as_slice(),
-        results.as_slice(),
+        &args,
+        &results,
     )?;
-    code.moves_all(regs.as_slice(), args.as_slice())?;
+    code.moves_all(&regs, &args)?;
     filled(below, scope, code, row, base, arguments)?;
     waiting(below, scope, code, row, base, arguments)
 }
@@ -156,7 +158,8 @@ pub fn exit<F: Fn(&mut Scope, &mut Backwards, Place, &Expr) -> Result<(), AllocE
     requires callable { MayCall (F.pre below.now) }
     requires selects { Selects (F.post below.now) }
     requires typed { AreAnnotated (names_in scope.old) arguments.now }
-    requires ty { (at label_at : ℕ) → node.ty ≡ type_of (names_in scope.old) (Exit at label_at (label_view label.now) (row_of arguments.now)) }
+    requires ty { (at label_at : ℕ) → node.ty ≡ type_of (names_in scope.old) (Exit at label_at
+        (label_view label.now) (row_of arguments.now)) }
     ensures code { OnOk result ((at label_at : ℕ) → code.new ≡ node_code scope.old node.place
         (Exit at label_at (label_view label.now) (row_of arguments.now)) code.old) }
     ensures scope { OnOk result (scope.new ≡ scope.old) }
@@ -164,7 +167,7 @@ pub fn exit<F: Fn(&mut Scope, &mut Backwards, Place, &Expr) -> Result<(), AllocE
     let row = plus(node.place.base, 1)?;
     let base = plus(row, number_of(arguments.len())?)?;
     let regs = regs_of(scope, row, arguments)?;
-    code.exit_to(scope.target_of(label), regs.as_slice())?;
+    code.exit_to(scope.target_of(label), &regs)?;
     filled(below, scope, code, row, base, arguments)?;
     waiting(below, scope, code, row, base, arguments)
 }
@@ -180,7 +183,8 @@ pub fn raise<F: Fn(&mut Scope, &mut Backwards, Place, &Expr) -> Result<(), Alloc
     requires callable { MayCall (F.pre below.now) }
     requires selects { Selects (F.post below.now) }
     requires typed { IsAnnotated (names_in scope.old) value.now }
-    requires ty { (at : ℕ) → node.ty ≡ type_of (names_in scope.old) (Raise at (expr_view value.now)) }
+    requires ty { (at : ℕ) → node.ty ≡ type_of (names_in scope.old) (Raise at (expr_view
+        value.now)) }
     ensures code { OnOk result ((at : ℕ) → code.new ≡ node_code scope.old node.place
         (Raise at (expr_view value.now)) code.old) }
     ensures scope { OnOk result (scope.new ≡ scope.old) }

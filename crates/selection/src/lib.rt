@@ -5,22 +5,12 @@
 //! that the checked tree holds.
 #![tactic(auto)]
 
-mod backwards;
-mod calls;
 mod choices;
-mod emit;
 mod forms;
 mod function;
 mod leaving;
-mod light;
 mod memory;
-mod numbers;
 mod operands;
-mod place;
-mod scope;
 mod scoping;
-mod seats;
-mod shape;
-mod width;
 
 pub use function::select;

@@ -7,22 +7,21 @@ ghost use Rattle.cmm_types.specs.Annotated.{IsAnnotated};
 ghost use Rattle.cmm_types.specs.Lists.{AreAnnotated};
 ghost use Rattle.cmm_types.specs.Types.{Scoped, type_of};
 ghost use Rattle.selection_rules.specs.Select.{base_of, offset_of, chunk_for};
-ghost use Rattle.selection.specs.Shapes.{is_register};
 ghost use Rattle.selection.specs.Below.{node_code, MayCall, Selects};
-ghost use Rattle.selection.specs.Scoping.{names_in};
+ghost use Rattle.selection_scope.specs.Scoping.{names_in};
 
-use crate::backwards::Backwards;
-use crate::light::is_left_first;
-use crate::numbers::{number_of, plus};
 use crate::operands::{Operand, both, filled, one, waiting};
-use crate::place::{Node, Place, fresh, operand_at};
-use crate::scope::Scope;
-use crate::seats::regs_of;
-use crate::shape::{integer, is_based, right_of_bound};
-use crate::width::behind;
 use bs_words::{Chunk, Ty};
-use cmm_tree::{Expr, Form};
-use mach_ir::Right;
+use cmm_tree::Expr;
+use selection_code::backwards::Backwards;
+use selection_code::shape::{integer, is_based, is_register, right_of_bound};
+use selection_scope::light::is_left_first;
+use selection_scope::numbers::{number_of, plus};
+use selection_scope::outline::{Outline, outline_of};
+use selection_scope::place::{Node, Place, fresh, operand_at};
+use selection_scope::scope::Scope;
+use selection_scope::seats::regs_of;
+use selection_scope::width::behind;
 use std::alloc::AllocError;
 
 /// The header of a block stands 8 bytes before it.
@@ -36,22 +35,29 @@ pub struct Address<'e> {
 }
 
 /// The address as an access has it: where it is the sum of a base and a short constant no sum is made.
+#[tactic(auto, using(crate::proofs::Outlines::other_base, crate::proofs::Outlines::other_offset))]
 fn address_of(address: &Expr) -> Address<'_>
     ensures base { expr_view result.base.now ≡ base_of (expr_view address.now) }
     ensures offset { result.offset ≡ offset_of (expr_view address.now) }
     ensures typed { (names : List Scoped) → IsAnnotated names address.now →
         IsAnnotated names result.base.now }
 {
-    if let Form::Operator(op, base, right) = &address.form {
-        if let Some(word) = integer(right) {
-            if is_based(*op, word) {
-                return Address { base, offset: word };
-            }
-        }
-    }
-    Address {
+    let whole = Address {
         base: address,
         offset: 0,
+    };
+    match outline_of(address) {
+        Outline::Operator(op, base, right) => match integer(right) {
+            Some(word) => {
+                if is_based(op, word) {
+                    Address { base, offset: word }
+                } else {
+                    whole
+                }
+            }
+            None => whole,
+        },
+        Outline::Integer(_) | Outline::Symbol(_) | Outline::Name(_) | Outline::Other => whole,
     }
 }
 
@@ -67,7 +73,8 @@ pub fn load<F: Fn(&mut Scope, &mut Backwards, Place, &Expr) -> Result<(), AllocE
     requires callable { MayCall (F.pre below.now) }
     requires selects { Selects (F.post below.now) }
     requires typed { IsAnnotated (names_in scope.old) address.now }
-    requires ty { (at : ℕ) → node.ty ≡ type_of (names_in scope.old) (Load at chunk (expr_view address.now)) }
+    requires ty { (at : ℕ) → node.ty ≡ type_of (names_in scope.old) (Load at chunk (expr_view
+        address.now)) }
     ensures code { OnOk result ((at : ℕ) → code.new ≡ node_code scope.old node.place
         (Load at chunk (expr_view address.now)) code.old) }
     ensures scope { OnOk result (scope.new ≡ scope.old) }
@@ -93,7 +100,8 @@ pub fn store<F: Fn(&mut Scope, &mut Backwards, Place, &Expr) -> Result<(), Alloc
     requires selects { Selects (F.post below.now) }
     requires address_typed { IsAnnotated (names_in scope.old) address.now }
     requires value_typed { IsAnnotated (names_in scope.old) value.now }
-    requires ty { (at : ℕ) → node.ty ≡ type_of (names_in scope.old) (Store at chunk (expr_view address.now) (expr_view value.now)) }
+    requires ty { (at : ℕ) → node.ty ≡ type_of (names_in scope.old) (Store at chunk (expr_view
+        address.now) (expr_view value.now)) }
     ensures code { OnOk result ((at : ℕ) → code.new ≡ node_code scope.old node.place
         (Store at chunk (expr_view address.now) (expr_view value.now)) code.old) }
     ensures scope { OnOk result (scope.new ≡ scope.old) }
@@ -131,7 +139,8 @@ pub fn checkbound<F: Fn(&mut Scope, &mut Backwards, Place, &Expr) -> Result<(), 
     requires selects { Selects (F.post below.now) }
     requires bound_typed { IsAnnotated (names_in scope.old) bound.now }
     requires index_typed { IsAnnotated (names_in scope.old) index.now }
-    requires ty { (at : ℕ) → node.ty ≡ type_of (names_in scope.old) (Checkbound at (expr_view bound.now) (expr_view index.now)) }
+    requires ty { (at : ℕ) → node.ty ≡ type_of (names_in scope.old) (Checkbound at (expr_view
+        bound.now) (expr_view index.now)) }
     ensures code { OnOk result ((at : ℕ) → code.new ≡ node_code scope.old node.place
         (Checkbound at (expr_view bound.now) (expr_view index.now)) code.old) }
     ensures scope { OnOk result (scope.new ≡ scope.old) }
@@ -154,15 +163,6 @@ pub fn checkbound<F: Fn(&mut Scope, &mut Backwards, Place, &Expr) -> Result<(), 
     let left_first = is_left_first(scope, bound, index);
     code.checkbound(right_of, left.reg, right.reg)?;
     both(below, scope, code, left_first, &left, &right)
-}
-
-fn is_register(right: Right) -> bool
-    ensures { result ≡ is_register right }
-{
-    match right {
-        Right::Register => true,
-        Right::Constant(_) => false,
-    }
 }
 
 /// What the cells of a block with this header are written by: a block whose tag is 250 or less is scanned.
@@ -188,7 +188,8 @@ pub fn alloc<F: Fn(&mut Scope, &mut Backwards, Place, &Expr) -> Result<(), Alloc
     requires callable { MayCall (F.pre below.now) }
     requires selects { Selects (F.post below.now) }
     requires typed { AreAnnotated (names_in scope.old) operands.now }
-    requires ty { (at header_at : ℕ) → node.ty ≡ type_of (names_in scope.old) (Alloc at header_at header (row_of operands.now)) }
+    requires ty { (at header_at : ℕ) → node.ty ≡ type_of (names_in scope.old) (Alloc at header_at
+        header (row_of operands.now)) }
     ensures code { OnOk result ((at header_at : ℕ) → code.new ≡ node_code scope.old node.place
         (Alloc at header_at header (row_of operands.now)) code.old) }
     ensures scope { OnOk result (scope.new ≡ scope.old) }
@@ -200,7 +201,7 @@ pub fn alloc<F: Fn(&mut Scope, &mut Backwards, Place, &Expr) -> Result<(), Alloc
     let word = fresh(row - 1, Ty::Int);
     let regs = regs_of(scope, row, operands)?;
     code.move_to(block, node.dest())?;
-    code.cell_stores(chunk_of_cells(header), block, regs.as_slice())?;
+    code.cell_stores(chunk_of_cells(header), block, &regs)?;
     filled(below, scope, code, row, base, operands)?;
     code.store(Chunk::Int, HEADER_OFFSET, block, word)?;
     code.constant(header, word)?;

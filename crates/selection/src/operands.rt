@@ -1,22 +1,21 @@
 //! Operands: the order of their code, and those that need none.
-ghost use Rattle.std.specs.Prelude.{◌≡◌, ◌+◌, suc, not, false, OnOk};
+ghost use Rattle.std.specs.Prelude.{◌≡◌, ◌+◌, OnOk};
 ghost use Rattle.cmm_tree.specs.Rows.{row_of};
-ghost use Rattle.cmm_tree.specs.View.{expr_view};
 ghost use Rattle.cmm_types.specs.Annotated.{IsAnnotated};
 ghost use Rattle.cmm_types.specs.Lists.{AreAnnotated};
-ghost use Rattle.selection_rules.specs.Select.{select, ordered, only_when, select_waiting, select_filled};
+ghost use Rattle.selection_rules.specs.Select.{ordered, select_waiting, select_filled};
 ghost use Rattle.selection.specs.Below.{code_at, MayCall, Selects};
 ghost use Rattle.selection.specs.Operands.{operand_code};
-ghost use Rattle.selection.specs.Scoping.{names_in};
+ghost use Rattle.selection_scope.specs.Scoping.{names_in};
 
-use crate::backwards::Backwards;
-use crate::light::is_light_address;
-use crate::numbers::plus;
-use crate::place::{Place, fresh, operand_at};
-use crate::scope::Scope;
-use crate::width::behind;
 use cmm_tree::Expr;
 use mach_ir::Reg;
+use selection_code::backwards::Backwards;
+use selection_scope::light::is_light_address;
+use selection_scope::numbers::plus;
+use selection_scope::place::{Place, fresh, operand_at};
+use selection_scope::scope::Scope;
+use selection_scope::width::behind;
 use std::alloc::AllocError;
 
 /// An operand: the register for its value, and the first of its own numbers. Where the instruction has a constant in its

@@ -9,18 +9,18 @@ ghost use Rattle.cmm_types.specs.Lists.{AreBindingsAnnotated, AreHandlersAnnotat
 ghost use Rattle.cmm_types.specs.Types.{type_of, with_bindings, with_parameters};
 ghost use Rattle.selection_rules.specs.Select.{scopes, select, select_bound, select_handlers, env_after, with_params, params_from, deeper};
 ghost use Rattle.selection.specs.Below.{node_code, MayCall, Selects};
-ghost use Rattle.selection.specs.Scoping.{names_in};
+ghost use Rattle.selection_scope.specs.Scoping.{names_in};
 
-use crate::backwards::Backwards;
-use crate::numbers::{number_of, plus};
 use crate::operands::one;
-use crate::place::{Node, Place, fresh, is_mutable, operand_at, type_bound};
-use crate::scope::Scope;
-use crate::seats::seat;
-use crate::width::{behind, behind_bindings, behind_handlers, behind_labels, width_of};
 use bs_words::{Comp, Name, Ty};
 use cmm_tree::{Binding, Expr, Handler};
 use mach_ir::{Mark, Reg};
+use selection_code::backwards::Backwards;
+use selection_scope::numbers::{number_of, plus};
+use selection_scope::place::{Node, Place, fresh, is_mutable, operand_at, type_bound};
+use selection_scope::scope::Scope;
+use selection_scope::seats::seat;
+use selection_scope::width::{behind, behind_bindings, behind_handlers, behind_labels, width_of};
 use std::alloc::AllocError;
 
 /// A new value for a name.
@@ -35,7 +35,8 @@ pub fn assign<F: Fn(&mut Scope, &mut Backwards, Place, &Expr) -> Result<(), Allo
     requires callable { MayCall (F.pre below.now) }
     requires selects { Selects (F.post below.now) }
     requires typed { IsAnnotated (names_in scope.old) value.now }
-    requires ty { (at name_at : ℕ) → node.ty ≡ type_of (names_in scope.old) (Assign at name_at name.now (expr_view value.now)) }
+    requires ty { (at name_at : ℕ) → node.ty ≡ type_of (names_in scope.old) (Assign at name_at
+        name.now (expr_view value.now)) }
     ensures code { OnOk result ((at name_at : ℕ) → code.new ≡ node_code scope.old node.place
         (Assign at name_at name.now (expr_view value.now)) code.old) }
     ensures scope { OnOk result (scope.new ≡ scope.old) }
@@ -109,8 +110,10 @@ pub fn let_in<F: Fn(&mut Scope, &mut Backwards, Place, &Expr) -> Result<(), Allo
     requires callable { MayCall (F.pre below.now) }
     requires selects { Selects (F.post below.now) }
     requires typed { AreBindingsAnnotated (names_in scope.old) bindings.now }
-    requires body_typed { IsAnnotated (with_bindings (names_in scope.old) (bindings_of bindings.now)) body.now }
-    requires ty { (at : ℕ) → node.ty ≡ type_of (names_in scope.old) (Let at (bindings_of bindings.now) (expr_view body.now)) }
+    requires body_typed { IsAnnotated (with_bindings (names_in scope.old) (bindings_of
+        bindings.now)) body.now }
+    requires ty { (at : ℕ) → node.ty ≡ type_of (names_in scope.old) (Let at (bindings_of
+        bindings.now) (expr_view body.now)) }
     ensures code { OnOk result ((at : ℕ) → code.new ≡ node_code scope.old node.place
         (Let at (bindings_of bindings.now) (expr_view body.now)) code.old) }
     ensures scope { OnOk result (scope.new ≡ scope.old) }
@@ -135,7 +138,8 @@ fn handler_body<F: Fn(&mut Scope, &mut Backwards, Place, &Expr) -> Result<(), Al
     requires selects { Selects (F.post below.now) }
     requires typed { IsAnnotated (with_parameters (params_view handler.now.params.items)
         (names_in scope.old)) handler.now.body }
-    ensures code { OnOk result (code.new ≡ select (with_params (params_view handler.now.params.items)
+    ensures code { OnOk result (code.new ≡ select (with_params (params_view
+        handler.now.params.items)
         (params_from number (params_view handler.now.params.items)) scope.old.names)
         scope.old.labels place.valued place.tail place.dest place.base
         (expr_view handler.now.body) code.old) }
@@ -161,8 +165,8 @@ fn handler_bodies<F: Fn(&mut Scope, &mut Backwards, Place, &Expr) -> Result<(), 
     requires callable { MayCall (F.pre below.now) }
     requires selects { Selects (F.post below.now) }
     requires typed { AreHandlersAnnotated (names_in scope.old) handlers.now }
-    ensures code { OnOk result (code.new ≡ select_handlers scope.old.names scope.old.labels place.valued
-        place.tail place.dest end first place.base (handlers_of handlers.now) code.old) }
+    ensures code { OnOk result (code.new ≡ select_handlers scope.old.names scope.old.labels
+        place.valued place.tail place.dest end first place.base (handlers_of handlers.now) code.old) }
     ensures scope { OnOk result (scope.new ≡ scope.old) }
 {
     let mut label = behind_labels(first, handlers)?;
@@ -192,7 +196,8 @@ pub fn catch<F: Fn(&mut Scope, &mut Backwards, Place, &Expr) -> Result<(), Alloc
     requires selects { Selects (F.post below.now) }
     requires body_typed { IsAnnotated (names_in scope.old) body.now }
     requires typed { AreHandlersAnnotated (names_in scope.old) handlers.now }
-    requires ty { (at : ℕ) → node.ty ≡ type_of (names_in scope.old) (Catch at (expr_view body.now) (handlers_of handlers.now)) }
+    requires ty { (at : ℕ) → node.ty ≡ type_of (names_in scope.old) (Catch at (expr_view body.now)
+        (handlers_of handlers.now)) }
     ensures code { OnOk result ((at : ℕ) → code.new ≡ node_code scope.old node.place
         (Catch at (expr_view body.now) (handlers_of handlers.now)) code.old) }
     ensures scope { OnOk result (scope.new ≡ scope.old) }
@@ -253,8 +258,8 @@ fn in_try<F: Fn(&mut Scope, &mut Backwards, Place, &Expr) -> Result<(), AllocErr
     requires callable { MayCall (F.pre below.now) }
     requires selects { Selects (F.post below.now) }
     requires typed { IsAnnotated (names_in scope.old) body.now }
-    ensures code { OnOk result (code.new ≡ select scope.old.names (deeper scope.old.labels) place.valued
-        place.tail place.dest place.base (expr_view body.now) code.old) }
+    ensures code { OnOk result (code.new ≡ select scope.old.names (deeper scope.old.labels)
+        place.valued place.tail place.dest place.base (expr_view body.now) code.old) }
     ensures scope { OnOk result (scope.new ≡ scope.old) }
 {
     scope.enter_try()?;
@@ -280,7 +285,8 @@ pub fn try_with<F: Fn(&mut Scope, &mut Backwards, Place, &Expr) -> Result<(), Al
       type = type.Val;
       mutable = false;
     } ∷ (names_in scope.old)) handler.now }
-    requires ty { (at name_at : ℕ) → node.ty ≡ type_of (names_in scope.old) (Try at (expr_view body.now) name_at name.now (expr_view handler.now)) }
+    requires ty { (at name_at : ℕ) → node.ty ≡ type_of (names_in scope.old) (Try at (expr_view
+        body.now) name_at name.now (expr_view handler.now)) }
     ensures code { OnOk result ((at name_at : ℕ) → code.new ≡ node_code scope.old node.place
         (Try at (expr_view body.now) name_at name.now (expr_view handler.now)) code.old) }
     ensures scope { OnOk result (scope.new ≡ scope.old) }

@@ -29,4 +29,5 @@ returns c =
     let len = vals_length m.code in
     use_idle_ok m c.requires.numbered c.args.place c.args.walks.now c.is_idle.result c.requires.walks
     ((c.is_reached.ensures (as_vals m) c.requires.walks (omega (arith, len, c.requires.place))).0 c.if-not-is_reached.false)
-    (λ j next d. ap (λ (i : Line). is_landing i.op) (sym (at j next d) ∙ c.index-as_slice-place.is) ∙ sym c.is_landing.ensures ∙ c.if-is_landing.false) c.is_idle.ensures
+    (λ j next d. ap (λ (i : Line). is_landing i.op) (sym (at j next d) ∙ c.index-as_slice-place.is) ∙ sym c.is_landing.ensures ∙ c.if-is_landing.false)
+    c.is_idle.ensures

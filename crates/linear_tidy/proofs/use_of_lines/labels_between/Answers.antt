@@ -25,7 +25,8 @@ loop-place-preserved c =
 pub returns : goal.returns
 returns c = λ le. (
   λ e.
-      let same : c.loop-place.place ≡ c.args.to = omega (arith, c.loop-place-test.false, c.loop-place.auto.place, c.loop-place.auto.place-end, c.if-to-from.false) in
+      let same : c.loop-place.place ≡ c.args.to =
+      omega (arith, c.loop-place-test.false, c.loop-place.auto.place, c.loop-place.auto.place-end, c.if-to-from.false) in
       all_between c.args.code.now c.args.from c.args.to
       (subst (λ k. SameFrom c.args.code.now c.args.from k c.args.to) same c.loop-place.invariant),
   λ p. refl,

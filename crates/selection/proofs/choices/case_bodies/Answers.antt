@@ -2,7 +2,7 @@ use Rattle.std.proofs.Common.{◌≡◌, ◌+◌, ◌-◌, length, refl, sym, �
 use Rattle.cmm_tree.specs.Rows.{cases_of}
 use Rattle.selection_rules.specs.Select.{width_cases}
 use Rattle.selection.proofs.LastParts.{cases-typed, cases-typed-in, cases-behind, count-behind, case-code}
-use Rattle.selection.specs.Scoping.{names_in}
+use Rattle.selection_scope.specs.Scoping.{names_in}
 use Rattle.selection.proofs.choices.case_bodies.Goals as goal
 
 pub overflow_sub-base : goal.overflow_sub-base

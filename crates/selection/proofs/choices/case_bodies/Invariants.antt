@@ -1,7 +1,7 @@
 use Rattle.std.proofs.Common.{◌≡◌, ◌+◌, length}
 use Rattle.cmm_tree.specs.Rows.{cases_of}
 use Rattle.cmm_types.specs.Lists.{AreCasesAnnotated}
-use Rattle.selection.specs.Scoping.{names_in}
+use Rattle.selection_scope.specs.Scoping.{names_in}
 use Rattle.selection_rules.specs.Select.{select_cases, width_cases}
 use Rattle.selection.proofs.choices.case_bodies.Given as goal
 

@@ -2,14 +2,12 @@ use Rattle.std.proofs.Common.{◌≡◌, ℕ, List, [], ◌∷◌, Some, false, 
 use Rattle.std.proofs.lemmas.Result.{on_ok_weaker}
 use Rattle.bs_words.specs.declared.operators.IntOp.{IntOp}
 use Rattle.cmm_tree.specs.Tree.{Operator}
-use Rattle.cmm_tree.specs.View.{expr_view, form_view}
-use Rattle.cmm_tree.specs.declared.expr.Expr.{Expr}
-use Rattle.cmm_tree.specs.declared.expr.Form.{Form}
+use Rattle.cmm_tree.specs.View.{expr_view}
 use Rattle.mach_ir.specs.declared.mach.Instr.{Instr}
 use Rattle.mach_ir.specs.declared.mach.Test.TheVariants as test
 use Rattle.selection_rules.specs.Instructions as emit
 use Rattle.selection_rules.specs.Select.{select, select_test, comparison, shape_of, shape_op, shape_right}
-use Rattle.selection.specs.Shapes.{shape_view}
+use Rattle.selection_code.specs.Shapes.{shape_view}
 use Rattle.selection.proofs.choices.condition.Goals as goal
 
 pub returns-in-Some-clause-code : goal.returns-in-Some-clause-code
@@ -17,24 +15,11 @@ returns-in-Some-clause-code g c =
     let s = c.args.scope.now in
     let e = c.args.condition.now in
     let op = c.in-Operator.op in
-    let l = c.in-Operator.left.value in
-    let r = c.in-Operator.right.value in
-    let left = c.deref-in-Some.result.now in
-    let right = c.deref-in-Some-2.result.now in
-    let l1 : c.deref.result.now ≡ l = search rules in
-    let r1 : c.deref-in-Operator.result.now ≡ r = search rules in
-    let l2 : left ≡ l = search rules in
-    let r2 : right ≡ r = search rules in
-    let view : expr_view e ≡ Operator e.at op (expr_view l) (expr_view r) = ap (λ (f : Form). form_view e.at f) c.in-Operator.is in
-    let here =
-    view
-    ∙ ap (λ (x : Expr). Operator e.at op (expr_view x) (expr_view r)) (sym l2)
-    ∙ ap (λ (x : Expr). Operator e.at op (expr_view left) (expr_view x)) (sym r2) in
+    let left = c.in-Operator.left.now in
+    let right = c.in-Operator.right.now in
+    let here : expr_view e ≡ Operator e.at op (expr_view left) (expr_view right) = search rules in
     let k = shape_view c.shape_of-shape.result in
-    let shape : k ≡ shape_of op (expr_view left) (expr_view right) =
-    c.shape_of-shape.ensures
-    ∙ ap (λ (x : Expr). shape_of op (expr_view x) (expr_view c.deref-in-Operator.result.now)) (l1 ∙ sym l2)
-    ∙ ap (λ (x : Expr). shape_of op (expr_view left) (expr_view x)) (r1 ∙ sym r2) in
+    let shape : k ≡ shape_of op (expr_view left) (expr_view right) = c.shape_of-shape.ensures in
     let told : comparison (shape_op k op) (shape_right k) ≡ Some c.in-Some.test = search rules in
     let base = c.args.place.base in
     let dest = c.args.place.dest in

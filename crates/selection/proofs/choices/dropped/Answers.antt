@@ -2,7 +2,7 @@ use Rattle.std.proofs.Common.{◌≡◌, ◌+◌, ◌-◌, suc, sym, ◌∙◌, 
 use Rattle.cmm_tree.specs.Rows.{row_of}
 use Rattle.selection_rules.specs.Select.{width_row}
 use Rattle.selection.proofs.LastParts.{row-typed, row-typed-in, row-end, dropped-code}
-use Rattle.selection.specs.Scoping.{names_in}
+use Rattle.selection_scope.specs.Scoping.{names_in}
 use Rattle.selection.proofs.choices.dropped.Goals as goal
 
 pub overflow_sub-end : goal.overflow_sub-end

@@ -1,7 +1,7 @@
 use Rattle.std.proofs.Common.{◌≡◌, ◌+◌, length}
 use Rattle.cmm_tree.specs.Rows.{row_of}
 use Rattle.cmm_types.specs.Lists.{AreAnnotated}
-use Rattle.selection.specs.Scoping.{names_in}
+use Rattle.selection_scope.specs.Scoping.{names_in}
 use Rattle.selection_rules.specs.Select.{width_row}
 use Rattle.selection.specs.Rows.{select_dropped}
 use Rattle.selection.proofs.choices.dropped.Given as goal

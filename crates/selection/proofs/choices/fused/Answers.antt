@@ -6,7 +6,7 @@ use Rattle.cmm_tree.specs.View.{expr_view}
 use Rattle.mach_ir.specs.declared.mach.Instr.{Instr}
 use Rattle.selection_rules.specs.Select.{width, select_test, comparison, shape_of, shape_op, shape_right}
 use Rattle.selection.proofs.TwoOperands.{operands_made, both-operands, reg-is, test-made}
-use Rattle.selection.specs.Shapes.{shape_view}
+use Rattle.selection_code.specs.Shapes.{shape_view}
 use Rattle.selection.proofs.choices.fused.Goals as goal
 
 pub returns-clause-code : goal.returns-clause-code

@@ -1,4 +1,4 @@
-use Rattle.std.proofs.Common.{◌≡◌, ◌+◌, ◌++◌, length}
+use Rattle.std.proofs.Common.{◌≡◌, ◌++◌, length}
 use Rattle.mach_ir.specs.Formed.{indexes_of}
 use Rattle.selection.proofs.choices.indexes_of.Given as goal
 

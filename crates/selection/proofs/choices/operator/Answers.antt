@@ -5,7 +5,7 @@ use Rattle.cmm_tree.specs.View.{expr_view}
 use Rattle.selection_rules.specs.Select.{width}
 use Rattle.selection.proofs.TwoOperands.{operands_made, both-operands, reg-is, operator-made}
 use Rattle.selection.specs.Below.{node_code}
-use Rattle.selection.specs.Shapes.{shape_view}
+use Rattle.selection_code.specs.Shapes.{shape_view}
 use Rattle.selection.proofs.choices.operator.Goals as goal
 
 pub returns-clause-code : goal.returns-clause-code

@@ -6,7 +6,7 @@ use Rattle.selection_rules.specs.Select.{width_row}
 use Rattle.selection.proofs.LastParts.{row-typed, row-typed-in, seq-code}
 use Rattle.selection.specs.Below.{node_code}
 use Rattle.selection.specs.Rows.{select_dropped}
-use Rattle.selection.specs.Scoping.{names_in}
+use Rattle.selection_scope.specs.Scoping.{names_in}
 use Rattle.selection.proofs.choices.seq.Goals as goal
 
 pub one-requires-clause-typed : goal.one-requires-clause-typed

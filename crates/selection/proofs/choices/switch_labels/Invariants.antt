@@ -1,4 +1,4 @@
-use Rattle.std.proofs.Common.{◌≡◌, ◌+◌, ◌-◌, ◌++◌}
+use Rattle.std.proofs.Common.{◌≡◌, ◌-◌, ◌++◌}
 use Rattle.cmm_tree.specs.Rows.{cases_of}
 use Rattle.selection_rules.specs.Select.{switch_labels}
 use Rattle.selection.proofs.choices.switch_labels.Given as goal

@@ -2,7 +2,7 @@ use Rattle.std.proofs.lemmas.Result.{on_ok_weaker}
 use Rattle.cmm_walks.proofs.Shapes.{seq-shape, exit-shape, alloc-shape, extcall-shape, app-shape, let-shape, switch-shape, catch-shape}
 use Rattle.selection.proofs.BoxedForms.{assign-shape, operator-shape, load-shape, store-shape, checkbound-shape, raise-shape, if-shape, try-shape}
 use Rattle.selection.proofs.Nodes.{parts-of, type-of, code-of}
-use Rattle.selection.specs.Scoping.{names_in}
+use Rattle.selection_scope.specs.Scoping.{names_in}
 use Rattle.selection.proofs.forms.form.Goals as goal
 
 pub let_in-requires-clause-typed : goal.let_in-requires-clause-typed

@@ -1,6 +1,6 @@
-use Rattle.std.proofs.Common.{◌≡◌, ◌+◌, ◌-◌, ◌++◌, List, length, map, reverse, drop, vec_len}
+use Rattle.std.proofs.Common.{◌≡◌, length, map}
 use Rattle.std.specs.List.{slice_get}
-use Rattle.cmm_tree.specs.View.{expr_view, index_view, item_view, label_view, params_view}
+use Rattle.cmm_tree.specs.View.{item_view}
 use Rattle.cmm_tree.specs.Tree.{functions_among}
 use Rattle.cmm_types.specs.Typing.{AreItemsAnnotated}
 use Rattle.selection.proofs.function.function_at.Given as goal

@@ -2,7 +2,7 @@ use Rattle.std.proofs.Common.{ap, ◌∙◌}
 use Rattle.std.proofs.lemmas.Result.{on_ok_weaker}
 use Rattle.selection.proofs.Accesses.{load-is}
 use Rattle.selection.specs.Below.{code_at}
-use Rattle.selection.specs.Scoping.{names_in}
+use Rattle.selection_scope.specs.Scoping.{names_in}
 use Rattle.selection.proofs.memory.load.Goals as goal
 
 pub returns-clause-code : goal.returns-clause-code

@@ -1,6 +1,6 @@
 use Rattle.std.proofs.lemmas.Result.{on_ok_weaker}
 use Rattle.selection.proofs.Accesses.{store-is}
-use Rattle.selection.specs.Scoping.{names_in}
+use Rattle.selection_scope.specs.Scoping.{names_in}
 use Rattle.selection.proofs.memory.store.Goals as goal
 
 pub returns-clause-code : goal.returns-clause-code

@@ -1,10 +1,10 @@
-use Rattle.std.proofs.Common.{◌≡◌, suc, ◌+◌, ◌-◌, ◌∷◌, not, List, length, take, drop, refl, ap, sym, ◌∙◌, subst, arith}
+use Rattle.std.proofs.Common.{◌≡◌, suc, ◌-◌, ◌∷◌, List, length, take, drop, ap, sym, ◌∙◌, subst, arith}
 use Rattle.cmm_tree.specs.Rows.{row_of}
 use Rattle.cmm_tree.specs.declared.expr.Expr.{Expr}
 use Rattle.cmm_types.specs.Lists.{AreAnnotated}
 use Rattle.selection_rules.specs.Select.{select_filled}
 use Rattle.selection.proofs.Waiting.{filled-more, first-of}
-use Rattle.selection.specs.Scoping.{Visible, names_in}
+use Rattle.selection_scope.specs.Scoping.{Visible, names_in}
 use Rattle.selection.proofs.operands.filled.Goals as goal
 
 pub loop-rest-preserved : goal.loop-rest-preserved

@@ -1,8 +1,8 @@
-use Rattle.std.proofs.Common.{◌≡◌, ◌+◌, ◌-◌, ◌++◌, List, length, map, reverse, drop, vec_len}
-use Rattle.cmm_tree.specs.Rows.{row_of, bindings_of, cases_of, handlers_of}
-use Rattle.cmm_types.specs.Lists.{AreAnnotated, AreBindingsAnnotated, AreCasesAnnotated, AreHandlersAnnotated}
-use Rattle.selection.specs.Scoping.{named_view, target_view, names_in, higher}
-use Rattle.selection_rules.specs.Select.{select_waiting, select_filled}
+use Rattle.std.proofs.Common.{◌≡◌, length}
+use Rattle.cmm_tree.specs.Rows.{row_of}
+use Rattle.cmm_types.specs.Lists.{AreAnnotated}
+use Rattle.selection_scope.specs.Scoping.{names_in}
+use Rattle.selection_rules.specs.Select.{select_waiting}
 use Rattle.selection.proofs.operands.waiting.Given as goal
 
 abbrev pub invariant-loop-rest : goal.invariant-loop-rest

@@ -1,7 +1,7 @@
 use Rattle.std.proofs.Common.{◌≡◌, length}
 use Rattle.cmm_tree.specs.Rows.{bindings_of}
 use Rattle.cmm_types.specs.Lists.{AreBindingsAnnotated}
-use Rattle.selection.specs.Scoping.{names_in}
+use Rattle.selection_scope.specs.Scoping.{names_in}
 use Rattle.selection_rules.specs.Select.{env_after}
 use Rattle.selection.proofs.scoping.bind_all.Given as goal
 

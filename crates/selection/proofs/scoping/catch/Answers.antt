@@ -1,9 +1,9 @@
-use Rattle.std.proofs.Common.{◌≡◌, ◌+◌, ◌-◌, ◌++◌, suc, ap, sym, ◌∙◌, arith}
+use Rattle.std.proofs.Common.{◌≡◌, ◌-◌, ◌++◌, suc, ap, sym, ◌∙◌, arith}
 use Rattle.std.proofs.lemmas.Result.{on_ok_weaker}
 use Rattle.cmm_tree.specs.Rows.{handlers_of}
 use Rattle.selection_rules.specs.Select.{labels_from, in_handlers}
 use Rattle.selection.proofs.Branches.{catch-code}
-use Rattle.selection.specs.Scoping.{Visible}
+use Rattle.selection_scope.specs.Scoping.{Visible}
 use Rattle.selection.proofs.scoping.catch.Goals as goal
 
 pub returns-clause-code : goal.returns-clause-code

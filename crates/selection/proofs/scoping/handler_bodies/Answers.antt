@@ -2,7 +2,7 @@ use Rattle.std.proofs.Common.{◌≡◌, ◌+◌, ◌-◌, suc, refl, sym, ◌�
 use Rattle.cmm_tree.specs.Rows.{handlers_of}
 use Rattle.selection_rules.specs.Select.{width_handlers, width_labels}
 use Rattle.selection.proofs.LastParts.{handlers-typed, handlers-typed-in, handlers-behind, labels-behind, handler-code}
-use Rattle.selection.specs.Scoping.{names_in}
+use Rattle.selection_scope.specs.Scoping.{names_in}
 use Rattle.selection.proofs.scoping.handler_bodies.Goals as goal
 
 pub overflow_sub-params : goal.overflow_sub-params

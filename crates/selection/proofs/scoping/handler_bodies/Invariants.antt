@@ -1,7 +1,7 @@
 use Rattle.std.proofs.Common.{◌≡◌, ◌+◌, length}
 use Rattle.cmm_tree.specs.Rows.{handlers_of}
 use Rattle.cmm_types.specs.Lists.{AreHandlersAnnotated}
-use Rattle.selection.specs.Scoping.{names_in}
+use Rattle.selection_scope.specs.Scoping.{names_in}
 use Rattle.selection_rules.specs.Select.{select_handlers, width_handlers, width_labels}
 use Rattle.selection.proofs.scoping.handler_bodies.Given as goal
 

@@ -3,7 +3,7 @@ use Rattle.cmm_tree.specs.View.{params_view}
 use Rattle.selection_rules.specs.Select.{params_from}
 use Rattle.selection.proofs.Binding.{in-params}
 use Rattle.selection.proofs.Bindings.{params-front}
-use Rattle.selection.specs.Scoping.{Visible}
+use Rattle.selection_scope.specs.Scoping.{Visible}
 use Rattle.selection.proofs.scoping.handler_body.Goals as goal
 
 pub one-requires-clause-typed : goal.one-requires-clause-typed

@@ -1,7 +1,7 @@
 use Rattle.std.proofs.Common.{ap, ◌∙◌}
 use Rattle.std.proofs.lemmas.Result.{on_ok_weaker}
-use Rattle.selection.proofs.Scopes.{higher-deeper}
-use Rattle.selection.specs.Scoping.{Visible, higher}
+use Rattle.selection_scope.proofs.Scopes.{higher-deeper}
+use Rattle.selection_scope.specs.Scoping.{Visible, higher}
 use Rattle.selection.proofs.scoping.in_try.Goals as goal
 
 pub returns-clause-scope : goal.returns-clause-scope

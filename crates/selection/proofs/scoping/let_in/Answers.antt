@@ -7,7 +7,7 @@ use Rattle.cmm_types.specs.Lists.{AreBindingsAnnotated}
 use Rattle.selection_rules.specs.Select.{Named, scopes, env_after, select_bound}
 use Rattle.selection.proofs.Binding.{let-code, body-typed, names-again}
 use Rattle.selection.specs.Below.{node_code}
-use Rattle.selection.specs.Scoping.{Visible}
+use Rattle.selection_scope.specs.Scoping.{Visible}
 use Rattle.selection.proofs.scoping.let_in.Goals as goal
 
 pub one-requires-clause-typed : goal.one-requires-clause-typed

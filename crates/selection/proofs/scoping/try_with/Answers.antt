@@ -5,7 +5,7 @@ use Rattle.bs_words.specs.declared.types.Ty.TheVariants as ty
 use Rattle.cmm_tree.specs.View.{expr_view}
 use Rattle.selection_rules.specs.Select.{fresh, seat, width}
 use Rattle.selection.proofs.Branches.{try-code}
-use Rattle.selection.specs.declared.place.Place.{Place}
+use Rattle.selection_scope.specs.declared.place.Place.{Place}
 use Rattle.selection.proofs.scoping.try_with.Goals as goal
 
 pub returns-clause-code : goal.returns-clause-code

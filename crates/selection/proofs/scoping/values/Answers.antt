@@ -4,7 +4,7 @@ use Rattle.mach_ir.specs.declared.reg.Reg.{Reg}
 use Rattle.selection_rules.specs.Select.{width_bound}
 use Rattle.selection.proofs.Binding.{last_name, names-last, value-typed, others-typed, value-code}
 use Rattle.selection.specs.Below.{code_at}
-use Rattle.selection.specs.Scoping.{Visible}
+use Rattle.selection_scope.specs.Scoping.{Visible}
 use Rattle.selection.proofs.scoping.values.Goals as goal
 
 pub one-requires-clause-typed : goal.one-requires-clause-typed

@@ -1,0 +1,191 @@
+-- One function after the other: its place, its words, its descriptors and its row.
+use Rattle.std.proofs.Common.{◌≡◌, ℕ, ◌+◌, ◌*◌, ◌^◌, ◌<◌, ◌≤◌, List, [], ◌∷◌, ◌++◌, length, map, get_or, drop, Vec, Global, None, refl, sym, ap, ap₂, ◌∙◌, subst, append_assoc, arith}
+use Rattle.std.proofs.lemmas.List.{drop_all, append-nil, length-map}
+use Rattle.assemble.specs.Places.{forms_in, size_of}
+use Rattle.assemble.specs.Source.{IsSource, tree_of, entries_of, laid_of, names_by}
+use Rattle.assemble.specs.declared.source.Source.{Source}
+use Rattle.assemble.proofs.Bounds.{each_most, zip_length, zip_same, end_short}
+use Rattle.assemble.proofs.Steps.{own_forms, here, all_at, form_at}
+use Rattle.cmm_tree.specs.Tree.{FunctionTree, functions_among}
+use Rattle.cmm_tree.specs.View.{function_view, item_view}
+use Rattle.cmm_tree.specs.declared.file.DataList.{DataList}
+use Rattle.cmm_tree.specs.declared.file.Function.{Function}
+use Rattle.cmm_tree.specs.declared.file.Item.{Item}
+use Rattle.cmm_tree.specs.declared.file.Item.TheVariants as item
+use Rattle.cmm_types.specs.Typing.{AreItemsAnnotated}
+use Rattle.image_form.specs.Image.{code_limit}
+use Rattle.image_form.specs.Tables.{Desc, Func}
+use Rattle.layout_rules.specs.declared.form.Form.{Form}
+use Rattle.layout_rules.specs.Conditions.{IsFunctionLaid, LeadsTo, AllLead}
+use Rattle.layout_rules.specs.Forms.{total_words, place_or_entry}
+use Rattle.layout_rules.specs.Laid.{address_of_place, function_words, code_from, descs_in, descs_from, row_at, rows_from, names_at}
+use Rattle.layout_rules.specs.TooLarge.{first_too_large}
+use Rattle.layout_rules.specs.Words.{Named, target_of, words_to}
+use Rattle.layout_rules.proofs.Rules.{all_words}
+use Rattle.layout_rules.proofs.Standing.{words_by_targets}
+use Rattle.mach_ir.specs.Acts.{row_of}
+use Rattle.rv_layout.proofs.Steps.{drop_step}
+use Rattle.rv_layout.specs.Tables.{places_of, IsTableOf}
+use Rattle.rv_layout.specs.declared.labels.Labels.{Labels}
+use Rattle.rv_pieces.specs.declared.piece.Piece.{Piece}
+use Rattle.rv_pieces.specs.declared.piece.Piece.TheVariants.{Known, Label, Branch, Jump, Row, LabelAddress, Call, TailCall, SymbolAddress, ExternalNumber, Descriptor}
+use Rattle.rv_pieces.specs.declared.piece.Pieces.{Pieces}
+
+-- Function i of a file is these pieces, in these forms, and its entry is here.
+pub record At (s : Source) (i : ℕ) (p : Pieces) (own : List Form) (entry : ℕ) : Type 0 where
+  pub laid : IsFunctionLaid (tree_of s) p
+  pub few : size_of p < 2 ^ 48
+  pub same : length own ≡ length p.code
+  pub inside : entry + total_words p.code own ≤ s.places.now.end
+  pub short : 4 * s.places.now.end ≤ code_limit
+  pub pieces : drop i s.pieces.now ≡ p ∷ drop (i + 1) s.pieces.now
+  pub forms : drop i (forms_in s.places.now) ≡ own ∷ drop (i + 1) (forms_in s.places.now)
+  pub place : entry + total_words p.code own + all_words (drop (i + 1) s.pieces.now) (drop (i + 1) (forms_in s.places.now)) ≡ s.places.now.end
+
+pub forms_long : (s : Source) → IsSource s → length s.places.now.forms.items ≡ length s.pieces.now
+forms_long s source =
+    let long = length-map s.places.now.forms.items own_forms in
+    let same = zip_length s.pieces.now (forms_in s.places.now) source.places.forms in
+    omega (arith, long, same)
+
+pub function_at : (s : Source) → IsSource s → first_too_large (laid_of s) ≡ None → (i : ℕ) (p : Pieces) (own : Vec Form Global) (entry : ℕ) →
+    i < length s.pieces.now → p ≡ get_or s.pieces.now i p → own ≡ get_or s.places.now.forms.items i own →
+    entry + all_words (drop i s.pieces.now) (drop i (forms_in s.places.now)) ≡ s.places.now.end → At s i p own.items entry
+function_at s source fits i p own entry h is of place =
+    let ps = s.pieces.now in
+    let forms = s.places.now.forms.items in
+    let long = forms_long s source in
+    let within : i < length forms = omega (arith, h, long) in
+    let rest = drop_step ps i p h is in
+    let others = here own_forms forms i own within of in
+    let opened : entry + (total_words p.code own.items + all_words (drop (i + 1) ps) (drop (i + 1) (map own_forms forms))) ≡ s.places.now.end =
+    ap (λ (n : ℕ). entry + n) (sym (ap₂ all_words rest others)) ∙ place in
+    record {
+      laid = all_at (IsFunctionLaid (tree_of s)) ps i p source.can.each h is;
+      few = omega (arith, each_most ps i p h is, source.can.few);
+      same = zip_same ps (forms_in s.places.now) i p own.items source.places.forms h is (form_at forms i own within of);
+      inside = omega (arith, opened);
+      short = end_short s source fits;
+      pieces = rest;
+      forms = others;
+      place = omega (arith, opened);
+    }
+
+-- ---- what grows with each function
+
+pub code_more : (s : Source) (i : ℕ) (p q : Pieces) (own fs : List Form) (entry entry' : ℕ) (words words' all : List ℕ) → At s i p own entry → q ≡ p → fs ≡ own →
+    entry' ≡ entry + total_words p.code own → words' ≡ words ++ function_words (tree_of s) (entries_of s) entry q.code fs →
+    words ++ code_from (tree_of s) (entries_of s) entry (drop i s.pieces.now) (drop i (forms_in s.places.now)) ≡ all →
+    words' ++ code_from (tree_of s) (entries_of s) entry' (drop (i + 1) s.pieces.now) (drop (i + 1) (forms_in s.places.now)) ≡ all
+code_more s i p q own fs entry entry' words words' all at e f g k so_far =
+    let ps = drop (i + 1) s.pieces.now in
+    let ks = drop (i + 1) (forms_in s.places.now) in
+    let file = tree_of s in
+    let entries = entries_of s in
+    let mine = function_words file entries entry p.code own in
+    let made : words' ≡ words ++ mine = k ∙ ap₂ (λ (x : Pieces) (y : List Form). words ++ function_words file entries entry x.code y) e f in
+    ap₂ (λ (ws : List ℕ) (n : ℕ). ws ++ code_from file entries n ps ks) made g
+    ∙ (append_assoc words mine (code_from file entries (entry + total_words p.code own) ps ks)
+    ∙ (ap₂ (λ (x : List Pieces) (y : List (List Form)). words ++ code_from file entries entry x y) (sym at.pieces) (sym at.forms) ∙ so_far))
+
+pub descs_more : (s : Source) (i : ℕ) (p : Pieces) (code : List Piece) (own fs : List Form) (entry entry' : ℕ) (rows rows' all : List Desc) → At s i p own entry → code ≡ p.code → fs ≡ own →
+    entry' ≡ entry + total_words p.code own → rows' ≡ rows ++ descs_in entry code fs →
+    rows ++ descs_from entry (drop i s.pieces.now) (drop i (forms_in s.places.now)) ≡ all →
+    rows' ++ descs_from entry' (drop (i + 1) s.pieces.now) (drop (i + 1) (forms_in s.places.now)) ≡ all
+descs_more s i p code own fs entry entry' rows rows' all at e f g k so_far =
+    let ps = drop (i + 1) s.pieces.now in
+    let ks = drop (i + 1) (forms_in s.places.now) in
+    let mine = descs_in entry p.code own in
+    let made : rows' ≡ rows ++ mine = k ∙ ap₂ (λ (x : List Piece) (y : List Form). rows ++ descs_in entry x y) e f in
+    ap₂ (λ (ds : List Desc) (n : ℕ). ds ++ descs_from n ps ks) made g
+    ∙ (append_assoc rows mine (descs_from (entry + total_words p.code own) ps ks)
+    ∙ (ap₂ (λ (x : List Pieces) (y : List (List Form)). rows ++ descs_from entry x y) (sym at.pieces) (sym at.forms) ∙ so_far))
+
+pub rows_more : (s : Source) (i : ℕ) (p q : Pieces) (f : FunctionTree) (fs : List FunctionTree) (own ks : List Form) (entry entry' : ℕ) (rows rows' all : List Func) → At s i p own entry → q ≡ p →
+    ks ≡ own → entry' ≡ entry + total_words p.code own → rows' ≡ rows ++ row_at entry f q ks ∷ [] →
+    rows ++ rows_from entry (f ∷ fs) (drop i s.pieces.now) (drop i (forms_in s.places.now)) ≡ all →
+    rows' ++ rows_from entry' fs (drop (i + 1) s.pieces.now) (drop (i + 1) (forms_in s.places.now)) ≡ all
+rows_more s i p q f fs own ks entry entry' rows rows' all at e d g k so_far =
+    let ps = drop (i + 1) s.pieces.now in
+    let others = drop (i + 1) (forms_in s.places.now) in
+    let mine = row_at entry f p own in
+    let made : rows' ≡ rows ++ mine ∷ [] = k ∙ ap₂ (λ (x : Pieces) (y : List Form). rows ++ row_at entry f x y ∷ []) e d in
+    ap₂ (λ (ds : List Func) (n : ℕ). ds ++ rows_from n fs ps others) made g
+    ∙ (append_assoc rows (mine ∷ []) (rows_from (entry + total_words p.code own) fs ps others)
+    ∙ (ap₂ (λ (x : List Pieces) (y : List (List Form)). rows ++ rows_from entry (f ∷ fs) x y) (sym at.pieces) (sym at.forms) ∙ so_far))
+
+-- behind the last function
+pub code_all : (s : Source) (i entry : ℕ) (words all : List ℕ) → length s.pieces.now ≤ i →
+    words ++ code_from (tree_of s) (entries_of s) entry (drop i s.pieces.now) (drop i (forms_in s.places.now)) ≡ all → words ≡ all
+code_all s i entry words all h so_far =
+    let none = ap (λ (x : List Pieces). words ++ code_from (tree_of s) (entries_of s) entry x (drop i (forms_in s.places.now))) (drop_all i s.pieces.now h) in
+    sym (append-nil words) ∙ (sym none ∙ so_far)
+
+pub descs_all : (s : Source) (i entry : ℕ) (rows all : List Desc) → length s.pieces.now ≤ i →
+    rows ++ descs_from entry (drop i s.pieces.now) (drop i (forms_in s.places.now)) ≡ all → rows ≡ all
+descs_all s i entry rows all h so_far =
+    let none = ap (λ (x : List Pieces). rows ++ descs_from entry x (drop i (forms_in s.places.now))) (drop_all i s.pieces.now h) in
+    sym (append-nil rows) ∙ (sym none ∙ so_far)
+
+-- ---- the words of one function
+
+target_same : (n m : Named) → ((l : ℕ) → n.label l ≡ m.label l) → ((name : List ℕ) → n.symbol name ≡ m.symbol name) → ((e : _) → n.external e ≡ m.external e) →
+    (p : Piece) → target_of n p ≡ target_of m p
+target_same n m e f g (Known i) = refl
+target_same n m e f g (Label l) = refl
+target_same n m e f g (Branch c a b l) = e l
+target_same n m e f g (Jump l) = e l
+target_same n m e f g (Row l) = e l
+target_same n m e f g (LabelAddress r l) = e l
+target_same n m e f g (Call name) = f name
+target_same n m e f g (TailCall name) = f name
+target_same n m e f g (SymbolAddress r name) = f name
+target_same n m e f g (ExternalNumber r row) = g (row_of row)
+target_same n m e f g (Descriptor d) = refl
+
+targets_same : (n m : Named) → ((p : Piece) → target_of n p ≡ target_of m p) → (ps : List Piece) → map (target_of n) ps ≡ map (target_of m) ps
+targets_same n m e [] = refl
+targets_same n m e (p ∷ ps) = ap₂ (λ (t : ℕ) (ts : List ℕ). t ∷ ts) (e p) (targets_same n m e ps)
+
+pub words_placed : (s : Source) (entry at : ℕ) (targets : List ℕ) (labels : Labels) (code' code : List Piece) (fs : List Form) → at ≡ address_of_place entry →
+    targets ≡ map (target_of (names_by s entry (places_of labels))) code' → code' ≡ code → IsTableOf code' fs labels →
+    words_to at targets code' fs ≡ function_words (tree_of s) (entries_of s) entry code fs
+words_placed s entry at targets labels code' code fs e f g table =
+    let n = names_by s entry (places_of labels) in
+    let m = names_at (tree_of s) (entries_of s) entry code' fs in
+    let place : (l : ℕ) → n.label l ≡ m.label l = λ l. ap (λ (o : _). address_of_place (entry + place_or_entry o)) (table.each l) in
+    let same = target_same n m place (λ name. refl) (λ row. refl) in
+    ap₂ (λ (a : ℕ) (ts : List ℕ). words_to a ts code' fs) e (f ∙ targets_same n m same code')
+    ∙ (words_by_targets m (address_of_place entry) code' fs ∙ ap (λ (c : List Piece). function_words (tree_of s) (entries_of s) entry c fs) g)
+
+leads_by : (s : Source) (entry : ℕ) (places : ℕ → ℕ) (p : Piece) → LeadsTo (target_of (names_by s entry places) p) p
+leads_by s entry places (Known i) = tt
+leads_by s entry places (Label l) = tt
+leads_by s entry places (Branch c a b l) = omega arith
+leads_by s entry places (Jump l) = omega arith
+leads_by s entry places (Row l) = tt
+leads_by s entry places (LabelAddress r l) = tt
+leads_by s entry places (Call name) = tt
+leads_by s entry places (TailCall name) = tt
+leads_by s entry places (SymbolAddress r name) = tt
+leads_by s entry places (ExternalNumber r row) = tt
+leads_by s entry places (Descriptor d) = tt
+
+pub all_lead : (s : Source) (entry : ℕ) (places : ℕ → ℕ) (ps : List Piece) → AllLead (map (target_of (names_by s entry places)) ps) ps
+all_lead s entry places [] = tt
+all_lead s entry places (p ∷ ps) = (leads_by s entry places p, all_lead s entry places ps)
+
+-- ---- items of the file
+
+pub function_here : (items : List Item) (i : ℕ) (x : Item) (f : Function) → i < length items → x ≡ get_or items i x → x ≡ item.Function f →
+    functions_among (map item_view (drop i items)) ≡ function_view f ∷ functions_among (map item_view (drop (i + 1) items))
+function_here items i x f h is own =
+    ap (λ (l : List Item). functions_among (map item_view l)) (drop_step items i x h is) ∙ ap (λ (y : Item). functions_among (map item_view (y ∷ drop (i + 1) items))) own
+
+pub data_here : (items : List Item) (i : ℕ) (x : Item) (d : DataList) → i < length items → x ≡ get_or items i x → x ≡ item.Data d →
+    functions_among (map item_view (drop i items)) ≡ functions_among (map item_view (drop (i + 1) items))
+data_here items i x d h is own =
+    ap (λ (l : List Item). functions_among (map item_view l)) (drop_step items i x h is) ∙ ap (λ (y : Item). functions_among (map item_view (y ∷ drop (i + 1) items))) own
+
+pub typed_next : (items : List Item) (i : ℕ) (x : Item) → i < length items → x ≡ get_or items i x → AreItemsAnnotated (drop i items) → AreItemsAnnotated (drop (i + 1) items)
+typed_next items i x h is typed = (subst AreItemsAnnotated (drop_step items i x h is) typed).1

@@ -1,0 +1,39 @@
+use Rattle.std.proofs.Common.{◌≡◌, Some, Err, Result, sym, ap, ◌∙◌, subst}
+use Rattle.assemble.specs.Places.{forms_in}
+use Rattle.bs_fault.specs.declared.build.BuildError.{BuildError}
+use Rattle.bs_fault.specs.declared.build.BuildError.TheVariants as error
+use Rattle.bs_fault.specs.declared.large.Large.{Large}
+use Rattle.cmm_tree.specs.View.{file_view}
+use Rattle.cmm_tree.specs.declared.file.File.{File}
+use Rattle.image_form.specs.Image.{AreTables}
+use Rattle.image_form.specs.Tables.{Tables}
+use Rattle.image_rules.proofs.Whole.{is_image}
+use Rattle.layout_rules.specs.Conditions.{CanBeLaid}
+use Rattle.layout_rules.specs.Laid.{laid_out}
+use Rattle.layout_rules.specs.TooLarge.{first_too_large}
+use Rattle.assemble.proofs.image.assemble.Goals as goal
+
+same_large : {T : Type 0} (a b : Large) → ◌≡◌ {A = Result T BuildError} (Err (error.TooLarge a)) (Err (error.TooLarge b)) → a ≡ b
+same_large a b e = cc
+
+pub image-requires-clause-fits : goal.image-requires-clause-fits
+image-requires-clause-fits c = sym (c.too_large.ensures _ c.sizes.ensures) ∙ c.in_default.is
+
+pub returns-in-Some-clause-large : goal.returns-in-Some-clause-large
+returns-in-Some-clause-large c = λ large same.
+    let ps = c.args.pieces.now in
+    let forms = forms_in c.in_ok-places.places in
+    let t : Tables = laid_out (file_view c.file-file.result.now) ps forms in
+    let found = sym (c.too_large.ensures t c.sizes.ensures) ∙ (c.in-Some.is ∙ ap Some (same_large c.in-Some.large large same)) in
+    (t, (record { forms = forms; are = c.in_ok-places.ensures.forms; is = ap (λ (f : File). laid_out (file_view f) ps forms) c.file-file.ensures }, found))
+
+pub returns-clause-fits : goal.returns-clause-fits
+returns-clause-fits c = ap first_too_large c.in_ok-image.ensures ∙ (sym (c.too_large.ensures _ c.sizes.ensures) ∙ c.in_default.is)
+
+pub returns-clause-is_image : goal.returns-clause-is_image
+returns-clause-is_image c =
+    let ps = c.args.pieces.now in
+    let forms = forms_in c.in_ok-places.places in
+    let can = subst (λ (f : File). CanBeLaid (file_view f) ps) (sym c.file-file.ensures) c.requires.can in
+    subst AreTables (sym c.in_ok-image.ensures)
+    (is_image (file_view c.file-file.result.now) ps forms can c.in_ok-places.ensures.forms (sym (c.too_large.ensures _ c.sizes.ensures) ∙ c.in_default.is))

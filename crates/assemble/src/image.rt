@@ -1,0 +1,94 @@
+//! The image of a file.
+ghost use Rattle.std.specs.Prelude.{◌≡◌, None, Some, Err, IfOk, map};
+ghost use Rattle.assemble.specs.Source.{IsSource, laid_of, tree_of};
+ghost use Rattle.bs_fault.specs.declared.large.Large.{Large};
+ghost use Rattle.bs_words.specs.Contents.{contents};
+ghost use Rattle.cmm_data.specs.Map.{IsMapOf};
+ghost use Rattle.cmm_tree.specs.View.{file_view};
+ghost use Rattle.cmm_types.specs.Typing.{AreItemsAnnotated, file_of};
+ghost use Rattle.image_form.specs.Image.{IsImage};
+ghost use Rattle.image_form.specs.Tables.{Tables, tables, ext};
+ghost use Rattle.layout_rules.specs.Conditions.{CanBeLaid};
+ghost use Rattle.layout_rules.specs.Externals.{ext_of, externals};
+ghost use Rattle.layout_rules.specs.Laid.{IsLaidOut};
+ghost use Rattle.layout_rules.specs.TooLarge.{first_too_large};
+
+use crate::places::Places;
+use crate::source::Source;
+use bs_fault::BuildError;
+use bs_words::List;
+use cmm_data::{DataMap, SymbolTable};
+use cmm_types::Typed;
+use external_rows::external_rows;
+use image_form::{ExtRow, Image};
+use rv_layout::too_large;
+use rv_pieces::Pieces;
+use std::alloc::{AllocError, Global};
+
+impl<'a, 'b> Source<'a, 'b> {
+    /// The image, whose sections keep their limits. `calls` are the rows of the external calls.
+    fn image(&self, alloc: Global, calls: List<ExtRow>) -> Result<Image, AllocError>
+        requires source { IsSource self.now }
+        requires calls { map ext (contents calls) ≡ map ext_of (externals (tree_of self.now)) }
+        requires fits { first_too_large (laid_of self.now) ≡ None }
+        ensures { IfOk result (λ image. tables image ≡ laid_of self.now) }
+    {
+        Ok(Image {
+            version: 2,
+            funcs: self.rows(alloc)?,
+            code: self.code(alloc)?,
+            bytes: self.bytes(alloc)?,
+            syms: self.syms(alloc)?,
+            roots: self.roots(alloc)?,
+            extcs: calls,
+            descs: self.descs(alloc)?,
+        })
+    }
+}
+
+/// The image of a file, whose functions are these pieces, in the order of its text: the stub and the
+/// functions' words, each branch in the least form that reaches; the static data; the external calls in
+/// the order of their first use; the descriptors. It is of version 2.
+///
+/// `placed` is the file's static data at its place.
+///
+/// # Errors
+///
+/// `TooLarge` exactly where a section of that image passes its limit, with the first such section and
+/// the bytes that its body would have; no word of code is made before that is known. `OutOfMemory` where
+/// memory runs out.
+pub fn assemble<'a>(
+    alloc: Global,
+    pieces: &'a [Pieces],
+    typed: &'a Typed,
+    placed: &'a DataMap,
+) -> Result<Image, BuildError>
+    requires typed { AreItemsAnnotated (contents (file_of typed.now).items) }
+    requires placed { IsMapOf (file_view (file_of typed.now)) placed.now }
+    requires can { CanBeLaid (file_view (file_of typed.now)) pieces.now }
+    ensures laid { IfOk result (λ image. IsLaidOut (file_view (file_of typed.now)) pieces.now (tables image)) }
+    ensures is_image { IfOk result IsImage }
+    ensures fits { IfOk result (λ image. first_too_large (tables image) ≡ None) }
+    ensures large { (large : Large)
+        → result ≡ Err (BuildError.TooLarge large)
+        → (t : Tables) × (IsLaidOut (file_view (file_of typed.now)) pieces.now t × (first_too_large t ≡ Some large)) }
+{
+    let file = typed.file();
+    let symbols = SymbolTable::of_file(alloc, file)?;
+    let calls = external_rows(alloc, file)?;
+    let rows = calls.to_list(alloc)?;
+    let places = Places::of(alloc, pieces)?;
+    let source = Source {
+        file,
+        data: placed,
+        symbols: &symbols,
+        calls: &calls,
+        pieces,
+        places: &places,
+    };
+    if let Some(large) = too_large(&source.sizes(rows.as_slice())) {
+        return Err(BuildError::TooLarge(large));
+    }
+    let image = source.image(alloc, rows)?;
+    Ok(image)
+}

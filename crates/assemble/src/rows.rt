@@ -1,0 +1,94 @@
+//! The rows of functions.
+ghost use Rattle.std.specs.Prelude.{◌≡◌, ◌+◌, ◌*◌, ◌<◌, ◌^◌, None, length, map, IfOk};
+ghost use Rattle.assemble.specs.Places.{size_of};
+ghost use Rattle.assemble.specs.Source.{IsSource, laid_of};
+ghost use Rattle.bs_words.specs.Contents.{contents};
+ghost use Rattle.cmm_tree.specs.View.{function_view, params_view};
+ghost use Rattle.cmm_tree.specs.Tree.{comps_of};
+ghost use Rattle.cmm_types.specs.Types.{result_of as result_of_type};
+ghost use Rattle.cmm_types.specs.Typing.{IsFunctionAnnotated};
+ghost use Rattle.image_form.specs.Tables.{func};
+ghost use Rattle.layout_rules.specs.Forms.{total_words as words_in};
+ghost use Rattle.layout_rules.specs.Laid.{row_at};
+ghost use Rattle.layout_rules.specs.TooLarge.{first_too_large};
+
+use crate::places::{STUB_WORDS, total_words};
+use crate::source::Source;
+use bs_words::{Comp, List, Name, Ret, Ty};
+use cmm_tree::{Function, Item, Param};
+use image_form::FuncRow;
+use layout_rules::Form;
+use rv_pieces::Pieces;
+use std::alloc::{AllocError, Global};
+
+/// What a function returns whose body has this type.
+fn result_of(ty: Ty) -> Ret
+    ensures { result ≡ result_of_type ty }
+{
+    match ty {
+        Ty::Int => Ret::Comp(Comp::Int),
+        Ty::Val => Ret::Comp(Comp::Val),
+        Ty::Addr => Ret::Comp(Comp::Addr),
+        Ty::NoValue | Ty::Never => Ret::Unit,
+    }
+}
+
+fn comps_of(alloc: Global, params: &[Param]) -> Result<List<Comp>, AllocError>
+    ensures { IfOk result (λ comps. contents comps ≡ map (λ p. p.comp) (params_view params.now)) }
+{
+    let mut comps = Vec::new(alloc);
+    for param in params {
+        comps.push(param.comp)?;
+    }
+    Ok(List::from_vec(comps))
+}
+
+/// The row of a function whose entry is this word.
+fn row(
+    alloc: Global,
+    function: &Function,
+    pieces: &Pieces,
+    forms: &[Form],
+    entry: u64,
+) -> Result<FuncRow, AllocError>
+    requires annotated { IsFunctionAnnotated function.now }
+    requires few { size_of pieces.now < 2 ^ 48 }
+    requires same { length forms.now ≡ length pieces.now.code }
+    requires inside { 4 * (entry + words_in pieces.now.code forms.now) < 2 ^ 32 }
+    ensures { IfOk result (λ row. func row ≡ row_at entry (function_view function.now) pieces.now forms.now) }
+{
+    Ok(FuncRow {
+        name: Name::from_vec(Vec::from_slice(alloc, function.name.as_bytes())?),
+        offset: (4 * entry) as u32,
+        words: total_words(pieces.code.as_slice(), forms) as u32,
+        frame: pieces.frame,
+        params: comps_of(alloc, function.params.as_slice())?,
+        result: result_of(function.body.ty),
+    })
+}
+
+impl<'a, 'b> Source<'a, 'b> {
+    /// The rows of the functions, in the order of the text.
+    pub fn rows(&self, alloc: Global) -> Result<List<FuncRow>, AllocError>
+        requires source { IsSource self.now }
+        requires fits { first_too_large (laid_of self.now) ≡ None }
+        ensures { IfOk result (λ rows. map func (contents rows) ≡ (laid_of self.now).funcs) }
+    {
+        let mut rows = Vec::new(alloc);
+        let mut entry = STUB_WORDS;
+        let mut next: usize = 0;
+        for item in self.file.items.as_slice() {
+            match item {
+                Item::Function(function) => {
+                    let pieces = &self.pieces[next];
+                    let forms = self.places.forms[next].as_slice();
+                    rows.push(row(alloc, function, pieces, forms, entry)?)?;
+                    entry += total_words(pieces.code.as_slice(), forms);
+                    next += 1;
+                }
+                Item::Data(_) => {}
+            }
+        }
+        Ok(List::from_vec(rows))
+    }
+}

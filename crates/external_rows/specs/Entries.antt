@@ -1,0 +1,25 @@
+-- Rows of external calls, and how one more is noted.
+use Rattle.std.specs.Prelude.{◌≡◌, ℕ, cond, List, [], ◌∷◌, ◌++◌, map}
+use Rattle.std.specs.declared.vec.Vec.{Vec}
+use Rattle.bs_words.specs.Contents.{contents}
+use Rattle.bs_words.specs.External.{External}
+use Rattle.image_form.specs.Image.{comp_byte, ret_byte}
+use Rattle.image_form.specs.declared.image.ExtRow.{ExtRow}
+use Rattle.layout_rules.specs.Externals.{is_among}
+
+-- rows with that of one more call
+abbrev pub noted : List External → External → List External
+noted rows e = cond (is_among rows e) rows (rows ++ e ∷ [])
+
+-- ---- how a map holds rows
+
+-- the bytes by which a row is found: those of its types, one that is none of a type, its name
+abbrev pub key_of : External → List ℕ
+key_of e = ret_byte e.result ∷ (map comp_byte e.params ++ 255 ∷ e.name)
+
+abbrev pub entry_view : {A : Type 0} → Vec ℕ A × ExtRow → External
+entry_view e = record { name = e.1.name; params = contents e.1.params; result = e.1.result }
+
+-- each row stands at its own bytes
+abbrev pub AreKeyed : {A : Type 0} → List (Vec ℕ A × ExtRow) → Type 0
+AreKeyed entries = map (λ e. e.0.items) entries ≡ map (λ e. key_of (entry_view e)) entries

@@ -1,0 +1,163 @@
+//! Rows of external calls, by what each call is known by.
+ghost use Rattle.std.specs.Prelude.{◌≡◌, ◌+◌, ◌≤◌, ◌∷◌, ◌++◌, [], map, length, IfOk, OnOk};
+ghost use Rattle.bs_words.specs.Contents.{contents};
+ghost use Rattle.image_form.specs.Image.{comp_byte, ret_byte, ext_bytes};
+ghost use Rattle.image_form.specs.Tables.{ext};
+ghost use Rattle.external_rows.specs.Entries.{key_of, noted};
+ghost use Rattle.layout_rules.specs.Externals.{ext_of, number_of};
+ghost use Rattle.mach_ir.specs.Acts.{row_of};
+
+use bs_words::{Comp, List, Name, Ret};
+use image_form::ExtRow;
+use indexmap::IndexMap;
+use mach_ir::External;
+use std::alloc::{AllocError, Global};
+use std::marker::Model;
+
+/// Rows of external calls, in the order of their first use.
+///
+/// A row is found by bytes that no other row has: its types, a byte that is none of a type, and its
+/// name.
+pub struct ExternalRows {
+    rows: IndexMap<Vec<u8>, ExtRow>,
+}
+
+impl Model for ExternalRows {
+    ghost use Rattle.std.specs.Prelude.{List, map};
+    ghost use Rattle.bs_words.specs.External.{External};
+    ghost use Rattle.external_rows.specs.Entries.{entry_view, AreKeyed};
+
+    ghost Value = { List External };
+
+    ghost view = { λ e. map entry_view e.rows.entries };
+
+    ghost invariant = { λ e. AreKeyed e.rows.entries };
+}
+
+impl Drop for ExternalRows {
+    fn drop(self) {
+        let ExternalRows { rows: _ } = self;
+    }
+}
+
+/// What no type is written as.
+const BEHIND_TYPES: u8 = 255;
+
+fn comp_byte(comp: Comp) -> u8
+    ensures { result ≡ comp_byte comp }
+{
+    match comp {
+        Comp::Int => 0,
+        Comp::Val => 1,
+        Comp::Addr => 2,
+        Comp::Float => 4,
+    }
+}
+
+fn ret_byte(ret: Ret) -> u8
+    ensures { result ≡ ret_byte ret }
+{
+    match ret {
+        Ret::Unit => 3,
+        Ret::Comp(comp) => comp_byte(comp),
+    }
+}
+
+fn put_comps(key: &mut Vec<u8>, comps: &[Comp]) -> Result<(), AllocError>
+    ensures { OnOk result (key.new.items ≡ key.old.items ++ map comp_byte comps.now) }
+{
+    for comp in comps {
+        key.push(comp_byte(*comp))?;
+    }
+    Ok(())
+}
+
+/// The bytes by which a row is found.
+fn key(alloc: Global, name: &[u8], params: &[Comp], answer: Ret) -> Result<Vec<u8>, AllocError>
+    ensures { IfOk result (λ key. key.items ≡ key_of (record {
+      name = name.now;
+      params = params.now;
+      result = answer;
+    })) }
+{
+    let mut key = vec![in alloc; ret_byte(answer)]?;
+    put_comps(&mut key, params)?;
+    key.push(BEHIND_TYPES)?;
+    key.extend_from_slice(name)?;
+    Ok(key)
+}
+
+impl ExternalRows {
+    /// No rows. It takes no memory.
+    pub fn new(alloc: Global) -> Self
+        ensures { result ≡ [] }
+    {
+        ExternalRows {
+            rows: IndexMap::new(alloc),
+        }
+    }
+
+    /// Notes the row of a call, unless it is there.
+    pub fn note(
+        &mut self,
+        alloc: Global,
+        name: &Name,
+        params: Vec<Comp>,
+        answer: Ret,
+    ) -> Result<(), AllocError>
+        ensures { OnOk result (self.new ≡ noted self.old (record {
+          name = name.now;
+          params = params.items;
+          result = answer;
+        })) }
+    {
+        let key = key(alloc, name.as_bytes(), params.as_slice(), answer)?;
+        if !self.rows.contains_key(key.as_slice()) {
+            let row = ExtRow {
+                name: Name::from_vec(Vec::from_slice(alloc, name.as_bytes())?),
+                params: List::from_vec(params),
+                result: answer,
+            };
+            self.rows.insert(key, row)?;
+        }
+        Ok(())
+    }
+
+    /// The number of a call's row, or of rows where it has none.
+    pub fn number_of(&self, alloc: Global, call: &External) -> Result<usize, AllocError>
+        ensures { IfOk result (λ number. number ≡ number_of self.now (row_of call.now)) }
+    {
+        let key = key(
+            alloc,
+            call.name.as_bytes(),
+            call.params.as_slice(),
+            call.result,
+        )?;
+        let number = self.rows.get_index_of(key.as_slice());
+        Ok(number.unwrap_or(self.rows.len()))
+    }
+
+    /// A copy of the rows, as an image has them.
+    pub fn to_list(&self, alloc: Global) -> Result<List<ExtRow>, AllocError>
+        ensures { IfOk result (λ rows. map ext (contents rows) ≡ map ext_of self.now) }
+    {
+        let mut rows = Vec::new(alloc);
+        for index in 0..self.rows.len() {
+            match self.rows.get_index(index) {
+                Some((_, row)) => rows.push(copy_of(alloc, row)?)?,
+                None => unreachable!(),
+            };
+        }
+        Ok(List::from_vec(rows))
+    }
+}
+
+fn copy_of(alloc: Global, row: &ExtRow) -> Result<ExtRow, AllocError>
+    ensures { IfOk result (λ copy. ext copy ≡ ext row.now) }
+{
+    Ok(ExtRow {
+        name: Name::from_vec(Vec::from_slice(alloc, row.name.as_bytes())?),
+        params: List::from_vec(Vec::from_slice(alloc, row.params.as_slice())?),
+        result: row.result,
+    })
+}

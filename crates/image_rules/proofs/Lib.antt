@@ -1,0 +1,5 @@
+pub mod Placed
+pub mod Held
+pub mod Externals
+pub mod Limits
+pub mod Whole

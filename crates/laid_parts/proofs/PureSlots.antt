@@ -1,0 +1,117 @@
+-- The part of each line that copies or computes names the slots that the line reads and writes.
+use Rattle.std.proofs.Common.{◌≡◌, ℕ, Bool, true, false, cond, List, [], ◌∷◌, refl, sym, subst, Option, arith}
+use Rattle.std.specs.List.{All}
+use Rattle.std.proofs.lemmas.List.Elements.{All-contains, All-nil, All-cons, All-head, All-tail}
+use Rattle.bs_words.specs.declared.types.Comp.{Comp}
+use Rattle.bs_words.specs.declared.types.Loc.{Loc}
+use Rattle.bs_words.specs.declared.types.Loc.TheVariants as loc
+use Rattle.mach_ir.specs.Placed.{colours}
+use Rattle.mach_ir.specs.declared.op.Op.TheVariants as op
+use Rattle.mach_ir.specs.declared.op.Pure.TheVariants as pure
+use Rattle.mach_ir.specs.declared.op.Right.TheVariants as right
+use Rattle.lin_ir.specs.Formed.{IsFormed, formed_op, is_colour, is_slot, IsLocation, is_home, is_spare, is_self_move, Locates, comps, places_of}
+use Rattle.lin_ir.specs.Meaning.{same_loc, is_named}
+use Rattle.lin_ir.specs.declared.descr.Descr.{Descr}
+use Rattle.lin_ir.specs.declared.lin.LinOp.{LinOp}
+use Rattle.lin_ir.specs.declared.lin.LinOp.TheVariants as lin
+use Rattle.lin_ir.specs.declared.lin.Lin.{Lin}
+use Rattle.lin_ir.specs.declared.lin.Spot.{Spot}
+use Rattle.rv_pieces.specs.declared.piece.Piece.{Piece}
+use Rattle.emit_rules.specs.Instructions.{register_at}
+use Rattle.emit_rules.specs.Emitted.{part_of}
+use Rattle.emit_rules.specs.Entry.{Frame}
+use Rattle.emit_rules.specs.Slots.{first, second, copied}
+use Rattle.std.specs.Prelude.{◌*◌, ◌<◌, ◌≤◌, ◌/◌}
+use Rattle.std.proofs.Common.{cond, ◌+◌}
+use Rattle.mach_ir.specs.declared.op.Pure.{Pure}
+use Rattle.laid_parts.specs.Laid.{NamesSlots, CarriesSlots, moves_nothing, names}
+use Rattle.laid_parts.specs.Stack.{at_first}
+use Rattle.laid_parts.proofs.Registers.{or_false}
+use Rattle.laid_parts.proofs.Words.{Chunk, same, is_sp}
+use Rattle.laid_parts.proofs.SlotParts.{IsWithinFrame, in_register, in_frame, copied-slot, operator_register-slots, operator_constant-slots, constant_line-slots, symbol_line-slots}
+use Rattle.laid_parts.proofs.Each.{named_none, named_one, named_two, constant_inv, symbol_inv, copy_inv, register_inv, with_inv, same_is}
+
+-- ---- locations
+
+abbrev none_sp : List ℕ → Bool
+none_sp [] = true
+none_sp (r ∷ rs) = cond (is_sp (register_at r)) false (none_sp rs)
+
+apart_of : (rs : List ℕ) → none_sp rs ≡ true → All (λ r. is_sp (register_at r) ≡ false) rs
+apart_of [] e = All-nil (λ r. is_sp (register_at r) ≡ false)
+apart_of (r ∷ rs) e = by (is_sp (register_at r)) refl e (λ h. apart_of rs h)
+  where
+    by : (b : Bool) → is_sp (register_at r) ≡ b → cond b false (none_sp rs) ≡ true →
+        (none_sp rs ≡ true → All (λ r. is_sp (register_at r) ≡ false) rs) → All (λ r. is_sp (register_at r) ≡ false) (r ∷ rs)
+    by true h e rest = absurd (cc)
+    by false h e rest = All-cons (λ r. is_sp (register_at r) ≡ false) r rs h (rest e)
+
+pub within : (m : Lin) (t : ℕ) → 8 * m.slots + 16 * t < 1073741824 → (l : Loc) → IsLocation m l → IsWithinFrame t l
+within m t b l (is_home (is_colour {n} c)) = in_register (All-contains (λ r. is_sp (register_at r) ≡ false) colours n (apart_of colours refl) c)
+within m t b l (is_home (is_slot {k} h)) = in_frame (let g : k < m.slots = h in omega (arith, g, b))
+within m t b l (is_spare e) = subst (IsWithinFrame t) (sym e) (in_register {r = 5} refl)
+
+pub frame_holds : (s x t : ℕ) → (8 * s + x + 15) / 16 * 16 + 16 * t ≤ 1048576 → 8 * s + 16 * t < 1073741824
+frame_holds s x t h = omega (arith, h)
+
+module _ (m : Lin) (t : ℕ) (b : 8 * m.slots + 16 * t < 1073741824) where
+  pub first_within : (ss : List Spot) (u : Comp) (us : List Comp) → comps ss ≡ u ∷ us → Locates m ss → IsWithinFrame t (first ss)
+  first_within [] u us e h = absurd (cc)
+  first_within (s ∷ ss) u us e h = within m t b s.loc (All-head (λ (s : Spot). IsLocation m s.loc) s ss h)
+
+  pub second_within : (ss : List Spot) (u v : Comp) (us : List Comp) → comps ss ≡ u ∷ v ∷ us → Locates m ss → IsWithinFrame t (second ss)
+  second_within [] u v us e h = absurd (cc)
+  second_within (s ∷ []) u v us e h = absurd (cc)
+  second_within (s ∷ r ∷ ss) u v us e h =
+      within m t b r.loc (All-head (λ (s : Spot). IsLocation m s.loc) r ss (All-tail (λ (s : Spot). IsLocation m s.loc) s (r ∷ ss) h))
+
+pub slots_of : {o : LinOp} {args results : List Spot} {part : List Piece} (slots t : ℕ) →
+    ((k : ℕ) → Chunk (8 * k + 16 * t) part (is_named (loc.Slot k) (places_of args)) (is_named (loc.Slot k) (places_of results))) →
+    NamesSlots slots t (record { op = o; args = args; results = results }) part
+slots_of slots t h = record { reads = λ k l. ((h k).each at_first refl).loads; writes = λ k l. ((h k).each at_first refl).stores }
+
+module _ (m : Lin) (t : ℕ) (b : 8 * m.slots + 16 * t < 1073741824) (f : Frame) (d : Option Descr) where
+  abbrev SlotsIn : LinOp → List Spot → List Spot → Type 0
+  SlotsIn o args results =
+      CarriesSlots m.slots t (record { op = o; args = args; results = results }) (part_of t f d (record { op = o; args = args; results = results }))
+
+  copy-slots : (kind : _) (args results : List Spot) → (u v : Comp) → comps args ≡ u ∷ [] → comps results ≡ v ∷ [] → Locates m args → Locates m results →
+      SlotsIn (lin.Op (op.Pure (pure.Copy kind))) args results
+  copy-slots kind [] results u v e g a r = absurd (cc)
+  copy-slots kind (x ∷ y ∷ args) results u v e g a r = absurd (cc)
+  copy-slots kind (x ∷ []) [] u v e g a r = absurd (cc)
+  copy-slots kind (x ∷ []) (y ∷ z ∷ results) u v e g a r = absurd (cc)
+  copy-slots kind (x ∷ []) (y ∷ []) u v e g a r = by (same_loc x.loc y.loc) refl
+    where
+      by : (q : Bool) → same_loc x.loc y.loc ≡ q →
+          CarriesSlots m.slots t (record { op = lin.Op (op.Pure (pure.Copy kind)); args = x ∷ []; results = y ∷ [] }) (cond q [] (copied t x.loc y.loc))
+      by true k = moves_nothing (is_self_move (same_is x.loc y.loc k))
+      by false w = names (slots_of m.slots t (λ k. same (8 * k + 16 * t)
+          (copied-slot k t x.loc y.loc (first_within m t b (x ∷ []) u [] e a) (first_within m t b (y ∷ []) v [] g r))
+          (sym (or_false (same_loc x.loc (loc.Slot k)))) (sym (or_false (same_loc y.loc (loc.Slot k))))))
+
+  pub pure-slots : (g : Pure) (args results : List Spot) → IsFormed (record { op = lin.Op (op.Pure g); args = args; results = results }) →
+      Locates m args → Locates m results → SlotsIn (lin.Op (op.Pure g)) args results
+  pure-slots (pure.Copy kind) args results (formed_op h) a r =
+      let i = copy_inv kind (comps args) (comps results) h in copy-slots kind args results i.0 i.1 i.2 i.3 a r
+  pure-slots (pure.Constant w) args results (formed_op h) a r =
+      let i = constant_inv w (comps args) (comps results) h in
+      names (slots_of m.slots t (λ k. same (8 * k + 16 * t)
+      (constant_line-slots k t w results (first_within m t b results i.1.0 [] i.1.1 r))
+      (sym (named_none (loc.Slot k) args i.0)) (sym (named_one (loc.Slot k) results i.1.0 i.1.1))))
+  pure-slots (pure.Symbol name) args results (formed_op h) a r =
+      let i = symbol_inv name (comps args) (comps results) h in
+      names (slots_of m.slots t (λ k. same (8 * k + 16 * t)
+      (symbol_line-slots k t name results (first_within m t b results i.1.0 [] i.1.1 r))
+      (sym (named_none (loc.Slot k) args i.0)) (sym (named_one (loc.Slot k) results i.1.0 i.1.1))))
+  pure-slots (pure.Operator g right.Register) args results (formed_op h) a r =
+      let i = register_inv g (comps args) (comps results) h in
+      names (slots_of m.slots t (λ k. same (8 * k + 16 * t)
+      (operator_register-slots k t g args results (first_within m t b args i.0 (i.1 ∷ []) i.3 a) (second_within m t b args i.0 i.1 [] i.3 a)
+      (first_within m t b results i.2 [] i.4 r))
+      (sym (named_two (loc.Slot k) args i.0 i.1 i.3)) (sym (named_one (loc.Slot k) results i.2 i.4))))
+  pure-slots (pure.Operator g (right.Constant w)) args results (formed_op h) a r =
+      let i = with_inv g w (comps args) (comps results) h in
+      names (slots_of m.slots t (λ k. same (8 * k + 16 * t)
+      (operator_constant-slots k t g w args results (first_within m t b args i.0 [] i.2 a) (first_within m t b results i.1 [] i.3 r))
+      (sym (named_one (loc.Slot k) args i.0 i.2)) (sym (named_one (loc.Slot k) results i.1 i.3))))

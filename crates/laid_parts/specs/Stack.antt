@@ -1,0 +1,84 @@
+-- The words of the stack that pieces name: by loads and stores whose address is sp and a constant.
+use Rattle.std.specs.Prelude.{ℕ, ◌*◌, Bool, false, cond, nat_eq, not, ◌||◌, ◌&&◌, List, [], ◌∷◌}
+use Rattle.bs_words.specs.Word.{add_word, shl_word, sext_word}
+use Rattle.rv_isa.specs.Registers.{sp, t0, t1, t2}
+use Rattle.rv_isa.specs.declared.instr.AluImmOp.TheVariants as imm
+use Rattle.rv_isa.specs.declared.instr.AluOp.TheVariants as alu
+use Rattle.rv_isa.specs.declared.instr.ShiftOp.TheVariants as shifts
+use Rattle.rv_isa.specs.declared.instr.Instr.{Instr}
+use Rattle.rv_isa.specs.declared.instr.Instr.TheVariants as instr
+use Rattle.rv_pieces.specs.declared.piece.Piece.{Piece}
+use Rattle.rv_pieces.specs.declared.piece.Piece.TheVariants as piece
+use Rattle.laid_parts.specs.Named.{is_among, piece_targets}
+
+-- ---- what is known of a register
+
+pub data Form : Type 0 where
+  Unknown : Form
+  -- a constant
+  Is : (w : ℕ) → Form
+  -- so many bytes above where sp pointed before the part, a word that wraps
+  FromSp : (w : ℕ) → Form
+
+abbrev pub Held : Type 0
+Held = ℕ → Form
+
+abbrev pub plus : Form → Form → Form
+plus (Is a) (Is b) = Is (add_word a b)
+plus (FromSp a) (Is b) = FromSp (add_word a b)
+plus (Is a) (FromSp b) = FromSp (add_word a b)
+plus _ _ = Unknown
+
+abbrev pub changed : (ℕ → ℕ) → Form → Form
+changed f (Is w) = Is (f w)
+changed f _ = Unknown
+
+-- what an instruction makes in its target
+abbrev pub made : Held → Instr → Form
+made h (instr.Lui rd upper) = Is (sext_word (4096 * upper) 32)
+made h (instr.OpImm imm.Addi rd rs w) = plus (h rs) (Is (sext_word w 12))
+made h (instr.Op alu.Add rd a b) = plus (h a) (h b)
+made h (instr.Addiw rd rs w) = changed (λ v. sext_word (add_word v (sext_word w 12)) 32) (h rs)
+made h (instr.Shift shifts.Slli rd rs amount) = changed (λ v. shl_word v amount) (h rs)
+made h _ = Unknown
+
+abbrev pub piece_made : Held → Piece → Form
+piece_made h (piece.Known j) = made h j
+piece_made h _ = Unknown
+
+-- addresses of the stack are made in sp and in scratch registers alone
+abbrev pub forms_addresses : ℕ → Bool
+forms_addresses r = is_among r (sp ∷ t0 ∷ t1 ∷ t2 ∷ [])
+
+abbrev pub after : Held → Piece → Held
+after h p =
+    λ r. cond (is_among r (piece_targets p)) (cond (forms_addresses r) (piece_made h p) Unknown)
+    (h r)
+
+-- before a part
+abbrev pub at_first : Held
+at_first = λ r. cond (nat_eq r sp) (FromSp 0) (cond (nat_eq r 0) (Is 0) Unknown)
+
+-- ---- words of the stack, by the bytes from sp
+
+abbrev pub word_at : Form → ℕ → List ℕ
+word_at (FromSp a) w = add_word a (sext_word w 12) ∷ []
+word_at _ w = []
+
+abbrev pub loaded : Held → Piece → List ℕ
+loaded h (piece.Known (instr.Load k rd rs w)) = word_at (h rs) w
+loaded h _ = []
+
+abbrev pub stored : Held → Piece → List ℕ
+stored h (piece.Known (instr.Store k address value w)) = word_at (h address) w
+stored h _ = []
+
+-- whether pieces load a word of the stack before they have stored it
+abbrev pub is_loaded : Held → ℕ → List Piece → Bool
+is_loaded h c [] = false
+is_loaded h c (p ∷ ps) =
+    is_among c (loaded h p) || (not (is_among c (stored h p)) && is_loaded (after h p) c ps)
+
+abbrev pub is_stored : Held → ℕ → List Piece → Bool
+is_stored h c [] = false
+is_stored h c (p ∷ ps) = is_among c (stored h p) || is_stored (after h p) c ps

@@ -1,4 +1,0 @@
-use Rattle.selection.proofs.shape.+exponent_from.Given as goal
-
-abbrev pub decreases-exponent_from : goal.decreases-exponent_from
-decreases-exponent_from l = l.left

@@ -1,0 +1,5 @@
+pub mod Counts
+pub mod Scopes
+pub mod Innermost
+pub mod Lasting
+pub mod Outlines

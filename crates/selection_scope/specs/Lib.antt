@@ -1,0 +1,5 @@
+pub mod Row
+pub mod Scoping
+pub mod Widths
+pub mod Light
+pub mod Outlines

@@ -1,0 +1,89 @@
+//! Light expressions, whose code may wait until the operation that takes them.
+ghost use Rattle.std.specs.Prelude.{◌≡◌};
+ghost use Rattle.cmm_tree.specs.View.{expr_view};
+ghost use Rattle.cmm_types.specs.Light.{is_light, is_light_address, is_light_operator};
+ghost use Rattle.cmm_meaning.specs.Evaluation.{is_left_first};
+ghost use Rattle.selection_scope.specs.Scoping.{names_in};
+ghost use Rattle.selection_scope.specs.Light.{makes_address};
+
+use crate::outline::{Outline, outline_of};
+use crate::scope::Scope;
+use bs_words::IntOp;
+use cmm_tree::Expr;
+
+/// Whether the expression is a light address: it is selected after the other operands of its operation.
+#[tactic(auto, using(crate::proofs::Outlines::other_address))]
+pub fn is_light_address(scope: &Scope, expr: &Expr) -> bool
+    ensures { result ≡ is_light_address (names_in scope.now) (expr_view expr.now) }
+{
+    match outline_of(expr) {
+        Outline::Operator(op, left, right) => {
+            makes_address(op) && (is_light(scope, left) && is_light(scope, right))
+        }
+        Outline::Integer(_) | Outline::Symbol(_) | Outline::Name(_) | Outline::Other => false,
+    }
+}
+
+/// Whether the right operand alone is a light address, so that the left one is selected first.
+pub fn is_left_first(scope: &Scope, left: &Expr, right: &Expr) -> bool
+    ensures { result ≡ is_left_first (names_in scope.now) (expr_view left.now)
+        (expr_view right.now) }
+{
+    is_light_address(scope, right) && !is_light_address(scope, left)
+}
+
+#[tactic(auto, using(crate::proofs::Outlines::other_light))]
+fn is_light(scope: &Scope, expr: &Expr) -> bool
+    ensures { result ≡ is_light (names_in scope.now) (expr_view expr.now) }
+{
+    match outline_of(expr) {
+        Outline::Integer(_) | Outline::Symbol(_) => true,
+        Outline::Name(name) => scope.is_immutable(name),
+        Outline::Operator(op, left, right) => {
+            is_light_operator(op) && (is_light(scope, left) && is_light(scope, right))
+        }
+        Outline::Other => false,
+    }
+}
+
+fn makes_address(op: IntOp) -> bool
+    ensures { result ≡ makes_address op }
+{
+    match op {
+        IntOp::AddA => true,
+        IntOp::Add
+        | IntOp::Sub
+        | IntOp::Mul
+        | IntOp::Mulh
+        | IntOp::Div
+        | IntOp::Mod
+        | IntOp::And
+        | IntOp::Or
+        | IntOp::Xor
+        | IntOp::Shl
+        | IntOp::Shr
+        | IntOp::Sar
+        | IntOp::Cmp(_)
+        | IntOp::CmpU(_)
+        | IntOp::AddV => false,
+    }
+}
+
+fn is_light_operator(op: IntOp) -> bool
+    ensures { result ≡ is_light_operator op }
+{
+    match op {
+        IntOp::Add
+        | IntOp::Sub
+        | IntOp::Mul
+        | IntOp::And
+        | IntOp::Or
+        | IntOp::Xor
+        | IntOp::Shl
+        | IntOp::Shr
+        | IntOp::Sar
+        | IntOp::AddV
+        | IntOp::AddA => true,
+        IntOp::Mulh | IntOp::Div | IntOp::Mod | IntOp::Cmp(_) | IntOp::CmpU(_) => false,
+    }
+}

@@ -1,0 +1,395 @@
+//! The names and labels in scope.
+ghost use Rattle.std.specs.Prelude.{◌≡◌, [], ◌∷◌, ◌++◌, List, Some, false, not, length, map, reverse, option_map, option_copied, IfOk, OnOk, MatchOption};
+ghost use Rattle.cmm_tree.specs.Rows.{handlers_of};
+ghost use Rattle.cmm_tree.specs.Tree.{same_label, is_bare};
+ghost use Rattle.cmm_tree.specs.View.{label_view, params_view};
+ghost use Rattle.cmm_types.specs.Light.{is_immutable};
+ghost use Rattle.selection_rules.specs.Select.{Named, Label as InCode, scopes, reg_of, label_of, params_from, with_params, labels_from, in_handlers, deeper};
+ghost use Rattle.selection_scope.specs.Scoping.{named_view, target_view, names_in, higher};
+
+use crate::numbers::{number_of, plus};
+use crate::place::{fresh, type_of_comp};
+use crate::row::Regs;
+use bs_words::{Name, Ty};
+use cmm_tree::{Handler, Label, Param};
+use mach_ir::Reg;
+use std::alloc::{AllocError, Global};
+use std::marker::Model;
+
+/// A name in scope, and its register.
+#[derive(Drop)]
+pub struct Bound {
+    pub name: Name,
+    pub ty: Ty,
+    pub mutable: bool,
+    pub reg: Reg,
+}
+
+/// A handler in scope: the registers of its parameters, its label in the code, and how many tries stand between it and
+/// what is selected.
+#[derive(Drop)]
+pub struct Target {
+    pub label: Label,
+    pub params: Regs,
+    pub number: u32,
+    pub tries: u32,
+}
+
+/// The names and labels in scope. Contracts see them as lists, the innermost first.
+#[derive(Drop)]
+pub struct Scope {
+    alloc: Global,
+    /// The innermost is the last.
+    names: Vec<Bound>,
+    /// The innermost is the last.
+    labels: Vec<Target>,
+}
+
+impl Model for Scope {
+    ghost use Rattle.std.specs.Prelude.{map, reverse};
+    ghost use Rattle.selection_scope.specs.Scoping.{Visible, named_view, target_view};
+
+    ghost Value = { Visible };
+
+    ghost view = { λ scope. record {
+      names = map named_view (reverse scope.names.items);
+      labels = map target_view (reverse scope.labels.items);
+    } };
+}
+
+/// The last of the bindings that has the name.
+fn innermost<'b>(names: &'b [Bound], name: &Name) -> Option<&'b Bound>
+    ensures reg { option_map (λ b. b.reg) (option_copied result) ≡ reg_of (map named_view
+        (reverse names.now)) name.now }
+    ensures mutable { MatchOption result (is_immutable (scopes (map named_view
+        (reverse names.now))) name.now ≡ false) (λ b. is_immutable (scopes (map named_view
+        (reverse names.now))) name.now ≡ not b.now.mutable) }
+{
+    let mut rest = names;
+    while let Some((last, others)) = rest.split_last() {
+        if last.name.same(name) {
+            return Some(last);
+        }
+        rest = others;
+    }
+    None
+}
+
+/// Whether the labels are the same.
+fn is_same(a: &Label, b: &Label) -> bool
+    ensures { result ≡ same_label (label_view a.now) (label_view b.now) }
+{
+    match a {
+        Label::Named(first) => match b {
+            Label::Named(second) => first.as_bytes() == second.as_bytes(),
+            Label::Bare | Label::Done | Label::Again => false,
+        },
+        Label::Bare => match b {
+            Label::Bare => true,
+            Label::Named(_) | Label::Done | Label::Again => false,
+        },
+        Label::Done => match b {
+            Label::Done => true,
+            Label::Named(_) | Label::Bare | Label::Again => false,
+        },
+        Label::Again => match b {
+            Label::Again => true,
+            Label::Named(_) | Label::Bare | Label::Done => false,
+        },
+    }
+}
+
+fn copy_of(alloc: Global, label: &Label) -> Result<Label, AllocError>
+    ensures { IfOk result (λ copy. label_view copy ≡ label_view label.now) }
+{
+    match label {
+        Label::Named(name) => {
+            let bytes = Vec::from_slice(alloc, name.as_bytes())?;
+            Ok(Label::Named(Name::from_vec(bytes)))
+        }
+        Label::Bare => Ok(Label::Bare),
+        Label::Done => Ok(Label::Done),
+        Label::Again => Ok(Label::Again),
+    }
+}
+
+/// The last of the handlers that has the label.
+fn handler_for<'b>(labels: &'b [Target], label: &Label) -> Option<&'b Target>
+    ensures { option_map target_view (option_copied result) ≡ label_of (map target_view
+        (reverse labels.now)) (label_view label.now) }
+{
+    let mut rest = labels;
+    while let Some((last, others)) = rest.split_last() {
+        if is_same(label, &last.label) {
+            return Some(last);
+        }
+        rest = others;
+    }
+    None
+}
+
+/// Registers for parameters, with the numbers from this one on.
+pub fn params_from(alloc: Global, number: u32, params: &[Param]) -> Result<Regs, AllocError>
+    ensures { IfOk result (λ regs. regs ≡ params_from number (params_view params.now)) }
+{
+    let mut regs = Regs::new(alloc);
+    let mut next = number;
+    let mut rest = params;
+    while let [param, others @ ..] = rest {
+        regs.push(fresh(next, type_of_comp(param.comp)))?;
+        next = plus(next, 1)?;
+        rest = others;
+    }
+    Ok(regs)
+}
+
+/// The handlers of a catch, the first of which has this number.
+fn targets(alloc: Global, handlers: &[Handler], number: u32) -> Result<Vec<Target>, AllocError>
+    ensures { IfOk result (λ targets. map target_view targets.items ≡ labels_from number
+        (handlers_of handlers.now)) }
+{
+    let mut targets = Vec::new(alloc);
+    let mut next = number;
+    let mut rest = handlers;
+    while let [handler, others @ ..] = rest {
+        let first = plus(next, 1)?;
+        let params = params_from(alloc, first, handler.params.as_slice())?;
+        let label = copy_of(alloc, &handler.label)?;
+        targets.push(Target {
+            label,
+            params,
+            number: next,
+            tries: 0,
+        })?;
+        next = plus(first, number_of(handler.params.len())?)?;
+        rest = others;
+    }
+    Ok(targets)
+}
+
+fn is_bare(label: &Label) -> bool
+    ensures { result ≡ is_bare (label_view label.now) }
+{
+    match label {
+        Label::Bare => true,
+        Label::Named(_) => false,
+        Label::Done => false,
+        Label::Again => false,
+    }
+}
+
+/// Puts these handlers on the stack, the first innermost.
+fn put_back(labels: &mut Vec<Target>, targets: Vec<Target>) -> Result<(), AllocError>
+    ensures { OnOk result (map target_view (reverse labels.new.items) ≡
+        map target_view targets.items ++ map target_view (reverse labels.old.items)) }
+{
+    let mut left = targets;
+    while let Some(target) = left.pop() {
+        labels.push(target)?;
+    }
+    Ok(())
+}
+
+/// The same of those that are not bare.
+fn put_lasting(labels: &mut Vec<Target>, targets: Vec<Target>) -> Result<(), AllocError>
+    ensures { OnOk result (map target_view (reverse labels.new.items) ≡
+        in_handlers (map target_view targets.items)
+        ++ map target_view (reverse labels.old.items)) }
+{
+    let mut left = targets;
+    while let Some(target) = left.pop() {
+        if !is_bare(&target.label) {
+            labels.push(target)?;
+        }
+    }
+    Ok(())
+}
+
+/// Takes the handlers off the stack, the innermost first, with one try more before each.
+fn one_deeper(alloc: Global, labels: &mut Vec<Target>) -> Result<Vec<Target>, AllocError>
+    ensures taken { IfOk result (λ inside. map target_view inside.items ≡
+        deeper (map target_view (reverse labels.old.items))) }
+    ensures none { IfOk result (λ _. labels.new.items ≡ []) }
+{
+    let mut inside = Vec::new(alloc);
+    while let Some(target) = labels.pop() {
+        let tries = plus(target.tries, 1)?;
+        inside.push(Target { tries, ..target })?;
+    }
+    Ok(inside)
+}
+
+/// Takes the handlers off the stack, the innermost first, with one try less before each.
+fn one_higher(alloc: Global, labels: &mut Vec<Target>) -> Result<Vec<Target>, AllocError>
+    ensures taken { IfOk result (λ outside. map target_view outside.items ≡
+        higher (map target_view (reverse labels.old.items))) }
+    ensures none { IfOk result (λ _. labels.new.items ≡ []) }
+{
+    let mut outside = Vec::new(alloc);
+    while let Some(target) = labels.pop() {
+        let tries = target.tries.saturating_sub(1);
+        outside.push(Target { tries, ..target })?;
+    }
+    Ok(outside)
+}
+
+impl Scope {
+    /// Nothing in scope. It takes no memory.
+    pub fn new(alloc: Global) -> Self
+        ensures { result ≡ record { names = []; labels = [] } }
+    {
+        Scope {
+            alloc,
+            names: Vec::new(alloc),
+            labels: Vec::new(alloc),
+        }
+    }
+
+    /// What is allocated by.
+    pub fn alloc(&self) -> Global {
+        self.alloc
+    }
+
+    /// The register of a name, if it is in scope.
+    pub fn reg_of(&self, name: &Name) -> Option<Reg>
+        ensures { result ≡ reg_of self.now.names name.now }
+    {
+        match innermost(self.names.as_slice(), name) {
+            Some(bound) => Some(bound.reg),
+            None => None,
+        }
+    }
+
+    /// Whether it is the name of a binding that no assignment changes.
+    pub fn is_immutable(&self, name: &Name) -> bool
+        ensures { result ≡ is_immutable (names_in self.now) name.now }
+    {
+        match innermost(self.names.as_slice(), name) {
+            Some(bound) => !bound.mutable,
+            None => false,
+        }
+    }
+
+    /// Binds a name, innermost.
+    pub fn bind(&mut self, name: &Name, ty: Ty, mutable: bool, reg: Reg) -> Result<(), AllocError>
+        ensures { OnOk result (self.new ≡ record self.old {
+          names = record {
+            scoped = record { name = name.now; type = ty; mutable = mutable };
+            reg = reg;
+          } ∷ self.old.names;
+        }) }
+    {
+        let name = Name::from_vec(Vec::from_slice(self.alloc, name.as_bytes())?);
+        self.names.push(Bound {
+            name,
+            ty,
+            mutable,
+            reg,
+        })?;
+        Ok(())
+    }
+
+    /// Leaves the scope of the innermost name, and answers its register.
+    pub fn unbind(&mut self) -> Option<Reg>
+        ensures { (x : Named) (rest : List Named) → self.old.names ≡ x ∷ rest →
+            (result ≡ Some x.reg) × (self.new ≡ record self.old { names = rest }) }
+    {
+        match self.names.pop() {
+            Some(bound) => Some(bound.reg),
+            None => None,
+        }
+    }
+
+    /// Binds parameters to registers with the numbers from this one on, the last one innermost.
+    pub fn bind_params(&mut self, params: &[Param], number: u32) -> Result<(), AllocError>
+        ensures { OnOk result (self.new ≡ record self.old {
+          names = with_params (params_view params.now) (params_from number
+              (params_view params.now)) self.old.names;
+        }) }
+    {
+        let mut next = number;
+        let mut rest = params;
+        while let [param, others @ ..] = rest {
+            let ty = type_of_comp(param.comp);
+            self.bind(&param.name, ty, false, fresh(next, ty))?;
+            next = plus(next, 1)?;
+            rest = others;
+        }
+        Ok(())
+    }
+
+    /// The number of names in scope, hidden ones counted.
+    pub fn names_len(&self) -> usize
+        ensures { result ≡ length self.now.names }
+    {
+        self.names.len()
+    }
+
+    /// Leaves scopes until so many names are left.
+    pub fn leave_names(&mut self, left: usize)
+        ensures { (front rest : List Named) → self.old.names ≡ front ++ rest →
+            length rest ≡ left → self.new ≡ record self.old { names = rest } }
+    {
+        self.names.truncate(left);
+    }
+
+    /// The handler of a label, if it is in scope.
+    pub fn target_of(&self, label: &Label) -> Option<&Target>
+        ensures { option_map target_view (option_copied result) ≡ label_of self.now.labels
+            (label_view label.now) }
+    {
+        handler_for(self.labels.as_slice(), label)
+    }
+
+    /// Makes the labels of handlers visible, the first of which has this number, as the body of their catch sees them.
+    pub fn enter_body(&mut self, handlers: &[Handler], number: u32) -> Result<(), AllocError>
+        ensures { OnOk result (self.new ≡ record self.old {
+          labels = labels_from number (handlers_of handlers.now) ++ self.old.labels;
+        }) }
+    {
+        let targets = targets(self.alloc, handlers, number)?;
+        put_back(&mut self.labels, targets)
+    }
+
+    /// The same as the handlers see them: the bare label is not visible.
+    pub fn enter_handlers(&mut self, handlers: &[Handler], number: u32) -> Result<(), AllocError>
+        ensures { OnOk result (self.new ≡ record self.old {
+          labels = in_handlers (labels_from number
+              (handlers_of handlers.now)) ++ self.old.labels;
+        }) }
+    {
+        let targets = targets(self.alloc, handlers, number)?;
+        put_lasting(&mut self.labels, targets)
+    }
+
+    /// The number of labels in scope, hidden ones counted.
+    pub fn labels_len(&self) -> usize
+        ensures { result ≡ length self.now.labels }
+    {
+        self.labels.len()
+    }
+
+    /// Leaves catches until so many labels are left.
+    pub fn leave_labels(&mut self, left: usize)
+        ensures { (front rest : List InCode) → self.old.labels ≡ front ++ rest →
+            length rest ≡ left → self.new ≡ record self.old { labels = rest } }
+    {
+        self.labels.truncate(left);
+    }
+
+    /// Enters the body of a try: one try more stands between each handler and what is selected.
+    pub fn enter_try(&mut self) -> Result<(), AllocError>
+        ensures { OnOk result (self.new ≡ record self.old { labels = deeper self.old.labels }) }
+    {
+        let inside = one_deeper(self.alloc, &mut self.labels)?;
+        put_back(&mut self.labels, inside)
+    }
+
+    /// Leaves the body of a try.
+    pub fn leave_try(&mut self) -> Result<(), AllocError>
+        ensures { OnOk result (self.new ≡ record self.old { labels = higher self.old.labels }) }
+    {
+        let outside = one_higher(self.alloc, &mut self.labels)?;
+        put_back(&mut self.labels, outside)
+    }
+}

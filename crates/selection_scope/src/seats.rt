@@ -1,0 +1,157 @@
+//! Registers in rows: operands, parameters, and the seats that the convention of calls gives them.
+ghost use Rattle.std.specs.Prelude.{◌≡◌, ◌+◌, slice_index_or, IfOk};
+ghost use Rattle.bs_words.specs.declared.types.Loc.TheVariants as loc;
+ghost use Rattle.cmm_tree.specs.Rows.{row_of};
+ghost use Rattle.cmm_types.specs.Lists.{AreAnnotated};
+ghost use Rattle.cmm_meaning.specs.Evaluation.{comp_of_argument, comps_of_arguments};
+ghost use Rattle.mach_ir.specs.Placed.{colours};
+ghost use Rattle.mach_ir.specs.Seats.{argument_places};
+ghost use Rattle.selection_rules.specs.Select.{seat, seats, result_seat, regs_of, colour_regs};
+ghost use Rattle.selection_scope.specs.Scoping.{names_in};
+
+use crate::numbers::plus;
+use crate::place::fresh;
+use crate::row::Regs;
+use crate::scope::Scope;
+use bs_words::{Comp, Loc, Ret, Ty};
+use cmm_tree::Expr;
+use mach_ir::{Reg, Seq};
+use std::alloc::{AllocError, Global};
+
+/// The places of arguments, in their order: a0 to a7 and s2 to s9.
+const ARGUMENT_PLACES: [Loc; 16] = [
+    Loc::Machine(10),
+    Loc::Machine(11),
+    Loc::Machine(12),
+    Loc::Machine(13),
+    Loc::Machine(14),
+    Loc::Machine(15),
+    Loc::Machine(16),
+    Loc::Machine(17),
+    Loc::Machine(18),
+    Loc::Machine(19),
+    Loc::Machine(20),
+    Loc::Machine(21),
+    Loc::Machine(22),
+    Loc::Machine(23),
+    Loc::Machine(24),
+    Loc::Machine(25),
+];
+
+/// The colours: a0 to a7, s2 to s9, t3 to t6 and s0.
+const COLOURS: [u8; 21] = [
+    10, 11, 12, 13, 14, 15, 16, 17, 18, 19, 20, 21, 22, 23, 24, 25, 28, 29, 30, 31, 8,
+];
+
+/// The place of the argument at a position. Past the last it is unset.
+fn argument_place(position: u32) -> Loc
+    ensures { result ≡ slice_index_or argument_places position loc.Unset }
+{
+    match ARGUMENT_PLACES.get(position as usize) {
+        Some(place) => *place,
+        None => Loc::Unset,
+    }
+}
+
+/// The register of this number at the place of an argument. The first place is also that of a result and of a raised
+/// value.
+pub fn seat(position: u32, number: u32, comp: Comp) -> Reg
+    ensures { result ≡ seat position number comp }
+{
+    Reg {
+        number,
+        comp,
+        loc: argument_place(position),
+        origin: number,
+    }
+}
+
+/// The seats of values in these registers, with the numbers from this one on.
+pub fn seats(alloc: Global, number: u32, regs: &Regs) -> Result<Regs, AllocError>
+    ensures { IfOk result (λ made. made ≡ seats 0 number regs.now) }
+{
+    let mut made = Regs::new(alloc);
+    let mut position = 0;
+    let mut next = number;
+    let mut rest = regs.as_slice();
+    while let [first, others @ ..] = rest {
+        made.push(seat(position, next, first.reg.comp))?;
+        position = plus(position, 1)?;
+        next = plus(next, 1)?;
+        rest = others;
+    }
+    Ok(made)
+}
+
+/// The seat of what a function gives, if it gives anything.
+pub fn result_seat(alloc: Global, number: u32, given: Ret) -> Result<Regs, AllocError>
+    ensures { IfOk result (λ made. made ≡ result_seat number given) }
+{
+    let mut made = Regs::new(alloc);
+    match given {
+        Ret::Unit => {}
+        Ret::Comp(comp) => made.push(seat(0, number, comp))?,
+    }
+    Ok(made)
+}
+
+/// The registers of a row of operands, with the numbers from this one on.
+pub fn regs_of(scope: &Scope, number: u32, exprs: &[Expr]) -> Result<Regs, AllocError>
+    requires { AreAnnotated (names_in scope.now) exprs.now }
+    ensures { IfOk result (λ made. made ≡ regs_of scope.now.names number (row_of exprs.now)) }
+{
+    let mut made = Regs::new(scope.alloc());
+    let mut next = number;
+    let mut rest = exprs;
+    while let [expr, others @ ..] = rest {
+        made.push(fresh(next, expr.ty))?;
+        next = plus(next, 1)?;
+        rest = others;
+    }
+    Ok(made)
+}
+
+/// The component of an argument of this type.
+fn comp_of_argument(ty: Ty) -> Comp
+    ensures { result ≡ comp_of_argument ty }
+{
+    match ty {
+        Ty::Val => Comp::Val,
+        Ty::Int | Ty::Addr | Ty::Never | Ty::NoValue => Comp::Int,
+    }
+}
+
+/// The components of the arguments of an external call.
+pub fn comps_of_arguments(scope: &Scope, exprs: &[Expr]) -> Result<Seq<Comp>, AllocError>
+    requires { AreAnnotated (names_in scope.now) exprs.now }
+    ensures { IfOk result (λ comps. comps ≡ comps_of_arguments (names_in scope.now)
+        (row_of exprs.now)) }
+{
+    let mut comps = Vec::new(scope.alloc());
+    let mut rest = exprs;
+    while let [expr, others @ ..] = rest {
+        comps.push(comp_of_argument(expr.ty))?;
+        rest = others;
+    }
+    Ok(Seq::from_vec(comps))
+}
+
+/// For each colour a register that stands there; their numbers are the first.
+pub fn colour_regs(alloc: Global) -> Result<Seq<Reg>, AllocError>
+    ensures { IfOk result (λ regs. regs ≡ colour_regs 0 colours) }
+{
+    let mut regs = Vec::new(alloc);
+    let mut next = 0;
+    let mut rest: &[u8] = &COLOURS;
+    while let [colour, others @ ..] = rest {
+        regs.push(Reg {
+            number: next,
+            comp: Comp::Int,
+            loc: Loc::Machine(*colour),
+            origin: next,
+        })?;
+        next = plus(next, 1)?;
+        rest = others;
+    }
+    Ok(Seq::from_vec(regs))
+}

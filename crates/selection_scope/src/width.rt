@@ -1,0 +1,206 @@
+//! How many numbers of registers and labels an expression takes.
+ghost use Rattle.std.specs.Prelude.{◌≡◌, ◌+◌, ◌<◌, IfOk};
+ghost use Rattle.cmm_tree.specs.Rows.{row_of, bindings_of, cases_of, handlers_of};
+ghost use Rattle.cmm_tree.specs.View.{expr_view};
+ghost use Rattle.selection_rules.specs.Select.{width, width_row, width_bound, width_cases, width_handlers, width_labels};
+ghost use Rattle.selection_scope.specs.Widths.{capped};
+
+use cmm_tree::{Binding, Case, Expr, Form, Handler};
+use std::alloc::AllocError;
+
+/// A length as a number, or the greatest number where it passes that.
+fn capped(len: usize) -> u32
+    ensures { result ≡ capped len }
+{
+    if len < u32::MAX as usize {
+        len as u32
+    } else {
+        u32::MAX
+    }
+}
+
+/// The numbers of an expression behind so many others.
+#[cycle(width)]
+fn with_expr(so_far: u32, expr: &Expr) -> u32
+    ensures { result ≡ capped (so_far + width (expr_view expr.now)) }
+{
+    match &expr.form {
+        Form::Integer(_)
+        | Form::Pointer(_)
+        | Form::Symbol(_)
+        | Form::Name(_)
+        | Form::Nothing
+        | Form::Float { .. } => so_far.saturating_add(1),
+        Form::Let(bindings, body) => with_expr(
+            with_bindings(so_far.saturating_add(1), bindings.as_slice()),
+            body,
+        ),
+        Form::Assign { value, .. } => with_expr(so_far.saturating_add(2), value),
+        Form::Operator(_, left, right) => {
+            with_expr(with_expr(so_far.saturating_add(3), left), right)
+        }
+        Form::App {
+            callee,
+            arguments,
+            ..
+        } => {
+            let own = so_far
+                .saturating_add(3)
+                .saturating_add(capped(arguments.len()));
+            with_row(with_expr(own, callee), arguments.as_slice())
+        }
+        Form::Extcall { arguments, .. } => {
+            let own = so_far
+                .saturating_add(2)
+                .saturating_add(capped(arguments.len()));
+            with_row(own, arguments.as_slice())
+        }
+        Form::Seq(elements) => with_row(so_far.saturating_add(1), elements.as_slice()),
+        Form::If(condition, on_true, on_false) => with_expr(
+            with_expr(with_expr(so_far.saturating_add(4), condition), on_true),
+            on_false,
+        ),
+        Form::Catch(body, handlers) => {
+            let own = with_labels(so_far.saturating_add(2), handlers.as_slice());
+            with_handlers(with_expr(own, body), handlers.as_slice())
+        }
+        Form::Exit { arguments, .. } => with_row(so_far.saturating_add(1), arguments.as_slice()),
+        Form::Alloc { operands, .. } => with_row(so_far.saturating_add(3), operands.as_slice()),
+        Form::Load(_, address) => with_expr(so_far.saturating_add(2), address),
+        Form::Store(_, address, value) => {
+            with_expr(with_expr(so_far.saturating_add(3), address), value)
+        }
+        Form::Checkbound(bound, index) => {
+            with_expr(with_expr(so_far.saturating_add(3), bound), index)
+        }
+        Form::Raise(value) => with_expr(so_far.saturating_add(3), value),
+        Form::Switch {
+            selector,
+            cases,
+            ..
+        } => {
+            let own = so_far.saturating_add(3).saturating_add(capped(cases.len()));
+            with_cases(with_expr(own, selector), cases.as_slice())
+        }
+        Form::Try { body, handler, .. } => {
+            with_expr(with_expr(so_far.saturating_add(5), body), handler)
+        }
+    }
+}
+
+#[cycle(width)]
+fn with_row(so_far: u32, exprs: &[Expr]) -> u32
+    ensures { result ≡ capped (so_far + width_row (row_of exprs.now)) }
+{
+    let mut total = so_far;
+    for expr in exprs {
+        total = with_expr(total.saturating_add(1), expr);
+    }
+    total
+}
+
+#[cycle(width)]
+fn with_bindings(so_far: u32, bindings: &[Binding]) -> u32
+    ensures { result ≡ capped (so_far + width_bound (bindings_of bindings.now)) }
+{
+    let mut total = so_far;
+    for binding in bindings {
+        total = with_expr(total.saturating_add(1), &binding.value);
+    }
+    total
+}
+
+#[cycle(width)]
+fn with_cases(so_far: u32, cases: &[Case]) -> u32
+    ensures { result ≡ capped (so_far + width_cases (cases_of cases.now)) }
+{
+    let mut total = so_far;
+    for case in cases {
+        total = with_expr(total, &case.body);
+    }
+    total
+}
+
+#[cycle(width)]
+fn with_handlers(so_far: u32, handlers: &[Handler]) -> u32
+    ensures { result ≡ capped (so_far + width_handlers (handlers_of handlers.now)) }
+{
+    let mut total = so_far;
+    for handler in handlers {
+        total = with_expr(total, &handler.body);
+    }
+    total
+}
+
+/// The numbers of the labels of handlers, and of their parameters, behind so many others.
+fn with_labels(so_far: u32, handlers: &[Handler]) -> u32
+    ensures { result ≡ capped (so_far + width_labels (handlers_of handlers.now)) }
+{
+    let mut total = so_far;
+    for handler in handlers {
+        total = total
+            .saturating_add(1)
+            .saturating_add(capped(handler.params.len()));
+    }
+    total
+}
+
+/// A number that is not the greatest.
+fn below_cap(number: u32) -> Result<u32, AllocError>
+    ensures { IfOk result (λ n. n < 4294967295 × (n ≡ number)) }
+{
+    if number == u32::MAX {
+        return Err(AllocError);
+    }
+    Ok(number)
+}
+
+/// The number behind those of an expression, which begin with `base`. That there is none counts as want of memory, here
+/// and below.
+pub fn behind(base: u32, expr: &Expr) -> Result<u32, AllocError>
+    ensures { IfOk result (λ n. n ≡ base + width (expr_view expr.now)) }
+{
+    below_cap(with_expr(base, expr))
+}
+
+/// The number behind those of a row of operands.
+pub fn behind_row(base: u32, exprs: &[Expr]) -> Result<u32, AllocError>
+    ensures { IfOk result (λ n. n ≡ base + width_row (row_of exprs.now)) }
+{
+    below_cap(with_row(base, exprs))
+}
+
+/// The number behind those of bindings.
+pub fn behind_bindings(base: u32, bindings: &[Binding]) -> Result<u32, AllocError>
+    ensures { IfOk result (λ n. n ≡ base + width_bound (bindings_of bindings.now)) }
+{
+    below_cap(with_bindings(base, bindings))
+}
+
+/// The number behind those of cases.
+pub fn behind_cases(base: u32, cases: &[Case]) -> Result<u32, AllocError>
+    ensures { IfOk result (λ n. n ≡ base + width_cases (cases_of cases.now)) }
+{
+    below_cap(with_cases(base, cases))
+}
+
+/// The number behind those of handlers' bodies.
+pub fn behind_handlers(base: u32, handlers: &[Handler]) -> Result<u32, AllocError>
+    ensures { IfOk result (λ n. n ≡ base + width_handlers (handlers_of handlers.now)) }
+{
+    below_cap(with_handlers(base, handlers))
+}
+
+/// The number behind those of the labels of handlers and of their parameters.
+pub fn behind_labels(base: u32, handlers: &[Handler]) -> Result<u32, AllocError>
+    ensures { IfOk result (λ n. n ≡ base + width_labels (handlers_of handlers.now)) }
+{
+    below_cap(with_labels(base, handlers))
+}
+
+/// How many numbers an expression takes.
+pub fn width_of(expr: &Expr) -> Result<u32, AllocError>
+    ensures { IfOk result (λ n. n ≡ width (expr_view expr.now)) }
+{
+    behind(0, expr)
+}
