@@ -1,5 +1,5 @@
 -- Every line, of whatever kind.
-use Rattle.std.proofs.Common.{◌≡◌, ◌⊎◌, inl, inr, ⊎_elim, ℕ, suc, ◌+◌, ◌*◌, List, ◌∷◌, length, Option, subst, arith}
+use Rattle.std.proofs.Common.{◌≡◌, ◌⊎◌, inl, inr, ⊎_elim, ℕ, suc, ◌+◌, ◌*◌, List, ◌∷◌, length, Option, refl, sym, subst, arith}
 use Rattle.emit_rules.specs.Emitted.{part_of}
 use Rattle.emit_rules.specs.Entry.{Frame}
 use Rattle.layout_rules.specs.Forms.{total_words}
@@ -24,7 +24,7 @@ use Rattle.line_values.specs.Followed.{IsPlain, plain_pure, plain_load, plain_st
 use Rattle.line_values.specs.Statics.{StaticsLie}
 use Rattle.line_values.proofs.Following.{plain_followed}
 use Rattle.line_calls.specs.Calls.{FollowsSo}
-use Rattle.line_calls.specs.Points.{IsReadyFor, IsTurn, PointStands, it_calls, it_returns, it_raises, it_allocates, it_pushes, it_pops, it_enters}
+use Rattle.line_calls.specs.Points.{IsReadyFor, IsTurn, PointStands, before_service, it_calls, it_returns, it_raises, it_allocates, it_pushes, it_pops, it_enters}
 use Rattle.line_calls.proofs.NoWaits.{Comes, so_without, step_no}
 use Rattle.line_calls.proofs.Whole.{lines_follow}
 
@@ -70,6 +70,18 @@ begins_none o plain_exit q = absurd (cc)
 begins_none o plain_branch q = absurd (cc)
 begins_none o plain_switch q = absurd (cc)
 
+-- and asks for no service
+without_service : (o : LinOp) (k : ℕ) → IsPlain o → before_service o k ≡ k
+without_service o k plain_pure = refl
+without_service o k plain_load = refl
+without_service o k plain_store = refl
+without_service o k plain_check = refl
+without_service o k plain_label = refl
+without_service o k plain_jump = refl
+without_service o k plain_exit = refl
+without_service o k plain_branch = refl
+without_service o k plain_switch = refl
+
 -- The machine follows every line.
 pub every_line :
     (s : Fixed) (n : Named) (laid : Laid) (live : List Line → Type 0) (entry : ℕ → ℕ) (c : Below) (place : Place) (named : NamedAt) (m : Lin) (f : Frame)
@@ -78,14 +90,17 @@ pub every_line :
     PointStands s laid m place.setting named entry (length a.tries) f d i next lines.part.forms → IsReadyFor i a → StaticsLie s a.memory →
     laid.part (length next) ≡ laid.part (suc (length next)) + k →
     IsAt s laid live c (record { rest = i ∷ next; file = file; around = a }) v →
-    FollowsSo k s laid live entry c v (laid.frame + 16 * length a.tries) (step place named m (record { rest = i ∷ next; file = file; around = a }))
+    FollowsSo (before_service i.op k) s laid live entry c v (laid.frame + 16 * length a.tries)
+    (step place named m (record { rest = i ∷ next; file = file; around = a }))
 every_line s n laid live entry c place named m f d i next v file a k lines points fit lie behind at =
     let past = lines.part.past in
     let many = total_words (part_of (length a.tries) f d i) lines.part.forms in
     let does = step place named m (record { rest = i ∷ next; file = file; around = a }) in
     let same : many ≡ k = omega (arith, past, behind) in
     ⊎_elim
-    (λ plain. so_without k s laid live entry c v (laid.frame + 16 * length a.tries) does (step_no place named m i next file a (never_waits i.op plain))
+    (λ plain.
+    subst (λ w. FollowsSo w s laid live entry c v (laid.frame + 16 * length a.tries) does) (sym (without_service i.op k plain))
+    (so_without k s laid live entry c v (laid.frame + 16 * length a.tries) does (step_no place named m i next file a (never_waits i.op plain))
     (subst (λ w. FollowsStep w s laid live entry c v does) same
-    (plain_followed s laid n m place named live entry c f d next i plain file a v lines (fit.raised (begins_none i.op plain)) lie at)))
+    (plain_followed s laid n m place named live entry c f d next i plain file a v lines (fit.raised (begins_none i.op plain)) lie at))))
     (λ turn. lines_follow s n laid live entry c place named m f d i next v file a k turn lines points fit behind at) (kinds i.op)

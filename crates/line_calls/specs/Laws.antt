@@ -60,7 +60,8 @@ EveryLineFollows =
     IsReadyFor i a → StaticsLie s a.memory →
     laid.part (length next) ≡ laid.part (suc (length next)) + words →
     IsAt s laid (spare_live m) c (record { rest = i ∷ next; file = file; around = a }) v →
-    FollowsSo words s laid (spare_live m) entries c v (laid.frame + 16 * length a.tries)
+    FollowsSo (before_service i.op words) s laid (spare_live m) entries c v
+    (laid.frame + 16 * length a.tries)
     (step place named m (record { rest = i ∷ next; file = file; around = a }))
 
 -- Where a function is entered whose entry stands in the image, it comes to its first line with its
