@@ -208,3 +208,41 @@ pub(crate) fn moves(alloc: Global) -> Result<Mach> {
     code.op(RETURN, &[A0_INT], &[])?;
     code.function("moves")
 }
+
+/// A frame call under two traps. What follows it reads a register; the inner handler reads one slot
+/// and calls under the outer trap, whose handler reads the other.
+pub(crate) fn deep(alloc: Global) -> Result<Mach> {
+    let mut code = Code::new(alloc);
+    code.op(SPILL, &[A0], &[slot(0)])?;
+    code.op(SPILL, &[A1], &[slot(1)])?;
+    code.mark(Mark::Try { handler: 1 })?;
+    code.mark(Mark::Try { handler: 3 })?;
+    code.op(frame_call(alloc)?, &[], &[A0])?;
+    code.op(MOVE, &[S2], &[A0])?;
+    code.mark(Mark::Leave { handler: 3, end: 4 })?;
+    code.handler(3, A0)?;
+    code.op(RELOAD, &[slot(1)], &[A0])?;
+    code.op(call(alloc)?, &[A0], &[A0])?;
+    code.mark(Mark::End { label: 4 })?;
+    code.mark(Mark::Leave { handler: 1, end: 2 })?;
+    code.handler(1, A0)?;
+    code.op(RELOAD, &[slot(0)], &[A0])?;
+    code.mark(Mark::End { label: 2 })?;
+    code.op(RETURN, &[A0], &[])?;
+    code.function("deep")
+}
+
+/// An allocation in a handler to which nothing is raised.
+pub(crate) fn idle(alloc: Global) -> Result<Mach> {
+    let mut code = Code::new(alloc);
+    code.op(SPILL, &[A0], &[slot(0)])?;
+    code.mark(Mark::Try { handler: 1 })?;
+    code.op(MOVE, &[A1], &[A0])?;
+    code.mark(Mark::Leave { handler: 1, end: 2 })?;
+    code.handler(1, A0)?;
+    code.op(block(alloc)?, &[], &[S3_ADDR])?;
+    code.op(RELOAD, &[slot(0)], &[A0])?;
+    code.mark(Mark::End { label: 2 })?;
+    code.op(RETURN, &[A0], &[])?;
+    code.function("idle")
+}

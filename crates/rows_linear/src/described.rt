@@ -1,0 +1,69 @@
+//! The lines of frame descriptors.
+ghost use Rattle.lin_ir.specs.Formed.{AreLocated};
+
+use anyhow::Result;
+use frame_tables::descriptors;
+use lin_ir::{Descr, Lin};
+use lin_tests::{has_one_depth, is_located, is_within};
+use mach_ir::page::Page;
+use std::alloc::Global;
+use std::io::Write;
+
+/// A register by its name, or a slot by its offset from sp.
+fn put_entry(page: &mut Page, entry: u32) -> Result<()> {
+    page.put(b", ")?;
+    if entry % 2 == 0 {
+        page.put(b"sp+")?;
+        page.put_number(u64::from(entry))?;
+        return Ok(());
+    }
+    match u8::try_from(entry / 2) {
+        Ok(register) => page.put_register(register)?,
+        Err(_) => page.put(b"no register")?,
+    }
+    Ok(())
+}
+
+/// The number of its instruction, its size, and what is live after it.
+fn put_descriptor(page: &mut Page, descriptor: &Descr) -> Result<()> {
+    page.put(b"descriptor ")?;
+    page.put_number(u64::from(descriptor.after))?;
+    page.put(b": ")?;
+    page.put_number(u64::from(descriptor.size))?;
+    page.put(b" bytes")?;
+    for entry in descriptor.entries.as_slice() {
+        put_entry(page, *entry)?;
+    }
+    page.put(b"\n")?;
+    Ok(())
+}
+
+/// A line for each frame descriptor of a function whose locations are colours, t0 and its slots.
+fn put_located<W: Write>(alloc: Global, out: &mut W, lin: &Lin) -> Result<()>
+    requires { AreLocated lin.now }
+{
+    if !has_one_depth(alloc, lin)? {
+        out.write_all(b"some place has two numbers of traps\n")?;
+        return Ok(());
+    }
+    if !is_within(alloc, lin)? {
+        out.write_all(b"some frame is too large\n")?;
+        return Ok(());
+    }
+    let mut page = Page::new(alloc);
+    for descriptor in descriptors(alloc, lin)?.as_slice() {
+        put_descriptor(&mut page, descriptor)?;
+    }
+    out.write_all(page.bytes.as_slice())?;
+    Ok(())
+}
+
+/// A line for each frame descriptor of the function.
+pub(crate) fn put_descriptors<W: Write>(alloc: Global, out: &mut W, lin: &Lin) -> Result<()> {
+    if is_located(lin) {
+        put_located(alloc, out, lin)
+    } else {
+        out.write_all(b"some location is no colour, t0 or slot\n")?;
+        Ok(())
+    }
+}
