@@ -1,0 +1,3 @@
+pub mod Made
+pub mod Chained
+pub mod Bounded

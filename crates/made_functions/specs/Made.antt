@@ -1,0 +1,21 @@
+-- What the compiler makes of one function of a text: its Linear function, its frame descriptors and its
+-- pieces of code.
+use Rattle.std.specs.Prelude.{◌≡◌, List, length}
+use Rattle.cmm_tree.specs.Tree.{FunctionTree}
+use Rattle.selection_rules.specs.Select.{selected}
+use Rattle.places_rules.specs.Places.{rest_in_slots}
+use Rattle.lin_ir.specs.Descriptors.{AreExact, frame_points}
+use Rattle.lin_ir.specs.declared.descr.Descr.{Descr}
+use Rattle.lin_ir.specs.declared.lin.Lin.{Lin}
+use Rattle.linear_pass.specs.Linear.{IsLinearOf}
+use Rattle.emit_rules.specs.Emitted.{IsEmitted}
+use Rattle.rv_pieces.specs.declared.piece.Pieces.{Pieces}
+
+pub record IsMadeOf (tree : FunctionTree) (m : Lin) (ds : List Descr) (pieces : Pieces) : Type 0
+  where
+    -- selected, its open registers in slots, as tidy lines
+    pub linear : IsLinearOf (rest_in_slots (selected tree)) m
+    -- a descriptor for each frame point, which names what is live after it
+    pub exact : AreExact m ds
+    pub count : length ds ≡ frame_points m.code
+    pub emitted : IsEmitted m ds pieces
