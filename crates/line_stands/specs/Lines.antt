@@ -32,6 +32,10 @@ pub record SparePasses (m : Lin) (live : List Line → Type 0) (tries : List ℕ
   -- nowhere where a raise comes to
   pub aside : may_raise i.op ≡ true → (l : ℕ) → Contains tries l → live (after_label l m.code) → ⊥
 
+-- t0 is live nowhere: chained functions do not name it
+abbrev pub Nowhere : List Line → Type 0
+Nowhere code = ⊥
+
 -- the offset of a load or of a store is a word
 abbrev pub OffsetFits : LinOp → Type 0
 OffsetFits (lin.Op (op.Access (access.Load k offset))) = offset < 2 ^ 64
