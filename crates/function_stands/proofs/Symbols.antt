@@ -1,5 +1,5 @@
 -- What symbols stand for: functions of the file, and addresses of its static data.
-use Rattle.std.proofs.Common.{◌≡◌, ℕ, zero, suc, ◌+◌, ◌<◌, ◌≤◌, Bool, true, false, cond, List, [], ◌∷◌, ◌++◌, length, map, bytes_eq, Some, None, refl, sym, subst, arith}
+use Rattle.std.proofs.Common.{◌≡◌, ℕ, suc, ◌+◌, ◌<◌, ◌≤◌, Bool, true, false, cond, List, [], ◌∷◌, ◌++◌, length, map, bytes_eq, Some, None, sym, subst, arith}
 use Rattle.std.specs.Option.{option_to_list}
 use Rattle.bs_words.specs.Fits.{data_start}
 use Rattle.bs_words.specs.declared.values.Value.{Value}
@@ -9,7 +9,7 @@ use Rattle.cmm_data.specs.Placement.{Definition, built_in, defined_at, defined_b
 use Rattle.cmm_data.proofs.Steps.{end-within}
 use Rattle.cmm_data.proofs.Table.{defined_at-next}
 use Rattle.cmm_data.proofs.Walk.{sound-first, sound-list, start-within}
-use Rattle.cmm_tree.specs.Tree.{AData, AFunction, Address, AFloat, Align, Byte, DataItemTree, DataListTree, DatumTree, Define, FileTree, FunctionTree, Global, Half, Int, ItemTree, Skip, Text, Val, data_among, functions, functions_among}
+use Rattle.cmm_tree.specs.Tree.{AData, AFunction, Address, AFloat, Align, Byte, DataItemTree, DataListTree, DatumTree, Define, FileTree, Global, Half, Int, ItemTree, Skip, Text, Val, data_among, functions, functions_among}
 use Rattle.linear_rules.proofs.Homes.{IsIn, is_first, is_later}
 
 -- a function below this number, or an address of the data
