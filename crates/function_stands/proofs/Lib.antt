@@ -3,6 +3,7 @@ pub mod Splitting
 pub mod Parts
 pub mod Labels
 pub mod Ending
+pub mod Acting
 pub mod Exact
 pub mod Found
 pub mod Handlers
