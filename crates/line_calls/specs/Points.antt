@@ -76,7 +76,7 @@ pub record PointStands (s : Fixed) (laid : Laid) (m : Lin) (c : Setting) (named 
   -- t0 stands in copies alone
   pub spared : passes_frame i.op ≡ true → is_named spare (named (length next)) ≡ false
   pub unwritten : (t : Comp) → Contains i.results (record { loc = spare; comp = t }) → ⊥
-  -- a handler stands in the code, or at its end
+  -- a handler stands in the code, or at its end where it has no words
   pub pushes : (l : ℕ) → i.op ≡ lin.Flow (flow.PushTrap l) →
       laid.part (length (after_label l m.code)) ≤ length s.image.code
 
