@@ -1,3 +1,4 @@
 pub mod Made
 pub mod Chained
 pub mod Bounded
+pub mod Files

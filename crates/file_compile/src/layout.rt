@@ -10,7 +10,7 @@ use rv_machine::CODE_START;
 use std::alloc::{AllocError, Global};
 
 /// The bytes of the frame of each function, and its address.
-pub(crate) fn layout_of(alloc: Global, image: &Image) -> Result<Layout, AllocError>
+pub fn layout(alloc: Global, image: &Image) -> Result<Layout, AllocError>
     ensures { IfOk result (λ layout. layout_view layout ≡ setting.layout_of (tables image.now)) }
 {
     let mut frames = Vec::new(alloc);
