@@ -6,7 +6,7 @@
 ghost use Rattle.std.specs.Prelude.{ℕ, List, ◌∷◌, length, Option, Contains};
 ghost use Rattle.emit_rules.specs.Emitted.{part_of};
 ghost use Rattle.emit_rules.specs.Entry.{Frame};
-ghost use Rattle.laid_parts.specs.Laid.{CarriesRegisters, CarriesSlots, WorksInPlace};
+ghost use Rattle.laid_parts.specs.Laid.{CarriesRegisters};
 ghost use Rattle.lin_ir.specs.Descriptors.{IsWithin};
 ghost use Rattle.lin_ir.specs.Formed.{Seated, WellFormed};
 ghost use Rattle.lin_ir.specs.Walks.{Reached};
@@ -22,11 +22,3 @@ pub fn parts_name_registers()
         (traps : ℕ) (f : Frame) (d : Option Descr) → CarriesRegisters i (part_of traps f d i) }
 {}
 
-/// Law: where a walk comes to a line that works on registers and slots alone, that tests, or that calls and comes
-/// back, its part names exactly the slots that the line reads and writes, near ones and far ones; or the line moves a
-/// location to itself.
-pub fn parts_name_slots()
-    ensures { (m : Lin) → WellFormed m → Seated m → IsWithin m → (i : Line) (next : List Line) (tries : List ℕ) →
-        Contains m.code i → Reached m (i ∷ next) tries → WorksInPlace i.op → (f : Frame) (d : Option Descr) →
-        CarriesSlots m.slots (length tries) i (part_of (length tries) f d i) }
-{}
