@@ -160,15 +160,15 @@ symbol_inv name xs ys (symbol {to = u}) = (refl, (u, refl))
 pub copy_inv : (kind : _) (xs ys : List Comp) → HasForm (op.Pure (pure.Copy kind)) xs ys → (t : Comp) × (u : Comp) × (xs ≡ t ∷ []) × (ys ≡ u ∷ [])
 copy_inv kind xs ys (copies {from = t} {to = u}) = (t, u, refl, refl)
 
-load_inv : (k : _) (offset : ℕ) (xs ys : List Comp) → HasForm (op.Access (access.Load k offset)) xs ys →
+pub load_inv : (k : _) (offset : ℕ) (xs ys : List Comp) → HasForm (op.Access (access.Load k offset)) xs ys →
     (t : Comp) × (u : Comp) × (xs ≡ t ∷ []) × (ys ≡ u ∷ [])
 load_inv k offset xs ys (loads {address = t} {to = u}) = (t, u, refl, refl)
 
-store_inv : (k : _) (offset : ℕ) (xs ys : List Comp) → HasForm (op.Access (access.Store k offset)) xs ys →
+pub store_inv : (k : _) (offset : ℕ) (xs ys : List Comp) → HasForm (op.Access (access.Store k offset)) xs ys →
     (t : Comp) × (u : Comp) × (xs ≡ t ∷ u ∷ []) × (ys ≡ [])
 store_inv k offset xs ys (stores {address = t} {value = u}) = (t, u, refl, refl)
 
-alloc_inv : (blocks : _) (xs ys : List Comp) → HasForm (op.Access (access.Alloc blocks)) xs ys → (xs ≡ []) × (length ys ≡ length blocks)
+pub alloc_inv : (blocks : _) (xs ys : List Comp) → HasForm (op.Access (access.Alloc blocks)) xs ys → (xs ≡ []) × (length ys ≡ length blocks)
 alloc_inv blocks xs ys (allocates some all most as_many) = (refl, as_many)
 
 pub register_inv : (f : _) (xs ys : List Comp) → HasForm (op.Pure (pure.Operator f right.Register)) xs ys →
@@ -179,7 +179,7 @@ pub with_inv : (f : _) (w : ℕ) (xs ys : List Comp) → HasForm (op.Pure (pure.
     (t : Comp) × (o : Comp) × (xs ≡ t ∷ []) × (ys ≡ o ∷ [])
 with_inv f w xs ys (operates {left = t} {to = o} (a_constant e)) = (t, o, refl, refl)
 
-length_comps : (ss : List Spot) → length (comps ss) ≡ length ss
+pub length_comps : (ss : List Spot) → length (comps ss) ≡ length ss
 length_comps [] = refl
 length_comps (s ∷ ss) = ap suc (length_comps ss)
 
@@ -198,13 +198,13 @@ branch_inv g l xs ys (branch_form h) = (h, refl)
 pub switch_inv : (ls : List ℕ) (xs ys : List Comp) → FlowHasForm (flow.Switch ls) xs ys → ((t : Comp) × (xs ≡ t ∷ [])) × (ys ≡ [])
 switch_inv ls xs ys (switch_form {index = t}) = ((t, refl), refl)
 
-push_inv : (l : ℕ) (xs ys : List Comp) → FlowHasForm (flow.PushTrap l) xs ys → (xs ≡ []) × (ys ≡ [])
+pub push_inv : (l : ℕ) (xs ys : List Comp) → FlowHasForm (flow.PushTrap l) xs ys → (xs ≡ []) × (ys ≡ [])
 push_inv l xs ys push_form = (refl, refl)
 
-pop_inv : (xs ys : List Comp) → FlowHasForm flow.PopTrap xs ys → (xs ≡ []) × (ys ≡ [])
+pub pop_inv : (xs ys : List Comp) → FlowHasForm flow.PopTrap xs ys → (xs ≡ []) × (ys ≡ [])
 pop_inv xs ys pop_form = (refl, refl)
 
-enter_inv : (xs ys : List Comp) → FlowHasForm flow.EnterTrap xs ys → (xs ≡ []) × ((t : Comp) × (ys ≡ t ∷ []))
+pub enter_inv : (xs ys : List Comp) → FlowHasForm flow.EnterTrap xs ys → (xs ≡ []) × ((t : Comp) × (ys ≡ t ∷ []))
 enter_inv xs ys enter_form = (refl, (_, refl))
 
 -- what stands beside the first operand
@@ -355,18 +355,18 @@ no_temporary n e = by (nat_eq 10 n) refl
 callee_more : (first more : List Comp) → IsCallee callee.Register first → (t : Comp) × (ts : List Comp) × (first ++ more ≡ t ∷ ts)
 callee_more first more (by_register {t}) = (t, more, refl)
 
-tail_more : (result : _) (xs ys : List Comp) → HasForm (op.Calling (calling.TailCall callee.Register result)) xs ys →
+pub tail_more : (result : _) (xs ys : List Comp) → HasForm (op.Calling (calling.TailCall callee.Register result)) xs ys →
     (t : Comp) × (ts : List Comp) × (xs ≡ t ∷ ts)
 tail_more result xs ys (tail_calls {first} more is) = callee_more first more is
 
-check_inv : (o : Right) (xs ys : List Comp) → HasForm (op.Leaving (leaving.Checkbound o)) xs ys →
+pub check_inv : (o : Right) (xs ys : List Comp) → HasForm (op.Leaving (leaving.Checkbound o)) xs ys →
     (t : Comp) × (ts : List Comp) × (xs ≡ t ∷ ts) × IsRight (operator.CmpU compare.Lt) o ts × (ys ≡ [])
 check_inv o xs ys (checks {rest} {bound} h) = (bound, rest, refl, h, refl)
 
-raise_inv : (xs ys : List Comp) → HasForm (op.Leaving leaving.Raise) xs ys → ys ≡ []
+pub raise_inv : (xs ys : List Comp) → HasForm (op.Leaving leaving.Raise) xs ys → ys ≡ []
 raise_inv xs ys raises = refl
 
-return_inv : (xs ys : List Comp) → HasForm (op.Leaving leaving.Return) xs ys → ys ≡ []
+pub return_inv : (xs ys : List Comp) → HasForm (op.Leaving leaving.Return) xs ys → ys ≡ []
 return_inv xs ys (returns result) = refl
 
 pub call_more : (result : _) (xs ys : List Comp) → HasForm (op.Calling (calling.Call callee.Register result)) xs ys →

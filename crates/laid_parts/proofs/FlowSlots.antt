@@ -77,11 +77,11 @@ module _ (c t : ℕ) where
   unsigned-still compare.Gt a b l = branch-still condition.Bltu b a l
   unsigned-still compare.Ge a b l = branch-still condition.Bgeu a b l
 
-  pub right-slot : (o : Right) (args : List Spot) → Bool
+  unfoldable pub right-slot : (o : Right) (args : List Spot) → Bool
   right-slot right.Register args = at_slot (second args)
   right-slot (right.Constant w) args = false
 
-  pub RightWithin : Right → List Spot → Type 0
+  unfoldable pub RightWithin : Right → List Spot → Type 0
   RightWithin right.Register args = IsWithinFrame t (second args)
   RightWithin (right.Constant w) args = Unit {0}
 
@@ -171,7 +171,7 @@ module _ (m : Lin) (t : ℕ) (b : 8 * m.slots + 16 * t < 1073741824) (f : Frame)
   abbrev NamesIn : LinOp → Type 0
   NamesIn o = NamesSlots f t (record { op = o; args = args; results = results }) (part_of t f d (record { op = o; args = args; results = results }))
 
-  beside : (c : ℕ) (o : Right) (u : Comp) (us : List Comp) → comps args ≡ u ∷ us → RightIs o us →
+  pub beside : (c : ℕ) (o : Right) (u : Comp) (us : List Comp) → comps args ≡ u ∷ us → RightIs o us →
       RightWithin c t o args × ((lies_at t c (first args) || right-slot c t o args) ≡ lie_at t c (places_of args))
   unfolding RightWithin right-slot
   beside c right.Register u us e (one_right v) = (second_within m t b args u v [] e a, sym (lie_two t c args u v e))

@@ -7,3 +7,9 @@ pub mod Clean
 pub mod SlotParts
 pub mod PureSlots
 pub mod FlowSlots
+pub mod MemorySlots
+pub mod LeavingSlots
+pub mod EverySlots
+pub mod Marks
+pub mod Whole
+pub mod Examples

@@ -1,0 +1,58 @@
+-- What some parts name, written out: a near slot and a far one, a call, an allocation, a branch.
+use Rattle.std.proofs.Common.{◌≡◌, true, false, [], ◌∷◌, refl}
+use Rattle.bs_words.specs.Word.{add_word, sext_word, word_of, signed_in}
+use Rattle.bs_words.specs.declared.operators.CmpOp.TheVariants as compare
+use Rattle.bs_words.specs.declared.types.Comp.TheVariants as comp
+use Rattle.bs_words.specs.declared.types.Loc.TheVariants as loc
+use Rattle.mach_ir.specs.declared.mach.Test.TheVariants as test
+use Rattle.mach_ir.specs.declared.op.Callee.TheVariants as callee
+use Rattle.mach_ir.specs.declared.op.Right.TheVariants as right
+use Rattle.emit_rules.specs.Slots.{moved}
+use Rattle.emit_rules.specs.Calls.{call_words}
+use Rattle.emit_rules.specs.Constants.{constant}
+use Rattle.emit_rules.specs.Memory.{alloc_part}
+use Rattle.emit_rules.specs.Tests.{branch_part}
+use Rattle.laid_parts.specs.Named.{is_source, is_target}
+use Rattle.laid_parts.specs.Stack.{at_first, is_loaded, is_stored}
+
+-- with one trap pushed, slot 1 lies 24 bytes from sp
+pub near_slot_is_read : is_loaded at_first 24 (moved 1 (loc.Slot 1) (loc.Machine 10)) ≡ true
+unfolding add_word sext_word word_of signed_in
+near_slot_is_read = refl
+
+pub near_slot_alone : is_loaded at_first 16 (moved 1 (loc.Slot 1) (loc.Machine 10)) ≡ false
+unfolding add_word sext_word word_of signed_in
+near_slot_alone = refl
+
+-- slot 1000 lies 8016 bytes from sp, so that its address is made in t2
+pub far_slot_is_written : is_stored at_first 8016 (moved 1 (loc.Machine 10) (loc.Slot 1000)) ≡ true
+unfolding add_word sext_word word_of signed_in
+far_slot_is_written = refl
+
+pub far_slot_from_register : is_source 10 (moved 1 (loc.Machine 10) (loc.Slot 1000)) ≡ true
+far_slot_from_register = refl
+
+-- a call by a register reads it
+pub callee_is_read : is_source 18 (call_words 0 callee.Register (record { loc = loc.Machine 18; comp = comp.Val } ∷ [])) ≡ true
+callee_is_read = refl
+
+pub callee_in_slot_is_read : is_loaded at_first 8 (call_words 0 callee.Register (record { loc = loc.Slot 1; comp = comp.Val } ∷ [])) ≡ true
+unfolding add_word sext_word word_of signed_in
+callee_in_slot_is_read = refl
+
+-- an allocation writes where the block is to be named, and nothing else
+pub block_is_written : is_target 10
+    (alloc_part 0 [] (record { header = 1024; cells = 1 } ∷ []) (record { loc = loc.Machine 10; comp = comp.Val } ∷ [])) ≡ true
+unfolding constant
+block_is_written = refl
+
+pub block_alone : is_target 11
+    (alloc_part 0 [] (record { header = 1024; cells = 1 } ∷ []) (record { loc = loc.Machine 10; comp = comp.Val } ∷ [])) ≡ false
+unfolding constant
+block_alone = refl
+
+-- a branch reads both of its operands
+pub branch_reads_second : is_source 11
+    (branch_part 0 (test.Signed compare.Le right.Register) 7
+    (record { loc = loc.Machine 10; comp = comp.Int } ∷ record { loc = loc.Machine 11; comp = comp.Int } ∷ [])) ≡ true
+branch_reads_second = refl
