@@ -1,11 +1,7 @@
 -- Chunks of a part after which no register but sp holds an address of the stack.
 use Rattle.std.proofs.Common.{◌≡◌, ℕ, ◌<◌, Bool, true, false, cond, nat_eq, nat_lt, ◌||◌, List, [], ◌∷◌, ◌++◌, refl, ap, ◌∙◌}
 use Rattle.std.proofs.lemmas.Bool.{ltb-true}
-use Rattle.bs_words.specs.declared.types.Loc.{Loc}
-use Rattle.bs_words.specs.declared.types.Loc.TheVariants as loc
 use Rattle.rv_isa.specs.Registers.{number}
-use Rattle.rv_isa.specs.declared.instr.AluImmOp.{AluImmOp}
-use Rattle.rv_isa.specs.declared.instr.AluImmOp.TheVariants as imm
 use Rattle.rv_isa.specs.declared.instr.AluOp.TheVariants as alu
 use Rattle.rv_isa.specs.declared.instr.LoadWidth.{LoadWidth}
 use Rattle.rv_isa.specs.declared.instr.LoadWidth.TheVariants as loads
@@ -16,13 +12,13 @@ use Rattle.rv_isa.specs.declared.register.Register.TheVariants.{Zero, Sp, T1, T2
 use Rattle.rv_pieces.specs.declared.piece.Piece.{Piece}
 use Rattle.emit_rules.specs.Instructions.{addi, operation, shift, lui, addiw, load, store}
 use Rattle.emit_rules.specs.Constants.{constant}
-use Rattle.emit_rules.specs.Slots.{far_stack, stack_load, slot_offset, fetched}
+use Rattle.emit_rules.specs.Slots.{far_stack, stack_load}
 use Rattle.emit_rules.specs.Traversal.{Each, each_none, each_more}
 use Rattle.emit_rules.specs.Values.{Makes, makes_first, makes_upper, makes_lower, makes_sum, makes_shift}
 use Rattle.emit_rules.proofs.Values.{constant_is_made}
 use Rattle.laid_parts.specs.Named.{is_among, piece_targets}
-use Rattle.laid_parts.specs.Stack.{Form, Unknown, Is, FromSp, Held, plus, minus, changed, after, loaded, stored, piece_made, word_at, at_first}
-use Rattle.laid_parts.proofs.Words.{Words, Through, Chunk, Clear, later, joined, nothing, one_still, IsFree, is_unknown, is_constant, IsClean, IsScratch, is_t1, is_t2, is_sp, near_load, far_load}
+use Rattle.laid_parts.specs.Stack.{Form, Unknown, Is, FromSp, Held, plus, minus, changed, loaded, stored, piece_made, word_at, at_first}
+use Rattle.laid_parts.proofs.Words.{Clear, later, joined, nothing, one_still, IsFree, is_unknown, is_constant, IsClean, IsScratch, is_t1, is_t2, is_sp, near_load, far_load}
 
 -- ---- what is no address of the stack
 
@@ -68,7 +64,7 @@ module _ (c : ℕ) where
       one_still c p a b
       (λ h k. record {
         sp = ap (λ (z : Bool). cond z (piece_made h p) (h 2)) t ∙ k.sp;
-        others = λ r e. chosen_free (is_among r (piece_targets p)) (f h k) (k.others r e);
+        others = λ r e. chosen_free (nat_eq r 0) (k.others r e) (chosen_free (is_among r (piece_targets p)) (f h k) (k.others r e));
       })
 
   pub immediate-clear : (to from : Register) (w : ℕ) → is_sp to ≡ false → is_sp from ≡ false → Clear c (addi to from w ∷ []) false false
@@ -115,9 +111,17 @@ module _ (c : ℕ) where
   -- ---- slots
 
   -- the register through which the address went holds what was loaded
-  loads_over : (b : Bool) {f : Form} (g k : Form) → IsFree f → IsFree (cond b Unknown (cond b g (cond b k f)))
-  loads_over true g k x = is_unknown
-  loads_over false g k x = x
+  loads_near : (z b : Bool) {f : Form} → IsFree f → IsFree (cond z f (cond b Unknown f))
+  loads_near true b x = x
+  loads_near false true x = is_unknown
+  loads_near false false x = x
+
+  loads_far : (z b : Bool) {f : Form} (g k : Form) → IsFree f →
+      IsFree (cond z (cond z (cond z f (cond b k f)) (cond b g (cond z f (cond b k f))))
+      (cond b Unknown (cond z (cond z f (cond b k f)) (cond b g (cond z f (cond b k f))))))
+  loads_far true b g k x = x
+  loads_far false true g k x = is_unknown
+  loads_far false false g k x = x
 
   pub stack_load-clear : (scratch : Register) (w : ℕ) → IsScratch scratch → w < 1073741824 → Clear c (stack_load scratch scratch w) (nat_eq w c) false
   unfolding later
@@ -130,7 +134,7 @@ module _ (c : ℕ) where
             record {
               loads = a.loads;
               stores = a.stores;
-              left = record { sp = a.left; others = λ n g. chosen_free (nat_eq 6 n || false) is_unknown (k.others n g) };
+              left = record { sp = a.left; others = λ n g. loads_near (nat_eq n 0) (nat_eq 6 n || false) (k.others n g) };
             };
       }
       by r is_t2 true e = record {
@@ -138,7 +142,7 @@ module _ (c : ℕ) where
             record {
               loads = a.loads;
               stores = a.stores;
-              left = record { sp = a.left; others = λ n g. chosen_free (nat_eq 7 n || false) is_unknown (k.others n g) };
+              left = record { sp = a.left; others = λ n g. loads_near (nat_eq n 0) (nat_eq 7 n || false) (k.others n g) };
             };
       }
       by r is_t1 false e = record {
@@ -146,7 +150,7 @@ module _ (c : ℕ) where
             record {
               loads = a.loads;
               stores = a.stores;
-              left = record { sp = a.left; others = λ n g. loads_over (nat_eq 6 n || false) _ _ (k.others n g) };
+              left = record { sp = a.left; others = λ n g. loads_far (nat_eq n 0) (nat_eq 6 n || false) _ _ (k.others n g) };
             };
       }
       by r is_t2 false e = record {
@@ -154,6 +158,6 @@ module _ (c : ℕ) where
             record {
               loads = a.loads;
               stores = a.stores;
-              left = record { sp = a.left; others = λ n g. loads_over (nat_eq 7 n || false) _ _ (k.others n g) };
+              left = record { sp = a.left; others = λ n g. loads_far (nat_eq n 0) (nat_eq 7 n || false) _ _ (k.others n g) };
             };
       }

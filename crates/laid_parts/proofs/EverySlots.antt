@@ -1,5 +1,5 @@
 -- The part of each line names the slots that the line reads and writes.
-use Rattle.std.proofs.Common.{◌≡◌, ℕ, ◌+◌, ◌*◌, ◌<◌, cond, List, ◌∷◌, length, refl, Option, arith}
+use Rattle.std.proofs.Common.{ℕ, ◌+◌, ◌*◌, ◌<◌, cond, List, ◌∷◌, length, refl, Option, arith}
 use Rattle.std.specs.List.{Contains}
 use Rattle.std.proofs.lemmas.List.Elements.{All-contains}
 use Rattle.mach_ir.specs.Seats.{AreSeated}

@@ -1,7 +1,5 @@
 -- The part of each line that tests, switches or calls names the slots that the line reads and writes.
-use Rattle.std.proofs.Common.{◌≡◌, ℕ, Bool, false, cond, nat_eq, ◌||◌, List, [], ◌∷◌, ◌++◌, length, map, refl, sym, ◌∙◌, Option, Some, None}
-use Rattle.std.specs.List.{Contains}
-use Rattle.std.proofs.lemmas.List.Elements.{All-contains}
+use Rattle.std.proofs.Common.{◌≡◌, ℕ, Bool, false, nat_eq, ◌||◌, List, [], ◌∷◌, ◌++◌, length, map, refl, sym, ◌∙◌, Option, Some, None}
 use Rattle.bs_words.specs.declared.operators.CmpOp.TheVariants as compare
 use Rattle.bs_words.specs.declared.types.Comp.{Comp}
 use Rattle.bs_words.specs.declared.types.Loc.{Loc}
@@ -16,11 +14,9 @@ use Rattle.mach_ir.specs.declared.op.Calling.TheVariants as calling
 use Rattle.mach_ir.specs.declared.op.Op.TheVariants as op
 use Rattle.mach_ir.specs.declared.op.Right.{Right}
 use Rattle.mach_ir.specs.declared.op.Right.TheVariants as right
-use Rattle.lin_ir.specs.Formed.{FlowHasForm, IsFormed, formed_op, formed_flow, Locates, comps, places_of, lin_operand_seats, lin_result_seats, WellFormed, Seated}
-use Rattle.lin_ir.specs.Meaning.{same_loc, is_named}
+use Rattle.lin_ir.specs.Formed.{FlowHasForm, Locates, comps, places_of, lin_operand_seats}
 use Rattle.lin_ir.specs.declared.descr.Descr.{Descr}
 use Rattle.lin_ir.specs.declared.lin.Flow.TheVariants as flow
-use Rattle.lin_ir.specs.declared.lin.Line.{Line}
 use Rattle.lin_ir.specs.declared.lin.LinOp.{LinOp}
 use Rattle.lin_ir.specs.declared.lin.LinOp.TheVariants as lin
 use Rattle.lin_ir.specs.declared.lin.Lin.{Lin}
@@ -29,7 +25,6 @@ use Rattle.rv_pieces.specs.declared.piece.Piece.TheVariants as piece
 use Rattle.std.specs.Prelude.{◌*◌, ◌<◌, nat_le}
 use Rattle.std.proofs.Common.{◌+◌}
 use Rattle.bs_words.specs.declared.operators.CmpOp.{CmpOp}
-use Rattle.lin_ir.specs.Walks.{Reached, by_walk}
 use Rattle.mach_ir.specs.declared.op.External.{External}
 use Rattle.rv_isa.specs.declared.instr.AluImmOp.TheVariants as imm
 use Rattle.rv_isa.specs.declared.instr.AluOp.TheVariants as alu
@@ -46,7 +41,6 @@ use Rattle.emit_rules.specs.Calls.{mark_of, call_words, external_words, external
 use Rattle.emit_rules.specs.Slots.{first, second, register_of, slot_offset}
 use Rattle.emit_rules.specs.Tests.{signed_branch, unsigned_branch, right_register, right_words, branch_part, value_words, tests_in_turn, table_of_jumps, switch_part}
 use Rattle.laid_parts.specs.Laid.{lies_at, lie_at, NamesSlots}
-use Rattle.lin_ir.specs.Descriptors.{IsWithin, has_frame_point}
 use Rattle.laid_parts.proofs.Registers.{or_false}
 use Rattle.laid_parts.proofs.Words.{Chunk, in_part, joined, same, then_none, either, nothing, still, is_t1, is_t2, stack_load-words}
 use Rattle.laid_parts.proofs.SlotParts.{IsWithinFrame, in_frame, immediate-still, operation-still, shift-still, constant-still, fetched-slot}

@@ -1,8 +1,7 @@
 -- The slots that the parts of lines name that leave a function, test a bound, or push, pop or enter a trap.
-use Rattle.std.proofs.Common.{◌≡◌, ℕ, ◌+◌, ◌*◌, ◌<◌, Bool, true, false, cond, nat_eq, nat_lt, nat_le, not, ◌||◌, ◌&&◌, List, [], ◌∷◌, ◌++◌, length, refl, sym, ◌∙◌, ap, Option, subst, arith}
+use Rattle.std.proofs.Common.{◌≡◌, ℕ, ◌+◌, ◌*◌, ◌<◌, Bool, true, false, cond, nat_eq, nat_lt, nat_le, not, ◌||◌, ◌&&◌, List, [], ◌∷◌, length, refl, sym, ◌∙◌, ap, Option, subst, arith}
 use Rattle.std.proofs.lemmas.Bool.Decides.{nat_tests}
 use Rattle.bs_words.specs.Word.{add_word, sext_word, word_of, signed_in}
-use Rattle.bs_words.specs.declared.types.Comp.{Comp}
 use Rattle.bs_words.specs.declared.types.Loc.{Loc}
 use Rattle.bs_words.specs.declared.types.Loc.TheVariants as loc
 use Rattle.mach_ir.specs.Forms.{HasForm}
@@ -25,32 +24,30 @@ use Rattle.lin_ir.specs.declared.lin.Spot.{Spot}
 use Rattle.rv_isa.specs.declared.instr.AluOp.TheVariants as alu
 use Rattle.rv_isa.specs.declared.instr.Condition.TheVariants as condition
 use Rattle.rv_isa.specs.declared.instr.LoadWidth.TheVariants as loads
-use Rattle.rv_isa.specs.declared.instr.StoreWidth.TheVariants as stores
 use Rattle.rv_isa.specs.declared.register.Register.{Register}
 use Rattle.rv_isa.specs.declared.register.Register.TheVariants.{Ra, Sp, T1, T2, S1, A0}
 use Rattle.rv_pieces.specs.declared.piece.Piece.{Piece}
 use Rattle.rv_pieces.specs.declared.piece.Piece.TheVariants as piece
 use Rattle.emit_rules.specs.Calls.{tail_call_part, return_part}
-use Rattle.emit_rules.specs.Constants.{constant, sum_to}
 use Rattle.emit_rules.specs.Emitted.{part_of}
 use Rattle.emit_rules.specs.Entry.{Frame, return_offset, restored, raised, given_back}
-use Rattle.emit_rules.specs.Instructions.{addi, mv, operation, lui, load, store, skip, goes_to}
+use Rattle.emit_rules.specs.Instructions.{addi, mv, operation, lui, load, skip, goes_to}
 use Rattle.emit_rules.specs.Slots.{first, second, register_of, stack_load, copied}
 use Rattle.emit_rules.specs.Tests.{right_register, right_words}
 use Rattle.emit_rules.specs.Traps.{raise_words, raise_bound_error, push_part, pop_part, check_part}
 use Rattle.emit_rules.specs.Traversal.{Each, each_none, each_more}
 use Rattle.emit_rules.specs.Values.{Makes, makes_first, makes_upper, makes_lower, makes_sum, makes_shift}
 use Rattle.emit_rules.proofs.Values.{constant_is_made}
-use Rattle.laid_parts.specs.Laid.{lies_at, lie_at, is_return_address, is_aside, NamesSlots}
+use Rattle.laid_parts.specs.Laid.{lies_at, is_return_address, NamesSlots}
 use Rattle.laid_parts.specs.Named.{is_among}
-use Rattle.laid_parts.specs.Stack.{Form, Is, FromSp, Held, plus, word_at}
+use Rattle.laid_parts.specs.Stack.{Form, Is, Held, plus, word_at}
 use Rattle.laid_parts.proofs.Registers.{and_false}
 use Rattle.laid_parts.proofs.Words.{Through, Clear, Part, AtSp, IsClean, Whatever, IsFree, is_unknown, is_constant, joined, same, then_none, either, nothing, one_still, silent, in_part, at_end, is_t1, is_t2, later, stack_load-words}
 use Rattle.laid_parts.proofs.Clean.{steady, free_names_none, plus_free, constant-clear}
 use Rattle.laid_parts.proofs.SlotParts.{IsWithinFrame, in_register, fetched-clear, copied-slot}
-use Rattle.laid_parts.proofs.PureSlots.{first_within, second_within, slots_of, lie_none, lie_one, lie_two, lie_seated, lie_after}
+use Rattle.laid_parts.proofs.PureSlots.{first_within, slots_of, lie_none, lie_one, lie_seated, lie_after}
 use Rattle.laid_parts.proofs.FlowSlots.{value-slot, right-slot, RightWithin, beside}
-use Rattle.laid_parts.proofs.Each.{RightIs, one_right, no_right, right_inv, tail_more, check_inv, raise_inv, return_inv, push_inv, pop_inv, enter_inv, same_is}
+use Rattle.laid_parts.proofs.Each.{right_inv, tail_more, check_inv, raise_inv, return_inv, push_inv, pop_inv, enter_inv, same_is}
 
 -- ---- where nothing is loaded or stored, whatever registers hold
 

@@ -1,7 +1,6 @@
 -- The descriptor of a frame point stands right after its call.
-use Rattle.std.proofs.Common.{◌≡◌, ℕ, suc, ◌+◌, ◌*◌, Bool, true, false, cond, List, [], ◌∷◌, ◌++◌, length, append_assoc, refl, sym, subst, ◌∙◌, ap, arith, Some, None}
+use Rattle.std.proofs.Common.{◌≡◌, ℕ, suc, ◌+◌, ◌*◌, Bool, true, false, cond, List, [], ◌∷◌, ◌++◌, length, append_assoc, refl, sym, subst, ◌∙◌, ap, arith, Some}
 use Rattle.mach_ir.specs.Blocks.{bytes_of}
-use Rattle.mach_ir.specs.declared.blocks.NewBlock.{NewBlock}
 use Rattle.mach_ir.specs.declared.op.Access.TheVariants as access
 use Rattle.mach_ir.specs.declared.op.Callee.TheVariants as callee
 use Rattle.mach_ir.specs.declared.op.Calling.TheVariants as calling
@@ -86,7 +85,7 @@ marked_part t f d ds (lin.Op (op.Access (access.Alloc blocks))) args results h =
     let g = lin.Op (op.Access (access.Alloc blocks)) in
     let e = asks_last (bytes_of blocks) in
     let none : marks_in ((reserved (bytes_of blocks) ++ []) ++ addresses t blocks results) ≡ []
-        = part-unmarked t f (record { op = g; args = args; results = results }) in
+    = part-unmarked t f (record { op = g; args = args; results = results }) in
     subst (λ (xs : List Piece). IsMarked g true (d ∷ ds) ds ((xs ++ piece.Descriptor d ∷ []) ++ addresses t blocks results)) e
     (marked g d ds (before_ask (bytes_of blocks)) ecall (addresses t blocks results) after_allocation
     (subst (λ (xs : List Piece). marks_in ((xs ++ []) ++ addresses t blocks results) ≡ []) (sym e) none))

@@ -4,7 +4,6 @@ use Rattle.std.specs.List.{All}
 use Rattle.std.proofs.lemmas.List.Elements.{All-contains, All-nil, All-cons, All-head, All-tail}
 use Rattle.bs_words.specs.declared.types.Comp.{Comp}
 use Rattle.bs_words.specs.declared.types.Loc.{Loc}
-use Rattle.bs_words.specs.declared.types.Loc.TheVariants as loc
 use Rattle.mach_ir.specs.Placed.{colours}
 use Rattle.mach_ir.specs.declared.op.Op.TheVariants as op
 use Rattle.mach_ir.specs.declared.op.Pure.TheVariants as pure
@@ -28,7 +27,7 @@ use Rattle.mach_ir.specs.Seats.{AreSeated, InOrder, AfterFirst, in_order, after_
 use Rattle.laid_parts.specs.Laid.{lies_at, lie_at, is_aside, NamesSlots, CarriesSlots, moves_nothing, names}
 use Rattle.laid_parts.specs.Stack.{at_first}
 use Rattle.laid_parts.proofs.Registers.{or_false, neither}
-use Rattle.laid_parts.proofs.Words.{Chunk, Part, in_part, same, is_sp}
+use Rattle.laid_parts.proofs.Words.{Part, in_part, same, is_sp}
 use Rattle.laid_parts.proofs.Clean.{at_first_clean}
 use Rattle.laid_parts.proofs.SlotParts.{IsWithinFrame, in_register, in_frame, copied-slot, operator_register-slots, operator_constant-slots, constant_line-slots, symbol_line-slots}
 use Rattle.laid_parts.proofs.Each.{is_numbered, constant_inv, symbol_inv, copy_inv, register_inv, with_inv, same_is, no_move, no_self_copy}

@@ -1,5 +1,5 @@
 -- The pieces of a function are laid out as its Linear function.
-use Rattle.std.proofs.Common.{◌≡◌, ℕ, zero, suc, List, [], ◌∷◌, length, refl, sym, subst, ◌∙◌, ap, arith}
+use Rattle.std.proofs.Common.{◌≡◌, ℕ, List, [], ◌∷◌, length, refl, sym, subst, ap, arith}
 use Rattle.lin_ir.specs.Descriptors.{IsWithin, frame_points}
 use Rattle.lin_ir.specs.Formed.{WellFormed, Seated}
 use Rattle.lin_ir.specs.Meaning.{passes_frame}

@@ -41,8 +41,8 @@ abbrev pub is_reserved : ℕ → Bool
 is_reserved n =
     is_among n (0 ∷ ra ∷ sp ∷ t0 ∷ t1 ∷ t2 ∷ s1 ∷ s10 ∷ s11 ∷ [])
 
--- Those in which a convention hands over arguments, a result or a raised value: the part of the line
--- need not name them.
+-- Those in which a convention hands over arguments, a result or a raised value: the part of the
+-- line need not name them.
 abbrev pub is_handed_on : LinOp → ℕ → Bool
 is_handed_on (lin.Op (op.Calling f)) n = is_named (loc.Machine n) argument_places
 is_handed_on (lin.Op (op.Leaving leaving.Raise)) n = is_named (loc.Machine n) result_places
@@ -54,8 +54,7 @@ is_handed_on _ n = false
 abbrev pub is_left : LinOp → ℕ → Bool
 is_left f n = is_destroyed (destroyed_by f) (loc.Machine n)
 
--- A bound test that fails goes on behind its branch, and raises: the raised value is put into a0.
--- What stands up to the branch is carried out in each case.
+-- A bound test that fails raises behind its branch, where the raised value is put into a0.
 abbrev pub branches : Piece → Bool
 branches (piece.Known (instr.Branch c a b offset)) = true
 branches (piece.Branch c a b l) = true
@@ -70,9 +69,9 @@ raises_behind (lin.Op (op.Leaving (leaving.Checkbound r))) n =
     is_named (loc.Machine n) result_places
 raises_behind _ n = false
 
--- what of a part is carried out in each case, as far as this register goes
-abbrev pub always : LinOp → ℕ → List Piece → List Piece
-always f n part = cond (raises_behind f n) (up_to_branch part) part
+-- the pieces that must write a register as the line does
+abbrev pub writing : LinOp → ℕ → List Piece → List Piece
+writing f n part = cond (raises_behind f n) (up_to_branch part) part
 
 -- ---- words of the stack, by their bytes from sp, that are not compared
 
@@ -80,7 +79,8 @@ always f n part = cond (raises_behind f n) (up_to_branch part) part
 abbrev pub is_return_address : Frame → ℕ → Bool
 is_return_address f c = f.saves && nat_eq (return_offset f) c
 
--- the return address where the function is left, and the trap that a line pushes or pops
+-- the return address where the function is left, and the 16 bytes of the trap that a line pushes or
+-- pops
 abbrev pub is_aside : Frame → LinOp → ℕ → Bool
 is_aside f (lin.Op (op.Leaving leaving.Return)) c = is_return_address f c
 is_aside f (lin.Op (op.Calling (calling.TailCall whom result))) c = is_return_address f c
@@ -104,9 +104,9 @@ pub record NamesRegisters (i : Line) (part : List Piece) : Type 0 where
   pub reads : (n : ℕ) → is_reserved n ≡ false → is_handed_on i.op n ≡ false →
       is_source n part ≡ is_named (loc.Machine n) (places_of i.args)
   pub writes : (n : ℕ) → is_reserved n ≡ false → is_left i.op n ≡ false →
-      is_target n (always i.op n part) ≡ is_named (loc.Machine n) (places_of i.results)
+      is_target n (writing i.op n part) ≡ is_named (loc.Machine n) (places_of i.results)
 
--- Words that are no slots of the line are not named either.
+-- A part names no other word of the stack.
 pub record NamesSlots (f : Frame) (traps : ℕ) (i : Line) (part : List Piece) : Type 0 where
   pub reads : (c : ℕ) → is_aside f i.op c ≡ false →
       is_loaded at_first c part ≡ lie_at traps c (places_of i.args)
@@ -139,10 +139,11 @@ pub data ReturnsAfter : LinOp → Piece → Type 0 where
   after_allocation : {blocks : List NewBlock} →
       ReturnsAfter (lin.Op (op.Access (access.Alloc blocks))) (piece.Known instr.Ecall)
 
--- The descriptor of a frame point that is no tail call stands right after its call. It is the first of those
--- that are left; then these are left.
+-- The descriptor of a frame point that is no tail call stands right after its call. It is the first
+-- of those that are left; then these are left.
 pub data IsMarked (f : LinOp) : Bool → List Descr → List Descr → List Piece → Type 0 where
-  no_mark : {ds : List Descr} {part : List Piece} → marks_in part ≡ [] → IsMarked f false ds ds part
+  no_mark : {ds : List Descr} {part : List Piece} → marks_in part ≡ [] →
+      IsMarked f false ds ds part
   one_mark : {d : Descr} {ds : List Descr} {p : Piece} (before rest : List Piece) →
       ReturnsAfter f p → marks_in before ≡ [] → marks_in rest ≡ [] →
       IsMarked f true (d ∷ ds) ds (before ++ p ∷ piece.Descriptor d ∷ rest)

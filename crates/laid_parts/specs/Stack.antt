@@ -52,8 +52,9 @@ abbrev pub piece_made : Held → Piece → Form
 piece_made h (piece.Known j) = made h j
 piece_made h _ = Unknown
 
+-- x0 stays 0
 abbrev pub after : Held → Piece → Held
-after h p = λ r. cond (is_among r (piece_targets p)) (piece_made h p) (h r)
+after h p = λ r. cond (nat_eq r 0) (h r) (cond (is_among r (piece_targets p)) (piece_made h p) (h r))
 
 -- before a part
 abbrev pub at_first : Held
