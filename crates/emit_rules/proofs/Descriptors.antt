@@ -22,14 +22,14 @@ use Rattle.lin_ir.specs.Descriptors.{frame_points}
 use Rattle.emit_rules.specs.Traversal.{Each, each_none, each_more, Allows}
 use Rattle.emit_rules.proofs.Traverse.{entry-in, part-in}
 
-abbrev NoMark : Piece → Type 0
+abbrev pub NoMark : Piece → Type 0
 NoMark p = mark_in p ≡ []
 
-no-marks : {ps : List Piece} → Each NoMark ps → marks_in ps ≡ []
+pub no-marks : {ps : List Piece} → Each NoMark ps → marks_in ps ≡ []
 no-marks each_none = refl
 no-marks (each_more {p} {ps} h hs) = rw h (no-marks hs)
 
-marks-join : (xs ys : List Piece) → marks_in (xs ++ ys) ≡ marks_in xs ++ marks_in ys
+pub marks-join : (xs ys : List Piece) → marks_in (xs ++ ys) ≡ marks_in xs ++ marks_in ys
 marks-join [] ys = refl
 marks-join (x ∷ xs) ys = ap (λ (t : List Descr). mark_in x ++ t) (marks-join xs ys) ∙ sym (append_assoc (mark_in x) (marks_in xs) (marks_in ys))
 
@@ -49,14 +49,14 @@ allows-unmarked f = record {
 }
 
 -- with no descriptor a part has no mark
-part-unmarked : (t : ℕ) (f : Frame) (i : Line) → marks_in (part_of t f None i) ≡ []
+pub part-unmarked : (t : ℕ) (f : Frame) (i : Line) → marks_in (part_of t f None i) ≡ []
 part-unmarked t f i = no-marks (part-in NoMark None t f i (allows-unmarked i.op))
 
-nil-first : {A : Type 0} (xs ys : List A) → xs ++ ys ≡ [] → xs ≡ []
+pub nil-first : {A : Type 0} (xs ys : List A) → xs ++ ys ≡ [] → xs ≡ []
 nil-first [] ys e = refl
 nil-first (x ∷ xs) ys e = cc
 
-nil-second : {A : Type 0} (xs ys : List A) → xs ++ ys ≡ [] → ys ≡ []
+pub nil-second : {A : Type 0} (xs ys : List A) → xs ++ ys ≡ [] → ys ≡ []
 nil-second [] ys e = e
 nil-second (x ∷ xs) ys e = cc
 

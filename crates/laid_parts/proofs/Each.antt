@@ -1,7 +1,8 @@
 -- The part of each line names the registers that the line reads and writes.
-use Rattle.std.proofs.Common.{◌≡◌, ℕ, suc, Bool, true, false, cond, nat_eq, ◌||◌, List, [], ◌∷◌, ◌++◌, length, refl, sym, subst, ◌∙◌, ap, Option}
+use Rattle.std.proofs.Common.{◌≡◌, ℕ, suc, Bool, true, false, cond, nat_eq, ◌||◌, List, [], ◌∷◌, ◌++◌, length, refl, sym, subst, ◌∙◌, ap, arith, Option}
 use Rattle.std.specs.List.{All, Contains}
 use Rattle.std.proofs.lemmas.Bool.{eqb-true}
+use Rattle.std.proofs.lemmas.Bool.Decides.{nat_tests}
 use Rattle.std.proofs.lemmas.List.Elements.{All-contains, All-nil, All-cons, All-head, All-tail}
 use Rattle.bs_words.specs.declared.operators.CmpOp.TheVariants as compare
 use Rattle.bs_words.specs.declared.operators.IntOp.TheVariants as operator
@@ -22,7 +23,7 @@ use Rattle.mach_ir.specs.declared.op.Op.TheVariants as op
 use Rattle.mach_ir.specs.declared.op.Pure.TheVariants as pure
 use Rattle.mach_ir.specs.declared.op.Right.{Right}
 use Rattle.mach_ir.specs.declared.op.Right.TheVariants as right
-use Rattle.lin_ir.specs.Formed.{FlowHasForm, label_form, jump_form, exit_form, branch_form, switch_form, push_form, pop_form, enter_form, IsFormed, formed_op, formed_flow, is_colour, is_slot, IsLocation, is_home, is_spare, is_self_move, Locates, comps, places_of, lin_operand_seats, lin_result_seats, WellFormed, Seated}
+use Rattle.lin_ir.specs.Formed.{FlowHasForm, label_form, jump_form, exit_form, branch_form, switch_form, push_form, pop_form, enter_form, IsFormed, formed_op, formed_flow, is_colour, is_slot, IsLocation, is_home, is_spare, IsSelfMove, is_self_move, Locates, comps, places_of, lin_operand_seats, lin_result_seats, WellFormed, Seated}
 use Rattle.lin_ir.specs.Meaning.{same_loc, is_named}
 use Rattle.lin_ir.specs.declared.descr.Descr.{Descr}
 use Rattle.lin_ir.specs.declared.lin.Flow.{Flow}
@@ -38,9 +39,12 @@ use Rattle.rv_pieces.specs.declared.piece.Piece.TheVariants as piece
 use Rattle.emit_rules.specs.Instructions.{register_at}
 use Rattle.emit_rules.specs.Emitted.{part_of}
 use Rattle.emit_rules.specs.Entry.{Frame}
-use Rattle.emit_rules.specs.Slots.{first, second, copied}
-use Rattle.laid_parts.specs.Laid.{is_reserved, NamesRegisters, CarriesRegisters, moves_nothing, names}
-use Rattle.laid_parts.specs.Named.{is_source}
+use Rattle.emit_rules.specs.Slots.{first, second, fetched, copied}
+use Rattle.emit_rules.specs.Tests.{right_words}
+use Rattle.emit_rules.specs.Traps.{raise_bound_error, check_part}
+use Rattle.rv_isa.specs.declared.register.Register.TheVariants.{T1}
+use Rattle.laid_parts.specs.Laid.{is_reserved, raises_behind, branches, up_to_branch, NamesRegisters, MovesNothing, CarriesRegisters, moves_nothing, names}
+use Rattle.laid_parts.specs.Named.{is_among, is_source, is_target, piece_targets}
 use Rattle.laid_parts.proofs.Registers.{neither, or_false, Names, same, alone, is-apart, IsApart}
 use Rattle.laid_parts.proofs.Operators.{IsNumbered, numbered, in_slot, copied-names}
 use Rattle.laid_parts.proofs.Lines as lines
@@ -87,6 +91,33 @@ module _ (m : Lin) where
       lines.more_numbered (is_numbered (All-head (λ (s : Spot). IsLocation m s.loc) s ss h))
       (all_numbered n apart t ss (All-tail (λ (s : Spot). IsLocation m s.loc) s ss h))
 
+-- ---- moves from a location to itself
+
+abbrev pub copies_op : LinOp → Bool
+copies_op (lin.Op (op.Pure (pure.Copy kind))) = true
+copies_op _ = false
+
+move_copies : {i : Line} {from to : Spot} → IsSelfMove i from to → copies_op i.op ≡ true
+move_copies (is_self_move e) = refl
+
+move_stays : {i : Line} {from to : Spot} → IsSelfMove i from to → first i.args ≡ first i.results
+move_stays (is_self_move e) = e
+
+pub no_move : {o : LinOp} {args results : List Spot} → copies_op o ≡ false → MovesNothing (record { op = o; args = args; results = results }) → ⊥
+no_move e h = let k = move_copies h.2 in absurd (cc)
+
+same_self : (l : Loc) → IsNumbered l → same_loc l l ≡ true
+same_self (loc.Machine r) h = grind (arith, nat_tests)
+same_self (loc.Slot k) h = grind (arith, nat_tests)
+same_self loc.Unset h = elim h [ ]
+
+-- a copy between locations that differ
+pub no_self_copy : {kind : _} (x y : Spot) → IsNumbered x.loc → same_loc x.loc y.loc ≡ false →
+    MovesNothing (record { op = lin.Op (op.Pure (pure.Copy kind)); args = x ∷ []; results = y ∷ [] }) → ⊥
+no_self_copy x y n w h =
+    let k : same_loc x.loc y.loc ≡ true = subst (λ (l : Loc). same_loc x.loc l ≡ true) (move_stays h.2) (same_self x.loc n) in
+    absurd (cc)
+
 -- ---- what a line names, by how many operands it has
 
 pub named_none : (l : Loc) (ss : List Spot) → comps ss ≡ [] → is_named l (places_of ss) ≡ false
@@ -112,10 +143,13 @@ Plain : List Spot → List Spot → List Piece → Type 0
 Plain args results part =
     (n : ℕ) → IsApart n → Names n part (is_named (loc.Machine n) (places_of args)) (is_named (loc.Machine n) (places_of results))
 
-registers_of : {o : LinOp} {args results : List Spot} {part : List Piece} → Plain args results part →
+registers_of : {o : LinOp} {args results : List Spot} {part : List Piece} → ((n : ℕ) → raises_behind o n ≡ false) → Plain args results part →
     NamesRegisters (record { op = o; args = args; results = results }) part
 unfolding Plain
-registers_of h = record { reads = λ n e g. (h n (is-apart n e)).reads; writes = λ n e g. (h n (is-apart n e)).sets }
+registers_of {part} k h = record {
+  reads = λ n e g. (h n (is-apart n e)).reads;
+  writes = λ n e g. ap (λ (z : Bool). is_target n (cond z (up_to_branch part) part)) (k n) ∙ (h n (is-apart n e)).sets;
+}
 
 pub constant_inv : (w : ℕ) (xs ys : List Comp) → HasForm (op.Pure (pure.Constant w)) xs ys → (xs ≡ []) × ((u : Comp) × (ys ≡ u ∷ []))
 constant_inv w xs ys (constant {to = u} l) = (refl, (u, refl))
@@ -126,15 +160,15 @@ symbol_inv name xs ys (symbol {to = u}) = (refl, (u, refl))
 pub copy_inv : (kind : _) (xs ys : List Comp) → HasForm (op.Pure (pure.Copy kind)) xs ys → (t : Comp) × (u : Comp) × (xs ≡ t ∷ []) × (ys ≡ u ∷ [])
 copy_inv kind xs ys (copies {from = t} {to = u}) = (t, u, refl, refl)
 
-load_inv : (k : _) (offset : ℕ) (xs ys : List Comp) → HasForm (op.Access (access.Load k offset)) xs ys →
+pub load_inv : (k : _) (offset : ℕ) (xs ys : List Comp) → HasForm (op.Access (access.Load k offset)) xs ys →
     (t : Comp) × (u : Comp) × (xs ≡ t ∷ []) × (ys ≡ u ∷ [])
 load_inv k offset xs ys (loads {address = t} {to = u}) = (t, u, refl, refl)
 
-store_inv : (k : _) (offset : ℕ) (xs ys : List Comp) → HasForm (op.Access (access.Store k offset)) xs ys →
+pub store_inv : (k : _) (offset : ℕ) (xs ys : List Comp) → HasForm (op.Access (access.Store k offset)) xs ys →
     (t : Comp) × (u : Comp) × (xs ≡ t ∷ u ∷ []) × (ys ≡ [])
 store_inv k offset xs ys (stores {address = t} {value = u}) = (t, u, refl, refl)
 
-alloc_inv : (blocks : _) (xs ys : List Comp) → HasForm (op.Access (access.Alloc blocks)) xs ys → (xs ≡ []) × (length ys ≡ length blocks)
+pub alloc_inv : (blocks : _) (xs ys : List Comp) → HasForm (op.Access (access.Alloc blocks)) xs ys → (xs ≡ []) × (length ys ≡ length blocks)
 alloc_inv blocks xs ys (allocates some all most as_many) = (refl, as_many)
 
 pub register_inv : (f : _) (xs ys : List Comp) → HasForm (op.Pure (pure.Operator f right.Register)) xs ys →
@@ -145,7 +179,7 @@ pub with_inv : (f : _) (w : ℕ) (xs ys : List Comp) → HasForm (op.Pure (pure.
     (t : Comp) × (o : Comp) × (xs ≡ t ∷ []) × (ys ≡ o ∷ [])
 with_inv f w xs ys (operates {left = t} {to = o} (a_constant e)) = (t, o, refl, refl)
 
-length_comps : (ss : List Spot) → length (comps ss) ≡ length ss
+pub length_comps : (ss : List Spot) → length (comps ss) ≡ length ss
 length_comps [] = refl
 length_comps (s ∷ ss) = ap suc (length_comps ss)
 
@@ -164,13 +198,13 @@ branch_inv g l xs ys (branch_form h) = (h, refl)
 pub switch_inv : (ls : List ℕ) (xs ys : List Comp) → FlowHasForm (flow.Switch ls) xs ys → ((t : Comp) × (xs ≡ t ∷ [])) × (ys ≡ [])
 switch_inv ls xs ys (switch_form {index = t}) = ((t, refl), refl)
 
-push_inv : (l : ℕ) (xs ys : List Comp) → FlowHasForm (flow.PushTrap l) xs ys → (xs ≡ []) × (ys ≡ [])
+pub push_inv : (l : ℕ) (xs ys : List Comp) → FlowHasForm (flow.PushTrap l) xs ys → (xs ≡ []) × (ys ≡ [])
 push_inv l xs ys push_form = (refl, refl)
 
-pop_inv : (xs ys : List Comp) → FlowHasForm flow.PopTrap xs ys → (xs ≡ []) × (ys ≡ [])
+pub pop_inv : (xs ys : List Comp) → FlowHasForm flow.PopTrap xs ys → (xs ≡ []) × (ys ≡ [])
 pop_inv xs ys pop_form = (refl, refl)
 
-enter_inv : (xs ys : List Comp) → FlowHasForm flow.EnterTrap xs ys → (xs ≡ []) × ((t : Comp) × (ys ≡ t ∷ []))
+pub enter_inv : (xs ys : List Comp) → FlowHasForm flow.EnterTrap xs ys → (xs ≡ []) × ((t : Comp) × (ys ≡ t ∷ []))
 enter_inv xs ys enter_form = (refl, (_, refl))
 
 -- what stands beside the first operand
@@ -321,23 +355,38 @@ no_temporary n e = by (nat_eq 10 n) refl
 callee_more : (first more : List Comp) → IsCallee callee.Register first → (t : Comp) × (ts : List Comp) × (first ++ more ≡ t ∷ ts)
 callee_more first more (by_register {t}) = (t, more, refl)
 
-tail_more : (result : _) (xs ys : List Comp) → HasForm (op.Calling (calling.TailCall callee.Register result)) xs ys →
+pub tail_more : (result : _) (xs ys : List Comp) → HasForm (op.Calling (calling.TailCall callee.Register result)) xs ys →
     (t : Comp) × (ts : List Comp) × (xs ≡ t ∷ ts)
 tail_more result xs ys (tail_calls {first} more is) = callee_more first more is
 
-check_inv : (o : Right) (xs ys : List Comp) → HasForm (op.Leaving (leaving.Checkbound o)) xs ys →
+pub check_inv : (o : Right) (xs ys : List Comp) → HasForm (op.Leaving (leaving.Checkbound o)) xs ys →
     (t : Comp) × (ts : List Comp) × (xs ≡ t ∷ ts) × IsRight (operator.CmpU compare.Lt) o ts × (ys ≡ [])
 check_inv o xs ys (checks {rest} {bound} h) = (bound, rest, refl, h, refl)
 
-raise_inv : (xs ys : List Comp) → HasForm (op.Leaving leaving.Raise) xs ys → ys ≡ []
+pub raise_inv : (xs ys : List Comp) → HasForm (op.Leaving leaving.Raise) xs ys → ys ≡ []
 raise_inv xs ys raises = refl
 
-return_inv : (xs ys : List Comp) → HasForm (op.Leaving leaving.Return) xs ys → ys ≡ []
+pub return_inv : (xs ys : List Comp) → HasForm (op.Leaving leaving.Return) xs ys → ys ≡ []
 return_inv xs ys (returns result) = refl
 
 pub call_more : (result : _) (xs ys : List Comp) → HasForm (op.Calling (calling.Call callee.Register result)) xs ys →
     (t : Comp) × (ts : List Comp) × (xs ≡ t ∷ ts)
 call_more result xs ys (calls {first} more is) = callee_more first more is
+
+-- what stands behind a branch is no matter
+targets_up_to : (n : ℕ) (xs : List Piece) (p : Piece) (ys : List Piece) → is_target n xs ≡ false → is_among n (piece_targets p) ≡ false →
+    branches p ≡ true → is_target n (up_to_branch (xs ++ p ∷ ys)) ≡ false
+targets_up_to n [] p ys e g k =
+    ap (λ (z : Bool). z || is_target n (cond (branches p) [] (up_to_branch ys))) g
+    ∙ ap (λ (z : Bool). is_target n (cond z [] (up_to_branch ys))) k
+targets_up_to n (x ∷ xs) p ys e g k =
+    let h = neither _ _ e in
+    ap (λ (z : Bool). z || is_target n (cond (branches x) [] (up_to_branch (xs ++ p ∷ ys)))) h.0
+    ∙ by (branches x) (targets_up_to n xs p ys h.1 g k)
+  where
+    by : (b : Bool) → is_target n (up_to_branch (xs ++ p ∷ ys)) ≡ false → is_target n (cond b [] (up_to_branch (xs ++ p ∷ ys))) ≡ false
+    by true h = refl
+    by false h = h
 
 module _ (m : Lin) (t : ℕ) (f : Frame) (d : Option Descr) (args results : List Spot) (a : Locates m args) (r : Locates m results) where
   abbrev NamesIn : LinOp → Type 0
@@ -379,9 +428,18 @@ module _ (m : Lin) (t : ℕ) (f : Frame) (d : Option Descr) (args results : List
         (lines.check-names n (is-apart n e) t o args (first_numbered m args i.0 i.1 i.2 a) x.0).reads ∙ x.1;
     writes = λ n e g. let i = check_inv o (comps args) (comps results) h in
         let x = rights m args a n (is-apart n e) t o i.0 i.1 i.2 (right_inv _ o i.1 i.3) in
-        (lines.check-names n (is-apart n e) t o args (first_numbered m args i.0 i.1 i.2 a) x.0).sets
-        ∙ (sym (or_false (nat_eq 10 n)) ∙ (g ∙ sym (named_none (loc.Machine n) results i.4)));
+        let b = first_numbered m args i.0 i.1 i.2 a in
+        check_writes n (nat_eq 10 n || false) refl
+        (lines.check-tests n (is-apart n e) t o args b x.0).sets
+        ((lines.check-names n (is-apart n e) t o args b x.0).sets ∙ sym (or_false (nat_eq 10 n)))
+        ∙ sym (named_none (loc.Machine n) results i.4);
   }
+    where
+      check_writes : (n : ℕ) (z : Bool) → (nat_eq 10 n || false) ≡ z →
+          is_target n (fetched t T1 (first args) ++ right_words t o args) ≡ false →
+          is_target n (check_part t o args) ≡ (nat_eq 10 n || false) → is_target n (cond z (up_to_branch (check_part t o args)) (check_part t o args)) ≡ false
+      check_writes n true k w v = targets_up_to n (fetched t T1 (first args) ++ right_words t o args) _ raise_bound_error w refl refl
+      check_writes n false k w v = v ∙ k
   leaving-names leaving.Raise h s = record {
     reads = λ n e g. (lines.raise-names n (is-apart n e) t).reads ∙ sym (seated_none (loc.Machine n) result_places (places_of args) s g);
     writes = λ n e g. (lines.raise-names n (is-apart n e) t).sets ∙ sym (named_none (loc.Machine n) results (raise_inv (comps args) (comps results) h));
@@ -422,8 +480,8 @@ module _ (m : Lin) (t : ℕ) (f : Frame) (d : Option Descr) where
     where
       by : (b : Bool) → same_loc x.loc y.loc ≡ b →
           CarriesRegisters (record { op = lin.Op (op.Pure (pure.Copy kind)); args = x ∷ []; results = y ∷ [] }) (cond b [] (copied t x.loc y.loc))
-      by true k = moves_nothing (is_self_move (same_is x.loc y.loc k))
-      by false k = names (record {
+      by true k = moves_nothing (x, y, is_self_move (same_is x.loc y.loc k))
+      by false k = names (no_self_copy x y (first_numbered m (x ∷ []) u [] e a) k) (record {
         reads = λ n o w. (copied-names n (is-apart n o) t x.loc y.loc (first_numbered m (x ∷ []) u [] e a) (first_numbered m (y ∷ []) v [] g r)).reads
             ∙ sym (or_false (same_loc x.loc (loc.Machine n)));
         writes = λ n o w. (copied-names n (is-apart n o) t x.loc y.loc (first_numbered m (x ∷ []) u [] e a) (first_numbered m (y ∷ []) v [] g r)).sets
@@ -436,29 +494,29 @@ module _ (m : Lin) (t : ℕ) (f : Frame) (d : Option Descr) where
   line_carried (lin.Op (op.Pure (pure.Copy kind))) args results (formed_op h) a r s u =
       let i = copy_inv kind (comps args) (comps results) h in copy-carried kind args results i.0 i.1 i.2 i.3 a r
   line_carried (lin.Op (op.Pure (pure.Constant w))) args results (formed_op h) a r s u =
-      names (registers_of (constant-plain m t f d args results a r w h))
+      names (no_move refl) (registers_of (λ n. refl) (constant-plain m t f d args results a r w h))
   line_carried (lin.Op (op.Pure (pure.Symbol name))) args results (formed_op h) a r s u =
-      names (registers_of (symbol-plain m t f d args results a r name h))
+      names (no_move refl) (registers_of (λ n. refl) (symbol-plain m t f d args results a r name h))
   line_carried (lin.Op (op.Pure (pure.Operator g o))) args results (formed_op h) a r s u =
-      names (registers_of (operator-plain m t f d args results a r g o h))
-  line_carried (lin.Op (op.Access g)) args results (formed_op h) a r s u = names (registers_of (access-plain m t f d args results a r g h))
-  line_carried (lin.Op (op.Calling g)) args results (formed_op h) a r s u = names (calling-names m t f d args results a r g h s u)
-  line_carried (lin.Op (op.Leaving g)) args results (formed_op h) a r s u = names (leaving-names m t f d args results a r g h s)
-  line_carried (lin.Flow flow.EnterTrap) args results (formed_flow h) a r s u = names (enter-names m t f d args results a r h)
+      names (no_move refl) (registers_of (λ n. refl) (operator-plain m t f d args results a r g o h))
+  line_carried (lin.Op (op.Access g)) args results (formed_op h) a r s u = names (no_move refl) (registers_of (λ n. refl) (access-plain m t f d args results a r g h))
+  line_carried (lin.Op (op.Calling g)) args results (formed_op h) a r s u = names (no_move refl) (calling-names m t f d args results a r g h s u)
+  line_carried (lin.Op (op.Leaving g)) args results (formed_op h) a r s u = names (no_move refl) (leaving-names m t f d args results a r g h s)
+  line_carried (lin.Flow flow.EnterTrap) args results (formed_flow h) a r s u = names (no_move refl) (enter-names m t f d args results a r h)
   line_carried (lin.Flow (flow.Label l)) args results (formed_flow h) a r s u =
-      names (registers_of (flow-plain m t f d args results a r (flow.Label l) h (λ k. absurd (cc))))
+      names (no_move refl) (registers_of (λ n. refl) (flow-plain m t f d args results a r (flow.Label l) h (λ k. absurd (cc))))
   line_carried (lin.Flow (flow.Jump l)) args results (formed_flow h) a r s u =
-      names (registers_of (flow-plain m t f d args results a r (flow.Jump l) h (λ k. absurd (cc))))
+      names (no_move refl) (registers_of (λ n. refl) (flow-plain m t f d args results a r (flow.Jump l) h (λ k. absurd (cc))))
   line_carried (lin.Flow (flow.Exit l)) args results (formed_flow h) a r s u =
-      names (registers_of (flow-plain m t f d args results a r (flow.Exit l) h (λ k. absurd (cc))))
+      names (no_move refl) (registers_of (λ n. refl) (flow-plain m t f d args results a r (flow.Exit l) h (λ k. absurd (cc))))
   line_carried (lin.Flow (flow.Branch g l)) args results (formed_flow h) a r s u =
-      names (registers_of (flow-plain m t f d args results a r (flow.Branch g l) h (λ k. absurd (cc))))
+      names (no_move refl) (registers_of (λ n. refl) (flow-plain m t f d args results a r (flow.Branch g l) h (λ k. absurd (cc))))
   line_carried (lin.Flow (flow.Switch ls)) args results (formed_flow h) a r s u =
-      names (registers_of (flow-plain m t f d args results a r (flow.Switch ls) h (λ k. absurd (cc))))
+      names (no_move refl) (registers_of (λ n. refl) (flow-plain m t f d args results a r (flow.Switch ls) h (λ k. absurd (cc))))
   line_carried (lin.Flow (flow.PushTrap l)) args results (formed_flow h) a r s u =
-      names (registers_of (flow-plain m t f d args results a r (flow.PushTrap l) h (λ k. absurd (cc))))
+      names (no_move refl) (registers_of (λ n. refl) (flow-plain m t f d args results a r (flow.PushTrap l) h (λ k. absurd (cc))))
   line_carried (lin.Flow flow.PopTrap) args results (formed_flow h) a r s u =
-      names (registers_of (flow-plain m t f d args results a r flow.PopTrap h (λ k. absurd (cc))))
+      names (no_move refl) (registers_of (λ n. refl) (flow-plain m t f d args results a r flow.PopTrap h (λ k. absurd (cc))))
 
 -- ---- every line of a function
 

@@ -1,7 +1,5 @@
 -- The part of each line that tests, switches or calls names the slots that the line reads and writes.
-use Rattle.std.proofs.Common.{◌≡◌, ℕ, Bool, false, cond, nat_eq, ◌||◌, List, [], ◌∷◌, ◌++◌, length, map, refl, sym, ◌∙◌, Option, Some, None}
-use Rattle.std.specs.List.{Contains}
-use Rattle.std.proofs.lemmas.List.Elements.{All-contains}
+use Rattle.std.proofs.Common.{◌≡◌, ℕ, Bool, false, nat_eq, ◌||◌, List, [], ◌∷◌, ◌++◌, length, map, refl, sym, ◌∙◌, Option, Some, None}
 use Rattle.bs_words.specs.declared.operators.CmpOp.TheVariants as compare
 use Rattle.bs_words.specs.declared.types.Comp.{Comp}
 use Rattle.bs_words.specs.declared.types.Loc.{Loc}
@@ -16,11 +14,9 @@ use Rattle.mach_ir.specs.declared.op.Calling.TheVariants as calling
 use Rattle.mach_ir.specs.declared.op.Op.TheVariants as op
 use Rattle.mach_ir.specs.declared.op.Right.{Right}
 use Rattle.mach_ir.specs.declared.op.Right.TheVariants as right
-use Rattle.lin_ir.specs.Formed.{FlowHasForm, IsFormed, formed_op, formed_flow, Locates, comps, places_of, lin_operand_seats, lin_result_seats, WellFormed, Seated}
-use Rattle.lin_ir.specs.Meaning.{same_loc, is_named}
+use Rattle.lin_ir.specs.Formed.{FlowHasForm, Locates, comps, places_of, lin_operand_seats}
 use Rattle.lin_ir.specs.declared.descr.Descr.{Descr}
 use Rattle.lin_ir.specs.declared.lin.Flow.TheVariants as flow
-use Rattle.lin_ir.specs.declared.lin.Line.{Line}
 use Rattle.lin_ir.specs.declared.lin.LinOp.{LinOp}
 use Rattle.lin_ir.specs.declared.lin.LinOp.TheVariants as lin
 use Rattle.lin_ir.specs.declared.lin.Lin.{Lin}
@@ -29,7 +25,6 @@ use Rattle.rv_pieces.specs.declared.piece.Piece.TheVariants as piece
 use Rattle.std.specs.Prelude.{◌*◌, ◌<◌, nat_le}
 use Rattle.std.proofs.Common.{◌+◌}
 use Rattle.bs_words.specs.declared.operators.CmpOp.{CmpOp}
-use Rattle.lin_ir.specs.Walks.{Reached, by_walk}
 use Rattle.mach_ir.specs.declared.op.External.{External}
 use Rattle.rv_isa.specs.declared.instr.AluImmOp.TheVariants as imm
 use Rattle.rv_isa.specs.declared.instr.AluOp.TheVariants as alu
@@ -45,26 +40,22 @@ use Rattle.emit_rules.specs.Entry.{Frame}
 use Rattle.emit_rules.specs.Calls.{mark_of, call_words, external_words, external_service}
 use Rattle.emit_rules.specs.Slots.{first, second, register_of, slot_offset}
 use Rattle.emit_rules.specs.Tests.{signed_branch, unsigned_branch, right_register, right_words, branch_part, value_words, tests_in_turn, table_of_jumps, switch_part}
-use Rattle.laid_parts.specs.Laid.{NamesSlots, CarriesSlots, names, WorksInPlace, computes, stands, jumps, exits, tests, switches, calls, calls_out}
-use Rattle.lin_ir.specs.Descriptors.{IsWithin, has_frame_point}
+use Rattle.laid_parts.specs.Laid.{lies_at, lie_at, NamesSlots}
 use Rattle.laid_parts.proofs.Registers.{or_false}
-use Rattle.laid_parts.proofs.Words.{Chunk, joined, same, then_none, either, nothing, still, is_t1, is_t2, stack_load-words}
-use Rattle.laid_parts.proofs.SlotParts.{IsWithinFrame, in_frame, immediate-still, operation-still, shift-still, constant-still, fetched-slot, offsets}
-use Rattle.laid_parts.proofs.PureSlots.{first_within, second_within, slots_of, frame_holds, pure-slots}
-use Rattle.laid_parts.proofs.Each.{RightIs, one_right, no_right, named_none, named_one, named_two, label_inv, jump_inv, exit_inv, branch_inv, switch_inv, right_inv, seated_none, seated_after, call_more}
+use Rattle.laid_parts.proofs.Words.{Chunk, in_part, joined, same, then_none, either, nothing, still, is_t1, is_t2, stack_load-words}
+use Rattle.laid_parts.proofs.SlotParts.{IsWithinFrame, in_frame, immediate-still, operation-still, shift-still, constant-still, fetched-slot}
+use Rattle.laid_parts.proofs.PureSlots.{first_within, second_within, slots_of, lie_none, lie_one, lie_two, lie_seated, lie_after}
+use Rattle.laid_parts.proofs.Each.{RightIs, one_right, no_right, label_inv, jump_inv, exit_inv, branch_inv, switch_inv, right_inv, call_more}
 
-module _ (k t : ℕ) where
-  abbrev place : ℕ
-  place = 8 * k + 16 * t
-
+module _ (c t : ℕ) where
   abbrev at_slot : Loc → Bool
-  at_slot l = same_loc l (loc.Slot k)
+  at_slot l = lies_at t c l
 
   -- one that names no word, whatever its registers
-  branch-still : (c : Condition) (a b : Register) (l : ℕ) → Chunk place (piece.Branch c a b l ∷ []) false false
-  branch-still c a b l = still place (piece.Branch c a b l) (λ h. refl) (λ h. refl) refl
+  branch-still : (q : Condition) (a b : Register) (l : ℕ) → Chunk c (piece.Branch q a b l ∷ []) false false
+  branch-still q a b l = still c (piece.Branch q a b l) (λ h. refl) (λ h. refl) refl
 
-  signed-still : (f : CmpOp) (a b : Register) (l : ℕ) → Chunk place (signed_branch f a b l ∷ []) false false
+  signed-still : (f : CmpOp) (a b : Register) (l : ℕ) → Chunk c (signed_branch f a b l ∷ []) false false
   signed-still compare.Eq a b l = branch-still condition.Beq a b l
   signed-still compare.Ne a b l = branch-still condition.Bne a b l
   signed-still compare.Lt a b l = branch-still condition.Blt a b l
@@ -72,7 +63,7 @@ module _ (k t : ℕ) where
   signed-still compare.Gt a b l = branch-still condition.Blt b a l
   signed-still compare.Ge a b l = branch-still condition.Bge a b l
 
-  unsigned-still : (f : CmpOp) (a b : Register) (l : ℕ) → Chunk place (unsigned_branch f a b l ∷ []) false false
+  unsigned-still : (f : CmpOp) (a b : Register) (l : ℕ) → Chunk c (unsigned_branch f a b l ∷ []) false false
   unsigned-still compare.Eq a b l = branch-still condition.Beq a b l
   unsigned-still compare.Ne a b l = branch-still condition.Bne a b l
   unsigned-still compare.Lt a b l = branch-still condition.Bltu a b l
@@ -80,91 +71,91 @@ module _ (k t : ℕ) where
   unsigned-still compare.Gt a b l = branch-still condition.Bltu b a l
   unsigned-still compare.Ge a b l = branch-still condition.Bgeu a b l
 
-  pub right-slot : (o : Right) (args : List Spot) → Bool
+  unfoldable pub right-slot : (o : Right) (args : List Spot) → Bool
   right-slot right.Register args = at_slot (second args)
   right-slot (right.Constant w) args = false
 
-  pub RightWithin : Right → List Spot → Type 0
+  unfoldable pub RightWithin : Right → List Spot → Type 0
   RightWithin right.Register args = IsWithinFrame t (second args)
   RightWithin (right.Constant w) args = Unit {0}
 
-  right-words : (o : Right) (args : List Spot) → RightWithin o args → Chunk place (right_words t o args) (right-slot o args) false
+  pub right-words : (o : Right) (args : List Spot) → RightWithin o args → Chunk c (right_words t o args) (right-slot o args) false
   unfolding right-slot RightWithin
-  right-words right.Register args h = fetched-slot k t T2 (second args) is_t2 refl h
-  right-words (right.Constant w) args h = either place (nat_eq w 0) (nothing place) (constant-still place T2 w refl)
+  right-words right.Register args h = fetched-slot c t T2 (second args) is_t2 refl h
+  right-words (right.Constant w) args h = either c (nat_eq w 0) (nothing c) (constant-still c T2 w refl)
 
   pub signed_line : (f : CmpOp) (o : Right) (l : ℕ) (args : List Spot) → IsWithinFrame t (first args) → RightWithin o args →
-      Chunk place (branch_part t (test.Signed f o) l args) (at_slot (first args) || right-slot o args) false
+      Chunk c (branch_part t (test.Signed f o) l args) (at_slot (first args) || right-slot o args) false
   signed_line f o l args a h =
-      then_none place (joined place (fetched-slot k t T1 (first args) is_t1 refl a) (right-words o args h))
+      then_none c (joined c (fetched-slot c t T1 (first args) is_t1 refl a) (right-words o args h))
       (signed-still f (register_of T1 (first args)) (right_register o args) l)
 
   pub unsigned_line : (f : CmpOp) (o : Right) (l : ℕ) (args : List Spot) → IsWithinFrame t (first args) → RightWithin o args →
-      Chunk place (branch_part t (test.Unsigned f o) l args) (at_slot (first args) || right-slot o args) false
+      Chunk c (branch_part t (test.Unsigned f o) l args) (at_slot (first args) || right-slot o args) false
   unsigned_line f o l args a h =
-      then_none place (joined place (fetched-slot k t T1 (first args) is_t1 refl a) (right-words o args h))
+      then_none c (joined c (fetched-slot c t T1 (first args) is_t1 refl a) (right-words o args h))
       (unsigned-still f (register_of T1 (first args)) (right_register o args) l)
 
-  pub holds_line : (l : ℕ) (args : List Spot) → IsWithinFrame t (first args) → Chunk place (branch_part t test.Holds l args) (at_slot (first args)) false
+  pub holds_line : (l : ℕ) (args : List Spot) → IsWithinFrame t (first args) → Chunk c (branch_part t test.Holds l args) (at_slot (first args)) false
   holds_line l args a =
-      then_none place (then_none place (fetched-slot k t T1 (first args) is_t1 refl a) (nothing place))
+      then_none c (then_none c (fetched-slot c t T1 (first args) is_t1 refl a) (nothing c))
       (branch-still condition.Bne (register_of T1 (first args)) Zero l)
 
-  pub fails_line : (l : ℕ) (args : List Spot) → IsWithinFrame t (first args) → Chunk place (branch_part t test.Fails l args) (at_slot (first args)) false
+  pub fails_line : (l : ℕ) (args : List Spot) → IsWithinFrame t (first args) → Chunk c (branch_part t test.Fails l args) (at_slot (first args)) false
   fails_line l args a =
-      then_none place (then_none place (fetched-slot k t T1 (first args) is_t1 refl a) (nothing place))
+      then_none c (then_none c (fetched-slot c t T1 (first args) is_t1 refl a) (nothing c))
       (branch-still condition.Beq (register_of T1 (first args)) Zero l)
 
   -- ---- switches
 
-  value-slot : (l : Loc) → IsWithinFrame t l → Chunk place (value_words t l) (at_slot l) false
-  value-slot (loc.Slot j) (in_frame b) = same place (stack_load-words place T1 T1 (slot_offset t j) is_t1 b refl) (offsets j k t) refl
-  value-slot (loc.Machine r) a = immediate-still place imm.Addi T1 (register_at r) 0 refl
+  pub value-slot : (l : Loc) → IsWithinFrame t l → Chunk c (value_words t l) (at_slot l) false
+  value-slot (loc.Slot j) (in_frame b) = stack_load-words c T1 T1 (slot_offset t j) is_t1 b refl
+  value-slot (loc.Machine r) a = immediate-still c imm.Addi T1 (register_at r) 0 refl
   value-slot loc.Unset a = elim a [ ]
 
-  turns-still : (ls : List ℕ) → Chunk place (tests_in_turn ls) false false
-  turns-still [] = nothing place
-  turns-still (l ∷ []) = still place (piece.Jump l) (λ h. refl) (λ h. refl) refl
+  turns-still : (ls : List ℕ) → Chunk c (tests_in_turn ls) false false
+  turns-still [] = nothing c
+  turns-still (l ∷ []) = still c (piece.Jump l) (λ h. refl) (λ h. refl) refl
   turns-still (l ∷ j ∷ ls) =
-      joined place {xs = piece.Branch condition.Beq T1 Zero l ∷ []} (branch-still condition.Beq T1 Zero l)
-      (joined place {xs = addi T1 T1 0xFFFFFFFFFFFFFFFF ∷ []} (immediate-still place imm.Addi T1 T1 0xFFFFFFFFFFFFFFFF refl) (turns-still (j ∷ ls)))
+      joined c {xs = piece.Branch condition.Beq T1 Zero l ∷ []} (branch-still condition.Beq T1 Zero l)
+      (joined c {xs = addi T1 T1 0xFFFFFFFFFFFFFFFF ∷ []} (immediate-still c imm.Addi T1 T1 0xFFFFFFFFFFFFFFFF refl) (turns-still (j ∷ ls)))
 
-  rows-still : (ls : List ℕ) → Chunk place (map piece.Row ls) false false
-  rows-still [] = nothing place
-  rows-still (l ∷ ls) = joined place {xs = piece.Row l ∷ []} (still place (piece.Row l) (λ h. refl) (λ h. refl) refl) (rows-still ls)
+  rows-still : (ls : List ℕ) → Chunk c (map piece.Row ls) false false
+  rows-still [] = nothing c
+  rows-still (l ∷ ls) = joined c {xs = piece.Row l ∷ []} (still c (piece.Row l) (λ h. refl) (λ h. refl) refl) (rows-still ls)
 
-  table-still : (ls : List ℕ) → Chunk place (table_of_jumps ls) false false
+  table-still : (ls : List ℕ) → Chunk c (table_of_jumps ls) false false
   table-still ls =
-      joined place {xs = shift shifts.Slli T1 T1 3 ∷ []} (shift-still place shifts.Slli T1 T1 3 refl)
-      (joined place {xs = auipc T2 ∷ []} (still place (auipc T2) (λ h. refl) (λ h. refl) refl)
-      (joined place {xs = operation alu.Add T2 T2 T1 ∷ []} (operation-still place alu.Add T2 T2 T1 refl)
-      (joined place {xs = goes_to T2 12 ∷ []} (still place (goes_to T2 12) (λ h. refl) (λ h. refl) refl) (rows-still ls))))
+      joined c {xs = shift shifts.Slli T1 T1 3 ∷ []} (shift-still c shifts.Slli T1 T1 3 refl)
+      (joined c {xs = auipc T2 ∷ []} (still c (auipc T2) (λ h. refl) (λ h. refl) refl)
+      (joined c {xs = operation alu.Add T2 T2 T1 ∷ []} (operation-still c alu.Add T2 T2 T1 refl)
+      (joined c {xs = goes_to T2 12 ∷ []} (still c (goes_to T2 12) (λ h. refl) (λ h. refl) refl) (rows-still ls))))
 
-  pub switch_line-slots : (ls : List ℕ) (args : List Spot) → IsWithinFrame t (first args) → Chunk place (switch_part t ls args) (at_slot (first args)) false
-  switch_line-slots ls args a = then_none place (value-slot (first args) a) (either place (nat_le (length ls) 4) (turns-still ls) (table-still ls))
+  pub switch_line-slots : (ls : List ℕ) (args : List Spot) → IsWithinFrame t (first args) → Chunk c (switch_part t ls args) (at_slot (first args)) false
+  switch_line-slots ls args a = then_none c (value-slot (first args) a) (either c (nat_le (length ls) 4) (turns-still ls) (table-still ls))
 
   -- ---- calls
 
-  mark-still : (d : Option Descr) → Chunk place (mark_of d) false false
-  mark-still (Some d) = still place (piece.Descriptor d) (λ h. refl) (λ h. refl) refl
-  mark-still None = nothing place
+  pub mark-still : (d : Option Descr) → Chunk c (mark_of d) false false
+  mark-still (Some d) = still c (piece.Descriptor d) (λ h. refl) (λ h. refl) refl
+  mark-still None = nothing c
 
-  pub call_line-slots : (name : List ℕ) (args : List Spot) (d : Option Descr) → Chunk place (call_words t (callee.Symbol name) args ++ mark_of d) false false
-  call_line-slots name args d = joined place (still place (piece.Call name) (λ h. refl) (λ h. refl) refl) (mark-still d)
+  pub call_line-slots : (name : List ℕ) (args : List Spot) (d : Option Descr) → Chunk c (call_words t (callee.Symbol name) args ++ mark_of d) false false
+  call_line-slots name args d = joined c (still c (piece.Call name) (λ h. refl) (λ h. refl) refl) (mark-still d)
 
   pub call_register-slots : (args : List Spot) (d : Option Descr) → IsWithinFrame t (first args) →
-      Chunk place (call_words t callee.Register args ++ mark_of d) (at_slot (first args)) false
+      Chunk c (call_words t callee.Register args ++ mark_of d) (at_slot (first args)) false
   call_register-slots args d a =
-      then_none place
-      (then_none place (fetched-slot k t T1 (first args) is_t1 refl a)
-      (still place (calls_at (register_of T1 (first args))) (λ h. refl) (λ h. refl) refl))
+      then_none c
+      (then_none c (fetched-slot c t T1 (first args) is_t1 refl a)
+      (still c (calls_at (register_of T1 (first args))) (λ h. refl) (λ h. refl) refl))
       (mark-still d)
 
-  pub external-slots : (row : External) (frame : Bool) (d : Option Descr) → Chunk place (external_words row frame ++ mark_of d) false false
+  pub external-slots : (row : External) (frame : Bool) (d : Option Descr) → Chunk c (external_words row frame ++ mark_of d) false false
   external-slots row frame d =
-      joined place
-      (joined place {xs = piece.ExternalNumber T0 row ∷ []} (still place (piece.ExternalNumber T0 row) (λ h. refl) (λ h. refl) refl)
-      (joined place (constant-still place T2 (external_service frame) refl) (still place ecall (λ h. refl) (λ h. refl) refl)))
+      joined c
+      (joined c {xs = piece.ExternalNumber T0 row ∷ []} (still c (piece.ExternalNumber T0 row) (λ h. refl) (λ h. refl) refl)
+      (joined c (constant-still c T2 (external_service frame) refl) (still c ecall (λ h. refl) (λ h. refl) refl)))
       (mark-still d)
 
 -- ---- lines
@@ -172,93 +163,69 @@ module _ (k t : ℕ) where
 module _ (m : Lin) (t : ℕ) (b : 8 * m.slots + 16 * t < 1073741824) (f : Frame) (d : Option Descr) (args results : List Spot)
     (a : Locates m args) (r : Locates m results) where
   abbrev NamesIn : LinOp → Type 0
-  NamesIn o = NamesSlots m.slots t (record { op = o; args = args; results = results }) (part_of t f d (record { op = o; args = args; results = results }))
+  NamesIn o = NamesSlots f t (record { op = o; args = args; results = results }) (part_of t f d (record { op = o; args = args; results = results }))
 
-  beside : (k : ℕ) (o : Right) (u : Comp) (us : List Comp) → comps args ≡ u ∷ us → RightIs o us →
-      RightWithin k t o args × ((same_loc (first args) (loc.Slot k) || right-slot k t o args) ≡ is_named (loc.Slot k) (places_of args))
+  pub beside : (c : ℕ) (o : Right) (u : Comp) (us : List Comp) → comps args ≡ u ∷ us → RightIs o us →
+      RightWithin c t o args × ((lies_at t c (first args) || right-slot c t o args) ≡ lie_at t c (places_of args))
   unfolding RightWithin right-slot
-  beside k right.Register u us e (one_right v) = (second_within m t b args u v [] e a, sym (named_two (loc.Slot k) args u v e))
-  beside k (right.Constant w) u us e no_right = (tt, or_false (same_loc (first args) (loc.Slot k)) ∙ sym (named_one (loc.Slot k) args u e))
+  beside c right.Register u us e (one_right v) = (second_within m t b args u v [] e a, sym (lie_two t c args u v e))
+  beside c (right.Constant w) u us e no_right = (tt, or_false (lies_at t c (first args)) ∙ sym (lie_one t c args u e))
 
-  branch-slots : (k : ℕ) (g : Test) (l : ℕ) (us : List Comp) → comps args ≡ us → IsTested g us →
-      Chunk (8 * k + 16 * t) (branch_part t g l args) (is_named (loc.Slot k) (places_of args)) false
-  branch-slots k test.Holds l us e (holds {t = u}) =
-      same (8 * k + 16 * t) (holds_line k t l args (first_within m t b args u [] e a)) (sym (named_one (loc.Slot k) args u e)) refl
-  branch-slots k test.Fails l us e (fails {t = u}) =
-      same (8 * k + 16 * t) (fails_line k t l args (first_within m t b args u [] e a)) (sym (named_one (loc.Slot k) args u e)) refl
-  branch-slots k (test.Signed c o) l us e (signed {rest} {left = u} h) =
-      let x = beside k o u rest e (right_inv _ o rest h) in
-      same (8 * k + 16 * t) (signed_line k t c o l args (first_within m t b args u rest e a) x.0) x.1 refl
-  branch-slots k (test.Unsigned c o) l us e (unsigned {rest} {left = u} h) =
-      let x = beside k o u rest e (right_inv _ o rest h) in
-      same (8 * k + 16 * t) (unsigned_line k t c o l args (first_within m t b args u rest e a) x.0) x.1 refl
+  branch-slots : (c : ℕ) (g : Test) (l : ℕ) (us : List Comp) → comps args ≡ us → IsTested g us →
+      Chunk c (branch_part t g l args) (lie_at t c (places_of args)) false
+  branch-slots c test.Holds l us e (holds {t = u}) =
+      same c (holds_line c t l args (first_within m t b args u [] e a)) (sym (lie_one t c args u e)) refl
+  branch-slots c test.Fails l us e (fails {t = u}) =
+      same c (fails_line c t l args (first_within m t b args u [] e a)) (sym (lie_one t c args u e)) refl
+  branch-slots c (test.Signed q o) l us e (signed {rest} {left = u} h) =
+      let x = beside c o u rest e (right_inv _ o rest h) in
+      same c (signed_line c t q o l args (first_within m t b args u rest e a) x.0) x.1 refl
+  branch-slots c (test.Unsigned q o) l us e (unsigned {rest} {left = u} h) =
+      let x = beside c o u rest e (right_inv _ o rest h) in
+      same c (unsigned_line c t q o l args (first_within m t b args u rest e a) x.0) x.1 refl
 
   pub branch-named : (g : Test) (l : ℕ) → FlowHasForm (flow.Branch g l) (comps args) (comps results) → NamesIn (lin.Flow (flow.Branch g l))
   branch-named g l h =
       let i = branch_inv g l (comps args) (comps results) h in
-      slots_of m.slots t (λ k. same (8 * k + 16 * t) (branch-slots k g l (comps args) refl i.0) refl (sym (named_none (loc.Slot k) results i.1)))
+      slots_of t (λ c n. in_part c (same c (branch-slots c g l (comps args) refl i.0) refl (sym (lie_none t c results i.1))))
 
   pub switch-named : (ls : List ℕ) → FlowHasForm (flow.Switch ls) (comps args) (comps results) → NamesIn (lin.Flow (flow.Switch ls))
   switch-named ls h =
       let i = switch_inv ls (comps args) (comps results) h in
-      slots_of m.slots t (λ k. same (8 * k + 16 * t) (switch_line-slots k t ls args (first_within m t b args i.0.0 [] i.0.1 a))
-      (sym (named_one (loc.Slot k) args i.0.0 i.0.1)) (sym (named_none (loc.Slot k) results i.1)))
+      slots_of t (λ c n. in_part c (same c (switch_line-slots c t ls args (first_within m t b args i.0.0 [] i.0.1 a))
+      (sym (lie_one t c args i.0.0 i.0.1)) (sym (lie_none t c results i.1))))
 
   pub call-named : (whom : Callee) (result : _) → HasForm (op.Calling (calling.Call whom result)) (comps args) (comps results) →
       AreSeated (lin_operand_seats (lin.Op (op.Calling (calling.Call whom result)))) (places_of args) →
       AreSeated (InOrder result_places) (places_of results) → NamesIn (lin.Op (op.Calling (calling.Call whom result)))
   call-named (callee.Symbol name) result h s u =
-      slots_of m.slots t (λ k. same (8 * k + 16 * t) (call_line-slots k t name args d)
-      (sym (seated_none (loc.Slot k) argument_places (places_of args) s refl)) (sym (seated_none (loc.Slot k) result_places (places_of results) u refl)))
+      slots_of t (λ c n. in_part c (same c (call_line-slots c t name args d)
+      (sym (lie_seated t c argument_places (places_of args) s refl)) (sym (lie_seated t c result_places (places_of results) u refl))))
   call-named callee.Register result h s u =
       let i = call_more result (comps args) (comps results) h in
-      slots_of m.slots t (λ k. same (8 * k + 16 * t) (call_register-slots k t args d (first_within m t b args i.0 i.1 i.2 a))
-      (seated_after (loc.Slot k) argument_places args s refl) (sym (seated_none (loc.Slot k) result_places (places_of results) u refl)))
+      slots_of t (λ c n. in_part c (same c (call_register-slots c t args d (first_within m t b args i.0 i.1 i.2 a))
+      (sym (lie_after t c argument_places args s refl)) (sym (lie_seated t c result_places (places_of results) u refl))))
 
   pub external-named : (row : External) (frame : Bool) → AreSeated (InOrder argument_places) (places_of args) →
       AreSeated (InOrder result_places) (places_of results) → NamesIn (lin.Op (op.Calling (calling.External row frame)))
   external-named row frame s u =
-      slots_of m.slots t (λ k. same (8 * k + 16 * t) (external-slots k t row frame d)
-      (sym (seated_none (loc.Slot k) argument_places (places_of args) s refl)) (sym (seated_none (loc.Slot k) result_places (places_of results) u refl)))
+      slots_of t (λ c n. in_part c (same c (external-slots c t row frame d)
+      (sym (lie_seated t c argument_places (places_of args) s refl)) (sym (lie_seated t c result_places (places_of results) u refl))))
 
   pub label-named : (l : ℕ) → FlowHasForm (flow.Label l) (comps args) (comps results) → NamesIn (lin.Flow (flow.Label l))
   label-named l h =
       let i = label_inv l (comps args) (comps results) h in
-      slots_of m.slots t (λ k. same (8 * k + 16 * t) (still (8 * k + 16 * t) (piece.Label l) (λ h. refl) (λ h. refl) refl)
-      (sym (named_none (loc.Slot k) args i.0)) (sym (named_none (loc.Slot k) results i.1)))
+      slots_of t (λ c n. in_part c (same c (still c (piece.Label l) (λ h. refl) (λ h. refl) refl)
+      (sym (lie_none t c args i.0)) (sym (lie_none t c results i.1))))
 
   pub jump-named : (l : ℕ) → FlowHasForm (flow.Jump l) (comps args) (comps results) → NamesIn (lin.Flow (flow.Jump l))
   jump-named l h =
       let i = jump_inv l (comps args) (comps results) h in
-      slots_of m.slots t (λ k. same (8 * k + 16 * t) (still (8 * k + 16 * t) (piece.Jump l) (λ h. refl) (λ h. refl) refl)
-      (sym (named_none (loc.Slot k) args i.0)) (sym (named_none (loc.Slot k) results i.1)))
+      slots_of t (λ c n. in_part c (same c (still c (piece.Jump l) (λ h. refl) (λ h. refl) refl)
+      (sym (lie_none t c args i.0)) (sym (lie_none t c results i.1))))
 
   pub exit-named : (l : ℕ) → FlowHasForm (flow.Exit l) (comps args) (comps results) → NamesIn (lin.Flow (flow.Exit l))
   exit-named l h =
       let i = exit_inv l (comps args) (comps results) h in
-      slots_of m.slots t (λ k. same (8 * k + 16 * t) (still (8 * k + 16 * t) (piece.Jump l) (λ h. refl) (λ h. refl) refl)
-      (sym (named_none (loc.Slot k) args i.0)) (sym (named_none (loc.Slot k) results i.1)))
-
--- ---- every line of these kinds
-
-pub line_slots : (m : Lin) (t : ℕ) → 8 * m.slots + 16 * t < 1073741824 → (f : Frame) (d : Option Descr) (o : LinOp) (args results : List Spot) →
-    WorksInPlace o → IsFormed (record { op = o; args = args; results = results }) → Locates m args → Locates m results →
-    AreSeated (lin_operand_seats o) (places_of args) → AreSeated (lin_result_seats o) (places_of results) →
-    CarriesSlots m.slots t (record { op = o; args = args; results = results }) (part_of t f d (record { op = o; args = args; results = results }))
-line_slots m t b f d o args results (computes {g}) h a r s u = pure-slots m t b f d g args results h a r
-line_slots m t b f d o args results (stands {l}) (formed_flow h) a r s u = names (label-named m t b f d args results a r l h)
-line_slots m t b f d o args results (jumps {l}) (formed_flow h) a r s u = names (jump-named m t b f d args results a r l h)
-line_slots m t b f d o args results (exits {l}) (formed_flow h) a r s u = names (exit-named m t b f d args results a r l h)
-line_slots m t b f d o args results (tests {g} {l}) (formed_flow h) a r s u = names (branch-named m t b f d args results a r g l h)
-line_slots m t b f d o args results (switches {ls}) (formed_flow h) a r s u = names (switch-named m t b f d args results a r ls h)
-line_slots m t b f d o args results (calls {whom} {result}) (formed_op h) a r s u = names (call-named m t b f d args results a r whom result h s u)
-line_slots m t b f d o args results (calls_out {row} {frame}) (formed_op h) a r s u = names (external-named m t b f d args results a r row frame s u)
-
-pub slots_carried : (m : Lin) → WellFormed m → Seated m → IsWithin m → (i : Line) (next : List Line) (tries : List ℕ) → Contains m.code i →
-    Reached m (i ∷ next) tries → WorksInPlace i.op → (f : Frame) (d : Option Descr) →
-    CarriesSlots m.slots (length tries) i (part_of (length tries) f d i)
-slots_carried m w seated within i next tries c reached kind f d =
-    let at = All-contains (λ (i : Line). Locates m i.args × Locates m i.results) m.code i w.locations c in
-    line_slots m (length tries)
-    (frame_holds m.slots (cond (has_frame_point m.code) 8 0) (length tries) (within.frame (i ∷ next) tries (by_walk reached)))
-    f d i.op i.args i.results kind (All-contains IsFormed m.code i w.forms c) at.0 at.1 (seated.operands i c) (seated.results i c)
+      slots_of t (λ c n. in_part c (same c (still c (piece.Jump l) (λ h. refl) (λ h. refl) refl)
+      (sym (lie_none t c args i.0)) (sym (lie_none t c results i.1))))

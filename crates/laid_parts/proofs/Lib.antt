@@ -2,8 +2,14 @@ pub mod Registers
 pub mod Operators
 pub mod Lines
 pub mod Each
-pub mod Examples
 pub mod Words
+pub mod Clean
 pub mod SlotParts
 pub mod PureSlots
 pub mod FlowSlots
+pub mod MemorySlots
+pub mod LeavingSlots
+pub mod EverySlots
+pub mod Marks
+pub mod Whole
+pub mod Examples

@@ -27,7 +27,7 @@ use Rattle.rv_pieces.specs.declared.piece.Piece.TheVariants as piece
 use Rattle.emit_rules.specs.Instructions.{addi, operation, shift, load, store, register_at, skip, ecall}
 use Rattle.emit_rules.specs.Constants.{constant}
 use Rattle.emit_rules.specs.Memory.{ask, reserved, addresses, allocation_service}
-use Rattle.emit_rules.specs.Slots.{register_of, target, kept, slot_offset}
+use Rattle.emit_rules.specs.Slots.{register_of, target, fetched, kept, slot_offset}
 use Rattle.emit_rules.specs.Tests.{signed_branch, unsigned_branch, constant_words, tests_in_turn, table_of_jumps, value_words}
 use Rattle.laid_parts.proofs.Registers.{or_false, and_false, or_turned, Names, same, joined, then_none, either, nothing, alone, hits, IsApart, addi-names, operation-names, shift-names, load-names, store-names, constant-names, constant-none, sum_to-names, lowered-names, stack_load-names, fetched-names, kept-names, first_none}
 use Rattle.mach_ir.specs.declared.op.Callee.TheVariants as callee
@@ -322,11 +322,16 @@ module _ (n : ℕ) (apart : IsApart n) (t : ℕ) where
       joined {xs = load loads.Ld S1 Sp 8 ∷ []} (same (load-names n apart loads.Ld S1 Sp 8) apart.sp apart.s1)
       (same (addi-names n apart Sp Sp 16) apart.sp apart.sp)
 
+  -- up to its branch
+  pub check-tests : (r : Right) (args : List Spot) → IsNumbered (first args) → RightNumbered r args →
+      Names n (fetched t T1 (first args) ++ right_words t r args) false false
+  check-tests r args a h = joined (fetched-names n apart t T1 (first args) apart.t1) (right_words-names r args)
+
   -- the raised value is put into a0
   pub check-names : (r : Right) (args : List Spot) → IsNumbered (first args) → RightNumbered r args →
       Names n (check_part t r args) (is_at (first args) || right_at r args) (hits n A0)
   check-names r args a h =
-      joined (joined (fetched-names n apart t T1 (first args) apart.t1) (right_words-names r args))
+      joined (check-tests r args a h)
       (same
       (joined {xs = skip condition.Bltu (right_register r args) (register_of T1 (first args)) (4 * (1 + length raise_bound_error)) ∷ []}
       (alone n (skip condition.Bltu (right_register r args) (register_of T1 (first args)) (4 * (1 + length raise_bound_error))))

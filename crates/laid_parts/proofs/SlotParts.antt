@@ -1,5 +1,5 @@
 -- The slots that the parts of lines over registers and slots name.
-use Rattle.std.proofs.Common.{◌≡◌, ℕ, ◌+◌, ◌-◌, ◌%◌, Bool, true, false, nat_eq, ◌||◌, List, [], ◌∷◌, ◌++◌, refl, ap}
+use Rattle.std.proofs.Common.{◌≡◌, ℕ, ◌+◌, ◌-◌, ◌%◌, Bool, false, nat_eq, ◌||◌, List, [], ◌∷◌, ◌++◌, refl, ap}
 use Rattle.bs_words.specs.declared.operators.CmpOp.{CmpOp}
 use Rattle.bs_words.specs.declared.operators.CmpOp.TheVariants as compare
 use Rattle.bs_words.specs.declared.operators.IntOp.{IntOp}
@@ -7,7 +7,6 @@ use Rattle.bs_words.specs.declared.operators.IntOp.TheVariants as operator
 use Rattle.bs_words.specs.declared.types.Loc.{Loc}
 use Rattle.bs_words.specs.declared.types.Loc.TheVariants as loc
 use Rattle.mach_ir.specs.declared.op.Right.TheVariants as right
-use Rattle.lin_ir.specs.Meaning.{same_loc}
 use Rattle.lin_ir.specs.declared.lin.Spot.{Spot}
 use Rattle.rv_isa.specs.declared.instr.AluImmOp.{AluImmOp}
 use Rattle.rv_isa.specs.declared.instr.AluImmOp.TheVariants as imm
@@ -29,9 +28,10 @@ use Rattle.emit_rules.specs.Traversal.{Each, each_none, each_more}
 use Rattle.emit_rules.specs.Values.{Makes, makes_first, makes_upper, makes_lower, makes_sum, makes_shift}
 use Rattle.emit_rules.proofs.Values.{constant_is_made}
 use Rattle.laid_parts.proofs.Registers.{or_false}
-use Rattle.laid_parts.proofs.Words.{Chunk, joined, same, then_none, nothing, still, IsScratch, is_t1, is_t2, is_sp, stack_load-words, stack_store-words}
-use Rattle.std.proofs.lemmas.Bool.Decides.{nat_tests}
-use Rattle.std.proofs.Common.{◌*◌, ◌<◌, arith}
+use Rattle.laid_parts.specs.Laid.{lies_at}
+use Rattle.laid_parts.proofs.Clean.{stack_load-clear}
+use Rattle.laid_parts.proofs.Words.{Chunk, Clear, joined, same, then_none, nothing, still, IsScratch, is_t1, is_t2, is_sp, stack_load-words, stack_store-words}
+use Rattle.std.proofs.Common.{◌*◌, ◌<◌}
 
 module _ (c : ℕ) where
   pub immediate-still : (f : AluImmOp) (to from : Register) (w : ℕ) → is_sp to ≡ false → Chunk c (with_immediate f to from w ∷ []) false false
@@ -123,79 +123,73 @@ pub data IsWithinFrame (t : ℕ) : Loc → Type 0 where
   in_register : {r : ℕ} → is_sp (register_at r) ≡ false → IsWithinFrame t (loc.Machine r)
   in_frame : {j : ℕ} → 8 * j + 16 * t < 1073741824 → IsWithinFrame t (loc.Slot j)
 
-pub offsets : (j k t : ℕ) → nat_eq (8 * j + 16 * t) (8 * k + 16 * t) ≡ nat_eq j k
-offsets j k t = by (nat_eq j k) (nat_eq (8 * j + 16 * t) (8 * k + 16 * t)) refl refl
-  where
-    by : (a b : Bool) → nat_eq j k ≡ a → nat_eq (8 * j + 16 * t) (8 * k + 16 * t) ≡ b → b ≡ a
-    by true true e f = refl
-    by false false e f = refl
-    by true false e f = absurd (grind (arith, nat_tests))
-    by false true e f = absurd (grind (arith, nat_tests))
+pub target-apart : (t : ℕ) (l : Loc) → IsWithinFrame t l → is_sp (target l) ≡ false
+target-apart t (loc.Machine r) (in_register e) = e
+target-apart t (loc.Slot j) a = refl
+target-apart t loc.Unset a = elim a [ ]
 
-module _ (k t : ℕ) where
-  abbrev place : ℕ
-  place = 8 * k + 16 * t
+pub register-apart : (t : ℕ) (scratch : Register) (l : Loc) → is_sp scratch ≡ false → IsWithinFrame t l → is_sp (register_of scratch l) ≡ false
+register-apart t scratch (loc.Machine r) s (in_register e) = e
+register-apart t scratch (loc.Slot j) s a = s
+register-apart t scratch loc.Unset s a = elim a [ ]
 
-  abbrev pub is_slot : Loc → Bool
-  is_slot l = same_loc l (loc.Slot k)
-
-  target-apart : (l : Loc) → IsWithinFrame t l → is_sp (target l) ≡ false
-  target-apart (loc.Machine r) (in_register e) = e
-  target-apart (loc.Slot j) a = refl
-  target-apart loc.Unset a = elim a [ ]
+module _ (c t : ℕ) where
+  pub fetched-clear : (scratch : Register) (l : Loc) → IsScratch scratch → IsWithinFrame t l → Clear c (fetched t scratch l) (lies_at t c l) false
+  fetched-clear scratch (loc.Machine r) s a = nothing c
+  fetched-clear scratch (loc.Slot j) s (in_frame b) = stack_load-clear c scratch (slot_offset t j) s b
+  fetched-clear scratch loc.Unset s a = elim a [ ]
 
   pub fetched-slot : (scratch : Register) (l : Loc) → IsScratch scratch → is_sp scratch ≡ false → IsWithinFrame t l →
-      Chunk place (fetched t scratch l) (is_slot l) false
-  fetched-slot scratch (loc.Machine r) s e a = nothing place
-  fetched-slot scratch (loc.Slot j) s e (in_frame b) = same place (stack_load-words place scratch scratch (slot_offset t j) s b e) (offsets j k t) refl
+      Chunk c (fetched t scratch l) (lies_at t c l) false
+  fetched-slot scratch (loc.Machine r) s e a = nothing c
+  fetched-slot scratch (loc.Slot j) s e (in_frame b) = stack_load-words c scratch scratch (slot_offset t j) s b e
   fetched-slot scratch loc.Unset s e a = elim a [ ]
 
-  kept-slot : (l : Loc) → IsWithinFrame t l → Chunk place (kept t l) false (is_slot l)
-  kept-slot (loc.Machine r) a = nothing place
-  kept-slot (loc.Slot j) (in_frame b) = same place (stack_store-words place T1 (slot_offset t j) b) refl (offsets j k t)
+  pub kept-slot : (l : Loc) → IsWithinFrame t l → Chunk c (kept t l) false (lies_at t c l)
+  kept-slot (loc.Machine r) a = nothing c
+  kept-slot (loc.Slot j) (in_frame b) = stack_store-words c T1 (slot_offset t j) b
   kept-slot loc.Unset a = elim a [ ]
 
-  pub copied-slot : (from to : Loc) → IsWithinFrame t from → IsWithinFrame t to → Chunk place (copied t from to) (is_slot from) (is_slot to)
+  pub copied-slot : (from to : Loc) → IsWithinFrame t from → IsWithinFrame t to → Chunk c (copied t from to) (lies_at t c from) (lies_at t c to)
   copied-slot (loc.Slot j) to (in_frame a) b =
-      same place
-      (joined place (same place (stack_load-words place T2 (target to) (slot_offset t j) is_t2 a (target-apart to b)) (offsets j k t) refl) (kept-slot to b))
-      (or_false (nat_eq j k)) refl
-  copied-slot (loc.Machine r) (loc.Slot j) a (in_frame b) =
-      same place (stack_store-words place (register_at r) (slot_offset t j) b) refl (offsets j k t)
-  copied-slot (loc.Machine r) (loc.Machine o) a (in_register e) = immediate-still place imm.Addi (register_at o) (register_at r) 0 e
+      same c
+      (joined c (stack_load-words c T2 (target to) (slot_offset t j) is_t2 a (target-apart t to b)) (kept-slot to b))
+      (or_false (nat_eq (8 * j + 16 * t) c)) refl
+  copied-slot (loc.Machine r) (loc.Slot j) a (in_frame b) = stack_store-words c (register_at r) (slot_offset t j) b
+  copied-slot (loc.Machine r) (loc.Machine o) a (in_register e) = immediate-still c imm.Addi (register_at o) (register_at r) 0 e
   copied-slot (loc.Machine r) loc.Unset a b = elim b [ ]
   copied-slot loc.Unset to a b = elim a [ ]
 
   pub operator_register-slots : (f : IntOp) (args results : List Spot) → IsWithinFrame t (first args) → IsWithinFrame t (second args) →
       IsWithinFrame t (first results) →
-      Chunk place (operator_part t f right.Register args results) (is_slot (first args) || is_slot (second args)) (is_slot (first results))
-  operator_register-slots f args results a b c =
-      same place
-      (joined place
-      (then_none place (joined place (fetched-slot T1 (first args) is_t1 refl a) (fetched-slot T2 (second args) is_t2 refl b))
-      (operated-still place f (target (first results)) (register_of T1 (first args)) (register_of T2 (second args)) (target-apart (first results) c)))
-      (kept-slot (first results) c))
-      (or_false (is_slot (first args) || is_slot (second args))) refl
+      Chunk c (operator_part t f right.Register args results) (lies_at t c (first args) || lies_at t c (second args)) (lies_at t c (first results))
+  operator_register-slots f args results a b d =
+      same c
+      (joined c
+      (then_none c (joined c (fetched-slot T1 (first args) is_t1 refl a) (fetched-slot T2 (second args) is_t2 refl b))
+      (operated-still c f (target (first results)) (register_of T1 (first args)) (register_of T2 (second args)) (target-apart t (first results) d)))
+      (kept-slot (first results) d))
+      (or_false (lies_at t c (first args) || lies_at t c (second args))) refl
 
   pub operator_constant-slots : (f : IntOp) (w : ℕ) (args results : List Spot) → IsWithinFrame t (first args) → IsWithinFrame t (first results) →
-      Chunk place (operator_part t f (right.Constant w) args results) (is_slot (first args)) (is_slot (first results))
-  operator_constant-slots f w args results a c =
-      same place
-      (joined place
-      (then_none place (fetched-slot T1 (first args) is_t1 refl a)
-      (operated_with-still place f (target (first results)) (register_of T1 (first args)) w (target-apart (first results) c)))
-      (kept-slot (first results) c))
-      (or_false (is_slot (first args))) refl
+      Chunk c (operator_part t f (right.Constant w) args results) (lies_at t c (first args)) (lies_at t c (first results))
+  operator_constant-slots f w args results a d =
+      same c
+      (joined c
+      (then_none c (fetched-slot T1 (first args) is_t1 refl a)
+      (operated_with-still c f (target (first results)) (register_of T1 (first args)) w (target-apart t (first results) d)))
+      (kept-slot (first results) d))
+      (or_false (lies_at t c (first args))) refl
 
   pub constant_line-slots : (w : ℕ) (results : List Spot) → IsWithinFrame t (first results) →
-      Chunk place (constant (target (first results)) w ++ kept t (first results)) false (is_slot (first results))
-  constant_line-slots w results c =
-      joined place (constant-still place (target (first results)) w (target-apart (first results) c)) (kept-slot (first results) c)
+      Chunk c (constant (target (first results)) w ++ kept t (first results)) false (lies_at t c (first results))
+  constant_line-slots w results d =
+      joined c (constant-still c (target (first results)) w (target-apart t (first results) d)) (kept-slot (first results) d)
 
   pub symbol_line-slots : (name : List ℕ) (results : List Spot) → IsWithinFrame t (first results) →
-      Chunk place (piece.SymbolAddress (target (first results)) name ∷ kept t (first results)) false (is_slot (first results))
-  symbol_line-slots name results c =
-      joined place {xs = piece.SymbolAddress (target (first results)) name ∷ []}
-      (still place (piece.SymbolAddress (target (first results)) name) (λ h. refl) (λ h. refl)
-      (ap (λ (z : Bool). (z || false)) (target-apart (first results) c)))
-      (kept-slot (first results) c)
+      Chunk c (piece.SymbolAddress (target (first results)) name ∷ kept t (first results)) false (lies_at t c (first results))
+  symbol_line-slots name results d =
+      joined c {xs = piece.SymbolAddress (target (first results)) name ∷ []}
+      (still c (piece.SymbolAddress (target (first results)) name) (λ h. refl) (λ h. refl)
+      (ap (λ (z : Bool). (z || false)) (target-apart t (first results) d)))
+      (kept-slot (first results) d)

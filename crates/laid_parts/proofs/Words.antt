@@ -1,5 +1,5 @@
 -- The words of the stack that chunks of a part name.
-use Rattle.std.proofs.Common.{◌≡◌, ℕ, ◌+◌, ◌*◌, ◌%◌, ◌^◌, ◌<◌, ◌≤◌, ◌⊎◌, inl, inr, Bool, true, false, cond, nat_eq, nat_lt, not, ◌||◌, ◌&&◌, List, [], ◌∷◌, ◌++◌, refl, ◌∙◌, ap, arith}
+use Rattle.std.proofs.Common.{◌≡◌, ℕ, ◌+◌, ◌*◌, ◌%◌, ◌^◌, ◌<◌, ◌≤◌, ◌⊎◌, inl, inr, Bool, true, false, cond, nat_eq, nat_lt, not, ◌||◌, ◌&&◌, List, [], ◌∷◌, ◌++◌, refl, sym, subst, ◌∙◌, ap, arith}
 use Rattle.std.proofs.lemmas.Bool.{ltb-true}
 use Rattle.std.proofs.lemmas.Bool.Decides.{nat_tests}
 use Rattle.bs_words.specs.Word.{add_word, sext_word}
@@ -19,18 +19,46 @@ use Rattle.laid_parts.proofs.Registers.{or_false, and_false, regroup, or_grouped
 
 -- ---- pieces one after the other
 
-pub later : Held → List Piece → Held
+unfoldable pub later : Held → List Piece → Held
 later h [] = h
 later h (p ∷ ps) = later (after h p) ps
 
-pub record Words (c : ℕ) (h : Held) (ps : List Piece) (R S : Bool) : Type 0 where
+-- what is known before and after pieces: sp is as it was before the part
+abbrev pub AtSp : Held → Type 0
+AtSp h = h 2 ≡ FromSp 0
+
+-- this is no address of the stack
+pub data IsFree : Form → Type 0 where
+  is_unknown : IsFree Unknown
+  is_constant : {w : ℕ} → IsFree (Is w)
+
+-- and sp alone holds an address of the stack
+pub record IsClean (h : Held) : Type 0 where
+  pub sp : h 2 ≡ FromSp 0
+  pub others : (r : ℕ) → nat_eq r 2 ≡ false → IsFree (h r)
+
+-- nothing
+abbrev pub Whatever : Held → Type 0
+Whatever h = Unit {0}
+
+pub record Words (Q : Held → Type 0) (c : ℕ) (h : Held) (ps : List Piece) (R S : Bool) : Type 0 where
   pub loads : is_loaded h c ps ≡ R
   pub stores : is_stored h c ps ≡ S
-  pub sp : later h ps 2 ≡ FromSp 0
+  pub left : Q (later h ps)
 
--- wherever sp is as it was before the part
-pub record Chunk (c : ℕ) (ps : List Piece) (R S : Bool) : Type 0 where
-  pub each : (h : Held) → h 2 ≡ FromSp 0 → Words c h ps R S
+-- wherever the first holds before them
+pub record Through (P Q : Held → Type 0) (c : ℕ) (ps : List Piece) (R S : Bool) : Type 0 where
+  pub each : (h : Held) → P h → Words Q c h ps R S
+
+abbrev pub Chunk : (c : ℕ) → List Piece → Bool → Bool → Type 0
+Chunk c ps R S = Through AtSp AtSp c ps R S
+
+abbrev pub Clear : (c : ℕ) → List Piece → Bool → Bool → Type 0
+Clear c ps R S = Through IsClean IsClean c ps R S
+
+-- a whole part
+abbrev pub Part : (c : ℕ) → List Piece → Bool → Bool → Type 0
+Part c ps R S = Through IsClean Whatever c ps R S
 
 later-append : (h : Held) (xs ys : List Piece) → later h (xs ++ ys) ≡ later (later h xs) ys
 unfolding later
@@ -54,45 +82,68 @@ stored-append c h (p ∷ xs) ys =
     ∙ or_grouped (is_among c (stored h p)) (is_stored (after h p) c xs) (is_stored (later (after h p) xs) c ys)
 
 module _ (c : ℕ) where
-  pub joined : {xs ys : List Piece} {R S Q T : Bool} → Chunk c xs R S → Chunk c ys Q T → Chunk c (xs ++ ys) (R || (not S && Q)) (S || T)
-  joined {xs} {ys} {R} {S} {Q} {T} x y = record {
+  pub joined : {P Q T : Held → Type 0} {xs ys : List Piece} {R S U V : Bool} → Through P Q c xs R S → Through Q T c ys U V →
+      Through P T c (xs ++ ys) (R || (not S && U)) (S || V)
+  joined {P} {Q} {T} {xs} {ys} {R} {S} {U} {V} x y = record {
     each = λ h e.
         let a = x.each h e in
-        let b = y.each (later h xs) a.sp in
+        let b = y.each (later h xs) a.left in
         record {
           loads = loaded-append c h xs ys
               ∙ (ap (λ (z : Bool). z || (not (is_stored h c xs) && is_loaded (later h xs) c ys)) a.loads
               ∙ (ap (λ (z : Bool). R || (not z && is_loaded (later h xs) c ys)) a.stores ∙ ap (λ (z : Bool). R || (not S && z)) b.loads));
           stores = stored-append c h xs ys ∙ (ap (λ (z : Bool). z || is_stored (later h xs) c ys) a.stores ∙ ap (λ (z : Bool). S || z) b.stores);
-          sp = ap (λ (k : Held). k 2) (later-append h xs ys) ∙ b.sp;
+          left = subst T (sym (later-append h xs ys)) b.left;
         };
   }
 
-  pub same : {ps : List Piece} {R S Q T : Bool} → Chunk c ps R S → R ≡ Q → S ≡ T → Chunk c ps Q T
-  same x e f = record { each = λ h k. let a = x.each h k in record { loads = a.loads ∙ e; stores = a.stores ∙ f; sp = a.sp } }
+  pub same : {P Q : Held → Type 0} {ps : List Piece} {R S U V : Bool} → Through P Q c ps R S → R ≡ U → S ≡ V → Through P Q c ps U V
+  same x e f = record { each = λ h k. let a = x.each h k in record { loads = a.loads ∙ e; stores = a.stores ∙ f; left = a.left } }
 
-  pub then_none : {xs ys : List Piece} {R S : Bool} → Chunk c xs R S → Chunk c ys false false → Chunk c (xs ++ ys) R S
+  pub then_none : {P Q T : Held → Type 0} {xs ys : List Piece} {R S : Bool} → Through P Q c xs R S → Through Q T c ys false false →
+      Through P T c (xs ++ ys) R S
   then_none {xs} {ys} {R} {S} x y = same (joined x y) (ap (λ (z : Bool). R || z) (and_false (not S)) ∙ or_false R) (or_false S)
 
-  pub either : (b : Bool) {xs ys : List Piece} {R S : Bool} → Chunk c xs R S → Chunk c ys R S → Chunk c (cond b xs ys) R S
+  pub either : {P Q : Held → Type 0} (b : Bool) {xs ys : List Piece} {R S : Bool} → Through P Q c xs R S → Through P Q c ys R S →
+      Through P Q c (cond b xs ys) R S
   either true x y = x
   either false x y = y
 
-  pub nothing : Chunk c [] false false
+  pub nothing : {P : Held → Type 0} → Through P P c [] false false
   unfolding later
-  nothing = record { each = λ h e. record { loads = refl; stores = refl; sp = e } }
+  nothing = record { each = λ h e. record { loads = refl; stores = refl; left = e } }
 
-  -- one that loads and stores nothing, and leaves sp
-  pub still : (p : Piece) → ((h : Held) → loaded h p ≡ []) → ((h : Held) → stored h p ≡ []) → is_among 2 (piece_targets p) ≡ false →
-      Chunk c (p ∷ []) false false
+  -- less is known
+  pub in_part : {Q : Held → Type 0} {ps : List Piece} {R S : Bool} → Through AtSp Q c ps R S → Part c ps R S
+  in_part x = record { each = λ h k. let a = x.each h k.sp in record { loads = a.loads; stores = a.stores; left = tt } }
+
+  pub at_sp : {ps : List Piece} {R S : Bool} → Clear c ps R S → Through IsClean AtSp c ps R S
+  at_sp x = record { each = λ h k. let a = x.each h k in record { loads = a.loads; stores = a.stores; left = a.left.sp } }
+
+  pub at_end : {P Q : Held → Type 0} {ps : List Piece} {R S : Bool} → Through P Q c ps R S → Through P Whatever c ps R S
+  at_end x = record { each = λ h k. let a = x.each h k in record { loads = a.loads; stores = a.stores; left = tt } }
+
+  -- one that loads and stores nothing
+  pub one_still : {P Q : Held → Type 0} (p : Piece) → ((h : Held) → P h → loaded h p ≡ []) → ((h : Held) → P h → stored h p ≡ []) →
+      ((h : Held) → P h → Q (after h p)) → Through P Q c (p ∷ []) false false
   unfolding later
-  still p a b t = record {
+  one_still p a b t = record {
     each = λ h e. record {
-      loads = ap (λ (z : List ℕ). is_among c z || (not (is_among c (stored h p)) && false)) (a h) ∙ and_false (not (is_among c (stored h p)));
-      stores = ap (λ (z : List ℕ). is_among c z || false) (b h);
-      sp = ap (λ (z : Bool). cond z (piece_made h p) (h 2)) t ∙ e;
+      loads = ap (λ (z : List ℕ). is_among c z || (not (is_among c (stored h p)) && false)) (a h e) ∙ and_false (not (is_among c (stored h p)));
+      stores = ap (λ (z : List ℕ). is_among c z || false) (b h e);
+      left = t h e;
     };
   }
+
+  -- and leaves sp
+  pub still : (p : Piece) → ((h : Held) → loaded h p ≡ []) → ((h : Held) → stored h p ≡ []) → is_among 2 (piece_targets p) ≡ false →
+      Chunk c (p ∷ []) false false
+  still p a b t = one_still p (λ h e. a h) (λ h e. b h) (λ h e. ap (λ (z : Bool). cond z (piece_made h p) (h 2)) t ∙ e)
+
+  -- wherever it stands
+  pub silent : {P : Held → Type 0} (p : Piece) → ((h : Held) → loaded h p ≡ []) → ((h : Held) → stored h p ≡ []) →
+      Through P Whatever c (p ∷ []) false false
+  silent p a b = one_still p (λ h e. a h) (λ h e. b h) (λ h e. tt)
 
 -- ---- addresses
 
@@ -125,14 +176,14 @@ abbrev pub is_sp : Register → Bool
 is_sp r = nat_eq (number r) 2
 
 module _ (c : ℕ) where
-  near_load : (to : Register) (w : ℕ) → w < 2048 → is_sp to ≡ false → Chunk c (load loads.Ld to Sp w ∷ []) (nat_eq w c) false
+  pub near_load : (to : Register) (w : ℕ) → w < 2048 → is_sp to ≡ false → Chunk c (load loads.Ld to Sp w ∷ []) (nat_eq w c) false
   unfolding later
   near_load to w l t = record {
     each = λ h e. record {
       loads = ap (λ (f : Form). (is_among c (word_at f (low_12 w)) || false)) e
           ∙ (or_false _ ∙ (or_false _ ∙ ap (λ (z : ℕ). nat_eq z c) (near_is w l)));
       stores = refl;
-      sp = ap (λ (z : Bool). cond (z || false) Unknown (h 2)) t ∙ e;
+      left = ap (λ (z : Bool). cond (z || false) Unknown (h 2)) t ∙ e;
     };
   }
 
@@ -143,14 +194,14 @@ module _ (c : ℕ) where
       loads = and_false (not (is_among c (word_at (h 2) (low_12 w))));
       stores = ap (λ (f : Form). (is_among c (word_at f (low_12 w)) || false)) e
           ∙ (or_false _ ∙ (or_false _ ∙ ap (λ (z : ℕ). nat_eq z c) (near_is w l)));
-      sp = e;
+      left = e;
     };
   }
 
   abbrev upper : ℕ → Form
   upper w = Is (sext_word (4096 * (above_12 w % 1048576)) 32)
 
-  far_load : (scratch to : Register) (w : ℕ) → IsScratch scratch → w < 1073741824 → is_sp to ≡ false →
+  pub far_load : (scratch to : Register) (w : ℕ) → IsScratch scratch → w < 1073741824 → is_sp to ≡ false →
       Chunk c (far_stack scratch w ++ load loads.Ld to scratch w ∷ []) (nat_eq w c) false
   unfolding later
   far_load scratch to w is_t1 l t = record {
@@ -158,7 +209,7 @@ module _ (c : ℕ) where
       loads = ap (λ (f : Form). (is_among c (word_at (plus (upper w) f) (low_12 w)) || false)) e
           ∙ (or_false _ ∙ (or_false _ ∙ ap (λ (z : ℕ). nat_eq z c) (far_is w l)));
       stores = refl;
-      sp = ap (λ (z : Bool). cond (z || false) Unknown (h 2)) t ∙ e;
+      left = ap (λ (z : Bool). cond (z || false) Unknown (h 2)) t ∙ e;
     };
   }
   far_load scratch to w is_t2 l t = record {
@@ -166,7 +217,7 @@ module _ (c : ℕ) where
       loads = ap (λ (f : Form). (is_among c (word_at (plus (upper w) f) (low_12 w)) || false)) e
           ∙ (or_false _ ∙ (or_false _ ∙ ap (λ (z : ℕ). nat_eq z c) (far_is w l)));
       stores = refl;
-      sp = ap (λ (z : Bool). cond (z || false) Unknown (h 2)) t ∙ e;
+      left = ap (λ (z : Bool). cond (z || false) Unknown (h 2)) t ∙ e;
     };
   }
 
@@ -177,7 +228,7 @@ module _ (c : ℕ) where
       loads = and_false (not (is_among c (word_at (plus (upper w) (h 2)) (low_12 w))));
       stores = ap (λ (f : Form). (is_among c (word_at (plus (upper w) f) (low_12 w)) || false)) e
           ∙ (or_false _ ∙ (or_false _ ∙ ap (λ (z : ℕ). nat_eq z c) (far_is w l)));
-      sp = e;
+      left = e;
     };
   }
 

@@ -1,21 +1,22 @@
 -- A function's pieces in parts, one for each line: each names exactly the locations that its line
 -- reads and writes.
-use Rattle.std.specs.Prelude.{◌≡◌, ℕ, ◌+◌, ◌*◌, ◌<◌, Bool, true, false, List, [], ◌∷◌, ◌++◌, length}
+use Rattle.std.specs.Prelude.{◌≡◌, ℕ, ◌+◌, ◌*◌, Bool, true, false, cond, nat_eq, nat_lt, nat_le, ◌||◌, ◌&&◌, List, [], ◌∷◌, ◌++◌, length}
+use Rattle.bs_words.specs.declared.types.Loc.{Loc}
 use Rattle.bs_words.specs.declared.types.Loc.TheVariants as loc
-use Rattle.mach_ir.specs.Meaning.{is_destroyed}
 use Rattle.bs_words.specs.declared.types.Ret.{Ret}
-use Rattle.mach_ir.specs.declared.mach.Test.{Test}
+use Rattle.mach_ir.specs.Meaning.{is_destroyed}
+use Rattle.mach_ir.specs.Seats.{argument_places, result_places}
+use Rattle.mach_ir.specs.declared.blocks.NewBlock.{NewBlock}
+use Rattle.mach_ir.specs.declared.op.Access.TheVariants as access
 use Rattle.mach_ir.specs.declared.op.Callee.{Callee}
-use Rattle.mach_ir.specs.declared.op.External.{External}
-use Rattle.mach_ir.specs.declared.op.Pure.{Pure}
 use Rattle.mach_ir.specs.declared.op.Calling.TheVariants as calling
+use Rattle.mach_ir.specs.declared.op.External.{External}
 use Rattle.mach_ir.specs.declared.op.Leaving.TheVariants as leaving
 use Rattle.mach_ir.specs.declared.op.Op.TheVariants as op
-use Rattle.mach_ir.specs.Seats.{argument_places, result_places}
 use Rattle.lin_ir.specs.Descriptors.{frame_bytes}
 use Rattle.lin_ir.specs.Formed.{IsSelfMove, places_of}
 use Rattle.lin_ir.specs.Meaning.{destroyed_by, is_named, passes_frame}
-use Rattle.lin_ir.specs.Walks.{Reached}
+use Rattle.lin_ir.specs.Walks.{Traps}
 use Rattle.lin_ir.specs.declared.descr.Descr.{Descr}
 use Rattle.lin_ir.specs.declared.lin.Flow.TheVariants as flow
 use Rattle.lin_ir.specs.declared.lin.LinOp.{LinOp}
@@ -29,7 +30,7 @@ use Rattle.rv_pieces.specs.Named.{marks_in}
 use Rattle.rv_pieces.specs.declared.piece.Piece.{Piece}
 use Rattle.rv_pieces.specs.declared.piece.Piece.TheVariants as piece
 use Rattle.rv_pieces.specs.declared.piece.Pieces.{Pieces}
-use Rattle.emit_rules.specs.Entry.{frame_of, entry}
+use Rattle.emit_rules.specs.Entry.{Frame, frame_of, return_offset, entry}
 use Rattle.laid_parts.specs.Named.{is_among, is_source, is_target}
 use Rattle.laid_parts.specs.Stack.{at_first, is_loaded, is_stored}
 
@@ -40,8 +41,8 @@ abbrev pub is_reserved : ℕ → Bool
 is_reserved n =
     is_among n (0 ∷ ra ∷ sp ∷ t0 ∷ t1 ∷ t2 ∷ s1 ∷ s10 ∷ s11 ∷ [])
 
--- Those in which a convention hands over arguments, a result or a raised value: the part of the line
--- need not name them.
+-- Those in which a convention hands over arguments, a result or a raised value: the part of the
+-- line need not name them.
 abbrev pub is_handed_on : LinOp → ℕ → Bool
 is_handed_on (lin.Op (op.Calling f)) n = is_named (loc.Machine n) argument_places
 is_handed_on (lin.Op (op.Leaving leaving.Raise)) n = is_named (loc.Machine n) result_places
@@ -49,12 +50,53 @@ is_handed_on (lin.Op (op.Leaving leaving.Return)) n = is_named (loc.Machine n) r
 is_handed_on (lin.Flow flow.EnterTrap) n = is_named (loc.Machine n) result_places
 is_handed_on _ n = false
 
--- Those that a call or a handler's entry writes by a convention: results, and what is destroyed. A raise, and
--- a bound test where it raises, puts the raised value into a0.
+-- Those that a call or a handler's entry writes by a convention: results, and what is destroyed.
 abbrev pub is_left : LinOp → ℕ → Bool
-is_left (lin.Op (op.Leaving leaving.Raise)) n = is_named (loc.Machine n) result_places
-is_left (lin.Op (op.Leaving (leaving.Checkbound r))) n = is_named (loc.Machine n) result_places
 is_left f n = is_destroyed (destroyed_by f) (loc.Machine n)
+
+-- A bound test that fails raises behind its branch, where the raised value is put into a0.
+abbrev pub branches : Piece → Bool
+branches (piece.Known (instr.Branch c a b offset)) = true
+branches (piece.Branch c a b l) = true
+branches _ = false
+
+abbrev pub up_to_branch : List Piece → List Piece
+up_to_branch [] = []
+up_to_branch (p ∷ ps) = p ∷ cond (branches p) [] (up_to_branch ps)
+
+abbrev pub raises_behind : LinOp → ℕ → Bool
+raises_behind (lin.Op (op.Leaving (leaving.Checkbound r))) n =
+    is_named (loc.Machine n) result_places
+raises_behind _ n = false
+
+-- the pieces that must write a register as the line does
+abbrev pub writing : LinOp → ℕ → List Piece → List Piece
+writing f n part = cond (raises_behind f n) (up_to_branch part) part
+
+-- ---- words of the stack, by their bytes from sp, that are not compared
+
+-- where a function is left, no trap is pushed, and the frame is given back
+abbrev pub is_return_address : Frame → ℕ → Bool
+is_return_address f c = f.saves && nat_eq (return_offset f) c
+
+-- the return address where the function is left, and the 16 bytes of the trap that a line pushes or
+-- pops
+abbrev pub is_aside : Frame → LinOp → ℕ → Bool
+is_aside f (lin.Op (op.Leaving leaving.Return)) c = is_return_address f c
+is_aside f (lin.Op (op.Calling (calling.TailCall whom result))) c = is_return_address f c
+is_aside f (lin.Flow (flow.PushTrap l)) c = nat_le 0xFFFFFFFFFFFFFFF0 c
+is_aside f (lin.Flow flow.PopTrap) c = nat_lt c 16
+is_aside f _ c = false
+
+-- Slot k lies 8 bytes for each lower slot, and 16 for each pushed trap, from sp.
+abbrev pub lies_at : (traps c : ℕ) → Loc → Bool
+lies_at traps c (loc.Slot k) = nat_eq (8 * k + 16 * traps) c
+lies_at traps c _ = false
+
+-- one of these is a slot that lies there
+abbrev pub lie_at : (traps c : ℕ) → List Loc → Bool
+lie_at traps c [] = false
+lie_at traps c (l ∷ ls) = lies_at traps c l || lie_at traps c ls
 
 -- ---- one part
 
@@ -62,62 +104,57 @@ pub record NamesRegisters (i : Line) (part : List Piece) : Type 0 where
   pub reads : (n : ℕ) → is_reserved n ≡ false → is_handed_on i.op n ≡ false →
       is_source n part ≡ is_named (loc.Machine n) (places_of i.args)
   pub writes : (n : ℕ) → is_reserved n ≡ false → is_left i.op n ≡ false →
-      is_target n part ≡ is_named (loc.Machine n) (places_of i.results)
+      is_target n (writing i.op n part) ≡ is_named (loc.Machine n) (places_of i.results)
 
--- Slot k lies 8 bytes for each lower slot, and 16 for each pushed trap, from sp.
-pub record NamesSlots (slots traps : ℕ) (i : Line) (part : List Piece) : Type 0 where
-  pub reads : (k : ℕ) → k < slots →
-      is_loaded at_first (8 * k + 16 * traps) part ≡ is_named (loc.Slot k) (places_of i.args)
-  pub writes : (k : ℕ) → k < slots →
-      is_stored at_first (8 * k + 16 * traps) part ≡ is_named (loc.Slot k) (places_of i.results)
+-- A part names no other word of the stack.
+pub record NamesSlots (f : Frame) (traps : ℕ) (i : Line) (part : List Piece) : Type 0 where
+  pub reads : (c : ℕ) → is_aside f i.op c ≡ false →
+      is_loaded at_first c part ≡ lie_at traps c (places_of i.args)
+  pub writes : (c : ℕ) → is_aside f i.op c ≡ false →
+      is_stored at_first c part ≡ lie_at traps c (places_of i.results)
+
+abbrev pub MovesNothing : Line → Type 0
+MovesNothing i = (from : Spot) × (to : Spot) × IsSelfMove i from to
 
 -- The part names what it should; but a move from a location to itself has no words.
 pub data IsCarried (Named : List Piece → Type 0) (i : Line) : List Piece → Type 0 where
-  moves_nothing : {from to : Spot} → IsSelfMove i from to → IsCarried Named i []
-  names : {part : List Piece} → Named part → IsCarried Named i part
+  moves_nothing : MovesNothing i → IsCarried Named i []
+  names : {part : List Piece} → (MovesNothing i → ⊥) → Named part → IsCarried Named i part
 
 abbrev pub CarriesRegisters : Line → List Piece → Type 0
 CarriesRegisters i part = IsCarried (NamesRegisters i) i part
 
-abbrev pub CarriesSlots : (slots traps : ℕ) → Line → List Piece → Type 0
-CarriesSlots slots traps i part = IsCarried (NamesSlots slots traps i) i part
+abbrev pub CarriesSlots : Frame → (traps : ℕ) → Line → List Piece → Type 0
+CarriesSlots f traps i part = IsCarried (NamesSlots f traps i) i part
 
--- what a return address may follow: a call, or an ECALL
-pub data ReturnsAfter : Piece → Type 0 where
-  after_call : {name : List ℕ} → ReturnsAfter (piece.Call name)
-  after_jump : {rs w : ℕ} → ReturnsAfter (piece.Known (instr.Jalr ra rs w))
-  after_ecall : ReturnsAfter (piece.Known instr.Ecall)
+-- what the return address of a line follows: a call, or the ECALL of an allocation or a frame call
+pub data ReturnsAfter : LinOp → Piece → Type 0 where
+  after_call : {whom : Callee} {result : Ret} {name : List ℕ} →
+      ReturnsAfter (lin.Op (op.Calling (calling.Call whom result))) (piece.Call name)
+  after_jump : {whom : Callee} {result : Ret} {rs w : ℕ} →
+      ReturnsAfter (lin.Op (op.Calling (calling.Call whom result)))
+      (piece.Known (instr.Jalr ra rs w))
+  after_service : {row : External} {frame : Bool} →
+      ReturnsAfter (lin.Op (op.Calling (calling.External row frame))) (piece.Known instr.Ecall)
+  after_allocation : {blocks : List NewBlock} →
+      ReturnsAfter (lin.Op (op.Access (access.Alloc blocks))) (piece.Known instr.Ecall)
 
--- The descriptor of a frame point that is no tail call stands right after its call. It is the first of those
--- that are left; then these are left.
-pub data IsMarked : Bool → List Descr → List Descr → List Piece → Type 0 where
-  no_mark : {ds : List Descr} {part : List Piece} → marks_in part ≡ [] → IsMarked false ds ds part
+-- The descriptor of a frame point that is no tail call stands right after its call. It is the first
+-- of those that are left; then these are left.
+pub data IsMarked (f : LinOp) : Bool → List Descr → List Descr → List Piece → Type 0 where
+  no_mark : {ds : List Descr} {part : List Piece} → marks_in part ≡ [] →
+      IsMarked f false ds ds part
   one_mark : {d : Descr} {ds : List Descr} {p : Piece} (before rest : List Piece) →
-      ReturnsAfter p → marks_in before ≡ [] → marks_in rest ≡ [] →
-      IsMarked true (d ∷ ds) ds (before ++ p ∷ piece.Descriptor d ∷ rest)
+      ReturnsAfter f p → marks_in before ≡ [] → marks_in rest ≡ [] →
+      IsMarked f true (d ∷ ds) ds (before ++ p ∷ piece.Descriptor d ∷ rest)
 
--- The part of a line, before this code. Where a walk comes to the line, its slots have places.
+-- The part of a line, before this code.
 pub record IsPartOf (m : Lin) (ds left : List Descr) (i : Line) (next : List Line)
     (part : List Piece) : Type 0 where
   pub registers : CarriesRegisters i part
-  pub slots : (tries : List ℕ) → Reached m (i ∷ next) tries →
-      CarriesSlots m.slots (length tries) i part
-  pub mark : IsMarked (passes_frame i.op) ds left part
-
--- ---- kinds of lines
-
--- lines that work on registers and slots alone, tests and labels, and calls that come back
-pub data WorksInPlace : LinOp → Type 0 where
-  computes : {g : Pure} → WorksInPlace (lin.Op (op.Pure g))
-  stands : {l : ℕ} → WorksInPlace (lin.Flow (flow.Label l))
-  jumps : {l : ℕ} → WorksInPlace (lin.Flow (flow.Jump l))
-  exits : {l : ℕ} → WorksInPlace (lin.Flow (flow.Exit l))
-  tests : {g : Test} {l : ℕ} → WorksInPlace (lin.Flow (flow.Branch g l))
-  switches : {ls : List ℕ} → WorksInPlace (lin.Flow (flow.Switch ls))
-  calls : {whom : Callee} {result : Ret} →
-      WorksInPlace (lin.Op (op.Calling (calling.Call whom result)))
-  calls_out : {row : External} {frame : Bool} →
-      WorksInPlace (lin.Op (op.Calling (calling.External row frame)))
+  pub slots : (tries : List ℕ) → Traps m (i ∷ next) tries →
+      CarriesSlots (frame_of m) (length tries) i part
+  pub mark : IsMarked i.op (passes_frame i.op) ds left part
 
 -- ---- whole
 

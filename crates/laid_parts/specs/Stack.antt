@@ -1,7 +1,7 @@
 -- The words of the stack that pieces name: by loads and stores whose address is sp and a constant.
 use Rattle.std.specs.Prelude.{ℕ, ◌*◌, Bool, false, cond, nat_eq, not, ◌||◌, ◌&&◌, List, [], ◌∷◌}
-use Rattle.bs_words.specs.Word.{add_word, shl_word, sext_word}
-use Rattle.rv_isa.specs.Registers.{sp, t0, t1, t2}
+use Rattle.bs_words.specs.Word.{add_word, sub_word, shl_word, sext_word}
+use Rattle.rv_isa.specs.Registers.{sp}
 use Rattle.rv_isa.specs.declared.instr.AluImmOp.TheVariants as imm
 use Rattle.rv_isa.specs.declared.instr.AluOp.TheVariants as alu
 use Rattle.rv_isa.specs.declared.instr.ShiftOp.TheVariants as shifts
@@ -29,6 +29,11 @@ plus (FromSp a) (Is b) = FromSp (add_word a b)
 plus (Is a) (FromSp b) = FromSp (add_word a b)
 plus _ _ = Unknown
 
+abbrev pub minus : Form → Form → Form
+minus (Is a) (Is b) = Is (sub_word a b)
+minus (FromSp a) (Is b) = FromSp (sub_word a b)
+minus _ _ = Unknown
+
 abbrev pub changed : (ℕ → ℕ) → Form → Form
 changed f (Is w) = Is (f w)
 changed f _ = Unknown
@@ -38,6 +43,7 @@ abbrev pub made : Held → Instr → Form
 made h (instr.Lui rd upper) = Is (sext_word (4096 * upper) 32)
 made h (instr.OpImm imm.Addi rd rs w) = plus (h rs) (Is (sext_word w 12))
 made h (instr.Op alu.Add rd a b) = plus (h a) (h b)
+made h (instr.Op alu.Sub rd a b) = minus (h a) (h b)
 made h (instr.Addiw rd rs w) = changed (λ v. sext_word (add_word v (sext_word w 12)) 32) (h rs)
 made h (instr.Shift shifts.Slli rd rs amount) = changed (λ v. shl_word v amount) (h rs)
 made h _ = Unknown
@@ -46,14 +52,9 @@ abbrev pub piece_made : Held → Piece → Form
 piece_made h (piece.Known j) = made h j
 piece_made h _ = Unknown
 
--- addresses of the stack are made in sp and in scratch registers alone
-abbrev pub forms_addresses : ℕ → Bool
-forms_addresses r = is_among r (sp ∷ t0 ∷ t1 ∷ t2 ∷ [])
-
+-- x0 stays 0
 abbrev pub after : Held → Piece → Held
-after h p =
-    λ r. cond (is_among r (piece_targets p)) (cond (forms_addresses r) (piece_made h p) Unknown)
-    (h r)
+after h p = λ r. cond (nat_eq r 0) (h r) (cond (is_among r (piece_targets p)) (piece_made h p) (h r))
 
 -- before a part
 abbrev pub at_first : Held

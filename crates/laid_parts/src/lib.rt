@@ -1,18 +1,20 @@
-//! Which locations the pieces of a function name, line by line.
+//! That the pieces of a function are laid out as its Linear function: in parts, one for each line, of which each names
+//! exactly the registers and stack words that its line reads and writes.
 //!
 //! The crate holds definitions and laws alone.
 #![tactic(auto)]
 
-ghost use Rattle.std.specs.Prelude.{ℕ, List, ◌∷◌, length, Option, Contains};
-ghost use Rattle.emit_rules.specs.Emitted.{part_of};
-ghost use Rattle.emit_rules.specs.Entry.{Frame};
-ghost use Rattle.laid_parts.specs.Laid.{CarriesRegisters, CarriesSlots, WorksInPlace};
-ghost use Rattle.lin_ir.specs.Descriptors.{IsWithin};
+ghost use Rattle.std.specs.Prelude.{◌≡◌, ℕ, List, ◌∷◌, length, Option, Contains};
+ghost use Rattle.emit_rules.specs.Emitted.{part_of, IsEmitted};
+ghost use Rattle.emit_rules.specs.Entry.{Frame, frame_of};
+ghost use Rattle.laid_parts.specs.Laid.{CarriesRegisters, CarriesSlots, IsLaidOutAs};
+ghost use Rattle.lin_ir.specs.Descriptors.{IsWithin, frame_points};
 ghost use Rattle.lin_ir.specs.Formed.{Seated, WellFormed};
-ghost use Rattle.lin_ir.specs.Walks.{Reached};
+ghost use Rattle.lin_ir.specs.Walks.{Traps};
 ghost use Rattle.lin_ir.specs.declared.descr.Descr.{Descr};
 ghost use Rattle.lin_ir.specs.declared.lin.Lin.{Lin};
 ghost use Rattle.lin_ir.specs.declared.lin.Line.{Line};
+ghost use Rattle.rv_pieces.specs.declared.piece.Pieces.{Pieces};
 
 /// Law: the part that emission makes of a line names, as sources that it has not set before, exactly the registers
 /// that the line reads, and as targets exactly those that it writes; or the line moves a location to itself, and its
@@ -22,11 +24,19 @@ pub fn parts_name_registers()
         (traps : ℕ) (f : Frame) (d : Option Descr) → CarriesRegisters i (part_of traps f d i) }
 {}
 
-/// Law: where a walk comes to a line that works on registers and slots alone, that tests, or that calls and comes
-/// back, its part names exactly the slots that the line reads and writes, near ones and far ones; or the line moves a
-/// location to itself.
+/// Law: with the traps that are pushed before a line, its part loads, before it has stored them, exactly the stack
+/// words of the slots that the line reads, and stores exactly those of the slots that it writes, near ones and far
+/// ones; or the line moves a location to itself, and its part is empty. The return address, where the function is
+/// left, and the trap that a line pushes or pops are not compared.
 pub fn parts_name_slots()
     ensures { (m : Lin) → WellFormed m → Seated m → IsWithin m → (i : Line) (next : List Line) (tries : List ℕ) →
-        Contains m.code i → Reached m (i ∷ next) tries → WorksInPlace i.op → (f : Frame) (d : Option Descr) →
-        CarriesSlots m.slots (length tries) i (part_of (length tries) f d i) }
+        Contains m.code i → Traps m (i ∷ next) tries → (d : Option Descr) →
+        CarriesSlots (frame_of m) (length tries) i (part_of (length tries) (frame_of m) d i) }
+{}
+
+/// Law: emitted pieces, with a descriptor for each frame point that is no tail call, are laid out as their Linear
+/// function.
+pub fn pieces_are_laid_out()
+    ensures { (m : Lin) → WellFormed m → Seated m → IsWithin m → (ds : List Descr) (pieces : Pieces) →
+        length ds ≡ frame_points m.code → IsEmitted m ds pieces → IsLaidOutAs m ds pieces }
 {}

@@ -1,0 +1,49 @@
+-- The pieces of a function are laid out as its Linear function.
+use Rattle.std.proofs.Common.{◌≡◌, ℕ, List, [], ◌∷◌, length, refl, sym, subst, ap, arith}
+use Rattle.lin_ir.specs.Descriptors.{IsWithin, frame_points}
+use Rattle.lin_ir.specs.Formed.{WellFormed, Seated}
+use Rattle.lin_ir.specs.Meaning.{passes_frame}
+use Rattle.lin_ir.specs.Walks.{Stands, here, below, Traps, by_walk, unreached}
+use Rattle.lin_ir.specs.declared.descr.Descr.{Descr}
+use Rattle.lin_ir.specs.declared.lin.Line.{Line}
+use Rattle.lin_ir.specs.declared.lin.Lin.{Lin}
+use Rattle.rv_pieces.specs.declared.piece.Pieces.{Pieces}
+use Rattle.emit_rules.specs.Emitted.{part_of, parts, descriptor, left_after, IsEmitted}
+use Rattle.emit_rules.specs.Entry.{frame_of}
+use Rattle.emit_rules.proofs.Names.{stands-contains}
+use Rattle.laid_parts.specs.Laid.{CarriesSlots, AreParts, no_line, a_line, IsLaidOutAs}
+use Rattle.laid_parts.proofs.Each.{carried}
+use Rattle.laid_parts.proofs.EverySlots.{slots_carried}
+use Rattle.laid_parts.proofs.Marks.{line_marked, left_length}
+
+module _ (m : Lin) (w : WellFormed m) (seated : Seated m) (within : IsWithin m) (ds : List Descr) (p : Pieces) (e : IsEmitted m ds p) where
+  counted : (i : Line) (next : List Line) → Stands i next m.code → (tries : List ℕ) → Traps m (i ∷ next) tries → e.traps (length next) ≡ length tries
+  counted i next s tries (by_walk r) = e.pushed.pushed i next s tries r
+  counted i next s tries (unreached none) = e.unreached i next s none
+
+  parts-laid : (is : List Line) → ((i : Line) (next : List Line) → Stands i next is → Stands i next m.code) → (left : List Descr) →
+      length left ≡ frame_points is → AreParts m left is (parts e.traps (frame_of m) left is)
+  parts-laid [] s [] k = no_line
+  parts-laid [] s (d ∷ left) k = absurd (omega arith)
+  parts-laid (i ∷ next) s left k =
+      let at = s i next here in
+      let t = e.traps (length next) in
+      let d = descriptor (passes_frame i.op) left in
+      a_line
+      (record {
+        registers = carried m w seated i (stands-contains m.code at) t (frame_of m) d;
+        slots = λ tries traps.
+            subst (λ (t : ℕ). CarriesSlots (frame_of m) (length tries) i (part_of t (frame_of m) d i)) (sym (counted i next at tries traps))
+            (slots_carried m w seated within i next tries (stands-contains m.code at) traps d);
+        mark = line_marked t (frame_of m) i (frame_points next) (passes_frame i.op) refl left k;
+      })
+      (parts-laid next (λ j rest h. s j rest (below h)) (left_after (passes_frame i.op) left)
+      (left_length (frame_points next) (passes_frame i.op) left k))
+
+  pub laid_out : length ds ≡ frame_points m.code → IsLaidOutAs m ds p
+  laid_out k = record {
+    frame = ap (λ (q : Pieces). q.frame) e.is;
+    lines = parts e.traps (frame_of m) ds m.code;
+    code = ap (λ (q : Pieces). q.code) e.is;
+    parts = parts-laid m.code (λ i next s. s) ds k;
+  }
