@@ -24,7 +24,7 @@ same_label k l e = cc
 
 -- ---- lines
 
-label_is : (f : LinOp) (args results : List Spot) → is_label f args results ≡ true → (l : ℕ) × (line f args results ≡ bare (flow.Label l))
+pub label_is : (f : LinOp) (args results : List Spot) → is_label f args results ≡ true → (l : ℕ) × (line f args results ≡ bare (flow.Label l))
 label_is (lin.Flow (flow.Label l)) [] [] e = (l, refl)
 label_is (lin.Flow (flow.Label l)) [] (s ∷ ss) e = absurd (true≢false (sym e))
 label_is (lin.Flow (flow.Label l)) (s ∷ ss) results e = absurd (true≢false (sym e))
@@ -37,7 +37,7 @@ label_is (lin.Flow flow.PopTrap) args results e = absurd (true≢false (sym e))
 label_is (lin.Flow flow.EnterTrap) args results e = absurd (true≢false (sym e))
 label_is (lin.Op f) args results e = absurd (true≢false (sym e))
 
-jump_is : (l : ℕ) (f : LinOp) (args results : List Spot) → jumps_to f args results ≡ Some l → line f args results ≡ bare (flow.Jump l)
+pub jump_is : (l : ℕ) (f : LinOp) (args results : List Spot) → jumps_to f args results ≡ Some l → line f args results ≡ bare (flow.Jump l)
 jump_is l (lin.Flow (flow.Jump k)) [] [] e = ap (λ k. bare (flow.Jump k)) (same_label k l e)
 jump_is l (lin.Flow (flow.Jump k)) [] (s ∷ ss) e = absurd (no_label l e)
 jump_is l (lin.Flow (flow.Jump k)) (s ∷ ss) results e = absurd (no_label l e)
