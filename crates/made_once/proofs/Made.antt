@@ -1,5 +1,5 @@
 -- What is made of a function is made once.
-use Rattle.std.proofs.Common.{◌≡◌, List, length, sym, subst}
+use Rattle.std.proofs.Common.{◌≡◌, List, sym, subst}
 use Rattle.cmm_tree.specs.Tree.{FunctionTree}
 use Rattle.lin_ir.specs.Descriptors.{AreExact}
 use Rattle.lin_ir.specs.declared.descr.Descr.{Descr}
