@@ -1,0 +1,5 @@
+pub mod Lines
+pub mod Tidying
+pub mod Slots
+pub mod Tries
+pub mod Bounded
