@@ -3,3 +3,4 @@ pub mod Tidying
 pub mod Slots
 pub mod Tries
 pub mod Bounded
+pub mod Image
