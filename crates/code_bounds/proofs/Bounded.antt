@@ -22,7 +22,7 @@ use Rattle.selection_promise.proofs.Promised.{promised, few_tokens}
 use Rattle.selection_accepted.proofs.Promised.{function_accepted}
 use Rattle.selection_accepted.proofs.Selecting.{definitions}
 use Rattle.selection_sizes.proofs.Selected.{selected_words, selected_points}
-use Rattle.text_nesting.proofs.Nesting.{text_nests}
+use Rattle.text_sizes.proofs.Nesting.{text_nests}
 use Rattle.made_functions.specs.Made.{IsMadeOf}
 use Rattle.made_functions.specs.Bounded.{IsBoundedBy}
 use Rattle.code_bounds.proofs.Lines.{function_short}

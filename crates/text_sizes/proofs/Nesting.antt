@@ -36,7 +36,7 @@ use Rattle.cmm_reader.specs.Text as said
 use Rattle.cmm_grammar.specs.Spelling.{nesting}
 use Rattle.cmm_front.specs.FileOf.{IsFileOf}
 use Rattle.correctness.specs.Measures.{tries_in, tries_in_row, tries_in_bindings, tries_in_cases, tries_in_handlers, tries}
-use Rattle.text_nesting.proofs.Given.{ItemHas, PartHas, PartsHave, Gives, given}
+use Rattle.text_sizes.proofs.Given.{ItemHas, PartHas, PartsHave, Gives, given}
 
 -- ---- one token
 
