@@ -7,10 +7,8 @@ use Rattle.std.proofs.lemmas.List.Sums.{sum_by-append, sum_by-cons, count_by-le-
 use Rattle.cmm_tree.specs.Tree.{FunctionTree, FileTree, functions}
 use Rattle.correctness.specs.Bounds.{most_words, is_called_in, IsWithinText, IsBounded}
 use Rattle.correctness.specs.Measures.{frame_points}
-use Rattle.emit_rules.specs.Emitted.{IsEmitted}
 use Rattle.emit_rules.specs.Sizes.{words_at_most}
 use Rattle.emit_rules.specs.Sizes as sizes
-use Rattle.emit_rules.proofs.Descriptors.{descriptors_are_carried}
 use Rattle.image_form.specs.Image.{end_of}
 use Rattle.image_form.specs.Tables.{Tables, Func, Desc}
 use Rattle.layout_rules.specs.declared.form.Form.{Form}
@@ -19,24 +17,12 @@ use Rattle.layout_rules.specs.Conditions.{AreDescriptors, IsFunctionLaid, CanBeL
 use Rattle.layout_rules.specs.Forms.{branch_words, jump_words, words_of, total_words}
 use Rattle.layout_rules.specs.Laid.{stub_words, entries_from, code_from, row_at, rows_from, descs_in, descs_from, laid_out, AreAllForms, IsLaidOut}
 use Rattle.layout_rules.proofs.Functions.{filled}
-use Rattle.lin_ir.specs.Descriptors as lin
-use Rattle.lin_ir.specs.declared.descr.Descr.{Descr}
-use Rattle.lin_ir.specs.declared.lin.Lin.{Lin}
 use Rattle.made_functions.specs.Bounded.{IsBoundedBy}
 use Rattle.rv_pieces.specs.Named.{marks_in, has_words}
 use Rattle.rv_pieces.specs.declared.piece.Piece.{Piece}
 use Rattle.rv_pieces.specs.declared.piece.Piece.TheVariants.{Known, Label, Branch, Jump, Row, LabelAddress, Call, TailCall, SymbolAddress, ExternalNumber, Descriptor}
 use Rattle.rv_pieces.specs.declared.piece.Pieces.{Pieces}
 use Rattle.code_bounds.specs.Kept.{KeepsTo}
-
--- pieces that were emitted carry their descriptors
-pub keeps_to : (tree : FunctionTree) (m : Lin) (ds : List Descr) (pieces : Pieces) → IsEmitted m ds pieces → length ds ≡ lin.frame_points m.code →
-    IsBoundedBy tree ds pieces → KeepsTo tree pieces
-keeps_to tree m ds pieces emitted count bounded = record {
-  descrs = ds;
-  carried = ap (λ (p : Pieces). marks_in p.code) emitted.is ∙ descriptors_are_carried m emitted.traps ds count;
-  bounded = bounded;
-}
 
 -- ---- words
 

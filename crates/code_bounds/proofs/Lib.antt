@@ -4,3 +4,4 @@ pub mod Slots
 pub mod Tries
 pub mod Bounded
 pub mod Image
+pub mod Keeping
