@@ -5,3 +5,5 @@ pub mod Tries
 pub mod Bounded
 pub mod Image
 pub mod Keeping
+pub mod Modest
+pub mod Few
