@@ -19,7 +19,8 @@ use Rattle.selection_promise.proofs.Promised.{promised}
 use Rattle.selection_accepted.proofs.Selecting.{definitions, front_accepts}
 use Rattle.selection_accepted.proofs.Symbols.{front_symbols}
 
-function_accepted : (text : List ℕ) (file : FileTree) → IsFileOf text file → (f : FunctionTree) → Contains (functions file) f →
+-- What the front has found of each function of a file.
+pub function_accepted : (text : List ℕ) (file : FileTree) → IsFileOf text file → (f : FunctionTree) → Contains (functions file) f →
     IsAccepted (definitions file) f
 function_accepted text file is f c =
     let m = read_measured text file is.read in

@@ -1,0 +1,83 @@
+-- What is made of a function is as small as its text asks.
+use Rattle.std.proofs.Common.{◌≡◌, ℕ, ◌+◌, ◌-◌, ◌*◌, ◌<◌, ◌≤◌, List, length, Option, All, sym, ap, subst, arith}
+use Rattle.std.specs.Prelude.{Contains}
+use Rattle.std.proofs.lemmas.List.Elements.{All-weaker}
+use Rattle.cmm_front.specs.FileOf.{IsFileOf}
+use Rattle.cmm_tree.specs.Measures.{all_tries}
+use Rattle.cmm_tree.specs.Symbols.{DefinedSymbol}
+use Rattle.cmm_tree.specs.Tree.{FunctionTree, FileTree, functions}
+use Rattle.correctness.specs.Measures.{tries}
+use Rattle.emit_rules.specs.Sizes.{words_at_most}
+use Rattle.emit_rules.specs.Emitted.{emitted}
+use Rattle.lin_ir.specs.Descriptors.{frame_bytes}
+use Rattle.lin_ir.specs.declared.descr.Descr.{Descr}
+use Rattle.lin_ir.specs.declared.lin.Lin.{Lin}
+use Rattle.linear_pass.specs.Linear.{NamesHomes}
+use Rattle.places_rules.specs.Places.{rest_in_slots}
+use Rattle.places_rules.proofs.Rest.{rest_slots}
+use Rattle.rv_pieces.specs.declared.piece.Pieces.{Pieces}
+use Rattle.selection_rules.specs.Select.{selected}
+use Rattle.selection_promise.specs.Selects.{IsAccepted, Selects}
+use Rattle.selection_promise.proofs.Promised.{promised, few_tokens}
+use Rattle.selection_accepted.proofs.Promised.{function_accepted}
+use Rattle.selection_accepted.proofs.Selecting.{definitions}
+use Rattle.selection_sizes.proofs.Selected.{selected_words, selected_points}
+use Rattle.text_sizes.proofs.Nesting.{text_nests}
+use Rattle.made_functions.specs.Made.{IsMadeOf}
+use Rattle.made_functions.specs.Bounded.{IsBoundedBy}
+use Rattle.code_bounds.proofs.Lines.{function_short}
+use Rattle.code_bounds.proofs.Slots.{few_slots, frame_few}
+use Rattle.code_bounds.proofs.Tidying.{made_words, made_points}
+use Rattle.code_bounds.proofs.Tries.{few_nest}
+
+module _ (defined : List ℕ → Option DefinedSymbol) (tree : FunctionTree) (m : Lin) (ds : List Descr) (pieces : Pieces) (accepted : IsAccepted defined tree)
+    (made : IsMadeOf tree m ds pieces) where
+  promise : Selects tree (selected tree)
+  promise = promised defined tree accepted
+
+  few_made : m.slots ≤ 2 * (tree.tokens - all_tries tree.body)
+  few_made =
+      few_slots (selected tree) (rest_in_slots (selected tree)) m.slots (2 * (tree.tokens - all_tries tree.body))
+      (λ k s. promise.no_slot s.register s.among k s.stands)
+      (rest_slots (selected tree) promise.formed promise.placed (2 * (tree.tokens - all_tries tree.body)) promise.open_registers) made.linear.slots
+
+  -- the frame, and 16 bytes for each try that may stand on top
+  pub frame_small : frame_bytes m + 16 * tries tree ≤ 16 * tree.tokens + 32
+  frame_small =
+      let bytes = frame_few m (2 * (tree.tokens - all_tries tree.body)) few_made in
+      let nest = few_nest tree.body in
+      let cover = accepted.covered.tokens_cover in
+      omega (arith, bytes, nest, cover)
+
+  -- which descriptors can say
+  pub frame_fits : frame_bytes m + 16 * tries tree ≤ 1048576
+  frame_fits =
+      let small = frame_small in
+      let few = few_tokens tree accepted.checked.limits_kept in
+      omega (arith, small, few)
+
+  few_entries : (d : Descr) → NamesHomes m d → length d.entries ≤ 21 + 2 * tree.tokens
+  few_entries d h = let few = h.few in let slots = few_made in omega (arith, few, slots)
+
+  pub bounded : tries tree ≤ 250 → IsBoundedBy tree ds pieces
+  bounded shallow =
+      let short = function_short m made.emitted.traps ds in
+      let lines = made_words (selected tree) m made.linear.tidies in
+      let words = selected_words tree shallow in
+      let nodes = accepted.covered.nodes_covered in
+      let calls = made_points (selected tree) m made.linear.tidies in
+      let points = selected_points tree shallow in
+      let count = made.count in
+      subst (IsBoundedBy tree ds) (sym made.emitted.is)
+      (record {
+        frame = frame_small;
+        words = omega (arith, short, lines, words, nodes);
+        points = omega (arith, count, calls, points);
+        entries = All-weaker (NamesHomes m) (λ (d : Descr). length d.entries ≤ 21 + 2 * tree.tokens) few_entries ds (made.linear.named ds made.exact);
+      })
+
+-- So it is of each function of a file that the front accepts.
+pub text_bounded : (text : List ℕ) (file : FileTree) → IsFileOf text file → (tree : FunctionTree) → Contains (functions file) tree →
+    (m : Lin) (ds : List Descr) (pieces : Pieces) → IsMadeOf tree m ds pieces → IsBoundedBy tree ds pieces
+text_bounded text file is tree c m ds pieces made =
+    bounded (definitions file) tree m ds pieces (function_accepted text file is tree c) made (text_nests text file tree is c)

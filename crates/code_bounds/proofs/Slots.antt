@@ -1,0 +1,52 @@
+-- A function has as few slots as the text has tokens, and its frame is as small.
+use Rattle.std.proofs.Common.{◌≡◌, ℕ, zero, suc, ◌+◌, ◌-◌, ◌*◌, ◌/◌, ◌<◌, ◌≤◌, ◌⊎◌, inl, inr, ⊎_elim, Bool, true, false, cond, ◌||◌, eqb, List, [], ◌∷◌, length, map, refl, sym, ap, ◌∙◌, subst, arith}
+use Rattle.std.specs.Prelude.{Contains, nat_eq}
+use Rattle.std.specs.List.{list_any}
+use Rattle.std.proofs.lemmas.List.{length-map}
+use Rattle.std.proofs.lemmas.Map.Steps.{le-length_from_below}
+use Rattle.std.proofs.lemmas.Map.Views.{list_any-from_Contains}
+use Rattle.std.specs.Cmp.{nat_eq_equiv}
+use Rattle.bs_words.specs.declared.types.Loc.TheVariants as loc
+use Rattle.cmm_types.proofs.Containing.{contains_none, contains_cases, contains_head, contains_tail}
+use Rattle.mach_ir.specs.Sizes.{OpenAtMost}
+use Rattle.mach_ir.specs.Walks.{IsRegister, is_param, is_in_code, InCode}
+use Rattle.mach_ir.specs.declared.mach.Mach.{Mach}
+use Rattle.mach_ir.specs.declared.reg.Reg.{Reg}
+use Rattle.places_rules.specs.Places.{IsSlot, SlotsGrow}
+use Rattle.lin_ir.specs.Descriptors.{has_frame_point, frame_bytes}
+use Rattle.lin_ir.specs.declared.lin.Lin.{Lin}
+use Rattle.linear_pass.specs.Linear.{IsSlotOf, OneForEach}
+
+contains_map : (f : ℕ → ℕ) (xs : List ℕ) (k : ℕ) → Contains xs k → Contains (map f xs) (f k)
+contains_map f [] k c = absurd (contains_none k c)
+contains_map f (x ∷ xs) k c =
+    ⊎_elim (λ same. subst (λ k. Contains (f x ∷ map f xs) (f k)) same (contains_head (f x) (map f xs)))
+    (λ later. contains_tail (f x) (map f xs) (f k) (contains_map f xs k later)) (contains_cases x xs k c)
+
+is_slot : (p : Mach) (k : ℕ) → IsSlotOf p k → IsSlot p k
+is_slot p k h = record { register = h.0; among = ⊎_elim (λ c. is_param c) (λ c. is_in_code c) h.1; stands = h.2 }
+
+-- Where slots are numbered one for each that occurs, and grow by so many from none, there are so many.
+pub few_slots : (p q : Mach) (slots most : ℕ) → ((slot : ℕ) → IsSlot p slot → ⊥) → SlotsGrow p q most → OneForEach q slots → slots ≤ most
+few_slots p q slots most none grows each =
+    let bound = le-length_from_below (map each.number grows.others) slots (λ n less. covered n less) in
+    let same = length-map grows.others each.number in
+    let few = grows.few in
+    omega (arith, bound, same, few)
+  where
+    covered : (n : ℕ) → n < slots → list_any (nat_eq n) (map each.number grows.others) ≡ true
+    covered n less =
+        let k = each.onto n less in
+        let other : Contains grows.others k.0 = ⊎_elim (λ s. absurd (none k.0 s)) (λ c. c) (grows.all k.0 (is_slot q k.0 k.1)) in
+        list_any-from_Contains nat_eq_equiv n (map each.number grows.others)
+        (subst (Contains (map each.number grows.others)) k.2 (contains_map each.number grows.others k.0 other))
+
+-- ---- frames
+
+-- bytes of a frame of so many slots
+pub frame_few : (m : Lin) (k : ℕ) → m.slots ≤ k → frame_bytes m ≤ 8 * k + 23
+frame_few m k few = by (has_frame_point m.code)
+  where
+    by : (b : Bool) → (8 * m.slots + cond b 8 0 + 15) / 16 * 16 ≤ 8 * k + 23
+    by true = omega (arith, few)
+    by false = omega (arith, few)

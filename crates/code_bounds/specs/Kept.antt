@@ -1,0 +1,16 @@
+-- The pieces of a function beside its text.
+use Rattle.std.specs.Prelude.{◌≡◌, ℕ, ◌*◌, ◌≤◌, List, length}
+use Rattle.cmm_tree.specs.Tree.{FunctionTree}
+use Rattle.lin_ir.specs.declared.descr.Descr.{Descr}
+use Rattle.made_functions.specs.Bounded.{IsBoundedBy}
+use Rattle.rv_pieces.specs.Named.{marks_in, places_in}
+use Rattle.rv_pieces.specs.declared.piece.Pieces.{Pieces}
+
+-- They are as small as the text asks.
+pub record KeepsTo (tree : FunctionTree) (pieces : Pieces) : Type 0 where
+  -- the descriptors that stand among them
+  pub descrs : List Descr
+  pub carried : marks_in pieces.code ≡ descrs
+  pub bounded : IsBoundedBy tree descrs pieces
+  -- and the labels, which have no words
+  pub labels : length (places_in pieces.code) ≤ 184 * tree.tokens

@@ -1,0 +1,80 @@
+-- What an expression may weigh, and what a row of operands may, in two parts.
+use Rattle.std.proofs.Common.{◌≡◌, ℕ, ◌+◌, ◌-◌, ◌*◌, ◌≤◌, Bool, true, false, not, List, refl, arith}
+use Rattle.cmm_tree.specs.Measures.{total, row_total, bindings_total, cases_total, handlers_total, counts_one, nodes_in}
+use Rattle.cmm_tree.specs.Tree.{Expression, Integer, Pointer, Symbol, Name, Nothing, Float, Let, Assign, Operator, Load, Store, Alloc, App, Extcall, Checkbound, Raise, Seq, If, Switch, Catch, Exit, Try, Expressions, NoMore, More, Cases, NoCase, Choose, Handlers, NoHandler, Handle, Bindings, NoBinding, Bind}
+use Rattle.cmm_types.specs.Light.{is_light_address}
+use Rattle.correctness.specs.Measures.{indexes_of, is_frame_point}
+use Rattle.selection_rules.specs.Select.{Named, scopes, count_of}
+
+-- a hundred words of it are left for what puts it to use
+abbrev pub most : Expression → ℕ
+most e = 640 * nodes_in e + 4 * total indexes_of e - 100
+
+abbrev pub points : Expression → ℕ
+points e = total is_frame_point e
+
+pub some_nodes : (e : Expression) → 1 ≤ nodes_in e
+some_nodes (Integer at word) = omega arith
+some_nodes (Pointer at word) = omega arith
+some_nodes (Symbol at name) = omega arith
+some_nodes (Name at name) = omega arith
+some_nodes (Nothing at) = omega arith
+some_nodes (Float at word_at operands) = omega arith
+some_nodes (Let at bindings body) = omega arith
+some_nodes (Assign at name_at name value) = omega arith
+some_nodes (Operator at op left right) = omega arith
+some_nodes (Load at chunk address) = omega arith
+some_nodes (Store at chunk address value) = omega arith
+some_nodes (Alloc at header_at header operands) = omega arith
+some_nodes (App at callee arguments result result_at) = omega arith
+some_nodes (Extcall at frame name arguments result result_at) = omega arith
+some_nodes (Checkbound at bound index) = omega arith
+some_nodes (Raise at value) = omega arith
+some_nodes (Seq at elements) = omega arith
+some_nodes (If at condition on_true on_false) = omega arith
+some_nodes (Switch at size_at size selector cases) = omega arith
+some_nodes (Catch at body handlers) = omega arith
+some_nodes (Exit at label_at label arguments) = omega arith
+some_nodes (Try at body name_at name handler) = omega arith
+
+-- ---- rows
+
+abbrev pub part : Bool → ℕ → ℕ
+part true n = n
+part false n = 0
+
+pub part_both : (b : Bool) (n : ℕ) → part (not b) n + part b n ≡ n
+part_both true n = omega arith
+part_both false n = omega arith
+
+module _ (f : Expression → ℕ) where
+  abbrev pub sum_of : Expressions → ℕ
+  sum_of NoMore = 0
+  sum_of (More e rest) = f e + sum_of rest
+
+  -- of the operands that do not wait, and of those that do
+  abbrev pub now_of : List Named → Expressions → ℕ
+  now_of env NoMore = 0
+  now_of env (More e rest) = part (not (is_light_address (scopes env) e)) (f e) + now_of env rest
+
+  abbrev pub later_of : List Named → Expressions → ℕ
+  later_of env NoMore = 0
+  later_of env (More e rest) = part (is_light_address (scopes env) e) (f e) + later_of env rest
+
+  pub in_parts : (env : List Named) (es : Expressions) → now_of env es + later_of env es ≡ sum_of es
+  in_parts env NoMore = refl
+  in_parts env (More e rest) =
+      let here = part_both (is_light_address (scopes env) e) (f e) in
+      let others = in_parts env rest in
+      omega (arith, here, others)
+
+pub row_points : (es : Expressions) → sum_of points es ≡ row_total is_frame_point es
+row_points NoMore = refl
+row_points (More e rest) = let others = row_points rest in omega (arith, others)
+
+pub row_most : (es : Expressions) → sum_of most es + 100 * count_of es ≤ 640 * row_total counts_one es + 4 * row_total indexes_of es
+row_most NoMore = omega arith
+row_most (More e rest) =
+    let others = row_most rest in
+    let some = some_nodes e in
+    omega (arith, others, some)

@@ -1,0 +1,6 @@
+pub mod Given
+pub mod Nesting
+pub mod Bytes
+pub mod Taken
+pub mod Names
+pub mod Whole
