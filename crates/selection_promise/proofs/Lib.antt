@@ -1,2 +1,3 @@
 pub mod Played
+pub mod Depth
 pub mod Promised
