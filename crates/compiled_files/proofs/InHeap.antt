@@ -1,6 +1,7 @@
 -- Selected code of an accepted file asks for no more heap than the text, where that has no units left.
 use Rattle.std.proofs.Common.{◌≡◌, ℕ, ◌≤◌, true, List, Some, refl, sym, ap, ◌∙◌, arith}
 use Rattle.std.specs.Prelude.{slice_get}
+use Rattle.std.specs.List.{Contains}
 use Rattle.std.proofs.lemmas.Option.{slice_get_within, get_or_from_slice_get}
 use Rattle.bs_words.specs.Memory.{Memory, heap_need}
 use Rattle.cmm_front.specs.FileOf.{IsFileOf}
@@ -21,8 +22,8 @@ use Rattle.compiled_files.specs.Stages.{AreInHeap}
 same_state : (s u : State) (t v : Tally) → Running s t ≡ Running u v → s ≡ u
 same_state s u t v e = cc
 
-same_world : (u w : World) → Stops OutOfFuel u ≡ Stops OutOfFuel w → u ≡ w
-same_world u w e = cc
+same_world : (e q : Evaluation) (u w : World) → e ≡ Stops OutOfFuel u → e ≡ q → q ≡ Stops OutOfFuel w → u ≡ w
+same_world e q u w a b c = cc
 
 -- a run that meets an evaluation without units left has its memory
 met_heap : {n : ℕ} {e : Evaluation} {r : Run State} → Meets n e r → (u : World) (s : State) (t : Tally) → e ≡ Stops OutOfFuel u → r ≡ Running s t →
@@ -30,7 +31,7 @@ met_heap : {n : ℕ} {e : Evaluation} {r : Run State} → Meets n e r → (u : W
 met_heap (returned a b) u s t e q = absurd (cc)
 met_heap (threw a b) u s t e q = absurd (cc)
 met_heap (running {w = w} {s = v} {t = y} a b same) u s t e q =
-    let memory : s.around.memory ≡ u.memory = ap (λ (s : State). s.around.memory) (sym (same_state v s y t q)) ∙ same ∙ ap (λ (w : World). w.memory) (same_world w u e) in
+    let memory : s.around.memory ≡ u.memory = ap (λ (s : State). s.around.memory) (sym (same_state v s y t q)) ∙ same ∙ ap (λ (w : World). w.memory) (same_world (Stops OutOfFuel w) (Stops OutOfFuel w) w u refl refl e) in
     let heap : heap_need s.around.memory ≡ heap_need u.memory = ap heap_need memory in
     omega (arith, heap)
 met_heap (asking a b) u s t e q = absurd (cc)
@@ -40,7 +41,7 @@ met_heap left_by_exit u s t e q = absurd (cc)
 -- Each function of an accepted file runs so.
 pub selected_in_heap : (text : List ℕ) (file : FileTree) → IsFileOf text file → (layout : Layout) → AreInHeap file layout
 selected_in_heap text file is layout f tree e arguments fit below memory doings n given done =
-    let of_file = (f, slice_get_within (functions file) f tree e, get_or_from_slice_get (functions file) f tree tree e) in
+    let of_file : Contains (functions file) tree = (f, slice_get_within (functions file) f tree e, get_or_from_slice_get (functions file) f tree tree e) in
     let can = selectable text file is tree of_file in
     let run = accepted_keeps (place_in file layout f below) (definitions file) tree (bound_error_fits file) can.narrow can.fits
     (front_accepts text file is tree of_file).typed
