@@ -1,4 +1,5 @@
 pub mod Forward
+pub mod InHeap
 pub mod Rows
 pub mod Stages
 pub mod Stub

@@ -96,7 +96,7 @@ module _ (text : List ℕ) (file : FileTree) (is : IsFileOf text file) where
     moves : {u : ℕ} {e : Evaluation} {r : Run mach.State} → IsProperEnd e → Meets u e r → r ≢ Wrong
     moves ok (returned a b) w = cc
     moves ok (threw a b) w = cc
-    moves ok (running a b) w = cc
+    moves ok (running a b same) w = cc
     moves ok (asking a b) w = cc
     moves ok improper w = absurd ok
     moves ok left_by_exit w = absurd ok
