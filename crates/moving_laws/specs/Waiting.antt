@@ -68,7 +68,7 @@ AllWait image placed m (x ∷ xs) (f ∷ fs) = IsWaiting image placed m x f
 -- an address of code to which one may go
 pub record IsBack (a : ℕ) : Type 0 where
   pub low : 0x10000 ≤ a
-  pub high : a < 0x10000000
+  pub high : a ≤ 0x10000000
   pub even : a % 4 ≡ 0
 
 -- The trap frames of the activations, from a trap pointer on: each has its handler's address and
