@@ -39,7 +39,7 @@ Chain ds base m first a p [] = a ≡ code_start
 Chain ds base m first a p (f ∷ fs) =
     (a ≢ code_start) × (descriptor_at ds a ≡ Some f.desc) × (f.at ≡ p)
     × IsFrameAt first base p f.desc
-    × (word m (p + (f.desc.size - 8)) < 0x10000000)
+    × (word m (p + (f.desc.size - 8)) ≤ 0x10000000)
     × Chain ds base m false (word m (p + (f.desc.size - 8))) (p + f.desc.size) fs
 
 -- Its frame has what the activation has: a slot holds its value, a pointer stands only where the
