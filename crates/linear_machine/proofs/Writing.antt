@@ -12,6 +12,7 @@ use Rattle.machine_laws.proofs.Memory.{has_write, other_word}
 use Rattle.moving_laws.specs.Values.{start_of, words_of}
 use Rattle.moving_laws.specs.Waiting.{traps_at}
 use Rattle.moving_laws.specs.Words.{IsReadable}
+use Rattle.moving_laws.proofs.Held.{held_other}
 use Rattle.moving_laws.proofs.Rewriting.{start_inside}
 use Rattle.moving_laws.proofs.Usable.{formed_regions}
 use Rattle.moving_laws.proofs.Words.{readable_write, same_or_not, word_same}
@@ -124,8 +125,9 @@ module _ (s : Fixed) (placed : List Placed) (m : List Region) (regions : HasRegi
         };
         heads = h.heads;
         fits = λ j i y v e f. h.fits j i y v e (cell_before j i v (is_among (InBlock j i) unwritten) refl f);
-        statics = statics_stay s placed m m' a.memory a.memory.blocks (λ y l. other_word m (start_of placed k - 8) y b.header (λ q. omega
+        statics = statics_stay s placed m m' a.memory a.memory.blocks (λ y even l. held_other m (start_of placed k - 8) y b.header even (λ q. omega
             (arith, q, l, p))) h.statics;
+        lie = h.lie;
       }
     where
       head_is : (t : Bool) (w : ℕ) → cond t None (header_in (slice_get a.memory.blocks k)) ≡ Some w → b.header ≡ w
