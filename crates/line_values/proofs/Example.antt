@@ -35,7 +35,6 @@ use Rattle.linear_machine.specs.View.{Fixed, View, IsCode}
 use Rattle.line_stands.specs.Lines.{LineStands}
 use Rattle.line_stands.specs.Parts.{PartStands}
 use Rattle.line_values.specs.Followed.{plain_pure}
-use Rattle.line_values.specs.Statics.{StaticsLie}
 use Rattle.line_values.proofs.Following.{plain_followed}
 
 -- a0, as an int
@@ -62,7 +61,7 @@ dead rest = ⊥
 nothing : {X : Type 0} {x : X} → Contains [] x → ⊥
 nothing (k, l, e) = omega (arith, l)
 
-module _ (s : Fixed) (no_roots : s.image.roots ≡ []) (at : ℕ) (first : IsCode s at (OpImm Addi 10 0 42)) where
+module _ (s : Fixed) (at : ℕ) (first : IsCode s at (OpImm Addi 10 0 42)) where
   abbrev laid : Laid
   laid = record { part = λ n. at + (1 - n); frame = 0; saves = false; slots = 0; handler = λ l. 0; even = refl; room = omega arith }
 
@@ -122,19 +121,11 @@ module _ (s : Fixed) (no_roots : s.image.roots ≡ []) (at : ℕ) (first : IsCod
       no_label l (goes_to (other i)) = elim i [ ]
       no_label l (pushes e) = absurd (cc)
 
-  lies : StaticsLie s empty
-  lies = record {
-    whole = tt;
-    ends = omega arith;
-    root = λ x e. absurd (cc);
-    roots = λ x i. absurd (subst (λ rs. Among x (map (λ offset. 0x10000000 + offset) rs)) no_roots i);
-  }
-
   -- the line is followed
   pub made : (named : NamedAt) (entry : ℕ → ℕ) (c : Below) (v : View) (young : List Placed) (held : Locations) → v.place ≡ at →
       Within s laid v young 0 held (entered empty) c →
       FollowsStep 1 s laid dead entry c v (step place named one (record { rest = makes ∷ []; file = held; around = entered empty }))
   unfolding part stands constant
   made named entry c v young held e within =
-      plain_followed s laid no_names one place named dead entry c no_frame None [] makes plain_pure held (entered empty) v stands refl lies
+      plain_followed s laid no_names one place named dead entry c no_frame None [] makes plain_pure held (entered empty) v stands refl
       (young, held, record { others = λ l n. refl; spare_too = λ b. absurd b }, record { place = omega (arith, e); within = within })

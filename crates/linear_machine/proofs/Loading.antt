@@ -16,7 +16,7 @@ use Rattle.moving_laws.specs.Values.{start_of, value_word, words_of}
 use Rattle.moving_laws.specs.Words.{IsReadable}
 use Rattle.moving_laws.proofs.Rewriting.{start_inside}
 use Rattle.moving_laws.proofs.Usable.{data_readable}
-use Rattle.linear_machine.specs.Contents.{blocks_of, cell_in, header_in, size_in, static_in, statics_of}
+use Rattle.linear_machine.specs.Contents.{blocks_of, cell_in, header_in, size_in, statics_of}
 use Rattle.linear_machine.specs.Relation.{HeapStands, StandsFor}
 use Rattle.linear_machine.specs.View.{Fixed}
 use Rattle.linear_machine.proofs.Statics.{held_readable, static_whole}
