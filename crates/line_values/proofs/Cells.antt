@@ -1,9 +1,8 @@
 -- The cell of an access of any width lies at the address of its first byte.
-use Rattle.std.proofs.Common.{◌≡◌, ◌≢◌, ℕ, zero, suc, ◌+◌, ◌-◌, ◌*◌, ◌/◌, ◌%◌, ◌^◌, ◌<◌, ◌≤◌, inl, inr, Bool, true, false, cond, ◌&&◌, ◌==◌, nat_le, List, [], ◌∷◌, length, Option, Some, None, slice_get, refl, ap, arith, ◌∙◌, sym, subst}
-use Rattle.std.specs.List.{AllByRecursion}
-use Rattle.std.proofs.lemmas.Bool.{and_from, and_parts, cond-true, eq-eqb, eqb-true, le-leb, leb-true}
+use Rattle.std.proofs.Common.{◌≡◌, ◌≢◌, ℕ, zero, suc, ◌+◌, ◌-◌, ◌*◌, ◌/◌, ◌%◌, ◌^◌, ◌<◌, ◌≤◌, inl, inr, Bool, true, false, cond, ◌==◌, nat_le, List, length, Option, Some, None, slice_get, refl, ap, arith, ◌∙◌, sym, subst}
+use Rattle.std.proofs.lemmas.Bool.{cond-true, eq-eqb, eqb-true, le-leb, leb-true}
 use Rattle.bs_words.specs.Fits.{data_start}
-use Rattle.bs_words.specs.Memory.{Cell, StaticList, InStatic, cell_at, cell_of_block, in_block, in_statics, offset_in_cell, sizes, value_in, HeapBlock, InBlock, InHeader}
+use Rattle.bs_words.specs.Memory.{Cell, InStatic, cell_at, cell_of_block, in_block, in_statics, offset_in_cell, sizes, value_in, HeapBlock, InBlock, InHeader}
 use Rattle.bs_words.specs.Word.{add_word}
 use Rattle.bs_words.specs.declared.values.Value.{Value}
 use Rattle.bs_words.specs.declared.values.Value.TheVariants.{Word, Block, Function}
@@ -14,7 +13,7 @@ use Rattle.rv_machine.specs.Sound.{HasRegions, extents}
 use Rattle.rv_machine.specs.Width.{IsWidth}
 use Rattle.moving_laws.specs.Values.{start_of, value_word, words_of}
 use Rattle.moving_laws.proofs.Rewriting.{start_inside}
-use Rattle.linear_machine.specs.Contents.{static_in, size_in}
+use Rattle.linear_machine.specs.Contents.{size_in}
 use Rattle.linear_machine.specs.Relation.{HeapStands, StandsFor}
 use Rattle.linear_machine.specs.View.{Fixed}
 use Rattle.linear_machine.proofs.Loading.{block_there, cell_there}
@@ -25,7 +24,6 @@ use Rattle.line_values.proofs.Compared.{block_end}
 use Rattle.line_values.proofs.Statics.{is_in}
 use Rattle.moving_laws.specs.Words.{IsReadable, held_word}
 use Rattle.moving_laws.proofs.Held.{IsDataOrAbove, IsHeld}
-use Rattle.moving_laws.proofs.Usable.{data_readable}
 
 -- ---- widths
 

@@ -1,5 +1,5 @@
 -- A function of one line, which makes 42: what the law asks for holds of it.
-use Rattle.std.proofs.Common.{◌≡◌, ℕ, zero, suc, ◌+◌, ◌-◌, false, List, [], ◌∷◌, None, refl, arith, subst, ap, ◌∙◌, map}
+use Rattle.std.proofs.Common.{◌≡◌, ℕ, zero, suc, ◌+◌, ◌-◌, false, List, [], ◌∷◌, None, refl, arith, subst, ap, ◌∙◌}
 use Rattle.std.specs.List.{Contains}
 use Rattle.std.proofs.lemmas.List.Elements.{All-nil, All-cons}
 use Rattle.bs_words.specs.Memory.{Memory}
@@ -13,7 +13,6 @@ use Rattle.layout_rules.specs.Words.{Named}
 use Rattle.layout_rules.specs.declared.form.Form.TheVariants.{Near}
 use Rattle.mach_ir.specs.declared.op.Calling.TheVariants as calling
 use Rattle.mach_ir.specs.declared.op.External.{External}
-use Rattle.moving_laws.specs.Stands.{Among}
 use Rattle.lin_ir.specs.Formed.{IsLocation, NamesLabel, formed_op, goes_to, is_colour, is_home, pushes}
 use Rattle.lin_ir.specs.Meaning.{Locations, NamedAt, step}
 use Rattle.lin_ir.specs.declared.lin.Lin.{Lin}

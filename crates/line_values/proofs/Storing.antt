@@ -164,7 +164,7 @@ module _ (s : Fixed) (placed : List Placed) (m : List Region) (regions : HasRegi
     old_small = held_below m reach.at regions.each
 
     new_small : replaced (held_word m reach.at) reach.byte (width ch) w < 2 ^ 64
-    new_small = replaced-below (word m reach.at) reach.byte (width ch) w reach.inside (held_below m reach.at regions.each)
+    new_small = replaced-below (held_word m reach.at) reach.byte (width ch) w reach.inside (held_below m reach.at regions.each)
 
     stored_is : memory.stored ch a.memory x v ≡ stored_in ch a.memory reach.byte (Some cell) v
     stored_is = ap (λ o. stored_in ch a.memory (offset_in_cell x) o v) there ∙ ap (λ o. stored_in ch a.memory o (Some cell) v) reach.offset

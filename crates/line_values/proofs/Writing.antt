@@ -1,5 +1,5 @@
 -- Stores of every chunk follow their lines.
-use Rattle.std.proofs.Common.{◌≡◌, ℕ, suc, ◌+◌, ◌%◌, ◌^◌, ◌<◌, inl, inr, List, [], ◌∷◌, ◌++◌, length, Option, Some, None, slice_index, refl, ap, arith, ◌∙◌, sym, subst, append_assoc}
+use Rattle.std.proofs.Common.{◌≡◌, ◌≢◌, ℕ, suc, ◌+◌, ◌%◌, ◌^◌, ◌<◌, ◌≤◌, inl, inr, List, [], ◌∷◌, ◌++◌, length, Option, Some, None, slice_index, refl, ap, arith, ◌∙◌, sym, subst, append_assoc}
 use Rattle.bs_words.specs.Memory.{Cell, cell_at, width, replaced}
 use Rattle.bs_words.specs.Word.{add_word}
 use Rattle.bs_words.specs.declared.types.Chunk.{Chunk}
@@ -62,6 +62,9 @@ store_bytes chunk.U32 = refl
 store_bytes chunk.I32 = refl
 store_bytes chunk.Int = refl
 store_bytes chunk.Val = refl
+
+far_off : (at y : ℕ) → at < 0x38010000 → 0x38010008 ≤ y → at ≢ y
+far_off at y near far = λ t. omega (arith, t, near, far)
 
 one_more : (u p k : ℕ) → u ≡ p + k → u + 1 ≡ p + (k + 1)
 one_more u p k e = omega (arith, e)
@@ -173,7 +176,7 @@ module _ (s : Fixed) (n : Named) (laid : Laid) (m : Lin) (slots : m.slots ≡ la
             (hold_regions (extents s.image s.heap s.base) u.memory reach.at new
             (replaced-below (held_word u.memory reach.at) reach.byte (width ch) (reg u.registers (number (register_of T2 q.loc))) reach.inside
             (held_below u.memory reach.at w.usable.regions.each)) w.usable.regions)
-            (λ z far. let near = reach.below in word_hold u.memory reach.at z new reach.even (λ t. omega (arith, t, far, near))) heap w);
+            (λ z far. word_hold u.memory reach.at z new reach.even (far_off reach.at z reach.below far)) heap w);
       })))
       reach.lies
 
