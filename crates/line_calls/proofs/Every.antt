@@ -1,30 +1,21 @@
 -- Every line, of whatever kind.
-use Rattle.std.proofs.Common.{◌≡◌, ◌⊎◌, inl, inr, ⊎_elim, ℕ, suc, ◌+◌, ◌*◌, List, ◌∷◌, length, Option, refl, sym, subst, arith}
+use Rattle.std.proofs.Common.{◌≡◌, ◌⊎◌, inl, inr, ⊎_elim, ℕ, ◌+◌, ◌*◌, List, ◌∷◌, length, refl, sym, subst, arith}
 use Rattle.emit_rules.specs.Emitted.{part_of}
-use Rattle.emit_rules.specs.Entry.{Frame}
 use Rattle.layout_rules.specs.Forms.{total_words}
-use Rattle.layout_rules.specs.Words.{Named}
-use Rattle.lin_ir.specs.Meaning.{Locations, NamedAt, step}
-use Rattle.lin_ir.specs.declared.descr.Descr.{Descr}
+use Rattle.lin_ir.specs.Meaning.{step}
 use Rattle.lin_ir.specs.declared.lin.Flow.TheVariants as flow
-use Rattle.lin_ir.specs.declared.lin.Lin.{Lin}
 use Rattle.lin_ir.specs.declared.lin.Line.{Line}
 use Rattle.lin_ir.specs.declared.lin.LinOp.{LinOp}
 use Rattle.lin_ir.specs.declared.lin.LinOp.TheVariants as lin
-use Rattle.mach_ir.specs.Acts.{Around}
-use Rattle.mach_ir.specs.Runs.{Place}
 use Rattle.mach_ir.specs.declared.op.Access.TheVariants as access
 use Rattle.mach_ir.specs.declared.op.Leaving.TheVariants as leaving
 use Rattle.mach_ir.specs.declared.op.Op.TheVariants as op
-use Rattle.linear_machine.specs.Follows.{FollowsStep, IsAt}
-use Rattle.linear_machine.specs.Relation.{Below, Laid}
-use Rattle.linear_machine.specs.View.{Fixed, View}
-use Rattle.line_stands.specs.Lines.{LineStands}
+use Rattle.linear_machine.specs.Follows.{FollowsStep}
 use Rattle.line_values.specs.Followed.{IsPlain, plain_pure, plain_load, plain_store, plain_check, plain_label, plain_jump, plain_exit, plain_branch, plain_switch}
 use Rattle.line_values.proofs.Following.{plain_followed}
 use Rattle.line_calls.specs.Calls.{FollowsSo}
 use Rattle.line_calls.specs.Laws.{EveryLineFollows}
-use Rattle.line_calls.specs.Points.{IsReadyFor, IsTurn, PointStands, before_service, it_calls, it_returns, it_raises, it_allocates, it_pushes, it_pops, it_enters}
+use Rattle.line_calls.specs.Points.{IsTurn, before_service, it_calls, it_returns, it_raises, it_allocates, it_pushes, it_pops, it_enters}
 use Rattle.line_calls.proofs.NoWaits.{Comes, so_without, step_no}
 use Rattle.line_calls.proofs.Whole.{lines_follow}
 
