@@ -12,6 +12,7 @@ pub mod Testing
 pub mod Switching
 pub mod Bytes
 pub mod Statics
+pub mod Cut
 pub mod Cells
 pub mod Addresses
 pub mod Loading
