@@ -12,7 +12,6 @@ pub mod Testing
 pub mod Switching
 pub mod Bytes
 pub mod Statics
-pub mod Cut
 pub mod Cells
 pub mod Addresses
 pub mod Loading
@@ -21,3 +20,4 @@ pub mod Writing
 pub mod Checking
 pub mod Following
 pub mod Example
+pub mod Cut
