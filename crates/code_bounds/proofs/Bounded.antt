@@ -62,10 +62,10 @@ module _ (defined : List ℕ → Option DefinedSymbol) (tree : FunctionTree) (m 
   pub bounded : tries tree ≤ 250 → IsBoundedBy tree ds pieces
   bounded shallow =
       let short = function_short m made.emitted.traps ds in
-      let lines = made_words (selected tree) m made.linear.tidies in
+      let lines = made_words (selected tree) m (tidied_tidies made.linear.made) in
       let words = selected_words tree shallow in
       let nodes = accepted.covered.nodes_covered in
-      let calls = made_points (selected tree) m made.linear.tidies in
+      let calls = made_points (selected tree) m (tidied_tidies made.linear.made) in
       let points = selected_points tree shallow in
       let count = made.count in
       subst (IsBoundedBy tree ds) (sym made.emitted.is)
