@@ -2,3 +2,4 @@ pub mod Forward
 pub mod Rows
 pub mod Stages
 pub mod Stub
+pub mod Ready

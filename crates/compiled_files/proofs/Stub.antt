@@ -66,7 +66,7 @@ use Rattle.linear_machine.proofs.Steps.{one_step, ready, ready_stands}
 use Rattle.line_calls.proofs.Shown.{each_at, val_shown}
 use Rattle.linking.specs.Assembled.{IsStub, Setup}
 use Rattle.linking.specs.Carries.{Comes, Near, Outer}
-use Rattle.linking_machine.specs.Emitted.{IsInTable}
+use Rattle.line_calls.specs.Calls.{IsInTable}
 use Rattle.linking_machine.specs.Standing.{Back, Shows, fixed_of}
 use Rattle.linking_machine.proofs.Carrying.{after_moments, values_shown}
 

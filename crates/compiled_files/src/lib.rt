@@ -20,7 +20,7 @@ ghost use Rattle.linear_machine.proofs.Beginning.{nothing_below};
 ghost use Rattle.linear_machine.specs.Relation.{Laid};
 ghost use Rattle.linking.specs.Assembled.{IsStub, Setup};
 ghost use Rattle.linking.specs.Pace.{GoesForward};
-ghost use Rattle.linking_machine.specs.Compiled.{spare_lives};
+ghost use Rattle.linking_machine.specs.Compiled.{Nowhere};
 ghost use Rattle.linking_machine.specs.Standing.{Back};
 ghost use Rattle.linking_stages.specs.Chain.{AreLowered, HoldsWords, IsSelected};
 ghost use Rattle.linking_stages.specs.Stages.{linear_program};
@@ -76,5 +76,5 @@ pub fn stubs_end_runs()
         slice_get image.funcs f ≡ Some run.row →
         IsStub Now (next_of run.schedule) seen run.stack run.heap (layout_of image) (data_end file)
         run.row.result
-        (λ d o x. Back image has bases laid entry (spare_lives lins) run nothing_below d o x) }
+        (λ d o x. Back image has bases laid entry (λ f. Nowhere) run nothing_below d o x) }
 {}
