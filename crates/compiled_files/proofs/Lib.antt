@@ -3,3 +3,4 @@ pub mod Rows
 pub mod Stages
 pub mod Stub
 pub mod Ready
+pub mod Bytes

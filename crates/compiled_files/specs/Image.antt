@@ -1,20 +1,9 @@
--- The image of a file, and the places of its functions.
-use Rattle.std.specs.Prelude.{◌≡◌, ℕ, ◌+◌, ◌-◌, List, length, slice_index}
-use Rattle.bs_words.specs.Fits.{data_start}
-use Rattle.cmm_data.specs.Placement.{data_end}
-use Rattle.cmm_tree.specs.Tree.{FileTree}
+-- The places of functions in the image of a file.
+use Rattle.std.specs.Prelude.{ℕ, ◌-◌, List, length, slice_index}
 use Rattle.image_form.specs.Tables.{Tables}
 use Rattle.layout_rules.specs.declared.form.Form.{Form}
-use Rattle.layout_rules.specs.Conditions.{CanBeLaid}
-use Rattle.layout_rules.specs.Laid.{IsLaidOut, entries_from, stub_words}
+use Rattle.layout_rules.specs.Laid.{entries_from, stub_words}
 use Rattle.rv_pieces.specs.declared.piece.Pieces.{Pieces}
-
--- the image is that of the file, whose functions are these pieces, in order
-pub record IsImageOf (file : FileTree) (image : Tables) (ps : List Pieces) : Type 0 where
-  pub can : CanBeLaid file ps
-  pub laid : IsLaidOut file ps image
-  -- its data have all their bytes
-  pub end : data_end file ≡ data_start + length image.bytes
 
 -- the place of each function's entry, by its number
 abbrev pub entries_in : List Pieces → List (List Form) → ℕ → ℕ
