@@ -4,3 +4,6 @@ pub mod Stages
 pub mod Stub
 pub mod Ready
 pub mod Bytes
+pub mod Serving
+pub mod Given
+pub mod Correct
