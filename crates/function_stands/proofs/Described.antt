@@ -27,7 +27,7 @@ use Rattle.mach_ir.specs.declared.op.Calling.TheVariants as calling
 use Rattle.mach_ir.specs.declared.op.Op.TheVariants as op
 use Rattle.rv_machine.specs.Frames.{is_register, names_register, registers_named}
 use Rattle.function_stands.proofs.Parts.{same_yes}
-use Rattle.function_stands.proofs.Spare.{call_loses}
+use Rattle.function_stands.proofs.Lost.{call_loses}
 
 -- ---- members
 

@@ -17,7 +17,6 @@ use Rattle.lin_ir.specs.declared.lin.Line.{Line}
 use Rattle.lin_ir.specs.declared.lin.LinOp.{LinOp}
 use Rattle.lin_ir.specs.declared.lin.LinOp.TheVariants as lin
 use Rattle.lin_ir.specs.declared.lin.Spot.{Spot}
-use Rattle.linear_machine.specs.View.{Fixed}
 use Rattle.linear_rules.proofs.Walked.{Tail, tail_all, tail_more}
 use Rattle.mach_ir.specs.Acts.{On}
 use Rattle.mach_ir.specs.Walks.{OneOf, this}
@@ -54,10 +53,10 @@ points_go_on (lin.Op (op.Calling (calling.TailCall whom result))) e = cc
 points_go_on (lin.Op (op.Calling (calling.External row frame))) e = this
 points_go_on (lin.Op (op.Leaving g)) e = cc
 
-module _ (s : Fixed) (n : Named) (traps : ℕ → ℕ) (f : Frame) (m : Lin) (unended : (tries : List ℕ) → Reached m [] tries → ⊥) where
+module _ (words : List ℕ) (n : Named) (traps : ℕ → ℕ) (f : Frame) (m : Lin) (unended : (tries : List ℕ) → Reached m [] tries → ⊥) where
   -- code that a walk comes to has an instruction
   some_words : (ds : List Descr) (code : List Line) (fs : List Form) (at' : ℕ) (tries : List ℕ) → Reached m code tries →
-      HasPieces s.image.code n at' (parts traps f ds code) fs → 1 ≤ total_words (parts traps f ds code) fs
+      HasPieces words n at' (parts traps f ds code) fs → 1 ≤ total_words (parts traps f ds code) fs
   some_words ds [] fs at' tries reached has = absurd (unended tries reached)
   some_words ds (i ∷ next) fs at' tries reached has =
       let part = part_in traps f ds i next in
@@ -65,10 +64,10 @@ module _ (s : Fixed) (n : Named) (traps : ℕ → ℕ) (f : Frame) (m : Lin) (un
       let both = words_both part rest fs in
       ⊎_elim (λ goes_on.
       let later = some_words (left_in ds i) next (drop (length part) fs) (at' + total_words part fs) (tries_after i.op tries)
-      (by_step reached (goes On goes_on)) (has_second s.image.code n at' part rest fs has) in
+      (by_step reached (goes On goes_on)) (has_second words n at' part rest fs has) in
       omega (arith, later, both)) (λ acts.
       let some = part_acts (traps (length next)) f (descriptor (passes_frame i.op) ds) i.op i.args i.results acts in
-      let enough = least s.image.code n at' part _ (has_first s.image.code n at' part rest fs has) in
+      let enough = least words n at' part _ (has_first words n at' part rest fs has) in
       omega (arith, some, enough, words_first part fs, both)) (on_or_acts i.op i.args i.results)
 
   cond_before : (b : Bool) (high x y : ℕ) → x < high → y < high → cond b x y < high
@@ -77,14 +76,14 @@ module _ (s : Fixed) (n : Named) (traps : ℕ → ℕ) (f : Frame) (m : Lin) (un
 
   -- so each part before such code begins before the end
   pub place_before : {suffix : List Line} {tries : List ℕ} (ds : List Descr) (code : List Line) (fs : List Form) (at at' k : ℕ) → Reached m suffix tries →
-      Tail suffix code → length suffix ≤ k → HasPieces s.image.code n at' (parts traps f ds code) fs →
-      Place s n traps f ds code fs at k < at + total_words (parts traps f ds code) fs
+      Tail suffix code → length suffix ≤ k → HasPieces words n at' (parts traps f ds code) fs →
+      Place traps f ds code fs at k < at + total_words (parts traps f ds code) fs
   place_before {tries = tries} ds [] fs at at' k reached tail_all h has = absurd (unended tries reached)
   place_before {tries = tries} ds (i ∷ next) fs at at' k reached tail_all h has =
       let part = part_in traps f ds i next in
       let some = some_words ds (i ∷ next) fs at' tries reached has in
-      let e : Place s n traps f ds (i ∷ next) fs at k ≡ at =
-      ap (λ b. cond b at (Place s n traps f (left_in ds i) next (drop (length part) fs) (at + total_words part fs) k)) (lt-ltb (length next) k h) in
+      let e : Place traps f ds (i ∷ next) fs at k ≡ at =
+      ap (λ b. cond b at (Place traps f (left_in ds i) next (drop (length part) fs) (at + total_words part fs) k)) (lt-ltb (length next) k h) in
       omega (arith, some, e)
   place_before ds (i ∷ next) fs at at' k reached (tail_more tail) h has =
       let part = part_in traps f ds i next in
@@ -92,7 +91,7 @@ module _ (s : Fixed) (n : Named) (traps : ℕ → ℕ) (f : Frame) (m : Lin) (un
       let left = drop (length part) fs in
       let both = words_both part rest fs in
       let later = place_before (left_in ds i) next left (at + total_words part fs) (at' + total_words part fs) k reached tail h
-      (has_second s.image.code n at' part rest fs has) in
-      let within = (place_within s n traps f (left_in ds i) next left (at + total_words part fs) k).0 in
-      cond_before (nat_lt (length next) k) (at + total_words (part ++ rest) fs) at (Place s n traps f (left_in ds i) next left (at + total_words part fs) k)
+      (has_second words n at' part rest fs has) in
+      let within = (place_within traps f (left_in ds i) next left (at + total_words part fs) k).0 in
+      cond_before (nat_lt (length next) k) (at + total_words (part ++ rest) fs) at (Place traps f (left_in ds i) next left (at + total_words part fs) k)
       (omega (arith, later, within, both)) (omega (arith, later, both))

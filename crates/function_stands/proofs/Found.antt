@@ -3,11 +3,10 @@ use Rattle.std.proofs.Common.{◌≡◌, ℕ, zero, suc, ◌+◌, ◌<◌, false
 use Rattle.std.specs.Prelude.{find, slice_get}
 use Rattle.std.proofs.lemmas.Bool.{ne_eqb}
 use Rattle.image_form.specs.Image.{EachNext}
-use Rattle.image_form.specs.Tables.{Desc}
+use Rattle.image_form.specs.Tables.{Desc, Tables}
 use Rattle.layout_rules.specs.declared.form.Form.{Form}
 use Rattle.layout_rules.specs.Forms.{AreForms, total_words, words_of}
 use Rattle.layout_rules.specs.Laid.{AreAllForms, desc_at, descs_from, descs_in, entries_from}
-use Rattle.linear_machine.specs.View.{Fixed}
 use Rattle.linear_rules.proofs.Homes.{IsIn, is_first, is_later}
 use Rattle.rv_machine.specs.Frames.{descriptor_at}
 use Rattle.rv_machine.specs.Memory.{code_start}
@@ -38,14 +37,14 @@ found_at (x ∷ xs) d rises (is_later z) =
 
 -- ---- those of pieces
 
-module _ (s : Fixed) (rises : Rising s.image.descs) where
-  pub all_found : (at : ℕ) (ps : List Piece) (fs : List Form) → ((d : Desc) → IsIn d (descs_in at ps fs) → IsIn d s.image.descs) → AreFound s at ps fs
+module _ (image : Tables) (rises : Rising image.descs) where
+  pub all_found : (at : ℕ) (ps : List Piece) (fs : List Form) → ((d : Desc) → IsIn d (descs_in at ps fs) → IsIn d image.descs) → AreFound image at ps fs
   all_found at [] fs among = tt
   all_found at (p ∷ ps) [] among = tt
   all_found at (Descriptor d ∷ ps) (f ∷ fs) among =
       let e : at ≡ at + 0 = omega arith in (
-        found_at s.image.descs (desc_at at d) rises (among (desc_at at d) is_first),
-        subst (λ k. AreFound s k ps fs) e (all_found at ps fs (λ x z. among x (is_later z))),
+        found_at image.descs (desc_at at d) rises (among (desc_at at d) is_first),
+        subst (λ k. AreFound image k ps fs) e (all_found at ps fs (λ x z. among x (is_later z))),
       )
   all_found at (Known i ∷ ps) (f ∷ fs) among = (tt, all_found (at + words_of (Known i) f) ps fs among)
   all_found at (Label l ∷ ps) (f ∷ fs) among = (tt, all_found (at + words_of (Label l) f) ps fs among)

@@ -19,7 +19,6 @@ use Rattle.lin_ir.specs.declared.lin.Line.{Line}
 use Rattle.lin_ir.specs.declared.lin.LinOp.{LinOp}
 use Rattle.lin_ir.specs.declared.lin.LinOp.TheVariants as lin
 use Rattle.lin_ir.specs.declared.lin.Spot.{Spot}
-use Rattle.linear_machine.specs.View.{Fixed}
 use Rattle.linear_rules.proofs.Homes.{IsIn, in_of, is_first, is_later}
 use Rattle.rv_pieces.specs.declared.piece.Piece.{Piece}
 use Rattle.function_stands.proofs.Parts.{Place, left_in, part_in, place_first, place_later, same_yes}
@@ -83,10 +82,10 @@ labelled l (lin.Flow flow.PopTrap) c = elim c [ ]
 labelled l (lin.Flow flow.EnterTrap) c = elim c [ ]
 labelled l (lin.Op f) c = elim c [ ]
 
-module _ (s : Fixed) (n : Named) (traps : ℕ → ℕ) (f : Frame) where
+module _ (words : List ℕ) (n : Named) (traps : ℕ → ℕ) (f : Frame) where
   -- a part with the label is its mark alone
   label_here : (l at at' : ℕ) (ds : List Descr) (g : LinOp) (args results : List Spot) (next : List Line) (fs : List Form) → has_label l g ≡ true →
-      HasPieces s.image.code n at' (parts traps f ds (record { op = g; args = args; results = results } ∷ next)) fs →
+      HasPieces words n at' (parts traps f ds (record { op = g; args = args; results = results } ∷ next)) fs →
       label_from l at (parts traps f ds (record { op = g; args = args; results = results } ∷ next)) fs
       ≡ Some (at + total_words (part_in traps f ds (record { op = g; args = args; results = results }) next) fs)
   label_here l at at' ds (lin.Flow (flow.Label k)) args results next [] e has = absurd has
@@ -104,11 +103,11 @@ module _ (s : Fixed) (n : Named) (traps : ℕ → ℕ) (f : Frame) where
 
   -- The place of a label is that of the part behind its mark.
   pub label_place_is : (l at at' : ℕ) (ds : List Descr) (code : List Line) (fs : List Form) → Contains (labels_in code) l →
-      HasPieces s.image.code n at' (parts traps f ds code) fs →
-      label_from l at (parts traps f ds code) fs ≡ Some (Place s n traps f ds code fs at (length (after_label l code)))
+      HasPieces words n at' (parts traps f ds code) fs →
+      label_from l at (parts traps f ds code) fs ≡ Some (Place traps f ds code fs at (length (after_label l code)))
   label_place_is l at at' ds [] fs c has = elim (in_of l [] c) [ ]
   label_place_is l at at' ds (i ∷ next) fs c has = by (has_label l i.op) refl
-      (λ z. label_place_is l (at + total_words part fs) (at' + total_words part fs) (left_in ds i) next left z (has_second s.image.code n at' part rest fs has))
+      (λ z. label_place_is l (at + total_words part fs) (at' + total_words part fs) (left_in ds i) next left z (has_second words n at' part rest fs has))
     where
       part : List Piece
       part = part_in traps f ds i next
@@ -127,13 +126,13 @@ module _ (s : Fixed) (n : Named) (traps : ℕ → ℕ) (f : Frame) where
       by : (b : Bool) → has_label l i.op ≡ b →
           (Contains (labels_in next) l →
           label_from l (at + total_words part fs) rest left
-          ≡ Some (Place s n traps f (left_in ds i) next left (at + total_words part fs) (length (after_label l next)))) →
-          label_from l at (part ++ rest) fs ≡ Some (Place s n traps f ds (i ∷ next) fs at (length (cond b next (after_label l next))))
+          ≡ Some (Place traps f (left_in ds i) next left (at + total_words part fs) (length (after_label l next)))) →
+          label_from l at (part ++ rest) fs ≡ Some (Place traps f ds (i ∷ next) fs at (length (cond b next (after_label l next))))
       by true e go =
           label_here l at at' ds i.op i.args i.results next fs e has
-          ∙ ap Some (sym (place_first s n traps f (left_in ds i) next left (at + total_words part fs)))
-          ∙ ap Some (sym (place_later s n traps f ds i next fs at (length next) (omega arith)))
+          ∙ ap Some (sym (place_first traps f (left_in ds i) next left (at + total_words part fs)))
+          ∙ ap Some (sym (place_later traps f ds i next fs at (length next) (omega arith)))
       by false e go =
           label_past l at part rest fs (part-in (NoLabel l) (descriptor (passes_frame i.op) ds) (traps (length next)) f i (allows_none l i.op _ e))
           ∙ go (later e)
-          ∙ ap Some (sym (place_later s n traps f ds i next fs at (length (after_label l next)) (label_within l next)))
+          ∙ ap Some (sym (place_later traps f ds i next fs at (length (after_label l next)) (label_within l next)))

@@ -3,12 +3,15 @@ pub mod Splitting
 pub mod Parts
 pub mod Labels
 pub mod Ending
+pub mod Acting
 pub mod Exact
 pub mod Found
 pub mod Handlers
-pub mod Spare
+pub mod Lost
+pub mod Unnamed
 pub mod Described
 pub mod Symbols
+pub mod Entries
 pub mod Rows
 pub mod Points
 pub mod Whole

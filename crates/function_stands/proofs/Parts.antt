@@ -1,6 +1,6 @@
 -- Where the parts of a function's lines lie, one behind the other.
 use Rattle.std.proofs.Common.{◌≡◌, ℕ, suc, ◌+◌, ◌<◌, ◌≤◌, Bool, true, false, cond, nat_lt, nat_eq, List, [], ◌∷◌, ◌++◌, length, take, drop, Option, Some, None, refl, sym, ap, ◌∙◌, subst, arith}
-use Rattle.std.proofs.lemmas.Bool.{le-ltb, lt-ltb}
+use Rattle.std.proofs.lemmas.Bool.{le-ltb, lt-ltb, ltb-false}
 use Rattle.emit_rules.specs.Emitted.{descriptor, left_after, part_of, parts}
 use Rattle.emit_rules.specs.Entry.{Frame}
 use Rattle.layout_rules.specs.declared.form.Form.{Form}
@@ -15,6 +15,7 @@ use Rattle.lin_ir.specs.declared.lin.Line.{Line}
 use Rattle.rv_machine.specs.Frames.{descriptor_at}
 use Rattle.rv_pieces.specs.declared.piece.Piece.{Piece}
 use Rattle.rv_pieces.specs.declared.piece.Piece.TheVariants.{Descriptor}
+use Rattle.image_form.specs.Tables.{Tables}
 use Rattle.linear_machine.specs.View.{Fixed}
 use Rattle.line_stands.specs.Parts.{PartStands, label_place}
 use Rattle.function_stands.proofs.Splitting.{has_first, has_second, reach_first, reach_second, words_both, words_first}
@@ -56,41 +57,41 @@ shorter (below s) = let h = shorter s in omega (arith, h)
 -- ---- marks
 
 -- each descriptor among the pieces is found in the image
-abbrev pub IsFound : Fixed → (at : ℕ) → Piece → Type 0
-IsFound s at (Descriptor d) = descriptor_at s.image.descs (address_of_place at) ≡ Some (desc_at at d)
-IsFound s at _ = Unit {0}
+abbrev pub IsFound : Tables → (at : ℕ) → Piece → Type 0
+IsFound image at (Descriptor d) = descriptor_at image.descs (address_of_place at) ≡ Some (desc_at at d)
+IsFound image at _ = Unit {0}
 
-abbrev pub AreFound : Fixed → (at : ℕ) → List Piece → List Form → Type 0
-AreFound s at [] fs = Unit {0}
-AreFound s at (p ∷ ps) [] = Unit {0}
-AreFound s at (p ∷ ps) (f ∷ fs) = IsFound s at p × AreFound s (at + words_of p f) ps fs
+abbrev pub AreFound : Tables → (at : ℕ) → List Piece → List Form → Type 0
+AreFound image at [] fs = Unit {0}
+AreFound image at (p ∷ ps) [] = Unit {0}
+AreFound image at (p ∷ ps) (f ∷ fs) = IsFound image at p × AreFound image (at + words_of p f) ps fs
 
-module _ (s : Fixed) where
-  pub found_first : (at : ℕ) (xs ys : List Piece) (fs : List Form) → AreFound s at (xs ++ ys) fs → AreFound s at xs (take (length xs) fs)
+module _ (image : Tables) where
+  pub found_first : (at : ℕ) (xs ys : List Piece) (fs : List Form) → AreFound image at (xs ++ ys) fs → AreFound image at xs (take (length xs) fs)
   found_first at [] ys fs found = tt
   found_first at (x ∷ xs) ys [] found = tt
   found_first at (x ∷ xs) ys (f ∷ fs) found = (found.0, found_first (at + words_of x f) xs ys fs found.1)
 
-  found_none : (at : ℕ) (ps : List Piece) → AreFound s at ps []
+  found_none : (at : ℕ) (ps : List Piece) → AreFound image at ps []
   found_none at [] = tt
   found_none at (p ∷ ps) = tt
 
-  pub found_second : (at : ℕ) (xs ys : List Piece) (fs : List Form) → AreFound s at (xs ++ ys) fs →
-      AreFound s (at + total_words xs fs) ys (drop (length xs) fs)
-  found_second at [] ys fs found = let e : at ≡ at + 0 = omega arith in subst (λ k. AreFound s k ys fs) e found
+  pub found_second : (at : ℕ) (xs ys : List Piece) (fs : List Form) → AreFound image at (xs ++ ys) fs →
+      AreFound image (at + total_words xs fs) ys (drop (length xs) fs)
+  found_second at [] ys fs found = let e : at ≡ at + 0 = omega arith in subst (λ k. AreFound image k ys fs) e found
   found_second at (x ∷ xs) ys [] found = found_none (at + 0) ys
   found_second at (x ∷ xs) ys (f ∷ fs) found =
       let e : at + words_of x f + total_words xs fs ≡ at + (words_of x f + total_words xs fs) = omega arith in
-      subst (λ k. AreFound s k ys (drop (length xs) fs)) e (found_second (at + words_of x f) xs ys fs found.1)
+      subst (λ k. AreFound image k ys (drop (length xs) fs)) e (found_second (at + words_of x f) xs ys fs found.1)
 
 -- ---- parts
 
 -- the pieces stand, and their descriptors are found
 pub record PartFound (s : Fixed) (n : Named) (at to : ℕ) (ps : List Piece) : Type 0 where
   pub part : PartStands s n at to ps
-  pub found : AreFound s at ps part.forms
+  pub found : AreFound s.image at ps part.forms
 
-module _ (s : Fixed) (n : Named) (traps : ℕ → ℕ) (f : Frame) where
+module _ (traps : ℕ → ℕ) (f : Frame) where
   abbrev pub Place : List Descr → List Line → List Form → (at k : ℕ) → ℕ
   Place ds code fs at k = place_of_part traps f ds code fs at k
 
@@ -127,6 +128,28 @@ module _ (s : Fixed) (n : Named) (traps : ℕ → ℕ) (f : Frame) where
       (Place (left_in ds i) next (drop (length part) fs) (at + total_words part fs) k)
       (omega arith, omega arith) (omega (arith, low), omega (arith, high, both))
 
+  -- the fewer lines are left, the later is the place
+  pub place_rises : (ds : List Descr) (code : List Line) (fs : List Form) (at fewer more : ℕ) → fewer ≤ more →
+      Place ds code fs at more ≤ Place ds code fs at fewer
+  place_rises ds [] fs at fewer more h = omega arith
+  place_rises ds (i ∷ next) fs at fewer more h =
+      by (nat_lt (length next) more) refl (place_within ds (i ∷ next) fs at fewer).0 (place_rises (left_in ds i) next left later fewer more h)
+    where
+      left : List Form
+      left = drop (length (part_in traps f ds i next)) fs
+
+      later : ℕ
+      later = at + total_words (part_in traps f ds i next) fs
+
+      by : (b : Bool) → nat_lt (length next) more ≡ b → at ≤ Place ds (i ∷ next) fs at fewer →
+          Place (left_in ds i) next left later more ≤ Place (left_in ds i) next left later fewer →
+          cond b at (Place (left_in ds i) next left later more) ≤ Place ds (i ∷ next) fs at fewer
+      by true e low rest = low
+      by false e low rest =
+          let few : more ≤ length next = ltb-false (length next) more e in
+          let same = place_later ds i next fs at fewer (omega (arith, few, h)) in
+          omega (arith, rest, same)
+
   -- from a later start each place is later by as much
   pub place_moved : (ds : List Descr) (code : List Line) (fs : List Form) (b at k : ℕ) → Place ds code fs (b + at) k ≡ b + Place ds code fs at k
   place_moved ds [] fs b at k = refl
@@ -145,11 +168,12 @@ module _ (s : Fixed) (n : Named) (traps : ℕ → ℕ) (f : Frame) where
           let same : b + at + words ≡ b + (at + words) = omega arith in
           ap (λ x. Place (left_in ds i) next left x k) same ∙ e
 
+module _ (s : Fixed) (n : Named) (traps : ℕ → ℕ) (f : Frame) where
   -- the part of each line stands from its place up to that of the next line's
   pub line_part : {i : Line} {next : List Line} (ds : List Descr) (code : List Line) (fs : List Form) (at : ℕ) → Stands i next code →
       HasPieces s.image.code n at (parts traps f ds code) fs → ReachFrom (label_place n) at (parts traps f ds code) fs →
-      AreFound s at (parts traps f ds code) fs →
-      PartFound s n (Place ds code fs at (suc (length next))) (Place ds code fs at (length next))
+      AreFound s.image at (parts traps f ds code) fs →
+      PartFound s n (Place traps f ds code fs at (suc (length next))) (Place traps f ds code fs at (length next))
       (part_of (traps (length next)) f (descriptor_of ds code (length next)) i)
   line_part ds [] fs at stands has reach found = elim stands [ ]
   line_part ds (i ∷ next) fs at here has reach found =
@@ -162,15 +186,15 @@ module _ (s : Fixed) (n : Named) (traps : ℕ → ℕ) (f : Frame) where
           reach = reach_first (label_place n) at part rest fs reach;
           past = ap (λ k. at + k) (sym (words_first part fs));
         };
-        found = found_first s at part rest fs found;
+        found = found_first s.image at part rest fs found;
       } in
-      let begin = place_first ds (i ∷ next) fs at in
-      let end = place_later ds i next fs at (length next) (omega arith) ∙ place_first (left_in ds i) next (drop (length part) fs) (at + total_words part fs) in
+      let begin = place_first traps f ds (i ∷ next) fs at in
+      let end = place_later traps f ds i next fs at (length next) (omega arith) ∙ place_first traps f (left_in ds i) next (drop (length part) fs) (at + total_words part fs) in
       let own : descriptor_of ds (i ∷ next) (length next) ≡ descriptor (passes_frame i.op) ds =
       ap (λ b. cond b (descriptor (passes_frame i.op) ds) (descriptor_of (left_in ds i) next (length next))) (same_yes (length next)) in
       let placed = subst (λ a. PartFound s n a (at + total_words part fs) part) (sym begin) it in
-      let ended = subst (λ b. PartFound s n (Place ds (i ∷ next) fs at (suc (length next))) b part) (sym end) placed in
-      subst (λ d. PartFound s n (Place ds (i ∷ next) fs at (suc (length next))) (Place ds (i ∷ next) fs at (length next))
+      let ended = subst (λ b. PartFound s n (Place traps f ds (i ∷ next) fs at (suc (length next))) b part) (sym end) placed in
+      subst (λ d. PartFound s n (Place traps f ds (i ∷ next) fs at (suc (length next))) (Place traps f ds (i ∷ next) fs at (length next))
       (part_of (traps (length next)) f d i)) (sym own) ended
   line_part {i} {next} ds (j ∷ is) fs at (below stands) has reach found =
       let part = part_in traps f ds j is in
@@ -178,13 +202,13 @@ module _ (s : Fixed) (n : Named) (traps : ℕ → ℕ) (f : Frame) where
       let left = drop (length part) fs in
       let h = shorter stands in
       let it = line_part (left_in ds j) is left (at + total_words part fs) stands (has_second s.image.code n at part rest fs has)
-      (reach_second (label_place n) at part rest fs reach) (found_second s at part rest fs found) in
-      let begin = place_later ds j is fs at (suc (length next)) h in
-      let end = place_later ds j is fs at (length next) (omega (arith, h)) in
+      (reach_second (label_place n) at part rest fs reach) (found_second s.image at part rest fs found) in
+      let begin = place_later traps f ds j is fs at (suc (length next)) h in
+      let end = place_later traps f ds j is fs at (length next) (omega (arith, h)) in
       let own : descriptor_of ds (j ∷ is) (length next) ≡ descriptor_of (left_in ds j) is (length next) =
       ap (λ b. cond b (descriptor (passes_frame j.op) ds) (descriptor_of (left_in ds j) is (length next))) (same_no (length is) (length next) h) in
       let line = part_of (traps (length next)) f (descriptor_of (left_in ds j) is (length next)) i in
-      let placed = subst (λ a. PartFound s n a (Place (left_in ds j) is left (at + total_words part fs) (length next)) line) (sym begin) it in
-      let ended = subst (λ b. PartFound s n (Place ds (j ∷ is) fs at (suc (length next))) b line) (sym end) placed in
-      subst (λ d. PartFound s n (Place ds (j ∷ is) fs at (suc (length next))) (Place ds (j ∷ is) fs at (length next))
+      let placed = subst (λ a. PartFound s n a (Place traps f (left_in ds j) is left (at + total_words part fs) (length next)) line) (sym begin) it in
+      let ended = subst (λ b. PartFound s n (Place traps f ds (j ∷ is) fs at (suc (length next))) b line) (sym end) placed in
+      subst (λ d. PartFound s n (Place traps f ds (j ∷ is) fs at (suc (length next))) (Place traps f ds (j ∷ is) fs at (length next))
       (part_of (traps (length next)) f d i)) (sym own) ended

@@ -1,8 +1,6 @@
 -- What is known of the lines of a function besides their words.
 use Rattle.std.proofs.Common.{◌≡◌, ℕ, ◌+◌, ◌<◌, Bool, true, false, cond, ◌||◌, List, [], ◌∷◌, ◌++◌, length, Option, None, refl, ap, ◌∙◌, subst, arith}
-use Rattle.std.specs.List.{AllByRecursion, Contains}
-use Rattle.std.proofs.lemmas.List.Elements.{Contains-append_right}
-use Rattle.bs_words.specs.declared.types.Comp.{Comp}
+use Rattle.std.specs.List.{AllByRecursion}
 use Rattle.emit_rules.specs.Emitted.{descriptor, part_of, parts}
 use Rattle.emit_rules.specs.Entry.{Frame}
 use Rattle.emit_rules.specs.Traversal.{Allows, Each, each_more}
@@ -10,15 +8,13 @@ use Rattle.emit_rules.proofs.Traverse.{part-in}
 use Rattle.layout_rules.specs.declared.form.Form.{Form}
 use Rattle.layout_rules.specs.Forms.{total_words, words_of}
 use Rattle.lin_ir.specs.Descriptors.{has_frame_point}
-use Rattle.lin_ir.specs.Formed.{IsCopy, SpareIsPassing, spare, is_copy}
 use Rattle.lin_ir.specs.Meaning.{passes_frame}
 use Rattle.lin_ir.specs.Walks.{Stands, here, below}
 use Rattle.lin_ir.specs.declared.descr.Descr.{Descr}
 use Rattle.lin_ir.specs.declared.lin.Line.{Line}
-use Rattle.lin_ir.specs.declared.lin.Lin.{Lin}
 use Rattle.lin_ir.specs.declared.lin.LinOp.{LinOp}
 use Rattle.lin_ir.specs.declared.lin.LinOp.TheVariants as lin
-use Rattle.line_calls.specs.Points.{AreMarked, IsMarked, IsTurn}
+use Rattle.line_calls.specs.Points.{AreMarked, IsMarked}
 use Rattle.linear_machine.specs.View.{Fixed}
 use Rattle.linear_rules.proofs.Homes.{IsIn, is_first, is_later}
 use Rattle.mach_ir.specs.declared.op.Calling.TheVariants as calling
@@ -32,7 +28,7 @@ use Rattle.function_stands.proofs.Parts.{AreFound, IsFound, descriptor_of, left_
 -- ---- marks
 
 module _ (s : Fixed) where
-  mark_one : (at : ℕ) (p : Piece) → IsFound s at p → at < length s.image.code → IsMarked s at p
+  mark_one : (at : ℕ) (p : Piece) → IsFound s.image at p → at < length s.image.code → IsMarked s at p
   mark_one at (Descriptor d) found h = (found, h)
   mark_one at (Known i) found h = tt
   mark_one at (Label l) found h = tt
@@ -46,7 +42,7 @@ module _ (s : Fixed) where
   mark_one at (ExternalNumber r row) found h = tt
 
   -- where the pieces end before the code does
-  pub found_marked : (at : ℕ) (ps : List Piece) (fs : List Form) → AreFound s at ps fs → at + total_words ps fs < length s.image.code → AreMarked s at ps fs
+  pub found_marked : (at : ℕ) (ps : List Piece) (fs : List Form) → AreFound s.image at ps fs → at + total_words ps fs < length s.image.code → AreMarked s at ps fs
   found_marked at [] fs found h = tt
   found_marked at (p ∷ ps) [] found h = tt
   found_marked at (p ∷ ps) (f ∷ fs) found h =
@@ -99,16 +95,6 @@ point_saves (j ∷ js) (below stands) point = by (passes_frame j.op) (point_save
     by : (b : Bool) → has_frame_point js ≡ true → b || has_frame_point js ≡ true
     by true e = refl
     by false e = e
-
--- ---- t0
-
-no_copy : (f : LinOp) → IsTurn f → IsCopy f → ⊥
-no_copy f turn is_copy = elim turn [ ]
-
-pub unwritten : (m : Lin) (i : Line) → SpareIsPassing m → Contains m.code i → IsTurn i.op → (t : Comp) →
-    Contains i.results (record { loc = spare; comp = t }) → ⊥
-unwritten m i passing among turn t c =
-    no_copy i.op turn (passing.copies i among t (Contains-append_right i.args i.results (record { loc = spare; comp = t }) c))
 
 -- ---- pieces by their lines
 

@@ -1,6 +1,5 @@
--- What symbols stand for in the image: addresses of functions and of static data.
-use Rattle.std.proofs.Common.{◌≡◌, ℕ, zero, suc, ◌+◌, ◌<◌, ◌≤◌, Bool, true, false, cond, List, [], ◌∷◌, ◌++◌, length, map, bytes_eq, Some, None, refl, sym, subst, arith}
-use Rattle.std.specs.Prelude.{slice_index}
+-- What symbols stand for: functions of the file, and addresses of its static data.
+use Rattle.std.proofs.Common.{◌≡◌, ℕ, suc, ◌+◌, ◌<◌, ◌≤◌, Bool, true, false, cond, List, [], ◌∷◌, ◌++◌, length, map, bytes_eq, Some, None, sym, subst, arith}
 use Rattle.std.specs.Option.{option_to_list}
 use Rattle.bs_words.specs.Fits.{data_start}
 use Rattle.bs_words.specs.declared.values.Value.{Value}
@@ -10,13 +9,8 @@ use Rattle.cmm_data.specs.Placement.{Definition, built_in, defined_at, defined_b
 use Rattle.cmm_data.proofs.Steps.{end-within}
 use Rattle.cmm_data.proofs.Table.{defined_at-next}
 use Rattle.cmm_data.proofs.Walk.{sound-first, sound-list, start-within}
-use Rattle.cmm_tree.specs.Tree.{AData, AFunction, Address, AFloat, Align, Byte, DataItemTree, DataListTree, DatumTree, Define, FileTree, FunctionTree, Global, Half, Int, ItemTree, Skip, Text, Val, data_among, functions, functions_among}
-use Rattle.layout_rules.specs.declared.form.Form.{Form}
-use Rattle.layout_rules.specs.Forms.{total_words}
-use Rattle.layout_rules.specs.Laid.{AreAllForms, address_of_place, entries_from, rows_from}
+use Rattle.cmm_tree.specs.Tree.{AData, AFunction, Address, AFloat, Align, Byte, DataItemTree, DataListTree, DatumTree, Define, FileTree, Global, Half, Int, ItemTree, Skip, Text, Val, data_among, functions, functions_among}
 use Rattle.linear_rules.proofs.Homes.{IsIn, is_first, is_later}
-use Rattle.moving_laws.specs.Values.{function_at}
-use Rattle.rv_pieces.specs.declared.piece.Pieces.{Pieces}
 
 -- a function below this number, or an address of the data
 pub data IsInFile (count : ℕ) : Value → Type 0 where
@@ -108,22 +102,3 @@ value_placed count (d ∷ ds) name v all e = by (bytes_eq d.name name) e (λ q. 
 pub symbol_placed : (file : FileTree) (name : List ℕ) (v : Value) → data_fault_of file ≡ None → value_of_symbol file name ≡ Some v →
     IsInFile (length (functions file)) v
 symbol_placed file name v none e = value_placed (length (functions file)) (definitions file) name v (file_placed file none) e
-
--- ---- the addresses of functions
-
-pub function_at_entry : (fs : List FunctionTree) (ps : List Pieces) (forms : List (List Form)) (at k : ℕ) → length ps ≡ length fs → AreAllForms ps forms →
-    k < length fs → function_at (rows_from at fs ps forms) k ≡ address_of_place (slice_index (entries_from at ps forms) k)
-function_at_entry [] ps forms at k same are below = absurd (omega (arith, below))
-function_at_entry (f ∷ fs) [] forms at k same are below = absurd (omega (arith, same))
-function_at_entry (f ∷ fs) (p ∷ ps) [] at k same are below = absurd are
-function_at_entry (f ∷ fs) (p ∷ ps) (g ∷ forms) at zero same are below = refl
-function_at_entry (f ∷ fs) (p ∷ ps) (g ∷ forms) at (suc k) same are below =
-    function_at_entry fs ps forms (at + total_words p.code g) k (omega (arith, same)) are.1 (omega (arith, below))
-
-pub as_many_rows : (fs : List FunctionTree) (ps : List Pieces) (forms : List (List Form)) (at : ℕ) → length ps ≡ length fs → AreAllForms ps forms →
-    length (rows_from at fs ps forms) ≡ length fs
-as_many_rows [] ps forms at same are = refl
-as_many_rows (f ∷ fs) [] forms at same are = absurd (omega (arith, same))
-as_many_rows (f ∷ fs) (p ∷ ps) [] at same are = absurd are
-as_many_rows (f ∷ fs) (p ∷ ps) (g ∷ forms) at same are =
-    let rest = as_many_rows fs ps forms (at + total_words p.code g) (omega (arith, same)) are.1 in omega (arith, rest)

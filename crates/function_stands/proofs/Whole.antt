@@ -1,12 +1,13 @@
--- A function that was compiled stands in the image.
+-- A chained function stands in the image of its file.
 use Rattle.std.proofs.Common.{◌≡◌, ℕ, zero, suc, ◌+◌, ◌*◌, ◌^◌, ◌<◌, ◌≤◌, Bool, true, false, List, [], ◌∷◌, ◌++◌, length, drop, take, Option, Some, None, refl, sym, ap, ◌∙◌, subst, arith}
 use Rattle.std.specs.Prelude.{slice_get, slice_index}
 use Rattle.std.specs.List.{AllByRecursion, Contains}
+use Rattle.bs_words.specs.Fits.{data_start}
 use Rattle.bs_words.specs.declared.values.Value.{Value}
 use Rattle.bs_words.specs.declared.values.Value.TheVariants.{Word, Block, Function}
 use Rattle.cmm_data.specs.Placement.{value_of_symbol}
 use Rattle.cmm_meaning.specs.Setting.{Setting}
-use Rattle.cmm_tree.specs.Tree.{FileTree, functions}
+use Rattle.cmm_tree.specs.Tree.{FileTree, FunctionTree, functions}
 use Rattle.emit_rules.specs.Emitted.{emitted, part_of, parts}
 use Rattle.emit_rules.specs.Entry.{Frame, entry, frame_of}
 use Rattle.emit_rules.specs.Named.{IsExternalOf}
@@ -21,17 +22,15 @@ use Rattle.layout_rules.specs.Stands.{HasPieces}
 use Rattle.layout_rules.specs.Words.{Named}
 use Rattle.layout_rules.proofs.Functions.{stands}
 use Rattle.layout_rules.proofs.Relaxing.{forms_once}
-use Rattle.lin_ir.specs.Descriptors.{IsDescr, frame_bytes, has_frame_point}
-use Rattle.lin_ir.specs.Formed.{IsFormed, Locates, labels_in}
+use Rattle.lin_ir.specs.Descriptors.{IsDescr, NamesLives, frame_bytes, has_frame_point}
+use Rattle.lin_ir.specs.Formed.{IsFormed, Locates, WellFormed, labels_in}
 use Rattle.lin_ir.specs.Meaning.{NamedAt, after_label, passes_frame}
 use Rattle.lin_ir.specs.Walks.{Reached, Stands, at_entry, by_step, by_walk, goes}
 use Rattle.lin_ir.specs.declared.descr.Descr.{Descr}
-use Rattle.lin_ir.specs.declared.lin.Flow.TheVariants as flow
 use Rattle.lin_ir.specs.declared.lin.Lin.{Lin}
 use Rattle.lin_ir.specs.declared.lin.Line.{Line}
-use Rattle.lin_ir.specs.declared.lin.LinOp.TheVariants as lin
 use Rattle.line_calls.specs.Points.{AreMarked, EntriesStand, IsTurn, PointStands}
-use Rattle.line_stands.specs.Lines.{LineStands, OffsetFits}
+use Rattle.line_stands.specs.Lines.{LineStands, Nowhere, OffsetFits}
 use Rattle.line_stands.specs.Names.{IsRowAt, NamesStand}
 use Rattle.line_stands.specs.Parts.{PartStands, label_place}
 use Rattle.linear_machine.specs.Relation.{Laid, StandsFor}
@@ -39,28 +38,29 @@ use Rattle.linear_machine.specs.View.{Fixed}
 use Rattle.linear_rules.proofs.Homes.{IsIn, in_of}
 use Rattle.linear_rules.proofs.Marks.{all_in}
 use Rattle.emit_rules.proofs.Names.{stands-contains}
-use Rattle.linear_rules.proofs.Walked.{Tail, stands_tail, tail_all, tail_label, tail_more, tail_next}
+use Rattle.linear_rules.proofs.Walked.{Tail, stands_tail, tail_next}
 use Rattle.mach_ir.specs.Acts.{On, row_of}
 use Rattle.mach_ir.specs.declared.op.External.{External}
-use Rattle.moving_laws.specs.Values.{function_at}
+use Rattle.made_functions.specs.Chained.{IsChained}
+use Rattle.moving_laws.specs.Values.{HasFunctions, IsKnown, function_at, value_word}
 use Rattle.rv_pieces.specs.declared.piece.Piece.{Piece}
 use Rattle.rv_pieces.specs.declared.piece.Pieces.{Pieces}
-use Rattle.function_stands.specs.Compiled.{IsCompiled}
+use Rattle.function_stands.specs.Compiled.{IsImageOf}
 use Rattle.function_stands.specs.Functions.{FunctionStands, LineAt, entry_place}
-use Rattle.function_stands.specs.Spare.{SpareLive}
 use Rattle.function_stands.proofs.Described.{is_described, none_over_calls}
 use Rattle.function_stands.proofs.Ending.{place_before, points_go_on}
+use Rattle.function_stands.proofs.Entries.{as_many, entry_address, entry_is, frame_at, rows_are}
 use Rattle.function_stands.proofs.Exact.{Described, described}
 use Rattle.function_stands.proofs.Found.{all_found, shares}
 use Rattle.function_stands.proofs.Handlers.{pushed, pushed_stands}
 use Rattle.function_stands.proofs.Labels.{entry_past, label_past, label_place_is}
-use Rattle.function_stands.proofs.Parts.{AreFound, PartFound, found_second, Place, descriptor_of, line_part, place_first, place_moved, place_within, shorter}
-use Rattle.function_stands.proofs.Points.{external_in, found_marked, no_descriptor, none_marked, point_saves, unwritten}
+use Rattle.function_stands.proofs.Parts.{AreFound, PartFound, found_second, Place, descriptor_of, line_part, place_first, place_moved, place_rises, place_within}
+use Rattle.function_stands.proofs.Points.{external_in, found_marked, no_descriptor, none_marked, point_saves}
 use Rattle.function_stands.proofs.Reaching.{reach_moved}
 use Rattle.function_stands.proofs.Rows.{row_found}
-use Rattle.function_stands.proofs.Spare.{spare_entry, spare_passes, spare_unnamed}
 use Rattle.function_stands.proofs.Splitting.{has_first, has_second, reach_first, reach_second, words_both, words_first}
-use Rattle.function_stands.proofs.Symbols.{IsInFile, as_many_rows, function_at_entry, of_data, of_function, symbol_placed}
+use Rattle.function_stands.proofs.Symbols.{IsInFile, of_data, of_function, symbol_placed}
+use Rattle.function_stands.proofs.Unnamed.{spare_passes, spare_unnamed, unwritten}
 
 some_same : {A : Type 0} (x y : A) → Some x ≡ Some y → x ≡ y
 some_same x y e = cc
@@ -78,21 +78,13 @@ index_is [] k x e = cc
 index_is (y ∷ xs) zero x e = some_same y x e
 index_is (y ∷ xs) (suc k) x e = index_is xs k x e
 
-tail_within : {xs ys zs : List Line} → Tail xs ys → Tail ys zs → Tail xs zs
-tail_within t tail_all = t
-tail_within t (tail_more u) = tail_more (tail_within t u)
-
-index_below : {A : Type 0} (xs : List A) (k : ℕ) (x : A) → slice_get xs k ≡ Some x → k < length xs
-index_below [] k x e = cc
-index_below (y ∷ xs) zero x e = omega arith
-index_below (y ∷ xs) (suc k) x e = let h = index_below xs k x e in omega (arith, h)
-
-module _ (s : Fixed) (file : FileTree) (ps : List Pieces) (c : Setting) (k : ℕ) (m : Lin) (ds : List Descr) (named : NamedAt)
-    (it : IsCompiled s file ps c k m ds named) where
+module _ (image : Tables) (file : FileTree) (ps : List Pieces) (c : Setting) (k : ℕ) (tree : FunctionTree) (m : Lin) (ds : List Descr)
+    (p : Pieces) (named : NamedAt) (of : IsImageOf image file ps c) (is_there : slice_get ps k ≡ Some p) (it : IsChained tree m ds p)
+    (lives : NamesLives m named) (functions_are : HasFunctions image) where
   -- ---- the function in the image
 
   abbrev forms : List (List Form)
-  forms = it.image.laid.forms
+  forms = of.laid.forms
 
   abbrev entries : List ℕ
   entries = entries_from stub_words ps forms
@@ -103,14 +95,17 @@ module _ (s : Fixed) (file : FileTree) (ps : List Pieces) (c : Setting) (k : ℕ
   abbrev pieces : Pieces
   pieces = emitted m traps ds
 
-  there : slice_get ps k ≡ Some pieces
-  there = it.there ∙ ap Some it.emitted.is
+  abbrev well : WellFormed m
+  well = it.regular.well
 
-  placed : layout.Stands file entries s.image k pieces
+  there : slice_get ps k ≡ Some pieces
+  there = is_there ∙ ap Some it.emitted.is
+
+  placed : layout.Stands file entries image k pieces
   placed =
-      let is = it.image.laid.is in
-      let short = subst (λ (t : Tables). 4 * length t.code ≤ 268369920) is s.functions.tables.code.short in
-      subst (λ (t : Tables). layout.Stands file entries t k pieces) (sym is) (stands file ps forms k pieces it.image.can it.image.laid.are short there)
+      let is = of.laid.is in
+      let short = subst (λ (t : Tables). 4 * length t.code ≤ 268369920) is of.short in
+      subst (λ (t : Tables). layout.Stands file entries t k pieces) (sym is) (stands file ps forms k pieces of.can of.laid.are short there)
 
   abbrev place : ℕ
   place = placed.place
@@ -124,7 +119,7 @@ module _ (s : Fixed) (file : FileTree) (ps : List Pieces) (c : Setting) (k : ℕ
   same_label : (l : ℕ) → label_place n l ≡ place + place_of pieces.code fs l
   same_label l = omega arith
 
-  has : HasPieces s.image.code n place pieces.code fs
+  has : HasPieces image.code n place pieces.code fs
   has = placed.stands.has
 
   reach : ReachFrom (label_place n) place pieces.code fs
@@ -133,17 +128,17 @@ module _ (s : Fixed) (file : FileTree) (ps : List Pieces) (c : Setting) (k : ℕ
       subst (λ at. ReachFrom (label_place n) at pieces.code fs) e
       (reach_moved (place_of pieces.code fs) (label_place n) place same_label 0 pieces.code fs placed.are.reach)
 
-  among : (d : Desc) → IsIn d (descs_in place pieces.code fs) → IsIn d s.image.descs
+  among : (d : Desc) → IsIn d (descs_in place pieces.code fs) → IsIn d image.descs
   among d z =
-      let share = shares stub_words ps forms k pieces it.image.laid.are there in
+      let share = shares stub_words ps forms k pieces of.laid.are there in
       let same_forms = forms_once pieces.code share.of placed.forms share.are placed.are in
       let same_place : share.place ≡ placed.place = some_same share.place placed.place (sym share.entry ∙ placed.entry) in
       let z' = subst (λ at. IsIn d (descs_in at pieces.code placed.forms)) (sym same_place) z in
       let z'' = subst (λ gs. IsIn d (descs_in share.place pieces.code gs)) (sym same_forms) z' in
-      subst (λ (t : Tables). IsIn d t.descs) (sym it.image.laid.is) (share.among d z'')
+      subst (λ (t : Tables). IsIn d t.descs) (sym of.laid.is) (share.among d z'')
 
-  found : AreFound s place pieces.code fs
-  found = all_found s s.functions.tables.descs.rising place pieces.code fs among
+  found : AreFound image place pieces.code fs
+  found = all_found image functions_are.tables.descs.rising place pieces.code fs among
 
   -- ---- the entry, and the parts of the lines
 
@@ -159,17 +154,17 @@ module _ (s : Fixed) (file : FileTree) (ps : List Pieces) (c : Setting) (k : ℕ
   abbrev left : List Form
   left = drop (length (entry f)) fs
 
-  body_has : HasPieces s.image.code n start body left
-  body_has = has_second s.image.code n place (entry f) body fs has
+  body_has : HasPieces image.code n start body left
+  body_has = has_second image.code n place (entry f) body fs has
 
   body_reach : ReachFrom (label_place n) start body left
   body_reach = reach_second (label_place n) place (entry f) body fs reach
 
-  body_found : AreFound s start body left
-  body_found = found_second s place (entry f) body fs found
+  body_found : AreFound image start body left
+  body_found = found_second image place (entry f) body fs found
 
   abbrev part_place : ℕ → ℕ
-  part_place q = Place s n traps f ds m.code left start q
+  part_place q = Place traps f ds m.code left start q
 
   laid : Laid
   laid = record {
@@ -182,26 +177,27 @@ module _ (s : Fixed) (file : FileTree) (ps : List Pieces) (c : Setting) (k : ℕ
     room = omega arith;
   }
 
-  part_within : (q : ℕ) → part_place q ≤ length s.image.code
+  part_within : (q : ℕ) → part_place q ≤ length image.code
   part_within q =
-      let high = (place_within s n traps f ds m.code left start q).1 in
+      let high = (place_within traps f ds m.code left start q).1 in
       let both = words_both (entry f) body fs in
       let within = placed.stands.within in
       omega (arith, high, both, within)
 
   -- what has a line behind it to which a walk comes is no end of the code
   part_before : (q : ℕ) {suffix : List Line} {tries : List ℕ} → Reached m suffix tries → Tail suffix m.code → length suffix ≤ q →
-      part_place q < length s.image.code
+      part_place q < length image.code
   part_before q reached tail h =
-      let high = place_before s n traps f m it.whole.unended ds m.code left start start q reached tail h body_has in
+      let high = place_before image.code n traps f m it.unended ds m.code left start start q reached tail h body_has in
       let both = words_both (entry f) body fs in
       let within = placed.stands.within in
       omega (arith, high, both, within)
 
-  entry_stands : PartStands s n place start (entry f)
-  entry_stands = record {
+  entry_stands : (s : Fixed) → s.image ≡ image → PartStands s n place start (entry f)
+  entry_stands s e = record {
     forms = take (length (entry f)) fs;
-    has = has_first s.image.code n place (entry f) body fs has;
+    has = subst (λ (t : Tables). HasPieces t.code n place (entry f) (take (length (entry f)) fs)) (sym e)
+        (has_first image.code n place (entry f) body fs has);
     reach = reach_first (label_place n) place (entry f) body fs reach;
     past = ap (λ q. place + q) (sym (words_first (entry f) fs));
   }
@@ -212,187 +208,191 @@ module _ (s : Fixed) (file : FileTree) (ps : List Pieces) (c : Setting) (k : ℕ
   label_is l among =
       let q = length (after_label l m.code) in
       let zero_on : ℕ = 0 + total_words (entry f) fs in
-      let by : label_from l 0 (entry f ++ body) fs ≡ Some (Place s n traps f ds m.code left zero_on q) =
-      label_past l 0 (entry f) body fs (entry_past l f) ∙ label_place_is s n traps f l zero_on start ds m.code left among body_has in
-      let moved = place_moved s n traps f ds m.code left place zero_on q in
+      let by : label_from l 0 (entry f ++ body) fs ≡ Some (Place traps f ds m.code left zero_on q) =
+      label_past l 0 (entry f) body fs (entry_past l f) ∙ label_place_is image.code n traps f l zero_on start ds m.code left among body_has in
+      let moved = place_moved traps f ds m.code left place zero_on q in
       let same : place + zero_on ≡ start = omega arith in
       let at : place + place_of pieces.code fs l ≡ part_place q =
-      ap (λ (o : Option ℕ). place + place_or_entry o) by ∙ sym moved ∙ ap (λ b. Place s n traps f ds m.code left b q) same in
+      ap (λ (o : Option ℕ). place + place_or_entry o) by ∙ sym moved ∙ ap (λ b. Place traps f ds m.code left b q) same in
       ap address_of_place at
 
-  rows_are : (g : ℕ) → g < length (functions file) → function_at s.image.funcs g ≡ address_of_place (slice_index entries g)
-  rows_are g below =
-      ap (λ (t : Tables). function_at t.funcs g) it.image.laid.is
-      ∙ function_at_entry (functions file) ps forms stub_words g it.image.can.each_one it.image.laid.are below
+  -- the word of a value, where no block is there
+  abbrev IsOf : Tables → ℕ → Value → Type 0
+  IsOf t w v = (w ≡ value_word t [] v) × IsKnown t 0 v × (w < 2 ^ 30)
 
-  as_many : length s.image.funcs ≡ length (functions file)
-  as_many =
-      ap (λ (t : Tables). length t.funcs) it.image.laid.is
-      ∙ as_many_rows (functions file) ps forms stub_words it.image.can.each_one it.image.laid.are
+  value_is : (v : Value) → IsInFile (length (functions file)) v → IsOf image (address_of_value entries (Some v)) v
+  value_is (Word a) (of_data h) = (refl, tt, omega (arith, h))
+  value_is (Function g) (of_function h) =
+      let inside : g < length image.funcs = omega (arith, h, as_many image file ps c of) in
+      let below = functions_are.inside g inside in
+      let short = of.short in
+      let e = rows_are image file ps c of g in
+      (sym e, inside, omega (arith, below, short, e))
+  value_is (Block serial offset) of = elim of [ ]
 
-  value_stands : (v : Value) → IsInFile (length (functions file)) v →
-      StandsFor s [] (address_of_value entries (Some v)) v × (address_of_value entries (Some v) < 2 ^ 30)
-  value_stands (Word a) (of_data h) = (record { is = refl; known = tt }, omega (arith, h))
-  value_stands (Function g) (of_function h) =
-      let inside : g < length s.image.funcs = omega (arith, h, as_many) in
-      let below = s.functions.inside g inside in
-      let short = s.functions.tables.code.short in
-      let e = rows_are g h in
-      (record { is = sym e; known = inside }, omega (arith, below, short, e))
-  value_stands (Block serial offset) of = elim of [ ]
-
-  symbol_is : (name : List ℕ) (v : Value) → c.symbol name ≡ Some v → StandsFor s [] (n.symbol name) v × (n.symbol name < 2 ^ 30)
+  symbol_is : (name : List ℕ) (v : Value) → c.symbol name ≡ Some v → IsOf image (n.symbol name) v
   symbol_is name v e =
-      let of_file : value_of_symbol file name ≡ Some v = sym (it.image.symbols name) ∙ e in
-      let stands = value_stands v (symbol_placed file name v it.image.can.of_file.no_fault of_file) in
-      subst (λ (o : Option Value). StandsFor s [] (address_of_value entries o) v × (address_of_value entries o < 2 ^ 30)) (sym of_file) stands
+      let of_file : value_of_symbol file name ≡ Some v = sym (of.symbols name) ∙ e in
+      let stands = value_is v (symbol_placed file name v of.can.of_file.no_fault of_file) in
+      subst (λ (o : Option Value). IsOf image (address_of_value entries o) v) (sym of_file) stands
 
-  external_is : (row : External) → IsExternalOf m row → IsRowAt s row (n.external (row_of row))
-  external_is row is =
-      let laid_one = all_at (IsFunctionLaid file) ps k pieces it.image.can.each there in
-      let line = in_of is.line m.code is.among in
-      let named_one = external_in (IsNamed file pieces.code) traps f (entry f) ds m.code is.line row is.frame laid_one.named line is.is in
-      let at = row_found (externals file) (row_of row) (in_of (row_of row) (externals file) (named_one.external row refl)) in
-      record {
-        ext = at.0;
-        there = ap (λ (t : Tables). slice_get t.extcs (n.external (row_of row))) it.image.laid.is ∙ at.1;
-        name = at.2;
-        params = at.3;
-        result = at.4;
+  -- ---- in a run
+
+  module _ (s : Fixed) (same : s.image ≡ image) where
+    symbol_stands : (name : List ℕ) (v : Value) → c.symbol name ≡ Some v → StandsFor s [] (n.symbol name) v × (n.symbol name < 2 ^ 30)
+    symbol_stands name v e =
+        let own = subst (λ t. IsOf t (n.symbol name) v) (sym same) (symbol_is name v e) in
+        (record { is = own.0; known = own.1 }, own.2)
+
+    external_stands : (row : External) → IsExternalOf m row → IsRowAt s row (n.external (row_of row))
+    external_stands row is =
+        let laid_one = all_at (IsFunctionLaid file) ps k pieces of.can.each there in
+        let line = in_of is.line m.code is.among in
+        let named_one = external_in (IsNamed file pieces.code) traps f (entry f) ds m.code is.line row is.frame laid_one.named line is.is in
+        let at = row_found (externals file) (row_of row) (in_of (row_of row) (externals file) (named_one.external row refl)) in
+        record {
+          ext = at.0;
+          there = ap (λ (t : Tables). slice_get t.extcs (n.external (row_of row))) (same ∙ of.laid.is) ∙ at.1;
+          name = at.2;
+          params = at.3;
+          result = at.4;
+        }
+
+    names_stand : NamesStand s laid n m c
+    unfolding laid
+    names_stand = record {
+      label = label_is;
+      within = λ l among. subst (λ (t : Tables). part_place (length (after_label l m.code)) ≤ length t.code) (sym same) (part_within (length (after_label l m.code)));
+      handler = λ l. refl;
+      symbol = symbol_stands;
+      external = external_stands;
+    }
+
+    entries_stand : EntriesStand s (entry_place s.image)
+    entries_stand = record {
+      is = λ g inside. subst (λ (t : Tables). function_at t.funcs g ≡ address_of_place (entry_place t g)) (sym same) (entry_address image file ps c of g);
+    }
+
+    -- ---- lines
+
+    abbrev descr_of : List Line → Option Descr
+    descr_of next = descriptor_of ds m.code (length next)
+
+    module _ (i : Line) (next : List Line) (tries : List ℕ) (stands : Stands i next m.code) (reached : Reached m (i ∷ next) tries) where
+      line_found : PartFound s n (part_place (suc (length next))) (part_place (length next)) (part_of (length tries) f (descr_of next) i)
+      line_found =
+          let has' = subst (λ (t : Tables). HasPieces t.code n start body left) (sym same) body_has in
+          let found' = subst (λ t. AreFound t start body left) (sym same) body_found in
+          subst (λ t. PartFound s n (part_place (suc (length next))) (part_place (length next)) (part_of t f (descr_of next) i))
+          (it.emitted.pushed.pushed i next stands tries reached) (line_part s n traps f ds m.code left start stands has' body_reach found')
+
+      line_among : Contains m.code i
+      line_among = stands-contains m.code stands
+
+      line_in : IsIn i m.code
+      line_in = in_of i m.code line_among
+
+      line_stands : LineStands s laid n m c Nowhere tries f (descr_of next) i next
+      unfolding laid
+      line_stands = record {
+        part = line_found.part;
+        names = names_stand;
+        frame = refl;
+        saves = refl;
+        slots = refl;
+        among = line_among;
+        formed = all_in IsFormed well.forms line_in;
+        offset = all_in (λ (j : Line). OffsetFits j.op) it.offsets line_in;
+        args = (all_in (λ (j : Line). Locates m j.args × Locates m j.results) well.locations line_in).0;
+        results = (all_in (λ (j : Line). Locates m j.args × Locates m j.results) well.locations line_in).1;
+        operand_seats = it.regular.seated.operands i line_among;
+        result_seats = it.regular.seated.results i line_among;
+        named = well.named i line_among;
+        handlers = λ l among. pushed_stands m well l (pushed m reached l (in_of l tries among));
+        spare = spare_passes m it.regular.homes i line_in next tries;
       }
 
-  names_stand : NamesStand s laid n m c
-  unfolding laid
-  names_stand = record {
-    label = label_is;
-    within = λ l among. part_within (length (after_label l m.code));
-    handler = λ l. refl;
-    symbol = symbol_is;
-    external = external_is;
-  }
+      -- a walk comes to what stands behind a frame point
+      point_before : passes_frame i.op ≡ true → part_place (length next) < length s.image.code
+      point_before point =
+          subst (λ (t : Tables). part_place (length next) < length t.code) (sym same)
+          (part_before (length next) (by_step reached (goes On (points_go_on i.op point))) (tail_next (stands_tail stands)) (omega arith))
 
-  entries_stand : EntriesStand s (entry_place s)
-  entries_stand = record {
-    is = λ g inside.
-        let e = rows_are g (omega (arith, inside, as_many)) in
-        omega (arith, e);
-  }
+      line_marked : (b : Bool) → passes_frame i.op ≡ b →
+          AreMarked s (part_place (suc (length next))) (part_of (length tries) f (descr_of next) i) line_found.part.forms
+      line_marked true point =
+          let past = line_found.part.past in
+          let before = point_before point in
+          found_marked s (part_place (suc (length next))) (part_of (length tries) f (descr_of next) i) line_found.part.forms line_found.found
+          (omega (arith, past, before))
+      line_marked false none =
+          let no_descr = no_descriptor ds m.code stands none in
+          subst (λ d. AreMarked s (part_place (suc (length next))) (part_of (length tries) f d i) line_found.part.forms) (sym no_descr)
+          (none_marked s (length tries) f i (part_place (suc (length next))) line_found.part.forms)
 
-  -- ---- lines
+      point_described : passes_frame i.op ≡ true → Described m ds it.exact it.count i next tries
+      point_described point = described m ds it.exact it.count i next tries stands point (by_walk reached)
 
-  abbrev descr_of : List Line → Option Descr
-  descr_of next = descriptor_of ds m.code (length next)
+      -- its descriptor is exact
+      own_descr : (e : Descr) → descr_of next ≡ Some e → (passes_frame i.op ≡ true) × IsDescr m i next tries e
+      own_descr e is = by (passes_frame i.op) refl
+        where
+          by : (b : Bool) → passes_frame i.op ≡ b → (passes_frame i.op ≡ true) × IsDescr m i next tries e
+          by true point =
+              let d = point_described point in
+              (point, subst (IsDescr m i next tries) (some_same d.of e (sym d.is ∙ is)) d.describes)
+          by false none = absurd (none_not_some e (sym (no_descriptor ds m.code stands none) ∙ is))
 
-  module _ (i : Line) (next : List Line) (tries : List ℕ) (stands : Stands i next m.code) (reached : Reached m (i ∷ next) tries) where
-    line_found : PartFound s n (part_place (suc (length next))) (part_place (length next)) (part_of (length tries) f (descr_of next) i)
-    line_found =
-        subst (λ t. PartFound s n (part_place (suc (length next))) (part_place (length next)) (part_of t f (descr_of next) i))
-        (it.emitted.pushed.pushed i next stands tries reached) (line_part s n traps f ds m.code left start stands body_has body_reach body_found)
+      line_point : IsTurn i.op → PointStands s laid m c named (entry_place s.image) (length tries) f (descr_of next) i next line_found.part.forms
+      unfolding laid
+      line_point turn = record {
+        entries = entries_stand;
+        end = subst (λ (t : Tables). c.end ≡ data_start + length t.bytes) (sym same) of.end;
+        marks = line_marked (passes_frame i.op) refl;
+        mark = λ point. let d = point_described point in (d.of, d.is);
+        saves = λ point. point_saves m.code stands point;
+        described = λ e is at.
+            let own = own_descr e is in
+            is_described m well named lives laid refl refl i next tries e at stands own.0 own.1;
+        unnamed = λ e is whom result o. none_over_calls m well i next tries e whom result (own_descr e is).1 o;
+        spared = λ point. spare_unnamed m named lives it.spare_dead i next stands point;
+        unwritten = λ t among. unwritten m it.regular.homes i line_in t among;
+        pushes = λ l o. subst (λ (t : Tables). part_place (length (after_label l m.code)) ≤ length t.code) (sym same) (part_within (length (after_label l m.code)));
+      }
 
-    line_among : Contains m.code i
-    line_among = stands-contains m.code stands
+      line_at : LineAt s laid n m c named tries i next
+      unfolding line_stands
+      line_at = record { descr = descr_of next; stands = line_stands; point = line_point }
 
-    line_in : IsIn i m.code
-    line_in = in_of i m.code line_among
+  -- ---- the whole
 
-    line_stands : LineStands s laid n m c (SpareLive m) tries f (descr_of next) i next
-    unfolding laid
-    line_stands = record {
-      part = line_found.part;
-      names = names_stand;
-      frame = refl;
-      saves = refl;
-      slots = refl;
-      among = line_among;
-      formed = all_in IsFormed it.whole.formed.forms line_in;
-      offset = all_in (λ (j : Line). OffsetFits j.op) it.whole.offsets line_in;
-      args = (all_in (λ (j : Line). Locates m j.args × Locates m j.results) it.whole.formed.locations line_in).0;
-      results = (all_in (λ (j : Line). Locates m j.args × Locates m j.results) it.whole.formed.locations line_in).1;
-      operand_seats = it.whole.seated.operands i line_among;
-      result_seats = it.whole.seated.results i line_among;
-      named = it.whole.formed.named i line_among;
-      handlers = λ l among. pushed_stands m it.whole.formed l (pushed m reached l (in_of l tries among));
-      spare = spare_passes m it.whole.formed i next tries stands reached;
-    }
+  place_is : entry_place image k ≡ place
+  place_is = entry_is image file ps c of k ∙ index_is entries k place placed.entry
 
-    -- a walk comes to what stands behind a frame point
-    point_before : passes_frame i.op ≡ true → part_place (length next) < length s.image.code
-    point_before point =
-        part_before (length next) (by_step reached (goes On (points_go_on i.op point))) (tail_next (stands_tail stands)) (omega arith)
+  first_part : part_place (length m.code) ≡ start
+  first_part = place_first traps f ds m.code left start
 
-    line_marked : (b : Bool) → passes_frame i.op ≡ b →
-        AreMarked s (part_place (suc (length next))) (part_of (length tries) f (descr_of next) i) line_found.part.forms
-    line_marked true point =
-        let past = line_found.part.past in
-        let before = point_before point in
-        found_marked s (part_place (suc (length next))) (part_of (length tries) f (descr_of next) i) line_found.part.forms line_found.found
-        (omega (arith, past, before))
-    line_marked false none =
-        let no_descr = no_descriptor ds m.code stands none in
-        subst (λ d. AreMarked s (part_place (suc (length next))) (part_of (length tries) f d i) line_found.part.forms) (sym no_descr)
-        (none_marked s (length tries) f i (part_place (suc (length next))) line_found.part.forms)
+  ends_within : part_place 0 + 4 ≤ entry_place image k + length image.code
+  ends_within =
+      let within = part_within 0 in
+      let behind = placed.stands.behind in
+      let e = place_is in
+      omega (arith, within, behind, e)
 
-    point_described : passes_frame i.op ≡ true → Described m ds it.descriptors.exact it.descriptors.count i next tries
-    point_described point = described m ds it.descriptors.exact it.descriptors.count i next tries stands point (by_walk reached)
-
-    -- its descriptor is exact
-    own_descr : (e : Descr) → descr_of next ≡ Some e → (passes_frame i.op ≡ true) × IsDescr m i next tries e
-    own_descr e is = by (passes_frame i.op) refl
-      where
-        by : (b : Bool) → passes_frame i.op ≡ b → (passes_frame i.op ≡ true) × IsDescr m i next tries e
-        by true point =
-            let d = point_described point in
-            (point, subst (IsDescr m i next tries) (some_same d.of e (sym d.is ∙ is)) d.describes)
-        by false none = absurd (none_not_some e (sym (no_descriptor ds m.code stands none) ∙ is))
-
-    pushed_before : (l : ℕ) → i.op ≡ lin.Flow (flow.PushTrap l) → part_place (length (after_label l m.code)) < length s.image.code
-    pushed_before l e =
-        let there = it.whole.handlers i line_among l e in
-        let behind = shorter there.stands in
-        part_before (length (after_label l m.code)) there.reached (tail_within (stands_tail there.stands) (tail_label l m.code)) (omega (arith, behind))
-
-    line_point : IsTurn i.op → PointStands s laid m c named (entry_place s) (length tries) f (descr_of next) i next line_found.part.forms
-    unfolding laid
-    line_point turn = record {
-      entries = entries_stand;
-      end = it.image.end;
-      marks = line_marked (passes_frame i.op) refl;
-      mark = λ point. let d = point_described point in (d.of, d.is);
-      saves = λ point. point_saves m.code stands point;
-      described = λ e is at.
-          let own = own_descr e is in
-          is_described m it.whole.formed named it.descriptors.names laid refl refl i next tries e at stands own.0 own.1;
-      unnamed = λ e is whom result o. none_over_calls m it.whole.formed i next tries e whom result (own_descr e is).1 o;
-      spared = λ point. spare_unnamed m it.whole.formed named it.descriptors.names i next stands point;
-      unwritten = λ t among. unwritten m i it.whole.formed.spare line_among turn t among;
-      pushes = pushed_before;
-    }
-
-    line_at : LineAt s laid n m c named tries i next
-    unfolding line_stands
-    line_at = record { descr = descr_of next; stands = line_stands; point = line_point }
-
-  -- ---- the entry
-
-  entry_is : entry_place s k ≡ place
-  entry_is =
-      let below = index_below ps k pieces there in
-      let e = rows_are k (omega (arith, below, it.image.can.each_one)) in
-      let at = index_is entries k place placed.entry in
-      omega (arith, e, at)
-
-  pub function_stands : FunctionStands s m c named k
+  pub function_stands : FunctionStands image m c named k
   unfolding laid
   function_stands =
-      let first = place_first s n traps f ds m.code left start in
-      let small = it.whole.within.frame m.code [] (by_walk at_entry) in
-      let entered = subst (λ to. PartStands s n place to (entry f)) (sym first) entry_stands in
+      let small = it.within.frame m.code [] (by_walk at_entry) in
       record {
         laid = laid;
         names = n;
-        named_stand = names_stand;
+        frame = sym (frame_at image k placed.row placed.row_is ∙ placed.stands.frame);
         small = omega (arith, small);
-        entered = subst (λ at. PartStands s n at (part_place (length m.code)) (entry f)) (sym entry_is) entered;
-        unread = spare_entry m it.whole.formed;
+        rises = λ fewer more h. place_rises traps f ds m.code left start fewer more h;
+        begins = let e = place_is in let first = first_part in omega (arith, e, first);
+        ends = ends_within;
+        entered = λ s e.
+            subst (λ at. PartStands s n at (part_place (length m.code)) (entry f)) (sym place_is)
+            (subst (λ to. PartStands s n place to (entry f)) (sym first_part) (entry_stands s e));
         line = line_at;
       }

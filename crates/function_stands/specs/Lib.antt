@@ -1,3 +1,2 @@
-pub mod Spare
 pub mod Compiled
 pub mod Functions

@@ -1,27 +1,43 @@
-//! How a function stands in the image of its file: from what its stages make, and from its layout, all that the laws
-//! of its lines and of its entry take as known.
+//! How a function stands in the image of its file: from what is known of it, whatever passes made it, and from its
+//! layout, all that the laws of its lines and of its entry take as known, in every run of the image.
 //!
 //! The crate holds definitions and laws alone.
 #![tactic(auto)]
 
-ghost use Rattle.std.specs.Prelude.{ℕ, List};
+ghost use Rattle.std.specs.Prelude.{◌≡◌, ℕ, ◌*◌, List, Some, slice_get, slice_index};
 ghost use Rattle.cmm_meaning.specs.Setting.{Setting};
-ghost use Rattle.cmm_tree.specs.Tree.{FileTree};
-ghost use Rattle.function_stands.specs.Compiled.{IsCompiled};
-ghost use Rattle.function_stands.specs.Functions.{FunctionStands};
+ghost use Rattle.cmm_tree.specs.Tree.{FileTree, FunctionTree, functions};
+ghost use Rattle.function_stands.specs.Compiled.{IsImageOf};
+ghost use Rattle.function_stands.specs.Functions.{FunctionStands, entry_place};
+ghost use Rattle.image_form.specs.Tables.{Func, Tables};
+ghost use Rattle.layout_rules.specs.Laid.{entries_from, stub_words};
+ghost use Rattle.lin_ir.specs.Descriptors.{NamesLives};
 ghost use Rattle.lin_ir.specs.Meaning.{NamedAt};
 ghost use Rattle.lin_ir.specs.declared.descr.Descr.{Descr};
 ghost use Rattle.lin_ir.specs.declared.lin.Lin.{Lin};
-ghost use Rattle.linear_machine.specs.View.{Fixed};
+ghost use Rattle.made_functions.specs.Chained.{IsChained};
+ghost use Rattle.moving_laws.specs.Values.{HasFunctions};
 ghost use Rattle.rv_pieces.specs.declared.piece.Pieces.{Pieces};
 
-/// Law: a function that was compiled stands in the image.
+/// Law: a function of which all is known that the compiler keeps stands in the image.
 ///
-/// Its entry's pieces stand at its entry and the part of each line at its place; what lines name
-/// stands for what it is to; and the descriptor of each frame point is found at its return address
-/// and says what is live there.
+/// Its entry's pieces stand at its entry and the part of each line at its place, one behind the other;
+/// what lines name stands for what it is to; and the descriptor of each frame point is found at its
+/// return address and says what is live there.
 pub fn functions_stand()
-    ensures { (s : Fixed) (file : FileTree) (ps : List Pieces) (c : Setting) (k : ℕ) (m : Lin)
-        (ds : List Descr) (named : NamedAt) → IsCompiled s file ps c k m ds named →
-        FunctionStands s m c named k }
+    ensures { (image : Tables) (file : FileTree) (ps : List Pieces) (c : Setting) (k : ℕ)
+        (pieces : Pieces) (tree : FunctionTree) (m : Lin) (ds : List Descr) (named : NamedAt) →
+        IsImageOf image file ps c → slice_get ps k ≡ Some pieces →
+        slice_get (functions file) k ≡ Some tree → IsChained tree m ds pieces → NamesLives m named →
+        HasFunctions image → FunctionStands image m c named k }
+{}
+
+/// Law: functions are entered where their pieces are laid, and so say their rows.
+pub fn entries_are_laid()
+    ensures places { (image : Tables) (file : FileTree) (ps : List Pieces) (c : Setting)
+        (it : IsImageOf image file ps c) (f : ℕ) →
+        entry_place image f ≡ slice_index (entries_from stub_words ps it.laid.forms) f }
+    ensures rows { (image : Tables) (file : FileTree) (ps : List Pieces) (c : Setting) →
+        IsImageOf image file ps c → (f : ℕ) (row : Func) → slice_get image.funcs f ≡ Some row →
+        row.offset ≡ 4 * entry_place image f }
 {}

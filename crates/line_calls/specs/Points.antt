@@ -1,5 +1,5 @@
 -- What is known of the lines that enter, leave, call, raise and allocate, besides their words.
-use Rattle.std.specs.Prelude.{◌≡◌, ℕ, suc, ◌+◌, ◌-◌, ◌<◌, true, false, List, [], ◌∷◌, length, Option, Some, None, Contains}
+use Rattle.std.specs.Prelude.{◌≡◌, ℕ, suc, ◌+◌, ◌-◌, ◌<◌, ◌≤◌, true, false, List, [], ◌∷◌, length, Option, Some, None, Contains}
 use Rattle.bs_words.specs.Fits.{data_start}
 use Rattle.bs_words.specs.declared.types.Comp.{Comp}
 use Rattle.bs_words.specs.declared.types.Ret.{Ret}
@@ -76,9 +76,9 @@ pub record PointStands (s : Fixed) (laid : Laid) (m : Lin) (c : Setting) (named 
   -- t0 stands in copies alone
   pub spared : passes_frame i.op ≡ true → is_named spare (named (length next)) ≡ false
   pub unwritten : (t : Comp) → Contains i.results (record { loc = spare; comp = t }) → ⊥
-  -- a handler stands before the end of the code
+  -- a handler stands in the code, or at its end where it has no words
   pub pushes : (l : ℕ) → i.op ≡ lin.Flow (flow.PushTrap l) →
-      laid.part (length (after_label l m.code)) < length s.image.code
+      laid.part (length (after_label l m.code)) ≤ length s.image.code
 
 -- ---- where a run has come
 

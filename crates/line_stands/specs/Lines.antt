@@ -23,6 +23,10 @@ use Rattle.linear_machine.specs.View.{Fixed}
 use Rattle.line_stands.specs.Names.{NamesStand}
 use Rattle.line_stands.specs.Parts.{PartStands}
 
+-- t0 is live nowhere: chained functions do not name it
+abbrev pub Nowhere : List Line → Type 0
+Nowhere code = ⊥
+
 -- Where t0 is live before and behind a line at which these traps are pushed.
 pub record SparePasses (m : Lin) (live : List Line → Type 0) (tries : List ℕ) (i : Line)
     (next : List Line) : Type 0 where
