@@ -1,30 +1,21 @@
 -- Every line, of whatever kind.
-use Rattle.std.proofs.Common.{◌≡◌, ◌⊎◌, inl, inr, ⊎_elim, ℕ, suc, ◌+◌, ◌*◌, List, ◌∷◌, length, Option, refl, sym, subst, arith}
+use Rattle.std.proofs.Common.{◌≡◌, ◌⊎◌, inl, inr, ⊎_elim, ℕ, ◌+◌, ◌*◌, List, ◌∷◌, length, refl, sym, subst, arith}
 use Rattle.emit_rules.specs.Emitted.{part_of}
-use Rattle.emit_rules.specs.Entry.{Frame}
 use Rattle.layout_rules.specs.Forms.{total_words}
-use Rattle.layout_rules.specs.Words.{Named}
-use Rattle.lin_ir.specs.Meaning.{Locations, NamedAt, step}
-use Rattle.lin_ir.specs.declared.descr.Descr.{Descr}
+use Rattle.lin_ir.specs.Meaning.{step}
 use Rattle.lin_ir.specs.declared.lin.Flow.TheVariants as flow
-use Rattle.lin_ir.specs.declared.lin.Lin.{Lin}
 use Rattle.lin_ir.specs.declared.lin.Line.{Line}
 use Rattle.lin_ir.specs.declared.lin.LinOp.{LinOp}
 use Rattle.lin_ir.specs.declared.lin.LinOp.TheVariants as lin
-use Rattle.mach_ir.specs.Acts.{Around}
-use Rattle.mach_ir.specs.Runs.{Place}
 use Rattle.mach_ir.specs.declared.op.Access.TheVariants as access
 use Rattle.mach_ir.specs.declared.op.Leaving.TheVariants as leaving
 use Rattle.mach_ir.specs.declared.op.Op.TheVariants as op
-use Rattle.linear_machine.specs.Follows.{FollowsStep, IsAt}
-use Rattle.linear_machine.specs.Relation.{Below, Laid}
-use Rattle.linear_machine.specs.View.{Fixed, View}
-use Rattle.line_stands.specs.Lines.{LineStands}
+use Rattle.linear_machine.specs.Follows.{FollowsStep}
 use Rattle.line_values.specs.Followed.{IsPlain, plain_pure, plain_load, plain_store, plain_check, plain_label, plain_jump, plain_exit, plain_branch, plain_switch}
-use Rattle.line_values.specs.Statics.{StaticsLie}
 use Rattle.line_values.proofs.Following.{plain_followed}
 use Rattle.line_calls.specs.Calls.{FollowsSo}
-use Rattle.line_calls.specs.Points.{IsReadyFor, IsTurn, PointStands, before_service, it_calls, it_returns, it_raises, it_allocates, it_pushes, it_pops, it_enters}
+use Rattle.line_calls.specs.Laws.{EveryLineFollows}
+use Rattle.line_calls.specs.Points.{IsTurn, before_service, it_calls, it_returns, it_raises, it_allocates, it_pushes, it_pops, it_enters}
 use Rattle.line_calls.proofs.NoWaits.{Comes, so_without, step_no}
 use Rattle.line_calls.proofs.Whole.{lines_follow}
 
@@ -83,16 +74,8 @@ without_service o k plain_branch = refl
 without_service o k plain_switch = refl
 
 -- The machine follows every line.
-pub every_line :
-    (s : Fixed) (n : Named) (laid : Laid) (live : List Line → Type 0) (entry : ℕ → ℕ) (c : Below) (place : Place) (named : NamedAt) (m : Lin) (f : Frame)
-    (d : Option Descr) (i : Line) (next : List Line) (v : View) (file : Locations) (a : Around) (k : ℕ) →
-    (lines : LineStands s laid n m place.setting live a.tries f d i next) →
-    PointStands s laid m place.setting named entry (length a.tries) f d i next lines.part.forms → IsReadyFor i a → StaticsLie s a.memory →
-    laid.part (length next) ≡ laid.part (suc (length next)) + k →
-    IsAt s laid live c (record { rest = i ∷ next; file = file; around = a }) v →
-    FollowsSo (before_service i.op k) s laid live entry c v (laid.frame + 16 * length a.tries)
-    (step place named m (record { rest = i ∷ next; file = file; around = a }))
-every_line s n laid live entry c place named m f d i next v file a k lines points fit lie behind at =
+pub every_line : (live : List Line → Type 0) → EveryLineFollows live
+every_line live s n laid entry c place named m f d i next v file a k lines points fit behind at =
     let past = lines.part.past in
     let many = total_words (part_of (length a.tries) f d i) lines.part.forms in
     let does = step place named m (record { rest = i ∷ next; file = file; around = a }) in
@@ -102,5 +85,5 @@ every_line s n laid live entry c place named m f d i next v file a k lines point
     subst (λ w. FollowsSo w s laid live entry c v (laid.frame + 16 * length a.tries) does) (sym (without_service i.op k plain))
     (so_without k s laid live entry c v (laid.frame + 16 * length a.tries) does (step_no place named m i next file a (never_waits i.op plain))
     (subst (λ w. FollowsStep w s laid live entry c v does) same
-    (plain_followed s laid n m place named live entry c f d next i plain file a v lines (fit.raised (begins_none i.op plain)) lie at))))
-    (λ turn. lines_follow s n laid live entry c place named m f d i next v file a k turn lines points fit behind at) (kinds i.op)
+    (plain_followed s laid n m place named live entry c f d next i plain file a v lines (fit.raised (begins_none i.op plain)) at))))
+    (λ turn. lines_follow s n laid live entry c place named m f d i next v file a k turn lines (points turn) fit behind at) (kinds i.op)

@@ -1,13 +1,11 @@
--- What is proved of lines and of entries. T0 is live where some walk reads it before it is written.
+-- What is proved of lines and of entries, whatever is said to be the code in which t0 is live.
 use Rattle.std.specs.Prelude.{◌≡◌, ℕ, suc, ◌+◌, ◌*◌, ◌≤◌, List, ◌∷◌, length, Option, Some}
 use Rattle.bs_words.specs.Memory.{Memory}
-use Rattle.bs_words.specs.declared.types.Comp.{Comp}
 use Rattle.bs_words.specs.declared.values.Value.{Value}
 use Rattle.emit_rules.specs.Entry.{Frame, entry}
 use Rattle.layout_rules.specs.Words.{Named}
-use Rattle.lin_ir.specs.Formed.{places_of, spare}
+use Rattle.lin_ir.specs.Formed.{places_of}
 use Rattle.lin_ir.specs.Meaning.{Locations, NamedAt, State, start, step}
-use Rattle.lin_ir.specs.Walks.{Live}
 use Rattle.lin_ir.specs.declared.descr.Descr.{Descr}
 use Rattle.lin_ir.specs.declared.lin.Lin.{Lin}
 use Rattle.lin_ir.specs.declared.lin.Line.{Line}
@@ -20,13 +18,8 @@ use Rattle.linear_machine.specs.Relation.{Below, Laid}
 use Rattle.linear_machine.specs.View.{Fixed, View}
 use Rattle.line_stands.specs.Lines.{LineStands}
 use Rattle.line_stands.specs.Parts.{PartStands}
-use Rattle.line_values.specs.Statics.{StaticsLie}
 use Rattle.line_calls.specs.Calls.{FollowsSo}
 use Rattle.line_calls.specs.Points.{IsReadyFor, IsTurn, PointStands, before_service}
-
--- some walk from this code on reads t0 before it writes it
-abbrev pub spare_live : Lin → List Line → Type 0
-spare_live m rest = (t : Comp) × (tries : List ℕ) × Live m spare t rest tries
 
 -- the frame of a function that is laid so
 abbrev pub frame_in : Laid → Frame
@@ -35,39 +28,40 @@ frame_in laid = record { bytes = laid.frame; saves = laid.saves }
 -- A line of one of these kinds, whose part stands in the image from its place on, is followed in at
 -- most as many instructions as the part has words, the service of an external call not counted. Its
 -- calls stand below what it has in use.
-abbrev pub LineFollows : Type 0
-LineFollows =
+abbrev pub LineFollows : (List Line → Type 0) → Type 0
+LineFollows live =
     (s : Fixed) (n : Named) (laid : Laid) (entries : ℕ → ℕ) (c : Below) (place : Place)
     (named : NamedAt) (m : Lin) (f : Frame) (d : Option Descr) (i : Line) (next : List Line)
     (v : View) (file : Locations) (a : Around) (words : ℕ) → IsTurn i.op →
-    (lines : LineStands s laid n m place.setting (spare_live m) a.tries f d i next) →
+    (lines : LineStands s laid n m place.setting live a.tries f d i next) →
     PointStands s laid m place.setting named entries (length a.tries) f d i next
     lines.part.forms →
     IsReadyFor i a → laid.part (length next) ≡ laid.part (suc (length next)) + words →
-    IsAt s laid (spare_live m) c (record { rest = i ∷ next; file = file; around = a }) v →
-    FollowsSo (before_service i.op words) s laid (spare_live m) entries c v (laid.frame + 16 * length a.tries)
+    IsAt s laid live c (record { rest = i ∷ next; file = file; around = a }) v →
+    FollowsSo (before_service i.op words) s laid live entries c v (laid.frame + 16 * length a.tries)
     (step place named m (record { rest = i ∷ next; file = file; around = a }))
 
 -- Every line is followed so, of whatever kind it is.
-abbrev pub EveryLineFollows : Type 0
-EveryLineFollows =
+abbrev pub EveryLineFollows : (List Line → Type 0) → Type 0
+EveryLineFollows live =
     (s : Fixed) (n : Named) (laid : Laid) (entries : ℕ → ℕ) (c : Below) (place : Place)
     (named : NamedAt) (m : Lin) (f : Frame) (d : Option Descr) (i : Line) (next : List Line)
     (v : View) (file : Locations) (a : Around) (words : ℕ) →
-    (lines : LineStands s laid n m place.setting (spare_live m) a.tries f d i next) →
+    (lines : LineStands s laid n m place.setting live a.tries f d i next) →
+    (IsTurn i.op →
     PointStands s laid m place.setting named entries (length a.tries) f d i next
-    lines.part.forms →
-    IsReadyFor i a → StaticsLie s a.memory →
+    lines.part.forms) →
+    IsReadyFor i a →
     laid.part (length next) ≡ laid.part (suc (length next)) + words →
-    IsAt s laid (spare_live m) c (record { rest = i ∷ next; file = file; around = a }) v →
-    FollowsSo (before_service i.op words) s laid (spare_live m) entries c v
+    IsAt s laid live c (record { rest = i ∷ next; file = file; around = a }) v →
+    FollowsSo (before_service i.op words) s laid live entries c v
     (laid.frame + 16 * length a.tries)
     (step place named m (record { rest = i ∷ next; file = file; around = a }))
 
 -- Where a function is entered whose entry stands in the image, it comes to its first line with its
 -- arguments in its parameters, or the stack is passed.
-abbrev pub EntryFollows : Type 0
-EntryFollows =
+abbrev pub EntryFollows : (List Line → Type 0) → Type 0
+EntryFollows live =
     (s : Fixed) (n : Named) (laid : Laid) (entries : ℕ → ℕ) (k : ℕ) (c : Below) (place : Place)
     (m : Lin) (v : View) (arguments : List Value) (memory : Memory) (words : ℕ) →
     laid.frame ≤ 1048576 →
@@ -76,4 +70,4 @@ EntryFollows =
     AreSeated (InOrder argument_places) (places_of m.params) →
     IsEntered s entries k arguments memory c v → (u : State) →
     start place m arguments memory ≡ Some u →
-    ArrivesIn 0 words s (needs_of laid c u) v (IsAt s laid (spare_live m) c u)
+    ArrivesIn 0 words s (needs_of laid c u) v (IsAt s laid live c u)

@@ -1,8 +1,8 @@
 -- The cell of an access of any width lies at the address of its first byte.
-use Rattle.std.proofs.Common.{◌≡◌, ◌≢◌, ℕ, zero, suc, ◌+◌, ◌-◌, ◌*◌, ◌/◌, ◌%◌, ◌^◌, ◌<◌, ◌≤◌, inl, inr, Bool, true, false, cond, ◌&&◌, ◌==◌, nat_le, List, [], ◌∷◌, length, Option, Some, None, slice_get, refl, ap, arith, ◌∙◌, sym, subst}
-use Rattle.std.specs.List.{AllByRecursion}
-use Rattle.std.proofs.lemmas.Bool.{and_from, and_parts, cond-true, eq-eqb, eqb-true, le-leb, leb-true}
-use Rattle.bs_words.specs.Memory.{Cell, StaticList, InStatic, cell_at, cell_of_block, in_block, in_statics, offset_in_cell, sizes, value_in, HeapBlock, InBlock, InHeader}
+use Rattle.std.proofs.Common.{◌≡◌, ◌≢◌, ℕ, zero, suc, ◌+◌, ◌-◌, ◌*◌, ◌/◌, ◌%◌, ◌^◌, ◌<◌, ◌≤◌, inl, inr, Bool, true, false, cond, ◌==◌, nat_le, List, length, Option, Some, None, slice_get, refl, ap, arith, ◌∙◌, sym, subst}
+use Rattle.std.proofs.lemmas.Bool.{cond-true, eq-eqb, eqb-true, le-leb, leb-true}
+use Rattle.bs_words.specs.Fits.{data_start}
+use Rattle.bs_words.specs.Memory.{Cell, InStatic, cell_at, cell_of_block, in_block, in_statics, offset_in_cell, sizes, value_in, HeapBlock, InBlock, InHeader}
 use Rattle.bs_words.specs.Word.{add_word}
 use Rattle.bs_words.specs.declared.values.Value.{Value}
 use Rattle.bs_words.specs.declared.values.Value.TheVariants.{Word, Block, Function}
@@ -13,17 +13,17 @@ use Rattle.rv_machine.specs.Sound.{HasRegions, extents}
 use Rattle.rv_machine.specs.Width.{IsWidth}
 use Rattle.moving_laws.specs.Values.{start_of, value_word, words_of}
 use Rattle.moving_laws.proofs.Rewriting.{start_inside}
-use Rattle.linear_machine.specs.Contents.{static_in, size_in}
-use Rattle.linear_machine.specs.Relation.{HeapStands}
+use Rattle.linear_machine.specs.Contents.{size_in}
+use Rattle.linear_machine.specs.Relation.{HeapStands, StandsFor}
 use Rattle.linear_machine.specs.View.{Fixed}
-use Rattle.linear_machine.proofs.Loading.{IsCellAt, block_there, cell_there}
+use Rattle.linear_machine.proofs.Loading.{block_there, cell_there}
+use Rattle.linear_machine.proofs.Statics.{data_held, first_in, held_readable, listed_below, readable_held, static_at}
 use Rattle.std.proofs.lemmas.Option.{slice_get_within}
-use Rattle.line_values.specs.Statics.{IsWholeList}
-use Rattle.line_values.proofs.Bytes.{IsDataOrAbove, bool_same, width_some}
+use Rattle.line_values.proofs.Bytes.{width_some}
 use Rattle.line_values.proofs.Compared.{block_end}
 use Rattle.line_values.proofs.Statics.{is_in}
-use Rattle.moving_laws.specs.Words.{IsReadable}
-use Rattle.moving_laws.proofs.Usable.{data_readable}
+use Rattle.moving_laws.specs.Words.{IsReadable, held_word}
+use Rattle.moving_laws.proofs.Held.{IsDataOrAbove, IsHeld}
 
 -- ---- widths
 
@@ -44,54 +44,6 @@ still_aligned a b w (inr (inr (inl e))) q m =
 still_aligned a b w (inr (inr (inr e))) q m =
     let n : a % 8 ≡ 0 = subst (λ k. a % k ≡ 0) e m in let h : b % 8 ≡ 0 = omega (arith, n, q) in subst (λ k. b % k ≡ 0) (sym e) h
 
--- ---- static cells
-
--- the first byte of the cell
-abbrev pub first_byte : Value → Value
-first_byte (Word x) = Word (x - x % 8)
-first_byte (Block k o) = Block k (o - o % 8)
-first_byte (Function f) = Function f
-
-list_same : (l : StaticList) (x w : ℕ) → IsWholeList l → 1 ≤ w → x % 8 + w ≤ 8 →
-    (nat_le l.start x && nat_le (x + w) (l.start + l.size)) ≡ (nat_le l.start (x - x % 8) && nat_le (x - x % 8 + 8) (l.start + l.size))
-list_same l x w whole some inside =
-    let al = whole.0 in
-    let size = whole.1 in
-    bool_same _ _
-    (λ h.
-    let p = and_parts (nat_le l.start x) (nat_le (x + w) (l.start + l.size)) h in
-    let low = leb-true l.start x p.0 in
-    let high = leb-true (x + w) (l.start + l.size) p.1 in
-    and_from _ _ (le-leb l.start (x - x % 8) (omega (arith, low, al))) (le-leb (x - x % 8 + 8) (l.start + l.size) (omega (arith, high, al, size, some))))
-    (λ h.
-    let p = and_parts (nat_le l.start (x - x % 8)) (nat_le (x - x % 8 + 8) (l.start + l.size)) h in
-    let low = leb-true l.start (x - x % 8) p.0 in
-    let high = leb-true (x - x % 8 + 8) (l.start + l.size) p.1 in
-    and_from _ _ (le-leb l.start x (omega (arith, low))) (le-leb (x + w) (l.start + l.size) (omega (arith, high, inside))))
-
--- the list and the cell are those of the whole word
-statics_same : (k : ℕ) (lists : List StaticList) (x w : ℕ) (cell : Cell) → AllByRecursion IsWholeList lists → 1 ≤ w → x % 8 + w ≤ 8 →
-    in_statics k lists x w ≡ Some cell → in_statics k lists (x - x % 8) 8 ≡ Some cell
-statics_same k [] x w cell whole some inside e = absurd (cc)
-statics_same k (l ∷ lists) x w cell whole some inside e =
-    by_test (nat_le l.start x && nat_le (x + w) (l.start + l.size)) refl (statics_same (suc k) lists x w cell whole.1 some inside) e
-  where
-    by_test : (t : Bool) → (nat_le l.start x && nat_le (x + w) (l.start + l.size)) ≡ t →
-        (in_statics (suc k) lists x w ≡ Some cell → in_statics (suc k) lists (x - x % 8) 8 ≡ Some cell) →
-        cond t (Some (InStatic k ((x - l.start) / 8))) (in_statics (suc k) lists x w) ≡ Some cell → in_statics k (l ∷ lists) (x - x % 8) 8 ≡ Some cell
-    by_test true t later e =
-        let p = and_parts (nat_le l.start x) (nat_le (x + w) (l.start + l.size)) t in
-        let low = leb-true l.start x p.0 in
-        let al = whole.0.0 in
-        let same : (x - x % 8 - l.start) / 8 ≡ (x - l.start) / 8 = omega (arith, low, al) in
-        ap (λ b. cond b (Some (InStatic k ((x - x % 8 - l.start) / 8))) (in_statics (suc k) lists (x - x % 8) 8))
-        (sym (list_same l x w whole.0 some inside) ∙ t)
-        ∙ ap (λ i. Some (InStatic k i)) same ∙ e
-    by_test false t later e =
-        ap (λ b. cond b (Some (InStatic k ((x - x % 8 - l.start) / 8))) (in_statics (suc k) lists (x - x % 8) 8))
-        (sym (list_same l x w whole.0 some inside) ∙ t)
-        ∙ later e
-
 -- ---- where it lies
 
 -- the header or a cell of a block, or a cell of static data, by the address
@@ -100,7 +52,7 @@ pub data Lies (placed : List Placed) (a : Around) (at : ℕ) : Cell → Type 0 w
       Lies placed a at (InHeader k)
   own_cell : {k j : ℕ} {b : HeapBlock} → k < length placed → slice_get a.memory.blocks k ≡ Some b → j < length b.cells → j < words_of placed k →
       at ≡ start_of placed k + 8 * j → Lies placed a at (InBlock k j)
-  static_cell : {l j : ℕ} → cell_at a.memory 8 (Word at) ≡ Some (InStatic l j) → Lies placed a at (InStatic l j)
+  static_cell : {l j : ℕ} → in_statics 0 a.memory.statics at 1 ≡ Some (InStatic l j) → Lies placed a at (InStatic l j)
 
 -- a cell at the address of its first byte, and so many bytes further the access
 pub record Reached (s : Fixed) (placed : List Placed) (m : List Region) (a : Around) (x : Value) (w : ℕ) (cell : Cell) : Type 0 where
@@ -111,28 +63,25 @@ pub record Reached (s : Fixed) (placed : List Placed) (m : List Region) (a : Aro
   pub inside : byte + w ≤ 8
   pub aligned : (at + byte) % w ≡ 0
   pub even : at % 8 ≡ 0
-  pub there : cell_at a.memory 8 (first_byte x) ≡ Some cell
-  pub first : value_word s.image placed (first_byte x) ≡ at
-  pub area : IsDataOrAbove s at
-  pub readable : IsReadable m at
+  pub area : IsDataOrAbove s.image at (byte + w)
+  pub held : IsHeld m at
+  -- the last cell of static data may be cut off
+  pub readable : ((l j : ℕ) → cell ≡ InStatic l j → ⊥) → IsReadable m at
   pub low : 0x10000000 ≤ at
   pub no_limit : at ≢ 0x20000000
   pub below : at < 0x38010000
   pub lies : Lies placed a at cell
   -- what stands there once it has been written
-  pub is : is_among cell a.unwritten ≡ false → IsCellAt s placed m at (value_in a.memory cell)
+  pub is : is_among cell a.unwritten ≡ false → StandsFor s placed (held_word m at) (value_in a.memory cell)
 
 module _ (s : Fixed) (placed : List Placed) (m : List Region) (regions : HasRegions (extents s.image s.heap s.base) m) (a : Around)
-    (h : HeapStands s placed m a) (whole : AllByRecursion IsWholeList a.memory.statics) (w : ℕ) (width : IsWidth w) where
+    (h : HeapStands s placed m a) (w : ℕ) (width : IsWidth w) where
   some_is : {p q : Cell} → Some p ≡ Some q → p ≡ q
   some_is e = cc
 
   if_true : (t : Bool) (o : Option Cell) (cell : Cell) → cond t o None ≡ Some cell → (t ≡ true) × (o ≡ Some cell)
   if_true true o cell e = (refl, e)
   if_true false o cell e = absurd (cc)
-
-  whole_there : (x : ℕ) (cell : Cell) → x % 8 ≡ 0 → in_statics 0 a.memory.statics x 8 ≡ Some cell → cell_at a.memory 8 (Word x) ≡ Some cell
-  whole_there x cell e f = cond-true (x % 8 == 0) _ _ (eq-eqb (x % 8) 0 e) ∙ f
 
   block_same : (k o : ℕ) (n : Option ℕ) (cell : Cell) → o % 8 + w ≤ 8 → in_block k n ((o + 8) % 2 ^ 64) w ≡ Some cell →
       in_block k n ((o - o % 8 + 8) % 2 ^ 64) 8 ≡ Some cell
@@ -246,36 +195,44 @@ module _ (s : Fixed) (placed : List Placed) (m : List Region) (regions : HasRegi
   unfolding add_word
   block_bytes start o e = (omega (arith, e), omega (arith, e), omega (arith, e))
 
-  static_of : (x : ℕ) (cell : Cell) → cell_at a.memory 8 (Word x) ≡ Some cell → Lies placed a x cell
+  static_of : (x : ℕ) (cell : Cell) → in_statics 0 a.memory.statics x 1 ≡ Some cell → (l : ℕ) × (j : ℕ) × (cell ≡ InStatic l j) × Lies placed a x cell
   static_of x cell e =
-      let p = if_true (x % 8 == 0) (in_statics 0 a.memory.statics x 8) cell e in
-      let r = is_in 0 a.memory.statics x cell p.1 in
-      subst (Lies placed a x) (sym r.is) (static_cell (e ∙ ap Some r.is))
+      let r = is_in 0 a.memory.statics x cell e in
+      (0 + r.index, (x - r.list.start) / 8, r.is, subst (Lies placed a x) (sym r.is) (static_cell (e ∙ ap Some r.is)))
 
   pub reached : (x : Value) (cell : Cell) → cell_at a.memory w x ≡ Some cell → Reached s placed m a x w cell
   reached (Word x) cell e =
       let p = if_true (x % w == 0) (in_statics 0 a.memory.statics x w) cell e in
       let al : x % w ≡ 0 = eqb-true (x % w) 0 p.0 in
       let inside = in_a_word x w width al in
-      let there = whole_there (x - x % 8) cell (omega arith) (statics_same 0 a.memory.statics x w cell whole (width_some w width) inside p.1) in
-      let place = h.statics.place (x - x % 8) (value_in a.memory cell) (ap (static_in a.memory) there) in
+      let sum : x ≡ x - x % 8 + x % 8 = omega arith in
+      let there : in_statics 0 a.memory.statics (x - x % 8) 1 ≡ Some cell =
+      first_in 0 data_start a.memory.statics (x - x % 8) (x % 8) w cell h.lie.lists (omega arith) (width_some w width) inside
+      (subst (λ y. in_statics 0 a.memory.statics y w ≡ Some cell) sum p.1) in
+      let value = static_at a.memory (x - x % 8) cell (omega arith) there in
+      let place = h.statics.place (x - x % 8) (value_in a.memory cell) value in
+      let high = listed_below 0 data_start a.memory.statics x w cell h.lie.lists p.1 in
+      let ends = h.lie.ends in
+      let lies = static_of (x - x % 8) cell there in
       record {
         at = x - x % 8;
         byte = x % 8;
         address = omega arith;
         offset = refl;
         inside = inside;
-        aligned = let same : x ≡ x - x % 8 + x % 8 = omega arith in subst (λ z. z % w ≡ 0) same al;
+        aligned = subst (λ z. z % w ≡ 0) sum al;
         even = omega arith;
-        there = there;
-        first = refl;
-        area = inl place.2;
-        readable = data_readable s.image s.heap s.base m regions (x - x % 8) place.0 place.1 place.2;
+        area = inl (omega (arith, high, ends));
+        held = data_held s m regions (x - x % 8) place.1 place.2;
+        readable = λ none. absurd (none lies.0 lies.1 lies.2);
         low = place.1;
-        no_limit = (let short = s.functions.tables.bytes.short in let high = place.2 in λ q. omega (arith, q, short, high));
-        below = (let short = s.functions.tables.bytes.short in let high = place.2 in omega (arith, short, high));
-        lies = static_of (x - x % 8) cell there;
-        is = λ written. cell_there s placed m regions a h (Word (x - x % 8)) cell there written;
+        no_limit = (let short = s.functions.tables.bytes.short in let top = place.2 in λ q. omega (arith, q, short, top));
+        below = (let short = s.functions.tables.bytes.short in let top = place.2 in omega (arith, short, top));
+        lies = lies.3;
+        is = λ written. record {
+          is = h.statics.cell (x - x % 8) (value_in a.memory cell) value;
+          known = h.statics.known (x - x % 8) (value_in a.memory cell) value;
+        };
       }
   reached (Block k o) cell e =
       let p = if_true (o % w == 0) (in_block k (slice_get (sizes a.memory) k) ((o + 8) % 2 ^ 64) w) cell e in
@@ -298,14 +255,15 @@ module _ (s : Fixed) (placed : List Placed) (m : List Region) (regions : HasRegi
         inside = inside;
         aligned = still_aligned o (add_word (start_of placed k) (o - o % 8) + o % 8) w width bytes.2 al;
         even = bytes.1;
-        there = there;
-        first = refl;
         area = inr (omega (arith, high));
-        readable = up.readable;
+        held = readable_held s m regions (add_word (start_of placed k) (o - o % 8)) up.readable;
+        readable = λ none. up.readable;
         low = omega (arith, high);
         no_limit = λ q. omega (arith, q, high);
         below = up.below;
         lies = lies;
-        is = λ written. cell_there s placed m regions a h (Block k (o - o % 8)) cell there written;
+        is = λ written. subst (λ z. StandsFor s placed z (value_in a.memory cell))
+            (sym (held_readable s m regions (add_word (start_of placed k) (o - o % 8)) up.readable))
+            (cell_there s placed m regions a h (Block k (o - o % 8)) cell there written).stands;
       }
   reached (Function f) cell e = absurd (cc)

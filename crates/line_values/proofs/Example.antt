@@ -1,5 +1,5 @@
 -- A function of one line, which makes 42: what the law asks for holds of it.
-use Rattle.std.proofs.Common.{◌≡◌, ℕ, zero, suc, ◌+◌, ◌-◌, false, List, [], ◌∷◌, None, refl, arith, subst, ap, ◌∙◌, map}
+use Rattle.std.proofs.Common.{◌≡◌, ℕ, zero, suc, ◌+◌, ◌-◌, false, List, [], ◌∷◌, None, refl, arith, subst, ap, ◌∙◌}
 use Rattle.std.specs.List.{Contains}
 use Rattle.std.proofs.lemmas.List.Elements.{All-nil, All-cons}
 use Rattle.bs_words.specs.Memory.{Memory}
@@ -13,7 +13,6 @@ use Rattle.layout_rules.specs.Words.{Named}
 use Rattle.layout_rules.specs.declared.form.Form.TheVariants.{Near}
 use Rattle.mach_ir.specs.declared.op.Calling.TheVariants as calling
 use Rattle.mach_ir.specs.declared.op.External.{External}
-use Rattle.moving_laws.specs.Stands.{Among}
 use Rattle.lin_ir.specs.Formed.{IsLocation, NamesLabel, formed_op, goes_to, is_colour, is_home, pushes}
 use Rattle.lin_ir.specs.Meaning.{Locations, NamedAt, step}
 use Rattle.lin_ir.specs.declared.lin.Lin.{Lin}
@@ -35,7 +34,6 @@ use Rattle.linear_machine.specs.View.{Fixed, View, IsCode}
 use Rattle.line_stands.specs.Lines.{LineStands}
 use Rattle.line_stands.specs.Parts.{PartStands}
 use Rattle.line_values.specs.Followed.{plain_pure}
-use Rattle.line_values.specs.Statics.{StaticsLie}
 use Rattle.line_values.proofs.Following.{plain_followed}
 
 -- a0, as an int
@@ -62,7 +60,7 @@ dead rest = ⊥
 nothing : {X : Type 0} {x : X} → Contains [] x → ⊥
 nothing (k, l, e) = omega (arith, l)
 
-module _ (s : Fixed) (no_roots : s.image.roots ≡ []) (at : ℕ) (first : IsCode s at (OpImm Addi 10 0 42)) where
+module _ (s : Fixed) (at : ℕ) (first : IsCode s at (OpImm Addi 10 0 42)) where
   abbrev laid : Laid
   laid = record { part = λ n. at + (1 - n); frame = 0; saves = false; slots = 0; handler = λ l. 0; even = refl; room = omega arith }
 
@@ -122,19 +120,11 @@ module _ (s : Fixed) (no_roots : s.image.roots ≡ []) (at : ℕ) (first : IsCod
       no_label l (goes_to (other i)) = elim i [ ]
       no_label l (pushes e) = absurd (cc)
 
-  lies : StaticsLie s empty
-  lies = record {
-    whole = tt;
-    ends = omega arith;
-    root = λ x e. absurd (cc);
-    roots = λ x i. absurd (subst (λ rs. Among x (map (λ offset. 0x10000000 + offset) rs)) no_roots i);
-  }
-
   -- the line is followed
   pub made : (named : NamedAt) (entry : ℕ → ℕ) (c : Below) (v : View) (young : List Placed) (held : Locations) → v.place ≡ at →
       Within s laid v young 0 held (entered empty) c →
       FollowsStep 1 s laid dead entry c v (step place named one (record { rest = makes ∷ []; file = held; around = entered empty }))
   unfolding part stands constant
   made named entry c v young held e within =
-      plain_followed s laid no_names one place named dead entry c no_frame None [] makes plain_pure held (entered empty) v stands refl lies
+      plain_followed s laid no_names one place named dead entry c no_frame None [] makes plain_pure held (entered empty) v stands refl
       (young, held, record { others = λ l n. refl; spare_too = λ b. absurd b }, record { place = omega (arith, e); within = within })

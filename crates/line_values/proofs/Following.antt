@@ -226,21 +226,21 @@ module _ (s : Fixed) (laid : Laid) (n : Named) (m : Lin) (place : Place) (named 
   -- ---- each kind
 
   constant_case : (w : ℕ) → w < 2 ^ 64 → (r : Spot) → Goal (lin.Op (op.Pure (pure.Constant w))) [] (r ∷ [])
-  constant_case w small r file a v st none lie (young, held, agrees, during) =
+  constant_case w small r file a v st none (young, held, agrees, during) =
       let o = lin.Op (op.Pure (pure.Constant w)) in
       constant_line s n laid m st.slots live entry c place named next v young held file a none during.within
       (live (record { op = o; args = []; results = r ∷ [] } ∷ next)) agrees (words o [] (r ∷ []) a st) (behind o [] (r ∷ []) a st v during.place) r
       (result_locates o [] (r ∷ []) a st).0 (passes_one o [] (r ∷ []) a st r this refl) w small (part_at o [] (r ∷ []) a st v during.place)
 
   symbol_case : (name : List ℕ) (r : Spot) → Goal (lin.Op (op.Pure (pure.Symbol name))) [] (r ∷ [])
-  symbol_case name r file a v st none lie (young, held, agrees, during) =
+  symbol_case name r file a v st none (young, held, agrees, during) =
       let o = lin.Op (op.Pure (pure.Symbol name)) in
       symbol_line s n laid m st.slots live entry c place named next v young held file a none during.within
       (live (record { op = o; args = []; results = r ∷ [] } ∷ next)) agrees (words o [] (r ∷ []) a st) (behind o [] (r ∷ []) a st v during.place) r
       (result_locates o [] (r ∷ []) a st).0 (passes_one o [] (r ∷ []) a st r this refl) name (st.names.symbol name) (part_at o [] (r ∷ []) a st v during.place)
 
   copy_case : (kind : _) (p r : Spot) → Goal (lin.Op (op.Pure (pure.Copy kind))) (p ∷ []) (r ∷ [])
-  copy_case kind p r file a v st none lie (young, held, agrees, during) =
+  copy_case kind p r file a v st none (young, held, agrees, during) =
       let o = lin.Op (op.Pure (pure.Copy kind)) in
       copy_line s n laid m st.slots live entry c place named next v young held file a none during.within
       (live (record { op = o; args = p ∷ []; results = r ∷ [] } ∷ next)) agrees (words o (p ∷ []) (r ∷ []) a st)
@@ -248,7 +248,7 @@ module _ (s : Fixed) (laid : Laid) (n : Named) (m : Lin) (place : Place) (named 
       (locates o (p ∷ []) (r ∷ []) a st).0 (reads o (p ∷ []) (r ∷ []) a st p (first_in p [])) (part_at o (p ∷ []) (r ∷ []) a st v during.place)
 
   register_case : (g : _) (p q r : Spot) → Goal (lin.Op (op.Pure (pure.Operator g right.Register))) (p ∷ q ∷ []) (r ∷ [])
-  register_case g p q r file a v st none lie (young, held, agrees, during) =
+  register_case g p q r file a v st none (young, held, agrees, during) =
       let o = lin.Op (op.Pure (pure.Operator g right.Register)) in
       operator_line s n laid m st.slots live entry c place named next v young held file a none during.within
       (live (record { op = o; args = p ∷ q ∷ []; results = r ∷ [] } ∷ next)) agrees (words o (p ∷ q ∷ []) (r ∷ []) a st)
@@ -259,7 +259,7 @@ module _ (s : Fixed) (laid : Laid) (n : Named) (m : Lin) (place : Place) (named 
 
   with_case : (g : _) (w : ℕ) → is_immediate g w ≡ true → w < 2 ^ 64 → (p r : Spot) →
       Goal (lin.Op (op.Pure (pure.Operator g (right.Constant w)))) (p ∷ []) (r ∷ [])
-  with_case g w has small p r file a v st none lie (young, held, agrees, during) =
+  with_case g w has small p r file a v st none (young, held, agrees, during) =
       let o = lin.Op (op.Pure (pure.Operator g (right.Constant w))) in
       operator_with_line s n laid m st.slots live entry c place named next v young held file a none during.within
       (live (record { op = o; args = p ∷ []; results = r ∷ [] } ∷ next)) agrees (words o (p ∷ []) (r ∷ []) a st)
@@ -267,20 +267,20 @@ module _ (s : Fixed) (laid : Laid) (n : Named) (m : Lin) (place : Place) (named 
       small p (locates o (p ∷ []) (r ∷ []) a st).0 (reads o (p ∷ []) (r ∷ []) a st p (first_in p [])) (part_at o (p ∷ []) (r ∷ []) a st v during.place)
 
   load_case : (k : _) (offset : ℕ) (p r : Spot) → Goal (lin.Op (op.Access (access.Load k offset))) (p ∷ []) (r ∷ [])
-  load_case k offset p r file a v st none lie (young, held, agrees, during) =
+  load_case k offset p r file a v st none (young, held, agrees, during) =
       let o = lin.Op (op.Access (access.Load k offset)) in
       load_line s n laid m st.slots live entry c place named next v young held file a none during.within
       (live (record { op = o; args = p ∷ []; results = r ∷ [] } ∷ next)) agrees (words o (p ∷ []) (r ∷ []) a st)
-      (behind o (p ∷ []) (r ∷ []) a st v during.place) lie.whole r (result_locates o (p ∷ []) (r ∷ []) a st).0
+      (behind o (p ∷ []) (r ∷ []) a st v during.place) r (result_locates o (p ∷ []) (r ∷ []) a st).0
       (passes_one o (p ∷ []) (r ∷ []) a st r this refl) k offset st.offset p (locates o (p ∷ []) (r ∷ []) a st).0
       (reads o (p ∷ []) (r ∷ []) a st p (first_in p [])) (part_at o (p ∷ []) (r ∷ []) a st v during.place)
 
   store_case : (k : _) (offset : ℕ) (p q : Spot) → Goal (lin.Op (op.Access (access.Store k offset))) (p ∷ q ∷ []) []
-  store_case k offset p q file a v st none lie (young, held, agrees, during) =
+  store_case k offset p q file a v st none (young, held, agrees, during) =
       let o = lin.Op (op.Access (access.Store k offset)) in
       store_line s n laid m st.slots live entry c place named next v young held file a none during.within
       (live (record { op = o; args = p ∷ q ∷ []; results = [] } ∷ next)) agrees (words o (p ∷ q ∷ []) [] a st)
-      (behind o (p ∷ q ∷ []) [] a st v during.place) lie (passes_to o (p ∷ q ∷ []) [] a st On this refl) k offset st.offset p q
+      (behind o (p ∷ q ∷ []) [] a st v during.place) (passes_to o (p ∷ q ∷ []) [] a st On this refl) k offset st.offset p q
       (locates o (p ∷ q ∷ []) [] a st).0 (locates o (p ∷ q ∷ []) [] a st).1.0 (reads o (p ∷ q ∷ []) [] a st p (first_in p (q ∷ [])))
       (reads o (p ∷ q ∷ []) [] a st q (second_in p q [])) (part_at o (p ∷ q ∷ []) [] a st v during.place)
 
@@ -297,7 +297,7 @@ module _ (s : Fixed) (laid : Laid) (n : Named) (m : Lin) (place : Place) (named 
     dead l rest e = st.spare.aside may l (among l rest e)
 
   check_case : (p q : Spot) → Goal (lin.Op (op.Leaving (leaving.Checkbound right.Register))) (p ∷ q ∷ []) []
-  check_case p q file a v st none lie (young, held, agrees, during) =
+  check_case p q file a v st none (young, held, agrees, during) =
       let o = lin.Op (op.Leaving (leaving.Checkbound right.Register)) in
       check_line s n laid m st.slots live entry c place named next v young held file a none during.within
       (live (record { op = o; args = p ∷ q ∷ []; results = [] } ∷ next)) agrees (words o (p ∷ q ∷ []) [] a st)
@@ -307,7 +307,7 @@ module _ (s : Fixed) (laid : Laid) (n : Named) (m : Lin) (place : Place) (named 
       (part_at o (p ∷ q ∷ []) [] a st v during.place)
 
   check_with_case : (w : ℕ) → w < 2 ^ 64 → (p : Spot) → Goal (lin.Op (op.Leaving (leaving.Checkbound (right.Constant w)))) (p ∷ []) []
-  check_with_case w small p file a v st none lie (young, held, agrees, during) =
+  check_with_case w small p file a v st none (young, held, agrees, during) =
       let o = lin.Op (op.Leaving (leaving.Checkbound (right.Constant w))) in
       check_with_line s n laid m st.slots live entry c place named next v young held file a none during.within
       (live (record { op = o; args = p ∷ []; results = [] } ∷ next)) agrees (words o (p ∷ []) [] a st)
@@ -316,19 +316,19 @@ module _ (s : Fixed) (laid : Laid) (n : Named) (m : Lin) (place : Place) (named 
       (locates o (p ∷ []) [] a st).0 (reads o (p ∷ []) [] a st p (first_in p [])) (part_at o (p ∷ []) [] a st v during.place)
 
   label_case : (l : ℕ) → Goal (lin.Flow (flow.Label l)) [] []
-  label_case l file a v st none lie (young, held, agrees, during) =
+  label_case l file a v st none (young, held, agrees, during) =
       let o = lin.Flow (flow.Label l) in
       label_line s n laid m live entry c place named next v young held file a during.within (live (record { op = o; args = []; results = [] } ∷ next)) agrees
       (words o [] [] a st) l (behind o [] [] a st v during.place) (part_at o [] [] a st v during.place) (passes_to o [] [] a st On this refl)
 
   jump_case : (l : ℕ) → Goal (lin.Flow (flow.Jump l)) [] []
-  jump_case l file a v st none lie (young, held, agrees, during) =
+  jump_case l file a v st none (young, held, agrees, during) =
       let o = lin.Flow (flow.Jump l) in
       jump_line s n laid m live entry c place named next v young held file a during.within (live (record { op = o; args = []; results = [] } ∷ next)) agrees
       (words o [] [] a st) l (lies o [] [] a st l this) (part_at o [] [] a st v during.place) (passes_to o [] [] a st (At l) this refl)
 
   exit_case : (l : ℕ) → Goal (lin.Flow (flow.Exit l)) [] []
-  exit_case l file a v st none lie (young, held, agrees, during) =
+  exit_case l file a v st none (young, held, agrees, during) =
       let o = lin.Flow (flow.Exit l) in
       exit_line s n laid m live entry c place named next v young held file a during.within (live (record { op = o; args = []; results = [] } ∷ next)) agrees
       (words o [] [] a st) l (lies o [] [] a st l this) (part_at o [] [] a st v during.place) (passes_to o [] [] a st (At l) this refl)
@@ -344,7 +344,7 @@ module _ (s : Fixed) (laid : Laid) (n : Named) (m : Lin) (place : Place) (named 
       later x xs p (k, l, e) = (suc k, omega (arith, l), e)
 
   branch_case : (t : _) (l : ℕ) (args : List Spot) → IsTested t (comps args) → Goal (lin.Flow (flow.Branch t l)) args []
-  branch_case t l args tested file a v st none lie (young, held, agrees, during) =
+  branch_case t l args tested file a v st none (young, held, agrees, during) =
       let o = lin.Flow (flow.Branch t l) in
       branch_line s n laid m st.slots live entry c place named next v young held file a none during.within
       (live (record { op = o; args = args; results = [] } ∷ next)) agrees (words o args [] a st) (behind o args [] a st v during.place) l
@@ -353,7 +353,7 @@ module _ (s : Fixed) (laid : Laid) (n : Named) (m : Lin) (place : Place) (named 
       (part_at o args [] a st v during.place)
 
   switch_case : (labels : List ℕ) (p : Spot) → Goal (lin.Flow (flow.Switch labels)) (p ∷ []) []
-  switch_case labels p file a v st none lie (young, held, agrees, during) =
+  switch_case labels p file a v st none (young, held, agrees, during) =
       let o = lin.Flow (flow.Switch labels) in
       switch_line s n laid m st.slots live entry c place named next v young held file a none during.within
       (live (record { op = o; args = p ∷ []; results = [] } ∷ next)) agrees (words o (p ∷ []) [] a st) labels
@@ -430,4 +430,4 @@ module _ (s : Fixed) (laid : Laid) (n : Named) (m : Lin) (place : Place) (named 
 
   -- Whatever plain line it is.
   pub plain_followed : (i : Line) → IsPlain i.op → Followed s laid n m place named live entry c f d i next
-  plain_followed i plain file a v st none lie at = by_op i.op i.args i.results plain st.formed file a v st none lie at
+  plain_followed i plain file a v st none at = by_op i.op i.args i.results plain st.formed file a v st none at

@@ -1,6 +1,5 @@
 -- Loads of every chunk follow their lines.
 use Rattle.std.proofs.Common.{◌≡◌, ℕ, suc, ◌+◌, ◌*◌, ◌/◌, ◌%◌, ◌^◌, ◌<◌, ◌≤◌, ◌⊎◌, inl, inr, Bool, true, false, cond, List, [], ◌∷◌, ◌++◌, length, Option, Some, None, Result, Ok, Err, slice_index, refl, ap, arith, ◌∙◌, sym, subst, ⊎_elim, append_assoc}
-use Rattle.std.specs.List.{AllByRecursion}
 use Rattle.bs_words.specs.Fits.{fits, misfit}
 use Rattle.bs_words.specs.Memory.{Cell, cell_at, end_of_data, extended, loaded_as, loaded_from, of_type, offset_in_cell, part, value_in, width}
 use Rattle.bs_words.specs.Memory as memory
@@ -26,15 +25,14 @@ use Rattle.mach_ir.specs.Runs.{Place}
 use Rattle.mach_ir.specs.declared.op.Access.TheVariants as access
 use Rattle.mach_ir.specs.declared.op.Op.TheVariants as op
 use Rattle.moving_laws.specs.Stands.{Among}
-use Rattle.moving_laws.specs.Words.{IsReadable}
+use Rattle.moving_laws.specs.Words.{held_word}
+use Rattle.moving_laws.proofs.Held.{IsHeld, held_below}
 use Rattle.rv_isa.specs.Registers.{number}
 use Rattle.rv_isa.specs.declared.instr.Instr.TheVariants.{Load}
 use Rattle.rv_isa.specs.declared.register.Register.{Register}
 use Rattle.rv_isa.specs.declared.register.Register.TheVariants.{T1}
 use Rattle.rv_machine.specs.Hart.{Placed, bytes_loaded, register_loaded}
-use Rattle.rv_machine.specs.Memory.{word}
 use Rattle.rv_machine.specs.Width.{IsWidth}
-use Rattle.machine_laws.proofs.Memory.{word_below}
 use Rattle.machine_laws.proofs.Values.{loaded_word}
 use Rattle.rv_pieces.specs.declared.piece.Piece.{Piece}
 use Rattle.linear_machine.specs.Follows.{Agrees, FollowsStep}
@@ -47,7 +45,6 @@ use Rattle.linear_machine.proofs.Reading.{reads_one}
 use Rattle.linear_machine.proofs.Sequences.{set_then, sets_as, widened}
 use Rattle.line_stands.specs.Parts.{PartStands}
 use Rattle.line_stands.proofs.Parts.{counts, last}
-use Rattle.line_values.specs.Statics.{IsWholeList}
 use Rattle.line_values.proofs.Bytes.{sets_load_part}
 use Rattle.line_values.proofs.Cells.{reached}
 use Rattle.line_values.proofs.Operands.{fetches, targeted}
@@ -145,7 +142,7 @@ module _ (s : Fixed) (placed : List Placed) (end w from : ℕ) (small : w < 2 ^ 
 module _ (s : Fixed) (n : Named) (laid : Laid) (m : Lin) (slots : m.slots ≡ laid.slots) (live : List Line → Type 0) (entry : ℕ → ℕ) (c : Below)
     (place : Place) (named : NamedAt) (next : List Line) (v : View) (young : List Placed) (held file : Locations) (a : Around) (none : a.raised ≡ None)
     (within : Within s laid v young 0 held a c) (before : Type 0) (agrees : Agrees before held file) (k : ℕ) (behind : laid.part (length next) ≡ v.place + k)
-    (whole : AllByRecursion IsWholeList a.memory.statics) (r : Spot) (at_r : IsLocation m r.loc) (passes : PassesSpare before (live next) r.loc)
+    (r : Spot) (at_r : IsLocation m r.loc) (passes : PassesSpare before (live next) r.loc)
     (ch : Chunk) (offset : ℕ) (fits_64 : offset < 2 ^ 64) (p : Spot) (at_p : IsLocation m p.loc) (reads : Reads before p.loc)
     (part_is : PartStands s n v.place (v.place + k) (load_part (length a.tries) ch offset (p ∷ []) (r ∷ []))) where
   target_or_scratch : (t q : ℕ) → Among q (t ∷ 6 ∷ 7 ∷ []) → (q ≡ t) ⊎ IsScratch q
@@ -182,13 +179,13 @@ module _ (s : Fixed) (n : Named) (laid : Laid) (m : Lin) (slots : m.slots ≡ la
       (unary s laid young a c none held tg.rest (put r z held) v.place g1.own g2.own g2.others (suc f1.r) (suc tg.t) f1.list (suc tg.t ∷ 6 ∷ 7 ∷ []) x z
       (f1.gets x h) tg.makes (target_or_scratch (suc tg.t)) (tg.keeps r refl z (v.place + g1.own + g2.own) g2.others g2.second)
       (λ u at w sx.
-      let reach = reached s (all_of u young) u.memory w.usable.regions a w.heap whole (width ch) (chunk_width ch) (moved_by offset x) cell there in
+      let reach = reached s (all_of u young) u.memory w.usable.regions a w.heap (width ch) (chunk_width ch) (moved_by offset x) cell there in
       let lies = reach.is written in
       let from : ℕ = reach.byte in
-      let value : ℕ = register_loaded (load_width ch) (part (word u.memory reach.at) reach.byte (width ch)) in
-      let stands : StandsFor s (all_of u young) (register_loaded (load_width ch) (part (word u.memory reach.at) reach.byte (width ch))) z =
-      loaded_stands s (all_of u young) (end_of_data a.memory) (word u.memory reach.at) reach.byte (word_below u.memory reach.at) ch (value_in a.memory cell) z
-      lies.stands reach.inside (subst (λ b. loaded_as ch (end_of_data a.memory) b (value_in a.memory cell) ≡ Ok z) reach.offset e) in
+      let value : ℕ = register_loaded (load_width ch) (part (held_word u.memory reach.at) reach.byte (width ch)) in
+      let stands : StandsFor s (all_of u young) (register_loaded (load_width ch) (part (held_word u.memory reach.at) reach.byte (width ch))) z =
+      loaded_stands s (all_of u young) (end_of_data a.memory) (held_word u.memory reach.at) reach.byte (held_below u.memory reach.at w.usable.regions.each) ch (value_in a.memory cell) z
+      lies reach.inside (subst (λ b. loaded_as ch (end_of_data a.memory) b (value_in a.memory cell) ≡ Ok z) reach.offset e) in
       let first = ad.gets x (no_function a (width ch) offset x cell there) u at w sx in
       let code : IsCode s (u.place + g3.own) (Load (load_width ch) (suc tg.t) (suc ad.r) (address_offset offset % 4096)) =
       subst (λ y. IsCode s (y + g3.own) (Load (load_width ch) (suc tg.t) (suc ad.r) (address_offset offset % 4096))) (sym at)
@@ -196,7 +193,7 @@ module _ (s : Fixed) (n : Named) (laid : Laid) (m : Lin) (slots : m.slots ≡ la
       (subst (λ y. IsCode s (v.place + g1.own + g3.own) (Load (load_width ch) (number (target r.loc)) y (address_offset offset % 4096))) ad.is l.0)) in
       subst (λ j. Changes s u j (suc tg.t ∷ 6 ∷ 7 ∷ []) u.memory (λ o. StandsFor s (all_of u young) (slice_index o.registers (suc tg.t)) z)) (sym two)
       (widened s u (g3.own + 1) (suc tg.t ∷ 6 ∷ 7 ∷ []) (suc tg.t ∷ 6 ∷ 7 ∷ []) u.memory
-      (λ o. slice_index o.registers (suc tg.t) ≡ register_loaded (load_width ch) (part (word u.memory reach.at) reach.byte (width ch))) _ (λ q i. i)
+      (λ o. slice_index o.registers (suc tg.t) ≡ register_loaded (load_width ch) (part (held_word u.memory reach.at) reach.byte (width ch))) _ (λ q i. i)
       (λ o past f. subst (λ y. StandsFor s (all_of u young) y z) (sym f) stands)
       (set_then s u g3.own (suc tg.t ∷ 6 ∷ 7 ∷ []) u.memory _
       (Load (load_width ch) (suc tg.t) (suc ad.r) (address_offset offset % 4096)) tg.t value
@@ -205,15 +202,15 @@ module _ (s : Fixed) (n : Named) (laid : Laid) (m : Lin) (slots : m.slots ≡ la
       (inl refl)
       (λ o past f.
       sets_as s o (Load (load_width ch) (suc tg.t) (suc ad.r) (address_offset offset % 4096)) (suc tg.t) _ value
-      (ap (λ y. register_loaded (load_width ch) (part (word y reach.at) reach.byte (width ch))) past.memory)
-      (sets_load_part s o reach.at reach.byte reach.even lies.low reach.area lies.no_limit
-      (subst (λ y. IsReadable y reach.at) (sym past.memory) lies.readable) (width ch) (chunk_width ch) reach.inside reach.aligned (load_width ch)
+      (ap (λ y. register_loaded (load_width ch) (part (held_word y reach.at) reach.byte (width ch))) past.memory)
+      (sets_load_part s o reach.at reach.byte reach.even reach.low reach.no_limit
+      (subst (λ y. IsHeld y reach.at) (sym past.memory) reach.held) (width ch) (chunk_width ch) reach.inside reach.area reach.aligned (load_width ch)
       (load_bytes ch)
       (suc tg.t) (suc ad.r) (address_offset offset % 4096) (f ∙ reach.address)))
       code (inl tg.no_sp) tg.fits
-      (loaded_word (load_width ch) (part (word u.memory reach.at) reach.byte (width ch))
-      (subst (λ y. part (word u.memory reach.at) reach.byte (width ch) < 2 ^ (8 * y)) (sym (load_bytes ch))
-      (part_below (word u.memory reach.at) reach.byte (width ch)))))))
+      (loaded_word (load_width ch) (part (held_word u.memory reach.at) reach.byte (width ch))
+      (subst (λ y. part (held_word u.memory reach.at) reach.byte (width ch) < 2 ^ (8 * y)) (sym (load_bytes ch))
+      (part_below (held_word u.memory reach.at) reach.byte (width ch)))))))
       v refl within)
 
   pub load_line : FollowsStep k s laid live entry c v (step place named m (record {

@@ -12,8 +12,7 @@ use Rattle.bs_words.specs.declared.values.Value.{Value}
 use Rattle.bs_words.specs.declared.values.Value.TheVariants.{Word, Block, Function}
 use Rattle.mach_ir.specs.Acts.{Act, Around, Goes, On, Stuck, is_among, after_store, first_written, only_if, stored_act, without}
 use Rattle.rv_machine.specs.Hart.{Placed}
-use Rattle.rv_machine.specs.Memory.{Region, word, write}
-use Rattle.machine_laws.proofs.Memory.{word_below}
+use Rattle.rv_machine.specs.Memory.{Region, write}
 use Rattle.linear_machine.specs.Relation.{StandsFor, HeapStands}
 use Rattle.linear_machine.specs.View.{Fixed}
 use Rattle.line_values.proofs.Cells.{Lies, head_cell, own_cell, static_cell, Reached}
@@ -25,7 +24,9 @@ use Rattle.rv_machine.specs.Moving.{is_scanned}
 use Rattle.rv_machine.specs.Sound.{HasRegions, extents}
 use Rattle.linear_machine.proofs.Storing.{heap_stored, without_is}
 use Rattle.linear_machine.proofs.Writing.{heap_headed}
-use Rattle.line_values.specs.Statics.{StaticsLie}
+use Rattle.moving_laws.specs.Words.{IsReadable, held_word}
+use Rattle.moving_laws.proofs.Held.{held_below, hold}
+use Rattle.linear_machine.proofs.Statics.{hold_readable}
 use Rattle.line_values.proofs.Bytes.{bool_same}
 use Rattle.line_values.proofs.Statics.{static_stored, still_of, val_of}
 
@@ -124,48 +125,46 @@ fits_by s count end true v l known e = val_of s.image count end v l known e
 fits_by s count end false v l known e = still_of end v e
 
 module _ (s : Fixed) (placed : List Placed) (m : List Region) (regions : HasRegions (extents s.image s.heap s.base) m) (a : Around)
-    (h : HeapStands s placed m a) (lie : StaticsLie s a.memory) (at value : ℕ) (small : value < 2 ^ 64) where
-  -- what a write of the word leaves
-  abbrev Stands : Memory → List Cell → Type 0
-  Stands memory unwritten = HeapStands s placed (write m at value) (record a { memory = memory; unwritten = unwritten })
-
-  block_puts : (k j : ℕ) (b : HeapBlock) → slice_get a.memory.blocks k ≡ Some b → j < length b.cells → at ≡ start_of placed k + 8 * j → (after : Memory) →
-      Puts s placed a.memory after (InBlock k j) value → (unwritten : List Cell) →
+    (h : HeapStands s placed m a) (at value : ℕ) (small : value < 2 ^ 64) where
+  block_puts : (k j : ℕ) (b : HeapBlock) → slice_get a.memory.blocks k ≡ Some b → j < length b.cells → at ≡ start_of placed k + 8 * j → IsReadable m at →
+      (after : Memory) → Puts s placed a.memory after (InBlock k j) value → (unwritten : List Cell) →
       ((c : Cell) → is_among c unwritten ≡ false → (c ≡ InBlock k j) ⊎ (is_among c a.unwritten ≡ false)) →
-      HeapStands s placed (write m at value) (record a { memory = after; unwritten = unwritten })
-  block_puts k j b there inside e after p unwritten fewer =
+      HeapStands s placed (hold m at value) (record a { memory = after; unwritten = unwritten })
+  block_puts k j b there inside e can after p unwritten fewer =
+      let ends = h.lie.ends in
       let block : slice_index_or a.memory.blocks k (record { header = 0; cells = [] }) ≡ b =
       get_or_from_slice_get a.memory.blocks k b (record { header = 0; cells = [] }) there in
       let scanned : fits (end_of_data a.memory) (cond (is_scanned b.header) ty.Val ty.Int) p.value ≡ true =
       ap (λ t. fits (end_of_data a.memory) (cond t ty.Val ty.Int) p.value) (scan_same b.header)
       ∙ ap (λ (z : HeapBlock). fits (end_of_data a.memory) (type_of_cells z.header) p.value) (sym block) ∙ p.fits_cell in
       let heap = heap_stored s placed m regions a h k j value p.value b there inside small p.stands
-      (fits_by s (length placed) (end_of_data a.memory) (is_scanned b.header) p.value lie.ends p.stands.known scanned) unwritten fewer in
-      subst (λ x. HeapStands s placed (write m x value) (record a { memory = after; unwritten = unwritten })) (sym e)
+      (fits_by s (length placed) (end_of_data a.memory) (is_scanned b.header) p.value (omega (arith, ends)) p.stands.known scanned) unwritten fewer in
+      subst (λ q. HeapStands s placed q (record a { memory = after; unwritten = unwritten })) (sym (hold_readable s m regions at value can small))
+      (subst (λ x. HeapStands s placed (write m x value) (record a { memory = after; unwritten = unwritten })) (sym e)
       (subst (λ (x : Memory). HeapStands s placed (write m (start_of placed k + 8 * j) value) (record a { memory = x; unwritten = unwritten }))
       (ap (λ (z : HeapBlock). record (a.memory) { blocks = slice_set a.memory.blocks k (record z { cells = slice_set z.cells j p.value }) }) (sym block)
-      ∙ sym p.is) heap)
+      ∙ sym p.is) heap))
 
-  static_puts : (l j : ℕ) → cell_at a.memory 8 (Word at) ≡ Some (InStatic l j) → (after : Memory) → Puts s placed a.memory after (InStatic l j) value →
-      HeapStands s placed (write m at value) (record a { memory = after; unwritten = a.unwritten })
-  static_puts l j there after p =
-      subst (λ (x : Memory). HeapStands s placed (write m at value) (record a { memory = x; unwritten = a.unwritten })) (sym p.is)
-      (static_stored s placed m regions a h lie at value l j p.value there small p.stands p.fits_cell)
+  static_puts : (l j : ℕ) → at % 8 ≡ 0 → in_statics 0 a.memory.statics at 1 ≡ Some (InStatic l j) → (after : Memory) →
+      Puts s placed a.memory after (InStatic l j) value → HeapStands s placed (hold m at value) (record a { memory = after; unwritten = a.unwritten })
+  static_puts l j even there after p =
+      subst (λ (x : Memory). HeapStands s placed (hold m at value) (record a { memory = x; unwritten = a.unwritten })) (sym p.is)
+      (static_stored s placed m regions a h at value l j p.value even there small p.stands p.fits_cell)
 
 -- ---- each store
 
 module _ (s : Fixed) (placed : List Placed) (m : List Region) (regions : HasRegions (extents s.image s.heap s.base) m) (a : Around)
-    (h : HeapStands s placed m a) (lie : StaticsLie s a.memory) (ch : Chunk) (x v : Value) (w : ℕ) (fits_w : w < 2 ^ 64) (stands : StandsFor s placed w v)
+    (h : HeapStands s placed m a) (ch : Chunk) (x v : Value) (w : ℕ) (fits_w : w < 2 ^ 64) (stands : StandsFor s placed w v)
     (Then : Act → Type 0) (stuck : Then Stuck) where
   module _ (cell : Cell) (there : cell_at a.memory (width ch) x ≡ Some cell) (reach : Reached s placed m a x (width ch) cell)
       (go : (memory : Memory) (unwritten : List Cell) →
-      HeapStands s placed (write m reach.at (replaced (word m reach.at) reach.byte (width ch) w)) (record a { memory = memory; unwritten = unwritten }) →
+      HeapStands s placed (hold m reach.at (replaced (held_word m reach.at) reach.byte (width ch) w)) (record a { memory = memory; unwritten = unwritten }) →
       Then (Goes [] On (record a { memory = memory; unwritten = unwritten }))) where
-    old_small : word m reach.at < 2 ^ 64
-    old_small = word_below m reach.at
+    old_small : held_word m reach.at < 2 ^ 64
+    old_small = held_below m reach.at regions.each
 
-    new_small : replaced (word m reach.at) reach.byte (width ch) w < 2 ^ 64
-    new_small = replaced-below (word m reach.at) reach.byte (width ch) w reach.inside (word_below m reach.at)
+    new_small : replaced (held_word m reach.at) reach.byte (width ch) w < 2 ^ 64
+    new_small = replaced-below (held_word m reach.at) reach.byte (width ch) w reach.inside (held_below m reach.at regions.each)
 
     stored_is : memory.stored ch a.memory x v ≡ stored_in ch a.memory reach.byte (Some cell) v
     stored_is = ap (λ o. stored_in ch a.memory (offset_in_cell x) o v) there ∙ ap (λ o. stored_in ch a.memory o (Some cell) v) reach.offset
@@ -173,13 +172,13 @@ module _ (s : Fixed) (placed : List Placed) (m : List Region) (regions : HasRegi
     -- where the cell is no header
     puts_of : (after : Memory) → (width ch ≡ 8) ⊎ (is_among cell a.unwritten ≡ false) →
         stored_as ch (end_of_data a.memory) a.memory cell reach.byte v ≡ Ok after →
-        Puts s placed a.memory after cell (replaced (word m reach.at) reach.byte (width ch) w)
+        Puts s placed a.memory after cell (replaced (held_word m reach.at) reach.byte (width ch) w)
     puts_of after before e =
-        puts s placed a.memory after cell (word m reach.at) w reach.byte (word_below m reach.at) fits_w v stands ch reach.inside
-        (⊎_elim (λ f. inl f) (λ f. inr ((reach.is f).stands)) before) e
+        puts s placed a.memory after cell (held_word m reach.at) w reach.byte (held_below m reach.at regions.each) fits_w v stands ch reach.inside
+        (⊎_elim (λ f. inl f) (λ f. inr (reach.is f)) before) e
 
     by_result : (unwritten : List Cell) (o : Result Memory Kind) →
-        ((after : Memory) → o ≡ Ok after → HeapStands s placed (write m reach.at (replaced (word m reach.at) reach.byte (width ch) w))
+        ((after : Memory) → o ≡ Ok after → HeapStands s placed (hold m reach.at (replaced (held_word m reach.at) reach.byte (width ch) w))
         (record a { memory = after; unwritten = unwritten })) → Then (after_store a unwritten o)
     by_result unwritten (Ok after) f = go after unwritten (f after refl)
     by_result unwritten (Err kind) f = stuck
@@ -188,23 +187,26 @@ module _ (s : Fixed) (placed : List Placed) (m : List Region) (regions : HasRegi
   head_goes : (k : ℕ) (b : HeapBlock) → slice_get a.memory.blocks k ≡ Some b → k < length placed → cell_at a.memory (width ch) x ≡ Some (InHeader k) →
       (reach : Reached s placed m a x (width ch) (InHeader k)) → reach.at ≡ start_of placed k - 8 →
       ((memory : Memory) (unwritten : List Cell) →
-      HeapStands s placed (write m reach.at (replaced (word m reach.at) reach.byte (width ch) w)) (record a { memory = memory; unwritten = unwritten }) →
+      HeapStands s placed (hold m reach.at (replaced (held_word m reach.at) reach.byte (width ch) w)) (record a { memory = memory; unwritten = unwritten }) →
       Then (Goes [] On (record a { memory = memory; unwritten = unwritten }))) →
       (t : Bool) → is_among (InHeader k) a.unwritten ≡ t →
       Then (cond t (first_written ch a (InHeader k) x v) (after_store a a.unwritten (memory.stored ch a.memory x v)))
   head_goes k b there i cell reach at go true f =
       by_chunk ch v stands refl refl
     where
+      no_static : (l j : ℕ) → InHeader k ≡ InStatic l j → ⊥
+      no_static l j q = absurd (cc)
+
       header_is : (slice_index_or a.memory.blocks k (record { header = 0; cells = [] })).header ≡ b.header
       header_is = ap (λ (z : HeapBlock). z.header) (get_or_from_slice_get a.memory.blocks k b (record { header = 0; cells = [] }) there)
 
-      whole_word : ch ≡ chunk.Int → replaced (word m reach.at) reach.byte (width ch) w ≡ w
+      whole_word : ch ≡ chunk.Int → replaced (held_word m reach.at) reach.byte (width ch) w ≡ w
       whole_word c =
           let eight : width ch ≡ 8 = ap width c in
           let inside = reach.inside in
           let zero : reach.byte ≡ 0 = omega (arith, inside, eight) in
-          ap (λ z. replaced (word m reach.at) reach.byte z w) eight ∙ ap (λ z. replaced (word m reach.at) z 8 w) zero
-          ∙ at_zero (word m reach.at) (word_below m reach.at)
+          ap (λ z. replaced (held_word m reach.at) reach.byte z w) eight ∙ ap (λ z. replaced (held_word m reach.at) z 8 w) zero
+          ∙ at_zero (held_word m reach.at) (held_below m reach.at regions.each)
         where
           at_zero : (old : ℕ) → old < 2 ^ 64 → replaced old 0 8 w ≡ w
           at_zero old l = omega (arith, l, fits_w)
@@ -219,10 +221,13 @@ module _ (s : Fixed) (placed : List Placed) (m : List Region) (regions : HasRegi
           let heap = heap_headed s placed m regions a h k b there fits_h (without (InHeader k) a.unwritten)
           (λ d q. without_is (InHeader k) d a.unwritten q) in
           go a.memory (without (InHeader k) a.unwritten)
-          (subst (λ z. HeapStands s placed (write m z (replaced (word m reach.at) reach.byte (width ch) w))
+          (subst (λ q. HeapStands s placed q (record a { unwritten = without (InHeader k) a.unwritten }))
+          (sym (hold_readable s m regions reach.at (replaced (held_word m reach.at) reach.byte (width ch) w) (reach.readable no_static)
+          (new_small (InHeader k) cell reach go)))
+          (subst (λ z. HeapStands s placed (write m z (replaced (held_word m reach.at) reach.byte (width ch) w))
           (record a { unwritten = without (InHeader k) a.unwritten })) (sym at)
           (subst (λ z. HeapStands s placed (write m (start_of placed k - 8) z) (record a { unwritten = without (InHeader k) a.unwritten }))
-          (sym (whole_word c ∙ same)) heap))
+          (sym (whole_word c ∙ same)) heap)))
 
       by_chunk : (k' : Chunk) (v' : Value) → StandsFor s placed w v' → ch ≡ k' → v ≡ v' → Then (first_written k' a (InHeader k) x v')
       by_chunk chunk.Int (Word y) st c q =
@@ -239,17 +244,20 @@ module _ (s : Fixed) (placed : List Placed) (m : List Region) (regions : HasRegi
   head_goes k b there i cell reach at go false f =
       subst (λ o. Then (after_store a a.unwritten o)) (sym (stored_is (InHeader k) cell reach go)) stuck
 
+  block_static : (k j l i : ℕ) → InBlock k j ≡ InStatic l i → ⊥
+  block_static k j l i q = absurd (cc)
+
   own_goes : (k j : ℕ) (b : HeapBlock) → slice_get a.memory.blocks k ≡ Some b → j < length b.cells → cell_at a.memory (width ch) x ≡ Some (InBlock k j) →
       (reach : Reached s placed m a x (width ch) (InBlock k j)) → reach.at ≡ start_of placed k + 8 * j →
       ((memory : Memory) (unwritten : List Cell) →
-      HeapStands s placed (write m reach.at (replaced (word m reach.at) reach.byte (width ch) w)) (record a { memory = memory; unwritten = unwritten }) →
+      HeapStands s placed (hold m reach.at (replaced (held_word m reach.at) reach.byte (width ch) w)) (record a { memory = memory; unwritten = unwritten }) →
       Then (Goes [] On (record a { memory = memory; unwritten = unwritten }))) →
       (t : Bool) → is_among (InBlock k j) a.unwritten ≡ t →
       Then (cond t (first_written ch a (InBlock k j) x v) (after_store a a.unwritten (memory.stored ch a.memory x v)))
   own_goes k j b there inside cell reach at go false f =
       by_result (InBlock k j) cell reach go a.unwritten (memory.stored ch a.memory x v)
-      (λ after e. block_puts s placed m regions a h lie reach.at (replaced (word m reach.at) reach.byte (width ch) w) (new_small (InBlock k j) cell reach go)
-      k j b there inside at after
+      (λ after e. block_puts s placed m regions a h reach.at (replaced (held_word m reach.at) reach.byte (width ch) w) (new_small (InBlock k j) cell reach go)
+      k j b there inside at (reach.readable (λ l i q. block_static k j l i q)) after
       (puts_of (InBlock k j) cell reach go after (inr f) (sym (stored_is (InBlock k j) cell reach go) ∙ e)) a.unwritten (λ c q. inr q))
   own_goes k j b there inside cell reach at go true f = by_width (nat_eq (width ch) 8) refl
     where
@@ -258,29 +266,29 @@ module _ (s : Fixed) (placed : List Placed) (m : List Region) (regions : HasRegi
       by_width false t = stuck
       by_width true t =
           by_result (InBlock k j) cell reach go (without (InBlock k j) a.unwritten) (memory.stored ch a.memory x v)
-          (λ after e. block_puts s placed m regions a h lie reach.at (replaced (word m reach.at) reach.byte (width ch) w)
-          (new_small (InBlock k j) cell reach go) k j b there inside at after
+          (λ after e. block_puts s placed m regions a h reach.at (replaced (held_word m reach.at) reach.byte (width ch) w)
+          (new_small (InBlock k j) cell reach go) k j b there inside at (reach.readable (λ l i q. block_static k j l i q)) after
           (puts_of (InBlock k j) cell reach go after (inl (eqb-true (width ch) 8 t)) (sym (stored_is (InBlock k j) cell reach go) ∙ e))
           (without (InBlock k j) a.unwritten) (λ c q. without_is (InBlock k j) c a.unwritten q))
 
   static_goes : (l j : ℕ) → cell_at a.memory (width ch) x ≡ Some (InStatic l j) → (reach : Reached s placed m a x (width ch) (InStatic l j)) →
-      cell_at a.memory 8 (Word reach.at) ≡ Some (InStatic l j) →
+      in_statics 0 a.memory.statics reach.at 1 ≡ Some (InStatic l j) →
       ((memory : Memory) (unwritten : List Cell) →
-      HeapStands s placed (write m reach.at (replaced (word m reach.at) reach.byte (width ch) w)) (record a { memory = memory; unwritten = unwritten }) →
+      HeapStands s placed (hold m reach.at (replaced (held_word m reach.at) reach.byte (width ch) w)) (record a { memory = memory; unwritten = unwritten }) →
       Then (Goes [] On (record a { memory = memory; unwritten = unwritten }))) →
       (t : Bool) → is_among (InStatic l j) a.unwritten ≡ t →
       Then (cond t (first_written ch a (InStatic l j) x v) (after_store a a.unwritten (memory.stored ch a.memory x v)))
   static_goes l j cell reach there go true f = stuck
   static_goes l j cell reach there go false f =
       by_result (InStatic l j) cell reach go a.unwritten (memory.stored ch a.memory x v)
-      (λ after e. static_puts s placed m regions a h lie reach.at (replaced (word m reach.at) reach.byte (width ch) w)
-      (new_small (InStatic l j) cell reach go) l j there after
+      (λ after e. static_puts s placed m regions a h reach.at (replaced (held_word m reach.at) reach.byte (width ch) w)
+      (new_small (InStatic l j) cell reach go) l j reach.even there after
       (puts_of (InStatic l j) cell reach go after (inr f) (sym (stored_is (InStatic l j) cell reach go) ∙ e)))
 
   -- Whatever the cell is: the store is stuck, or the machine's write is that of the memory.
   pub store_goes : (cell : Cell) → cell_at a.memory (width ch) x ≡ Some cell → (reach : Reached s placed m a x (width ch) cell) →
       ((memory : Memory) (unwritten : List Cell) →
-      HeapStands s placed (write m reach.at (replaced (word m reach.at) reach.byte (width ch) w)) (record a { memory = memory; unwritten = unwritten }) →
+      HeapStands s placed (hold m reach.at (replaced (held_word m reach.at) reach.byte (width ch) w)) (record a { memory = memory; unwritten = unwritten }) →
       Then (Goes [] On (record a { memory = memory; unwritten = unwritten }))) →
       Lies placed a reach.at cell → Then (stored_act ch a (Some cell) x v)
   store_goes (InHeader k) cell reach go (head_cell {b} l there at) = head_goes k b there l cell reach at go (is_among (InHeader k) a.unwritten) refl

@@ -1,5 +1,5 @@
 -- Stores of every chunk follow their lines.
-use Rattle.std.proofs.Common.{◌≡◌, ℕ, suc, ◌+◌, ◌%◌, ◌^◌, ◌<◌, inl, inr, List, [], ◌∷◌, ◌++◌, length, Option, Some, None, slice_index, refl, ap, arith, ◌∙◌, sym, subst, append_assoc}
+use Rattle.std.proofs.Common.{◌≡◌, ◌≢◌, ℕ, suc, ◌+◌, ◌%◌, ◌^◌, ◌<◌, ◌≤◌, inl, inr, List, [], ◌∷◌, ◌++◌, length, Option, Some, None, slice_index, refl, ap, arith, ◌∙◌, sym, subst, append_assoc}
 use Rattle.bs_words.specs.Memory.{Cell, cell_at, width, replaced}
 use Rattle.bs_words.specs.Word.{add_word}
 use Rattle.bs_words.specs.declared.types.Chunk.{Chunk}
@@ -24,7 +24,10 @@ use Rattle.rv_isa.specs.declared.register.Register.{Register}
 use Rattle.rv_isa.specs.declared.register.Register.TheVariants.{T1, T2}
 use Rattle.rv_machine.specs.Arithmetic.{imm_i}
 use Rattle.rv_machine.specs.Hart.{Placed, bytes_stored}
-use Rattle.rv_machine.specs.Memory.{word, write}
+use Rattle.rv_machine.specs.Sound.{extents}
+use Rattle.rv_machine.proofs.Bytes.{replaced-below}
+use Rattle.moving_laws.specs.Words.{held_word}
+use Rattle.moving_laws.proofs.Held.{held_below, hold, hold_regions, word_hold}
 use Rattle.rv_pieces.specs.declared.piece.Piece.{Piece}
 use Rattle.linear_machine.specs.Follows.{Agrees, FollowsStep}
 use Rattle.linear_machine.specs.Relation.{Below, Laid, StandsFor, Within, all_of}
@@ -40,8 +43,7 @@ use Rattle.line_values.proofs.Cells.{reached}
 use Rattle.line_values.proofs.Operands.{fetches}
 use Rattle.line_values.proofs.Addresses.{addresses, no_function}
 use Rattle.rv_isa.specs.declared.instr.Instr.TheVariants.{Store}
-use Rattle.linear_machine.proofs.Writing.{within_written}
-use Rattle.line_values.specs.Statics.{StaticsLie}
+use Rattle.linear_machine.proofs.Writing.{within_changed}
 use Rattle.line_values.proofs.Bytes.{store_part_step}
 use Rattle.line_values.proofs.Loading.{chunk_width}
 use Rattle.emit_rules.specs.Instructions.{store}
@@ -61,13 +63,16 @@ store_bytes chunk.I32 = refl
 store_bytes chunk.Int = refl
 store_bytes chunk.Val = refl
 
+far_off : (at y : ℕ) → at < 0x38010000 → 0x38010008 ≤ y → at ≢ y
+far_off at y near far = λ t. omega (arith, t, near, far)
+
 one_more : (u p k : ℕ) → u ≡ p + k → u + 1 ≡ p + (k + 1)
 one_more u p k e = omega (arith, e)
 
 module _ (s : Fixed) (n : Named) (laid : Laid) (m : Lin) (slots : m.slots ≡ laid.slots) (live : List Line → Type 0) (entry : ℕ → ℕ) (c : Below)
     (place : Place) (named : NamedAt) (next : List Line) (v : View) (young : List Placed) (held file : Locations) (a : Around) (none : a.raised ≡ None)
     (within : Within s laid v young 0 held a c) (before : Type 0) (agrees : Agrees before held file) (k : ℕ) (behind : laid.part (length next) ≡ v.place + k)
-    (lie : StaticsLie s a.memory) (passes : live next → before)
+    (passes : live next → before)
     (ch : Chunk) (offset : ℕ) (fits_64 : offset < 2 ^ 64) (p q : Spot) (at_p : IsLocation m p.loc) (at_q : IsLocation m q.loc) (reads_p : Reads before p.loc)
     (reads_q : Reads before q.loc)
     (part_is : PartStands s n v.place (v.place + k) (store_part (length a.tries) ch offset (p ∷ q ∷ []))) where
@@ -140,17 +145,17 @@ module _ (s : Fixed) (n : Named) (laid : Laid) (m : Lin) (slots : m.slots ≡ la
       let at = ready.place in
       let w = ready.holds.stands in
       let value : ℕ = reg u.registers (number (register_of T2 q.loc)) in
-      let reach = reached s (all_of u young) u.memory w.usable.regions a w.heap lie.whole (width ch) (chunk_width ch) (moved_by offset x) cell there in
+      let reach = reached s (all_of u young) u.memory w.usable.regions a w.heap (width ch) (chunk_width ch) (moved_by offset x) cell there in
       let here : v.place + g1.own + g2.own + g3.own ≡ u.place = omega (arith, at) in
       let code : IsCode s u.place (Store (store_width ch) (suc ad.r) (number (register_of T2 q.loc)) (address_offset offset % 4096)) =
       subst (λ z. IsCode s z (Store (store_width ch) (suc ad.r) (number (register_of T2 q.loc)) (address_offset offset % 4096))) here
       (subst (λ z. IsCode s (v.place + g1.own + g2.own + g3.own) (Store (store_width ch) z (number (register_of T2 q.loc)) (address_offset offset % 4096)))
       ad.is l.0) in
-      let step1 = store_part_step s u reach.at reach.byte reach.even reach.low reach.area reach.no_limit reach.readable (width ch) (chunk_width ch) reach.inside
+      let step1 = store_part_step s u reach.at reach.byte reach.even reach.low reach.no_limit reach.held (width ch) (chunk_width ch) reach.inside reach.area
       reach.aligned (store_width ch) (store_bytes ch) (suc ad.r) (number (register_of T2 q.loc)) (address_offset offset % 4096) code
-      (ready.holds.address ∙ reach.address) w.usable.regions.each in
-      let new : ℕ = replaced (word u.memory reach.at) reach.byte (width ch) (reg u.registers (number (register_of T2 q.loc))) in
-      store_goes s (all_of u young) u.memory w.usable.regions a w.heap lie ch (moved_by offset x) y value
+      (ready.holds.address ∙ reach.address) w.usable.regions in
+      let new : ℕ = replaced (held_word u.memory reach.at) reach.byte (width ch) (reg u.registers (number (register_of T2 q.loc))) in
+      store_goes s (all_of u young) u.memory w.usable.regions a w.heap ch (moved_by offset x) y value
       (reg_below u.registers (number (register_of T2 q.loc)) w.own.are.words) ready.holds.value
       (λ act. FollowsStep k s laid live entry c v (on_act place m (record {
         op = lin.Op (op.Access (access.Store ch offset));
@@ -162,11 +167,16 @@ module _ (s : Fixed) (n : Named) (laid : Laid) (m : Lin) (slots : m.slots ≡ la
       (agrees_on before (live next) held file passes agrees)
       (subst (λ z. Comes s v z (λ o. Within s laid o young 0 held (record a { memory = memory; unwritten = unwritten }) c)) (sym all)
       (record {
-        view = record u { place = u.place + 1; memory = write u.memory reach.at new };
-        leads = then_leads s (g1.own + (g2.own + g3.own)) 1 v u (record u { place = u.place + 1; memory = write u.memory reach.at new }) ready.leads step1;
+        view = record u { place = u.place + 1; memory = hold u.memory reach.at new };
+        leads = then_leads s (g1.own + (g2.own + g3.own)) 1 v u (record u { place = u.place + 1; memory = hold u.memory reach.at new }) ready.leads step1;
         place = one_more u.place v.place (g1.own + (g2.own + g3.own)) ready.place;
-        holds = within_at s laid (record u { memory = write u.memory reach.at new }) young held (record a { memory = memory; unwritten = unwritten }) c
-            (u.place + 1) (within_written s laid u young 0 held a c reach.at new memory unwritten reach.below heap w);
+        holds = within_at s laid (record u { memory = hold u.memory reach.at new }) young held (record a { memory = memory; unwritten = unwritten }) c
+            (u.place + 1)
+            (within_changed s laid u young 0 held a c (hold u.memory reach.at new) memory unwritten
+            (hold_regions (extents s.image s.heap s.base) u.memory reach.at new
+            (replaced-below (held_word u.memory reach.at) reach.byte (width ch) (reg u.registers (number (register_of T2 q.loc))) reach.inside
+            (held_below u.memory reach.at w.usable.regions.each)) w.usable.regions)
+            (λ z far. word_hold u.memory reach.at z new reach.even (far_off reach.at z reach.below far)) heap w);
       })))
       reach.lies
 

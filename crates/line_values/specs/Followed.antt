@@ -1,5 +1,5 @@
 -- The lines that compute, load, store, test and jump, and that the machine follows them.
-use Rattle.std.specs.Prelude.{◌≡◌, ℕ, Bool, true, List, ◌∷◌, length, Option, None}
+use Rattle.std.specs.Prelude.{◌≡◌, ℕ, List, ◌∷◌, length, Option, None}
 use Rattle.emit_rules.specs.Emitted.{part_of}
 use Rattle.emit_rules.specs.Entry.{Frame}
 use Rattle.layout_rules.specs.Forms.{total_words}
@@ -23,7 +23,6 @@ use Rattle.linear_machine.specs.Follows.{FollowsStep, IsAt}
 use Rattle.linear_machine.specs.Relation.{Below, Laid}
 use Rattle.linear_machine.specs.View.{Fixed, View}
 use Rattle.line_stands.specs.Lines.{LineStands}
-use Rattle.line_values.specs.Statics.{StaticsLie}
 
 -- what is no frame point, and neither returns nor pushes or enters a trap
 pub data IsPlain : LinOp → Type 0 where
@@ -44,15 +43,13 @@ abbrev pub Followed : Fixed → Laid → Named → Lin → Place → NamedAt →
 Followed s laid n m place named live entry c f d i next =
     (file : Locations) (a : Around) (v : View)
     (stands : LineStands s laid n m place.setting live a.tries f d i next) → a.raised ≡ None →
-    StaticsLie s a.memory →
     IsAt s laid live c (record { rest = i ∷ next; file = file; around = a }) v →
     FollowsStep (total_words (part_of (length a.tries) f d i) stands.part.forms) s laid live entry c
     v (step place named m (record { rest = i ∷ next; file = file; around = a }))
 
--- The law, of every function, line and machine; t0 is live where this test says so.
-abbrev pub PlainLinesAreFollowed : Type 0
-PlainLinesAreFollowed =
+-- The law, of every function, line and machine, whatever is said to be the code in which t0 is live.
+abbrev pub PlainLinesAreFollowed : (List Line → Type 0) → Type 0
+PlainLinesAreFollowed live =
     (s : Fixed) (laid : Laid) (n : Named) (m : Lin) (place : Place) (named : NamedAt)
-    (live : List Line → Bool) (entry : ℕ → ℕ) (c : Below) (f : Frame) (d : Option Descr) (i : Line)
-    (next : List Line) → IsPlain i.op →
-    Followed s laid n m place named (λ code. live code ≡ true) entry c f d i next
+    (entry : ℕ → ℕ) (c : Below) (f : Frame) (d : Option Descr) (i : Line) (next : List Line) →
+    IsPlain i.op → Followed s laid n m place named live entry c f d i next

@@ -1,2 +1,1 @@
-pub mod Statics
 pub mod Followed

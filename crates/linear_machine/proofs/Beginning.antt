@@ -20,6 +20,7 @@ use Rattle.moving_laws.proofs.Bottom.{bottom_start}
 use Rattle.linear_machine.specs.Contents.{statics_of}
 use Rattle.linear_machine.specs.Moments.{AtEntry}
 use Rattle.linear_machine.specs.Relation.{Below}
+use Rattle.linear_machine.specs.Statics.{StaticsLie}
 use Rattle.linear_machine.specs.View.{Fixed, View}
 
 -- ---- the argument registers
@@ -84,9 +85,9 @@ module _ (image : Tables) (functions : HasFunctions image) (bytes : AllByRecursi
   at_27 = behind_ten args 17 ∙ behind_arguments 16 args last_six 1
 
   pub at_start : (lists : List StaticList) (roots : List ℕ) → StaticsStand image [] (start_memory image stack heap) (root_cells image)
-      (statics_of (record { blocks = []; statics = lists; roots = roots })) →
+      (statics_of (record { blocks = []; statics = lists; roots = roots })) → StaticsLie image (record { blocks = []; statics = lists; roots = roots }) →
       AtEntry start_fixed start_view [] place (map Word args) (record { blocks = []; statics = lists; roots = roots }) nothing_below
-  at_start lists roots statics =
+  at_start lists roots statics lie =
       let e = at_26 in
       record {
         place = refl;
@@ -127,6 +128,7 @@ module _ (image : Tables) (functions : HasFunctions image) (bytes : AllByRecursi
           heads = λ k b h. absurd (cc);
           fits = λ k j b v h. absurd (cc);
           statics = statics;
+          lie = lie;
         };
       }
     where

@@ -1,5 +1,5 @@
 -- The frame of a function that waits at a frame point.
-use Rattle.std.proofs.Common.{◌≡◌, ◌≢◌, ℕ, ◌+◌, ◌-◌, ◌*◌, ◌<◌, ◌≤◌, ◌⊎◌, inl, inr, Bool, true, false, cond, nat_eq, List, [], ◌∷◌, length, map, Option, Some, None, slice_index, refl, ap, arith, ◌∙◌, sym, subst, ⊎_elim}
+use Rattle.std.proofs.Common.{◌≡◌, ◌≢◌, ℕ, ◌+◌, ◌-◌, ◌*◌, ◌≤◌, ◌⊎◌, inl, inr, Bool, true, false, cond, nat_eq, List, [], ◌∷◌, length, map, Option, Some, None, slice_index, refl, ap, arith, ◌∙◌, sym, subst, ⊎_elim}
 use Rattle.std.proofs.lemmas.Bool.{and_parts, eqb-true, or_cases}
 use Rattle.bs_words.specs.Fits.{fits}
 use Rattle.bs_words.specs.Memory.{Cell}
@@ -63,7 +63,7 @@ heap_as : (s : Fixed) (placed : List Placed) (m : List Region) (a : Around) (unw
     HeapStands s placed m a → HeapStands s placed m (record { memory = a.memory; unwritten = unwritten; tries = tries; raised = raised })
 heap_as s placed m a unwritten tries raised e h =
     subst (λ u. HeapStands s placed m (record { memory = a.memory; unwritten = u; tries = tries; raised = raised })) e
-    (record { old = h.old; readable = h.readable; stand = h.stand; heads = h.heads; fits = h.fits; statics = h.statics })
+    (record { old = h.old; readable = h.readable; stand = h.stand; heads = h.heads; fits = h.fits; statics = h.statics; lie = h.lie })
 
 none_left : (cells : List Cell) → nat_eq (length cells) 0 ≡ true → cells ≡ []
 none_left [] e = refl
@@ -159,7 +159,7 @@ module _ (s : Fixed) (laid : Laid) (v : View) (young : List Placed) (taken : ℕ
         there,
         refl,
         own_frame first regs,
-        subst (λ w. w < 0x10000000) (sym back_word) b,
+        subst (λ w. w ≤ 0x10000000) (sym back_word) b,
         subst (λ w. Chain s.image.descs s.base v.memory false w (slice_index v.registers 2 + d.size) c.frames) (sym back_word)
             (subst (λ q. Chain s.image.descs s.base v.memory false c.back q c.frames) (sym frame_size) within.waits.chain),
       )

@@ -23,6 +23,7 @@ use Rattle.linear_machine.specs.Contents.{blocks_of, cell_in, header_in, size_in
 use Rattle.linear_machine.specs.Relation.{HeapStands}
 use Rattle.linear_machine.specs.View.{Fixed}
 use Rattle.linear_machine.proofs.Fresh.{blocks_more, fits_before, known_before, start_before, start_last, val_before, word_before, words_before, words_last}
+use Rattle.linear_machine.proofs.Statics.{lie_blocks}
 use Rattle.linear_machine.proofs.Storing.{statics_stay}
 
 -- ---- cells that are to be written
@@ -207,7 +208,8 @@ module _ (s : Fixed) (bs : List Placed) (m : List Region) (a : Around) (h : Heap
         (λ i. fits_before s.image bs nb (is_scanned y.header) v (h.fits k j y v (sym (get_before k i) ∙ e) (cell_before k j v i f)))
         (λ (i : k ≡ length a.memory.blocks). absurd (no_cell j v (subst (λ z. (blocks_of (with_block b a)).cell z j ≡ Some v) i f)))
         (which k (there k y e));
-    statics = statics_more (statics_stay s bs m m a.memory (with_block b a).memory.blocks (λ y l. refl) h.statics);
+    statics = statics_more (statics_stay s bs m m a.memory (with_block b a).memory.blocks (λ y even l. refl) h.statics);
+    lie = lie_blocks s.image a.memory (with_block b a).memory.blocks h.lie;
   }
     where
       one_of : {o : Option HeapBlock} {p q : HeapBlock} → o ≡ Some p → o ≡ Some q → p ≡ q

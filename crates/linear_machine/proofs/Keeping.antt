@@ -7,7 +7,7 @@ use Rattle.rv_machine.specs.Frames.{Frame}
 use Rattle.rv_machine.specs.Hart.{Placed}
 use Rattle.rv_machine.specs.Memory.{Region, word}
 use Rattle.rv_machine.specs.Places.{stack_bottom, stack_end}
-use Rattle.moving_laws.specs.Words.{IsReadable}
+use Rattle.moving_laws.specs.Words.{IsReadable, held_word}
 use Rattle.moving_laws.specs.Heap.{IsInHeap}
 use Rattle.moving_laws.specs.Values.{start_of, words_of}
 use Rattle.moving_laws.specs.Waiting.{Activation, slot_offset, Chain, AllWait, TrapsFrom, traps_at}
@@ -76,7 +76,7 @@ chain_above ds base m m' first a p (f ∷ fs) same c =
       c.1,
       c.2,
       c.3,
-      subst (λ w. w < 0x10000000) (sym here) c.4,
+      subst (λ w. w ≤ 0x10000000) (sym here) c.4,
       subst (λ w. Chain ds base m' false w (p + f.desc.size) fs) (sym here)
           (chain_above ds base m m' false (word m x) (p + f.desc.size) fs (λ y l h. same y (omega (arith, l)) h) c.5),
     )
@@ -143,9 +143,10 @@ cell_inside (b ∷ bs) (suc k) j a l h = cell_inside bs k j a.1 (omega (arith, l
 
 pub heap_kept :
     (s : Fixed) (placed : List Placed) (m m' : List Region) (a : Around) →
-    ((y : ℕ) → y < 0x38010008 → y ≢ 0x20000000 → word m' y ≡ word m y) → ((x : ℕ) → IsReadable m x → IsReadable m' x) → HeapStands s placed m a →
+    ((y : ℕ) → y < 0x38010008 → y ≢ 0x20000000 → word m' y ≡ word m y) →
+    ((y : ℕ) → y % 8 ≡ 0 → y < 0x20000000 → held_word m' y ≡ held_word m y) → ((x : ℕ) → IsReadable m x → IsReadable m' x) → HeapStands s placed m a →
     HeapStands s placed m' a
-heap_kept s placed m m' a same readable h =
+heap_kept s placed m m' a same held readable h =
     let short = s.functions.tables.bytes.short in
     record {
       old = h.old;
@@ -162,11 +163,15 @@ heap_kept s placed m m' a same readable h =
       heads = h.heads;
       fits = h.fits;
       statics = record {
-        cell = λ x v e. let at = (h.statics.place x v e).2 in same x (omega (arith, at, short)) (λ q. omega (arith, q, at, short)) ∙ h.statics.cell x v e;
+        cell = λ x v e.
+            let p = h.statics.place x v e in
+            let high = p.2 in
+            held x p.0 (omega (arith, high, short)) ∙ h.statics.cell x v e;
         kind = h.statics.kind;
         known = h.statics.known;
         place = h.statics.place;
       };
+      lie = h.lie;
     }
 
 pub length_map : (f : ℕ → ℕ) (xs : List ℕ) → length (map f xs) ≡ length xs

@@ -1,6 +1,7 @@
 pub mod Likes
 pub mod Steps
 pub mod Formats
+pub mod Statics
 pub mod Arriving
 pub mod Immediates
 pub mod Keeping

@@ -16,9 +16,10 @@ use Rattle.moving_laws.specs.Values.{start_of, value_word, words_of}
 use Rattle.moving_laws.specs.Words.{IsReadable}
 use Rattle.moving_laws.proofs.Rewriting.{start_inside}
 use Rattle.moving_laws.proofs.Usable.{data_readable}
-use Rattle.linear_machine.specs.Contents.{blocks_of, cell_in, header_in, size_in, static_in, statics_of}
+use Rattle.linear_machine.specs.Contents.{blocks_of, cell_in, header_in, size_in, statics_of}
 use Rattle.linear_machine.specs.Relation.{HeapStands, StandsFor}
 use Rattle.linear_machine.specs.View.{Fixed}
+use Rattle.linear_machine.proofs.Statics.{held_readable, static_whole}
 
 -- ---- lists
 
@@ -134,13 +135,18 @@ module _ (s : Fixed) (placed : List Placed) (m : List Region) (regions : HasRegi
   pub cell_there : (x : Value) (cell : Cell) → cell_at a.memory 8 x ≡ Some cell → is_among cell a.unwritten ≡ false →
       IsCellAt s placed m (value_word s.image placed x) (value_in a.memory cell)
   cell_there (Word w) cell e written =
-      let held : statics_of a.memory w ≡ Some (value_in a.memory cell) = ap (static_in a.memory) e in
+      let t = static_whole s.image a.memory w cell h.lie e in
+      let held : statics_of a.memory w ≡ Some (value_in a.memory cell) = t.2 in
       let place = h.statics.place w (value_in a.memory cell) held in
       let short = s.functions.tables.bytes.short in
-      let p2 = place.2 in
+      let p2 = t.1 in
+      let readable = data_readable s.image s.heap s.base m regions w t.0 place.1 t.1 in
       record {
-        stands = record { is = h.statics.cell w (value_in a.memory cell) held; known = h.statics.known w (value_in a.memory cell) held };
-        readable = data_readable s.image s.heap s.base m regions w place.0 place.1 place.2;
+        stands = record {
+          is = sym (held_readable s m regions w readable) ∙ h.statics.cell w (value_in a.memory cell) held;
+          known = h.statics.known w (value_in a.memory cell) held;
+        };
+        readable = readable;
         low = place.1;
         no_limit = λ q. omega (arith, q, p2, short);
       }

@@ -62,7 +62,7 @@ within_like s laid v young taken held a c m' like w =
           (traps_at_all _ (slice_index v.registers 2) (map laid.handler a.tries)
           (λ y q h. (like.words y (λ t. omega (arith, t, q, lo, high)), like.words (y + 8) (λ t. omega (arith, t, q, lo, high)))))
           w.waits w.traps;
-      heap = heap_kept s (all_of v young) v.memory m' a (λ y q ne. like.words y ne) (λ y r. like_readable v.memory m' y like r) w.heap;
+      heap = heap_kept s (all_of v young) v.memory m' a (λ y q ne. like.words y ne) (λ y e q. like.held y e (λ t. omega (arith, t, q))) (λ y r. like_readable v.memory m' y like r) w.heap;
     }
   where
     return_like : (b : Bool) → b ≡ laid.saves → 0x38010008 ≤ s.base → ReturnStands b v c → ReturnStands b (record v { memory = m' }) c
@@ -324,5 +324,6 @@ module _ (s : Fixed) (laid : Laid) (v : View) (young : List Placed) (taken : ℕ
             heads = within.heap.heads;
             fits = λ q j b x e g. subst (λ m. FitsCell s.image m (is_scanned b.header) x) count (within.heap.fits q j b x e g);
             statics = k.statics;
+            lie = within.heap.lie;
           });
         }

@@ -10,6 +10,7 @@ use Rattle.rv_machine.specs.Sound.{extents}
 use Rattle.machine_laws.proofs.Memory.{has_write, other_word}
 use Rattle.moving_laws.specs.Waiting.{traps_at}
 use Rattle.moving_laws.specs.Words.{IsReadable}
+use Rattle.moving_laws.proofs.Held.{held_other}
 use Rattle.moving_laws.proofs.Usable.{formed_regions, stack_readable}
 use Rattle.moving_laws.proofs.Words.{readable_write, word_same}
 use Rattle.linear_machine.specs.Files.{IsPut}
@@ -116,6 +117,7 @@ module _ (s : Fixed) (laid : Laid) (v : View) (young : List Placed) (taken : ℕ
             within.waits within.traps;
         heap = heap_kept s (all_of v young) v.memory m' a
             (λ y q ne. other_word v.memory (slot_at k) y value (λ t. omega (arith, t, q, lo, bh)))
+            (λ y e q. held_other v.memory (slot_at k) y value e (λ t. omega (arith, t, q, lo, bh)))
             (λ y r. readable_write v.memory (slot_at k) y value r) within.heap;
       }
     where

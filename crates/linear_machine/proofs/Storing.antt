@@ -18,13 +18,15 @@ use Rattle.rv_machine.specs.Relocation.{root_cells}
 use Rattle.moving_laws.specs.Stands.{StaticsStand}
 use Rattle.moving_laws.specs.Heap.{AllApart, AreApart}
 use Rattle.moving_laws.specs.Values.{FitsCell, IsKnown, start_of, value_word, words_of}
-use Rattle.moving_laws.specs.Words.{IsReadable}
+use Rattle.moving_laws.specs.Words.{IsReadable, held_word}
+use Rattle.moving_laws.proofs.Held.{held_other}
 use Rattle.moving_laws.proofs.Rewriting.{start_inside}
 use Rattle.moving_laws.proofs.Usable.{formed_regions}
 use Rattle.moving_laws.proofs.Words.{readable_write, same_or_not, word_same}
 use Rattle.linear_machine.specs.Contents.{blocks_of, cell_in, header_in, size_in, static_in, statics_of}
 use Rattle.linear_machine.specs.Relation.{HeapStands, StandsFor}
 use Rattle.linear_machine.specs.View.{Fixed}
+use Rattle.linear_machine.proofs.Statics.{lie_blocks}
 
 -- ---- what all blocks take
 
@@ -124,33 +126,33 @@ set_other (x ∷ xs) (suc k) (suc j) y d = set_other xs k j y (λ e. d (ap suc e
 -- ---- static cells do not depend on the blocks
 
 statics_in : (memory : Memory) (bs : List HeapBlock) (k : ℕ) (lists : List StaticList) (y : ℕ) →
-    static_in (record memory { blocks = bs }) (in_statics k lists y 8) ≡ static_in memory (in_statics k lists y 8)
+    static_in (record memory { blocks = bs }) (in_statics k lists y 1) ≡ static_in memory (in_statics k lists y 1)
 statics_in memory bs k [] y = refl
-statics_in memory bs k (l ∷ lists) y = by_test (nat_le l.start y && nat_le (y + 8) (l.start + l.size)) (statics_in memory bs (suc k) lists y)
+statics_in memory bs k (l ∷ lists) y = by_test (nat_le l.start y && nat_le (y + 1) (l.start + l.size)) (statics_in memory bs (suc k) lists y)
   where
-    by_test : (t : Bool) → static_in (record memory { blocks = bs }) (in_statics (suc k) lists y 8) ≡ static_in memory (in_statics (suc k) lists y 8) →
-        static_in (record memory { blocks = bs }) (cond t (Some (InStatic k ((y - l.start) / 8))) (in_statics (suc k) lists y 8))
-        ≡ static_in memory (cond t (Some (InStatic k ((y - l.start) / 8))) (in_statics (suc k) lists y 8))
+    by_test : (t : Bool) → static_in (record memory { blocks = bs }) (in_statics (suc k) lists y 1) ≡ static_in memory (in_statics (suc k) lists y 1) →
+        static_in (record memory { blocks = bs }) (cond t (Some (InStatic k ((y - l.start) / 8))) (in_statics (suc k) lists y 1))
+        ≡ static_in memory (cond t (Some (InStatic k ((y - l.start) / 8))) (in_statics (suc k) lists y 1))
     by_test true later = refl
     by_test false later = later
 
 pub statics_same : (memory : Memory) (bs : List HeapBlock) (y : ℕ) → statics_of (record memory { blocks = bs }) y ≡ statics_of memory y
-statics_same memory bs y = by_test (y % 8 == 0)
+statics_same memory bs y = ap (λ o. cond (y % 8 == 0) o None) (by_test (y % 1 == 0))
   where
     by_test : (t : Bool) → static_in (record memory { blocks = bs })
-        (cond t (in_statics 0 memory.statics y 8) None) ≡ static_in memory (cond t (in_statics 0 memory.statics y 8) None)
+        (cond t (in_statics 0 memory.statics y 1) None) ≡ static_in memory (cond t (in_statics 0 memory.statics y 1) None)
     by_test true = statics_in memory bs 0 memory.statics y
     by_test false = refl
 
 -- what stands for static cells stands for them whatever the blocks hold, where their words stay
 pub statics_stay : (s : Fixed) (placed : List Placed) (m m' : List Region) (memory : Memory) (bs : List HeapBlock) →
-    ((y : ℕ) → y < 0x20000000 → word m' y ≡ word m y) →
+    ((y : ℕ) → y % 8 ≡ 0 → y < 0x20000000 → held_word m' y ≡ held_word m y) →
     StaticsStand s.image placed m (root_cells s.image) (statics_of memory) → StaticsStand s.image placed m' (root_cells s.image)
     (statics_of (record memory { blocks = bs }))
 statics_stay s placed m m' memory bs same h =
     let short = s.functions.tables.bytes.short in
     record {
-      cell = λ y v e. let f = sym (statics_same memory bs y) ∙ e in let t = (h.place y v f).2 in same y (omega (arith, t, short)) ∙ h.cell y v f;
+      cell = λ y v e. let f = sym (statics_same memory bs y) ∙ e in let p = h.place y v f in let t = p.2 in same y p.0 (omega (arith, t, short)) ∙ h.cell y v f;
       kind = λ y v e. h.kind y v (sym (statics_same memory bs y) ∙ e);
       known = λ y v e. h.known y v (sym (statics_same memory bs y) ∙ e);
       place = λ y v e. h.place y v (sym (statics_same memory bs y) ∙ e);
@@ -325,7 +327,9 @@ module _ (s : Fixed) (placed : List Placed) (m : List Region) (regions : HasRegi
             (λ r. h.fits j i y v r.1 q.1)
             (set_by j y e))
             (cell_as j i v f);
-        statics = statics_stay s placed m m' a.memory (slice_set a.memory.blocks k new_block) (λ y l. stays y (λ q. omega (arith, q, l, p))) h.statics;
+        statics = statics_stay s placed m m' a.memory (slice_set a.memory.blocks k new_block)
+            (λ y even l. held_other m (start_of placed k + 8 * n) y value even (λ q. omega (arith, q, l, p))) h.statics;
+        lie = lie_blocks s.image a.memory (slice_set a.memory.blocks k new_block) h.lie;
       }
     where
       not_cell : (j : ℕ) → InHeader j ≡ InBlock k n → ⊥

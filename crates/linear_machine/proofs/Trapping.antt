@@ -12,7 +12,8 @@ use Rattle.rv_machine.specs.Places.{stack_bottom}
 use Rattle.rv_machine.specs.Sound.{HasRegions, extents}
 use Rattle.machine_laws.proofs.Memory.{has_write, other_word}
 use Rattle.moving_laws.specs.Waiting.{IsBack, TrapsFrom, traps_at}
-use Rattle.moving_laws.specs.Words.{IsReadable}
+use Rattle.moving_laws.specs.Words.{IsReadable, held_word}
+use Rattle.moving_laws.proofs.Held.{held_other}
 use Rattle.moving_laws.proofs.Usable.{formed_regions, stack_readable}
 use Rattle.moving_laws.proofs.Words.{readable_write, word_same}
 use Rattle.linear_machine.specs.Moments.{AtThrow, IsThrown}
@@ -101,6 +102,12 @@ module _ (s : Fixed) (laid : Laid) (v w : View) (young : List Placed) (held : Lo
         other_word m1 (slice_index v.registers 2 - 8) y (slice_index v.registers 9) (λ t. omega (arith, t, h, fits, b))
         ∙ other_word v.memory (slice_index v.registers 2 - 16) y (laid.handler l) (λ t. omega (arith, t, h, fits, b))
 
+    held_low : (y : ℕ) → y % 8 ≡ 0 → y < 0x20000000 → held_word m2 y ≡ held_word v.memory y
+    held_low y even h =
+        let b = base_high in
+        held_other m1 (slice_index v.registers 2 - 8) y (slice_index v.registers 9) even (λ t. omega (arith, t, h, fits, b))
+        ∙ held_other v.memory (slice_index v.registers 2 - 16) y (laid.handler l) even (λ t. omega (arith, t, h, fits, b))
+
     word0 : word m2 (slice_index v.registers 2 - 16) ≡ laid.handler l
     word0 =
         let hb = back.high in
@@ -182,7 +189,7 @@ module _ (s : Fixed) (laid : Laid) (v w : View) (young : List Placed) (held : Lo
           heap = subst (λ b. HeapStands s b w.memory (record a { tries = l ∷ a.tries })) (sym same)
               (subst (λ m. HeapStands s (all_of v young) m (record a { tries = l ∷ a.tries })) (sym differs.memory)
               (heap_around s (all_of v young) m2 a (l ∷ a.tries) a.raised
-              (heap_kept s (all_of v young) v.memory m2 a (λ y q ne. stays_low y q)
+              (heap_kept s (all_of v young) v.memory m2 a (λ y q ne. stays_low y q) (λ y e q. held_low y e q)
               (λ y r. readable_write m1 (slice_index v.registers 2 - 8) y (slice_index v.registers 9)
               (readable_write v.memory (slice_index v.registers 2 - 16) y (laid.handler l) r)) within.heap)));
         }

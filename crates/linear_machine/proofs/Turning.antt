@@ -1,6 +1,6 @@
 -- A function begins and is left, and traps are pushed, popped and taken, as far as registers and
 -- memory say.
-use Rattle.std.proofs.Common.{◌≡◌, ◌≢◌, ℕ, ◌+◌, ◌-◌, ◌*◌, ◌<◌, ◌≤◌, Bool, true, false, cond, List, [], ◌∷◌, map, Option, Some, None, slice_get, slice_index, refl, ap, arith, ◌∙◌, sym, subst, ⊎_elim}
+use Rattle.std.proofs.Common.{◌≡◌, ◌≢◌, ℕ, ◌+◌, ◌-◌, ◌*◌, ◌%◌, ◌<◌, ◌≤◌, Bool, true, false, cond, List, [], ◌∷◌, map, Option, Some, None, slice_get, slice_index, refl, ap, arith, ◌∙◌, sym, subst, ⊎_elim}
 use Rattle.bs_words.specs.Memory.{Memory}
 use Rattle.bs_words.specs.declared.types.Loc.TheVariants as loc
 use Rattle.bs_words.specs.declared.values.Value.{Value}
@@ -14,7 +14,8 @@ use Rattle.rv_machine.specs.Sound.{HasRegions, extents}
 use Rattle.rv_machine.specs.Space.{IsHeap}
 use Rattle.machine_laws.proofs.Memory.{has_write, other_word}
 use Rattle.moving_laws.specs.Waiting.{traps_at}
-use Rattle.moving_laws.specs.Words.{IsReadable}
+use Rattle.moving_laws.specs.Words.{IsReadable, held_word}
+use Rattle.moving_laws.proofs.Held.{held_other}
 use Rattle.moving_laws.proofs.Usable.{formed_regions, stack_readable}
 use Rattle.moving_laws.proofs.Words.{readable_write, word_same}
 use Rattle.linear_machine.specs.Moments.{AtEntry, AtReturn}
@@ -127,6 +128,12 @@ module _ (s : Fixed) (laid : Laid) (v w : View) (young : List Placed) (entry : �
   heap_same true e y l = let r = some_room true e refl in let bh = base_high in saved_off true y (λ q. omega (arith, q, l, r, fits, bh))
   heap_same false e y l = refl
 
+  held_same : (b : Bool) → b ≡ laid.saves → (y : ℕ) → y % 8 ≡ 0 → y < 0x20000000 →
+      held_word (saved b v.memory (c.top - 8) c.back) y ≡ held_word v.memory y
+  held_same true e y even l =
+      let r = some_room true e refl in let bh = base_high in held_other v.memory (c.top - 8) y c.back even (λ q. omega (arith, q, l, r, fits, bh))
+  held_same false e y even l = refl
+
   back_stands : (b : Bool) → b ≡ laid.saves → ReturnStands b (record w { memory = saved b v.memory (c.top - 8) c.back }) c
   back_stands true e =
       let r = some_room true e refl in
@@ -172,5 +179,6 @@ module _ (s : Fixed) (laid : Laid) (v w : View) (young : List Placed) (entry : �
         heap = subst (λ b. HeapStands s b w.memory (entered memory)) (sym same)
             (subst (λ m. HeapStands s (all_of v young) m (entered memory)) (sym differs.memory)
             (heap_kept s (all_of v young) v.memory m' (entered memory) (λ y l n. heap_same laid.saves refl y l)
+            (λ y e l. held_same laid.saves refl y e l)
             (λ y r. saved_readable laid.saves y r) at.heap));
       }

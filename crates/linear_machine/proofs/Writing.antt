@@ -8,10 +8,11 @@ use Rattle.mach_ir.specs.Acts.{Around, is_among}
 use Rattle.rv_machine.specs.Hart.{Placed}
 use Rattle.rv_machine.specs.Memory.{Region, word, write}
 use Rattle.rv_machine.specs.Sound.{HasRegions, extents}
-use Rattle.machine_laws.proofs.Memory.{has_write, other_word}
+use Rattle.machine_laws.proofs.Memory.{other_word}
 use Rattle.moving_laws.specs.Values.{start_of, words_of}
 use Rattle.moving_laws.specs.Waiting.{traps_at}
 use Rattle.moving_laws.specs.Words.{IsReadable}
+use Rattle.moving_laws.proofs.Held.{held_other}
 use Rattle.moving_laws.proofs.Rewriting.{start_inside}
 use Rattle.moving_laws.proofs.Usable.{formed_regions}
 use Rattle.moving_laws.proofs.Words.{readable_write, same_or_not, word_same}
@@ -21,51 +22,46 @@ use Rattle.linear_machine.specs.View.{Fixed, View}
 use Rattle.linear_machine.proofs.Keeping.{traps_at_all, traps_kept, waits_kept}
 use Rattle.linear_machine.proofs.Storing.{blocks_apart, statics_stay}
 
--- ---- the stack stays where a word below it is written
+-- ---- the stack stays where a word below it changes
 
-pub within_written :
-    (s : Fixed) (laid : Laid) (v : View) (young : List Placed) (taken : ℕ) (held : Locations) (a : Around) (c : Below) (at value : ℕ) (memory : Memory)
-    (unwritten : List Cell) → at < 0x38010000 →
-    HeapStands s (all_of v young) (write v.memory at value) (record a { memory = memory; unwritten = unwritten }) → Within s laid v young taken held a c →
-    Within s laid (record v { memory = write v.memory at value }) young taken held (record a { memory = memory; unwritten = unwritten }) c
-within_written s laid v young taken held a c at value memory unwritten low heap w =
+pub within_changed :
+    (s : Fixed) (laid : Laid) (v : View) (young : List Placed) (taken : ℕ) (held : Locations) (a : Around) (c : Below) (m' : List Region) (memory : Memory)
+    (unwritten : List Cell) → HasRegions (extents s.image s.heap s.base) m' → ((y : ℕ) → 0x38010008 ≤ y → word m' y ≡ word v.memory y) →
+    HeapStands s (all_of v young) m' (record a { memory = memory; unwritten = unwritten }) → Within s laid v young taken held a c →
+    Within s laid (record v { memory = m' }) young taken held (record a { memory = memory; unwritten = unwritten }) c
+within_changed s laid v young taken held a c m' memory unwritten regions keeps heap w =
     let lo = w.low in
     let b = s.stack.low in
     let wl = w.waits.low in
     let high : 0x38010008 ≤ s.base = omega (arith, b) in
     record {
       own = w.own;
-      usable = record { regions = has_write (extents s.image s.heap s.base) v.memory at value w.usable.regions; heap = w.usable.heap; apart = w.usable.apart };
+      usable = record { regions = regions; heap = w.usable.heap; apart = w.usable.apart };
       frame = w.frame;
       low = w.low;
       carried = w.carried;
       slots = λ k x h.
           let p = w.slots k x h in
-          let same = other_word v.memory at (slice_index v.registers 2 + (8 * k + 16 * length a.tries)) value (λ q. omega (arith, q, lo, high, low)) in
+          let same = keeps (slice_index v.registers 2 + (8 * k + 16 * length a.tries)) (omega (arith, lo, high)) in
           (p.0, subst (λ z. StandsFor s (all_of v young) z x) (sym same) p.1);
-      back = return_written laid.saves refl high w.back;
-      waits = waits_kept s (all_of v young) v.memory (write v.memory at value) c (λ y l h. other_word v.memory at y value (λ q. omega
-          (arith, q, l, wl, high, low))) w.waits;
-      traps = traps_kept s (all_of v young) v.memory (write v.memory at value) (slice_index v.registers 9)
+      back = return_kept laid.saves refl high w.back;
+      waits = waits_kept s (all_of v young) v.memory m' c (λ y l h. keeps y (omega (arith, l, wl, high))) w.waits;
+      traps = traps_kept s (all_of v young) v.memory m' (slice_index v.registers 9)
           (traps_at (slice_index v.registers 2) (map laid.handler a.tries)) c
-          (λ y l h. other_word v.memory at y value (λ q. omega (arith, q, l, wl, high, low)))
+          (λ y l h. keeps y (omega (arith, l, wl, high)))
           (traps_at_all _ (slice_index v.registers 2) (map laid.handler a.tries)
-          (λ y q h. (
-            other_word v.memory at y value (λ t. omega (arith, t, q, lo, high, low)),
-            other_word v.memory at (y + 8) value (λ t. omega
-                (arith, t, q, lo, high, low)),
-          )))
+          (λ y q h. (keeps y (omega (arith, q, lo, high)), keeps (y + 8) (omega (arith, q, lo, high)))))
           w.waits w.traps;
       heap = heap;
     }
   where
-    return_written : (b : Bool) → b ≡ laid.saves → 0x38010008 ≤ s.base → ReturnStands b v c → ReturnStands b (record v { memory = write v.memory at value }) c
-    return_written true e high h =
+    return_kept : (b : Bool) → b ≡ laid.saves → 0x38010008 ≤ s.base → ReturnStands b v c → ReturnStands b (record v { memory = m' }) c
+    return_kept true e high h =
         let room : 8 * laid.slots + 8 ≤ laid.frame = subst (λ t. 8 * laid.slots + cond t 8 0 ≤ laid.frame) (sym e) laid.room in
         let f = w.frame in
         let lo = w.low in
-        other_word v.memory at (c.top - 8) value (λ q. omega (arith, q, f, lo, room, high, low)) ∙ h
-    return_written false e high h = h
+        keeps (c.top - 8) (omega (arith, f, lo, room, high)) ∙ h
+    return_kept false e high h = h
 
 -- ---- the header of a block is written, as the allocation says it
 
@@ -124,8 +120,9 @@ module _ (s : Fixed) (placed : List Placed) (m : List Region) (regions : HasRegi
         };
         heads = h.heads;
         fits = λ j i y v e f. h.fits j i y v e (cell_before j i v (is_among (InBlock j i) unwritten) refl f);
-        statics = statics_stay s placed m m' a.memory a.memory.blocks (λ y l. other_word m (start_of placed k - 8) y b.header (λ q. omega
+        statics = statics_stay s placed m m' a.memory a.memory.blocks (λ y even l. held_other m (start_of placed k - 8) y b.header even (λ q. omega
             (arith, q, l, p))) h.statics;
+        lie = h.lie;
       }
     where
       head_is : (t : Bool) (w : ℕ) → cond t None (header_in (slice_get a.memory.blocks k)) ≡ Some w → b.header ≡ w

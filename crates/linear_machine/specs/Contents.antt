@@ -1,6 +1,6 @@
 -- The text's memory as the services of the machine see it: headers and cells that have not been
 -- written hold nothing.
-use Rattle.std.specs.Prelude.{ℕ, cond, length, Option, Some, None, slice_get}
+use Rattle.std.specs.Prelude.{ℕ, ◌%◌, ◌==◌, cond, length, Option, Some, None, slice_get}
 use Rattle.bs_words.specs.Memory.{Memory, HeapBlock, Cell, InHeader, InBlock, cell_at, value_in}
 use Rattle.bs_words.specs.declared.values.Value.{Value}
 use Rattle.bs_words.specs.declared.values.Value.TheVariants.{Word}
@@ -33,6 +33,6 @@ abbrev pub static_in : Memory → Option Cell → Option Value
 static_in memory None = None
 static_in memory (Some cell) = Some (value_in memory cell)
 
--- the static cells by address; one that lies in its list in part alone is none of them
+-- the static cells by address, also the last one of a list where its bytes do not fill it
 abbrev pub statics_of : Memory → ℕ → Option Value
-statics_of memory x = static_in memory (cell_at memory 8 (Word x))
+statics_of memory x = cond (x % 8 == 0) (static_in memory (cell_at memory 1 (Word x))) None

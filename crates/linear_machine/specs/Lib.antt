@@ -1,6 +1,7 @@
 pub mod View
 pub mod Arrival
 pub mod Contents
+pub mod Statics
 pub mod Relation
 pub mod Straight
 pub mod Moments

@@ -25,6 +25,7 @@ use Rattle.moving_laws.specs.Values.{value_word, IsKnown, FitsCell}
 use Rattle.moving_laws.specs.Waiting.{Activation, Chain, AllWait, IsBack, TrapsFrom, traps_at}
 use Rattle.moving_laws.specs.Young.{Rises}
 use Rattle.linear_machine.specs.Contents.{blocks_of, statics_of}
+use Rattle.linear_machine.specs.Statics.{StaticsLie}
 use Rattle.linear_machine.specs.View.{Fixed, View}
 
 -- ---- where the words of a function lie
@@ -86,6 +87,7 @@ pub record HeapStands (s : Fixed) (placed : List Placed) (m : List Region) (a : 
   pub fits : (k j : ℕ) (b : HeapBlock) (v : Value) → slice_get a.memory.blocks k ≡ Some b →
       (blocks_of a).cell k j ≡ Some v → FitsCell s.image (length placed) (is_scanned b.header) v
   pub statics : StaticsStand s.image placed m (root_cells s.image) (statics_of a.memory)
+  pub lie : StaticsLie s.image a.memory
 
 -- the table of blocks, and the memory in which they lie
 pub record IsUsable (s : Fixed) (v : View) : Type 0 where

@@ -1,6 +1,6 @@
 -- What a proof sees of the machine between two instructions, and how the machine goes on, under
 -- every schedule of asks.
-use Rattle.std.specs.Prelude.{◌≡◌, ◌≢◌, ℕ, ◌+◌, ◌*◌, ◌⊎◌, List, [], ◌∷◌, map, slice_get, Some}
+use Rattle.std.specs.Prelude.{◌≡◌, ◌≢◌, ℕ, ◌+◌, ◌*◌, ◌%◌, ◌⊎◌, List, [], ◌∷◌, map, slice_get, Some}
 use Rattle.std.specs.List.{AllByRecursion}
 use Rattle.bs_words.specs.Observed.{Made}
 use Rattle.bs_words.specs.declared.types.Ret.{Ret}
@@ -15,6 +15,7 @@ use Rattle.rv_machine.specs.Run.{Schedule, after}
 use Rattle.rv_machine.specs.Services.{End, Machine, Going, Over}
 use Rattle.rv_machine.specs.Sound.{HasRegions, IsRegion, IsStackBase, extent, extents}
 use Rattle.moving_laws.specs.Values.{HasFunctions}
+use Rattle.moving_laws.specs.Words.{held_word}
 
 -- What stays as it is during a run.
 pub record Fixed : Type 0 where
@@ -41,6 +42,8 @@ pub record View : Type 0 where
 -- two memories that differ in the limit word alone
 pub record IsLike (m m' : List Region) : Type 0 where
   pub words : (x : ℕ) → x ≢ domain_start → word m' x ≡ word m x
+  -- also the word in which a region ends
+  pub held : (x : ℕ) → x % 8 ≡ 0 → x ≢ domain_start → held_word m' x ≡ held_word m x
   pub lie : map extent m' ≡ map extent m
   pub each : AllByRecursion IsRegion m'
 

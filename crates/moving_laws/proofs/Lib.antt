@@ -3,11 +3,12 @@ pub mod Usable
 pub mod Puts
 pub mod Moves
 pub mod Rewriting
+pub mod Young
+pub mod Held
 pub mod Restored
 pub mod Walk
 pub mod Plans
 pub mod Waits
-pub mod Young
 pub mod Roots
 pub mod Serves
 pub mod Moving

@@ -1,5 +1,5 @@
 -- What copying, vacating and redirecting leave in the memory.
-use Rattle.std.proofs.Common.{◌≡◌, ℕ, zero, suc, ◌+◌, ◌-◌, ◌*◌, ◌%◌, ◌^◌, ◌<◌, ◌≤◌, inl, inr, Bool, true, false, List, [], ◌∷◌, length, slice_index, replicate, refl, ap, arith, ◌∙◌, sym, subst, ⊎_elim}
+use Rattle.std.proofs.Common.{◌≡◌, ◌≢◌, ℕ, zero, suc, ◌+◌, ◌-◌, ◌*◌, ◌%◌, ◌^◌, ◌<◌, ◌≤◌, inl, inr, Bool, true, false, List, [], ◌∷◌, length, slice_index, replicate, refl, ap, arith, ◌∙◌, sym, subst, ⊎_elim}
 use Rattle.std.specs.List.{AllByRecursion}
 use Rattle.rv_machine.specs.Hart.{Placed}
 use Rattle.rv_machine.specs.Memory.{Region, word, write, put, words_at}
@@ -12,7 +12,7 @@ use Rattle.moving_laws.specs.Values.{start_of, words_of}
 use Rattle.moving_laws.specs.Stands.{Among}
 use Rattle.machine_laws.proofs.Memory.{word_below, other_word}
 use Rattle.moving_laws.proofs.Words.{word_same, readable_write, formed_write, same_or_not}
-use Rattle.moving_laws.proofs.Puts.{put_off, put_at, put_formed, put_readable, length_words_at, words_at_index, map_index, length_map, length_replicate}
+use Rattle.moving_laws.proofs.Puts.{put_keeps, put_at, put_formed, put_readable, length_words_at, words_at_index, map_index, length_map, length_replicate}
 
 -- ---- vacating
 
@@ -26,14 +26,19 @@ vacated_readable m [] x r = r
 vacated_readable m (b ∷ bs) x r = vacated_readable (put m (header_at b) (replicate (suc b.words) filler)) bs x (put_readable m (replicate (suc b.words) filler)
     (header_at b) x r)
 
+-- what is read at an address beside the blocks stays
+module _ (at : List Region → ℕ) (x : ℕ) (keeps : (m : List Region) (a v : ℕ) → a ≢ x → at (write m a v) ≡ at m) where
+  pub vacated_keeps : (m : List Region) (bs : List Placed) → AllByRecursion (IsBeside x) bs → at (vacated m bs) ≡ at m
+  vacated_keeps m [] off = refl
+  vacated_keeps m (b ∷ bs) off =
+      let ws = replicate (suc b.words) filler in
+      let len : length ws ≡ suc b.words = length_replicate (suc b.words) filler in
+      let low = off.0.low in
+      vacated_keeps (put m (header_at b) ws) bs off.1
+      ∙ put_keeps at x keeps m ws (header_at b) (⊎_elim (λ l. inl l) (λ l. inr (omega (arith, l, len, low))) off.0.off)
+
 pub vacated_off : (m : List Region) (bs : List Placed) (x : ℕ) → AllByRecursion (IsBeside x) bs → word (vacated m bs) x ≡ word m x
-vacated_off m [] x off = refl
-vacated_off m (b ∷ bs) x off =
-    let ws = replicate (suc b.words) filler in
-    let len : length ws ≡ suc b.words = length_replicate (suc b.words) filler in
-    let low = off.0.low in
-    vacated_off (put m (header_at b) ws) bs x off.1
-    ∙ put_off m ws (header_at b) x (⊎_elim (λ l. inl l) (λ l. inr (omega (arith, l, len, low))) off.0.off)
+vacated_off m bs x off = vacated_keeps (λ k. word k x) x (λ k b v n. other_word k b x v n) m bs off
 
 -- ---- copying
 
@@ -73,16 +78,20 @@ module _ (f : ℕ → ℕ) (old : List Region) where
   copied_readable m (o ∷ os) (n ∷ ns) x r = copied_readable (put m (header_at n) (rewritten_block f old o)) os ns x (put_readable m (rewritten_block f old o)
       (header_at n) x r)
 
-  pub copied_off : (m : List Region) (os ns : List Placed) (x : ℕ) → SameSizes os ns → AllByRecursion (IsBeside x) ns → word (copied f old m os ns) x ≡ word m x
-  copied_off m [] ns x s off = refl
-  copied_off m (o ∷ os) [] x s off = refl
-  copied_off m (o ∷ os) (n ∷ ns) x s off =
+  pub copied_keeps : (at : List Region → ℕ) (x : ℕ) → ((m : List Region) (a v : ℕ) → a ≢ x → at (write m a v) ≡ at m) → (m : List Region)
+      (os ns : List Placed) → SameSizes os ns → AllByRecursion (IsBeside x) ns → at (copied f old m os ns) ≡ at m
+  copied_keeps at x keeps m [] ns s off = refl
+  copied_keeps at x keeps m (o ∷ os) [] s off = refl
+  copied_keeps at x keeps m (o ∷ os) (n ∷ ns) s off =
       let ws = rewritten_block f old o in
       let len : length ws ≡ suc o.words = length_block o in
       let low = off.0.low in
       let size : n.words ≡ o.words = s.0 in
-      copied_off (put m (header_at n) ws) os ns x s.1 off.1
-      ∙ put_off m ws (header_at n) x (⊎_elim (λ l. inl l) (λ l. inr (omega (arith, l, len, low, size))) off.0.off)
+      copied_keeps at x keeps (put m (header_at n) ws) os ns s.1 off.1
+      ∙ put_keeps at x keeps m ws (header_at n) (⊎_elim (λ l. inl l) (λ l. inr (omega (arith, l, len, low, size))) off.0.off)
+
+  pub copied_off : (m : List Region) (os ns : List Placed) (x : ℕ) → SameSizes os ns → AllByRecursion (IsBeside x) ns → word (copied f old m os ns) x ≡ word m x
+  copied_off m os ns x s off = copied_keeps (λ k. word k x) x (λ k b v n. other_word k b x v n) m os ns s off
 
   -- a place of a block is beside the blocks that lie apart from it
   pub beside_apart : (n : Placed) (bs : List Placed) (x : ℕ) → IsInHeap n → AllByRecursion IsInHeap bs → AllByRecursion (AreApart n) bs → n.start - 8 ≤ x →
@@ -199,8 +208,12 @@ module _ (f : ℕ → ℕ) (old : List Region) where
       i
 
   -- a place that is not named keeps its word
-  pub redirected_off : (m : List Region) (ps : List ℕ) (x : ℕ) → (Among x ps → ⊥) → word (redirected f old m ps) x ≡ word m x
-  redirected_off m [] x none = refl
-  redirected_off m (a ∷ ps) x none =
+  pub redirected_keeps : (at : List Region → ℕ) (x : ℕ) → ((m : List Region) (a v : ℕ) → a ≢ x → at (write m a v) ≡ at m) → (m : List Region)
+      (ps : List ℕ) → (Among x ps → ⊥) → at (redirected f old m ps) ≡ at m
+  redirected_keeps at x keeps m [] none = refl
+  redirected_keeps at x keeps m (a ∷ ps) none =
       let v = f (word old a) in
-      redirected_off (write m a v) ps x (λ j. none (inr j)) ∙ other_word m a x v (λ e. none (inl (sym e)))
+      redirected_keeps at x keeps (write m a v) ps (λ j. none (inr j)) ∙ keeps m a v (λ e. none (inl (sym e)))
+
+  pub redirected_off : (m : List Region) (ps : List ℕ) (x : ℕ) → (Among x ps → ⊥) → word (redirected f old m ps) x ≡ word m x
+  redirected_off m ps x none = redirected_keeps (λ k. word k x) x (λ k b v n. other_word k b x v n) m ps none

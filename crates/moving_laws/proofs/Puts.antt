@@ -5,12 +5,17 @@ use Rattle.moving_laws.specs.Words.{IsFormed, IsReadable}
 use Rattle.machine_laws.proofs.Memory.{other_word}
 use Rattle.moving_laws.proofs.Words.{word_same, readable_write, formed_write}
 
+-- what is read at an address, and stays where a word is written elsewhere, stays where many are
+module _ (at : List Region → ℕ) (x : ℕ) (keeps : (m : List Region) (a v : ℕ) → a ≢ x → at (write m a v) ≡ at m) where
+  pub put_keeps : (m : List Region) (ws : List ℕ) (a : ℕ) → (x < a) ⊎ (a + 8 * length ws ≤ x) → at (put m a ws) ≡ at m
+  put_keeps m [] a off = refl
+  put_keeps m (w ∷ ws) a off =
+      let ne : a ≢ x = λ e. ⊎_elim (λ l. omega (arith, e, l)) (λ l. omega (arith, e, l)) off in
+      let next : (x < a + 8) ⊎ (a + 8 + 8 * length ws ≤ x) = ⊎_elim (λ l. inl (omega (arith, l))) (λ l. inr (omega (arith, l))) off in
+      put_keeps (write m a w) ws (a + 8) next ∙ keeps m a w ne
+
 pub put_off : (m : List Region) (ws : List ℕ) (a x : ℕ) → (x < a) ⊎ (a + 8 * length ws ≤ x) → word (put m a ws) x ≡ word m x
-put_off m [] a x off = refl
-put_off m (w ∷ ws) a x off =
-    let ne : a ≢ x = λ e. ⊎_elim (λ l. omega (arith, e, l)) (λ l. omega (arith, e, l)) off in
-    let next : (x < a + 8) ⊎ (a + 8 + 8 * length ws ≤ x) = ⊎_elim (λ l. inl (omega (arith, l))) (λ l. inr (omega (arith, l))) off in
-    put_off (write m a w) ws (a + 8) x next ∙ other_word m a x w ne
+put_off m ws a x off = put_keeps (λ k. word k x) x (λ k b v n. other_word k b x v n) m ws a off
 
 pub put_at : (m : List Region) (ws : List ℕ) (a j x : ℕ) → IsFormed m → x ≡ a + 8 * j → j < length ws → IsReadable m x → slice_index ws j < 2 ^ 64 →
     word (put m a ws) x ≡ slice_index ws j

@@ -1,5 +1,5 @@
 -- A move restores what stands for values.
-use Rattle.std.proofs.Common.{◌≡◌, ℕ, zero, suc, ◌+◌, ◌-◌, ◌*◌, ◌%◌, ◌^◌, ◌<◌, ◌≤◌, ◌⊎◌, inl, inr, Bool, true, false, List, [], ◌∷◌, length, Some, refl, ap, arith, ◌∙◌, sym, subst, ⊎_elim}
+use Rattle.std.proofs.Common.{◌≡◌, ◌≢◌, ℕ, zero, suc, ◌+◌, ◌-◌, ◌*◌, ◌%◌, ◌^◌, ◌<◌, ◌≤◌, ◌⊎◌, inl, inr, Bool, true, false, List, [], ◌∷◌, length, Some, refl, ap, arith, ◌∙◌, sym, subst, ⊎_elim}
 use Rattle.std.specs.List.{AllByRecursion}
 use Rattle.bs_words.specs.declared.values.Value.{Value}
 use Rattle.image_form.specs.Tables.{Tables}
@@ -7,13 +7,14 @@ use Rattle.rv_machine.specs.Hart.{Placed}
 use Rattle.rv_machine.specs.Memory.{Region, word, write}
 use Rattle.rv_machine.specs.Moving.{rewritten, is_scanned, vacated, copied, redirected, moved_memory}
 use Rattle.rv_machine.specs.Placement.{end_of}
-use Rattle.moving_laws.specs.Words.{IsFormed, IsReadable}
+use Rattle.moving_laws.specs.Words.{IsFormed, IsReadable, held_word}
 use Rattle.moving_laws.specs.Heap.{IsInHeap, IsBeside, SameSizes, AreBlocks}
 use Rattle.moving_laws.specs.Values.{start_of, words_of, value_word, IsVal, IsKnown, FitsCell, HasFunctions}
 use Rattle.moving_laws.specs.Stands.{Blocks, BlocksStand, AreSettled, IsOutside, Among}
 use Rattle.machine_laws.proofs.Memory.{word_below, other_word}
 use Rattle.moving_laws.proofs.Words.{readable_write, formed_write}
-use Rattle.moving_laws.proofs.Moves.{cell_after, vacated_formed, vacated_readable, vacated_off, copied_formed, copied_readable, copied_off, landed, lands_header, lands_cell, AllLand, redirected_formed, redirected_readable, redirected_settled, redirected_in, redirected_off}
+use Rattle.moving_laws.proofs.Moves.{cell_after, vacated_formed, vacated_readable, vacated_keeps, vacated_off, copied_keeps, copied_formed, copied_readable, copied_off, landed, lands_header, lands_cell, AllLand, redirected_formed, redirected_readable, redirected_settled, redirected_in, redirected_keeps, redirected_off}
+use Rattle.moving_laws.proofs.Held.{held_other}
 use Rattle.moving_laws.proofs.Rewriting.{NoStart, stays, value_moves, still_word, rewritten_below, same_length, start_inside}
 
 pub beside_all : (x : ℕ) (bs : List Placed) → (x < 0x30000000) ⊎ (0x38010000 ≤ x) → AllByRecursion IsInHeap bs → AllByRecursion (IsBeside x) bs
@@ -49,6 +50,8 @@ pub record IsMemoryRestored (image : Tables) (olds news : List Placed) (places :
   pub plain : (x : ℕ) → IsReadable m x → IsOutside x → NoStart (word m x) olds → word m' x ≡ word m x
   -- a word outside the heap that is not named stays
   pub unnamed : (x : ℕ) → IsOutside x → (Among x places → ⊥) → word m' x ≡ word m x
+  -- also in part
+  pub held : (x : ℕ) → x % 8 ≡ 0 → IsOutside x → (Among x places → ⊥) → held_word m' x ≡ held_word m x
   pub readable : (x : ℕ) → IsReadable m x → IsReadable m' x
   pub formed : IsFormed m'
 
@@ -96,6 +99,13 @@ module _ (image : Tables) (olds news : List Placed) (places : List ℕ) (m : Lis
 
   off4 : (x : ℕ) → IsOutside x → word m4 x ≡ word m1 x
   off4 x out = other_word m3 0x20000000 x limit (λ e. out.no_limit (sym e)) ∙ off3 x out.off
+
+  held4 : (x : ℕ) → x % 8 ≡ 0 → IsOutside x → held_word m4 x ≡ held_word m1 x
+  held4 x even out =
+      let keeps : (k : List Region) (a v : ℕ) → a ≢ x → held_word (write k a v) x ≡ held_word k x = λ k a v n. held_other k a x v even n in
+      held_other m3 0x20000000 x limit even (λ e. out.no_limit (sym e))
+      ∙ copied_keeps (rewritten olds news) m (λ k. held_word k x) x keeps m2 olds news move.sizes (beside_all x news out.off move.new.inside)
+      ∙ vacated_keeps (λ k. held_word k x) x keeps m1 olds (beside_all x olds out.off move.old.inside)
 
   lands : AllLand (rewritten olds news) m m3 olds news
   lands = landed (rewritten olds news) m m2 olds news small formed2 move.sizes move.new.inside move.new.apart (new_readable news move.readable)
@@ -154,6 +164,9 @@ module _ (image : Tables) (olds news : List Placed) (places : List ℕ) (m : Lis
           ∙ redirected_settled (rewritten olds news) m m places x move.formed r (small (word m x) (word_below m x)) (sym still)
           ∙ still;
       unnamed = λ x out none. off4 x out ∙ redirected_off (rewritten olds news) m m places x none;
+      held = λ x even out none.
+          held4 x even out
+          ∙ redirected_keeps (rewritten olds news) m (λ k. held_word k x) x (λ k a v n. held_other k a x v even n) m places none;
       readable = λ x r. readable_write m3 0x20000000 x limit (copied_readable (rewritten olds news) m m2 olds news x (readable2 x r));
       formed = formed_write m3 0x20000000 limit formed3;
     }

@@ -1,5 +1,5 @@
 -- A service that moves the blocks, under any plan, whichever it is.
-use Rattle.std.proofs.Common.{◌≡◌, ◌≢◌, ℕ, zero, suc, ◌+◌, ◌-◌, ◌<◌, ◌≤◌, ◌⊎◌, inl, inr, true, nat_le, List, [], ◌∷◌, ◌++◌, length, map, reverse, Option, Some, option_map, slice_index, refl, ap, arith, ◌∙◌, sym, subst, ⊎_elim, get_or-set_same, get_or-set_other}
+use Rattle.std.proofs.Common.{◌≡◌, ◌≢◌, ℕ, zero, suc, ◌+◌, ◌-◌, ◌%◌, ◌<◌, ◌≤◌, ◌⊎◌, inl, inr, true, nat_le, List, [], ◌∷◌, ◌++◌, length, map, reverse, Option, Some, option_map, slice_index, refl, ap, arith, ◌∙◌, sym, subst, ⊎_elim, get_or-set_same, get_or-set_other}
 use Rattle.std.specs.List.{list_all, AllByRecursion}
 use Rattle.std.proofs.lemmas.Bool.{le-leb, lt-leb, and_from, cond-true, cond-false}
 use Rattle.bs_words.specs.declared.values.Value.{Value}
@@ -15,12 +15,14 @@ use Rattle.rv_machine.specs.Placement.{bytes_used, new_places}
 use Rattle.rv_machine.specs.Places.{data_start, limit_at_rest, stack_end}
 use Rattle.rv_machine.specs.Relocation.{Goes, NoHeap, are_roots, emptied, is_root, relocated, root_cells, with_blocks, with_frames}
 use Rattle.rv_machine.specs.Sound.{IsSound, extents}
-use Rattle.machine_laws.proofs.Memory.{has_moved}
+use Rattle.machine_laws.proofs.Memory.{has_moved, has_write}
 use Rattle.moving_laws.specs.Heap.{IsInHeap}
 use Rattle.moving_laws.specs.Service.{Contents, Knows, IsReady, IsRestored}
 use Rattle.moving_laws.specs.Stands.{Blocks, AreSettled, Among}
 use Rattle.moving_laws.specs.Values.{value_word, IsVal, IsStill, IsKnown}
 use Rattle.moving_laws.specs.Waiting.{Chain, TrapsFrom}
+use Rattle.moving_laws.specs.Words.{IsReadable, held_word}
+use Rattle.moving_laws.proofs.Held.{held_readable}
 use Rattle.moving_laws.proofs.Plans.{AreFresh, fresh, halves_inside, halves_readable, halves_low, readable_at}
 use Rattle.moving_laws.proofs.Restored.{IsMove, IsMemoryRestored, restored}
 use Rattle.moving_laws.proofs.Rewriting.{value_moves, still_word, same_length}
@@ -45,6 +47,16 @@ pub roots_low : (bytes : ℕ) (roots : List ℕ) (x : ℕ) → bytes ≤ 1677721
 roots_low bytes [] x short all i = absurd i
 roots_low bytes (r ∷ rs) x short all (inl e) = let inside = all.0.in_data in omega (arith, e, inside, short)
 roots_low bytes (r ∷ rs) x short all (inr i) = roots_low bytes rs x short all.1 i
+
+-- and are whole words of it
+pub roots_whole : (bytes : ℕ) (roots : List ℕ) (x : ℕ) → AllByRecursion (IsRoot bytes) roots → Among x (map (λ offset. data_start + offset) roots) →
+    (x % 8 ≡ 0) × (data_start ≤ x) × (x + 8 ≤ data_start + bytes)
+roots_whole bytes [] x all i = absurd i
+roots_whole bytes (r ∷ rs) x all (inl e) =
+    let a = all.0.aligned in
+    let inside = all.0.in_data in
+    (omega (arith, e, a), omega (arith, e), omega (arith, e, inside))
+roots_whole bytes (r ∷ rs) x all (inr i) = roots_whole bytes rs x all.1 i
 
 -- the blocks that a service finds
 pub blocks_found : (h : Hart) (from : ℕ) (young : List Placed) (f : Frame) (regs : ℕ → Option Value) → IsSound h → IsReady h from young f regs →
@@ -196,6 +208,22 @@ module _ (h : Hart) (from : ℕ) (young : List Placed) (f : Frame) (fs : List Fr
     s1_same : register after s1 ≡ register h s1
     s1_same = same_reg 9 (λ e. omega (arith, e)) (unnamed_special 9 (inr refl))
 
+    -- a root cell is a whole word, before the move and behind it
+    root_words : (x : ℕ) → Among x (root_cells h.image) →
+        IsReadable h.memory x × (held_word h.memory x ≡ word h.memory x) × (held_word after.memory x ≡ word after.memory x)
+    root_words x i =
+        let p = roots_whole (length h.image.bytes) h.image.roots x ready.functions.tables.roots.each i in
+        let moves = has_moved (extents h.image h.heap h.stack_base) olds news h.memory places knows.sound.memory in
+        let later = has_write (extents h.image h.heap h.stack_base) (moved_memory olds news h.memory places) 0x20000000 limit_at_rest moves in
+        let readable = data_readable h.image h.heap h.stack_base h.memory knows.sound.memory x p.0 p.1 p.2 in
+        let short = ready.functions.tables.bytes.short in
+        let a = knows.sound.heap.aligned in
+        let even : h.heap % 8 ≡ 0 = omega (arith, a) in (
+          readable,
+          held_readable h.image h.heap h.stack_base short even knows.sound.stack h.memory knows.sound.memory x readable,
+          held_readable h.image h.heap h.stack_base short even knows.sound.stack after.memory later x (restored_here.readable x readable),
+        )
+
     pub knows_again : IsSound after → Knows news after (f ∷ fs) holds (h.pc + 4)
     knows_again sound =
         let r = restored_here in
@@ -221,7 +249,7 @@ module _ (h : Hart) (from : ℕ) (young : List Placed) (f : Frame) (fs : List Fr
           statics = statics_kept h.image olds news places h.memory after.memory holds.blocks r new_are.sizes knows.old.inside h.stack_base base_high can
               (root_cells h.image) holds.static
               ready.functions.tables.bytes.short (λ x i. among_second x (slots_of (f ∷ fs)) (root_cells h.image) i) only_roots
-              (λ x v e. let p = knows.statics.place x v e in data_readable h.image h.heap h.stack_base h.memory knows.sound.memory x p.0 p.1 p.2) knows.statics;
+              root_words knows.statics;
         }
 
     pub restores : IsSound after → IsRestored bytes h f fs holds after

@@ -24,6 +24,14 @@ read_some (r ∷ rs) a = by_test (is_inside r a 8) (read_some rs a)
     by_test true later = refl
     by_test false later = later
 
+-- what can be read is covered by a region
+pub covered : (m : List Region) (a : ℕ) → IsReadable m a → list_any (covers a) (map extent m) ≡ true
+covered m a r = sym (read_some m a) ∙ by_test (a % 8 == 0) r.is
+  where
+    by_test : (t : Bool) → is_some (cond t (read m a 8) None) ≡ true → is_some (read m a 8) ≡ true
+    by_test true h = h
+    by_test false h = absurd (cc)
+
 some_if : (t : Bool) (o : Option ℕ) → t ≡ true → is_some o ≡ true → is_some (cond t o None) ≡ true
 some_if true o e h = h
 some_if false o e h = absurd (cc)

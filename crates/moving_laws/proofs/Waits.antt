@@ -8,7 +8,7 @@ use Rattle.rv_machine.specs.Hart.{Placed, with_register}
 use Rattle.rv_machine.specs.Memory.{Region, word}
 use Rattle.rv_machine.specs.Moving.{redirected_registers}
 use Rattle.rv_machine.specs.Places.{stack_end}
-use Rattle.moving_laws.specs.Words.{IsReadable}
+use Rattle.moving_laws.specs.Words.{IsReadable, held_word}
 use Rattle.moving_laws.specs.Heap.{IsInHeap, SameSizes}
 use Rattle.moving_laws.specs.Values.{IsVal, IsStill, IsKnown}
 use Rattle.moving_laws.specs.Stands.{Blocks, IsOutside, Among, StaticsStand}
@@ -35,7 +35,7 @@ module _ (image : Tables) (olds news : List Placed) (places : List ℕ) (m m' : 
   pub stack_keeps : (x : ℕ) → base ≤ x → x + 8 ≤ stack_end → x % 8 ≡ 0 → (word m x < 0x30000008) ⊎ (0x38010000 < word m x) → word m' x ≡ word m x
   stack_keeps x l h e out = r.plain x (can x e l h) (on_stack x l) (far_no_start (word m x) olds out inside)
 
-  pub return_keeps : (x : ℕ) → base ≤ x → x + 8 ≤ stack_end → x % 8 ≡ 0 → word m x < 0x10000000 → word m' x ≡ word m x
+  pub return_keeps : (x : ℕ) → base ≤ x → x + 8 ≤ stack_end → x % 8 ≡ 0 → word m x ≤ 0x10000000 → word m' x ≡ word m x
   return_keeps x l h e low = stack_keeps x l h e (inl (omega (arith, low)))
 
   count_same : length news ≡ length olds
@@ -100,7 +100,7 @@ module _ (image : Tables) (olds news : List Placed) (places : List ℕ) (m m' : 
             (omega (arith, at)) i))))
             (let se = is.size_even in let sl = is.size_least in
             return_keeps (f.at + (f.desc.size - 8)) (omega (arith, at, lo)) (omega (arith, at, hi, sl)) (omega (arith, at, ev, se, sl))
-            (subst (λ q. word m (q + (f.desc.size - 8)) < 0x10000000) (sym at) c.4))
+            (subst (λ q. word m (q + (f.desc.size - 8)) ≤ 0x10000000) (sym at) c.4))
             w.0,
         waits ds false (word m (p + (f.desc.size - 8))) (p + f.desc.size) xs fs c.5
             (λ y i. sub y (among_second y (slots_named f.at f.desc.entries) (slots_of fs) i))
@@ -140,16 +140,18 @@ module _ (image : Tables) (olds news : List Placed) (places : List ℕ) (m m' : 
 
   pub statics_kept : (roots : List ℕ) (static : ℕ → Option Value) → length image.bytes ≤ 16777216 →
       ((x : ℕ) → Among x roots → Among x places) → ((x : ℕ) → x < 0x20000000 → Among x places → Among x roots) →
-      ((x : ℕ) (v : Value) → static x ≡ Some v → IsReadable m x) →
+      ((x : ℕ) → Among x roots → IsReadable m x × (held_word m x ≡ word m x) × (held_word m' x ≡ word m' x)) →
       StaticsStand image olds m roots static → StaticsStand image news m' roots static
-  statics_kept roots static short sub only readable s = record {
+  statics_kept roots static short sub only whole s = record {
     cell = λ x v e.
         let at = (s.place x v e).2 in
         let low : x < 0x20000000 = omega (arith, at, short) in
         let out : IsOutside x = record { off = inl (omega (arith, low)); no_limit = λ q. omega (arith, q, low) } in
         ⊎_elim
-        (λ k. r.named x v (readable x v e) out (sub x k.1) k.0 (s.cell x v e))
-        (λ k. r.unnamed x out (λ i. k.1 (only x low i)) ∙ s.cell x v e ∙ still_word image olds news v k.0)
+        (λ k.
+        let w = whole x k.1 in
+        w.2 ∙ r.named x v w.0 out (sub x k.1) k.0 (sym w.1 ∙ s.cell x v e))
+        (λ k. r.held x (s.place x v e).0 out (λ i. k.1 (only x low i)) ∙ s.cell x v e ∙ still_word image olds news v k.0)
         (s.kind x v e);
     kind = λ x v e. ⊎_elim (λ k. inl (val_again v k.0, k.1)) (λ k. inr k) (s.kind x v e);
     known = λ x v e. subst (λ q. IsKnown image q v) (sym count_same) (s.known x v e);

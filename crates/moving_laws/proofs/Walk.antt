@@ -103,7 +103,7 @@ walks_all ds base m first fs a p l h c =
 -- ---- a memory in which each return address stays has the same chain
 
 pub chain_kept : (ds : List Desc) (base : ℕ) (m m' : List Region) (first : Bool) (a p : ℕ) (fs : List Frame) →
-    ((x : ℕ) → base ≤ x → x + 8 ≤ stack_end → x % 8 ≡ 0 → word m x < 0x10000000 → word m' x ≡ word m x) → Chain ds base m first a p fs →
+    ((x : ℕ) → base ≤ x → x + 8 ≤ stack_end → x % 8 ≡ 0 → word m x ≤ 0x10000000 → word m' x ≡ word m x) → Chain ds base m first a p fs →
     Chain ds base m' first a p fs
 chain_kept ds base m m' first a p [] keeps c = c
 chain_kept ds base m m' first a p (f ∷ fs) keeps c =
@@ -119,7 +119,7 @@ chain_kept ds base m m' first a p (f ∷ fs) keeps c =
       c.1,
       c.2,
       c.3,
-      subst (λ w. w < 0x10000000) (sym same) c.4,
+      subst (λ w. w ≤ 0x10000000) (sym same) c.4,
       subst (λ w. Chain ds base m' false w (p + f.desc.size) fs) (sym same) (chain_kept ds base m m' false (word m x) (p + f.desc.size) fs keeps c.5),
     )
 

@@ -6,7 +6,7 @@ use Rattle.rv_machine.specs.Hart.{Placed}
 use Rattle.rv_machine.specs.Memory.{Region, word}
 use Rattle.rv_machine.specs.Moving.{is_scanned}
 use Rattle.rv_machine.specs.Places.{data_start}
-use Rattle.moving_laws.specs.Words.{IsReadable}
+use Rattle.moving_laws.specs.Words.{IsReadable, held_word}
 use Rattle.moving_laws.specs.Values.{start_of, words_of, value_word, IsVal, IsStill, IsKnown, FitsCell}
 
 -- The blocks of a run, by serial. A header or a cell that has not been written yet has nothing.
@@ -53,9 +53,10 @@ Among x (a ∷ rest) = (x ≡ a) ⊎ Among x rest
 -- pointer
 pub record StaticsStand (image : Tables) (placed : List Placed) (m : List Region) (roots : List ℕ)
     (static : ℕ → Option Value) : Type 0 where
-  pub cell : (x : ℕ) (v : Value) → static x ≡ Some v → word m x ≡ value_word image placed v
+  pub cell : (x : ℕ) (v : Value) → static x ≡ Some v → held_word m x ≡ value_word image placed v
   pub kind : (x : ℕ) (v : Value) → static x ≡ Some v →
       (IsVal image (length placed) v × Among x roots) ⊎ (IsStill v × (Among x roots → ⊥))
   pub known : (x : ℕ) (v : Value) → static x ≡ Some v → IsKnown image (length placed) v
+  -- some byte of the cell lies in the data; the last one may be cut off
   pub place : (x : ℕ) (v : Value) → static x ≡ Some v → (x % 8 ≡ 0) × (data_start ≤ x)
-      × (x + 8 ≤ data_start + length image.bytes)
+      × (x < data_start + length image.bytes)

@@ -39,7 +39,7 @@ Chain ds base m first a p [] = a ≡ code_start
 Chain ds base m first a p (f ∷ fs) =
     (a ≢ code_start) × (descriptor_at ds a ≡ Some f.desc) × (f.at ≡ p)
     × IsFrameAt first base p f.desc
-    × (word m (p + (f.desc.size - 8)) < 0x10000000)
+    × (word m (p + (f.desc.size - 8)) ≤ 0x10000000)
     × Chain ds base m false (word m (p + (f.desc.size - 8))) (p + f.desc.size) fs
 
 -- Its frame has what the activation has: a slot holds its value, a pointer stands only where the
@@ -68,7 +68,7 @@ AllWait image placed m (x ∷ xs) (f ∷ fs) = IsWaiting image placed m x f
 -- an address of code to which one may go
 pub record IsBack (a : ℕ) : Type 0 where
   pub low : 0x10000 ≤ a
-  pub high : a < 0x10000000
+  pub high : a ≤ 0x10000000
   pub even : a % 4 ≡ 0
 
 -- The trap frames of the activations, from a trap pointer on: each has its handler's address and
