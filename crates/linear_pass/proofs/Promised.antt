@@ -50,6 +50,7 @@ module _ (p : Mach) (well : WellFormed p) (placed : FullyPlaced p) where
       let lines = lowered_lines p in
       let slots : r.slots ≡ slot_count p = shape.slots in
       record {
+        made = t.tidies;
         reached = keeps_tidied keeps t.tidies;
         keeps = λ safe named exact. tidied_keeps keeps first t.tidies t.tidy safe named exact;
         no_addr = λ safe. tidied_no_addr keeps first t.tidies t.tidy safe;

@@ -56,7 +56,7 @@ met machs most n units nodes _ (threw {t = t} a b) ok no_more enough le heap =
       stack = omega (arith, need);
       end = raises refl;
     }
-met machs most n units nodes _ (running {w = w} {s = s} {t = t} a b) ok no_more enough le heap =
+met machs most n units nodes _ (running {w = w} {s = s} {t = t} a b same) ok no_more enough le heap =
     let need = a.need in
     let more : nodes * suc units ≤ most * suc units = mul-le-mul_right (suc units) le in
     let times : most * suc t.units ≡ most * suc units = ap (λ u. most * suc u) b in

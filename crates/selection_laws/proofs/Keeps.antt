@@ -1,5 +1,5 @@
 -- Selection keeps the meaning on the machine itself, where no addr is live after a frame point.
-use Rattle.std.proofs.Common.{◌≡◌, ℕ, ◌^◌, ◌<◌, true, List, [], refl}
+use Rattle.std.proofs.Common.{◌≡◌, ℕ, ◌^◌, ◌<◌, true, List, [], refl, sym, ap, ◌∙◌}
 use Rattle.bs_words.specs.Fits.{fits}
 use Rattle.bs_words.specs.Memory.{Memory}
 use Rattle.bs_words.specs.declared.types.Ty.TheVariants as ty
@@ -7,6 +7,7 @@ use Rattle.bs_words.specs.declared.values.Value.{Value}
 use Rattle.cmm_tree.specs.Tree.{FunctionTree, comps_of}
 use Rattle.cmm_meaning.specs.State.{Doing}
 use Rattle.cmm_meaning.specs.Evaluation.{Evaluation, fit_parameters, bound_error}
+use Rattle.mach_ir.specs.Acts.{Around}
 use Rattle.mach_ir.specs.Runs.{Place, Run}
 use Rattle.mach_ir.specs.Meaning.{State, run}
 use Rattle.mach_ir.specs.Walks.{NoAddrLive}
@@ -55,7 +56,7 @@ selected_steady c f live = record { no_addr = live; bare = λ i next s z. bare_r
 pub meets_twin : {c : Place} {m : Mach} {u : ℕ} {e : Evaluation} {r q : Run State} → Twin c m r q → Meets u e r → Meets u e q
 meets_twin both_ended (returned a b) = returned a b
 meets_twin both_ended (threw a b) = threw a b
-meets_twin (both_running g) (running a b) = running a b
+meets_twin (both_running g) (running a b same) = running a b (ap (λ (a : Around). a.memory) (sym g) ∙ same)
 meets_twin both_asking (asking a b) = asking a b
 meets_twin w improper = improper
 meets_twin w left_by_exit = left_by_exit

@@ -1,2 +1,4 @@
 pub mod Played
+pub mod Depth
+pub mod Offsets
 pub mod Promised

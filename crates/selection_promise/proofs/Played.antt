@@ -1,7 +1,8 @@
 -- The code of selection plays as the text's function does, and is nowhere stuck.
-use Rattle.std.proofs.Common.{◌≡◌, ℕ, suc, ◌+◌, ◌*◌, ◌^◌, ◌<◌, ◌≤◌, List, Option, sym, subst}
+use Rattle.std.proofs.Common.{◌≡◌, ℕ, suc, ◌+◌, ◌*◌, ◌^◌, ◌<◌, ◌≤◌, List, [], Option, refl, sym, ap, subst, arith}
 use Rattle.std.specs.Prelude.{◌≢◌}
 use Rattle.bs_fault.specs.Reported.{Faultless}
+use Rattle.bs_words.specs.Memory.{Memory, heap_need}
 use Rattle.cmm_tree.specs.Measures.{nodes_in}
 use Rattle.cmm_tree.specs.Symbols.{DefinedSymbol}
 use Rattle.cmm_tree.specs.Tree.{FunctionTree}
@@ -9,8 +10,11 @@ use Rattle.cmm_types.specs.Gathered.{function_faults}
 use Rattle.cmm_walks.specs.AddrLive.{IsLiveIn}
 use Rattle.cmm_meaning.specs.Alone.{IsProperEnd}
 use Rattle.cmm_meaning.specs.Evaluation.{Evaluation}
+use Rattle.cmm_meaning.specs.Extends.{Extends}
 use Rattle.meaning_laws.specs.Pace.{pending}
 use Rattle.meaning_laws.specs.Units.{world_of}
+use Rattle.meaning_laws.proofs.Extends.{extends_need}
+use Rattle.mach_ir.specs.Acts.{Around}
 use Rattle.mach_ir.specs.Keeps.{Keeps}
 use Rattle.mach_ir.specs.Keeps as kept
 use Rattle.mach_ir.specs.declared.mach.Mach.{Mach}
@@ -38,7 +42,8 @@ ends_as : (f : FunctionTree) (n u : ℕ) (e : Evaluation) (r : Run State) → Is
     n ≤ (world_of e).left + nodes_in f.body * suc u → Meets u e r → EndsAs f n e r
 ends_as f n u _ _ is no_more enough (returned a same) = spec.returned (beside f n u _ _ a same no_more enough)
 ends_as f n u _ _ is no_more enough (threw a same) = spec.threw (beside f n u _ _ a same no_more enough)
-ends_as f n u _ _ is no_more enough (running a same) = spec.running (beside f n u _ _ a same no_more enough)
+ends_as f n u _ _ is no_more enough (running {w = w} {s = s} a same kept) =
+    spec.running (beside f n u _ _ a same no_more enough) (let e : heap_need s.around.memory ≡ heap_need w.memory = ap heap_need kept in omega (arith, e))
 ends_as f n u _ _ is no_more enough (asking a same) = spec.asking (beside f n u _ _ a same no_more enough)
 ends_as f n u _ _ is no_more enough improper = absurd is
 ends_as f n u _ _ is no_more enough left_by_exit = absurd is
@@ -46,7 +51,7 @@ ends_as f n u _ _ is no_more enough left_by_exit = absurd is
 not_wrong : {f : FunctionTree} {n : ℕ} {e : Evaluation} {r : Run State} → EndsAs f n e r → r ≢ Wrong
 not_wrong (spec.returned b) e = cc
 not_wrong (spec.threw b) e = cc
-not_wrong (spec.running b) e = cc
+not_wrong (spec.running b heap) e = cc
 not_wrong (spec.asking b) e = cc
 
 pub plays_as : (defined : List ℕ → Option DefinedSymbol) (f : FunctionTree) → width f.body < 2 ^ 60 → FunctionFits f → Faultless (function_faults defined f) →
@@ -66,11 +71,18 @@ plays_as defined f narrow fits faultless never c setting arguments memory doings
           };
     }
 
--- what two runs that are alike have come to
-moved : {f : FunctionTree} {n : ℕ} {e : Evaluation} {Suit : State → State → Type 0} {r q : Run State} → EndsAs f n e r → kept.Alike Suit r q → EndsAs f n e q
+-- fewer blocks need no more heap
+trails_need : (x y : Around) → kept.Trails x y → heap_need y.memory ≤ heap_need x.memory
+trails_need x y t =
+    let bare : Memory → Memory = λ m. record m { statics = []; roots = [] } in
+    let e : Extends (bare y.memory) (bare x.memory) = record { further = t.more; blocks = t.blocks; statics = refl; roots = refl } in
+    extends_need e
+
+-- what two runs that are alike have come to, where the second has allocated no more
+moved : {f : FunctionTree} {n : ℕ} {e : Evaluation} {r q : Run State} → EndsAs f n e r → kept.Alike (kept.SuitRound kept.Trails) r q → EndsAs f n e q
 moved (spec.returned b) kept.both_ended = spec.returned b
 moved (spec.threw b) kept.both_ended = spec.threw b
-moved (spec.running b) (kept.both_running z) = spec.running b
+moved (spec.running b heap) (kept.both_running {s = s} {u = u} z) = spec.running b (let less = trails_need s.around u.around z in omega (arith, heap, less))
 moved (spec.asking b) kept.both_asking = spec.asking b
 
 -- A Mach function that keeps what another does plays as the text's function where the other does.
@@ -84,6 +96,6 @@ plays_on f p q plays keeps c setting arguments memory doings n words fitting =
       comes = λ is.
           let x = k.comes is in
           let follows = begun.follows x.steps x.proper in
-          let y = follows.no_less in
+          let y = follows.no_more in
           record { steps = y.steps; ends = moved x.ends y.alike; proper = y.proper };
     }

@@ -29,6 +29,8 @@ use Rattle.selection_places.proofs.Small.{selected_small, selected_no_slot}
 use Rattle.selection_places.proofs.Whole.{selected_origin}
 use Rattle.selection_walks.proofs.Keeps.{accepted_no_addr}
 use Rattle.selection_promise.specs.Selects.{IsAccepted, Selects, size_by}
+use Rattle.selection_promise.proofs.Depth.{selected_tries}
+use Rattle.selection_promise.proofs.Offsets.{selected_offsets}
 use Rattle.selection_promise.proofs.Played.{plays_as}
 
 -- ---- limits
@@ -108,6 +110,8 @@ promised defined f is =
       allocates = selected_allocates f;
       open_registers = selected_open_by_tokens defined f fits typed covered.tokens_cover;
       no_addr = accepted_no_addr defined f fits typed is.settled;
+      tries = selected_tries f;
+      offsets = selected_offsets f (omega (arith, narrow, few));
       size = sized f covered;
       small = size_small f.tokens few;
       symbols = selected_symbols f;

@@ -1,7 +1,7 @@
 -- Runs of a Mach function beside evaluations of a text's function alone, where the same is handed in for their calls.
 use Rattle.std.specs.Prelude.{◌≡◌, ℕ, suc, ◌+◌, ◌*◌, ◌≤◌, true, List, Option, Some}
 use Rattle.bs_words.specs.Fits.{fits}
-use Rattle.bs_words.specs.Memory.{Memory}
+use Rattle.bs_words.specs.Memory.{Memory, heap_need}
 use Rattle.bs_words.specs.declared.types.Ty.TheVariants as ty
 use Rattle.bs_words.specs.declared.values.Value.{Value}
 use Rattle.cmm_tree.specs.Measures.{nodes_in}
@@ -40,8 +40,10 @@ pub data EndsAs (f : FunctionTree) (n : ℕ) : Evaluation → Run State → Type
       Beside f n (Gives v h w) t → EndsAs f n (Gives v h w) (Ended (Gave v w.memory) t)
   threw : {v : Value} {h : Here} {w : World} {t : Tally} →
       Beside f n (Raises v h w) t → EndsAs f n (Raises v h w) (Ended (Threw v w.memory) t)
-  running : {w : World} {s : State} {t : Tally} →
-      Beside f n (Stops OutOfFuel w) t → EndsAs f n (Stops OutOfFuel w) (Running s t)
+  -- it has asked for no more heap
+  running : {w : World} {s : State} {t : Tally} → Beside f n (Stops OutOfFuel w) t →
+      heap_need s.around.memory ≤ heap_need w.memory →
+      EndsAs f n (Stops OutOfFuel w) (Running s t)
   asking : {call : Asked} {w : World} {t : Tally} →
       Beside f n (Stops (evaluation.Asking call) w) t →
       EndsAs f n (Stops (evaluation.Asking call) w) (Asking call t)

@@ -1,5 +1,5 @@
 -- What selection promises of the Mach function that it makes of a function of an accepted file.
-use Rattle.std.specs.Prelude.{◌≡◌, ◌≢◌, ℕ, ◌-◌, ◌*◌, List, Option}
+use Rattle.std.specs.Prelude.{◌≡◌, ◌≢◌, ℕ, ◌-◌, ◌*◌, ◌^◌, ◌<◌, ◌≤◌, List, ◌∷◌, length, Option, All}
 use Rattle.bs_words.specs.External.{External}
 use Rattle.bs_words.specs.declared.types.Loc.TheVariants as loc
 use Rattle.cmm_grammar.specs.Covered.{IsCovered}
@@ -8,13 +8,20 @@ use Rattle.cmm_tree.specs.Symbols.{DefinedSymbol}
 use Rattle.cmm_tree.specs.Tree.{FunctionTree, comps_of}
 use Rattle.cmm_types.specs.Types.{body_type, result_of}
 use Rattle.cmm_walks.specs.AddrLive.{IsLiveIn}
+use Rattle.correctness.specs.Measures.{tries}
 use Rattle.mach_ir.specs.Formed.{WellFormed, comps}
 use Rattle.mach_ir.specs.Keeps.{IsNamedIn, NamesSymbol, NamesExternal}
+use Rattle.mach_ir.specs.Meaning.{tries_at}
 use Rattle.mach_ir.specs.Placed.{WellPlaced, AllocatesFresh}
 use Rattle.mach_ir.specs.Seats.{Seated}
 use Rattle.mach_ir.specs.Sizes.{Size, HasSize, IsSmall, OpenAtMost}
-use Rattle.mach_ir.specs.Walks.{IsRegister, NoAddrLive}
+use Rattle.mach_ir.specs.Walks.{IsRegister, NoAddrLive, Stands}
+use Rattle.mach_ir.specs.declared.mach.Instr.{Instr}
 use Rattle.mach_ir.specs.declared.mach.Mach.{Mach}
+use Rattle.mach_ir.specs.declared.mach.MachOp.{MachOp}
+use Rattle.mach_ir.specs.declared.mach.MachOp.TheVariants as mach
+use Rattle.mach_ir.specs.declared.op.Access.TheVariants as access
+use Rattle.mach_ir.specs.declared.op.Op.TheVariants as op
 use Rattle.mach_ir.specs.declared.reg.Reg.{Reg}
 use Rattle.selection_laws.specs.Accepted.{Accepted}
 use Rattle.selection_places.specs.Names.{FunctionNames, FunctionCalls}
@@ -39,6 +46,17 @@ size_by tokens =
       labels = 23 * tokens;
     }
 
+-- no more than so many tries stand round each place of the code
+abbrev pub TriesAtMost : Mach → ℕ → Type 0
+TriesAtMost m most =
+    (i : Instr) (next : List Instr) → Stands i next m.code → length (tries_at (i ∷ next)) ≤ most
+
+-- the offset of a load or of a store is a word
+abbrev pub OffsetFits : MachOp → Type 0
+OffsetFits (mach.Op (op.Access (access.Load chunk offset))) = offset < 2 ^ 64
+OffsetFits (mach.Op (op.Access (access.Store chunk offset))) = offset < 2 ^ 64
+OffsetFits _ = Unit {0}
+
 pub record Selects (f : FunctionTree) (m : Mach) : Type 0 where
   -- its name, its parameters and its result are those of the text
   pub name : m.name ≡ f.name
@@ -58,7 +76,10 @@ pub record Selects (f : FunctionTree) (m : Mach) : Type 0 where
   -- at most two open registers for each token, where a try takes a token less
   pub open_registers : OpenAtMost m (2 * (f.tokens - all_tries f.body))
   pub no_addr : NoAddrLive m
-  -- every number fits its type
+  -- no more tries stand round a place than stand round one of the text
+  pub tries : TriesAtMost m (tries f)
+  -- offsets are words, and every number fits its type
+  pub offsets : All (λ (i : Instr). OffsetFits i.op) m.code
   pub size : HasSize m (size_by f.tokens)
   pub small : IsSmall (size_by f.tokens)
   -- it names no symbol and no external call that the text does not name

@@ -97,7 +97,7 @@ module _ (c : Place) (m : Mach) (turns : ℕ) (ts : List ℕ) where
     based_address is sb B env labels t b i next P go k fine lower under first bt ti stable placed outs h f memory level s p on =
         node_follows c m turns ts sum h memory
         (both (is_left_first (scope h) base (Integer place' w)) (does (text_of c) turns base false) (does (text_of c) turns (Integer place' w) false) h memory step) taking _ s
-        (constant_operand c m turns place' w h memory (λ x h memory. with_value (does (text_of c) turns base false h memory) (λ v h memory. step v x h memory)) kk _
+        (constant_operand c m turns place' w h memory (λ x h memory. with_value (does (text_of c) turns base false h memory) (λ v h memory. step v x h memory)) kk _ refl
         (operand c m turns ts base sb (omega (arith, fine)) t i next (λ v h memory. step v (Word w) h memory) kk
         (ready_at c m turns ts (type_of (scopes env) base) t i lower under first bt ti) stable placed
         (record { exit = λ l values h f memory level r p. outs.exit l values h f memory level r p; raising = λ v fv h f memory level r p. outs.raising v fv h f memory level r p }) h f memory level s p

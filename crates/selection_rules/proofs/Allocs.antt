@@ -19,7 +19,7 @@ use Rattle.mach_ir.specs.declared.reg.Reg.{Reg}
 use Rattle.mach_ir.specs.declared.mach.Instr.{Instr}
 use Rattle.mach_ir.specs.declared.mach.Mach.{Mach}
 use Rattle.mach_ir.specs.Runs.{Place, Continues}
-use Rattle.mach_ir.specs.Meaning.{File, with_held, on_act, put}
+use Rattle.mach_ir.specs.Meaning.{State, File, with_held, on_act, put}
 use Rattle.mach_ir.specs.Acts.{Around, Goes, On, moved_by, access_act, stored_act, first_written, header_written, after_store, only_if, is_among, without, same_cell, cells_from}
 use Rattle.selection_rules.specs.Kept.{on_values}
 use Rattle.selection_rules.specs.Select.{Named, Label, scopes, fresh, inner_valued, inner_dest, regs_of, count_of, chunk_for, cell_stores, select, select_filled, width, header_offset}
@@ -28,7 +28,7 @@ use Rattle.selection_rules.proofs.Files.{Holds, put_same, holds_put, under_more,
 use Rattle.selection_rules.proofs.Parts.{Placed, lower_more, Stable, stable_inner, new, And, stable_and, at, Level, any, After, after_typed, node_follows, Ready, lands}
 use Rattle.selection_rules.proofs.Leaves.{ready_inner, stable_dest, move_follows}
 use Rattle.selection_rules.proofs.Rows.{Row, early, regs_length, count_width, between_regs, row_put, SelectedWaiting}
-use Rattle.selection_rules.proofs.LightOnes.{light_filled}
+use Rattle.selection_rules.proofs.LightOnes.{Late, late_walks, in_time, settled, light_filled}
 use Rattle.bs_words.specs.Memory as memory_of
 use Rattle.bs_words.specs.declared.types.Chunk.TheVariants as chunk
 use Rattle.bs_words.specs.declared.types.Ty.TheVariants as ty
@@ -320,28 +320,29 @@ module _ (c : Place) (m : Mach) (turns : ℕ) (ts : List ℕ) where
         let a1 : Around = record { memory = mem memory header zeros; unwritten = cells_from (length memory.blocks) 0 n; tries = ts; raised = None } in
         let x : Does = part.and_then (filled (text_of c) turns operands before h memory) (λ vs h memory. proper (allocated memory header vs) memory (λ after. part.gives (Some (next_block memory)) h after)) kk in
         let zl : 8 * length zeros < 2 ^ 63 = (let e = zeros_length n in omega (arith, e, small)) in
-        let from_filled : Follows c m x (Continues (record { rest = filled_part; file = f2; around = a1 })) =
-        light_filled c m turns ts h memory a1 operands env labels row base cells_code (And P p block) _ before (under_more row (omega arith) ready.under) (omega (arith, first))
+        let begun : State = at c m turns ts alloc_code f memory in
+        let from_filled : Late c m begun x (Continues (record { rest = filled_part; file = f2; around = a1 })) =
+        light_filled c m turns ts h memory a1 begun refl operands env labels row base cells_code (And P p block) _ before (under_more row (omega arith) ready.under) (omega (arith, first))
         (stable_and p block (omega arith) (λ e. omega (arith, e)) (unnamed (suc b) (omega arith)) (omega (arith, first)) (stable_inner row row (omega arith) (omega arith) stable)) (le_refl base)
         f2 s2 (record { rest = z2; holds = hp }) row2 matches
         (λ vs f s y row3.
         let long : length vs ≡ n = row_length vs row3 ∙ regs_length env row operands in
-        subst (λ k. Follows c m (proper (allocated memory header vs) memory (λ after. part.gives (Some (next_block memory)) h after) kk)
+        in_time (subst (λ k. Follows c m (proper (allocated memory header vs) memory (λ after. part.gives (Some (next_block memory)) h after) kk)
         (Continues (record { rest = cells_code; file = f; around = record { memory = mem memory header (replicate k (Word 0)); unwritten = cells_from (length memory.blocks) 0 k; tries = ts; raised = None } }))) long
-        (cells_follow (nat_le (header % 256) 250) refl ready stable a small vs h f memory level s y.rest y.holds row3 long (all_fit (end_of_data memory) (type_of_cells header) vs) refl)) in
-        let from_header : Follows c m x (Continues (record {
+        (cells_follow (nat_le (header % 256) 250) refl ready stable a small vs h f memory level s y.rest y.holds row3 long (all_fit (end_of_data memory) (type_of_cells header) vs) refl))) in
+        let from_header : Late c m begun x (Continues (record {
           rest = emit.store chunk.Int header_offset p q ∷ filled_part;
           file = f2;
           around = record { memory = mem memory header zeros; unwritten = InHeader (length memory.blocks) ∷ cells_from (length memory.blocks) 0 n; tries = ts; raised = None };
         })) =
-        walks (subst (λ o. Follows c m x (on_values c m (emit.store chunk.Int header_offset p q) filled_part f2 (around_of memory header ts (mem memory header zeros) (InHeader (length memory.blocks) ∷ cells_from (length memory.blocks) 0 n))
+        late_walks (subst (λ o. Late c m begun x (on_values c m (emit.store chunk.Int header_offset p q) filled_part f2 (around_of memory header ts (mem memory header zeros) (InHeader (length memory.blocks) ∷ cells_from (length memory.blocks) 0 n))
         (with_held o (with_held (f2 q.number) (Some []))))) (sym hp.is)
-        (subst (λ o. Follows c m x (on_values c m (emit.store chunk.Int header_offset p q) filled_part f2 (around_of memory header ts (mem memory header zeros) (InHeader (length memory.blocks) ∷ cells_from (length memory.blocks) 0 n))
+        (subst (λ o. Late c m begun x (on_values c m (emit.store chunk.Int header_offset p q) filled_part f2 (around_of memory header ts (mem memory header zeros) (InHeader (length memory.blocks) ∷ cells_from (length memory.blocks) 0 n))
         (with_held (Some (record { comp = p.comp; value = block })) (with_held o (Some []))))) (sym hq.is)
-        (subst (λ y. Follows c m x (on_act c m (emit.store chunk.Int header_offset p q) filled_part f2 (around_of memory header ts (mem memory header zeros) (InHeader (length memory.blocks) ∷ cells_from (length memory.blocks) 0 n)) y))
+        (subst (λ y. Late c m begun x (on_act c m (emit.store chunk.Int header_offset p q) filled_part f2 (around_of memory header ts (mem memory header zeros) (InHeader (length memory.blocks) ∷ cells_from (length memory.blocks) 0 n)) y))
         (sym (header_act memory header ts zeros n zl)) from_filled))) in
-        walks (walks (subst (λ cs. Follows c m x (Continues (record { rest = emit.store chunk.Int header_offset p q ∷ filled_part; file = f2; around = record { memory = mem memory header zeros; unwritten = InHeader (length memory.blocks) ∷ cs; tries = ts; raised = None } })))
-        (sym (append-nil (cells_from (length memory.blocks) 0 n))) from_header))
+        settled (late_walks (late_walks (subst (λ cs. Late c m begun x (Continues (record { rest = emit.store chunk.Int header_offset p q ∷ filled_part; file = f2; around = record { memory = mem memory header zeros; unwritten = InHeader (length memory.blocks) ∷ cs; tries = ts; raised = None } })))
+        (sym (append-nil (cells_from (length memory.blocks) 0 n))) from_header))) (λ d f. f)
 
     pub selected_alloc : SelectedWaiting c m turns ts operands → width (Alloc place header_at header operands) < 2 ^ 60 →
         Ready c m turns ts env labels b d → Stable env b d.number P → Placed m ts (select env labels valued tail d b (Alloc place header_at header operands) next) →

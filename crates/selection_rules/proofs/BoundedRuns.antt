@@ -63,7 +63,7 @@ run_bounded c m stays (suc n) s t p b = onward_bounded (run c m n) (λ s t p b. 
 meets_bounded : {u : ℕ} {e : Evaluation} {r : Run State} → Meets u e r → BoundedRun r → BoundedEvaluation e
 meets_bounded (returned a q) b = (b.0.0, (b.0.1, subst AllAsked a.asked b.1.asked))
 meets_bounded (threw a q) b = (b.0.0, (b.0.1, subst AllAsked a.asked b.1.asked))
-meets_bounded (running a q) b = subst AllAsked a.asked b.asked
+meets_bounded (running a q same) b = subst AllAsked a.asked b.asked
 meets_bounded (asking a q) b = (b.0, subst AllAsked a.asked b.1.asked)
 meets_bounded improper b = tt
 meets_bounded left_by_exit b = tt

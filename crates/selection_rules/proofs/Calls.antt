@@ -207,9 +207,9 @@ module _ (c : Place) (m : Mach) (turns : ℕ) (ts : List ℕ) (low : Low m.colou
   light_no_symbol sc e n light is = absurd (cc)
 
   -- a symbol as an operand needs no code
-  symbol_operand : {B : Type 0} (e : Expression) (n : List ℕ) → symbol_of e ≡ Some n → (h : Here) (memory : Memory) (go : Value → Here → Memory → part.Part B) (k : Leaves B → Does) (s : State) →
+  symbol_operand : {B : Type 0} (e : Expression) (n : List ℕ) → symbol_of e ≡ Some n → (h : Here) (memory : Memory) (go : Value → Here → Memory → part.Part B) (k : Leaves B → Does) (s : State) → s.around.memory ≡ memory →
       ((v : Value) → c.setting.symbol n ≡ Some v → Follows c m (go v h memory k) (Continues s)) → Follows c m (part.with_value (does (text_of c) turns e false h memory) go k) (Continues s)
-  symbol_operand {B} (Symbol place x) n is h memory go k s on = pays (by (c.setting.symbol x) refl)
+  symbol_operand {B} (Symbol place x) n is h memory go k s kept on = pays kept (by (c.setting.symbol x) refl)
     where
       kk : Leaves (Option Value) → Does
       kk = λ l. onward (λ v h memory. part.only_value v go h memory) l k
@@ -224,7 +224,7 @@ module _ (c : Place) (m : Mach) (turns : ℕ) (ts : List ℕ) (low : Low m.colou
           fitting : (q : Bool) → Follows c m (cond q (part.gives (Some v) h memory) (part.fails (misfit ty.Val) memory) kk) (Continues s)
           fitting true = on v (subst (λ y. c.setting.symbol y ≡ Some v) same e)
           fitting false = fails
-  symbol_operand e n is h memory go k s on = absurd (cc)
+  symbol_operand e n is h memory go k s kept on = absurd (cc)
 
   module _ (place : ℕ) (callee : Expression) (arguments : Expressions) (result : Ret) (result_at : ℕ) (env : List Named) (labels : List Label) (valued tail : Bool) (d : Reg) (b : ℕ) (next : List Instr) (P : File → Type 0)
       (k : Leaves (Option Value) → Does) where
@@ -440,7 +440,7 @@ module _ (c : Place) (m : Mach) (turns : ℕ) (ts : List ℕ) (low : Low m.colou
         let under = under_more row_at (omega arith) ready.under in
         let steady = stable_inner row_at row_at (omega arith) (omega arith) stable in
         let ct = (placed_in (ending_moves regs args (last_code (Some n))) (placed_in (ending_filled env labels row_at (inside + width callee) arguments (light_code false (Some n))) ending)).caught in
-        symbol_operand callee n named h memory _ after_k _
+        symbol_operand callee n named h memory _ after_k _ refl
         (λ v is_value.
         sf env labels row_at (inside + width callee) (light_code false (Some n)) P _ before small (lower_more row_at (omega arith) ready.lower) under (omega (arith, first)) steady (omega arith) ending (app_out_of _ a.outs) h f memory level s p row matches
         (λ vs h f memory level s p row.

@@ -187,7 +187,7 @@ module _ (c : Place) (m : Mach) (turns : ℕ) (ts : List ℕ) where
         by o q (inside {r = g} {t = t} ok) =
             subst (λ regs. Follows c m (entered c.setting.end g.params vs memory (part.spent memory) kk) (wrote (after_label t.number m.code) (calm_in (drop_tries t.tries ts) memory) (put_all c.setting.end regs vs f))) (sym ok.is)
             (subst (λ n. Follows c m (entered c.setting.end g.params vs memory (part.spent memory) kk) (wrote (after_label t.number m.code) (calm_in (drop_tries n ts) memory) (put_all c.setting.end (params_from ok.first g.params) vs f))) (sym ok.here)
-            (enter_follows ok.first f memory (after_label t.number m.code) (entering c.setting.end g.params vs memory (part.spent memory) kk) (λ z q. spent)))
+            (enter_follows ok.first f memory (after_label t.number m.code) (entering c.setting.end g.params vs memory (part.spent memory) kk) (λ z q. spent refl)))
     catching_follows {rs} long deep under stable a all (suc u) within l vs h f memory lev r p =
         by (λ l vs h f memory lev r p. catching_follows long deep under stable a all u true l vs h f memory lev r p) (ready_for within l rs) (label_of (visible within own ++ labels) l) (found within l all)
       where

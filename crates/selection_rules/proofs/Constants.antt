@@ -65,9 +65,9 @@ checked_act c a (with_constant hv) = refl
 
 module _ (c : Place) (m : Mach) (turns : ℕ) where
   -- a constant as an operand needs no code
-  pub constant_operand : {B : Type 0} (place w : ℕ) (h : Here) (memory : Memory) (go : Value → Here → Memory → Part B) (k : Leaves B → Does) (s : State) →
+  pub constant_operand : {B : Type 0} (place w : ℕ) (h : Here) (memory : Memory) (go : Value → Here → Memory → Part B) (k : Leaves B → Does) (s : State) → s.around.memory ≡ memory →
       Follows c m (go (value.Word w) h memory k) (Continues s) → Follows c m (with_value (does (text_of c) turns (Integer place w) false h memory) go k) (Continues s)
-  constant_operand place w h memory go k s on = pays on
+  constant_operand place w h memory go k s same on = pays same on
 
 module _ (c : Place) (m : Mach) (turns : ℕ) (ts : List ℕ) where
   -- two operands, the right one by the rule
@@ -88,7 +88,7 @@ module _ (c : Place) (m : Mach) (turns : ℕ) (ts : List ℕ) where
       (λ v w h f memory level s p fv fw hv hw. on v w h f memory level s p (in_registers hv hw))
   right_two true left e by_constant is sl sr fl fr nx ny ix iy next go k lower under first stable bx by' xx yy xy yx apart el er ending outs h f memory level s p on = absurd (true≢false (sym is))
   right_two {env = env} false left e (by_constant {place = place} {w = w}) is sl sr fl fr nx ny ix iy next go k lower under first stable bx by' xx yy xy yx apart el er ending outs h f memory level s p on =
-      constant_operand c m turns place w h memory (λ u h memory. with_value (does (text_of c) turns left false h memory) (λ v h memory. go v u h memory)) k _
+      constant_operand c m turns place w h memory (λ u h memory. with_value (does (text_of c) turns left false h memory) (λ v h memory. go v u h memory)) k _ refl
       (operand c m turns ts left sl fl nx ix next (λ v h memory. go v (value.Word w) h memory) k
       (ready_at c m turns ts (type_of (scopes env) left) nx ix lower under first bx xx) (stable_inner nx ix bx (omega (arith, bx, xx)) stable) ending outs h f memory level s p
       (λ v h f memory level s p fv hv. on v (value.Word w) h f memory level s p (with_constant hv)))

@@ -26,7 +26,7 @@ use Rattle.selection_rules.proofs.Files.{Holds, Looked, unknown, known as a_know
 use Rattle.selection_rules.proofs.Parts.{lower_more, Stable, stable_inner, stable_same, new, name as may_name, calm, at, Level, any, nothing as no_value, gone_any, After, after_typed, node_follows, Ready, lands}
 use Rattle.selection_rules.proofs.Operands.{Selected, operand, own_fits, ready_at}
 use Rattle.selection_rules.proofs.Shapes.{shape_two, shape_view}
-use Rattle.selection_rules.proofs.Operators.{finished, reached, operator_follows}
+use Rattle.selection_rules.proofs.Operators.{finished, reached, follows_stepping, operator_follows}
 use Rattle.selection_rules.proofs.Endings.{ending_select}
 use Rattle.bs_words.specs.declared.types.Ty.TheVariants as ty
 use Rattle.bs_words.specs.declared.values.Value.TheVariants as value
@@ -167,7 +167,7 @@ module _ (c : Place) (m : Mach) (turns : ℕ) (ts : List ℕ) where
       (omega arith) (omega arith) (omega arith) (omega arith) (omega arith) (omega arith) (λ z. omega (arith, z))
       (λ rest. ending_select env labels false false _ _ left rest) (λ rest. ending_select env labels false false _ _ right rest) ending a.outs h f memory level s p
       (λ v w h f memory level s p read.
-      operator_follows c m (calm c m turns ts memory) (inner_dest T b d) next (λ o. proper o memory (λ u. part.gives (Some u) h memory) kk) (λ kind z. fails) (λ z. omega (arith, z)) read
+      operator_follows c m (Follows c m) (follows_stepping c m) (calm c m turns ts memory) (inner_dest T b d) next (λ o. proper o memory (λ u. part.gives (Some u) h memory) kk) (λ kind z. fails) (λ z. omega (arith, z)) read
       (λ g r o. by h g memory level (reached (λ g. Stands env h.names g) (λ v g s. stands_put y v unnamed s) s r) (reached P (λ v g p. stable.puts y v g (new (omega arith)) p) p r) o))))
     where
       T : Ty

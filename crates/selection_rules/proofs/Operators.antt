@@ -25,7 +25,8 @@ use Rattle.mach_ir.specs.declared.op.Right.TheVariants as right
 use Rattle.mach_ir.specs.Acts.{Around, pure_act, one_result}
 use Rattle.mach_ir.specs.Runs.{Place, Step, Continues, IsStuck}
 use Rattle.mach_ir.specs.Meaning.{State, File, values, on_act, wrote, put, put_if}
-use Rattle.selection_rules.specs.Kept.{on_values}
+use Rattle.selection_rules.specs.Bounded.{BoundedState}
+use Rattle.selection_rules.specs.Kept.{on_values, step}
 use Rattle.selection_rules.specs.Select.{Shape, operator_code, power_code, rounded}
 use Rattle.selection_rules.specs.Follow.{Follows, walks, no_words}
 use Rattle.selection_rules.specs.Instructions as emit
@@ -64,6 +65,14 @@ pub reached : {y : Reg} {f g : File} (P : File → Type 0) → ((v : Value) (g :
 reached P more p same = p
 reached P more p (wrote_to {g = g} v r) = more v g (reached P more p r)
 
+-- a relation that the steps of the machine keep
+pub record Stepping (c : Place) (m : Mach) (F : Does → Step State → Type 0) : Type 0 where
+  pub walks : (d : Does) (s : State) → F d (step c m s) → F d (Continues s)
+  pub no_words : (d : Does) (s : State) → (BoundedState s → ⊥) → F d (Continues s)
+
+pub follows_stepping : (c : Place) (m : Mach) → Stepping c m (Follows c m)
+follows_stepping c m = record { walks = λ d s f. walks f; no_words = λ d s out. no_words out }
+
 module _ (c : Place) (m : Mach) (a : Around) where
   abbrev pub now : List Instr → File → State
   now rest f = record { rest = rest; file = f; around = a }
@@ -73,33 +82,34 @@ module _ (c : Place) (m : Mach) (a : Around) where
   finished d next g (Ok v) = wrote next a (put_if (fits c.setting.end (type_of_comp d.comp) v) d v (Some g))
   finished d next g (Err kind) = IsStuck
 
+module _ (c : Place) (m : Mach) (F : Does → Step State → Type 0) (goes : Stepping c m F) (a : Around) where
   finish : {x : Does} (f : IntOp) (r : Right) (args : List Reg) (d : Reg) (next : List Instr) (g : File) (o : Result Value Kind) →
-      Follows c m x (finished d next g o) → Follows c m x (on_act c m (emit.operator f r args d) next g a (one_result a o))
+      F x (finished c m a d next g o) → F x (on_act c m (emit.operator f r args d) next g a (one_result a o))
   finish f r args d next g (Ok v) z = z
   finish f r args d next g (Err kind) z = z
 
   -- an operator instruction
   one_step : {x : Does} (f : IntOp) (r : Right) (args : List Reg) (d : Reg) (next : List Instr) (g : File) (vs : List Value) (o : Result Value Kind) →
       values g args ≡ Some vs → pure_act c.setting (pure.Operator f r) vs a ≡ one_result a o →
-      Follows c m x (finished d next g o) → Follows c m x (Continues (now (emit.operator f r args d ∷ next) g))
+      F x (finished c m a d next g o) → F x (Continues (now c m a (emit.operator f r args d ∷ next) g))
   one_step {x} f r args d next g vs o read acts z =
-      walks (subst (λ q. Follows c m x (on_values c m (emit.operator f r args d) next g a q)) (sym read)
-      (subst (λ q. Follows c m x (on_act c m (emit.operator f r args d) next g a q)) (sym acts) (finish f r args d next g o z)))
+      goes.walks x (now c m a (emit.operator f r args d ∷ next) g) (subst (λ q. F x (on_values c m (emit.operator f r args d) next g a q)) (sym read)
+      (subst (λ q. F x (on_act c m (emit.operator f r args d) next g a q)) (sym acts) (finish f r args d next g o z)))
 
   -- a word comes to an int register
-  comes : {x : Does} (y : Reg) (next : List Instr) (g : File) (n : ℕ) → y.comp ≡ comp.Int → Follows c m x (Continues (now next (put y (Word n) g))) → Follows c m x (finished y next g (Ok (Word n)))
-  comes {x} y next g n e z = subst (λ (t : Comp). Follows c m x (wrote next a (put_if (fits c.setting.end (type_of_comp t) (Word n)) y (Word n) (Some g)))) (sym e) z
+  comes : {x : Does} (y : Reg) (next : List Instr) (g : File) (n : ℕ) → y.comp ≡ comp.Int → F x (Continues (now c m a next (put y (Word n) g))) → F x (finished c m a y next g (Ok (Word n)))
+  comes {x} y next g n e z = subst (λ (t : Comp). F x (wrote next a (put_if (fits c.setting.end (type_of_comp t) (Word n)) y (Word n) (Some g)))) (sym e) z
 
-  past : {x : Does} {s : State} (q : Reg) (n : ℕ) (g : File) → Holds q (Word n) g → s.file ≡ g → (n < 2 ^ 64 → ⊥) → Follows c m x (Continues s)
-  past q n g h e not' = no_words (λ b. not' (b.file.each q.number (record { comp = q.comp; value = Word n }) (ap (λ (f : File). f q.number) e ∙ h.is)))
+  past : {x : Does} {s : State} (q : Reg) (n : ℕ) (g : File) → Holds q (Word n) g → s.file ≡ g → (n < 2 ^ 64 → ⊥) → F x (Continues s)
+  past {x} {s} q n g h e not' = goes.no_words x s (λ b. not' (b.file.each q.number (record { comp = q.comp; value = Word n }) (ap (λ (f : File). f q.number) e ∙ h.is)))
 
   module _ (k n : ℕ) (x y d : Reg) (next : List Instr) (apart : x.number ≡ y.number → ⊥) (whole : y.comp ≡ comp.Int) (low : 1 ≤ k) (top : k < 63) where
     other : {u : ℕ} (v : Value) {g : File} → Holds x (Word u) g → Holds x (Word u) (put y v g)
     other v h = holds_put y v (λ e. apart (sym e)) h
 
     rounds : {z : Does} (rest : List Instr) (f : File) → Holds x (Word n) f →
-        ((g : File) → Reached y f g → Holds x (Word n) g → Holds y (Word (rounding n k)) g → Follows c m z (Continues (now rest g))) →
-        Follows c m z (Continues (now (rounded k x y rest) f))
+        ((g : File) → Reached y f g → Holds x (Word n) g → Holds y (Word (rounding n k)) g → F z (Continues (now c m a rest g))) →
+        F z (Continues (now c m a (rounded k x y rest) f))
     rounds rest f h on =
         let s1 : ℕ = sar_word n 63 in
         let s2 : ℕ = shr_word s1 (64 - k) in
@@ -116,7 +126,7 @@ module _ (c : Place) (m : Mach) (a : Around) where
         (on f3 (wrote_to (Word (rounding n k)) (wrote_to (Word s2) (wrote_to (Word s1) same))) (other (Word (rounding n k)) h2) (put_same y (Word (rounding n k)) f2)))))))
 
     divided : {z : Does} (op : IntOp) (w : ℕ) (q : IsDivision op) → 2 ^ k ≡ w → n < 2 ^ 64 → (f : File) → Holds x (Word n) f →
-        ((g : File) → Reached y f g → Follows c m z (finished d next g (Ok (Word (division q n w))))) → Follows c m z (Continues (now (power_code op k x y d next) f))
+        ((g : File) → Reached y f g → F z (finished c m a d next g (Ok (Word (division q n w))))) → F z (Continues (now c m a (power_code op k x y d next) f))
     divided {z} op w is_div e small f h on =
         rounds _ f h
         (λ g r hx hy.
@@ -138,9 +148,9 @@ module _ (c : Place) (m : Mach) (a : Around) where
 
   -- the code of an operator writes what the operator gives, and on the way the register of its right operand
   pub operator_follows : {op : IntOp} {s : Shape} {x y : Reg} {v w : Value} {f : File} (d : Reg) (next : List Instr) (go : Result Value Kind → Does) →
-      ((kind : Kind) (z : Step State) → Follows c m (go (Err kind)) z) → (x.number ≡ y.number → ⊥) → Operands op x y f s v w →
-      ((g : File) → Reached y f g → (o : Result Value Kind) → Follows c m (go o) (finished d next g o)) →
-      Follows c m (go (apply op (sizes a.memory) v w)) (Continues (now (operator_code s op x y d next) f))
+      ((kind : Kind) (z : Step State) → F (go (Err kind)) z) → (x.number ≡ y.number → ⊥) → Operands op x y f s v w →
+      ((g : File) → Reached y f g → (o : Result Value Kind) → F (go o) (finished c m a d next g o)) →
+      F (go (apply op (sizes a.memory) v w)) (Continues (now c m a (operator_code s op x y d next) f))
   operator_follows {op} {s} {x} {y} {v} {w} {f} d next go wrong apart (both_stand hv hw) on =
       one_step op right.Register (x ∷ y ∷ []) d next f (v ∷ w ∷ []) (apply op (sizes a.memory) v w) (two_values hv hw) refl (on f same (apply op (sizes a.memory) v w))
   operator_follows {op} {s} {x} {y} {v} {w} {f} d next go wrong apart (left_stands {w = n} {i = i} q hv) on =
@@ -148,13 +158,13 @@ module _ (c : Place) (m : Mach) (a : Around) where
   operator_follows {op} {s} {x} {y} {v} {w} {f} d next go wrong apart (right_stands {v = u} {w = n} {i = i} q hw) on =
       one_step i.op (right.Constant i.word) (y ∷ []) d next f (u ∷ []) (apply op (sizes a.memory) (Word n) u) (one_value hw) (sym (ap (one_result a) (q.is (sizes a.memory) u))) (on f same (apply op (sizes a.memory) (Word n) u))
   operator_follows {op} {s} {x} {y} {v} {w} {f} d next go wrong apart (a_power {w = n} {k = k} q low top e whole hv) on =
-      subst (λ o. Follows c m (go o) (Continues (now (power_code op k x y d next) f))) (sym (divides q (sizes a.memory) v k n e)) (by v hv)
+      subst (λ o. F (go o) (Continues (now c m a (power_code op k x y d next) f))) (sym (divides q (sizes a.memory) v k n e)) (by v hv)
     where
-      by : (v : Value) → Holds x v f → Follows c m (go (on_words (division q) v (Word n))) (Continues (now (power_code op k x y d next) f))
-      by (Block t o) h = wrong PointerArithmetic (Continues (now (power_code op k x y d next) f))
-      by (Function t) h = wrong PointerArithmetic (Continues (now (power_code op k x y d next) f))
+      by : (v : Value) → Holds x v f → F (go (on_words (division q) v (Word n))) (Continues (now c m a (power_code op k x y d next) f))
+      by (Block t o) h = wrong PointerArithmetic (Continues (now c m a (power_code op k x y d next) f))
+      by (Function t) h = wrong PointerArithmetic (Continues (now c m a (power_code op k x y d next) f))
       by (Word u) h = bounded (nat_lt u (2 ^ 64)) refl
         where
-          bounded : (b : Bool) → nat_lt u (2 ^ 64) ≡ b → Follows c m (go (Ok (Word (division q u n)))) (Continues (now (power_code op k x y d next) f))
+          bounded : (b : Bool) → nat_lt u (2 ^ 64) ≡ b → F (go (Ok (Word (division q u n)))) (Continues (now c m a (power_code op k x y d next) f))
           bounded true t = divided k u x y d next apart whole low top op n q e (ltb-true u (2 ^ 64) t) f h (λ g r. on g r (Ok (Word (division q u n))))
           bounded false t = past x u f h refl (λ less. let le : 2 ^ 64 ≤ u = grind (arith, t) in omega (arith, less, le))

@@ -333,11 +333,11 @@ module _ (c : Place) (m : Mach) (turns : ℕ) (ts : List ℕ) where
           (λ no'. subst (λ o. Follows c m (k (Giving None h memory)) (Finishes (Gave o memory))) (no_valued T valued (Some v) no') (a.tailing e None (no_shape (gone no')) h memory))
 
   -- a node pays, and its parts follow
-  pub node_follows : {env : List Named} {f : File} (e : Expression) (h : Here) (memory : Memory) (p : Part (Option Value)) (k : Leaves (Option Value) → Does) (s : State) → Stands env h.names f →
-      Follows c m (p (λ l. onward (λ v h memory. of_type end (type_of (scopes env) e) v h memory) l k)) (Continues s) →
-      Follows c m (node (text_of c) e h memory p k) (Continues s)
-  node_follows {env} e h memory p k s stands follows =
-      pays (subst (λ sc. Follows c m (p (λ l. onward (λ v h memory. of_type end (type_of sc e) v h memory) l k)) (Continues s)) (sym (scope_is stands)) follows)
+  pub node_follows : {env : List Named} {f : File} (e : Expression) (h : Here) (memory : Memory) (p : Part (Option Value)) (k : Leaves (Option Value) → Does) (rest : List Instr) → Stands env h.names f →
+      Follows c m (p (λ l. onward (λ v h memory. of_type end (type_of (scopes env) e) v h memory) l k)) (Continues (at rest f memory)) →
+      Follows c m (node (text_of c) e h memory p k) (Continues (at rest f memory))
+  node_follows {env} {f} e h memory p k rest stands follows =
+      pays refl (subst (λ sc. Follows c m (p (λ l. onward (λ v h memory. of_type end (type_of sc e) v h memory) l k)) (Continues (at rest f memory))) (sym (scope_is stands)) follows)
 
   -- ---- a value comes to its destination
 

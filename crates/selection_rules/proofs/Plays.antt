@@ -32,11 +32,11 @@ pub record Alike (t : Tally) (w : World) : Type 0 where
   pub need : t.need ≡ w.stack_need
 
 -- The run of a machine ends as an evaluation of a function alone, and has spent so many units in all; nothing is said
--- where that is improper.
+-- where that is improper. Where the evaluation has no units left the run has its memory.
 pub data Meets (u : ℕ) : Evaluation → Run State → Type 0 where
   returned : {v : Option Value} {h : Here} {w : World} {t : Tally} → Alike t w → t.units ≡ u → Meets u (Gives v h w) (Ended (Gave v w.memory) t)
   threw : {v : Value} {h : Here} {w : World} {t : Tally} → Alike t w → t.units ≡ u → Meets u (Raises v h w) (Ended (Threw v w.memory) t)
-  running : {w : World} {s : State} {t : Tally} → Alike t w → t.units ≡ u → Meets u (Stops OutOfFuel w) (Running s t)
+  running : {w : World} {s : State} {t : Tally} → Alike t w → t.units ≡ u → s.around.memory ≡ w.memory → Meets u (Stops OutOfFuel w) (Running s t)
   asking : {call : Asked} {w : World} {t : Tally} → Alike t w → t.units ≡ u → Meets u (Stops (eval.Asking call) w) (Asking call t)
   improper : {kind : Kind} {w : World} {r : Run State} → Meets u (Stops (NotProper kind) w) r
   left_by_exit : {label : LabelTree} {values : List Value} {h : Here} {w : World} {r : Run State} → Meets u (Exits label values h w) r
@@ -44,7 +44,7 @@ pub data Meets (u : ℕ) : Evaluation → Run State → Type 0 where
 pub same_units : {u n : ℕ} {e : Evaluation} {r : Run State} → u ≡ n → Meets u e r → Meets n e r
 same_units e (returned a b) = returned a (b ∙ e)
 same_units e (threw a b) = threw a (b ∙ e)
-same_units e (running a b) = running a (b ∙ e)
+same_units e (running a b same) = running a (b ∙ e) same
 same_units e (asking a b) = asking a (b ∙ e)
 same_units e improper = improper
 same_units e left_by_exit = left_by_exit
@@ -77,7 +77,7 @@ module _ (c : Place) (m : Mach) (stays : StaysBounded c m) where
   -- what a halted machine follows is improper
   wrong : {d : Does} {x : Step State} → Follows c m d x → IsHalts x → (w : World) (u : ℕ) (r : Run State) → Meets u (played s d w) r
   wrong (walks f) h w u r = absurd h
-  wrong (pays f) h w u r = absurd h
+  wrong (pays same f) h w u r = absurd h
   wrong gives h w u r = absurd h
   wrong raises h w u r = absurd h
   wrong (jumps f) h w u r = absurd h
@@ -89,13 +89,13 @@ module _ (c : Place) (m : Mach) (stays : StaysBounded c m) where
   wrong (calls_out f g) h w u r = absurd h
   wrong exits h w u r = left_by_exit
   wrong fails h w u r = improper
-  wrong spent h w u r = absurd h
+  wrong (spent same) h w u r = absurd h
   wrong (no_words f) h w u r = absurd h
 
-  pays_on : (n : ℕ) (rest : Does) (w : World) (x : State) (t : Tally) → Alike t w → ((v : World) → Alike t v → Played rest v (Continues x) t) →
+  pays_on : (n : ℕ) (rest : Does) (w : World) (x : State) (t : Tally) → x.around.memory ≡ w.memory → Alike t w → ((v : World) → Alike t v → Played rest v (Continues x) t) →
       (k : ℕ) × Meets (t.units + beats_behind_unit n w (λ v. beats s rest v)) (spend n w (λ v. played s rest v)) (onward (run c m k) (Continues x) t)
-  pays_on zero rest w x t a on = (0, running a (omega arith))
-  pays_on (suc n) rest w x t a on =
+  pays_on zero rest w x t same a on = (0, running a (omega arith) same)
+  pays_on (suc n) rest w x t same a on =
       let p = on (record w { left = n }) (record { asked = a.asked; doings = a.doings; need = a.need }) in (p.steps, p.meets)
 
   -- after a call of a function
@@ -160,8 +160,8 @@ module _ (c : Place) (m : Mach) (stays : StaysBounded c m) where
 
   pub plays : {d : Does} {x : Step State} → Follows c m d x → Plays d x
   plays (walks {s = x} f) b w t a ds = let p = plays f (stays.step x b) w t a ds in record { steps = suc p.steps; meets = p.meets }
-  plays (pays {memory = memory} {rest = rest} {s = x} f) b w t a ds =
-      let p = pays_on w.left rest (record w { memory = memory }) x t (record { asked = a.asked; doings = a.doings; need = a.need }) (λ v q. plays f b v t q ds) in
+  plays (pays {memory = memory} {rest = rest} {s = x} same f) b w t a ds =
+      let p = pays_on w.left rest (record w { memory = memory }) x t same (record { asked = a.asked; doings = a.doings; need = a.need }) (λ v q. plays f b v t q ds) in
       record { steps = p.0; meets = p.1 }
   plays (gives {v = v} {memory = memory}) b w t a ds =
       record { steps = 0; meets = returned (record { asked = a.asked; doings = a.doings; need = a.need }) (omega arith) }
@@ -212,6 +212,6 @@ module _ (c : Place) (m : Mach) (stays : StaysBounded c m) where
       }
   plays exits b w t a ds = record { steps = 0; meets = left_by_exit }
   plays fails b w t a ds = record { steps = 0; meets = improper }
-  plays (spent {memory = memory}) b w t a ds =
-      record { steps = 0; meets = running (record { asked = a.asked; doings = a.doings; need = a.need }) (omega arith) }
+  plays (spent {memory = memory} same) b w t a ds =
+      record { steps = 0; meets = running (record { asked = a.asked; doings = a.doings; need = a.need }) (omega arith) same }
   plays (no_words f) b w t a ds = absurd (f b)

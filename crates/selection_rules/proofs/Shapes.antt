@@ -179,18 +179,18 @@ module _ (c : Place) (m : Mach) (turns : ℕ) (ts : List ℕ) where
       (λ v w h f memory level s p fv fw hv hw. on v w h f memory level s p (both_stand hv hw))
   shape_two true left e (constant_right z) is sl sr fl fr nx ny ix iy next go k lower under first stable bx by' xx yy xy yx apart el er ending outs h f memory level s p on = absurd (true≢false (sym is))
   shape_two {env = env} false left e (constant_right {place = place} {w = w} z) is sl sr fl fr nx ny ix iy next go k lower under first stable bx by' xx yy xy yx apart el er ending outs h f memory level s p on =
-      constant_operand c m turns place w h memory (λ u h memory. with_value (does (text_of c) turns left false h memory) (λ v h memory. go v u h memory)) k _
+      constant_operand c m turns place w h memory (λ u h memory. with_value (does (text_of c) turns left false h memory) (λ v h memory. go v u h memory)) k _ refl
       (operand c m turns ts left sl fl nx ix next (λ v h memory. go v (value.Word w) h memory) k
       (ready_at c m turns ts (type_of (scopes env) left) nx ix lower under first bx xx) (stable_inner nx ix bx (omega (arith, bx, xx)) stable) ending outs h f memory level s p
       (λ v h f memory level s p fv hv. on v (value.Word w) h f memory level s p (left_stands z hv)))
   shape_two true left e (power_right z low top q) is sl sr fl fr nx ny ix iy next go k lower under first stable bx by' xx yy xy yx apart el er ending outs h f memory level s p on = absurd (true≢false (sym is))
   shape_two {env = env} false left e (power_right {place = place} {w = w} z le less q) is sl sr fl fr nx ny ix iy next go k lower under first stable bx by' xx yy xy yx apart el er ending outs h f memory level s p on =
-      constant_operand c m turns place w h memory (λ u h memory. with_value (does (text_of c) turns left false h memory) (λ v h memory. go v u h memory)) k _
+      constant_operand c m turns place w h memory (λ u h memory. with_value (does (text_of c) turns left false h memory) (λ v h memory. go v u h memory)) k _ refl
       (operand c m turns ts left sl fl nx ix next (λ v h memory. go v (value.Word w) h memory) k
       (ready_at c m turns ts (type_of (scopes env) left) nx ix lower under first bx xx) (stable_inner nx ix bx (omega (arith, bx, xx)) stable) ending outs h f memory level s p
       (λ v h f memory level s p fv hv. on v (value.Word w) h f memory level s p (a_power z le less q refl hv)))
   shape_two {env = env} true left e (constant_left {place = place} {w = w} z) is sl sr fl fr nx ny ix iy next go k lower under first stable bx by' xx yy xy yx apart el er ending outs h f memory level s p on =
-      constant_operand c m turns place w h memory (λ u h memory. with_value (does (text_of c) turns e false h memory) (λ v h memory. go u v h memory)) k _
+      constant_operand c m turns place w h memory (λ u h memory. with_value (does (text_of c) turns e false h memory) (λ v h memory. go u v h memory)) k _ refl
       (operand c m turns ts e sr fr ny iy next (λ v h memory. go (value.Word w) v h memory) k
       (ready_at c m turns ts (type_of (scopes env) e) ny iy lower under first by' yy) (stable_inner ny iy by' (omega (arith, by', yy)) stable) ending outs h f memory level s p
       (λ v h f memory level s p fv hv. on (value.Word w) v h f memory level s p (right_stands z hv)))
@@ -198,4 +198,4 @@ module _ (c : Place) (m : Mach) (turns : ℕ) (ts : List ℕ) where
       operand c m turns ts e sr fr ny iy next (λ v h memory. with_value (does (text_of c) turns (Integer place w) false h memory) (λ u h memory. go u v h memory)) k
       (ready_at c m turns ts (type_of (scopes env) e) ny iy lower under first by' yy) (stable_inner ny iy by' (omega (arith, by', yy)) stable) ending outs h f memory level s p
       (λ v h f memory level s p fv hv.
-      constant_operand c m turns place w h memory (λ u h memory. go u v h memory) k _ (on (value.Word w) v h f memory level s p (right_stands z hv)))
+      constant_operand c m turns place w h memory (λ u h memory. go u v h memory) k _ refl (on (value.Word w) v h f memory level s p (right_stands z hv)))

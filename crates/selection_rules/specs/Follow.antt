@@ -31,8 +31,9 @@ RaisesVal c (Threw v memory) = fits c.setting.end ty.Val v ≡ true
 -- is a word. A machine that halts follows what is improper before it pays a unit.
 pub data Follows (c : Place) (m : Mach) : Does → Step State → Type 0 where
   walks : {d : Does} {s : State} → Follows c m d (step c m s) → Follows c m d (Continues s)
-  pays : {memory : Memory} {rest : Does} {s : State} → Follows c m rest (Continues s) →
-      Follows c m (Pays memory rest) (Continues s)
+  -- at a unit the state has the memory of the text, so no block that the text has not
+  pays : {memory : Memory} {rest : Does} {s : State} → s.around.memory ≡ memory →
+      Follows c m rest (Continues s) → Follows c m (Pays memory rest) (Continues s)
   gives : {v : Option Value} {h : Here} {memory : Memory} →
       Follows c m (Ends (Giving v h memory)) (Finishes (Gave v memory))
   raises : {v : Value} {h : Here} {memory : Memory} →
@@ -67,6 +68,7 @@ pub data Follows (c : Place) (m : Mach) : Does → Step State → Type 0 where
   exits : {label : LabelTree} {values : List Value} {h : Here} {memory : Memory} {s : Step State} →
       Follows c m (Ends (Exiting label values h memory)) s
   fails : {memory : Memory} {kind : Kind} {s : Step State} → Follows c m (Fails memory kind) s
-  spent : {memory : Memory} {s : State} → Follows c m (Spent memory) (Continues s)
+  spent : {memory : Memory} {s : State} → s.around.memory ≡ memory →
+      Follows c m (Spent memory) (Continues s)
   -- no state of a run holds a number that is no word
   no_words : {d : Does} {s : State} → (BoundedState s → ⊥) → Follows c m d (Continues s)

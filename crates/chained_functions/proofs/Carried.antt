@@ -1,0 +1,288 @@
+-- What is carried from a Mach function to its tidy lines: how many traps are pushed, its operations, and that no walk
+-- comes to the end of the code.
+use Rattle.std.proofs.Common.{◌≡◌, ℕ, suc, ◌≤◌, Bool, true, false, cond, List, [], ◌∷◌, ◌++◌, length, map, nat_eq, nat_le, All, refl, sym, ap, ◌∙◌, subst, arith}
+use Rattle.std.specs.List.{Contains}
+use Rattle.std.proofs.lemmas.Bool.{true≢false, eq-eqb}
+use Rattle.std.proofs.lemmas.List.Elements.{All-nil, All-cons}
+use Rattle.mach_ir.specs.Acts.{On, At, drop_tries}
+use Rattle.mach_ir.specs.Formed.{WellFormed}
+use Rattle.mach_ir.specs.Keeps as kept
+use Rattle.mach_ir.specs.Meaning.{tries_at, tries_past}
+use Rattle.mach_ir.specs.Placed.{FullyPlaced}
+use Rattle.mach_ir.specs.Walks.{OneOf, this}
+use Rattle.mach_ir.specs.Walks as mach_walks
+use Rattle.mach_ir.specs.declared.op.Leaving.TheVariants as leaving
+use Rattle.mach_ir.specs.declared.op.Op.TheVariants as op
+use Rattle.mach_ir.specs.declared.reg.Reg.{Reg}
+use Rattle.mach_ir.specs.declared.mach.Mark.TheVariants as mark
+use Rattle.mach_ir.specs.declared.mach.MachOp.{MachOp}
+use Rattle.mach_ir.specs.declared.mach.MachOp.TheVariants as mach
+use Rattle.mach_ir.specs.declared.mach.Instr.{Instr}
+use Rattle.mach_ir.specs.declared.mach.Mach.{Mach}
+use Rattle.lin_ir.specs.Formed.{labels_in, label_of, goes_to}
+use Rattle.lin_ir.specs.Keeps.{IsNamedIn}
+use Rattle.lin_ir.specs.Meaning.{has_label, after_label}
+use Rattle.lin_ir.specs.Walks.{Reached, at_entry, by_step, by_raise, targets}
+use Rattle.lin_ir.specs.Walks as walks
+use Rattle.lin_ir.specs.declared.lin.Flow.TheVariants as flow
+use Rattle.lin_ir.specs.declared.lin.LinOp.{LinOp}
+use Rattle.lin_ir.specs.declared.lin.LinOp.TheVariants as lin
+use Rattle.lin_ir.specs.declared.lin.Line.{Line}
+use Rattle.lin_ir.specs.declared.lin.Lin.{Lin}
+use Rattle.lin_ir.specs.declared.lin.Spot.{Spot}
+use Rattle.places_rules.specs.Places.{Placing, placed_code}
+use Rattle.linear_rules.specs.Lowered.{is_idle, bare, pops, lines_of, lowered_code, slot_number, slot_count, lowered}
+use Rattle.linear_rules.proofs.Homes.{IsIn, is_first, is_later, in_of, contains_of}
+use Rattle.linear_rules.proofs.Marks.{instr, all_here, all_later}
+use Rattle.linear_rules.proofs.Meeting.{comes}
+use Rattle.linear_rules.proofs.Places.{place_tries}
+use Rattle.linear_rules.proofs.Standing.{is_at}
+use Rattle.linear_rules.proofs.Walked.{Tail, tail_all, tail_more, tail_next, tail_in, tail_stands, reached_tail}
+use Rattle.tidy_rules.specs.Leaving.{LabelsBetween, none_between, label_between, IsUseless, unreached, unread, skipped, without, with_code, is_landing, LeavesOut}
+use Rattle.tidy_rules.specs.Leaving as leaving_out
+use Rattle.tidy_rules.specs.Redirecting.{redirect, Redirects, Tidies, as_it_is, then_leaves, then_redirects}
+use Rattle.tidy_rules.specs.Regular.{IsRegular}
+use Rattle.tidy_rules.proofs.Leaving.{Comes, there, before, comes_tail, comes_line, self_goes, useless_landing, in_code}
+use Rattle.tidy_rules.proofs.Leaving as left
+use Rattle.tidy_rules.proofs.Redirecting.{line_was, op_was}
+use Rattle.tidy_rules.proofs.Redirecting as turned
+use Rattle.tidy_rules.proofs.Tidied.{tidied_regular}
+
+-- ---- tries
+
+-- so many tries at most stand round each place of a code
+abbrev pub AllTries : ℕ → List Instr → Type 0
+AllTries k [] = Unit {0}
+AllTries k (i ∷ is) = (length (tries_at (i ∷ is)) ≤ k) × AllTries k is
+
+pub all_tries : (k : ℕ) (code : List Instr) → ((i : Instr) (next : List Instr) → mach_walks.Stands i next code → length (tries_at (i ∷ next)) ≤ k) → AllTries k code
+all_tries k [] h = tt
+all_tries k (i ∷ is) h = (h i is mach_walks.here, all_tries k is (λ j next s. h j next (mach_walks.below s)))
+
+-- places change nothing of the marks
+tries_placed : (place : Placing) (code : List Instr) → tries_at (placed_code place code) ≡ tries_at code
+tries_placed place [] = refl
+tries_placed place (i ∷ is) = ap (tries_past i.op) (tries_placed place is)
+
+pub placed_tries : (place : Placing) (k : ℕ) (code : List Instr) → AllTries k code → AllTries k (placed_code place code)
+placed_tries place k [] h = tt
+placed_tries place k (i ∷ is) h = (subst (λ ts. length (tries_past i.op ts) ≤ k) (sym (tries_placed place is)) h.0, placed_tries place k is h.1)
+
+-- so many traps are pushed wherever a walk comes
+abbrev pub IsShallow : ℕ → Lin → Type 0
+IsShallow k m = (code : List Line) (tries : List ℕ) → Reached m code tries → length tries ≤ k
+
+few_either : (k : ℕ) (b : Bool) (xs ys : List ℕ) → length xs ≤ k → length ys ≤ k → length (cond b xs ys) ≤ k
+few_either k true xs ys one two = one
+few_either k false xs ys one two = two
+
+few_dropped : (k n : ℕ) (ts : List ℕ) → length ts ≤ k → length (drop_tries n ts) ≤ k
+few_dropped k 0 ts le = le
+few_dropped k (suc n) [] le = le
+few_dropped k (suc n) (t ∷ ts) le = few_dropped k n ts (omega (arith, le))
+
+few_at : (number : ℕ → ℕ) (k : ℕ) (code : List Instr) → AllTries k code → (n : ℕ) → length (place_tries number code n) ≤ k
+few_at number k [] h n = omega arith
+few_at number k (i ∷ is) h n = by i.op i.args i.results h.0 (few_at number k is h.1 n)
+  where
+    side : Bool
+    side = nat_le n (length (lowered_code number is))
+
+    by : (f : MachOp) (args results : List Reg) → length (tries_at (instr f args results ∷ is)) ≤ k → length (place_tries number is n) ≤ k → length (place_tries number (instr f args results ∷ is) n) ≤ k
+    by (mach.Op f) args results own ih = few_either k side _ _ ih own
+    by (mach.Mark (mark.Exit l j)) args results own ih = few_either k side _ _ ih (few_dropped k _ (tries_at is) own)
+    by (mach.Mark (mark.If t l)) args results own ih = few_either k side _ _ ih own
+    by (mach.Mark (mark.Else l end)) args results own ih = few_either k side _ _ ih own
+    by (mach.Mark (mark.Switch ls)) args results own ih = few_either k side _ _ ih own
+    by (mach.Mark (mark.Case ns l end)) args results own ih = few_either k side _ _ ih own
+    by (mach.Mark mark.Catch) args results own ih = few_either k side _ _ ih own
+    by (mach.Mark (mark.With l end)) args results own ih = few_either k side _ _ ih own
+    by (mach.Mark (mark.Try l)) args results own ih = few_either k side _ _ ih own
+    by (mach.Mark (mark.Leave l end)) args results own ih = few_either k side _ _ ih (few_dropped k _ (l ∷ tries_at is) own)
+    by (mach.Mark (mark.Handler l)) args results own ih = few_either k side _ _ ih own
+    by (mach.Mark (mark.End l)) args results own ih = few_either k side _ _ ih own
+
+-- A trap is pushed for each try.
+pub lowered_shallow : (p : Mach) → WellFormed p → FullyPlaced p → (k : ℕ) → AllTries k p.code → IsShallow k (lowered p)
+lowered_shallow p formed full k h code tries r =
+    let at = is_at (slot_number p) (slot_count p) p formed (comes (slot_number p) (slot_count p) p formed full r).stands in
+    subst (λ ts. length ts ≤ k) (sym at) (few_at (slot_number p) k p.code h (length code))
+
+comes_shallow : {k : ℕ} {m : Lin} {code : List Line} {tries : List ℕ} → IsShallow k m → Comes m code tries → length tries ≤ k
+comes_shallow h (there {code = code} {tries = tries} r) = h code tries r
+comes_shallow h (before w c) = comes_shallow h c
+
+-- Walks of the tidy function come with the traps of walks of the first.
+pub tidied_shallow : {m r : Lin} (k : ℕ) → Tidies m r → IsShallow k m → IsShallow k r
+tidied_shallow k as_it_is h = h
+tidied_shallow k (then_leaves {q = q} {r = r} t l) h =
+    let more = tidied_shallow k t h in
+    subst (IsShallow k) (sym l.is) (λ code tries x. comes_shallow more (left.source q l.goes l.each x).reached)
+tidied_shallow k (then_redirects {q = q} {r = r} t l) h =
+    let more = tidied_shallow k t h in
+    subst (IsShallow k) (sym l.is) (λ code tries x. let y = turned.source q l.to l.each x in more y.code tries y.reached)
+
+-- ---- operations
+
+-- An operation of the tidy function is one of the first.
+pub tidied_named : {m r : Lin} (Named : MachOp → Type 0) → Tidies m r → IsNamedIn Named r → IsNamedIn Named m
+tidied_named Named as_it_is n = n
+tidied_named Named (then_leaves {q = q} t l) n =
+    tidied_named Named t
+    (let x = subst (IsNamedIn Named) l.is n in
+    record { line = x.line; among = contains_of (in_code q l.goes l.each x.line q.code (in_of x.line (without l.goes q.code) x.among)); op = x.op; is = x.is; named = x.named })
+tidied_named Named (then_redirects {q = q} t l) n =
+    tidied_named Named t
+    (let x = subst (IsNamedIn Named) l.is n in
+    let y = line_was q l.to l.each x.line q.code (in_of x.line (map (redirect l.to) q.code) x.among) in
+    record { line = y.0; among = contains_of y.1; op = x.op; is = op_was q l.to l.each y.0.op x.op (ap (λ (j : Line). j.op) y.2 ∙ x.is); named = x.named })
+
+pub placed_all : (place : Placing) (P : MachOp → Type 0) (code : List Instr) → All (λ (i : Instr). P i.op) code → All (λ (i : Instr). P i.op) (placed_code place code)
+placed_all place P [] h = All-nil (λ (i : Instr). P i.op)
+placed_all place P (i ∷ is) h =
+    All-cons (λ (i : Instr). P i.op) _ (placed_code place is) (all_here (λ (i : Instr). P i.op) i is h) (placed_all place P is (all_later (λ (i : Instr). P i.op) i is h))
+
+-- ---- the end of the code
+
+-- the last instruction is a return
+pub data EndsInReturn : List Instr → Type 0 where
+  at_return : {args results : List Reg} → EndsInReturn (instr (mach.Op (op.Leaving leaving.Return)) args results ∷ [])
+  further : {i : Instr} {is : List Instr} → EndsInReturn is → EndsInReturn (i ∷ is)
+
+pub placed_end : (place : Placing) {code : List Instr} → EndsInReturn code → EndsInReturn (placed_code place code)
+placed_end place at_return = at_return
+placed_end place (further e) = further (placed_end place e)
+
+-- the last line is a return
+data Closed : List Line → Type 0 where
+  closes : {args results : List Spot} → Closed (record { op = lin.Op (op.Leaving leaving.Return); args = args; results = results } ∷ [])
+  closes_later : {i : Line} {is : List Line} → Closed is → Closed (i ∷ is)
+
+module _ (number : ℕ → ℕ) where
+  pops_close : (n : ℕ) {xs : List Line} → Closed xs → Closed (pops number n xs)
+  pops_close 0 c = c
+  pops_close (suc n) c = closes_later (pops_close n c)
+
+  lines_close : (f : MachOp) (i : Instr) {xs : List Line} → Closed xs → Closed (lines_of number f i xs)
+  lines_close (mach.Op f) i c = closes_later c
+  lines_close (mach.Mark (mark.Exit l n)) i c = pops_close n (closes_later c)
+  lines_close (mach.Mark (mark.If t l)) i c = closes_later c
+  lines_close (mach.Mark (mark.Else l end)) i c = closes_later (closes_later c)
+  lines_close (mach.Mark (mark.Switch ls)) i c = closes_later c
+  lines_close (mach.Mark (mark.Case ns l end)) i c = closes_later (closes_later c)
+  lines_close (mach.Mark mark.Catch) i c = c
+  lines_close (mach.Mark (mark.With l end)) i c = closes_later (closes_later c)
+  lines_close (mach.Mark (mark.Try l)) i c = closes_later c
+  lines_close (mach.Mark (mark.Leave l end)) i c = closes_later (closes_later c)
+  lines_close (mach.Mark (mark.Handler l)) i c = closes_later (closes_later c)
+  lines_close (mach.Mark (mark.End l)) i c = closes_later c
+
+  either_close : (b : Bool) {xs ys : List Line} → Closed xs → Closed ys → Closed (cond b xs ys)
+  either_close true x y = x
+  either_close false x y = y
+
+  lowered_closed : {code : List Instr} → EndsInReturn code → Closed (lowered_code number code)
+  lowered_closed at_return = closes
+  lowered_closed (further {i = i} {is = is} e) = let c = lowered_closed e in either_close (is_idle i.op i.args i.results) c (lines_close i.op i c)
+
+-- a label behind a line stands behind it, or is the line
+behind : (l : ℕ) (f : LinOp) {ls : List ℕ} → IsIn l (label_of f ++ ls) → has_label l f ≡ false → IsIn l ls
+behind l (lin.Op f) z e = z
+behind l (lin.Flow (flow.Label k)) is_first e = absurd (true≢false (sym (eq-eqb k k refl) ∙ e))
+behind l (lin.Flow (flow.Label k)) (is_later z) e = z
+behind l (lin.Flow (flow.Jump k)) z e = z
+behind l (lin.Flow (flow.Exit k)) z e = z
+behind l (lin.Flow (flow.Branch t k)) z e = z
+behind l (lin.Flow (flow.Switch ks)) z e = z
+behind l (lin.Flow (flow.PushTrap k)) z e = z
+behind l (lin.Flow flow.PopTrap) z e = z
+behind l (lin.Flow flow.EnterTrap) z e = z
+
+label_closed : (l : ℕ) {code : List Line} → Closed code → IsIn l (labels_in code) → Closed (after_label l code)
+label_closed l closes z = elim z [ ]
+label_closed l (closes_later {i = i} {is = is} c) z = by (has_label l i.op) refl (λ y. label_closed l c y)
+  where
+    by : (b : Bool) → has_label l i.op ≡ b → (IsIn l (labels_in is) → Closed (after_label l is)) → Closed (cond b is (after_label l is))
+    by true e ih = c
+    by false e ih = ih (behind l i.op z e)
+
+past : {l : ℕ} {ls : List ℕ} (ks : List ℕ) → IsIn l ls → IsIn l (ks ++ ls)
+past [] z = z
+past (k ∷ ks) z = is_later (past ks z)
+
+in_whole : {l : ℕ} {ys zs : List Line} → Tail ys zs → IsIn l (labels_in ys) → IsIn l (labels_in zs)
+in_whole tail_all z = z
+in_whole (tail_more {j = j} t) z = past (label_of j.op) (in_whole t z)
+
+goes_on_closed : {i : Line} {next : List Line} → Closed (i ∷ next) → OneOf On (targets i.op) → Closed next
+goes_on_closed closes o = elim o [ ]
+goes_on_closed (closes_later c) o = c
+
+reached_closed : (m : Lin) → IsRegular m → Closed m.code → {code : List Line} {tries : List ℕ} → Reached m code tries → Closed code
+reached_closed m regular closed at_entry = closed
+reached_closed m regular closed (by_step r (walks.goes On o)) = goes_on_closed (reached_closed m regular closed r) o
+reached_closed m regular closed (by_step {i = i} r (walks.goes (At l) o)) =
+    label_closed l closed (in_of l (labels_in m.code) (regular.well.named i (contains_of (tail_in (reached_tail m r))) l (goes_to o)))
+reached_closed m regular closed (by_raise {i = i} {next = next} r (walks.raises {h = h} {tries = tries} e)) =
+    label_closed h closed
+    (in_whole (tail_next (reached_tail m r)) (in_of h (labels_in next) (regular.forward.handlers i next h tries r e)))
+
+-- no walk comes to the end of the code
+abbrev pub IsUnended : Lin → Type 0
+IsUnended m = (tries : List ℕ) → Reached m [] tries → ⊥
+
+none_closed : Closed [] → ⊥
+none_closed c = elim c [ ]
+
+pub lowered_unended : (p : Mach) → IsRegular (lowered p) → EndsInReturn p.code → IsUnended (lowered p)
+lowered_unended p regular e tries r = none_closed (reached_closed (lowered p) regular (lowered_closed (slot_number p) e) r)
+
+no_lines : (j : Line) (js : List Line) → j ∷ js ≡ [] → ⊥
+no_lines j js e = cc
+
+module _ (m : Lin) (goes : ℕ → Bool) (each : (i : Line) (next : List Line) → walks.Stands i next m.code → goes (length next) ≡ true → IsUseless m i next) (unended : IsUnended m) where
+  abbrev K : List Line → List Line
+  K = without goes
+
+  -- labels stay, so where all lines behind go there is none
+  no_labels : {a b : List Line} → LabelsBetween a b → Tail a m.code → K a ≡ [] → a ≡ b
+  no_labels none_between w e = refl
+  no_labels (label_between {l = l} {next = next} p) w e = by (goes (length next)) refl e
+    where
+      by : {A : Type 0} (b : Bool) → goes (length next) ≡ b → cond b (K next) (leaving_out.bare (flow.Label l) ∷ K next) ≡ [] → A
+      by true s e = absurd (true≢false (useless_landing (each (leaving_out.bare (flow.Label l)) next (tail_stands w) s)))
+      by false s e = absurd (no_lines _ (K next) e)
+
+  ended : (is : List Line) (tries : List ℕ) → Comes m is tries → K is ≡ [] → ⊥
+  ended [] tries (there r) e = unended tries r
+  ended (i ∷ next) tries c e = by (goes (length next)) refl e (λ c' u. ended next tries c' u)
+    where
+      gone : IsUseless m i next → K next ≡ [] → (Comes m next tries → K next ≡ [] → ⊥) → ⊥
+      gone (unreached n out) e ih = out tries (comes_line c n)
+      gone (unread {to = to} z dead) e ih =
+          let g = self_goes z in
+          let r : Reached m (i ∷ next) tries = comes_line c (useless_landing {m = m} {next = next} (unread z dead)) in
+          ih (there (subst (Reached m next) (g.tries tries) (by_step r (walks.goes On g.on)))) e
+      gone (skipped {l = k} same between) e ih =
+          let r : Reached m (leaving_out.bare (flow.Jump k) ∷ next) tries = subst (λ x. Reached m (x ∷ next) tries) same (comes_line c (ap (λ (i : Line). is_landing i.op) same)) in
+          ih (there (subst (λ code. Reached m code tries) (sym (no_labels between (tail_next (comes_tail c)) e)) (by_step r (walks.goes (At k) this)))) e
+
+      by : (b : Bool) → goes (length next) ≡ b → cond b (K next) (i ∷ K next) ≡ [] → (Comes m next tries → K next ≡ [] → ⊥) → ⊥
+      by true s e ih = gone (each i next (tail_stands (comes_tail c)) s) e ih
+      by false s e ih = no_lines i (K next) e
+
+  leaving_unended : IsUnended (with_code m (K m.code))
+  leaving_unended tries r = let y = left.source m goes each r in ended y.code tries y.reached y.same
+
+no_turned : (to : ℕ → ℕ) (is : List Line) → map (redirect to) is ≡ [] → is ≡ []
+no_turned to [] e = refl
+no_turned to (i ∷ is) e = absurd (no_lines _ _ e)
+
+-- The tidy function is left as the first is.
+pub tidied_unended : {m r : Lin} → Tidies m r → IsUnended m → IsUnended r
+tidied_unended as_it_is h = h
+tidied_unended (then_leaves {q = q} t l) h = subst IsUnended (sym l.is) (leaving_unended q l.goes l.each (tidied_unended t h))
+tidied_unended (then_redirects {q = q} t l) h =
+    let more = tidied_unended t h in
+    subst IsUnended (sym l.is)
+    (λ tries r. let y = turned.source q l.to l.each r in more tries (subst (λ code. Reached q code tries) (no_turned l.to y.code y.same) y.reached))
