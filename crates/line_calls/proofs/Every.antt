@@ -14,8 +14,9 @@ use Rattle.linear_machine.specs.Follows.{FollowsStep}
 use Rattle.line_values.specs.Followed.{IsPlain, plain_pure, plain_load, plain_store, plain_check, plain_label, plain_jump, plain_exit, plain_branch, plain_switch}
 use Rattle.line_values.proofs.Following.{plain_followed}
 use Rattle.line_calls.specs.Calls.{FollowsSo}
-use Rattle.line_calls.specs.Laws.{EveryLineFollows}
+use Rattle.line_calls.specs.Laws.{EntryFollows, EveryLineFollows}
 use Rattle.line_calls.specs.Points.{IsTurn, before_service, it_calls, it_returns, it_raises, it_allocates, it_pushes, it_pops, it_enters}
+use Rattle.line_calls.proofs.Entering.{entry_follows}
 use Rattle.line_calls.proofs.NoWaits.{Comes, so_without, step_no}
 use Rattle.line_calls.proofs.Whole.{lines_follow}
 
@@ -87,3 +88,8 @@ every_line live s n laid entry c place named m f d i next v file a k lines point
     (subst (λ w. FollowsStep w s laid live entry c v does) same
     (plain_followed s laid n m place named live entry c f d next i plain file a v lines (fit.raised (begins_none i.op plain)) at))))
     (λ turn. lines_follow s n laid live entry c place named m f d i next v file a k turn lines (points turn) fit behind at) (kinds i.op)
+
+-- And every entry.
+pub every_entry : (live : List Line → Type 0) → EntryFollows live
+every_entry live s n laid entries k c place m v arguments memory words small part behind seats entered u is =
+    entry_follows s n laid small live entries k c place m v arguments memory words part behind seats entered u is
