@@ -1,12 +1,10 @@
 -- What is carried from a Mach function to its tidy lines: how many traps are pushed, its operations, and that no walk
 -- comes to the end of the code.
-use Rattle.std.proofs.Common.{◌≡◌, ℕ, suc, ◌≤◌, Bool, true, false, cond, List, [], ◌∷◌, ◌++◌, length, map, nat_eq, nat_le, All, refl, sym, ap, ◌∙◌, subst, arith}
-use Rattle.std.specs.List.{Contains}
+use Rattle.std.proofs.Common.{◌≡◌, ℕ, zero, suc, ◌≤◌, Bool, true, false, cond, List, [], ◌∷◌, ◌++◌, length, map, nat_le, All, refl, sym, ap, ◌∙◌, subst, arith}
 use Rattle.std.proofs.lemmas.Bool.{true≢false, eq-eqb}
 use Rattle.std.proofs.lemmas.List.Elements.{All-nil, All-cons}
 use Rattle.mach_ir.specs.Acts.{On, At, drop_tries}
 use Rattle.mach_ir.specs.Formed.{WellFormed}
-use Rattle.mach_ir.specs.Keeps as kept
 use Rattle.mach_ir.specs.Meaning.{tries_at, tries_past}
 use Rattle.mach_ir.specs.Placed.{FullyPlaced}
 use Rattle.mach_ir.specs.Walks.{OneOf, this}
@@ -31,7 +29,7 @@ use Rattle.lin_ir.specs.declared.lin.Line.{Line}
 use Rattle.lin_ir.specs.declared.lin.Lin.{Lin}
 use Rattle.lin_ir.specs.declared.lin.Spot.{Spot}
 use Rattle.places_rules.specs.Places.{Placing, placed_code}
-use Rattle.linear_rules.specs.Lowered.{is_idle, bare, pops, lines_of, lowered_code, slot_number, slot_count, lowered}
+use Rattle.linear_rules.specs.Lowered.{is_idle, pops, lines_of, lowered_code, slot_number, slot_count, lowered}
 use Rattle.linear_rules.proofs.Homes.{IsIn, is_first, is_later, in_of, contains_of}
 use Rattle.linear_rules.proofs.Marks.{instr, all_here, all_later}
 use Rattle.linear_rules.proofs.Meeting.{comes}
@@ -40,13 +38,12 @@ use Rattle.linear_rules.proofs.Standing.{is_at}
 use Rattle.linear_rules.proofs.Walked.{Tail, tail_all, tail_more, tail_next, tail_in, tail_stands, reached_tail}
 use Rattle.tidy_rules.specs.Leaving.{LabelsBetween, none_between, label_between, IsUseless, unreached, unread, skipped, without, with_code, is_landing, LeavesOut}
 use Rattle.tidy_rules.specs.Leaving as leaving_out
-use Rattle.tidy_rules.specs.Redirecting.{redirect, Redirects, Tidies, as_it_is, then_leaves, then_redirects}
+use Rattle.tidy_rules.specs.Redirecting.{redirect, Tidies, as_it_is, then_leaves, then_redirects}
 use Rattle.tidy_rules.specs.Regular.{IsRegular}
 use Rattle.tidy_rules.proofs.Leaving.{Comes, there, before, comes_tail, comes_line, self_goes, useless_landing, in_code}
 use Rattle.tidy_rules.proofs.Leaving as left
 use Rattle.tidy_rules.proofs.Redirecting.{line_was, op_was}
 use Rattle.tidy_rules.proofs.Redirecting as turned
-use Rattle.tidy_rules.proofs.Tidied.{tidied_regular}
 
 -- ---- tries
 
@@ -77,7 +74,7 @@ few_either k true xs ys one two = one
 few_either k false xs ys one two = two
 
 few_dropped : (k n : ℕ) (ts : List ℕ) → length ts ≤ k → length (drop_tries n ts) ≤ k
-few_dropped k 0 ts le = le
+few_dropped k zero ts le = le
 few_dropped k (suc n) [] le = le
 few_dropped k (suc n) (t ∷ ts) le = few_dropped k n ts (omega (arith, le))
 
@@ -160,7 +157,7 @@ data Closed : List Line → Type 0 where
 
 module _ (number : ℕ → ℕ) where
   pops_close : (n : ℕ) {xs : List Line} → Closed xs → Closed (pops number n xs)
-  pops_close 0 c = c
+  pops_close zero c = c
   pops_close (suc n) c = closes_later (pops_close n c)
 
   lines_close : (f : MachOp) (i : Instr) {xs : List Line} → Closed xs → Closed (lines_of number f i xs)

@@ -81,9 +81,12 @@ e_moves [] to = e_none
 e_moves (a ∷ from) [] = e_none
 e_moves (a ∷ from) (d ∷ to) = e_then (e_moves from to) (e_move a d)
 
+e_leave : (l n : ℕ) → Leaves 1 (λ next. bare (mark.Exit l n) ∷ next)
+e_leave l n = record { at = λ next. omega arith }
+
 e_exit : (o : Option Label) (from : List Reg) → Leaves 1 (exit_to o from)
 e_exit None from = record { at = λ next. omega arith }
-e_exit (Some t) from = e_then (e_moves from t.params) (record { at = λ next. omega arith })
+e_exit (Some t) from = e_then (e_moves from t.params) (e_leave t.number t.tries)
 
 e_cells : (k : Chunk) (p : Reg) (i : ℕ) (rs : List Reg) → Leaves 0 (cell_stores k p i rs)
 e_cells k p i [] = e_none

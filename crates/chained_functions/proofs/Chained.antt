@@ -1,0 +1,206 @@
+-- What was made of a function of an accepted text is known whole.
+use Rattle.std.proofs.Common.{◌≡◌, ℕ, suc, ◌+◌, ◌*◌, ◌<◌, ◌≤◌, true, not, cond, List, [], ◌∷◌, length, All, Option, refl, ap, subst, arith}
+use Rattle.std.proofs.Math.Nat.{mul-le-mul_right, suc-mul}
+use Rattle.bs_words.specs.declared.types.Ret.{Ret}
+use Rattle.bs_words.specs.declared.types.Ret.TheVariants as ret
+use Rattle.cmm_tree.specs.Symbols.{DefinedSymbol}
+use Rattle.cmm_tree.specs.Tree.{FunctionTree}
+use Rattle.cmm_types.specs.Types.{body_type, result_of}
+use Rattle.correctness.specs.Measures.{tries}
+use Rattle.mach_ir.specs.Formed.{is_exit}
+use Rattle.mach_ir.specs.Formed as mach_formed
+use Rattle.mach_ir.specs.Keeps as kept
+use Rattle.mach_ir.specs.Meaning.{tries_at}
+use Rattle.mach_ir.specs.Placed.{FullyPlaced}
+use Rattle.mach_ir.specs.Walks as mach_walks
+use Rattle.mach_ir.specs.declared.op.Access.TheVariants as access
+use Rattle.mach_ir.specs.declared.op.Op.{Op}
+use Rattle.mach_ir.specs.declared.op.Op.TheVariants as op
+use Rattle.mach_ir.specs.declared.reg.Reg.{Reg}
+use Rattle.mach_ir.specs.declared.mach.Mark.TheVariants as mark
+use Rattle.mach_ir.specs.declared.mach.MachOp.{MachOp}
+use Rattle.mach_ir.specs.declared.mach.MachOp.TheVariants as mach
+use Rattle.mach_ir.specs.declared.mach.Instr.{Instr}
+use Rattle.mach_ir.specs.declared.mach.Mach.{Mach}
+use Rattle.lin_ir.specs.Descriptors.{frame_bytes}
+use Rattle.lin_ir.specs.Keeps.{IsNamedIn}
+use Rattle.lin_ir.specs.Walks.{Traps, by_walk, unreached}
+use Rattle.lin_ir.specs.declared.descr.Descr.{Descr}
+use Rattle.lin_ir.specs.declared.lin.LinOp.{LinOp}
+use Rattle.lin_ir.specs.declared.lin.LinOp.TheVariants as lin
+use Rattle.lin_ir.specs.declared.lin.Line.{Line}
+use Rattle.lin_ir.specs.declared.lin.Lin.{Lin}
+use Rattle.lin_ir.proofs.Keeping.{keeps_then}
+use Rattle.places_rules.specs.Places.{Placing, placed_code, last_resort, rest_in_slots}
+use Rattle.places_rules.proofs.Rest.{rest_formed, rest_keeps, rest_no_addr, rest_placed, rest_seated}
+use Rattle.linear_rules.specs.Lowered.{slot_number, lowered}
+use Rattle.linear_rules.specs.Sizes.{tries_ended}
+use Rattle.linear_rules.proofs.Homes.{IsIn, in_of, contains_of}
+use Rattle.linear_rules.proofs.Lines.{all_of, named_from}
+use Rattle.linear_rules.proofs.Marks.{all_in, instr}
+use Rattle.tidy_rules.specs.Regular.{IsRegular}
+use Rattle.tidy_rules.proofs.Lowered.{lowered_regular}
+use Rattle.line_stands.specs.Lines as line
+use Rattle.rv_pieces.specs.declared.piece.Pieces.{Pieces}
+use Rattle.selection_rules.specs.Select.{selected, select, returns, first, is_no_value, fresh, seats}
+use Rattle.selection_rules.proofs.Endings.{ending_moves, ending_select}
+use Rattle.selection_rules.proofs.Parts.{Ending, all, more, Within, inside_in}
+use Rattle.selection_places.proofs.Whole.{value_at, params_of, env_of}
+use Rattle.selection_promise.specs.Selects.{IsAccepted, Selects, OffsetFits}
+use Rattle.selection_promise.proofs.Promised.{few_tokens, promised}
+use Rattle.made_functions.specs.Chained.{IsChained}
+use Rattle.made_functions.specs.Made.{IsMadeOf}
+use Rattle.chained_functions.proofs.Exits.{exits, selected_exits}
+use Rattle.chained_functions.proofs.Carried.{AllTries, all_tries, placed_tries, lowered_shallow, tidied_shallow, tidied_named, placed_all, EndsInReturn, at_return, further, placed_end, lowered_unended, tidied_unended}
+
+-- ---- selected code ends in a return
+
+ends_through : {rest code : List Instr} → Ending rest code → EndsInReturn rest → EndsInReturn code
+ends_through all e = e
+ends_through (more x) e = further (ends_through x e)
+
+returns_end : (d : Reg) (n : ℕ) (result : Ret) → EndsInReturn (returns d n result)
+returns_end d n ret.Unit = at_return
+returns_end d n (ret.Comp c) = further at_return
+
+selected_end : (f : FunctionTree) → EndsInReturn (selected f).code
+selected_end f =
+    let d = fresh (value_at f) (body_type f) in
+    let last = returns d (suc (value_at f)) (result_of (body_type f)) in
+    let body : Within last (select (env_of f) [] (not (is_no_value (body_type f))) true d (suc (suc (value_at f))) f.body last) =
+    ending_select (env_of f) [] (not (is_no_value (body_type f))) true d (suc (suc (value_at f))) f.body last in
+    let whole : Within last (selected f).code = inside_in body (ending_moves (seats 0 first (params_of f)) (params_of f) _) in
+    ends_through whole.ending (returns_end d (suc (value_at f)) (result_of (body_type f)))
+
+-- ---- how many lines
+
+placed_long : (place : Placing) (code : List Instr) → length (placed_code place code) ≡ length code
+placed_long place [] = refl
+placed_long place (i ∷ is) = ap suc (placed_long place is)
+
+placed_exits : (place : Placing) (code : List Instr) → exits (placed_code place code) ≡ exits code
+placed_exits place [] = refl
+placed_exits place (i ∷ is) = ap (λ n. cond (is_exit i.op) (suc n) n) (placed_exits place is)
+
+-- an exit ends at most so many tries
+ended_few : (k : ℕ) (code : List Instr) → ((i : Instr) (next : List Instr) → mach_walks.Stands i next code → (l n : ℕ) → i.op ≡ mach.Mark (mark.Exit l n) → n ≤ k) → tries_ended code ≤ exits code * k
+ended_few k [] h = omega arith
+ended_few k (i ∷ is) h = by i.op i.args i.results (λ l n e. h i is mach_walks.here l n e) (ended_few k is (λ j next s l n e. h j next (mach_walks.below s) l n e))
+  where
+    by : (f : MachOp) (args results : List Reg) → ((l n : ℕ) → f ≡ mach.Mark (mark.Exit l n) → n ≤ k) → tries_ended is ≤ exits is * k → tries_ended (instr f args results ∷ is) ≤ exits (instr f args results ∷ is) * k
+    by (mach.Op f) args results own ih = omega (arith, ih)
+    by (mach.Mark (mark.Exit l n)) args results own ih = let le = own l n refl in let e = suc-mul (exits is) k in omega (arith, ih, le, e)
+    by (mach.Mark (mark.If t l)) args results own ih = omega (arith, ih)
+    by (mach.Mark (mark.Else l end)) args results own ih = omega (arith, ih)
+    by (mach.Mark (mark.Switch ls)) args results own ih = omega (arith, ih)
+    by (mach.Mark (mark.Case ns l end)) args results own ih = omega (arith, ih)
+    by (mach.Mark mark.Catch) args results own ih = omega (arith, ih)
+    by (mach.Mark (mark.With l end)) args results own ih = omega (arith, ih)
+    by (mach.Mark (mark.Try l)) args results own ih = omega (arith, ih)
+    by (mach.Mark (mark.Leave l end)) args results own ih = omega (arith, ih)
+    by (mach.Mark (mark.Handler l)) args results own ih = omega (arith, ih)
+    by (mach.Mark (mark.End l)) args results own ih = omega (arith, ih)
+
+tries_within : (k : ℕ) (code : List Instr) → AllTries k code → (i : Instr) (next : List Instr) → mach_walks.Stands i next code → length (tries_at (i ∷ next)) ≤ k
+tries_within k [] h i next s = elim s [ ]
+tries_within k (j ∷ is) h i next mach_walks.here = h.0
+tries_within k (j ∷ is) h i next (mach_walks.below s) = tries_within k is h.1 i next s
+
+few_product : (n k : ℕ) → n ≤ 64000 → k ≤ 65536 → n * k ≤ 4194304000
+few_product n k one two =
+    let a : n * k ≤ 64000 * k = mul-le-mul_right k one in
+    omega (arith, a, two)
+
+-- ---- offsets
+
+-- the offset of a line is that of its operation
+offset_of_line : (f : LinOp) → ((g : Op) → f ≡ lin.Op g → OffsetFits (mach.Op g)) → line.OffsetFits f
+offset_of_line (lin.Op (op.Access (access.Load k offset))) h = h (op.Access (access.Load k offset)) refl
+offset_of_line (lin.Op (op.Access (access.Store k offset))) h = h (op.Access (access.Store k offset)) refl
+offset_of_line (lin.Op (op.Access (access.Alloc blocks))) h = tt
+offset_of_line (lin.Op (op.Pure f)) h = tt
+offset_of_line (lin.Op (op.Calling f)) h = tt
+offset_of_line (lin.Op (op.Leaving f)) h = tt
+offset_of_line (lin.Flow f) h = tt
+
+-- ---- whole
+
+module _ (defined : List ℕ → Option DefinedSymbol) (tree : FunctionTree) (accepted : IsAccepted defined tree) (m : Lin) (ds : List Descr) (pieces : Pieces) (made : IsMadeOf tree m ds pieces) where
+  promise : Selects tree (selected tree)
+  promise = promised defined tree accepted
+
+  abbrev rest : Mach
+  rest = rest_in_slots (selected tree)
+
+  formed : mach_formed.WellFormed rest
+  formed = rest_formed (selected tree) promise.formed promise.placed
+
+  full : FullyPlaced rest
+  full = rest_placed (selected tree) promise.formed promise.placed
+
+  safe : mach_walks.NoAddrLive rest
+  safe = rest_no_addr (selected tree) promise.formed promise.placed promise.no_addr
+
+  regular : IsRegular (lowered rest)
+  regular = lowered_regular rest formed full (rest_seated (selected tree) promise.formed promise.placed promise.seated)
+
+  rest_tries : AllTries (tries tree) rest.code
+  rest_tries = placed_tries last_resort (tries tree) (selected tree).code (all_tries (tries tree) (selected tree).code promise.tries)
+
+  -- No more traps are pushed at a place than tries stand round one of the text.
+  pub depth : (code : List Line) (traps : List ℕ) → Traps m code traps → length traps ≤ tries tree
+  depth code traps (by_walk r) =
+      tidied_shallow (tries tree) (made.linear).made (lowered_shallow rest formed full (tries tree) rest_tries) code traps r
+  depth code traps (unreached out) = omega arith
+
+  offsets : All (λ (i : Line). line.OffsetFits i.op) m.code
+  offsets = all_of (λ (i : Line). line.OffsetFits i.op) m.code (λ j z. offset_of_line j.op (λ g e. fits j z g e))
+    where
+      fits : (j : Line) → IsIn j m.code → (g : Op) → j.op ≡ lin.Op g → OffsetFits (mach.Op g)
+      fits j z g e =
+          let here : IsNamedIn (λ f. f ≡ mach.Op g) m = record { line = j; among = contains_of z; op = g; is = e; named = refl } in
+          let was : kept.IsNamedIn (λ f. f ≡ mach.Op g) rest =
+          named_from (slot_number rest) (λ f. f ≡ mach.Op g) rest (lowered rest) refl (tidied_named (λ f. f ≡ mach.Op g) (made.linear).made here) in
+          subst OffsetFits was.named
+          (all_in (λ (i : Instr). OffsetFits i.op) (placed_all last_resort OffsetFits (selected tree).code promise.offsets) (in_of was.instr rest.code was.among))
+
+  exit_few : (i : Instr) (next : List Instr) → mach_walks.Stands i next rest.code → (l n : ℕ) → i.op ≡ mach.Mark (mark.Exit l n) → length (tries_at (i ∷ next)) ≤ tries tree → n ≤ tries tree
+  exit_few i next s l n e le = let ended = formed.nested.at_exit i next s l n e in omega (arith, ended, le)
+
+  lines_few : tries tree ≤ 65536 → length m.code < 4294967296
+  lines_few few =
+      let tokens = few_tokens tree accepted.checked.limits_kept in
+      let covered = accepted.covered in
+      let values = covered.tokens_cover in
+      let exits_few = selected_exits tree in
+      let same = placed_exits last_resort (selected tree).code in
+      let long = placed_long last_resort (selected tree).code in
+      let size = promise.size in
+      let instrs = size.instrs in
+      let own : (i : Instr) (next : List Instr) → mach_walks.Stands i next rest.code → (l n : ℕ) → i.op ≡ mach.Mark (mark.Exit l n) → n ≤ tries tree = λ i next s l n e. exit_few i next s l n e (tries_within (tries tree) rest.code rest_tries i next s) in
+      let ended = ended_few (tries tree) rest.code own in
+      let product = few_product (exits rest.code) (tries tree) (omega (arith, exits_few, same, values, tokens)) few in
+      let lines = (made.linear).lines in
+      omega (arith, lines, ended, product, long, instrs, tokens)
+
+  pub chained : frame_bytes m + 16 * tries tree ≤ 1048576 → IsChained tree m ds pieces
+  chained fit =
+      record {
+        keeps = λ named exact.
+            keeps_then (selected tree) rest m named (rest_keeps (selected tree) promise.formed promise.placed) ((made.linear).keeps safe named exact);
+        regular = (made.linear).regular;
+        tidy = (made.linear).tidy;
+        tight = (made.linear).tight;
+        no_addr = (made.linear).no_addr safe;
+        spare_dead = (made.linear).spare_dead;
+        within = record {
+          lines = lines_few (omega (arith, fit));
+          frame = λ code traps at. let le = depth code traps at in omega (arith, fit, le);
+        };
+        offsets = offsets;
+        unended = tidied_unended (made.linear).made (lowered_unended rest regular (placed_end last_resort (selected_end tree)));
+        exact = made.exact;
+        count = made.count;
+        homes = (made.linear).named ds made.exact;
+        emitted = made.emitted;
+      }

@@ -1,0 +1,3 @@
+mod Exits
+pub mod Carried
+pub mod Chained
