@@ -11,15 +11,12 @@ use Rattle.moving_laws.specs.Values.{HasFunctions}
 use Rattle.rv_machine.specs.Loading.{IsRoom}
 use Rattle.rv_machine.specs.Places.{stack_bottom}
 use Rattle.rv_machine.specs.Sound.{IsStackBase}
+use Rattle.line_stands.specs.Lines.{Nowhere}
 use Rattle.linear_machine.specs.Relation.{Laid}
 use Rattle.linking.specs.Pace.{Words, GoesForward}
 use Rattle.linking_stages.specs.Chain.{IsSelected, AreLowered, HoldsWords}
 use Rattle.linking_stages.specs.Stages.{linear_program}
 use Rattle.linking_machine.specs.Emitted.{IsEmitted}
-
--- t0 is live nowhere
-abbrev pub Nowhere : List Line → Type 0
-Nowhere code = ⊥
 
 module _ (file : FileTree) (image : Tables) (machs : ℕ → Mach) (lins : ℕ → Lin)
     (named : ℕ → NamedAt) (w : Words State) (most words : ℕ) (laid : ℕ → Laid) (entry : ℕ → ℕ)

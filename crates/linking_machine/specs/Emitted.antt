@@ -29,6 +29,7 @@ use Rattle.linear_machine.specs.Contents.{statics_of}
 use Rattle.line_calls.specs.Calls.{FollowsSo}
 use Rattle.linear_machine.specs.Follows.{IsAt, IsEntered, used, needs_of}
 use Rattle.linear_machine.specs.Relation.{Below, Laid}
+use Rattle.linear_machine.specs.Statics.{StaticsLie}
 use Rattle.linear_machine.specs.View.{Fixed, View}
 use Rattle.linear_machine.proofs.Beginning.{nothing_below}
 use Rattle.linking.specs.Assembled.{Setup, IsStub}
@@ -69,6 +70,7 @@ pub record AreEntries (file : FileTree) (image : Tables) (entry : ℕ → ℕ) :
   pub statics : (stack heap : ℕ) → IsRoom stack → IsRoom heap →
       StaticsStand image [] (start_memory image stack heap) (root_cells image)
       (statics_of (first_memory file))
+  pub lies : StaticsLie image (first_memory file)
 
 module _ (file : FileTree) (image : Tables) (lins : ℕ → Lin) (named : ℕ → NamedAt)
     (w : Words State) (laid : ℕ → Laid) (entry : ℕ → ℕ) (live : ℕ → List Line → Type 0)
