@@ -37,7 +37,9 @@ use Rattle.rv_machine.specs.Places.{stack_bottom}
 use Rattle.rv_machine.specs.Sound.{IsStackBase}
 use Rattle.rv_pieces.specs.declared.piece.Pieces.{Pieces}
 use Rattle.selection_rules.specs.Select.{selected}
+use Rattle.line_stands.specs.Lines.{Nowhere}
 use Rattle.line_stands.specs.Parts.{PartStands}
+use Rattle.line_calls.proofs.Every.{every_entry, every_line}
 use Rattle.line_calls.specs.Laws.{frame_in}
 use Rattle.line_calls.specs.Points.{IsReadyFor, before_service}
 use Rattle.emit_rules.specs.Entry.{entry, frame_of}
@@ -48,7 +50,7 @@ use Rattle.linear_machine.specs.View.{Fixed, View}
 use Rattle.linking.specs.Assembled.{Setup}
 use Rattle.linking.specs.Pace.{IsReached, Words, at_start, by_step}
 use Rattle.linking.specs.Program.{place_in, setting_in}
-use Rattle.linking_machine.specs.Compiled.{IsCompiled, Nowhere}
+use Rattle.linking_machine.specs.Compiled.{IsCompiled}
 use Rattle.linking_machine.specs.Emitted.{AreEntries, FollowsLine, IsEmitted}
 use Rattle.linking_machine.specs.Standing.{fixed_of}
 use Rattle.linking_machine.proofs.Compiled.{bases_hold, compiled_correct}
@@ -56,16 +58,21 @@ use Rattle.linking_stages.specs.Stages.{linear_program}
 use Rattle.linking_stages.proofs.Walking.{reached_walks}
 use Rattle.function_stands.specs.Compiled.{IsImageOf}
 use Rattle.function_stands.specs.Functions.{FunctionStands, entry_place}
+use Rattle.function_stands.proofs.Entries.{entry_offset}
+use Rattle.function_stands.proofs.Whole.{function_stands}
+use Rattle.first_statics.specs.Given.{HasGivenData}
+use Rattle.first_statics.proofs.First.{data_ends, first_lies, first_stands}
+use Rattle.frame_names.specs.Names.{names_by}
+use Rattle.frame_names.proofs.Names.{exact_names}
 use Rattle.compiled_files.specs.Forward.{LiesForward, first_part, words_of}
 use Rattle.compiled_files.specs.Image.{function_words}
-use Rattle.compiled_files.specs.Stages.{AreChained, AreInHeap, selected_in}
+use Rattle.compiled_files.specs.Stages.{AreChained, most_nodes, selected_in}
 use Rattle.compiled_files.proofs.Bytes.{bytes_small}
 use Rattle.compiled_files.proofs.Forward.{forward}
-use Rattle.compiled_files.proofs.Given.{EveryEntry, EveryLine, FilesStand, FunctionsStand, NamesKnown}
 use Rattle.compiled_files.proofs.Ready.{ready}
-use Rattle.compiled_files.proofs.Rows.{entry_there, few, no_frame, rows, words_fit}
+use Rattle.compiled_files.proofs.Rows.{few, no_frame, rows, words_fit}
 use Rattle.compiled_files.proofs.Serving.{served}
-use Rattle.compiled_files.proofs.Stages.{holds, lowered_so, most_nodes, nodes_so, selected_so}
+use Rattle.compiled_files.proofs.Stages.{holds, lowered_so, selected_so}
 use Rattle.compiled_files.proofs.Stub.{stub_so}
 
 -- ---- past the last function
@@ -139,16 +146,12 @@ has_begun lins named f c (by_step r l) = has_begun lins named f c r
 
 module _ (text : List ℕ) (file : FileTree) (is : IsFileOf text file) (bytes : AreBytes text) (image : Tables) (ps : List Pieces)
     (can : CanBeLaid file ps) (laid_out : IsLaidOut file ps image) (tables : AreTables image) (chained : AreChained file ps)
-    (every_line : EveryLine Nowhere) (every_entry : EveryEntry Nowhere) (functions_stand : FunctionsStand) (names_known : NamesKnown)
-    (files : FilesStand) (in_heap : AreInHeap file (layout_of image)) where
+    (has : HasFunctions image) (given : HasGivenData file) where
   abbrev setting : Setting
   setting = setting_in file
 
-  abbrev has : HasFunctions image
-  has = files.has file ps image laid_out can tables
-
   end : data_end file ≡ data_start + length image.bytes
-  end = files.ends file ps image can.of_file laid_out can.each_one
+  end = data_ends file ps image laid_out
 
   image_of : IsImageOf image file ps setting
   image_of = record { can = can; laid = laid_out; short = tables.code.short; symbols = λ name. refl; end = end }
@@ -172,9 +175,10 @@ module _ (text : List ℕ) (file : FileTree) (is : IsFileOf text file) (bytes : 
       by : (o : Option FunctionTree) → slice_get (functions file) f ≡ o → Function f
       by (Some tree) there =
           let it = chained f tree there in
-          let names = names_known it.lin it.descrs it.chained.regular it.chained.exact in
-          of_file tree there it.lin it.descrs it.pieces it.chained names.0 names.1
-          (functions_stand image file ps setting f it.pieces tree it.lin it.descrs names.0 image_of it.there there it.chained names.1 has)
+          let named = names_by it.descrs it.lin in
+          let names = exact_names it.chained.regular it.chained.exact in
+          of_file tree there it.lin it.descrs it.pieces it.chained named names
+          (function_stands image file ps setting f tree it.lin it.descrs it.pieces named image_of it.there there it.chained names has)
       by None none = past (past_end (functions file) f none) none
 
   abbrev lin_of : {f : ℕ} → Function f → Lin
@@ -255,7 +259,7 @@ module _ (text : List ℕ) (file : FileTree) (is : IsFileOf text file) (bytes : 
           words = before_service i.op k;
           few = served place named m i next held a k image.code stands.names (laid.part (suc (length next))) (length a.tries) (frame_of m) it.descr
               it.stands.part.forms it.stands.part.has (omega (arith, behind, part));
-          so = every_line s stands.names laid entry_at c place named m (frame_of m) it.descr i next v held a k it.stands it.point (finds i next refl)
+          so = every_line Nowhere s stands.names laid entry_at c place named m (frame_of m) it.descr i next v held a k it.stands it.point (finds i next refl)
               behind at;
         }
 
@@ -268,7 +272,7 @@ module _ (text : List ℕ) (file : FileTree) (is : IsFileOf text file) (bytes : 
         let low = stands.begins in
         let k = laid.part (length m.code) - entry_at f in
         let behind : laid.part (length m.code) ≡ entry_at f + k = omega (arith, low) in
-        every_entry s stands.names laid entry_at f c place m v arguments memory k stands.small
+        every_entry Nowhere s stands.names laid entry_at f c place m v arguments memory k stands.small
         (subst (λ (to : ℕ). PartStands s stands.names (entry_at f) to (entry (frame_in laid))) behind (stands.entered s refl)) behind
         ch.regular.seated.params entered u e
 
@@ -286,10 +290,11 @@ module _ (text : List ℕ) (file : FileTree) (is : IsFileOf text file) (bytes : 
         (formed f (functions_are f) (has_begun lins names f (place_in file (layout_of image) f below) reached)) u i next reached e) at;
     begins = λ run f below c v arguments memory u e low entered. entry_follows run f below c v (functions_are f) arguments memory u e entered;
     entries = record {
-      places = λ f row there. entry_there file image ps can laid_out f row there;
+      places = entry_offset image file ps setting image_of;
       few = λ f tree there. few file image ps can laid_out f tree there;
       bytes = bytes_small file image ps laid_out;
-      statics = λ stack heap s h. files.first file ps image can.of_file laid_out can.each_one stack heap s h;
+      statics = λ stack heap s h. first_stands file ps image laid_out tables.code.short can.each_one can.of_file given stack heap;
+      lies = first_lies file ps image laid_out;
     };
     stub = λ run f row. stub_so file image ps has bases_hold laid entry_at (λ f. Nowhere) laid_out end run f row;
   }
@@ -299,7 +304,7 @@ module _ (text : List ℕ) (file : FileTree) (is : IsFileOf text file) (bytes : 
     rows = rows file image ps can laid_out;
     words_fit = words_fit file image ps can laid_out;
     holds = holds text file is bytes;
-    selected = selected_so text file is (layout_of image) (most_nodes (functions file)) (nodes_so file) in_heap;
+    selected = selected_so text file is (layout_of image);
     lowered = lowered_so file lins names (λ f tree there. keeps f (functions_are f) tree there);
     forward = forward lins names laid entry_at words (λ f. lies f (functions_are f));
     emitted = emitted;

@@ -11,11 +11,8 @@ use Rattle.layout_rules.specs.declared.form.Form.{Form}
 use Rattle.layout_rules.specs.Conditions.{CanBeLaid, IsRowLaid}
 use Rattle.layout_rules.specs.Forms.{total_words}
 use Rattle.layout_rules.specs.Laid.{AreAllForms, IsLaidOut, code_from, entries_from, laid_out, rows_from, stub_words}
-use Rattle.function_stands.specs.Functions.{entry_place}
-use Rattle.moving_laws.specs.Values.{function_at}
-use Rattle.rv_machine.specs.Memory.{code_start}
 use Rattle.rv_pieces.specs.declared.piece.Pieces.{Pieces}
-use Rattle.compiled_files.specs.Image.{entries_in, function_words}
+use Rattle.compiled_files.specs.Image.{function_words}
 
 types_are : (at : ℕ) (fs : List FunctionTree) (ps : List Pieces) (forms : List (List Form)) → length ps ≡ length fs → AreAllForms ps forms →
     AreRowsOf fs (rows_from at fs ps forms)
@@ -44,19 +41,6 @@ frame_none at (f ∷ fs) [] forms n h = refl
 frame_none at (f ∷ fs) (p ∷ ps) [] n h = refl
 frame_none at (f ∷ fs) (p ∷ ps) (k ∷ forms) zero h = absurd (omega (arith, h))
 frame_none at (f ∷ fs) (p ∷ ps) (k ∷ forms) (suc n) h = frame_none (at + total_words p.code k) fs ps forms n (omega (arith, h))
-
-entry_is : (at : ℕ) (fs : List FunctionTree) (ps : List Pieces) (forms : List (List Form)) (n : ℕ) (row : Func) →
-    slice_get (rows_from at fs ps forms) n ≡ Some row → row.offset ≡ 4 * slice_index (entries_from at ps forms) n
-entry_is at [] ps forms n row is = cc
-entry_is at (f ∷ fs) [] forms n row is = cc
-entry_is at (f ∷ fs) (p ∷ ps) [] n row is = cc
-entry_is at (f ∷ fs) (p ∷ ps) (k ∷ forms) zero row is = cc
-entry_is at (f ∷ fs) (p ∷ ps) (k ∷ forms) (suc n) row is = entry_is (at + total_words p.code k) fs ps forms n row is
-
-function_there : (rows : List Func) (n : ℕ) (row : Func) → slice_get rows n ≡ Some row → function_at rows n ≡ code_start + row.offset
-function_there [] n row is = cc
-function_there (r ∷ rows) zero row is = let e : r ≡ row = cc in ap (λ (r : Func). code_start + r.offset) e
-function_there (r ∷ rows) (suc n) row is = function_there rows n row is
 
 few_in : (fs : List FunctionTree) (n : ℕ) (f : FunctionTree) → AllByRecursion IsRowLaid fs → slice_get fs n ≡ Some f → length (comps_of f) ≤ 16
 few_in [] n f all is = cc
@@ -87,20 +71,8 @@ module _ (file : FileTree) (image : Tables) (ps : List Pieces) (can : CanBeLaid 
   pub no_frame : (f : ℕ) → length ps ≤ f → slice_index (layout_of image).frames f ≡ 0
   no_frame f h = ap (λ (rows : List Func). slice_index (frames_in rows) f) rows_are ∙ frame_none stub_words (functions file) ps forms f h
 
-  -- Their entries are where the pieces are laid.
-  pub places : (f : ℕ) (row : Func) → slice_get image.funcs f ≡ Some row → row.offset ≡ 4 * entries_in ps forms f
-  places f row is =
-      entry_is stub_words (functions file) ps forms f row (ap (λ (rows : List Func). slice_get rows f) (sym rows_are) ∙ is)
-
   pub few : (f : ℕ) (tree : FunctionTree) → slice_get (functions file) f ≡ Some tree → length (comps_of tree) ≤ 16
   few f tree is = few_in (functions file) f tree can.of_file.rows is
-
-  -- Each function is entered where its row says.
-  pub entry_there : (f : ℕ) (row : Func) → slice_get image.funcs f ≡ Some row → row.offset ≡ 4 * entry_place image f
-  entry_there f row is =
-      let here = places f row is in
-      let at = function_there image.funcs f row is in
-      omega (arith, here, at)
 
   -- The code has the words of the functions, and the stub.
   pub words_many : length image.code ≡ stub_words + function_words image

@@ -12,9 +12,8 @@ ghost use Rattle.cmm_meaning.specs.Layout.{Layout};
 ghost use Rattle.cmm_tree.specs.Tree.{FileTree, functions};
 ghost use Rattle.compiled_files.specs.Forward.{LiesForward, words_of};
 ghost use Rattle.compiled_files.specs.Image.{function_words};
-ghost use Rattle.compiled_files.specs.Stages.{AreInHeap, HasNodes, selected_in};
+ghost use Rattle.compiled_files.specs.Stages.{most_nodes, selected_in};
 ghost use Rattle.correctness.specs.Setting.{AreRowsOf, layout_of};
-ghost use Rattle.function_stands.specs.Functions.{entry_place};
 ghost use Rattle.image_form.specs.Tables.{Func, Tables};
 ghost use Rattle.layout_rules.specs.Conditions.{CanBeLaid};
 ghost use Rattle.layout_rules.specs.Laid.{IsLaidOut};
@@ -23,11 +22,11 @@ ghost use Rattle.lin_ir.specs.Meaning.{NamedAt, State};
 ghost use Rattle.lin_ir.specs.declared.lin.Lin.{Lin};
 ghost use Rattle.lin_ir.specs.declared.lin.Line.{Line};
 ghost use Rattle.line_calls.specs.Points.{IsReadyFor};
+ghost use Rattle.line_stands.specs.Lines.{Nowhere};
 ghost use Rattle.linear_machine.proofs.Beginning.{nothing_below};
 ghost use Rattle.linear_machine.specs.Relation.{Laid};
 ghost use Rattle.linking.specs.Assembled.{IsStub, Setup};
 ghost use Rattle.linking.specs.Pace.{GoesForward, IsReached};
-ghost use Rattle.linking_machine.specs.Compiled.{Nowhere};
 ghost use Rattle.linking_machine.specs.Standing.{Back};
 ghost use Rattle.linking_stages.specs.Chain.{HoldsWords, IsSelected};
 ghost use Rattle.linking_stages.specs.Stages.{linear_program};
@@ -49,30 +48,24 @@ pub fn parts_go_forward()
         GoesForward State (linear_program lins named) (words_of lins laid entry) words }
 {}
 
-/// Law: the rows of an image are those of its file, each function is entered where its row says, and the code has a
-/// word more than the functions.
+/// Law: the rows of an image are those of its file, and its code has a word more than the functions.
 pub fn images_have_rows()
     ensures rows { (file : FileTree) (image : Tables) (ps : List Pieces) → CanBeLaid file ps →
         IsLaidOut file ps image → AreRowsOf (functions file) image.funcs }
-    ensures entries { (file : FileTree) (image : Tables) (ps : List Pieces) → CanBeLaid file ps →
-        IsLaidOut file ps image → (f : ℕ) (row : Func) → slice_get image.funcs f ≡ Some row →
-        row.offset ≡ 4 * entry_place image f }
     ensures words { (file : FileTree) (image : Tables) (ps : List Pieces) → CanBeLaid file ps →
         IsLaidOut file ps image → function_words image + 1 ≤ length image.code }
 {}
 
-/// Law: an accepted text of bytes holds words, and where a selected function asks for no more heap than that of the
-/// text, selection does what the text does.
+/// Law: an accepted text of bytes holds words, and what is selected of its functions does what these do.
 pub fn selected_functions_keep()
     ensures holds { (text : List ℕ) (file : FileTree) → IsFileOf text file → AreBytes text →
         HoldsWords file }
-    ensures selected { (text : List ℕ) (file : FileTree) → IsFileOf text file → (layout : Layout)
-        (most : ℕ) → HasNodes file most → AreInHeap file layout →
-        IsSelected file layout (selected_in file) most }
+    ensures selected { (text : List ℕ) (file : FileTree) → IsFileOf text file → (layout : Layout) →
+        IsSelected file layout (selected_in file) (most_nodes (functions file)) }
 {}
 
 /// Law: wherever a run of a well formed function stands, its line finds what it is to find: a raise is on its way
-/// only before the entry of a handler, and tries are pushed where one is popped and where the function is left.
+/// only before the entry of a handler, a try is pushed where one is popped, and none where the function is left.
 pub fn runs_are_ready()
     ensures { (lins : ℕ → Lin) (named : ℕ → NamedAt) (f : ℕ) (c : Place) → WellFormed (lins f) →
         (u : State) (i : Line) (next : List Line) →

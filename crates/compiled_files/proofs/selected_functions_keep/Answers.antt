@@ -5,4 +5,4 @@ pub returns-clause-holds : goal.returns-clause-holds
 returns-clause-holds c = λ text file is bytes. holds text file is bytes
 
 pub returns-clause-selected : goal.returns-clause-selected
-returns-clause-selected c = λ text file is layout most nodes in_heap. selected_so text file is layout most nodes in_heap
+returns-clause-selected c = λ text file is layout. selected_so text file is layout

@@ -1,4 +1,4 @@
-use Rattle.linking_machine.specs.Compiled.{Nowhere}
+use Rattle.line_stands.specs.Lines.{Nowhere}
 use Rattle.compiled_files.proofs.Stub.{stub_so}
 use Rattle.compiled_files.proofs.stubs_end_runs.Goals as goal
 
