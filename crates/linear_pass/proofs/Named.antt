@@ -10,15 +10,13 @@ use Rattle.bs_words.specs.declared.types.Loc.TheVariants as loc
 use Rattle.mach_ir.specs.Placed.{colours}
 use Rattle.lin_ir.specs.Descriptors.{IsEntry, of_register, of_slot, ComesBefore, register_first, rising, Describes, AreExact}
 use Rattle.lin_ir.specs.Formed.{IsHome, is_colour, is_slot, spare}
-use Rattle.lin_ir.specs.Walks as walks
-use Rattle.lin_ir.specs.Walks.{Stands, LiveAt, LiveAcross, across_step, across_raise}
+use Rattle.lin_ir.specs.Walks.{Stands, LiveAt}
 use Rattle.lin_ir.specs.declared.descr.Descr.{Descr}
 use Rattle.lin_ir.specs.declared.lin.Line.{Line}
 use Rattle.lin_ir.specs.declared.lin.Lin.{Lin}
-use Rattle.lin_ir.specs.declared.lin.Spot.{Spot}
 use Rattle.linear_rules.proofs.Homes.{IsIn, is_first, is_later, in_of, contains_of}
 use Rattle.linear_rules.proofs.Marks.{all_in, pairs_here, pairs_later}
-use Rattle.linear_rules.proofs.Walked.{Tail, tail_target, tail_label, stands_tail, IsRead, live_read, not_spare}
+use Rattle.linear_rules.proofs.Walked.{not_spare}
 use Rattle.tidy_rules.specs.Regular.{AtHomes}
 use Rattle.tidy_rules.proofs.Living.{live_home}
 use Rattle.linear_pass.specs.Linear.{NamesHomes}
