@@ -3,3 +3,7 @@ pub mod InHeap
 pub mod Rows
 pub mod Stages
 pub mod Stub
+pub mod Ready
+pub mod Bytes
+pub mod Serving
+pub mod Correct

@@ -8,11 +8,11 @@ use Rattle.correctness.specs.Setting.{AreRowsOf, layout_of}
 use Rattle.image_form.specs.Image.{stub}
 use Rattle.image_form.specs.Tables.{Func, Tables}
 use Rattle.layout_rules.specs.declared.form.Form.{Form}
-use Rattle.layout_rules.specs.Conditions.{IsRowLaid}
+use Rattle.layout_rules.specs.Conditions.{CanBeLaid, IsRowLaid}
 use Rattle.layout_rules.specs.Forms.{total_words}
-use Rattle.layout_rules.specs.Laid.{AreAllForms, code_from, entries_from, laid_out, rows_from, stub_words}
+use Rattle.layout_rules.specs.Laid.{AreAllForms, IsLaidOut, code_from, entries_from, laid_out, rows_from, stub_words}
 use Rattle.rv_pieces.specs.declared.piece.Pieces.{Pieces}
-use Rattle.compiled_files.specs.Image.{IsImageOf, entries_in, function_words}
+use Rattle.compiled_files.specs.Image.{function_words}
 
 types_are : (at : ℕ) (fs : List FunctionTree) (ps : List Pieces) (forms : List (List Form)) → length ps ≡ length fs → AreAllForms ps forms →
     AreRowsOf fs (rows_from at fs ps forms)
@@ -42,14 +42,6 @@ frame_none at (f ∷ fs) (p ∷ ps) [] n h = refl
 frame_none at (f ∷ fs) (p ∷ ps) (k ∷ forms) zero h = absurd (omega (arith, h))
 frame_none at (f ∷ fs) (p ∷ ps) (k ∷ forms) (suc n) h = frame_none (at + total_words p.code k) fs ps forms n (omega (arith, h))
 
-entry_is : (at : ℕ) (fs : List FunctionTree) (ps : List Pieces) (forms : List (List Form)) (n : ℕ) (row : Func) →
-    slice_get (rows_from at fs ps forms) n ≡ Some row → row.offset ≡ 4 * slice_index (entries_from at ps forms) n
-entry_is at [] ps forms n row is = cc
-entry_is at (f ∷ fs) [] forms n row is = cc
-entry_is at (f ∷ fs) (p ∷ ps) [] n row is = cc
-entry_is at (f ∷ fs) (p ∷ ps) (k ∷ forms) zero row is = cc
-entry_is at (f ∷ fs) (p ∷ ps) (k ∷ forms) (suc n) row is = entry_is (at + total_words p.code k) fs ps forms n row is
-
 few_in : (fs : List FunctionTree) (n : ℕ) (f : FunctionTree) → AllByRecursion IsRowLaid fs → slice_get fs n ≡ Some f → length (comps_of f) ≤ 16
 few_in [] n f all is = cc
 few_in (g ∷ fs) zero f all is =
@@ -58,40 +50,35 @@ few_in (g ∷ fs) zero f all is =
     subst (λ (g : FunctionTree). length (comps_of g) ≤ 16) e (omega (arith, few, length-map g.params (λ (p : Parameter). p.comp)))
 few_in (g ∷ fs) (suc n) f all is = few_in fs n f all.1 is
 
-module _ (file : FileTree) (image : Tables) (ps : List Pieces) (it : IsImageOf file image ps) where
+module _ (file : FileTree) (image : Tables) (ps : List Pieces) (can : CanBeLaid file ps) (laid : IsLaidOut file ps image) where
   abbrev forms : List (List Form)
-  forms = it.laid.forms
+  forms = laid.forms
 
   rows_are : image.funcs ≡ rows_from stub_words (functions file) ps forms
-  rows_are = ap (λ (t : Tables). t.funcs) it.laid.is
+  rows_are = ap (λ (t : Tables). t.funcs) laid.is
 
   -- The rows of the image are those of the file.
   pub rows : AreRowsOf (functions file) image.funcs
   rows =
-      subst (AreRowsOf (functions file)) (sym rows_are) (types_are stub_words (functions file) ps forms it.can.each_one it.laid.are)
+      subst (AreRowsOf (functions file)) (sym rows_are) (types_are stub_words (functions file) ps forms can.each_one laid.are)
 
   -- Their frames are those of the pieces.
   pub frame : (f : ℕ) (p : Pieces) → slice_get ps f ≡ Some p → slice_index (layout_of image).frames f ≡ p.frame
   frame f p is =
       ap (λ (rows : List Func). slice_index (frames_in rows) f) rows_are
-      ∙ frame_is stub_words (functions file) ps forms f p it.can.each_one it.laid.are is
+      ∙ frame_is stub_words (functions file) ps forms f p can.each_one laid.are is
 
   pub no_frame : (f : ℕ) → length ps ≤ f → slice_index (layout_of image).frames f ≡ 0
   no_frame f h = ap (λ (rows : List Func). slice_index (frames_in rows) f) rows_are ∙ frame_none stub_words (functions file) ps forms f h
 
-  -- Their entries are where the pieces are laid.
-  pub places : (f : ℕ) (row : Func) → slice_get image.funcs f ≡ Some row → row.offset ≡ 4 * entries_in ps forms f
-  places f row is =
-      entry_is stub_words (functions file) ps forms f row (ap (λ (rows : List Func). slice_get rows f) (sym rows_are) ∙ is)
-
   pub few : (f : ℕ) (tree : FunctionTree) → slice_get (functions file) f ≡ Some tree → length (comps_of tree) ≤ 16
-  few f tree is = few_in (functions file) f tree it.can.of_file.rows is
+  few f tree is = few_in (functions file) f tree can.of_file.rows is
 
   -- The code has the words of the functions, and the stub.
   pub words_many : length image.code ≡ stub_words + function_words image
   words_many =
       let code = code_from file (entries_from stub_words ps forms) stub_words ps forms in
-      let long : length image.code ≡ length (stub ++ code) = ap (λ (t : Tables). length t.code) it.laid.is in
+      let long : length image.code ≡ length (stub ++ code) = ap (λ (t : Tables). length t.code) laid.is in
       omega (arith, long, length-append stub code)
 
   pub words_fit : function_words image + 1 ≤ length image.code

@@ -18,11 +18,10 @@ use Rattle.cmm_data.specs.Placement.{data_end}
 use Rattle.cmm_meaning.specs.Layout.{observed}
 use Rattle.cmm_meaning.specs.State.{Doing, Gave, Threw}
 use Rattle.cmm_tree.specs.Tree.{FileTree}
-use Rattle.compiled_files.specs.Image.{IsImageOf}
 use Rattle.correctness.specs.Setting.{layout_of}
 use Rattle.image_form.specs.Image.{IsFunc, IsResult, stub}
 use Rattle.image_form.specs.Tables.{Tables}
-use Rattle.layout_rules.specs.Laid.{code_from, entries_from, stub_words}
+use Rattle.layout_rules.specs.Laid.{IsLaidOut, code_from, entries_from, stub_words}
 use Rattle.lin_ir.specs.declared.lin.Line.{Line}
 use Rattle.mach_ir.specs.Runs.{entered}
 use Rattle.machine_laws.specs.Steps.{next_of, moments}
@@ -66,7 +65,7 @@ use Rattle.linear_machine.proofs.Steps.{one_step, ready, ready_stands}
 use Rattle.line_calls.proofs.Shown.{each_at, val_shown}
 use Rattle.linking.specs.Assembled.{IsStub, Setup}
 use Rattle.linking.specs.Carries.{Comes, Near, Outer}
-use Rattle.linking_machine.specs.Emitted.{IsInTable}
+use Rattle.line_calls.specs.Calls.{IsInTable}
 use Rattle.linking_machine.specs.Standing.{Back, Shows, fixed_of}
 use Rattle.linking_machine.proofs.Carrying.{after_moments, values_shown}
 
@@ -263,9 +262,9 @@ service_word : encoded Ecall ≡ 0x00000073
 unfolding encoded
 service_word = refl
 
-module _ (file : FileTree) (ps : List Pieces) (s : Fixed) (it : IsImageOf file s.image ps) where
-  code_is : s.image.code ≡ stub ++ code_from file (entries_from stub_words ps it.laid.forms) stub_words ps it.laid.forms
-  code_is = ap (λ (t : Tables). t.code) it.laid.is
+module _ (file : FileTree) (ps : List Pieces) (s : Fixed) (laid : IsLaidOut file ps s.image) where
+  code_is : s.image.code ≡ stub ++ code_from file (entries_from stub_words ps laid.forms) stub_words ps laid.forms
+  code_is = ap (λ (t : Tables). t.code) laid.is
 
   stub_there : HasStub s
   stub_there = record {
@@ -284,9 +283,9 @@ module _ (file : FileTree) (ps : List Pieces) (s : Fixed) (it : IsImageOf file s
 -- The stub ends each run of an image.
 pub stub_so : (file : FileTree) (image : Tables) (ps : List Pieces) (has : HasFunctions image)
     (bases : (stack : ℕ) → IsRoom stack → IsStackBase (stack_bottom - stack)) (laid : ℕ → Laid) (entry : ℕ → ℕ) (live : ℕ → List Line → Type 0) →
-    IsImageOf file image ps → (run : Setup) (f : ℕ) → slice_get image.funcs f ≡ Some run.row →
+    IsLaidOut file ps image → data_end file ≡ data_start + length image.bytes → (run : Setup) (f : ℕ) → slice_get image.funcs f ≡ Some run.row →
     IsStub Now (next_of run.schedule) seen run.stack run.heap (layout_of image) (data_end file) run.row.result
     (λ d o x. Back image has bases laid entry live run nothing_below d o x)
-stub_so file image ps has bases laid entry live it run f row =
+stub_so file image ps has bases laid entry live it end run f row =
     let s = fixed_of image has bases run in
-    stub_ends s (data_end file) it.end (stub_there file ps s it) (each_at IsFunc image.funcs f run.row has.tables.funcs.each row).result run.stack run.heap
+    stub_ends s (data_end file) end (stub_there file ps s it) (each_at IsFunc image.funcs f run.row has.tables.funcs.each row).result run.stack run.heap

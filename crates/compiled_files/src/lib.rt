@@ -3,28 +3,34 @@
 //! The crate holds definitions and laws alone.
 #![tactic(auto)]
 
-ghost use Rattle.std.specs.Prelude.{◌≡◌, ℕ, ◌+◌, ◌-◌, ◌*◌, ◌≤◌, List, Some, length, slice_get};
+ghost use Rattle.std.specs.Prelude.{◌≡◌, ℕ, ◌+◌, ◌-◌, ◌*◌, ◌≤◌, List, ◌∷◌, Some, length, slice_get};
+ghost use Rattle.bs_words.specs.Fits.{data_start};
 ghost use Rattle.cmm_data.specs.Placement.{data_end};
 ghost use Rattle.cmm_front.specs.FileOf.{IsFileOf};
 ghost use Rattle.cmm_lex.proofs.Languages.{AreBytes};
 ghost use Rattle.cmm_meaning.specs.Layout.{Layout};
 ghost use Rattle.cmm_tree.specs.Tree.{FileTree, functions};
 ghost use Rattle.compiled_files.specs.Forward.{LiesForward, words_of};
-ghost use Rattle.compiled_files.specs.Image.{IsImageOf, entries_in, function_words};
-ghost use Rattle.compiled_files.specs.Stages.{AreInHeap, AreMade, HasNodes};
+ghost use Rattle.compiled_files.specs.Image.{function_words};
+ghost use Rattle.compiled_files.specs.Stages.{most_nodes, selected_in};
 ghost use Rattle.correctness.specs.Setting.{AreRowsOf, layout_of};
 ghost use Rattle.image_form.specs.Tables.{Func, Tables};
+ghost use Rattle.layout_rules.specs.Conditions.{CanBeLaid};
+ghost use Rattle.layout_rules.specs.Laid.{IsLaidOut};
+ghost use Rattle.lin_ir.specs.Formed.{WellFormed};
 ghost use Rattle.lin_ir.specs.Meaning.{NamedAt, State};
 ghost use Rattle.lin_ir.specs.declared.lin.Lin.{Lin};
+ghost use Rattle.lin_ir.specs.declared.lin.Line.{Line};
+ghost use Rattle.line_calls.specs.Points.{IsReadyFor};
+ghost use Rattle.line_stands.specs.Lines.{Nowhere};
 ghost use Rattle.linear_machine.proofs.Beginning.{nothing_below};
 ghost use Rattle.linear_machine.specs.Relation.{Laid};
 ghost use Rattle.linking.specs.Assembled.{IsStub, Setup};
-ghost use Rattle.linking.specs.Pace.{GoesForward};
-ghost use Rattle.linking_machine.specs.Compiled.{spare_lives};
+ghost use Rattle.linking.specs.Pace.{GoesForward, IsReached};
 ghost use Rattle.linking_machine.specs.Standing.{Back};
-ghost use Rattle.linking_stages.specs.Chain.{AreLowered, HoldsWords, IsSelected};
+ghost use Rattle.linking_stages.specs.Chain.{HoldsWords, IsSelected};
 ghost use Rattle.linking_stages.specs.Stages.{linear_program};
-ghost use Rattle.mach_ir.specs.declared.mach.Mach.{Mach};
+ghost use Rattle.mach_ir.specs.Runs.{Place};
 ghost use Rattle.machine_laws.specs.Steps.{next_of};
 ghost use Rattle.moving_laws.specs.Values.{HasFunctions};
 ghost use Rattle.rv_machine.specs.Loading.{IsRoom};
@@ -42,29 +48,28 @@ pub fn parts_go_forward()
         GoesForward State (linear_program lins named) (words_of lins laid entry) words }
 {}
 
-/// Law: the rows of an image are those of its file, each entry lies where its function's pieces are laid, and the
-/// code has a word more than the functions.
+/// Law: the rows of an image are those of its file, and its code has a word more than the functions.
 pub fn images_have_rows()
-    ensures rows { (file : FileTree) (image : Tables) (ps : List Pieces) → IsImageOf file image ps →
-        AreRowsOf (functions file) image.funcs }
-    ensures entries { (file : FileTree) (image : Tables) (ps : List Pieces) (it : IsImageOf file image ps)
-        (f : ℕ) (row : Func) → slice_get image.funcs f ≡ Some row →
-        row.offset ≡ 4 * entries_in ps it.laid.forms f }
-    ensures words { (file : FileTree) (image : Tables) (ps : List Pieces) → IsImageOf file image ps →
-        function_words image + 1 ≤ length image.code }
+    ensures rows { (file : FileTree) (image : Tables) (ps : List Pieces) → CanBeLaid file ps →
+        IsLaidOut file ps image → AreRowsOf (functions file) image.funcs }
+    ensures words { (file : FileTree) (image : Tables) (ps : List Pieces) → CanBeLaid file ps →
+        IsLaidOut file ps image → function_words image + 1 ≤ length image.code }
 {}
 
-/// Law: an accepted text of bytes holds words; what is made of its functions keeps what is selected of them; and
-/// where a selected function asks for no more heap than that of the text, selection does what the text does.
-pub fn made_functions_keep()
+/// Law: an accepted text of bytes holds words, and what is selected of its functions does what these do.
+pub fn selected_functions_keep()
     ensures holds { (text : List ℕ) (file : FileTree) → IsFileOf text file → AreBytes text →
         HoldsWords file }
-    ensures lowered { (text : List ℕ) (file : FileTree) → IsFileOf text file → (machs : ℕ → Mach)
-        (lins : ℕ → Lin) (named : ℕ → NamedAt) → AreMade file machs lins named →
-        AreLowered file machs lins named }
-    ensures selected { (text : List ℕ) (file : FileTree) → IsFileOf text file → (machs : ℕ → Mach)
-        (lins : ℕ → Lin) (named : ℕ → NamedAt) → AreMade file machs lins named → (layout : Layout)
-        (most : ℕ) → HasNodes file most → AreInHeap file layout → IsSelected file layout machs most }
+    ensures selected { (text : List ℕ) (file : FileTree) → IsFileOf text file → (layout : Layout) →
+        IsSelected file layout (selected_in file) (most_nodes (functions file)) }
+{}
+
+/// Law: wherever a run of a well formed function stands, its line finds what it is to find: a raise is on its way
+/// only before the entry of a handler, a try is pushed where one is popped, and none where the function is left.
+pub fn runs_are_ready()
+    ensures { (lins : ℕ → Lin) (named : ℕ → NamedAt) (f : ℕ) (c : Place) → WellFormed (lins f) →
+        (u : State) (i : Line) (next : List Line) →
+        IsReached State (linear_program lins named) f c u → u.rest ≡ i ∷ next → IsReadyFor i u.around }
 {}
 
 /// Law: the stub of an image ends its runs: behind the return of the entry, or a raise that none has caught, two
@@ -72,9 +77,9 @@ pub fn made_functions_keep()
 pub fn stubs_end_runs()
     ensures { (file : FileTree) (image : Tables) (ps : List Pieces) (has : HasFunctions image)
         (bases : (stack : ℕ) → IsRoom stack → IsStackBase (stack_bottom - stack)) (laid : ℕ → Laid)
-        (entry : ℕ → ℕ) (lins : ℕ → Lin) → IsImageOf file image ps → (run : Setup) (f : ℕ) →
-        slice_get image.funcs f ≡ Some run.row →
+        (entry : ℕ → ℕ) → IsLaidOut file ps image → data_end file ≡ data_start + length image.bytes →
+        (run : Setup) (f : ℕ) → slice_get image.funcs f ≡ Some run.row →
         IsStub Now (next_of run.schedule) seen run.stack run.heap (layout_of image) (data_end file)
         run.row.result
-        (λ d o x. Back image has bases laid entry (spare_lives lins) run nothing_below d o x) }
+        (λ d o x. Back image has bases laid entry (λ f. Nowhere) run nothing_below d o x) }
 {}

@@ -47,7 +47,8 @@ use Rattle.linking.specs.Carries.{Outer, outer_of, Out, no_stack, no_heap, Comes
 use Rattle.linking.specs.Pace.{Words}
 use Rattle.linking.proofs.Coming.{comes_on, comes_map}
 use Rattle.linking_stages.specs.Stages.{linear_program}
-use Rattle.linking_machine.specs.Emitted.{IsEmitted, IsInTable}
+use Rattle.line_calls.specs.Calls.{IsInTable}
+use Rattle.linking_machine.specs.Emitted.{IsEmitted}
 use Rattle.linking_machine.specs.Standing.{Shows}
 use Rattle.linking_machine.proofs.Carrying.{after_moments, values_shown, words_all, fixed, at_, entry_, back_, After, after_shows, comes_free}
 

@@ -39,7 +39,8 @@ use Rattle.linking.specs.Carries.{Outer, Out, no_stack, no_heap, Comes, Near, Is
 use Rattle.linking.specs.Pace.{Words}
 use Rattle.linking.specs.Program.{place_in}
 use Rattle.linking_stages.specs.Stages.{linear_program}
-use Rattle.linking_machine.specs.Emitted.{IsEmitted, IsInTable}
+use Rattle.line_calls.specs.Calls.{IsInTable}
+use Rattle.linking_machine.specs.Emitted.{IsEmitted}
 use Rattle.linking_machine.specs.Standing.{Shows, fixed_of, At, Entry, Back}
 
 pub after_moments : (schedule : Schedule) (m : ℕ) (now : Now) → after schedule m now ≡ moments (next_of schedule) m now

@@ -17,7 +17,8 @@ use Rattle.linking.specs.Pace.{Words}
 use Rattle.linking_stages.specs.Chain.{IsGivenWords}
 use Rattle.linking_stages.proofs.Chain.{lowered_keep}
 use Rattle.linking_stages.proofs.Selected.{selected_selects, words_passed}
-use Rattle.linking_machine.specs.Compiled.{spare_lives, IsCompiled}
+use Rattle.line_stands.specs.Lines.{Nowhere}
+use Rattle.linking_machine.specs.Compiled.{IsCompiled}
 use Rattle.linking_machine.proofs.Linked.{emitted_correct}
 
 -- the stack's lowest address, whatever its size
@@ -33,7 +34,7 @@ pub compiled_correct : (file : FileTree) (image : Tables) (machs : ℕ → Mach)
     (bases : (stack : ℕ) → IsRoom stack → IsStackBase (stack_bottom - stack)) →
     IsCompiled file image machs lins named w most words laid entry has bases → IsCorrect file image
 compiled_correct file image machs lins named w most words laid entry has bases c =
-    emitted_correct file image lins named w laid entry (spare_lives lins) has bases c.emitted most words IsGivenWords BoundedDoing c.rows c.words_fit
+    emitted_correct file image lins named w laid entry (λ f. Nowhere) has bases c.emitted most words IsGivenWords BoundedDoing c.rows c.words_fit
     (lowered_keep machs lins named file (layout_of image) most IsGivenWords BoundedDoing (selected_selects file (layout_of image) machs most c.selected)
     c.lowered)
     (words_passed file (layout_of image) c.holds) c.forward

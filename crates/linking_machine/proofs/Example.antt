@@ -35,7 +35,7 @@ use Rattle.rv_machine.specs.Memory.{code_start}
 use Rattle.rv_machine.specs.Places.{stack_bottom}
 use Rattle.rv_machine.specs.Sound.{IsStackBase}
 use Rattle.linear_machine.specs.Arrival.{ArrivesIn}
-use Rattle.linear_machine.specs.Follows.{IsAt, IsEntered, needs_of, FollowsStep}
+use Rattle.linear_machine.specs.Follows.{IsAt, IsEntered, used, needs_of, FollowsStep}
 use Rattle.linear_machine.specs.Relation.{Below, IsLocation, Laid}
 use Rattle.linear_machine.specs.View.{Fixed, View, IsCode, HasCode}
 use Rattle.linear_machine.proofs.Arriving.{leads_in}
@@ -253,7 +253,7 @@ module _ (image : Tables) (has : HasFunctions image) (bases : (stack : ℕ) → 
     here = place_in file (layout_of image) f below
 
     abbrev Line_of : State → Step State → Type 0
-    Line_of u x = FollowsLine 1 s (laid f) (live f) at c v u x
+    Line_of u x = FollowsLine 1 s (laid f) (live f) at c v (used (laid f) u) x
 
     first_line : (stored : Locations) (memory : Memory) → IsAt s (laid f) (live f) c
         (record { rest = makes ∷ returns ∷ []; file = stored; around = entered memory }) v →
@@ -271,15 +271,17 @@ module _ (image : Tables) (has : HasFunctions image) (bases : (stack : ℕ) → 
         record {
           words = 1;
           few = omega arith;
-          follows =
-              constant_follows s (laid f) (live f) at c here (λ n. []) code (returns ∷ []) v young held stored (entered memory) refl within ⊥ agrees
-              a0_int (λ b. absurd b)
-              10 (dropped 10 held) (target_register held 10 a0_is) (10 ∷ []) (λ q i. ⊎_elim (λ e. inl e) (λ x. absurd x) i) 42 1 0 (omega (arith, p))
-              (λ z. keep_register s (laid f) young (entered memory) c (dropped 10 held) (put a0_int z held) (v.place + 1) 10 z refl a0_is
-              (target_put a0_int 10 z held refl))
-              (set_changes s v (OpImm Addi 10 0 42) 9 42 (subst (λ q. IsCode s q (OpImm Addi 10 0 42)) (sym place) first) (inl (λ q. omega (arith, q)))
-              (sets_as s v (OpImm Addi 10 0 42) 10 _ 42 sum (sets_imm s v Addi 10 0 42)) within.own.are (omega arith) (omega arith));
-          calls = tt;
+          so = record {
+            follows =
+                constant_follows s (laid f) (live f) at c here (λ n. []) code (returns ∷ []) v young held stored (entered memory) refl within ⊥ agrees
+                a0_int (λ b. absurd b)
+                10 (dropped 10 held) (target_register held 10 a0_is) (10 ∷ []) (λ q i. ⊎_elim (λ e. inl e) (λ x. absurd x) i) 42 1 0 (omega (arith, p))
+                (λ z. keep_register s (laid f) young (entered memory) c (dropped 10 held) (put a0_int z held) (v.place + 1) 10 z refl a0_is
+                (target_put a0_int 10 z held refl))
+                (set_changes s v (OpImm Addi 10 0 42) 9 42 (subst (λ q. IsCode s q (OpImm Addi 10 0 42)) (sym place) first) (inl (λ q. omega (arith, q)))
+                (sets_as s v (OpImm Addi 10 0 42) 10 _ 42 sum (sets_imm s v Addi 10 0 42)) within.own.are (omega arith) (omega arith));
+            calls = tt;
+          };
         }
 
     second_follows : (stored : Locations) (memory : Memory) → IsAt s (laid f) (live f) c
@@ -318,10 +320,10 @@ module _ (image : Tables) (has : HasFunctions image) (bases : (stack : ℕ) → 
     second_line : (u : State) (x : Step State) (memory : Memory) → Returns x memory → FollowsStep 1 s (laid f) (live f) at c v x → Line_of u x
     second_line u x memory (stuck e) follows =
         subst (λ (z : Step State). FollowsStep 1 s (laid f) (live f) at c v z → Line_of u z) (sym e)
-        (λ g. record { words = 1; few = omega arith; follows = g; calls = tt }) follows
+        (λ g. record { words = 1; few = omega arith; so = record { follows = g; calls = tt } }) follows
     second_line u x memory (out w e) follows =
         subst (λ (z : Step State). FollowsStep 1 s (laid f) (live f) at c v z → Line_of u z) (sym e)
-        (λ g. record { words = 1; few = omega arith; follows = g; calls = tt }) follows
+        (λ g. record { words = 1; few = omega arith; so = record { follows = g; calls = tt } }) follows
 
     -- the machine follows each line that a run comes to
     pub line : (u : State) → IsReached State program f here u → IsAt s (laid f) (live f) c u v → Line_of u (step here (λ n. []) code u)
@@ -329,7 +331,7 @@ module _ (image : Tables) (has : HasFunctions image) (bases : (stack : ℕ) → 
       where
         by : {z : State} → Seen z → IsAt s (laid f) (live f) c z v → Line_of z (step here (λ n. []) code z)
         by (first {file = stored} {memory = memory}) is = first_line stored memory is
-        by (second {file = stored} {memory = memory}) is = second_line _ _ memory (second_step here stored memory) (second_follows stored memory is)
+        by (second {file = stored} {memory = memory}) is = second_line (record { rest = returns ∷ []; file = stored; around = entered memory }) _ memory (second_step here stored memory) (second_follows stored memory is)
 
     -- where it is entered it begins, in no instruction
     pub entered_there : (arguments : List Value) (memory : Memory) (u : State) → start here code arguments memory ≡ Some u →

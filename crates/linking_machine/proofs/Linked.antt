@@ -18,7 +18,7 @@ use Rattle.rv_machine.specs.Places.{stack_bottom}
 use Rattle.rv_machine.specs.Run.{seen}
 use Rattle.rv_machine.specs.Services.{Now}
 use Rattle.rv_machine.specs.Sound.{IsStackBase}
-use Rattle.linear_machine.specs.Follows.{FollowsAsked, FollowsStep}
+use Rattle.linear_machine.specs.Follows.{FollowsAsked, FollowsStep, used}
 use Rattle.linear_machine.specs.Relation.{Below, Laid}
 use Rattle.linear_machine.specs.View.{View}
 use Rattle.linear_machine.proofs.Beginning.{nothing_below}
@@ -30,7 +30,8 @@ use Rattle.linking.proofs.Image.{assembled_correct}
 use Rattle.linking_stages.specs.Stages.{linear_program}
 use Rattle.linking_stages.proofs.Regular.{linear_regular}
 use Rattle.linking_stages.proofs.Walking.{reached_walks}
-use Rattle.linking_machine.specs.Emitted.{service_in, service_of, IsCalled, CallsSo, IsEmitted}
+use Rattle.line_calls.specs.Calls.{IsCalled, CallsSo}
+use Rattle.linking_machine.specs.Emitted.{service_in, service_of, IsEmitted}
 use Rattle.linking_machine.specs.Standing.{Shows, At, Entry, Back}
 use Rattle.linking_machine.proofs.Answering.{outside_carried}
 use Rattle.linking_machine.proofs.Starting.{starts}
@@ -49,7 +50,7 @@ module _ (file : FileTree) (image : Tables) (lins : ℕ → Lin) (named : ℕ �
     asked_carried : (call : Asked) (go : Doing → Step State) (callee : Callee) → call.callee ≡ callee → n + service_of (Waits call go) ≤ most →
         call.below ≡ bytes_below call.callee false (place file image lins named w laid entry live has bases emitted run f below) u.around →
         (follow : FollowsAsked n (fixed file image lins named w laid entry live has bases emitted run) (laid f) (live f) entry c sh.view call go callee) →
-        IsCalled n (fixed file image lins named w laid entry live has bases emitted run) (laid f) (live f) entry c sh.view u call go callee follow →
+        IsCalled n (fixed file image lins named w laid entry live has bases emitted run) (laid f) (live f) entry c sh.view (used (laid f) u) call go callee follow →
         CarriesAsked State (linear_program lins named) w file (layout_of image) Now (next_of run.schedule) seen run.stack run.heap Below
         (at_ file image lins named w laid entry live has bases emitted run) (entry_ file image lins named w laid entry live has bases emitted run)
         (back_ file image lins named w laid entry live has bases emitted run) most f below c call go callee o y
@@ -64,7 +65,7 @@ module _ (file : FileTree) (image : Tables) (lins : ℕ → Lin) (named : ℕ �
     carried : (x : Step State) → n + service_of x ≤ most → AskedSo (place file image lins named w laid entry live has bases emitted run f below) 0
         u.around x →
         (follow : FollowsStep n (fixed file image lins named w laid entry live has bases emitted run) (laid f) (live f) entry c sh.view x) →
-        CallsSo n (fixed file image lins named w laid entry live has bases emitted run) (laid f) (live f) entry c sh.view u x follow → Carried x
+        CallsSo n (fixed file image lins named w laid entry live has bases emitted run) (laid f) (live f) entry c sh.view (used (laid f) u) x follow → Carried x
     carried (Continues z) few asks follow called = stands_there file image lins named w laid entry live has bases emitted run most f below c z o y
         (omega (arith, few)) e sh follow
     carried (Pays z) few asks follow called = stands_there file image lins named w laid entry live has bases emitted run most f below c z o y
@@ -91,7 +92,7 @@ module _ (file : FileTree) (image : Tables) (lins : ℕ → Lin) (named : ℕ �
             carried run (w.cost f u) f below c u o y at.0 at.1 line.words
             (step (place file image lins named w laid entry live has bases emitted run f below) (named f) (lins f) u) line.few
             (code_asked (place file image lins named w laid entry live has bases emitted run f below) (named f) (lins f) u.rest u.file u.around)
-            line.follows line.calls;
+            line.so.follows line.so.calls;
         kept = λ c kept d o x back. kept_back file image lins named w laid entry live has bases emitted run c kept d o x back;
         enters = λ c f below arguments memory u o x starts at.
             stands_there file image lins named w laid entry live has bases emitted run (w.entry f) f below c u o x (omega arith) at.1 at.0

@@ -85,7 +85,7 @@ module _ (file : FileTree) (image : Tables) (has : HasFunctions image) (bases : 
       let e =
       at_start image has entries.bytes run.schedule run.row args (words_all args entered.args_are_words) few run.stack run.heap run.stack_room
       run.heap_room (entry f) answers
-      (first_memory file).statics (first_memory file).roots (entries.statics run.stack run.heap run.stack_room run.heap_room) in
+      (first_memory file).statics (first_memory file).roots (entries.statics run.stack run.heap run.stack_room run.heap_room) entries.lies in
       let wt = e.waits in
       let hp = e.heap in
       record {
@@ -106,7 +106,7 @@ module _ (file : FileTree) (image : Tables) (has : HasFunctions image) (bases : 
           bottom = wt.bottom;
         };
         traps = e.traps;
-        heap = record { old = hp.old; readable = hp.readable; stand = hp.stand; heads = hp.heads; fits = hp.fits; statics = hp.statics };
+        heap = record { old = hp.old; readable = hp.readable; stand = hp.stand; heads = hp.heads; fits = hp.fits; statics = hp.statics; lie = hp.lie };
       }
 
   -- where the run begins its entry is about to begin

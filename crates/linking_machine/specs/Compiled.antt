@@ -1,29 +1,22 @@
 -- An image that is compiled from a file: what each part of the compiler gives of it.
 use Rattle.std.specs.Prelude.{ℕ, ◌+◌, ◌-◌, ◌≤◌, List, length}
-use Rattle.bs_words.specs.declared.types.Comp.{Comp}
 use Rattle.cmm_tree.specs.Tree.{FileTree, functions}
 use Rattle.correctness.specs.Setting.{layout_of, AreRowsOf}
 use Rattle.image_form.specs.Tables.{Tables}
 use Rattle.mach_ir.specs.declared.mach.Mach.{Mach}
-use Rattle.lin_ir.specs.Formed.{spare}
 use Rattle.lin_ir.specs.Meaning.{NamedAt, State}
-use Rattle.lin_ir.specs.Walks.{Live, Reached}
 use Rattle.lin_ir.specs.declared.lin.Lin.{Lin}
 use Rattle.lin_ir.specs.declared.lin.Line.{Line}
 use Rattle.moving_laws.specs.Values.{HasFunctions}
 use Rattle.rv_machine.specs.Loading.{IsRoom}
 use Rattle.rv_machine.specs.Places.{stack_bottom}
 use Rattle.rv_machine.specs.Sound.{IsStackBase}
+use Rattle.line_stands.specs.Lines.{Nowhere}
 use Rattle.linear_machine.specs.Relation.{Laid}
 use Rattle.linking.specs.Pace.{Words, GoesForward}
 use Rattle.linking_stages.specs.Chain.{IsSelected, AreLowered, HoldsWords}
 use Rattle.linking_stages.specs.Stages.{linear_program}
 use Rattle.linking_machine.specs.Emitted.{IsEmitted}
-
--- some walk that comes to this code reads t0 from here on
-abbrev pub spare_lives : (ℕ → Lin) → ℕ → List Line → Type 0
-spare_lives lins f rest =
-    (tries : List ℕ) × (t : Comp) × Reached (lins f) rest tries × Live (lins f) spare t rest tries
 
 module _ (file : FileTree) (image : Tables) (machs : ℕ → Mach) (lins : ℕ → Lin)
     (named : ℕ → NamedAt) (w : Words State) (most words : ℕ) (laid : ℕ → Laid) (entry : ℕ → ℕ)
@@ -41,4 +34,4 @@ module _ (file : FileTree) (image : Tables) (machs : ℕ → Mach) (lins : ℕ �
     -- control goes backward by units alone
     pub forward : GoesForward State (linear_program lins named) w words
     -- the machine follows each line
-    pub emitted : IsEmitted file image lins named w laid entry (spare_lives lins) has bases
+    pub emitted : IsEmitted file image lins named w laid entry (λ f. Nowhere) has bases

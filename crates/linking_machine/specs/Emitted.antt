@@ -3,11 +3,10 @@ use Rattle.std.specs.Prelude.{◌≡◌, ℕ, ◌+◌, ◌-◌, ◌*◌, ◌<◌
 use Rattle.std.specs.List.{AllByRecursion}
 use Rattle.bs_words.specs.Memory.{Memory}
 use Rattle.bs_words.specs.declared.values.Value.{Value}
-use Rattle.bs_words.specs.declared.values.Value.TheVariants.{Word, Block, Function}
 use Rattle.cmm_data.specs.Contents.{first_memory}
 use Rattle.cmm_data.specs.Placement.{data_end}
 use Rattle.cmm_tree.specs.Tree.{FunctionTree, FileTree, functions, comps_of}
-use Rattle.cmm_meaning.specs.State.{Doing, Asked, Callee, Inside, Outside}
+use Rattle.cmm_meaning.specs.State.{Callee, Inside, Outside}
 use Rattle.correctness.specs.Setting.{layout_of}
 use Rattle.image_form.specs.Tables.{Tables, Func}
 use Rattle.lin_ir.specs.Meaning.{NamedAt, State, step, start}
@@ -15,7 +14,7 @@ use Rattle.lin_ir.specs.Walks.{Reached}
 use Rattle.lin_ir.specs.declared.lin.Lin.{Lin}
 use Rattle.lin_ir.specs.declared.lin.Line.{Line}
 use Rattle.machine_laws.specs.Steps.{next_of}
-use Rattle.mach_ir.specs.Runs.{Step, Continues, Pays, Deepens, Waits, FinishesBy, Finishes, FinishesRaising, IsStuck}
+use Rattle.mach_ir.specs.Runs.{Step, Waits}
 use Rattle.moving_laws.specs.Stands.{StaticsStand}
 use Rattle.moving_laws.specs.Values.{HasFunctions}
 use Rattle.rv_machine.specs.Loading.{IsRoom}
@@ -27,8 +26,10 @@ use Rattle.rv_machine.specs.Services.{Now}
 use Rattle.rv_machine.specs.Sound.{IsStackBase}
 use Rattle.linear_machine.specs.Arrival.{ArrivesIn}
 use Rattle.linear_machine.specs.Contents.{statics_of}
-use Rattle.linear_machine.specs.Follows.{IsAt, IsEntered, used, needs_of, FollowsAsked, FollowsStep}
+use Rattle.line_calls.specs.Calls.{FollowsSo}
+use Rattle.linear_machine.specs.Follows.{IsAt, IsEntered, used, needs_of}
 use Rattle.linear_machine.specs.Relation.{Below, Laid}
+use Rattle.linear_machine.specs.Statics.{StaticsLie}
 use Rattle.linear_machine.specs.View.{Fixed, View}
 use Rattle.linear_machine.proofs.Beginning.{nothing_below}
 use Rattle.linking.specs.Assembled.{Setup, IsStub}
@@ -48,38 +49,13 @@ abbrev pub service_of : Step State → ℕ
 service_of (Waits call go) = service_in call.callee
 service_of _ = 0
 
--- the function that a value points to is in the table
-abbrev pub IsInTable : Tables → Value → Type 0
-IsInTable image (Word w) = Unit {0}
-IsInTable image (Block serial offset) = Unit {0}
-IsInTable image (Function f) = f < length image.funcs
-
-module _ (n : ℕ) (s : Fixed) (laid : Laid) (live : List Line → Type 0) (entry : ℕ → ℕ)
-    (c : Below) (v : View) (u : State) where
-  -- A callee stands below all that its caller has in use; what is shown to the outside is known.
-  abbrev pub IsCalled : (call : Asked) (go : Doing → Step State) (callee : Callee) →
-      FollowsAsked n s laid live entry c v call go callee → Type 0
-  IsCalled call go (Inside f) follows = follows.below.top + used laid u ≡ c.top
-  IsCalled call go (Outside row frame) follows =
-      AllByRecursion (IsInTable s.image) call.arguments
-
-  abbrev pub CallsSo : (x : Step State) → FollowsStep n s laid live entry c v x → Type 0
-  CallsSo (Waits call go) follows = IsCalled call go call.callee follows
-  CallsSo (Continues u) follows = Unit {0}
-  CallsSo (Pays u) follows = Unit {0}
-  CallsSo (Deepens bytes u) follows = Unit {0}
-  CallsSo (FinishesBy call kept) follows = Unit {0}
-  CallsSo (Finishes d) follows = Unit {0}
-  CallsSo (FinishesRaising d) follows = Unit {0}
-  CallsSo IsStuck follows = Unit {0}
-
--- The machine follows a step from a view, in at most so many instructions.
+-- The machine follows a step from a view, in at most so many instructions, where the function has so
+-- many bytes of the stack in use.
 pub record FollowsLine (most : ℕ) (s : Fixed) (laid : Laid) (live : List Line → Type 0)
-    (entry : ℕ → ℕ) (c : Below) (v : View) (u : State) (x : Step State) : Type 0 where
+    (entry : ℕ → ℕ) (c : Below) (v : View) (used : ℕ) (x : Step State) : Type 0 where
   pub words : ℕ
   pub few : words + service_of x ≤ most
-  pub follows : FollowsStep words s laid live entry c v x
-  pub calls : CallsSo words s laid live entry c v u x follows
+  pub so : FollowsSo words s laid live entry c v used x
 
 -- ---- an image
 
@@ -94,6 +70,7 @@ pub record AreEntries (file : FileTree) (image : Tables) (entry : ℕ → ℕ) :
   pub statics : (stack heap : ℕ) → IsRoom stack → IsRoom heap →
       StaticsStand image [] (start_memory image stack heap) (root_cells image)
       (statics_of (first_memory file))
+  pub lies : StaticsLie image (first_memory file)
 
 module _ (file : FileTree) (image : Tables) (lins : ℕ → Lin) (named : ℕ → NamedAt)
     (w : Words State) (laid : ℕ → Laid) (entry : ℕ → ℕ) (live : ℕ → List Line → Type 0)
@@ -108,8 +85,8 @@ module _ (file : FileTree) (image : Tables) (lins : ℕ → Lin) (named : ℕ �
         Reached (lins f) u.rest u.around.tries →
         c.top + below ≡ stack_bottom →
         IsAt (fixed_of image has bases run) (laid f) (live f) c u v →
-        FollowsLine (w.cost f u) (fixed_of image has bases run) (laid f) (live f) entry c v u
-        (step (place_in file (layout_of image) f below) (named f) (lins f) u)
+        FollowsLine (w.cost f u) (fixed_of image has bases run) (laid f) (live f) entry c v
+        (used (laid f) u) (step (place_in file (layout_of image) f below) (named f) (lins f) u)
     -- a function begins where its frame fits
     pub begins : (run : Setup) (f below : ℕ) (c : Below) (v : View) (arguments : List Value)
         (memory : Memory) (u : State) →

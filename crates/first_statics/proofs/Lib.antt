@@ -1,0 +1,6 @@
+pub mod Bytes
+pub mod Cells
+pub mod Symbols
+pub mod Lists
+pub mod Found
+pub mod First
