@@ -2,10 +2,10 @@
 //! image of the file (OCaml's `asmcomp/asmgen.ml`).
 #![tactic(auto)]
 
-mod compile;
-mod function;
-mod layout;
+mod files;
+mod passes;
+mod rows;
 
-pub use compile::compile;
-pub use function::function_pieces;
-pub use layout::layout;
+pub use files::compile;
+pub use passes::function_pieces;
+pub use rows::layout;

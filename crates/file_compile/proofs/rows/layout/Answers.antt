@@ -2,8 +2,8 @@ use Rattle.std.proofs.Common.{◌≡◌, ℕ, ◌+◌, ◌++◌, List, [], drop,
 use Rattle.image_form.specs.declared.image.FuncRow.{FuncRow}
 use Rattle.image_form.specs.Tables.{Func, func}
 use Rattle.rv_machine.specs.Memory.{code_start}
-use Rattle.file_compile.proofs.Rows.{whole_map, same_layout}
-use Rattle.file_compile.proofs.layout.layout.Goals as goal
+use Rattle.file_compile.proofs.LayoutRows.{whole_map, same_layout}
+use Rattle.file_compile.proofs.rows.layout.Goals as goal
 
 pub returns : goal.returns
 returns c =

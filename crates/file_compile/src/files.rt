@@ -12,7 +12,7 @@ ghost use Rattle.layout_rules.specs.TooLarge.{first_too_large};
 ghost use Rattle.made_functions.specs.Files.{IsFunctionMade, IsMadeFor};
 ghost use Rattle.file_compile.specs.Accepted.{IsAcceptedFile};
 
-use crate::function::function_pieces;
+use crate::passes::function_pieces;
 use assemble::assemble;
 use bs_fault::BuildError;
 use cmm_data::place_data;

@@ -1,7 +1,7 @@
 use Rattle.std.proofs.Common.{◌≡◌, ◌+◌, ◌++◌, drop, map}
 use Rattle.image_form.specs.declared.image.FuncRow.{FuncRow}
 use Rattle.rv_machine.specs.Memory.{code_start}
-use Rattle.file_compile.proofs.layout.layout.Given as goal
+use Rattle.file_compile.proofs.rows.layout.Given as goal
 
 abbrev pub invariant-loop-row : goal.invariant-loop-row
 invariant-loop-row l =
