@@ -1,6 +1,7 @@
-use Rattle.std.proofs.Common.{◌≡◌, refl, ap, ◌∙◌, subst}
+use Rattle.std.proofs.Common.{◌≡◌, refl, ap, ◌∙◌, subst, arith}
 use Rattle.cmm_eval.specs.Views.{layout_view}
 use Rattle.cmm_front.specs.FileOf.{tree_of}
+use Rattle.cmm_lex.proofs.Scans.{AreBytes-from}
 use Rattle.cmm_meaning.specs.Layout.{Layout}
 use Rattle.cmm_tree.specs.Tree.{FileTree}
 use Rattle.cmm_tree.specs.View.{file_view}
@@ -11,6 +12,13 @@ use Rattle.image_form.specs.Tables.{tables}
 use Rattle.text_check.specs.Arguments.{NamesNone, HasUnfit, IsCall}
 use Rattle.text_check.specs.Check.{told_of_run}
 use Rattle.text_check.proofs.check.check_text.Goals as goal
+
+pub compile-requires-clause-accepted : goal.compile-requires-clause-accepted
+compile-requires-clause-accepted c = record {
+  text = c.args.text.now;
+  are_bytes = AreBytes-from c.args.text.now (λ i. omega (arith, c.type_inv.text i));
+  is_file = c.in-Ok.ensures.file;
+}
 
 pub returns-in-Err-UnknownEntry-clause-refused : goal.returns-in-Err-UnknownEntry-clause-refused
 returns-in-Err-UnknownEntry-clause-refused c =
