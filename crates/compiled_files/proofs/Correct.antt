@@ -178,7 +178,7 @@ module _ (text : List ℕ) (file : FileTree) (is : IsFileOf text file) (bytes : 
           let named = names_by it.descrs it.lin in
           let names = exact_names it.chained.regular it.chained.exact in
           of_file tree there it.lin it.descrs it.pieces it.chained named names
-          (function_stands image file ps setting f tree it.lin it.descrs it.pieces named image_of it.there there it.chained names has)
+          (function_stands image file ps setting f tree it.lin it.descrs it.pieces named image_of it.there it.chained names has)
       by None none = past (past_end (functions file) f none) none
 
   abbrev lin_of : {f : ℕ} → Function f → Lin
@@ -196,11 +196,11 @@ module _ (text : List ℕ) (file : FileTree) (is : IsFileOf text file) (bytes : 
   abbrev lins : ℕ → Lin
   lins f = lin_of (functions_are f)
 
-  abbrev names : ℕ → NamedAt
-  names f = named_of (functions_are f)
+  abbrev named_in : ℕ → NamedAt
+  named_in f = named_of (functions_are f)
 
-  abbrev laid : ℕ → Laid
-  laid f = laid_of (functions_are f)
+  abbrev laid_in : ℕ → Laid
+  laid_in f = laid_of (functions_are f)
 
   frame_is : (f : ℕ) (x : Function f) → (laid_of x).frame ≡ slice_index (layout_of image).frames f
   frame_is f (of_file tree there m ds p c named names stands) = stands.frame
@@ -279,15 +279,15 @@ module _ (text : List ℕ) (file : FileTree) (is : IsFileOf text file) (bytes : 
   -- ---- and all
 
   abbrev paced : Words State
-  paced = words_of lins laid entry_at
+  paced = words_of lins laid_in entry_at
 
-  emitted : IsEmitted file image lins names paced laid entry_at (λ f. Nowhere) has bases_hold
+  emitted : IsEmitted file image lins named_in paced laid_in entry_at (λ f. Nowhere) has bases_hold
   emitted = record {
     frames = λ f. frame_is f (functions_are f);
     lines = λ run f below c v u reached walk low at.
         line_at run f below c v (functions_are f) u.rest u.file u.around walk
-        (λ i next e. ready lins names f (place_in file (layout_of image) f below)
-        (formed f (functions_are f) (has_begun lins names f (place_in file (layout_of image) f below) reached)) u i next reached e) at;
+        (λ i next e. ready lins named_in f (place_in file (layout_of image) f below)
+        (formed f (functions_are f) (has_begun lins named_in f (place_in file (layout_of image) f below) reached)) u i next reached e) at;
     begins = λ run f below c v arguments memory u e low entered. entry_follows run f below c v (functions_are f) arguments memory u e entered;
     entries = record {
       places = entry_offset image file ps setting image_of;
@@ -296,19 +296,19 @@ module _ (text : List ℕ) (file : FileTree) (is : IsFileOf text file) (bytes : 
       statics = λ stack heap s h. first_stands file ps image laid_out tables.code.short can.each_one can.of_file given stack heap;
       lies = first_lies file ps image laid_out;
     };
-    stub = λ run f row. stub_so file image ps has bases_hold laid entry_at (λ f. Nowhere) laid_out end run f row;
+    stub = λ run f row. stub_so file image ps has bases_hold laid_in entry_at (λ f. Nowhere) laid_out end run f row;
   }
 
-  compiled : IsCompiled file image (selected_in file) lins names paced (most_nodes (functions file)) words laid entry_at has bases_hold
+  compiled : IsCompiled file image (selected_in file) lins named_in paced (most_nodes (functions file)) words laid_in entry_at has bases_hold
   compiled = record {
     rows = rows file image ps can laid_out;
     words_fit = words_fit file image ps can laid_out;
     holds = holds text file is bytes;
     selected = selected_so text file is (layout_of image);
-    lowered = lowered_so file lins names (λ f tree there. keeps f (functions_are f) tree there);
-    forward = forward lins names laid entry_at words (λ f. lies f (functions_are f));
+    lowered = lowered_so file lins named_in (λ f tree there. keeps f (functions_are f) tree there);
+    forward = forward lins named_in laid_in entry_at words (λ f. lies f (functions_are f));
     emitted = emitted;
   }
 
   pub correct : IsCorrect file image
-  correct = compiled_correct file image (selected_in file) lins names paced (most_nodes (functions file)) words laid entry_at has bases_hold compiled
+  correct = compiled_correct file image (selected_in file) lins named_in paced (most_nodes (functions file)) words laid_in entry_at has bases_hold compiled

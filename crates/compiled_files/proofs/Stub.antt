@@ -128,7 +128,7 @@ module _ (s : Fixed) (end : ℕ) (end_is : end ≡ data_start + length s.image.b
   heap_w : HeapStands s (all_of w young) w.memory (entered memory)
   heap_w =
       heap_kept s (all_of u young) u.memory b.hart.memory (entered memory) (λ y q ne. ok.memory.words y ne)
-      (λ y r. like_readable u.memory b.hart.memory y ok.memory r) heap_u
+      (λ y e q. ok.memory.held y e (λ t. omega (arith, t, q))) (λ y r. like_readable u.memory b.hart.memory y ok.memory r) heap_u
 
   own_w : OwnRegisters w.registers young 0
   own_w =
