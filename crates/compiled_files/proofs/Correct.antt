@@ -69,6 +69,7 @@ use Rattle.compiled_files.specs.Image.{function_words}
 use Rattle.compiled_files.specs.Stages.{AreChained, most_nodes, selected_in}
 use Rattle.compiled_files.proofs.Bytes.{bytes_small}
 use Rattle.compiled_files.proofs.Forward.{forward}
+use Rattle.compiled_files.proofs.Inside.{has_functions}
 use Rattle.compiled_files.proofs.Ready.{ready}
 use Rattle.compiled_files.proofs.Rows.{few, no_frame, rows, words_fit}
 use Rattle.compiled_files.proofs.Serving.{served}
@@ -146,7 +147,7 @@ has_begun lins named f c (by_step r l) = has_begun lins named f c r
 
 module _ (text : List ℕ) (file : FileTree) (is : IsFileOf text file) (bytes : AreBytes text) (image : Tables) (ps : List Pieces)
     (can : CanBeLaid file ps) (laid_out : IsLaidOut file ps image) (tables : AreTables image) (chained : AreChained file ps)
-    (has : HasFunctions image) (given : HasGivenData file) where
+    (given : HasGivenData file) where
   abbrev setting : Setting
   setting = setting_in file
 
@@ -155,6 +156,9 @@ module _ (text : List ℕ) (file : FileTree) (is : IsFileOf text file) (bytes : 
 
   image_of : IsImageOf image file ps setting
   image_of = record { can = can; laid = laid_out; short = tables.code.short; symbols = λ name. refl; end = end }
+
+  has : HasFunctions image
+  has = has_functions image file ps setting image_of tables
 
   abbrev entry_at : ℕ → ℕ
   entry_at f = entry_place image f
