@@ -1,5 +1,5 @@
 -- The image of an accepted file, whose functions were compiled, is correct for it.
-use Rattle.std.proofs.Common.{◌≡◌, ◌≢◌, ◌⊎◌, inl, inr, ℕ, zero, suc, ◌+◌, ◌-◌, ◌*◌, ◌<◌, ◌≤◌, Bool, true, false, List, [], ◌∷◌, Option, Some, None, length, AllPairs, refl, sym, ap, ◌∙◌, subst, arith}
+use Rattle.std.proofs.Common.{◌≡◌, ℕ, zero, suc, ◌+◌, ◌-◌, ◌≤◌, false, List, [], ◌∷◌, Option, Some, None, length, refl, sym, ◌∙◌, subst, arith}
 use Rattle.std.specs.Prelude.{slice_get, slice_index}
 use Rattle.bs_words.specs.Fits.{data_start}
 use Rattle.bs_words.specs.Memory.{Memory}
@@ -21,20 +21,17 @@ use Rattle.layout_rules.specs.Laid.{IsLaidOut}
 use Rattle.lin_ir.specs.Descriptors.{NamesLives}
 use Rattle.lin_ir.specs.Formed.{GoesForward, WellFormed}
 use Rattle.lin_ir.specs.Keeps.{Keeps}
-use Rattle.lin_ir.specs.Meaning.{Locations, NamedAt, State, put_all, put_if, start, step}
-use Rattle.lin_ir.specs.Walks.{Reached, Stands}
+use Rattle.lin_ir.specs.Meaning.{Locations, NamedAt, State, put_all, start, step}
+use Rattle.lin_ir.specs.Walks.{Reached}
 use Rattle.lin_ir.specs.declared.descr.Descr.{Descr}
 use Rattle.lin_ir.specs.declared.lin.Lin.{Lin}
 use Rattle.lin_ir.specs.declared.lin.Line.{Line}
 use Rattle.lin_ir.specs.declared.lin.Spot.{Spot}
-use Rattle.linear_rules.proofs.Walked.{Tail, reached_tail, tail_all, tail_stands}
+use Rattle.linear_rules.proofs.Walked.{Tail, reached_tail, tail_stands}
 use Rattle.made_functions.specs.Chained.{IsChained}
 use Rattle.mach_ir.specs.Acts.{Around}
 use Rattle.mach_ir.specs.Runs.{Place}
 use Rattle.moving_laws.specs.Values.{HasFunctions}
-use Rattle.rv_machine.specs.Loading.{IsRoom}
-use Rattle.rv_machine.specs.Places.{stack_bottom}
-use Rattle.rv_machine.specs.Sound.{IsStackBase}
 use Rattle.rv_pieces.specs.declared.piece.Pieces.{Pieces}
 use Rattle.selection_rules.specs.Select.{selected}
 use Rattle.line_stands.specs.Lines.{Nowhere}
@@ -51,11 +48,10 @@ use Rattle.linking.specs.Assembled.{Setup}
 use Rattle.linking.specs.Pace.{IsReached, Words, at_start, by_step}
 use Rattle.linking.specs.Program.{place_in, setting_in}
 use Rattle.linking_machine.specs.Compiled.{IsCompiled}
-use Rattle.linking_machine.specs.Emitted.{AreEntries, FollowsLine, IsEmitted}
+use Rattle.linking_machine.specs.Emitted.{FollowsLine, IsEmitted}
 use Rattle.linking_machine.specs.Standing.{fixed_of}
 use Rattle.linking_machine.proofs.Compiled.{bases_hold, compiled_correct}
 use Rattle.linking_stages.specs.Stages.{linear_program}
-use Rattle.linking_stages.proofs.Walking.{reached_walks}
 use Rattle.function_stands.specs.Compiled.{IsImageOf}
 use Rattle.function_stands.specs.Functions.{FunctionStands, entry_place}
 use Rattle.function_stands.proofs.Entries.{entry_offset}
