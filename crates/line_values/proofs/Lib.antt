@@ -20,3 +20,4 @@ pub mod Writing
 pub mod Checking
 pub mod Following
 pub mod Example
+pub mod Cut

@@ -144,7 +144,7 @@ pub record IsFirst (memory : Memory) (y : ℕ) (v : Value) : Type 0 where
   pub there : in_statics 0 memory.statics y 1 ≡ Some cell
   pub is : v ≡ value_in memory cell
 
-first_at : (memory : Memory) (y : ℕ) (v : Value) → statics_of memory y ≡ Some v → IsFirst memory y v
+pub first_at : (memory : Memory) (y : ℕ) (v : Value) → statics_of memory y ≡ Some v → IsFirst memory y v
 first_at memory y v e = by_even (y % 8 == 0) refl e
   where
     by_cell : (o : Option Cell) → in_statics 0 memory.statics y 1 ≡ o → (y % 8 == 0) ≡ true → static_in memory o ≡ Some v → IsFirst memory y v

@@ -36,8 +36,8 @@ pub data IsPlain : LinOp → Type 0 where
   plain_branch : {t : Test} {l : ℕ} → IsPlain (lin.Flow (flow.Branch t l))
   plain_switch : {labels : List ℕ} → IsPlain (lin.Flow (flow.Switch labels))
 
--- From wherever the function stands before the line, the machine does what the line does, in at most
--- the words of its part.
+-- From wherever the function stands before the line, the machine does what the line does, in at
+-- most the words of its part.
 abbrev pub Followed : Fixed → Laid → Named → Lin → Place → NamedAt → (List Line → Type 0) →
     (ℕ → ℕ) → Below → Frame → Option Descr → Line → List Line → Type 0
 Followed s laid n m place named live entry c f d i next =
@@ -47,7 +47,8 @@ Followed s laid n m place named live entry c f d i next =
     FollowsStep (total_words (part_of (length a.tries) f d i) stands.part.forms) s laid live entry c
     v (step place named m (record { rest = i ∷ next; file = file; around = a }))
 
--- The law, of every function, line and machine, whatever is said to be the code in which t0 is live.
+-- The law, of every function, line and machine, whatever is said to be the code in which t0 is
+-- live.
 abbrev pub PlainLinesAreFollowed : (List Line → Type 0) → Type 0
 PlainLinesAreFollowed live =
     (s : Fixed) (laid : Laid) (n : Named) (m : Lin) (place : Place) (named : NamedAt)
