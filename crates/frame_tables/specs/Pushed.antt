@@ -14,8 +14,8 @@ pub record AreTabled (m : Lin) (all : List Position) (k : ℕ) (table : List ℕ
   pub none : (left : ℕ) → ((q : ℕ) (x : Position) → slice_get all q ≡ Some x →
       x.place < length m.code → length m.code - suc x.place ≡ left → ⊥) → slice_index table left ≡ 0
 
--- So many traps are pushed before each line to which a walk comes, and none before any other, by the
--- number of lines after it.
+-- So many traps are pushed before each line to which a walk comes, and none before any other, by
+-- the number of lines after it.
 pub record AreCounted (m : Lin) (traps : ℕ → ℕ) : Type 0 where
   pub pushed : ArePushed m traps
   pub unreached : (i : Line) (next : List Line) → Stands i next m.code →

@@ -60,8 +60,8 @@ abbrev pub followed : Lin → ℕ → ℕ → ℕ
 followed m zero l = l
 followed m (suc n) l = followed m n (next_label m l)
 
--- where one comes from a label by labels and jumps; jumps that lead round are followed once for each
--- line
+-- where one comes from a label by labels and jumps; jumps that lead round are followed once for
+-- each line
 abbrev pub last_label : Lin → ℕ → ℕ
 last_label m l = followed m (length m.code) l
 

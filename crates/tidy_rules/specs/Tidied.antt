@@ -11,8 +11,8 @@ use Rattle.tidy_rules.specs.Leaving.{is_landing, bare, LabelsBetween, LeavesOfte
 use Rattle.tidy_rules.specs.Redirecting.{redirected_all}
 use Rattle.tidy_rules.specs.Regular.{IsReadBehind, IsTidy}
 
--- In the first function jumps go at once where others lead, and then lines that have no use are left
--- out until none is left that has no use. One function comes of it, whichever lines go first.
+-- In the first function jumps go at once where others lead, and then lines that have no use are
+-- left out until there is none. One function comes of it, whichever lines go first.
 pub record IsTidied (m r : Lin) : Type 0 where
   pub leaves : LeavesOften (redirected_all m) r
   pub tidy : IsTidy r
