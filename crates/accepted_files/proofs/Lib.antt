@@ -1,0 +1,5 @@
+pub mod Giving
+pub mod Spelled
+pub mod Counted
+pub mod Differ
+pub mod Calls
