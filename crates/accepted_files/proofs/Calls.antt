@@ -54,14 +54,14 @@ result_is (ret.Comp comp.Val) at none = tt
 result_is (ret.Comp comp.Addr) at none = tt
 result_is (ret.Comp comp.Float) at none = absurd (none (fault.Float at) here)
 
-AreLaid : List External → Type 0
+pub AreLaid : List External → Type 0
 AreLaid es = AllByRecursion IsExternalLaid es
 
-both : (xs ys : List External) → AreLaid xs → AreLaid ys → AreLaid (xs ++ ys)
+pub both : (xs ys : List External) → AreLaid xs → AreLaid ys → AreLaid (xs ++ ys)
 unfolding AreLaid
 both xs ys p q = all_append IsExternalLaid xs ys p q
 
-nothing_laid : AreLaid []
+pub nothing_laid : AreLaid []
 unfolding AreLaid
 nothing_laid = tt
 

@@ -39,7 +39,7 @@ other_name s name e =
     let no_match = (first_unknown (bytes_eq s.name name) s None e).0 in
     λ same. let yes_match = (bytes_eq-Decides s.name name).1 same in cc
 
-abbrev names : List DefinedSymbol → List (List ℕ)
+abbrev pub names : List DefinedSymbol → List (List ℕ)
 names ss = map (λ (s : DefinedSymbol). s.name) ss
 
 module _ (file : FileTree) (typed : (told : Fault) → TypeFault file told → ⊥) where
@@ -61,7 +61,7 @@ module _ (file : FileTree) (typed : (told : Fault) → TypeFault file told → �
       fewer [] all = tt
       fewer (t ∷ ss) all = (unknown_front before (s ∷ []) t.name all.0, fewer ss all.1)
 
-  differ_from : (before behind : List DefinedSymbol) → symbols file ≡ before ++ behind → AllDiffer (names behind)
+  pub differ_from : (before behind : List DefinedSymbol) → symbols file ≡ before ++ behind → AllDiffer (names behind)
   differ_from before [] whole = tt
   differ_from before (s ∷ behind) whole =
       let next : symbols file ≡ (before ++ s ∷ []) ++ behind = whole ∙ sym (append_assoc before (s ∷ []) behind) in
@@ -73,17 +73,17 @@ module _ (file : FileTree) (typed : (told : Fault) → TypeFault file told → �
 
 -- ---- functions first, and then static data
 
-abbrev function_names : List ItemTree → List (List ℕ)
+abbrev pub function_names : List ItemTree → List (List ℕ)
 function_names items = map (λ (f : FunctionTree). f.name) (functions_among items)
 
 -- the symbols of lists
-abbrev list_symbols : List DataListTree → List DefinedSymbol
+abbrev pub list_symbols : List DataListTree → List DefinedSymbol
 list_symbols [] = []
 list_symbols (d ∷ ds) = data_symbols d.items ++ list_symbols ds
 
-record Parted (P : List ℕ → Type 0) (items : List ItemTree) : Type 0 where
-  of_functions : AllByRecursion P (function_names items)
-  of_data : AllByRecursion P (names (list_symbols (data_among items)))
+pub record Parted (P : List ℕ → Type 0) (items : List ItemTree) : Type 0 where
+  pub of_functions : AllByRecursion P (function_names items)
+  pub of_data : AllByRecursion P (names (list_symbols (data_among items)))
 
 all_front : {A : Type 0} (P : A → Type 0) (xs ys : List A) → AllByRecursion P (xs ++ ys) → AllByRecursion P xs
 all_front P [] ys all = tt
@@ -93,10 +93,10 @@ all_back : {A : Type 0} (P : A → Type 0) (xs ys : List A) → AllByRecursion P
 all_back P [] ys all = all
 all_back P (x ∷ xs) ys all = all_back P xs ys all.1
 
-names_append : (xs ys : List DefinedSymbol) → names (xs ++ ys) ≡ names xs ++ names ys
+pub names_append : (xs ys : List DefinedSymbol) → names (xs ++ ys) ≡ names xs ++ names ys
 names_append xs ys = map-append (λ (s : DefinedSymbol). s.name) xs ys
 
-all_parted : (P : List ℕ → Type 0) (items : List ItemTree) → AllByRecursion P (names (defined.symbols_among items)) → Parted P items
+pub all_parted : (P : List ℕ → Type 0) (items : List ItemTree) → AllByRecursion P (names (defined.symbols_among items)) → Parted P items
 all_parted P [] all = record { of_functions = tt; of_data = tt }
 all_parted P (AFunction f ∷ items) all =
     let m = all_parted P items all.1 in
@@ -123,12 +123,12 @@ differ_back [] ys differ = differ
 differ_back (x ∷ xs) ys differ = differ_back xs ys differ.1
 
 -- functions and data apart
-record AreApart (items : List ItemTree) : Type 0 where
-  of_functions : AllDiffer (function_names items)
-  of_data : AllDiffer (names (list_symbols (data_among items)))
-  apart : AllByRecursion (λ name. AllByRecursion (λ other. name ≢ other) (names (list_symbols (data_among items)))) (function_names items)
+pub record AreApart (items : List ItemTree) : Type 0 where
+  pub of_functions : AllDiffer (function_names items)
+  pub of_data : AllDiffer (names (list_symbols (data_among items)))
+  pub apart : AllByRecursion (λ name. AllByRecursion (λ other. name ≢ other) (names (list_symbols (data_among items)))) (function_names items)
 
-each_apart : (fs : List (List ℕ)) (xs ys : List (List ℕ)) → AllByRecursion (λ name. AllByRecursion (λ other. name ≢ other) ys) fs → AllByRecursion (λ x. AllByRecursion (λ f. x ≢ f) fs) xs →
+pub each_apart : (fs : List (List ℕ)) (xs ys : List (List ℕ)) → AllByRecursion (λ name. AllByRecursion (λ other. name ≢ other) ys) fs → AllByRecursion (λ x. AllByRecursion (λ f. x ≢ f) fs) xs →
     AllByRecursion (λ name. AllByRecursion (λ other. name ≢ other) (xs ++ ys)) fs
 each_apart [] xs ys apart front = tt
 each_apart (f ∷ fs) xs ys apart front =
@@ -151,7 +151,7 @@ all_map : {A : Type 0} (P Q : A → Type 0) (xs : List A) → ((x : A) → P x �
 all_map P Q [] f all = tt
 all_map P Q (x ∷ xs) f all = (f x all.0, all_map P Q xs f all.1)
 
-all_apart : (items : List ItemTree) → AllDiffer (names (defined.symbols_among items)) → AreApart items
+pub all_apart : (items : List ItemTree) → AllDiffer (names (defined.symbols_among items)) → AreApart items
 all_apart [] differ = record { of_functions = tt; of_data = tt; apart = tt }
 all_apart (AFunction f ∷ items) differ =
     let m = all_apart items differ.1 in
@@ -172,13 +172,13 @@ all_apart (AData d ∷ items) differ =
           (each_apart (function_names items) own later m.apart (all_map _ _ own (λ x all. (all_parted (λ y. x ≢ y) items all).of_functions) behind));
     }
 
-differ_both : (xs ys : List (List ℕ)) → AllDiffer xs → AllDiffer ys → AllByRecursion (λ x. AllByRecursion (λ y. x ≢ y) ys) xs → AllDiffer (xs ++ ys)
+pub differ_both : (xs ys : List (List ℕ)) → AllDiffer xs → AllDiffer ys → AllByRecursion (λ x. AllByRecursion (λ y. x ≢ y) ys) xs → AllDiffer (xs ++ ys)
 differ_both [] ys p q apart = q
 differ_both (x ∷ xs) ys p q apart = (all_append (λ y. x ≢ y) xs ys p.0 apart.0, differ_both xs ys p.1 q apart.1)
 
 -- ---- as static data has them
 
-abbrev data_names : List DataSymbolTree → List (List ℕ)
+abbrev pub data_names : List DataSymbolTree → List (List ℕ)
 data_names ss = map (λ (s : DataSymbolTree). s.name) ss
 
 one_name : (at address : ℕ) (d : DatumTree) (more : List PlacedItem) (later : List DefinedSymbol) → data_names (symbols_among more) ≡ names later →
@@ -186,13 +186,13 @@ one_name : (at address : ℕ) (d : DatumTree) (more : List PlacedItem) (later : 
 one_name at address (Define name) more later e = ap (λ (ns : List (List ℕ)). name ∷ ns) e
 one_name at address d more later e = e
 
-item_names : (address : ℕ) (items : List DataItemTree) → data_names (symbols_among (items_from address items)) ≡ names (data_symbols items)
+pub item_names : (address : ℕ) (items : List DataItemTree) → data_names (symbols_among (items_from address items)) ≡ names (data_symbols items)
 item_names address [] = refl
 item_names address (i ∷ items) =
     let next = address + size_at address i.datum in
     one_name i.at address i.datum (items_from next items) (data_symbols items) (item_names next items)
 
-list_names : (end : ℕ) (lists : List DataListTree) → data_names (symbols_among (items_of_lists (lists_behind end lists))) ≡ names (list_symbols lists)
+pub list_names : (end : ℕ) (lists : List DataListTree) → data_names (symbols_among (items_of_lists (lists_behind end lists))) ≡ names (list_symbols lists)
 list_names end [] = refl
 list_names end (d ∷ lists) =
     let own = items_from (start_behind end) d.items in
