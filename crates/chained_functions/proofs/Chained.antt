@@ -38,7 +38,9 @@ use Rattle.linear_rules.specs.Sizes.{tries_ended}
 use Rattle.linear_rules.proofs.Homes.{IsIn, in_of, contains_of}
 use Rattle.linear_rules.proofs.Lines.{all_of, named_from}
 use Rattle.linear_rules.proofs.Marks.{all_in, instr}
+use Rattle.tidy_rules.specs.Redirecting.{Tidies}
 use Rattle.tidy_rules.specs.Regular.{IsRegular}
+use Rattle.tidy_rules.proofs.Following.{tidied_tidies}
 use Rattle.tidy_rules.proofs.Lowered.{lowered_regular}
 use Rattle.line_stands.specs.Lines as line
 use Rattle.rv_pieces.specs.declared.piece.Pieces.{Pieces}
@@ -147,11 +149,13 @@ module _ (defined : List ℕ → Option DefinedSymbol) (tree : FunctionTree) (ac
   rest_tries : AllTries (tries tree) rest.code
   rest_tries = placed_tries last_resort (tries tree) (selected tree).code (all_tries (tries tree) (selected tree).code promise.tries)
 
-  -- No more traps are pushed at a place than tries stand round one of the text.
-  pub depth : (code : List Line) (traps : List ℕ) → Traps m code traps → length traps ≤ tries tree
-  depth code traps (by_walk r) =
-      tidied_shallow (tries tree) (made.linear).made (lowered_shallow rest formed full (tries tree) rest_tries) code traps r
-  depth code traps (unreached out) = omega arith
+  tidies : Tidies (lowered rest) m
+  tidies = tidied_tidies (made.linear).made
+
+  few_traps : (code : List Line) (traps : List ℕ) → Traps m code traps → length traps ≤ tries tree
+  few_traps code traps (by_walk r) =
+      tidied_shallow (tries tree) tidies (lowered_shallow rest formed full (tries tree) rest_tries) code traps r
+  few_traps code traps (unreached out) = omega arith
 
   offsets : All (λ (i : Line). line.OffsetFits i.op) m.code
   offsets = all_of (λ (i : Line). line.OffsetFits i.op) m.code (λ j z. offset_of_line j.op (λ g e. fits j z g e))
@@ -160,7 +164,7 @@ module _ (defined : List ℕ → Option DefinedSymbol) (tree : FunctionTree) (ac
       fits j z g e =
           let here : IsNamedIn (λ f. f ≡ mach.Op g) m = record { line = j; among = contains_of z; op = g; is = e; named = refl } in
           let was : kept.IsNamedIn (λ f. f ≡ mach.Op g) rest =
-          named_from (slot_number rest) (λ f. f ≡ mach.Op g) rest (lowered rest) refl (tidied_named (λ f. f ≡ mach.Op g) (made.linear).made here) in
+          named_from (slot_number rest) (λ f. f ≡ mach.Op g) rest (lowered rest) refl (tidied_named (λ f. f ≡ mach.Op g) tidies here) in
           subst OffsetFits was.named
           (all_in (λ (i : Instr). OffsetFits i.op) (placed_all last_resort OffsetFits (selected tree).code promise.offsets) (in_of was.instr rest.code was.among))
 
@@ -183,8 +187,8 @@ module _ (defined : List ℕ → Option DefinedSymbol) (tree : FunctionTree) (ac
       let lines = (made.linear).lines in
       omega (arith, lines, ended, product, long, instrs, tokens)
 
-  pub chained : frame_bytes m + 16 * tries tree ≤ 1048576 → IsChained tree m ds pieces
-  chained fit =
+  whole : frame_bytes m + 16 * tries tree ≤ 1048576 → IsChained tree m ds pieces
+  whole fit =
       record {
         keeps = λ named exact.
             keeps_then (selected tree) rest m named (rest_keeps (selected tree) promise.formed promise.placed) ((made.linear).keeps safe named exact);
@@ -195,12 +199,22 @@ module _ (defined : List ℕ → Option DefinedSymbol) (tree : FunctionTree) (ac
         spare_dead = (made.linear).spare_dead;
         within = record {
           lines = lines_few (omega (arith, fit));
-          frame = λ code traps at. let le = depth code traps at in omega (arith, fit, le);
+          frame = λ code traps at. let le = few_traps code traps at in omega (arith, fit, le);
         };
         offsets = offsets;
-        unended = tidied_unended (made.linear).made (lowered_unended rest regular (placed_end last_resort (selected_end tree)));
+        unended = tidied_unended tidies (lowered_unended rest regular (placed_end last_resort (selected_end tree)));
         exact = made.exact;
         count = made.count;
         homes = (made.linear).named ds made.exact;
         emitted = made.emitted;
       }
+
+-- No more traps are pushed at a place than tries stand round one of the text.
+pub depth : {defined : List ℕ → Option DefinedSymbol} {tree : FunctionTree} {m : Lin} {ds : List Descr} {pieces : Pieces} → IsAccepted defined tree → IsMadeOf tree m ds pieces → (code : List Line) (traps : List ℕ) →
+    Traps m code traps → length traps ≤ tries tree
+depth {defined} {tree} {m} {ds} {pieces} accepted made = few_traps defined tree accepted m ds pieces made
+
+-- What was made of a function of an accepted text is known whole, where its frame and its traps fit.
+pub chained : {defined : List ℕ → Option DefinedSymbol} {tree : FunctionTree} {m : Lin} {ds : List Descr} {pieces : Pieces} → IsAccepted defined tree → IsMadeOf tree m ds pieces →
+    frame_bytes m + 16 * tries tree ≤ 1048576 → IsChained tree m ds pieces
+chained {defined} {tree} {m} {ds} {pieces} accepted made = whole defined tree accepted m ds pieces made

@@ -22,7 +22,8 @@ either_way : (w : ℕ) (a b : Bool) → (a ≡ true → w < 2 ^ 64) → (b ≡ t
 either_way w true b one other e = one refl
 either_way w false b one other e = other e
 
-word_12 : (w : ℕ) → is_immediate_12 w ≡ true → w < 2 ^ 64
+-- what an immediate of 12 bits is for is a word
+pub word_12 : (w : ℕ) → is_immediate_12 w ≡ true → w < 2 ^ 64
 word_12 w e =
     either_way w (nat_lt w 2048) _ (λ e. let less : w < 2048 = ltb-true w 2048 e in omega (arith, less))
     (λ e. ltb-true w 0x10000000000000000 (and_right (nat_le 0xFFFFFFFFFFFFF800 w) (nat_lt w 0x10000000000000000) e)) e

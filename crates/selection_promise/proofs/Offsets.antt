@@ -1,7 +1,6 @@
 -- The offset of each load and of each store of selected code is a word.
-use Rattle.std.proofs.Common.{◌≡◌, ℕ, suc, ◌+◌, ◌*◌, ◌^◌, ◌<◌, ◌≤◌, ◌⊎◌, inl, inr, length, Bool, true, false, not, cond, ◌&&◌, ◌||◌, List, [], ◌∷◌, Option, Some, None, All, refl, sym, arith}
-use Rattle.std.specs.Prelude.{nat_lt, nat_le, nat_eq}
-use Rattle.std.proofs.lemmas.Bool.{true≢false, ltb-true}
+use Rattle.std.proofs.Common.{◌≡◌, ℕ, suc, ◌+◌, ◌*◌, ◌^◌, ◌<◌, ◌≤◌, ◌⊎◌, inl, inr, length, Bool, true, false, not, cond, ◌&&◌, List, [], ◌∷◌, Option, Some, None, All, refl, arith}
+use Rattle.std.specs.Prelude.{nat_eq}
 use Rattle.std.proofs.lemmas.List.Elements.{All-nil, All-cons}
 use Rattle.bs_words.specs.declared.operators.IntOp.{IntOp}
 use Rattle.bs_words.specs.declared.operators.IntOp.TheVariants as operator
@@ -31,19 +30,11 @@ use Rattle.selection_rules.specs.Instructions.{bare}
 use Rattle.selection_rules.specs.Instructions as emit
 use Rattle.selection_rules.specs.Select.{Code, Shape, InRegisters, ConstantRight, ConstantLeft, PowerRight, shape_of, shape_op, shape_right, shape_args, unless_left, unless_right, power_code, operator_code, Named, Label, scopes, reg_of, label_of, move_from, move_to, moves_all, exit_to, ordered, only_when, from_seat, symbol_of, unless_symbol, right_of, unless_constant, bound_test, comparison, tested, select_test, is_based, is_address_sum, offset_of, header_offset, select_base, call_of, regs_of, width, width_row, width_bound, width_cases, width_handlers, select, select_waiting, select_filled, select_bound, select_seq, select_cases, select_handlers, deeper, cell_stores, returns, selected, first, is_no_value, fresh, seats}
 use Rattle.selection_rules.proofs.Rows.{regs_length, count_width}
+use Rattle.selection_laws.proofs.Constants.{word_12}
 use Rattle.selection_places.proofs.Whole.{value_at, params_of, env_of}
 use Rattle.selection_promise.specs.Selects.{OffsetFits}
 
 -- ---- offsets of addresses
-
-word_12 : (w : ℕ) → is_immediate_12 w ≡ true → w < 2 ^ 64
-word_12 w e = by (nat_lt w 2048) refl (nat_le 0xFFFFFFFFFFFFF800 w) (nat_lt w 0x10000000000000000) refl e
-  where
-    by : (a : Bool) → nat_lt w 2048 ≡ a → (b c : Bool) → nat_lt w 0x10000000000000000 ≡ c → a || (b && c) ≡ true → w < 2 ^ 64
-    by true u b c v e = let less = ltb-true w 2048 u in omega (arith, less)
-    by false u true true v e = ltb-true w 0x10000000000000000 v
-    by false u true false v e = absurd (true≢false (sym e))
-    by false u false c v e = absurd (true≢false (sym e))
 
 offset_if : (op : IntOp) (w : ℕ) → cond (is_based op w) w 0 < 2 ^ 64
 offset_if op w = by (is_address_sum op) (is_immediate_12 w) refl (not (nat_eq w 0))
