@@ -56,7 +56,7 @@ use Rattle.function_stands.specs.Compiled.{IsImageOf}
 use Rattle.function_stands.specs.Functions.{FunctionStands, entry_place}
 use Rattle.function_stands.proofs.Entries.{entry_offset}
 use Rattle.function_stands.proofs.Whole.{function_stands}
-use Rattle.first_statics.specs.Given.{HasGivenData}
+use Rattle.accepted_files.proofs.Defined.{given_data}
 use Rattle.first_statics.proofs.First.{data_ends, first_lies, first_stands}
 use Rattle.frame_names.specs.Names.{names_by}
 use Rattle.frame_names.proofs.Names.{exact_names}
@@ -142,8 +142,8 @@ has_begun lins named f c (by_step r l) = has_begun lins named f c r
 -- ---- the whole
 
 module _ (text : List ℕ) (file : FileTree) (is : IsFileOf text file) (bytes : AreBytes text) (image : Tables) (ps : List Pieces)
-    (can : CanBeLaid file ps) (laid_out : IsLaidOut file ps image) (tables : AreTables image) (chained : AreChained file ps)
-    (given : HasGivenData file) where
+    (can : CanBeLaid file ps) (laid_out : IsLaidOut file ps image) (tables : AreTables image)
+    (chained : AreChained file ps) where
   abbrev setting : Setting
   setting = setting_in file
 
@@ -293,7 +293,7 @@ module _ (text : List ℕ) (file : FileTree) (is : IsFileOf text file) (bytes : 
       places = entry_offset image file ps setting image_of;
       few = λ f tree there. few file image ps can laid_out f tree there;
       bytes = bytes_small file image ps laid_out;
-      statics = λ stack heap s h. first_stands file ps image laid_out tables.code.short can.each_one can.of_file given stack heap;
+      statics = λ stack heap s h. first_stands file ps image laid_out tables.code.short can.each_one can.of_file (given_data text file is bytes) stack heap;
       lies = first_lies file ps image laid_out;
     };
     stub = λ run f row. stub_so file image ps has bases_hold laid_in entry_at (λ f. Nowhere) laid_out end run f row;
@@ -310,5 +310,6 @@ module _ (text : List ℕ) (file : FileTree) (is : IsFileOf text file) (bytes : 
     emitted = emitted;
   }
 
+  -- The image is correct for the file.
   pub correct : IsCorrect file image
   correct = compiled_correct file image (selected_in file) lins named_in paced (most_nodes (functions file)) words laid_in entry_at has bases_hold compiled
