@@ -1,5 +1,5 @@
 -- The data of an image are bytes.
-use Rattle.std.proofs.Common.{◌≡◌, ℕ, zero, suc, ◌+◌, ◌/◌, ◌%◌, ◌^◌, ◌<◌, List, [], ◌∷◌, ◌++◌, Some, take, sym, ap, subst, arith}
+use Rattle.std.proofs.Common.{ℕ, zero, suc, ◌/◌, ◌%◌, ◌^◌, ◌<◌, List, [], ◌∷◌, ◌++◌, Some, take, sym, ap, subst, arith}
 use Rattle.std.specs.Int.{w64, to_le_bytes}
 use Rattle.std.specs.List.{AllByRecursion, flat_map}
 use Rattle.bs_words.specs.Memory.{StaticList}
@@ -17,9 +17,22 @@ byte_small : (n : ℕ) → n % 256 < 256
 byte_small n = omega arith
 
 word_small : (n : ℕ) → AreSmall (to_le_bytes w64 n)
-word_small n =
-    (byte_small n, (byte_small (n / 256 ^ 1), (byte_small (n / 256 ^ 2), (byte_small (n / 256 ^ 3), (byte_small (n / 256 ^ 4),
-    (byte_small (n / 256 ^ 5), (byte_small (n / 256 ^ 6), (byte_small (n / 256 ^ 7), tt))))))))
+word_small n = (
+  byte_small n,
+  (
+    byte_small (n / 256 ^ 1),
+    (
+      byte_small (n / 256 ^ 2),
+      (
+        byte_small (n / 256 ^ 3),
+        (
+          byte_small (n / 256 ^ 4),
+          (byte_small (n / 256 ^ 5), (byte_small (n / 256 ^ 6), (byte_small (n / 256 ^ 7), tt))),
+        ),
+      ),
+    ),
+  ),
+)
 
 both_small : (xs ys : List ℕ) → AreSmall xs → AreSmall ys → AreSmall (xs ++ ys)
 both_small [] ys x y = y

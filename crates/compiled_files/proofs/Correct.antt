@@ -1,5 +1,5 @@
 -- The image of an accepted file, whose functions were compiled, is correct for it.
-use Rattle.std.proofs.Common.{◌≡◌, ◌≢◌, ◌⊎◌, inl, inr, ℕ, zero, suc, ◌+◌, ◌-◌, ◌*◌, ◌<◌, ◌≤◌, Bool, true, false, List, [], ◌∷◌, Option, Some, None, length, AllPairs, refl, sym, ap, ◌∙◌, subst, arith}
+use Rattle.std.proofs.Common.{◌≡◌, ℕ, zero, suc, ◌+◌, ◌-◌, ◌≤◌, false, List, [], ◌∷◌, Option, Some, None, length, refl, sym, ◌∙◌, subst, arith}
 use Rattle.std.specs.Prelude.{slice_get, slice_index}
 use Rattle.bs_words.specs.Fits.{data_start}
 use Rattle.bs_words.specs.Memory.{Memory}
@@ -21,20 +21,17 @@ use Rattle.layout_rules.specs.Laid.{IsLaidOut}
 use Rattle.lin_ir.specs.Descriptors.{NamesLives}
 use Rattle.lin_ir.specs.Formed.{GoesForward, WellFormed}
 use Rattle.lin_ir.specs.Keeps.{Keeps}
-use Rattle.lin_ir.specs.Meaning.{Locations, NamedAt, State, put_all, put_if, start, step}
-use Rattle.lin_ir.specs.Walks.{Reached, Stands}
+use Rattle.lin_ir.specs.Meaning.{Locations, NamedAt, State, put_all, start, step}
+use Rattle.lin_ir.specs.Walks.{Reached}
 use Rattle.lin_ir.specs.declared.descr.Descr.{Descr}
 use Rattle.lin_ir.specs.declared.lin.Lin.{Lin}
 use Rattle.lin_ir.specs.declared.lin.Line.{Line}
 use Rattle.lin_ir.specs.declared.lin.Spot.{Spot}
-use Rattle.linear_rules.proofs.Walked.{Tail, reached_tail, tail_all, tail_stands}
+use Rattle.linear_rules.proofs.Walked.{Tail, reached_tail, tail_stands}
 use Rattle.made_functions.specs.Chained.{IsChained}
 use Rattle.mach_ir.specs.Acts.{Around}
 use Rattle.mach_ir.specs.Runs.{Place}
 use Rattle.moving_laws.specs.Values.{HasFunctions}
-use Rattle.rv_machine.specs.Loading.{IsRoom}
-use Rattle.rv_machine.specs.Places.{stack_bottom}
-use Rattle.rv_machine.specs.Sound.{IsStackBase}
 use Rattle.rv_pieces.specs.declared.piece.Pieces.{Pieces}
 use Rattle.selection_rules.specs.Select.{selected}
 use Rattle.line_stands.specs.Lines.{Nowhere}
@@ -51,16 +48,15 @@ use Rattle.linking.specs.Assembled.{Setup}
 use Rattle.linking.specs.Pace.{IsReached, Words, at_start, by_step}
 use Rattle.linking.specs.Program.{place_in, setting_in}
 use Rattle.linking_machine.specs.Compiled.{IsCompiled}
-use Rattle.linking_machine.specs.Emitted.{AreEntries, FollowsLine, IsEmitted}
+use Rattle.linking_machine.specs.Emitted.{FollowsLine, IsEmitted}
 use Rattle.linking_machine.specs.Standing.{fixed_of}
 use Rattle.linking_machine.proofs.Compiled.{bases_hold, compiled_correct}
 use Rattle.linking_stages.specs.Stages.{linear_program}
-use Rattle.linking_stages.proofs.Walking.{reached_walks}
 use Rattle.function_stands.specs.Compiled.{IsImageOf}
 use Rattle.function_stands.specs.Functions.{FunctionStands, entry_place}
 use Rattle.function_stands.proofs.Entries.{entry_offset}
 use Rattle.function_stands.proofs.Whole.{function_stands}
-use Rattle.first_statics.specs.Given.{HasGivenData}
+use Rattle.accepted_files.proofs.Defined.{given_data}
 use Rattle.first_statics.proofs.First.{data_ends, first_lies, first_stands}
 use Rattle.frame_names.specs.Names.{names_by}
 use Rattle.frame_names.proofs.Names.{exact_names}
@@ -69,6 +65,7 @@ use Rattle.compiled_files.specs.Image.{function_words}
 use Rattle.compiled_files.specs.Stages.{AreChained, most_nodes, selected_in}
 use Rattle.compiled_files.proofs.Bytes.{bytes_small}
 use Rattle.compiled_files.proofs.Forward.{forward}
+use Rattle.compiled_files.proofs.Inside.{has_functions}
 use Rattle.compiled_files.proofs.Ready.{ready}
 use Rattle.compiled_files.proofs.Rows.{few, no_frame, rows, words_fit}
 use Rattle.compiled_files.proofs.Serving.{served}
@@ -145,8 +142,8 @@ has_begun lins named f c (by_step r l) = has_begun lins named f c r
 -- ---- the whole
 
 module _ (text : List ℕ) (file : FileTree) (is : IsFileOf text file) (bytes : AreBytes text) (image : Tables) (ps : List Pieces)
-    (can : CanBeLaid file ps) (laid_out : IsLaidOut file ps image) (tables : AreTables image) (chained : AreChained file ps)
-    (has : HasFunctions image) (given : HasGivenData file) where
+    (can : CanBeLaid file ps) (laid_out : IsLaidOut file ps image) (tables : AreTables image)
+    (chained : AreChained file ps) where
   abbrev setting : Setting
   setting = setting_in file
 
@@ -155,6 +152,9 @@ module _ (text : List ℕ) (file : FileTree) (is : IsFileOf text file) (bytes : 
 
   image_of : IsImageOf image file ps setting
   image_of = record { can = can; laid = laid_out; short = tables.code.short; symbols = λ name. refl; end = end }
+
+  has : HasFunctions image
+  has = has_functions image file ps setting image_of tables
 
   abbrev entry_at : ℕ → ℕ
   entry_at f = entry_place image f
@@ -178,7 +178,7 @@ module _ (text : List ℕ) (file : FileTree) (is : IsFileOf text file) (bytes : 
           let named = names_by it.descrs it.lin in
           let names = exact_names it.chained.regular it.chained.exact in
           of_file tree there it.lin it.descrs it.pieces it.chained named names
-          (function_stands image file ps setting f tree it.lin it.descrs it.pieces named image_of it.there there it.chained names has)
+          (function_stands image file ps setting f tree it.lin it.descrs it.pieces named image_of it.there it.chained names has)
       by None none = past (past_end (functions file) f none) none
 
   abbrev lin_of : {f : ℕ} → Function f → Lin
@@ -196,11 +196,11 @@ module _ (text : List ℕ) (file : FileTree) (is : IsFileOf text file) (bytes : 
   abbrev lins : ℕ → Lin
   lins f = lin_of (functions_are f)
 
-  abbrev names : ℕ → NamedAt
-  names f = named_of (functions_are f)
+  abbrev named_in : ℕ → NamedAt
+  named_in f = named_of (functions_are f)
 
-  abbrev laid : ℕ → Laid
-  laid f = laid_of (functions_are f)
+  abbrev laid_in : ℕ → Laid
+  laid_in f = laid_of (functions_are f)
 
   frame_is : (f : ℕ) (x : Function f) → (laid_of x).frame ≡ slice_index (layout_of image).frames f
   frame_is f (of_file tree there m ds p c named names stands) = stands.frame
@@ -279,36 +279,37 @@ module _ (text : List ℕ) (file : FileTree) (is : IsFileOf text file) (bytes : 
   -- ---- and all
 
   abbrev paced : Words State
-  paced = words_of lins laid entry_at
+  paced = words_of lins laid_in entry_at
 
-  emitted : IsEmitted file image lins names paced laid entry_at (λ f. Nowhere) has bases_hold
+  emitted : IsEmitted file image lins named_in paced laid_in entry_at (λ f. Nowhere) has bases_hold
   emitted = record {
     frames = λ f. frame_is f (functions_are f);
     lines = λ run f below c v u reached walk low at.
         line_at run f below c v (functions_are f) u.rest u.file u.around walk
-        (λ i next e. ready lins names f (place_in file (layout_of image) f below)
-        (formed f (functions_are f) (has_begun lins names f (place_in file (layout_of image) f below) reached)) u i next reached e) at;
+        (λ i next e. ready lins named_in f (place_in file (layout_of image) f below)
+        (formed f (functions_are f) (has_begun lins named_in f (place_in file (layout_of image) f below) reached)) u i next reached e) at;
     begins = λ run f below c v arguments memory u e low entered. entry_follows run f below c v (functions_are f) arguments memory u e entered;
     entries = record {
       places = entry_offset image file ps setting image_of;
       few = λ f tree there. few file image ps can laid_out f tree there;
       bytes = bytes_small file image ps laid_out;
-      statics = λ stack heap s h. first_stands file ps image laid_out tables.code.short can.each_one can.of_file given stack heap;
+      statics = λ stack heap s h. first_stands file ps image laid_out tables.code.short can.each_one can.of_file (given_data text file is bytes) stack heap;
       lies = first_lies file ps image laid_out;
     };
-    stub = λ run f row. stub_so file image ps has bases_hold laid entry_at (λ f. Nowhere) laid_out end run f row;
+    stub = λ run f row. stub_so file image ps has bases_hold laid_in entry_at (λ f. Nowhere) laid_out end run f row;
   }
 
-  compiled : IsCompiled file image (selected_in file) lins names paced (most_nodes (functions file)) words laid entry_at has bases_hold
+  compiled : IsCompiled file image (selected_in file) lins named_in paced (most_nodes (functions file)) words laid_in entry_at has bases_hold
   compiled = record {
     rows = rows file image ps can laid_out;
     words_fit = words_fit file image ps can laid_out;
     holds = holds text file is bytes;
     selected = selected_so text file is (layout_of image);
-    lowered = lowered_so file lins names (λ f tree there. keeps f (functions_are f) tree there);
-    forward = forward lins names laid entry_at words (λ f. lies f (functions_are f));
+    lowered = lowered_so file lins named_in (λ f tree there. keeps f (functions_are f) tree there);
+    forward = forward lins named_in laid_in entry_at words (λ f. lies f (functions_are f));
     emitted = emitted;
   }
 
+  -- The image is correct for the file.
   pub correct : IsCorrect file image
-  correct = compiled_correct file image (selected_in file) lins names paced (most_nodes (functions file)) words laid entry_at has bases_hold compiled
+  correct = compiled_correct file image (selected_in file) lins named_in paced (most_nodes (functions file)) words laid_in entry_at has bases_hold compiled

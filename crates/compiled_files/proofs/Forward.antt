@@ -1,16 +1,15 @@
 -- Control goes forward, but for exits and calls, and so a function takes no more instructions between two units than the code has words.
-use Rattle.std.proofs.Common.{◌≡◌, ℕ, suc, ◌+◌, ◌-◌, ◌≤◌, Bool, true, false, not, ◌&&◌, ◌||◌, List, [], ◌∷◌, length, Option, Some, None, refl, sym, ap, ◌∙◌, subst, arith}
+use Rattle.std.proofs.Common.{◌≡◌, ℕ, suc, ◌+◌, ◌-◌, ◌≤◌, Bool, true, false, not, ◌||◌, List, [], ◌∷◌, length, Option, Some, None, refl, sym, ap, subst, arith}
 use Rattle.std.specs.List.{Contains}
 use Rattle.bs_words.specs.Memory.{Memory}
 use Rattle.bs_words.specs.declared.types.Loc.{Loc}
 use Rattle.bs_words.specs.declared.values.Value.{Value}
-use Rattle.cmm_meaning.specs.State.{Callee, Doing, Inside, Outside}
-use Rattle.mach_ir.specs.Acts.{Act, Around, Target, On, At, AtLabel, AtHandler, Goes, Pushes, Jumps, Unwinds, Asks, Replaces, Ends, EndsRaising, Stuck}
+use Rattle.cmm_meaning.specs.State.{Callee, Inside, Outside}
+use Rattle.mach_ir.specs.Acts.{Act, Around, On, At}
 use Rattle.mach_ir.specs.Runs.{Place, Step, entered}
-use Rattle.mach_ir.specs.Walks.{OneOf}
-use Rattle.lin_ir.specs.Formed.{NamesLabel, goes_to, is_exit, labels_in}
-use Rattle.lin_ir.specs.Meaning.{Locations, NamedAt, State, after_label, at_code, at_handler, are_vals, begun, clear, code_at, destroyed_by, flow_act, landing_code, lin_act, on_act, on_values, passes_frame, past_frame, put_all, start, step, unless_misnamed, values, wrote}
-use Rattle.lin_ir.specs.Walks.{Reached, may_raise, targets}
+use Rattle.lin_ir.specs.Formed.{goes_to, is_exit, labels_in}
+use Rattle.lin_ir.specs.Meaning.{Locations, NamedAt, State, after_label, at_code, at_handler, are_vals, begun, clear, destroyed_by, flow_act, lin_act, on_act, on_values, passes_frame, past_frame, put_all, unless_misnamed, values, wrote}
+use Rattle.lin_ir.specs.Walks.{Reached}
 use Rattle.lin_ir.specs.declared.lin.Flow.TheVariants as flow
 use Rattle.lin_ir.specs.declared.lin.Lin.{Lin}
 use Rattle.lin_ir.specs.declared.lin.Line.{Line}
@@ -21,7 +20,7 @@ use Rattle.linear_rules.proofs.Walked.{Tail, tail_next, tail_label, tail_stands,
 use Rattle.tidy_rules.proofs.Tidied.{later_after, tail_length}
 use Rattle.tidy_rules.proofs.Turns.{Turns, goes_in, exits_in, jumps_in, unwinds_in, pushes_in, asks_in, replaces_in, ends_in, raising_in, stuck_in, turns}
 use Rattle.linear_machine.specs.Relation.{Laid}
-use Rattle.linking.specs.Pace.{GoesForward, IsReached, StepForward, left_behind}
+use Rattle.linking.specs.Pace.{GoesForward, StepForward, left_behind}
 use Rattle.linking_stages.specs.Stages.{linear_program}
 use Rattle.linking_stages.proofs.Walking.{reached_walks}
 use Rattle.compiled_files.specs.Forward.{LiesForward, first_part, words_of}

@@ -5,4 +5,5 @@ pub mod Stub
 pub mod Ready
 pub mod Bytes
 pub mod Serving
+pub mod Inside
 pub mod Correct

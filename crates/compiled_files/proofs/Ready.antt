@@ -13,7 +13,7 @@ use Rattle.mach_ir.specs.Runs.{Place, Step, entered}
 use Rattle.mach_ir.specs.declared.op.Op.{Op}
 use Rattle.mach_ir.specs.declared.mach.MachOp.TheVariants as mach
 use Rattle.lin_ir.specs.Formed.{WellFormed}
-use Rattle.lin_ir.specs.Meaning.{Locations, NamedAt, State, are_vals, at_code, at_handler, begun, clear, code_at, destroyed_by, flow_act, lin_act, on_act, on_values, passes_frame, past_frame, put_all, start, unless_misnamed, values, wrote}
+use Rattle.lin_ir.specs.Meaning.{Locations, NamedAt, State, are_vals, at_code, at_handler, begun, clear, code_at, destroyed_by, flow_act, lin_act, on_act, on_values, passes_frame, past_frame, put_all, unless_misnamed, values, wrote}
 use Rattle.lin_ir.specs.Walks.{Reached}
 use Rattle.lin_ir.specs.declared.lin.Flow.{Flow}
 use Rattle.lin_ir.specs.declared.lin.Flow.TheVariants as flow

@@ -1,5 +1,5 @@
 -- The last word of an external call is the instruction that serves it: with the words before it these are the words of its part.
-use Rattle.std.proofs.Common.{◌≡◌, ℕ, ◌+◌, ◌-◌, ◌≤◌, Bool, true, false, not, ◌&&◌, ◌||◌, List, [], ◌∷◌, ◌++◌, length, Option, Some, None, refl, sym, subst, arith}
+use Rattle.std.proofs.Common.{◌≡◌, ℕ, ◌+◌, ◌≤◌, Bool, true, false, not, ◌&&◌, ◌||◌, List, [], ◌∷◌, length, Option, Some, None, refl, sym, subst, arith}
 use Rattle.std.specs.Prelude.{slice_get}
 use Rattle.bs_words.specs.declared.types.Comp.{Comp}
 use Rattle.bs_words.specs.declared.types.Loc.{Loc}
@@ -29,7 +29,6 @@ use Rattle.mach_ir.specs.declared.op.Callee.{Callee}
 use Rattle.mach_ir.specs.declared.op.Callee.TheVariants as callee
 use Rattle.mach_ir.specs.declared.op.Calling.TheVariants as calling
 use Rattle.mach_ir.specs.declared.op.Op.TheVariants as op
-use Rattle.rv_pieces.specs.declared.piece.Piece.{Piece}
 use Rattle.line_calls.specs.Points.{before_service}
 use Rattle.line_calls.proofs.NoWaits.{Comes, NoWait, step_no}
 use Rattle.linking_machine.specs.Emitted.{service_in, service_of}

@@ -1,7 +1,6 @@
 -- The stub ends a run: behind the return of its entry, or a raise that none has caught, two instructions tell the outside.
-use Rattle.std.proofs.Common.{◌≡◌, ◌≢◌, ℕ, zero, suc, ◌+◌, ◌-◌, ◌*◌, ◌^◌, ◌<◌, ◌≤◌, ◌⊎◌, inl, inr, ⊎_elim, Bool, true, false, List, [], ◌∷◌, ◌++◌, length, map, reverse, Option, Some, None, slice_get, slice_index, refl, ap, ap₂, sym, subst, ◌∙◌, arith}
+use Rattle.std.proofs.Common.{◌≡◌, ℕ, ◌+◌, ◌-◌, ◌*◌, ◌<◌, inl, ⊎_elim, true, List, [], ◌∷◌, ◌++◌, length, reverse, Option, Some, None, slice_get, slice_index, refl, ap, sym, subst, ◌∙◌, arith}
 use Rattle.std.specs.Prelude.{option_map}
-use Rattle.std.specs.List.{AllByRecursion}
 use Rattle.bs_words.specs.Fits.{data_start, fits, type_of_comp}
 use Rattle.bs_words.specs.Memory.{Memory}
 use Rattle.bs_words.specs.Word.{add_word}
@@ -10,7 +9,6 @@ use Rattle.bs_words.specs.declared.types.Comp.TheVariants as comp
 use Rattle.bs_words.specs.declared.types.Ret.{Ret}
 use Rattle.bs_words.specs.declared.types.Ret.TheVariants as ret
 use Rattle.bs_words.specs.declared.types.Ty.TheVariants as ty
-use Rattle.bs_words.specs.declared.values.Obs.{Obs}
 use Rattle.bs_words.specs.declared.values.Obs.TheVariants as obs
 use Rattle.bs_words.specs.declared.values.Value.{Value}
 use Rattle.bs_words.specs.declared.values.Value.TheVariants.{Word, Block, Function}
@@ -26,7 +24,7 @@ use Rattle.lin_ir.specs.declared.lin.Line.{Line}
 use Rattle.mach_ir.specs.Runs.{entered}
 use Rattle.machine_laws.specs.Steps.{next_of, moments}
 use Rattle.meaning_laws.specs.Fitting.{FitsResult, nothing, value}
-use Rattle.moving_laws.specs.Values.{HasFunctions, IsKnown, value_word}
+use Rattle.moving_laws.specs.Values.{HasFunctions, IsKnown}
 use Rattle.moving_laws.specs.Young.{Rises}
 use Rattle.moving_laws.proofs.Fitting.{val_fits}
 use Rattle.moving_laws.proofs.Usable.{young_readable}
@@ -38,14 +36,14 @@ use Rattle.rv_machine.specs.Arithmetic.{imm_i}
 use Rattle.rv_machine.specs.Hart.{Hart, Placed, register}
 use Rattle.rv_machine.specs.Hart as hart
 use Rattle.rv_machine.specs.Loading.{IsRoom}
-use Rattle.rv_machine.specs.Memory.{Region, code_start}
+use Rattle.rv_machine.specs.Memory.{code_start}
 use Rattle.rv_machine.specs.Observation.{all_blocks, block_or_word, blocks_or, serial_from}
 use Rattle.rv_machine.specs.Observation as observation
 use Rattle.rv_machine.specs.Run.{after, seen}
 use Rattle.rv_machine.specs.Services.{Machine, Now, Going, Over, End, served, value_returned}
 use Rattle.rv_machine.specs.Services as machine
 use Rattle.rv_machine.specs.Places.{stack_bottom}
-use Rattle.rv_machine.specs.Sound.{IsStackBase, extents}
+use Rattle.rv_machine.specs.Sound.{IsStackBase}
 use Rattle.rv_pieces.specs.declared.piece.Pieces.{Pieces}
 use Rattle.linear_machine.specs.Follows.{IsDone}
 use Rattle.linear_machine.specs.Outside.{shown}
@@ -56,7 +54,7 @@ use Rattle.linear_machine.proofs.Beginning.{nothing_below}
 use Rattle.linear_machine.proofs.Formats.{sets_imm}
 use Rattle.linear_machine.proofs.Immediates.{low_12, up}
 use Rattle.linear_machine.proofs.Keeping.{heap_kept}
-use Rattle.linear_machine.proofs.Likes.{like_readable, like_regions}
+use Rattle.linear_machine.proofs.Likes.{like_readable}
 use Rattle.linear_machine.proofs.Moving.{hart_of, heads_of}
 use Rattle.linear_machine.proofs.Sequences.{set_changes, sets_as}
 use Rattle.linear_machine.proofs.Serving.{hart_is, with_memory}
@@ -128,7 +126,7 @@ module _ (s : Fixed) (end : ℕ) (end_is : end ≡ data_start + length s.image.b
   heap_w : HeapStands s (all_of w young) w.memory (entered memory)
   heap_w =
       heap_kept s (all_of u young) u.memory b.hart.memory (entered memory) (λ y q ne. ok.memory.words y ne)
-      (λ y r. like_readable u.memory b.hart.memory y ok.memory r) heap_u
+      (λ y e q. ok.memory.held y e (λ t. omega (arith, t, q))) (λ y r. like_readable u.memory b.hart.memory y ok.memory r) heap_u
 
   own_w : OwnRegisters w.registers young 0
   own_w =

@@ -12,8 +12,10 @@ ghost use Rattle.cmm_meaning.specs.Layout.{Layout};
 ghost use Rattle.cmm_tree.specs.Tree.{FileTree, functions};
 ghost use Rattle.compiled_files.specs.Forward.{LiesForward, words_of};
 ghost use Rattle.compiled_files.specs.Image.{function_words};
-ghost use Rattle.compiled_files.specs.Stages.{most_nodes, selected_in};
+ghost use Rattle.compiled_files.specs.Stages.{AreChained, most_nodes, selected_in};
+ghost use Rattle.correctness.specs.Correct.{IsCorrect};
 ghost use Rattle.correctness.specs.Setting.{AreRowsOf, layout_of};
+ghost use Rattle.image_form.specs.Image.{AreTables};
 ghost use Rattle.image_form.specs.Tables.{Func, Tables};
 ghost use Rattle.layout_rules.specs.Conditions.{CanBeLaid};
 ghost use Rattle.layout_rules.specs.Laid.{IsLaidOut};
@@ -82,4 +84,12 @@ pub fn stubs_end_runs()
         IsStub Now (next_of run.schedule) seen run.stack run.heap (layout_of image) (data_end file)
         run.row.result
         (λ d o x. Back image has bases laid entry (λ f. Nowhere) run nothing_below d o x) }
+{}
+
+/// Law: the image of an accepted text is correct for its file, whatever passes made its functions, where all is known
+/// of each of them that is known of a chained function.
+pub fn images_are_correct()
+    ensures { (text : List ℕ) (file : FileTree) → IsFileOf text file → AreBytes text →
+        (image : Tables) (ps : List Pieces) → CanBeLaid file ps → IsLaidOut file ps image →
+        AreTables image → AreChained file ps → IsCorrect file image }
 {}

@@ -29,7 +29,7 @@ use Rattle.rv_machine.specs.Memory.{Region, words_of_bytes}
 use Rattle.rv_machine.specs.Relocation as machine
 use Rattle.rv_machine.specs.Start.{data_region, start_memory}
 use Rattle.rv_pieces.specs.declared.piece.Pieces.{Pieces}
-use Rattle.first_statics.specs.Given.{HasGivenData}
+use Rattle.accepted_files.specs.Given.{HasGivenData}
 use Rattle.first_statics.proofs.Cells.{IsCell, cells_enough}
 use Rattle.first_statics.proofs.Found.{value_at, static_is, word, IsFound, found, IsRootValue, root_found, root_low, both_true}
 use Rattle.first_statics.proofs.Lists.{AreSound, file_sound, first_sound, items_length, words_from, data_words}

@@ -20,7 +20,7 @@ use Rattle.image_rules.proofs.Placed.{end_of_lists-above}
 use Rattle.layout_rules.proofs.Rules.{all_append}
 use Rattle.layout_rules.specs.Laid.{address_of_place, cell_bytes, data_of}
 use Rattle.rv_machine.specs.Memory.{words_of_bytes}
-use Rattle.first_statics.specs.Given.{IsGiven, AreGiven, HasGivenData}
+use Rattle.accepted_files.specs.Given.{IsGiven, AreGiven, HasGivenData}
 use Rattle.first_statics.proofs.Bytes.{word_bytes, WordsFit, fit_more, fit_both, words_cut}
 use Rattle.first_statics.proofs.Cells.{IsDataByte, AreWhole, whole_both, word_in, cells_fit, cells_enough}
 use Rattle.first_statics.proofs.Symbols.{IsOfFile, symbol_of_file}

@@ -1,12 +1,11 @@
 -- An image that is compiled from a file: what each part of the compiler gives of it.
-use Rattle.std.specs.Prelude.{ℕ, ◌+◌, ◌-◌, ◌≤◌, List, length}
+use Rattle.std.specs.Prelude.{ℕ, ◌+◌, ◌-◌, ◌≤◌, length}
 use Rattle.cmm_tree.specs.Tree.{FileTree, functions}
 use Rattle.correctness.specs.Setting.{layout_of, AreRowsOf}
 use Rattle.image_form.specs.Tables.{Tables}
 use Rattle.mach_ir.specs.declared.mach.Mach.{Mach}
 use Rattle.lin_ir.specs.Meaning.{NamedAt, State}
 use Rattle.lin_ir.specs.declared.lin.Lin.{Lin}
-use Rattle.lin_ir.specs.declared.lin.Line.{Line}
 use Rattle.moving_laws.specs.Values.{HasFunctions}
 use Rattle.rv_machine.specs.Loading.{IsRoom}
 use Rattle.rv_machine.specs.Places.{stack_bottom}
