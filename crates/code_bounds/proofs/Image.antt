@@ -175,7 +175,7 @@ module _ (file : FileTree) where
       let here = count_by-le-length (is_called_in row) own in
       let one : Desc → ℕ = λ d. cond (is_called_in row d) 1 0 in
       let split : count_by (is_called_in row) (pre ++ (own ++ rest)) ≡ count_by (is_called_in row) pre + count_by (is_called_in row) (own ++ rest) =
-          sum_by-append one pre (own ++ rest) in
+      sum_by-append one pre (own ++ rest) in
       let more : count_by (is_called_in row) (own ++ rest) ≡ count_by (is_called_in row) own + count_by (is_called_in row) rest = sum_by-append one own rest in
       let whole : count_by (is_called_in row) described ≡ count_by (is_called_in row) (pre ++ (own ++ rest)) = ap (count_by (is_called_in row)) same in (
         record {
