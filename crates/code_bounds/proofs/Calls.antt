@@ -2,15 +2,14 @@
 use Rattle.std.proofs.Common.{◌≡◌, ℕ, ◌+◌, ◌*◌, ◌≤◌, Bool, true, false, cond, List, [], ◌∷◌, ◌++◌, length, map, flat_map, refl, length-append, arith}
 use Rattle.bs_words.specs.External.{External}
 use Rattle.bs_words.specs.declared.types.Ty.TheVariants.{Val}
-use Rattle.cmm_meaning.specs.Evaluation.{comps_of_arguments, row_of_call}
+use Rattle.cmm_meaning.specs.Evaluation.{comps_of_arguments}
 use Rattle.cmm_tree.specs.Measures.{total, row_total, bindings_total, cases_total, handlers_total}
-use Rattle.cmm_tree.specs.Tree.{Expression, Integer, Pointer, Symbol, Name, Nothing, Float, Let, Assign, Operator, Load, Store, Alloc, App, Extcall, Checkbound, Raise, Seq, If, Switch, Catch, Exit, Try, Expressions, NoMore, More, Bindings, NoBinding, Bind, Cases, NoCase, Choose, Handlers, NoHandler, Handle, FunctionTree, ItemTree, AFunction, AData, FileTree, functions, functions_among}
+use Rattle.cmm_tree.specs.Tree.{Expression, Integer, Pointer, Symbol, Name, Nothing, Float, Let, Assign, Operator, Load, Store, Alloc, App, Extcall, Checkbound, Raise, Seq, If, Switch, Catch, Exit, Try, Expressions, NoMore, More, Bindings, NoBinding, Bind, Cases, NoCase, Choose, Handlers, NoHandler, Handle, ItemTree, AFunction, AData, FileTree, functions_among}
 use Rattle.cmm_types.specs.Faults.{row_length}
 use Rattle.cmm_types.specs.Types.{Scoped, with_parameters, with_bindings}
 use Rattle.image_form.specs.Image.{ext_bytes, table_bytes}
-use Rattle.image_form.specs.Tables.{Ext}
 use Rattle.layout_rules.specs.Externals.{calls_in, calls_in_row, calls_in_bindings, calls_in_cases, calls_in_handlers, calls_in_function, all_calls, ext_of, is_among, firsts_behind, externals}
-use Rattle.text_sizes.specs.Measures.{call_bytes, item_bytes, items_bytes}
+use Rattle.text_sizes.specs.Measures.{call_bytes, items_bytes}
 use Rattle.code_bounds.proofs.Bodies.{ext_length, table_length}
 
 abbrev rows_bytes : List External → ℕ

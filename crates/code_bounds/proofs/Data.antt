@@ -1,5 +1,5 @@
 -- The data of a file, its symbols and its root cells fit their sections.
-use Rattle.std.proofs.Common.{◌≡◌, ℕ, suc, ◌+◌, ◌-◌, ◌*◌, ◌%◌, ◌<◌, ◌≤◌, Bool, true, false, cond, ◌&&◌, nat_lt, nat_le, List, [], ◌∷◌, ◌++◌, length, map, flat_map, Option, Some, None, refl, sym, ap, ◌∙◌, subst, length-append, le-leb, arith}
+use Rattle.std.proofs.Common.{◌≡◌, ℕ, ◌+◌, ◌-◌, ◌*◌, ◌≤◌, Bool, true, false, cond, ◌&&◌, nat_lt, nat_le, List, [], ◌∷◌, ◌++◌, length, map, flat_map, Option, Some, None, refl, sym, ap, ◌∙◌, length-append, le-leb, arith}
 use Rattle.std.specs.List.{AllByRecursion, cons_option}
 use Rattle.std.proofs.lemmas.Bool.{ltb-false}
 use Rattle.std.proofs.lemmas.List.{length-map}
@@ -10,14 +10,13 @@ use Rattle.bs_words.specs.Fits.{data_start}
 use Rattle.bs_words.specs.Symbol.{IsSymbol}
 use Rattle.cmm_data.specs.Contents.{root_cells}
 use Rattle.cmm_data.specs.Faults.{data_limit, passes_limit, keeps_rule, fault_on, or_later, first_fault, data_fault_of}
-use Rattle.cmm_data.specs.Placement.{DataSymbolTree, PlacedItem, size_at, items_from, end_of_items, start_behind, end_behind, end_of_lists, lists_behind, lists_of, built_in, items_of_lists, symbol_at, symbols_among, symbols_of, data_end, data_bytes, placed_items}
-use Rattle.cmm_tree.specs.Tree.{DatumTree, Define, Byte, Half, Int, Val, Address, Skip, Align, Text, Global, AFloat, DataItemTree, DataListTree, FileTree, ItemTree, AFunction, AData, data_lists, data_among}
+use Rattle.cmm_data.specs.Placement.{DataSymbolTree, PlacedItem, size_at, items_from, end_of_items, start_behind, end_behind, end_of_lists, lists_behind, lists_of, built_in, items_of_lists, symbol_at, symbols_among, symbols_of, data_end, data_bytes}
+use Rattle.cmm_tree.specs.Tree.{DatumTree, Define, Byte, Half, Int, Val, Address, Skip, Align, Text, Global, AFloat, DataItemTree, DataListTree, FileTree, ItemTree, AFunction, AData, data_among}
 use Rattle.image_form.specs.Image.{le32, sym_bytes, table_bytes}
-use Rattle.image_form.specs.Tables.{Sym}
 use Rattle.image_form.proofs.Lengths.{length-words}
 use Rattle.image_rules.proofs.Placed.{CellsLie, roots_in_data}
 use Rattle.layout_rules.specs.Laid.{sym_of}
-use Rattle.text_sizes.specs.Measures.{datum_bytes, list_bytes, item_bytes, items_bytes}
+use Rattle.text_sizes.specs.Measures.{datum_bytes, list_bytes, items_bytes}
 use Rattle.code_bounds.proofs.Bodies.{sym_length, table_length}
 
 -- ---- the end of the data
