@@ -21,6 +21,7 @@ use Rattle.selection_accepted.proofs.Promised.{function_accepted}
 use Rattle.selection_accepted.proofs.Selecting.{definitions}
 use Rattle.selection_sizes.proofs.Selected.{selected_words, selected_points}
 use Rattle.text_sizes.proofs.Nesting.{text_nests}
+use Rattle.tidy_rules.proofs.Following.{tidied_tidies}
 use Rattle.made_functions.specs.Made.{IsMadeOf}
 use Rattle.made_functions.specs.Bounded.{IsBoundedBy}
 use Rattle.code_bounds.proofs.Lines.{function_short}
@@ -60,10 +61,10 @@ module _ (defined : List ℕ → Option DefinedSymbol) (tree : FunctionTree) (m 
   pub bounded : tries tree ≤ 250 → IsBoundedBy tree ds pieces
   bounded shallow =
       let short = function_short m made.emitted.traps ds in
-      let lines = made_words (selected tree) m made.linear.tidies in
+      let lines = made_words (selected tree) m (tidied_tidies made.linear.made) in
       let words = selected_words tree shallow in
       let nodes = accepted.covered.nodes_covered in
-      let calls = made_points (selected tree) m made.linear.tidies in
+      let calls = made_points (selected tree) m (tidied_tidies made.linear.made) in
       let points = selected_points tree shallow in
       let count = made.count in
       subst (IsBoundedBy tree ds) (sym made.emitted.is)

@@ -27,6 +27,7 @@ use Rattle.linear_rules.specs.Lowered.{lowered}
 use Rattle.linear_rules.proofs.Lowering.{lowered_keeps_reached}
 use Rattle.tidy_rules.specs.Regular.{IsRegular}
 use Rattle.tidy_rules.proofs.Lowered.{lowered_regular}
+use Rattle.tidy_rules.proofs.Following.{tidied_tidies}
 use Rattle.tidy_rules.proofs.Whole.{Whole, tidied_whole}
 use Rattle.selection_rules.specs.Bounded.{BoundedDoings}
 use Rattle.selection_rules.specs.Select.{selected}
@@ -71,7 +72,7 @@ module _ (text : List ℕ) (file : FileTree) (is : IsFileOf text file) where
         let full = rest_placed (selected tree) select.formed select.placed in
         let seated = rest_seated (selected tree) select.formed select.placed select.seated in
         let safe = rest_no_addr (selected tree) select.formed select.placed select.no_addr in
-        tidied_whole (lowered_keeps_reached rest formed full) (lowered_regular rest formed full seated) made.tidied.tidies made.tidied.tidy safe
+        tidied_whole (lowered_keeps_reached rest formed full) (lowered_regular rest formed full seated) (tidied_tidies made.tidied) made.tidied.tidy safe
 
     -- the lines are regular: control goes forward in them, say
     pub made_regular : IsRegular m

@@ -5,3 +5,4 @@ pub mod Values
 pub mod Acts
 pub mod Descriptors
 pub mod Example
+pub mod Once

@@ -14,7 +14,7 @@ use Rattle.mach_ir.specs.declared.op.Op.{Op}
 use Rattle.mach_ir.specs.declared.op.Op.TheVariants as op
 use Rattle.bs_words.specs.declared.operators.IntOp.{IntOp}
 use Rattle.lin_ir.specs.Meaning.{passes_frame}
-use Rattle.lin_ir.specs.Walks.{ArePushed}
+use Rattle.lin_ir.specs.Walks.{Stands, Reached, ArePushed}
 use Rattle.lin_ir.specs.declared.descr.Descr.{Descr}
 use Rattle.lin_ir.specs.declared.lin.Spot.{Spot}
 use Rattle.lin_ir.specs.declared.lin.Flow.{Flow}
@@ -127,9 +127,11 @@ emitted m traps ds = record {
 
 -- ---- whole
 
--- The pieces of a function with these descriptors. Before a line that no walk comes to any number
--- of traps may count as pushed.
+-- The pieces of a function with these descriptors. No trap counts as pushed before a line that no
+-- walk comes to.
 pub record IsEmitted (m : Lin) (ds : List Descr) (p : Pieces) : Type 0 where
   pub traps : ℕ → ℕ
   pub pushed : ArePushed m traps
+  pub unreached : (i : Line) (next : List Line) → Stands i next m.code →
+      ((tries : List ℕ) → Reached m (i ∷ next) tries → ⊥) → traps (length next) ≡ 0
   pub is : p ≡ emitted m traps ds

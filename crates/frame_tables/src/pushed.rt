@@ -1,9 +1,9 @@
 //! How many traps are pushed before each line.
 ghost use Rattle.std.specs.Prelude.{◌≡◌, ◌<◌, length, slice_index, IfOk};
 ghost use Rattle.lin_ir.specs.Formed.{AreLocated};
-ghost use Rattle.lin_ir.specs.Walks.{OneDepth, ArePushed};
+ghost use Rattle.lin_ir.specs.Walks.{OneDepth};
 ghost use Rattle.lin_flow.specs.Nodes.{AreWalkedTo};
-ghost use Rattle.frame_tables.specs.Pushed.{AreTabled};
+ghost use Rattle.frame_tables.specs.Pushed.{AreTabled, AreCounted};
 
 use lin_flow::{Labels, Walks, number_after, search_walks};
 use lin_ir::Lin;
@@ -39,7 +39,7 @@ pub fn pushed_traps(alloc: Global, lin: &Lin) -> Result<Vec<u32>, AllocError>
     requires located { AreLocated lin.now }
     requires depth { OneDepth lin.now }
     requires lines { length lin.now.code < 4294967296 }
-    ensures { IfOk result (λ traps. ArePushed lin.now (λ left. slice_index traps.items left)) }
+    ensures { IfOk result (λ traps. AreCounted lin.now (λ left. slice_index traps.items left)) }
 {
     let labels = Labels::of_function(alloc, lin)?;
     let Walks { search, nodes: _ } = search_walks(alloc, lin, &labels)?;

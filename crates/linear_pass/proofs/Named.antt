@@ -10,16 +10,15 @@ use Rattle.bs_words.specs.declared.types.Loc.TheVariants as loc
 use Rattle.mach_ir.specs.Placed.{colours}
 use Rattle.lin_ir.specs.Descriptors.{IsEntry, of_register, of_slot, ComesBefore, register_first, rising, Describes, AreExact}
 use Rattle.lin_ir.specs.Formed.{IsHome, is_colour, is_slot, spare}
-use Rattle.lin_ir.specs.Walks as walks
-use Rattle.lin_ir.specs.Walks.{Stands, LiveAt, LiveAcross, across_step, across_raise}
+use Rattle.lin_ir.specs.Walks.{Stands, LiveAt}
 use Rattle.lin_ir.specs.declared.descr.Descr.{Descr}
 use Rattle.lin_ir.specs.declared.lin.Line.{Line}
 use Rattle.lin_ir.specs.declared.lin.Lin.{Lin}
-use Rattle.lin_ir.specs.declared.lin.Spot.{Spot}
 use Rattle.linear_rules.proofs.Homes.{IsIn, is_first, is_later, in_of, contains_of}
 use Rattle.linear_rules.proofs.Marks.{all_in, pairs_here, pairs_later}
-use Rattle.linear_rules.proofs.Walked.{Tail, tail_target, tail_label, stands_tail, IsRead, live_read, not_spare}
+use Rattle.linear_rules.proofs.Walked.{not_spare}
 use Rattle.tidy_rules.specs.Regular.{AtHomes}
+use Rattle.tidy_rules.proofs.Living.{live_home}
 use Rattle.linear_pass.specs.Linear.{NamesHomes}
 
 -- ---- a list that rises within another is no longer
@@ -107,29 +106,16 @@ among m traps loc.Unset e h i = elim h [ ]
 -- ---- what is live
 
 module _ (m : Lin) (homes : All (λ (i : Line). AtHomes m i.args × AtHomes m i.results) m.code) where
-  read_home : {l : Loc} {t : Comp} → IsRead m l t → IsHome m l
-  read_home {l} {t} y =
-      let h = all_in (λ (i : Line). AtHomes m i.args × AtHomes m i.results) homes y.inside in
-      all_in (λ (s : Spot). IsHome m s.loc) h.0 (in_of (record { loc = l; comp = t }) y.line.args y.reads)
-
-  across_home : {l : Loc} {t : Comp} {i : Line} {next : List Line} {tries : List ℕ} → Tail (i ∷ next) m.code → LiveAcross m l t i next tries → IsHome m l
-  across_home w (across_step free (walks.goes t o) v) = read_home (live_read m v (tail_target m w t))
-  across_home w (across_raise (walks.raises {h = h} e) v) = read_home (live_read m v (tail_label h m.code))
-
-  -- what is live after a frame point is a colour or a slot
-  pub live_home : {l : Loc} {t : Comp} {i : Line} {next : List Line} → Stands i next m.code → LiveAt m l t i next → IsHome m l
-  live_home s v = across_home (stands_tail s) v.across
-
   pub no_spare : (i : Line) (next : List Line) (t : Comp) → Stands i next m.code → LiveAt m spare t i next → ⊥
-  no_spare i next t s v = not_spare {m = m} (live_home s v) refl
+  no_spare i next t s v = not_spare {m = m} (live_home m homes s v) refl
 
   pub names_homes : (d : Descr) → Describes m d → NamesHomes m d
   names_homes d h =
       record {
         few = (let le = no_longer d.entries (entries m (length h.tries)) h.is.order
-            (λ e i. let n = (h.is.exact e).0 (contains_of i) in among m (length h.tries) n.location e (live_home h.stands n.live) n.entry) in
+            (λ e i. let n = (h.is.exact e).0 (contains_of i) in among m (length h.tries) n.location e (live_home m homes h.stands n.live) n.entry) in
             let len = entries_count m (length h.tries) in omega (arith, le, len));
-        homes = λ e c. let n = (h.is.exact e).0 c in (length h.tries, n.location, live_home h.stands n.live, n.entry);
+        homes = λ e c. let n = (h.is.exact e).0 c in (length h.tries, n.location, live_home m homes h.stands n.live, n.entry);
       }
 
   pub all_homes : (ds : List Descr) → AreExact m ds → All (NamesHomes m) ds

@@ -12,8 +12,10 @@ use Rattle.linear_rules.specs.Keeps.{KeepsReached}
 use Rattle.linear_rules.specs.Lowered.{is_among, slots_of, slot_number, slot_count, lowered}
 use Rattle.linear_rules.proofs.Lowering.{lowered_keeps_reached, lowered_well_formed, lowered_slots, lowered_lines, lowered_labels}
 use Rattle.linear_rules.proofs.Slots.{slot_occurs_in_code, slot_occurs_in_params, slot_stands, numbers_apart, numbers_below, numbers_onto}
+use Rattle.tidy_rules.specs.Redirecting.{Tidies}
 use Rattle.tidy_rules.specs.Regular.{IsRegular}
 use Rattle.tidy_rules.specs.Tidied.{IsTidied}
+use Rattle.tidy_rules.proofs.Following.{tidied_tidies}
 use Rattle.tidy_rules.proofs.Keeping.{keeps_tidied}
 use Rattle.tidy_rules.proofs.Lowered.{lowered_regular}
 use Rattle.tidy_rules.proofs.Shape.{SameShape}
@@ -44,16 +46,17 @@ module _ (p : Mach) (well : WellFormed p) (placed : FullyPlaced p) where
   is_linear r seated t =
       let keeps : KeepsReached p (lowered p) = lowered_keeps_reached p well placed in
       let first : IsRegular (lowered p) = lowered_regular p well placed seated in
-      let regular : IsRegular r = tidied_regular t.tidies first in
-      let shape : SameShape (lowered p) r = tidied_shape t.tidies first in
+      let tidies : Tidies (lowered p) r = tidied_tidies t in
+      let regular : IsRegular r = tidied_regular tidies first in
+      let shape : SameShape (lowered p) r = tidied_shape tidies first in
       let shape_lines = shape.lines in
       let lines = lowered_lines p in
       let slots : r.slots ≡ slot_count p = shape.slots in
       record {
-        tidies = t.tidies;
-        reached = keeps_tidied keeps t.tidies;
-        keeps = λ safe named exact. tidied_keeps keeps first t.tidies t.tidy safe named exact;
-        no_addr = λ safe. tidied_no_addr keeps first t.tidies t.tidy safe;
+        made = t;
+        reached = keeps_tidied keeps tidies;
+        keeps = λ safe named exact. tidied_keeps keeps first tidies t.tidy safe named exact;
+        no_addr = λ safe. tidied_no_addr keeps first tidies t.tidy safe;
         tidy = t.tidy;
         tight = tidy_tight r regular t.tidy;
         regular = regular;

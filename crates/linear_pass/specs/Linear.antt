@@ -20,8 +20,8 @@ use Rattle.lin_ir.specs.declared.lin.Lin.{Lin}
 use Rattle.linear_rules.specs.Keeps.{KeepsReached}
 use Rattle.linear_rules.specs.Lowered.{lowered}
 use Rattle.linear_rules.specs.Sizes.{tries_ended}
-use Rattle.tidy_rules.specs.Redirecting.{Tidies}
 use Rattle.tidy_rules.specs.Regular.{IsRegular, IsTidy}
+use Rattle.tidy_rules.specs.Tidied.{IsTidied}
 
 -- ---- slots
 
@@ -48,8 +48,8 @@ pub record NamesHomes (m : Lin) (d : Descr) : Type 0 where
 -- ---- whole
 
 pub record IsLinearOf (p : Mach) (r : Lin) : Type 0 where
-  -- its lines are those of the instructions, without some and with jumps redirected
-  pub tidies : Tidies (lowered p) r
+  -- it is the lowered function, made tidy: one function
+  pub made : IsTidied (lowered p) r
   -- It is called so and gives the same type. Where nothing is lost at frame points it does what the
   -- Mach function does. It names no symbol and no external call that the Mach function does not.
   pub reached : KeepsReached p r

@@ -4,7 +4,6 @@ use Rattle.std.proofs.lemmas.List.{drop_more, length-drop}
 use Rattle.lin_ir.specs.declared.lin.Flow.TheVariants as flow
 use Rattle.lin_ir.specs.declared.lin.Line.{Line}
 use Rattle.tidy_rules.specs.Leaving.{bare, LabelsBetween, none_between, label_between}
-use Rattle.linear_tidy.specs.Targets.{LeadsTo}
 
 pub drop_line : (code : List Line) (k : ℕ) (i : Line) → k < length code → i ≡ get_or code k i → drop k code ≡ i ∷ drop (k + 1) code
 drop_line code k i lt e = drop_more code k i lt ∙ ap (λ j. j ∷ drop (k + 1) code) (sym e)
@@ -56,22 +55,3 @@ past_between code from to lt le p =
 
 pub all_between : (code : List Line) (from to : ℕ) → SameFrom code from to to → Between code from to
 all_between code from to h = h.forward none_between
-
--- ---- to a jump
-
-pub leads_now : (code : List Line) (k n : ℕ) (i : Line) → k < length code → i ≡ get_or code k i → i ≡ bare (flow.Jump n) → LeadsTo (drop k code) n
-leads_now code k n i lt e is =
-    record {
-      next = drop (k + 1) code;
-      between = subst (λ xs. LabelsBetween xs (bare (flow.Jump n) ∷ drop (k + 1) code))
-          (sym (drop_line code k i lt e ∙ ap (λ j. j ∷ drop (k + 1) code) is)) none_between;
-    }
-
-pub leads_before : (code : List Line) (k n : ℕ) (i : Line) → k < length code → i ≡ get_or code k i → (l : ℕ) × (i ≡ bare (flow.Label l)) →
-    LeadsTo (drop (k + 1) code) n → LeadsTo (drop k code) n
-leads_before code k n i lt e label h =
-    record {
-      next = h.next;
-      between = subst (λ xs. LabelsBetween xs (bare (flow.Jump n) ∷ h.next))
-          (sym (drop_line code k i lt e ∙ ap (λ j. j ∷ drop (k + 1) code) label.1)) (label_between h.between);
-    }

@@ -10,8 +10,8 @@ use Rattle.lin_ir.specs.declared.lin.Lin.{Lin}
 use Rattle.lin_laws.specs.Graph.{HaveNumbers, AreNumbered}
 use Rattle.linear_rules.proofs.Lines.{all_of}
 use Rattle.linear_rules.proofs.Marks.{all_in}
-use Rattle.tidy_rules.specs.Leaving.{IsUseless, without, with_code, LeavesOut}
-use Rattle.tidy_rules.specs.Redirecting.{redirect, Redirects, Tidies, as_it_is, then_leaves, then_redirects}
+use Rattle.tidy_rules.specs.Leaving.{IsUseless, without, with_code, LeavesOut, LeavesOften, not_once, once_more}
+use Rattle.tidy_rules.specs.Redirecting.{redirect, last_label, redirected_all}
 use Rattle.tidy_rules.specs.Regular.{IsTidy}
 use Rattle.tidy_rules.specs.Tidied.{IsTidied, IsUseful}
 use Rattle.tidy_rules.proofs.Leaving.{in_code}
@@ -203,23 +203,23 @@ fewer_left m r flags len some is =
 
 -- what was done to a function so far
 pub record Round (m now : Lin) (flags : List Bool) : Type 0 where
-  pub tidies : Tidies m now
+  pub leaves : LeavesOften (redirected_all m) now
   pub numbered : AreNumbered now
   pub told : AreFlags now flags
 
-pub redirected_numbered : (m r : Lin) → Redirects m r → AreNumbered m → AreNumbered r
-redirected_numbered m r h numbered =
+pub redirected_numbered : (m r : Lin) → r ≡ redirected_all m → AreNumbered m → AreNumbered r
+redirected_numbered m r is numbered =
     let Args : Line → Type 0 = λ i. HaveNumbers m.slots i.args in
     let Results : Line → Type 0 = λ i. HaveNumbers m.slots i.results in
-    subst AreNumbered (sym h.is)
+    subst AreNumbered (sym is)
     (record {
-      args = all_map (redirect h.to) Args m.code (λ i z. all_in Args numbered.args z);
-      results = all_map (redirect h.to) Results m.code (λ i z. all_in Results numbered.results z);
+      args = all_map (redirect (last_label m)) Args m.code (λ i z. all_in Args numbered.args z);
+      results = all_map (redirect (last_label m)) Results m.code (λ i z. all_in Results numbered.results z);
     })
 
-pub first_round : (m now : Lin) (flags : List Bool) → Redirects m now → AreNumbered m → AreFlags now flags → Round m now flags
-first_round m now flags h numbered f =
-    record { tidies = then_redirects as_it_is h; numbered = redirected_numbered m now h numbered; told = f }
+pub first_round : (m now : Lin) (flags : List Bool) → now ≡ redirected_all m → AreNumbered m → AreFlags now flags → Round m now flags
+first_round m now flags is numbered f =
+    record { leaves = subst (LeavesOften (redirected_all m)) (sym is) not_once; numbered = redirected_numbered m now is numbered; told = f }
 
 pub next_numbered : (m now r : Lin) (flags : List Bool) → Round m now flags → r ≡ with_code now (without (goes_by flags) now.code) → AreNumbered r
 next_numbered m now r flags h is = subst AreNumbered (sym is) (left_numbered now flags h.told h.numbered)
@@ -228,13 +228,13 @@ pub next_round : (m now r : Lin) (flags others : List Bool) → Round m now flag
     AreFlags r others → Round m r others
 next_round m now r flags others h is f =
     record {
-      tidies = then_leaves h.tidies (leaves_flagged now flags h.told r is);
+      leaves = once_more h.leaves (leaves_flagged now flags h.told r is);
       numbered = next_numbered m now r flags h is;
       told = f;
     }
 
 pub last_round : (m now : Lin) (flags : List Bool) → Round m now flags → All (λ b. b ≡ false) flags → IsTidied m now
-last_round m now flags h none = record { tidies = h.tidies; tidy = tidy_now now flags h.told none }
+last_round m now flags h none = record { leaves = h.leaves; tidy = tidy_now now flags h.told none }
 
 pub left_by : (m r : Lin) (slice flags : List Bool) → slice ≡ flags → r ≡ with_code m (without (goes_by slice) m.code) →
     r ≡ with_code m (without (goes_by flags) m.code)

@@ -1,10 +1,9 @@
 //! Jumps that go at once where others lead.
-ghost use Rattle.std.specs.Prelude.{◌≡◌, ◌<◌, ◌^◌, ℕ, cond, drop, length, map, nat_eq, IfOk, IfSome, List, ◌∷◌};
-ghost use Rattle.lin_ir.specs.declared.lin.Line.{Line};
+ghost use Rattle.std.specs.Prelude.{◌≡◌, ◌<◌, ◌^◌, ℕ, cond, drop, length, map, nat_eq, IfOk};
+ghost use Rattle.lin_ir.specs.Meaning.{has_label};
 ghost use Rattle.lin_flow.specs.Labels.{AreLabelsOf};
-ghost use Rattle.tidy_rules.specs.Leaving.{bare, LabelsBetween};
-ghost use Rattle.tidy_rules.specs.Redirecting.{redirected, redirect, GoesOnTo, Redirects};
-ghost use Rattle.linear_tidy.specs.Targets.{target_in, LeadsTo, AreTargets};
+ghost use Rattle.tidy_rules.specs.Redirecting.{redirected, redirect, leads_to, last_label, redirected_all};
+ghost use Rattle.linear_tidy.specs.Targets.{target_in, AreTargets};
 
 use crate::forms::{is_label, jump_of};
 use lin_flow::{Labels, number_after};
@@ -15,7 +14,7 @@ use std::collections::BTreeMap;
 
 /// The label to which the first line from the place on that is no label jumps, if it is a jump.
 fn jump_from(code: &[Line], place: usize) -> Option<u32>
-    ensures { IfSome result (λ label. LeadsTo (drop place code.now) label) }
+    ensures { result ≡ leads_to (drop place code.now) }
 {
     for at in place..code.len() {
         let line = &code[at];
@@ -33,7 +32,7 @@ fn jump_from(code: &[Line], place: usize) -> Option<u32>
 /// are followed once for each line.
 fn last_label(lin: &Lin, labels: &Labels, label: u32) -> u32
     requires { AreLabelsOf lin.now labels.now }
-    ensures { GoesOnTo lin.now label result }
+    ensures { result ≡ last_label lin.now label }
 {
     let mut last = label;
     for _line in 0..lin.code.len() {
@@ -83,9 +82,9 @@ impl Targets {
 
     /// Enters where jumps to the label of a line go, if it has one.
     fn put_line(&mut self, lin: &Lin, labels: &Labels, line: &Line) -> Result<(), AllocError>
-        requires labels { AreLabelsOf lin.now labels.now }
-        requires targets { AreTargets lin.now self.old }
-        ensures { IfOk result (λ _. AreTargets lin.now self.new) }
+        requires { AreLabelsOf lin.now labels.now }
+        ensures { IfOk result (λ _. (l : ℕ) → target_in self.new l ≡
+            cond (has_label l line.now.op) (last_label lin.now l) (target_in self.old l)) }
     {
         match &line.op {
             LinOp::Flow(Flow::Label(label)) => {
@@ -158,7 +157,7 @@ impl Targets {
 
 /// The function in which jumps, exits and branches go at once where the jumps lead to which they go.
 pub fn redirect_jumps(alloc: Global, lin: Lin) -> Result<Lin, AllocError>
-    ensures { IfOk result (Redirects lin) }
+    ensures { IfOk result (λ redirected. redirected ≡ redirected_all lin) }
 {
     let _count = number_after(lin.code.len())?;
     let targets = Targets::of_function(alloc, &lin)?;

@@ -10,3 +10,6 @@ pub mod Tidied
 pub mod Whole
 pub mod Lowered
 pub mod Vals
+pub mod Following
+pub mod Once
+pub mod Living

@@ -105,7 +105,7 @@ module _ (m : Lin) (goes : ℕ → Bool) (each : (i : Line) (next : List Line) �
   L = K m goes each
 
   -- a line that is a label or an entry stays
-  landing_stays : (i : Line) (next : List Line) → Stands i next m.code → is_landing i.op ≡ true → goes (length next) ≡ false
+  pub landing_stays : (i : Line) (next : List Line) → Stands i next m.code → is_landing i.op ≡ true → goes (length next) ≡ false
   landing_stays i next s e = by (goes (length next)) refl
     where
       by : (b : Bool) → goes (length next) ≡ b → goes (length next) ≡ false
@@ -150,7 +150,7 @@ module _ (m : Lin) (goes : ℕ → Bool) (each : (i : Line) (next : List Line) �
 
   -- ---- a line that stays is found by what stays after it
 
-  one_place : {i j : Line} {a b : List Line} → Tail (i ∷ a) m.code → Tail (j ∷ b) m.code → goes (length a) ≡ false → goes (length b) ≡ false → L a ≡ L b → a ≡ b
+  pub one_place : {i j : Line} {a b : List Line} → Tail (i ∷ a) m.code → Tail (j ∷ b) m.code → goes (length a) ≡ false → goes (length b) ≡ false → L a ≡ L b → a ≡ b
   one_place {i} {j} {a} {b} s t u v e = ⊎_elim (λ w. by i a b (inner w) u e) (λ w. sym (by j b a (inner w) v (sym e))) (compare s t)
     where
       by : (i : Line) (a b : List Line) → (a ≡ b) ⊎ Tail (i ∷ a) b → goes (length a) ≡ false → L a ≡ L b → a ≡ b

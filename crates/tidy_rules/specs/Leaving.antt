@@ -57,3 +57,8 @@ pub record LeavesOut (m r : Lin) : Type 0 where
   pub is : r ≡ with_code m (without goes m.code)
   pub each : (i : Line) (next : List Line) → Stands i next m.code →
       goes (length next) ≡ true → IsUseless m i next
+
+-- lines that have no use are left out as often as one likes
+pub data LeavesOften (m : Lin) : Lin → Type 0 where
+  not_once : LeavesOften m m
+  once_more : {q r : Lin} → LeavesOften m q → LeavesOut q r → LeavesOften m r

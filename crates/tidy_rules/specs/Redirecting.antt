@@ -1,14 +1,17 @@
 -- Jumps that go at once where the jumps lead to which they go.
-use Rattle.std.specs.Prelude.{◌≡◌, ℕ, List, ◌∷◌, map}
+use Rattle.std.specs.Option.{unwrap_or}
+use Rattle.std.specs.Prelude.{◌≡◌, ℕ, zero, suc, Bool, true, false, cond, Option, Some, None, List, [], ◌∷◌, length, map}
 use Rattle.lin_ir.specs.Meaning.{after_label}
 use Rattle.lin_ir.specs.declared.lin.Flow.TheVariants as flow
 use Rattle.lin_ir.specs.declared.lin.LinOp.{LinOp}
 use Rattle.lin_ir.specs.declared.lin.LinOp.TheVariants as lin
+use Rattle.lin_ir.specs.declared.lin.Spot.{Spot}
 use Rattle.lin_ir.specs.declared.lin.Line.{Line}
 use Rattle.lin_ir.specs.declared.lin.Lin.{Lin}
 use Rattle.tidy_rules.specs.Leaving.{bare, LabelsBetween, with_code, LeavesOut}
 
--- jumps, exits and branches go elsewhere; an exit is still a unit
+-- Jumps, exits and branches go elsewhere; an exit is still a unit. The rows of a table and the
+-- handlers of pushed traps stay where they are.
 abbrev pub redirected : (ℕ → ℕ) → LinOp → LinOp
 redirected to (lin.Flow (flow.Jump l)) = lin.Flow (flow.Jump (to l))
 redirected to (lin.Flow (flow.Exit l)) = lin.Flow (flow.Exit (to l))
@@ -29,6 +32,44 @@ pub record Redirects (m r : Lin) : Type 0 where
   pub to : ℕ → ℕ
   pub is : r ≡ with_code m (map (redirect to) m.code)
   pub each : (l : ℕ) → GoesOnTo m l (to l)
+
+-- ---- all jumps at once
+
+-- it is a label, with no operands
+abbrev pub is_label : LinOp → (args results : List Spot) → Bool
+is_label (lin.Flow (flow.Label l)) [] [] = true
+is_label _ args results = false
+
+-- where a jump with no operands goes
+abbrev pub jumps_to : LinOp → (args results : List Spot) → Option ℕ
+jumps_to (lin.Flow (flow.Jump l)) [] [] = Some l
+jumps_to _ args results = None
+
+-- where the first line that is no label jumps
+abbrev pub leads_to : List Line → Option ℕ
+leads_to [] = None
+leads_to (i ∷ next) =
+    cond (is_label i.op i.args i.results) (leads_to next) (jumps_to i.op i.args i.results)
+
+-- the label to which one jumps at once from a label, and else that label itself
+abbrev pub next_label : Lin → ℕ → ℕ
+next_label m l = unwrap_or (leads_to (after_label l m.code)) l
+
+-- so often one after the other
+abbrev pub followed : Lin → ℕ → ℕ → ℕ
+followed m zero l = l
+followed m (suc n) l = followed m n (next_label m l)
+
+-- where one comes from a label by labels and jumps; jumps that lead round are followed once for
+-- each line
+abbrev pub last_label : Lin → ℕ → ℕ
+last_label m l = followed m (length m.code) l
+
+-- the function in which jumps go at once where others lead
+abbrev pub redirected_all : Lin → Lin
+redirected_all m = with_code m (map (redirect (last_label m)) m.code)
+
+-- ---- changes in any order
 
 -- Lines that have no use are left out, and jumps redirected, as often as one likes.
 pub data Tidies (m : Lin) : Lin → Type 0 where

@@ -7,14 +7,14 @@ use Rattle.lin_ir.specs.declared.lin.Flow.TheVariants as flow
 use Rattle.lin_ir.specs.declared.lin.Spot.{Spot}
 use Rattle.lin_ir.specs.declared.lin.Line.{Line}
 use Rattle.lin_ir.specs.declared.lin.Lin.{Lin}
-use Rattle.tidy_rules.specs.Leaving.{is_landing, bare, LabelsBetween}
-use Rattle.tidy_rules.specs.Redirecting.{Tidies}
+use Rattle.tidy_rules.specs.Leaving.{is_landing, bare, LabelsBetween, LeavesOften}
+use Rattle.tidy_rules.specs.Redirecting.{redirected_all}
 use Rattle.tidy_rules.specs.Regular.{IsReadBehind, IsTidy}
 
--- The second function is the first without lines that have no use, jumps going at once where others
--- lead, and no line is left in it that has no use.
+-- In the first function jumps go at once where others lead, and then lines that have no use are
+-- left out until there is none. One function comes of it, whichever lines go first.
 pub record IsTidied (m r : Lin) : Type 0 where
-  pub tidies : Tidies m r
+  pub leaves : LeavesOften (redirected_all m) r
   pub tidy : IsTidy r
 
 -- what a line, before this code, is for: the opposite of having no use

@@ -3,7 +3,7 @@ use Rattle.lin_flow.proofs.Begun.{are_numbered}
 use Rattle.lin_flow.specs.Nodes.{AreWalkedTo}
 use Rattle.lin_flow.specs.Search.{all_of}
 use Rattle.frame_tables.specs.Pushed.{AreTabled}
-use Rattle.frame_tables.proofs.Pushing.{pushed_by}
+use Rattle.frame_tables.proofs.Pushing.{counted_by}
 use Rattle.frame_tables.proofs.pushed.pushed_traps.Goals as goal
 
 pub search_walks-requires : goal.search_walks-requires
@@ -20,5 +20,5 @@ table_of-requires-clause-walked c =
 
 pub returns : goal.returns
 returns c =
-    pushed_by c.args.lin.now (all_of c.in_ok-search.field-0.search) c.in_ok-search.ensures.reached c.in_ok-traps.traps.items
+    counted_by c.args.lin.now (all_of c.in_ok-search.field-0.search) c.in_ok-search.ensures.reached c.in_ok-traps.traps.items
     (subst (λ xs. AreTabled c.args.lin.now xs (length xs) c.in_ok-traps.traps.items) c.as_slice.ensures.value c.in_ok-traps.ensures)

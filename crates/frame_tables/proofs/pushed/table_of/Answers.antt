@@ -2,9 +2,14 @@ use Rattle.std.proofs.Common.{◌≡◌, ◌+◌, ◌-◌, ◌<◌, Some, length
 use Rattle.std.specs.Prelude.{slice_get}
 use Rattle.std.proofs.lemmas.Option.{slice_get-get_or}
 use Rattle.frame_tables.specs.Pushed.{AreTabled}
-use Rattle.frame_tables.proofs.Pushing.{tabled_past, tabled_more}
+use Rattle.frame_tables.proofs.Pushing.{tabled_none, tabled_past, tabled_more}
 use Rattle.frame_tables.proofs.pushed.table_of.Goals as goal
 use Rattle.frame_tables.proofs.pushed.table_of.Goals.{then-place-lines, else-place-lines}
+
+pub loop-position-init : goal.loop-position-init
+loop-position-init c =
+    tabled_none c.args.lin.now c.args.positions.now c.len-lines.result c.in_ok-traps.traps.items
+    (c.in_ok-traps.ensures.items_if_clones_equal (λ y e. e)) c.len-lines.ensures
 
 pub loop-position-preserved : goal.loop-position-preserved
 loop-position-preserved c =

@@ -1,14 +1,23 @@
-use Rattle.linear_tidy.proofs.Between.{leads_now, leads_before}
+use Rattle.std.proofs.Common.{sym, ◌∙◌}
+use Rattle.std.proofs.lemmas.Bool.{true≢false}
+use Rattle.linear_tidy.proofs.Leading.{leads_past, leads_now, leads_later, leads_nowhere}
 use Rattle.linear_tidy.proofs.redirecting.jump_from.Goals as goal
 
 pub returns-in-Some : goal.returns-in-Some
 returns-in-Some c =
-    c.loop-at.invariant c.in-Some.label
-    (leads_now c.args.code.now c.loop-at.at c.in-Some.label c.index-code-at.result c.loop-at-test.true c.index-code-at.is
-    ((c.jump_of.ensures c.in-Some.label).0 c.in-Some.is))
+    sym (leads_now c.args.code.now c.loop-at.at c.in-Some.label c.index-code-at.result c.loop-at-test.true c.index-code-at.is
+    ((c.jump_of.ensures c.in-Some.label).0 c.in-Some.is)) ∙ c.loop-at.invariant
 
 pub loop-at-preserved : goal.loop-at-preserved
-loop-at-preserved c = λ n h.
-    c.loop-at.invariant n
-    (leads_before c.args.code.now c.loop-at.at n c.index-code-at.result c.loop-at-test.true c.index-code-at.is
-    (c.is_label.ensures.0 c.if-not-is_label.false) h)
+loop-at-preserved c =
+    sym (leads_later c.args.code.now c.loop-at.at c.index-code-at.result c.loop-at-test.true c.index-code-at.is
+    (c.is_label.ensures.0 c.if-not-is_label.false)) ∙ c.loop-at.invariant
+
+pub returns-then-not-is_label : goal.returns-then-not-is_label
+returns-then-not-is_label c =
+    sym (leads_nowhere c.args.code.now c.loop-at.at c.index-code-at.result c.loop-at-test.true c.index-code-at.is
+    (λ y. true≢false (sym (c.is_label.ensures.1 y) ∙ c.if-not-is_label.true))
+    (λ l e. c.in_default.not-Some l ((c.jump_of.ensures l).1 e))) ∙ c.loop-at.invariant
+
+pub returns : goal.returns
+returns c = sym (leads_past c.args.code.now c.loop-at.at c.loop-at-test.false) ∙ c.loop-at.invariant

@@ -1,0 +1,27 @@
+-- What is made of a function is made once.
+use Rattle.std.proofs.Common.{◌≡◌, List, sym, subst}
+use Rattle.cmm_tree.specs.Tree.{FunctionTree}
+use Rattle.lin_ir.specs.Descriptors.{AreExact}
+use Rattle.lin_ir.specs.declared.descr.Descr.{Descr}
+use Rattle.lin_ir.specs.declared.lin.Lin.{Lin}
+use Rattle.lin_laws.proofs.Unique.{exact_unique}
+use Rattle.linear_pass.proofs.Once.{linear_once}
+use Rattle.emit_rules.specs.Emitted.{IsEmitted}
+use Rattle.emit_rules.proofs.Once.{emitted_once}
+use Rattle.rv_pieces.specs.declared.piece.Pieces.{Pieces}
+use Rattle.made_functions.specs.Made.{IsMadeOf}
+
+module _ {tree : FunctionTree} {m n : Lin} {ds es : List Descr} {p q : Pieces} (h : IsMadeOf tree m ds p) (k : IsMadeOf tree n es q) where
+  -- one Linear function
+  pub lines_once : m ≡ n
+  lines_once = linear_once h.linear k.linear
+
+  -- its descriptors
+  pub descriptors_once : ds ≡ es
+  descriptors_once = exact_unique m ds es h.exact (subst (λ n. AreExact n es) (sym lines_once) k.exact)
+
+  -- What the compiler makes of a function is one list of pieces.
+  pub made_once : p ≡ q
+  made_once =
+      emitted_once h.emitted
+      (subst (λ ds. IsEmitted m ds q) (sym descriptors_once) (subst (λ n. IsEmitted n es q) (sym lines_once) k.emitted))

@@ -1,0 +1,98 @@
+-- Jumps followed to where they lead.
+use Rattle.std.proofs.Common.{◌≡◌, ℕ, zero, suc, Bool, true, false, cond, List, [], ◌∷◌, length, Option, Some, None, refl, sym, ap, subst}
+use Rattle.std.proofs.lemmas.Bool.{true≢false}
+use Rattle.std.specs.Option.{unwrap_or}
+use Rattle.lin_ir.specs.Meaning.{after_label}
+use Rattle.lin_ir.specs.declared.lin.Flow.TheVariants as flow
+use Rattle.lin_ir.specs.declared.lin.LinOp.{LinOp}
+use Rattle.lin_ir.specs.declared.lin.LinOp.TheVariants as lin
+use Rattle.lin_ir.specs.declared.lin.Line.{Line}
+use Rattle.lin_ir.specs.declared.lin.Lin.{Lin}
+use Rattle.lin_ir.specs.declared.lin.Spot.{Spot}
+use Rattle.tidy_rules.specs.Leaving.{bare, LabelsBetween, none_between, label_between, LeavesOften, not_once, once_more}
+use Rattle.tidy_rules.specs.Redirecting.{is_label, jumps_to, leads_to, next_label, followed, last_label, redirected_all, GoesOnTo, itself, and_on, Redirects, Tidies, as_it_is, then_leaves, then_redirects}
+use Rattle.tidy_rules.specs.Tidied.{IsTidied}
+
+abbrev line : LinOp → List Spot → List Spot → Line
+line f args results = record { op = f; args = args; results = results }
+
+no_label : (l : ℕ) → None ≡ Some l → ⊥
+no_label l e = cc
+
+same_label : (k l : ℕ) → Some k ≡ Some l → k ≡ l
+same_label k l e = cc
+
+-- ---- lines
+
+pub label_is : (f : LinOp) (args results : List Spot) → is_label f args results ≡ true → (l : ℕ) × (line f args results ≡ bare (flow.Label l))
+label_is (lin.Flow (flow.Label l)) [] [] e = (l, refl)
+label_is (lin.Flow (flow.Label l)) [] (s ∷ ss) e = absurd (true≢false (sym e))
+label_is (lin.Flow (flow.Label l)) (s ∷ ss) results e = absurd (true≢false (sym e))
+label_is (lin.Flow (flow.Jump l)) args results e = absurd (true≢false (sym e))
+label_is (lin.Flow (flow.Exit l)) args results e = absurd (true≢false (sym e))
+label_is (lin.Flow (flow.Branch t l)) args results e = absurd (true≢false (sym e))
+label_is (lin.Flow (flow.Switch ls)) args results e = absurd (true≢false (sym e))
+label_is (lin.Flow (flow.PushTrap l)) args results e = absurd (true≢false (sym e))
+label_is (lin.Flow flow.PopTrap) args results e = absurd (true≢false (sym e))
+label_is (lin.Flow flow.EnterTrap) args results e = absurd (true≢false (sym e))
+label_is (lin.Op f) args results e = absurd (true≢false (sym e))
+
+pub jump_is : (l : ℕ) (f : LinOp) (args results : List Spot) → jumps_to f args results ≡ Some l → line f args results ≡ bare (flow.Jump l)
+jump_is l (lin.Flow (flow.Jump k)) [] [] e = ap (λ k. bare (flow.Jump k)) (same_label k l e)
+jump_is l (lin.Flow (flow.Jump k)) [] (s ∷ ss) e = absurd (no_label l e)
+jump_is l (lin.Flow (flow.Jump k)) (s ∷ ss) results e = absurd (no_label l e)
+jump_is l (lin.Flow (flow.Label k)) args results e = absurd (no_label l e)
+jump_is l (lin.Flow (flow.Exit k)) args results e = absurd (no_label l e)
+jump_is l (lin.Flow (flow.Branch t k)) args results e = absurd (no_label l e)
+jump_is l (lin.Flow (flow.Switch ls)) args results e = absurd (no_label l e)
+jump_is l (lin.Flow (flow.PushTrap k)) args results e = absurd (no_label l e)
+jump_is l (lin.Flow flow.PopTrap) args results e = absurd (no_label l e)
+jump_is l (lin.Flow flow.EnterTrap) args results e = absurd (no_label l e)
+jump_is l (lin.Op f) args results e = absurd (no_label l e)
+
+-- ---- code
+
+-- only labels stand before the jump
+record JumpsAt (code : List Line) (l : ℕ) : Type 0 where
+  next : List Line
+  between : LabelsBetween code (bare (flow.Jump l) ∷ next)
+
+jumps_at : (code : List Line) (l : ℕ) → leads_to code ≡ Some l → JumpsAt code l
+jumps_at [] l e = absurd (no_label l e)
+jumps_at (i ∷ next) l e = by (is_label i.op i.args i.results) refl e (jumps_at next l)
+  where
+    by : (b : Bool) → is_label i.op i.args i.results ≡ b → cond b (leads_to next) (jumps_to i.op i.args i.results) ≡ Some l →
+        (leads_to next ≡ Some l → JumpsAt next l) → JumpsAt (i ∷ next) l
+    by true s e ih =
+        let y = ih e in
+        let is = label_is i.op i.args i.results s in
+        record { next = y.next; between = subst (λ i. LabelsBetween (i ∷ next) (bare (flow.Jump l) ∷ y.next)) (sym is.1) (label_between y.between) }
+    by false s e ih =
+        record { next = next; between = subst (λ i. LabelsBetween (i ∷ next) (bare (flow.Jump l) ∷ next)) (sym (jump_is l i.op i.args i.results e)) none_between }
+
+module _ (m : Lin) where
+  on_next : {k l : ℕ} → GoesOnTo m k l → GoesOnTo m k (next_label m l)
+  on_next {k} {l} g = by (leads_to (after_label l m.code)) refl
+    where
+      by : (o : Option ℕ) → leads_to (after_label l m.code) ≡ o → GoesOnTo m k (unwrap_or o l)
+      by None e = g
+      by (Some n) e = and_on g (jumps_at (after_label l m.code) n e).between
+
+  on_often : (n : ℕ) {k l : ℕ} → GoesOnTo m k l → GoesOnTo m k (followed m n l)
+  on_often zero g = g
+  on_often (suc n) g = on_often n (on_next g)
+
+  pub goes_last : (l : ℕ) → GoesOnTo m l (last_label m l)
+  goes_last l = on_often (length m.code) itself
+
+  -- the jumps of a function may all go at once where others lead
+  pub redirects_all : Redirects m (redirected_all m)
+  redirects_all = record { to = last_label m; is = refl; each = goes_last }
+
+often_tidies : {m q r : Lin} → Tidies m q → LeavesOften q r → Tidies m r
+often_tidies h not_once = h
+often_tidies h (once_more p k) = then_leaves (often_tidies h p) k
+
+-- a function is made tidy by changes that are allowed
+pub tidied_tidies : {m r : Lin} → IsTidied m r → Tidies m r
+tidied_tidies {m} h = often_tidies (then_redirects as_it_is (redirects_all m)) h.leaves
