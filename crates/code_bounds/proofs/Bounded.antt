@@ -1,5 +1,5 @@
 -- What is made of a function is as small as its text asks.
-use Rattle.std.proofs.Common.{◌≡◌, ℕ, ◌+◌, ◌-◌, ◌*◌, ◌<◌, ◌≤◌, List, length, Option, All, sym, ap, subst, arith}
+use Rattle.std.proofs.Common.{ℕ, ◌+◌, ◌-◌, ◌*◌, ◌≤◌, List, length, Option, sym, subst, arith}
 use Rattle.std.specs.Prelude.{Contains}
 use Rattle.std.proofs.lemmas.List.Elements.{All-weaker}
 use Rattle.cmm_front.specs.FileOf.{IsFileOf}
@@ -7,8 +7,6 @@ use Rattle.cmm_tree.specs.Measures.{all_tries}
 use Rattle.cmm_tree.specs.Symbols.{DefinedSymbol}
 use Rattle.cmm_tree.specs.Tree.{FunctionTree, FileTree, functions}
 use Rattle.correctness.specs.Measures.{tries}
-use Rattle.emit_rules.specs.Sizes.{words_at_most}
-use Rattle.emit_rules.specs.Emitted.{emitted}
 use Rattle.lin_ir.specs.Descriptors.{frame_bytes}
 use Rattle.lin_ir.specs.declared.descr.Descr.{Descr}
 use Rattle.lin_ir.specs.declared.lin.Lin.{Lin}
@@ -23,6 +21,7 @@ use Rattle.selection_accepted.proofs.Promised.{function_accepted}
 use Rattle.selection_accepted.proofs.Selecting.{definitions}
 use Rattle.selection_sizes.proofs.Selected.{selected_words, selected_points}
 use Rattle.text_sizes.proofs.Nesting.{text_nests}
+use Rattle.tidy_rules.proofs.Following.{tidied_tidies}
 use Rattle.made_functions.specs.Made.{IsMadeOf}
 use Rattle.made_functions.specs.Bounded.{IsBoundedBy}
 use Rattle.code_bounds.proofs.Lines.{function_short}

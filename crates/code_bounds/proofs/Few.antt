@@ -1,14 +1,12 @@
 -- The pieces of a file are few.
-use Rattle.std.proofs.Common.{◌≡◌, ℕ, suc, ◌+◌, ◌*◌, ◌^◌, ◌<◌, ◌≤◌, List, [], ◌∷◌, ◌++◌, length, All, ap, subst, lit<, arith}
+use Rattle.std.proofs.Common.{ℕ, ◌+◌, ◌*◌, ◌^◌, ◌<◌, ◌≤◌, List, [], ◌∷◌, length, All, ap, lit<, arith}
 use Rattle.std.specs.Prelude.{Contains, sum_by}
 use Rattle.std.specs.List.{AllByRecursion, AllZip}
 use Rattle.std.proofs.lemmas.List.Elements.{All-head, All-tail}
 use Rattle.std.proofs.lemmas.List.Sums.{sum_by-cons}
 use Rattle.cmm_front.specs.FileOf.{IsFileOf}
-use Rattle.cmm_tree.specs.Measures.{nodes_in}
 use Rattle.cmm_tree.specs.Tree.{FunctionTree, FileTree, functions}
 use Rattle.cmm_types.proofs.Containing.{contains_head, contains_tail}
-use Rattle.correctness.specs.Bounds.{most_words}
 use Rattle.correctness.specs.Measures.{frame_points, switch_indexes}
 use Rattle.emit_rules.specs.Sizes.{words_at_most}
 use Rattle.layout_rules.specs.Conditions.{weight, weight_of}
@@ -17,7 +15,7 @@ use Rattle.rv_pieces.specs.Named.{marks_in, places_in}
 use Rattle.rv_pieces.specs.declared.piece.Piece.{Piece}
 use Rattle.rv_pieces.specs.declared.piece.Piece.TheVariants as piece
 use Rattle.rv_pieces.specs.declared.piece.Pieces.{Pieces}
-use Rattle.selection_laws.proofs.Accepting.{left, right}
+use Rattle.selection_laws.proofs.Accepting.{right}
 use Rattle.selection_promise.proofs.Promised.{few_tokens}
 use Rattle.selection_accepted.proofs.Promised.{function_accepted}
 use Rattle.text_sizes.proofs.Whole.{text_held}

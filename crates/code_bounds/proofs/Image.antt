@@ -1,12 +1,11 @@
 -- The image of a file is as small as its text asks.
-use Rattle.std.proofs.Common.{◌≡◌, ℕ, suc, ◌+◌, ◌*◌, ◌<◌, ◌≤◌, Bool, true, false, cond, ◌&&◌, nat_lt, nat_le, List, [], ◌∷◌, ◌++◌, length, take, refl, sym, ap, ◌∙◌, subst, append_assoc, length-append, le-ltb, arith}
-use Rattle.std.specs.Prelude.{count_by, sum_by}
+use Rattle.std.proofs.Common.{◌≡◌, ℕ, ◌+◌, ◌*◌, ◌<◌, ◌≤◌, Bool, true, false, cond, ◌&&◌, nat_lt, nat_le, List, [], ◌∷◌, ◌++◌, length, refl, sym, ap, ◌∙◌, subst, append_assoc, le-ltb, arith}
+use Rattle.std.specs.Prelude.{count_by}
 use Rattle.std.specs.List.{AllByRecursion, AllZip}
 use Rattle.std.proofs.lemmas.Bool.{lt-leb}
 use Rattle.std.proofs.lemmas.List.Sums.{sum_by-append, sum_by-cons, count_by-le-length}
 use Rattle.cmm_tree.specs.Tree.{FunctionTree, FileTree, functions}
-use Rattle.correctness.specs.Bounds.{most_words, is_called_in, IsWithinText, IsBounded}
-use Rattle.correctness.specs.Measures.{frame_points}
+use Rattle.correctness.specs.Bounds.{is_called_in, IsWithinText, IsBounded}
 use Rattle.emit_rules.specs.Sizes.{words_at_most}
 use Rattle.emit_rules.specs.Sizes as sizes
 use Rattle.image_form.specs.Image.{end_of}
@@ -15,12 +14,13 @@ use Rattle.layout_rules.specs.declared.form.Form.{Form}
 use Rattle.layout_rules.specs.declared.form.Form.TheVariants.{Near, Middle, Far}
 use Rattle.layout_rules.specs.Conditions.{AreDescriptors, IsFunctionLaid, CanBeLaid}
 use Rattle.layout_rules.specs.Forms.{branch_words, jump_words, words_of, total_words}
-use Rattle.layout_rules.specs.Laid.{stub_words, entries_from, code_from, row_at, rows_from, descs_in, descs_from, laid_out, AreAllForms, IsLaidOut}
+use Rattle.layout_rules.specs.Laid.{stub_words, row_at, rows_from, descs_in, descs_from, laid_out, AreAllForms, IsLaidOut}
 use Rattle.layout_rules.proofs.Functions.{filled}
+use Rattle.layout_rules.proofs.Rules.{all_append}
 use Rattle.made_functions.specs.Bounded.{IsBoundedBy}
 use Rattle.rv_pieces.specs.Named.{marks_in, has_words}
 use Rattle.rv_pieces.specs.declared.piece.Piece.{Piece}
-use Rattle.rv_pieces.specs.declared.piece.Piece.TheVariants.{Known, Label, Branch, Jump, Row, LabelAddress, Call, TailCall, SymbolAddress, ExternalNumber, Descriptor}
+use Rattle.rv_pieces.specs.declared.piece.Piece.TheVariants.{Label, Branch, Jump, Descriptor}
 use Rattle.rv_pieces.specs.declared.piece.Pieces.{Pieces}
 use Rattle.code_bounds.specs.Kept.{KeepsTo}
 
@@ -81,10 +81,6 @@ below_more : (to more : ℕ) (ds : List Desc) → to ≤ more → Below to ds �
 below_more to more [] le h = tt
 below_more to more (d ∷ ds) le h = let here : d.after ≤ 4 * to = h.0 in (omega (arith, here, le), below_more to more ds le h.1)
 
-all_both : {A : Type 0} (P : A → Type 0) (xs ys : List A) → AllByRecursion P xs → AllByRecursion P ys → AllByRecursion P (xs ++ ys)
-all_both P [] ys a b = b
-all_both P (x ∷ xs) ys a b = (a.0, all_both P xs ys a.1 b)
-
 own_above : (from at : ℕ) (behind : Bool) (ps : List Piece) (fs : List Form) → from ≤ at → (behind ≡ true → from < at) → AreDescriptors behind ps →
     Above from (descs_in at ps fs)
 own_above from at behind [] fs h k are = tt
@@ -115,7 +111,7 @@ module _ (file : FileTree) where
   all_above at (p ∷ ps) [] laid = tt
   all_above at (p ∷ ps) (f ∷ forms) laid =
       let next = at + total_words p.code f in
-      all_both (λ (d : Desc). 4 * at < d.after) (descs_in at p.code f) (descs_from next ps forms)
+      all_append (λ (d : Desc). 4 * at < d.after) (descs_in at p.code f) (descs_from next ps forms)
       (own_above at at false p.code f (omega arith) (λ e. absurd (cc)) laid.0.descriptors)
       (above_more next at (descs_from next ps forms) (omega arith) (all_above next ps forms laid.1))
 
@@ -175,7 +171,7 @@ module _ (file : FileTree) where
       let here = count_by-le-length (is_called_in row) own in
       let one : Desc → ℕ = λ d. cond (is_called_in row d) 1 0 in
       let split : count_by (is_called_in row) (pre ++ (own ++ rest)) ≡ count_by (is_called_in row) pre + count_by (is_called_in row) (own ++ rest) =
-          sum_by-append one pre (own ++ rest) in
+      sum_by-append one pre (own ++ rest) in
       let more : count_by (is_called_in row) (own ++ rest) ≡ count_by (is_called_in row) own + count_by (is_called_in row) rest = sum_by-append one own rest in
       let whole : count_by (is_called_in row) described ≡ count_by (is_called_in row) (pre ++ (own ++ rest)) = ap (count_by (is_called_in row)) same in (
         record {
@@ -184,7 +180,7 @@ module _ (file : FileTree) where
           descs = omega (arith, whole, split, more, none, later, here, fewer, counted, points);
         },
         each_within described (pre ++ own) next fs ps forms (same ∙ sym (append_assoc pre own rest))
-            (all_both (λ (d : Desc). d.after ≤ 4 * next) pre own (below_more at next pre (omega arith) before) below) keeps.1 are.1 laid.1,
+            (all_append (λ (d : Desc). d.after ≤ 4 * next) pre own (below_more at next pre (omega arith) before) below) keeps.1 are.1 laid.1,
       )
 
 -- The image of a file whose functions keep to their texts is bounded.

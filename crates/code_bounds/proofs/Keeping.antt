@@ -1,5 +1,5 @@
 -- The pieces that are made of the functions of a text keep to it.
-use Rattle.std.proofs.Common.{◌≡◌, ℕ, suc, ◌*◌, ◌≤◌, List, [], ◌∷◌, length, Option, ap, ◌∙◌, arith}
+use Rattle.std.proofs.Common.{ℕ, suc, ◌*◌, ◌≤◌, List, [], ◌∷◌, length, Option, ap, ◌∙◌, arith}
 use Rattle.std.specs.Prelude.{Contains}
 use Rattle.std.specs.List.{AllZip}
 use Rattle.cmm_front.specs.FileOf.{IsFileOf}
@@ -86,6 +86,7 @@ each_keeps text file is ps made = go (functions file) ps (λ tree c. c) made
     go [] [] among made = tt
     go [] (p ∷ ps) among made = absurd made
     go (f ∷ fs) [] among made = absurd made
-    go (f ∷ fs) (p ∷ ps) among made =
-        (text_keeps text file is f (among f (contains_head f fs)) made.0.0 made.0.1 p made.0.2,
-            go fs ps (λ tree c. among tree (contains_tail f fs tree c)) made.1)
+    go (f ∷ fs) (p ∷ ps) among made = (
+      text_keeps text file is f (among f (contains_head f fs)) made.0.0 made.0.1 p made.0.2,
+      go fs ps (λ tree c. among tree (contains_tail f fs tree c)) made.1,
+    )

@@ -7,3 +7,7 @@ pub mod Image
 pub mod Keeping
 pub mod Modest
 pub mod Few
+pub mod Bodies
+pub mod Data
+pub mod Calls
+pub mod Roomy

@@ -1,17 +1,14 @@
 -- A function has as few slots as the text has tokens, and its frame is as small.
-use Rattle.std.proofs.Common.{◌≡◌, ℕ, zero, suc, ◌+◌, ◌-◌, ◌*◌, ◌/◌, ◌<◌, ◌≤◌, ◌⊎◌, inl, inr, ⊎_elim, Bool, true, false, cond, ◌||◌, eqb, List, [], ◌∷◌, length, map, refl, sym, ap, ◌∙◌, subst, arith}
+use Rattle.std.proofs.Common.{◌≡◌, ℕ, ◌+◌, ◌*◌, ◌/◌, ◌<◌, ◌≤◌, ⊎_elim, Bool, true, false, cond, List, [], ◌∷◌, map, subst, arith}
 use Rattle.std.specs.Prelude.{Contains, nat_eq}
 use Rattle.std.specs.List.{list_any}
 use Rattle.std.proofs.lemmas.List.{length-map}
 use Rattle.std.proofs.lemmas.Map.Steps.{le-length_from_below}
 use Rattle.std.proofs.lemmas.Map.Views.{list_any-from_Contains}
 use Rattle.std.specs.Cmp.{nat_eq_equiv}
-use Rattle.bs_words.specs.declared.types.Loc.TheVariants as loc
 use Rattle.cmm_types.proofs.Containing.{contains_none, contains_cases, contains_head, contains_tail}
-use Rattle.mach_ir.specs.Sizes.{OpenAtMost}
-use Rattle.mach_ir.specs.Walks.{IsRegister, is_param, is_in_code, InCode}
+use Rattle.mach_ir.specs.Walks.{is_param, is_in_code}
 use Rattle.mach_ir.specs.declared.mach.Mach.{Mach}
-use Rattle.mach_ir.specs.declared.reg.Reg.{Reg}
 use Rattle.places_rules.specs.Places.{IsSlot, SlotsGrow}
 use Rattle.lin_ir.specs.Descriptors.{has_frame_point, frame_bytes}
 use Rattle.lin_ir.specs.declared.lin.Lin.{Lin}

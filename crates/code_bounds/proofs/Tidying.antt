@@ -17,8 +17,8 @@ use Rattle.lin_ir.specs.declared.lin.LinOp.TheVariants as lin
 use Rattle.lin_ir.specs.declared.lin.Line.{Line}
 use Rattle.lin_ir.specs.declared.lin.Lin.{Lin}
 use Rattle.linear_rules.specs.Lowered.{is_idle, pops, bare, line_of, spot, lines_of_mark, lines_of, lowered_one, lowered_code, slot_number, lowered}
-use Rattle.tidy_rules.specs.Leaving.{without, with_code, LeavesOut}
-use Rattle.tidy_rules.specs.Redirecting.{redirected, redirect, Redirects, Tidies, as_it_is, then_leaves, then_redirects}
+use Rattle.tidy_rules.specs.Leaving.{without}
+use Rattle.tidy_rules.specs.Redirecting.{redirected, redirect, Tidies, as_it_is, then_leaves, then_redirects}
 use Rattle.selection_sizes.specs.Measures.{one_if, code_words, code_points, instr_words, op_words}
 use Rattle.code_bounds.specs.Lines as lines
 use Rattle.code_bounds.specs.Lines.{line_words, lines_words}

@@ -1,5 +1,5 @@
 -- No more tries nest in an expression than it has.
-use Rattle.std.proofs.Common.{ℕ, ◌+◌, ◌≤◌, max, arith}
+use Rattle.std.proofs.Common.{◌≤◌, arith}
 use Rattle.cmm_tree.specs.Measures.{is_try, all_tries, row_total, bindings_total, cases_total, handlers_total}
 use Rattle.cmm_tree.specs.Tree.{Expression, Integer, Pointer, Symbol, Name, Nothing, Float, Let, Assign, Operator, Load, Store, Alloc, App, Extcall, Checkbound, Raise, Seq, If, Switch, Catch, Exit, Try, Expressions, NoMore, More, Bindings, NoBinding, Bind, Cases, NoCase, Choose, Handlers, NoHandler, Handle}
 use Rattle.correctness.specs.Measures.{tries_in, tries_in_row, tries_in_bindings, tries_in_cases, tries_in_handlers}

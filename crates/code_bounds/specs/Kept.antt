@@ -1,5 +1,5 @@
 -- The pieces of a function beside its text.
-use Rattle.std.specs.Prelude.{◌≡◌, ℕ, ◌*◌, ◌≤◌, List, length}
+use Rattle.std.specs.Prelude.{◌≡◌, ◌*◌, ◌≤◌, List, length}
 use Rattle.cmm_tree.specs.Tree.{FunctionTree}
 use Rattle.lin_ir.specs.declared.descr.Descr.{Descr}
 use Rattle.made_functions.specs.Bounded.{IsBoundedBy}

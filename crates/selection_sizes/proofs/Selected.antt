@@ -1,23 +1,22 @@
 -- Selected code has few words and few frame points.
-use Rattle.std.proofs.Common.{◌≡◌, ℕ, zero, suc, ◌+◌, ◌-◌, ◌*◌, ◌≤◌, length, max, Bool, true, false, not, cond, List, [], ◌∷◌, ◌++◌, Option, Some, None, refl, arith}
+use Rattle.std.proofs.Common.{◌≡◌, ℕ, zero, suc, ◌+◌, ◌*◌, ◌≤◌, length, Bool, true, false, not, cond, List, [], ◌∷◌, ◌++◌, Some, refl, arith}
 use Rattle.bs_words.specs.declared.types.Comp.TheVariants as comp
 use Rattle.bs_words.specs.declared.types.Ret.{Ret}
 use Rattle.bs_words.specs.declared.types.Ret.TheVariants as ret
 use Rattle.bs_words.specs.declared.types.Ty.TheVariants as ty
-use Rattle.cmm_tree.specs.Measures.{total, row_total, bindings_total, cases_total, handlers_total, counts_one, nodes_in}
+use Rattle.cmm_tree.specs.Measures.{row_total, bindings_total, cases_total, handlers_total, counts_one, nodes_in}
 use Rattle.cmm_tree.specs.Tree.{FunctionTree, LabelTree, same_label, is_bare, Expression, Integer, Pointer, Symbol, Name, Nothing, Float, Let, Assign, Operator, Load, Store, Alloc, App, Extcall, Checkbound, Raise, Seq, If, Switch, Catch, Exit, Try, Expressions, NoMore, More, Bindings, NoBinding, Bind, Cases, NoCase, Choose, Handlers, NoHandler, Handle}
 use Rattle.cmm_types.specs.Light.{is_light_address}
 use Rattle.cmm_types.specs.Types.{result_of, body_type, type_of}
 use Rattle.cmm_meaning.specs.Evaluation.{is_left_first}
 use Rattle.correctness.specs.Measures.{indexes_of, is_frame_point, frame_points, switch_indexes, tries_in, tries_in_row, tries_in_bindings, tries_in_cases, tries_in_handlers, tries}
-use Rattle.mach_ir.specs.declared.mach.Mark.TheVariants as mark
 use Rattle.mach_ir.specs.declared.mach.Test.TheVariants as test
 use Rattle.mach_ir.specs.declared.reg.Reg.{Reg}
-use Rattle.selection_rules.specs.Select.{Code, shape_of, shape_op, shape_right, shape_args, Named, Label, scopes, reg_of, label_of, moves_all, exit_to, symbol_of, right_of, bound_test, comparison, is_based, base_of, inner_dest, seat, select_base, select_test, count_of, regs_of, select, select_waiting, select_filled, select_bound, select_seq, select_cases, select_handlers, deeper, labels_from, in_handlers, unless_bare, switch_labels, returns, selected, first, is_no_value, fresh, seats}
+use Rattle.selection_rules.specs.Select.{Code, shape_of, shape_op, shape_right, shape_args, Named, Label, scopes, reg_of, label_of, moves_all, exit_to, symbol_of, right_of, bound_test, comparison, is_based, seat, select_base, select_test, count_of, regs_of, select, select_waiting, select_filled, select_bound, select_seq, select_cases, select_handlers, deeper, labels_from, in_handlers, unless_bare, switch_labels, returns, selected, first, is_no_value, fresh, seats}
 use Rattle.selection_places.proofs.Owned.{regs_length}
 use Rattle.selection_places.proofs.Whole.{params_length, seats_length, moved_at, value_at, params_of, env_of}
 use Rattle.selection_sizes.specs.Measures.{one_if, code_words, code_points}
-use Rattle.selection_sizes.proofs.Sums.{most, points, some_nodes, part, part_both, sum_of, now_of, later_of, in_parts, row_points, row_most}
+use Rattle.selection_sizes.proofs.Sums.{most, points, some_nodes, part_both, now_of, later_of, in_parts, row_points, row_most}
 use Rattle.selection_sizes.proofs.Weights.{Weighs, w_up, w_then, w_none, w_pure, w_alloc, w_load, w_store, w_raising, w_checkbound, w_branch, w_choose, w_handler, w_else, w_end, w_catch, w_with, w_case, w_try, w_leave, w_exits, w_move, w_from, w_to, w_moves, w_cells, w_ordered, w_when, w_unless, w_constant, w_left, w_right, w_tested, w_if, w_operator, w_call, w_external}
 
 -- ---- labels

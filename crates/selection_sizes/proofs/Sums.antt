@@ -1,7 +1,7 @@
 -- What an expression may weigh, and what a row of operands may, in two parts.
 use Rattle.std.proofs.Common.{◌≡◌, ℕ, ◌+◌, ◌-◌, ◌*◌, ◌≤◌, Bool, true, false, not, List, refl, arith}
-use Rattle.cmm_tree.specs.Measures.{total, row_total, bindings_total, cases_total, handlers_total, counts_one, nodes_in}
-use Rattle.cmm_tree.specs.Tree.{Expression, Integer, Pointer, Symbol, Name, Nothing, Float, Let, Assign, Operator, Load, Store, Alloc, App, Extcall, Checkbound, Raise, Seq, If, Switch, Catch, Exit, Try, Expressions, NoMore, More, Cases, NoCase, Choose, Handlers, NoHandler, Handle, Bindings, NoBinding, Bind}
+use Rattle.cmm_tree.specs.Measures.{total, row_total, counts_one, nodes_in}
+use Rattle.cmm_tree.specs.Tree.{Expression, Integer, Pointer, Symbol, Name, Nothing, Float, Let, Assign, Operator, Load, Store, Alloc, App, Extcall, Checkbound, Raise, Seq, If, Switch, Catch, Exit, Try, Expressions, NoMore, More}
 use Rattle.cmm_types.specs.Light.{is_light_address}
 use Rattle.correctness.specs.Measures.{indexes_of, is_frame_point}
 use Rattle.selection_rules.specs.Select.{Named, scopes, count_of}

@@ -1,5 +1,5 @@
 -- Tokens have no more bytes than their text, each has one, and a string stands for no more bytes than it has.
-use Rattle.std.proofs.Common.{◌≡◌, ℕ, zero, suc, ◌+◌, ◌≤◌, max, Bool, true, false, cond, List, [], ◌∷◌, ◌++◌, length, Option, Some, None, length-append, arith}
+use Rattle.std.proofs.Common.{◌≡◌, ℕ, suc, ◌+◌, ◌≤◌, max, Bool, true, false, cond, List, [], ◌∷◌, ◌++◌, length, Option, length-append, arith}
 use Rattle.std.specs.Prelude.{◌==◌}
 use Rattle.bs_fault.specs.declared.fault.Fault.{Fault}
 use Rattle.cmm_lex.specs.Token.{TokenTree}

@@ -1,5 +1,5 @@
 -- As many bytes as external calls and symbols have a text that spells them has at least.
-use Rattle.std.proofs.Common.{◌≡◌, ℕ, zero, suc, ◌+◌, ◌≤◌, Bool, true, false, cond, List, [], ◌∷◌, length, Option, Some, None, refl, sym, ap, subst, arith}
+use Rattle.std.proofs.Common.{◌≡◌, ℕ, zero, suc, ◌+◌, ◌≤◌, Bool, true, false, cond, List, [], ◌∷◌, length, Option, Some, None, refl, ap, subst, arith}
 use Rattle.bs_words.specs.Symbol.{is_symbol}
 use Rattle.bs_words.specs.declared.types.Chunk.{Chunk}
 use Rattle.bs_words.specs.declared.types.Chunk.TheVariants as chunk
@@ -9,8 +9,7 @@ use Rattle.cmm_lex.specs.Strings.{string_bytes}
 use Rattle.cmm_lex.specs.declared.token.TokenKind.{TokenKind}
 use Rattle.cmm_lex.specs.declared.token.TokenKind.TheVariants as kind
 use Rattle.cmm_lex.specs.declared.token.Keyword.TheVariants as word
-use Rattle.cmm_tree.specs.Tree.{Expression, Integer, Pointer, Symbol, Name, Nothing, Float, Let, Assign, Operator, Load, Store, Alloc, App, Extcall, Checkbound, Raise, Seq, If, Switch, Catch, Exit, Try, Expressions, NoMore, More, Bare, Index, Parameter, FunctionTree, ItemTree, functions_among}
-use Rattle.cmm_tree.specs.Tree as tree
+use Rattle.cmm_tree.specs.Tree.{Expression, Integer, Pointer, Symbol, Name, Float, Exit, Expressions, NoMore, Bare, Index, Parameter, ItemTree}
 use Rattle.cmm_grammar.specs.declared.word.Head.{Head}
 use Rattle.cmm_grammar.specs.declared.word.Head.TheVariants as head
 use Rattle.cmm_grammar.specs.declared.word.Pair.{Pair}
@@ -26,9 +25,9 @@ use Rattle.cmm_grammar.specs.Rewriting.{element_by, element, turn_by, turn, whil
 use Rattle.cmm_grammar.specs.Words.{leaf_of, word_of}
 use Rattle.cmm_grammar.specs.Grammar.{a_token, close, a_comp, a_result, operands, sequence_to_close, sequence_to_with, a_binding, a_mutable_binding, bindings_to_close, let_body, let_form, assign_form, arguments_of, app_form, extcall_rest, extcall_form, alloc_form, loaded, stored, load_rest, store_rest, chunk_rest, chunked, load_form, store_form, paired, tripled, raise_form, pair_form, triple_form, float_form, seq_form, while_form, case_number, another_number, case_body, a_case, switch_form, a_parameter, parameters, label_rest, handler_rest, a_label, next_handler, more_handlers, labelled_handlers, bare_handler, catch_form, exit_rest, exit_form, try_form, form_of, form, a_data_integer, datum_of, a_data_item, data_items, data_list, a_function, item_rest, an_item}
 use Rattle.cmm_tree.specs.Measures.{total, row_total, bindings_total, cases_total, handlers_total}
-use Rattle.cmm_tree.specs.Tree.{DatumTree, Define, Byte, Half, Int, Val, Address, Skip, Align, Text, Global, AFloat, DataItemTree}
+use Rattle.cmm_tree.specs.Tree.{DatumTree, Byte, Half, Int, Val, Address, Skip, Align, DataItemTree}
 use Rattle.cmm_types.specs.Faults.{row_length}
-use Rattle.cmm_grammar.specs.Rule.{AnExpression, AParameter, ABinding, AnIndex, ACase, AHandler, ADataItem, AnItem, Rule}
+use Rattle.cmm_grammar.specs.Rule.{AnExpression, ABinding, AnIndex, ACase, AHandler, ADataItem, AnItem, Rule}
 use Rattle.cmm_grammar.specs.Words.{passing, is_symbol_token, is_integer, val_of, data_keyword, data_word_of}
 use Rattle.cmm_tree.specs.Place.{place_of}
 use Rattle.std.specs.Prelude.{option_map}

@@ -1,5 +1,5 @@
 -- As few tries nest in what tokens spell as parentheses.
-use Rattle.std.proofs.Common.{◌≡◌, ℕ, zero, suc, ◌+◌, ◌≤◌, max, Bool, true, false, cond, List, [], ◌∷◌, Option, Some, None, Ok, subst, refl, ◌⊎◌, inl, inr, arith}
+use Rattle.std.proofs.Common.{◌≡◌, ℕ, zero, suc, ◌≤◌, Bool, true, false, cond, List, [], ◌∷◌, Option, Some, None, Ok, subst, refl, ◌⊎◌, inl, inr, arith}
 use Rattle.bs_words.specs.Symbol.{is_symbol}
 use Rattle.bs_words.specs.declared.types.Chunk.{Chunk}
 use Rattle.bs_words.specs.declared.types.Chunk.TheVariants as chunk

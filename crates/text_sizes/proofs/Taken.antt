@@ -1,5 +1,5 @@
 -- What holds of every value that a rule gives, with the bytes of its tokens, holds of what tokens spell by the rule.
-use Rattle.std.proofs.Common.{◌≡◌, ℕ, ◌+◌, ◌≤◌, suc, List, [], ◌∷◌, ◌++◌, Option, Some, None, subst, arith}
+use Rattle.std.proofs.Common.{◌≡◌, ℕ, ◌+◌, ◌≤◌, suc, List, [], ◌∷◌, ◌++◌, Some, None, subst, arith}
 use Rattle.cmm_lex.specs.Token.{TokenTree}
 use Rattle.cmm_tree.specs.Measures.{total}
 use Rattle.cmm_tree.specs.Tree.{Expression, Nothing}

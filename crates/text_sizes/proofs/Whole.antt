@@ -1,17 +1,16 @@
 -- A text has a byte for each token of its functions, and those of its external calls and symbols.
-use Rattle.std.proofs.Common.{◌≡◌, ℕ, ◌+◌, ◌≤◌, List, [], ◌∷◌, ◌++◌, length, None, Ok, refl, length-append, arith}
+use Rattle.std.proofs.Common.{ℕ, ◌+◌, ◌≤◌, List, ◌∷◌, length, None, Ok, length-append, arith}
 use Rattle.std.specs.Prelude.{sum_by}
 use Rattle.std.proofs.lemmas.List.Sums.{sum_by-cons}
 use Rattle.cmm_lex.specs.Token.{TokenTree}
-use Rattle.cmm_tree.specs.Tree.{FunctionTree, ItemTree, FileTree, functions, functions_among}
+use Rattle.cmm_tree.specs.Tree.{FunctionTree, ItemTree, FileTree, functions_among}
 use Rattle.cmm_grammar.specs.Parts.{ItemPart, FunctionItem, DataItem, item_of}
 use Rattle.cmm_grammar.specs.Spelling.{AreItems, none, more, nesting}
 use Rattle.cmm_reader.specs.Text.{ReadsAs}
 use Rattle.cmm_reader.specs.Text as said
 use Rattle.cmm_front.specs.FileOf.{IsFileOf}
 use Rattle.text_sizes.specs.Held.{IsHeld}
-use Rattle.text_sizes.specs.Measures.{items_bytes}
-use Rattle.text_sizes.proofs.Bytes.{weights, weights_count, weights_fit}
+use Rattle.text_sizes.proofs.Bytes.{weights_count, weights_fit}
 use Rattle.text_sizes.proofs.Names.{items_few}
 
 abbrev tokens_of : FunctionTree → ℕ
