@@ -22,7 +22,7 @@ use Rattle.mach_ir.specs.declared.mach.MachOp.{MachOp}
 use Rattle.mach_ir.specs.declared.mach.MachOp.TheVariants as mach
 use Rattle.mach_ir.specs.declared.mach.Instr.{Instr}
 use Rattle.mach_ir.specs.declared.mach.Mach.{Mach}
-use Rattle.lin_ir.specs.Descriptors.{frame_bytes}
+use Rattle.lin_ir.specs.Descriptors.{IsWithin, frame_bytes}
 use Rattle.lin_ir.specs.Keeps.{IsNamedIn}
 use Rattle.lin_ir.specs.Walks.{Traps, by_walk, unreached}
 use Rattle.lin_ir.specs.declared.descr.Descr.{Descr}
@@ -42,6 +42,7 @@ use Rattle.tidy_rules.specs.Redirecting.{Tidies}
 use Rattle.tidy_rules.specs.Regular.{IsRegular}
 use Rattle.tidy_rules.proofs.Following.{tidied_tidies}
 use Rattle.tidy_rules.proofs.Lowered.{lowered_regular}
+use Rattle.linear_pass.specs.Linear.{IsLinearOf}
 use Rattle.line_stands.specs.Lines as line
 use Rattle.rv_pieces.specs.declared.piece.Pieces.{Pieces}
 use Rattle.selection_rules.specs.Select.{selected, select, returns, first, is_no_value, fresh, seats}
@@ -127,7 +128,8 @@ offset_of_line (lin.Flow f) h = tt
 
 -- ---- whole
 
-module _ (defined : List ℕ → Option DefinedSymbol) (tree : FunctionTree) (accepted : IsAccepted defined tree) (m : Lin) (ds : List Descr) (pieces : Pieces) (made : IsMadeOf tree m ds pieces) where
+module _ (defined : List ℕ → Option DefinedSymbol) (tree : FunctionTree) (accepted : IsAccepted defined tree) (m : Lin)
+    (linear : IsLinearOf (rest_in_slots (selected tree)) m) where
   promise : Selects tree (selected tree)
   promise = promised defined tree accepted
 
@@ -150,7 +152,7 @@ module _ (defined : List ℕ → Option DefinedSymbol) (tree : FunctionTree) (ac
   rest_tries = placed_tries last_resort (tries tree) (selected tree).code (all_tries (tries tree) (selected tree).code promise.tries)
 
   tidies : Tidies (lowered rest) m
-  tidies = tidied_tidies (made.linear).made
+  tidies = tidied_tidies linear.made
 
   few_traps : (code : List Line) (traps : List ℕ) → Traps m code traps → length traps ≤ tries tree
   few_traps code traps (by_walk r) =
@@ -184,37 +186,47 @@ module _ (defined : List ℕ → Option DefinedSymbol) (tree : FunctionTree) (ac
       let own : (i : Instr) (next : List Instr) → mach_walks.Stands i next rest.code → (l n : ℕ) → i.op ≡ mach.Mark (mark.Exit l n) → n ≤ tries tree = λ i next s l n e. exit_few i next s l n e (tries_within (tries tree) rest.code rest_tries i next s) in
       let ended = ended_few (tries tree) rest.code own in
       let product = few_product (exits rest.code) (tries tree) (omega (arith, exits_few, same, values, tokens)) few in
-      let lines = (made.linear).lines in
+      let lines = linear.lines in
       omega (arith, lines, ended, product, long, instrs, tokens)
 
-  whole : frame_bytes m + 16 * tries tree ≤ 1048576 → IsChained tree m ds pieces
-  whole fit =
+  -- Frames, pushed traps and lines fit what descriptors can say.
+  pub fit_within : frame_bytes m + 16 * tries tree ≤ 1048576 → IsWithin m
+  fit_within fit =
+      record {
+        lines = lines_few (omega (arith, fit));
+        frame = λ code traps at. let le = few_traps code traps at in omega (arith, fit, le);
+      }
+
+  whole : (ds : List Descr) (pieces : Pieces) → IsMadeOf tree m ds pieces → frame_bytes m + 16 * tries tree ≤ 1048576 → IsChained tree m ds pieces
+  whole ds pieces made fit =
       record {
         keeps = λ named exact.
-            keeps_then (selected tree) rest m named (rest_keeps (selected tree) promise.formed promise.placed) ((made.linear).keeps safe named exact);
-        regular = (made.linear).regular;
-        tidy = (made.linear).tidy;
-        tight = (made.linear).tight;
-        no_addr = (made.linear).no_addr safe;
-        spare_dead = (made.linear).spare_dead;
-        within = record {
-          lines = lines_few (omega (arith, fit));
-          frame = λ code traps at. let le = few_traps code traps at in omega (arith, fit, le);
-        };
+            keeps_then (selected tree) rest m named (rest_keeps (selected tree) promise.formed promise.placed) (linear.keeps safe named exact);
+        regular = linear.regular;
+        tidy = linear.tidy;
+        tight = linear.tight;
+        no_addr = linear.no_addr safe;
+        spare_dead = linear.spare_dead;
+        within = fit_within fit;
         offsets = offsets;
         unended = tidied_unended tidies (lowered_unended rest regular (placed_end last_resort (selected_end tree)));
         exact = made.exact;
         count = made.count;
-        homes = (made.linear).named ds made.exact;
+        homes = linear.named ds made.exact;
         emitted = made.emitted;
       }
 
 -- No more traps are pushed at a place than tries stand round one of the text.
 pub depth : {defined : List ℕ → Option DefinedSymbol} {tree : FunctionTree} {m : Lin} {ds : List Descr} {pieces : Pieces} → IsAccepted defined tree → IsMadeOf tree m ds pieces → (code : List Line) (traps : List ℕ) →
     Traps m code traps → length traps ≤ tries tree
-depth {defined} {tree} {m} {ds} {pieces} accepted made = few_traps defined tree accepted m ds pieces made
+depth {defined} {tree} {m} accepted made = few_traps defined tree accepted m made.linear
 
 -- What was made of a function of an accepted text is known whole, where its frame and its traps fit.
 pub chained : {defined : List ℕ → Option DefinedSymbol} {tree : FunctionTree} {m : Lin} {ds : List Descr} {pieces : Pieces} → IsAccepted defined tree → IsMadeOf tree m ds pieces →
     frame_bytes m + 16 * tries tree ≤ 1048576 → IsChained tree m ds pieces
-chained {defined} {tree} {m} {ds} {pieces} accepted made = whole defined tree accepted m ds pieces made
+chained {defined} {tree} {m} {ds} {pieces} accepted made = whole defined tree accepted m made.linear ds pieces made
+
+-- What descriptors ask of a Linear function, whose frame and traps fit.
+pub within : {defined : List ℕ → Option DefinedSymbol} {tree : FunctionTree} {m : Lin} → IsAccepted defined tree → IsLinearOf (rest_in_slots (selected tree)) m →
+    frame_bytes m + 16 * tries tree ≤ 1048576 → IsWithin m
+within {defined} {tree} {m} accepted linear = fit_within defined tree accepted m linear

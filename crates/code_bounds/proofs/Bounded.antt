@@ -10,7 +10,7 @@ use Rattle.correctness.specs.Measures.{tries}
 use Rattle.lin_ir.specs.Descriptors.{frame_bytes}
 use Rattle.lin_ir.specs.declared.descr.Descr.{Descr}
 use Rattle.lin_ir.specs.declared.lin.Lin.{Lin}
-use Rattle.linear_pass.specs.Linear.{NamesHomes}
+use Rattle.linear_pass.specs.Linear.{IsLinearOf, NamesHomes}
 use Rattle.places_rules.specs.Places.{rest_in_slots}
 use Rattle.places_rules.proofs.Rest.{rest_slots}
 use Rattle.rv_pieces.specs.declared.piece.Pieces.{Pieces}
@@ -29,8 +29,8 @@ use Rattle.code_bounds.proofs.Slots.{few_slots, frame_few}
 use Rattle.code_bounds.proofs.Tidying.{made_words, made_points}
 use Rattle.code_bounds.proofs.Tries.{few_nest}
 
-module _ (defined : List ℕ → Option DefinedSymbol) (tree : FunctionTree) (m : Lin) (ds : List Descr) (pieces : Pieces) (accepted : IsAccepted defined tree)
-    (made : IsMadeOf tree m ds pieces) where
+module _ (defined : List ℕ → Option DefinedSymbol) (tree : FunctionTree) (m : Lin) (accepted : IsAccepted defined tree)
+    (linear : IsLinearOf (rest_in_slots (selected tree)) m) where
   promise : Selects tree (selected tree)
   promise = promised defined tree accepted
 
@@ -38,7 +38,7 @@ module _ (defined : List ℕ → Option DefinedSymbol) (tree : FunctionTree) (m 
   few_made =
       few_slots (selected tree) (rest_in_slots (selected tree)) m.slots (2 * (tree.tokens - all_tries tree.body))
       (λ k s. promise.no_slot s.register s.among k s.stands)
-      (rest_slots (selected tree) promise.formed promise.placed (2 * (tree.tokens - all_tries tree.body)) promise.open_registers) made.linear.slots
+      (rest_slots (selected tree) promise.formed promise.placed (2 * (tree.tokens - all_tries tree.body)) promise.open_registers) linear.slots
 
   -- the frame, and 16 bytes for each try that may stand on top
   pub frame_small : frame_bytes m + 16 * tries tree ≤ 16 * tree.tokens + 32
@@ -58,13 +58,13 @@ module _ (defined : List ℕ → Option DefinedSymbol) (tree : FunctionTree) (m 
   few_entries : (d : Descr) → NamesHomes m d → length d.entries ≤ 21 + 2 * tree.tokens
   few_entries d h = let few = h.few in let slots = few_made in omega (arith, few, slots)
 
-  pub bounded : tries tree ≤ 250 → IsBoundedBy tree ds pieces
-  bounded shallow =
+  pub bounded : (ds : List Descr) (pieces : Pieces) → IsMadeOf tree m ds pieces → tries tree ≤ 250 → IsBoundedBy tree ds pieces
+  bounded ds pieces made shallow =
       let short = function_short m made.emitted.traps ds in
-      let lines = made_words (selected tree) m (tidied_tidies made.linear.made) in
+      let lines = made_words (selected tree) m (tidied_tidies linear.made) in
       let words = selected_words tree shallow in
       let nodes = accepted.covered.nodes_covered in
-      let calls = made_points (selected tree) m (tidied_tidies made.linear.made) in
+      let calls = made_points (selected tree) m (tidied_tidies linear.made) in
       let points = selected_points tree shallow in
       let count = made.count in
       subst (IsBoundedBy tree ds) (sym made.emitted.is)
@@ -72,11 +72,11 @@ module _ (defined : List ℕ → Option DefinedSymbol) (tree : FunctionTree) (m 
         frame = frame_small;
         words = omega (arith, short, lines, words, nodes);
         points = omega (arith, count, calls, points);
-        entries = All-weaker (NamesHomes m) (λ (d : Descr). length d.entries ≤ 21 + 2 * tree.tokens) few_entries ds (made.linear.named ds made.exact);
+        entries = All-weaker (NamesHomes m) (λ (d : Descr). length d.entries ≤ 21 + 2 * tree.tokens) few_entries ds (linear.named ds made.exact);
       })
 
 -- So it is of each function of a file that the front accepts.
 pub text_bounded : (text : List ℕ) (file : FileTree) → IsFileOf text file → (tree : FunctionTree) → Contains (functions file) tree →
     (m : Lin) (ds : List Descr) (pieces : Pieces) → IsMadeOf tree m ds pieces → IsBoundedBy tree ds pieces
 text_bounded text file is tree c m ds pieces made =
-    bounded (definitions file) tree m ds pieces (function_accepted text file is tree c) made (text_nests text file tree is c)
+    bounded (definitions file) tree m (function_accepted text file is tree c) made.linear ds pieces made (text_nests text file tree is c)

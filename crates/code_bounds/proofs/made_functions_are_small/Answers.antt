@@ -2,10 +2,11 @@ use Rattle.code_bounds.proofs.Bounded.{bounded, frame_small, frame_fits}
 use Rattle.code_bounds.proofs.made_functions_are_small.Goals as goal
 
 pub returns-clause-bounded : goal.returns-clause-bounded
-returns-clause-bounded c = bounded
+returns-clause-bounded c = λ defined tree m ds pieces accepted made shallow.
+    bounded defined tree m accepted made.linear ds pieces made shallow
 
 pub returns-clause-frame : goal.returns-clause-frame
-returns-clause-frame c = frame_small
+returns-clause-frame c = λ defined tree m ds pieces accepted made. frame_small defined tree m accepted made.linear
 
 pub returns-clause-fits : goal.returns-clause-fits
-returns-clause-fits c = frame_fits
+returns-clause-fits c = λ defined tree m ds pieces accepted made. frame_fits defined tree m accepted made.linear
