@@ -127,8 +127,8 @@ emitted m traps ds = record {
 
 -- ---- whole
 
--- The pieces of a function with these descriptors. Before a line that no walk comes to no trap counts
--- as pushed.
+-- The pieces of a function with these descriptors. No trap counts as pushed before a line that no
+-- walk comes to.
 pub record IsEmitted (m : Lin) (ds : List Descr) (p : Pieces) : Type 0 where
   pub traps : ℕ → ℕ
   pub pushed : ArePushed m traps

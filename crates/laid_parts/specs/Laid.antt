@@ -150,8 +150,8 @@ abbrev pub some_comes_back : List Piece → Bool
 some_comes_back [] = false
 some_comes_back (p ∷ ps) = comes_back p || some_comes_back ps
 
--- The descriptor of a frame point that is no tail call stands right after its one call. It is the first
--- of those that are left; then these are left.
+-- The descriptor of a frame point that is no tail call stands right after its one call. It is the
+-- first of those that are left; then these are left.
 pub data IsMarked (f : LinOp) : Bool → List Descr → List Descr → List Piece → Type 0 where
   no_mark : {ds : List Descr} {part : List Piece} → marks_in part ≡ [] →
       IsMarked f false ds ds part
