@@ -10,6 +10,7 @@ pub mod FlowSlots
 pub mod MemorySlots
 pub mod LeavingSlots
 pub mod EverySlots
+pub mod Calls
 pub mod Marks
 pub mod Whole
 pub mod Examples

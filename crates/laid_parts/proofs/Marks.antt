@@ -25,7 +25,8 @@ use Rattle.emit_rules.specs.Instructions.{load, skip, calls_at, ecall}
 use Rattle.emit_rules.specs.Memory.{allocation_service, ask, reserved, addresses}
 use Rattle.emit_rules.specs.Slots.{first, register_of, fetched}
 use Rattle.emit_rules.proofs.Descriptors.{marks-join, part-unmarked, nil-first, nil-second}
-use Rattle.laid_parts.specs.Laid.{ReturnsAfter, after_call, after_jump, after_service, after_allocation, IsMarked, no_mark, one_mark}
+use Rattle.laid_parts.specs.Laid.{ReturnsAfter, after_call, after_jump, after_service, after_allocation, some_comes_back, IsMarked, no_mark, one_mark}
+use Rattle.laid_parts.proofs.Calls.{GoOn, goes_on, all_on, constant_on, fetched-on, lowered-on, addresses-on}
 
 placed : (xs : List Piece) (p q : Piece) (post : List Piece) → xs ++ p ∷ q ∷ post ≡ ((xs ++ p ∷ []) ++ q ∷ []) ++ post
 placed [] p q post = refl
@@ -40,24 +41,24 @@ module _ (g : LinOp) (d : Descr) (ds : List Descr) where
   Marked part = IsMarked g true (d ∷ ds) ds part
 
   -- what has no mark, with one put between
-  marked : (xs : List Piece) (p : Piece) (post : List Piece) → ReturnsAfter g p → marks_in (((xs ++ p ∷ []) ++ []) ++ post) ≡ [] →
+  marked : (xs : List Piece) (p : Piece) (post : List Piece) → ReturnsAfter g p → some_comes_back xs ≡ false → some_comes_back post ≡ false → marks_in (((xs ++ p ∷ []) ++ []) ++ post) ≡ [] →
       Marked (((xs ++ p ∷ []) ++ piece.Descriptor d ∷ []) ++ post)
   unfolding Marked
-  marked xs p post r h =
+  marked xs p post r u v h =
       let j : marks_in ((xs ++ p ∷ []) ++ []) ++ marks_in post ≡ [] = sym (marks-join ((xs ++ p ∷ []) ++ []) post) ∙ h in
       let k : marks_in (xs ++ p ∷ []) ++ [] ≡ [] = sym (marks-join (xs ++ p ∷ []) []) ∙ nil-first (marks_in ((xs ++ p ∷ []) ++ [])) (marks_in post) j in
       let l : marks_in xs ++ marks_in (p ∷ []) ≡ [] = sym (marks-join xs (p ∷ [])) ∙ nil-first (marks_in (xs ++ p ∷ [])) [] k in
       subst (λ (part : List Piece). IsMarked g true (d ∷ ds) ds part) (placed xs p (piece.Descriptor d) post)
-      (one_mark xs post r (nil-first (marks_in xs) (marks_in (p ∷ [])) l) (nil-second (marks_in ((xs ++ p ∷ []) ++ [])) (marks_in post) j))
+      (one_mark xs post r (nil-first (marks_in xs) (marks_in (p ∷ [])) l) (nil-second (marks_in ((xs ++ p ∷ []) ++ [])) (marks_in post) j) u v)
 
-  marked_last : (xs : List Piece) (p : Piece) → ReturnsAfter g p → marks_in ((xs ++ p ∷ []) ++ []) ≡ [] →
+  marked_last : (xs : List Piece) (p : Piece) → ReturnsAfter g p → some_comes_back xs ≡ false → marks_in ((xs ++ p ∷ []) ++ []) ≡ [] →
       Marked ((xs ++ p ∷ []) ++ piece.Descriptor d ∷ [])
   unfolding Marked
-  marked_last xs p r h =
+  marked_last xs p r u h =
       let k : marks_in (xs ++ p ∷ []) ++ [] ≡ [] = sym (marks-join (xs ++ p ∷ []) []) ∙ h in
       let l : marks_in xs ++ marks_in (p ∷ []) ≡ [] = sym (marks-join xs (p ∷ [])) ∙ nil-first (marks_in (xs ++ p ∷ [])) [] k in
       subst (λ (part : List Piece). IsMarked g true (d ∷ ds) ds part) (placed_last xs p (piece.Descriptor d))
-      (one_mark xs [] r (nil-first (marks_in xs) (marks_in (p ∷ [])) l) refl)
+      (one_mark xs [] r (nil-first (marks_in xs) (marks_in (p ∷ [])) l) refl u refl)
 
 -- an allocation asks last
 before_ask : (bytes : ℕ) → List Piece
@@ -72,6 +73,12 @@ asks_last bytes =
     append_assoc (lowered T1 S10 bytes)
     (load loads.Ld T1 S11 0 ∷ skip condition.Bgeu S10 T1 (4 * (1 + length (ask bytes))) ∷ (constant T0 bytes ++ constant T2 allocation_service))
     (ecall ∷ [])
+
+before_ask-on : (bytes : ℕ) → GoOn (before_ask bytes)
+unfolding before_ask
+before_ask-on bytes =
+    all_on {ys = load loads.Ld T1 S11 0 ∷ skip condition.Bgeu S10 T1 (4 * (1 + length (ask bytes))) ∷ (constant T0 bytes ++ constant T2 allocation_service)}
+    (lowered-on bytes) (goes_on (all_on (constant_on T0 bytes) (constant_on T2 allocation_service)).none)
 
 marked_part : (t : ℕ) (f : Frame) (d : Descr) (ds : List Descr) (g : LinOp) (args results : List Spot) → passes_frame g ≡ true →
     IsMarked g true (d ∷ ds) ds (part_of t f (Some d) (record { op = g; args = args; results = results }))
@@ -88,17 +95,18 @@ marked_part t f d ds (lin.Op (op.Access (access.Alloc blocks))) args results h =
     = part-unmarked t f (record { op = g; args = args; results = results }) in
     subst (λ (xs : List Piece). IsMarked g true (d ∷ ds) ds ((xs ++ piece.Descriptor d ∷ []) ++ addresses t blocks results)) e
     (marked g d ds (before_ask (bytes_of blocks)) ecall (addresses t blocks results) after_allocation
+    (before_ask-on (bytes_of blocks)).none (addresses-on t blocks results).none
     (subst (λ (xs : List Piece). marks_in ((xs ++ []) ++ addresses t blocks results) ≡ []) (sym e) none))
 marked_part t f d ds (lin.Op (op.Calling (calling.Call (callee.Symbol name) result))) args results h =
-    marked_last (lin.Op (op.Calling (calling.Call (callee.Symbol name) result))) d ds [] (piece.Call name) after_call refl
+    marked_last (lin.Op (op.Calling (calling.Call (callee.Symbol name) result))) d ds [] (piece.Call name) after_call refl refl
 marked_part t f d ds (lin.Op (op.Calling (calling.Call callee.Register result))) args results h =
     let g = lin.Op (op.Calling (calling.Call callee.Register result)) in
-    marked_last g d ds (fetched t T1 (first args)) (calls_at (register_of T1 (first args))) after_jump
+    marked_last g d ds (fetched t T1 (first args)) (calls_at (register_of T1 (first args))) after_jump (fetched-on t T1 (first args)).none
     (part-unmarked t f (record { op = g; args = args; results = results }))
 marked_part t f d ds (lin.Op (op.Calling (calling.TailCall whom result))) args results h = cc
 marked_part t f d ds (lin.Op (op.Calling (calling.External row frame))) args results h =
     let g = lin.Op (op.Calling (calling.External row frame)) in
-    marked_last g d ds (piece.ExternalNumber T0 row ∷ constant T2 (external_service frame)) ecall after_service
+    marked_last g d ds (piece.ExternalNumber T0 row ∷ constant T2 (external_service frame)) ecall after_service (constant_on T2 (external_service frame)).none
     (part-unmarked t f (record { op = g; args = args; results = results }))
 
 -- of the descriptors that are left, of which there are enough

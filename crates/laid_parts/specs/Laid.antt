@@ -139,13 +139,25 @@ pub data ReturnsAfter : LinOp → Piece → Type 0 where
   after_allocation : {blocks : List NewBlock} →
       ReturnsAfter (lin.Op (op.Access (access.Alloc blocks))) (piece.Known instr.Ecall)
 
--- The descriptor of a frame point that is no tail call stands right after its call. It is the first
--- of those that are left; then these are left.
+-- what leaves a return address: a call, or an ECALL
+abbrev pub comes_back : Piece → Bool
+comes_back (piece.Call name) = true
+comes_back (piece.Known (instr.Jalr rd rs w)) = nat_eq rd ra
+comes_back (piece.Known instr.Ecall) = true
+comes_back _ = false
+
+abbrev pub some_comes_back : List Piece → Bool
+some_comes_back [] = false
+some_comes_back (p ∷ ps) = comes_back p || some_comes_back ps
+
+-- The descriptor of a frame point that is no tail call stands right after its one call. It is the
+-- first of those that are left; then these are left.
 pub data IsMarked (f : LinOp) : Bool → List Descr → List Descr → List Piece → Type 0 where
   no_mark : {ds : List Descr} {part : List Piece} → marks_in part ≡ [] →
       IsMarked f false ds ds part
   one_mark : {d : Descr} {ds : List Descr} {p : Piece} (before rest : List Piece) →
       ReturnsAfter f p → marks_in before ≡ [] → marks_in rest ≡ [] →
+      some_comes_back before ≡ false → some_comes_back rest ≡ false →
       IsMarked f true (d ∷ ds) ds (before ++ p ∷ piece.Descriptor d ∷ rest)
 
 -- The part of a line, before this code.
