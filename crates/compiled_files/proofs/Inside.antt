@@ -7,16 +7,15 @@ use Rattle.std.proofs.lemmas.Option.{get_or_from_slice_get}
 use Rattle.cmm_meaning.specs.Setting.{Setting}
 use Rattle.cmm_tree.specs.Tree.{FileTree}
 use Rattle.function_stands.specs.Compiled.{IsImageOf}
+use Rattle.emit_rules.specs.Sizes.{least_words, words_at_least}
 use Rattle.function_stands.proofs.Entries.{as_many, rows_are}
+use Rattle.function_stands.proofs.Splitting.{least}
 use Rattle.image_form.specs.Image.{AreTables}
 use Rattle.image_form.specs.Tables.{Func, Tables}
 use Rattle.layout_rules.specs.declared.form.Form.{Form}
-use Rattle.layout_rules.specs.declared.form.Form.TheVariants.{Near, Middle, Far}
 use Rattle.layout_rules.specs.Conditions.{IsFunctionLaid}
-use Rattle.layout_rules.specs.Forms.{total_words, words_of}
 use Rattle.layout_rules.specs.Laid.{entries_from, laid_out, names_at, stub_words}
-use Rattle.layout_rules.specs.Stands.{HasPieces, StandsAt}
-use Rattle.layout_rules.specs.Words.{Named}
+use Rattle.layout_rules.specs.Stands.{StandsAt}
 use Rattle.layout_rules.proofs.Functions.{stands}
 use Rattle.moving_laws.specs.Values.{HasFunctions, function_at}
 use Rattle.rv_machine.specs.Memory.{code_start}
@@ -25,31 +24,25 @@ use Rattle.rv_pieces.specs.declared.piece.Piece.{Piece}
 use Rattle.rv_pieces.specs.declared.piece.Piece.TheVariants.{Known, Label, Branch, Jump, Row, LabelAddress, Call, TailCall, SymbolAddress, ExternalNumber, Descriptor}
 use Rattle.rv_pieces.specs.declared.piece.Pieces.{Pieces}
 
-own_words : (p : Piece) (f : Form) → cond (has_words p) 1 0 ≤ words_of p f
-own_words (Known i) f = omega arith
-own_words (Label l) f = omega arith
-own_words (Branch c a b l) Near = omega arith
-own_words (Branch c a b l) Middle = omega arith
-own_words (Branch c a b l) Far = omega arith
-own_words (Jump l) Near = omega arith
-own_words (Jump l) Middle = omega arith
-own_words (Jump l) Far = omega arith
-own_words (Row l) f = omega arith
-own_words (LabelAddress r l) f = omega arith
-own_words (Call name) f = omega arith
-own_words (TailCall name) f = omega arith
-own_words (SymbolAddress r name) f = omega arith
-own_words (ExternalNumber r row) f = omega arith
-own_words (Descriptor d) f = omega arith
+own_words : (p : Piece) → cond (has_words p) 1 0 ≤ least_words p
+own_words (Known i) = omega arith
+own_words (Label l) = omega arith
+own_words (Branch c a b l) = omega arith
+own_words (Jump l) = omega arith
+own_words (Row l) = omega arith
+own_words (LabelAddress r l) = omega arith
+own_words (Call name) = omega arith
+own_words (TailCall name) = omega arith
+own_words (SymbolAddress r name) = omega arith
+own_words (ExternalNumber r row) = omega arith
+own_words (Descriptor d) = omega arith
 
 -- what has words takes some
-words_at_least : (code : List ℕ) (n : Named) (at : ℕ) (ps : List Piece) (forms : List Form) → HasPieces code n at ps forms →
-    count_by has_words ps ≤ total_words ps forms
-words_at_least code n at [] forms h = omega arith
-words_at_least code n at (p ∷ ps) [] h = absurd h
-words_at_least code n at (p ∷ ps) (f ∷ forms) h =
-    let own = own_words p f in
-    let later = words_at_least code n (at + words_of p f) ps forms h.1 in
+all_words : (ps : List Piece) → count_by has_words ps ≤ words_at_least ps
+all_words [] = omega arith
+all_words (p ∷ ps) =
+    let own = own_words p in
+    let later = all_words ps in
     let split = sum_by-cons (λ (q : Piece). cond (has_words q) 1 0) p ps in
     omega (arith, own, later, split)
 
@@ -57,9 +50,10 @@ words_at_least code n at (p ∷ ps) (f ∷ forms) h =
 has_room : (file : FileTree) (entries code : List ℕ) (place : ℕ) (p : Pieces) (forms : List Form) (row : Func) →
     StandsAt file entries code place p forms row → 0 < count_by has_words p.code → place < length code
 has_room file entries code place p forms row s some =
-    let words = words_at_least code (names_at file entries place p.code forms) place p.code forms s.has in
+    let words = least code (names_at file entries place p.code forms) place p.code forms s.has in
+    let all = all_words p.code in
     let within = s.within in
-    omega (arith, words, within, some)
+    omega (arith, words, all, within, some)
 
 item_there : {A : Type 0} (P : A → Type 0) (xs : List A) (k : ℕ) → k < length xs → AllByRecursion P xs → (x : A) × (slice_get xs k ≡ Some x) × P x
 item_there P [] k l all = absurd (omega (arith, l))
