@@ -58,6 +58,7 @@ use Rattle.function_stands.proofs.Acting.{some_word}
 use Rattle.function_stands.proofs.Entries.{entry_offset}
 use Rattle.function_stands.proofs.Whole.{function_stands}
 use Rattle.accepted_files.proofs.Defined.{given_data}
+use Rattle.laid_files.proofs.Has.{has_functions}
 use Rattle.first_statics.proofs.First.{data_ends, first_lies, first_stands}
 use Rattle.frame_names.specs.Names.{names_by}
 use Rattle.frame_names.proofs.Names.{exact_names}
@@ -66,7 +67,6 @@ use Rattle.compiled_files.specs.Image.{function_words}
 use Rattle.compiled_files.specs.Stages.{AreChained, most_nodes, selected_in}
 use Rattle.compiled_files.proofs.Bytes.{bytes_small}
 use Rattle.compiled_files.proofs.Forward.{forward}
-use Rattle.compiled_files.proofs.Inside.{has_functions}
 use Rattle.compiled_files.proofs.Ready.{ready}
 use Rattle.compiled_files.proofs.Rows.{few, no_frame, rows, words_fit}
 use Rattle.compiled_files.proofs.Serving.{served}
@@ -155,7 +155,7 @@ module _ (text : List ℕ) (file : FileTree) (is : IsFileOf text file) (bytes : 
   image_of = record { can = can; laid = laid_out; short = tables.code.short; symbols = λ name. refl; end = end }
 
   has : HasFunctions image
-  has = has_functions image file ps setting image_of tables
+  has = has_functions file ps image laid_out can tables
 
   abbrev entry_at : ℕ → ℕ
   entry_at f = entry_place image f
