@@ -54,9 +54,11 @@ use Rattle.linking_machine.proofs.Compiled.{bases_hold, compiled_correct}
 use Rattle.linking_stages.specs.Stages.{linear_program}
 use Rattle.function_stands.specs.Compiled.{IsImageOf}
 use Rattle.function_stands.specs.Functions.{FunctionStands, entry_place}
+use Rattle.function_stands.proofs.Acting.{some_word}
 use Rattle.function_stands.proofs.Entries.{entry_offset}
 use Rattle.function_stands.proofs.Whole.{function_stands}
 use Rattle.accepted_files.proofs.Defined.{given_data}
+use Rattle.laid_files.proofs.Has.{has_functions}
 use Rattle.first_statics.proofs.First.{data_ends, first_lies, first_stands}
 use Rattle.frame_names.specs.Names.{names_by}
 use Rattle.frame_names.proofs.Names.{exact_names}
@@ -65,7 +67,6 @@ use Rattle.compiled_files.specs.Image.{function_words}
 use Rattle.compiled_files.specs.Stages.{AreChained, most_nodes, selected_in}
 use Rattle.compiled_files.proofs.Bytes.{bytes_small}
 use Rattle.compiled_files.proofs.Forward.{forward}
-use Rattle.compiled_files.proofs.Inside.{has_functions}
 use Rattle.compiled_files.proofs.Ready.{ready}
 use Rattle.compiled_files.proofs.Rows.{few, no_frame, rows, words_fit}
 use Rattle.compiled_files.proofs.Serving.{served}
@@ -154,7 +155,7 @@ module _ (text : List ℕ) (file : FileTree) (is : IsFileOf text file) (bytes : 
   image_of = record { can = can; laid = laid_out; short = tables.code.short; symbols = λ name. refl; end = end }
 
   has : HasFunctions image
-  has = has_functions image file ps setting image_of tables
+  has = has_functions file ps image laid_out can tables
 
   abbrev entry_at : ℕ → ℕ
   entry_at f = entry_place image f
@@ -254,11 +255,12 @@ module _ (text : List ℕ) (file : FileTree) (is : IsFileOf text file) (bytes : 
         let up = stands.rises (length next) (suc (length next)) (omega arith) in
         let k = laid.part (length next) - laid.part (suc (length next)) in
         let behind : laid.part (length next) ≡ laid.part (suc (length next)) + k = omega (arith, up) in
-        let part = it.stands.part.past in
         record {
           words = before_service i.op k;
-          few = served place named m i next held a k image.code stands.names (laid.part (suc (length next))) (length a.tries) (frame_of m) it.descr
-              it.stands.part.forms it.stands.part.has (omega (arith, behind, part));
+          few = served place named m i next held a k
+              (λ acts.
+              let some = some_word s laid stands.names m setting Nowhere a.tries (frame_of m) it.descr i next it.stands acts in
+              omega (arith, behind, some));
           so = every_line Nowhere s stands.names laid entry_at c place named m (frame_of m) it.descr i next v held a k it.stands it.point (finds i next refl)
               behind at;
         }

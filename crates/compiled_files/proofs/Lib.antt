@@ -5,5 +5,4 @@ pub mod Stub
 pub mod Ready
 pub mod Bytes
 pub mod Serving
-pub mod Inside
 pub mod Correct

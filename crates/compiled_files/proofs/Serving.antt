@@ -10,15 +10,8 @@ use Rattle.cmm_meaning.specs.Evaluation.{fit_parameters}
 use Rattle.cmm_meaning.specs.Setting.{Setting}
 use Rattle.cmm_meaning.specs.State as state
 use Rattle.cmm_meaning.specs.State.{Inside, Outside}
-use Rattle.emit_rules.specs.Calls.{mark_of}
-use Rattle.emit_rules.specs.Emitted.{lin_part, part_of}
-use Rattle.emit_rules.specs.Entry.{Frame}
-use Rattle.layout_rules.specs.declared.form.Form.{Form}
-use Rattle.layout_rules.specs.Forms.{total_words}
-use Rattle.layout_rules.specs.Stands.{HasPieces}
-use Rattle.layout_rules.specs.Words.{Named}
+use Rattle.emit_rules.proofs.Acts.{ActsAt}
 use Rattle.lin_ir.specs.Meaning.{Locations, NamedAt, State, are_vals, clear, code_at, destroyed_by, lin_act, on_act, on_values, passes_frame, past_frame, put_all, step, unless_misnamed, values, wrote}
-use Rattle.lin_ir.specs.declared.descr.Descr.{Descr}
 use Rattle.lin_ir.specs.declared.lin.Lin.{Lin}
 use Rattle.lin_ir.specs.declared.lin.Line.{Line}
 use Rattle.lin_ir.specs.declared.lin.LinOp.{LinOp}
@@ -121,19 +114,7 @@ module _ (c : Place) (m : Lin) (i : Line) (next : List Line) (a : Around) where
       misnamed_zero (not (passes_frame i.op) || are_vals c.setting.end names f) _
       (act_zero (past_frame (passes_frame i.op) names f) (lin_act c.setting i.op vs a) (h vs))
 
--- ---- the words of a part
-
--- an external call has some
-some_words : (code : List ℕ) (n : Named) (at traps : ℕ) (f : Frame) (d : Option Descr) (i : Line) (forms : List Form) {row : _} {frame : Bool} →
-    i.op ≡ lin.Op (op.Calling (calling.External row frame)) → HasPieces code n at (part_of traps f d i) forms → 1 ≤ total_words (part_of traps f d i) forms
-some_words code n at traps f d i forms {row} {frame} is has =
-    subst (λ (g : LinOp). HasPieces code n at (lin_part traps f (mark_of d) g i.args i.results) forms →
-    1 ≤ total_words (lin_part traps f (mark_of d) g i.args i.results) forms) (sym is) (by forms) has
-  where
-    by : (forms : List Form) → HasPieces code n at (lin_part traps f (mark_of d) (lin.Op (op.Calling (calling.External row frame))) i.args i.results) forms →
-        1 ≤ total_words (lin_part traps f (mark_of d) (lin.Op (op.Calling (calling.External row frame))) i.args i.results) forms
-    by [] h = absurd h
-    by (k ∷ forms) h = omega arith
+-- ---- a line
 
 module _ (c : Place) (named : NamedAt) (m : Lin) (i : Line) (next : List Line) (file : Locations) (a : Around) (words : ℕ) where
   abbrev does : Step State
@@ -143,16 +124,14 @@ module _ (c : Place) (named : NamedAt) (m : Lin) (i : Line) (next : List Line) (
   none_served never = let zero_is = served_never does (step_no c named m i next file a never) in omega (arith, zero_is)
 
   -- What stands before the service, and that, are the words of the part.
-  pub served : (code : List ℕ) (n : Named) (at traps : ℕ) (f : Frame) (d : Option Descr) (forms : List Form) →
-      HasPieces code n at (part_of traps f d i) forms → words ≡ total_words (part_of traps f d i) forms →
-      before_service i.op words + service_of does ≤ words
-  served code n at traps f d forms has same = by i.op refl
+  pub served : (ActsAt i.op i.args i.results → 1 ≤ words) → before_service i.op words + service_of does ≤ words
+  served acts = by i.op refl
     where
       by : (g : LinOp) → i.op ≡ g → before_service g words + service_of does ≤ words
       by (lin.Op (op.Calling (calling.External row frame))) e =
-          let some = some_words code n at traps f d i forms e has in
+          let some = acts (subst (λ (g : LinOp). ActsAt g i.args i.results) (sym e) tt) in
           let once = served_once does in
-          omega (arith, some, once, same)
+          omega (arith, some, once)
       by (lin.Op (op.Calling (calling.Call whom result))) e =
           let zero_is = values_zero c m i next a (named (length next)) file (values c.setting.end file i.args)
           (λ vs. subst (λ (g : LinOp). IsInside (lin_act c.setting g vs a)) (sym e) (call_inside c.setting whom result vs a)) in

@@ -103,7 +103,7 @@ count_step p ps f words h = by (has_words p) refl
     by true e = let own = some_words p f e in let is = ap one_if e in omega (arith, one, is, own, h)
     by false e = let is = ap one_if e in omega (arith, one, is, h)
 
-total_some : (ps : List Piece) (fs : List Form) → length fs ≡ length ps → count_by has_words ps ≤ total_words ps fs
+pub total_some : (ps : List Piece) (fs : List Form) → length fs ≡ length ps → count_by has_words ps ≤ total_words ps fs
 total_some [] fs e = omega arith
 total_some (p ∷ ps) [] e = absurd (omega (arith, e))
 total_some (p ∷ ps) (f ∷ fs) e = count_step p ps f (total_words ps fs) (total_some ps fs (omega (arith, e)))

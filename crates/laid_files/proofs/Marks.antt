@@ -1,0 +1,203 @@
+-- Behind the entry of a function and between two of its descriptors there is a word.
+use Rattle.std.proofs.Common.{◌≡◌, ℕ, suc, ◌+◌, ◌≤◌, Bool, true, false, cond, List, [], ◌∷◌, ◌++◌, length, Option, Some, None, refl, sym, ap, ◌∙◌, subst, arith}
+use Rattle.std.specs.List.{AllByRecursion}
+use Rattle.emit_rules.specs.Calls.{call_words, external_words}
+use Rattle.emit_rules.specs.Emitted.{part_of, parts, descriptor, left_after, emitted}
+use Rattle.emit_rules.specs.Entry.{Frame, frame_of, entry}
+use Rattle.emit_rules.specs.Memory.{reserved, addresses, ask}
+use Rattle.emit_rules.specs.Constants.{lowered}
+use Rattle.emit_rules.specs.Instructions.{load, calls_at, skip}
+use Rattle.emit_rules.specs.Slots.{first, register_of, fetched}
+use Rattle.emit_rules.specs.Sizes.{least_words, words_at_least}
+use Rattle.emit_rules.specs.Traversal.{Each, each_none, each_more, Allows}
+use Rattle.emit_rules.proofs.Traverse.{entry-in, part-in}
+use Rattle.layout_rules.specs.Conditions.{AreDescriptors, IsDescriptor}
+use Rattle.lin_ir.specs.Meaning.{passes_frame}
+use Rattle.lin_ir.specs.declared.descr.Descr.{Descr}
+use Rattle.lin_ir.specs.declared.lin.Lin.{Lin}
+use Rattle.lin_ir.specs.declared.lin.Line.{Line}
+use Rattle.lin_ir.specs.declared.lin.LinOp.{LinOp}
+use Rattle.lin_ir.specs.declared.lin.LinOp.TheVariants as lin
+use Rattle.lin_ir.specs.declared.lin.Spot.{Spot}
+use Rattle.mach_ir.specs.Blocks.{bytes_of}
+use Rattle.mach_ir.specs.declared.op.Access.TheVariants as access
+use Rattle.mach_ir.specs.declared.op.Callee.{Callee}
+use Rattle.mach_ir.specs.declared.op.Callee.TheVariants as callee
+use Rattle.mach_ir.specs.declared.op.Calling.TheVariants as calling
+use Rattle.mach_ir.specs.declared.op.Op.TheVariants as op
+use Rattle.rv_isa.specs.declared.instr.LoadWidth.TheVariants as loads
+use Rattle.rv_isa.specs.declared.register.Register.TheVariants.{T1, S10, S11}
+use Rattle.rv_pieces.specs.Named.{mark_in}
+use Rattle.rv_pieces.specs.declared.piece.Piece.{Piece}
+use Rattle.rv_pieces.specs.declared.piece.Piece.TheVariants as piece
+
+-- ---- no marks
+
+abbrev NoMark : Piece → Type 0
+NoMark p = mark_in p ≡ []
+
+unmarked : (f : LinOp) → Allows NoMark f None
+unmarked f = record {
+  known = λ j h. refl;
+  place = λ l is. refl;
+  branch = λ l n c a b. refl;
+  jump = λ l n. refl;
+  row = λ l n. refl;
+  address = λ l n r. refl;
+  call = λ name n. refl;
+  tail_call = λ name n. refl;
+  symbol = λ name n r. refl;
+  external = λ row frame e r. refl;
+  mark = λ e is. cc;
+}
+
+-- whether a word stands behind the last descriptor, or behind the begin
+abbrev behind : Bool → List Piece → Bool
+behind b [] = b
+behind b (piece.Descriptor d ∷ ps) = behind false ps
+behind b (piece.Label l ∷ ps) = behind b ps
+behind b (_ ∷ ps) = behind true ps
+
+weaker : (b : Bool) (ps : List Piece) → AreDescriptors false ps → AreDescriptors b ps
+weaker b [] p = tt
+weaker b (piece.Descriptor d ∷ ps) p = absurd (let z : false ≡ true = p.0 in cc)
+weaker b (piece.Label l ∷ ps) p = weaker b ps p
+weaker b (_ ∷ ps) p = p
+
+joined : (b : Bool) (xs ys : List Piece) → AreDescriptors b xs → AreDescriptors (behind b xs) ys → AreDescriptors b (xs ++ ys)
+joined b [] ys p q = q
+joined b (piece.Descriptor d ∷ xs) ys p q = (p.0, p.1, joined false xs ys p.2 q)
+joined b (piece.Label l ∷ xs) ys p q = joined b xs ys p q
+joined b (piece.Known j ∷ xs) ys p q = joined true xs ys p q
+joined b (piece.Branch c x y l ∷ xs) ys p q = joined true xs ys p q
+joined b (piece.Jump l ∷ xs) ys p q = joined true xs ys p q
+joined b (piece.Row l ∷ xs) ys p q = joined true xs ys p q
+joined b (piece.LabelAddress r l ∷ xs) ys p q = joined true xs ys p q
+joined b (piece.Call name ∷ xs) ys p q = joined true xs ys p q
+joined b (piece.TailCall name ∷ xs) ys p q = joined true xs ys p q
+joined b (piece.SymbolAddress r name ∷ xs) ys p q = joined true xs ys p q
+joined b (piece.ExternalNumber r row ∷ xs) ys p q = joined true xs ys p q
+
+none_are : (b : Bool) (ps : List Piece) → Each NoMark ps → AreDescriptors b ps
+none_are b [] each_none = tt
+none_are b (piece.Descriptor d ∷ ps) (each_more h hs) = absurd (let z : d ∷ [] ≡ [] = h in cc)
+none_are b (piece.Label l ∷ ps) (each_more h hs) = none_are b ps hs
+none_are b (piece.Known j ∷ ps) (each_more h hs) = none_are true ps hs
+none_are b (piece.Branch c x y l ∷ ps) (each_more h hs) = none_are true ps hs
+none_are b (piece.Jump l ∷ ps) (each_more h hs) = none_are true ps hs
+none_are b (piece.Row l ∷ ps) (each_more h hs) = none_are true ps hs
+none_are b (piece.LabelAddress r l ∷ ps) (each_more h hs) = none_are true ps hs
+none_are b (piece.Call name ∷ ps) (each_more h hs) = none_are true ps hs
+none_are b (piece.TailCall name ∷ ps) (each_more h hs) = none_are true ps hs
+none_are b (piece.SymbolAddress r name ∷ ps) (each_more h hs) = none_are true ps hs
+none_are b (piece.ExternalNumber r row ∷ ps) (each_more h hs) = none_are true ps hs
+
+-- behind pieces without a mark that stand behind a word there is a word
+behind_true : (ps : List Piece) → Each NoMark ps → behind true ps ≡ true
+behind_true [] each_none = refl
+behind_true (piece.Descriptor d ∷ ps) (each_more h hs) = absurd (let z : d ∷ [] ≡ [] = h in cc)
+behind_true (piece.Label l ∷ ps) (each_more h hs) = behind_true ps hs
+behind_true (piece.Known j ∷ ps) (each_more h hs) = behind_true ps hs
+behind_true (piece.Branch c x y l ∷ ps) (each_more h hs) = behind_true ps hs
+behind_true (piece.Jump l ∷ ps) (each_more h hs) = behind_true ps hs
+behind_true (piece.Row l ∷ ps) (each_more h hs) = behind_true ps hs
+behind_true (piece.LabelAddress r l ∷ ps) (each_more h hs) = behind_true ps hs
+behind_true (piece.Call name ∷ ps) (each_more h hs) = behind_true ps hs
+behind_true (piece.TailCall name ∷ ps) (each_more h hs) = behind_true ps hs
+behind_true (piece.SymbolAddress r name ∷ ps) (each_more h hs) = behind_true ps hs
+behind_true (piece.ExternalNumber r row ∷ ps) (each_more h hs) = behind_true ps hs
+
+-- and behind a word among them
+behind_word : (b : Bool) (ps : List Piece) → Each NoMark ps → 1 ≤ words_at_least ps → behind b ps ≡ true
+behind_word b [] each_none some = absurd (omega (arith, some))
+behind_word b (piece.Descriptor d ∷ ps) (each_more h hs) some = absurd (let z : d ∷ [] ≡ [] = h in cc)
+behind_word b (piece.Label l ∷ ps) (each_more h hs) some = behind_word b ps hs (omega (arith, some))
+behind_word b (piece.Known j ∷ ps) (each_more h hs) some = behind_true ps hs
+behind_word b (piece.Branch c x y l ∷ ps) (each_more h hs) some = behind_true ps hs
+behind_word b (piece.Jump l ∷ ps) (each_more h hs) some = behind_true ps hs
+behind_word b (piece.Row l ∷ ps) (each_more h hs) some = behind_true ps hs
+behind_word b (piece.LabelAddress r l ∷ ps) (each_more h hs) some = behind_true ps hs
+behind_word b (piece.Call name ∷ ps) (each_more h hs) some = behind_true ps hs
+behind_word b (piece.TailCall name ∷ ps) (each_more h hs) some = behind_true ps hs
+behind_word b (piece.SymbolAddress r name ∷ ps) (each_more h hs) some = behind_true ps hs
+behind_word b (piece.ExternalNumber r row ∷ ps) (each_more h hs) some = behind_true ps hs
+
+each_front : {P : Piece → Type 0} (xs ys : List Piece) → Each P (xs ++ ys) → Each P xs
+each_front [] ys all = each_none
+each_front (x ∷ xs) ys (each_more h hs) = each_more h (each_front xs ys hs)
+
+each_back : {P : Piece → Type 0} (xs ys : List Piece) → Each P (xs ++ ys) → Each P ys
+each_back [] ys all = all
+each_back (x ∷ xs) ys (each_more h hs) = each_back xs ys hs
+
+pub words_both : (xs ys : List Piece) → words_at_least (xs ++ ys) ≡ words_at_least xs + words_at_least ys
+words_both [] ys = omega arith
+words_both (x ∷ xs) ys = let later = words_both xs ys in omega (arith, later)
+
+-- a mark behind pieces with a word, and before others
+marked : (d : Descr) (pre post : List Piece) → Each NoMark pre → 1 ≤ words_at_least pre → Each NoMark post → IsDescriptor d → AreDescriptors false ((pre ++ piece.Descriptor d ∷ []) ++ post)
+marked d pre post none some others is =
+    joined false (pre ++ piece.Descriptor d ∷ []) post
+    (joined false pre (piece.Descriptor d ∷ []) (none_are false pre none) (behind_word false pre none some, is, tt))
+    (none_are (behind false (pre ++ piece.Descriptor d ∷ [])) post others)
+
+marked_last : (d : Descr) (pre : List Piece) → Each NoMark pre → 1 ≤ words_at_least pre → IsDescriptor d → AreDescriptors false (pre ++ piece.Descriptor d ∷ [])
+marked_last d pre none some is = joined false pre (piece.Descriptor d ∷ []) (none_are false pre none) (behind_word false pre none some, is, tt)
+
+word_inside : (xs ys : List Piece) (p : Piece) → least_words p ≡ 1 → 1 ≤ words_at_least (xs ++ p ∷ ys)
+word_inside xs ys p e = omega (arith, e, words_both xs (p ∷ ys))
+
+call_some : (t : ℕ) (whom : Callee) (args : List Spot) → 1 ≤ words_at_least (call_words t whom args)
+call_some t (callee.Symbol name) args = omega arith
+call_some t callee.Register args = word_inside (fetched t T1 (first args)) [] (calls_at (register_of T1 (first args))) refl
+
+part_are : (t : ℕ) (f : Frame) (d : Descr) (g : LinOp) (args results : List Spot) → passes_frame g ≡ true → IsDescriptor d →
+    AreDescriptors false (part_of t f (Some d) (record { op = g; args = args; results = results }))
+part_are t f d (lin.Flow g) args results h is = absurd (let z : false ≡ true = h in cc)
+part_are t f d (lin.Op (op.Pure g)) args results h is = absurd (let z : false ≡ true = h in cc)
+part_are t f d (lin.Op (op.Leaving g)) args results h is = absurd (let z : false ≡ true = h in cc)
+part_are t f d (lin.Op (op.Access (access.Load k offset))) args results h is = absurd (let z : false ≡ true = h in cc)
+part_are t f d (lin.Op (op.Access (access.Store k offset))) args results h is = absurd (let z : false ≡ true = h in cc)
+part_are t f d (lin.Op (op.Access (access.Alloc blocks))) args results h is =
+    let all : Each NoMark ((reserved (bytes_of blocks) ++ []) ++ addresses t blocks results) =
+        part-in NoMark None t f (record { op = lin.Op (op.Access (access.Alloc blocks)); args = args; results = results }) (unmarked (lin.Op (op.Access (access.Alloc blocks)))) in
+    let pre = each_front (reserved (bytes_of blocks)) [] (each_front (reserved (bytes_of blocks) ++ []) (addresses t blocks results) all) in
+    marked d (reserved (bytes_of blocks)) (addresses t blocks results) pre
+    (reserved_some (bytes_of blocks))
+    (each_back (reserved (bytes_of blocks) ++ []) (addresses t blocks results) all) is
+  where
+    reserved_some : (n : ℕ) → 1 ≤ words_at_least (reserved n)
+    reserved_some n = word_inside (lowered T1 S10 n) _ (load loads.Ld T1 S11 0) refl
+part_are t f d (lin.Op (op.Calling (calling.Call whom result))) args results h is =
+    let all : Each NoMark (call_words t whom args ++ []) =
+        part-in NoMark None t f (record { op = lin.Op (op.Calling (calling.Call whom result)); args = args; results = results }) (unmarked (lin.Op (op.Calling (calling.Call whom result)))) in
+    marked_last d (call_words t whom args) (each_front (call_words t whom args) [] all) (call_some t whom args) is
+part_are t f d (lin.Op (op.Calling (calling.TailCall whom result))) args results h is = absurd (let z : false ≡ true = h in cc)
+part_are t f d (lin.Op (op.Calling (calling.External row frame))) args results h is =
+    let all : Each NoMark (external_words row frame ++ []) =
+        part-in NoMark None t f (record { op = lin.Op (op.Calling (calling.External row frame)); args = args; results = results }) (unmarked (lin.Op (op.Calling (calling.External row frame)))) in
+    marked_last d (external_words row frame) (each_front (external_words row frame) [] all) (omega arith) is
+
+plain_part : (t : ℕ) (f : Frame) (i : Line) → AreDescriptors false (part_of t f None i)
+plain_part t f i = none_are false (part_of t f None i) (part-in NoMark None t f i (unmarked i.op))
+
+module _ (f : Frame) (traps : ℕ → ℕ) where
+  step : (i : Line) (next : List Line) (b : Bool) → passes_frame i.op ≡ b → ((ds : List Descr) → AllByRecursion IsDescriptor ds → AreDescriptors false (parts traps f ds next)) →
+      (ds : List Descr) → AllByRecursion IsDescriptor ds →
+      AreDescriptors false (part_of (traps (length next)) f (descriptor b ds) i ++ parts traps f (left_after b ds) next)
+  step i next true p later [] all =
+      joined false (part_of (traps (length next)) f None i) (parts traps f [] next) (plain_part (traps (length next)) f i) (weaker _ (parts traps f [] next) (later [] tt))
+  step i next true p later (d ∷ ds) all =
+      joined false (part_of (traps (length next)) f (Some d) i) (parts traps f ds next) (part_are (traps (length next)) f d i.op i.args i.results p all.0) (weaker _ (parts traps f ds next) (later ds all.1))
+  step i next false p later ds all =
+      joined false (part_of (traps (length next)) f None i) (parts traps f ds next) (plain_part (traps (length next)) f i) (weaker _ (parts traps f ds next) (later ds all))
+
+  parts_are : (is : List Line) (ds : List Descr) → AllByRecursion IsDescriptor ds → AreDescriptors false (parts traps f ds is)
+  parts_are [] ds all = tt
+  parts_are (i ∷ next) ds all = step i next (passes_frame i.op) refl (parts_are next) ds all
+
+-- Descriptors that keep the rules of images stand so among the pieces.
+pub descriptors_stand : (m : Lin) (traps : ℕ → ℕ) (ds : List Descr) → AllByRecursion IsDescriptor ds → AreDescriptors false (emitted m traps ds).code
+descriptors_stand m traps ds all =
+    joined false (entry (frame_of m)) (parts traps (frame_of m) ds m.code) (none_are false (entry (frame_of m)) (entry-in NoMark (λ j h. refl) (frame_of m)))
+    (weaker _ (parts traps (frame_of m) ds m.code) (parts_are (frame_of m) traps m.code ds all))
