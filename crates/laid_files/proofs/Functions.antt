@@ -1,16 +1,10 @@
 -- What layout asks of the pieces of a function, of one that is known as chained functions are.
-use Rattle.std.proofs.Common.{◌≡◌, ◌≢◌, ℕ, zero, suc, ◌+◌, ◌-◌, ◌*◌, ◌/◌, ◌%◌, ◌^◌, ◌<◌, ◌≤◌, Bool, true, false, cond, ◌||◌, ◌==◌, List, [], ◌∷◌, ◌++◌, length, map, Option, Some, None, refl, sym, ap, ◌∙◌, subst, ◌⊎◌, inl, inr, arith}
-use Rattle.std.specs.Prelude.{All, AllPairs, Contains, IsSome, count_by, slice_index_or, flat_map}
+use Rattle.std.proofs.Common.{◌≡◌, ℕ, zero, suc, ◌+◌, ◌*◌, ◌/◌, ◌<◌, ◌≤◌, Bool, true, false, cond, ◌||◌, List, [], ◌∷◌, length, refl, sym, ap, ◌∙◌, subst, inl, inr, arith}
+use Rattle.std.specs.Prelude.{All, AllPairs, Contains, count_by, slice_index_or}
 use Rattle.std.specs.List.{AllByRecursion}
-use Rattle.std.proofs.lemmas.Bool.{eqb-true}
-use Rattle.std.proofs.Common.{eq-eqb, ne_eqb}
 use Rattle.std.proofs.lemmas.List.Sums.{sum_by-cons}
-use Rattle.std.proofs.lemmas.List.Elements.{Contains-append_left, Contains-append_right}
-use Rattle.std.proofs.lemmas.Slice.Eq.{bytes_eq-Decides}
+use Rattle.std.proofs.lemmas.List.Elements.{Contains-append_right}
 use Rattle.bs_words.specs.declared.types.Loc.{Loc}
-use Rattle.bs_words.specs.declared.types.Loc.TheVariants as loc
-use Rattle.cmm_front.specs.FileOf.{IsFileOf}
-use Rattle.cmm_tree.specs.Tree.{FunctionTree, FileTree, functions}
 use Rattle.emit_rules.specs.Emitted.{part_of, parts, descriptor, left_after, emitted}
 use Rattle.emit_rules.specs.Entry.{Frame, frame_of, entry}
 use Rattle.emit_rules.specs.Sizes.{least_words, words_at_least}
@@ -21,7 +15,7 @@ use Rattle.lin_ir.specs.Descriptors.{AreExact, ComesBefore, Describes, IsWithin,
 use Rattle.lin_ir.specs.Descriptors as descriptors
 use Rattle.lin_ir.specs.Formed.{IsHome, is_colour, is_slot}
 use Rattle.lin_ir.specs.Meaning.{passes_frame}
-use Rattle.lin_ir.specs.Walks.{targets, Reached, at_entry, by_step, goes, Traps, by_walk, Stands, here, below}
+use Rattle.lin_ir.specs.Walks.{targets, Reached, at_entry, by_step, goes, Stands, here, below}
 use Rattle.lin_ir.specs.declared.descr.Descr.{Descr}
 use Rattle.lin_ir.specs.declared.lin.Flow.TheVariants as flow
 use Rattle.lin_ir.specs.declared.lin.Lin.{Lin}

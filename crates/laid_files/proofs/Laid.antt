@@ -1,10 +1,10 @@
 -- The pieces of a function of an accepted file can be laid out.
-use Rattle.std.proofs.Common.{◌≡◌, ◌≢◌, ℕ, zero, suc, ◌+◌, ◌*◌, ◌/◌, ◌%◌, ◌^◌, ◌<◌, ◌≤◌, Bool, true, false, cond, ◌&&◌, ◌||◌, ◌==◌, List, [], ◌∷◌, ◌++◌, length, map, Option, Some, None, bytes_eq, refl, sym, ap, ◌∙◌, subst, ◌⊎◌, inl, inr, ⊎_elim, eq-eqb, ne_eqb, arith}
-use Rattle.std.specs.Prelude.{All, AllPairs, Contains, IsSome, count_by, flat_map}
+use Rattle.std.proofs.Common.{◌≡◌, ◌≢◌, ℕ, suc, ◌+◌, Bool, true, false, cond, ◌&&◌, ◌||◌, ◌==◌, List, [], ◌∷◌, ◌++◌, map, bytes_eq, refl, sym, ap, ◌∙◌, subst, ◌⊎◌, inl, inr, ⊎_elim, eq-eqb, ne_eqb, arith}
+use Rattle.std.specs.Prelude.{AllPairs, Contains, IsSome, count_by, flat_map}
 use Rattle.std.specs.List.{AllByRecursion}
 use Rattle.std.proofs.lemmas.Bool.{eqb-true}
 use Rattle.std.proofs.lemmas.List.Sums.{sum_by-cons}
-use Rattle.std.proofs.lemmas.List.Elements.{Contains-append_left, Contains-append_right, Contains-append_cases}
+use Rattle.std.proofs.lemmas.List.Elements.{Contains-append_left, Contains-append_right}
 use Rattle.std.proofs.lemmas.Slice.Eq.{bytes_eq-Decides}
 use Rattle.bs_words.specs.External.{External}
 use Rattle.bs_words.specs.declared.types.Comp.{Comp}
@@ -20,14 +20,13 @@ use Rattle.cmm_types.specs.Types.{with_parameters}
 use Rattle.cmm_types.proofs.Containing.{contains_none, contains_cases}
 use Rattle.emit_rules.specs.Emitted.{emitted}
 use Rattle.emit_rules.specs.Named.{IsLabelOf, IsExternalOf}
-use Rattle.emit_rules.specs.Traversal.{Each, each_none, each_more}
+use Rattle.emit_rules.specs.Traversal.{Each, each_more}
 use Rattle.emit_rules.proofs.Names.{numbers_fit, labels_are_named, symbols_are_named, externals_are_named, places_are_labels, named_labels_stand}
 use Rattle.image_form.specs.Image.{comp_byte, ret_byte}
 use Rattle.layout_rules.specs.Conditions.{IsNamed, IsFunctionLaid}
 use Rattle.layout_rules.specs.Externals.{calls_in_function, all_calls, same_row, is_among, firsts_behind, externals}
 use Rattle.layout_rules.specs.Forms.{is_label}
-use Rattle.lin_ir.specs.Descriptors.{NamesLives, frame_bytes}
-use Rattle.lin_ir.specs.Formed.{labels_in}
+use Rattle.lin_ir.specs.Descriptors.{NamesLives}
 use Rattle.lin_ir.specs.Keeps.{IsNamedIn, Keeps}
 use Rattle.lin_ir.specs.Meaning.{NamedAt}
 use Rattle.lin_ir.specs.Walks.{at_entry, by_walk}
@@ -39,7 +38,7 @@ use Rattle.mach_ir.specs.Keeps.{NamesSymbol, NamesExternal, calls_out}
 use Rattle.mach_ir.specs.declared.op.Calling.TheVariants as calling
 use Rattle.mach_ir.specs.declared.op.External as declared
 use Rattle.mach_ir.specs.declared.op.Op.TheVariants as op
-use Rattle.rv_pieces.specs.Named.{PieceFits, label_named, symbol_named, external_named, place_in, places_in}
+use Rattle.rv_pieces.specs.Named.{place_in, places_in}
 use Rattle.rv_pieces.specs.declared.piece.Piece.{Piece}
 use Rattle.rv_pieces.specs.declared.piece.Piece.TheVariants as piece
 use Rattle.rv_pieces.specs.declared.piece.Pieces.{Pieces}
@@ -215,7 +214,7 @@ module _ (text : List ℕ) (file : FileTree) (is : IsFileOf text file) (tree : F
   external_known : (row : declared.External) → IsExternalOf m row → Contains (externals file) (row_of row)
   external_known row n =
       let calls : IsNamedIn (NamesExternal (row_of row)) m =
-          record { line = n.line; among = n.among; op = op.Calling (calling.External row n.frame); is = n.is; named = calls_out refl } in
+      record { line = n.line; among = n.among; op = op.Calling (calling.External row n.frame); is = n.is; named = calls_out refl } in
       first_in [] (all_calls file) (row_of row)
       (called_in (functions file) tree (row_of row) among
       (named_called (with_parameters tree.params []) tree.body (row_of row) ((front_selects text file is tree among).externals (row_of row) (kept.externals (row_of row) calls))))
