@@ -1,14 +1,13 @@
 -- The external calls of accepted functions keep the rules of images; what a tree names is defined, and is among the
 -- calls of its file.
-use Rattle.std.proofs.Common.{◌≡◌, ℕ, ◌+◌, ◌≤◌, Bool, true, false, not, List, [], ◌∷◌, ◌++◌, length, Option, Some, None, is_none, refl, sym, subst, ◌⊎◌, inl, inr, arith}
+use Rattle.std.proofs.Common.{◌≡◌, ℕ, ◌≤◌, false, List, [], ◌∷◌, ◌++◌, length, Option, Some, None, is_none, refl, sym, subst, inl, inr, arith}
 use Rattle.std.specs.Prelude.{IsSome, Contains}
 use Rattle.std.specs.List.{AllByRecursion}
 use Rattle.std.proofs.lemmas.List.Elements.{Contains-append_left, Contains-append_right}
 use Rattle.bs_fault.specs.declared.fault.Fault.{Fault}
 use Rattle.bs_fault.specs.declared.fault.Fault.TheVariants as fault
-use Rattle.bs_fault.specs.Reported.{Faults, here, one_if, Faultless}
+use Rattle.bs_fault.specs.Reported.{here, one_if, Faultless}
 use Rattle.bs_words.specs.External.{External}
-use Rattle.bs_words.specs.declared.types.Comp.{Comp}
 use Rattle.bs_words.specs.declared.types.Comp.TheVariants as comp
 use Rattle.bs_words.specs.declared.types.Ret.{Ret}
 use Rattle.bs_words.specs.declared.types.Ret.TheVariants as ret
@@ -28,9 +27,9 @@ use Rattle.image_form.specs.Image.{IsArgument, IsExtResult}
 use Rattle.layout_rules.specs.Conditions.{IsExternalLaid}
 use Rattle.layout_rules.specs.Externals.{calls_in, calls_in_row, calls_in_bindings, calls_in_cases, calls_in_handlers}
 use Rattle.layout_rules.proofs.Rules.{all_append}
-use Rattle.selection_laws.specs.Fits.{HasFew, Fits, RowFits, BindingsFit, CasesFit, HandlersFit}
+use Rattle.selection_laws.specs.Fits.{Fits, RowFits, BindingsFit, CasesFit, HandlersFit}
 use Rattle.selection_laws.proofs.Accepting.{left, right}
-use Rattle.selection_places.specs.Names.{Outside, ASymbol, ACall, Names, RowNames, BoundNames, CasesName, HandlersName}
+use Rattle.selection_places.specs.Names.{ASymbol, ACall, Names, RowNames, BoundNames, CasesName, HandlersName}
 use Rattle.accepted_files.specs.Named.{CallsSymbols, RowCallsSymbols, BoundCallsSymbols, CasesCallSymbols, HandlersCallSymbols}
 
 -- ---- rows

@@ -1,9 +1,9 @@
 -- How many tokens values have at least: each of several has one of its own.
-use Rattle.std.proofs.Common.{◌≡◌, ℕ, ◌+◌, ◌*◌, ◌≤◌, suc, Bool, List, [], ◌∷◌, ◌++◌, length, Option, Some, None, refl, sym, subst, arith, length-append}
+use Rattle.std.proofs.Common.{◌≡◌, ℕ, ◌+◌, ◌≤◌, suc, List, [], ◌∷◌, ◌++◌, length, Some, None, sym, subst, arith, length-append}
 use Rattle.cmm_lex.specs.Token.{TokenTree}
-use Rattle.cmm_tree.specs.Tree.{Expression, Nothing, DataListTree, FunctionTree, ItemTree, AFunction, AData, functions_among, data_among}
+use Rattle.cmm_tree.specs.Tree.{Expression, Nothing, DataListTree, FunctionTree, ItemTree, functions_among, data_among}
 use Rattle.cmm_grammar.specs.Parts.{ItemPart, FunctionItem, DataItem, item_of}
-use Rattle.cmm_grammar.specs.Rule.{Sort, Value, AnExpression, AnItem, Listed, Rule, Give, One, Then, Expr, Inside, InsideOr, LabelledOr, Until, Maybe, Repeat}
+use Rattle.cmm_grammar.specs.Rule.{Sort, Value, AnItem, Listed, Rule, Give, One, Then, Expr, Inside, InsideOr, LabelledOr, Until, Maybe, Repeat}
 use Rattle.cmm_grammar.specs.Grammar.{a_token, close, a_data_item, data_items, data_list, parameters, sequence_to_close, a_function, item_rest, an_item}
 use Rattle.cmm_grammar.specs.Spelling.{Spells, AreItems, none, more, nothing, token, both, leaf, brackets, parenthesis, inside, inside_first, not_inside, labelled, not_labelled, ended, one_more, present, absent, last, another}
 use Rattle.accepted_files.proofs.Giving.{Two}

@@ -1,9 +1,8 @@
 -- The symbols that an accepted file names are defined in it, and its static data is given.
-use Rattle.std.proofs.Common.{◌≡◌, ◌∙◌, ℕ, zero, suc, ◌<◌, Bool, true, false, cond, List, [], ◌∷◌, ◌++◌, map, Option, Some, None, bytes_eq, refl, sym, ap, ap₂, subst}
+use Rattle.std.proofs.Common.{◌≡◌, ◌∙◌, ℕ, suc, ◌<◌, Bool, true, false, cond, List, [], ◌∷◌, ◌++◌, map, Option, Some, None, bytes_eq, refl, sym, ap, ap₂, subst}
 use Rattle.std.specs.Prelude.{IsSome, Contains}
 use Rattle.std.specs.List.{AllByRecursion}
 use Rattle.std.proofs.lemmas.List.{map-append}
-use Rattle.bs_fault.specs.declared.fault.Fault.{Fault}
 use Rattle.bs_words.specs.Fits.{data_start}
 use Rattle.cmm_data.specs.Placement.{DataSymbolTree, Definition, definition_of_data, symbols_among, items_from, start_behind, end_behind, defined_by_list, defined_from, definitions, value_among, value_of_symbol}
 use Rattle.cmm_data.specs.Placement as placement
@@ -14,8 +13,8 @@ use Rattle.cmm_reader.specs.Text.{ReadsAs}
 use Rattle.std.proofs.Common.{Ok}
 use Rattle.cmm_tree.specs.Symbols.{first_found, DefinedSymbol, data_symbols, definition_of}
 use Rattle.cmm_tree.specs.Symbols as defined
-use Rattle.cmm_tree.specs.Tree.{DatumTree, Define, Byte, Half, Int, Val, Address, Skip, Align, Text, Global, AFloat, DataItemTree, DataListTree, FunctionTree, ItemTree, AFunction, AData, FileTree, functions, data_among, data_lists}
-use Rattle.cmm_types.specs.Faults.{TypeFault, unknown_address}
+use Rattle.cmm_tree.specs.Tree.{DatumTree, Define, Byte, Half, Int, Val, Address, Skip, Align, Text, Global, AFloat, DataItemTree, DataListTree, ItemTree, AFunction, AData, FileTree, data_among, data_lists}
+use Rattle.cmm_types.specs.Faults.{unknown_address}
 use Rattle.cmm_types.specs.Gathered.{first_symbols}
 use Rattle.cmm_types.proofs.FirstSymbols.{agree-from, agree-at, with_symbols-agrees}
 use Rattle.cmm_types.proofs.Containing.{contains_head, contains_tail}
@@ -24,11 +23,10 @@ use Rattle.accepted_files.specs.Given.{IsGiven, AreGiven, HasGivenData}
 use Rattle.accepted_files.proofs.Differ.{names, names_append, data_names, item_names}
 use Rattle.accepted_files.proofs.Files.{read_of, lists_fine}
 use Rattle.accepted_files.proofs.Giving.{IsFine, AreFine}
-use Rattle.accepted_files.proofs.Spelled.{IsNamed, items_named}
+use Rattle.accepted_files.proofs.Spelled.{items_named}
 use Rattle.cmm_grammar.specs.Spelling.{nesting}
 
 -- ---- definitions have the names of the symbols
-
 
 of_data : (ss : List DataSymbolTree) → map (λ (d : Definition). d.name) (map definition_of_data ss) ≡ data_names ss
 of_data [] = refl
@@ -104,7 +102,6 @@ module _ (text : List ℕ) (file : FileTree) (is : IsFileOf text file) where
   items_given l [] c k fine bytes = tt
   items_given l (i ∷ items) c k fine bytes =
       (datum l i i.datum c (k i (contains_head i items)) refl fine.0 bytes.0, items_given l items c (λ j m. k j (contains_tail i items j m)) fine.1 bytes.1)
-
 
   lists_given : (ls : List DataListTree) → ((l : DataListTree) → Contains ls l → Contains (data_lists file) l) → AllByRecursion (λ (l : DataListTree). AreFine l.items) ls →
       AllByRecursion (λ (l : DataListTree). DataBytes l.items) ls → AreGiven file ls

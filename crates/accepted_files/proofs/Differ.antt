@@ -1,19 +1,14 @@
 -- In a file without a fault of types no symbol is defined twice, and what is named is defined.
-use Rattle.std.proofs.Common.{◌≡◌, ◌≢◌, ◌∙◌, ℕ, suc, ◌+◌, Bool, true, false, cond, List, [], ◌∷◌, ◌++◌, map, append_assoc, Option, Some, None, bytes_eq, refl, sym, ap, ap₂, subst, arith}
-use Rattle.std.specs.Prelude.{IsSome}
+use Rattle.std.proofs.Common.{◌≡◌, ◌≢◌, ◌∙◌, ℕ, ◌+◌, Bool, true, false, List, [], ◌∷◌, ◌++◌, map, append_assoc, Option, Some, None, bytes_eq, refl, sym, ap, ap₂, subst}
 use Rattle.std.specs.List.{AllByRecursion}
 use Rattle.std.proofs.lemmas.Slice.Eq.{bytes_eq-Decides}
-use Rattle.std.proofs.lemmas.Grind.{flat_map-append}
 use Rattle.std.proofs.lemmas.List.{map-append}
 use Rattle.std.proofs.lemmas.List.Elements.{filter_map-append}
 use Rattle.bs_fault.specs.declared.fault.Fault.{Fault}
-use Rattle.bs_words.specs.declared.values.Value.{Value}
-use Rattle.bs_words.specs.declared.values.Value.TheVariants as value
-use Rattle.cmm_data.specs.Placement.{PlacedItem, DataSymbolTree, Definition, definition_of_data, symbol_at, symbols_among, size_at, items_from, start_behind, end_behind, lists_behind, items_of_lists, defined_at, defined_by_list, defined_from, definitions, value_among, value_of_symbol}
-use Rattle.cmm_data.specs.Placement as placement
+use Rattle.cmm_data.specs.Placement.{PlacedItem, DataSymbolTree, symbol_at, symbols_among, size_at, items_from, start_behind, end_behind, lists_behind, items_of_lists}
 use Rattle.cmm_tree.specs.Symbols.{first_found, DefinedSymbol, built_in, data_symbols, symbols, definition_of}
 use Rattle.cmm_tree.specs.Symbols as defined
-use Rattle.cmm_tree.specs.Tree.{DatumTree, Define, DataItemTree, DataListTree, FunctionTree, ItemTree, AFunction, AData, FileTree, functions, functions_among, data_among, data_lists}
+use Rattle.cmm_tree.specs.Tree.{DatumTree, Define, DataItemTree, DataListTree, FunctionTree, ItemTree, AFunction, AData, FileTree, functions_among, data_among}
 use Rattle.cmm_types.specs.Faults.{TypeFault, repeated_symbol}
 use Rattle.image_form.specs.Image.{AllDiffer}
 use Rattle.layout_rules.proofs.Rules.{all_append}
@@ -53,9 +48,10 @@ module _ (file : FileTree) (typed : (told : Fault) → TypeFault file told → �
   -- none of these is defined before, nor is one that stands behind others
   all_new : (before behind : List DefinedSymbol) → symbols file ≡ before ++ behind → AllByRecursion (λ (s : DefinedSymbol). definition_of before s.name ≡ None) behind
   all_new before [] whole = tt
-  all_new before (s ∷ behind) whole =
-      (defined_once before s behind whole,
-      fewer behind (all_new (before ++ s ∷ []) behind (whole ∙ sym (append_assoc before (s ∷ []) behind))))
+  all_new before (s ∷ behind) whole = (
+    defined_once before s behind whole,
+    fewer behind (all_new (before ++ s ∷ []) behind (whole ∙ sym (append_assoc before (s ∷ []) behind))),
+  )
     where
       fewer : (ss : List DefinedSymbol) → AllByRecursion (λ (t : DefinedSymbol). definition_of (before ++ s ∷ []) t.name ≡ None) ss → AllByRecursion (λ (t : DefinedSymbol). definition_of before t.name ≡ None) ss
       fewer [] all = tt

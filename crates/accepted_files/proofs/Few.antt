@@ -1,5 +1,5 @@
 -- A tree has no more external calls than nodes.
-use Rattle.std.proofs.Common.{◌≡◌, ℕ, ◌+◌, ◌≤◌, false, List, [], ◌∷◌, ◌++◌, length, length-append, arith}
+use Rattle.std.proofs.Common.{ℕ, ◌+◌, ◌≤◌, false, List, ◌∷◌, ◌++◌, length, length-append, arith}
 use Rattle.bs_words.specs.External.{External}
 use Rattle.bs_words.specs.declared.types.Ty.TheVariants as ty
 use Rattle.cmm_tree.specs.Measures.{total, row_total, bindings_total, cases_total, handlers_total, counts_one}

@@ -1,5 +1,5 @@
 -- What layout asks of a file, of one that the front accepts.
-use Rattle.std.proofs.Common.{◌≡◌, ◌≢◌, ◌∙◌, ℕ, suc, ◌+◌, ◌*◌, ◌%◌, ◌^◌, ◌<◌, ◌≤◌, Bool, true, false, cond, ◌&&◌, ◌==◌, List, [], ◌∷◌, ◌++◌, length, map, Option, Some, None, Ok, is_none, refl, sym, ap, subst, ◌⊎◌, inl, inr, length-append, arith}
+use Rattle.std.proofs.Common.{◌≡◌, ◌≢◌, ℕ, ◌+◌, ◌*◌, ◌%◌, ◌≤◌, Bool, true, false, cond, ◌==◌, List, [], ◌∷◌, ◌++◌, length, map, Option, Some, None, Ok, refl, sym, ap, subst, ◌⊎◌, inl, inr, length-append, arith}
 use Rattle.std.specs.Prelude.{IsSome, Contains, flat_map}
 use Rattle.std.specs.List.{AllByRecursion}
 use Rattle.std.proofs.lemmas.Bool.{and_parts, eqb-true}
@@ -9,7 +9,7 @@ use Rattle.std.proofs.lemmas.Grind.{flat_map-append}
 use Rattle.bs_fault.specs.declared.fault.Fault.{Fault}
 use Rattle.bs_fault.specs.declared.fault.Fault.TheVariants as fault
 use Rattle.bs_fault.specs.Limits.{longest_text}
-use Rattle.bs_fault.specs.Reported.{Faults, here, one_if, one_of, Faultless}
+use Rattle.bs_fault.specs.Reported.{here, one_if, one_of, Faultless}
 use Rattle.bs_words.specs.External.{External}
 use Rattle.bs_words.specs.Fits.{data_start}
 use Rattle.bs_words.specs.Symbol.{IsSymbol, caml_bound_error}
@@ -17,17 +17,17 @@ use Rattle.bs_words.specs.declared.types.Comp.{Comp}
 use Rattle.bs_words.specs.declared.types.Comp.TheVariants as comp
 use Rattle.bs_words.specs.declared.types.Ty.{Ty}
 use Rattle.bs_words.specs.declared.types.Ty.TheVariants as ty
-use Rattle.cmm_data.specs.Contents.{root_at, roots_among, root_cells}
-use Rattle.cmm_data.specs.Faults.{data_limit, keeps_rule, first_fault, data_fault_of}
-use Rattle.cmm_data.specs.Placement.{PlacedItem, DataSymbolTree, size_at, items_from, start_behind, end_behind, lists_behind, lists_of, built_in, items_of_lists, symbols_of}
+use Rattle.cmm_data.specs.Contents.{root_at, roots_among}
+use Rattle.cmm_data.specs.Faults.{data_limit, keeps_rule, first_fault}
+use Rattle.cmm_data.specs.Placement.{PlacedItem, DataSymbolTree, size_at, items_from, start_behind, end_behind, lists_behind, lists_of, items_of_lists, symbols_of}
 use Rattle.cmm_data.proofs.Steps.{end-within}
 use Rattle.cmm_data.proofs.Walk.{sound-first, sound-list, start-within}
 use Rattle.cmm_front.specs.FileOf.{IsFileOf}
 use Rattle.cmm_grammar.specs.Covered.{IsCovered}
 use Rattle.cmm_grammar.specs.Spelling.{AreItems, nesting}
-use Rattle.cmm_grammar.specs.Words.{is_integer, is_integer_kind}
+use Rattle.cmm_grammar.specs.Words.{is_integer_kind}
 use Rattle.cmm_lex.specs.Integers.{integer_value}
-use Rattle.cmm_lex.specs.Lexing.{Splits, first_range, is_out_of_range, none_of}
+use Rattle.cmm_lex.specs.Lexing.{first_range, is_out_of_range, none_of}
 use Rattle.cmm_lex.specs.Token.{TokenTree}
 use Rattle.cmm_lex.specs.declared.token.TokenKind.{TokenKind}
 use Rattle.cmm_lex.specs.declared.token.TokenKind.TheVariants as kind
@@ -38,23 +38,22 @@ use Rattle.cmm_reader.specs.Text.{ReadsAs}
 use Rattle.cmm_reader.proofs.Measured.{read_measured}
 use Rattle.cmm_tree.specs.Symbols.{DefinedSymbol, data_symbols}
 use Rattle.cmm_tree.specs.Symbols as defined
-use Rattle.cmm_tree.specs.Tree.{DatumTree, Define, Byte, Half, Int, Val, Address, Skip, Align, Text, Global, AFloat, DataItemTree, DataListTree, Parameter, FunctionTree, ItemTree, AFunction, AData, FileTree, functions, functions_among, data_among, data_lists}
+use Rattle.cmm_tree.specs.Tree.{DatumTree, Define, Val, Address, DataItemTree, DataListTree, Parameter, FunctionTree, ItemTree, AFunction, AData, FileTree, functions, functions_among, data_among, data_lists}
 use Rattle.cmm_types.specs.Gathered.{comp_faults, params_faults, is_address}
 use Rattle.cmm_types.specs.Types.{body_type, result_of, with_parameters}
 use Rattle.cmm_types.proofs.Containing.{contains_none, contains_cases, contains_head, contains_tail}
 use Rattle.image_form.specs.Image.{AllDiffer, IsParam, IsResult}
 use Rattle.layout_rules.specs.Conditions.{IsRowLaid, IsExternalLaid, IsFileLaid}
-use Rattle.layout_rules.specs.Externals.{calls_in_function, all_calls, is_among, firsts_behind, externals}
+use Rattle.layout_rules.specs.Externals.{calls_in_function, all_calls, is_among, firsts_behind}
 use Rattle.layout_rules.proofs.Rules.{all_append}
 use Rattle.selection_accepted.proofs.Selecting.{definitions, front_accepts, selectable}
 use Rattle.selection_accepted.proofs.Symbols.{read_places}
 use Rattle.selection_laws.proofs.Accepting.{left, right}
-use Rattle.accepted_files.specs.Named.{CallsSymbols}
 use Rattle.accepted_files.proofs.Calls.{AreLaid, laid_all, both, nothing_laid, calls_laid}
 use Rattle.accepted_files.proofs.Counted.{tokens_among, items_among, AreFew, items_few}
-use Rattle.accepted_files.proofs.Differ.{names, names_append, list_symbols, list_names, data_names, function_names, AreApart, Parted, all_parted, all_apart, each_apart, differ_both, differ_from}
+use Rattle.accepted_files.proofs.Differ.{names, names_append, list_symbols, list_names, data_names, function_names, all_parted, all_apart, each_apart, differ_both, differ_from}
 use Rattle.accepted_files.proofs.Few.{calls_few}
-use Rattle.accepted_files.proofs.Giving.{IsInRange, AllInRange, IsFine, AreFine}
+use Rattle.accepted_files.proofs.Giving.{AllInRange, IsFine, AreFine}
 use Rattle.accepted_files.proofs.Spelled.{IsNamed, items_named, symbol_is}
 
 -- ---- what was read

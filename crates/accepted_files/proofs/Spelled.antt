@@ -1,5 +1,5 @@
 -- What tokens spell names symbols, and its integers are in range.
-use Rattle.std.proofs.Common.{◌≡◌, ◌∙◌, ℕ, ◌≤◌, zero, suc, Bool, true, false, cond, ◌&&◌, nat_le, leb-true, List, [], ◌∷◌, length, slice_index_or, Option, Some, None, option_map, refl, sym, ap, subst}
+use Rattle.std.proofs.Common.{◌≡◌, ◌∙◌, ℕ, ◌≤◌, zero, suc, Bool, true, false, cond, ◌&&◌, nat_le, leb-true, List, [], ◌∷◌, length, slice_index_or, Option, Some, None, option_map, refl, ap, subst}
 use Rattle.std.proofs.lemmas.Bool.{and_parts}
 use Rattle.std.proofs.lemmas.List.Sums.{AllPass-from_list_all}
 use Rattle.std.specs.Prelude.{IsSome}
@@ -17,7 +17,6 @@ use Rattle.cmm_lex.specs.declared.token.TokenKind.TheVariants as kind
 use Rattle.cmm_lex.specs.declared.token.Keyword.TheVariants as word
 use Rattle.cmm_tree.specs.Tree.{Expression, Integer, Pointer, Symbol, Name, Nothing, Float, Let, Assign, Operator, Load, Store, Alloc, App, Extcall, Checkbound, Raise, Seq, If, Switch, Catch, Exit, Try, Expressions, NoMore, More, Bare, Index, Parameter, FunctionTree, ItemTree, functions_among}
 use Rattle.cmm_tree.specs.Tree as tree
-use Rattle.cmm_types.proofs.Containing.{contains_none, contains_cases}
 use Rattle.cmm_grammar.specs.declared.word.Head.{Head}
 use Rattle.cmm_grammar.specs.declared.word.Head.TheVariants as head
 use Rattle.cmm_grammar.specs.declared.word.Pair.{Pair}
@@ -34,7 +33,6 @@ use Rattle.cmm_grammar.specs.Words.{leaf_of, word_of, is_integer, is_string, is_
 use Rattle.cmm_grammar.specs.Rule.{AnExpression, ABinding, ACase, AHandler, AnItem, Rule}
 use Rattle.cmm_grammar.specs.Grammar.{a_token, close, a_comp, a_result, operands, sequence_to_close, sequence_to_with, a_binding, a_mutable_binding, bindings_to_close, let_body, let_form, assign_form, arguments_of, app_form, extcall_rest, extcall_form, alloc_form, loaded, stored, load_rest, store_rest, chunk_rest, chunked, load_form, store_form, paired, tripled, raise_form, pair_form, triple_form, float_form, seq_form, while_form, case_number, another_number, case_body, a_case, switch_form, a_parameter, parameters, label_rest, handler_rest, a_label, next_handler, more_handlers, labelled_handlers, bare_handler, catch_form, exit_rest, exit_form, try_form, form_of, form, a_data_integer, datum_of, a_data_item, data_items, data_list, a_function, item_rest, an_item}
 use Rattle.cmm_grammar.specs.Spelling.{Spells, AreItems, none, more}
-use Rattle.std.specs.Prelude.{Contains}
 use Rattle.accepted_files.specs.Named.{CallsSymbols, RowCallsSymbols, BoundCallsSymbols, CasesCallSymbols, HandlersCallSymbols}
 use Rattle.accepted_files.proofs.Giving.{IsInRange, AllInRange, front, back, IsFine, AreFine, ItemHas, PartHas, PartsHave, Given, Gives, given}
 

@@ -1,5 +1,5 @@
 -- Each function of an image has an instruction in its code.
-use Rattle.std.proofs.Common.{◌≡◌, ℕ, zero, suc, ◌+◌, ◌*◌, ◌<◌, ◌≤◌, List, [], ◌∷◌, ◌++◌, length, subst, sym, ap, length-append, arith}
+use Rattle.std.proofs.Common.{◌≡◌, ℕ, zero, suc, ◌+◌, ◌*◌, ◌<◌, List, [], ◌∷◌, ◌++◌, length, subst, sym, ap, length-append, arith}
 use Rattle.std.specs.List.{AllByRecursion}
 use Rattle.cmm_tree.specs.Tree.{FunctionTree, FileTree, functions}
 use Rattle.image_form.specs.Image.{AreTables, stub}
@@ -23,8 +23,13 @@ begins_inside file entries at (g ∷ fs) (p ∷ ps) [] f are laid lt = absurd ar
 begins_inside file entries at (g ∷ fs) (p ∷ ps) (k ∷ forms) zero are laid lt =
     let some = laid.0.nonempty in
     let next = at + total_words p.code k in
-    omega (arith, some, total_some p.code k (forms_length (place_of p.code k) 0 p.code k are.0.reach), function_length file entries at p k,
-    length-append (function_words file entries at p.code k) (code_from file entries next ps forms))
+    omega (
+      arith,
+      some,
+      total_some p.code k (forms_length (place_of p.code k) 0 p.code k are.0.reach),
+      function_length file entries at p k,
+      length-append (function_words file entries at p.code k) (code_from file entries next ps forms),
+    )
 begins_inside file entries at (g ∷ fs) (p ∷ ps) (k ∷ forms) (suc f) are laid lt =
     let next = at + total_words p.code k in
     let later = begins_inside file entries next fs ps forms f are.1 laid.1 (omega (arith, lt)) in

@@ -1,2 +1,4 @@
 pub mod Has
 pub mod Marks
+pub mod Functions
+pub mod Laid

@@ -1,12 +1,12 @@
 -- Behind the entry of a function and between two of its descriptors there is a word.
-use Rattle.std.proofs.Common.{◌≡◌, ℕ, suc, ◌+◌, ◌≤◌, Bool, true, false, cond, List, [], ◌∷◌, ◌++◌, length, Option, Some, None, refl, sym, ap, ◌∙◌, subst, arith}
+use Rattle.std.proofs.Common.{◌≡◌, ℕ, ◌+◌, ◌≤◌, Bool, true, false, List, [], ◌∷◌, ◌++◌, length, Some, None, refl, arith}
 use Rattle.std.specs.List.{AllByRecursion}
 use Rattle.emit_rules.specs.Calls.{call_words, external_words}
 use Rattle.emit_rules.specs.Emitted.{part_of, parts, descriptor, left_after, emitted}
 use Rattle.emit_rules.specs.Entry.{Frame, frame_of, entry}
-use Rattle.emit_rules.specs.Memory.{reserved, addresses, ask}
+use Rattle.emit_rules.specs.Memory.{reserved, addresses}
 use Rattle.emit_rules.specs.Constants.{lowered}
-use Rattle.emit_rules.specs.Instructions.{load, calls_at, skip}
+use Rattle.emit_rules.specs.Instructions.{load, calls_at}
 use Rattle.emit_rules.specs.Slots.{first, register_of, fetched}
 use Rattle.emit_rules.specs.Sizes.{least_words, words_at_least}
 use Rattle.emit_rules.specs.Traversal.{Each, each_none, each_more, Allows}
@@ -160,7 +160,7 @@ part_are t f d (lin.Op (op.Access (access.Load k offset))) args results h is = a
 part_are t f d (lin.Op (op.Access (access.Store k offset))) args results h is = absurd (let z : false ≡ true = h in cc)
 part_are t f d (lin.Op (op.Access (access.Alloc blocks))) args results h is =
     let all : Each NoMark ((reserved (bytes_of blocks) ++ []) ++ addresses t blocks results) =
-        part-in NoMark None t f (record { op = lin.Op (op.Access (access.Alloc blocks)); args = args; results = results }) (unmarked (lin.Op (op.Access (access.Alloc blocks)))) in
+    part-in NoMark None t f (record { op = lin.Op (op.Access (access.Alloc blocks)); args = args; results = results }) (unmarked (lin.Op (op.Access (access.Alloc blocks)))) in
     let pre = each_front (reserved (bytes_of blocks)) [] (each_front (reserved (bytes_of blocks) ++ []) (addresses t blocks results) all) in
     marked d (reserved (bytes_of blocks)) (addresses t blocks results) pre
     (reserved_some (bytes_of blocks))
@@ -170,12 +170,12 @@ part_are t f d (lin.Op (op.Access (access.Alloc blocks))) args results h is =
     reserved_some n = word_inside (lowered T1 S10 n) _ (load loads.Ld T1 S11 0) refl
 part_are t f d (lin.Op (op.Calling (calling.Call whom result))) args results h is =
     let all : Each NoMark (call_words t whom args ++ []) =
-        part-in NoMark None t f (record { op = lin.Op (op.Calling (calling.Call whom result)); args = args; results = results }) (unmarked (lin.Op (op.Calling (calling.Call whom result)))) in
+    part-in NoMark None t f (record { op = lin.Op (op.Calling (calling.Call whom result)); args = args; results = results }) (unmarked (lin.Op (op.Calling (calling.Call whom result)))) in
     marked_last d (call_words t whom args) (each_front (call_words t whom args) [] all) (call_some t whom args) is
 part_are t f d (lin.Op (op.Calling (calling.TailCall whom result))) args results h is = absurd (let z : false ≡ true = h in cc)
 part_are t f d (lin.Op (op.Calling (calling.External row frame))) args results h is =
     let all : Each NoMark (external_words row frame ++ []) =
-        part-in NoMark None t f (record { op = lin.Op (op.Calling (calling.External row frame)); args = args; results = results }) (unmarked (lin.Op (op.Calling (calling.External row frame)))) in
+    part-in NoMark None t f (record { op = lin.Op (op.Calling (calling.External row frame)); args = args; results = results }) (unmarked (lin.Op (op.Calling (calling.External row frame)))) in
     marked_last d (external_words row frame) (each_front (external_words row frame) [] all) (omega arith) is
 
 plain_part : (t : ℕ) (f : Frame) (i : Line) → AreDescriptors false (part_of t f None i)
