@@ -27,6 +27,7 @@ use Rattle.selection_promise.proofs.Promised.{promised}
 use Rattle.selection_accepted.proofs.Promised.{function_accepted}
 use Rattle.selection_accepted.proofs.Selecting.{definitions}
 use Rattle.text_sizes.proofs.Nesting.{text_nests}
+use Rattle.made_functions.specs.Files.{IsFunctionMade}
 use Rattle.made_functions.specs.Made.{IsMadeOf}
 use Rattle.code_bounds.specs.Kept.{KeepsTo}
 use Rattle.code_bounds.proofs.Bounded.{bounded}
@@ -72,21 +73,17 @@ pub text_keeps : (text : List ℕ) (file : FileTree) → IsFileOf text file → 
 text_keeps text file is tree c m ds pieces made =
     keeps_to (definitions file) tree m ds pieces (function_accepted text file is tree c) made (text_nests text file tree is c)
 
--- the pieces are made of the function
-abbrev pub AreMade : FunctionTree → Pieces → Type 0
-AreMade tree pieces = (m : Lin) × (ds : List Descr) × IsMadeOf tree m ds pieces
-
 -- And so do all of them.
-pub each_keeps : (text : List ℕ) (file : FileTree) → IsFileOf text file → (ps : List Pieces) → AllZip AreMade (functions file) ps →
+pub each_keeps : (text : List ℕ) (file : FileTree) → IsFileOf text file → (ps : List Pieces) → AllZip IsFunctionMade (functions file) ps →
     AllZip KeepsTo (functions file) ps
 each_keeps text file is ps made = go (functions file) ps (λ tree c. c) made
   where
-    go : (fs : List FunctionTree) (ps : List Pieces) → ((tree : FunctionTree) → Contains fs tree → Contains (functions file) tree) → AllZip AreMade fs ps →
+    go : (fs : List FunctionTree) (ps : List Pieces) → ((tree : FunctionTree) → Contains fs tree → Contains (functions file) tree) → AllZip IsFunctionMade fs ps →
         AllZip KeepsTo fs ps
     go [] [] among made = tt
     go [] (p ∷ ps) among made = absurd made
     go (f ∷ fs) [] among made = absurd made
     go (f ∷ fs) (p ∷ ps) among made = (
-      text_keeps text file is f (among f (contains_head f fs)) made.0.0 made.0.1 p made.0.2,
+      text_keeps text file is f (among f (contains_head f fs)) made.0.lin made.0.descriptors p made.0.made,
       go fs ps (λ tree c. among tree (contains_tail f fs tree c)) made.1,
     )
