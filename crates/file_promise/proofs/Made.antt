@@ -1,15 +1,15 @@
 -- What is made of each function of an accepted file is known whole, and it can be laid out.
-use Rattle.std.proofs.Common.{◌≡◌, ℕ, zero, suc, ◌+◌, ◌*◌, ◌≤◌, List, [], ◌∷◌, All, Option, Some, length, ap, refl, sym, subst}
+use Rattle.std.proofs.Common.{◌≡◌, ℕ, zero, suc, List, [], ◌∷◌, All, Option, Some, None, length, ap, refl, subst}
 use Rattle.std.specs.Prelude.{Contains, slice_get}
 use Rattle.std.specs.List.{AllByRecursion, AllZip}
 use Rattle.std.proofs.lemmas.List.Elements.{All-nil, All-cons}
 use Rattle.accepted_files.proofs.Files.{file_can}
 use Rattle.chained_functions.proofs.Chained.{chained}
 use Rattle.cmm_front.specs.FileOf.{IsFileOf}
-use Rattle.cmm_lex.proofs.Languages.{AreBytes}
 use Rattle.cmm_tree.specs.Tree.{FunctionTree, FileTree, functions}
 use Rattle.cmm_types.proofs.Containing.{contains_head, contains_tail}
 use Rattle.code_bounds.proofs.Bounded.{frame_fits}
+use Rattle.code_bounds.specs.Kept.{KeepsTo}
 use Rattle.code_bounds.proofs.Few.{few}
 use Rattle.code_bounds.proofs.Keeping.{each_keeps}
 use Rattle.compiled_files.specs.Stages.{AreChained, HasChain}
@@ -22,6 +22,12 @@ use Rattle.made_functions.specs.Files.{HasExact, IsFunctionMade}
 use Rattle.rv_pieces.specs.declared.piece.Pieces.{Pieces}
 use Rattle.selection_accepted.proofs.Promised.{function_accepted}
 use Rattle.selection_accepted.proofs.Selecting.{definitions}
+
+none_some : {A : Type 0} (x : A) → None ≡ Some x → ⊥
+none_some x e = cc
+
+some_same : {A : Type 0} (x y : A) → Some x ≡ Some y → x ≡ y
+some_same x y e = cc
 
 module _ (text : List ℕ) (file : FileTree) (is : IsFileOf text file) where
   function_chained : (tree : FunctionTree) → Contains (functions file) tree → (p : Pieces) → (made : IsFunctionMade tree p) →
@@ -76,10 +82,10 @@ module _ (text : List ℕ) (file : FileTree) (is : IsFileOf text file) where
 
   chains : (fs : List FunctionTree) (ps : List Pieces) → ((tree : FunctionTree) → Contains fs tree → Contains (functions file) tree) →
       AllZip IsFunctionMade fs ps → (k : ℕ) (tree : FunctionTree) → slice_get fs k ≡ Some tree → HasChain tree ps k
-  chains [] ps among made k tree at = absurd (none_is_not_some at)
+  chains [] ps among made k tree at = absurd (none_some tree at)
   chains (f ∷ fs) [] among made k tree at = absurd made
   chains (f ∷ fs) (p ∷ ps) among made zero tree at =
-      let same : f ≡ tree = some_injective at in
+      let same : f ≡ tree = some_same f tree at in
       subst (λ (g : FunctionTree). HasChain g (p ∷ ps) 0) same (record {
         lin = made.0.lin;
         descrs = made.0.descriptors;
