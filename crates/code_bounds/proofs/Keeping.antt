@@ -63,7 +63,7 @@ module _ (defined : List ℕ → Option DefinedSymbol) (tree : FunctionTree) (m 
   keeps_to shallow = record {
     descrs = ds;
     carried = ap (λ (p : Pieces). marks_in p.code) made.emitted.is ∙ descriptors_are_carried m made.emitted.traps ds made.count;
-    bounded = bounded defined tree m ds pieces accepted made shallow;
+    bounded = bounded defined tree m accepted made.linear ds pieces made shallow;
     labels = few_places;
   }
 

@@ -14,7 +14,7 @@ use std::alloc::Global;
 use std::io::{self, BufRead, BufReader, BufWriter, Write};
 
 /// Bytes of the longest image and of the longest line that are kept.
-const IMAGE: usize = 1 << 25;
+const IMAGE: usize = 1 << 20;
 
 const LINE: usize = 4096;
 

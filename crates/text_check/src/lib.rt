@@ -5,6 +5,7 @@ mod arguments;
 mod call;
 mod check;
 mod entry;
+mod layout;
 mod lines;
 mod run;
 

@@ -1,9 +1,0 @@
-use Rattle.file_promise.proofs.Promise.{made_bounded, made_correct, made_exact}
-use Rattle.file_promise.proofs.made_images_are_right.Goals as goal
-
-pub returns : goal.returns
-returns c = (
-  λ text file is bytes image tables made. made_correct text file is image made bytes tables,
-  λ text file is bytes image made. made_bounded text file is image made,
-  λ text file is image made. made_exact text file is image made,
-)

@@ -1,0 +1,25 @@
+mod KnownRun
+pub mod Bounded
+pub mod Emitted
+pub mod Example
+pub mod Files
+pub mod Limits
+pub mod Numbers
+pub mod Rules
+pub mod Sizes
+pub mod Types
+pub mod Reading
+pub mod Shifts
+pub mod Steps
+pub mod Instructions
+pub mod Pieces
+pub mod Values
+pub mod Expressions
+pub mod Ends
+pub mod Functions
+pub mod Names
+pub mod Source
+pub mod Rows
+pub mod Whole
+pub mod Start
+pub mod Correct

@@ -1,0 +1,10 @@
+pub mod Tree
+pub mod View
+pub mod Small
+pub mod Code
+pub mod Compiled
+pub mod Frames
+pub mod TooLarge
+pub mod Names
+pub mod Read
+pub mod Emits
