@@ -1,0 +1,116 @@
+-- What is made of each function of an accepted file is known whole, and it can be laid out.
+use Rattle.std.proofs.Common.{◌≡◌, ℕ, zero, suc, List, [], ◌∷◌, All, Some, None, length, ap, refl, subst}
+use Rattle.std.specs.Prelude.{Contains, slice_get}
+use Rattle.std.specs.List.{AllByRecursion, AllZip}
+use Rattle.std.proofs.lemmas.List.Elements.{All-nil, All-cons}
+use Rattle.accepted_files.proofs.Files.{file_can}
+use Rattle.chained_functions.proofs.Chained.{chained}
+use Rattle.cmm_front.specs.FileOf.{IsFileOf}
+use Rattle.cmm_tree.specs.Tree.{FunctionTree, FileTree, functions}
+use Rattle.cmm_types.proofs.Containing.{contains_head, contains_tail}
+use Rattle.code_bounds.proofs.Bounded.{frame_fits}
+use Rattle.code_bounds.specs.Kept.{KeepsTo}
+use Rattle.code_bounds.proofs.Few.{few}
+use Rattle.code_bounds.proofs.Keeping.{each_keeps}
+use Rattle.compiled_files.specs.Stages.{AreChained, HasChain}
+use Rattle.frame_names.specs.Names.{names_by}
+use Rattle.frame_names.proofs.Names.{exact_names}
+use Rattle.laid_files.proofs.Laid.{function_can}
+use Rattle.layout_rules.specs.Conditions.{CanBeLaid, IsFunctionLaid}
+use Rattle.made_functions.specs.Chained.{IsChained}
+use Rattle.made_functions.specs.Files.{HasExact, IsFunctionMade}
+use Rattle.rv_pieces.specs.declared.piece.Pieces.{Pieces}
+use Rattle.selection_accepted.proofs.Promised.{function_accepted}
+use Rattle.selection_accepted.proofs.Selecting.{definitions}
+
+none_some : {A : Type 0} (x : A) → None ≡ Some x → ⊥
+none_some x e = cc
+
+some_same : {A : Type 0} (x y : A) → Some x ≡ Some y → x ≡ y
+some_same x y e = cc
+
+module _ (text : List ℕ) (file : FileTree) (is : IsFileOf text file) where
+  function_chained : (tree : FunctionTree) → Contains (functions file) tree → (p : Pieces) → (made : IsFunctionMade tree p) →
+      IsChained tree made.lin made.descriptors p
+  function_chained tree among p made =
+      let accepted = function_accepted text file is tree among in
+      chained accepted made.made (frame_fits (definitions file) tree made.lin accepted made.made.linear)
+
+  function_laid : (tree : FunctionTree) → Contains (functions file) tree → (p : Pieces) → IsFunctionMade tree p → IsFunctionLaid file p
+  function_laid tree among p made =
+      let whole = function_chained tree among p made in
+      function_can text file is tree among made.lin made.descriptors p whole (names_by made.descriptors made.lin) (exact_names whole.regular whole.exact)
+
+  function_exact : (tree : FunctionTree) → Contains (functions file) tree → (p : Pieces) → IsFunctionMade tree p → HasExact p
+  function_exact tree among p made =
+      let whole = function_chained tree among p made in
+      record {
+        lin = made.lin;
+        descriptors = made.descriptors;
+        tight = whole.tight;
+        exact = whole.exact;
+        count = whole.count;
+        no_addr = whole.no_addr;
+        emitted = whole.emitted;
+      }
+
+  module _ (P : Pieces → Type 0) (each : (tree : FunctionTree) → Contains (functions file) tree → (p : Pieces) → IsFunctionMade tree p → P p) where
+    by_recursion : (fs : List FunctionTree) (ps : List Pieces) → ((tree : FunctionTree) → Contains fs tree → Contains (functions file) tree) →
+        AllZip IsFunctionMade fs ps → AllByRecursion P ps
+    by_recursion [] [] among made = tt
+    by_recursion [] (p ∷ ps) among made = absurd made
+    by_recursion (f ∷ fs) [] among made = absurd made
+    by_recursion (f ∷ fs) (p ∷ ps) among made = (
+      each f (among f (contains_head f fs)) p made.0,
+      by_recursion fs ps (λ tree c. among tree (contains_tail f fs tree c)) made.1,
+    )
+
+    all_of : (fs : List FunctionTree) (ps : List Pieces) → ((tree : FunctionTree) → Contains fs tree → Contains (functions file) tree) →
+        AllZip IsFunctionMade fs ps → All P ps
+    all_of [] [] among made = All-nil P
+    all_of [] (p ∷ ps) among made = absurd made
+    all_of (f ∷ fs) [] among made = absurd made
+    all_of (f ∷ fs) (p ∷ ps) among made =
+        All-cons P p ps (each f (among f (contains_head f fs)) p made.0) (all_of fs ps (λ tree c. among tree (contains_tail f fs tree c)) made.1)
+
+  -- As many, in the same places.
+  as_many : (fs : List FunctionTree) (ps : List Pieces) → AllZip IsFunctionMade fs ps → length ps ≡ length fs
+  as_many [] [] made = refl
+  as_many [] (p ∷ ps) made = absurd made
+  as_many (f ∷ fs) [] made = absurd made
+  as_many (f ∷ fs) (p ∷ ps) made = ap suc (as_many fs ps made.1)
+
+  chains : (fs : List FunctionTree) (ps : List Pieces) → ((tree : FunctionTree) → Contains fs tree → Contains (functions file) tree) →
+      AllZip IsFunctionMade fs ps → (k : ℕ) (tree : FunctionTree) → slice_get fs k ≡ Some tree → HasChain tree ps k
+  chains [] ps among made k tree at = absurd (none_some tree at)
+  chains (f ∷ fs) [] among made k tree at = absurd made
+  chains (f ∷ fs) (p ∷ ps) among made zero tree at =
+      let same : f ≡ tree = some_same f tree at in
+      subst (λ (g : FunctionTree). HasChain g (p ∷ ps) 0) same (record {
+        lin = made.0.lin;
+        descrs = made.0.descriptors;
+        pieces = p;
+        there = refl;
+        chained = function_chained f (among f (contains_head f fs)) p made.0;
+      })
+  chains (f ∷ fs) (p ∷ ps) among made (suc k) tree at =
+      let has = chains fs ps (λ g c. among g (contains_tail f fs g c)) made.1 k tree at in
+      record { lin = has.lin; descrs = has.descrs; pieces = has.pieces; there = has.there; chained = has.chained }
+
+  module _ (ps : List Pieces) (made : AllZip IsFunctionMade (functions file) ps) where
+    pub are_chained : AreChained file ps
+    are_chained = chains (functions file) ps (λ tree c. c) made
+
+    pub keep : AllZip KeepsTo (functions file) ps
+    keep = each_keeps text file is ps made
+
+    pub can_be_laid : CanBeLaid file ps
+    can_be_laid = record {
+      of_file = file_can text file is;
+      each_one = as_many (functions file) ps made;
+      each = by_recursion (IsFunctionLaid file) function_laid (functions file) ps (λ tree c. c) made;
+      few = few text file ps is keep;
+    }
+
+    pub are_exact : All HasExact ps
+    are_exact = all_of HasExact function_exact (functions file) ps (λ tree c. c) made
