@@ -1,10 +1,8 @@
 //! The trees of Cmm texts.
 #![tactic(auto)]
 
-pub mod built;
 pub mod expr;
 pub mod file;
 
-pub use built::not_built;
 pub use expr::{Binding, Case, CaseIndex, Declared, Expr, Form, Handler, Label};
 pub use file::{DataItem, DataList, Datum, File, Function, Item, Param};
