@@ -367,7 +367,7 @@ module _ (words : List (List ℕ)) (source : Side) (text : List ℕ) (known : so
   abbrev Called : ℕ → List ℕ → List ℕ → FileTree → Type 0
   Called entry args answers file = IsCall check file entry args answers
 
-  -- the is_file file of what was read is that of the text, and has what that has
+  -- the file of what was read is that of the text, and has what that has
   abbrev read_same : (P : List ℕ → Type 0) (Q : FileTree → Type 0) (file : FileTree) → IsFileOf text file → Q file
       → (of : (t : List ℕ) → P t → (other : FileTree) × IsFileOf t other) → Reads P source → (p : P text) × Q (of text p).0
   read_same P Q file is_file q of r =
