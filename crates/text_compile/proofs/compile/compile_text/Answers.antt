@@ -1,10 +1,10 @@
-use Rattle.std.proofs.Common.{◌≡◌, None, Some, arith, sym, ◌∙◌}
+use Rattle.std.proofs.Common.{refl, arith}
 use Rattle.cmm_front.specs.FileOf.{tree_of}
 use Rattle.cmm_walks.specs.Checked.{typed_of}
 use Rattle.file_promise.proofs.Promise.{made_correct, made_bounded, made_exact}
 use Rattle.file_promise.proofs.Bytes.{all_bytes}
 use Rattle.image_form.specs.Tables.{tables}
-use Rattle.text_compile.proofs.Passing.{only_made}
+use Rattle.text_compile.proofs.Passing.{only_made, too_large}
 use Rattle.text_compile.proofs.compile.compile_text.Goals as goal
 
 -- its file is the text's, so that it is an accepted one
@@ -36,3 +36,8 @@ returns-in-Ok-write_image-clause-image c =
       };
       spelled = c.in-Ok-write_image.ensures;
     }
+
+pub returns-in-Err-TooLarge-clause-refused : goal.returns-in-Err-TooLarge-clause-refused
+returns-in-Err-TooLarge-clause-refused c =
+    too_large c.args.text.now (tree_of (typed_of c.in-Ok.checked)) c.in-Err-TooLarge.large c.in-Ok.ensures.file
+    (c.compile.ensures.large c.in-Err-TooLarge.large refl)
