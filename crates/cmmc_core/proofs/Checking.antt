@@ -11,7 +11,7 @@ use Rattle.cmmc_core.proofs.Ending.{Ends-told, Ends-told-or}
 use Rattle.text_check.specs.Check.{IsCheckOf}
 use Rattle.text_check.specs.Refusal.{IsCheckRefusal}
 use Rattle.text_check.specs.declared.check.CheckRefusal.{CheckRefusal}
-use Rattle.text_check.specs.declared.check.CheckRefusal.TheVariants.{Fault, NotBuilt, UnknownEntry, ArgumentUnfit, TooLarge, OutOfMemory}
+use Rattle.text_check.specs.declared.check.CheckRefusal.TheVariants.{Fault, UnknownEntry, ArgumentUnfit, TooLarge, OutOfMemory}
 
 pub Ends-checked : (words : List (List ℕ)) (e : Effects) (check : CheckTree) (lines : List ℕ) → IsCommand words (CheckCommand check)
     → Reads (λ text. IsCheckOf check text lines) e.source → Got e.out lines → IsKept e.err → Ends words e 0
@@ -25,7 +25,6 @@ Ends-checked-cut words e check lines is r part kept = out_fault lines (checked c
 pub check_refusal_read : (check : CheckTree) (s : Side) (read : List ℕ) (r : CheckRefusal) → All (λ b. b < 256) read → IsRead longest_text s read
     → IsCheckRefusal check read r → IsCheckRefusalRead check s r
 check_refusal_read check s read (Fault told) are r why = record { text = read; are_bytes = are; read = r; holds = why }
-check_refusal_read check s read NotBuilt are r why = record { text = read; are_bytes = are; read = r; holds = why }
 check_refusal_read check s read UnknownEntry are r why = record { text = read; are_bytes = are; read = r; holds = why }
 check_refusal_read check s read ArgumentUnfit are r why = record { text = read; are_bytes = are; read = r; holds = why }
 check_refusal_read check s read (TooLarge large) are r why = record { text = read; are_bytes = are; read = r; holds = why }
@@ -38,7 +37,6 @@ pub Ends-unchecked : (words : List (List ℕ)) (e : Effects) (check : CheckTree)
     → TellsCheckRefusal e.err r result
     → Ends words e result
 Ends-unchecked words e check (Fault told) result is why kept tells = Ends-told-or words e 3 result _ (unchecked check 3 _ is (ends.fault told why)) kept tells
-Ends-unchecked words e check NotBuilt result is why kept tells = Ends-told words e 3 result _ (unchecked check 3 _ is (ends.not_built why)) kept tells
 Ends-unchecked words e check UnknownEntry result is why kept tells = Ends-told words e 2 result _ (unchecked check 2 _ is (ends.no_entry why)) kept tells
 Ends-unchecked words e check ArgumentUnfit result is why kept tells = Ends-told words e 2 result _ (unchecked check 2 _ is (ends.unfit why)) kept tells
 Ends-unchecked words e check (TooLarge large) result is why kept tells = Ends-told-or words e 8 result _ (unchecked check 8 _ is (ends.too_large large why)) kept tells

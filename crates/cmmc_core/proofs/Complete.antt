@@ -1,5 +1,5 @@
 -- Where no count rose, good input has its output, and bad input its line, but for want of memory.
-use Rattle.std.proofs.Common.{◌≡◌, ◌⊎◌, ℕ, ◌+◌, ◌<◌, ◌≤◌, true, false, All, List, [], ◌∷◌, Option, Some, None, length, refl, sym, ap, ◌∙◌, subst, inl, inr, arith}
+use Rattle.std.proofs.Common.{◌≡◌, ◌⊎◌, ℕ, ◌+◌, ◌<◌, ◌≤◌, All, List, [], ◌∷◌, Option, Some, None, length, refl, sym, ap, ◌∙◌, subst, inl, inr, arith}
 use Rattle.bs_fault.specs.declared.large.Large.{Large}
 use Rattle.bs_fault.specs.declared.fault.Fault.{Fault}
 use Rattle.cmm_front.proofs.OneFile.{one_file, file_or_fault}
@@ -7,22 +7,20 @@ use Rattle.cmm_front.proofs.Readings.{is_read}
 use Rattle.cmm_front.specs.FileOf.{IsFileOf, HasFault}
 use Rattle.bs_fault.specs.Limits.{longest_text}
 use Rattle.cmm_lex.proofs.Languages.{AreBytes}
-use Rattle.cmm_tree.specs.Built.{not_built}
 use Rattle.cmm_tree.specs.Tree.{FileTree}
 use Rattle.command_line.proofs.Unique.{command-unique, command-formed}
 use Rattle.command_line.specs.Command.{IsCommand, CommandTree, CompileCommand, RunCommand, CheckCommand, RunTree, CheckTree}
 use Rattle.command_line.specs.Words.{WellFormed}
 use Rattle.correctness.specs.Bounds.{IsRoomy}
+use Rattle.file_promise.proofs.Once.{made_for_once}
 use Rattle.image_form.specs.Tables.{Tables, Func}
+use Rattle.layout_rules.specs.TooLarge.{first_too_large}
+use Rattle.made_functions.specs.Files.{IsMadeFor}
 use Rattle.rv_machine.specs.Loading.{func_named, words_of_args}
-use Rattle.small_code.specs.Compiled.{compiled}
-use Rattle.small_code.specs.TooLarge.{first_too_large}
-use Rattle.small_code.specs.Tree.{SmallFileTree, embedded_file}
 use Rattle.text_check.specs.Arguments.{NamesNone, HasUnfit, IsCall}
 use Rattle.text_check.specs.Check.{IsCheckOf, HasNoEntry, IsUnfitFor, IsTooLargeToCheck}
 use Rattle.text_check.proofs.Called.{named_none, call_unfit}
-use Rattle.text_compile.proofs.Embedded.{one_small}
-use Rattle.text_compile.specs.Compile.{IsSmallFileOf, IsImageOf, IsNotBuilt, IsTooLarge}
+use Rattle.text_compile.specs.Compile.{IsImageOf, IsTooLarge}
 use Rattle.cmmc_core.specs.Compile.{Reads}
 use Rattle.cmmc_core.specs.Complete.{NoneRose, Is, CompileComplete, RunComplete, CheckComplete, Complete}
 use Rattle.cmmc_core.specs.Effects.{Effects, Side, Rose, IsRead}
@@ -33,18 +31,22 @@ use Rattle.cmmc_core.proofs.Bytes.{bytes_of}
 use Rattle.cmmc_core.proofs.Reading.{all, too_long, IsRead-known}
 use Rattle.cmmc_core.proofs.Spelled.{one_image, spelling_short}
 
-abbrev Fits : SmallFileTree → Type 0
-Fits file = first_too_large (compiled file) ≡ None
+-- the image that is made for the file fits
+abbrev Fits : FileTree → Type 0
+Fits file = (image : Tables) × (IsMadeFor file image × (first_too_large image ≡ None))
 
-abbrev Passes : Large → SmallFileTree → Type 0
-Passes large file = first_too_large (compiled file) ≡ Some large
+-- or this section of it is the first to pass its limit
+abbrev Passes : Large → FileTree → Type 0
+Passes large file = (image : Tables) × (IsMadeFor file image × (first_too_large image ≡ Some large))
 
 some_none : {A : Type 0} (o : Option A) (x : A) → o ≡ Some x → o ≡ None → ⊥
 some_none o x s n = let e : Some x ≡ None = sym s ∙ n in cc
 
--- a file is compiled or not
-apart : (a b : FileTree) → a ≡ b → not_built b ≡ true → not_built a ≡ false → ⊥
-apart a b same unbuilt built = let e : true ≡ false = sym unbuilt ∙ sym (ap not_built same) ∙ built in cc
+-- one image is made for a file: it does not do both
+not_both : (file : FileTree) (large : Large) → Fits file → Passes large file → ⊥
+not_both file large fits passes =
+    let fit : Tables → Type 0 = λ t. first_too_large t ≡ None in
+    some_none (first_too_large passes.0) large passes.1.1 (subst fit (made_for_once file fits.0 passes.0 fits.1.0 passes.1.0) fits.1.1)
 
 -- How a call ends where no count rose: with its output, or with a cause.
 pub data Told (words : List (List ℕ)) (source : Side) (status : ℕ) : Type 0 where
@@ -93,7 +95,6 @@ module _ (words : List (List ℕ)) (source : Side) where
   no_command_end status (cause line (no_value w n k)) not = absurd (not w)
   no_command_end status (cause line (read_fault c is r)) not = absurd (not (command-formed words c is))
   no_command_end status (cause line (fault f is r)) not = absurd (not (command-formed words CompileCommand is))
-  no_command_end status (cause line (ends.not_built is r)) not = absurd (not (command-formed words CompileCommand is))
   no_command_end status (cause line (too_large l is r)) not = absurd (not (command-formed words CompileCommand is))
   no_command_end status (cause line (no_image ran w is r)) not = absurd (not (command-formed words (RunCommand ran) is))
   no_command_end status (cause line (no_entry ran is r)) not = absurd (not (command-formed words (RunCommand ran) is))
@@ -109,7 +110,6 @@ module _ (words : List (List ℕ)) (source : Side) where
   no_value_end status (cause line (no_value w n k)) not = inl refl
   no_value_end status (cause line (read_fault c is r)) not = absurd (not c is)
   no_value_end status (cause line (fault f is r)) not = absurd (not CompileCommand is)
-  no_value_end status (cause line (ends.not_built is r)) not = absurd (not CompileCommand is)
   no_value_end status (cause line (too_large l is r)) not = absurd (not CompileCommand is)
   no_value_end status (cause line (no_image ran w is r)) not = absurd (not (RunCommand ran) is)
   no_value_end status (cause line (no_entry ran is r)) not = absurd (not (RunCommand ran) is)
@@ -144,113 +144,79 @@ module _ (words : List (List ℕ)) (source : Side) where
         let k = of_read_file P r file h in
         file_or_fault text file f k.0 k.1 has
 
-    -- a small file is compiled
-    is_built : (file : SmallFileTree) → IsSmallFileOf text file → Reads IsNotBuilt source → ⊥
-    is_built file has r =
-        let h = of_file IsNotBuilt (embedded_file file) has.is_file r in
-        apart _ _ (one_file text (embedded_file file) h.1.file h.0 has.is_file h.1.is_file) h.1.not_built has.built
-
-    not_small : (file : FileTree) (small : SmallFileTree) → AreBytes text → IsFileOf text file → not_built file ≡ true → IsSmallFileOf text small → ⊥
-    not_small file small are has unbuilt h = apart _ _ (one_file text (embedded_file small) file are h.is_file has) unbuilt h.built
-
     -- the file of what was read is that of the text
-    same_file : (P : SmallFileTree → Type 0) (file other : SmallFileTree) → AreBytes text → IsSmallFileOf text file → IsSmallFileOf text other → P file → P other
-    same_file P file other are h g p = subst P (one_small file other (one_file text (embedded_file file) (embedded_file other) are h.is_file g.is_file)) p
+    same_file : (P : FileTree → Type 0) (file other : FileTree) → AreBytes text → IsFileOf text file → IsFileOf text other → P file → P other
+    same_file P file other are h g p = subst P (one_file text file other are h g) p
 
   module _ (text : List ℕ) (known : source.before ≡ Some text) (is : IsCommand words CompileCommand) (calm : Rose source → ⊥) where
     fault_end : (status : ℕ) → Told words source status → (told : Fault) → HasFault text told → Is 3 status
-    fault_end status (output bytes z (spelling image i c)) f has = absurd (no_file text known _ f has c _ c.holds.is_file.is_file)
+    fault_end status (output bytes z (spelling image i c)) f has = absurd (no_file text known _ f has c _ c.holds.is_file)
     fault_end status (output bytes z (outcome ran text i o)) f has = absurd (compile_is_no_run ran is i)
     fault_end status (output bytes z (checked ck lines i o)) f has = absurd (compile_is_no_check ck is i)
     fault_end status (cause line (no_command n k)) f has = absurd (n (command-formed words CompileCommand is))
     fault_end status (cause line (no_value w n k)) f has = absurd (n CompileCommand is)
     fault_end status (cause line (read_fault c i r)) f has = absurd (calm r)
     fault_end status (cause line (fault g i r)) f has = inl refl
-    fault_end status (cause line (ends.not_built i r)) f has = inl refl
-    fault_end status (cause line (too_large l i r)) f has = absurd (no_file text known _ f has r _ r.holds.is_file.is_file)
+    fault_end status (cause line (too_large l i r)) f has = absurd (no_file text known _ f has r _ r.holds.is_file)
     fault_end status (cause line (no_image ran w i r)) f has = absurd (compile_is_no_run ran is i)
     fault_end status (cause line (no_entry ran i r)) f has = absurd (compile_is_no_run ran is i)
     fault_end status (cause line (unfit ran i r)) f has = absurd (compile_is_no_run ran is i)
     fault_end status (cause line (unchecked ck s l i r)) f has = absurd (compile_is_no_check ck is i)
     fault_end status (cause line no_memory) f has = inr refl
 
-    unbuilt_end : (status : ℕ) → Told words source status → (file : FileTree) → IsFileOf text file → not_built file ≡ true → Is 3 status
-    unbuilt_end status (output bytes z (spelling image i c)) file has unbuilt =
-        let h = of_file text known (λ t. IsImageOf t image) file has c in
-        absurd (not_small text known file h.1.file h.0 has unbuilt h.1.is_file)
-    unbuilt_end status (output bytes z (outcome ran text i o)) file has unbuilt = absurd (compile_is_no_run ran is i)
-    unbuilt_end status (output bytes z (checked ck lines i o)) file has unbuilt = absurd (compile_is_no_check ck is i)
-    unbuilt_end status (cause line (no_command n k)) file has unbuilt = absurd (n (command-formed words CompileCommand is))
-    unbuilt_end status (cause line (no_value w n k)) file has unbuilt = absurd (n CompileCommand is)
-    unbuilt_end status (cause line (read_fault c i r)) file has unbuilt = absurd (calm r)
-    unbuilt_end status (cause line (fault g i r)) file has unbuilt = inl refl
-    unbuilt_end status (cause line (ends.not_built i r)) file has unbuilt = inl refl
-    unbuilt_end status (cause line (too_large l i r)) file has unbuilt =
-        let h = of_file text known (λ t. IsTooLarge t l) file has r in
-        absurd (not_small text known file h.1.file h.0 has unbuilt h.1.is_file)
-    unbuilt_end status (cause line (no_image ran w i r)) file has unbuilt = absurd (compile_is_no_run ran is i)
-    unbuilt_end status (cause line (no_entry ran i r)) file has unbuilt = absurd (compile_is_no_run ran is i)
-    unbuilt_end status (cause line (unfit ran i r)) file has unbuilt = absurd (compile_is_no_run ran is i)
-    unbuilt_end status (cause line (unchecked ck s l i r)) file has unbuilt = absurd (compile_is_no_check ck is i)
-    unbuilt_end status (cause line no_memory) file has unbuilt = inr refl
+    fits_end : (status : ℕ) → Told words source status → (file : FileTree) → IsFileOf text file → Fits file → Is 0 status
+    fits_end status (output bytes z o) file is_file fits = inl z
+    fits_end status (cause line (no_command n k)) file is_file fits = absurd (n (command-formed words CompileCommand is))
+    fits_end status (cause line (no_value w n k)) file is_file fits = absurd (n CompileCommand is)
+    fits_end status (cause line (read_fault c i r)) file is_file fits = absurd (calm r)
+    fits_end status (cause line (fault g i r)) file is_file fits = absurd (no_fault text known file g is_file r)
+    fits_end status (cause line (too_large l i r)) file is_file fits =
+        let h = of_file text known (λ t. IsTooLarge t l) file is_file r in
+        absurd (not_both h.1.file l (same_file text known Fits file h.1.file h.0 is_file h.1.is_file fits) (h.1.image, (h.1.made, h.1.passes)))
+    fits_end status (cause line (no_image ran w i r)) file is_file fits = absurd (compile_is_no_run ran is i)
+    fits_end status (cause line (no_entry ran i r)) file is_file fits = absurd (compile_is_no_run ran is i)
+    fits_end status (cause line (unfit ran i r)) file is_file fits = absurd (compile_is_no_run ran is i)
+    fits_end status (cause line (unchecked ck s l i r)) file is_file fits = absurd (compile_is_no_check ck is i)
+    fits_end status (cause line no_memory) file is_file fits = inr refl
 
-    fits_end : (status : ℕ) → Told words source status → (file : SmallFileTree) → IsSmallFileOf text file → Fits file → Is 0 status
-    fits_end status (output bytes z o) file small fits = inl z
-    fits_end status (cause line (no_command n k)) file small fits = absurd (n (command-formed words CompileCommand is))
-    fits_end status (cause line (no_value w n k)) file small fits = absurd (n CompileCommand is)
-    fits_end status (cause line (read_fault c i r)) file small fits = absurd (calm r)
-    fits_end status (cause line (fault g i r)) file small fits = absurd (no_fault text known (embedded_file file) g small.is_file r)
-    fits_end status (cause line (ends.not_built i r)) file small fits = absurd (is_built text known file small r)
-    fits_end status (cause line (too_large l i r)) file small fits =
-        let h = of_file text known (λ t. IsTooLarge t l) (embedded_file file) small.is_file r in
-        absurd (some_none _ l h.1.passes (same_file text known Fits file h.1.file h.0 small h.1.is_file fits))
-    fits_end status (cause line (no_image ran w i r)) file small fits = absurd (compile_is_no_run ran is i)
-    fits_end status (cause line (no_entry ran i r)) file small fits = absurd (compile_is_no_run ran is i)
-    fits_end status (cause line (unfit ran i r)) file small fits = absurd (compile_is_no_run ran is i)
-    fits_end status (cause line (unchecked ck s l i r)) file small fits = absurd (compile_is_no_check ck is i)
-    fits_end status (cause line no_memory) file small fits = inr refl
+    roomy_end : (status : ℕ) → Told words source status → (file : FileTree) → IsFileOf text file → IsRoomy file → Is 0 status
+    roomy_end status (output bytes z o) file is_file roomy = inl z
+    roomy_end status (cause line (no_command n k)) file is_file roomy = absurd (n (command-formed words CompileCommand is))
+    roomy_end status (cause line (no_value w n k)) file is_file roomy = absurd (n CompileCommand is)
+    roomy_end status (cause line (read_fault c i r)) file is_file roomy = absurd (calm r)
+    roomy_end status (cause line (fault g i r)) file is_file roomy = absurd (no_fault text known file g is_file r)
+    roomy_end status (cause line (too_large l i r)) file is_file roomy =
+        let h = of_file text known (λ t. IsTooLarge t l) file is_file r in
+        absurd (h.1.not_roomy (same_file text known IsRoomy file h.1.file h.0 is_file h.1.is_file roomy))
+    roomy_end status (cause line (no_image ran w i r)) file is_file roomy = absurd (compile_is_no_run ran is i)
+    roomy_end status (cause line (no_entry ran i r)) file is_file roomy = absurd (compile_is_no_run ran is i)
+    roomy_end status (cause line (unfit ran i r)) file is_file roomy = absurd (compile_is_no_run ran is i)
+    roomy_end status (cause line (unchecked ck s l i r)) file is_file roomy = absurd (compile_is_no_check ck is i)
+    roomy_end status (cause line no_memory) file is_file roomy = inr refl
 
-    roomy_end : (status : ℕ) → Told words source status → (file : SmallFileTree) → IsSmallFileOf text file → IsRoomy (embedded_file file) → Is 0 status
-    roomy_end status (output bytes z o) file small roomy = inl z
-    roomy_end status (cause line (no_command n k)) file small roomy = absurd (n (command-formed words CompileCommand is))
-    roomy_end status (cause line (no_value w n k)) file small roomy = absurd (n CompileCommand is)
-    roomy_end status (cause line (read_fault c i r)) file small roomy = absurd (calm r)
-    roomy_end status (cause line (fault g i r)) file small roomy = absurd (no_fault text known (embedded_file file) g small.is_file r)
-    roomy_end status (cause line (ends.not_built i r)) file small roomy = absurd (is_built text known file small r)
-    roomy_end status (cause line (too_large l i r)) file small roomy =
-        let h = of_file text known (λ t. IsTooLarge t l) (embedded_file file) small.is_file r in
-        absurd (h.1.not_roomy (same_file text known (λ f. IsRoomy (embedded_file f)) file h.1.file h.0 small h.1.is_file roomy))
-    roomy_end status (cause line (no_image ran w i r)) file small roomy = absurd (compile_is_no_run ran is i)
-    roomy_end status (cause line (no_entry ran i r)) file small roomy = absurd (compile_is_no_run ran is i)
-    roomy_end status (cause line (unfit ran i r)) file small roomy = absurd (compile_is_no_run ran is i)
-    roomy_end status (cause line (unchecked ck s l i r)) file small roomy = absurd (compile_is_no_check ck is i)
-    roomy_end status (cause line no_memory) file small roomy = inr refl
-
-    large_end : (status : ℕ) → Told words source status → (file : SmallFileTree) (large : Large) → IsSmallFileOf text file → Passes large file → Is 8 status
-    large_end status (output bytes z (spelling image i c)) file large small passes =
-        let h = of_file text known (λ t. IsImageOf t image) (embedded_file file) small.is_file c in
-        absurd (some_none _ large (same_file text known (Passes large) file h.1.file h.0 small h.1.is_file passes) h.1.fits)
-    large_end status (output bytes z (outcome ran text i o)) file large small passes = absurd (compile_is_no_run ran is i)
-    large_end status (output bytes z (checked ck lines i o)) file large small passes = absurd (compile_is_no_check ck is i)
-    large_end status (cause line (no_command n k)) file large small passes = absurd (n (command-formed words CompileCommand is))
-    large_end status (cause line (no_value w n k)) file large small passes = absurd (n CompileCommand is)
-    large_end status (cause line (read_fault c i r)) file large small passes = absurd (calm r)
-    large_end status (cause line (fault g i r)) file large small passes = absurd (no_fault text known (embedded_file file) g small.is_file r)
-    large_end status (cause line (ends.not_built i r)) file large small passes = absurd (is_built text known file small r)
-    large_end status (cause line (too_large l i r)) file large small passes = inl refl
-    large_end status (cause line (no_image ran w i r)) file large small passes = absurd (compile_is_no_run ran is i)
-    large_end status (cause line (no_entry ran i r)) file large small passes = absurd (compile_is_no_run ran is i)
-    large_end status (cause line (unfit ran i r)) file large small passes = absurd (compile_is_no_run ran is i)
-    large_end status (cause line (unchecked ck s l i r)) file large small passes = absurd (compile_is_no_check ck is i)
-    large_end status (cause line no_memory) file large small passes = inr refl
+    large_end : (status : ℕ) → Told words source status → (file : FileTree) (large : Large) → IsFileOf text file → Passes large file → Is 8 status
+    large_end status (output bytes z (spelling image i c)) file large is_file passes =
+        let h = of_file text known (λ t. IsImageOf t image) file is_file c in
+        absurd (not_both h.1.file large (h.1.image, (h.1.made, h.1.fits)) (same_file text known (Passes large) file h.1.file h.0 is_file h.1.is_file passes))
+    large_end status (output bytes z (outcome ran text i o)) file large is_file passes = absurd (compile_is_no_run ran is i)
+    large_end status (output bytes z (checked ck lines i o)) file large is_file passes = absurd (compile_is_no_check ck is i)
+    large_end status (cause line (no_command n k)) file large is_file passes = absurd (n (command-formed words CompileCommand is))
+    large_end status (cause line (no_value w n k)) file large is_file passes = absurd (n CompileCommand is)
+    large_end status (cause line (read_fault c i r)) file large is_file passes = absurd (calm r)
+    large_end status (cause line (fault g i r)) file large is_file passes = absurd (no_fault text known file g is_file r)
+    large_end status (cause line (too_large l i r)) file large is_file passes = inl refl
+    large_end status (cause line (no_image ran w i r)) file large is_file passes = absurd (compile_is_no_run ran is i)
+    large_end status (cause line (no_entry ran i r)) file large is_file passes = absurd (compile_is_no_run ran is i)
+    large_end status (cause line (unfit ran i r)) file large is_file passes = absurd (compile_is_no_run ran is i)
+    large_end status (cause line (unchecked ck s l i r)) file large is_file passes = absurd (compile_is_no_check ck is i)
+    large_end status (cause line no_memory) file large is_file passes = inr refl
 
 pub compile-complete : (words : List (List ℕ)) (source : Side) (text : List ℕ) (status : ℕ) → source.before ≡ Some text → IsCommand words CompileCommand → (Rose source → ⊥) → Told words source status → CompileComplete text status
 compile-complete words source text status known is calm t = record {
   fault = λ f has. fault_end words source text known is calm status t f has;
-  not_built = λ file has unbuilt. unbuilt_end words source text known is calm status t file has unbuilt;
-  fits = λ file small fits. fits_end words source text known is calm status t file small fits;
-  roomy = λ file small roomy. roomy_end words source text known is calm status t file small roomy;
-  too_large = λ file large small passes. large_end words source text known is calm status t file large small passes;
+  fits = λ file image is_file made fits. fits_end words source text known is calm status t file is_file (image, (made, fits));
+  roomy = λ file is_file roomy. roomy_end words source text known is calm status t file is_file roomy;
+  too_large = λ file image large is_file made passes. large_end words source text known is calm status t file large is_file (image, (made, passes));
 }
 
 -- ---- run
@@ -291,7 +257,6 @@ module _ (words : List (List ℕ)) (source : Side) (bytes : List ℕ) (known : s
   run_told status (cause line (no_value w n k)) = absurd (n (RunCommand ran) is)
   run_told status (cause line (read_fault c i r)) = absurd (calm r)
   run_told status (cause line (fault f i r)) = absurd (compile_is_no_run words source ran i is)
-  run_told status (cause line (ends.not_built i r)) = absurd (compile_is_no_run words source ran i is)
   run_told status (cause line (too_large l i r)) = absurd (compile_is_no_run words source ran i is)
   run_told status (cause line (no_image other w i r)) = not_image refl (λ image s. r.no_image.none image (spelling_read r.bytes image r.read s))
   run_told status (cause line (no_entry other i r)) =
@@ -390,7 +355,6 @@ module _ (words : List (List ℕ)) (source : Side) (text : List ℕ) (known : so
   check_end is calm status (cause line (no_value w n k)) = absurd (n (CheckCommand check) is)
   check_end is calm status (cause line (read_fault c i r)) = absurd (calm r)
   check_end is calm status (cause line (fault f i r)) = absurd (compile_is_no_check words source check i is)
-  check_end is calm status (cause line (ends.not_built i r)) = absurd (compile_is_no_check words source check i is)
   check_end is calm status (cause line (too_large l i r)) = absurd (compile_is_no_check words source check i is)
   check_end is calm status (cause line (no_image ran w i r)) = absurd (run_is_no_check words source ran check i is)
   check_end is calm status (cause line (no_entry ran i r)) = absurd (run_is_no_check words source ran check i is)
@@ -400,137 +364,116 @@ module _ (words : List (List ℕ)) (source : Side) (text : List ℕ) (known : so
       subst P (one_check words source check other is i) (because l r)
   check_end is calm status (cause line no_memory) = nothing refl
 
-  abbrev Called : ℕ → List ℕ → List ℕ → SmallFileTree → Type 0
-  Called entry args answers file = IsCall check (embedded_file file) entry args answers
+  abbrev Called : ℕ → List ℕ → List ℕ → FileTree → Type 0
+  Called entry args answers file = IsCall check file entry args answers
 
-  -- the small file of what was read is that of the text, and has what that has
-  abbrev small_read : (P : List ℕ → Type 0) (Q : SmallFileTree → Type 0) (file : SmallFileTree) → IsSmallFileOf text file → Q file
-      → (of : (t : List ℕ) → P t → (other : SmallFileTree) × IsSmallFileOf t other) → Reads P source → (p : P text) × Q (of text p).0
-  small_read P Q file small q of r =
-      let h = of_file words source text known P (embedded_file file) small.is_file r in
+  -- the is_file file of what was read is that of the text, and has what that has
+  abbrev read_same : (P : List ℕ → Type 0) (Q : FileTree → Type 0) (file : FileTree) → IsFileOf text file → Q file
+      → (of : (t : List ℕ) → P t → (other : FileTree) × IsFileOf t other) → Reads P source → (p : P text) × Q (of text p).0
+  read_same P Q file is_file q of r =
+      let h = of_file words source text known P file is_file r in
       let o = of text h.1 in
-      (h.1, same_file words source text known Q file o.0 h.0 small o.1 q)
+      (h.1, same_file words source text known Q file o.0 h.0 is_file o.1 q)
 
-  abbrev told_of : (lines : List ℕ) (t : List ℕ) → IsCheckOf check t lines → (other : SmallFileTree) × IsSmallFileOf t other
+  abbrev told_of : (lines : List ℕ) (t : List ℕ) → IsCheckOf check t lines → (other : FileTree) × IsFileOf t other
   told_of lines t h = (h.file, h.is_file)
 
-  abbrev unnamed_of : (t : List ℕ) → HasNoEntry check t → (other : SmallFileTree) × IsSmallFileOf t other
+  abbrev unnamed_of : (t : List ℕ) → HasNoEntry check t → (other : FileTree) × IsFileOf t other
   unnamed_of t h = (h.file, h.is_file)
 
-  abbrev unfit_of : (t : List ℕ) → IsUnfitFor check t → (other : SmallFileTree) × IsSmallFileOf t other
+  abbrev unfit_of : (t : List ℕ) → IsUnfitFor check t → (other : FileTree) × IsFileOf t other
   unfit_of t h = (h.file, h.is_file)
 
-  abbrev large_of : (l : Large) (t : List ℕ) → IsTooLargeToCheck check t l → (other : SmallFileTree) × IsSmallFileOf t other
+  abbrev large_of : (l : Large) (t : List ℕ) → IsTooLargeToCheck check t l → (other : FileTree) × IsFileOf t other
   large_of l t h = (h.file, h.is_file)
 
-  -- no small file has a fault
-  faulty : (P : List ℕ → Type 0) (f : Fault) → HasFault text f → (of : (t : List ℕ) → P t → (other : SmallFileTree) × IsSmallFileOf t other) → Reads P source → ⊥
-  faulty P f has of r = let o = of r.text r.holds in no_file words source text known P f has r (embedded_file o.0) o.1.is_file
-
-  unbuilt : (P : List ℕ → Type 0) (file : FileTree) → IsFileOf text file → not_built file ≡ true → (of : (t : List ℕ) → P t → (other : SmallFileTree) × IsSmallFileOf t other) → Reads P source → ⊥
-  unbuilt P file has not of r =
-      let h = of_file words source text known P file has r in
-      let o = of text h.1 in
-      not_small words source text known file o.0 h.0 has not o.1
+  -- no is_file file has a fault
+  faulty : (P : List ℕ → Type 0) (f : Fault) → HasFault text f → (of : (t : List ℕ) → P t → (other : FileTree) × IsFileOf t other) → Reads P source → ⊥
+  faulty P f has of r = let o = of r.text r.holds in no_file words source text known P f has r o.0 o.1
 
   fault_told : (status : ℕ) → CheckEnd check source status → (f : Fault) → HasFault text f → Is 3 status
   fault_told status (answered lines z r) f has = absurd (faulty _ f has (told_of lines) r)
   fault_told status (because line (ends.fault g r)) f has = inl refl
-  fault_told status (because line (ends.not_built r)) f has = inl refl
   fault_told status (because line (ends.no_entry r)) f has = absurd (faulty _ f has unnamed_of r)
   fault_told status (because line (ends.unfit r)) f has = absurd (faulty _ f has unfit_of r)
   fault_told status (because line (ends.too_large l r)) f has = absurd (faulty _ f has (large_of l) r)
   fault_told status (nothing z) f has = inr z
 
-  unbuilt_told : (status : ℕ) → CheckEnd check source status → (file : FileTree) → IsFileOf text file → not_built file ≡ true → Is 3 status
-  unbuilt_told status (answered lines z r) file has not = absurd (unbuilt _ file has not (told_of lines) r)
-  unbuilt_told status (because line (ends.fault g r)) file has not = inl refl
-  unbuilt_told status (because line (ends.not_built r)) file has not = inl refl
-  unbuilt_told status (because line (ends.no_entry r)) file has not = absurd (unbuilt _ file has not unnamed_of r)
-  unbuilt_told status (because line (ends.unfit r)) file has not = absurd (unbuilt _ file has not unfit_of r)
-  unbuilt_told status (because line (ends.too_large l r)) file has not = absurd (unbuilt _ file has not (large_of l) r)
-  unbuilt_told status (nothing z) file has not = inr z
+  entry_told : (status : ℕ) → CheckEnd check source status → (file : FileTree) → IsFileOf text file → NamesNone file check.entry → Is 2 status
+  entry_told status (answered lines z r) file is_file none =
+      let h = read_same _ (λ f. NamesNone f check.entry) file is_file none (told_of lines) r in
+      absurd (named_none check h.0.file h.0.entry h.0.args h.0.answers h.0.call h.1)
+  entry_told status (because line (ends.fault g r)) file is_file none = absurd (no_fault words source text known file g is_file r)
+  entry_told status (because line (ends.no_entry r)) file is_file none = inl refl
+  entry_told status (because line (ends.unfit r)) file is_file none = inl refl
+  entry_told status (because line (ends.too_large l r)) file is_file none =
+      let h = read_same _ (λ f. NamesNone f check.entry) file is_file none (large_of l) r in
+      absurd (named_none check h.0.file h.0.entry h.0.args h.0.answers h.0.call h.1)
+  entry_told status (nothing z) file is_file none = inr z
 
-  entry_told : (status : ℕ) → CheckEnd check source status → (file : SmallFileTree) → IsSmallFileOf text file → NamesNone (embedded_file file) check.entry → Is 2 status
-  entry_told status (answered lines z r) file small none =
-      let h = small_read _ (λ f. NamesNone (embedded_file f) check.entry) file small none (told_of lines) r in
-      absurd (named_none check (embedded_file h.0.file) h.0.entry h.0.args h.0.answers h.0.call h.1)
-  entry_told status (because line (ends.fault g r)) file small none = absurd (no_fault words source text known (embedded_file file) g small.is_file r)
-  entry_told status (because line (ends.not_built r)) file small none = absurd (is_built words source text known file small r)
-  entry_told status (because line (ends.no_entry r)) file small none = inl refl
-  entry_told status (because line (ends.unfit r)) file small none = inl refl
-  entry_told status (because line (ends.too_large l r)) file small none =
-      let h = small_read _ (λ f. NamesNone (embedded_file f) check.entry) file small none (large_of l) r in
-      absurd (named_none check (embedded_file h.0.file) h.0.entry h.0.args h.0.answers h.0.call h.1)
-  entry_told status (nothing z) file small none = inr z
-
-  unfit_told : (status : ℕ) → CheckEnd check source status → (file : SmallFileTree) → IsSmallFileOf text file → HasUnfit check (embedded_file file) → Is 2 status
-  unfit_told status (answered lines z r) file small not =
-      let h = small_read _ (λ f. HasUnfit check (embedded_file f)) file small not (told_of lines) r in
-      absurd (call_unfit check (embedded_file h.0.file) h.0.entry h.0.args h.0.answers h.0.call h.1)
-  unfit_told status (because line (ends.fault g r)) file small not = absurd (no_fault words source text known (embedded_file file) g small.is_file r)
-  unfit_told status (because line (ends.not_built r)) file small not = absurd (is_built words source text known file small r)
-  unfit_told status (because line (ends.no_entry r)) file small not = inl refl
-  unfit_told status (because line (ends.unfit r)) file small not = inl refl
-  unfit_told status (because line (ends.too_large l r)) file small not =
-      let h = small_read _ (λ f. HasUnfit check (embedded_file f)) file small not (large_of l) r in
-      absurd (call_unfit check (embedded_file h.0.file) h.0.entry h.0.args h.0.answers h.0.call h.1)
-  unfit_told status (nothing z) file small not = inr z
+  unfit_told : (status : ℕ) → CheckEnd check source status → (file : FileTree) → IsFileOf text file → HasUnfit check file → Is 2 status
+  unfit_told status (answered lines z r) file is_file not =
+      let h = read_same _ (HasUnfit check) file is_file not (told_of lines) r in
+      absurd (call_unfit check h.0.file h.0.entry h.0.args h.0.answers h.0.call h.1)
+  unfit_told status (because line (ends.fault g r)) file is_file not = absurd (no_fault words source text known file g is_file r)
+  unfit_told status (because line (ends.no_entry r)) file is_file not = inl refl
+  unfit_told status (because line (ends.unfit r)) file is_file not = inl refl
+  unfit_told status (because line (ends.too_large l r)) file is_file not =
+      let h = read_same _ (HasUnfit check) file is_file not (large_of l) r in
+      absurd (call_unfit check h.0.file h.0.entry h.0.args h.0.answers h.0.call h.1)
+  unfit_told status (nothing z) file is_file not = inr z
 
   module _ (entry : ℕ) (args answers : List ℕ) where
     -- a file of which a function is called has one of that name, and the words suit it
-    unnamed : (file : SmallFileTree) → IsSmallFileOf text file → Called entry args answers file → Reads (HasNoEntry check) source → ⊥
-    unnamed file small call r =
-        let h = small_read _ (Called entry args answers) file small call unnamed_of r in
-        named_none check (embedded_file h.0.file) entry args answers h.1 h.0.none
+    unnamed : (file : FileTree) → IsFileOf text file → Called entry args answers file → Reads (HasNoEntry check) source → ⊥
+    unnamed file is_file call r =
+        let h = read_same _ (Called entry args answers) file is_file call unnamed_of r in
+        named_none check h.0.file entry args answers h.1 h.0.none
 
-    misfits : (file : SmallFileTree) → IsSmallFileOf text file → Called entry args answers file → Reads (IsUnfitFor check) source → ⊥
-    misfits file small call r =
-        let h = small_read _ (Called entry args answers) file small call unfit_of r in
-        call_unfit check (embedded_file h.0.file) entry args answers h.1 h.0.unfit
+    misfits : (file : FileTree) → IsFileOf text file → Called entry args answers file → Reads (IsUnfitFor check) source → ⊥
+    misfits file is_file call r =
+        let h = read_same _ (Called entry args answers) file is_file call unfit_of r in
+        call_unfit check h.0.file entry args answers h.1 h.0.unfit
 
-    fits_told : (status : ℕ) → CheckEnd check source status → (file : SmallFileTree) → IsSmallFileOf text file → Called entry args answers file → Fits file → Is 0 status
-    fits_told status (answered lines z r) file small call fits = inl z
-    fits_told status (because line (ends.fault g r)) file small call fits = absurd (no_fault words source text known (embedded_file file) g small.is_file r)
-    fits_told status (because line (ends.not_built r)) file small call fits = absurd (is_built words source text known file small r)
-    fits_told status (because line (ends.no_entry r)) file small call fits = absurd (unnamed file small call r)
-    fits_told status (because line (ends.unfit r)) file small call fits = absurd (misfits file small call r)
-    fits_told status (because line (ends.too_large l r)) file small call fits =
-        let h = small_read _ Fits file small fits (large_of l) r in
-        absurd (some_none _ l h.0.passes h.1)
-    fits_told status (nothing z) file small call fits = inr z
+    fits_told : (status : ℕ) → CheckEnd check source status → (file : FileTree) → IsFileOf text file → Called entry args answers file → Fits file → Is 0 status
+    fits_told status (answered lines z r) file is_file call fits = inl z
+    fits_told status (because line (ends.fault g r)) file is_file call fits = absurd (no_fault words source text known file g is_file r)
+    fits_told status (because line (ends.no_entry r)) file is_file call fits = absurd (unnamed file is_file call r)
+    fits_told status (because line (ends.unfit r)) file is_file call fits = absurd (misfits file is_file call r)
+    fits_told status (because line (ends.too_large l r)) file is_file call fits =
+        let h = read_same _ Fits file is_file fits (large_of l) r in
+        absurd (not_both h.0.file l h.1 (h.0.image, (h.0.made, h.0.passes)))
+    fits_told status (nothing z) file is_file call fits = inr z
 
-    roomy_told : (status : ℕ) → CheckEnd check source status → (file : SmallFileTree) → IsSmallFileOf text file → Called entry args answers file → IsRoomy (embedded_file file) → Is 0 status
-    roomy_told status (answered lines z r) file small call roomy = inl z
-    roomy_told status (because line (ends.fault g r)) file small call roomy = absurd (no_fault words source text known (embedded_file file) g small.is_file r)
-    roomy_told status (because line (ends.not_built r)) file small call roomy = absurd (is_built words source text known file small r)
-    roomy_told status (because line (ends.no_entry r)) file small call roomy = absurd (unnamed file small call r)
-    roomy_told status (because line (ends.unfit r)) file small call roomy = absurd (misfits file small call r)
-    roomy_told status (because line (ends.too_large l r)) file small call roomy =
-        let h = small_read _ (λ f. IsRoomy (embedded_file f)) file small roomy (large_of l) r in
+    roomy_told : (status : ℕ) → CheckEnd check source status → (file : FileTree) → IsFileOf text file → Called entry args answers file → IsRoomy file → Is 0 status
+    roomy_told status (answered lines z r) file is_file call roomy = inl z
+    roomy_told status (because line (ends.fault g r)) file is_file call roomy = absurd (no_fault words source text known file g is_file r)
+    roomy_told status (because line (ends.no_entry r)) file is_file call roomy = absurd (unnamed file is_file call r)
+    roomy_told status (because line (ends.unfit r)) file is_file call roomy = absurd (misfits file is_file call r)
+    roomy_told status (because line (ends.too_large l r)) file is_file call roomy =
+        let h = read_same _ IsRoomy file is_file roomy (large_of l) r in
         absurd (h.0.not_roomy h.1)
-    roomy_told status (nothing z) file small call roomy = inr z
+    roomy_told status (nothing z) file is_file call roomy = inr z
 
-    large_told : (status : ℕ) → CheckEnd check source status → (file : SmallFileTree) (large : Large) → IsSmallFileOf text file → Called entry args answers file → Passes large file → Is 8 status
-    large_told status (answered lines z r) file large small call passes =
-        let h = small_read _ (Passes large) file small passes (told_of lines) r in
-        absurd (some_none _ large h.1 h.0.fits)
-    large_told status (because line (ends.fault g r)) file large small call passes = absurd (no_fault words source text known (embedded_file file) g small.is_file r)
-    large_told status (because line (ends.not_built r)) file large small call passes = absurd (is_built words source text known file small r)
-    large_told status (because line (ends.no_entry r)) file large small call passes = absurd (unnamed file small call r)
-    large_told status (because line (ends.unfit r)) file large small call passes = absurd (misfits file small call r)
-    large_told status (because line (ends.too_large l r)) file large small call passes = inl refl
-    large_told status (nothing z) file large small call passes = inr z
+    large_told : (status : ℕ) → CheckEnd check source status → (file : FileTree) (large : Large) → IsFileOf text file → Called entry args answers file → Passes large file → Is 8 status
+    large_told status (answered lines z r) file large is_file call passes =
+        let h = read_same _ (Passes large) file is_file passes (told_of lines) r in
+        absurd (not_both h.0.file large (h.0.image, (h.0.made, h.0.fits)) h.1)
+    large_told status (because line (ends.fault g r)) file large is_file call passes = absurd (no_fault words source text known file g is_file r)
+    large_told status (because line (ends.no_entry r)) file large is_file call passes = absurd (unnamed file is_file call r)
+    large_told status (because line (ends.unfit r)) file large is_file call passes = absurd (misfits file is_file call r)
+    large_told status (because line (ends.too_large l r)) file large is_file call passes = inl refl
+    large_told status (nothing z) file large is_file call passes = inr z
 
 pub check-complete : (words : List (List ℕ)) (source : Side) (text : List ℕ) (known : source.before ≡ Some text) (check : CheckTree) (status : ℕ) → CheckEnd check source status → CheckComplete check text status
 check-complete words source text known check status e = record {
   fault = λ f has. fault_told words source text known check status e f has;
-  not_built = λ file has not. unbuilt_told words source text known check status e file has not;
-  no_entry = λ file small none. entry_told words source text known check status e file small none;
-  unfit = λ file small not. unfit_told words source text known check status e file small not;
-  fits = λ file entry args answers small call fits. fits_told words source text known check entry args answers status e file small call fits;
-  roomy = λ file entry args answers small call roomy. roomy_told words source text known check entry args answers status e file small call roomy;
-  too_large = λ file large entry args answers small call passes. large_told words source text known check entry args answers status e file large small call passes;
+  no_entry = λ file is_file none. entry_told words source text known check status e file is_file none;
+  unfit = λ file is_file not. unfit_told words source text known check status e file is_file not;
+  fits = λ file image entry args answers is_file call made fits. fits_told words source text known check entry args answers status e file is_file call (image, (made, fits));
+  roomy = λ file entry args answers is_file call roomy. roomy_told words source text known check entry args answers status e file is_file call roomy;
+  too_large = λ file image large entry args answers is_file call made passes.
+      large_told words source text known check entry args answers status e file large is_file call (image, (made, passes));
 }
 
 pub Ends-complete : (words : List (List ℕ)) (e : Effects) (status : ℕ) → Ends words e status → Complete words e status

@@ -11,13 +11,13 @@ use Rattle.command_line.specs.Command.{IsCommand, CompileCommand, RunCommand, Ru
 use Rattle.image_form.specs.Tables.{Tables}
 use Rattle.bs_fault.specs.Limits.{longest_text}
 use Rattle.cmmc_core.specs.Effects.{Side, Effects, IsKept, Got, GotPart, Tells, IsRead}
-use Rattle.cmmc_core.specs.Ends.{Output, spelling, outcome, Cause, fault, not_built, too_large, no_memory, Ends, written, refused, out_fault, err_fault}
+use Rattle.cmmc_core.specs.Ends.{Output, spelling, outcome, Cause, fault, too_large, no_memory, Ends, written, refused, out_fault, err_fault}
 use Rattle.cmmc_core.specs.Compile.{Reads}
 use Rattle.cmmc_core.specs.Refusal.{IsRefusalRead, IsRefusalFrom, TellsRefusal, IsTextOf, WritesRun, IsRunRefusal, WritesOutcome, CutsOutcome, IsRunRefusalFrom, TellsOr}
 use Rattle.cmmc_core.specs.Run.{ReadsImage, IsOutcomeOf}
 use Rattle.text_compile.specs.Refusal.{SpellsImageOf, IsRefusalOf}
 use Rattle.text_compile.specs.declared.compile.Refusal as text
-use Rattle.text_compile.specs.declared.compile.Refusal.TheVariants.{Fault, NotBuilt, TooLarge, OutOfMemory}
+use Rattle.text_compile.specs.declared.compile.Refusal.TheVariants.{Fault, TooLarge, OutOfMemory}
 use Rattle.cmmc_core.specs.declared.compile.Refusal.{Refusal}
 use Rattle.cmmc_core.specs.declared.compile.Refusal.TheVariants.{ReadFault, Text}
 use Rattle.cmmc_core.specs.declared.run.RunRefusal.{RunRefusal}
@@ -80,7 +80,6 @@ Ends-cut words e bytes is r part kept = out_fault bytes (spells words e.source b
 -- what a text that was read is refused for
 pub refusal_read : (s : Side) (read : List ℕ) (r : text.Refusal) → All (λ b. b < 256) read → IsRead longest_text s read → IsRefusalOf read r → IsRefusalRead s r
 refusal_read s read (Fault told) are r why = record { text = read; are_bytes = are; read = r; holds = why }
-refusal_read s read NotBuilt are r why = record { text = read; are_bytes = are; read = r; holds = why }
 refusal_read s read (TooLarge large) are r why = record { text = read; are_bytes = are; read = r; holds = why }
 refusal_read s read OutOfMemory are r why = tt
 
@@ -92,7 +91,6 @@ pub Ends-refused : (words : List (List ℕ)) (e : Effects) (r : text.Refusal) (r
     → TellsRefusal e.err r result
     → Ends words e result
 Ends-refused words e (Fault told) result is why kept tells = Ends-told-or words e 3 result _ (fault told is why) kept tells
-Ends-refused words e NotBuilt result is why kept tells = Ends-told words e 3 result _ (not_built is why) kept tells
 Ends-refused words e (TooLarge large) result is why kept tells = Ends-told-or words e 8 result _ (too_large large is why) kept tells
 Ends-refused words e OutOfMemory result is why kept tells = Ends-told words e 9 result _ no_memory kept tells
 

@@ -1,20 +1,17 @@
 -- That nothing but want of memory stands between good input and its output, where no count rose.
-use Rattle.std.specs.Prelude.{◌≡◌, ◌⊎◌, ℕ, true, List, Some, None}
+use Rattle.std.specs.Prelude.{◌≡◌, ◌⊎◌, ℕ, List, Some, None}
 use Rattle.bs_fault.specs.declared.fault.Fault.{Fault}
 use Rattle.bs_fault.specs.declared.large.Large.{Large}
 use Rattle.cmm_front.specs.FileOf.{IsFileOf, HasFault}
-use Rattle.cmm_tree.specs.Built.{not_built}
 use Rattle.cmm_tree.specs.Tree.{FileTree}
 use Rattle.command_line.specs.Command.{IsCommand, CommandTree, CompileCommand, RunCommand, CheckCommand, RunTree, CheckTree}
 use Rattle.command_line.specs.Words.{WellFormed}
 use Rattle.correctness.specs.Bounds.{IsRoomy}
 use Rattle.image_form.specs.Tables.{Tables, Func}
+use Rattle.layout_rules.specs.TooLarge.{first_too_large}
+use Rattle.made_functions.specs.Files.{IsMadeFor}
 use Rattle.rv_machine.specs.Loading.{func_named, words_of_args}
-use Rattle.small_code.specs.Compiled.{compiled}
-use Rattle.small_code.specs.TooLarge.{first_too_large}
-use Rattle.small_code.specs.Tree.{SmallFileTree, embedded_file}
 use Rattle.text_check.specs.Arguments.{NamesNone, HasUnfit, IsCall}
-use Rattle.text_compile.specs.Compile.{IsSmallFileOf}
 use Rattle.cmmc_core.specs.Effects.{Effects, Rose}
 use Rattle.cmmc_core.specs.Run.{IsSpelling, words_of_answers}
 
@@ -31,19 +28,17 @@ Is wanted status = (status ≡ wanted) ⊎ (status ≡ 9)
 -- What `compile` comes to on a text that the source tells.
 pub record CompileComplete (text : List ℕ) (status : ℕ) : Type 0 where
   pub fault : (told : Fault) → HasFault text told → Is 3 status
-  pub not_built : (file : FileTree) → IsFileOf text file → not_built file ≡ true → Is 3 status
   -- a text whose image fits is compiled
-  pub fits : (file : SmallFileTree)
-      → IsSmallFileOf text file
-      → first_too_large (compiled file) ≡ None
+  pub fits : (file : FileTree) (image : Tables)
+      → IsFileOf text file
+      → IsMadeFor file image
+      → first_too_large image ≡ None
       → Is 0 status
-  pub roomy : (file : SmallFileTree)
-      → IsSmallFileOf text file
-      → IsRoomy (embedded_file file)
-      → Is 0 status
-  pub too_large : (file : SmallFileTree) (large : Large)
-      → IsSmallFileOf text file
-      → first_too_large (compiled file) ≡ Some large
+  pub roomy : (file : FileTree) → IsFileOf text file → IsRoomy file → Is 0 status
+  pub too_large : (file : FileTree) (image : Tables) (large : Large)
+      → IsFileOf text file
+      → IsMadeFor file image
+      → first_too_large image ≡ Some large
       → Is 8 status
 
 -- What `run` comes to on bytes that the source tells.
@@ -74,30 +69,29 @@ pub record RunComplete (run : RunTree) (bytes : List ℕ) (status : ℕ) : Type 
 -- What `check` comes to on a text that the source tells.
 pub record CheckComplete (check : CheckTree) (text : List ℕ) (status : ℕ) : Type 0 where
   pub fault : (told : Fault) → HasFault text told → Is 3 status
-  pub not_built : (file : FileTree) → IsFileOf text file → not_built file ≡ true → Is 3 status
-  pub no_entry : (file : SmallFileTree)
-      → IsSmallFileOf text file
-      → NamesNone (embedded_file file) check.entry
+  pub no_entry : (file : FileTree)
+      → IsFileOf text file
+      → NamesNone file check.entry
       → Is 2 status
-  pub unfit : (file : SmallFileTree)
-      → IsSmallFileOf text file
-      → HasUnfit check (embedded_file file)
-      → Is 2 status
+  pub unfit : (file : FileTree) → IsFileOf text file → HasUnfit check file → Is 2 status
   -- a call that suits is run, whatever becomes of the run, where the image of its text fits
-  pub fits : (file : SmallFileTree) (entry : ℕ) (args answers : List ℕ)
-      → IsSmallFileOf text file
-      → IsCall check (embedded_file file) entry args answers
-      → first_too_large (compiled file) ≡ None
+  pub fits : (file : FileTree) (image : Tables) (entry : ℕ) (args answers : List ℕ)
+      → IsFileOf text file
+      → IsCall check file entry args answers
+      → IsMadeFor file image
+      → first_too_large image ≡ None
       → Is 0 status
-  pub roomy : (file : SmallFileTree) (entry : ℕ) (args answers : List ℕ)
-      → IsSmallFileOf text file
-      → IsCall check (embedded_file file) entry args answers
-      → IsRoomy (embedded_file file)
+  pub roomy : (file : FileTree) (entry : ℕ) (args answers : List ℕ)
+      → IsFileOf text file
+      → IsCall check file entry args answers
+      → IsRoomy file
       → Is 0 status
-  pub too_large : (file : SmallFileTree) (large : Large) (entry : ℕ) (args answers : List ℕ)
-      → IsSmallFileOf text file
-      → IsCall check (embedded_file file) entry args answers
-      → first_too_large (compiled file) ≡ Some large
+  pub too_large : (file : FileTree) (image : Tables) (large : Large) (entry : ℕ)
+      (args answers : List ℕ)
+      → IsFileOf text file
+      → IsCall check file entry args answers
+      → IsMadeFor file image
+      → first_too_large image ≡ Some large
       → Is 8 status
 
 pub record Complete (words : List (List ℕ)) (e : Effects) (status : ℕ) : Type 0 where

@@ -12,10 +12,10 @@ use Rattle.cmm_front.specs.FileOf.{HasFault}
 use Rattle.image_form.specs.Image.{tables_bytes}
 use Rattle.image_form.specs.Tables.{Tables}
 use Rattle.text_check.specs.Check.{IsCheckOf, HasNoEntry, IsUnfitFor, IsTooLargeToCheck}
-use Rattle.text_compile.specs.Compile.{IsImageOf, IsNotBuilt, IsTooLarge}
+use Rattle.text_compile.specs.Compile.{IsImageOf, IsTooLarge}
 use Rattle.cmmc_core.specs.Compile.{Reads}
 use Rattle.cmmc_core.specs.Effects.{Effects, Side, Rose, IsKept, Got, GotPart}
-use Rattle.cmmc_core.specs.Lines.{not_built_line, read_fault_line, no_memory_line}
+use Rattle.cmmc_core.specs.Lines.{read_fault_line, no_memory_line}
 use Rattle.cmmc_core.specs.Run.{IsOutcomeOf, ReadsNoImage, NamesNoEntry, GivesUnfit}
 
 -- What goes to out.
@@ -41,7 +41,6 @@ pub data CheckCause (check : CheckTree) (source : Side) : ℕ → List ℕ → T
   fault : (told : Fault)
       → Reads (λ text. HasFault text told) source
       → CheckCause check source 3 (fault_line told)
-  not_built : Reads IsNotBuilt source → CheckCause check source 3 not_built_line
   no_entry : Reads (HasNoEntry check) source → CheckCause check source 2 (usage_line UnknownEntry)
   unfit : Reads (IsUnfitFor check) source → CheckCause check source 2 (usage_line ArgumentUnfit)
   too_large : (large : Large)
@@ -65,9 +64,6 @@ pub data Cause (words : List (List ℕ)) (source : Side) : ℕ → List ℕ → 
       → IsCommand words CompileCommand
       → Reads (λ text. HasFault text told) source
       → Cause words source 3 (fault_line told)
-  not_built : IsCommand words CompileCommand
-      → Reads IsNotBuilt source
-      → Cause words source 3 not_built_line
   too_large : (large : Large)
       → IsCommand words CompileCommand
       → Reads (λ text. IsTooLarge text large) source

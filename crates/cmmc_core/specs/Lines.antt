@@ -1,10 +1,6 @@
 -- The lines on err that have no number.
 use Rattle.std.specs.Prelude.{ℕ, List, codes}
 
--- the text has no fault, and what it holds is not compiled yet
-abbrev pub not_built_line : List ℕ
-not_built_line = codes "cmmc: not built\n"
-
 abbrev pub read_fault_line : List ℕ
 read_fault_line = codes "cmmc: read fault\n"
 

@@ -12,12 +12,12 @@ use Rattle.cmm_front.specs.FileOf.{HasFault}
 use Rattle.text_check.specs.Check.{HasNoEntry, IsUnfitFor, IsTooLargeToCheck}
 use Rattle.text_check.specs.declared.check.CheckRefusal as check
 use Rattle.text_check.specs.declared.check.CheckRefusal.TheVariants as checked
-use Rattle.text_compile.specs.Compile.{IsNotBuilt, IsTooLarge}
+use Rattle.text_compile.specs.Compile.{IsTooLarge}
 use Rattle.text_compile.specs.declared.compile.Refusal as text
-use Rattle.text_compile.specs.declared.compile.Refusal.TheVariants.{Fault, NotBuilt, TooLarge, OutOfMemory}
+use Rattle.text_compile.specs.declared.compile.Refusal.TheVariants.{Fault, TooLarge, OutOfMemory}
 use Rattle.cmmc_core.specs.Compile.{Reads}
 use Rattle.cmmc_core.specs.Effects.{Side, Rose, IsRead, Tells, IsKept, Got, GotPart}
-use Rattle.cmmc_core.specs.Lines.{not_built_line, no_memory_line}
+use Rattle.cmmc_core.specs.Lines.{no_memory_line}
 use Rattle.cmmc_core.specs.Run.{IsOutcomeOf, ReadsNoImage, NamesNoEntry, GivesUnfit, words_of_answers, schedule_of}
 use Rattle.cmmc_core.specs.declared.check.CheckFailure.{CheckFailure}
 use Rattle.cmmc_core.specs.declared.check.CheckFailure.TheVariants as failure
@@ -40,7 +40,6 @@ IsTextUnread source unread.OutOfMemory = ⊤
 -- why the text that was read has no image; want of memory may come before all is read
 abbrev pub IsRefusalRead : Side → text.Refusal → Type 0
 IsRefusalRead source (Fault told) = Reads (λ text. HasFault text told) source
-IsRefusalRead source NotBuilt = Reads IsNotBuilt source
 IsRefusalRead source (TooLarge large) = Reads (λ text. IsTooLarge text large) source
 IsRefusalRead source OutOfMemory = ⊤
 
@@ -54,7 +53,6 @@ IsRefusalFrom source (Text why) = IsRefusalRead source why
 -- why nothing is reported of a run of the text that was read
 abbrev pub IsCheckRefusalRead : CheckTree → Side → check.CheckRefusal → Type 0
 IsCheckRefusalRead check source (checked.Fault told) = Reads (λ text. HasFault text told) source
-IsCheckRefusalRead check source checked.NotBuilt = Reads IsNotBuilt source
 IsCheckRefusalRead check source checked.UnknownEntry = Reads (HasNoEntry check) source
 IsCheckRefusalRead check source checked.ArgumentUnfit = Reads (IsUnfitFor check) source
 IsCheckRefusalRead check source (checked.TooLarge large) =
@@ -144,14 +142,12 @@ TellsOr err line status result = Tells err line status result ⊎ Tells err no_m
 -- the line of a text that has no image
 abbrev pub TellsRefusal : Side → text.Refusal → ℕ → Type 0
 TellsRefusal err (Fault told) result = TellsOr err (fault_line told) 3 result
-TellsRefusal err NotBuilt result = Tells err not_built_line 3 result
 TellsRefusal err (TooLarge large) result = TellsOr err (large_line large) 8 result
 TellsRefusal err OutOfMemory result = Tells err no_memory_line 9 result
 
 -- the line of a text of whose run nothing is reported
 abbrev pub TellsCheckRefusal : Side → check.CheckRefusal → ℕ → Type 0
 TellsCheckRefusal err (checked.Fault told) result = TellsOr err (fault_line told) 3 result
-TellsCheckRefusal err checked.NotBuilt result = Tells err not_built_line 3 result
 TellsCheckRefusal err checked.UnknownEntry result = Tells err (usage_line UnknownEntry) 2 result
 TellsCheckRefusal err checked.ArgumentUnfit result = Tells err (usage_line ArgumentUnfit) 2 result
 TellsCheckRefusal err (checked.TooLarge large) result = TellsOr err (large_line large) 8 result

@@ -71,7 +71,6 @@ pub fn tell_refusal<E: Sink>(alloc: Global, err: &mut E, refusal: &Refusal) -> u
 {
     match refusal {
         Refusal::Fault(fault) => tell_fault(alloc, err, fault),
-        Refusal::NotBuilt => tell(err, b"cmmc: not built\n", TEXT),
         Refusal::TooLarge(large) => tell_large(alloc, err, large),
         Refusal::OutOfMemory => tell(err, b"cmmc: no memory\n", NO_MEMORY),
     }
@@ -83,7 +82,6 @@ pub fn tell_check_refusal<E: Sink>(alloc: Global, err: &mut E, refusal: &CheckRe
 {
     match refusal {
         CheckRefusal::Fault(fault) => tell_fault(alloc, err, fault),
-        CheckRefusal::NotBuilt => tell(err, b"cmmc: not built\n", TEXT),
         CheckRefusal::UnknownEntry => tell(err, b"cmmc: U3 UnknownEntry\n", USAGE),
         CheckRefusal::ArgumentUnfit => tell(err, b"cmmc: U4 ArgumentUnfit\n", USAGE),
         CheckRefusal::TooLarge(large) => tell_large(alloc, err, large),

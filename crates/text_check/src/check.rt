@@ -6,14 +6,13 @@ ghost use Rattle.text_check.specs.Check.{IsCheckOf};
 ghost use Rattle.text_check.specs.Refusal.{IsCheckRefusal};
 
 use crate::call::{CallRefusal, call_of};
-use crate::layout::layout_of;
 use crate::run::told_of_run;
-use bs_fault::{BuildError, Fault, Large};
+use bs_fault::{BuildError, Fault, FrontError, Large};
 use bs_words::List;
+use cmm_front::front;
 use command_line::CheckWords;
-use small_code::compile_small;
+use file_compile::{compile, layout};
 use std::alloc::Global;
-use text_compile::{Unready, small_text};
 use thiserror::Error;
 
 /// Why nothing is reported of a run of a text.
@@ -22,9 +21,6 @@ pub enum CheckRefusal {
     /// The text has a fault.
     #[error("the text has a fault")]
     Fault(Fault),
-    /// The text has no fault, and holds what is not compiled yet.
-    #[error("not built")]
-    NotBuilt,
     #[error("no function has the entry's name")]
     UnknownEntry,
     /// The arguments do not fit the entry, or a symbol among arguments and answers is of no static data.
@@ -42,33 +38,32 @@ pub enum CheckRefusal {
 ///
 /// # Errors
 ///
-/// `Fault` exactly where the text has a fault, with the one that is reported; else `NotBuilt` exactly where its file is
-/// not compiled yet; else `UnknownEntry` exactly where it has no function of the entry's name; else `ArgumentUnfit`
-/// exactly where the words do not suit that function; else `TooLarge` exactly where a section of its image passes its
-/// limit, with the first that does. `OutOfMemory` where memory ran out before the answer is known.
+/// `Fault` exactly where the text has a fault, with the one that is reported; else `UnknownEntry` exactly where it has
+/// no function of the entry's name; else `ArgumentUnfit` exactly where the words do not suit that function; else
+/// `TooLarge` exactly where a section of its image passes its limit, with the first that does. `OutOfMemory` where
+/// memory ran out before the answer is known.
 pub fn check_text(alloc: Global, text: &[u8], check: &CheckWords) -> Result<List<u8>, CheckRefusal>
     ensures told { IfOk result (λ told. IsCheckOf (check_view check.now) text.now (contents told)) }
     ensures refused { IfErr result (λ r. IsCheckRefusal (check_view check.now) text.now r) }
 {
-    let read = match small_text(alloc, text) {
-        Ok(read) => read,
-        Err(Unready::Fault(fault)) => return Err(CheckRefusal::Fault(fault)),
-        Err(Unready::NotBuilt) => return Err(CheckRefusal::NotBuilt),
-        Err(Unready::OutOfMemory) => return Err(CheckRefusal::OutOfMemory),
+    let checked = match front(alloc, text) {
+        Ok(checked) => checked,
+        Err(FrontError::Fault(fault)) => return Err(CheckRefusal::Fault(fault)),
+        Err(FrontError::OutOfMemory) => return Err(CheckRefusal::OutOfMemory),
     };
-    let file = read.checked.typed().file();
+    let file = checked.typed().file();
     let call = match call_of(alloc, file, check) {
         Ok(call) => call,
         Err(CallRefusal::UnknownEntry) => return Err(CheckRefusal::UnknownEntry),
         Err(CallRefusal::ArgumentUnfit) => return Err(CheckRefusal::ArgumentUnfit),
         Err(CallRefusal::OutOfMemory) => return Err(CheckRefusal::OutOfMemory),
     };
-    let image = match compile_small(alloc, &read.small) {
+    let image = match compile(alloc, &checked) {
         Ok(image) => image,
         Err(BuildError::TooLarge(large)) => return Err(CheckRefusal::TooLarge(large)),
         Err(BuildError::OutOfMemory) => return Err(CheckRefusal::OutOfMemory),
     };
-    let layout = match layout_of(alloc, &image) {
+    let layout = match layout(alloc, &image) {
         Ok(layout) => layout,
         Err(_) => return Err(CheckRefusal::OutOfMemory),
     };

@@ -5,7 +5,6 @@ mod arguments;
 mod call;
 mod check;
 mod entry;
-mod layout;
 mod lines;
 mod run;
 

@@ -1,10 +1,1 @@
-pub mod Parts
-pub mod Words
-pub mod Costs
-pub mod Items
-pub mod Names
-pub mod Read
-pub mod ReadItems
-pub mod Within
-pub mod Embedded
-pub mod Answering
+pub mod Passing

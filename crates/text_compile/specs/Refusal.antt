@@ -3,11 +3,9 @@ use Rattle.std.specs.Prelude.{◌≡◌, ⊤, ℕ, List}
 use Rattle.cmm_front.specs.FileOf.{HasFault}
 use Rattle.image_form.specs.Image.{tables_bytes}
 use Rattle.image_form.specs.Tables.{Tables}
-use Rattle.text_compile.specs.Compile.{IsImageOf, IsNotBuilt, IsTooLarge}
+use Rattle.text_compile.specs.Compile.{IsImageOf, IsTooLarge}
 use Rattle.text_compile.specs.declared.compile.Refusal.{Refusal}
-use Rattle.text_compile.specs.declared.small.Unready.{Unready}
-use Rattle.text_compile.specs.declared.small.Unready.TheVariants as unready
-use Rattle.text_compile.specs.declared.compile.Refusal.TheVariants.{Fault, NotBuilt, TooLarge, OutOfMemory}
+use Rattle.text_compile.specs.declared.compile.Refusal.TheVariants.{Fault, TooLarge, OutOfMemory}
 
 -- The bytes are the spelling of an image of the text.
 pub record SpellsImageOf (text bytes : List ℕ) : Type 0 where
@@ -18,12 +16,5 @@ pub record SpellsImageOf (text bytes : List ℕ) : Type 0 where
 -- why a text has no image
 abbrev pub IsRefusalOf : List ℕ → Refusal → Type 0
 IsRefusalOf text (Fault told) = HasFault text told
-IsRefusalOf text NotBuilt = IsNotBuilt text
 IsRefusalOf text (TooLarge large) = IsTooLarge text large
 IsRefusalOf text OutOfMemory = ⊤
-
--- why a text has no small file
-abbrev pub IsUnready : List ℕ → Unready → Type 0
-IsUnready text (unready.Fault told) = HasFault text told
-IsUnready text unready.NotBuilt = IsNotBuilt text
-IsUnready text unready.OutOfMemory = ⊤

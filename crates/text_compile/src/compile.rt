@@ -1,13 +1,13 @@
 //! Compiling a text.
-ghost use Rattle.std.specs.Prelude.{◌≡◌, IfOk, IfErr};
+ghost use Rattle.std.specs.Prelude.{IfOk, IfErr};
 ghost use Rattle.bs_words.specs.Contents.{contents};
 ghost use Rattle.text_compile.specs.Refusal.{SpellsImageOf, IsRefusalOf};
 
-use crate::small::{Unready, small_text};
-use bs_fault::{BuildError, Fault, Large};
+use bs_fault::{BuildError, Fault, FrontError, Large};
 use bs_words::List;
+use cmm_front::front;
+use file_compile::compile;
 use image_form::write_image;
-use small_code::compile_small;
 use std::alloc::Global;
 use thiserror::Error;
 
@@ -17,9 +17,6 @@ pub enum Refusal {
     /// The text has a fault.
     #[error("the text has a fault")]
     Fault(Fault),
-    /// The text has no fault, and holds what is not compiled yet.
-    #[error("not built")]
-    NotBuilt,
     /// A section of its image would pass its limit.
     #[error("the image is too large")]
     TooLarge(Large),
@@ -31,20 +28,19 @@ pub enum Refusal {
 ///
 /// # Errors
 ///
-/// `Fault` exactly where the text has a fault, with the one that is reported; else `NotBuilt` exactly where its file is
-/// not compiled yet; else `TooLarge` exactly where a section of its image passes its limit, with the first that does.
-/// `OutOfMemory` where memory ran out before the answer is known.
+/// `Fault` exactly where the text has a fault, with the one that is reported; else `TooLarge` exactly where a section
+/// of its image passes its limit, with the first that does. `OutOfMemory` where memory ran out before the answer is
+/// known.
 pub fn compile_text(alloc: Global, text: &[u8]) -> Result<List<u8>, Refusal>
     ensures image { IfOk result (λ bytes. SpellsImageOf text.now (contents bytes)) }
     ensures refused { IfErr result (λ r. IsRefusalOf text.now r) }
 {
-    let read = match small_text(alloc, text) {
-        Ok(read) => read,
-        Err(Unready::Fault(fault)) => return Err(Refusal::Fault(fault)),
-        Err(Unready::NotBuilt) => return Err(Refusal::NotBuilt),
-        Err(Unready::OutOfMemory) => return Err(Refusal::OutOfMemory),
+    let checked = match front(alloc, text) {
+        Ok(checked) => checked,
+        Err(FrontError::Fault(fault)) => return Err(Refusal::Fault(fault)),
+        Err(FrontError::OutOfMemory) => return Err(Refusal::OutOfMemory),
     };
-    let image = match compile_small(alloc, &read.small) {
+    let image = match compile(alloc, &checked) {
         Ok(image) => image,
         Err(BuildError::TooLarge(large)) => return Err(Refusal::TooLarge(large)),
         Err(BuildError::OutOfMemory) => return Err(Refusal::OutOfMemory),

@@ -1,24 +1,33 @@
-use Rattle.std.proofs.Common.{◌≡◌, None, sym, ap, ◌∙◌, subst}
+use Rattle.std.proofs.Common.{◌≡◌, refl, sym, ap, ◌∙◌, subst, arith}
+use Rattle.bs_fault.specs.declared.large.Large.{Large}
 use Rattle.cmm_eval.specs.Views.{layout_view}
-use Rattle.small_code.specs.TooLarge.{first_too_large}
+use Rattle.cmm_front.specs.FileOf.{tree_of}
+use Rattle.cmm_lex.proofs.Scans.{AreBytes-from}
 use Rattle.cmm_meaning.specs.Layout.{Layout}
 use Rattle.cmm_tree.specs.Tree.{FileTree}
-use Rattle.cmm_tree.specs.View as whole
+use Rattle.cmm_tree.specs.View.{file_view}
+use Rattle.cmm_walks.specs.Checked.{typed_of}
 use Rattle.command_line.specs.View.{check_view}
-use Rattle.image_form.specs.Tables.{Tables, tables}
 use Rattle.correctness.specs.Setting.{layout_of}
-use Rattle.small_code.specs.Compiled.{compiled}
-use Rattle.small_code.specs.Tree.{embedded_file}
-use Rattle.small_code.specs.View.{file_view}
-use Rattle.text_check.specs.Arguments.{NamesNone, IsCall}
+use Rattle.image_form.specs.Tables.{tables}
+use Rattle.text_compile.proofs.Passing.{too_large}
+use Rattle.text_check.specs.Arguments.{NamesNone, HasUnfit, IsCall}
 use Rattle.text_check.specs.Check.{told_of_run}
 use Rattle.text_check.proofs.check.check_text.Goals as goal
 
+-- its file is the text's, so that it is an accepted one
+pub compile-requires-clause-accepted : goal.compile-requires-clause-accepted
+compile-requires-clause-accepted c = record {
+  text = c.args.text.now;
+  are_bytes = AreBytes-from c.args.text.now (λ i. omega (arith, c.type_inv.text i));
+  is_file = c.in-Ok.ensures.file;
+}
+
 pub returns-in-Err-UnknownEntry-clause-refused : goal.returns-in-Err-UnknownEntry-clause-refused
 returns-in-Err-UnknownEntry-clause-refused c =
-    let same : whole.file_view c.file-file.result.now ≡ embedded_file (file_view c.in-Ok.read.small) = rw (c.file-file.ensures, c.typed.ensures) (sym c.in-Ok.ensures.same) in
+    let same : file_view c.file-file.result.now ≡ tree_of (typed_of c.in-Ok.checked) = rw (c.file-file.ensures, c.typed.ensures) refl in
     record {
-      file = file_view c.in-Ok.read.small;
+      file = tree_of (typed_of c.in-Ok.checked);
       is_file = c.in-Ok.ensures.file;
       none =
           subst (λ (f : FileTree). NamesNone f c.args.check.now.entry) same
@@ -27,21 +36,22 @@ returns-in-Err-UnknownEntry-clause-refused c =
 
 pub returns-in-Ok-told_of_run-clause-told : goal.returns-in-Ok-told_of_run-clause-told
 returns-in-Ok-told_of_run-clause-told c =
-    let small = file_view c.in-Ok.read.small in
+    let file = tree_of (typed_of c.in-Ok.checked) in
     let call = c.in-Ok-call_of.call in
-    let same : whole.file_view c.file-file.result.now ≡ embedded_file small = rw (c.file-file.ensures, c.typed.ensures) (sym c.in-Ok.ensures.same) in
-    let layout : layout_view c.in-Ok-layout_of.layout ≡ layout_of (compiled small) = c.in-Ok-layout_of.ensures ∙ ap layout_of c.in-Ok-compile_small.ensures.exact in
-    let Fits : Tables → Type 0 = λ t. first_too_large t ≡ None in
+    let image = tables c.in-Ok-compile.image in
+    let same : file_view c.file-file.result.now ≡ file = rw (c.file-file.ensures, c.typed.ensures) refl in
     record {
-      file = small;
+      file = file;
       is_file = c.in-Ok.ensures.file;
       entry = call.entry;
       args = call.args.items;
       answers = call.answers.items;
       call = subst (λ (f : FileTree). IsCall (check_view c.args.check.now) f call.entry call.args.items call.answers.items) same c.in-Ok-call_of.ensures.call;
-      fits = subst Fits c.in-Ok-compile_small.ensures.exact c.in-Ok-compile_small.ensures.keeps_limits;
+      image = image;
+      made = c.in-Ok-compile.ensures.made;
+      fits = c.in-Ok-compile.ensures.fits;
       told =
           c.in-Ok-told_of_run.ensures
-          ∙ ap (λ (f : FileTree). told_of_run f (layout_view c.in-Ok-layout_of.layout) call.entry call.args.items call.answers.items c.args.check.now.fuel) same
-          ∙ ap (λ (l : Layout). told_of_run (embedded_file small) l call.entry call.args.items call.answers.items c.args.check.now.fuel) layout;
+          ∙ ap (λ (f : FileTree). told_of_run f (layout_view c.in-Ok-layout.layout) call.entry call.args.items call.answers.items c.args.check.now.fuel) same
+          ∙ ap (λ (l : Layout). told_of_run file l call.entry call.args.items call.answers.items c.args.check.now.fuel) c.in-Ok-layout.ensures;
     }

@@ -1,7 +1,8 @@
 use Rattle.std.proofs.Common.{◌≡◌, ◌∙◌, ℕ, suc, ◌+◌, ◌<◌, ◌≤◌, Bool, true, false, List, [], ◌∷◌, drop, length, map, IsTrue, refl, sym, ap, subst, arith}
 use Rattle.cmm_tree.specs.Tree.{ItemTree, AFunction, AData, functions}
 use Rattle.cmm_tree.specs.View.{item_view, file_view, function_view, data_list_view}
-use Rattle.text_check.proofs.Rows.{map_rest, map_past}
+use Rattle.file_compile.proofs.LayoutRows.{map_past}
+use Rattle.text_check.proofs.Rows.{map_rest}
 use Rattle.text_check.proofs.Entries.{Passed, passed-none, passed-found, passed-named, passed-function, passed-data, passed-all}
 use Rattle.text_check.proofs.entry.entry_named.Goals as goal
 use Rattle.text_check.proofs.entry.entry_named.Goals.{in-Function+else-same+in_ok-number-in-Function, in-Data}

@@ -1,28 +1,38 @@
-use Rattle.std.proofs.Common.{◌≡◌, sym, None, subst}
-use Rattle.image_form.specs.Tables.{Tables, tables}
-use Rattle.small_code.specs.TooLarge.{first_too_large}
-use Rattle.small_code.specs.View.{file_view}
-use Rattle.text_compile.specs.Compile.{HasBuiltInData}
-use Rattle.text_compile.proofs.Answering.{built_in}
+use Rattle.std.proofs.Common.{◌≡◌, None, Some, arith, sym, ◌∙◌}
+use Rattle.cmm_front.specs.FileOf.{tree_of}
+use Rattle.cmm_lex.proofs.Scans.{AreBytes-from}
+use Rattle.cmm_walks.specs.Checked.{typed_of}
+use Rattle.file_promise.proofs.Promise.{made_correct, made_bounded, made_exact}
+use Rattle.image_form.specs.Tables.{tables}
+use Rattle.text_compile.proofs.Passing.{too_large}
 use Rattle.text_compile.proofs.compile.compile_text.Goals as goal
+
+-- its file is the text's, so that it is an accepted one
+pub compile-requires-clause-accepted : goal.compile-requires-clause-accepted
+compile-requires-clause-accepted c = record {
+  text = c.args.text.now;
+  are_bytes = AreBytes-from c.args.text.now (λ i. omega (arith, c.type_inv.text i));
+  is_file = c.in-Ok.ensures.file;
+}
 
 pub returns-in-Ok-write_image-clause-image : goal.returns-in-Ok-write_image-clause-image
 returns-in-Ok-write_image-clause-image c =
-    let image = tables c.in-Ok-compile_small.image in
-    let small = file_view c.in-Ok.read.small in
-    let Fits : Tables → Type 0 = λ t. first_too_large t ≡ None in
+    let text = c.args.text.now in
+    let file = tree_of (typed_of c.in-Ok.checked) in
+    let image = tables c.in-Ok-compile.image in
+    let bytes = AreBytes-from text (λ i. omega (arith, c.type_inv.text i)) in
+    let made = c.in-Ok-compile.ensures.made in
     record {
       image = image;
       is_image = record {
-        file = small;
+        file = file;
         is_file = c.in-Ok.ensures.file;
-        is_image = c.in-Ok-compile_small.ensures.is_image;
-        made = c.in-Ok-compile_small.ensures.exact;
-        correct = c.in-Ok-compile_small.ensures.correct;
-        bounded = c.in-Ok-compile_small.ensures.bounded;
-        frames = c.in-Ok-compile_small.ensures.frames;
-        built_in_data = subst HasBuiltInData (sym c.in-Ok-compile_small.ensures.exact) (built_in small);
-        fits = subst Fits c.in-Ok-compile_small.ensures.exact c.in-Ok-compile_small.ensures.keeps_limits;
+        is_image = c.in-Ok-compile.ensures.is_image;
+        made = made;
+        correct = made_correct text file c.in-Ok.ensures.file image made bytes c.in-Ok-compile.ensures.is_image;
+        bounded = made_bounded text file c.in-Ok.ensures.file image made;
+        exact = made_exact text file c.in-Ok.ensures.file image made;
+        fits = c.in-Ok-compile.ensures.fits;
       };
       spelled = c.in-Ok-write_image.ensures;
     }
