@@ -27,7 +27,7 @@ use Rattle.cmmc_core.specs.Effects.{Effects, Side, Rose, IsRead}
 use Rattle.cmmc_core.specs.Ends as ends
 use Rattle.cmmc_core.specs.Ends.{Output, spelling, outcome, checked, Cause, CheckCause, no_command, no_value, read_fault, fault, too_large, no_image, no_entry, unfit, unchecked, no_memory, Ends, written, refused, out_fault, err_fault}
 use Rattle.cmmc_core.specs.Run.{IsSpelling, ReadsImage, words_of_answers, longest_image}
-use Rattle.cmmc_core.proofs.Bytes.{bytes_of}
+use Rattle.file_promise.proofs.Bytes.{bytes_of}
 use Rattle.cmmc_core.proofs.Reading.{all, too_long, IsRead-known}
 use Rattle.cmmc_core.proofs.Spelled.{one_image, spelling_short}
 
@@ -164,6 +164,19 @@ module _ (words : List (List ℕ)) (source : Side) where
     fault_end status (cause line (unchecked ck s l i r)) f has = absurd (compile_is_no_check ck is i)
     fault_end status (cause line no_memory) f has = inr refl
 
+    accepted_end : (status : ℕ) → Told words source status → (file : FileTree) → IsFileOf text file → Is 0 status ⊎ (status ≡ 8)
+    accepted_end status (output bytes z o) file is_file = inl (inl z)
+    accepted_end status (cause line (no_command n k)) file is_file = absurd (n (command-formed words CompileCommand is))
+    accepted_end status (cause line (no_value w n k)) file is_file = absurd (n CompileCommand is)
+    accepted_end status (cause line (read_fault c i r)) file is_file = absurd (calm r)
+    accepted_end status (cause line (fault g i r)) file is_file = absurd (no_fault text known file g is_file r)
+    accepted_end status (cause line (too_large l i r)) file is_file = inr refl
+    accepted_end status (cause line (no_image ran w i r)) file is_file = absurd (compile_is_no_run ran is i)
+    accepted_end status (cause line (no_entry ran i r)) file is_file = absurd (compile_is_no_run ran is i)
+    accepted_end status (cause line (unfit ran i r)) file is_file = absurd (compile_is_no_run ran is i)
+    accepted_end status (cause line (unchecked ck s l i r)) file is_file = absurd (compile_is_no_check ck is i)
+    accepted_end status (cause line no_memory) file is_file = inl (inr refl)
+
     fits_end : (status : ℕ) → Told words source status → (file : FileTree) → IsFileOf text file → Fits file → Is 0 status
     fits_end status (output bytes z o) file is_file fits = inl z
     fits_end status (cause line (no_command n k)) file is_file fits = absurd (n (command-formed words CompileCommand is))
@@ -172,7 +185,7 @@ module _ (words : List (List ℕ)) (source : Side) where
     fits_end status (cause line (fault g i r)) file is_file fits = absurd (no_fault text known file g is_file r)
     fits_end status (cause line (too_large l i r)) file is_file fits =
         let h = of_file text known (λ t. IsTooLarge t l) file is_file r in
-        absurd (not_both h.1.file l (same_file text known Fits file h.1.file h.0 is_file h.1.is_file fits) (h.1.image, (h.1.made, h.1.passes)))
+        absurd (not_both h.1.file l (same_file text known Fits file h.1.file h.0 is_file h.1.is_file fits) (h.1.image, (h.1.made.made, h.1.passes)))
     fits_end status (cause line (no_image ran w i r)) file is_file fits = absurd (compile_is_no_run ran is i)
     fits_end status (cause line (no_entry ran i r)) file is_file fits = absurd (compile_is_no_run ran is i)
     fits_end status (cause line (unfit ran i r)) file is_file fits = absurd (compile_is_no_run ran is i)
@@ -197,7 +210,7 @@ module _ (words : List (List ℕ)) (source : Side) where
     large_end : (status : ℕ) → Told words source status → (file : FileTree) (large : Large) → IsFileOf text file → Passes large file → Is 8 status
     large_end status (output bytes z (spelling image i c)) file large is_file passes =
         let h = of_file text known (λ t. IsImageOf t image) file is_file c in
-        absurd (not_both h.1.file large (h.1.image, (h.1.made, h.1.fits)) (same_file text known (Passes large) file h.1.file h.0 is_file h.1.is_file passes))
+        absurd (not_both h.1.file large (h.1.image, (h.1.made.made, h.1.fits)) (same_file text known (Passes large) file h.1.file h.0 is_file h.1.is_file passes))
     large_end status (output bytes z (outcome ran text i o)) file large is_file passes = absurd (compile_is_no_run ran is i)
     large_end status (output bytes z (checked ck lines i o)) file large is_file passes = absurd (compile_is_no_check ck is i)
     large_end status (cause line (no_command n k)) file large is_file passes = absurd (n (command-formed words CompileCommand is))
@@ -214,6 +227,7 @@ module _ (words : List (List ℕ)) (source : Side) where
 pub compile-complete : (words : List (List ℕ)) (source : Side) (text : List ℕ) (status : ℕ) → source.before ≡ Some text → IsCommand words CompileCommand → (Rose source → ⊥) → Told words source status → CompileComplete text status
 compile-complete words source text status known is calm t = record {
   fault = λ f has. fault_end words source text known is calm status t f has;
+  accepted = λ file is_file. accepted_end words source text known is calm status t file is_file;
   fits = λ file image is_file made fits. fits_end words source text known is calm status t file is_file (image, (made, fits));
   roomy = λ file is_file roomy. roomy_end words source text known is calm status t file is_file roomy;
   too_large = λ file image large is_file made passes. large_end words source text known is calm status t file large is_file (image, (made, passes));
@@ -367,7 +381,7 @@ module _ (words : List (List ℕ)) (source : Side) (text : List ℕ) (known : so
   abbrev Called : ℕ → List ℕ → List ℕ → FileTree → Type 0
   Called entry args answers file = IsCall check file entry args answers
 
-  -- the is_file file of what was read is that of the text, and has what that has
+  -- the file of what was read is that of the text, and has what that has
   abbrev read_same : (P : List ℕ → Type 0) (Q : FileTree → Type 0) (file : FileTree) → IsFileOf text file → Q file
       → (of : (t : List ℕ) → P t → (other : FileTree) × IsFileOf t other) → Reads P source → (p : P text) × Q (of text p).0
   read_same P Q file is_file q of r =
@@ -435,6 +449,14 @@ module _ (words : List (List ℕ)) (source : Side) (text : List ℕ) (known : so
         let h = read_same _ (Called entry args answers) file is_file call unfit_of r in
         call_unfit check h.0.file entry args answers h.1 h.0.unfit
 
+    accepted_told : (status : ℕ) → CheckEnd check source status → (file : FileTree) → IsFileOf text file → Called entry args answers file → Is 0 status ⊎ (status ≡ 8)
+    accepted_told status (answered lines z r) file is_file call = inl (inl z)
+    accepted_told status (because line (ends.fault g r)) file is_file call = absurd (no_fault words source text known file g is_file r)
+    accepted_told status (because line (ends.no_entry r)) file is_file call = absurd (unnamed file is_file call r)
+    accepted_told status (because line (ends.unfit r)) file is_file call = absurd (misfits file is_file call r)
+    accepted_told status (because line (ends.too_large l r)) file is_file call = inr refl
+    accepted_told status (nothing z) file is_file call = inl (inr z)
+
     fits_told : (status : ℕ) → CheckEnd check source status → (file : FileTree) → IsFileOf text file → Called entry args answers file → Fits file → Is 0 status
     fits_told status (answered lines z r) file is_file call fits = inl z
     fits_told status (because line (ends.fault g r)) file is_file call fits = absurd (no_fault words source text known file g is_file r)
@@ -442,7 +464,7 @@ module _ (words : List (List ℕ)) (source : Side) (text : List ℕ) (known : so
     fits_told status (because line (ends.unfit r)) file is_file call fits = absurd (misfits file is_file call r)
     fits_told status (because line (ends.too_large l r)) file is_file call fits =
         let h = read_same _ Fits file is_file fits (large_of l) r in
-        absurd (not_both h.0.file l h.1 (h.0.image, (h.0.made, h.0.passes)))
+        absurd (not_both h.0.file l h.1 (h.0.image, (h.0.made.made, h.0.passes)))
     fits_told status (nothing z) file is_file call fits = inr z
 
     roomy_told : (status : ℕ) → CheckEnd check source status → (file : FileTree) → IsFileOf text file → Called entry args answers file → IsRoomy file → Is 0 status
@@ -458,7 +480,7 @@ module _ (words : List (List ℕ)) (source : Side) (text : List ℕ) (known : so
     large_told : (status : ℕ) → CheckEnd check source status → (file : FileTree) (large : Large) → IsFileOf text file → Called entry args answers file → Passes large file → Is 8 status
     large_told status (answered lines z r) file large is_file call passes =
         let h = read_same _ (Passes large) file is_file passes (told_of lines) r in
-        absurd (not_both h.0.file large (h.0.image, (h.0.made, h.0.fits)) h.1)
+        absurd (not_both h.0.file large (h.0.image, (h.0.made.made, h.0.fits)) h.1)
     large_told status (because line (ends.fault g r)) file large is_file call passes = absurd (no_fault words source text known file g is_file r)
     large_told status (because line (ends.no_entry r)) file large is_file call passes = absurd (unnamed file is_file call r)
     large_told status (because line (ends.unfit r)) file large is_file call passes = absurd (misfits file is_file call r)
@@ -470,6 +492,7 @@ check-complete words source text known check status e = record {
   fault = λ f has. fault_told words source text known check status e f has;
   no_entry = λ file is_file none. entry_told words source text known check status e file is_file none;
   unfit = λ file is_file not. unfit_told words source text known check status e file is_file not;
+  accepted = λ file entry args answers is_file call. accepted_told words source text known check entry args answers status e file is_file call;
   fits = λ file image entry args answers is_file call made fits. fits_told words source text known check entry args answers status e file is_file call (image, (made, fits));
   roomy = λ file entry args answers is_file call roomy. roomy_told words source text known check entry args answers status e file is_file call roomy;
   too_large = λ file image large entry args answers is_file call made passes.

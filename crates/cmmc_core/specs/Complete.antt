@@ -28,7 +28,9 @@ Is wanted status = (status ≡ wanted) ⊎ (status ≡ 9)
 -- What `compile` comes to on a text that the source tells.
 pub record CompileComplete (text : List ℕ) (status : ℕ) : Type 0 where
   pub fault : (told : Fault) → HasFault text told → Is 3 status
-  -- a text whose image fits is compiled
+  -- a text without a fault is compiled, or a section of its image passes its limit
+  pub accepted : (file : FileTree) → IsFileOf text file → Is 0 status ⊎ (status ≡ 8)
+  -- one whose image fits is compiled
   pub fits : (file : FileTree) (image : Tables)
       → IsFileOf text file
       → IsMadeFor file image
@@ -74,7 +76,12 @@ pub record CheckComplete (check : CheckTree) (text : List ℕ) (status : ℕ) : 
       → NamesNone file check.entry
       → Is 2 status
   pub unfit : (file : FileTree) → IsFileOf text file → HasUnfit check file → Is 2 status
-  -- a call that suits is run, whatever becomes of the run, where the image of its text fits
+  -- a call that suits is run, whatever becomes of the run, or a section of the image of its text passes its limit
+  pub accepted : (file : FileTree) (entry : ℕ) (args answers : List ℕ)
+      → IsFileOf text file
+      → IsCall check file entry args answers
+      → Is 0 status ⊎ (status ≡ 8)
+  -- where the image fits, it is run
   pub fits : (file : FileTree) (image : Tables) (entry : ℕ) (args answers : List ℕ)
       → IsFileOf text file
       → IsCall check file entry args answers

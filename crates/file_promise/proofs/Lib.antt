@@ -1,3 +1,4 @@
+pub mod Bytes
 pub mod Once
 pub mod Made
 pub mod Promise

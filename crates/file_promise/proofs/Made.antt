@@ -1,8 +1,7 @@
 -- What is made of each function of an accepted file is known whole, and it can be laid out.
-use Rattle.std.proofs.Common.{◌≡◌, ℕ, zero, suc, List, [], ◌∷◌, All, Some, None, length, ap, refl, subst}
+use Rattle.std.proofs.Common.{◌≡◌, ℕ, zero, suc, List, [], ◌∷◌, Some, None, length, ap, refl, subst}
 use Rattle.std.specs.Prelude.{Contains, slice_get}
 use Rattle.std.specs.List.{AllByRecursion, AllZip}
-use Rattle.std.proofs.lemmas.List.Elements.{All-nil, All-cons}
 use Rattle.accepted_files.proofs.Files.{file_can}
 use Rattle.chained_functions.proofs.Chained.{chained}
 use Rattle.cmm_front.specs.FileOf.{IsFileOf}
@@ -13,12 +12,14 @@ use Rattle.code_bounds.specs.Kept.{KeepsTo}
 use Rattle.code_bounds.proofs.Few.{few}
 use Rattle.code_bounds.proofs.Keeping.{each_keeps}
 use Rattle.compiled_files.specs.Stages.{AreChained, HasChain}
+use Rattle.file_promise.specs.Exact.{IsFunctionExact}
 use Rattle.frame_names.specs.Names.{names_by}
 use Rattle.frame_names.proofs.Names.{exact_names}
 use Rattle.laid_files.proofs.Laid.{function_can}
+use Rattle.laid_parts.proofs.Whole.{laid_out}
 use Rattle.layout_rules.specs.Conditions.{CanBeLaid, IsFunctionLaid}
 use Rattle.made_functions.specs.Chained.{IsChained}
-use Rattle.made_functions.specs.Files.{HasExact, IsFunctionMade}
+use Rattle.made_functions.specs.Files.{IsFunctionMade}
 use Rattle.rv_pieces.specs.declared.piece.Pieces.{Pieces}
 use Rattle.selection_accepted.proofs.Promised.{function_accepted}
 use Rattle.selection_accepted.proofs.Selecting.{definitions}
@@ -41,17 +42,14 @@ module _ (text : List ℕ) (file : FileTree) (is : IsFileOf text file) where
       let whole = function_chained tree among p made in
       function_can text file is tree among made.lin made.descriptors p whole (names_by made.descriptors made.lin) (exact_names whole.regular whole.exact)
 
-  function_exact : (tree : FunctionTree) → Contains (functions file) tree → (p : Pieces) → IsFunctionMade tree p → HasExact p
+  function_exact : (tree : FunctionTree) → Contains (functions file) tree → (p : Pieces) → IsFunctionMade tree p → IsFunctionExact tree p
   function_exact tree among p made =
       let whole = function_chained tree among p made in
       record {
         lin = made.lin;
         descriptors = made.descriptors;
-        tight = whole.tight;
-        exact = whole.exact;
-        count = whole.count;
-        no_addr = whole.no_addr;
-        emitted = whole.emitted;
+        chained = whole;
+        laid = laid_out made.lin whole.regular.well whole.regular.seated whole.within made.descriptors p whole.emitted whole.count;
       }
 
   module _ (P : Pieces → Type 0) (each : (tree : FunctionTree) → Contains (functions file) tree → (p : Pieces) → IsFunctionMade tree p → P p) where
@@ -65,13 +63,15 @@ module _ (text : List ℕ) (file : FileTree) (is : IsFileOf text file) where
       by_recursion fs ps (λ tree c. among tree (contains_tail f fs tree c)) made.1,
     )
 
-    all_of : (fs : List FunctionTree) (ps : List Pieces) → ((tree : FunctionTree) → Contains fs tree → Contains (functions file) tree) →
-        AllZip IsFunctionMade fs ps → All P ps
-    all_of [] [] among made = All-nil P
-    all_of [] (p ∷ ps) among made = absurd made
-    all_of (f ∷ fs) [] among made = absurd made
-    all_of (f ∷ fs) (p ∷ ps) among made =
-        All-cons P p ps (each f (among f (contains_head f fs)) p made.0) (all_of fs ps (λ tree c. among tree (contains_tail f fs tree c)) made.1)
+  exact_ones : (fs : List FunctionTree) (ps : List Pieces) → ((tree : FunctionTree) → Contains fs tree → Contains (functions file) tree) →
+      AllZip IsFunctionMade fs ps → AllZip IsFunctionExact fs ps
+  exact_ones [] [] among made = tt
+  exact_ones [] (p ∷ ps) among made = absurd made
+  exact_ones (f ∷ fs) [] among made = absurd made
+  exact_ones (f ∷ fs) (p ∷ ps) among made = (
+    function_exact f (among f (contains_head f fs)) p made.0,
+    exact_ones fs ps (λ tree c. among tree (contains_tail f fs tree c)) made.1,
+  )
 
   -- As many, in the same places.
   as_many : (fs : List FunctionTree) (ps : List Pieces) → AllZip IsFunctionMade fs ps → length ps ≡ length fs
@@ -112,5 +112,5 @@ module _ (text : List ℕ) (file : FileTree) (is : IsFileOf text file) where
       few = few text file ps is keep;
     }
 
-    pub are_exact : All HasExact ps
-    are_exact = all_of HasExact function_exact (functions file) ps (λ tree c. c) made
+    pub are_exact : AllZip IsFunctionExact (functions file) ps
+    are_exact = exact_ones (functions file) ps (λ tree c. c) made

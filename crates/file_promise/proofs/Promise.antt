@@ -1,7 +1,6 @@
 -- The image that is made for the file of an accepted text is correct for it, bounded by it, and its descriptors are exact.
-use Rattle.std.proofs.Common.{◌≡◌, ℕ, List, None}
+use Rattle.std.proofs.Common.{◌≡◌, ◌<◌, ℕ, All, List, None}
 use Rattle.cmm_front.specs.FileOf.{IsFileOf}
-use Rattle.cmm_lex.proofs.Languages.{AreBytes}
 use Rattle.cmm_tree.specs.Tree.{FileTree}
 use Rattle.code_bounds.proofs.Image.{image_bounded}
 use Rattle.code_bounds.proofs.Roomy as room
@@ -11,13 +10,15 @@ use Rattle.correctness.specs.Correct.{IsCorrect}
 use Rattle.image_form.specs.Image.{AreTables}
 use Rattle.image_form.specs.Tables.{Tables}
 use Rattle.layout_rules.specs.TooLarge.{first_too_large}
-use Rattle.made_functions.specs.Files.{IsExact, IsMadeFor}
+use Rattle.made_functions.specs.Files.{IsMadeFor}
+use Rattle.file_promise.specs.Exact.{IsExact}
+use Rattle.file_promise.proofs.Bytes.{bytes_of}
 use Rattle.file_promise.proofs.Made.{are_chained, are_exact, can_be_laid, keep}
 
 module _ (text : List ℕ) (file : FileTree) (is : IsFileOf text file) (image : Tables) (made : IsMadeFor file image) where
-  pub made_correct : AreBytes text → AreTables image → IsCorrect file image
+  pub made_correct : All (λ b. b < 256) text → AreTables image → IsCorrect file image
   made_correct bytes tables =
-      correct text file is bytes image made.pieces (can_be_laid text file is made.pieces made.each) made.laid tables (are_chained text file is made.pieces made.each)
+      correct text file is (bytes_of text bytes) image made.pieces (can_be_laid text file is made.pieces made.each) made.laid tables (are_chained text file is made.pieces made.each)
 
   pub made_bounded : IsBounded file image
   made_bounded = image_bounded file made.pieces image (can_be_laid text file is made.pieces made.each) made.laid (keep text file is made.pieces made.each)

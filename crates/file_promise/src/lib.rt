@@ -4,16 +4,16 @@
 //! The crate holds laws alone.
 #![tactic(auto)]
 
-ghost use Rattle.std.specs.Prelude.{◌≡◌, ℕ, List, None};
+ghost use Rattle.std.specs.Prelude.{◌≡◌, ◌<◌, ℕ, All, List, None};
 ghost use Rattle.cmm_front.specs.FileOf.{IsFileOf};
-ghost use Rattle.cmm_lex.proofs.Languages.{AreBytes};
 ghost use Rattle.cmm_tree.specs.Tree.{FileTree};
 ghost use Rattle.correctness.specs.Bounds.{IsBounded, IsRoomy};
 ghost use Rattle.correctness.specs.Correct.{IsCorrect};
+ghost use Rattle.file_promise.specs.Exact.{IsExact};
 ghost use Rattle.image_form.specs.Image.{AreTables};
 ghost use Rattle.image_form.specs.Tables.{Tables};
 ghost use Rattle.layout_rules.specs.TooLarge.{first_too_large};
-ghost use Rattle.made_functions.specs.Files.{IsExact, IsMadeFor};
+ghost use Rattle.made_functions.specs.Files.{IsMadeFor};
 
 /// Law: one image is made for a file.
 pub fn files_are_made_once()
@@ -23,9 +23,9 @@ pub fn files_are_made_once()
 /// Law: the image that is made for the file of an accepted text is correct for it and bounded by it, and each of its
 /// descriptors is exact.
 pub fn made_images_are_right()
-    ensures correct { (text : List ℕ) (file : FileTree) → IsFileOf text file → AreBytes text →
+    ensures correct { (text : List ℕ) (file : FileTree) → IsFileOf text file → All (λ b. b < 256) text →
         (image : Tables) → AreTables image → IsMadeFor file image → IsCorrect file image }
-    ensures bounded { (text : List ℕ) (file : FileTree) → IsFileOf text file → AreBytes text →
+    ensures bounded { (text : List ℕ) (file : FileTree) → IsFileOf text file → All (λ b. b < 256) text →
         (image : Tables) → IsMadeFor file image → IsBounded file image }
     ensures exact { (text : List ℕ) (file : FileTree) → IsFileOf text file → (image : Tables) →
         IsMadeFor file image → IsExact file image }
@@ -33,6 +33,6 @@ pub fn made_images_are_right()
 
 /// Law: no section of the image of a roomy file passes its limit.
 pub fn roomy_files_fit()
-    ensures { (text : List ℕ) (file : FileTree) → IsFileOf text file → AreBytes text → (image : Tables) →
+    ensures { (text : List ℕ) (file : FileTree) → IsFileOf text file → All (λ b. b < 256) text → (image : Tables) →
         IsMadeFor file image → IsRoomy file → first_too_large image ≡ None }
 {}

@@ -1,14 +1,11 @@
 -- What the compiler makes of a file.
-use Rattle.std.specs.Prelude.{◌≡◌, ℕ, ◌<◌, List, length, All}
+use Rattle.std.specs.Prelude.{◌≡◌, ℕ, ◌<◌, List}
 use Rattle.std.specs.List.{AllZip}
 use Rattle.cmm_tree.specs.Tree.{FunctionTree, FileTree, functions}
 use Rattle.image_form.specs.Tables.{Tables}
 use Rattle.layout_rules.specs.Laid.{IsLaidOut}
-use Rattle.lin_ir.specs.Descriptors.{AreExact, NoAddrLive, frame_points}
-use Rattle.lin_ir.specs.Formed.{IsTight}
 use Rattle.lin_ir.specs.declared.descr.Descr.{Descr}
 use Rattle.lin_ir.specs.declared.lin.Lin.{Lin}
-use Rattle.emit_rules.specs.Emitted.{IsEmitted}
 use Rattle.rv_pieces.specs.declared.piece.Pieces.{Pieces}
 use Rattle.made_functions.specs.Made.{IsMadeOf}
 
@@ -24,22 +21,3 @@ pub record IsMadeFor (file : FileTree) (t : Tables) : Type 0 where
   pub pieces : List Pieces
   pub each : AllZip IsFunctionMade (functions file) pieces
   pub laid : IsLaidOut file pieces t
-
--- ---- descriptors
-
--- The pieces are those of a tight Linear function, and carry its frame descriptors: one for each frame
--- point, which names exactly the locations that are live after it as val, where none is live as addr.
-pub record HasExact (pieces : Pieces) : Type 0 where
-  pub lin : Lin
-  pub descriptors : List Descr
-  pub tight : IsTight lin
-  pub exact : AreExact lin descriptors
-  pub count : length descriptors ≡ frame_points lin.code
-  pub no_addr : NoAddrLive lin
-  pub emitted : IsEmitted lin descriptors pieces
-
--- The image is laid out of such pieces, so that each of its descriptors is exact and there are no others.
-pub record IsExact (file : FileTree) (image : Tables) : Type 0 where
-  pub pieces : List Pieces
-  pub laid : IsLaidOut file pieces image
-  pub each : All HasExact pieces

@@ -1,7 +1,7 @@
 //! What a run of each text of standard input comes to: what `cmmc check` prints, for every text that has no fault.
 //!
 //! Each line of `stdin` has the words of a `check`, a bar, and a Cmm text: `f --args=1 | (function "f" (x:int) x)`. The
-//! frames and addresses of functions are made by hand here, since most of these texts are not compiled yet. The lines
+//! frames and addresses of functions are made by hand here, so that no compiler has a part in what is shown. The lines
 //! in `stdout` were not written by this program: they are a second evaluator's, written from the rules alone.
 #![tactic(auto)]
 

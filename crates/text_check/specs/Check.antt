@@ -10,8 +10,8 @@ use Rattle.correctness.specs.Bounds.{IsRoomy}
 use Rattle.correctness.specs.Setting.{layout_of}
 use Rattle.image_form.specs.Tables.{Tables}
 use Rattle.layout_rules.specs.TooLarge.{first_too_large}
-use Rattle.made_functions.specs.Files.{IsMadeFor}
 use Rattle.text_check.specs.Arguments.{NamesNone, IsCall, HasUnfit}
+use Rattle.text_compile.specs.Compile.{IsOnlyMadeFor}
 use Rattle.text_check.specs.Lines.{check_text}
 
 -- what is reported of a run of a file: of a function on words, with these frames and addresses
@@ -29,7 +29,7 @@ pub record IsCheckOf (check : CheckTree) (text lines : List ℕ) : Type 0 where
   pub answers : List ℕ
   pub call : IsCall check file entry args answers
   pub image : Tables
-  pub made : IsMadeFor file image
+  pub made : IsOnlyMadeFor file image
   pub fits : first_too_large image ≡ None
   pub told : lines ≡ told_of_run file (layout_of image) entry args answers check.fuel
 
@@ -55,6 +55,6 @@ pub record IsTooLargeToCheck (check : CheckTree) (text : List ℕ) (large : Larg
   pub answers : List ℕ
   pub call : IsCall check file entry args answers
   pub image : Tables
-  pub made : IsMadeFor file image
+  pub made : IsOnlyMadeFor file image
   pub passes : first_too_large image ≡ Some large
   pub not_roomy : IsRoomy file → ⊥

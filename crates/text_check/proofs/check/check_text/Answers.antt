@@ -2,15 +2,15 @@ use Rattle.std.proofs.Common.{◌≡◌, refl, sym, ap, ◌∙◌, subst, arith}
 use Rattle.bs_fault.specs.declared.large.Large.{Large}
 use Rattle.cmm_eval.specs.Views.{layout_view}
 use Rattle.cmm_front.specs.FileOf.{tree_of}
-use Rattle.cmm_lex.proofs.Scans.{AreBytes-from}
 use Rattle.cmm_meaning.specs.Layout.{Layout}
 use Rattle.cmm_tree.specs.Tree.{FileTree}
 use Rattle.cmm_tree.specs.View.{file_view}
 use Rattle.cmm_walks.specs.Checked.{typed_of}
 use Rattle.command_line.specs.View.{check_view}
 use Rattle.correctness.specs.Setting.{layout_of}
+use Rattle.file_promise.proofs.Bytes.{all_bytes}
 use Rattle.image_form.specs.Tables.{tables}
-use Rattle.text_compile.proofs.Passing.{too_large}
+use Rattle.text_compile.proofs.Passing.{only_made}
 use Rattle.text_check.specs.Arguments.{NamesNone, HasUnfit, IsCall}
 use Rattle.text_check.specs.Check.{told_of_run}
 use Rattle.text_check.proofs.check.check_text.Goals as goal
@@ -19,7 +19,7 @@ use Rattle.text_check.proofs.check.check_text.Goals as goal
 pub compile-requires-clause-accepted : goal.compile-requires-clause-accepted
 compile-requires-clause-accepted c = record {
   text = c.args.text.now;
-  are_bytes = AreBytes-from c.args.text.now (λ i. omega (arith, c.type_inv.text i));
+  are_bytes = all_bytes c.args.text.now (λ i. omega (arith, c.type_inv.text i));
   is_file = c.in-Ok.ensures.file;
 }
 
@@ -48,7 +48,7 @@ returns-in-Ok-told_of_run-clause-told c =
       answers = call.answers.items;
       call = subst (λ (f : FileTree). IsCall (check_view c.args.check.now) f call.entry call.args.items call.answers.items) same c.in-Ok-call_of.ensures.call;
       image = image;
-      made = c.in-Ok-compile.ensures.made;
+      made = only_made file image c.in-Ok-compile.ensures.made;
       fits = c.in-Ok-compile.ensures.fits;
       told =
           c.in-Ok-told_of_run.ensures

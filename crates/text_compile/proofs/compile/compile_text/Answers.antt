@@ -1,17 +1,17 @@
 use Rattle.std.proofs.Common.{◌≡◌, None, Some, arith, sym, ◌∙◌}
 use Rattle.cmm_front.specs.FileOf.{tree_of}
-use Rattle.cmm_lex.proofs.Scans.{AreBytes-from}
 use Rattle.cmm_walks.specs.Checked.{typed_of}
 use Rattle.file_promise.proofs.Promise.{made_correct, made_bounded, made_exact}
+use Rattle.file_promise.proofs.Bytes.{all_bytes}
 use Rattle.image_form.specs.Tables.{tables}
-use Rattle.text_compile.proofs.Passing.{too_large}
+use Rattle.text_compile.proofs.Passing.{only_made}
 use Rattle.text_compile.proofs.compile.compile_text.Goals as goal
 
 -- its file is the text's, so that it is an accepted one
 pub compile-requires-clause-accepted : goal.compile-requires-clause-accepted
 compile-requires-clause-accepted c = record {
   text = c.args.text.now;
-  are_bytes = AreBytes-from c.args.text.now (λ i. omega (arith, c.type_inv.text i));
+  are_bytes = all_bytes c.args.text.now (λ i. omega (arith, c.type_inv.text i));
   is_file = c.in-Ok.ensures.file;
 }
 
@@ -20,7 +20,7 @@ returns-in-Ok-write_image-clause-image c =
     let text = c.args.text.now in
     let file = tree_of (typed_of c.in-Ok.checked) in
     let image = tables c.in-Ok-compile.image in
-    let bytes = AreBytes-from text (λ i. omega (arith, c.type_inv.text i)) in
+    let bytes = all_bytes text (λ i. omega (arith, c.type_inv.text i)) in
     let made = c.in-Ok-compile.ensures.made in
     record {
       image = image;
@@ -28,7 +28,7 @@ returns-in-Ok-write_image-clause-image c =
         file = file;
         is_file = c.in-Ok.ensures.file;
         is_image = c.in-Ok-compile.ensures.is_image;
-        made = made;
+        made = only_made file image made;
         correct = made_correct text file c.in-Ok.ensures.file image made bytes c.in-Ok-compile.ensures.is_image;
         bounded = made_bounded text file c.in-Ok.ensures.file image made;
         exact = made_exact text file c.in-Ok.ensures.file image made;
