@@ -9,9 +9,7 @@
 
 mod lin_machine;
 mod mach_machine;
-mod reading;
 mod runs;
-mod words;
 mod world;
 
 use anyhow::Result;

@@ -1,7 +1,5 @@
 //! The rows: functions that are put together line by line, and their runs.
 
-use crate::reading::{apart, spots, words_of};
-use crate::words::{register, value};
 use crate::world::{Asked, Call, Doing, End, World};
 use crate::{lin_machine, mach_machine};
 use anyhow::Result;
@@ -11,6 +9,7 @@ use cmm_tree::File;
 use cmm_values::Memory;
 use lin_ir::{Lin, Line};
 use mach_ir::{Instr, Mach, Reg, Seq};
+use rows_reading::{apart, register, spots, value, words_of};
 use std::alloc::Global;
 use std::fmt::Write;
 

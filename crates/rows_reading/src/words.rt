@@ -54,7 +54,7 @@ fn entry<T: Copy>(table: &[(&'static str, T)], word: &str) -> Option<T> {
     None
 }
 
-pub(crate) fn operator(word: &str) -> Option<IntOp> {
+pub fn operator(word: &str) -> Option<IntOp> {
     match word.strip_prefix("u") {
         Some(compare) => entry(&COMPARISONS, compare).map(IntOp::CmpU),
         None => match entry(&COMPARISONS, word) {
@@ -64,12 +64,12 @@ pub(crate) fn operator(word: &str) -> Option<IntOp> {
     }
 }
 
-pub(crate) fn chunk(word: &str) -> Option<Chunk> {
+pub fn chunk(word: &str) -> Option<Chunk> {
     entry(&CHUNKS, word)
 }
 
 /// A test, whose right operand is a constant or the last register.
-pub(crate) fn test(word: &str, right: Right) -> Option<Test> {
+pub fn test(word: &str, right: Right) -> Option<Test> {
     if word == "holds" {
         return Some(Test::Holds);
     }
@@ -89,14 +89,14 @@ pub(crate) fn test(word: &str, right: Right) -> Option<Test> {
 }
 
 /// A word of 64 bits, in decimal digits, a minus before it where it is negative.
-pub(crate) fn number(word: &str) -> Option<u64> {
+pub fn number(word: &str) -> Option<u64> {
     match word.strip_prefix("-") {
         Some(digits) => digits.parse::<u64>().ok().map(|n| 0u64.wrapping_sub(n)),
         None => word.parse::<u64>().ok(),
     }
 }
 
-pub(crate) fn ret(word: &str) -> Ret {
+pub fn ret(word: &str) -> Ret {
     match word {
         "int" => Ret::Comp(Comp::Int),
         "val" => Ret::Comp(Comp::Val),
@@ -106,7 +106,7 @@ pub(crate) fn ret(word: &str) -> Ret {
 }
 
 /// A word; `b` and a block's serial, with an offset after `+`; or `f` and a function's number.
-pub(crate) fn value(word: &str) -> Option<Value> {
+pub fn value(word: &str) -> Option<Value> {
     if let Some(function) = word.strip_prefix("f") {
         return function.parse::<u32>().ok().map(Value::Function);
     }
@@ -142,7 +142,7 @@ fn loc(word: &str) -> Option<Loc> {
 }
 
 /// A register, or no register.
-pub(crate) fn register(word: &str) -> Option<Reg> {
+pub fn register(word: &str) -> Option<Reg> {
     let (comp, rest) = typed(word)?;
     let (rest, origin) = match rest.split_once("^") {
         Some((rest, origin)) => (rest, Some(origin.parse::<u32>().ok()?)),
@@ -165,7 +165,7 @@ pub(crate) fn register(word: &str) -> Option<Reg> {
 }
 
 /// The constant after `#` among the words, as the right operand; else the last register.
-pub(crate) fn right(words: &[&str]) -> Right {
+pub fn right(words: &[&str]) -> Right {
     for word in words {
         if let Some(constant) = word.strip_prefix("#") {
             if let Some(constant) = number(constant) {

@@ -16,7 +16,7 @@ use std::alloc::Global;
 
 /// A line taken apart.
 #[derive(Drop)]
-pub(crate) struct Parts<'a> {
+pub struct Parts<'a> {
     alloc: Global,
     name: &'a str,
     words: Vec<&'a str>,
@@ -25,7 +25,7 @@ pub(crate) struct Parts<'a> {
 }
 
 /// The words of a line.
-pub(crate) fn words_of<'a>(alloc: Global, line: &'a str) -> Result<Vec<&'a str>> {
+pub fn words_of<'a>(alloc: Global, line: &'a str) -> Result<Vec<&'a str>> {
     let mut words = Vec::new(alloc);
     for word in line.split(' ') {
         if !word.is_empty() {
@@ -36,7 +36,7 @@ pub(crate) fn words_of<'a>(alloc: Global, line: &'a str) -> Result<Vec<&'a str>>
 }
 
 /// The line taken apart, whose first word after the results is its name.
-pub(crate) fn apart<'a>(alloc: Global, line: &'a str) -> Result<Parts<'a>> {
+pub fn apart<'a>(alloc: Global, line: &'a str) -> Result<Parts<'a>> {
     let mut results = Vec::new(alloc);
     let body = match line.split_once(" = ") {
         Some((before, body)) => {
@@ -274,7 +274,7 @@ impl<'a> Parts<'a> {
     }
 
     /// The instruction of Mach, if it is one.
-    pub(crate) fn instr(self) -> Result<Option<Instr>> {
+    pub fn instr(self) -> Result<Option<Instr>> {
         let op = match self.mark()? {
             Some(mark) => MachOp::Mark(mark),
             None => match self.op()? {
@@ -290,7 +290,7 @@ impl<'a> Parts<'a> {
     }
 
     /// The line of Linear, if it is one.
-    pub(crate) fn line(self) -> Result<Option<Line>> {
+    pub fn line(self) -> Result<Option<Line>> {
         let op = match self.flow()? {
             Some(flow) => LinOp::Flow(flow),
             None => match self.op()? {
@@ -316,7 +316,7 @@ fn new_block(word: &str) -> Option<NewBlock>
 }
 
 /// The locations of registers.
-pub(crate) fn spots(alloc: Global, regs: &[Reg]) -> Result<Seq<Spot>> {
+pub fn spots(alloc: Global, regs: &[Reg]) -> Result<Seq<Spot>> {
     let mut spots = Vec::new(alloc);
     for reg in regs {
         spots.push(Spot {

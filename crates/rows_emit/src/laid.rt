@@ -1,0 +1,208 @@
+//! From the pieces of a function to its words.
+ghost use Rattle.std.specs.Prelude.{IsTrue};
+ghost use Rattle.layout_rules.specs.Conditions.{LeadsTo};
+ghost use Rattle.rv_isa.specs.Encoding.{InstrFits};
+ghost use Rattle.rv_pieces.specs.Named.{PieceFits};
+
+use anyhow::Result;
+use bs_words::Name;
+use layout_rules::Form;
+use rv_isa::Instr;
+use rv_layout::{forms_of, put_piece, words_of};
+use rv_pieces::Piece;
+use std::alloc::Global;
+use std::io::Write;
+
+/// The words before each label, and the label.
+fn places(alloc: Global, code: &[Piece], forms: &[Form]) -> Result<Vec<(u32, u64)>> {
+    let mut of = Vec::new(alloc);
+    let mut at: u64 = 0;
+    for (piece, form) in code.iter().zip(forms) {
+        if let Piece::Label(label) = piece {
+            of.push((*label, at))?;
+        }
+        at = at.wrapping_add(words_of(piece, *form));
+    }
+    Ok(of)
+}
+
+/// The bytes of so many words.
+fn bytes(words: u64) -> u32 {
+    ((words % 0x1000_0000) * 4) as u32
+}
+
+/// The address of a label, behind an entry.
+fn address(places: &[(u32, u64)], entry: u32, label: u32) -> u32 {
+    for (other, at) in places {
+        if *other == label {
+            return entry.wrapping_add(bytes(*at));
+        }
+    }
+    0
+}
+
+/// The number that a name is in decimal digits.
+fn number(name: &Name) -> u32 {
+    let mut number: u32 = 0;
+    for digit in name.as_bytes() {
+        number = number
+            .wrapping_mul(10)
+            .wrapping_add(u32::from(*digit).wrapping_sub(48));
+    }
+    number
+}
+
+/// What the name of a piece stands for.
+fn target(places: &[(u32, u64)], entry: u32, piece: &Piece) -> u32 {
+    match piece {
+        Piece::Branch {
+            condition: _,
+            left: _,
+            right: _,
+            label,
+        } => address(places, entry, *label),
+        Piece::Jump(label) => address(places, entry, *label),
+        Piece::Row(label) => address(places, entry, *label),
+        Piece::LabelAddress { to: _, label } => address(places, entry, *label),
+        Piece::Call(name) => number(name),
+        Piece::TailCall(name) => number(name),
+        Piece::SymbolAddress { to: _, name } => number(name),
+        Piece::ExternalNumber { to: _, row } => number(&row.name),
+        Piece::Known(_) => 0,
+        Piece::Label(_) => 0,
+        Piece::Descriptor(_) => 0,
+    }
+}
+
+/// Whether the numbers of an instruction fit its fields.
+fn instr_fits(instr: Instr) -> bool
+    ensures { IsTrue result → InstrFits instr }
+{
+    match instr {
+        Instr::Lui { rd, imm } => rd < 32 && imm < 0x10_0000,
+        Instr::Auipc { rd, imm } => rd < 32 && imm < 0x10_0000,
+        Instr::Jal { rd, offset } => rd < 32 && offset < 0x20_0000 && offset % 2 == 0,
+        Instr::Jalr { rd, rs1, imm } => rd < 32 && rs1 < 32 && imm < 4096,
+        Instr::Branch {
+            condition: _,
+            rs1,
+            rs2,
+            offset,
+        } => rs1 < 32 && rs2 < 32 && offset < 8192 && offset % 2 == 0,
+        Instr::Load {
+            width: _,
+            rd,
+            rs1,
+            imm,
+        } => rd < 32 && rs1 < 32 && imm < 4096,
+        Instr::Store {
+            width: _,
+            rs1,
+            rs2,
+            imm,
+        } => rs1 < 32 && rs2 < 32 && imm < 4096,
+        Instr::OpImm {
+            op: _,
+            rd,
+            rs1,
+            imm,
+        } => rd < 32 && rs1 < 32 && imm < 4096,
+        Instr::Shift {
+            op: _,
+            rd,
+            rs1,
+            amount,
+        } => rd < 32 && rs1 < 32 && amount < 64,
+        Instr::Op {
+            op: _,
+            rd,
+            rs1,
+            rs2,
+        } => rd < 32 && rs1 < 32 && rs2 < 32,
+        Instr::Addiw { rd, rs1, imm } => rd < 32 && rs1 < 32 && imm < 4096,
+        Instr::ShiftWord {
+            op: _,
+            rd,
+            rs1,
+            amount,
+        } => rd < 32 && rs1 < 32 && amount < 32,
+        Instr::OpWord {
+            op: _,
+            rd,
+            rs1,
+            rs2,
+        } => rd < 32 && rs1 < 32 && rs2 < 32,
+        Instr::Ecall => true,
+    }
+}
+
+/// Whether its numbers fit, and it leads to where an instruction may stand.
+fn is_settled(piece: &Piece, to: u32) -> bool
+    ensures { IsTrue result → PieceFits piece.now × LeadsTo to piece.now }
+{
+    match piece {
+        Piece::Known(instr) => instr_fits(*instr),
+        Piece::Label(_) => true,
+        Piece::Branch {
+            condition: _,
+            left: _,
+            right: _,
+            label: _,
+        } => to % 4 == 0,
+        Piece::Jump(_) => to % 4 == 0,
+        Piece::Row(_) => true,
+        Piece::LabelAddress { to: _, label: _ } => true,
+        Piece::Call(_) => true,
+        Piece::TailCall(_) => true,
+        Piece::SymbolAddress { to: _, name: _ } => true,
+        Piece::ExternalNumber { to: _, row: _ } => true,
+        Piece::Descriptor(_) => true,
+    }
+}
+
+/// The words of pieces, whose first stands at this address.
+fn words(
+    alloc: Global,
+    code: &[Piece],
+    forms: &[Form],
+    places: &[(u32, u64)],
+    entry: u32,
+) -> Result<Vec<u32>> {
+    let mut words = Vec::new(alloc);
+    let mut at: u64 = 0;
+    for (piece, form) in code.iter().zip(forms) {
+        let to = target(places, entry, piece);
+        let place = u64::from(entry) + u64::from(bytes(at));
+        if is_settled(piece, to) && place % 4 == 0 && place < 0xFFFF_0000 {
+            put_piece(&mut words, piece, *form, place, to)?;
+        }
+        at = at.wrapping_add(words_of(piece, *form));
+    }
+    Ok(words)
+}
+
+/// Puts a line of words.
+fn put_line<W: Write>(alloc: Global, out: &mut W, words: &[u32]) -> Result<()> {
+    for word in words {
+        let digits = format!(in alloc; "{word:08x} ")?;
+        out.write_all(digits.as_bytes())?;
+    }
+    out.write_all(b"\n")?;
+    Ok(())
+}
+
+/// Puts the words of pieces, whose first stands at this address.
+pub(crate) fn put_code<W: Write>(
+    alloc: Global,
+    out: &mut W,
+    code: &[Piece],
+    entry: u32,
+) -> Result<()> {
+    if code.len() >= 1 << 32 {
+        return Ok(());
+    }
+    let forms = forms_of(alloc, code)?;
+    let places = places(alloc, code, forms.as_slice())?;
+    let words = words(alloc, code, forms.as_slice(), places.as_slice(), entry)?;
+    put_line(alloc, out, words.as_slice())
+}

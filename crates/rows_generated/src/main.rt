@@ -1,0 +1,116 @@
+//! Texts of the generator, compiled and run: what each comes to, under every way in which the mover may ask, and by the
+//! meaning of the text.
+//!
+//! A line of standard input has a seed and a number of functions. The text is compiled, its last function is run on 3 and
+//! 4 under `none`, `every` and three drawn schedules, and `check` runs it by its meaning. What is printed is the outcome,
+//! once where all six agree.
+#![tactic(auto)]
+
+use anyhow::Result;
+use bs_io::{MemSink, MemSource};
+use bs_words::List;
+use cmm_gen::generate;
+use cmmc_core::cmmc;
+use std::alloc::{AllocError, Global};
+use std::io::{self, BufRead, BufReader, BufWriter, Write};
+
+/// The most bytes that are kept of an image or of what is reported.
+const KEPT: usize = 1 << 22;
+
+/// The most bytes of one read or write.
+const PIECE: usize = 1 << 16;
+
+/// The options of the runs.
+const MOVES: [&str; 5] = [
+    "--moves=none",
+    "--moves=every",
+    "--moves=seed:1",
+    "--moves=seed:2",
+    "--moves=seed:3",
+];
+
+fn main(rt: HostRuntime) -> Result<()> {
+    let alloc = rt.alloc();
+    let mut out = BufWriter::new(alloc, rt.stdout())?;
+    for line in BufReader::new(alloc, rt.stdin())?.lines(alloc) {
+        let line = line?;
+        out.write_all(outcome_of(alloc, line.as_str())?.as_slice())?;
+    }
+    out.flush()?;
+    Ok(())
+}
+
+/// The number that the digits write, and 0 where they write none.
+fn number_of(digits: &str) -> u64 {
+    match digits.parse::<u64>() {
+        Ok(number) => number,
+        Err(_) => 0,
+    }
+}
+
+/// A line of the answer.
+fn outcome_of(alloc: Global, line: &str) -> Result<Vec<u8>, AllocError> {
+    let Some((seed, functions)) = line.split_once(" ") else {
+        return b"no number\n".to_vec(alloc);
+    };
+    let count = number_of(functions) as u32;
+    if count == 0 || count > 1000 {
+        return b"no functions\n".to_vec(alloc);
+    }
+    let text = generate(alloc, number_of(seed), count)?;
+    let mut said = line.as_bytes().to_vec(alloc)?;
+    said.extend_from_slice(b": ")?;
+    said.extend_from_slice(all_outcomes(alloc, text.as_slice(), count - 1)?.as_slice())?;
+    Ok(said)
+}
+
+/// The outcome of the text's last function, of so many functions before it, once where all ways agree.
+fn all_outcomes(alloc: Global, text: &[u8], last: u32) -> Result<Vec<u8>, AllocError> {
+    let entry = format!(in alloc; "g{last}")?;
+    let image = told(alloc, text, "compile", "", "")?;
+    let checked = told(alloc, text, "check", entry.as_str(), "--fuel=1000000000")?;
+    let first = first_line(checked.as_slice());
+    let mut said = first.to_vec(alloc)?;
+    for moves in MOVES {
+        let run = told(alloc, image.as_slice(), "run", entry.as_str(), moves)?;
+        if first_line(run.as_slice()) != first {
+            said.extend_from_slice(moves.as_bytes())?;
+            said.extend_from_slice(b" ")?;
+            said.extend_from_slice(run.as_slice())?;
+        }
+    }
+    Ok(said)
+}
+
+/// The first line, with its end.
+fn first_line(lines: &[u8]) -> &[u8] {
+    for at in 0..lines.len() {
+        if lines[at] == b'\n' {
+            return &lines[..at + 1];
+        }
+    }
+    lines
+}
+
+/// What the command writes that reads this.
+fn told(
+    alloc: Global,
+    input: &[u8],
+    command: &str,
+    entry: &str,
+    option: &str,
+) -> Result<Vec<u8>, AllocError> {
+    let mut words = Vec::new(alloc);
+    words.push(String::from_str(alloc, command)?)?;
+    if !entry.is_empty() {
+        words.push(String::from_str(alloc, entry)?)?;
+        words.push(String::from_str(alloc, "--args=3,4")?)?;
+        words.push(String::from_str(alloc, option)?)?;
+    }
+    let input = List::from_vec(input.to_vec(alloc)?);
+    let mut source = MemSource::new(input, List::new(alloc), PIECE);
+    let mut out = MemSink::new(alloc, KEPT, List::new(alloc), PIECE)?;
+    let mut err = MemSink::new(alloc, KEPT, List::new(alloc), PIECE)?;
+    let _ = cmmc(alloc, words.as_slice(), &mut source, &mut out, &mut err);
+    out.bytes().to_vec(alloc)
+}
