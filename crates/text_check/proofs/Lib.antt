@@ -4,3 +4,4 @@ mod Told
 mod Entries
 pub mod Called
 mod Fitting
+mod Compiled

@@ -3,6 +3,7 @@ use Rattle.std.proofs.Common.{◌≡◌, ℕ, List, Option, None, Some, sym, ◌
 use Rattle.bs_fault.specs.declared.large.Large.{Large}
 use Rattle.cmm_front.specs.FileOf.{IsFileOf}
 use Rattle.cmm_tree.specs.Tree.{FileTree}
+use Rattle.correctness.specs.Bounds.{IsRoomy}
 use Rattle.file_promise.proofs.Once.{made_for_once}
 use Rattle.file_promise.proofs.Promise.{roomy_fits}
 use Rattle.image_form.specs.Tables.{Tables}
@@ -16,14 +17,16 @@ none_some large e = cc
 pub only_made : (file : FileTree) (image : Tables) → IsMadeFor file image → IsOnlyMadeFor file image
 only_made file image made = record { made = made; only = λ other m. made_for_once file other image m made }
 
-pub too_large : (text : List ℕ) (file : FileTree) (large : Large) → IsFileOf text file
-    → (t : Tables) × (IsMadeFor file t × (first_too_large t ≡ Some large))
-    → IsTooLarge text large
-too_large text file large is of = record {
-  file = file;
-  is_file = is;
-  image = of.0;
-  made = only_made file of.0 of.1.0;
-  passes = of.1.1;
-  not_roomy = λ roomy. none_some large (sym (roomy_fits text file is of.0 of.1.0 roomy) ∙ of.1.1);
-}
+module _ (text : List ℕ) (file : FileTree) (large : Large) (is : IsFileOf text file) (of : (t : Tables) × (IsMadeFor file t × (first_too_large t ≡ Some large))) where
+  pub not_roomy : IsRoomy file → ⊥
+  not_roomy roomy = none_some large (sym (roomy_fits text file is of.0 of.1.0 roomy) ∙ of.1.1)
+
+  pub too_large : IsTooLarge text large
+  too_large = record {
+    file = file;
+    is_file = is;
+    image = of.0;
+    made = only_made file of.0 of.1.0;
+    passes = of.1.1;
+    not_roomy = not_roomy;
+  }

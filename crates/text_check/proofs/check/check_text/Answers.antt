@@ -1,5 +1,4 @@
 use Rattle.std.proofs.Common.{◌≡◌, refl, sym, ap, ◌∙◌, subst, arith}
-use Rattle.bs_fault.specs.declared.large.Large.{Large}
 use Rattle.cmm_eval.specs.Views.{layout_view}
 use Rattle.cmm_front.specs.FileOf.{tree_of}
 use Rattle.cmm_meaning.specs.Layout.{Layout}
@@ -11,6 +10,7 @@ use Rattle.correctness.specs.Setting.{layout_of}
 use Rattle.file_promise.proofs.Bytes.{all_bytes}
 use Rattle.image_form.specs.Tables.{tables}
 use Rattle.text_compile.proofs.Passing.{only_made}
+use Rattle.text_check.proofs.Compiled.{too_large_to_check}
 use Rattle.text_check.specs.Arguments.{NamesNone, HasUnfit, IsCall}
 use Rattle.text_check.specs.Check.{told_of_run}
 use Rattle.text_check.proofs.check.check_text.Goals as goal
@@ -55,3 +55,13 @@ returns-in-Ok-told_of_run-clause-told c =
           ∙ ap (λ (f : FileTree). told_of_run f (layout_view c.in-Ok-layout.layout) call.entry call.args.items call.answers.items c.args.check.now.fuel) same
           ∙ ap (λ (l : Layout). told_of_run file l call.entry call.args.items call.answers.items c.args.check.now.fuel) c.in-Ok-layout.ensures;
     }
+
+pub returns-in-Err-TooLarge-clause-refused : goal.returns-in-Err-TooLarge-clause-refused
+returns-in-Err-TooLarge-clause-refused c =
+    let file = tree_of (typed_of c.in-Ok.checked) in
+    let call = c.in-Ok-call_of.call in
+    let same : file_view c.file-file.result.now ≡ file = rw (c.file-file.ensures, c.typed.ensures) refl in
+    let called : IsCall (check_view c.args.check.now) file call.entry call.args.items call.answers.items =
+        subst (λ (f : FileTree). IsCall (check_view c.args.check.now) f call.entry call.args.items call.answers.items) same c.in-Ok-call_of.ensures.call in
+    too_large_to_check (check_view c.args.check.now) c.args.text.now file c.in-Err-TooLarge.large call.entry call.args.items call.answers.items c.in-Ok.ensures.file
+    called (c.compile.ensures.large c.in-Err-TooLarge.large refl)
