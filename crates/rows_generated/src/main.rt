@@ -3,7 +3,7 @@
 //!
 //! A line of standard input has a seed and a number of functions. The text is compiled, its last function is run on 3 and
 //! 4 under `none`, `every` and three drawn schedules, and `check` runs it by its meaning. What is printed is the outcome,
-//! once where all six agree.
+//! once where all six agree. `stdout` is from a generator and an evaluator of texts in another language.
 #![tactic(auto)]
 
 use anyhow::Result;
@@ -40,27 +40,24 @@ fn main(rt: HostRuntime) -> Result<()> {
     Ok(())
 }
 
-/// The number that the digits write, and 0 where they write none.
-fn number_of(digits: &str) -> u64 {
-    match digits.parse::<u64>() {
-        Ok(number) => number,
-        Err(_) => 0,
-    }
+/// The seed and the number of functions that a line has.
+fn numbers_of(line: &str) -> Option<(u64, u32)> {
+    let (seed, functions) = line.split_once(" ")?;
+    Some((seed.parse::<u64>().ok()?, functions.parse::<u32>().ok()?))
 }
 
 /// A line of the answer.
 fn outcome_of(alloc: Global, line: &str) -> Result<Vec<u8>, AllocError> {
-    let Some((seed, functions)) = line.split_once(" ") else {
-        return b"no number\n".to_vec(alloc);
+    let Some((seed, functions)) = numbers_of(line) else {
+        return b"no numbers\n".to_vec(alloc);
     };
-    let count = number_of(functions) as u32;
-    if count == 0 || count > 1000 {
-        return b"no functions\n".to_vec(alloc);
+    if functions == 0 || functions > 1000 {
+        return b"no text\n".to_vec(alloc);
     }
-    let text = generate(alloc, number_of(seed), count)?;
+    let text = generate(alloc, seed, functions)?;
     let mut said = line.as_bytes().to_vec(alloc)?;
     said.extend_from_slice(b": ")?;
-    said.extend_from_slice(all_outcomes(alloc, text.as_slice(), count - 1)?.as_slice())?;
+    said.extend_from_slice(all_outcomes(alloc, text.as_slice(), functions - 1)?.as_slice())?;
     Ok(said)
 }
 
