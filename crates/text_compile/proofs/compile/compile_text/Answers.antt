@@ -1,4 +1,4 @@
-use Rattle.std.proofs.Common.{refl, arith}
+use Rattle.std.proofs.Common.{Err, ap, arith}
 use Rattle.cmm_front.specs.FileOf.{tree_of}
 use Rattle.cmm_walks.specs.Checked.{typed_of}
 use Rattle.file_promise.proofs.Promise.{made_correct, made_in_need, made_bounded, made_exact}
@@ -40,5 +40,7 @@ returns-in-Ok-write_image-clause-image c =
 
 pub returns-in-Err-TooLarge-clause-refused : goal.returns-in-Err-TooLarge-clause-refused
 returns-in-Err-TooLarge-clause-refused c =
-    too_large c.args.text.now (tree_of (typed_of c.in-Ok.checked)) c.in-Err-TooLarge.large c.in-Ok.ensures.file
-    (c.compile.ensures.large c.in-Err-TooLarge.large refl)
+    rw c.in-Err-TooLarge.field-0-is (
+      too_large c.args.text.now (tree_of (typed_of c.in-Ok.checked)) c.in-Err-TooLarge.large c.in-Ok.ensures.file
+      (c.in-Err-TooLarge.ensures.large c.in-Err-TooLarge.large (ap Err c.in-Err-TooLarge.field-0-is))
+    )
