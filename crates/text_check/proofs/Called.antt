@@ -1,7 +1,6 @@
 -- Of a file a function has a name or none has it, and words suit it or do not.
-use Rattle.std.proofs.Common.{◌≡◌, ◌∙◌, ℕ, true, false, List, Option, Some, None, sym, ap, subst}
-use Rattle.bs_words.specs.declared.values.Value.TheVariants as value
-use Rattle.cmm_tree.specs.Tree.{FunctionTree, FileTree, comps_of}
+use Rattle.std.proofs.Common.{◌≡◌, ◌∙◌, ℕ, List, Some, None, sym, subst}
+use Rattle.cmm_tree.specs.Tree.{FunctionTree, FileTree}
 use Rattle.command_line.specs.Command.{CheckTree}
 use Rattle.text_check.specs.Arguments.{NamesNone, Suit, Unfit, no_argument, misfit, no_answer, IsCall, HasUnfit}
 

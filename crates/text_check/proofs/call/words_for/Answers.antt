@@ -1,10 +1,7 @@
-use Rattle.std.proofs.Common.{◌≡◌, ◌∙◌, ℕ, List, Option, Some, None, false, map, refl, sym, ap, subst}
+use Rattle.std.proofs.Common.{◌≡◌, ◌∙◌, Some, sym}
 use Rattle.bs_words.specs.Contents.{contents}
-use Rattle.bs_words.specs.declared.values.Value.TheVariants as value
-use Rattle.cmm_data.specs.Placement.{data_end, value_of_symbol}
+use Rattle.cmm_data.specs.Placement.{value_of_symbol}
 use Rattle.cmm_data.specs.Symbols.{value_in}
-use Rattle.cmm_meaning.specs.Evaluation.{fit_parameters}
-use Rattle.cmm_tree.specs.Tree.{comps_of}
 use Rattle.cmm_tree.specs.View.{file_view, function_view}
 use Rattle.text_check.specs.Arguments.{words_of, no_argument, misfit, no_answer}
 use Rattle.text_check.proofs.Words.{words_same}

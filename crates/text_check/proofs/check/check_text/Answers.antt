@@ -6,12 +6,11 @@ use Rattle.cmm_tree.specs.Tree.{FileTree}
 use Rattle.cmm_tree.specs.View.{file_view}
 use Rattle.cmm_walks.specs.Checked.{typed_of}
 use Rattle.command_line.specs.View.{check_view}
-use Rattle.correctness.specs.Setting.{layout_of}
 use Rattle.file_promise.proofs.Bytes.{all_bytes}
 use Rattle.image_form.specs.Tables.{tables}
 use Rattle.text_compile.proofs.Passing.{only_made}
 use Rattle.text_check.proofs.Compiled.{too_large_to_check}
-use Rattle.text_check.specs.Arguments.{NamesNone, HasUnfit, IsCall}
+use Rattle.text_check.specs.Arguments.{NamesNone, IsCall}
 use Rattle.text_check.specs.Check.{told_of_run}
 use Rattle.text_check.proofs.check.check_text.Goals as goal
 

@@ -1,5 +1,5 @@
-use Rattle.std.proofs.Common.{◌≡◌, ◌∙◌, ℕ, suc, ◌+◌, ◌<◌, ◌≤◌, Bool, true, false, List, [], ◌∷◌, drop, length, map, IsTrue, refl, sym, ap, subst, arith}
-use Rattle.cmm_tree.specs.Tree.{ItemTree, AFunction, AData, functions}
+use Rattle.std.proofs.Common.{◌≡◌, ◌∙◌, suc, ◌+◌, Bool, true, false, ◌∷◌, drop, map, IsTrue, sym, ap, subst, arith}
+use Rattle.cmm_tree.specs.Tree.{AFunction, AData, functions}
 use Rattle.cmm_tree.specs.View.{item_view, file_view, function_view, data_list_view}
 use Rattle.file_compile.proofs.LayoutRows.{map_past}
 use Rattle.text_check.proofs.Rows.{map_rest}
