@@ -1,4 +1,4 @@
--- The image of an accepted file, whose functions were compiled, is correct for it.
+-- The image of an accepted file, whose functions were compiled, is correct for it, and asks for allocations only in need.
 use Rattle.std.proofs.Common.{◌≡◌, ℕ, zero, suc, ◌+◌, ◌-◌, ◌≤◌, false, List, [], ◌∷◌, Option, Some, None, length, refl, sym, ◌∙◌, subst, arith}
 use Rattle.std.specs.Prelude.{slice_get, slice_index}
 use Rattle.bs_words.specs.Fits.{data_start}
@@ -13,6 +13,7 @@ use Rattle.cmm_lex.proofs.Languages.{AreBytes}
 use Rattle.cmm_meaning.specs.Setting.{Setting}
 use Rattle.cmm_tree.specs.Tree.{FileTree, FunctionTree, functions}
 use Rattle.correctness.specs.Correct.{IsCorrect}
+use Rattle.correctness.specs.InNeed.{AsksInNeed}
 use Rattle.correctness.specs.Setting.{layout_of}
 use Rattle.image_form.specs.Image.{AreTables}
 use Rattle.image_form.specs.Tables.{Tables}
@@ -50,7 +51,7 @@ use Rattle.linking.specs.Program.{place_in, setting_in}
 use Rattle.linking_machine.specs.Compiled.{IsCompiled}
 use Rattle.linking_machine.specs.Emitted.{FollowsLine, IsEmitted}
 use Rattle.linking_machine.specs.Standing.{fixed_of}
-use Rattle.linking_machine.proofs.Compiled.{bases_hold, compiled_correct}
+use Rattle.linking_machine.proofs.Compiled.{bases_hold, compiled_correct, compiled_in_need}
 use Rattle.linking_stages.specs.Stages.{linear_program}
 use Rattle.function_stands.specs.Compiled.{IsImageOf}
 use Rattle.function_stands.specs.Functions.{FunctionStands, entry_place}
@@ -315,3 +316,7 @@ module _ (text : List ℕ) (file : FileTree) (is : IsFileOf text file) (bytes : 
   -- The image is correct for the file.
   pub correct : IsCorrect file image
   correct = compiled_correct file image (selected_in file) lins named_in paced (most_nodes (functions file)) words laid_in entry_at has bases_hold compiled
+
+  -- It asks for allocations only in need.
+  pub in_need : AsksInNeed file image
+  in_need = compiled_in_need file image (selected_in file) lins named_in paced (most_nodes (functions file)) words laid_in entry_at has bases_hold compiled

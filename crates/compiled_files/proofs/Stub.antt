@@ -18,11 +18,12 @@ use Rattle.cmm_meaning.specs.State.{Doing, Gave, Threw}
 use Rattle.cmm_tree.specs.Tree.{FileTree}
 use Rattle.correctness.specs.Setting.{layout_of}
 use Rattle.image_form.specs.Image.{IsFunc, IsResult, stub}
+use Rattle.guarded_machine.specs.Guarded.{guarded_after, guarded_of}
 use Rattle.image_form.specs.Tables.{Tables}
 use Rattle.layout_rules.specs.Laid.{IsLaidOut, code_from, entries_from, stub_words}
 use Rattle.lin_ir.specs.declared.lin.Line.{Line}
 use Rattle.mach_ir.specs.Runs.{entered}
-use Rattle.machine_laws.specs.Steps.{next_of, moments}
+use Rattle.machine_laws.specs.Steps.{moments}
 use Rattle.meaning_laws.specs.Fitting.{FitsResult, nothing, value}
 use Rattle.moving_laws.specs.Values.{HasFunctions, IsKnown}
 use Rattle.moving_laws.specs.Young.{Rises}
@@ -39,7 +40,7 @@ use Rattle.rv_machine.specs.Loading.{IsRoom}
 use Rattle.rv_machine.specs.Memory.{code_start}
 use Rattle.rv_machine.specs.Observation.{all_blocks, block_or_word, blocks_or, serial_from}
 use Rattle.rv_machine.specs.Observation as observation
-use Rattle.rv_machine.specs.Run.{after, seen}
+use Rattle.rv_machine.specs.Run.{seen}
 use Rattle.rv_machine.specs.Services.{Machine, Now, Going, Over, End, served, value_returned}
 use Rattle.rv_machine.specs.Services as machine
 use Rattle.rv_machine.specs.Places.{stack_bottom}
@@ -59,13 +60,13 @@ use Rattle.linear_machine.proofs.Moving.{hart_of, heads_of}
 use Rattle.linear_machine.proofs.Sequences.{set_changes, sets_as}
 use Rattle.linear_machine.proofs.Serving.{hart_is, with_memory}
 use Rattle.linear_machine.proofs.Standing.{own_past}
-use Rattle.linear_machine.proofs.Steps.{one_step, ready, ready_stands}
+use Rattle.linear_machine.proofs.Steps.{one_step, ready, ready_stands, other_number}
 use Rattle.line_calls.proofs.Shown.{each_at, val_shown}
 use Rattle.linking.specs.Assembled.{IsStub, Setup}
 use Rattle.linking.specs.Carries.{Comes, Near, Outer}
 use Rattle.line_calls.specs.Calls.{IsInTable}
 use Rattle.linking_machine.specs.Standing.{Back, Shows, fixed_of}
-use Rattle.linking_machine.proofs.Carrying.{after_moments, values_shown}
+use Rattle.linking_machine.proofs.Carrying.{values_shown}
 
 first_same : {A : Type 0} (x y : A) (xs ys : List A) → x ∷ xs ≡ y ∷ ys → x ≡ y
 first_same x y xs ys e = cc
@@ -80,13 +81,13 @@ shown_is : (image : Tables) (count : ℕ) (v : Value) → IsKnown image count v 
 shown_is image count v k =
     first_same (shown image v) (observed (layout_of image) v) [] [] (values_shown image (v ∷ []) (in_table image count v k, tt))
 
-module _ (s : Fixed) (end : ℕ) (end_is : end ≡ data_start + length s.image.bytes) (n : ℕ) (small : n < 2048) (v : View)
+module _ (s : Fixed) (end : ℕ) (end_is : end ≡ data_start + length s.image.bytes) (n : ℕ) (small : n < 3) (v : View)
     (first : IsCode s v.place (OpImm Addi 7 0 n)) (second : IsCode s (v.place + 1) Ecall) (young : List Placed) (memory : Memory)
     (own : OwnRegisters v.registers young 0) (usable : IsUsable s v) (heap : HeapStands s (all_of v young) v.memory (entered memory))
     (m : Machine) (st : Stands s m v) where
   clears : Changes s v 1 (7 ∷ []) v.memory (λ w. slice_index w.registers 7 ≡ n)
   clears =
-      let sum : add_word 0 (imm_i n) ≡ n = ap (add_word 0) (low_12 n small) ∙ up 0 n n (omega arith) (omega (arith, small)) in
+      let sum : add_word 0 (imm_i n) ≡ n = ap (add_word 0) (low_12 n (omega (arith, small))) ∙ up 0 n n (omega arith) (omega (arith, small)) in
       set_changes s v (OpImm Addi 7 0 n) 6 n first (inl (λ q. omega (arith, q))) (sets_as s v (OpImm Addi 7 0 n) 7 _ _ sum (sets_imm s v Addi 7 0 n)) own.are
       (omega arith) (omega (arith, small))
 
@@ -105,11 +106,12 @@ module _ (s : Fixed) (end : ℕ) (end_is : end ≡ data_start + length s.image.b
   ok : Stands s b u
   ok = ready_stands s led u led_stands
 
-  over : after s.schedule 2 (Going m) ≡ served s.schedule.plan n b
+  over : guarded_after s.schedule 2 (Going m) ≡ served s.schedule.plan n b
   over =
       let here = clears.past.place in
       (clears.leads.by m st).2 2 1 refl
-      ∙ one_step s led u Ecall (hart.Service b.hart) led_stands (subst (λ p. IsCode s p Ecall) (sym here) second) refl 1 0 refl
+      ∙ one_step s led u Ecall (hart.Service b.hart) led_stands (subst (λ p. IsCode s p Ecall) (sym here) second)
+      (other_number s led u n led_stands clears.holds (λ e. omega (arith, e, small))) refl 1 0 refl
       ∙ ap (λ k. served s.schedule.plan k b) (ap (λ xs. slice_index xs 7) ok.registers ∙ clears.holds)
 
   abbrev w : View
@@ -168,10 +170,10 @@ module _ (s : Fixed) (end : ℕ) (end_is : end ≡ data_start + length s.image.b
 
   -- so the run ends
   ends_so : (stack heap : ℕ) (o : Outer) (x : Now) → x ≡ Going m → v.calls ≡ o.made → (wanted : End) → served s.schedule.plan n b ≡ Over b.calls wanted →
-      Comes Now (next_of s.schedule) seen stack heap 0 0 o.made (Near 0 2 (λ y. seen y ≡ record { calls = o.made; end = wanted })) x
+      Comes Now (guarded_of s.schedule) seen stack heap 0 0 o.made (Near 0 2 (λ y. seen y ≡ record { calls = o.made; end = wanted })) x
   ends_so stack heap o x is calls wanted comes =
-      let there : moments (next_of s.schedule) 2 x ≡ Over b.calls wanted =
-      ap (moments (next_of s.schedule) 2) is ∙ sym (after_moments s.schedule 2 (Going m)) ∙ over ∙ comes in
+      let there : moments (guarded_of s.schedule) 2 x ≡ Over b.calls wanted =
+      ap (moments (guarded_of s.schedule) 2) is ∙ over ∙ comes in
       let made : b.calls ≡ o.made = ok.calls ∙ clears.leads.calls ∙ calls in
       record {
         count = 2;
@@ -205,11 +207,11 @@ module _ (s : Fixed) (end : ℕ) (end_is : end ≡ data_start + length s.image.b
   Came d o x = Shows s o (IsDone s nothing_below d) x
 
   -- The stub ends a run whose entry has returned, or whose raise none has caught.
-  pub stub_ends : IsStub Now (next_of s.schedule) seen stack heap (layout_of s.image) end s.result Came
+  pub stub_ends : IsStub Now (guarded_of s.schedule) seen stack heap (layout_of s.image) end s.result Came
   stub_ends = record { returned = returned; raised = raised }
     where
       returned : (v : Option Value) (memory : Memory) (o : Outer) (x : Now) → FitsResult end s.result v → Came (Gave v memory) o x →
-          Comes Now (next_of s.schedule) seen stack heap 0 0 o.made
+          Comes Now (guarded_of s.schedule) seen stack heap 0 0 o.made
           (Near 0 2 (λ y. seen y ≡ record { calls = o.made; end = machine.Returned (option_map (observed (layout_of s.image)) v) })) x
       returned v memory o x fit sh =
           let young = sh.holds.0 in
@@ -219,7 +221,7 @@ module _ (s : Fixed) (end : ℕ) (end_is : end ≡ data_start + length s.image.b
           let there : sh.view.place + 1 ≡ 1 = omega (arith, here) in
           let one = subst (λ p. IsCode s p (OpImm Addi 7 0 0)) (sym here) has.returns in
           let two = subst (λ p. IsCode s p Ecall) (sym there) has.tells in
-          let low : 0 < 2048 = omega arith in
+          let low : 0 < 3 = omega arith in
           let bm = b s end end_is 0 low sh.view one two young memory r.own r.usable r.heap sh.machine sh.stands in
           let stands = ok s end end_is 0 low sh.view one two young memory r.own r.usable r.heap sh.machine sh.stands in
           ends_so s end end_is 0 low sh.view one two young memory r.own r.usable r.heap sh.machine sh.stands stack heap o x sh.is sh.calls
@@ -229,7 +231,7 @@ module _ (s : Fixed) (end : ℕ) (end_is : end ≡ data_start + length s.image.b
           (λ c y fi na is. told s end end_is 0 low sh.view one two young memory r.own r.usable r.heap sh.machine sh.stands c y fi na (r.value_in y is))))
 
       raised : (v : Value) (memory : Memory) (o : Outer) (x : Now) → fits end ty.Val v ≡ true → Came (Threw v memory) o x →
-          Comes Now (next_of s.schedule) seen stack heap 0 0 o.made
+          Comes Now (guarded_of s.schedule) seen stack heap 0 0 o.made
           (Near 0 2 (λ y. seen y ≡ record { calls = o.made; end = machine.Raised (observed (layout_of s.image) v) })) x
       raised v memory o x fit sh =
           let young = sh.holds.0 in
@@ -239,7 +241,7 @@ module _ (s : Fixed) (end : ℕ) (end_is : end ≡ data_start + length s.image.b
           let there : sh.view.place + 1 ≡ 3 = omega (arith, here) in
           let one = subst (λ p. IsCode s p (OpImm Addi 7 0 1)) (sym here) has.raises in
           let two = subst (λ p. IsCode s p Ecall) (sym there) has.tells_raise in
-          let low : 1 < 2048 = omega arith in
+          let low : 1 < 3 = omega arith in
           let bm = b s end end_is 1 low sh.view one two young memory r.own r.usable r.heap sh.machine sh.stands in
           ends_so s end end_is 1 low sh.view one two young memory r.own r.usable r.heap sh.machine sh.stands stack heap o x sh.is sh.calls
           (machine.Raised (observed (layout_of s.image) v))
@@ -282,7 +284,7 @@ module _ (file : FileTree) (ps : List Pieces) (s : Fixed) (laid : IsLaidOut file
 pub stub_so : (file : FileTree) (image : Tables) (ps : List Pieces) (has : HasFunctions image)
     (bases : (stack : ℕ) → IsRoom stack → IsStackBase (stack_bottom - stack)) (laid : ℕ → Laid) (entry : ℕ → ℕ) (live : ℕ → List Line → Type 0) →
     IsLaidOut file ps image → data_end file ≡ data_start + length image.bytes → (run : Setup) (f : ℕ) → slice_get image.funcs f ≡ Some run.row →
-    IsStub Now (next_of run.schedule) seen run.stack run.heap (layout_of image) (data_end file) run.row.result
+    IsStub Now (guarded_of run.schedule) seen run.stack run.heap (layout_of image) (data_end file) run.row.result
     (λ d o x. Back image has bases laid entry live run nothing_below d o x)
 stub_so file image ps has bases laid entry live it end run f row =
     let s = fixed_of image has bases run in

@@ -1,4 +1,5 @@
-//! That the image of a file whose functions were compiled is correct: what each part of the compiler gives of it.
+//! That the image of a file whose functions were compiled is correct, and asks for allocations only in need: what each
+//! part of the compiler gives of it.
 //!
 //! The crate holds definitions and laws alone.
 #![tactic(auto)]
@@ -14,7 +15,9 @@ ghost use Rattle.compiled_files.specs.Forward.{LiesForward, words_of};
 ghost use Rattle.compiled_files.specs.Image.{function_words};
 ghost use Rattle.compiled_files.specs.Stages.{AreChained, most_nodes, selected_in};
 ghost use Rattle.correctness.specs.Correct.{IsCorrect};
+ghost use Rattle.correctness.specs.InNeed.{AsksInNeed};
 ghost use Rattle.correctness.specs.Setting.{AreRowsOf, layout_of};
+ghost use Rattle.guarded_machine.specs.Guarded.{guarded_of};
 ghost use Rattle.image_form.specs.Image.{AreTables};
 ghost use Rattle.image_form.specs.Tables.{Func, Tables};
 ghost use Rattle.layout_rules.specs.Conditions.{CanBeLaid};
@@ -33,7 +36,6 @@ ghost use Rattle.linking_machine.specs.Standing.{Back};
 ghost use Rattle.linking_stages.specs.Chain.{HoldsWords, IsSelected};
 ghost use Rattle.linking_stages.specs.Stages.{linear_program};
 ghost use Rattle.mach_ir.specs.Runs.{Place};
-ghost use Rattle.machine_laws.specs.Steps.{next_of};
 ghost use Rattle.moving_laws.specs.Values.{HasFunctions};
 ghost use Rattle.rv_machine.specs.Loading.{IsRoom};
 ghost use Rattle.rv_machine.specs.Places.{stack_bottom};
@@ -81,7 +83,7 @@ pub fn stubs_end_runs()
         (bases : (stack : ℕ) → IsRoom stack → IsStackBase (stack_bottom - stack)) (laid : ℕ → Laid)
         (entry : ℕ → ℕ) → IsLaidOut file ps image → data_end file ≡ data_start + length image.bytes →
         (run : Setup) (f : ℕ) → slice_get image.funcs f ≡ Some run.row →
-        IsStub Now (next_of run.schedule) seen run.stack run.heap (layout_of image) (data_end file)
+        IsStub Now (guarded_of run.schedule) seen run.stack run.heap (layout_of image) (data_end file)
         run.row.result
         (λ d o x. Back image has bases laid entry (λ f. Nowhere) run nothing_below d o x) }
 {}
@@ -92,4 +94,11 @@ pub fn images_are_correct()
     ensures { (text : List ℕ) (file : FileTree) → IsFileOf text file → AreBytes text →
         (image : Tables) (ps : List Pieces) → CanBeLaid file ps → IsLaidOut file ps image →
         AreTables image → AreChained file ps → IsCorrect file image }
+{}
+
+/// Law: such an image asks for an allocation only where s10 is below the limit word.
+pub fn images_ask_in_need()
+    ensures { (text : List ℕ) (file : FileTree) → IsFileOf text file → AreBytes text →
+        (image : Tables) (ps : List Pieces) → CanBeLaid file ps → IsLaidOut file ps image →
+        AreTables image → AreChained file ps → AsksInNeed file image }
 {}

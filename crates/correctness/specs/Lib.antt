@@ -2,3 +2,4 @@ pub mod Setting
 pub mod Correct
 pub mod Measures
 pub mod Bounds
+pub mod InNeed

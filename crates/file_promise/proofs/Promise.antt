@@ -1,12 +1,14 @@
--- The image that is made for the file of an accepted text is correct for it, bounded by it, and its descriptors are exact.
+-- The image that is made for the file of an accepted text is correct for it, asks for allocations only in need, is bounded
+-- by it, and its descriptors are exact.
 use Rattle.std.proofs.Common.{◌≡◌, ◌<◌, ℕ, All, List, None}
 use Rattle.cmm_front.specs.FileOf.{IsFileOf}
 use Rattle.cmm_tree.specs.Tree.{FileTree}
 use Rattle.code_bounds.proofs.Image.{image_bounded}
 use Rattle.code_bounds.proofs.Roomy as room
-use Rattle.compiled_files.proofs.Correct.{correct}
+use Rattle.compiled_files.proofs.Correct.{correct, in_need}
 use Rattle.correctness.specs.Bounds.{IsBounded, IsRoomy}
 use Rattle.correctness.specs.Correct.{IsCorrect}
+use Rattle.correctness.specs.InNeed.{AsksInNeed}
 use Rattle.image_form.specs.Image.{AreTables}
 use Rattle.image_form.specs.Tables.{Tables}
 use Rattle.layout_rules.specs.TooLarge.{first_too_large}
@@ -19,6 +21,10 @@ module _ (text : List ℕ) (file : FileTree) (is : IsFileOf text file) (image : 
   pub made_correct : All (λ b. b < 256) text → AreTables image → IsCorrect file image
   made_correct bytes tables =
       correct text file is (bytes_of text bytes) image made.pieces (can_be_laid text file is made.pieces made.each) made.laid tables (are_chained text file is made.pieces made.each)
+
+  pub made_in_need : All (λ b. b < 256) text → AreTables image → AsksInNeed file image
+  made_in_need bytes tables =
+      in_need text file is (bytes_of text bytes) image made.pieces (can_be_laid text file is made.pieces made.each) made.laid tables (are_chained text file is made.pieces made.each)
 
   pub made_bounded : IsBounded file image
   made_bounded = image_bounded file made.pieces image (can_be_laid text file is made.pieces made.each) made.laid (keep text file is made.pieces made.each)

@@ -1,5 +1,5 @@
-//! What is promised of the image that the compiler makes of an accepted file: it is one image, it is correct, it is as
-//! small as the text asks, and its descriptors are exact.
+//! What is promised of the image that the compiler makes of an accepted file: it is one image, it is correct, it asks for
+//! allocations only in need, it is as small as the text asks, and its descriptors are exact.
 //!
 //! The crate holds laws alone.
 #![tactic(auto)]
@@ -9,6 +9,7 @@ ghost use Rattle.cmm_front.specs.FileOf.{IsFileOf};
 ghost use Rattle.cmm_tree.specs.Tree.{FileTree};
 ghost use Rattle.correctness.specs.Bounds.{IsBounded, IsRoomy};
 ghost use Rattle.correctness.specs.Correct.{IsCorrect};
+ghost use Rattle.correctness.specs.InNeed.{AsksInNeed};
 ghost use Rattle.file_promise.specs.Exact.{IsExact};
 ghost use Rattle.image_form.specs.Image.{AreTables};
 ghost use Rattle.image_form.specs.Tables.{Tables};
@@ -20,11 +21,13 @@ pub fn files_are_made_once()
     ensures { (file : FileTree) (t u : Tables) → IsMadeFor file t → IsMadeFor file u → t ≡ u }
 {}
 
-/// Law: the image that is made for the file of an accepted text is correct for it and bounded by it, and each of its
-/// descriptors is exact.
+/// Law: the image that is made for the file of an accepted text is correct for it and bounded by it, it asks for an
+/// allocation only where s10 is below the limit word, and each of its descriptors is exact.
 pub fn made_images_are_right()
     ensures correct { (text : List ℕ) (file : FileTree) → IsFileOf text file → All (λ b. b < 256) text →
         (image : Tables) → AreTables image → IsMadeFor file image → IsCorrect file image }
+    ensures in_need { (text : List ℕ) (file : FileTree) → IsFileOf text file → All (λ b. b < 256) text →
+        (image : Tables) → AreTables image → IsMadeFor file image → AsksInNeed file image }
     ensures bounded { (text : List ℕ) (file : FileTree) → IsFileOf text file → All (λ b. b < 256) text →
         (image : Tables) → IsMadeFor file image → IsBounded file image }
     ensures exact { (text : List ℕ) (file : FileTree) → IsFileOf text file → (image : Tables) →

@@ -252,6 +252,7 @@ module _ (s : Fixed) (n : Named) (laid : Laid) (live : List Line → Type 0) (en
                 blocks = w.blocks;
                 answers = answers;
                 calls = w.calls ++ counted s (row_of row) xs ∷ [];
+                asked = false;
               })) (sym is.result)
               (gave_after s laid live c place m next young (dropped 5 held) file same_file a none whole dead row false args row.result results
               typed seated x a.memory _

@@ -1,5 +1,5 @@
 -- The service of a frame call: the blocks move, and then the call gives a value or raises one.
-use Rattle.std.proofs.Common.{◌≡◌, ℕ, zero, suc, ◌+◌, ◌-◌, ◌*◌, ◌/◌, ◌%◌, ◌^◌, ◌<◌, ◌≤◌, ◌⊎◌, inl, inr, true, List, [], ◌∷◌, ◌++◌, length, reverse, Some, None, slice_get, slice_index, refl, ap, arith, ◌∙◌, sym, subst, ⊎_elim, get_or-set_same}
+use Rattle.std.proofs.Common.{◌≡◌, ℕ, zero, suc, ◌+◌, ◌-◌, ◌*◌, ◌/◌, ◌%◌, ◌^◌, ◌<◌, ◌≤◌, ◌⊎◌, inl, inr, true, false, List, [], ◌∷◌, ◌++◌, length, reverse, Some, None, slice_get, slice_index, refl, ap, arith, ◌∙◌, sym, subst, ⊎_elim, get_or-set_same}
 use Rattle.std.proofs.lemmas.Bool.{and_from, cases_lt, cond-true, eq-eqb, le-leb}
 use Rattle.bs_words.specs.Fits.{data_start}
 use Rattle.bs_words.specs.Memory.{Memory, heap_need}
@@ -10,6 +10,7 @@ use Rattle.bs_words.specs.declared.types.Ret.{Ret}
 use Rattle.bs_words.specs.declared.types.Ret.TheVariants as ret
 use Rattle.bs_words.specs.declared.values.Value.TheVariants.{Word}
 use Rattle.cmm_meaning.specs.State.{Gave, Threw}
+use Rattle.guarded_machine.specs.Guarded.{guarded_after}
 use Rattle.image_form.specs.Tables.{Desc, Ext, Tables}
 use Rattle.lin_ir.specs.Meaning.{Locations, are_vals, clear, poisoned}
 use Rattle.mach_ir.specs.Acts.{Around, is_complete}
@@ -23,7 +24,6 @@ use Rattle.rv_machine.specs.Memory.{code_start, word}
 use Rattle.rv_machine.specs.Placement.{bytes_used}
 use Rattle.rv_machine.specs.Places.{stack_end}
 use Rattle.rv_machine.specs.Relocation.{Goes}
-use Rattle.rv_machine.specs.Run.{after}
 use Rattle.rv_machine.specs.Services.{HeapOut, Machine, Going, Over, after_collection, call_made, cleared, concluded, destroyed, filled, frame_answered, frame_call, served}
 use Rattle.rv_machine.specs.Sound.{AllWords}
 use Rattle.machine_laws.proofs.Memory.{word_below}
@@ -38,7 +38,7 @@ use Rattle.linear_machine.proofs.Jumps.{back_place}
 use Rattle.linear_machine.proofs.Likes.{like_refl}
 use Rattle.linear_machine.proofs.Moving.{left, left_is, within_after}
 use Rattle.linear_machine.proofs.Serving.{collection, collection_not, hart_is, with_memory, within_there}
-use Rattle.linear_machine.proofs.Steps.{one_step, ready, ready_stands}
+use Rattle.linear_machine.proofs.Steps.{one_step, other_number, ready, ready_stands}
 use Rattle.linear_machine.proofs.Storing.{bytes_need}
 use Rattle.line_calls.proofs.Outside.{behind, behind_are, behind_others, behind_result, filled_are, within_behind}
 use Rattle.line_calls.proofs.Traps.{IsTrap, is_trap}
@@ -53,7 +53,7 @@ module _ (s : Fixed) (w : View) (code : IsCode s w.place Ecall) (service : slice
     (there : slice_get s.image.extcs (slice_index w.registers 5) ≡ Some e) (call : Made)
     (shows : (a : Machine) → Stands s a w → call_made e a.hart ≡ call) where
   pub to_collected : (a : Machine) → Stands s a w → (j k : ℕ) → j ≡ 1 + k →
-      after s.schedule j (Going a) ≡ after s.schedule k (frame_answered (s.schedule.plan (ready s a).hart.services) e.result call w.answers (ready s a))
+      guarded_after s.schedule j (Going a) ≡ guarded_after s.schedule k (frame_answered (s.schedule.plan (ready s a).hart.services) e.result call w.answers (ready s a))
   to_collected a st j k q =
       let b = ready s a in
       let ok = ready_stands s a w st in
@@ -61,11 +61,11 @@ module _ (s : Fixed) (w : View) (code : IsCode s w.place Ecall) (service : slice
       let row : slice_get b.hart.image.extcs (slice_index b.hart.registers 5) ≡ Some e =
       ap (λ (i : Tables). slice_get i.extcs (slice_index b.hart.registers 5)) ok.image ∙ ap (λ xs. slice_get s.image.extcs
       (slice_index xs 5)) ok.registers ∙ there in
-      one_step s a w Ecall (next.Service b.hart) st code refl j k q
-      ∙ ap (λ y. after s.schedule k (served s.schedule.plan y b)) t
-      ∙ ap (λ o. after s.schedule k (frame_call (s.schedule.plan b.hart.services) o b)) row
-      ∙ ap (λ y. after s.schedule k (frame_answered (s.schedule.plan b.hart.services) e.result y b.answers b)) (shows b ok)
-      ∙ ap (λ y. after s.schedule k (frame_answered (s.schedule.plan b.hart.services) e.result call y b)) ok.answers
+      one_step s a w Ecall (next.Service b.hart) st code (other_number s a w 4 st service (λ e. omega (arith, e))) refl j k q
+      ∙ ap (λ y. guarded_after s.schedule k (served s.schedule.plan y b)) t
+      ∙ ap (λ o. guarded_after s.schedule k (frame_call (s.schedule.plan b.hart.services) o b)) row
+      ∙ ap (λ y. guarded_after s.schedule k (frame_answered (s.schedule.plan b.hart.services) e.result y b.answers b)) (shows b ok)
+      ∙ ap (λ y. guarded_after s.schedule k (frame_answered (s.schedule.plan b.hart.services) e.result call y b)) ok.answers
 
   module _ (laid : Laid) (young : List Placed) (held : Locations) (a : Around) (c : Below) (within : Within s laid w young 0 held a c) (point : List Loc)
       (d : Desc)
@@ -86,6 +86,7 @@ module _ (s : Fixed) (w : View) (code : IsCode s w.place Ecall) (service : slice
         blocks = new.blocks;
         answers = w.answers;
         calls = w.calls;
+        asked = false;
       }) [] 0 (poisoned point held) a c
       pub limit : word new.memory 0x20000000 ≡ 0x38000000
 
@@ -112,7 +113,7 @@ module _ (s : Fixed) (w : View) (code : IsCode s w.place Ecall) (service : slice
     -- the call gives a value
     gives_at :
         (b : Machine) → Stands s b w → (m : Moved b) (t : Ret) (x : ℕ) (answers : List ℕ) (P : View → Type 0) (first : Machine) → x < 2 ^ 64 →
-        ((j k : ℕ) → j ≡ 1 + k → after s.schedule j (Going first) ≡ after s.schedule k (concluded t call 0 x answers m.new b)) →
+        ((j k : ℕ) → j ≡ 1 + k → guarded_after s.schedule j (Going first) ≡ guarded_after s.schedule k (concluded t call 0 x answers m.new b)) →
         ((u : View) → Within s laid u [] 0 (clear Temporaries (poisoned point held)) a c → u.place ≡ w.place + 1 →
         slice_index u.registers 10 ≡ slice_index (behind t x m.new.registers) 10 → P u) →
         GoesOn s first (w.calls ++ call ∷ []) answers P
@@ -127,6 +128,7 @@ module _ (s : Fixed) (w : View) (code : IsCode s w.place Ecall) (service : slice
           blocks = m.new.blocks;
           answers = answers;
           calls = w.calls ++ call ∷ [];
+          asked = false;
         } in
         record {
           view = view;
@@ -172,7 +174,7 @@ module _ (s : Fixed) (w : View) (code : IsCode s w.place Ecall) (service : slice
     -- it raises one
     raises_at :
         (b : Machine) → Stands s b w → (m : Moved b) (t : Ret) (k1 x : ℕ) (answers : List ℕ) (P : View → Type 0) (first : Machine) → x < 2 ^ 64 →
-        ((j k : ℕ) → j ≡ 1 + k → after s.schedule j (Going first) ≡ after s.schedule k (concluded t call (suc k1) x answers m.new b)) →
+        ((j k : ℕ) → j ≡ 1 + k → guarded_after s.schedule j (Going first) ≡ guarded_after s.schedule k (concluded t call (suc k1) x answers m.new b)) →
         ((v u : View) → Within s laid v [] 0 (clear Temporaries (poisoned point held)) a c → Differs (2 ∷ 6 ∷ 7 ∷ 9 ∷ []) v.memory v u →
         slice_index u.registers 2 ≡ slice_index v.registers 9 + 16 → slice_index u.registers 9 ≡ word v.memory (slice_index v.registers 9 + 8) →
         code_start + 4 * u.place ≡ word v.memory (slice_index v.registers 9) → slice_index u.registers 10 ≡ x → P u) →
@@ -188,6 +190,7 @@ module _ (s : Fixed) (w : View) (code : IsCode s w.place Ecall) (service : slice
           blocks = m.new.blocks;
           answers = answers;
           calls = w.calls ++ call ∷ [];
+          asked = false;
         } in
         let wv : Within s laid v [] 0 (clear Temporaries (poisoned point held)) a c =
         within_behind s laid _ [] (poisoned point held) a c wm none (w.place + 1) (with_register 10 x (filled destroyed m.new.registers)) answers
@@ -216,6 +219,7 @@ module _ (s : Fixed) (w : View) (code : IsCode s w.place Ecall) (service : slice
           blocks = m.new.blocks;
           answers = answers;
           calls = w.calls ++ call ∷ [];
+          asked = false;
         } in
         let place : code_start + 4 * ((word m.new.memory (slice_index (filled destroyed m.new.registers) 9) - 0x10000) / 4)
         ≡ word m.new.memory (slice_index (filled destroyed m.new.registers) 9) = back_place _ at.back in
@@ -263,7 +267,7 @@ module _ (s : Fixed) (w : View) (code : IsCode s w.place Ecall) (service : slice
           answers_are = refl;
           calls_are = refl;
           by = λ j k q. by j k q
-              ∙ ap (after s.schedule k) (cond-true (has_trap_frame m.new) _ _ (frame_there b m));
+              ∙ ap (guarded_after s.schedule k) (cond-true (has_trap_frame m.new) _ _ (frame_there b m));
           holds = holds v u wv differs (two ∙ ap (λ z. z + 16) old_trap) (nine_now ∙ ap (λ z. word m.new.memory (z + 8)) old_trap)
               (place ∙ ap (word m.new.memory) old_trap) ten;
         }
@@ -295,20 +299,20 @@ module _ (s : Fixed) (w : View) (code : IsCode s w.place Ecall) (service : slice
               end = HeapOut;
               want = inr (refl, omega (arith, lack, used, need));
               by = λ j k q. to_collected first st j k q
-                  ∙ ap (λ y. after s.schedule k (frame_answered (s.schedule.plan (ready s first).hart.services) e.result call y (ready s first))) g
-                  ∙ ap (λ z. after s.schedule k (after_collection e.result call k1 x answers z (ready s first)))
+                  ∙ ap (λ y. guarded_after s.schedule k (frame_answered (s.schedule.plan (ready s first).hart.services) e.result call y (ready s first))) g
+                  ∙ ap (λ z. guarded_after s.schedule k (after_collection e.result call k1 x answers z (ready s first)))
                   (ap (collected (s.schedule.plan (ready s first).hart.services)) (hart_is s (ready s first) w ok)
                   ∙ collection_not s laid w young 0 held a c within point d is saves fit whole none marked refl (ready s first) ok lack)
-                  ∙ ap (λ cs. after s.schedule k (Over cs HeapOut)) ok.calls;
+                  ∙ ap (λ cs. guarded_after s.schedule k (Over cs HeapOut)) ok.calls;
             }
 
         concludes :
             (k1 x : ℕ) (answers : List ℕ) → w.answers ≡ k1 ∷ x ∷ answers → (m : Moved (ready s first)) → (j k : ℕ) → j ≡ 1 + k →
-            after s.schedule j (Going first) ≡ after s.schedule k (concluded e.result call k1 x answers m.new (ready s first))
+            guarded_after s.schedule j (Going first) ≡ guarded_after s.schedule k (concluded e.result call k1 x answers m.new (ready s first))
         concludes k1 x answers g m j k q =
             to_collected first st j k q
-            ∙ ap (λ y. after s.schedule k (frame_answered (s.schedule.plan (ready s first).hart.services) e.result call y (ready s first))) g
-            ∙ ap (λ z. after s.schedule k (after_collection e.result call k1 x answers z (ready s first))) m.is_new
+            ∙ ap (λ y. guarded_after s.schedule k (frame_answered (s.schedule.plan (ready s first).hart.services) e.result call y (ready s first))) g
+            ∙ ap (λ z. guarded_after s.schedule k (after_collection e.result call k1 x answers z (ready s first))) m.is_new
 
         by_answers : (answers : List ℕ) → w.answers ≡ answers → AllWords answers → taken_moving memory e.result answers ≡ Some t →
             GoesOn s first (w.calls ++ call ∷ []) t.answers (P t) ⊎ Gone s needs w first

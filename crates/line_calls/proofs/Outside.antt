@@ -10,6 +10,7 @@ use Rattle.bs_words.specs.declared.types.Ret.TheVariants as ret
 use Rattle.bs_words.specs.declared.values.Value.{Value}
 use Rattle.bs_words.specs.declared.values.Value.TheVariants.{Word}
 use Rattle.cmm_meaning.specs.State.{Gave}
+use Rattle.guarded_machine.specs.Guarded.{guarded_after}
 use Rattle.image_form.specs.Tables.{Ext, Tables}
 use Rattle.lin_ir.specs.Meaning.{Locations, clear}
 use Rattle.mach_ir.specs.Acts.{Around}
@@ -17,7 +18,6 @@ use Rattle.mach_ir.specs.Meaning.{Temporaries, is_temporary}
 use Rattle.rv_isa.specs.declared.instr.Instr.TheVariants.{Ecall}
 use Rattle.rv_machine.specs.Hart.{Hart, Placed, past_ecall, with_register}
 use Rattle.rv_machine.specs.Hart as next
-use Rattle.rv_machine.specs.Run.{after}
 use Rattle.rv_machine.specs.Services.{Machine, Going, answered, call_made, called, destroyed, external, filled, served}
 use Rattle.rv_machine.specs.Sound.{AllWords, AreRegisters}
 use Rattle.machine_laws.proofs.Words.{other_register, with_registers}
@@ -27,7 +27,8 @@ use Rattle.linear_machine.specs.Outside.{GoesOn, Taken, given, taken_alone}
 use Rattle.linear_machine.specs.Relation.{Below, Laid, ReturnStands, Within}
 use Rattle.linear_machine.specs.View.{Fixed, IsCode, Stands, View}
 use Rattle.linear_machine.proofs.Standing.{IsFree, within_changed}
-use Rattle.linear_machine.proofs.Steps.{one_step, ready, ready_stands}
+use Rattle.linear_machine.proofs.Likes.{known_either}
+use Rattle.linear_machine.proofs.Steps.{one_step, other_number, ready, ready_stands}
 
 -- ---- what it destroys
 
@@ -155,10 +156,10 @@ pub within_behind :
     a.raised ≡ None →
     (place : ℕ) (registers answers : List ℕ) (calls : List Made) → AreRegisters registers →
     ((q : ℕ) → (Among q destroyed → ⊥) → slice_index registers q ≡ slice_index v.registers q) →
-    Within s laid (record { place = place; registers = registers; memory = v.memory; blocks = v.blocks; answers = answers; calls = calls }) young 0
+    Within s laid (record { place = place; registers = registers; memory = v.memory; blocks = v.blocks; answers = answers; calls = calls; asked = false }) young 0
     (clear Temporaries held) a c
 within_behind s laid v young held a c within none place registers answers calls are others =
-    let w : View = record { place = v.place + 0; registers = registers; memory = v.memory; blocks = v.blocks; answers = answers; calls = calls } in
+    let w : View = record { place = v.place + 0; registers = registers; memory = v.memory; blocks = v.blocks; answers = answers; calls = calls; asked = false } in
     let there = within_changed s laid v w young 0 held (clear Temporaries held) a c 0 destroyed
     (record { place = refl; are = are; others = others; memory = refl; blocks = refl }) lost_free (cleared_less held)
     (λ e q x i h. cleared_lost held q x i h) (inl none) within in
@@ -176,8 +177,8 @@ within_behind s laid v young held a c within none place registers answers calls 
     }
   where
     return_same : (b : Bool) →
-        ReturnStands b (record { place = v.place + 0; registers = registers; memory = v.memory; blocks = v.blocks; answers = answers; calls = calls }) c →
-        ReturnStands b (record { place = place; registers = registers; memory = v.memory; blocks = v.blocks; answers = answers; calls = calls }) c
+        ReturnStands b (record { place = v.place + 0; registers = registers; memory = v.memory; blocks = v.blocks; answers = answers; calls = calls; asked = false }) c →
+        ReturnStands b (record { place = place; registers = registers; memory = v.memory; blocks = v.blocks; answers = answers; calls = calls; asked = false }) c
     return_same true h = h
     return_same false h = h
 
@@ -187,7 +188,7 @@ module _ (s : Fixed) (w : View) (code : IsCode s w.place Ecall) (service : slice
     (there : slice_get s.image.extcs (slice_index w.registers 5) ≡ Some e) (call : Made)
     (shows : (a : Machine) → Stands s a w → call_made e a.hart ≡ call) where
   to_answered : (a : Machine) → Stands s a w → (j k : ℕ) → j ≡ 1 + k →
-      after s.schedule j (Going a) ≡ after s.schedule k (answered e.result call w.answers (ready s a))
+      guarded_after s.schedule j (Going a) ≡ guarded_after s.schedule k (answered e.result call w.answers (ready s a))
   to_answered a st j k q =
       let b = ready s a in
       let ok = ready_stands s a w st in
@@ -195,11 +196,11 @@ module _ (s : Fixed) (w : View) (code : IsCode s w.place Ecall) (service : slice
       let row : slice_get b.hart.image.extcs (slice_index b.hart.registers 5) ≡ Some e =
       ap (λ (i : Tables). slice_get i.extcs (slice_index b.hart.registers 5)) ok.image ∙ ap (λ xs. slice_get s.image.extcs
       (slice_index xs 5)) ok.registers ∙ there in
-      one_step s a w Ecall (next.Service b.hart) st code refl j k q
-      ∙ ap (λ y. after s.schedule k (served s.schedule.plan y b)) t
-      ∙ ap (λ o. after s.schedule k (external o b)) row
-      ∙ ap (λ y. after s.schedule k (answered e.result y b.answers b)) (shows b ok)
-      ∙ ap (λ y. after s.schedule k (answered e.result call y b)) ok.answers
+      one_step s a w Ecall (next.Service b.hart) st code (other_number s a w 2 st service (λ e. omega (arith, e))) refl j k q
+      ∙ ap (λ y. guarded_after s.schedule k (served s.schedule.plan y b)) t
+      ∙ ap (λ o. guarded_after s.schedule k (external o b)) row
+      ∙ ap (λ y. guarded_after s.schedule k (answered e.result y b.answers b)) (shows b ok)
+      ∙ ap (λ y. guarded_after s.schedule k (answered e.result call y b)) ok.answers
 
   -- the view behind it
   abbrev pub view_behind : (registers answers : List ℕ) → View
@@ -210,11 +211,12 @@ module _ (s : Fixed) (w : View) (code : IsCode s w.place Ecall) (service : slice
     blocks = w.blocks;
     answers = answers;
     calls = w.calls ++ call ∷ [];
+    asked = false;
   }
 
   goes_behind :
       (a : Machine) (st : Stands s a w) (r : Ret) (x : ℕ) (answers : List ℕ) (P : View → Type 0) →
-      ((j k : ℕ) → j ≡ 1 + k → after s.schedule j (Going a) ≡ after s.schedule k (called call (past_ecall (record ((ready s a).hart) {
+      ((j k : ℕ) → j ≡ 1 + k → guarded_after s.schedule j (Going a) ≡ guarded_after s.schedule k (called call (past_ecall (record ((ready s a).hart) {
         registers = behind r x (ready s a).hart.registers;
       })) answers (ready s a))) → P (view_behind (behind r x w.registers) answers) → GoesOn s a (w.calls ++ call ∷ []) answers P
   goes_behind a st r x answers P by p =
@@ -234,7 +236,7 @@ module _ (s : Fixed) (w : View) (code : IsCode s w.place Ecall) (service : slice
           registers = ap (behind r x) ok.registers;
           memory = ok.memory;
           regions = ok.regions;
-          limit = ok.limit;
+          limit = known_either w.asked b.hart.memory ok.limit;
           stack_base = ok.stack_base;
           heap = ok.heap;
           blocks = ok.blocks;
@@ -262,8 +264,8 @@ module _ (s : Fixed) (w : View) (code : IsCode s w.place Ecall) (service : slice
           let same : record { doing = Gave None memory; answers = answers } ≡ t = cc in
           subst (λ t. GoesOn s a (w.calls ++ call ∷ []) t.answers (P t)) same
           (goes_behind a st ret.Unit 0 answers (P (record { doing = Gave None memory; answers = answers }))
-          (λ j k q. to_answered a st j k q ∙ ap (λ r. after s.schedule k (answered r call w.answers (ready s a))) f
-          ∙ ap (λ y. after s.schedule k (answered ret.Unit call y (ready s a))) g)
+          (λ j k q. to_answered a st j k q ∙ ap (λ r. guarded_after s.schedule k (answered r call w.answers (ready s a))) f
+          ∙ ap (λ y. guarded_after s.schedule k (answered ret.Unit call y (ready s a))) g)
           (subst (λ r. P (record { doing = Gave (given r 0) memory; answers = answers }) (view_behind (behind r 0 w.registers) answers)) f
           (holds 0 answers (omega arith))))
       by_result (ret.Comp c) f [] g all taken = absurd (cc)
@@ -271,7 +273,7 @@ module _ (s : Fixed) (w : View) (code : IsCode s w.place Ecall) (service : slice
           let same : record { doing = Gave (Some (Word x)) memory; answers = answers } ≡ t = cc in
           subst (λ t. GoesOn s a (w.calls ++ call ∷ []) t.answers (P t)) same
           (goes_behind a st (ret.Comp c) x answers (P (record { doing = Gave (Some (Word x)) memory; answers = answers }))
-          (λ j k q. to_answered a st j k q ∙ ap (λ r. after s.schedule k (answered r call w.answers (ready s a))) f
-          ∙ ap (λ y. after s.schedule k (answered (ret.Comp c) call y (ready s a))) g)
+          (λ j k q. to_answered a st j k q ∙ ap (λ r. guarded_after s.schedule k (answered r call w.answers (ready s a))) f
+          ∙ ap (λ y. guarded_after s.schedule k (answered (ret.Comp c) call y (ready s a))) g)
           (subst (λ r. P (record { doing = Gave (given r x) memory; answers = answers }) (view_behind (behind r x w.registers) answers)) f
           (holds x answers (all 0))))

@@ -1,6 +1,6 @@
 -- Bytes are taken off s10, and the allocation service is asked where that is then below the limit.
 use Rattle.std.proofs.Common.{◌≡◌, ◌≢◌, ℕ, ◌+◌, ◌-◌, ◌*◌, ◌%◌, ◌<◌, ◌≤◌, inl, inr, Bool, true, false, not, nat_lt, List, [], ◌∷◌, ◌++◌, length, map, Option, Some, None, slice_index, refl, ap, arith, ◌∙◌, sym, subst, ⊎_elim, length-append}
-use Rattle.std.proofs.lemmas.Bool.{and_from, eq-eqb, le-leb, ltb-false}
+use Rattle.std.proofs.lemmas.Bool.{and_from, eq-eqb, le-leb, ltb-false, ltb-true}
 use Rattle.bs_words.specs.Fits.{data_start}
 use Rattle.bs_words.specs.Memory.{heap_need}
 use Rattle.bs_words.specs.Word.{add_word}
@@ -47,7 +47,7 @@ use Rattle.linear_machine.specs.View.{Fixed, IsCode, View}
 use Rattle.linear_machine.proofs.Arriving.{at_least, leads_arrives, then_arrives}
 use Rattle.linear_machine.proofs.Formats.{goes_branch_on, goes_branch_taken}
 use Rattle.linear_machine.proofs.Frames.{poisoned_some}
-use Rattle.linear_machine.proofs.Limits.{HasLimit, limit_arrives}
+use Rattle.linear_machine.proofs.Limits.{HasLimit, NeedsMore, limit_arrives, needs_more, still_needs}
 use Rattle.linear_machine.proofs.Serving.{allocation_any}
 use Rattle.linear_machine.proofs.Standing.{IsFree, within_changed, within_less, within_past}
 use Rattle.linear_machine.proofs.Steps.{SetsRegister, at_place, go_step}
@@ -192,8 +192,8 @@ module _ (s : Fixed) (n : Named) (laid : Laid) (v : View) (young : List Placed) 
   t0_free r (inr e) = absurd e
 
   asks_there : (z : View) → Within s laid z young bytes held a c → z.place + 1 ≡ middle → IsCode s z.place Ecall → slice_index z.registers 5 ≡ bytes →
-      slice_index z.registers 7 ≡ 3 → Arrives 1 s q z Final
-  asks_there z wz at code asked service =
+      slice_index z.registers 7 ≡ 3 → NeedsMore z → Arrives 1 s q z Final
+  asks_there z wz at code asked service needs =
       let used = bytes_need s (all_of z young) z.memory a wz.heap in
       let even = request.even in
       let some = request.some in
@@ -210,10 +210,11 @@ module _ (s : Fixed) (n : Named) (laid : Laid) (v : View) (young : List Placed) 
       ))
       (allocation_any s laid z young bytes held a c wz point d is saves fit whole none
       (subst (λ p. descriptor_at s.image.descs p ≡ Some d) (sym place) there) asked
-      (and_from _ _ (and_from _ _ (eq-eqb (bytes % 8) 0 even) (le-leb 16 bytes some)) (le-leb bytes 2056 most)) code service q (omega (arith, used, need)))
+      (and_from _ _ (and_from _ _ (eq-eqb (bytes % 8) 0 even) (le-leb 16 bytes some)) (le-leb bytes 2056 most)) code service needs q (omega (arith, used, need)))
 
-  ask_arrives : (z : View) → Within s laid z young bytes held a c → PartStands s n z.place middle (ask bytes) → Arrives (length (ask bytes)) s q z Final
-  ask_arrives z wz st =
+  ask_arrives : (z : View) → Within s laid z young bytes held a c → NeedsMore z → PartStands s n z.place middle (ask bytes) →
+      Arrives (length (ask bytes)) s q z Final
+  ask_arrives z wz needs st =
       let few = (ask_words s n bytes z.place middle st).0 in
       let ends = splits s n z.place middle (constant T0 bytes ++ constant T2 3) (ecall ∷ []) st in
       let parts = splits s n z.place ends.middle (constant T0 bytes) (constant T2 3) ends.first in
@@ -233,6 +234,10 @@ module _ (s : Fixed) (n : Named) (laid : Laid) (v : View) (young : List Placed) 
       (λ r i. ⊎_elim (λ e. inr e) (λ f. absurd f) i) wu in
       let asked : slice_index t.registers 5 ≡ bytes =
       second.changes.past.others 5 (λ i. ⊎_elim (λ e. omega (arith, e)) (λ f. f) i) ∙ first.changes.holds in
+      let still : NeedsMore t = still_needs z t
+      (second.changes.past.others 26 (λ i. ⊎_elim (λ e. omega (arith, e)) (λ f. f) i)
+      ∙ first.changes.past.others 26 (λ i. ⊎_elim (λ e. omega (arith, e)) (λ f. f) i))
+      (second.changes.leads.asked ∙ first.changes.leads.asked) needs in
       let l1 = first.lands in
       let l2 = second.lands in
       let l3 = last.1 in
@@ -242,7 +247,7 @@ module _ (s : Fixed) (n : Named) (laid : Laid) (v : View) (young : List Placed) 
       (λ w e. subst (λ w. Arrives (second.count + 1) s q w Final) (sym e)
       (then_arrives second.count 1 s u (λ w. w ≡ t) Final (leads_arrives s second.count u t (λ w. w ≡ t) second.changes.leads refl)
       (λ w f. subst (λ w. Arrives 1 s q w Final) (sym f)
-      (asks_there t wt (omega (arith, at, l3)) (subst (λ p. IsCode s p Ecall) (sym at) last.0) asked second.changes.holds)))))
+      (asks_there t wt (omega (arith, at, l3)) (subst (λ p. IsCode s p Ecall) (sym at) last.0) asked second.changes.holds still)))))
 
   -- ---- the test
 
@@ -252,7 +257,7 @@ module _ (s : Fixed) (n : Named) (laid : Laid) (v : View) (young : List Placed) 
       (record { place = refl; are = wz.own.are; others = λ r i. refl; memory = refl; blocks = refl }) (λ r i. absurd i) wz
 
   limit_low : (u : View) → HasLimit 6 u → young_start ≤ slice_index u.registers 6
-  limit_low u h = ⊎_elim (λ e. omega (arith, e)) (λ e. omega (arith, e)) h
+  limit_low u h = ⊎_elim (λ e. omega (arith, e)) (λ p. let e = p.0 in omega (arith, e)) h
 
   tests_by :
       (u : View) → Within s laid u young bytes held a c → HasLimit 6 u →
@@ -265,7 +270,8 @@ module _ (s : Fixed) (n : Named) (laid : Laid) (v : View) (young : List Placed) 
       (leads_arrives s 1 u next (λ w. w ≡ next)
       (go_step s u (Branch Bgeu 26 6 (4 * (1 + length (ask bytes)) % 8192)) (u.place + 1) k.0
       (goes_branch_on s u Bgeu 26 6 (4 * (1 + length (ask bytes)) % 8192) (ap not e))) refl)
-      (λ w f. subst (λ w. Arrives (length (ask bytes)) s q w Final) (sym f) (ask_arrives next (moved_to u 1 wu) k.1))
+      (λ w f. subst (λ w. Arrives (length (ask bytes)) s q w Final) (sym f) (ask_arrives next (moved_to u 1 wu)
+      (needs_more u 6 limit (ltb-true (slice_index u.registers 26) (slice_index u.registers 6) e)) k.1))
   tests_by u wu limit st false e =
       let k = known s n u.place middle (Branch Bgeu 26 6 (4 * (1 + length (ask bytes)) % 8192)) (ask bytes) st in
       let words = ask_words s n bytes (u.place + 1) middle k.1 in

@@ -1,5 +1,5 @@
 -- Accesses of a few bytes are accesses of parts of words.
-use Rattle.std.proofs.Common.{◌≡◌, ◌≢◌, ℕ, suc, ◌+◌, ◌*◌, ◌%◌, ◌^◌, ◌<◌, ◌≤◌, inl, inr, Bool, true, false, ◌==◌, List, ◌∷◌, length, map, Some, refl, ap, ap₂, arith, ◌∙◌, sym, ⊎_elim}
+use Rattle.std.proofs.Common.{◌≡◌, ◌≢◌, ℕ, suc, ◌+◌, ◌*◌, ◌%◌, ◌^◌, ◌<◌, ◌≤◌, inl, inr, Bool, true, false, ◌==◌, List, ◌∷◌, length, map, Some, refl, ap, ap₂, arith, ◌∙◌, sym}
 use Rattle.std.specs.List.{list_any}
 use Rattle.std.proofs.lemmas.Bool.{and_right, cond-false, cond-true, eq-eqb, lt-leb}
 use Rattle.bs_words.specs.Word.{add_word}
@@ -17,9 +17,9 @@ use Rattle.rv_machine.proofs.Bytes.{replaced-below}
 use Rattle.moving_laws.specs.Words.{held_word}
 use Rattle.moving_laws.proofs.Held.{IsDataOrAbove, IsHeld, has_byte, held_below, hold, hold_regions, read_part, word_hold, written_part}
 use Rattle.linear_machine.specs.View.{Fixed, View, Stands, Leads, IsCode}
-use Rattle.linear_machine.proofs.Likes.{like_hold}
+use Rattle.linear_machine.proofs.Likes.{known_same, like_hold}
 use Rattle.linear_machine.proofs.Statics.{all_share, readable_shares}
-use Rattle.linear_machine.proofs.Steps.{SetsRegister, one_step, ready, ready_stands, reg, register_reg, with_hart}
+use Rattle.linear_machine.proofs.Steps.{SetsRegister, one_step, ready, ready_stands, reg, register_reg, unserved_step, with_hart}
 
 pub bool_same : (p q : Bool) → (p ≡ true → q ≡ true) → (q ≡ true → p ≡ true) → p ≡ q
 bool_same true true f g = refl
@@ -84,19 +84,14 @@ module _ (s : Fixed) (v : View) (x b : ℕ) (even : x % 8 ≡ 0) (low : 0x100000
   store_part_step kind same ra rb imm c e regions = record {
     answers = refl;
     calls = refl;
+    asked = refl;
     by = λ a st.
         let d = ready s a in
         let ok = ready_stands s a v st in
         let value : ℕ = replaced (held_word v.memory x) b w (reg v.registers rb) in
         let m = hold d.hart.memory x value in
         let small : value < 2 ^ 64 =
-        replaced-below (held_word v.memory x) b w (reg v.registers rb) inside (held_below v.memory x regions.each) in
-        let effect : executed (Store kind ra rb imm) d.hart ≡ stores (Some m) d.hart =
-        ap₂ (λ y z. stores (stored d.hart.memory (add_word y (imm_i imm)) (bytes_stored kind) z) d.hart) (register_reg s d v ra ok)
-        (register_reg s d v rb ok)
-        ∙ ap (λ y. stores (stored d.hart.memory y (bytes_stored kind) (reg v.registers rb)) d.hart) e
-        ∙ ap (λ z. stores (stored d.hart.memory (x + b) z (reg v.registers rb)) d.hart) same
-        ∙ ap (λ o. stores o d.hart) (stored_part d ok (reg v.registers rb)) in (
+        replaced-below (held_word v.memory x) b w (reg v.registers rb) inside (held_below v.memory x regions.each) in (
           with_hart a (record (d.hart) { memory = m; pc = d.hart.pc + 4; retired = suc d.hart.retired }),
           record {
             image = ok.image;
@@ -105,8 +100,7 @@ module _ (s : Fixed) (v : View) (x b : ℕ) (even : x % 8 ≡ 0) (low : 0x100000
             memory = like_hold v.memory d.hart.memory x value regions.each (readable_shares s v.memory regions x)
                 (readable_shares s d.hart.memory ok.regions x) even held (held_alike v.memory d.hart.memory x ok.memory.lie held) small ok.memory;
             regions = hold_regions (extents s.image s.heap s.base) d.hart.memory x value small ok.regions;
-            limit = ⊎_elim (λ q. inl (word_hold d.hart.memory x 0x20000000 value even n ∙ q))
-                (λ q. inr (word_hold d.hart.memory x 0x20000000 value even n ∙ q)) ok.limit;
+            limit = known_same v.asked d.hart.memory m (word_hold d.hart.memory x 0x20000000 value even n) ok.limit;
             stack_base = ok.stack_base;
             heap = ok.heap;
             blocks = ok.blocks;
@@ -114,8 +108,18 @@ module _ (s : Fixed) (v : View) (x b : ℕ) (even : x % 8 ≡ 0) (low : 0x100000
             answers = ok.answers;
             calls = ok.calls;
           },
-          one_step s a v (Store kind ra rb imm) (stores (Some m) d.hart) st c effect,
+          one_step s a v (Store kind ra rb imm) (stores (Some m) d.hart) st c
+              (unserved_step s a v (Store kind ra rb imm) (stores (Some (hold a.hart.memory x value)) a.hart) st c (effect a st) refl) (effect d ok),
         );
   } where
+    effect : (d : Machine) → Stands s d v →
+        executed (Store kind ra rb imm) d.hart ≡ stores (Some (hold d.hart.memory x (replaced (held_word v.memory x) b w (reg v.registers rb)))) d.hart
+    effect d ok =
+        ap₂ (λ y z. stores (stored d.hart.memory (add_word y (imm_i imm)) (bytes_stored kind) z) d.hart) (register_reg s d v ra ok)
+        (register_reg s d v rb ok)
+        ∙ ap (λ y. stores (stored d.hart.memory y (bytes_stored kind) (reg v.registers rb)) d.hart) e
+        ∙ ap (λ z. stores (stored d.hart.memory (x + b) z (reg v.registers rb)) d.hart) same
+        ∙ ap (λ o. stores o d.hart) (stored_part d ok (reg v.registers rb))
+
     next : (pc : ℕ) → pc ≡ code_start + 4 * v.place → pc + 4 ≡ code_start + 4 * (v.place + 1)
     next pc e = omega arith

@@ -1,7 +1,7 @@
 -- Arrivals compose.
 use Rattle.std.proofs.Common.{ℕ, ◌+◌, ◌≤◌, ◌⊎◌, inl, inr, refl, ap, arith, ◌∙◌, ⊎_elim}
-use Rattle.rv_machine.specs.Run.{after}
 use Rattle.rv_machine.specs.Services.{End, Machine, Over}
+use Rattle.guarded_machine.specs.Guarded.{guarded_after}
 use Rattle.linear_machine.specs.View.{Fixed, View, Leads, Ends}
 use Rattle.linear_machine.specs.Arrival.{Needs, IsShort, ArrivalIn, Gone, ArrivesIn, Arrives}
 
@@ -47,7 +47,7 @@ joined x y m n s q v a P Q first (inr gone) = inr (record {
   count = first.count + gone.count;
   end = gone.end;
   want = gone.want;
-  by = λ j k e. first.by j (gone.count + k) (omega arith) ∙ gone.by (gone.count + k) k refl ∙ ap (λ c. after s.schedule k (Over c gone.end)) first.calls;
+  by = λ j k e. first.by j (gone.count + k) (omega arith) ∙ gone.by (gone.count + k) k refl ∙ ap (λ c. guarded_after s.schedule k (Over c gone.end)) first.calls;
 })
 
 pub then_in : {q : Needs} (x y m n : ℕ) (s : Fixed) (v : View) (P Q : View → Type 0) → ArrivesIn x m s q v P → ((w : View) → P w → ArrivesIn y n s q w Q) →

@@ -1,5 +1,5 @@
 -- The state in which a run begins stands for the entry of its function.
-use Rattle.std.proofs.Common.{◌≡◌, ℕ, zero, suc, ◌+◌, ◌-◌, ◌<◌, ◌≤◌, List, [], ◌∷◌, ◌++◌, length, map, Some, slice_get, slice_index, refl, ap, arith, ◌∙◌, sym, subst, get_or-append-add}
+use Rattle.std.proofs.Common.{◌≡◌, ℕ, zero, suc, ◌+◌, ◌-◌, ◌<◌, ◌≤◌, false, List, [], ◌∷◌, ◌++◌, length, map, Some, slice_get, slice_index, refl, ap, arith, ◌∙◌, sym, subst, get_or-append-add}
 use Rattle.std.specs.List.{AllByRecursion}
 use Rattle.bs_words.specs.Memory.{StaticList}
 use Rattle.bs_words.specs.declared.values.Value.{Value}
@@ -76,7 +76,7 @@ module _ (image : Tables) (functions : HasFunctions image) (bytes : AllByRecursi
   }
 
   abbrev pub start_view : View
-  start_view = record { place = place; registers = start_registers args; memory = start_memory image stack heap; blocks = []; answers = answers; calls = [] }
+  start_view = record { place = place; registers = start_registers args; memory = start_memory image stack heap; blocks = []; answers = answers; calls = []; asked = false }
 
   at_26 : slice_index (start_registers args) 26 ≡ young_top
   at_26 = behind_ten args 16 ∙ behind_arguments 16 args last_six 0

@@ -1,5 +1,5 @@
 -- What each format of instructions leads to: one lemma for a format, and none for a row.
-use Rattle.std.proofs.Common.{◌≡◌, ◌≢◌, ℕ, suc, ◌+◌, ◌-◌, ◌*◌, ◌%◌, ◌^◌, ◌<◌, ◌≤◌, true, false, ◌==◌, List, ◌∷◌, length, Some, refl, ap, ap₂, arith, ◌∙◌, ⊎_elim, inl, inr}
+use Rattle.std.proofs.Common.{◌≡◌, ◌≢◌, ℕ, suc, ◌+◌, ◌-◌, ◌*◌, ◌%◌, ◌^◌, ◌<◌, ◌≤◌, true, false, ◌==◌, List, ◌∷◌, length, Some, refl, ap, ap₂, arith, ◌∙◌}
 use Rattle.std.specs.List.{AllByRecursion}
 use Rattle.std.proofs.lemmas.Bool.{eq-eqb, lt-leb, and_right, cond-true, cond-false}
 use Rattle.bs_words.specs.Word.{add_word}
@@ -21,8 +21,8 @@ use Rattle.moving_laws.specs.Words.{IsReadable}
 use Rattle.moving_laws.proofs.Words.{readable_even, stored_is}
 use Rattle.moving_laws.proofs.Young.{read_is}
 use Rattle.linear_machine.specs.View.{Fixed, View, Stands, Leads, IsCode}
-use Rattle.linear_machine.proofs.Likes.{like_readable, like_write}
-use Rattle.linear_machine.proofs.Steps.{with_hart, ready, ready_stands, one_step, reg, register_reg, SetsTo, SetsRegister, GoesTo}
+use Rattle.linear_machine.proofs.Likes.{known_same, like_readable, like_write}
+use Rattle.linear_machine.proofs.Steps.{with_hart, ready, ready_stands, one_step, unserved_step, reg, register_reg, SetsTo, SetsRegister, GoesTo}
 
 module _ (s : Fixed) (v : View) where
   pub sets_op : (op : AluOp) (rd ra rb : ℕ) → SetsRegister s v (Op op rd ra rb) rd (alu op (reg v.registers ra) (reg v.registers rb))
@@ -81,15 +81,12 @@ module _ (s : Fixed) (v : View) where
   store_step ra rb imm x c e off f r small = record {
     answers = refl;
     calls = refl;
+    asked = refl;
     by = λ a st.
         let b = ready s a in
         let ok = ready_stands s a v st in
         let value = reg v.registers rb in
-        let m = write b.hart.memory x value in
-        let effect : executed (Store Sd ra rb imm) b.hart ≡ stores (Some m) b.hart =
-        ap₂ (λ y z. stores (stored b.hart.memory (add_word y (imm_i imm)) 8 z) b.hart) (register_reg s b v ra ok) (register_reg s b v rb ok)
-        ∙ ap (λ y. stores (stored b.hart.memory y 8 value) b.hart) e
-        ∙ ap (λ o. stores o b.hart) (stored_is b.hart.memory x value (like_readable v.memory b.hart.memory x ok.memory r)) in (
+        let m = write b.hart.memory x value in (
           with_hart a (record (b.hart) { memory = m; pc = b.hart.pc + 4; retired = suc b.hart.retired }),
           record {
             image = ok.image;
@@ -97,8 +94,7 @@ module _ (s : Fixed) (v : View) where
             registers = ok.registers;
             memory = like_write v.memory b.hart.memory x value f r small ok.memory;
             regions = has_write (extents s.image s.heap s.base) b.hart.memory x value ok.regions;
-            limit = ⊎_elim (λ q. inl (other_word b.hart.memory x 0x20000000 value off ∙ q))
-                (λ q. inr (other_word b.hart.memory x 0x20000000 value off ∙ q)) ok.limit;
+            limit = known_same v.asked b.hart.memory m (other_word b.hart.memory x 0x20000000 value off) ok.limit;
             stack_base = ok.stack_base;
             heap = ok.heap;
             blocks = ok.blocks;
@@ -106,9 +102,16 @@ module _ (s : Fixed) (v : View) where
             answers = ok.answers;
             calls = ok.calls;
           },
-          one_step s a v (Store Sd ra rb imm) (stores (Some m) b.hart) st c effect,
+          one_step s a v (Store Sd ra rb imm) (stores (Some m) b.hart) st c
+              (unserved_step s a v (Store Sd ra rb imm) (stores (Some (write a.hart.memory x value)) a.hart) st c (effect a st) refl) (effect b ok),
         );
   } where
+    effect : (b : Machine) → Stands s b v → executed (Store Sd ra rb imm) b.hart ≡ stores (Some (write b.hart.memory x (reg v.registers rb))) b.hart
+    effect b ok =
+        ap₂ (λ y z. stores (stored b.hart.memory (add_word y (imm_i imm)) 8 z) b.hart) (register_reg s b v ra ok) (register_reg s b v rb ok)
+        ∙ ap (λ y. stores (stored b.hart.memory y 8 (reg v.registers rb)) b.hart) e
+        ∙ ap (λ o. stores o b.hart) (stored_is b.hart.memory x (reg v.registers rb) (like_readable v.memory b.hart.memory x ok.memory r))
+
     next : (pc : ℕ) → pc ≡ code_start + 4 * v.place → pc + 4 ≡ code_start + 4 * (v.place + 1)
     next pc e = omega arith
 

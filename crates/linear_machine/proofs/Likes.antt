@@ -1,5 +1,5 @@
 -- Memories that differ in the limit word alone.
-use Rattle.std.proofs.Common.{◌≡◌, ℕ, ◌%◌, ◌^◌, ◌<◌, ◌⊎◌, inl, inr, List, map, refl, ap, ◌∙◌, sym, subst, ⊎_elim}
+use Rattle.std.proofs.Common.{◌≡◌, ℕ, ◌%◌, ◌^◌, ◌<◌, ◌⊎◌, inl, inr, Bool, true, false, List, map, refl, ap, ◌∙◌, sym, subst, ⊎_elim}
 use Rattle.std.specs.List.{AllByRecursion}
 use Rattle.rv_machine.specs.Hart.{Hart}
 use Rattle.rv_machine.specs.Memory.{Region, word, write}
@@ -12,7 +12,26 @@ use Rattle.moving_laws.specs.Words.{IsFormed, IsReadable, held_word}
 use Rattle.moving_laws.proofs.Usable.{same_readable}
 use Rattle.moving_laws.proofs.Words.{readable_even, word_same, same_or_not}
 use Rattle.moving_laws.proofs.Held.{AllShare, IsHeld, held_alike, held_other, hold, hold_lie, hold_other, hold_regions, hold_same, readable_or_not, word_hold, word_none, write_hold}
-use Rattle.linear_machine.specs.View.{IsLike}
+use Rattle.linear_machine.specs.View.{IsLike, IsLimit, KnownLimit}
+
+-- ---- the limit word
+
+-- it is the one or the other
+pub known_either : (asks : Bool) (m : List Region) → KnownLimit asks m → IsLimit m
+known_either true m e = inr e
+known_either false m e = e
+
+-- where the mover has asked it is known
+pub known_asked : (asks : Bool) (m : List Region) → word m domain_start ≡ limit_asked → KnownLimit asks m
+known_asked true m e = e
+known_asked false m e = inr e
+
+-- where the word stays, so does what is known
+pub known_same : (asks : Bool) (m m' : List Region) → word m' domain_start ≡ word m domain_start → KnownLimit asks m → KnownLimit asks m'
+known_same true m m' same e = same ∙ e
+known_same false m m' same e = ⊎_elim (λ q. inl (same ∙ q)) (λ q. inr (same ∙ q)) e
+
+-- ---- the other words
 
 pub like_refl : (m : List Region) → AllByRecursion IsRegion m → IsLike m m
 like_refl m f = record { words = λ x n. refl; held = λ x e n. refl; lie = refl; each = f }

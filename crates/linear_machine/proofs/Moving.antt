@@ -253,7 +253,7 @@ module _ (s : Fixed) (laid : Laid) (v : View) (young : List Placed) (taken : ℕ
 
     -- what is seen of it
     abbrev pub view_after : View
-    view_after = record { place = place; registers = new.registers; memory = new.memory; blocks = new.blocks; answers = v.answers; calls = v.calls }
+    view_after = record { place = place; registers = new.registers; memory = new.memory; blocks = new.blocks; answers = v.answers; calls = v.calls; asked = false }
 
     pub within_after : Within s laid view_after [] taken (poisoned named held) a c
     within_after =

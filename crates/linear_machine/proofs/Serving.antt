@@ -3,6 +3,7 @@ use Rattle.std.proofs.Common.{◌≡◌, ℕ, ◌+◌, ◌*◌, ◌^◌, ◌<◌
 use Rattle.std.proofs.lemmas.Bool.{cases_lt}
 use Rattle.bs_words.specs.Word.{add_word}
 use Rattle.bs_words.specs.declared.types.Loc.{Loc}
+use Rattle.guarded_machine.specs.Guarded.{guarded_after}
 use Rattle.image_form.specs.Tables.{Desc}
 use Rattle.lin_ir.specs.Meaning.{Locations, are_vals, poisoned}
 use Rattle.mach_ir.specs.Acts.{Around, is_complete}
@@ -16,7 +17,6 @@ use Rattle.rv_machine.specs.Memory.{code_start}
 use Rattle.rv_machine.specs.Placement.{bytes_used}
 use Rattle.rv_machine.specs.Places.{data_start}
 use Rattle.rv_machine.specs.Relocation.{Goes, NoHeap}
-use Rattle.rv_machine.specs.Run.{after}
 use Rattle.rv_machine.specs.Services.{Going, HeapOut, Machine, Over, after_allocation, served}
 use Rattle.moving_laws.specs.Service.{IsAllocated, IsCollected, IsRestored}
 use Rattle.moving_laws.proofs.Moving.{allocates, allocates_not, collects, collects_not}
@@ -25,6 +25,7 @@ use Rattle.linear_machine.specs.Relation.{Below, IsDescribed, Laid, Within}
 use Rattle.linear_machine.specs.View.{Ends, Fixed, IsCode, Stands, View}
 use Rattle.linear_machine.proofs.Arriving.{ends_arrives}
 use Rattle.linear_machine.proofs.Likes.{like_refl}
+use Rattle.linear_machine.proofs.Limits.{NeedsMore, in_need_there}
 use Rattle.linear_machine.proofs.Moving.{contents, hart_of, knows_of, left, left_is, own_frame_of, ready_of, rises_top, view_after, within_after, within_like}
 use Rattle.linear_machine.proofs.Steps.{one_step, ready, ready_stands, with_hart}
 
@@ -80,16 +81,16 @@ module _ (s : Fixed) (laid : Laid) (v : View) (young : List Placed) (taken : ℕ
   -- ---- the allocation service
 
   module _ (asked : slice_index v.registers 5 ≡ taken) (request : is_request taken ≡ true) (ecall : IsCode s v.place Ecall)
-      (number : slice_index v.registers 7 ≡ 3) where
+      (number : slice_index v.registers 7 ≡ 3) (needs : NeedsMore v) where
     to_allocation : (b : Machine) → Stands s b v → (j k : ℕ) → j ≡ 1 + k →
-        after s.schedule j (Going b) ≡ after s.schedule k (after_allocation (allocated (s.schedule.plan (ready s b).hart.services) (ready s b).hart)
+        guarded_after s.schedule j (Going b) ≡ guarded_after s.schedule k (after_allocation (allocated (s.schedule.plan (ready s b).hart.services) (ready s b).hart)
         (ready s b))
     to_allocation b st j k e =
         let r = ready s b in
         let ok = ready_stands s b v st in
         let t : slice_index r.hart.registers 7 ≡ 3 = ap (λ xs. slice_index xs 7) ok.registers ∙ number in
-        one_step s b v Ecall (next.Service r.hart) st ecall refl j k e
-        ∙ ap (λ x. after s.schedule k (served s.schedule.plan x r)) t
+        one_step s b v Ecall (next.Service r.hart) st ecall (in_need_there s b v st needs) refl j k e
+        ∙ ap (λ x. guarded_after s.schedule k (served s.schedule.plan x r)) t
 
     from_is : (h : Hart) → young_from (hart_of s v h) ≡ slice_index v.registers 26 + taken
     from_is h =
@@ -149,7 +150,7 @@ module _ (s : Fixed) (laid : Laid) (v : View) (young : List Placed) (taken : ℕ
               calls = st.calls;
             };
             by = λ j k e. to_allocation b0 st0 j k e
-                ∙ ap (λ x. after s.schedule k (after_allocation x b))
+                ∙ ap (λ x. guarded_after s.schedule k (after_allocation x b))
                 (ap (allocated (s.schedule.plan b.hart.services)) (hart_is s b v st) ∙ done.is ∙ ap Goes same);
             holds = (refl, after_it);
           });
@@ -164,14 +165,14 @@ module _ (s : Fixed) (laid : Laid) (v : View) (young : List Placed) (taken : ℕ
           let u : View = with_memory v b.hart in
           let w = within_there b st in
           to_allocation b0 st0 j k e
-          ∙ ap (λ x. after s.schedule k (after_allocation x b))
+          ∙ ap (λ x. guarded_after s.schedule k (after_allocation x b))
           (ap (allocated (s.schedule.plan b.hart.services)) (hart_is s b v st)
           ∙ allocates_not (hart_of s u b.hart) young (own_frame_of s laid u young taken held a c w named d is saves fit whole none there) c.frames
           (contents s laid u young taken held a c w named d is saves fit whole none there)
           (knows_of s laid u young taken held a c w named d is saves fit whole none there b.hart)
           (s.schedule.plan b.hart.services) (ap is_request asked ∙ request)
           (ready_of s laid u young taken held a c w named d is saves fit whole none there b.hart (young_from (hart_of s u b.hart)) (from_is b.hart)) full)
-          ∙ ap (λ x. after s.schedule k (Over x HeapOut)) st.calls;
+          ∙ ap (λ x. guarded_after s.schedule k (Over x HeapOut)) st.calls;
     }
 
     pub allocation_any : (q : Needs) → bytes_used (v.blocks ++ reverse young) ≤ q.heap →

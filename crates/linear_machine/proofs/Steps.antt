@@ -1,6 +1,8 @@
 -- One instruction of the machine, with the ask before it.
 use Rattle.std.proofs.Common.{◌≡◌, ◌≢◌, ℕ, zero, suc, ◌+◌, ◌-◌, ◌*◌, ◌/◌, ◌%◌, ◌^◌, ◌<◌, ◌≤◌, ◌⊎◌, inl, inr, Bool, true, false, cond, ◌&&◌, ◌==◌, nat_lt, List, slice_get, slice_index, Some, refl, ap, arith, ◌∙◌, sym, subst}
 use Rattle.std.proofs.lemmas.Bool.{le-leb, le-ltb, lt-ltb, eq-eqb, ne_eqb, and_from, and_left, and_right, cond-true, cond-false}
+use Rattle.guarded_machine.specs.Guarded.{guarded_after, is_in_need, is_service}
+use Rattle.guarded_machine.proofs.Needs.{allows, other_service, sets_unserved, unserved}
 use Rattle.image_form.specs.Tables.{Tables}
 use Rattle.rv_isa.specs.Encoding.{encoded}
 use Rattle.rv_isa.specs.declared.instr.Instr.{Instr}
@@ -8,7 +10,7 @@ use Rattle.rv_isa.proofs.RoundTrip.{decoded-encoded}
 use Rattle.rv_machine.specs.Hart.{Hart, Next, register, with_register, sets, goes_to, executed, decoded_next, fetched, fetch, hart}
 use Rattle.rv_machine.specs.Hart as next
 use Rattle.rv_machine.specs.Memory.{write, code_start}
-use Rattle.rv_machine.specs.Run.{asked, perhaps_asked, after_next, after}
+use Rattle.rv_machine.specs.Run.{asked, perhaps_asked, after_next}
 use Rattle.rv_machine.specs.Services.{End, Machine, Going, Over, StackOut}
 use Rattle.rv_machine.specs.Places.{domain_start}
 use Rattle.rv_machine.specs.Sound.{AllWords, extents}
@@ -17,7 +19,7 @@ use Rattle.moving_laws.proofs.Usable.{formed_regions, limit_readable}
 use Rattle.moving_laws.proofs.Words.{word_same}
 use Rattle.rv_machine.specs.Start.{limit_asked}
 use Rattle.linear_machine.specs.View.{Fixed, View, Stands, Leads, Ends, IsCode}
-use Rattle.linear_machine.proofs.Likes.{like_limit}
+use Rattle.linear_machine.proofs.Likes.{known_asked, like_limit}
 
 -- ---- the ask
 
@@ -34,8 +36,9 @@ asked_stands s a v true st = record {
   registers = st.registers;
   memory = like_limit v.memory a.hart.memory limit_asked st.memory;
   regions = has_write (extents s.image s.heap s.base) a.hart.memory domain_start limit_asked st.regions;
-  limit = inr (word_same a.hart.memory domain_start limit_asked (formed_regions (extents s.image s.heap s.base) a.hart.memory st.regions)
-      (limit_readable s.image s.heap s.base a.hart.memory st.regions) (omega arith));
+  limit = known_asked v.asked (write a.hart.memory domain_start limit_asked) (word_same a.hart.memory domain_start limit_asked
+      (formed_regions (extents s.image s.heap s.base) a.hart.memory st.regions) (limit_readable s.image s.heap s.base a.hart.memory st.regions)
+      (omega arith));
   stack_base = st.stack_base;
   heap = st.heap;
   blocks = st.blocks;
@@ -66,15 +69,25 @@ hart_executes s a v i st c =
     (ap (λ (image : Tables). fetch image.code a.hart.pc) st.image ∙ fetch_at s.image.code a.hart.pc v.place (encoded i) st.pc c.there)
     ∙ ap (λ o. decoded_next o a.hart) (decoded-encoded i c.fits)
 
+-- no service is asked for
+pub unserved_step : (s : Fixed) (a : Machine) (v : View) (i : Instr) (then' : Next) → Stands s a v → IsCode s v.place i → executed i a.hart ≡ then' →
+    is_service then' ≡ false → is_in_need a ≡ true
+unserved_step s a v i then' st c effect free = unserved a (ap is_service (hart_executes s a v i st c ∙ effect) ∙ free)
+
+-- another service than an allocation is asked for
+pub other_number : (s : Fixed) (a : Machine) (v : View) (n : ℕ) → Stands s a v → slice_index v.registers 7 ≡ n → n ≢ 3 → is_in_need a ≡ true
+other_number s a v n st number other = other_service a (λ e. other (sym number ∙ sym (ap (λ xs. slice_index xs 7) st.registers) ∙ e))
+
 -- what comes of one instruction
 pub one_step :
-    (s : Fixed) (a : Machine) (v : View) (i : Instr) (then' : Next) → Stands s a v → IsCode s v.place i →
+    (s : Fixed) (a : Machine) (v : View) (i : Instr) (then' : Next) → Stands s a v → IsCode s v.place i → is_in_need a ≡ true →
     executed i (perhaps_asked s.schedule a.hart) ≡ then' →
-    (j k : ℕ) → j ≡ 1 + k → after s.schedule j (Going a) ≡ after s.schedule k (after_next s.schedule then' a)
-one_step s a v i then' st c effect j k e =
+    (j k : ℕ) → j ≡ 1 + k → guarded_after s.schedule j (Going a) ≡ guarded_after s.schedule k (after_next s.schedule then' a)
+one_step s a v i then' st c need effect j k e =
     let more : j ≡ suc k = omega arith in
-    ap (λ n. after s.schedule n (Going a)) more
-    ∙ ap (λ x. after s.schedule k (after_next s.schedule x a)) (hart_executes s (ready s a) v i (ready_stands s a v st) c ∙ effect)
+    ap (λ n. guarded_after s.schedule n (Going a)) more
+    ∙ ap (guarded_after s.schedule k) (allows s.schedule a need)
+    ∙ ap (λ x. guarded_after s.schedule k (after_next s.schedule x a)) (hart_executes s (ready s a) v i (ready_stands s a v st) c ∙ effect)
 
 -- ---- stretches
 
@@ -82,13 +95,15 @@ pub stays : (s : Fixed) (v : View) → Leads s 0 v v
 stays s v = record {
   answers = refl;
   calls = refl;
-  by = λ a st. (a, st, λ j k e. let same : j ≡ k = omega arith in ap (λ n. after s.schedule n (Going a)) same);
+  asked = refl;
+  by = λ a st. (a, st, λ j k e. let same : j ≡ k = omega arith in ap (λ n. guarded_after s.schedule n (Going a)) same);
 }
 
 pub then_leads : (s : Fixed) (n m : ℕ) (u v w : View) → Leads s n u v → Leads s m v w → Leads s (n + m) u w
 then_leads s n m u v w p q = record {
   answers = q.answers ∙ p.answers;
   calls = q.calls ∙ p.calls;
+  asked = q.asked ∙ p.asked;
   by = λ a st.
       let first = p.by a st in
       let second = q.by first.0 first.1 in
@@ -99,7 +114,7 @@ pub then_ends : (s : Fixed) (n m : ℕ) (u v : View) (end : End) → u.calls ≡
 then_ends s n m u v end same p q = record {
   by = λ a st j k e.
       let first = p.by a st in
-      first.2 j (m + k) (omega arith) ∙ q.by first.0 first.1 (m + k) k refl ∙ ap (λ c. after s.schedule k (Over c end)) (sym same);
+      first.2 j (m + k) (omega arith) ∙ q.by first.0 first.1 (m + k) k refl ∙ ap (λ c. guarded_after s.schedule k (Over c end)) (sym same);
 }
 
 -- ---- registers
@@ -147,6 +162,7 @@ pub set_to_step :
 set_to_step s v i rd value place c passes known = record {
   answers = refl;
   calls = refl;
+  asked = refl;
   by = λ a st.
       let b = ready s a in
       let ok = ready_stands s a v st in
@@ -167,6 +183,8 @@ set_to_step s v i rd value place c passes known = record {
           calls = ok.calls;
         },
         one_step s a v i (goes_to (code_start + 4 * place) (record (b.hart) { registers = with_register rd value b.hart.registers })) st c
+            (unserved_step s a v i (sets rd value (code_start + 4 * place) a.hart) st c (known.effect a st)
+            (sets_unserved rd value (code_start + 4 * place) a.hart))
             (known.effect b ok ∙ cond-false _ _ _ (passes_test s rd value b.hart.stack_base ok.stack_base passes)),
       );
 }
@@ -191,9 +209,10 @@ out_step s v i value c low known = record {
       let b = ready s a in
       let ok = ready_stands s a v st in
       one_step s a v i next.StackOut st c
+      (unserved_step s a v i (sets 2 value (a.hart.pc + 4) a.hart) st c (known.effect a st) (sets_unserved 2 value (a.hart.pc + 4) a.hart))
       (known.effect b ok ∙ cond-true _ _ _ (lt-ltb value b.hart.stack_base (subst (λ x. value < x) (sym ok.stack_base) low)))
       j k e
-      ∙ ap (λ x. after s.schedule k (Over x StackOut)) st.calls;
+      ∙ ap (λ x. guarded_after s.schedule k (Over x StackOut)) st.calls;
 }
 
 -- an instruction that only goes to a place
@@ -204,6 +223,7 @@ pub go_step : (s : Fixed) (v : View) (i : Instr) (place : ℕ) → IsCode s v.pl
 go_step s v i place c known = record {
   answers = refl;
   calls = refl;
+  asked = refl;
   by = λ a st.
       let b = ready s a in
       let ok = ready_stands s a v st in
@@ -223,6 +243,7 @@ go_step s v i place c known = record {
           answers = ok.answers;
           calls = ok.calls;
         },
-        one_step s a v i (goes_to (code_start + 4 * place) b.hart) st c (known.effect b ok),
+        one_step s a v i (goes_to (code_start + 4 * place) b.hart) st c
+            (unserved_step s a v i (goes_to (code_start + 4 * place) a.hart) st c (known.effect a st) refl) (known.effect b ok),
       );
 }

@@ -1,8 +1,8 @@
 -- The machine comes to a view of which something holds, under every schedule, in so many
 -- instructions, or there is no room on the way: a need is greater than what there is.
 use Rattle.std.specs.Prelude.{◌≡◌, ℕ, ◌+◌, ◌<◌, ◌≤◌, ◌⊎◌}
-use Rattle.rv_machine.specs.Run.{after}
 use Rattle.rv_machine.specs.Services.{End, StackOut, HeapOut, Machine, Going, Over}
+use Rattle.guarded_machine.specs.Guarded.{guarded_after}
 use Rattle.linear_machine.specs.View.{Fixed, View, Stands}
 
 -- What a step needs: bytes of stack below an address, and bytes of heap.
@@ -31,7 +31,7 @@ pub record ArrivalIn (least most : ℕ) (s : Fixed) (v : View) (a : Machine) (P 
   pub answers : view.answers ≡ v.answers
   pub calls : view.calls ≡ v.calls
   pub by : (j k : ℕ) → j ≡ count + k →
-      after s.schedule j (Going a) ≡ after s.schedule k (Going machine)
+      guarded_after s.schedule j (Going a) ≡ guarded_after s.schedule k (Going machine)
   pub holds : P view
 
 -- the run is over for want of stack or heap
@@ -40,7 +40,7 @@ pub record Gone (s : Fixed) (q : Needs) (v : View) (a : Machine) : Type 0 where
   pub end : End
   pub want : IsShort s q end
   pub by : (j k : ℕ) → j ≡ count + k →
-      after s.schedule j (Going a) ≡ after s.schedule k (Over v.calls end)
+      guarded_after s.schedule j (Going a) ≡ guarded_after s.schedule k (Over v.calls end)
 
 pub record ArrivesIn (least most : ℕ) (s : Fixed) (q : Needs) (v : View) (P : View → Type 0)
     : Type 0 where

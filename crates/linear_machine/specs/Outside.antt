@@ -10,10 +10,10 @@ use Rattle.bs_words.specs.declared.values.Obs.TheVariants as obs
 use Rattle.bs_words.specs.declared.values.Value.{Value}
 use Rattle.bs_words.specs.declared.values.Value.TheVariants.{Word, Block, Function}
 use Rattle.cmm_meaning.specs.State.{Doing, Gave, Threw}
+use Rattle.guarded_machine.specs.Guarded.{guarded_after}
 use Rattle.image_form.specs.Tables.{Tables, Ext}
 use Rattle.rv_isa.specs.declared.instr.Instr.TheVariants.{Ecall}
 use Rattle.rv_isa.specs.Registers.{t0, t2}
-use Rattle.rv_machine.specs.Run.{after}
 use Rattle.rv_machine.specs.Services.{Machine, Going, call_made}
 use Rattle.rv_machine.specs.Sound.{AllWords}
 use Rattle.moving_laws.specs.Values.{function_at}
@@ -73,7 +73,7 @@ pub record GoesOn (s : Fixed) (a : Machine) (calls : List Made) (answers : List 
   pub answers_are : view.answers ≡ answers
   pub calls_are : view.calls ≡ calls
   pub by : (j k : ℕ) → j ≡ 1 + k →
-      after s.schedule j (Going a) ≡ after s.schedule k (Going machine)
+      guarded_after s.schedule j (Going a) ≡ guarded_after s.schedule k (Going machine)
   pub holds : P view
 
 -- The call's row and service are asked for, its arguments show what they are to, and behind it the

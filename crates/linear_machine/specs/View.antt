@@ -1,9 +1,10 @@
 -- What a proof sees of the machine between two instructions, and how the machine goes on, under
--- every schedule of asks.
-use Rattle.std.specs.Prelude.{◌≡◌, ◌≢◌, ℕ, ◌+◌, ◌*◌, ◌%◌, ◌⊎◌, List, [], ◌∷◌, map, slice_get, Some}
+-- every schedule of asks. It is the machine that refuses an allocation service where it is not in need.
+use Rattle.std.specs.Prelude.{◌≡◌, ◌≢◌, ℕ, ◌+◌, ◌*◌, ◌%◌, ◌⊎◌, Bool, true, false, List, [], ◌∷◌, map, slice_get, Some}
 use Rattle.std.specs.List.{AllByRecursion}
 use Rattle.bs_words.specs.Observed.{Made}
 use Rattle.bs_words.specs.declared.types.Ret.{Ret}
+use Rattle.guarded_machine.specs.Guarded.{guarded_after}
 use Rattle.image_form.specs.Tables.{Tables}
 use Rattle.rv_isa.specs.Encoding.{InstrFits, encoded}
 use Rattle.rv_isa.specs.declared.instr.Instr.{Instr}
@@ -11,7 +12,7 @@ use Rattle.rv_machine.specs.Hart.{Placed}
 use Rattle.rv_machine.specs.Loading.{IsRoom}
 use Rattle.rv_machine.specs.Memory.{Region, word, code_start}
 use Rattle.rv_machine.specs.Places.{domain_start, limit_asked, limit_at_rest}
-use Rattle.rv_machine.specs.Run.{Schedule, after}
+use Rattle.rv_machine.specs.Run.{Schedule}
 use Rattle.rv_machine.specs.Services.{End, Machine, Going, Over}
 use Rattle.rv_machine.specs.Sound.{HasRegions, IsRegion, IsStackBase, extent, extents}
 use Rattle.moving_laws.specs.Values.{HasFunctions}
@@ -29,7 +30,7 @@ pub record Fixed : Type 0 where
   pub stack : IsStackBase base
   pub room : IsRoom heap
 
--- The limit word is left out of what is seen: asks set it at any time.
+-- The limit word is left out of what is seen: asks set it at any time. It may be known that one has.
 pub record View : Type 0 where
   -- how many instruction words stand before the next one
   pub place : ℕ
@@ -38,6 +39,7 @@ pub record View : Type 0 where
   pub blocks : List Placed
   pub answers : List ℕ
   pub calls : List Made
+  pub asked : Bool
 
 -- two memories that differ in the limit word alone
 pub record IsLike (m m' : List Region) : Type 0 where
@@ -51,6 +53,11 @@ pub record IsLike (m m' : List Region) : Type 0 where
 abbrev pub IsLimit : List Region → Type 0
 IsLimit m = (word m domain_start ≡ limit_at_rest) ⊎ (word m domain_start ≡ limit_asked)
 
+-- It asks, where that is known.
+abbrev pub KnownLimit : Bool → List Region → Type 0
+KnownLimit true m = word m domain_start ≡ limit_asked
+KnownLimit false m = IsLimit m
+
 -- The machine stands so.
 pub record Stands (s : Fixed) (machine : Machine) (v : View) : Type 0 where
   pub image : machine.hart.image ≡ s.image
@@ -58,7 +65,7 @@ pub record Stands (s : Fixed) (machine : Machine) (v : View) : Type 0 where
   pub registers : machine.hart.registers ≡ v.registers
   pub memory : IsLike v.memory machine.hart.memory
   pub regions : HasRegions (extents s.image s.heap s.base) machine.hart.memory
-  pub limit : IsLimit machine.hart.memory
+  pub limit : KnownLimit v.asked machine.hart.memory
   pub stack_base : machine.hart.stack_base ≡ s.base
   pub heap : machine.hart.heap ≡ s.heap
   pub blocks : machine.hart.blocks ≡ v.blocks
@@ -70,13 +77,15 @@ pub record Stands (s : Fixed) (machine : Machine) (v : View) : Type 0 where
 pub record Leads (s : Fixed) (n : ℕ) (v w : View) : Type 0 where
   pub answers : w.answers ≡ v.answers
   pub calls : w.calls ≡ v.calls
+  pub asked : w.asked ≡ v.asked
   pub by : (a : Machine) → Stands s a v → (b : Machine) × Stands s b w
-      × ((j k : ℕ) → j ≡ n + k → after s.schedule j (Going a) ≡ after s.schedule k (Going b))
+      × ((j k : ℕ) → j ≡ n + k →
+      guarded_after s.schedule j (Going a) ≡ guarded_after s.schedule k (Going b))
 
 -- So many instructions end the run.
 pub record Ends (s : Fixed) (n : ℕ) (v : View) (end : End) : Type 0 where
   pub by : (a : Machine) → Stands s a v → (j k : ℕ) → j ≡ n + k →
-      after s.schedule j (Going a) ≡ after s.schedule k (Over v.calls end)
+      guarded_after s.schedule j (Going a) ≡ guarded_after s.schedule k (Over v.calls end)
 
 -- the instruction stands at this place of the code
 pub record IsCode (s : Fixed) (place : ℕ) (i : Instr) : Type 0 where

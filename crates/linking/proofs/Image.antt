@@ -1,5 +1,5 @@
--- An image that is assembled so is correct for its file.
-use Rattle.std.proofs.Common.{◌≡◌, ℕ, zero, suc, List, [], ◌∷◌, Some, length, map, subst, ap, ◌∙◌}
+-- An image that is assembled so is correct for its file, and asks for allocations only in need.
+use Rattle.std.proofs.Common.{◌≡◌, ℕ, zero, suc, List, [], ◌∷◌, Some, length, map, subst, ap, ◌∙◌, sym, ⊎_elim}
 use Rattle.std.proofs.lemmas.Option.{slice_get-map}
 use Rattle.std.specs.Prelude.{slice_get, option_map}
 use Rattle.bs_words.specs.Memory.{Memory}
@@ -11,22 +11,26 @@ use Rattle.cmm_tree.specs.Tree.{FunctionTree, FileTree, functions, comps_of}
 use Rattle.cmm_types.specs.Types.{body_type, result_of}
 use Rattle.cmm_meaning.specs.Evaluation.{Evaluation}
 use Rattle.cmm_meaning.specs.Layout.{Layout}
-use Rattle.cmm_meaning.specs.Run.{Run, callees, cmm_run, first_call, first_world}
+use Rattle.cmm_meaning.specs.Run.{Asks, Improper, More, Outcome, Raised, Returned, Run, callees, cmm_run, first_call, first_world}
 use Rattle.cmm_meaning.specs.Setting.{setting_of}
 use Rattle.cmm_meaning.specs.State.{Doing, World}
-use Rattle.correctness.specs.Correct.{Alike, IsProper, Forwards, Accounted, Backwards, IsCorrect}
+use Rattle.correctness.specs.Correct.{Accounted, Alike, Backwards, EndsAlike, Forwards, IsCorrect, IsProper}
+use Rattle.correctness.specs.InNeed.{AsksInNeed, AsksOnlyInNeed}
 use Rattle.correctness.specs.Setting.{layout_of, IsRowOf, AreRowsOf, Entered}
+use Rattle.guarded_machine.specs.Guarded.{guarded_after, guarded_of}
+use Rattle.guarded_machine.proofs.Runs.{IsRefused, guarded_orderly, never_needless, same_or_refused, same_run}
 use Rattle.image_form.specs.Tables.{Tables, Func}
-use Rattle.machine_laws.specs.Steps.{next_of, IsFrontOf}
-use Rattle.machine_laws.proofs.Orderly.{machine_steps, machine_orderly}
+use Rattle.machine_laws.specs.Steps.{IsFrontOf}
 use Rattle.meaning_fuel.specs.Whole.{whole}
 use Rattle.meaning_laws.specs.Fitting.{FitsCallee, CallsFitAndGrow}
 use Rattle.meaning_laws.proofs.Given.{callees_give}
 use Rattle.meaning_laws.proofs.LinksWhole.{whole_calls_fit}
 use Rattle.meaning_laws.proofs.OutOfFuel.{run_empty}
 use Rattle.rv_machine.specs.Loading.{IsRoom}
-use Rattle.rv_machine.specs.Run.{Schedule, Seen, seen, begun, machine_run}
-use Rattle.rv_machine.specs.Services.{Now}
+use Rattle.rv_machine.specs.Run.{Schedule, after, begun, machine_run, seen}
+use Rattle.rv_machine.specs.Services.{End, Now, Running, Stopped}
+use Rattle.rv_machine.specs.Services as machine
+use Rattle.rv_machine.specs.declared.cause.Cause.{Cause}
 use Rattle.linking.specs.Assembled.{IsStub, Setup, Assembled}
 use Rattle.linking.specs.Carries.{Outer, Comes}
 use Rattle.linking.specs.Pace.{Words}
@@ -35,18 +39,44 @@ use Rattle.linking.proofs.Directions.{Over, seen_of, told_of, forwards, backward
 use Rattle.linking.proofs.Known.{passed_known}
 use Rattle.linking.proofs.Whole.{AreKnown, does_whole}
 
-forwards_same : (run : ℕ → Run) (one two : ℕ → Seen) (stack heap words : ℕ) → ((m : ℕ) → one m ≡ two m) → Forwards run one stack heap words →
-    Forwards run two stack heap words
-forwards_same run one two stack heap words e f =
-    record { does = λ n given. let d = f.does n given in (d.0, d.1, subst (Alike (run n)) (e d.0) d.2) }
+-- ---- from the machine that refuses to the machine
 
-backwards_same : (run : ℕ → Run) (one two : ℕ → Seen) (stack heap : ℕ) → ((m : ℕ) → one m ≡ two m) → Backwards run one stack heap →
-    Backwards run two stack heap
-backwards_same run one two stack heap e b =
-    record {
-      calls = λ proper m. let c = b.calls proper m in (c.0, subst (λ (s : Seen). IsFrontOf s.calls (run c.0).calls) (e m) c.1);
-      end = λ proper m. subst (λ (s : Seen). Accounted run stack heap s s.end) (e m) (b.end proper m);
-    }
+-- what a proper run of the text accounts for is no stop
+never_stops : (o : Outcome) (end : End) (cause : Cause) → IsProper o → EndsAlike o end → end ≡ Stopped cause → ⊥
+never_stops (Returned value) end cause proper alike stop = let e : machine.Returned value ≡ Stopped cause = sym alike ∙ stop in absurd (cc)
+never_stops (Raised value) end cause proper alike stop = let e : machine.Raised value ≡ Stopped cause = sym alike ∙ stop in absurd (cc)
+never_stops (Asks call) end cause proper alike stop = let e : machine.Asks call ≡ Stopped cause = sym alike ∙ stop in absurd (cc)
+never_stops More end cause proper alike stop = let e : Running ≡ Stopped cause = sym alike ∙ stop in absurd (cc)
+never_stops (Improper kind) end cause proper alike stop = proper
+
+module _ (run : ℕ → Run) (schedule : Schedule) (start : Now) (stack heap : ℕ) where
+  forwards_same : (words : ℕ) → Forwards run (λ m. seen (guarded_after schedule m start)) stack heap words →
+      Forwards run (λ m. seen (after schedule m start)) stack heap words
+  forwards_same words f = record {
+    does = λ n given.
+        let d = f.does n given in
+        let same : guarded_after schedule d.0 start ≡ after schedule d.0 start =
+        ⊎_elim (λ e. e) (λ r. absurd (never_stops (run n).outcome (seen (guarded_after schedule d.0 start)).end _ given.proper d.2.end r))
+        (same_or_refused schedule d.0 start) in
+        (d.0, d.1, subst (λ (x : Now). Alike (run n) (seen x)) same d.2);
+  }
+
+  module _ (b : Backwards run (λ m. seen (guarded_after schedule m start)) stack heap) where
+    never_refused : ((n : ℕ) → IsProper (run n).outcome) → (m : ℕ) → IsRefused (guarded_after schedule m start) → ⊥
+    never_refused proper m r = subst (Accounted run stack heap (seen (guarded_after schedule m start))) r (b.end proper m)
+
+    backwards_same : Backwards run (λ m. seen (after schedule m start)) stack heap
+    backwards_same =
+        record {
+          calls = λ proper m.
+              let c = b.calls proper m in
+              (c.0, subst (λ (x : Now). IsFrontOf (seen x).calls (run c.0).calls) (same_run schedule start (never_refused proper) m) c.1);
+          end = λ proper m.
+              subst (λ (x : Now). Accounted run stack heap (seen x) (seen x).end) (same_run schedule start (never_refused proper) m) (b.end proper m);
+        }
+
+    asks_in_need : ((n : ℕ) → IsProper (run n).outcome) → AsksOnlyInNeed schedule start
+    asks_in_need proper = never_needless schedule start (never_refused proper)
 
 -- the row of a function has its result
 row_of : (fs : List FunctionTree) (rows : List Func) (k : ℕ) (f : FunctionTree) (row : Func) → AreRowsOf fs rows → slice_get fs k ≡ Some f →
@@ -77,14 +107,14 @@ module _ (S : Type 0) (p : Program S) (w : Words S) (most words : ℕ) (file : F
     abbrev run : ℕ → Run
     run n = cmm_run file layout entry args answers n
 
-    stub_here : IsStub Now (next_of schedule) seen stack heap layout (data_end file) (result_of (body_type f)) (λ d o x. Back setup a.bottom d o x)
+    stub_here : IsStub Now (guarded_of schedule) seen stack heap layout (data_end file) (result_of (body_type f)) (λ d o x. Back setup a.bottom d o x)
     stub_here =
         let r : IsRowOf f row = row_of (functions file) image.funcs entry f row a.rows entered.of_file entered.of_image in
-        subst (λ (result : Ret). IsStub Now (next_of schedule) seen stack heap layout (data_end file) result (λ d o x. Back setup a.bottom d o x)) r.result
+        subst (λ (result : Ret). IsStub Now (guarded_of schedule) seen stack heap layout (data_end file) result (λ d o x. Back setup a.bottom d o x)) r.result
         (a.stub setup entry entered.of_image)
 
     told : (n : ℕ) → IsProper (run n).outcome →
-        Comes Now (next_of schedule) seen stack heap (run n).stack_need (run n).heap_need (run n).calls
+        Comes Now (guarded_of schedule) seen stack heap (run n).stack_need (run n).heap_need (run n).calls
         (Over Now seen most words n (seen_of (run n)) (run n).left)
         (begun image row args answers stack heap)
     told n proper =
@@ -95,29 +125,35 @@ module _ (S : Type 0) (p : Program S) (w : Words S) (most words : ℕ) (file : F
         let fits : FitsCallee (setting_of (whole file layout)) entry (map Word args) = record
         { parameters = comps_of f; callee = there; fit = entered.args_fit } in
         let calls : CallsFitAndGrow (whole file layout) = whole_calls_fit file layout in
-        told_of Now (next_of schedule) seen stack heap most words layout (data_end file) (result_of (body_type f)) (λ d o x. Back setup a.bottom d o x)
+        told_of Now (guarded_of schedule) seen stack heap most words layout (data_end file) (result_of (body_type f)) (λ d o x. Back setup a.bottom d o x)
         stub_here world
         (begun image row args answers stack heap) e (callees_give file layout (suc n) (first_call entry args) f world entered.of_file entered.args_fit)
         (calls.fit (first_call entry args) world)
-        (does_whole S p w file layout Now (next_of schedule) seen stack heap Below (At setup) (Entry setup) (Back setup) most words IsGiven IsDone
+        (does_whole S p w file layout Now (guarded_of schedule) seen stack heap Below (At setup) (Entry setup) (Back setup) most words IsGiven IsDone
         a.regular a.forward (a.carries setup) a.keeps known
         (first_call entry args) a.bottom world (begun image row args answers stack heap) fits
         (a.passed.entry args entered.args_are_words, entered.answers_are_words)
         (a.start setup entry args answers f entered))
         proper
 
+    abbrev start : Now
+    start = begun image row args answers stack heap
+
+    guarded_backwards : Backwards run (λ m. seen (guarded_after schedule m start)) stack heap
+    guarded_backwards =
+        backwards Now (guarded_of schedule) seen stack heap most words (length image.code) a.words_fit run start told (guarded_orderly schedule)
+        (λ n e. run_empty file layout entry args answers n e)
+
     image_forwards : Forwards run (machine_run image row args answers stack heap schedule) stack heap (length image.code)
     image_forwards =
-        forwards_same run _ (machine_run image row args answers stack heap schedule) stack heap (length image.code)
-        (machine_steps image row args answers stack heap schedule)
-        (forwards Now (next_of schedule) seen stack heap most words (length image.code) a.words_fit run (begun image row args answers stack heap) told)
+        forwards_same run schedule start stack heap (length image.code)
+        (forwards Now (guarded_of schedule) seen stack heap most words (length image.code) a.words_fit run start told)
 
     image_backwards : Backwards run (machine_run image row args answers stack heap schedule) stack heap
-    image_backwards =
-        backwards_same run _ (machine_run image row args answers stack heap schedule) stack heap
-        (machine_steps image row args answers stack heap schedule)
-        (backwards Now (next_of schedule) seen stack heap most words (length image.code) a.words_fit run (begun image row args answers stack heap) told
-        (machine_orderly schedule) (λ n e. run_empty file layout entry args answers n e))
+    image_backwards = backwards_same run schedule start stack heap guarded_backwards
+
+    image_asks : ((n : ℕ) → IsProper (run n).outcome) → AsksOnlyInNeed schedule start
+    image_asks proper = asks_in_need run schedule start stack heap guarded_backwards proper
 
   pub known_correct : IsCorrect file image
   known_correct stack heap stack_room heap_room =
@@ -127,12 +163,22 @@ module _ (S : Type 0) (p : Program S) (w : Words S) (most words : ℕ) (file : F
         backwards = λ entry f row args answers schedule entered. image_backwards stack heap stack_room heap_room entry f row args answers schedule entered;
       }
 
--- An image that is assembled for a file is correct for it.
-pub assembled_correct : (S : Type 0) (p : Program S) (w : Words S) (most words : ℕ) (file : FileTree)
+  pub known_in_need : AsksInNeed file image
+  known_in_need stack heap stack_room heap_room entry f row args answers schedule entered proper =
+      image_asks stack heap stack_room heap_room entry f row args answers schedule entered proper
+
+module _ (S : Type 0) (p : Program S) (w : Words S) (most words : ℕ) (file : FileTree)
     (image : Tables) (IsGiven : List Value → Memory → Type 0) (IsDone : Doing → Type 0)
     (Below : Type 0) (At : Setup → Below → ℕ → ℕ → S → Outer → Now → Type 0)
     (Entry : Setup → Below → ℕ → ℕ → List Value → Memory → Outer → Now → Type 0)
-    (Back : Setup → Below → Doing → Outer → Now → Type 0) →
-    Assembled S p w most words file image IsGiven IsDone Below At Entry Back → IsCorrect file image
-assembled_correct S p w most words file image IsGiven IsDone Below At Entry Back a =
-    known_correct S p w most words file image IsGiven IsDone Below At Entry Back a (passed_known file (layout_of image) IsGiven IsDone a.passed)
+    (Back : Setup → Below → Doing → Outer → Now → Type 0)
+    (a : Assembled S p w most words file image IsGiven IsDone Below At Entry Back) where
+  -- An image that is assembled for a file is correct for it.
+  pub assembled_correct : IsCorrect file image
+  assembled_correct =
+      known_correct S p w most words file image IsGiven IsDone Below At Entry Back a (passed_known file (layout_of image) IsGiven IsDone a.passed)
+
+  -- It asks for allocations only in need.
+  pub assembled_in_need : AsksInNeed file image
+  assembled_in_need =
+      known_in_need S p w most words file image IsGiven IsDone Below At Entry Back a (passed_known file (layout_of image) IsGiven IsDone a.passed)

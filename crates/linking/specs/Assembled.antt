@@ -15,8 +15,8 @@ use Rattle.cmm_meaning.specs.Layout.{Layout, observed}
 use Rattle.cmm_meaning.specs.Evaluation.{OutOfFuel, Asking, Evaluation, Gives, Raises, Stops, fit_parameters}
 use Rattle.cmm_meaning.specs.State.{Doing, Gave, Threw, Asked}
 use Rattle.correctness.specs.Setting.{layout_of, AreRowsOf, IsWord, AreWords, Entered}
+use Rattle.guarded_machine.specs.Guarded.{guarded_of}
 use Rattle.image_form.specs.Tables.{Tables, Func}
-use Rattle.machine_laws.specs.Steps.{next_of}
 use Rattle.meaning_laws.specs.Fitting.{FitsResult}
 use Rattle.rv_machine.specs.Loading.{IsRoom}
 use Rattle.rv_machine.specs.Run.{Schedule, Seen, seen, begun}
@@ -106,10 +106,10 @@ module _ (S : Type 0) (p : Program S) (w : Words S) (most words : ℕ) (file : F
         Entry run bottom entry 0 (map Word args) (first_memory file)
         (record { made = []; answers = answers })
         (begun image run.row args answers run.stack run.heap)
-    -- the machine carries the program out
+    -- the machine carries the program out, and refuses no allocation on its way: each is asked in need
     pub carries : (run : Setup) →
-        Carries S p w file (layout_of image) Now (next_of run.schedule) seen run.stack run.heap
+        Carries S p w file (layout_of image) Now (guarded_of run.schedule) seen run.stack run.heap
         Below (At run) (Entry run) (Back run)
     pub stub : (run : Setup) (entry : ℕ) → slice_get image.funcs entry ≡ Some run.row →
-        IsStub Now (next_of run.schedule) seen run.stack run.heap (layout_of image) (data_end file)
+        IsStub Now (guarded_of run.schedule) seen run.stack run.heap (layout_of image) (data_end file)
         run.row.result (λ d o x. Back run bottom d o x)

@@ -1,5 +1,5 @@
 -- What an external call does in the run of a text, the machine does at its ECALL.
-use Rattle.std.proofs.Common.{◌≡◌, ◌⊎◌, inl, inr, ⊎_elim, ℕ, zero, suc, ◌+◌, ◌-◌, ◌<◌, ◌≤◌, Bool, true, false, cond, List, [], ◌∷◌, ◌++◌, Some, None, map, slice_get, slice_index, refl, ap, sym, subst, ◌∙◌, arith}
+use Rattle.std.proofs.Common.{◌≡◌, ◌≢◌, ◌⊎◌, inl, inr, ⊎_elim, ℕ, zero, suc, ◌+◌, ◌-◌, ◌<◌, ◌≤◌, Bool, true, false, cond, List, [], ◌∷◌, ◌++◌, Some, None, map, slice_get, slice_index, refl, ap, sym, subst, ◌∙◌, arith}
 use Rattle.std.specs.List.{AllByRecursion}
 use Rattle.bs_words.specs.External.{External}
 use Rattle.bs_words.specs.Fits.{fits, misfit}
@@ -18,12 +18,13 @@ use Rattle.cmm_meaning.specs.Layout.{observed}
 use Rattle.cmm_meaning.specs.Run.{made, nobody, answered, frame_answered, outside}
 use Rattle.cmm_meaning.specs.State.{Doing, Gave, Threw, Asked, Outside, World}
 use Rattle.correctness.specs.Setting.{layout_of, AreWords}
+use Rattle.guarded_machine.specs.Guarded.{guarded_after, guarded_of}
 use Rattle.image_form.specs.Tables.{Tables}
 use Rattle.lin_ir.specs.Meaning.{NamedAt, State}
 use Rattle.lin_ir.specs.declared.lin.Lin.{Lin}
 use Rattle.lin_ir.specs.declared.lin.Line.{Line}
 use Rattle.mach_ir.specs.Runs.{Step}
-use Rattle.machine_laws.specs.Steps.{next_of, moments, IsFrontOf}
+use Rattle.machine_laws.specs.Steps.{moments, IsFrontOf}
 use Rattle.meaning_laws.specs.Units.{world_of, Begins}
 use Rattle.meaning_laws.proofs.LinksWhole.{whole_calls_fit}
 use Rattle.meaning_laws.proofs.Units.{answered_later, Begins-same}
@@ -32,7 +33,7 @@ use Rattle.rv_isa.specs.declared.instr.Instr.TheVariants.{Ecall}
 use Rattle.rv_machine.specs.Hart as hart
 use Rattle.rv_machine.specs.Loading.{IsRoom}
 use Rattle.rv_machine.specs.Places.{stack_bottom}
-use Rattle.rv_machine.specs.Run.{seen, after}
+use Rattle.rv_machine.specs.Run.{seen}
 use Rattle.rv_machine.specs.Services.{Machine, Now, Going, Over, call_made, external, external_at, frame_call, served}
 use Rattle.rv_machine.specs.Services as machine
 use Rattle.rv_machine.specs.Sound.{IsStackBase}
@@ -41,7 +42,7 @@ use Rattle.linear_machine.specs.Follows as follows
 use Rattle.linear_machine.specs.Outside.{Taken, taken_of, service_of, counted, GoesOn, IsAsking}
 use Rattle.linear_machine.specs.Relation.{Below, Laid}
 use Rattle.linear_machine.specs.View.{Fixed, View, Stands}
-use Rattle.linear_machine.proofs.Steps.{ready, ready_stands, one_step}
+use Rattle.linear_machine.proofs.Steps.{ready, ready_stands, one_step, other_number}
 use Rattle.linking.specs.Assembled.{Setup}
 use Rattle.linking.specs.Carries.{Outer, outer_of, Out, no_stack, no_heap, Comes, Near, CarriesOutside}
 use Rattle.linking.specs.Pace.{Words}
@@ -50,7 +51,11 @@ use Rattle.linking_stages.specs.Stages.{linear_program}
 use Rattle.line_calls.specs.Calls.{IsInTable}
 use Rattle.linking_machine.specs.Emitted.{IsEmitted}
 use Rattle.linking_machine.specs.Standing.{Shows}
-use Rattle.linking_machine.proofs.Carrying.{after_moments, values_shown, words_all, fixed, at_, entry_, back_, After, after_shows, comes_free}
+use Rattle.linking_machine.proofs.Carrying.{values_shown, words_all, fixed, at_, entry_, back_, After, after_shows, comes_free}
+
+no_allocation : (frame : Bool) → service_of frame ≢ 3
+no_allocation true e = omega (arith, e)
+no_allocation false e = omega (arith, e)
 
 module _ (file : FileTree) (image : Tables) (lins : ℕ → Lin) (named : ℕ → NamedAt)
     (w : Words State) (laid : ℕ → Laid) (entry : ℕ → ℕ) (live : ℕ → List Line → Type 0)
@@ -62,7 +67,7 @@ module _ (file : FileTree) (image : Tables) (lins : ℕ → Lin) (named : ℕ �
 
   abbrev OutsideIt : ℕ → ℕ → ℕ → Below → (Doing → Step State) → Now → Evaluation → Type 0
   OutsideIt most f below c go x e =
-      CarriesOutside State (linear_program lins named) w file (layout_of image) Now (next_of run.schedule) seen run.stack run.heap Below
+      CarriesOutside State (linear_program lins named) w file (layout_of image) Now (guarded_of run.schedule) seen run.stack run.heap Below
       (at_ file image lins named w laid entry live has bases emitted run) (entry_ file image lins named w laid entry live has bases emitted run)
       (back_ file image lins named w laid entry live has bases emitted run) most f below c go x e
 
@@ -82,12 +87,12 @@ module _ (file : FileTree) (image : Tables) (lins : ℕ → Lin) (named : ℕ �
     counted_is : counted s row arguments ≡ call
     counted_is = ap (λ shown. record { name = row.name; shown = shown }) (values_shown image arguments known)
 
-    moved : (frame : Bool) (sh : There frame) (k : ℕ) (z : Now) → after run.schedule k (Going sh.machine) ≡ z → moments (next_of run.schedule) k y ≡ z
-    moved frame sh k z e = ap (moments (next_of run.schedule) k) sh.is ∙ sym (after_moments run.schedule k (Going sh.machine)) ∙ e
+    moved : (frame : Bool) (sh : There frame) (k : ℕ) (z : Now) → guarded_after run.schedule k (Going sh.machine) ≡ z → moments (guarded_of run.schedule) k y ≡ z
+    moved frame sh k z e = ap (moments (guarded_of run.schedule) k) sh.is ∙ e
 
     -- the call is answered
     goes_after : (frame : Bool) (sh : There frame) (t : Taken) → taken_of frame v.memory row.result sh.view.answers ≡ Some t → AreWords t.answers →
-        Comes Now (next_of run.schedule) seen run.stack run.heap 0 (heap_need v.memory) (v.made ++ call ∷ [])
+        Comes Now (guarded_of run.schedule) seen run.stack run.heap 0 (heap_need v.memory) (v.made ++ call ∷ [])
         (Near 1 1 (After file image lins named w laid entry live has bases emitted run c f below (go t.doing)
         (record { made = v.made ++ call ∷ []; answers = t.answers }))) y
     goes_after frame sh t is words =
@@ -97,7 +102,7 @@ module _ (file : FileTree) (image : Tables) (lins : ℕ → Lin) (named : ℕ �
       where
         by : GoesOn s sh.machine (sh.view.calls ++ counted s row arguments ∷ []) t.answers (λ z. follows.IsAfter s (laid f) (live f) c (go t.doing) z)
             ⊎ Gone s (record { top = s.base; stack = 0; heap = heap_need v.memory }) sh.view sh.machine →
-            Comes Now (next_of run.schedule) seen run.stack run.heap 0 (heap_need v.memory) (v.made ++ call ∷ [])
+            Comes Now (guarded_of run.schedule) seen run.stack run.heap 0 (heap_need v.memory) (v.made ++ call ∷ [])
             (Near 1 1 (After file image lins named w laid entry live has bases emitted run c f below (go t.doing)
             (record { made = v.made ++ call ∷ []; answers = t.answers }))) y
         by (inl g) =
@@ -107,7 +112,7 @@ module _ (file : FileTree) (image : Tables) (lins : ℕ → Lin) (named : ℕ �
                 lower = omega arith;
                 upper = omega arith;
                 at = after_shows file image lins named w laid entry live has bases emitted run f below c (go t.doing) _
-                    (moments (next_of run.schedule) 1 y) lies (record {
+                    (moments (guarded_of run.schedule) 1 y) lies (record {
                       machine = g.machine;
                       is = moved frame sh 1 (Going g.machine) (g.by 1 0 (omega arith));
                       view = g.view;
@@ -120,12 +125,12 @@ module _ (file : FileTree) (image : Tables) (lins : ℕ → Lin) (named : ℕ �
               });
             }
         by (inr g) =
-            let there : moments (next_of run.schedule) g.count y ≡ Over sh.view.calls g.end = moved frame sh g.count (Over sh.view.calls g.end)
+            let there : moments (guarded_of run.schedule) g.count y ≡ Over sh.view.calls g.end = moved frame sh g.count (Over sh.view.calls g.end)
             (g.by g.count 0 (omega arith)) in
             let front : IsFrontOf sh.view.calls (v.made ++ call ∷ []) = (call ∷ [], ap (λ l. l ++ call ∷ []) (sym sh.calls)) in
             record {
               count = g.count;
-              at = inr (subst (Out Now (next_of run.schedule) seen run.stack run.heap 0 (heap_need v.memory) (v.made ++ call ∷ [])) (sym there)
+              at = inr (subst (Out Now (guarded_of run.schedule) seen run.stack run.heap 0 (heap_need v.memory) (v.made ++ call ∷ [])) (sym there)
                   (⊎_elim (λ z. let short = z.1 in no_stack (absurd (omega (arith, short))) z.0 front) (λ z. no_heap z.1 z.0 front) g.want));
             }
 
@@ -137,11 +142,12 @@ module _ (file : FileTree) (image : Tables) (lins : ℕ → Lin) (named : ℕ �
       r_stands : Stands s r sh.view
       r_stands = ready_stands s sh.machine sh.view sh.stands
 
-      to_service : after run.schedule 1 (Going sh.machine) ≡ served run.schedule.plan (service_of frame) r
+      to_service : guarded_after run.schedule 1 (Going sh.machine) ≡ served run.schedule.plan (service_of frame) r
       to_service =
           let ask = sh.holds in
           let t : slice_index r.hart.registers 7 ≡ service_of frame = ap (λ xs. slice_index xs 7) r_stands.registers ∙ ask.service in
-          one_step s sh.machine sh.view Ecall (hart.Service r.hart) sh.stands ask.code refl 1 0 (omega arith)
+          one_step s sh.machine sh.view Ecall (hart.Service r.hart) sh.stands ask.code
+          (other_number s sh.machine sh.view (service_of frame) sh.stands ask.service (no_allocation frame)) refl 1 0 (omega arith)
           ∙ ap (λ n. served run.schedule.plan n r) t
 
       ext_there : external_at r.hart ≡ Some (sh.holds).ext
@@ -150,8 +156,8 @@ module _ (file : FileTree) (image : Tables) (lins : ℕ → Lin) (named : ℕ �
           ap (λ (i : Tables). slice_get i.extcs (slice_index r.hart.registers 5)) r_stands.image
           ∙ ap (λ xs. slice_get image.extcs (slice_index xs 5)) r_stands.registers ∙ ask.there
 
-      wants : after run.schedule 1 (Going sh.machine) ≡ Over r.calls (machine.Asks (call_made (sh.holds).ext r.hart)) →
-          Comes Now (next_of run.schedule) seen run.stack run.heap 0 (heap_need v.memory) v.made
+      wants : guarded_after run.schedule 1 (Going sh.machine) ≡ Over r.calls (machine.Asks (call_made (sh.holds).ext r.hart)) →
+          Comes Now (guarded_of run.schedule) seen run.stack run.heap 0 (heap_need v.memory) v.made
           (Near 0 1 (λ z. seen z ≡ record { calls = v.made; end = machine.Asks call })) y
       wants over =
           let ask = sh.holds in
@@ -168,7 +174,7 @@ module _ (file : FileTree) (image : Tables) (lins : ℕ → Lin) (named : ℕ �
           }
 
       external_asks : (t : Comp) → frame ≡ false → row.result ≡ ret.Comp t → v.answers ≡ [] →
-          after run.schedule 1 (Going sh.machine) ≡ Over r.calls (machine.Asks (call_made (sh.holds).ext r.hart))
+          guarded_after run.schedule 1 (Going sh.machine) ≡ Over r.calls (machine.Asks (call_made (sh.holds).ext r.hart))
       external_asks t is result none =
           let ask = sh.holds in
           let gone : r.answers ≡ [] = r_stands.answers ∙ sh.answers ∙ none in
@@ -180,7 +186,7 @@ module _ (file : FileTree) (image : Tables) (lins : ℕ → Lin) (named : ℕ �
       frame_asks : frame ≡ true → (l : List ℕ) → v.answers ≡ l →
           machine.frame_answered (run.schedule.plan r.hart.services) (sh.holds).ext.result (call_made (sh.holds).ext r.hart) l r ≡ Over r.calls
           (machine.Asks (call_made (sh.holds).ext r.hart)) →
-          after run.schedule 1 (Going sh.machine) ≡ Over r.calls (machine.Asks (call_made (sh.holds).ext r.hart))
+          guarded_after run.schedule 1 (Going sh.machine) ≡ Over r.calls (machine.Asks (call_made (sh.holds).ext r.hart))
       frame_asks is l few over =
           let ask = sh.holds in
           let gone : r.answers ≡ l = r_stands.answers ∙ sh.answers ∙ few in
@@ -232,23 +238,23 @@ module _ (file : FileTree) (image : Tables) (lins : ℕ → Lin) (named : ℕ �
 
   two_stages : (most n f below : ℕ) (c : Below) (go : Doing → Step State) (o : Outer) (x : Now) → n + 1 ≤ most → (e : Evaluation) →
       Begins o.made (world_of e).made →
-      Comes Now (next_of run.schedule) seen run.stack run.heap 0 0 o.made (Near 0 n (λ z. OutsideIt 1 f below c go z e)) x → OutsideIt most f below c go x e
+      Comes Now (guarded_of run.schedule) seen run.stack run.heap 0 0 o.made (Near 0 n (λ z. OutsideIt 1 f below c go z e)) x → OutsideIt most f below c go x e
   two_stages most n f below c go o x room (Gives v h u) begins comes =
-      comes_on Now (next_of run.schedule) seen run.stack run.heap x (omega arith) (omega arith) begins comes
+      comes_on Now (guarded_of run.schedule) seen run.stack run.heap x (omega arith) (omega arith) begins comes
       (λ i z near.
-      comes_map Now (next_of run.schedule) seen run.stack run.heap z (omega arith) (omega arith) (Begins-same u.made) near.at
+      comes_map Now (guarded_of run.schedule) seen run.stack run.heap z (omega arith) (omega arith) (Begins-same u.made) near.at
       (λ j q last. let a = near.upper in let b = last.upper in let d = last.lower in record
       { lower = omega (arith, d); upper = omega (arith, a, b, room); at = last.at }))
   two_stages most n f below c go o x room (Raises v h u) begins comes =
-      comes_on Now (next_of run.schedule) seen run.stack run.heap x (omega arith) (omega arith) begins comes
+      comes_on Now (guarded_of run.schedule) seen run.stack run.heap x (omega arith) (omega arith) begins comes
       (λ i z near.
-      comes_map Now (next_of run.schedule) seen run.stack run.heap z (omega arith) (omega arith) (Begins-same u.made) near.at
+      comes_map Now (guarded_of run.schedule) seen run.stack run.heap z (omega arith) (omega arith) (Begins-same u.made) near.at
       (λ j q last. let a = near.upper in let b = last.upper in let d = last.lower in record
       { lower = omega (arith, d); upper = omega (arith, a, b, room); at = last.at }))
   two_stages most n f below c go o x room (Stops (NoAnswer call) u) begins comes =
-      comes_on Now (next_of run.schedule) seen run.stack run.heap x (omega arith) (omega arith) begins comes
+      comes_on Now (guarded_of run.schedule) seen run.stack run.heap x (omega arith) (omega arith) begins comes
       (λ i z near.
-      comes_map Now (next_of run.schedule) seen run.stack run.heap z (omega arith) (omega arith) (Begins-same u.made) near.at
+      comes_map Now (guarded_of run.schedule) seen run.stack run.heap z (omega arith) (omega arith) (Begins-same u.made) near.at
       (λ j q last. let a = near.upper in let b = last.upper in record { lower = omega arith; upper = omega (arith, a, b, room); at = last.at }))
   two_stages most n f below c go o x room (Stops OutOfFuel u) begins comes = tt
   two_stages most n f below c go o x room (Stops (NotProper kind) u) begins comes = tt

@@ -12,6 +12,7 @@ use Rattle.cmm_tree.specs.Tree.{FileTree}
 use Rattle.cmm_meaning.specs.Layout.{observed}
 use Rattle.cmm_meaning.specs.State.{Doing, Gave, Threw, Asked, Callee, Inside, Outside}
 use Rattle.correctness.specs.Setting.{layout_of, AreWords}
+use Rattle.guarded_machine.specs.Guarded.{guarded_after, guarded_of}
 use Rattle.image_form.specs.Tables.{Tables, Func}
 use Rattle.lin_ir.specs.Meaning.{Locations, NamedAt, State, lin_act, wrote, on_act, unless_misnamed, on_values, at_code, put_all, code_at, clear, destroyed_by, past_frame, passes_frame, are_vals, values}
 use Rattle.lin_ir.specs.declared.lin.Lin.{Lin}
@@ -19,12 +20,12 @@ use Rattle.lin_ir.specs.declared.lin.Line.{Line}
 use Rattle.bs_words.specs.declared.types.Loc.{Loc}
 use Rattle.mach_ir.specs.Acts.{Around, Act, Goes, Pushes, Jumps, Unwinds, Asks, Replaces, Ends, EndsRaising, Stuck}
 use Rattle.mach_ir.specs.Runs.{Place, taken, bytes_below, kept_of, Step, Continues, Pays, Deepens, Waits, FinishesBy, Finishes, FinishesRaising, IsStuck}
-use Rattle.machine_laws.specs.Steps.{next_of, moments}
+use Rattle.machine_laws.specs.Steps.{moments}
 use Rattle.moving_laws.specs.Values.{HasFunctions, function_at}
 use Rattle.rv_machine.specs.Loading.{IsRoom}
 use Rattle.rv_machine.specs.Memory.{code_start}
 use Rattle.rv_machine.specs.Places.{stack_bottom}
-use Rattle.rv_machine.specs.Run.{Schedule, seen, one, after}
+use Rattle.rv_machine.specs.Run.{seen}
 use Rattle.rv_machine.specs.Services.{End, StackOut, HeapOut, Machine, Now, Going, Over}
 use Rattle.rv_machine.specs.Services as machine
 use Rattle.rv_machine.specs.Sound.{AllWords, IsStackBase}
@@ -42,15 +43,6 @@ use Rattle.linking_stages.specs.Stages.{linear_program}
 use Rattle.line_calls.specs.Calls.{IsInTable}
 use Rattle.linking_machine.specs.Emitted.{IsEmitted}
 use Rattle.linking_machine.specs.Standing.{Shows, fixed_of, At, Entry, Back}
-
-pub after_moments : (schedule : Schedule) (m : ℕ) (now : Now) → after schedule m now ≡ moments (next_of schedule) m now
-after_moments schedule zero now = refl
-after_moments schedule (suc m) (Going x) = after_moments schedule m (one schedule x)
-after_moments schedule (suc m) (Over calls end) = over m
-  where
-    over : (m : ℕ) → Over calls end ≡ moments (next_of schedule) m (Over calls end)
-    over zero = refl
-    over (suc m) = over m
 
 -- ---- what stands where a call is asked
 
@@ -116,11 +108,11 @@ words_all (w ∷ words) all (suc i) = words_all words all.1 i
 
 module _ (s : Fixed) (stack : ℕ) where
   abbrev pub ComesTo : ℕ → ℕ → List Made → (ℕ → Now → Type 0) → Now → Type 0
-  ComesTo st hp made P x = Comes Now (next_of s.schedule) seen stack s.heap st hp made P x
+  ComesTo st hp made P x = Comes Now (guarded_of s.schedule) seen stack s.heap st hp made P x
 
   gone_out : {q : Needs} {v : View} {a : Machine} (st hp : ℕ) (o : Outer) (g : Gone s q v a) → v.calls ≡ o.made →
       (q.top < s.base + q.stack → stack < st) → (s.heap < q.heap → s.heap < hp) →
-      Out Now (next_of s.schedule) seen stack s.heap st hp o.made (Over v.calls g.end)
+      Out Now (guarded_of s.schedule) seen stack s.heap st hp o.made (Over v.calls g.end)
   gone_out {q} {v} st hp o g calls one two = ⊎_elim
       (λ w. no_stack (one w.1) w.0 ([], sym calls ∙ sym (append-nil v.calls)))
       (λ w. no_heap (two w.1) w.0 ([], sym calls ∙ sym (append-nil v.calls)))
@@ -132,20 +124,20 @@ module _ (s : Fixed) (stack : ℕ) where
       ComesTo st hp o.made (Near least most R) x
   arrives_comes {q} {least} {n} most st hp {P} {Q} {R} o x few sh arrives one two onto = by (arrives.from sh.machine sh.stands)
     where
-      moved : (k : ℕ) (y : Now) → after s.schedule k (Going sh.machine) ≡ y → moments (next_of s.schedule) k x ≡ y
-      moved k y e = ap (moments (next_of s.schedule) k) sh.is ∙ sym (after_moments s.schedule k (Going sh.machine)) ∙ e
+      moved : (k : ℕ) (y : Now) → guarded_after s.schedule k (Going sh.machine) ≡ y → moments (guarded_of s.schedule) k x ≡ y
+      moved k y e = ap (moments (guarded_of s.schedule) k) sh.is ∙ e
 
       by : ArrivalIn least n s sh.view sh.machine P ⊎ Gone s q sh.view sh.machine → ComesTo st hp o.made (Near least most R) x
       by (inl a) =
           let some = a.some in
           let less = a.few in
-          let there : moments (next_of s.schedule) a.count x ≡ Going a.machine = moved a.count (Going a.machine) (a.by a.count 0 (omega arith)) in
+          let there : moments (guarded_of s.schedule) a.count x ≡ Going a.machine = moved a.count (Going a.machine) (a.by a.count 0 (omega arith)) in
           record {
             count = a.count;
             at = inl (record {
               lower = some;
               upper = omega (arith, less, few);
-              at = onto (moments (next_of s.schedule) a.count x) (record {
+              at = onto (moments (guarded_of s.schedule) a.count x) (record {
                 machine = a.machine;
                 is = there;
                 view = a.view;
@@ -158,11 +150,11 @@ module _ (s : Fixed) (stack : ℕ) where
             });
           }
       by (inr g) =
-          let there : moments (next_of s.schedule) g.count x ≡ Over sh.view.calls g.end = moved g.count (Over sh.view.calls g.end)
+          let there : moments (guarded_of s.schedule) g.count x ≡ Over sh.view.calls g.end = moved g.count (Over sh.view.calls g.end)
           (g.by g.count 0 (omega arith)) in
           record {
             count = g.count;
-            at = inr (subst (Out Now (next_of s.schedule) seen stack s.heap st hp o.made) (sym there) (gone_out st hp o g sh.calls one two));
+            at = inr (subst (Out Now (guarded_of s.schedule) seen stack s.heap st hp o.made) (sym there) (gone_out st hp o g sh.calls one two));
           }
 
 -- ---- the steps
@@ -185,12 +177,12 @@ module _ (file : FileTree) (image : Tables) (lins : ℕ → Lin) (named : ℕ �
   back_ c d o x = Back image has bases laid entry live run c d o x
 
   abbrev pub After : Below → ℕ → ℕ → Step State → Outer → Now → Type 0
-  After c f below x o y = IsAfter State (linear_program lins named) w file (layout_of image) Now (next_of run.schedule) seen run.stack run.heap Below
+  After c f below x o y = IsAfter State (linear_program lins named) w file (layout_of image) Now (guarded_of run.schedule) seen run.stack run.heap Below
       at_ entry_ back_ c f below x o y
 
   abbrev pub CarriesIt : ℕ → ℕ → ℕ → Below → Step State → Outer → Now → Type 0
   CarriesIt most f below c x o y =
-      CarriesStep State (linear_program lins named) w file (layout_of image) Now (next_of run.schedule) seen run.stack run.heap Below at_ entry_ back_
+      CarriesStep State (linear_program lins named) w file (layout_of image) Now (guarded_of run.schedule) seen run.stack run.heap Below at_ entry_ back_
       most f below c x o y
 
   abbrev pub place : ℕ → ℕ → Place
@@ -219,7 +211,7 @@ module _ (file : FileTree) (image : Tables) (lins : ℕ → Lin) (named : ℕ �
   pub stands_there : {least n : ℕ} {Q : View → Type 0} (most f below : ℕ) (c : Below) (u : State) (o : Outer) (x : Now) → n ≤ most →
       c.top + below ≡ stack_bottom → (sh : Shows fixed o Q x) →
       ArrivesIn least n fixed (needs_of (laid f) c u) sh.view (IsAt fixed (laid f) (live f) c u) →
-      Comes Now (next_of run.schedule) seen run.stack run.heap (taken (place f below) u.around) (heap_need u.around.memory) o.made
+      Comes Now (guarded_of run.schedule) seen run.stack run.heap (taken (place f below) u.around) (heap_need u.around.memory) o.made
       (Near least most (at_ c f below u o)) x
   stands_there most f below c u o x few e sh arrives =
       arrives_comes fixed run.stack most (taken (place f below) u.around) (heap_need u.around.memory) o x few sh arrives
@@ -228,7 +220,7 @@ module _ (file : FileTree) (image : Tables) (lins : ℕ → Lin) (named : ℕ �
   -- it comes to where nothing more is needed
   pub comes_free : {least n : ℕ} {P Q : View → Type 0} {R : Now → Type 0} (most : ℕ) (o : Outer) (x : Now) → n ≤ most → (sh : Shows fixed o Q x) →
       ArrivesIn least n fixed (nothing fixed) sh.view P →
-      ((y : Now) → Shows fixed o P y → R y) → Comes Now (next_of run.schedule) seen run.stack run.heap 0 0 o.made (Near least most R) x
+      ((y : Now) → Shows fixed o P y → R y) → Comes Now (guarded_of run.schedule) seen run.stack run.heap 0 0 o.made (Near least most R) x
   comes_free most o x few sh arrives onto =
       arrives_comes fixed run.stack most 0 0 o x few sh arrives (λ short. absurd (omega (arith, short))) (λ short. absurd (omega (arith, short))) onto
 
@@ -237,7 +229,7 @@ module _ (file : FileTree) (image : Tables) (lins : ℕ → Lin) (named : ℕ �
     pub tail_carried : (call : Asked) (callee : Callee) → call.callee ≡ callee → n ≤ most →
         call.below ≡ bytes_below call.callee true (place f below) u.around →
         FollowsTail n fixed entry c sh.view call callee →
-        CarriesTail State (linear_program lins named) w file (layout_of image) Now (next_of run.schedule) seen run.stack run.heap Below at_ entry_ back_
+        CarriesTail State (linear_program lins named) w file (layout_of image) Now (guarded_of run.schedule) seen run.stack run.heap Below at_ entry_ back_
         most c call callee o y
     tail_carried call (Inside g) is few lies follows =
         let same : call.below ≡ below = lies ∙ ap (λ (q : Callee). bytes_below q true (place f below) u.around) is in
@@ -247,7 +239,7 @@ module _ (file : FileTree) (image : Tables) (lins : ℕ → Lin) (named : ℕ �
     pub call_carried : (call : Asked) (go : Doing → Step State) (g : ℕ) → call.callee ≡ Inside g → n ≤ most →
         call.below ≡ bytes_below call.callee false (place f below) u.around →
         (fc : FollowsCall n fixed (laid f) (live f) entry c sh.view g call.arguments call.memory go) → fc.below.top + used (laid f) u ≡ c.top →
-        CarriesCall State (linear_program lins named) w file (layout_of image) Now (next_of run.schedule) seen run.stack run.heap Below at_ entry_ back_
+        CarriesCall State (linear_program lins named) w file (layout_of image) Now (guarded_of run.schedule) seen run.stack run.heap Below at_ entry_ back_
         most f below c g call go o y
     call_carried call go g is few lies fc lower =
         let same : call.below ≡ taken (place f below) u.around = lies ∙ ap (λ (q : Callee). bytes_below q false (place f below) u.around) is in

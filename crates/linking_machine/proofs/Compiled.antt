@@ -1,7 +1,8 @@
--- An image that is compiled from a file is correct for it.
+-- An image that is compiled from a file is correct for it, and asks for allocations only in need.
 use Rattle.std.proofs.Common.{ℕ, ◌-◌, arith}
 use Rattle.cmm_tree.specs.Tree.{FileTree}
 use Rattle.correctness.specs.Correct.{IsCorrect}
+use Rattle.correctness.specs.InNeed.{AsksInNeed}
 use Rattle.correctness.specs.Setting.{layout_of}
 use Rattle.image_form.specs.Tables.{Tables}
 use Rattle.mach_ir.specs.declared.mach.Mach.{Mach}
@@ -19,7 +20,7 @@ use Rattle.linking_stages.proofs.Chain.{lowered_keep}
 use Rattle.linking_stages.proofs.Selected.{selected_selects, words_passed}
 use Rattle.line_stands.specs.Lines.{Nowhere}
 use Rattle.linking_machine.specs.Compiled.{IsCompiled}
-use Rattle.linking_machine.proofs.Linked.{emitted_correct}
+use Rattle.linking_machine.proofs.Linked.{emitted_correct, emitted_in_need}
 
 -- the stack's lowest address, whatever its size
 pub bases_hold : (stack : ℕ) → IsRoom stack → IsStackBase (stack_bottom - stack)
@@ -29,12 +30,19 @@ bases_hold stack s = record {
   high = omega arith;
 }
 
-pub compiled_correct : (file : FileTree) (image : Tables) (machs : ℕ → Mach) (lins : ℕ → Lin)
-    (named : ℕ → NamedAt) (w : Words State) (most words : ℕ) (laid : ℕ → Laid) (entry : ℕ → ℕ) (has : HasFunctions image)
-    (bases : (stack : ℕ) → IsRoom stack → IsStackBase (stack_bottom - stack)) →
-    IsCompiled file image machs lins named w most words laid entry has bases → IsCorrect file image
-compiled_correct file image machs lins named w most words laid entry has bases c =
-    emitted_correct file image lins named w laid entry (λ f. Nowhere) has bases c.emitted most words IsGivenWords BoundedDoing c.rows c.words_fit
-    (lowered_keep machs lins named file (layout_of image) most IsGivenWords BoundedDoing (selected_selects file (layout_of image) machs most c.selected)
-    c.lowered)
-    (words_passed file (layout_of image) c.holds) c.forward
+module _ (file : FileTree) (image : Tables) (machs : ℕ → Mach) (lins : ℕ → Lin) (named : ℕ → NamedAt) (w : Words State) (most words : ℕ)
+    (laid : ℕ → Laid) (entry : ℕ → ℕ) (has : HasFunctions image) (bases : (stack : ℕ) → IsRoom stack → IsStackBase (stack_bottom - stack))
+    (c : IsCompiled file image machs lins named w most words laid entry has bases) where
+  pub compiled_correct : IsCorrect file image
+  compiled_correct =
+      emitted_correct file image lins named w laid entry (λ f. Nowhere) has bases c.emitted most words IsGivenWords BoundedDoing c.rows c.words_fit
+      (lowered_keep machs lins named file (layout_of image) most IsGivenWords BoundedDoing (selected_selects file (layout_of image) machs most c.selected)
+      c.lowered)
+      (words_passed file (layout_of image) c.holds) c.forward
+
+  pub compiled_in_need : AsksInNeed file image
+  compiled_in_need =
+      emitted_in_need file image lins named w laid entry (λ f. Nowhere) has bases c.emitted most words IsGivenWords BoundedDoing c.rows c.words_fit
+      (lowered_keep machs lins named file (layout_of image) most IsGivenWords BoundedDoing (selected_selects file (layout_of image) machs most c.selected)
+      c.lowered)
+      (words_passed file (layout_of image) c.holds) c.forward

@@ -5,13 +5,14 @@ use Rattle.bs_words.specs.declared.values.Value.{Value}
 use Rattle.cmm_tree.specs.Tree.{FileTree, functions}
 use Rattle.cmm_meaning.specs.State.{Doing, Asked, Callee, Inside, Outside}
 use Rattle.correctness.specs.Correct.{IsCorrect}
+use Rattle.correctness.specs.InNeed.{AsksInNeed}
 use Rattle.correctness.specs.Setting.{layout_of, AreRowsOf}
+use Rattle.guarded_machine.specs.Guarded.{guarded_of}
 use Rattle.image_form.specs.Tables.{Tables}
 use Rattle.lin_ir.specs.Meaning.{NamedAt, State, step}
 use Rattle.lin_ir.specs.declared.lin.Lin.{Lin}
 use Rattle.lin_ir.specs.declared.lin.Line.{Line}
 use Rattle.mach_ir.specs.Runs.{bytes_below, Step, Continues, Pays, Deepens, Waits, FinishesBy, Finishes, FinishesRaising, IsStuck}
-use Rattle.machine_laws.specs.Steps.{next_of}
 use Rattle.moving_laws.specs.Values.{HasFunctions}
 use Rattle.rv_machine.specs.Loading.{IsRoom}
 use Rattle.rv_machine.specs.Places.{stack_bottom}
@@ -26,7 +27,7 @@ use Rattle.linking.specs.Assembled.{Setup, IsPassedOn, Assembled}
 use Rattle.linking.specs.Carries.{Outer, CarriesAsked, Carries}
 use Rattle.linking.specs.Keeps.{Keeps}
 use Rattle.linking.specs.Pace.{Words, GoesForward}
-use Rattle.linking.proofs.Image.{assembled_correct}
+use Rattle.linking.proofs.Image.{assembled_correct, assembled_in_need}
 use Rattle.linking_stages.specs.Stages.{linear_program}
 use Rattle.linking_stages.proofs.Regular.{linear_regular}
 use Rattle.linking_stages.proofs.Walking.{reached_walks}
@@ -51,7 +52,7 @@ module _ (file : FileTree) (image : Tables) (lins : ℕ → Lin) (named : ℕ �
         call.below ≡ bytes_below call.callee false (place file image lins named w laid entry live has bases emitted run f below) u.around →
         (follow : FollowsAsked n (fixed file image lins named w laid entry live has bases emitted run) (laid f) (live f) entry c sh.view call go callee) →
         IsCalled n (fixed file image lins named w laid entry live has bases emitted run) (laid f) (live f) entry c sh.view (used (laid f) u) call go callee follow →
-        CarriesAsked State (linear_program lins named) w file (layout_of image) Now (next_of run.schedule) seen run.stack run.heap Below
+        CarriesAsked State (linear_program lins named) w file (layout_of image) Now (guarded_of run.schedule) seen run.stack run.heap Below
         (at_ file image lins named w laid entry live has bases emitted run) (entry_ file image lins named w laid entry live has bases emitted run)
         (back_ file image lins named w laid entry live has bases emitted run) most f below c call go callee o y
     asked_carried call go (Inside g) is few lies follow called =
@@ -83,7 +84,7 @@ module _ (file : FileTree) (image : Tables) (lins : ℕ → Lin) (named : ℕ �
     carried IsStuck few asks follow called = tt
 
   -- The machine carries the Linear program out.
-  pub carries : (run : Setup) → Carries State (linear_program lins named) w file (layout_of image) Now (next_of run.schedule) seen run.stack run.heap Below
+  pub carries : (run : Setup) → Carries State (linear_program lins named) w file (layout_of image) Now (guarded_of run.schedule) seen run.stack run.heap Below
       (At image has bases laid entry live run) (Entry image has bases laid entry live run) (Back image has bases laid entry live run)
   carries run =
       record {
@@ -128,5 +129,15 @@ module _ (file : FileTree) (image : Tables) (lins : ℕ → Lin) (named : ℕ �
       GoesForward State (linear_program lins named) w words → IsCorrect file image
   emitted_correct most words IsGiven IsDone rows fit keeps passed forward =
       assembled_correct State (linear_program lins named) w most words file image IsGiven IsDone Below (At image has bases laid entry live)
+      (Entry image has bases laid entry live)
+      (Back image has bases laid entry live) (emitted_assembled most words IsGiven IsDone rows fit keeps passed forward)
+
+  -- It asks for allocations only in need.
+  pub emitted_in_need : (most words : ℕ) (IsGiven : List Value → Memory → Type 0) (IsDone : Doing → Type 0) → AreRowsOf (functions file) image.funcs →
+      words + 1 ≤ length image.code →
+      Keeps State (linear_program lins named) file (layout_of image) most IsGiven IsDone → IsPassedOn IsGiven IsDone file (layout_of image) →
+      GoesForward State (linear_program lins named) w words → AsksInNeed file image
+  emitted_in_need most words IsGiven IsDone rows fit keeps passed forward =
+      assembled_in_need State (linear_program lins named) w most words file image IsGiven IsDone Below (At image has bases laid entry live)
       (Entry image has bases laid entry live)
       (Back image has bases laid entry live) (emitted_assembled most words IsGiven IsDone rows fit keeps passed forward)

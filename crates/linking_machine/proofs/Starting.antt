@@ -78,6 +78,7 @@ module _ (file : FileTree) (image : Tables) (has : HasFunctions image) (bases : 
     blocks = [];
     answers = answers;
     calls = [];
+    asked = false;
   }
 
   is_entry : AtEntry (fixed_of image has bases run) view [] (entry f) (map Word args) (first_memory file) nothing_below

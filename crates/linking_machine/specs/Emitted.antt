@@ -8,12 +8,12 @@ use Rattle.cmm_data.specs.Placement.{data_end}
 use Rattle.cmm_tree.specs.Tree.{FunctionTree, FileTree, functions, comps_of}
 use Rattle.cmm_meaning.specs.State.{Callee, Inside, Outside}
 use Rattle.correctness.specs.Setting.{layout_of}
+use Rattle.guarded_machine.specs.Guarded.{guarded_of}
 use Rattle.image_form.specs.Tables.{Tables, Func}
 use Rattle.lin_ir.specs.Meaning.{NamedAt, State, step, start}
 use Rattle.lin_ir.specs.Walks.{Reached}
 use Rattle.lin_ir.specs.declared.lin.Lin.{Lin}
 use Rattle.lin_ir.specs.declared.lin.Line.{Line}
-use Rattle.machine_laws.specs.Steps.{next_of}
 use Rattle.mach_ir.specs.Runs.{Step, Waits}
 use Rattle.moving_laws.specs.Stands.{StaticsStand}
 use Rattle.moving_laws.specs.Values.{HasFunctions}
@@ -99,6 +99,6 @@ module _ (file : FileTree) (image : Tables) (lins : ℕ → Lin) (named : ℕ �
     pub entries : AreEntries file image entry
     -- and the stub ends it
     pub stub : (run : Setup) (f : ℕ) → slice_get image.funcs f ≡ Some run.row →
-        IsStub Now (next_of run.schedule) seen run.stack run.heap (layout_of image)
+        IsStub Now (guarded_of run.schedule) seen run.stack run.heap (layout_of image)
         (data_end file) run.row.result
         (λ d o x. Back image has bases laid entry live run nothing_below d o x)

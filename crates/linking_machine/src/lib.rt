@@ -1,5 +1,5 @@
 //! What the machine does for each line of a Linear function gives what it does for the whole program: an image
-//! whose lines are followed so is assembled, and so correct.
+//! whose lines are followed so is assembled, and so correct, and asks for allocations only in need.
 //!
 //! The crate holds definitions and laws alone.
 #![tactic(auto)]
@@ -7,6 +7,7 @@
 ghost use Rattle.std.specs.Prelude.{ℕ, ◌-◌};
 ghost use Rattle.cmm_tree.specs.Tree.{FileTree};
 ghost use Rattle.correctness.specs.Correct.{IsCorrect};
+ghost use Rattle.correctness.specs.InNeed.{AsksInNeed};
 ghost use Rattle.image_form.specs.Tables.{Tables};
 ghost use Rattle.lin_ir.specs.Meaning.{NamedAt, State};
 ghost use Rattle.lin_ir.specs.declared.lin.Lin.{Lin};
@@ -27,4 +28,14 @@ pub fn compiled_is_correct()
         (bases : (stack : ℕ) → IsRoom stack → IsStackBase (stack_bottom - stack)) →
         IsCompiled file image machs lins named w most words laid entry has bases →
         IsCorrect file image }
+{}
+
+/// Law: it asks for an allocation only where s10 is below the limit word.
+pub fn compiled_asks_in_need()
+    ensures { (file : FileTree) (image : Tables) (machs : ℕ → Mach) (lins : ℕ → Lin)
+        (named : ℕ → NamedAt) (w : Words State) (most words : ℕ) (laid : ℕ → Laid)
+        (entry : ℕ → ℕ) (has : HasFunctions image)
+        (bases : (stack : ℕ) → IsRoom stack → IsStackBase (stack_bottom - stack)) →
+        IsCompiled file image machs lins named w most words laid entry has bases →
+        AsksInNeed file image }
 {}

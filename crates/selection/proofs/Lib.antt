@@ -14,4 +14,5 @@ pub mod Waiting
 pub mod RowForms
 pub mod BoxedForms
 pub mod Whole
+pub mod CallNumbers
 pub mod Outlines

@@ -1,16 +1,17 @@
 //! The function of a file by its number, and its Mach function.
-ghost use Rattle.std.specs.Prelude.{◌≡◌, ◌<◌, length, map, Some, slice_get, ⊤, IfOk, MatchOption, option_map, option_copied};
+ghost use Rattle.std.specs.Prelude.{◌≡◌, ◌<◌, [], length, map, Some, slice_get, ⊤, IfOk, OnOk, MatchOption, option_map, option_copied};
 ghost use Rattle.bs_words.specs.Contents.{contents};
 ghost use Rattle.cmm_tree.specs.Tree.{functions, functions_among};
-ghost use Rattle.cmm_tree.specs.View.{function_view, item_view, file_view};
+ghost use Rattle.cmm_tree.specs.View.{function_view, item_view, file_view, params_view};
 ghost use Rattle.cmm_types.specs.Typing.{AreItemsAnnotated, IsFunctionAnnotated, file_of};
 ghost use Rattle.cmm_walks.specs.Checked.{typed_of};
-ghost use Rattle.selection_rules.specs.Select.{selected};
+ghost use Rattle.selection_rules.specs.Select.{first, seats, params_from, moves_all, selected};
+ghost use Rattle.selection.specs.Whole.{numbers_in, body_code};
 
 use crate::forms::expr;
-use cmm_tree::{Function, Item};
+use cmm_tree::{Function, Item, Param};
 use cmm_walks::Checked;
-use mach_ir::Mach;
+use mach_ir::{Mach, Reg, Seq};
 use selection_code::backwards::Backwards;
 use selection_scope::numbers::{number_of, plus};
 use selection_scope::place::{Place, fresh, is_no_value, result_of};
@@ -46,37 +47,100 @@ fn function_at(items: &[Item], number: u32) -> Option<&Function>
 /// The first number behind the registers of the colours.
 const FIRST: u32 = 21;
 
+/// The numbers of a function behind those of the colours and of the seats of its parameters.
+#[derive(Clone, Copy)]
+struct Numbers {
+    /// The first of the registers that its parameters are moved to.
+    moved: u32,
+    /// The register of its value.
+    value: u32,
+    /// The seat that it is given back in.
+    given: u32,
+    /// The first of its body.
+    base: u32,
+    /// The first behind those of its body.
+    labels: u32,
+}
+
+/// The numbers of a function.
+fn numbers_of_function(function: &Function) -> Result<Numbers, AllocError>
+    ensures { IfOk result (λ numbers. numbers ≡ numbers_in (function_view function.now)) }
+{
+    let params = function.params.as_slice();
+    let count = number_of(params.len())?;
+    let moved = plus(FIRST, count)?;
+    let value = plus(moved, count)?;
+    let given = plus(value, 1)?;
+    let base = plus(given, 1)?;
+    let labels = behind(base, &function.body)?;
+    Ok(Numbers {
+        moved,
+        value,
+        given,
+        base,
+        labels,
+    })
+}
+
+/// Puts the body of a function before its end.
+fn put_body(
+    alloc: Global,
+    function: &Function,
+    numbers: Numbers,
+    code: &mut Backwards,
+) -> Result<(), AllocError>
+    requires typed { IsFunctionAnnotated function.now }
+    requires numbers { numbers ≡ numbers_in (function_view function.now) }
+    requires empty { code.old ≡ [] }
+    ensures { OnOk result (code.new ≡ body_code (function_view function.now)) }
+{
+    let ty = function.body.ty;
+    let value = fresh(numbers.value, ty);
+    code.returns(value, numbers.given, result_of(ty))?;
+    let place = Place {
+        valued: !is_no_value(ty),
+        tail: true,
+        dest: value,
+        base: numbers.base,
+    };
+    let mut scope = Scope::new(alloc);
+    scope.bind_params(function.params.as_slice(), numbers.moved)?;
+    expr(&mut scope, code, place, &function.body)
+}
+
+/// Moves the parameters of a function from their seats to their registers, before what there is, and answers the seats.
+fn put_params(
+    alloc: Global,
+    params: &[Param],
+    moved: u32,
+    code: &mut Backwards,
+) -> Result<Seq<Reg>, AllocError>
+    ensures params { IfOk result (λ given. given ≡ seats 0 first (params_from moved
+        (params_view params.now))) }
+    ensures code { IfOk result (λ _. code.new ≡ moves_all (seats 0 first (params_from moved
+        (params_view params.now))) (params_from moved (params_view params.now)) code.old) }
+{
+    let own = params_from(alloc, moved, params)?;
+    let given = seats(alloc, FIRST, &own)?;
+    code.moves_all(&given, &own)?;
+    given.to_seq(alloc)
+}
+
 /// The Mach function of a function.
 fn selected(alloc: Global, function: &Function) -> Result<Mach, AllocError>
     requires { IsFunctionAnnotated function.now }
     ensures { IfOk result (λ mach. mach ≡ selected (function_view function.now)) }
 {
-    let ty = function.body.ty;
-    let params = function.params.as_slice();
-    let moved = plus(FIRST, number_of(params.len())?)?;
-    let own = params_from(alloc, moved, params)?;
-    let given = seats(alloc, FIRST, &own)?;
-    let number = plus(moved, number_of(params.len())?)?;
-    let base = plus(number, 2)?;
-    let labels = behind(base, &function.body)?;
-    let mut scope = Scope::new(alloc);
-    scope.bind_params(params, moved)?;
+    let numbers = numbers_of_function(function)?;
     let mut code = Backwards::new(alloc);
-    let value = fresh(number, ty);
-    code.returns(value, base - 1, result_of(ty))?;
-    let place = Place {
-        valued: !is_no_value(ty),
-        tail: true,
-        dest: value,
-        base,
-    };
-    expr(&mut scope, &mut code, place, &function.body)?;
-    code.moves_all(&given, &own)?;
+    put_body(alloc, function, numbers, &mut code)?;
+    let params = put_params(alloc, function.params.as_slice(), numbers.moved, &mut code)?;
+    let name = code.copy_of(&function.name)?;
     Ok(Mach {
-        name: code.copy_of(&function.name)?,
-        params: given.to_seq(alloc)?,
-        result: result_of(ty),
-        labels,
+        name,
+        params,
+        result: result_of(function.body.ty),
+        labels: numbers.labels,
         colours: colour_regs(alloc)?,
         code: code.into_seq(),
     })

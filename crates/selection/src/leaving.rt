@@ -1,13 +1,16 @@
 //! Calls, exits and raises, with their operands.
-ghost use Rattle.std.specs.Prelude.{◌≡◌, ℕ, ◌&&◌, not, OnOk};
+ghost use Rattle.std.specs.Prelude.{◌≡◌, ℕ, ◌∷◌, ◌&&◌, not, IfOk, OnOk};
 ghost use Rattle.cmm_tree.specs.Rows.{row_of};
 ghost use Rattle.cmm_tree.specs.Tree.{App, Extcall, Exit, Raise};
 ghost use Rattle.cmm_tree.specs.View.{expr_view, label_view};
 ghost use Rattle.cmm_types.specs.Annotated.{IsAnnotated};
 ghost use Rattle.cmm_types.specs.Lists.{AreAnnotated};
 ghost use Rattle.cmm_types.specs.Types.{type_of};
-ghost use Rattle.selection_rules.specs.Select.{symbol_of as symbol_in};
+ghost use Rattle.cmm_meaning.specs.Evaluation.{comps_of_arguments};
+ghost use Rattle.selection_rules.specs.Instructions as emit;
+ghost use Rattle.selection_rules.specs.Select.{symbol_of as symbol_in, call_of, exit_to, label_of, regs_of, result_seat};
 ghost use Rattle.selection.specs.Operands.{lacks};
+ghost use Rattle.selection.specs.Calls.{call_numbers, seated_code};
 ghost use Rattle.selection.specs.Below.{node_code, MayCall, Selects};
 ghost use Rattle.selection_scope.specs.Scoping.{names_in};
 
@@ -19,6 +22,7 @@ use selection_code::calls::{Call, symbol_of};
 use selection_scope::light::is_light_address;
 use selection_scope::numbers::{number_of, plus};
 use selection_scope::place::{Node, Place, fresh, operand_at};
+use selection_scope::row::Regs;
 use selection_scope::scope::Scope;
 use selection_scope::seats::{comps_of_arguments, regs_of, result_seat, seat, seats};
 use selection_scope::width::behind;
@@ -45,6 +49,52 @@ fn is_early(light: bool, callee: &Expr) -> bool
     }
 }
 
+/// The numbers of a call: the first of the registers of its arguments, the first of their seats, the seat of what is
+/// given, and the first behind them.
+#[derive(Clone, Copy)]
+struct CallNumbers {
+    row: u32,
+    seated: u32,
+    given: u32,
+    base: u32,
+}
+
+/// The numbers of a call with so many arguments, from this one on.
+fn call_numbers(row: u32, len: usize) -> Result<CallNumbers, AllocError>
+    ensures { IfOk result (λ numbers. numbers ≡ call_numbers row len) }
+{
+    let count = number_of(len)?;
+    let seated = plus(row, count)?;
+    let given = plus(seated, count)?;
+    let base = plus(given, 1)?;
+    Ok(CallNumbers {
+        row,
+        seated,
+        given,
+        base,
+    })
+}
+
+/// The call of a function whose operands stand in their registers.
+fn put_call(
+    scope: &Scope,
+    code: &mut Backwards,
+    call: Call,
+    callee: &Expr,
+    numbers: CallNumbers,
+    arguments: &[Expr],
+) -> Result<(), AllocError>
+    requires { AreAnnotated (names_in scope.now) arguments.now }
+    ensures { OnOk result (code.new ≡ seated_code scope.now numbers (row_of arguments.now)
+        (λ args. call_of call.tail call.valued call.written (symbol_in (expr_view
+        callee.now)) call.register args call.given call.dest code.old)) }
+{
+    let regs = regs_of(scope, numbers.row, arguments)?;
+    let args = seats(scope.alloc(), numbers.seated, &regs)?;
+    code.call(call, callee, &args)?;
+    code.moves_all(&regs, &args)
+}
+
 /// A call. A callee that is a light address waits as an operand does.
 pub fn app<F: Fn(&mut Scope, &mut Backwards, Place, &Expr) -> Result<(), AllocError>>(
     below: &F,
@@ -66,25 +116,20 @@ pub fn app<F: Fn(&mut Scope, &mut Backwards, Place, &Expr) -> Result<(), AllocEr
     ensures scope { OnOk result (scope.new ≡ scope.old) }
 {
     let row = plus(node.place.base, 2)?;
-    let count = number_of(arguments.len())?;
-    let seated = plus(row, count)?;
-    let given = plus(seated, count)?;
-    let base = plus(given, 1)?;
+    let numbers = call_numbers(row, arguments.len())?;
+    let base = numbers.base;
     let inner = behind(base, callee)?;
     let register = fresh(row - 1, callee.ty);
     let light = is_light_address(scope, callee);
-    let regs = regs_of(scope, row, arguments)?;
-    let args = seats(scope.alloc(), seated, &regs)?;
     let call = Call {
         written,
         tail: node.place.tail,
         valued: node.is_valued(),
         register,
-        given,
+        given: numbers.given,
         dest: node.dest(),
     };
-    code.call(call, callee, &args)?;
-    code.moves_all(&regs, &args)?;
+    put_call(scope, code, call, callee, numbers, arguments)?;
     let late = Operand {
         expr: callee,
         reg: register,
@@ -101,6 +146,52 @@ pub fn app<F: Fn(&mut Scope, &mut Backwards, Place, &Expr) -> Result<(), AllocEr
     };
     put_operand(below, scope, code, &early)?;
     waiting(below, scope, code, row, inner, arguments)
+}
+
+/// An external call whose arguments stand in their seats.
+fn call_outside(
+    scope: &Scope,
+    code: &mut Backwards,
+    outside: Outside<'_>,
+    given: u32,
+    arguments: &[Expr],
+    args: &Regs,
+) -> Result<(), AllocError>
+    requires { AreAnnotated (names_in scope.now) arguments.now }
+    ensures { OnOk result (code.new ≡ emit.external outside.entry.name.now (comps_of_arguments
+        (names_in scope.now) (row_of arguments.now)) outside.entry.result outside.entry.frame
+        args.now (result_seat given outside.entry.result) ∷ code.old) }
+{
+    let comps = comps_of_arguments(scope, arguments)?;
+    let results = result_seat(scope.alloc(), given, outside.result)?;
+    code.external(
+        outside.name,
+        comps,
+        outside.result,
+        outside.frame,
+        args,
+        &results,
+    )
+}
+
+/// An external call whose arguments stand in their registers.
+fn put_external(
+    scope: &Scope,
+    code: &mut Backwards,
+    outside: Outside<'_>,
+    numbers: CallNumbers,
+    arguments: &[Expr],
+) -> Result<(), AllocError>
+    requires { AreAnnotated (names_in scope.now) arguments.now }
+    ensures { OnOk result (code.new ≡ seated_code scope.now numbers (row_of arguments.now)
+        (λ args. emit.external outside.entry.name.now (comps_of_arguments
+        (names_in scope.now) (row_of arguments.now)) outside.entry.result outside.entry.frame
+        args (result_seat numbers.given outside.entry.result) ∷ code.old)) }
+{
+    let regs = regs_of(scope, numbers.row, arguments)?;
+    let args = seats(scope.alloc(), numbers.seated, &regs)?;
+    call_outside(scope, code, outside, numbers.given, arguments, &args)?;
+    code.moves_all(&regs, &args)
 }
 
 /// An external call.
@@ -124,26 +215,28 @@ pub fn extcall<F: Fn(&mut Scope, &mut Backwards, Place, &Expr) -> Result<(), All
     ensures scope { OnOk result (scope.new ≡ scope.old) }
 {
     let row = plus(node.place.base, 1)?;
-    let count = number_of(arguments.len())?;
-    let seated = plus(row, count)?;
-    let given = plus(seated, count)?;
-    let base = plus(given, 1)?;
-    let regs = regs_of(scope, row, arguments)?;
-    let args = seats(scope.alloc(), seated, &regs)?;
-    let comps = comps_of_arguments(scope, arguments)?;
-    let results = result_seat(scope.alloc(), given, outside.result)?;
-    code.from_seat(given, outside.result, node.dest())?;
-    code.external(
-        outside.name,
-        comps,
-        outside.result,
-        outside.frame,
-        &args,
-        &results,
-    )?;
-    code.moves_all(&regs, &args)?;
+    let numbers = call_numbers(row, arguments.len())?;
+    let base = numbers.base;
+    code.from_seat(numbers.given, outside.result, node.dest())?;
+    put_external(scope, code, outside, numbers, arguments)?;
     filled(below, scope, code, row, base, arguments)?;
     waiting(below, scope, code, row, base, arguments)
+}
+
+/// An exit to a handler, whose arguments stand in their registers.
+fn put_exit(
+    scope: &Scope,
+    code: &mut Backwards,
+    label: &Label,
+    row: u32,
+    arguments: &[Expr],
+) -> Result<(), AllocError>
+    requires { AreAnnotated (names_in scope.now) arguments.now }
+    ensures { OnOk result (code.new ≡ exit_to (label_of scope.now.labels (label_view label.now))
+        (regs_of scope.now.names row (row_of arguments.now)) code.old) }
+{
+    let regs = regs_of(scope, row, arguments)?;
+    code.exit_to(scope.target_of(label), &regs)
 }
 
 /// An exit to a handler.
@@ -166,8 +259,7 @@ pub fn exit<F: Fn(&mut Scope, &mut Backwards, Place, &Expr) -> Result<(), AllocE
 {
     let row = plus(node.place.base, 1)?;
     let base = plus(row, number_of(arguments.len())?)?;
-    let regs = regs_of(scope, row, arguments)?;
-    code.exit_to(scope.target_of(label), &regs)?;
+    put_exit(scope, code, label, row, arguments)?;
     filled(below, scope, code, row, base, arguments)?;
     waiting(below, scope, code, row, base, arguments)
 }

@@ -6,13 +6,14 @@ ghost use Rattle.cmm_tree.specs.View.{expr_view};
 ghost use Rattle.cmm_types.specs.Annotated.{IsAnnotated};
 ghost use Rattle.cmm_types.specs.Lists.{AreAnnotated};
 ghost use Rattle.cmm_types.specs.Types.{Scoped, type_of};
-ghost use Rattle.selection_rules.specs.Select.{base_of, offset_of, chunk_for};
+ghost use Rattle.selection_rules.specs.Select.{base_of, offset_of, chunk_for, cell_stores, regs_of};
 ghost use Rattle.selection.specs.Below.{node_code, MayCall, Selects};
 ghost use Rattle.selection_scope.specs.Scoping.{names_in};
 
 use crate::operands::{Operand, both, filled, one, waiting};
 use bs_words::{Chunk, Ty};
 use cmm_tree::Expr;
+use mach_ir::Reg;
 use selection_code::backwards::Backwards;
 use selection_code::shape::{integer, is_based, is_register, right_of_bound};
 use selection_scope::light::is_left_first;
@@ -176,6 +177,23 @@ fn chunk_of_cells(header: u64) -> Chunk
     }
 }
 
+/// The cells of a new block, whose values stand in the registers from this number on.
+fn put_cells(
+    scope: &Scope,
+    code: &mut Backwards,
+    header: u64,
+    block: Reg,
+    row: u32,
+    operands: &[Expr],
+) -> Result<(), AllocError>
+    requires { AreAnnotated (names_in scope.now) operands.now }
+    ensures { OnOk result (code.new ≡ cell_stores (chunk_for (nat_le (header % 256) 250)) block 0
+        (regs_of scope.now.names row (row_of operands.now)) code.old) }
+{
+    let regs = regs_of(scope, row, operands)?;
+    code.cell_stores(chunk_of_cells(header), block, &regs)
+}
+
 /// A new block: its header is written before the operands that have waited, and its cells after them.
 pub fn alloc<F: Fn(&mut Scope, &mut Backwards, Place, &Expr) -> Result<(), AllocError>>(
     below: &F,
@@ -199,9 +217,8 @@ pub fn alloc<F: Fn(&mut Scope, &mut Backwards, Place, &Expr) -> Result<(), Alloc
     let base = plus(row, cells)?;
     let block = fresh(row - 2, Ty::Val);
     let word = fresh(row - 1, Ty::Int);
-    let regs = regs_of(scope, row, operands)?;
     code.move_to(block, node.dest())?;
-    code.cell_stores(chunk_of_cells(header), block, &regs)?;
+    put_cells(scope, code, header, block, row, operands)?;
     filled(below, scope, code, row, base, operands)?;
     code.store(Chunk::Int, HEADER_OFFSET, block, word)?;
     code.constant(header, word)?;

@@ -5,6 +5,7 @@ use Rattle.cmm_front.specs.FileOf.{IsFileOf}
 use Rattle.cmm_tree.specs.Tree.{FileTree}
 use Rattle.correctness.specs.Bounds.{IsBounded, IsRoomy}
 use Rattle.correctness.specs.Correct.{IsCorrect}
+use Rattle.correctness.specs.InNeed.{AsksInNeed}
 use Rattle.file_promise.specs.Exact.{IsExact}
 use Rattle.image_form.specs.Image.{AreTables}
 use Rattle.image_form.specs.Tables.{Tables}
@@ -17,14 +18,15 @@ pub record IsOnlyMadeFor (file : FileTree) (image : Tables) : Type 0 where
   pub made : IsMadeFor file image
   pub only : (other : Tables) → IsMadeFor file other → other ≡ image
 
--- The text has a file, and this is the image that is made for it: it is correct for the file, as small as
--- the file asks, and its frame descriptors are exact.
+-- The text has a file, and this is the image that is made for it: it is correct for the file, asks for
+-- allocations only in need, is as small as the file asks, and its frame descriptors are exact.
 pub record IsImageOf (text : List ℕ) (image : Tables) : Type 0 where
   pub file : FileTree
   pub is_file : IsFileOf text file
   pub is_image : AreTables image
   pub made : IsOnlyMadeFor file image
   pub correct : IsCorrect file image
+  pub in_need : AsksInNeed file image
   pub bounded : IsBounded file image
   pub exact : IsExact file image
   -- no section passes its limit

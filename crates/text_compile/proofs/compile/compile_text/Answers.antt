@@ -1,7 +1,7 @@
 use Rattle.std.proofs.Common.{refl, arith}
 use Rattle.cmm_front.specs.FileOf.{tree_of}
 use Rattle.cmm_walks.specs.Checked.{typed_of}
-use Rattle.file_promise.proofs.Promise.{made_correct, made_bounded, made_exact}
+use Rattle.file_promise.proofs.Promise.{made_correct, made_in_need, made_bounded, made_exact}
 use Rattle.file_promise.proofs.Bytes.{all_bytes}
 use Rattle.image_form.specs.Tables.{tables}
 use Rattle.text_compile.proofs.Passing.{only_made, too_large}
@@ -30,6 +30,7 @@ returns-in-Ok-write_image-clause-image c =
         is_image = c.in-Ok-compile.ensures.is_image;
         made = only_made file image made;
         correct = made_correct text file c.in-Ok.ensures.file image made bytes c.in-Ok-compile.ensures.is_image;
+        in_need = made_in_need text file c.in-Ok.ensures.file image made bytes c.in-Ok-compile.ensures.is_image;
         bounded = made_bounded text file c.in-Ok.ensures.file image made;
         exact = made_exact text file c.in-Ok.ensures.file image made;
         fits = c.in-Ok-compile.ensures.fits;

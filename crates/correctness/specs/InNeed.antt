@@ -1,0 +1,43 @@
+-- Compiled code asks for an allocation only in need: where it has come below the limit word.
+use Rattle.std.specs.Prelude.{◌≡◌, ℕ, ◌<◌, List, Some}
+use Rattle.cmm_meaning.specs.Run.{cmm_run}
+use Rattle.cmm_tree.specs.Tree.{FunctionTree, FileTree}
+use Rattle.correctness.specs.Correct.{IsProper}
+use Rattle.correctness.specs.Setting.{layout_of, Entered}
+use Rattle.image_form.specs.Tables.{Tables, Func}
+use Rattle.rv_isa.specs.Decoding.{decoded}
+use Rattle.rv_isa.specs.Registers.{s10, t2}
+use Rattle.rv_isa.specs.declared.instr.Instr.TheVariants.{Ecall}
+use Rattle.rv_machine.specs.Hart.{fetch, register}
+use Rattle.rv_machine.specs.Loading.{IsRoom}
+use Rattle.rv_machine.specs.Memory.{word}
+use Rattle.rv_machine.specs.Places.{domain_start}
+use Rattle.rv_machine.specs.Run.{Schedule, after, begun}
+use Rattle.rv_machine.specs.Services.{Machine, Now, Going}
+
+-- The machine stands at an allocation service, before it is done: the next instruction is an ECALL,
+-- and t2 says service 3.
+pub record IsAtAllocation (m : Machine) : Type 0 where
+  pub instruction : ℕ
+  pub there : fetch m.hart.image.code m.hart.pc ≡ Some instruction
+  pub ecall : decoded instruction ≡ Some Ecall
+  pub service : register m.hart t2 ≡ 3
+
+-- There s10, which the bytes have been taken off, is below the limit word.
+abbrev pub IsInNeed : Machine → Type 0
+IsInNeed m = IsAtAllocation m → register m.hart s10 < word m.hart.memory domain_start
+
+-- So it is at each moment of a run. An ask before the instruction would only raise the limit word.
+abbrev pub AsksOnlyInNeed : Schedule → Now → Type 0
+AsksOnlyInNeed schedule start =
+    (moment : ℕ) (m : Machine) → after schedule moment start ≡ Going m → IsInNeed m
+
+-- So is each run of an image, where no run of the text is improper: for every stack, heap, function of
+-- the file, words that fit it, answers, and schedule of the mover.
+abbrev pub AsksInNeed : FileTree → Tables → Type 0
+AsksInNeed file image =
+    (stack heap : ℕ) → IsRoom stack → IsRoom heap → (entry : ℕ) (f : FunctionTree) (row : Func)
+    (args answers : List ℕ) (schedule : Schedule) →
+    Entered file image entry f row args answers →
+    ((n : ℕ) → IsProper (cmm_run file (layout_of image) entry args answers n).outcome) →
+    AsksOnlyInNeed schedule (begun image row args answers stack heap)
