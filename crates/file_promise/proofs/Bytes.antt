@@ -1,5 +1,5 @@
 -- Lists of bytes.
-use Rattle.std.proofs.Common.{ℕ, ◌<◌, All, List, [], ◌∷◌, get_or, arith}
+use Rattle.std.proofs.Common.{ℕ, ◌<◌, All, List, [], ◌∷◌, get_or}
 use Rattle.std.proofs.lemmas.List.Elements.{All-nil, All-cons, All-head, All-tail}
 use Rattle.cmm_lex.proofs.Languages.{AreBytes}
 use Rattle.cmm_lex.proofs.Scans.{AreBytes-from}
