@@ -1,5 +1,5 @@
 -- Where no count rose, good input has its output, and bad input its line, but for want of memory.
-use Rattle.std.proofs.Common.{◌≡◌, ◌⊎◌, ℕ, ◌+◌, ◌<◌, ◌≤◌, All, List, [], ◌∷◌, Option, Some, None, length, refl, sym, ap, ◌∙◌, subst, inl, inr, arith}
+use Rattle.std.proofs.Common.{◌≡◌, ◌⊎◌, ℕ, ◌+◌, ◌≤◌, List, Option, Some, None, length, refl, sym, ap, ◌∙◌, subst, inl, inr, arith}
 use Rattle.bs_fault.specs.declared.large.Large.{Large}
 use Rattle.bs_fault.specs.declared.fault.Fault.{Fault}
 use Rattle.cmm_front.proofs.OneFile.{one_file, file_or_fault}
@@ -210,7 +210,7 @@ module _ (words : List (List ℕ)) (source : Side) where
     large_end : (status : ℕ) → Told words source status → (file : FileTree) (large : Large) → IsFileOf text file → Passes large file → Is 8 status
     large_end status (output bytes z (spelling image i c)) file large is_file passes =
         let h = of_file text known (λ t. IsImageOf t image) file is_file c in
-        absurd (not_both h.1.file large (h.1.image, (h.1.made.made, h.1.fits)) (same_file text known (Passes large) file h.1.file h.0 is_file h.1.is_file passes))
+        absurd (not_both h.1.file large (image, (h.1.made.made, h.1.fits)) (same_file text known (Passes large) file h.1.file h.0 is_file h.1.is_file passes))
     large_end status (output bytes z (outcome ran text i o)) file large is_file passes = absurd (compile_is_no_run ran is i)
     large_end status (output bytes z (checked ck lines i o)) file large is_file passes = absurd (compile_is_no_check ck is i)
     large_end status (cause line (no_command n k)) file large is_file passes = absurd (n (command-formed words CompileCommand is))

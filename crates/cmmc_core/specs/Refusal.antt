@@ -16,7 +16,7 @@ use Rattle.text_compile.specs.Compile.{IsTooLarge}
 use Rattle.text_compile.specs.declared.compile.Refusal as text
 use Rattle.text_compile.specs.declared.compile.Refusal.TheVariants.{Fault, TooLarge, OutOfMemory}
 use Rattle.cmmc_core.specs.Compile.{Reads}
-use Rattle.cmmc_core.specs.Effects.{Side, Rose, IsRead, Tells, IsKept, Got, GotPart}
+use Rattle.cmmc_core.specs.Effects.{Side, Rose, Tells, IsKept, Got, GotPart}
 use Rattle.cmmc_core.specs.Lines.{no_memory_line}
 use Rattle.cmmc_core.specs.Run.{IsOutcomeOf, ReadsNoImage, NamesNoEntry, GivesUnfit, words_of_answers, schedule_of}
 use Rattle.cmmc_core.specs.declared.check.CheckFailure.{CheckFailure}
