@@ -1,0 +1,15 @@
+-- Numbers above those of registers.
+use Rattle.std.specs.Prelude.{ℕ, ◌<◌, ◌≤◌, List, All}
+use Rattle.mach_ir.specs.Walks.{InCode}
+use Rattle.mach_ir.specs.declared.reg.Reg.{Reg}
+use Rattle.mach_ir.specs.declared.mach.Instr.{Instr}
+
+-- not below a bound, and above the numbers of these registers
+pub record IsAbove (bound : ℕ) (regs : List Reg) (n : ℕ) : Type 0 where
+  pub above : bound ≤ n
+  pub all : All (λ (r : Reg). r.number < n) regs
+
+-- the same of those in a code
+pub record IsAboveCode (bound : ℕ) (code : List Instr) (n : ℕ) : Type 0 where
+  pub above : bound ≤ n
+  pub all : (r : Reg) → InCode r code → r.number < n
