@@ -1,5 +1,5 @@
 //! The numbers of a function's registers.
-ghost use Rattle.std.specs.Prelude.{◌≡◌, ◌+◌, ◌<◌, IfOk};
+ghost use Rattle.std.specs.Prelude.{◌≡◌, ◌+◌, ◌<◌, ◌≤◌, ℕ, IfOk};
 ghost use Rattle.mach_ir.specs.Walks.{IsRegister};
 ghost use Rattle.mach_ir.specs.declared.reg.Reg.{Reg};
 ghost use Rattle.liveness.specs.Numbers.{IsAbove, IsAboveCode};
@@ -37,12 +37,14 @@ fn above_code(bound: u32, code: &[Instr]) -> Result<u32, AllocError>
     Ok(above_all)
 }
 
-/// A number that is above those of all registers of the function. That there is none counts as want
-/// of memory.
+/// The least number that is above those of all registers of the function. That there is none counts as
+/// want of memory.
 pub fn first_free(mach: &Mach) -> Result<u32, AllocError>
-    ensures { IfOk result (λ free. (r : Reg) → IsRegister mach.now r → r.number < free) }
+    ensures above { IfOk result (λ free. (r : Reg) → IsRegister mach.now r → r.number < free) }
+    ensures least { IfOk result (λ free. (b : ℕ) → ((r : Reg) → IsRegister mach.now r → r.number < b) → free ≤ b) }
 {
     let above_params = above(0, mach.params.as_slice())?;
     let above_colours = above(above_params, mach.colours.as_slice())?;
-    above_code(above_colours, mach.code.as_slice())
+    let free = above_code(above_colours, mach.code.as_slice())?;
+    Ok(free)
 }

@@ -27,17 +27,19 @@ same_places : (f : ℕ → ℕ) (rs : List Reg) → places_of (all_numbered f rs
 same_places f [] = refl
 same_places f (r ∷ rs) = ap (λ ls. r.loc ∷ ls) (same_places f rs)
 
+-- The registers that stand for the colours have places.
+pub fixed_colours : (m : Mach) → WellPlaced m → (r : Reg) → Contains m.colours r → r.loc ≢ loc.Unset
+fixed_colours m well r c = λ e.
+    let l = mapped (λ (r : Reg). r.loc) m.colours r c in
+    let w = was loc.Machine colours r.loc (subst (λ ls. Contains ls r.loc) ((well.colours).each) l) in
+    machine_open w.what (w.same ∙ e)
+
 module _ (m : Mach) (names : Naming) (is : IsNaming m names) (formed : WellFormed m) (well : WellPlaced m) where
   abbrev q : Mach
   q = renamed names m
 
-  colour_place : (r : Reg) → Contains m.colours r → (n : ℕ) × (r.loc ≡ loc.Machine n)
-  colour_place r c =
-      let l = mapped (λ (r : Reg). r.loc) m.colours r c in
-      let w = was loc.Machine colours r.loc (subst (λ ls. Contains ls r.loc) ((well.colours).each) l) in (w.what, sym w.same)
-
   pub colour_fixed : (r : Reg) → Contains m.colours r → r.loc ≢ loc.Unset
-  colour_fixed r c = λ e. let p = colour_place r c in machine_open p.0 (sym p.1 ∙ e)
+  colour_fixed = fixed_colours m well
 
   old : (r : Reg) → IsRegister q r → WasRegister m names is r
   old r i = was_register m names is colour_fixed r i
@@ -171,7 +173,7 @@ module _ (m : Mach) (names : Naming) (is : IsNaming m names) (formed : WellForme
 
   module _ (dense : IsDense m names) (s : Size) (h : HasSize m s) where
     abbrev limit : ℕ
-    limit = s.registers + s.operands
+    limit = s.registers + (s.operands + length m.params)
 
     raised : (n : ℕ) → n < s.registers → n < limit
     raised n lt = omega (arith, lt)
@@ -194,7 +196,7 @@ module _ (m : Mach) (names : Naming) (is : IsNaming m names) (formed : WellForme
     below r (is_colour c) = raised r.number (h.numbers r (is_colour c))
     below r (is_in_code c) = below_in m.code (λ w d. is_in_code d) r c
 
-    pub renamed_size : HasSize (renamed names m) (record s { registers = s.registers + s.operands })
+    pub renamed_size : HasSize (renamed names m) (record s { registers = s.registers + (s.operands + length m.params) })
     renamed_size =
         record {
           instrs = subst (λ n. n ≤ s.instrs) (sym (same_length m.code)) h.instrs;

@@ -38,12 +38,12 @@ pub record JoinsExactly (m : Mach) (names : Naming) : Type 0 where
       (names.write (length from) r.number ≡ names.write (length to) r.number)
       ↔ Chained m r.number from to
 
--- each number is below that of registers and operands together
+-- each number is below that of registers, operands and parameters together
 pub record IsDense (m : Mach) (names : Naming) : Type 0 where
   pub read : (s : Size) → HasSize m s → (r : Reg) → IsRegister m r → (k : ℕ) →
-      names.read k r.number < s.registers + s.operands
+      names.read k r.number < s.registers + (s.operands + length m.params)
   pub write : (s : Size) → HasSize m s → (r : Reg) → IsRegister m r → (k : ℕ) →
-      names.write k r.number < s.registers + s.operands
+      names.write k r.number < s.registers + (s.operands + length m.params)
 
 -- Nothing but numbers of open registers has changed, and writes have one number exactly where they
 -- are joined.
@@ -61,5 +61,7 @@ pub record IsKept (p q : Mach) : Type 0 where
   pub placed : WellPlaced q
   pub seated : Seated p → Seated q
   pub no_addr : NoAddrLive p → NoAddrLive q
-  -- there are as many instructions, operands and labels, and at most a register more for each operand
-  pub size : (s : Size) → HasSize p s → HasSize q (record s { registers = s.registers + s.operands })
+  -- There are as many instructions, operands and labels, and at most a register more for each operand
+  -- and each parameter.
+  pub size : (s : Size) → HasSize p s →
+      HasSize q (record s { registers = s.registers + (s.operands + length p.params) })

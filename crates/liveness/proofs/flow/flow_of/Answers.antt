@@ -13,4 +13,4 @@ pub returns-clause-formed : goal.returns-clause-formed
 returns-clause-formed c =
     is_formed c.args.mach.now (record { places = c.from_vec.result; bound = c.in_ok-bound.bound })
     (subst (AreNodes c.args.mach.now (register_uses c.args.mach.now) c.args.mach.now.code) (sym c.from_vec.ensures)
-    c.in_ok-nodes.ensures) c.in_ok-bound.ensures
+    c.in_ok-nodes.ensures) c.in_ok-bound.ensures.above

@@ -1,7 +1,6 @@
-use Rattle.std.proofs.Common.{◌≤◌, ◌<◌, take}
-use Rattle.std.specs.List.{All}
-use Rattle.mach_ir.specs.declared.reg.Reg.{Reg}
+use Rattle.std.proofs.Common.{take}
+use Rattle.liveness.specs.Numbers.{IsAbove}
 use Rattle.liveness.proofs.numbers.above.Given as goal
 
 abbrev pub invariant-loop-reg : goal.invariant-loop-reg
-invariant-loop-reg l = record { above : l.bound ≤ l.above; all : All (λ (r : Reg). r.number < l.above) (take l.reg-index l.regs) }
+invariant-loop-reg l = IsAbove l.bound (take l.reg-index l.regs) l.above
