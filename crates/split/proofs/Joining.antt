@@ -475,17 +475,25 @@ pub record WebsBefore (m : Mach) (t : Writes) (rows : List (List Bool)) (labels 
   pub one : (p : ℕ) (i : Instr) (next : List Instr) (n : ℕ) → p < place → drop p m.code ≡ i ∷ next → Among n i.args →
       HaveOne t rows labels p n
 
+pub indexes : (m : Mach) (free : ℕ) (t : Writes) (labels : List ℕ) → AreWrites m free t → length labels ≡ length (all_of t) →
+    AreIndexes t (length labels)
+indexes m free t labels writes len =
+    record {
+      below = λ n w c.
+          let x = (writes.grouped).sound n w c in
+          let lt : w < length (all_of t) = slice_get_within (all_of t) w x.0 x.1 in
+          omega (arith, lt, len);
+    }
+
+-- the instruction at a place
+pub at_index : (m : Mach) (code : List Instr) (place : ℕ) (i : Instr) → code ≡ m.code → place < length code →
+    i ≡ slice_index_or code place i → drop place m.code ≡ i ∷ drop (suc place) m.code
+at_index m code place i e lt at =
+    sym (ap (drop place) e) ∙ drop-cons code place i lt ∙ ap (λ x. x ∷ drop (suc place) code) (sym at)
+    ∙ ap (λ xs. i ∷ drop (suc place) xs) e
+
 module _ (m : Mach) (free : ℕ) (t : Writes) (rows : List (List Bool)) (writes : AreWrites m free t)
     (reach : AreReaching m t rows) where
-  pub indexes : (labels : List ℕ) → AreSound m t labels → AreIndexes t (length labels)
-  indexes labels s =
-      record {
-        below = λ n w c.
-            let x = (writes.grouped).sound n w c in
-            let lt : w < length (all_of t) = slice_get_within (all_of t) w x.0 x.1 in
-            let len = s.len in omega (arith, lt, len);
-      }
-
   write_same : (x y : Write) → Some x ≡ Some y → x ≡ y
   write_same x y e = cc
 
@@ -523,13 +531,6 @@ module _ (m : Mach) (free : ℕ) (t : Writes) (rows : List (List Bool)) (writes 
         one = λ p i next n lt. absurd (omega (arith, lt));
       }
 
-  -- the instruction at a place
-  pub at_index : (code : List Instr) (place : ℕ) (i : Instr) → code ≡ m.code → place < length code → i ≡ slice_index_or code place i →
-      drop place m.code ≡ i ∷ drop (suc place) m.code
-  at_index code place i e lt at =
-      sym (ap (drop place) e) ∙ drop-cons code place i lt ∙ ap (λ x. x ∷ drop (suc place) code) (sym at)
-      ∙ ap (λ xs. i ∷ drop (suc place) xs) e
-
   pub webs_more : (old new : List ℕ) (place : ℕ) (i : Instr) (next : List Instr) → place < length m.code → drop place m.code ≡ i ∷ next →
       WebsBefore m t rows old place → JoinsReads old new t rows place i.args → WebsBefore m t rows new (place + 1)
   webs_more old new place i next lt at before j =
@@ -547,7 +548,7 @@ module _ (m : Mach) (free : ℕ) (t : Writes) (rows : List (List Bool)) (writes 
       }
     where
       below : AreIndexes t (length old)
-      below = indexes old before.sound
+      below = indexes m free t old writes (before.sound).len
 
       head : (i k : Instr) (xs ys : List Instr) → i ∷ xs ≡ k ∷ ys → i ≡ k
       head i k xs ys e = cc

@@ -83,9 +83,9 @@ pub fn webs_of(
     writes: &Writes,
     rows: &Rows,
 ) -> Result<Vec<u32>, AllocError>
-    requires writes { AreWrites mach.now free writes.now }
-    requires reaching { AreReaching mach.now writes.now rows.now.rows.items }
-    ensures { IfOk result (λ labels. AreWebs mach.now writes.now rows.now.rows.items labels.items) }
+    requires { AreWrites mach.now free writes.now }
+    ensures { IfOk result (λ labels. AreReaching mach.now writes.now rows.now.rows.items →
+        AreWebs mach.now writes.now rows.now.rows.items labels.items) }
 {
     if writes.all.len() > u32::MAX as usize {
         return Err(AllocError);

@@ -122,11 +122,10 @@ fn nodes_of(
 
 /// Which writes of open registers come to each place of a function, by their indexes.
 pub fn reach(alloc: Global, mach: &Mach, free: u32, writes: &Writes) -> Result<Rows, AllocError>
-    requires formed { WellFormed mach.now }
-    requires placed { WellPlaced mach.now }
     requires fits { suc (length mach.now.code) < 2 ^ 32 }
     requires writes { AreWrites mach.now free writes.now }
-    ensures { IfOk result (λ rows. AreReaching mach.now writes.now rows.rows.items) }
+    ensures { IfOk result (λ rows. WellFormed mach.now → WellPlaced mach.now →
+        AreReaching mach.now writes.now rows.rows.items) }
 {
     if writes.all.len() > u32::MAX as usize {
         return Err(AllocError);

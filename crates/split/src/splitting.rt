@@ -19,11 +19,9 @@ use std::alloc::{AllocError, Global};
 
 /// The tables of a function whose registers have numbers below `free`.
 fn tables_of(alloc: Global, mach: &Mach, free: u32) -> Result<Tables, AllocError>
-    requires formed { WellFormed mach.now }
-    requires placed { WellPlaced mach.now }
     requires fits { suc (length mach.now.code) < 2 ^ 32 }
     requires numbers { (r : Reg) → IsRegister mach.now r → r.number < free }
-    ensures { IfOk result (AreTables mach.now free) }
+    ensures { IfOk result (λ tables. WellFormed mach.now → WellPlaced mach.now → AreTables mach.now free tables) }
 {
     let writes = Writes::of_function(alloc, mach, free)?;
     let rows = reach(alloc, mach, free, &writes)?;
@@ -46,9 +44,7 @@ fn tables_of(alloc: Global, mach: &Mach, free: u32) -> Result<Tables, AllocError
 /// The time is that of `dataflow::reaching` over the writes. The only error is want of memory, which
 /// more places, writes or registers than a number can count are too.
 pub fn split(alloc: Global, mach: Mach) -> Result<Mach, AllocError>
-    requires formed { WellFormed mach }
-    requires placed { WellPlaced mach }
-    ensures { IfOk result (IsSplit mach) }
+    ensures { IfOk result (λ made. WellFormed mach → WellPlaced mach → IsSplit mach made) }
 {
     if mach.code.len() >= u32::MAX as usize {
         return Err(AllocError);

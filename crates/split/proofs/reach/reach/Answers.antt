@@ -13,8 +13,8 @@ reaching-requires c =
     c.in_ok-entry_node.ensures c.args.free c.requires.writes same
 
 pub returns : goal.returns
-returns c =
+returns c = λ formed placed.
     is_reaching c.args.mach.now c.args.writes.now (record { places = c.from_vec.result; bound = c.len-bound.result })
     c.in_ok-nodes.nodes.items c.in_ok-entry_node.field-0 (c.from_vec.ensures ∙ c.in_ok-push.ensures.items) c.in_ok-nodes.ensures
-    c.in_ok-entry_node.ensures c.args.free c.requires.formed c.requires.writes (fixed_colours c.args.mach.now c.requires.placed)
+    c.in_ok-entry_node.ensures c.args.free formed c.requires.writes (fixed_colours c.args.mach.now placed)
     c.in_ok-rows.rows.rows.items c.in_ok-rows.ensures
