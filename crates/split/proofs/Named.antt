@@ -11,20 +11,21 @@ use Rattle.mach_ir.specs.Formed.{WellFormed}
 use Rattle.mach_ir.specs.Meaning.{killed}
 use Rattle.mach_ir.specs.Placed.{WellPlaced}
 use Rattle.mach_ir.specs.Sizes.{operand_count, Size, HasSize}
-use Rattle.mach_ir.specs.Walks.{Among, Writes, Live, read, on, aside, goes, raises, IsRegister, is_param, is_colour, is_in_code, Stands, here, below}
+use Rattle.mach_ir.specs.Walks.{Among, Writes, IsRegister, is_param, is_colour, is_in_code, Stands, here, below}
 use Rattle.mach_ir.specs.declared.reg.Reg.{Reg}
 use Rattle.mach_ir.specs.declared.mach.Instr.{Instr}
 use Rattle.mach_ir.specs.declared.mach.Mach.{Mach}
 use Rattle.mach_laws.specs.Expand.{Ending, all, more}
 use Rattle.mach_laws.specs.Graph.{place_of}
-use Rattle.mach_laws.proofs.Places.{ending_next, ending_from_handler}
-use Rattle.mach_laws.proofs.Walking.{drop_ending, ending_at, place_is}
-use Rattle.places_rules.proofs.Walked.{split_among, stands_of}
+use Rattle.mach_laws.proofs.Places.{ending_next}
+use Rattle.mach_laws.proofs.Walking.{drop_ending, place_is}
+use Rattle.places_rules.proofs.Walked.{split_among}
 use Rattle.liveness.proofs.Bounds.{killed_is_colour}
 use Rattle.split_rules.specs.Renamed.{Naming, renamed, renamed_code}
 use Rattle.split_rules.specs.Split.{IsNaming, JoinsExactly, IsDense, IsSplit}
-use Rattle.split_rules.specs.Writes.{Comes, from_entry, from_write, past, past_raise, Chained, same, meets, IsWrite, by_entry, by_instr}
+use Rattle.split_rules.specs.Writes.{Comes, Chained, IsWrite, by_entry, by_instr}
 use Rattle.split_rules.proofs.Text.{number_among, args_in, results_in}
+use Rattle.split_rules.proofs.Result.{comes_write, chained_equal}
 use Rattle.split_rules.proofs.Whole.{fixed_colours}
 use Rattle.split.specs.Names.{or_first, keeper, has_label, new_number, find_coming, or_name, name_of, naming, AreTables}
 use Rattle.split.specs.Writes.{is_open, write_of, open_writes, code_writes, writes_of, all_of, members, find_at, after}
@@ -206,12 +207,6 @@ module _ (m : Mach) (free : ℕ) (t : Tables) (formed : WellFormed m) (placed : 
   write_at r i u (by_entry a) = param_found r i u a
   write_at r k u (by_instr {i = i} {next = next} s a) = result_found r k u i next s a
 
-  comes_write : {n : ℕ} {from rest : List Instr} → Comes m n from rest → IsWrite m n from
-  comes_write (from_entry a) = by_entry a
-  comes_write (from_write s a l) = by_instr s a
-  comes_write (past c a l) = comes_write c
-  comes_write (past_raise c r) = comes_write c
-
   ends_with : {n : ℕ} {from : List Instr} → IsWrite m n from → Ending from m.code
   ends_with (by_entry a) = all
   ends_with (by_instr s a) = ending_next (ending_of s)
@@ -232,7 +227,7 @@ module _ (m : Mach) (free : ℕ) (t : Tables) (formed : WellFormed m) (placed : 
       let at : place_of m (i ∷ next) ≡ p = place_at (length m.code) (length next) in
       let here_is : drop p m.code ≡ i ∷ next = sym (ap (λ p. drop p m.code) at) ∙ place_is m ending in
       let within : p ≤ length m.code = below_end (length m.code) (length next) in
-      let v = write_at r k u (comes_write c) in
+      let v = write_at r k u (comes_write m c) in
       let comes = tables.reaching.whole p v.0 n from within (subst (Comes m n from) (sym here_is) c) v.1 in
       let member = at_known (length from) n v.0 v.1 in
       let w = finds_coming (row t.rows.rows.items p) (ws n) v.0 member comes in
@@ -293,28 +288,6 @@ module _ (m : Mach) (free : ℕ) (t : Tables) (formed : WellFormed m) (placed : 
 
   -- ---- joined exactly
 
-  live_equal : {n : ℕ} {rest from mid : List Instr} → Live m n rest → Comes m n from rest → Comes m n mid rest →
-      names.write (length from) n ≡ names.write (length mid) n
-  live_equal {n} {from = from} {mid = mid} (read {i = i} {next = next} a) c d =
-      let s = stands_of (comes_ends c) in
-      sym (agreeing i next from n s a c) ∙ agreeing i next mid n s a d
-    where
-      stands_ending : {i : Instr} {next code : List Instr} → Stands i next code → Ending (i ∷ next) code
-      stands_ending here = all
-      stands_ending (below s) = more (stands_ending s)
-
-      comes_ends : {n : ℕ} {from rest : List Instr} → Comes m n from rest → Ending rest m.code
-      comes_ends (from_entry a) = all
-      comes_ends (from_write s a (goes t' o)) = ending_at t' (stands_ending s)
-      comes_ends (past c a (goes t' o)) = ending_at t' (comes_ends c)
-      comes_ends (past_raise c (raises {l = l} b r)) = ending_from_handler l m.code
-  live_equal (on w l v) c d = live_equal v (past c w l) (past d w l)
-  live_equal (aside r v) c d = live_equal v (past_raise c r) (past_raise d r)
-
-  chained_equal : {n : ℕ} {from to : List Instr} → Chained m n from to → names.write (length from) n ≡ names.write (length to) n
-  chained_equal same = refl
-  chained_equal (meets v c d h) = live_equal v c d ∙ chained_equal h
-
   -- the chain from a write to the one that its label tells
   label_chain : (r : Reg) → IsRegister m r → r.loc ≡ loc.Unset → (from : List Instr) → IsWrite m r.number from → (v : ℕ) →
       find_at (all_of t.writes) (length from) (ws r.number) ≡ Some v → (l : ℕ) → slice_index tables.labels v ≡ l → (x : Write) →
@@ -353,7 +326,7 @@ module _ (m : Mach) (free : ℕ) (t : Tables) (formed : WellFormed m) (placed : 
               chain_on m t.writes
               (label_chain r i u from x v.0 v.1 (slice_index tables.labels w.0) l z.0 z.1)
               (chain_turned m t.writes (label_chain r i u to y w.0 w.1 (slice_index tables.labels w.0) refl z.0 z.1)),
-          λ h. chained_equal h,
+          λ h. chained_equal m names agreeing h,
         );
       }
 

@@ -25,6 +25,7 @@ use Rattle.places_rules.proofs.Walked.{left_among, split_among, stands_of}
 use Rattle.liveness.specs.Nodes.{AreNodes}
 use Rattle.liveness.proofs.Bounds.{no_items, one_more, split_in}
 use Rattle.liveness.proofs.Graph.{count_is, part_is, nodes_within}
+use Rattle.split_rules.proofs.Result.{comes_ends}
 use Rattle.split_rules.specs.Writes.{Comes, from_entry, from_write, past, past_raise}
 use Rattle.split.specs.Reach.{listed, made_at, ended_by, made_before, ended_before, write_uses, IsEntry, AreReaching}
 use Rattle.split.specs.Writes.{all_of, members, find_at, AreWrites, after}
@@ -350,13 +351,6 @@ module _ (m : Mach) where
           ⊎_elim (λ s. too_far (from_le (from_of s.0 (suc (length m.code)) s.1)))
           (λ s. too_far (raise_of s.0 (suc (length m.code)) s.1).lands) h
 
-      -- what comes to a code comes to one that the function ends with
-      comes_ends : {n : ℕ} {from rest : List Instr} → Comes m n from rest → Ending rest m.code
-      comes_ends (from_entry a) = all
-      comes_ends (from_write s a (goes t' o)) = ending_at t' (ending_of s)
-      comes_ends (past c a (goes t' o)) = ending_at t' (comes_ends c)
-      comes_ends (past_raise c (raises {l = l} b r)) = ending_from_handler l m.code
-
       -- what was known one step before
       abbrev Known : ℕ → ℕ → Type 0
       Known k w = (q : ℕ) → q ≤ length m.code → ComesIn g w k q → Came w (drop q m.code)
@@ -454,7 +448,7 @@ module _ (m : Mach) where
             ),
           )
       comes_to {n} (past {i = i} {from = from} {next = next} c free_of (goes t' o)) p w le e found =
-          let ending = comes_ends c in
+          let ending = comes_ends m c in
           let at = place_of m (i ∷ next) in
           let here_is : drop at m.code ≡ i ∷ next = place_is m ending in
           let within = place_within (i ∷ next) in
@@ -475,7 +469,7 @@ module _ (m : Mach) where
             ),
           )
       comes_to {n} (past_raise {i = i} {from = from} {next = next} c (raises {l = l} {tries = tries} b r)) p w le e found =
-          let ending = comes_ends c in
+          let ending = comes_ends m c in
           let at = place_of m (i ∷ next) in
           let here_is : drop at m.code ≡ i ∷ next = place_is m ending in
           let within = place_within (i ∷ next) in

@@ -3,3 +3,4 @@ pub mod Formed
 pub mod Walked
 pub mod Kept
 pub mod Whole
+pub mod Result

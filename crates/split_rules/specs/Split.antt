@@ -54,6 +54,12 @@ pub record IsSplit (m q : Mach) : Type 0 where
   pub joins : JoinsExactly m names
   pub dense : IsDense m names
 
+-- All writes of an open register are joined: what a reload writes is joined with nothing but what
+-- reaches a use with it.
+pub record IsOneWeb (q : Mach) : Type 0 where
+  pub one : (r : Reg) → IsRegister q r → r.loc ≡ loc.Unset → (from to : List Instr) →
+      IsWrite q r.number from → IsWrite q r.number to → Chained q r.number from to
+
 -- What a split function keeps.
 pub record IsKept (p q : Mach) : Type 0 where
   pub keeps : Keeps p q

@@ -11,9 +11,14 @@
 ghost use Rattle.mach_ir.specs.Formed.{WellFormed};
 ghost use Rattle.mach_ir.specs.Placed.{WellPlaced};
 ghost use Rattle.mach_ir.specs.declared.mach.Mach.{Mach};
-ghost use Rattle.split_rules.specs.Split.{IsSplit, IsKept};
+ghost use Rattle.split_rules.specs.Split.{IsSplit, IsKept, IsOneWeb};
 
 /// Law: a split function is kept.
 pub fn a_split_is_kept()
     ensures { (m q : Mach) → WellFormed m → WellPlaced m → IsSplit m q → IsKept m q }
+{}
+
+/// Law: in a split function all writes of an open register are joined.
+pub fn a_number_is_a_web()
+    ensures { (m q : Mach) → WellPlaced m → IsSplit m q → IsOneWeb q }
 {}
