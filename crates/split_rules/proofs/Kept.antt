@@ -43,7 +43,7 @@ past_same true a b n x e = ap unless_addr e
 abbrev IsNone : Option Held → Type 0
 IsNone o = o ≡ None
 
-cleared : (ks : List Reg) (f : File) (n : ℕ) → Among n ks → IsNone (clear ks f n)
+pub cleared : (ks : List Reg) (f : File) (n : ℕ) → Among n ks → IsNone (clear ks f n)
 cleared (k ∷ ks) f n (first e) = ap (λ b. cond b None (clear ks f n)) (eq-eqb k.number n e)
 cleared (k ∷ ks) f n (later a) = by (nat_eq k.number n) (cleared ks f n a)
   where
@@ -52,7 +52,7 @@ cleared (k ∷ ks) f n (later a) = by (nat_eq k.number n) (cleared ks f n a)
     by false e = e
 cleared [] f n a = elim a [ ]
 
-not_cleared : (ks : List Reg) (f : File) (n : ℕ) → (Among n ks → ⊥) → clear ks f n ≡ f n
+pub not_cleared : (ks : List Reg) (f : File) (n : ℕ) → (Among n ks → ⊥) → clear ks f n ≡ f n
 not_cleared [] f n h = refl
 not_cleared (k ∷ ks) f n h = by (nat_eq k.number n) refl (not_cleared ks f n (λ a. h (later a)))
   where
@@ -63,7 +63,7 @@ not_cleared (k ∷ ks) f n h = by (nat_eq k.number n) refl (not_cleared ks f n (
 differ : (b : Bool) → b ≡ true → b ≡ false → ⊥
 differ b e h = cc
 
-among_or_not : (n : ℕ) (rs : List Reg) → Among n rs ⊎ (Among n rs → ⊥)
+pub among_or_not : (n : ℕ) (rs : List Reg) → Among n rs ⊎ (Among n rs → ⊥)
 among_or_not n [] = inr (λ a. elim a [ ])
 among_or_not n (r ∷ rs) =
     ⊎_elim (λ e. inl (first (eqb-true r.number n e)))
@@ -81,14 +81,14 @@ some_same : (c d : File) → Some c ≡ Some d → c ≡ d
 some_same c d e = cc
 
 -- The same writes by other numbers, which tell those registers apart.
-record PutsToo (f' back : ℕ → ℕ) (end : ℕ) (rs : List Reg) (vs : List Value) (f g d : File) : Type 0 where
-  file : File
-  puts : put_all end (all_numbered f' rs) vs g ≡ Some file
-  same : (n : ℕ) → Among n rs → d n ≡ file (f' n)
-  others : (n : ℕ) → (Among n rs → ⊥) → d n ≡ f n
-  others_new : (x : ℕ) → (Among x (all_numbered f' rs) → ⊥) → file x ≡ g x
+pub record PutsToo (f' back : ℕ → ℕ) (end : ℕ) (rs : List Reg) (vs : List Value) (f g d : File) : Type 0 where
+  pub file : File
+  pub puts : put_all end (all_numbered f' rs) vs g ≡ Some file
+  pub same : (n : ℕ) → Among n rs → d n ≡ file (f' n)
+  pub others : (n : ℕ) → (Among n rs → ⊥) → d n ≡ f n
+  pub others_new : (x : ℕ) → (Among x (all_numbered f' rs) → ⊥) → file x ≡ g x
 
-put_twice : (f' back : ℕ → ℕ) (end : ℕ) (rs : List Reg) (vs : List Value) (f g d : File) →
+pub put_twice : (f' back : ℕ → ℕ) (end : ℕ) (rs : List Reg) (vs : List Value) (f g d : File) →
     ((n : ℕ) → Among n rs → back (f' n) ≡ n) → put_all end rs vs f ≡ Some d → PutsToo f' back end rs vs f g d
 put_twice f' back end [] [] f g d known e =
     record {
