@@ -5,6 +5,7 @@ use Rattle.std.proofs.lemmas.Bool.{cases_Bool, eq-eqb, eqb-true}
 use Rattle.std.specs.List.{Contains}
 use Rattle.std.specs.Prelude.{nat_eq}
 use Rattle.bs_words.specs.Fits.{fits, type_of_comp}
+use Rattle.bs_words.specs.declared.types.Loc.TheVariants as loc
 use Rattle.bs_words.specs.declared.values.Value.{Value}
 use Rattle.mach_ir.specs.Acts.{Around, Target, On, At, Landing, AtLabel, AtHandler, Act, Goes, Pushes, Jumps, Unwinds, Asks, Replaces, Ends, EndsRaising, Stuck}
 use Rattle.mach_ir.specs.Formed.{IsFormed, WellFormed}
@@ -180,21 +181,27 @@ module _ (m : Mach) (plan : Plan) (formed : WellFormed m) (placed : WellPlaced m
   -- ---- registers
 
   -- what is live is a register
-  live_register : {n : ℕ} {rest : List Instr} → Live m n rest → Ending rest m.code → (r : Reg) × IsRegister m r × (r.number ≡ n)
+  pub live_register : {n : ℕ} {rest : List Instr} → Live m n rest → Ending rest m.code → (r : Reg) × IsRegister m r × (r.number ≡ n)
   live_register (read {i = i} a) e = let r = number_among i.args a in (r.0, is_in_code (args_in (stands_of e) r.1), r.2)
   live_register (on w (goes On o) v) e = live_register v (ending_next e)
   live_register (on w (goes (At l) o) v) e = live_register v (ending_label l m.code)
   live_register (aside (raises {l = l} b r) v) e = live_register v (ending_from_handler l m.code)
 
   -- what a register of the second was
-  data Which (w r : Reg) : Type 0 where
+  pub data Which (w r : Reg) : Type 0 where
     own : w ≡ r → Which w r
     slotted : in_slot plan w ≡ r → Which w r
 
-  record WasRegister (r : Reg) : Type 0 where
-    register : Reg
-    among : IsRegister m register
-    which : Which register r
+  pub record WasRegister (r : Reg) : Type 0 where
+    pub register : Reg
+    pub among : IsRegister m register
+    pub which : Which register r
+    -- only an open register has a slot
+    pub unset : in_slot plan register ≡ r → register.loc ≡ loc.Unset
+
+  -- a register of the first is no slot of another
+  not_its_slot : (r : Reg) → IsRegister m r → in_slot plan r ≡ r → r.loc ≡ loc.Unset
+  not_its_slot r i e = absurd (is.fresh r i r.number (ap (λ (x : Reg). x.number) e))
 
   in_append : {r : Reg} (xs ys : List Instr) → InCode r (xs ++ ys) → InCode r xs ⊎ InCode r ys
   in_append [] ys c = inr c
@@ -208,32 +215,58 @@ module _ (m : Mach) (plan : Plan) (formed : WellFormed m) (placed : WellPlaced m
   in_reloads : (k : ℕ) (rs : List Reg) (r : Reg) → ((w : Reg) → Contains rs w → IsRegister m w) → InCode r (reloads_of plan k rs) → WasRegister r
   in_reloads k [] r known c = elim c [ ]
   in_reloads k (w ∷ rs) r known c =
-      by (plan.reloads k w.number) (λ h. in_reloads k rs r (λ x d. known x (later_in w x rs d)) h) c
+      by (plan.reloads k w.number) refl (λ h. in_reloads k rs r (λ x d. known x (later_in w x rs d)) h) c
     where
-      one : InCode r (reload plan w ∷ reloads_of plan k rs) → (InCode r (reloads_of plan k rs) → WasRegister r) → WasRegister r
-      one (in_args d) ih = record { register = w; among = known w (first_in w rs); which = slotted (of_one (in_slot plan w) r d) }
-      one (in_results d) ih = record { register = w; among = known w (first_in w rs); which = own (of_one w r d) }
-      one (further d) ih = ih d
+      one : plan.reloads k w.number ≡ true → InCode r (reload plan w ∷ reloads_of plan k rs) →
+          (InCode r (reloads_of plan k rs) → WasRegister r) → WasRegister r
+      one t (in_args d) ih =
+          record {
+            register = w;
+            among = known w (first_in w rs);
+            which = slotted (of_one (in_slot plan w) r d);
+            unset = λ e. is.reloads_open w (known w (first_in w rs)) k t;
+          }
+      one t (in_results d) ih =
+          record {
+            register = w;
+            among = known w (first_in w rs);
+            which = own (of_one w r d);
+            unset = λ e. is.reloads_open w (known w (first_in w rs)) k t;
+          }
+      one t (further d) ih = ih d
 
-      by : (b : Bool) → (InCode r (reloads_of plan k rs) → WasRegister r) →
+      by : (b : Bool) → plan.reloads k w.number ≡ b → (InCode r (reloads_of plan k rs) → WasRegister r) →
           InCode r (cond b (reload plan w ∷ reloads_of plan k rs) (reloads_of plan k rs)) → WasRegister r
-      by true ih c = one c ih
-      by false ih c = ih c
+      by true t ih c = one t c ih
+      by false t ih c = ih c
 
   in_spills : (k : ℕ) (rs : List Reg) (r : Reg) → ((w : Reg) → Contains rs w → IsRegister m w) → InCode r (spills_of plan k rs) → WasRegister r
   in_spills k [] r known c = elim c [ ]
   in_spills k (w ∷ rs) r known c =
-      by (plan.spills k w.number) (λ h. in_spills k rs r (λ x d. known x (later_in w x rs d)) h) c
+      by (plan.spills k w.number) refl (λ h. in_spills k rs r (λ x d. known x (later_in w x rs d)) h) c
     where
-      one : InCode r (spill plan w ∷ spills_of plan k rs) → (InCode r (spills_of plan k rs) → WasRegister r) → WasRegister r
-      one (in_args d) ih = record { register = w; among = known w (first_in w rs); which = own (of_one w r d) }
-      one (in_results d) ih = record { register = w; among = known w (first_in w rs); which = slotted (of_one (in_slot plan w) r d) }
-      one (further d) ih = ih d
+      one : plan.spills k w.number ≡ true → InCode r (spill plan w ∷ spills_of plan k rs) →
+          (InCode r (spills_of plan k rs) → WasRegister r) → WasRegister r
+      one t (in_args d) ih =
+          record {
+            register = w;
+            among = known w (first_in w rs);
+            which = own (of_one w r d);
+            unset = λ e. is.spills_open w (known w (first_in w rs)) k t;
+          }
+      one t (in_results d) ih =
+          record {
+            register = w;
+            among = known w (first_in w rs);
+            which = slotted (of_one (in_slot plan w) r d);
+            unset = λ e. is.spills_open w (known w (first_in w rs)) k t;
+          }
+      one t (further d) ih = ih d
 
-      by : (b : Bool) → (InCode r (spills_of plan k rs) → WasRegister r) →
+      by : (b : Bool) → plan.spills k w.number ≡ b → (InCode r (spills_of plan k rs) → WasRegister r) →
           InCode r (cond b (spill plan w ∷ spills_of plan k rs) (spills_of plan k rs)) → WasRegister r
-      by true ih c = one c ih
-      by false ih c = ih c
+      by true t ih c = one t c ih
+      by false t ih c = ih c
 
   cond_in : (b : Bool) (rs : List Reg) (r : Reg) → Contains (cond b rs []) r → Contains rs r
   cond_in true rs r c = c
@@ -250,24 +283,24 @@ module _ (m : Mach) (plan : Plan) (formed : WellFormed m) (placed : WellPlaced m
       (λ h. was_in next r (λ w d. known w (further d)) h) (in_append (f (length next) i) (expand f next) c)
     where
       of_main : InCode r (i ∷ spills_of plan (length next) (results_of i)) → WasRegister r
-      of_main (in_args d) = record { register = r; among = known r (in_args d); which = own refl }
-      of_main (in_results d) = record { register = r; among = known r (in_results d); which = own refl }
+      of_main (in_args d) = record { register = r; among = known r (in_args d); which = own refl; unset = not_its_slot r (known r (in_args d)) }
+      of_main (in_results d) = record { register = r; among = known r (in_results d); which = own refl; unset = not_its_slot r (known r (in_results d)) }
       of_main (further d) = in_spills (length next) (results_of i) r (λ w z. known w (in_results (cond_in _ i.results w z))) d
 
-  was_register : (r : Reg) → IsRegister q r → WasRegister r
-  was_register r (is_param c) = record { register = r; among = is_param c; which = own refl }
-  was_register r (is_colour c) = record { register = r; among = is_colour c; which = own refl }
+  pub was_register : (r : Reg) → IsRegister q r → WasRegister r
+  was_register r (is_param c) = record { register = r; among = is_param c; which = own refl; unset = not_its_slot r (is_param c) }
+  was_register r (is_colour c) = record { register = r; among = is_colour c; which = own refl; unset = not_its_slot r (is_colour c) }
   was_register r (is_in_code c) = was_in m.code r (λ w d. is_in_code d) c
 
-  origin_of : {w r : Reg} → Which w r → w.origin ≡ r.origin
+  pub origin_of : {w r : Reg} → Which w r → w.origin ≡ r.origin
   origin_of (own e) = ap (λ (x : Reg). x.origin) e
   origin_of (slotted e) = ap (λ (x : Reg). x.origin) e
 
-  comp_of : {w r : Reg} → Which w r → w.comp ≡ r.comp
+  pub comp_of : {w r : Reg} → Which w r → w.comp ≡ r.comp
   comp_of (own e) = ap (λ (x : Reg). x.comp) e
   comp_of (slotted e) = ap (λ (x : Reg). x.comp) e
 
-  slots_apart : (n k : ℕ) → plan.slot n ≡ plan.slot k → n ≡ k
+  pub slots_apart : (n k : ℕ) → plan.slot n ≡ plan.slot k → n ≡ k
   slots_apart n k e = sym (is.slot_back n) ∙ ap is.back e ∙ is.slot_back k
 
   -- ---- what registers hold

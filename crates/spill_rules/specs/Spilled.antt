@@ -1,6 +1,8 @@
 -- Mach functions in which registers are stored in slots after writes and reloaded before reads.
-use Rattle.std.specs.Prelude.{◌≡◌, ◌≢◌, ℕ, Bool, true, false, cond, List, [], ◌∷◌, ◌++◌, length, Contains}
+use Rattle.std.specs.Prelude.{◌≡◌, ◌≢◌, ℕ, ◌+◌, ◌*◌, ◌<◌, ◌≤◌, Bool, true, false, cond, List, [], ◌∷◌, ◌++◌, length, Contains}
 use Rattle.bs_words.specs.declared.types.Loc.TheVariants as loc
+use Rattle.mach_ir.specs.Keeps.{Keeps}
+use Rattle.mach_ir.specs.Sizes.{Size, HasSize}
 use Rattle.mach_ir.specs.Walks.{Among, Live, Stands, IsRegister}
 use Rattle.mach_ir.specs.declared.op.CopyKind.{CopyKind}
 use Rattle.mach_ir.specs.declared.op.CopyKind.TheVariants as copy
@@ -79,8 +81,10 @@ pub record IsPlan (m : Mach) (plan : Plan) : Type 0 where
   pub back : ℕ → ℕ
   pub slot_back : (n : ℕ) → back (plan.slot n) ≡ n
   pub fresh : (r : Reg) → IsRegister m r → (n : ℕ) → plan.slot n ≢ r.number
-  -- only registers whose places are open are stored
+  -- only registers whose places are open are stored and reloaded
   pub spills_open : (r : Reg) → IsRegister m r → (k : ℕ) → plan.spills k r.number ≡ true →
+      r.loc ≡ loc.Unset
+  pub reloads_open : (r : Reg) → IsRegister m r → (k : ℕ) → plan.reloads k r.number ≡ true →
       r.loc ≡ loc.Unset
   -- a register is reloaded only where each write of it that comes there was stored
   pub stored : (i : Instr) (next from : List Instr) (n : ℕ) → Stands i next m.code →
@@ -91,3 +95,16 @@ pub record IsPlan (m : Mach) (plan : Plan) : Type 0 where
       Contains i.results r → plan.spills (length next) r.number ≡ true → Live m r.number next
   -- the entry stores nothing
   pub entry : (n : ℕ) → Among n m.params → plan.spills (length m.code) n ≡ false
+
+-- what a function with spills and reloads keeps
+pub record IsKept (m q : Mach) (plan : Plan) : Type 0 where
+  pub keeps : Keeps m q
+  -- at most an instruction more for each operand and result, and two registers for each of these
+  pub size : (s : Size) (registers : ℕ) → HasSize m s → s.registers ≤ registers →
+      ((r : Reg) → IsRegister m r → plan.slot r.number < registers) →
+      HasSize q
+      (record s {
+        instrs = s.instrs + s.operands;
+        operands = 3 * s.operands;
+        registers = registers;
+      })

@@ -9,12 +9,12 @@
 #![tactic(auto)]
 
 ghost use Rattle.mach_ir.specs.Formed.{WellFormed};
-ghost use Rattle.mach_ir.specs.Keeps.{Does};
 ghost use Rattle.mach_ir.specs.Placed.{WellPlaced};
 ghost use Rattle.mach_ir.specs.declared.mach.Mach.{Mach};
-ghost use Rattle.spill_rules.specs.Spilled.{Plan, IsPlan, spilled};
+ghost use Rattle.spill_rules.specs.Spilled.{Plan, IsPlan, IsKept, spilled};
 
-/// Law: a function in which registers are stored and reloaded by a plan does what it did.
+/// Law: a function in which registers are stored and reloaded by a plan keeps.
 pub fn spilling_changes_nothing()
-    ensures { (m : Mach) (plan : Plan) → WellFormed m → WellPlaced m → IsPlan m plan → Does m (spilled plan m) }
+    ensures { (m : Mach) (plan : Plan) → WellFormed m → WellPlaced m → IsPlan m plan →
+        IsKept m (spilled plan m) plan }
 {}

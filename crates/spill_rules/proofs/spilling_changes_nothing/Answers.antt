@@ -1,5 +1,5 @@
-use Rattle.spill_rules.proofs.Kept.{does_spilled}
+use Rattle.spill_rules.proofs.Whole.{spilled_kept}
 use Rattle.spill_rules.proofs.spilling_changes_nothing.Goals as goal
 
 pub returns : goal.returns
-returns c = λ m plan formed placed is. does_spilled m plan formed placed is
+returns c = λ m plan formed placed is. spilled_kept m plan formed placed is
