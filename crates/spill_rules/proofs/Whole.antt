@@ -1,5 +1,5 @@
 -- What a function with spills and reloads keeps.
-use Rattle.std.proofs.Common.{◌≡◌, ℕ, suc, ◌*◌, ◌<◌, ◌≤◌, Bool, true, false, cond, ◌⊎◌, inl, inr, ⊎_elim, List, [], ◌∷◌, length, refl, sym, ap, ◌∙◌, subst, arith}
+use Rattle.std.proofs.Common.{◌≡◌, ℕ, ◌+◌, suc, ◌*◌, ◌<◌, ◌≤◌, Bool, true, false, cond, ◌⊎◌, inl, inr, ⊎_elim, List, [], ◌∷◌, length, refl, sym, ap, ◌∙◌, subst, arith}
 use Rattle.std.specs.List.{Contains}
 use Rattle.bs_words.specs.declared.types.Loc.TheVariants as loc
 use Rattle.std.proofs.lemmas.List.{length-append}
@@ -8,7 +8,7 @@ use Rattle.mach_ir.specs.Formed.{WellFormed}
 use Rattle.mach_ir.specs.Keeps.{Keeps, IsLoose, is_open, HasSlot, NamesSymbol, NamesExternal, IsNamedIn}
 use Rattle.mach_ir.specs.Meaning.{after_label, from_handler, code_at, passes_frame, tries_at}
 use Rattle.mach_ir.specs.Placed.{WellPlaced}
-use Rattle.mach_ir.specs.Sizes.{operand_count}
+use Rattle.mach_ir.specs.Sizes.{operand_count, Size, HasSize}
 use Rattle.mach_ir.specs.Walks.{OneOf, this, other, targets, may_raise, goes, raises, Reached, at_entry, by_step, by_raise, LiveAcross, across_step, across_raise, Live, on, aside, IsRegister, NoAddrLive}
 use Rattle.mach_ir.specs.declared.op.CopyKind.{CopyKind}
 use Rattle.mach_ir.specs.declared.op.CopyKind.TheVariants as copy
@@ -21,7 +21,7 @@ use Rattle.mach_laws.proofs.Grows.{held, instrs_expand, operands_expand, operand
 use Rattle.mach_laws.proofs.Places.{label_expand, handler_expand, ending_label, ending_from_handler}
 use Rattle.mach_laws.proofs.Walking.{none_in, first_in, later_in, in_cons}
 use Rattle.liveness.proofs.Bounds.{split_in}
-use Rattle.spill_rules.specs.Spilled.{Plan, in_slot, copied, reload, spill, reloads_of, spills_of, has_operands, has_results, operands_of, results_of, spilled_instr, spilled, IsPlan, IsKept}
+use Rattle.spill_rules.specs.Spilled.{Plan, in_slot, copied, reload, spill, reloads_of, spills_of, has_operands, has_results, operands_of, results_of, spilled_instr, spilled, IsPlan}
 use Rattle.spill_rules.proofs.Kept.{Which, own, slotted, WasRegister, was_register, origin_of, comp_of, slots_apart, live_register, does_spilled}
 use Rattle.spill_rules.proofs.Live.{Stage, Before, Reading, Storing, Laid, begins, reloads, passes_operand, main, spills, passes_result, ends, laid_of, laid_tries, WasAcross, itself_across, stored_across, across_back}
 use Rattle.spill_rules.proofs.Text.{keeps_marks}
@@ -70,7 +70,7 @@ module _ (m : Mach) (plan : Plan) (formed : WellFormed m) (placed : WellPlaced m
             (in_cons (spill plan r) j (spills_of plan k rs) c)
         by false ih c = ih c
 
-    named_in : (code : List Instr) (j : Instr) → Contains (expand f code) j → Named j.op → Contains code j
+    pub named_in : (code : List Instr) (j : Instr) → Contains (expand f code) j → Named j.op → Contains code j
     named_in [] j c n = absurd (none_in j c)
     named_in (i ∷ next) j c n =
         ⊎_elim
@@ -222,7 +222,7 @@ module _ (m : Mach) (plan : Plan) (formed : WellFormed m) (placed : WellPlaced m
   slot_of r w k among (slotted e) s =
       inr (slot_same k w.origin (sym s ∙ sym (ap (λ (x : Reg). x.loc) e)) ∙ ap (λ (x : Reg). x.origin) e)
 
-  spilled_keeps : Keeps m (spilled plan m)
+  pub spilled_keeps : Keeps m (spilled plan m)
   spilled_keeps =
       record {
         name = refl;
@@ -291,26 +291,25 @@ module _ (m : Mach) (plan : Plan) (formed : WellFormed m) (placed : WellPlaced m
   number_below registers r w (own e) x y = subst (λ n. n < registers) (ap (λ (x : Reg). x.number) e) x
   number_below registers r w (slotted e) x y = subst (λ n. n < registers) (ap (λ (x : Reg). x.number) e) y
 
-  pub spilled_kept : IsKept m (spilled plan m) plan
-  spilled_kept =
+  pub spilled_size : (s : Size) (registers : ℕ) → HasSize m s → s.registers ≤ registers →
+      ((r : Reg) → IsRegister m r → plan.slot r.number < registers) →
+      HasSize (spilled plan m)
+      (record s { instrs = s.instrs + s.operands; operands = 3 * s.operands; registers = registers })
+  spilled_size s registers h le slots =
+      let instrs = instrs_expand f few_instrs m.code in
+      let operands = operands_expand f 3 few_operands m.code in
+      let a = h.instrs in
+      let b = h.operands in
       record {
-        keeps = spilled_keeps;
-        size = λ s registers h le slots.
-            let instrs = instrs_expand f few_instrs m.code in
-            let operands = operands_expand f 3 few_operands m.code in
-            let a = h.instrs in
-            let b = h.operands in
-            record {
-              instrs = omega (arith, instrs, a, b);
-              operands = omega (arith, operands, b);
-              numbers = λ r i.
-                  let w = old r i in
-                  let lt = h.numbers w.register w.among in
-                  number_below registers r w.register w.which (omega (arith, lt, le)) (slots w.register w.among);
-              origins = λ r i.
-                  let w = old r i in
-                  let lt = h.origins w.register w.among in
-                  subst (λ n. n < registers) (origin_of m plan formed placed is w.which) (omega (arith, lt, le));
-              labels = h.labels;
-            };
+        instrs = omega (arith, instrs, a, b);
+        operands = omega (arith, operands, b);
+        numbers = λ r i.
+            let w = old r i in
+            let lt = h.numbers w.register w.among in
+            number_below registers r w.register w.which (omega (arith, lt, le)) (slots w.register w.among);
+        origins = λ r i.
+            let w = old r i in
+            let lt = h.origins w.register w.among in
+            subst (λ n. n < registers) (origin_of m plan formed placed is w.which) (omega (arith, lt, le));
+        labels = h.labels;
       }

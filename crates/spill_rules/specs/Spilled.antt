@@ -1,7 +1,10 @@
 -- Mach functions in which registers are stored in slots after writes and reloaded before reads.
 use Rattle.std.specs.Prelude.{◌≡◌, ◌≢◌, ℕ, ◌+◌, ◌*◌, ◌<◌, ◌≤◌, Bool, true, false, cond, List, [], ◌∷◌, ◌++◌, length, Contains}
 use Rattle.bs_words.specs.declared.types.Loc.TheVariants as loc
+use Rattle.mach_ir.specs.Formed.{WellFormed}
 use Rattle.mach_ir.specs.Keeps.{Keeps}
+use Rattle.mach_ir.specs.Placed.{WellPlaced}
+use Rattle.mach_ir.specs.Seats.{Seated}
 use Rattle.mach_ir.specs.Sizes.{Size, HasSize}
 use Rattle.mach_ir.specs.Walks.{Among, Live, Stands, IsRegister}
 use Rattle.mach_ir.specs.declared.op.CopyKind.{CopyKind}
@@ -99,6 +102,9 @@ pub record IsPlan (m : Mach) (plan : Plan) : Type 0 where
 -- what a function with spills and reloads keeps
 pub record IsKept (m q : Mach) (plan : Plan) : Type 0 where
   pub keeps : Keeps m q
+  pub formed : WellFormed q
+  pub placed : WellPlaced q
+  pub seated : Seated m → Seated q
   -- at most an instruction more for each operand and result, and two registers for each of these
   pub size : (s : Size) (registers : ℕ) → HasSize m s → s.registers ≤ registers →
       ((r : Reg) → IsRegister m r → plan.slot r.number < registers) →
