@@ -1,0 +1,4 @@
+pub mod Lists
+pub mod Graph
+pub mod Bounds
+pub mod Loop

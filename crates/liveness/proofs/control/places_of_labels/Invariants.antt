@@ -1,0 +1,7 @@
+use Rattle.std.proofs.Common.{◌≡◌, ℕ, map, take}
+use Rattle.mach_ir.specs.Acts.{At}
+use Rattle.liveness.specs.Labels.{place_to}
+use Rattle.liveness.proofs.control.places_of_labels.Given as goal
+
+abbrev pub invariant-loop-label : goal.invariant-loop-label
+invariant-loop-label l = (p : ℕ) → l.places.items ≡ map (place_to l.labels p) (map At (take l.label-index l.among))

@@ -1,0 +1,19 @@
+use Rattle.std.proofs.Common.{subst}
+use Rattle.std.proofs.lemmas.List.{take_all}
+use Rattle.liveness.specs.Numbers.{IsAboveCode}
+use Rattle.liveness.proofs.Bounds.{code_begun, code_step}
+use Rattle.liveness.proofs.numbers.above_code.Goals as goal
+
+pub loop-instr-init : goal.loop-instr-init
+loop-instr-init c = code_begun c.args.bound c.args.code.now
+
+pub loop-instr-preserved : goal.loop-instr-preserved
+loop-instr-preserved c =
+    code_step c.args.bound c.loop-instr.above_all c.in_ok-above_args.above_args c.in_ok-above_all.above_all c.loop-instr.instr-index
+    c.args.code.now c.instr-item.result c.as_slice.result.now c.as_slice-in-loop-instr.result.now c.loop-instr-test.true c.instr-item.is
+    c.as_slice.ensures c.as_slice-in-loop-instr.ensures c.loop-instr.invariant c.in_ok-above_args.ensures c.in_ok-above_all.ensures
+
+pub returns : goal.returns
+returns c =
+    subst (λ xs. IsAboveCode c.args.bound xs c.loop-instr.above_all) (take_all c.loop-instr.instr-index c.args.code.now c.loop-instr-test.false)
+    c.loop-instr.invariant

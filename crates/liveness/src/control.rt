@@ -1,0 +1,230 @@
+//! Where control goes from an instruction.
+ghost use Rattle.std.specs.Prelude.{◌≡◌, ◌<◌, ◌^◌, ℕ, suc, map, [], ◌∷◌, IfOk};
+ghost use Rattle.mach_ir.specs.Acts.{At, goes_on};
+ghost use Rattle.mach_ir.specs.Acts as acts;
+ghost use Rattle.mach_ir.specs.Meaning.{tries_past};
+ghost use Rattle.mach_ir.specs.Walks.{targets};
+ghost use Rattle.mach_ir.specs.Walks as walks;
+ghost use Rattle.liveness.specs.Labels.{place_to, next_place, handler_places_in};
+
+use crate::backward::Backward;
+use crate::labels::Labels;
+use mach_ir::{Calling, Leaving, MachOp, Mark, Op};
+use std::alloc::{AllocError, Global};
+
+fn call_goes_on(calling: &Calling) -> bool
+    ensures { result ≡ goes_on (Op.Calling calling.now) }
+{
+    match calling {
+        Calling::Call { .. } => true,
+        Calling::TailCall { .. } => false,
+        Calling::External { .. } => true,
+    }
+}
+
+fn leaving_goes_on(leaving: Leaving) -> bool
+    ensures { result ≡ goes_on (Op.Leaving leaving) }
+{
+    match leaving {
+        Leaving::Checkbound(_) => true,
+        Leaving::Raise => false,
+        Leaving::Return => false,
+    }
+}
+
+fn goes_on(op: &Op) -> bool
+    ensures { result ≡ goes_on op.now }
+{
+    match op {
+        Op::Pure(_) => true,
+        Op::Access(_) => true,
+        Op::Calling(calling) => call_goes_on(calling),
+        Op::Leaving(leaving) => leaving_goes_on(*leaving),
+    }
+}
+
+fn call_may_raise(calling: &Calling) -> bool
+    ensures { result ≡ acts.may_raise (Op.Calling calling.now) }
+{
+    match calling {
+        Calling::Call { .. } => true,
+        Calling::TailCall { .. } => false,
+        Calling::External { row: _, frame } => *frame,
+    }
+}
+
+fn leaving_may_raise(leaving: Leaving) -> bool
+    ensures { result ≡ acts.may_raise (Op.Leaving leaving) }
+{
+    match leaving {
+        Leaving::Checkbound(_) => true,
+        Leaving::Raise => true,
+        Leaving::Return => false,
+    }
+}
+
+fn op_may_raise(op: &Op) -> bool
+    ensures { result ≡ acts.may_raise op.now }
+{
+    match op {
+        Op::Pure(_) => false,
+        Op::Access(_) => false,
+        Op::Calling(calling) => call_may_raise(calling),
+        Op::Leaving(leaving) => leaving_may_raise(*leaving),
+    }
+}
+
+/// Whether it leads to the innermost handler too: a call, a frame call, a raise or a bound test.
+fn may_raise(op: &MachOp) -> bool
+    ensures { result ≡ walks.may_raise op.now }
+{
+    match op {
+        MachOp::Op(op) => op_may_raise(op),
+        MachOp::Mark(_) => false,
+    }
+}
+
+fn one_place(alloc: Global, place: u32) -> Result<Vec<u32>, AllocError>
+    ensures { IfOk result (λ places. places.items ≡ place ∷ []) }
+{
+    let mut places = Vec::new(alloc);
+    places.push(place)?;
+    Ok(places)
+}
+
+fn two_places(alloc: Global, first: u32, second: u32) -> Result<Vec<u32>, AllocError>
+    ensures { IfOk result (λ places. places.items ≡ first ∷ second ∷ []) }
+{
+    let mut places = one_place(alloc, first)?;
+    places.push(second)?;
+    Ok(places)
+}
+
+fn places_of_labels(alloc: Global, labels: &Labels, among: &[u32]) -> Result<Vec<u32>, AllocError>
+    ensures { IfOk result (λ places. (p : ℕ) → places.items ≡ map (place_to labels.now p) (map At among.now)) }
+{
+    let mut places = Vec::new(alloc);
+    for label in among {
+        places.push(labels.place_of(*label))?;
+    }
+    Ok(places)
+}
+
+fn places_after_op(alloc: Global, op: &Op, place: u32) -> Result<Vec<u32>, AllocError>
+    requires { suc place < 2 ^ 32 }
+    ensures { IfOk result (λ places. places.items ≡ next_place (goes_on op.now) place) }
+{
+    if goes_on(op) {
+        one_place(alloc, place + 1)
+    } else {
+        Ok(Vec::new(alloc))
+    }
+}
+
+fn places_after_mark(
+    alloc: Global,
+    labels: &Labels,
+    mark: &Mark,
+    place: u32,
+) -> Result<Vec<u32>, AllocError>
+    requires { suc place < 2 ^ 32 }
+    ensures { IfOk result (λ places. places.items ≡ map (place_to labels.now place) (targets (MachOp.Mark mark.now))) }
+{
+    match mark {
+        Mark::Exit { label, tries: _ } => one_place(alloc, labels.place_of(*label)),
+        Mark::If { test: _, otherwise } => two_places(
+            alloc,
+            place + 1,
+            labels.place_of(*otherwise),
+        ),
+        Mark::Else { label: _, end } => one_place(alloc, labels.place_of(*end)),
+        Mark::Switch(among) => {
+            let places = places_of_labels(alloc, labels, among.as_slice())?;
+            Ok(places)
+        }
+        Mark::Case {
+            indexes: _,
+            label: _,
+            end,
+        } => one_place(alloc, labels.place_of(*end)),
+        Mark::Catch => one_place(alloc, place + 1),
+        Mark::With { label: _, end } => one_place(alloc, labels.place_of(*end)),
+        Mark::Try { handler: _ } => one_place(alloc, place + 1),
+        Mark::Leave { handler: _, end } => one_place(alloc, labels.place_of(*end)),
+        Mark::Handler { label: _ } => one_place(alloc, place + 1),
+        Mark::End { label: _ } => one_place(alloc, place + 1),
+    }
+}
+
+/// Where the instruction at the place goes on, conditions ignored.
+pub fn places_after(
+    alloc: Global,
+    labels: &Labels,
+    op: &MachOp,
+    place: u32,
+) -> Result<Vec<u32>, AllocError>
+    requires { suc place < 2 ^ 32 }
+    ensures { IfOk result (λ places. places.items ≡ map (place_to labels.now place) (targets op.now)) }
+{
+    match op {
+        MachOp::Op(op) => places_after_op(alloc, op, place),
+        MachOp::Mark(mark) => places_after_mark(alloc, labels, mark, place),
+    }
+}
+
+/// The place of the innermost handler, if the instruction may raise and there is one.
+pub fn places_aside(
+    alloc: Global,
+    labels: &Labels,
+    op: &MachOp,
+    tries: &Backward<u32>,
+) -> Result<Vec<u32>, AllocError>
+    ensures { IfOk result (λ places. places.items ≡ handler_places_in labels.now (walks.may_raise op.now) tries.now) }
+{
+    if !may_raise(op) {
+        return Ok(Vec::new(alloc));
+    }
+    match tries.first() {
+        None => Ok(Vec::new(alloc)),
+        Some(handler) => one_place(alloc, labels.handler_of(handler)),
+    }
+}
+
+/// The tries round an instruction, from those round the code after it: the innermost first, by the
+/// labels of their handlers.
+pub fn pass_tries(tries: &mut Backward<u32>, op: &MachOp) -> Result<(), AllocError>
+    ensures { IfOk result (λ _. tries.new ≡ tries_past op.now tries.old) }
+{
+    match op {
+        MachOp::Op(_) => Ok(()),
+        MachOp::Mark(mark) => pass_mark(tries, mark),
+    }
+}
+
+fn pass_mark(tries: &mut Backward<u32>, mark: &Mark) -> Result<(), AllocError>
+    ensures { IfOk result (λ _. tries.new ≡ tries_past (MachOp.Mark mark.now) tries.old) }
+{
+    match mark {
+        Mark::Exit { label: _, tries: _ } => Ok(()),
+        Mark::If {
+            test: _,
+            otherwise: _,
+        } => Ok(()),
+        Mark::Else { label: _, end: _ } => Ok(()),
+        Mark::Switch(_) => Ok(()),
+        Mark::Case {
+            indexes: _,
+            label: _,
+            end: _,
+        } => Ok(()),
+        Mark::Catch => Ok(()),
+        Mark::With { label: _, end: _ } => Ok(()),
+        Mark::Try { handler: _ } => {
+            tries.pop();
+            Ok(())
+        }
+        Mark::Leave { handler, end: _ } => tries.push(*handler),
+        Mark::Handler { label: _ } => Ok(()),
+        Mark::End { label: _ } => Ok(()),
+    }
+}

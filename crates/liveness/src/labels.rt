@@ -1,0 +1,149 @@
+//! The places of labels and of handlers.
+ghost use Rattle.std.specs.Prelude.{◌≡◌, ◌<◌, ℕ, ◌^◌, suc, cond, length, IfOk};
+ghost use Rattle.mach_ir.specs.Meaning.{has_label, is_handler_of};
+ghost use Rattle.liveness.specs.Labels.{is_that_label, place_in, handler_in, AreLabelsOf};
+
+use mach_ir::{Mach, MachOp, Mark};
+use std::alloc::{AllocError, Global};
+use std::collections::BTreeMap;
+
+/// The label that a mark has.
+fn mark_label(mark: &Mark) -> Option<u32>
+    ensures { (l : ℕ) → has_label l (MachOp.Mark mark.now) ≡ is_that_label result l }
+{
+    match mark {
+        Mark::Exit { label: _, tries: _ } => None,
+        Mark::If {
+            test: _,
+            otherwise: _,
+        } => None,
+        Mark::Else { label, end: _ } => Some(*label),
+        Mark::Switch(_) => None,
+        Mark::Case {
+            indexes: _,
+            label,
+            end: _,
+        } => Some(*label),
+        Mark::Catch => None,
+        Mark::With { label, end: _ } => Some(*label),
+        Mark::Try { handler: _ } => None,
+        Mark::Leave { handler: _, end: _ } => None,
+        Mark::Handler { label: _ } => None,
+        Mark::End { label } => Some(*label),
+    }
+}
+
+fn own_label(op: &MachOp) -> Option<u32>
+    ensures { (l : ℕ) → has_label l op.now ≡ is_that_label result l }
+{
+    match op {
+        MachOp::Op(_) => None,
+        MachOp::Mark(mark) => mark_label(mark),
+    }
+}
+
+/// The label of the handler that a mark is.
+fn mark_handler(mark: &Mark) -> Option<u32>
+    ensures { (l : ℕ) → is_handler_of l (MachOp.Mark mark.now) ≡ is_that_label result l }
+{
+    match mark {
+        Mark::Exit { label: _, tries: _ } => None,
+        Mark::If {
+            test: _,
+            otherwise: _,
+        } => None,
+        Mark::Else { label: _, end: _ } => None,
+        Mark::Switch(_) => None,
+        Mark::Case {
+            indexes: _,
+            label: _,
+            end: _,
+        } => None,
+        Mark::Catch => None,
+        Mark::With { label: _, end: _ } => None,
+        Mark::Try { handler: _ } => None,
+        Mark::Leave { handler: _, end: _ } => None,
+        Mark::Handler { label } => Some(*label),
+        Mark::End { label: _ } => None,
+    }
+}
+
+fn own_handler(op: &MachOp) -> Option<u32>
+    ensures { (l : ℕ) → is_handler_of l op.now ≡ is_that_label result l }
+{
+    match op {
+        MachOp::Op(_) => None,
+        MachOp::Mark(mark) => mark_handler(mark),
+    }
+}
+
+/// The place after the mark of each label, and that of the mark of each handler. Of a label that
+/// stands twice it is the first.
+#[derive(Drop)]
+pub struct Labels {
+    places: BTreeMap<u32, u32>,
+    handlers: BTreeMap<u32, u32>,
+
+    /// The place of every other label, after the last instruction.
+    end: u32,
+}
+
+impl Labels {
+    /// The table of a function.
+    pub fn of_function(alloc: Global, mach: &Mach) -> Result<Labels, AllocError>
+        requires { length mach.now.code < 2 ^ 32 }
+        ensures { IfOk result (AreLabelsOf mach.now) }
+    {
+        let code = mach.code.as_slice();
+        let end = code.len() as u32;
+        let mut labels = Labels {
+            places: BTreeMap::new(alloc),
+            handlers: BTreeMap::new(alloc),
+            end,
+        };
+        let mut place = end;
+        while place > 0 {
+            place -= 1;
+            labels.put(&code[place as usize].op, place)?;
+        }
+        Ok(labels)
+    }
+
+    /// Enters the labels of the instruction at the place, if it has one.
+    fn put(&mut self, op: &MachOp, place: u32) -> Result<(), AllocError>
+        requires { suc place < 2 ^ 32 }
+        ensures end { IfOk result (λ _. self.new.end ≡ self.old.end) }
+        ensures places { IfOk result (λ _. (l : ℕ) → place_in self.new l ≡
+            cond (has_label l op.now) (suc place) (place_in self.old l)) }
+        ensures handlers { IfOk result (λ _. (l : ℕ) → handler_in self.new l ≡
+            cond (is_handler_of l op.now) place (handler_in self.old l)) }
+    {
+        if let Some(label) = own_label(op) {
+            self.places.insert(label, place + 1)?;
+        }
+        if let Some(label) = own_handler(op) {
+            self.handlers.insert(label, place)?;
+        }
+        Ok(())
+    }
+
+    /// The place after the label.
+    pub fn place_of(&self, label: u32) -> u32
+        ensures { result ≡ place_in self.now label }
+    {
+        match self.places.get(&label) {
+            None => self.end,
+            Some(place) => *place,
+        }
+    }
+
+    /// The place of the handler.
+    pub fn handler_of(&self, label: u32) -> u32
+        ensures { result ≡ handler_in self.now label }
+    {
+        match self.handlers.get(&label) {
+            None => self.end,
+            Some(place) => *place,
+        }
+    }
+}

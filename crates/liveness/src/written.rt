@@ -1,0 +1,143 @@
+//! Which registers instructions write, by their numbers.
+ghost use Rattle.std.specs.Prelude.{◌≡◌, ◌++◌, IfOk};
+ghost use Rattle.bs_words.specs.Contents.{contents};
+ghost use Rattle.mach_ir.specs.Meaning.{is_temporary, same_colour, is_at_one_of, is_destroyed, destroyed_by, killed_among, written};
+ghost use Rattle.mach_laws.specs.Graph.{numbers};
+
+use bs_words::{List, Loc};
+use mach_ir::{Calling, Instr, Mach, MachOp, Mark, Op, Reg};
+use std::alloc::{AllocError, Global};
+
+/// Whether a machine register is a0 to a7 or t3 to t6.
+fn is_temporary(register: u8) -> bool
+    ensures { result ≡ is_temporary register }
+{
+    (10 <= register && register <= 17) || 28 <= register
+}
+
+fn call_destroys(calling: &Calling, register: u8) -> bool
+    ensures { result ≡ is_destroyed (destroyed_by (MachOp.Op (Op.Calling calling.now))) (Loc.Machine register) }
+{
+    match calling {
+        Calling::Call { .. } => true,
+        Calling::TailCall { .. } => true,
+        Calling::External { .. } => is_temporary(register),
+    }
+}
+
+fn op_destroys(op: &Op, register: u8) -> bool
+    ensures { result ≡ is_destroyed (destroyed_by (MachOp.Op op.now)) (Loc.Machine register) }
+{
+    match op {
+        Op::Pure(_) => false,
+        Op::Access(_) => false,
+        Op::Calling(calling) => call_destroys(calling, register),
+        Op::Leaving(_) => false,
+    }
+}
+
+fn mark_destroys(mark: &Mark, register: u8) -> bool
+    ensures { result ≡ is_destroyed (destroyed_by (MachOp.Mark mark.now)) (Loc.Machine register) }
+{
+    match mark {
+        Mark::Exit { label: _, tries: _ } => false,
+        Mark::If {
+            test: _,
+            otherwise: _,
+        } => false,
+        Mark::Else { label: _, end: _ } => false,
+        Mark::Switch(_) => false,
+        Mark::Case {
+            indexes: _,
+            label: _,
+            end: _,
+        } => false,
+        Mark::Catch => false,
+        Mark::With { label: _, end: _ } => false,
+        Mark::Try { handler: _ } => false,
+        Mark::Leave { handler: _, end: _ } => false,
+        Mark::Handler { label: _ } => true,
+        Mark::End { label: _ } => false,
+    }
+}
+
+fn register_is_destroyed(op: &MachOp, register: u8) -> bool
+    ensures { result ≡ is_destroyed (destroyed_by op.now) (Loc.Machine register) }
+{
+    match op {
+        MachOp::Op(op) => op_destroys(op, register),
+        MachOp::Mark(mark) => mark_destroys(mark, register),
+    }
+}
+
+/// Whether the operation destroys what stands at the place.
+fn is_destroyed(op: &MachOp, place: Loc) -> bool
+    ensures { result ≡ is_destroyed (destroyed_by op.now) place }
+{
+    match place {
+        Loc::Unset => false,
+        Loc::Machine(register) => register_is_destroyed(op, register),
+        Loc::Slot(_) => false,
+    }
+}
+
+fn same_colour(one: Loc, other: Loc) -> bool
+    ensures { result ≡ same_colour one other }
+{
+    match (one, other) {
+        (Loc::Machine(one), Loc::Machine(other)) => one == other,
+        _ => false,
+    }
+}
+
+fn is_at_one_of(place: Loc, regs: &[Reg]) -> bool
+    ensures { result ≡ is_at_one_of place regs.now }
+{
+    for reg in regs {
+        if same_colour(place, reg.loc) {
+            return true;
+        }
+    }
+    false
+}
+
+/// The numbers of registers, in their order.
+pub fn numbers_of(alloc: Global, regs: &[Reg]) -> Result<Vec<u32>, AllocError>
+    ensures { IfOk result (λ found. found.items ≡ numbers regs.now) }
+{
+    let mut found = Vec::with_capacity(alloc, regs.len())?;
+    for reg in regs {
+        found.push(reg.number)?;
+    }
+    Ok(found)
+}
+
+/// Adds the numbers of those that the operation destroys: among the registers that stand for the
+/// colours, those where no result stands.
+fn push_killed(
+    found: &mut Vec<u32>,
+    colours: &[Reg],
+    op: &MachOp,
+    results: &[Reg],
+) -> Result<(), AllocError>
+    ensures { IfOk result (λ _. found.new.items ≡ found.old.items ++ numbers (killed_among colours.now (destroyed_by op.now) results.now)) }
+{
+    for colour in colours {
+        let destroyed = is_destroyed(op, colour.loc);
+        let taken = is_at_one_of(colour.loc, results);
+        if destroyed && !taken {
+            found.push(colour.number)?;
+        }
+    }
+    Ok(())
+}
+
+/// The numbers of all registers that the instruction writes.
+pub fn numbers_written(alloc: Global, mach: &Mach, instr: &Instr) -> Result<List<u32>, AllocError>
+    ensures { IfOk result (λ found. contents found ≡ numbers (written mach.now instr.now)) }
+{
+    let results = instr.results.as_slice();
+    let mut found = numbers_of(alloc, results)?;
+    push_killed(&mut found, mach.colours.as_slice(), &instr.op, results)?;
+    Ok(List::from_vec(found))
+}

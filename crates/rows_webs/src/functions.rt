@@ -1,0 +1,126 @@
+//! The functions of the rows.
+use crate::code::{A0, A1, Code, name, open, slot};
+use anyhow::Result;
+use bs_words::{CmpOp, Comp, IntOp, Ret};
+use mach_ir::{Callee, Calling, CopyKind, Leaving, Mach, Mark, Op, Pure, Right, Test};
+use std::alloc::Global;
+
+const MOVE: Op = Op::Pure(Pure::Copy(CopyKind::Move));
+
+const SPILL: Op = Op::Pure(Pure::Copy(CopyKind::Spill));
+
+const RELOAD: Op = Op::Pure(Pure::Copy(CopyKind::Reload));
+
+const RETURN: Op = Op::Leaving(Leaving::Return);
+
+const RAISE: Op = Op::Leaving(Leaving::Raise);
+
+fn constant(word: u64) -> Op {
+    Op::Pure(Pure::Constant(word))
+}
+
+fn add(word: u64) -> Op {
+    Op::Pure(Pure::Operator(IntOp::Add, Right::Constant(word)))
+}
+
+fn call(alloc: Global) -> Result<Op> {
+    let callee = Callee::Symbol(name(alloc, "camlMain__f")?);
+    Ok(Op::Calling(Calling::Call {
+        callee,
+        result: Ret::Comp(Comp::Val),
+    }))
+}
+
+/// A register that is reloaded from one slot after each of two calls, and read after each reload.
+pub(crate) fn reloads(alloc: Global) -> Result<Mach> {
+    let mut code = Code::new(alloc);
+    let stored = slot(22, 21);
+    let value = open(21);
+    code.op(MOVE, &[A0], &[value])?;
+    code.op(SPILL, &[value], &[stored])?;
+    code.op(MOVE, &[value], &[A0])?;
+    code.op(call(alloc)?, &[A0], &[A0])?;
+    code.op(RELOAD, &[stored], &[value])?;
+    code.op(MOVE, &[value], &[A0])?;
+    code.op(call(alloc)?, &[A0], &[A0])?;
+    code.op(RELOAD, &[stored], &[value])?;
+    code.op(MOVE, &[value], &[A0])?;
+    code.op(RETURN, &[A0], &[])?;
+    code.function("reloads", &[A0])
+}
+
+/// A loop: what is written before it and in it is read at its test, and what is written after it is
+/// another web.
+pub(crate) fn loops(alloc: Global) -> Result<Mach> {
+    let mut code = Code::new(alloc);
+    let count = open(21);
+    code.op(constant(0), &[], &[count])?;
+    code.mark(Mark::Catch)?;
+    code.mark(Mark::Exit { label: 1, tries: 0 })?;
+    code.mark(Mark::With { label: 1, end: 2 })?;
+    let less = Test::Signed(CmpOp::Lt, Right::Constant(10));
+    code.test(
+        Mark::If {
+            test: less,
+            otherwise: 3,
+        },
+        &[count],
+    )?;
+    code.op(add(1), &[count], &[count])?;
+    code.mark(Mark::Exit { label: 1, tries: 0 })?;
+    code.mark(Mark::Else { label: 3, end: 4 })?;
+    code.mark(Mark::End { label: 4 })?;
+    code.mark(Mark::End { label: 2 })?;
+    code.op(constant(7), &[], &[count])?;
+    code.op(MOVE, &[count], &[A0])?;
+    code.op(RETURN, &[A0], &[])?;
+    code.function("loops", &[])
+}
+
+/// A try whose handler reads what was written before it: not what is written after the call.
+pub(crate) fn handled(alloc: Global) -> Result<Mach> {
+    let mut code = Code::new(alloc);
+    let value = open(21);
+    let other = open(22);
+    code.op(MOVE, &[A0], &[value])?;
+    code.op(MOVE, &[A1], &[other])?;
+    code.mark(Mark::Try { handler: 1 })?;
+    code.op(MOVE, &[other], &[A0])?;
+    code.op(call(alloc)?, &[A0], &[A0])?;
+    code.op(MOVE, &[A0], &[value])?;
+    code.op(add(2), &[value], &[other])?;
+    code.mark(Mark::Leave { handler: 1, end: 2 })?;
+    code.handler(1, A0)?;
+    code.op(add(3), &[value], &[other])?;
+    code.mark(Mark::End { label: 2 })?;
+    code.op(MOVE, &[other], &[A0])?;
+    code.op(RETURN, &[A0], &[])?;
+    code.function("handled", &[A0, A1])
+}
+
+/// Two branches that write, of which one raises, and a write that nothing reads.
+pub(crate) fn branches(alloc: Global) -> Result<Mach> {
+    let mut code = Code::new(alloc);
+    let value = open(21);
+    let other = open(22);
+    code.op(constant(1), &[], &[value])?;
+    code.test(
+        Mark::If {
+            test: Test::Holds,
+            otherwise: 1,
+        },
+        &[A0],
+    )?;
+    code.op(constant(2), &[], &[value])?;
+    code.op(MOVE, &[value], &[A0])?;
+    code.op(RAISE, &[A0], &[])?;
+    code.mark(Mark::Else { label: 1, end: 2 })?;
+    code.op(constant(3), &[], &[other])?;
+    code.op(constant(4), &[], &[other])?;
+    code.mark(Mark::End { label: 2 })?;
+    code.op(add(5), &[value], &[value])?;
+    code.op(add(6), &[other], &[other])?;
+    code.op(MOVE, &[other], &[A0])?;
+    code.op(RETURN, &[A0], &[])?;
+    code.function("branches", &[A0])
+}

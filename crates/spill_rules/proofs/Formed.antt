@@ -1,0 +1,368 @@
+-- A well-formed function is so with its spills and reloads.
+use Rattle.std.proofs.Common.{◌≡◌, ◌≢◌, ℕ, ◌<◌, ◌≤◌, Bool, true, false, cond, ◌⊎◌, inl, inr, ⊎_elim, List, [], ◌∷◌, ◌++◌, length, refl, sym, ap, ◌∙◌, subst, arith, append_assoc}
+use Rattle.std.specs.List.{All, AllPairs, Contains}
+use Rattle.std.specs.Prelude.{slice_index_or}
+use Rattle.std.proofs.lemmas.List.Elements.{Contains-get_or}
+use Rattle.mach_ir.specs.Acts.{On, At}
+use Rattle.mach_ir.specs.Forms as form
+use Rattle.mach_ir.specs.Formed.{IsFormed, formed_op, AreDistinct, labels_of, labels_in, HasPlace, place_here, place_below, HasHandler, handler_here, handler_below, LeadsTo, LabelsStand, tries_left, leaves, IsNested, CasesAgree, WellFormed}
+use Rattle.mach_ir.specs.Meaning.{after_label, from_handler, tries_at, tries_past}
+use Rattle.mach_ir.specs.Placed.{WellPlaced}
+use Rattle.mach_ir.specs.Walks.{OneOf, other, may_raise, Stands, here, below, IsRegister}
+use Rattle.mach_ir.specs.declared.op.CopyKind.{CopyKind}
+use Rattle.mach_ir.specs.declared.op.CopyKind.TheVariants as copy
+use Rattle.mach_ir.specs.declared.op.Leaving.TheVariants as leaving
+use Rattle.mach_ir.specs.declared.op.Op.TheVariants as op
+use Rattle.mach_ir.specs.declared.reg.Reg.{Reg}
+use Rattle.mach_ir.specs.declared.mach.Mark.TheVariants as mark
+use Rattle.mach_ir.specs.declared.mach.MachOp.{MachOp}
+use Rattle.mach_ir.specs.declared.mach.MachOp.TheVariants as mach
+use Rattle.mach_ir.specs.declared.mach.Instr.{Instr}
+use Rattle.mach_ir.specs.declared.mach.Mach.{Mach}
+use Rattle.mach_laws.specs.Expand.{expand}
+use Rattle.mach_laws.proofs.Places.{label_expand, handler_expand, tries_expand}
+use Rattle.mach_laws.proofs.Walking.{none_in, first_in, later_in, in_cons}
+use Rattle.split_rules.proofs.Formed.{contains_of, stands_in, of_each}
+use Rattle.spill_rules.specs.Spilled.{Plan, in_slot, copied, reload, spill, reloads_of, spills_of, operands_of, results_of, spilled_instr, spilled, IsPlan}
+use Rattle.spill_rules.proofs.Kept.{Which, own, slotted, was_register, slots_apart}
+use Rattle.spill_rules.proofs.Text.{keeps_marks}
+use Rattle.spill_rules.proofs.Whole.{named_in}
+
+differ : (b : Bool) → b ≡ true → b ≡ false → ⊥
+differ b e h = cc
+
+module _ (plan : Plan) where
+  abbrev f : ℕ → Instr → List Instr
+  f = spilled_instr plan
+
+  -- ---- labels and tries
+
+  cond_labels : (b : Bool) (xs ys zs : List Instr) → labels_in (xs ++ zs) ≡ labels_in zs → labels_in (ys ++ zs) ≡ labels_in zs →
+      labels_in (cond b xs ys ++ zs) ≡ labels_in zs
+  cond_labels true xs ys zs e h = e
+  cond_labels false xs ys zs e h = h
+
+  labels_reloads : (k : ℕ) (rs : List Reg) (zs : List Instr) → labels_in (reloads_of plan k rs ++ zs) ≡ labels_in zs
+  labels_reloads k [] zs = refl
+  labels_reloads k (r ∷ rs) zs =
+      cond_labels (plan.reloads k r.number) (reload plan r ∷ reloads_of plan k rs) (reloads_of plan k rs) zs (labels_reloads k rs zs)
+      (labels_reloads k rs zs)
+
+  labels_spills : (k : ℕ) (rs : List Reg) (zs : List Instr) → labels_in (spills_of plan k rs ++ zs) ≡ labels_in zs
+  labels_spills k [] zs = refl
+  labels_spills k (r ∷ rs) zs =
+      cond_labels (plan.spills k r.number) (spill plan r ∷ spills_of plan k rs) (spills_of plan k rs) zs (labels_spills k rs zs)
+      (labels_spills k rs zs)
+
+  cond_tries : (b : Bool) (xs ys zs : List Instr) → tries_at (xs ++ zs) ≡ tries_at zs → tries_at (ys ++ zs) ≡ tries_at zs →
+      tries_at (cond b xs ys ++ zs) ≡ tries_at zs
+  cond_tries true xs ys zs e h = e
+  cond_tries false xs ys zs e h = h
+
+  tries_spills : (k : ℕ) (rs : List Reg) (zs : List Instr) → tries_at (spills_of plan k rs ++ zs) ≡ tries_at zs
+  tries_spills k [] zs = refl
+  tries_spills k (r ∷ rs) zs =
+      cond_tries (plan.spills k r.number) (spill plan r ∷ spills_of plan k rs) (spills_of plan k rs) zs (tries_spills k rs zs)
+      (tries_spills k rs zs)
+
+  same_head : (i : Instr) (xs ys : List Instr) → labels_in xs ≡ labels_in ys → labels_in (i ∷ xs) ≡ labels_in (i ∷ ys)
+  same_head i xs ys e = by i.op i.args i.results
+    where
+      by : (g : MachOp) (args results : List Reg) →
+          labels_in (record { op = g; args = args; results = results } ∷ xs)
+          ≡ labels_in (record { op = g; args = args; results = results } ∷ ys)
+      by (mach.Op g) args results = e
+      by (mach.Mark g) args results = ap (λ ls. labels_of g ++ ls) e
+
+  -- the code of an instruction before other code
+  laid_out : (k : ℕ) (i : Instr) (zs : List Instr) →
+      f k i ++ zs ≡ reloads_of plan k (operands_of i) ++ (i ∷ (spills_of plan k (results_of i) ++ zs))
+  laid_out k i zs = append_assoc (reloads_of plan k (operands_of i)) (i ∷ spills_of plan k (results_of i)) zs
+
+  same_labels : (code : List Instr) → labels_in (expand f code) ≡ labels_in code
+  same_labels [] = refl
+  same_labels (i ∷ is) =
+      ap labels_in (laid_out (length is) i (expand f is))
+      ∙ labels_reloads (length is) (operands_of i) (i ∷ (spills_of plan (length is) (results_of i) ++ expand f is))
+      ∙ same_head i (spills_of plan (length is) (results_of i) ++ expand f is) is
+      (labels_spills (length is) (results_of i) (expand f is) ∙ same_labels is)
+
+  -- ---- places and handlers
+
+  place_left : {l : ℕ} (xs ys : List Instr) → HasPlace l ys → HasPlace l (xs ++ ys)
+  place_left [] ys h = h
+  place_left (x ∷ xs) ys h = place_below (place_left xs ys h)
+
+  handler_left : {l : ℕ} (xs ys : List Instr) → HasHandler l ys → HasHandler l (xs ++ ys)
+  handler_left [] ys h = h
+  handler_left (x ∷ xs) ys h = handler_below (handler_left xs ys h)
+
+  place_there : {l : ℕ} {code : List Instr} → HasPlace l code → HasPlace l (expand f code)
+  place_there {l} (place_here {i = i} {is = is} e) =
+      subst (HasPlace l) (sym (laid_out (length is) i (expand f is)))
+      (place_left (reloads_of plan (length is) (operands_of i)) (i ∷ (spills_of plan (length is) (results_of i) ++ expand f is)) (place_here e))
+  place_there {l} (place_below {i = i} {is = is} h) = place_left (f (length is) i) (expand f is) (place_there h)
+
+  handler_there : {l : ℕ} {code : List Instr} → HasHandler l code → HasHandler l (expand f code)
+  handler_there {l} (handler_here {i = i} {is = is} e) =
+      subst (HasHandler l) (sym (laid_out (length is) i (expand f is)))
+      (handler_left (reloads_of plan (length is) (operands_of i)) (i ∷ (spills_of plan (length is) (results_of i) ++ expand f is))
+      (handler_here e))
+  handler_there {l} (handler_below {i = i} {is = is} h) = handler_left (f (length is) i) (expand f is) (handler_there h)
+
+  -- ---- what stands where
+
+  pub data IsCopy (j : Instr) : Type 0 where
+    is_reload : (k : ℕ) (r : Reg) → plan.reloads k r.number ≡ true → j ≡ reload plan r → IsCopy j
+    is_spill : (r : Reg) → j ≡ spill plan r → IsCopy j
+
+  copies_what : {j : Instr} → IsCopy j → (kind : CopyKind) × (from : Reg) × (to : Reg) × (j ≡ copied kind from to)
+  copies_what (is_reload k r t e) = (copy.Reload, in_slot plan r, r, e)
+  copies_what (is_spill r e) = (copy.Spill, r, in_slot plan r, e)
+
+  -- an instruction of the first, with the code after it
+  pub record IsMain (j : Instr) (ys code : List Instr) : Type 0 where
+    pub next : List Instr
+    pub stands : Stands j next code
+    pub same : spills_of plan (length next) (results_of j) ++ expand f next ≡ ys
+
+  main_reloads : (k : ℕ) (rs : List Reg) (j : Instr) (ys zs : List Instr) → Stands j ys (reloads_of plan k rs ++ zs) → IsCopy j ⊎ Stands j ys zs
+  main_reloads k [] j ys zs s = inr s
+  main_reloads k (r ∷ rs) j ys zs s = by (plan.reloads k r.number) refl (λ z. main_reloads k rs j ys zs z) s
+    where
+      one : {xs : List Instr} {x : Instr} → plan.reloads k r.number ≡ true → x ≡ reload plan r → (Stands j ys xs → IsCopy j ⊎ Stands j ys zs) → Stands j ys (x ∷ xs) → IsCopy j ⊎ Stands j ys zs
+      one t e ih here = inl (is_reload k r t e)
+      one t e ih (below z) = ih z
+
+      by : (b : Bool) → plan.reloads k r.number ≡ b → (Stands j ys (reloads_of plan k rs ++ zs) → IsCopy j ⊎ Stands j ys zs) →
+          Stands j ys (cond b (reload plan r ∷ reloads_of plan k rs) (reloads_of plan k rs) ++ zs) → IsCopy j ⊎ Stands j ys zs
+      by true t ih s = one t refl ih s
+      by false t ih s = ih s
+
+  main_spills : (k : ℕ) (rs : List Reg) (j : Instr) (ys zs : List Instr) → Stands j ys (spills_of plan k rs ++ zs) → IsCopy j ⊎ Stands j ys zs
+  main_spills k [] j ys zs s = inr s
+  main_spills k (r ∷ rs) j ys zs s = by (plan.spills k r.number) (λ z. main_spills k rs j ys zs z) s
+    where
+      one : {xs : List Instr} {x : Instr} → x ≡ spill plan r → (Stands j ys xs → IsCopy j ⊎ Stands j ys zs) → Stands j ys (x ∷ xs) → IsCopy j ⊎ Stands j ys zs
+      one e ih here = inl (is_spill r e)
+      one e ih (below z) = ih z
+
+      by : (b : Bool) → (Stands j ys (spills_of plan k rs ++ zs) → IsCopy j ⊎ Stands j ys zs) →
+          Stands j ys (cond b (spill plan r ∷ spills_of plan k rs) (spills_of plan k rs) ++ zs) → IsCopy j ⊎ Stands j ys zs
+      by true ih s = one refl ih s
+      by false ih s = ih s
+
+  further_on : {j : Instr} {ys code : List Instr} (i : Instr) → IsCopy j ⊎ IsMain j ys code → IsCopy j ⊎ IsMain j ys (i ∷ code)
+  further_on i (inl c) = inl c
+  further_on i (inr w) = inr (record { next = w.next; stands = below w.stands; same = w.same })
+
+  pub was_main : (code : List Instr) (j : Instr) (ys : List Instr) → Stands j ys (expand f code) → IsCopy j ⊎ IsMain j ys code
+  was_main [] j ys s = elim s [ ]
+  was_main (i ∷ is) j ys s =
+      ⊎_elim inl (λ z. of_main z (λ h. was_main is j ys h))
+      (main_reloads (length is) (operands_of i) j ys (i ∷ (spills_of plan (length is) (results_of i) ++ expand f is))
+      (subst (Stands j ys) (laid_out (length is) i (expand f is)) s))
+    where
+      at_head : {x : Instr} {zs : List Instr} → i ≡ x → spills_of plan (length is) (results_of i) ++ expand f is ≡ zs →
+          Stands j ys (x ∷ zs) → (Stands j ys zs → IsCopy j ⊎ IsMain j ys (i ∷ is)) → IsCopy j ⊎ IsMain j ys (i ∷ is)
+      at_head e h here ih = inr (subst (λ j. IsMain j ys (i ∷ is)) e (record { next = is; stands = here; same = h }))
+      at_head e h (below z) ih = ih z
+
+      of_main : Stands j ys (i ∷ (spills_of plan (length is) (results_of i) ++ expand f is)) →
+          (Stands j ys (expand f is) → IsCopy j ⊎ IsMain j ys is) → IsCopy j ⊎ IsMain j ys (i ∷ is)
+      of_main z ih =
+          at_head refl refl z
+          (λ h. ⊎_elim inl (λ g. further_on i (ih g)) (main_spills (length is) (results_of i) j ys (expand f is) h))
+
+  -- a main has the tries that it had
+  main_tries : {j : Instr} {ys code : List Instr} (w : IsMain j ys code) → tries_at (j ∷ ys) ≡ tries_at (j ∷ w.next)
+  main_tries {j} w = ap (tries_past j.op) (after_tries w)
+    where
+      after_tries : {j : Instr} {ys code : List Instr} (w : IsMain j ys code) → tries_at ys ≡ tries_at w.next
+      after_tries {j} w =
+          sym (ap tries_at w.same) ∙ tries_spills (length w.next) (results_of j) (expand f w.next)
+          ∙ tries_expand f (keeps_marks plan) w.next
+
+  next_tries : {j : Instr} {ys code : List Instr} (w : IsMain j ys code) → tries_at ys ≡ tries_at w.next
+  next_tries {j} w =
+      sym (ap tries_at w.same) ∙ tries_spills (length w.next) (results_of j) (expand f w.next)
+      ∙ tries_expand f (keeps_marks plan) w.next
+
+  -- what is no copy
+  main_of : {j : Instr} {ys code : List Instr} → (IsCopy j → ⊥) → IsCopy j ⊎ IsMain j ys code → IsMain j ys code
+  main_of not_copy (inl c) = absurd (not_copy c)
+  main_of not_copy (inr w) = w
+
+  no_label : (l : ℕ) (j : Instr) → LeadsTo j.op l → IsCopy j → ⊥
+  no_label l j o c = by (subst (λ (j : Instr). LeadsTo j.op l) (copies_what c).3 o)
+    where
+      by : OneOf (At l) (On ∷ []) → ⊥
+      by (other o) = elim o [ ]
+
+module _ (m : Mach) (plan : Plan) (formed : WellFormed m) (placed : WellPlaced m) (is : IsPlan m plan) where
+  abbrev q : Mach
+  q = spilled plan m
+
+  abbrev g : ℕ → Instr → List Instr
+  g = spilled_instr plan
+
+  labels_stand : LabelsStand q
+  labels_stand =
+      record {
+        named = λ i next s l o.
+            let w = main_of plan (no_label plan l i o) (was_main plan m.code i next s) in
+            place_there plan ((formed.labels).named i w.next w.stands l o);
+        forward = λ i next s l o e.
+            let w = main_of plan (no_label plan l i o) (was_main plan m.code i next s) in
+            subst (HasPlace l) w.same
+            (place_left plan (spills_of plan (length w.next) (results_of i)) (expand g w.next)
+            (place_there plan ((formed.labels).forward i w.next w.stands l o e)));
+        handlers = λ i next s l end e.
+            let w = main_of plan (λ c. not_leave l end i e c) (was_main plan m.code i next s) in
+            subst (HasHandler l) w.same
+            (handler_left plan (spills_of plan (length w.next) (results_of i)) (expand g w.next)
+            (handler_there plan ((formed.labels).handlers i w.next w.stands l end e)));
+      }
+    where
+      op_mark : (kind : CopyKind) (from to : Reg) (k : _) → (copied kind from to).op ≡ mach.Mark k → ⊥
+      op_mark kind from to k e = cc
+
+      not_leave : (l end : ℕ) (i : Instr) → i.op ≡ mach.Mark (mark.Leave l end) → IsCopy plan i → ⊥
+      not_leave l end i e c =
+          let k = copies_what plan c in op_mark k.0 k.1 k.2 (mark.Leave l end) (sym (ap (λ (i : Instr). i.op) k.3) ∙ e)
+
+  nested : IsNested q
+  nested =
+      record {
+        at_entry = tries_expand g (keeps_marks plan) m.code ∙ (formed.nested).at_entry;
+        at_label = λ i next s l o.
+            let w = main_of plan (no_label plan l i o) (was_main plan m.code i next s) in
+            ap tries_at (label_expand g (keeps_marks plan) l m.code) ∙ tries_expand g (keeps_marks plan) (after_label l m.code)
+            ∙ (formed.nested).at_label i w.next w.stands l o ∙ ap (tries_left i.op) (sym (main_tries plan w));
+        at_try = λ i next s l e.
+            let w = main_of plan (no_mark i (mark.Try l) e) (was_main plan m.code i next s) in
+            next_tries plan w ∙ (formed.nested).at_try i w.next w.stands l e ∙ ap (λ ts. l ∷ ts) (sym (main_tries plan w));
+        at_handler = λ i next s r l tries e.
+            let w = main_of plan (λ c. no_raise i r c) (was_main plan m.code i next s) in
+            ap tries_at (handler_expand g (keeps_marks plan) l m.code) ∙ tries_expand g (keeps_marks plan) (from_handler l m.code)
+            ∙ (formed.nested).at_handler i w.next w.stands r l tries (sym (main_tries plan w) ∙ e);
+        at_own_handler = λ i next s l e.
+            let w = main_of plan (no_mark i (mark.Try l) e) (was_main plan m.code i next s) in
+            ap tries_at (handler_expand g (keeps_marks plan) l m.code) ∙ tries_expand g (keeps_marks plan) (from_handler l m.code)
+            ∙ (formed.nested).at_own_handler i w.next w.stands l e ∙ sym (main_tries plan w);
+        at_exit = λ i next s l n e.
+            let w = main_of plan (no_mark i (mark.Exit l n) e) (was_main plan m.code i next s) in
+            subst (λ ts. n ≤ length ts) (sym (main_tries plan w)) ((formed.nested).at_exit i w.next w.stands l n e);
+        at_end = λ i next s e.
+            let w = main_of plan (λ c. no_leaving i e c) (was_main plan m.code i next s) in
+            main_tries plan w ∙ (formed.nested).at_end i w.next w.stands e;
+      }
+    where
+      op_mark : (kind : CopyKind) (from to : Reg) (k : _) → (copied kind from to).op ≡ mach.Mark k → ⊥
+      op_mark kind from to k e = cc
+
+      no_mark : (i : Instr) (k : _) → i.op ≡ mach.Mark k → IsCopy plan i → ⊥
+      no_mark i k e c =
+          let h = copies_what plan c in op_mark h.0 h.1 h.2 k (sym (ap (λ (i : Instr). i.op) h.3) ∙ e)
+
+      no_raise : (i : Instr) → may_raise i.op ≡ true → IsCopy plan i → ⊥
+      no_raise i r c = differ false (ap (λ (i : Instr). may_raise i.op) (sym (copies_what plan c).3) ∙ r) refl
+
+      no_leaving : (i : Instr) → leaves i.op ≡ true → IsCopy plan i → ⊥
+      no_leaving i r c = differ false (ap (λ (i : Instr). leaves i.op) (sym (copies_what plan c).3) ∙ r) refl
+
+  -- ---- what is in the code
+
+  main_in : (code : List Instr) (i : Instr) → Contains code i → Contains (expand g code) i
+  main_in [] i c = absurd (none_in i c)
+  main_in (j ∷ is) i c =
+      ⊎_elim
+      (λ e.
+      subst (Contains (expand g (j ∷ is))) e
+      (subst (λ xs. Contains xs j) (sym (laid_out plan (length is) j (expand g is)))
+      (right_of (reloads_of plan (length is) (operands_of j)) (j ∷ (spills_of plan (length is) (results_of j) ++ expand g is)) j
+      (first_in j (spills_of plan (length is) (results_of j) ++ expand g is)))))
+      (λ d. right_of (g (length is) j) (expand g is) i (main_in is i d)) (in_cons j i is c)
+    where
+      right_of : (xs ys : List Instr) (y : Instr) → Contains ys y → Contains (xs ++ ys) y
+      right_of [] ys y c = c
+      right_of (x ∷ xs) ys y c = later_in x y (xs ++ ys) (right_of xs ys y c)
+
+  mark_in : (k : _) (j : Instr) → Contains q.code j → j.op ≡ mach.Mark k → Contains m.code j
+  mark_in k j c e = named_in m plan formed placed is (λ h. h ≡ mach.Mark k) (λ kind from to h. no_copy kind from to h) m.code j c e
+    where
+      no_copy : (kind : CopyKind) (from to : Reg) → (copied kind from to).op ≡ mach.Mark k → ⊥
+      no_copy kind from to e = cc
+
+  cases : CasesAgree q
+  cases =
+      record {
+        agree = λ i j c d labels indexes l end e h k.
+            (formed.cases).agree i j (mark_in (mark.Switch labels) i c e) (mark_in (mark.Case indexes l end) j d h) labels indexes l end e h k;
+        none = λ j d indexes l end e h.
+            (formed.cases).none j (mark_in (mark.Case indexes l end) j d e) indexes l end e
+            (λ i c labels o k. h i (main_in m.code i c) labels o k);
+      }
+
+  -- ---- each instruction
+
+  each_in : (P : Instr → Type 0) → ((kind : CopyKind) (from to : Reg) → P (copied kind from to)) →
+      ((i : Instr) → Contains m.code i → P i) → All P q.code
+  each_in P copies_so mains = λ k d lt.
+      let j = slice_index_or q.code k d in
+      let s = stands_in q.code j (Contains-get_or q.code k d lt) in
+      ⊎_elim (λ c. let k = copies_what plan c in subst P (sym k.3) (copies_so k.0 k.1 k.2)) (λ w. mains j (contains_of w.stands)) (was_main plan m.code j s.0 s.1)
+
+  copy_formed : (kind : CopyKind) (from to : Reg) → IsFormed (copied kind from to)
+  copy_formed kind from to = formed_op form.copies
+
+  one_distinct : (r : Reg) → AreDistinct (r ∷ [])
+  one_distinct r = λ i j d lt within. absurd (none i j lt within)
+    where
+      none : (i j : ℕ) → i < j → j < length (r ∷ []) → ⊥
+      none i j x y = omega (arith, x, y)
+
+  pub number_is : (r k : Reg) → IsRegister q r → IsRegister q k → r.number ≡ k.number → r ≡ k
+  number_is r k i j e =
+      let w = was_register m plan formed placed is r i in
+      let v = was_register m plan formed placed is k j in
+      by w.register v.register w.among v.among w.which v.which
+    where
+      by : (w v : Reg) → IsRegister m w → IsRegister m v → Which m plan formed placed is w r → Which m plan formed placed is v k → r ≡ k
+      by w v a b (own x) (own y) =
+          sym x ∙ formed.numbers w v a b (ap (λ (r : Reg). r.number) x ∙ e ∙ sym (ap (λ (r : Reg). r.number) y)) ∙ y
+      by w v a b (own x) (slotted y) =
+          absurd (is.fresh w a v.number (ap (λ (r : Reg). r.number) y ∙ sym e ∙ sym (ap (λ (r : Reg). r.number) x)))
+      by w v a b (slotted x) (own y) =
+          absurd (is.fresh v b w.number (ap (λ (r : Reg). r.number) x ∙ e ∙ sym (ap (λ (r : Reg). r.number) y)))
+      by w v a b (slotted x) (slotted y) =
+          sym x
+          ∙ ap (in_slot plan)
+          (formed.numbers w v a b
+          (slots_apart m plan formed placed is w.number v.number
+          (ap (λ (r : Reg). r.number) x ∙ e ∙ sym (ap (λ (r : Reg). r.number) y))))
+          ∙ y
+
+  -- A well-formed function is so with its spills and reloads.
+  pub spilled_formed : WellFormed (spilled plan m)
+  spilled_formed =
+      record {
+        numbers = number_is;
+        params = formed.params;
+        params_distinct = formed.params_distinct;
+        instrs = each_in IsFormed copy_formed (λ i c. of_each IsFormed m.code i formed.instrs c);
+        distinct = each_in (λ (i : Instr). AreDistinct i.results) (λ kind from to. one_distinct to)
+            (λ i c. of_each (λ (i : Instr). AreDistinct i.results) m.code i formed.distinct c);
+        returns = λ i c e.
+            formed.returns i
+            (named_in m plan formed placed is (λ h. h ≡ mach.Op (op.Leaving leaving.Return)) (λ kind from to h. no_return kind from to h)
+            m.code i c e) e;
+        labels_once = subst (λ ls. AllPairs (λ k l. k ≢ l) ls) (sym (same_labels plan m.code)) formed.labels_once;
+        labels_below = subst (λ ls. All (λ l. l < m.labels) ls) (sym (same_labels plan m.code)) formed.labels_below;
+        labels = labels_stand;
+        nested = nested;
+        cases = cases;
+      }
+    where
+      no_return : (kind : CopyKind) (from to : Reg) → (copied kind from to).op ≡ mach.Op (op.Leaving leaving.Return) → ⊥
+      no_return kind from to e = cc

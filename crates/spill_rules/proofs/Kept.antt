@@ -1,0 +1,1073 @@
+-- A function with spills and reloads does what it did: registers that are live hold what they held, and so do their slots where
+-- each write that comes there was stored.
+use Rattle.std.proofs.Common.{◌≡◌, ℕ, Bool, true, false, cond, inl, inr, ◌⊎◌, ⊎_elim, List, [], ◌∷◌, ◌++◌, length, Option, Some, None, refl, sym, ap, ◌∙◌, subst}
+use Rattle.std.proofs.lemmas.Bool.{cases_Bool, eq-eqb, eqb-true}
+use Rattle.std.specs.List.{Contains}
+use Rattle.std.specs.Prelude.{nat_eq}
+use Rattle.bs_words.specs.Fits.{fits, type_of_comp}
+use Rattle.bs_words.specs.declared.types.Loc.TheVariants as loc
+use Rattle.bs_words.specs.declared.values.Value.{Value}
+use Rattle.mach_ir.specs.Acts.{Around, Target, On, At, Landing, AtLabel, AtHandler, Act, Goes, Pushes, Jumps, Unwinds, Asks, Replaces, Ends, EndsRaising, Stuck}
+use Rattle.mach_ir.specs.Formed.{IsFormed, WellFormed}
+use Rattle.mach_ir.specs.Placed.{WellPlaced}
+use Rattle.mach_ir.specs.Runs.{Place, Continues, entered}
+use Rattle.mach_ir.specs.Meaning.{Held, File, put, put_if, put_all, clear, killed, written, with_held, values, past_frame, unless_addr, passes_frame, mach_act, after_label, at_handler, code_at, tries_at, landing_code, wrote, on_values, step}
+use Rattle.mach_ir.specs.Walks.{Among, first, later, OneOf, this, targets, may_raise, goes, raises, Live, read, on, aside, LiveAcross, across_step, across_raise, IsRegister, is_param, is_colour, is_in_code, InCode, in_args, in_results, further, Stands, Writes}
+use Rattle.mach_ir.specs.Keeps.{ValsWritten, OriginsAgree, wrote_unless, Does}
+use Rattle.mach_ir.specs.declared.op.CopyKind.{CopyKind}
+use Rattle.mach_ir.specs.declared.op.CopyKind.TheVariants as copy
+use Rattle.mach_ir.specs.declared.mach.MachOp.{MachOp}
+use Rattle.mach_ir.specs.declared.reg.Reg.{Reg}
+use Rattle.mach_ir.specs.declared.mach.Instr.{Instr}
+use Rattle.mach_ir.specs.declared.mach.Mach.{Mach}
+use Rattle.mach_laws.specs.Expand.{Ending, expand}
+use Rattle.mach_laws.proofs.General as general
+use Rattle.mach_laws.proofs.General.{at}
+use Rattle.mach_laws.proofs.Leads.{IsTry, is_try, MayLand, lands_at_label, lands_at_handler, Within, goes_in, pushes_in, jumps_in, unwinds_in, asks_in, within}
+use Rattle.mach_laws.proofs.Level as level
+use Rattle.mach_laws.proofs.Places.{ending_next, ending_label, ending_land, ending_from_handler, label_expand, handler_expand}
+use Rattle.mach_laws.proofs.Simulate.{Agrees}
+use Rattle.mach_laws.proofs.Walking.{none_in, first_in, later_in, in_cons}
+use Rattle.places_rules.proofs.Walked.{left_among, right_among, split_among, stands_of}
+use Rattle.places_rules.proofs.Raised.{IsRaised, Told, told_jump, told_unwind, told_ask, IsSilent, told, label_silent, try_silent}
+use Rattle.split_rules.specs.Renamed.{all_numbered}
+use Rattle.split_rules.specs.Writes.{from_entry, past, past_raise}
+use Rattle.liveness.proofs.Bounds.{killed_is_colour}
+use Rattle.split_rules.proofs.Formed.{contains_of, of_each}
+use Rattle.split_rules.proofs.Kept.{PutsToo, put_twice, cleared, not_cleared, among_or_not}
+use Rattle.split_rules.proofs.Text.{number_among, number_in, args_in, results_in}
+use Rattle.spill_rules.specs.Spilled.{Plan, in_slot, copied, reload, spill, reloads_of, spills_of, operands_of, results_of, spilled_instr, spilled, IsPlan}
+use Rattle.spill_rules.proofs.Live.{IsStored, WasLive, itself, stored, Stage, Reading, Storing, Laid, main, laid_results, laid_operands, laid_of, is_result, Says, NotThere, stored_unwritten, laid_tries, live_back, live_before, WasAcross, itself_across, stored_across, across_back}
+use Rattle.spill_rules.proofs.Text.{keeps_marks, all_results, operand_in}
+
+differ : (b : Bool) → b ≡ true → b ≡ false → ⊥
+differ b e h = cc
+
+no_held : (u : Held) → None ≡ Some u → ⊥
+no_held u e = cc
+
+held_same : (x y : Held) → Some x ≡ Some y → x ≡ y
+held_same x y e = cc
+
+none_some : (d : File) → None ≡ Some d → ⊥
+none_some d e = cc
+
+some_same : (c d : File) → Some c ≡ Some d → c ≡ d
+some_same c d e = cc
+
+past_same : (t : Bool) (a b : File) (n x : ℕ) → a n ≡ b x → past_frame t a n ≡ past_frame t b x
+past_same false a b n x e = e
+past_same true a b n x e = ap unless_addr e
+
+-- ---- one register written
+
+put_here : (r : Reg) (v : Value) (f : File) (n : ℕ) → r.number ≡ n → put r v f n ≡ Some (record { comp = r.comp; value = v })
+put_here r v f n e = ap (λ b. cond b (Some (record { comp = r.comp; value = v })) (f n)) (eq-eqb r.number n e)
+
+put_other : (r : Reg) (v : Value) (f : File) (n : ℕ) → (r.number ≡ n → ⊥) → put r v f n ≡ f n
+put_other r v f n h = test (nat_eq r.number n) refl
+  where
+    test : (b : Bool) → nat_eq r.number n ≡ b → cond b (Some (record { comp = r.comp; value = v })) (f n) ≡ f n
+    test true e = absurd (h (eqb-true r.number n e))
+    test false e = refl
+
+as_numbered : (rs : List Reg) → all_numbered (λ n. n) rs ≡ rs
+as_numbered [] = refl
+as_numbered (r ∷ rs) = ap (λ xs. r ∷ xs) (as_numbered rs)
+
+-- ---- values that fit
+
+-- what is put fits
+module _ (end : ℕ) where
+  abbrev IsFitting : Held → Type 0
+  IsFitting h = fits end (type_of_comp h.comp) h.value ≡ true
+
+  abbrev FitsIn : Reg → Option Held → Type 0
+  FitsIn r o = (h : Held) → o ≡ Some h → (h.comp ≡ r.comp) × IsFitting h
+
+  put_fits : (rs : List Reg) (vs : List Value) (f d : File) → put_all end rs vs f ≡ Some d → (r : Reg) →
+      ((q : Reg) → Contains rs q → q.number ≡ r.number → q ≡ r) → FitsIn r (f r.number) → FitsIn r (d r.number)
+  put_fits [] [] f d e r one h = subst (λ (x : File). FitsIn r (x r.number)) (some_same f d e) h
+  put_fits [] (v ∷ vs) f d e r one h = absurd (none_some d e)
+  put_fits (q ∷ rs) [] f d e r one h = absurd (none_some d e)
+  put_fits (q ∷ rs) (v ∷ vs) f d e r one h =
+      by (fits end (type_of_comp q.comp) v) (put_all end rs vs f) refl refl e
+      (λ c k. put_fits rs vs f c k r (λ j z. one j (later_in q j rs z)) h)
+    where
+      at_one : (c : File) → FitsIn r (c r.number) → fits end (type_of_comp q.comp) v ≡ true → FitsIn r (put q v c r.number)
+      at_one c old t =
+          ⊎_elim
+          (λ s.
+          let same : q ≡ r = one q (first_in q rs) (eqb-true q.number r.number s) in
+          λ (h : Held) (g : put q v c r.number ≡ Some h).
+          let is : record { comp = q.comp; value = v } ≡ h =
+          held_same (record { comp = q.comp; value = v }) h (sym (put_here q v c r.number (eqb-true q.number r.number s)) ∙ g) in
+          (ap (λ (x : Held). x.comp) (sym is) ∙ ap (λ (x : Reg). x.comp) same, subst IsFitting is t))
+          (λ s. subst (FitsIn r) (sym (put_other q v c r.number (λ z. differ (nat_eq q.number r.number) (eq-eqb q.number r.number z) s))) old)
+          (cases_Bool (nat_eq q.number r.number))
+
+      by : (t : Bool) (o : Option File) → fits end (type_of_comp q.comp) v ≡ t → put_all end rs vs f ≡ o → put_if t q v o ≡ Some d →
+          ((c : File) → put_all end rs vs f ≡ Some c → FitsIn r (c r.number)) → FitsIn r (d r.number)
+      by false o t e k again = absurd (none_some d k)
+      by true None t e k again = absurd (none_some d k)
+      by true (Some c) t e k again =
+          subst (λ (x : File). FitsIn r (x r.number)) (some_same (put q v c) d k) (at_one c (again c e) t)
+
+  -- what is written holds something
+  put_holds : (rs : List Reg) (vs : List Value) (f d : File) → put_all end rs vs f ≡ Some d → (n : ℕ) → Among n rs → (h : Held) × (d n ≡ Some h)
+  put_holds [] vs f d e n a = elim a [ ]
+  put_holds (q ∷ rs) [] f d e n a = absurd (none_some d e)
+  put_holds (q ∷ rs) (v ∷ vs) f d e n a =
+      by (fits end (type_of_comp q.comp) v) (put_all end rs vs f) refl e (λ c k z. put_holds rs vs f c k n z)
+    where
+      rest_of : (q.number ≡ n → ⊥) → Among n (q ∷ rs) → Among n rs
+      rest_of h (first e) = absurd (h e)
+      rest_of h (later a) = a
+
+      at_one : (c : File) → (Among n rs → (h : Held) × (c n ≡ Some h)) → (h : Held) × (put q v c n ≡ Some h)
+      at_one c old =
+          ⊎_elim (λ s. (record { comp = q.comp; value = v }, put_here q v c n (eqb-true q.number n s)))
+          (λ s.
+          let other = λ (z : q.number ≡ n). differ (nat_eq q.number n) (eq-eqb q.number n z) s in
+          let h = old (rest_of other a) in (h.0, put_other q v c n other ∙ h.1))
+          (cases_Bool (nat_eq q.number n))
+
+      by : (t : Bool) (o : Option File) → put_all end rs vs f ≡ o → put_if t q v o ≡ Some d →
+          ((c : File) → put_all end rs vs f ≡ Some c → Among n rs → (h : Held) × (c n ≡ Some h)) → (h : Held) × (d n ≡ Some h)
+      by false o e k again = absurd (none_some d k)
+      by true None e k again = absurd (none_some d k)
+      by true (Some c) e k again =
+          subst (λ (x : File). (h : Held) × (x n ≡ Some h)) (some_same (put q v c) d k) (at_one c (again c e))
+
+  clear_fits : (ks : List Reg) (f : File) (r : Reg) → FitsIn r (f r.number) → FitsIn r (clear ks f r.number)
+  clear_fits [] f r h = h
+  clear_fits (k ∷ ks) f r h = by (nat_eq k.number r.number) (clear_fits ks f r h)
+    where
+      by : (b : Bool) → FitsIn r (clear ks f r.number) → FitsIn r (cond b None (clear ks f r.number))
+      by true old = λ h e. absurd (no_held h e)
+      by false old = old
+
+  frame_fits : (t : Bool) (f : File) (r : Reg) → FitsIn r (f r.number) → FitsIn r (past_frame t f r.number)
+  frame_fits false f r h = h
+  frame_fits true f r h = by (f r.number) h
+    where
+      kept : (b : Bool) (u : Held) → FitsIn r (Some u) → FitsIn r (cond b None (Some u))
+      kept true u h = λ k e. absurd (no_held k e)
+      kept false u h = h
+
+      by : (o : Option Held) → FitsIn r o → FitsIn r (unless_addr o)
+      by None h = h
+      by (Some u) h = kept _ u h
+
+module _ (m : Mach) (plan : Plan) (formed : WellFormed m) (placed : WellPlaced m) (is : IsPlan m plan) where
+  abbrev q : Mach
+  q = spilled plan m
+
+  abbrev f : ℕ → Instr → List Instr
+  f = spilled_instr plan
+
+  abbrev Was : ℕ → List Instr → Type 0
+  Was = WasLive m plan formed placed is
+
+  abbrev Lay : Stage m plan formed placed is → List Instr → Type 0
+  Lay = Laid m plan formed placed is
+
+  abbrev Stored : ℕ → List Instr → Type 0
+  Stored = IsStored m plan formed placed is
+
+  form_of : {i : Instr} {next : List Instr} → Ending (i ∷ next) m.code → IsFormed i
+  form_of {i} e = of_each IsFormed m.code i formed.instrs (contains_of (stands_of e))
+
+  -- ---- registers
+
+  -- what is live is a register
+  pub live_register : {n : ℕ} {rest : List Instr} → Live m n rest → Ending rest m.code → (r : Reg) × IsRegister m r × (r.number ≡ n)
+  live_register (read {i = i} a) e = let r = number_among i.args a in (r.0, is_in_code (args_in (stands_of e) r.1), r.2)
+  live_register (on w (goes On o) v) e = live_register v (ending_next e)
+  live_register (on w (goes (At l) o) v) e = live_register v (ending_label l m.code)
+  live_register (aside (raises {l = l} b r) v) e = live_register v (ending_from_handler l m.code)
+
+  -- what a register of the second was
+  pub data Which (w r : Reg) : Type 0 where
+    own : w ≡ r → Which w r
+    slotted : in_slot plan w ≡ r → Which w r
+
+  pub record WasRegister (r : Reg) : Type 0 where
+    pub register : Reg
+    pub among : IsRegister m register
+    pub which : Which register r
+    -- only an open register has a slot
+    pub unset : in_slot plan register ≡ r → register.loc ≡ loc.Unset
+
+  -- a register of the first is no slot of another
+  not_its_slot : (r : Reg) → IsRegister m r → in_slot plan r ≡ r → r.loc ≡ loc.Unset
+  not_its_slot r i e = absurd (is.fresh r i r.number (ap (λ (x : Reg). x.number) e))
+
+  in_append : {r : Reg} (xs ys : List Instr) → InCode r (xs ++ ys) → InCode r xs ⊎ InCode r ys
+  in_append [] ys c = inr c
+  in_append (x ∷ xs) ys (in_args c) = inl (in_args c)
+  in_append (x ∷ xs) ys (in_results c) = inl (in_results c)
+  in_append (x ∷ xs) ys (further c) = ⊎_elim (λ h. inl (further h)) inr (in_append xs ys c)
+
+  of_one : (x r : Reg) → Contains (x ∷ []) r → x ≡ r
+  of_one x r c = ⊎_elim (λ e. e) (λ d. absurd (none_in r d)) (in_cons x r [] c)
+
+  in_reloads : (k : ℕ) (rs : List Reg) (r : Reg) → ((w : Reg) → Contains rs w → IsRegister m w) → InCode r (reloads_of plan k rs) → WasRegister r
+  in_reloads k [] r known c = elim c [ ]
+  in_reloads k (w ∷ rs) r known c =
+      by (plan.reloads k w.number) refl (λ h. in_reloads k rs r (λ x d. known x (later_in w x rs d)) h) c
+    where
+      one : plan.reloads k w.number ≡ true → InCode r (reload plan w ∷ reloads_of plan k rs) →
+          (InCode r (reloads_of plan k rs) → WasRegister r) → WasRegister r
+      one t (in_args d) ih =
+          record {
+            register = w;
+            among = known w (first_in w rs);
+            which = slotted (of_one (in_slot plan w) r d);
+            unset = λ e. is.reloads_open w (known w (first_in w rs)) k t;
+          }
+      one t (in_results d) ih =
+          record {
+            register = w;
+            among = known w (first_in w rs);
+            which = own (of_one w r d);
+            unset = λ e. is.reloads_open w (known w (first_in w rs)) k t;
+          }
+      one t (further d) ih = ih d
+
+      by : (b : Bool) → plan.reloads k w.number ≡ b → (InCode r (reloads_of plan k rs) → WasRegister r) →
+          InCode r (cond b (reload plan w ∷ reloads_of plan k rs) (reloads_of plan k rs)) → WasRegister r
+      by true t ih c = one t c ih
+      by false t ih c = ih c
+
+  in_spills : (k : ℕ) (rs : List Reg) (r : Reg) → ((w : Reg) → Contains rs w → IsRegister m w) → InCode r (spills_of plan k rs) → WasRegister r
+  in_spills k [] r known c = elim c [ ]
+  in_spills k (w ∷ rs) r known c =
+      by (plan.spills k w.number) refl (λ h. in_spills k rs r (λ x d. known x (later_in w x rs d)) h) c
+    where
+      one : plan.spills k w.number ≡ true → InCode r (spill plan w ∷ spills_of plan k rs) →
+          (InCode r (spills_of plan k rs) → WasRegister r) → WasRegister r
+      one t (in_args d) ih =
+          record {
+            register = w;
+            among = known w (first_in w rs);
+            which = own (of_one w r d);
+            unset = λ e. is.spills_open w (known w (first_in w rs)) k t;
+          }
+      one t (in_results d) ih =
+          record {
+            register = w;
+            among = known w (first_in w rs);
+            which = slotted (of_one (in_slot plan w) r d);
+            unset = λ e. is.spills_open w (known w (first_in w rs)) k t;
+          }
+      one t (further d) ih = ih d
+
+      by : (b : Bool) → plan.spills k w.number ≡ b → (InCode r (spills_of plan k rs) → WasRegister r) →
+          InCode r (cond b (spill plan w ∷ spills_of plan k rs) (spills_of plan k rs)) → WasRegister r
+      by true t ih c = one t c ih
+      by false t ih c = ih c
+
+  cond_in : (b : Bool) (rs : List Reg) (r : Reg) → Contains (cond b rs []) r → Contains rs r
+  cond_in true rs r c = c
+  cond_in false rs r c = absurd (none_in r c)
+
+  was_in : (code : List Instr) (r : Reg) → ((w : Reg) → InCode w code → IsRegister m w) → InCode r (expand f code) → WasRegister r
+  was_in [] r known c = elim c [ ]
+  was_in (i ∷ next) r known c =
+      ⊎_elim
+      (λ h.
+      ⊎_elim (λ g. in_reloads (length next) (operands_of i) r (λ w d. known w (in_args (operand_in i w d))) g)
+      (λ g. of_main g)
+      (in_append (reloads_of plan (length next) (operands_of i)) (i ∷ spills_of plan (length next) (results_of i)) h))
+      (λ h. was_in next r (λ w d. known w (further d)) h) (in_append (f (length next) i) (expand f next) c)
+    where
+      of_main : InCode r (i ∷ spills_of plan (length next) (results_of i)) → WasRegister r
+      of_main (in_args d) = record { register = r; among = known r (in_args d); which = own refl; unset = not_its_slot r (known r (in_args d)) }
+      of_main (in_results d) = record { register = r; among = known r (in_results d); which = own refl; unset = not_its_slot r (known r (in_results d)) }
+      of_main (further d) = in_spills (length next) (results_of i) r (λ w z. known w (in_results (cond_in _ i.results w z))) d
+
+  pub was_register : (r : Reg) → IsRegister q r → WasRegister r
+  was_register r (is_param c) = record { register = r; among = is_param c; which = own refl; unset = not_its_slot r (is_param c) }
+  was_register r (is_colour c) = record { register = r; among = is_colour c; which = own refl; unset = not_its_slot r (is_colour c) }
+  was_register r (is_in_code c) = was_in m.code r (λ w d. is_in_code d) c
+
+  pub origin_of : {w r : Reg} → Which w r → w.origin ≡ r.origin
+  origin_of (own e) = ap (λ (x : Reg). x.origin) e
+  origin_of (slotted e) = ap (λ (x : Reg). x.origin) e
+
+  pub comp_of : {w r : Reg} → Which w r → w.comp ≡ r.comp
+  comp_of (own e) = ap (λ (x : Reg). x.comp) e
+  comp_of (slotted e) = ap (λ (x : Reg). x.comp) e
+
+  pub slots_apart : (n k : ℕ) → plan.slot n ≡ plan.slot k → n ≡ k
+  slots_apart n k e = sym (is.slot_back n) ∙ ap is.back e ∙ is.slot_back k
+
+  -- ---- what registers hold
+
+  abbrev NotIn : ℕ → ℕ → List Reg → Type 0
+  NotIn = NotThere m plan formed placed is
+
+  -- a register of the second, from where it is live in the first
+  was_value : (rest : List Instr) → Ending rest m.code → (a b : File) (r : Reg) → ((n : ℕ) → Live m n rest → a n ≡ b n) →
+      ((n : ℕ) → plan.slot n ≡ r.number → Live m n rest → Stored n rest → a n ≡ b (plan.slot n)) → (w : Reg) → IsRegister m w →
+      Which w r → Was r.number rest → Live m w.number rest × (a w.number ≡ b r.number)
+  was_value rest ending a b r own_same slot_same w among (own e) (itself v) =
+      let n : w.number ≡ r.number = ap (λ (x : Reg). x.number) e in
+      (subst (λ n. Live m n rest) (sym n) v, ap a n ∙ own_same r.number v)
+  was_value rest ending a b r own_same slot_same w among (slotted e) (itself v) =
+      let u = live_register v ending in
+      absurd (is.fresh u.0 u.1 w.number (ap (λ (x : Reg). x.number) e ∙ sym u.2))
+  was_value rest ending a b r own_same slot_same w among (own e) (stored n s v k) =
+      absurd (is.fresh w among n (s ∙ sym (ap (λ (x : Reg). x.number) e)))
+  was_value rest ending a b r own_same slot_same w among (slotted e) (stored n s v k) =
+      let same : n ≡ w.number = slots_apart n w.number (s ∙ sym (ap (λ (x : Reg). x.number) e)) in
+      (subst (λ n. Live m n rest) same v, ap a (sym same) ∙ slot_same n s v k ∙ ap b s)
+
+  unless_among : (o : Option Value) (us : List Reg) (x : ℕ) → Among x (wrote_unless o us) → Among x us
+  unless_among None us x a = a
+  unless_among (Some v) us x a = elim a [ ]
+
+  head_same : {i j : Instr} (xs ys : List Instr) → i ∷ xs ≡ j ∷ ys → i ≡ j
+  head_same xs ys e = cc
+
+  tail_same : {i j : Instr} (xs ys : List Instr) → i ∷ xs ≡ j ∷ ys → xs ≡ ys
+  tail_same xs ys e = cc
+
+  is_code : q.code ≡ expand f m.code
+  is_code = refl
+
+  handlers_same : (tries : List ℕ) → at_handler q.code tries ≡ expand f (at_handler m.code tries)
+  handlers_same [] = refl
+  handlers_same (l ∷ tries) = handler_expand f (keeps_marks plan) l m.code
+
+  lands_same : (this_code that_code : List Instr) (to : Landing) → tries_at that_code ≡ tries_at this_code →
+      landing_code q.code that_code to ≡ expand f (landing_code m.code this_code to)
+  lands_same this_code that_code (AtLabel l) e = label_expand f (keeps_marks plan) l m.code
+  lands_same this_code that_code AtHandler e = ap (at_handler q.code) e ∙ handlers_same (tries_at this_code)
+
+  caught : {n : ℕ} {i : Instr} {next : List Instr} → may_raise i.op ≡ true → (tries : List ℕ) → tries_at (i ∷ next) ≡ tries →
+      Live m n (at_handler m.code tries) → Live m n (i ∷ next) × (Stored n (at_handler m.code tries) → Stored n (i ∷ next))
+  caught r [] e v = elim v [ ]
+  caught r (l ∷ tries) e v = (aside (raises r e) v, λ s from k. s from (past_raise k (raises r e)))
+
+  try_on : (g : MachOp) → IsTry g → OneOf On (targets g)
+  try_on g is_try = this
+
+  module _ (c : Place) where
+    abbrev limit : ℕ
+    limit = c.setting.end
+
+    record Holds (rest : List Instr) (a b : File) : Type 0 where
+      itself : (n : ℕ) → Live m n rest → a n ≡ b n
+      slots : (n : ℕ) → Live m n rest → Stored n rest → a n ≡ b (plan.slot n)
+      fit : (r : Reg) → IsRegister m r → FitsIn limit r (a r.number)
+      agree : (r k : Reg) → IsRegister m r → IsRegister m k → r.origin ≡ k.origin → Live m r.number rest → Live m k.number rest →
+          (x y : Held) → a r.number ≡ Some x → a k.number ≡ Some y → x.value ≡ y.value
+
+    -- ---- copies
+
+    copy_step : (kind : CopyKind) (from to : Reg) (zs : List Instr) (b : File) (y : Around) (h : Held) → b from.number ≡ Some h →
+        fits limit (type_of_comp to.comp) h.value ≡ true →
+        step c q (at (copied kind from to ∷ zs) b y) ≡ Continues (at zs (put to h.value b) y)
+    copy_step kind from to zs b y h e fit =
+        ap (λ o. on_values c q (copied kind from to) zs b y (with_held o (Some []))) e
+        ∙ ap (λ t. wrote zs y (put_if t to h.value (Some b))) fit
+
+    vals_copy : (kind : CopyKind) (from to : Reg) (zs : List Instr) (b : File) (y : Around) →
+        ValsWritten q (at (copied kind from to ∷ zs) b y)
+    vals_copy kind from to zs b y =
+        record {
+          written = λ j ys e frame r one val v none.
+              absurd
+              (differ (passes_frame j.op) frame
+              (ap (λ (i : Instr). passes_frame i.op) (sym (head_same zs ys e))));
+        }
+
+    -- ---- before an instruction
+
+    agree_reading : (i : Instr) (next ys : List Instr) (rs us : List Reg) (a b : File) (y : Around) → Ending (i ∷ next) m.code →
+        Lay (Reading i next rs) ys → Holds (i ∷ next) a b → ((x : ℕ) → Among x us → Among x i.args) → OriginsAgree q us (at ys b y)
+    agree_reading i next ys rs us a b y ending laid holds known =
+        record {
+          agree = λ r k ir ik origin l e h g s t.
+              let w = was_register r ir in
+              let v = was_register k ik in
+              let one = here r w l in
+              let two = here k v e in
+              holds.agree w.register v.register w.among v.among (origin_of w.which ∙ origin ∙ sym (origin_of v.which)) one.0 two.0 h g
+              (one.1 ∙ s) (two.1 ∙ t);
+        }
+      where
+        here : (r : Reg) (w : WasRegister r) → Live q r.number ys ⊎ Among r.number us →
+            Live m (w.register).number (i ∷ next) × (a (w.register).number ≡ b r.number)
+        here r w l =
+            was_value (i ∷ next) ending a b r holds.itself (λ n e v k. holds.slots n v k) w.register w.among w.which
+            (⊎_elim (λ v. live_back m plan formed placed is v (Reading i next rs) laid) (λ z. itself (read (known r.number z))) l)
+
+    module _ (Suit : Around → Around → Type 0) where
+      abbrev Round : List Instr → Around → Around → File → File → Type 0
+      Round = level.Level c m q f (keeps_marks plan) is_code Holds
+
+      abbrev Passes : Type 0 → Around → List Instr → List Instr → File → File → Type 0
+      Passes Given y xs next b d = general.Passes c m q f (keeps_marks plan) is_code Suit Round Given y xs next b d
+
+      record PassedBefore (i : Instr) (next : List Instr) (rs : List Reg) (tail : List Instr) (a b : File) (y : Around) : Type 0 where
+        file : File
+        passing : Passes (Unit {0}) y (reloads_of plan (length next) rs) tail b file
+        holds : Holds (i ∷ next) a file
+
+      before : (i : Instr) (next : List Instr) (a : File) (y : Around) → Ending (i ∷ next) m.code →
+          ((n : ℕ) → Among n i.args → (h : Held) × (a n ≡ Some h)) → (tail : List Instr) → Lay (Reading i next []) tail → (rs : List Reg) →
+          ((r : Reg) → Contains rs r → Contains i.args r) → (b : File) → Holds (i ∷ next) a b → PassedBefore i next rs tail a b y
+      before i next a y ending held tail laid [] known b holds =
+          record { file = b; passing = general.passed; holds = holds }
+      before i next a y ending held tail laid (r ∷ rs) known b holds =
+          by (plan.reloads (length next) r.number) refl
+          (λ b' h. before i next a y ending held tail laid rs (λ k z. known k (later_in r k rs z)) b' h)
+        where
+          among : Among r.number i.args
+          among = number_in r i.args (known r (first_in r rs))
+
+          is_reg : IsRegister m r
+          is_reg = is_in_code (args_in (stands_of ending) (known r (first_in r rs)))
+
+          h : Held
+          h = (held r.number among).0
+
+          fits_so : (h.comp ≡ r.comp) × (fits limit (type_of_comp h.comp) h.value ≡ true)
+          fits_so = holds.fit r is_reg h (held r.number among).1
+
+          as_put : a r.number ≡ Some (record { comp = r.comp; value = h.value })
+          as_put = (held r.number among).1 ∙ ap (λ t. Some (record { comp = t; value = h.value })) fits_so.0
+
+          b1 : File
+          b1 = put r h.value b
+
+          holds_on : Holds (i ∷ next) a b1
+          holds_on =
+              record {
+                itself = λ n v.
+                    ⊎_elim
+                    (λ e.
+                    let s = eqb-true r.number n e in ap a (sym s) ∙ as_put ∙ sym (put_here r h.value b n s))
+                    (λ e. holds.itself n v ∙ sym (put_other r h.value b n (λ z. differ (nat_eq r.number n) (eq-eqb r.number n z) e)))
+                    (cases_Bool (nat_eq r.number n));
+                slots = λ n v k.
+                    holds.slots n v k ∙ sym (put_other r h.value b (plan.slot n) (λ z. is.fresh r is_reg n (sym z)));
+                fit = holds.fit;
+                agree = holds.agree;
+              }
+
+          by : (t : Bool) → plan.reloads (length next) r.number ≡ t →
+              ((b' : File) → Holds (i ∷ next) a b' → PassedBefore i next rs tail a b' y) →
+              PassedBefore i next (r ∷ rs) tail a b y
+          by true t again =
+              let more = again b1 holds_on in
+              record {
+                file = more.file;
+                passing = subst
+                    (λ t. Passes (Unit {0}) y (cond t (reload plan r ∷ reloads_of plan (length next) rs) (reloads_of plan (length next) rs)) tail
+                    b more.file)
+                    (sym t)
+                    (general.passes
+                    (copy_step copy.Reload (in_slot plan r) r (reloads_of plan (length next) rs ++ tail) b y h
+                    (sym
+                    (holds.slots r.number (read among)
+                    (λ from k. is.stored i next from r.number (stands_of ending) among t k))
+                    ∙ (held r.number among).1)
+                    (subst (λ t. fits limit (type_of_comp t) h.value ≡ true) fits_so.0 fits_so.1))
+                    (vals_copy copy.Reload (in_slot plan r) r (reloads_of plan (length next) rs ++ tail) b y)
+                    (λ u.
+                    agree_reading i next (reloads_of plan (length next) rs ++ tail) rs (wrote_unless y.raised (r ∷ [])) a b1 y ending
+                    (laid_operands m plan formed placed is i next rs tail ending (λ k z. known k (later_in r k rs z)) laid) holds_on
+                    (λ x z. of_these x (unless_among y.raised (r ∷ []) x z)))
+                    more.passing);
+                holds = more.holds;
+              }
+            where
+              of_these : (x : ℕ) → Among x (r ∷ []) → Among x i.args
+              of_these x (first e) = subst (λ n. Among n i.args) e among
+              of_these x (later z) = elim z [ ]
+          by false t again =
+              let more = again b holds in
+              record {
+                file = more.file;
+                passing = subst
+                    (λ t. Passes (Unit {0}) y (cond t (reload plan r ∷ reloads_of plan (length next) rs) (reloads_of plan (length next) rs)) tail
+                    b more.file)
+                    (sym t) more.passing;
+                holds = more.holds;
+              }
+
+      -- ---- after an instruction
+
+      -- what the second holds once these results are left to be stored
+      record HoldsAfter (next : List Instr) (rs : List Reg) (d e : File) : Type 0 where
+        itself : (n : ℕ) → Live m n next → d n ≡ e n
+        slots : (n : ℕ) → Live m n next → Stored n next → NotIn (plan.slot n) (length next) rs → d n ≡ e (plan.slot n)
+
+      -- where a register of the second was just written
+      abbrev JustWritten : Instr → List Instr → File → File → Around → List Reg → Type 0
+      JustWritten i next d e y us =
+          (r : Reg) (w : WasRegister r) (u : Held) → Among r.number us → e r.number ≡ Some u →
+          (Live m (w.register).number next ⊎ Among (w.register).number (wrote_unless y.raised (written m i)))
+          × (d (w.register).number ≡ e r.number)
+
+      agree_storing : (i : Instr) (next ys : List Instr) (rs us : List Reg) (d e : File) (y : Around) → Ending (i ∷ next) m.code →
+          Lay (Storing i next rs) ys → HoldsAfter next rs d e → Agrees m (written m i) (at next d y) → JustWritten i next d e y us →
+          OriginsAgree q us (at ys e y)
+      agree_storing i next ys rs us d e y ending laid holds agreed just =
+          record {
+            agree = λ r k ir ik origin l z h g s t.
+                let w = was_register r ir in
+                let v = was_register k ik in
+                let one = here r w h l s in
+                let two = here k v g z t in
+                agreed.agree w.register v.register w.among v.among (origin_of w.which ∙ origin ∙ sym (origin_of v.which)) one.0 two.0 h g
+                (one.1 ∙ s) (two.1 ∙ t);
+          }
+        where
+          of_live : (r : Reg) (w : WasRegister r) → Says m plan formed placed is r.number (Storing i next rs) →
+              Live m (w.register).number next × (d (w.register).number ≡ e r.number)
+          of_live r w (inl (is_result k z0 spilt n)) =
+              was_value next (ending_next ending) d e r holds.itself
+              (λ j s v z.
+              absurd
+              (is.fresh k (is_in_code (results_in (stands_of ending) z0)) j (s ∙ sym n)))
+              w.register w.among w.which
+              (itself (subst (λ n. Live m n next) n (is.useful i next k (stands_of ending) z0 spilt)))
+          of_live r w (inr g) =
+              was_value next (ending_next ending) d e r holds.itself
+              (λ j s v z. holds.slots j v z (subst (λ x. NotIn x (length next) rs) (sym s) g.1)) w.register w.among w.which g.0
+
+          here : (r : Reg) (w : WasRegister r) (u : Held) → Live q r.number ys ⊎ Among r.number us → e r.number ≡ Some u →
+              (Live m (w.register).number next ⊎ Among (w.register).number (wrote_unless y.raised (written m i)))
+              × (d (w.register).number ≡ e r.number)
+          here r w u (inl v) s =
+              let g = of_live r w (live_back m plan formed placed is v (Storing i next rs) laid) in (inl g.0, g.1)
+          here r w u (inr z) s = just r w u z s
+
+      record PassedAfter (i : Instr) (next : List Instr) (rs : List Reg) (d e : File) (y : Around) : Type 0 where
+        file : File
+        passing : Passes (Agrees m (written m i) (at next d y)) y (spills_of plan (length next) rs) (expand f next) e file
+        holds : HoldsAfter next [] d file
+
+      after : (i : Instr) (next : List Instr) (d : File) (y : Around) → Ending (i ∷ next) m.code →
+          ((n : ℕ) → Among n i.results → (h : Held) × (d n ≡ Some h)) → ((r : Reg) → IsRegister m r → FitsIn limit r (d r.number)) →
+          (rs : List Reg) → ((r : Reg) → Contains rs r → Contains i.results r) → (e : File) → HoldsAfter next rs d e →
+          PassedAfter i next rs d e y
+      after i next d y ending held fit [] known e holds =
+          record { file = e; passing = general.passed; holds = holds }
+      after i next d y ending held fit (r ∷ rs) known e holds =
+          by (plan.spills (length next) r.number) refl
+          (λ e' h. after i next d y ending held fit rs (λ k z. known k (later_in r k rs z)) e' h)
+        where
+          is_reg : IsRegister m r
+          is_reg = is_in_code (results_in (stands_of ending) (known r (first_in r rs)))
+
+          h : Held
+          h = (held r.number (number_in r i.results (known r (first_in r rs)))).0
+
+          holds_h : d r.number ≡ Some h
+          holds_h = (held r.number (number_in r i.results (known r (first_in r rs)))).1
+
+          fits_so : (h.comp ≡ r.comp) × (fits limit (type_of_comp h.comp) h.value ≡ true)
+          fits_so = fit r is_reg h holds_h
+
+          as_put : d r.number ≡ Some (record { comp = r.comp; value = h.value })
+          as_put = holds_h ∙ ap (λ t. Some (record { comp = t; value = h.value })) fits_so.0
+
+          e1 : File
+          e1 = put (in_slot plan r) h.value e
+
+          not_in_more : (x : ℕ) → (plan.slot r.number ≡ x → ⊥) → NotIn x (length next) rs → NotIn x (length next) (r ∷ rs)
+          not_in_more x g n = λ k z s t.
+              ⊎_elim (λ a. g (ap (λ (r : Reg). plan.slot r.number) a ∙ t)) (λ z. n k z s t) (in_cons r k rs z)
+
+          live_not_slot : (n : ℕ) → Live m n next → plan.slot r.number ≡ n → ⊥
+          live_not_slot n v s =
+              let u = live_register v (ending_next ending) in is.fresh u.0 u.1 r.number (s ∙ sym u.2)
+
+          holds_on : HoldsAfter next rs d e1
+          holds_on =
+              record {
+                itself = λ n v. holds.itself n v ∙ sym (put_other (in_slot plan r) h.value e n (live_not_slot n v));
+                slots = λ n v k free.
+                    ⊎_elim
+                    (λ s.
+                    let same : plan.slot r.number ≡ plan.slot n = eqb-true (plan.slot r.number) (plan.slot n) s in
+                    ap d (sym (slots_apart r.number n same)) ∙ as_put ∙ sym (put_here (in_slot plan r) h.value e (plan.slot n) same))
+                    (λ s.
+                    let other = λ (z : plan.slot r.number ≡ plan.slot n).
+                    differ (nat_eq (plan.slot r.number) (plan.slot n)) (eq-eqb (plan.slot r.number) (plan.slot n) z) s in
+                    holds.slots n v k (not_in_more (plan.slot n) other free)
+                    ∙ sym (put_other (in_slot plan r) h.value e (plan.slot n) other))
+                    (cases_Bool (nat_eq (plan.slot r.number) (plan.slot n)));
+              }
+
+          just : plan.spills (length next) r.number ≡ true →
+              JustWritten i next d e1 y (wrote_unless y.raised (in_slot plan r ∷ []))
+          just t k w u z s = by (w.which) (of_slot (unless_among y.raised (in_slot plan r ∷ []) k.number z))
+            where
+              of_slot : Among k.number (in_slot plan r ∷ []) → plan.slot r.number ≡ k.number
+              of_slot (first e) = e
+              of_slot (later z) = elim z [ ]
+
+              by : Which w.register k → plan.slot r.number ≡ k.number →
+                  (Live m (w.register).number next ⊎ Among (w.register).number (wrote_unless y.raised (written m i)))
+                  × (d (w.register).number ≡ e1 k.number)
+              by (own a) n = absurd (is.fresh w.register w.among r.number (n ∙ sym (ap (λ (x : Reg). x.number) a)))
+              by (slotted a) n =
+                  let same : r.number ≡ w.register.number =
+                  slots_apart r.number w.register.number (n ∙ sym (ap (λ (x : Reg). x.number) a)) in (
+                    inl (subst (λ n. Live m n next) same (is.useful i next r (stands_of ending) (known r (first_in r rs)) t)),
+                    ap d (sym same) ∙ as_put ∙ sym (put_here (in_slot plan r) h.value e k.number n),
+                  )
+
+          by : (t : Bool) → plan.spills (length next) r.number ≡ t →
+              ((e' : File) → HoldsAfter next rs d e' → PassedAfter i next rs d e' y) → PassedAfter i next (r ∷ rs) d e y
+          by true t again =
+              let more = again e1 holds_on in
+              record {
+                file = more.file;
+                passing = subst
+                    (λ t. Passes (Agrees m (written m i) (at next d y)) y
+                    (cond t (spill plan r ∷ spills_of plan (length next) rs) (spills_of plan (length next) rs)) (expand f next) e more.file)
+                    (sym t)
+                    (general.passes
+                    (copy_step copy.Spill r (in_slot plan r) (spills_of plan (length next) rs ++ expand f next) e y h
+                    (sym (holds.itself r.number (is.useful i next r (stands_of ending) (known r (first_in r rs)) t)) ∙ holds_h)
+                    (subst (λ t. fits limit (type_of_comp t) h.value ≡ true) fits_so.0 fits_so.1))
+                    (vals_copy copy.Spill r (in_slot plan r) (spills_of plan (length next) rs ++ expand f next) e y)
+                    (λ agreed.
+                    agree_storing i next (spills_of plan (length next) rs ++ expand f next) rs
+                    (wrote_unless y.raised (in_slot plan r ∷ [])) d e1 y ending
+                    (laid_results m plan formed placed is i next rs (expand f next) (λ k z. known k (later_in r k rs z))
+                    (laid_of m plan formed placed is next (ending_next ending)))
+                    holds_on agreed (just t))
+                    more.passing);
+                holds = more.holds;
+              }
+          by false t again =
+              let more = again e
+              (record {
+                itself = holds.itself;
+                slots = λ n v k free. holds.slots n v k
+                    (λ j z s g.
+                    ⊎_elim
+                    (λ a. differ (plan.spills (length next) r.number) (subst (λ (j : Reg). plan.spills (length next) j.number ≡ true) (sym a) s) t)
+                    (λ z. free j z s g) (in_cons r j rs z));
+              }) in
+              record {
+                file = more.file;
+                passing = subst
+                    (λ t. Passes (Agrees m (written m i) (at next d y)) y
+                    (cond t (spill plan r ∷ spills_of plan (length next) rs) (spills_of plan (length next) rs)) (expand f next) e more.file)
+                    (sym t) more.passing;
+                holds = more.holds;
+              }
+
+      -- ---- each instruction
+
+      module _ (i : Instr) (next : List Instr) (a b : File) (ending : Ending (i ∷ next) m.code) (holds : Holds (i ∷ next) a b) where
+        abbrev a' : File
+        a' = past_frame (passes_frame i.op) a
+
+        abbrev b' : File
+        b' = past_frame (passes_frame i.op) b
+
+        abbrev post : List Instr
+        post = spills_of plan (length next) (results_of i)
+
+        stands : Stands i next m.code
+        stands = stands_of ending
+
+        still : (n : ℕ) → Live m n (i ∷ next) → a' n ≡ b' n
+        still n v = past_same (passes_frame i.op) a b n n (holds.itself n v)
+
+        still_slot : (n : ℕ) → Live m n (i ∷ next) → Stored n (i ∷ next) → a' n ≡ b' (plan.slot n)
+        still_slot n v k = past_same (passes_frame i.op) a b n (plan.slot n) (holds.slots n v k)
+
+        laid_main : Lay (Storing i next (results_of i)) (post ++ expand f next)
+        laid_main =
+            laid_results m plan formed placed is i next (results_of i) (expand f next) (λ r z. cond_in _ i.results r z)
+            (laid_of m plan formed placed is next (ending_next ending))
+
+        -- a slot is no register of the first
+        not_slot : (n x : ℕ) (rs : List Reg) → ((r : Reg) → Contains rs r → IsRegister m r) → Among (plan.slot n) rs → ⊥
+        not_slot n x rs known z = let r = number_among rs z in is.fresh r.0 (known r.0 r.1) n (sym r.2)
+
+        killed_known : (r : Reg) → Contains (killed m i) r → IsRegister m r
+        killed_known r z = is_colour (killed_is_colour m i r z)
+
+        abbrev Puts : List Value → File → Type 0
+        Puts vs d = PutsToo (λ n. n) (λ n. n) limit i.results vs (clear (killed m i) a') (clear (killed m i) b') d
+
+        not_numbered : (vs : List Value) (d : File) (p : Puts vs d) (x : ℕ) → (Among x i.results → ⊥) → p.file x ≡ clear (killed m i) b' x
+        not_numbered vs d p x h = p.others_new x (λ z. h (subst (λ rs. Among x rs) (as_numbered i.results) z))
+
+        same_after : (vs : List Value) (d : File) (p : Puts vs d) (t : Target) → OneOf t (targets i.op) → (n : ℕ) →
+            Live m n (code_at m.code next t) → d n ≡ p.file n
+        same_after vs d p t o n v =
+            ⊎_elim (λ z. p.same n z)
+            (λ free.
+            p.others n free
+            ∙ ⊎_elim (λ z. cleared (killed m i) a' n z ∙ sym (cleared (killed m i) b' n z))
+            (λ h.
+            not_cleared (killed m i) a' n h
+            ∙ still n (on (λ w. ⊎_elim free h (split_among n i.results (killed m i) w)) (goes t o) v)
+            ∙ sym (not_cleared (killed m i) b' n h))
+            (among_or_not n (killed m i))
+            ∙ sym (not_numbered vs d p n free))
+            (among_or_not n i.results)
+
+        slot_after : (vs : List Value) (d : File) (p : Puts vs d) (t : Target) → OneOf t (targets i.op) → (n : ℕ) →
+            Live m n (code_at m.code next t) → Stored n (code_at m.code next t) → (Writes m i n → ⊥) → d n ≡ p.file (plan.slot n)
+        slot_after vs d p t o n v k silent =
+            p.others n (λ z. silent (left_among i.results (killed m i) z))
+            ∙ not_cleared (killed m i) a' n (λ z. silent (right_among i.results (killed m i) z))
+            ∙ still_slot n (on silent (goes t o) v) (λ from z. k from (past z silent (goes t o)))
+            ∙ sym (not_cleared (killed m i) b' (plan.slot n) (not_slot n 0 (killed m i) killed_known))
+            ∙ sym (not_numbered vs d p (plan.slot n) (not_slot n 0 i.results (λ r z. is_in_code (results_in stands z))))
+
+        one_number : (r : Reg) → IsRegister m r → (k : Reg) → Contains i.results k → k.number ≡ r.number → k ≡ r
+        one_number r j k z e = formed.numbers k r (is_in_code (results_in stands z)) j e
+
+        fit_after : (vs : List Value) (d : File) → put_all limit i.results vs (clear (killed m i) a') ≡ Some d → (r : Reg) → IsRegister m r →
+            FitsIn limit r (d r.number)
+        fit_after vs d e r j =
+            put_fits limit i.results vs (clear (killed m i) a') d e r (one_number r j)
+            (clear_fits limit (killed m i) a' r (frame_fits limit (passes_frame i.op) a r (holds.fit r j)))
+
+        fit_still : (r : Reg) → IsRegister m r → FitsIn limit r (a' r.number)
+        fit_still r j = frame_fits limit (passes_frame i.op) a r (holds.fit r j)
+
+        -- what p knows of where it comes to
+        agree_there : (rest : List Instr) (us : List Reg) (d : File) (y : Around) → Agrees m us (at rest d y) →
+            (r k : Reg) → IsRegister m r → IsRegister m k → r.origin ≡ k.origin → Live m r.number rest → Live m k.number rest →
+            (x z : Held) → d r.number ≡ Some x → d k.number ≡ Some z → x.value ≡ z.value
+        agree_there rest us d y agreed r k j l origin v w x z e g = agreed.agree r k j l origin (inl v) (inl w) x z e g
+
+        -- where the second begins a code, its registers of one origin agree
+        agree_begins : (rest : List Instr) (us : List Reg) (d e : File) (y : Around) → Ending rest m.code → Holds rest d e →
+            ((x : ℕ) → Among x (wrote_unless y.raised us) → ⊥) → OriginsAgree q (wrote_unless y.raised us) (at (expand f rest) e y)
+        agree_begins rest us d e y end_rest h none =
+            record {
+              agree = λ r k ir ik origin l z x u s t.
+                  let w = was_register r ir in
+                  let v = was_register k ik in
+                  let one = here r w l in
+                  let two = here k v z in
+                  h.agree w.register v.register w.among v.among (origin_of w.which ∙ origin ∙ sym (origin_of v.which)) one.0 two.0 x u
+                  (one.1 ∙ s) (two.1 ∙ t);
+            }
+          where
+            here : (r : Reg) (w : WasRegister r) → Live q r.number (expand f rest) ⊎ Among r.number (wrote_unless y.raised us) →
+                Live m (w.register).number rest × (d (w.register).number ≡ e r.number)
+            here r w (inl v) =
+                was_value rest end_rest d e r h.itself (λ n s v k. h.slots n v k) w.register w.among w.which
+                (live_before m plan formed placed is end_rest v)
+            here r w (inr z) = absurd (none r.number z)
+
+        -- where it is silent, or raised a value
+        silent_none : IsSilent m i → (o : Option Value) → (x : ℕ) → Among x (wrote_unless o (written m i)) → ⊥
+        silent_none s o x z = s x (unless_among o (written m i) x z)
+
+        none_written : (o : Option Value) → IsSilent m i ⊎ IsRaised o → (x : ℕ) → Among x (wrote_unless o (written m i)) → ⊥
+        none_written o (inl s) x z = silent_none s o x z
+        none_written (Some v) (inr r) x z = elim z [ ]
+        none_written None (inr r) x z = elim r [ ]
+
+        abbrev Past : Around → File → File → Target → Type 0
+        Past y d e to = general.Past c m q f (keeps_marks plan) is_code Suit Round i i next post y y d e to
+
+        no_post : IsSilent m i → post ≡ []
+        no_post s = ap (spills_of plan (length next)) (all_results (form_of ending) ∙ none i.results (λ n z. s n (left_among i.results (killed m i) z)))
+          where
+            none : (rs : List Reg) → ((n : ℕ) → Among n rs → ⊥) → rs ≡ []
+            none [] h = refl
+            none (r ∷ rs) h = absurd (h r.number (first refl))
+
+        just_main : (vs : List Value) (d : File) (p : Puts vs d) (y : Around) →
+            JustWritten i next d p.file y (wrote_unless y.raised (written m i))
+        just_main vs d p y r w u z s = by w.which
+          where
+            there : Among r.number (written m i)
+            there = unless_among y.raised (written m i) r.number z
+
+            in_m : (k : ℕ) → Among k (written m i) → (x : Reg) × IsRegister m x × (x.number ≡ k)
+            in_m k a =
+                ⊎_elim (λ h. let x = number_among i.results h in (x.0, is_in_code (results_in stands x.1), x.2))
+                (λ h. let x = number_among (killed m i) h in (x.0, killed_known x.0 x.1, x.2)) (split_among k i.results (killed m i) a)
+
+            value : d r.number ≡ p.file r.number
+            value =
+                ⊎_elim (λ h. p.same r.number h)
+                (λ free.
+                ⊎_elim (λ h. absurd (free h))
+                (λ k. absurd (no_held u (sym (cleared (killed m i) b' r.number k) ∙ sym (not_numbered vs d p r.number free) ∙ s)))
+                (split_among r.number i.results (killed m i) there))
+                (among_or_not r.number i.results)
+
+            by : Which w.register r →
+                (Live m (w.register).number next ⊎ Among (w.register).number (wrote_unless y.raised (written m i)))
+                × (d (w.register).number ≡ p.file r.number)
+            by (own e) =
+                let n : w.register.number ≡ r.number = ap (λ (x : Reg). x.number) e in
+                (inr (subst (λ n. Among n (wrote_unless y.raised (written m i))) (sym n) z), ap d n ∙ value)
+            by (slotted e) =
+                let x = in_m r.number there in absurd (is.fresh x.0 x.1 w.register.number (ap (λ (x : Reg). x.number) e ∙ sym x.2))
+
+        past_to : (vs : List Value) (d : File) → put_all limit i.results vs (clear (killed m i) a') ≡ Some d → (p : Puts vs d) (y : Around)
+            (t : Target) → OneOf t (targets i.op) → Past y d p.file t
+        past_to vs d e p y On o =
+            let begun : HoldsAfter next (results_of i) d p.file =
+            record {
+              itself = λ n v. same_after vs d p On o n v;
+              slots = λ n v k free. slot_after vs d p On o n v k
+                  (stored_unwritten m plan formed placed is (plan.slot n) n i next next On ending o refl k free);
+            } in
+            let done = after i next d y ending (λ n z. put_holds limit i.results vs (clear (killed m i) a') d e n z) (fit_after vs d e)
+            (results_of i) (λ r z. cond_in _ i.results r z) p.file begun in
+            general.on
+            (λ agreed.
+            agree_storing i next (post ++ expand f next) (results_of i) (wrote_unless y.raised (written m i)) d p.file y ending laid_main begun
+            agreed (just_main vs d p y))
+            done.passing
+            (λ agreed. (
+              refl,
+              record {
+                itself = λ n v. done.holds.itself n v;
+                slots = λ n v k. done.holds.slots n v k (λ r z. absurd (none_in r z));
+                fit = fit_after vs d e;
+                agree = agree_there next (written m i) d y agreed;
+              },
+            ))
+        past_to vs d e p y (At l) o =
+            let silent = label_silent m (form_of ending) l o in
+            let rel : Agrees m (written m i) (at (after_label l m.code) d y) → Holds (after_label l m.code) d p.file =
+            λ (agreed : Agrees m (written m i) (at (after_label l m.code) d y)).
+            record {
+              itself = λ n v. same_after vs d p (At l) o n v;
+              slots = λ n v k. slot_after vs d p (At l) o n v k (silent n);
+              fit = fit_after vs d e;
+              agree = agree_there (after_label l m.code) (written m i) d y agreed;
+            } in
+            general.elsewhere (no_post silent)
+            (λ agreed. (
+              (refl, rel agreed),
+              subst (λ code. Agrees q (written q i) (at code p.file y)) (sym (label_expand f (keeps_marks plan) l m.code))
+                  (agree_begins (after_label l m.code) (written m i) d p.file y (ending_label l m.code) (rel agreed)
+                  (silent_none silent y.raised)),
+            ))
+
+        -- where an exit or a raise lands
+        landed : (to : Landing) → MayLand i.op to → (y : Around) → Agrees m (written m i) (at (landing_code m.code (i ∷ next) to) a' y) →
+            Holds (landing_code m.code (i ∷ next) to) a' b'
+        landed (AtLabel l) (lands_at_label o) y agreed =
+            let silent = label_silent m (form_of ending) l o in
+            record {
+              itself = λ n v. still n (on (silent n) (goes (At l) o) v);
+              slots = λ n v k. still_slot n (on (silent n) (goes (At l) o) v) (λ from z. k from (past z (silent n) (goes (At l) o)));
+              fit = fit_still;
+              agree = agree_there (after_label l m.code) (written m i) a' y agreed;
+            }
+        landed AtHandler (lands_at_handler r) y agreed =
+            record {
+              itself = λ n v. let g = caught r (tries_at (i ∷ next)) refl v in still n g.0;
+              slots = λ n v k. let g = caught r (tries_at (i ∷ next)) refl v in still_slot n g.0 (g.1 k);
+              fit = fit_still;
+              agree = agree_there (at_handler m.code (tries_at (i ∷ next))) (written m i) a' y agreed;
+            }
+
+        tries_so : tries_at (i ∷ (post ++ expand f next)) ≡ tries_at (i ∷ next)
+        tries_so = laid_tries m plan formed placed is (main ending laid_main)
+
+        lands : (to : Landing) → MayLand i.op to → (y : Around) → IsSilent m i ⊎ IsRaised y.raised →
+            general.Lands c m q f (keeps_marks plan) is_code Suit Round i i next post to y y a' b'
+        lands to may y s agreed = (
+          (refl, landed to may y agreed),
+          subst (λ code. Agrees q (written q i) (at code b' y))
+              (sym (lands_same (i ∷ next) (i ∷ (post ++ expand f next)) to tries_so))
+              (agree_begins (landing_code m.code (i ∷ next) to) (written m i) a' b' y (ending_land to (i ∷ next) m.code)
+              (landed to may y agreed) (none_written y.raised s)),
+        )
+
+        pushed : IsTry i.op → (y : Around) → Agrees m (written m i) (at next a' y) → Holds next a' b'
+        pushed t y agreed =
+            let silent = try_silent m (form_of ending) t in
+            record {
+              itself = λ n v. still n (on (silent n) (goes On (try_on i.op t)) v);
+              slots = λ n v k.
+                  still_slot n (on (silent n) (goes On (try_on i.op t)) v) (λ from z. k from (past z (silent n) (goes On (try_on i.op t))));
+              fit = fit_still;
+              agree = agree_there next (written m i) a' y agreed;
+            }
+
+        acts_same : (y : Around) (act : Act) → Within i.op act → Told (IsSilent m i) act →
+            general.Acts c m q f (keeps_marks plan) is_code Suit Round i i next post y y a' b' act act
+        acts_same y (Goes vs to y') (goes_in o) t =
+            general.both_go
+            (λ d e.
+            let p = put_twice (λ n. n) (λ n. n) limit i.results vs (clear (killed m i) a') (clear (killed m i) b') d (λ n z. refl) e in (
+              p.file,
+              subst (λ rs. put_all limit rs vs (clear (killed m i) b') ≡ Some p.file) (as_numbered i.results) p.puts,
+              past_to vs d e p y' to o,
+            ))
+        acts_same y (Jumps to y') (jumps_in l) (told_jump s) = general.both_jump tries_so (lands to l y' s)
+        acts_same y (Unwinds y') (unwinds_in r) (told_unwind s) = general.both_unwind tries_so (lands AtHandler (lands_at_handler r) y' s)
+        acts_same y (Pushes y') (pushes_in t) u =
+            general.both_push (no_post (try_silent m (form_of ending) t)) refl
+            (λ agreed. (
+              (refl, pushed t y' agreed),
+              agree_begins next (written m i) a' b' y' (ending_next ending) (pushed t y' agreed)
+                  (silent_none (try_silent m (form_of ending) t) y'.raised),
+            ))
+        acts_same y (Asks whom vs go) (asks_in w) (told_ask t) =
+            general.both_ask (record { memory = refl; tries = refl }) (λ d. acts_same y (go d) (w d) (t d))
+        acts_same y (Replaces whom vs kept) w t = general.both_replace (record { memory = refl; tries = refl })
+        acts_same y (Ends d) w t = general.both_end
+        acts_same y (EndsRaising d) w t = general.both_raise
+        acts_same y Stuck w t = general.stuck_first
+
+        -- ---- vals that are live over it
+
+        vals_main : (y : Around) → ValsWritten m (at (i ∷ next) a y) → ValsWritten q (at (i ∷ (post ++ expand f next)) b y)
+        vals_main y known =
+            record {
+              written = λ j ys e frame r one val v none.
+                  let head = head_same (post ++ expand f next) ys e in
+                  let w = was_register r one in
+                  let there : LiveAcross q r.number i (post ++ expand f next) =
+                  subst (λ xs. LiveAcross q r.number i xs) (sym (tail_same (post ++ expand f next) ys e))
+                  (subst (λ j. LiveAcross q r.number j ys) (sym head) v) in
+                  let x = across_back m plan formed placed is i next ending laid_main there in
+                  let g = by r w x in
+                  known.written i next refl (subst (λ (j : Instr). passes_frame j.op ≡ true) (sym head) frame) w.register w.among
+                  (comp_of w.which ∙ val) g.0 (g.1 ∙ none);
+            }
+          where
+            live_of : {n : ℕ} → LiveAcross m n i next → Live m n (i ∷ next)
+            live_of (across_step w l v) = on w l v
+            live_of (across_raise r v) = aside r v
+
+            by : (r : Reg) (w : WasRegister r) → WasAcross m plan formed placed is r.number i next →
+                LiveAcross m (w.register).number i next × (a (w.register).number ≡ b r.number)
+            by r w (itself_across v) = own_by w.which
+              where
+                own_by : Which w.register r → LiveAcross m (w.register).number i next × (a (w.register).number ≡ b r.number)
+                own_by (own e) =
+                    let n : w.register.number ≡ r.number = ap (λ (x : Reg). x.number) e in
+                    (subst (λ n. LiveAcross m n i next) (sym n) v, ap a n ∙ holds.itself r.number (live_of v))
+                own_by (slotted e) =
+                    let u = live_register (live_of v) ending in
+                    absurd (is.fresh u.0 u.1 w.register.number (ap (λ (x : Reg). x.number) e ∙ sym u.2))
+            by r w (stored_across n s v k) = slot_by w.which
+              where
+                slot_by : Which w.register r → LiveAcross m (w.register).number i next × (a (w.register).number ≡ b r.number)
+                slot_by (own e) = absurd (is.fresh w.register w.among n (s ∙ sym (ap (λ (x : Reg). x.number) e)))
+                slot_by (slotted e) =
+                    let same : n ≡ w.register.number = slots_apart n w.register.number (s ∙ sym (ap (λ (x : Reg). x.number) e)) in
+                    (subst (λ n. LiveAcross m n i next) same v, ap a (sym same) ∙ holds.slots n (live_of v) k ∙ ap b s)
+
+      values_held : (a : File) (rs : List Reg) (vs : List Value) → values a rs ≡ Some vs → (n : ℕ) → Among n rs → (h : Held) × (a n ≡ Some h)
+      values_held a [] vs e n z = elim z [ ]
+      values_held a (r ∷ rs) vs e n z =
+          by (a r.number) refl (values a rs) refl e z (λ us t x. values_held a rs us t n x)
+        where
+          no_values : (vs : List Value) → None ≡ Some vs → ⊥
+          no_values vs e = cc
+
+          by : (o : Option Held) → a r.number ≡ o → (p : Option (List Value)) → values a rs ≡ p → with_held o p ≡ Some vs → Among n (r ∷ rs) →
+              ((us : List Value) → values a rs ≡ Some us → Among n rs → (h : Held) × (a n ≡ Some h)) → (h : Held) × (a n ≡ Some h)
+          by None s p t e z again = absurd (no_values vs e)
+          by (Some h) s None t e z again = absurd (no_values vs e)
+          by (Some h) s (Some us) t e (first x) again = (h, ap a (sym x) ∙ s)
+          by (Some h) s (Some us) t e (later x) again = again us t x
+
+      values_same : (a b : File) (rs : List Reg) → ((n : ℕ) → Among n rs → a n ≡ b n) → values a rs ≡ values b rs
+      values_same a b [] h = refl
+      values_same a b (r ∷ rs) h =
+          ap (λ o. with_held o (values a rs)) (h r.number (first refl))
+          ∙ ap (with_held (b r.number)) (values_same a b rs (λ n z. h n (later z)))
+
+      one : (i : Instr) (next : List Instr) (a b : File) (ending : Ending (i ∷ next) m.code) → Holds (i ∷ next) a b → (y : Around)
+          (vs : List Value) → values a i.args ≡ Some vs →
+          general.Replaces c m q f (keeps_marks plan) is_code Suit Round i next y y a b vs
+      one i next a b ending holds y vs e =
+          let laid : Lay (Reading i next []) (i ∷ (spills_of plan (length next) (results_of i) ++ expand f next)) =
+          main ending (laid_main i next a b ending holds) in
+          let gone = before i next a y ending (λ n z. values_held a i.args vs e n z)
+          (i ∷ (spills_of plan (length next) (results_of i) ++ expand f next)) laid (operands_of i) (λ r z. operand_in i r z) b holds in
+          record {
+            pre = reloads_of plan (length next) (operands_of i);
+            main = i;
+            post = spills_of plan (length next) (results_of i);
+            shape = refl;
+            between = gone.file;
+            passing = gone.passing;
+            vals = vals_main i next a gone.file ending gone.holds y;
+            read = vs;
+            reads = sym (values_same a gone.file i.args (λ n z. gone.holds.itself n (read z))) ∙ e;
+            alike = acts_same i next a gone.file ending gone.holds y (mach_act c.setting i.op vs y) (within c.setting i.op vs y)
+                (told m (form_of ending) c.setting vs y);
+          }
+
+    serves : (Suit : Around → Around → Type 0) → ((x y : Around) → x ≡ y → Suit x y) →
+        level.Serves c m q f (keeps_marks plan) is_code Holds Suit
+    serves Suit suits =
+        record {
+          suits = λ rest x y a b l. suits x y l.0;
+          each = λ i next x y a b ending l vs e. inl
+              (subst
+              (λ y. general.Replaces c m q f (keeps_marks plan) is_code Suit (level.Level c m q f (keeps_marks plan) is_code Holds) i next x y
+              a b vs)
+              l.0 (one Suit i next a b ending l.1 x vs e));
+        }
+
+    -- at the entry the parameters are written, and nothing is stored
+    at_entry : (vs : List Value) (a : File) → put_all limit m.params vs (λ n. None) ≡ Some a → Holds m.code a a
+    at_entry vs a e =
+        record {
+          itself = λ n v. refl;
+          slots = λ n v k.
+              ⊎_elim (λ z. absurd (differ (plan.spills (length m.code) n) (k m.code (from_entry z)) (is.entry n z)))
+              (λ free. unwritten n free ∙ sym (unwritten (plan.slot n) (not_param n))) (among_or_not n m.params);
+          fit = λ r j.
+              put_fits limit m.params vs (λ n. None) a e r (λ k z g. formed.numbers k r (is_param z) j g) (λ h g. absurd (no_held h g));
+          agree = λ r k i j origin v w x y g h.
+              let s : r ≡ k = one_param r k i j origin x y g h in
+              ap (λ (h : Held). h.value) (held_same x y (sym g ∙ ap (λ (r : Reg). a r.number) s ∙ h));
+        }
+      where
+        puts : PutsToo (λ n. n) (λ n. n) limit m.params vs (λ n. None) (λ n. None) a
+        puts = put_twice (λ n. n) (λ n. n) limit m.params vs (λ n. None) (λ n. None) a (λ n z. refl) e
+
+        unwritten : (n : ℕ) → (Among n m.params → ⊥) → a n ≡ None
+        unwritten n free = puts.others n free
+
+        not_param : (n : ℕ) → Among (plan.slot n) m.params → ⊥
+        not_param n z = let r = number_among m.params z in is.fresh r.0 (is_param r.1) n (sym r.2)
+
+        -- what holds something is a parameter, made from no other register
+        own_origin : (r : Reg) → IsRegister m r → (x : Held) → a r.number ≡ Some x → r.origin ≡ r.number
+        own_origin r i x g =
+            ⊎_elim
+            (λ z.
+            let p = number_among m.params z in
+            let same = formed.numbers p.0 r (is_param p.1) i p.2 in
+            subst (λ (r : Reg). r.origin ≡ r.number) same (of_each (λ (r : Reg). r.origin ≡ r.number) m.params p.0 formed.params p.1))
+            (λ free. absurd (no_held x (sym (unwritten r.number free) ∙ g))) (among_or_not r.number m.params)
+
+        one_param : (r k : Reg) → IsRegister m r → IsRegister m k → r.origin ≡ k.origin → (x y : Held) → a r.number ≡ Some x →
+            a k.number ≡ Some y → r ≡ k
+        one_param r k i j origin x y g h =
+            formed.numbers r k i j (sym (own_origin r i x g) ∙ origin ∙ own_origin k j y h)
+
+  -- The function with its spills and reloads does what it did.
+  pub does_spilled : Does m (spilled plan m)
+  does_spilled = λ c.
+      level.begins_at c m q refl
+      (λ arguments memory a t n e proper.
+      level.follows_from c m q f (keeps_marks plan) is_code (Holds c) (serves c) a a (entered memory) (at_entry c arguments a e) n t proper)

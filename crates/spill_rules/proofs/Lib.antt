@@ -1,0 +1,6 @@
+pub mod Text
+pub mod Live
+pub mod Kept
+pub mod Whole
+pub mod Formed
+pub mod Placed

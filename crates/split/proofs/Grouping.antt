@@ -1,0 +1,159 @@
+-- Writes in the groups of their numbers, one after the other.
+use Rattle.std.proofs.Common.{◌≡◌, ◌≢◌, ℕ, zero, suc, ◌+◌, ◌<◌, ◌≤◌, ◌⊎◌, inl, inr, ⊎_elim, List, [], ◌∷◌, ◌++◌, Some, None, length, map, take, set, get_or, refl, sym, ap, ◌∙◌, subst, arith}
+use Rattle.std.specs.List.{All, Contains}
+use Rattle.std.specs.Prelude.{slice_get, slice_index_or}
+use Rattle.std.proofs.lemmas.List.Elements.{Contains-get_or}
+use Rattle.mach_ir.specs.Walks.{IsRegister}
+use Rattle.mach_ir.specs.declared.reg.Reg.{Reg}
+use Rattle.mach_ir.specs.declared.mach.Mach.{Mach}
+use Rattle.std.proofs.lemmas.Bool.{cases_eq}
+use Rattle.std.proofs.lemmas.List.{length-set, length-map, map-set, get_or-map, get_or-set_same, get_or-set_other, take_more, take_all, length-append}
+use Rattle.mach_laws.proofs.Walking.{none_in, first_in, in_cons}
+use Rattle.liveness.proofs.Bounds.{split_in}
+use Rattle.split.specs.Writes.{members_in, writes_of, HasMember, IsGrouped}
+use Rattle.split.specs.declared.writes.Group as group
+use Rattle.split.specs.declared.writes.Write.{Write}
+use Rattle.split.proofs.Members.{left_in, right_in, open_write}
+
+members_same : (gs : List group.Group) (k : ℕ) (g : group.Group) → k < length gs → members_in (set gs k g) k ≡ g.members.items
+members_same gs k g within =
+    let f : group.Group → List ℕ = λ x. x.members.items in
+    let w : k < length (map f gs) = omega (arith, length-map gs f, within) in
+    ap (λ (l : List (List ℕ)). get_or l k []) (map-set f gs k g) ∙ get_or-set_same (map f gs) k (f g) [] w
+
+members_other : (gs : List group.Group) (k j : ℕ) (g : group.Group) → j ≢ k → members_in (set gs k g) j ≡ members_in gs j
+members_other gs k j g ne =
+    let f : group.Group → List ℕ = λ x. x.members.items in
+    ap (λ (l : List (List ℕ)). get_or l j []) (map-set f gs k g) ∙ get_or-set_other (map f gs) k j (f g) [] ne
+
+members_read : (gs : List group.Group) (k : ℕ) (g : group.Group) → k < length gs → g ≡ get_or gs k g → members_in gs k ≡ g.members.items
+members_read gs k g within read =
+    let f : group.Group → List ℕ = λ x. x.members.items in
+    get_or-map f gs k g [] within ∙ ap f (sym read)
+
+pub has_member : (old new : List group.Group) (k member : ℕ) (g g' : group.Group) → k < length old → g ≡ get_or old k g →
+    g'.members.items ≡ g.members.items ++ member ∷ [] → new ≡ set old k g' → HasMember old new k member
+has_member old new k member g g' within read more is =
+    record {
+      len = ap length is ∙ length-set old k g';
+      here = ap (λ (l : List group.Group). members_in l k) is
+          ∙ (members_same old k g' within ∙ (more ∙ ap (λ (l : List ℕ). l ++ member ∷ []) (sym (members_read old k g within read))));
+      others = λ j ne. ap (λ (l : List group.Group). members_in l j) is ∙ members_other old k j g' ne;
+    }
+
+-- ---- one write more
+
+pushed_kept : {A : Type 0} (xs : List A) (y x : A) (q : ℕ) → slice_get xs q ≡ Some x → slice_get (xs ++ y ∷ []) q ≡ Some x
+pushed_kept [] y x q e = absurd (cc)
+pushed_kept (z ∷ zs) y x zero e = e
+pushed_kept (z ∷ zs) y x (suc q) e = pushed_kept zs y x q e
+
+pushed_here : {A : Type 0} (xs : List A) (y : A) → slice_get (xs ++ y ∷ []) (length xs) ≡ Some y
+pushed_here [] y = refl
+pushed_here (z ∷ zs) y = pushed_here zs y
+
+pushed_cases : {A : Type 0} (xs : List A) (y x : A) (q : ℕ) → slice_get (xs ++ y ∷ []) q ≡ Some x →
+    (slice_get xs q ≡ Some x) ⊎ ((q ≡ length xs) × (y ≡ x))
+pushed_cases [] y x zero e = inr (refl, (let f : y ≡ x = cc in f))
+pushed_cases [] y x (suc q) e = absurd (cc)
+pushed_cases (z ∷ zs) y x zero e = inl e
+pushed_cases (z ∷ zs) y x (suc q) e =
+    ⊎_elim (λ f. inl f) (λ f. inr (ap suc f.0, f.1)) (pushed_cases zs y x q e)
+
+module _ (writes : List Write) (free : ℕ) (old new : List group.Group) (x : Write) (w : ℕ) (end : w ≡ length writes)
+    (has : HasMember old new x.number w) where
+  in_group : (n v : ℕ) → Contains (members_in new n) v → Contains (members_in old n) v ⊎ ((n ≡ x.number) × (w ≡ v))
+  in_group n v c =
+      ⊎_elim
+      (λ (e : n ≡ x.number).
+      let d : Contains (members_in old x.number ++ w ∷ []) v =
+      subst (λ xs. Contains xs v) has.here (subst (λ n. Contains (members_in new n) v) e c) in
+      ⊎_elim (λ h. inl (subst (λ n. Contains (members_in old n) v) (sym e) h))
+      (λ h. ⊎_elim (λ s. inr (e, s)) (λ z. absurd (none_in v z)) (in_cons w v [] h)) (split_in (members_in old x.number) (w ∷ []) v d))
+      (λ (ne : n ≢ x.number). inl (subst (λ xs. Contains xs v) (has.others n ne) c)) (cases_eq n x.number)
+
+  kept_in : (n v : ℕ) → Contains (members_in old n) v → Contains (members_in new n) v
+  kept_in n v c =
+      ⊎_elim
+      (λ (e : n ≡ x.number).
+      subst (λ n. Contains (members_in new n) v) (sym e)
+      (subst (λ xs. Contains xs v) (sym has.here)
+      (left_in (members_in old x.number) (w ∷ []) v (subst (λ n. Contains (members_in old n) v) e c))))
+      (λ (ne : n ≢ x.number). subst (λ xs. Contains xs v) (sym (has.others n ne)) c) (cases_eq n x.number)
+
+  pub grouped_pushed : IsGrouped writes free old → IsGrouped (writes ++ x ∷ []) free new
+  grouped_pushed g =
+      record {
+        len = has.len ∙ g.len;
+        sound = λ n v c.
+            ⊎_elim (λ h. let y = g.sound n v h in (y.0, pushed_kept writes x y.0 v y.1, y.2))
+            (λ h. (
+              x,
+              subst (λ v. slice_get (writes ++ x ∷ []) v ≡ Some x) (sym end ∙ h.1) (pushed_here writes x),
+              sym h.0,
+            )) (in_group n v c);
+        whole = λ v y e.
+            ⊎_elim (λ h. kept_in y.number v (g.whole v y h))
+            (λ h.
+            subst (λ n. Contains (members_in new n) v) (ap (λ (x : Write). x.number) h.1)
+            (subst (λ v. Contains (members_in new x.number) v) (end ∙ sym h.0)
+            (subst (λ xs. Contains xs w) (sym has.here)
+            (right_in (members_in old x.number) (w ∷ []) w (first_in w []))))) (pushed_cases writes x y v e);
+      }
+
+pub grouped_more : (writes : List Write) (free k w : ℕ) (old new : List group.Group) (d : Write) → k < length writes → w ≡ k →
+    HasMember old new (get_or writes k d).number w → IsGrouped (take k writes) free old → IsGrouped (take (k + 1) writes) free new
+grouped_more writes free k w old new d lt e has g =
+    subst (λ xs. IsGrouped xs free new) (sym (take_more writes k d lt))
+    (grouped_pushed (take k writes) free old new (get_or writes k d) w (e ∙ sym (taken writes k lt)) has g)
+  where
+    taken : (xs : List Write) (k : ℕ) → k < length xs → length (take k xs) ≡ k
+    taken [] k lt = absurd (omega (arith, lt))
+    taken (x ∷ xs) zero lt = refl
+    taken (x ∷ xs) (suc k) lt = ap suc (taken xs k (omega (arith, lt)))
+
+pub grouped_none : (writes : List Write) (free : ℕ) (groups : List group.Group) → IsGrouped [] free groups → IsGrouped (take 0 writes) free groups
+grouped_none [] free groups g = g
+grouped_none (x ∷ xs) free groups g = g
+
+pub grouped_all : (writes : List Write) (free k : ℕ) (groups : List group.Group) → length writes ≤ k → IsGrouped (take k writes) free groups →
+    IsGrouped writes free groups
+grouped_all writes free k groups le g = subst (λ xs. IsGrouped xs free groups) (take_all k writes le) g
+
+-- ---- no write yet
+
+empty_more : (groups : List group.Group) (g : group.Group) → g.members.items ≡ [] → ((n : ℕ) → members_in groups n ≡ []) → (n : ℕ) →
+    members_in (groups ++ g ∷ []) n ≡ []
+empty_more [] g e none zero = e
+empty_more [] g e none (suc n) = refl
+empty_more (x ∷ xs) g e none zero = none 0
+empty_more (x ∷ xs) g e none (suc n) = empty_more xs g e (λ k. none (suc k)) n
+
+pub none_more : (old new : List group.Group) (g : group.Group) → new ≡ old ++ g ∷ [] → g.members.items ≡ [] →
+    ((n : ℕ) → members_in old n ≡ []) → (n : ℕ) → members_in new n ≡ []
+none_more old new g made e none n = ap (λ xs. members_in xs n) made ∙ empty_more old g e none n
+
+pub none_grouped : (free k : ℕ) (groups : List group.Group) → length groups ≡ k → k ≡ free → ((n : ℕ) → members_in groups n ≡ []) →
+    IsGrouped [] free groups
+none_grouped free k groups len e none =
+    record {
+      len = len ∙ e;
+      sound = λ n w c. absurd (none_in w (subst (λ xs. Contains xs w) (none n) c));
+      whole = λ w x h. absurd (nothing x h);
+    }
+  where
+    nothing : (x : Write) → None ≡ Some x → ⊥
+    nothing x e = cc
+
+pub none_len : (old new : List group.Group) (g : group.Group) (k : ℕ) → new ≡ old ++ g ∷ [] → length old ≡ k → length new ≡ k + 1
+none_len old new g k made e =
+    let long : length new ≡ length old + 1 = ap length made ∙ length-append old (g ∷ []) in omega (arith, long, e)
+
+-- ---- numbers of writes
+
+pub numbers_small : (m : Mach) (free : ℕ) (writes : List Write) → ((r : Reg) → IsRegister m r → r.number < free) → writes ≡ writes_of m →
+    All (λ (x : Write). x.number < free) writes
+numbers_small m free writes small e = λ k d lt.
+    let x = slice_index_or writes k d in
+    let o = open_write m x (subst (λ xs. Contains xs x) e (Contains-get_or writes k d lt)) in
+    subst (λ n. n < free) o.number (small o.register o.among)

@@ -1,0 +1,589 @@
+-- Labels of writes, as they are joined.
+use Rattle.std.proofs.Common.{◌≡◌, ℕ, zero, suc, ◌+◌, ◌<◌, ◌≤◌, Bool, true, false, cond, ◌⊎◌, inl, inr, ⊎_elim, List, [], ◌∷◌, ◌++◌, Option, Some, None, map, take, drop, length, refl, sym, ap, ◌∙◌, subst, arith}
+use Rattle.std.proofs.lemmas.Bool.{cases_Bool, eq-eqb, eqb-true}
+use Rattle.std.proofs.Math.Seq.{drop-cons}
+use Rattle.std.proofs.lemmas.List.{take_more, take_all}
+use Rattle.std.proofs.lemmas.Option.{slice_get_within}
+use Rattle.std.specs.List.{All, Contains}
+use Rattle.std.specs.Prelude.{nat_eq, slice_get, slice_index, slice_index_or}
+use Rattle.bs_bits.specs.Set.{has}
+use Rattle.dataflow.specs.Rows.{row}
+use Rattle.mach_ir.specs.Walks.{Among, first, later, read}
+use Rattle.mach_ir.specs.declared.reg.Reg.{Reg}
+use Rattle.mach_ir.specs.declared.mach.Instr.{Instr}
+use Rattle.mach_ir.specs.declared.mach.Mach.{Mach}
+use Rattle.mach_laws.proofs.Walking.{none_in, first_in, later_in, in_cons}
+use Rattle.liveness.proofs.Bounds.{split_in}
+use Rattle.split_rules.specs.Writes.{Comes, Chained, same, meets}
+use Rattle.split.specs.Joins.{replaced, IsComing, Relabelled, as_it_was, as_another, Joins, AreLinked, AreSound, HaveOne, AreWebs, AreIndexes, JoinsReads}
+use Rattle.split.specs.Reach.{AreReaching}
+use Rattle.split.specs.Writes.{all_of, members, AreWrites, after}
+use Rattle.split.specs.declared.writes.Write.{Write}
+use Rattle.split.specs.declared.writes.Writes.{Writes}
+
+-- ---- one label in the place of another
+
+pub at_replaced : (f : ℕ → ℕ) (xs : List ℕ) (w : ℕ) → w < length xs → slice_index (map f xs) w ≡ f (slice_index xs w)
+at_replaced f [] w lt = absurd (omega (arith, lt))
+at_replaced f (x ∷ xs) zero lt = refl
+at_replaced f (x ∷ xs) (suc w) lt = at_replaced f xs w (omega (arith, lt))
+
+pub length_replaced : (f : ℕ → ℕ) (xs : List ℕ) → length (map f xs) ≡ length xs
+length_replaced f [] = refl
+length_replaced f (x ∷ xs) = ap suc (length_replaced f xs)
+
+pub replaced_itself : (k : ℕ) (xs : List ℕ) → map (replaced k k) xs ≡ xs
+replaced_itself k [] = refl
+replaced_itself k (x ∷ xs) =
+    ap (λ y. y ∷ map (replaced k k) xs) (one (nat_eq x k) refl) ∙ ap (λ ys. x ∷ ys) (replaced_itself k xs)
+  where
+    one : (b : Bool) → nat_eq x k ≡ b → cond b k x ≡ x
+    one true e = sym (eqb-true x k e)
+    one false e = refl
+
+pub not_joined : (labels new : List ℕ) (to from : ℕ) → from ≡ to → new ≡ labels → new ≡ map (replaced from to) labels
+not_joined labels new to from e h =
+    h ∙ sym (replaced_itself to labels) ∙ ap (λ k. map (replaced k to) labels) (sym e)
+
+-- the label of one that had this label, and of one that had another
+was_that : (from to label : ℕ) → label ≡ from → replaced from to label ≡ to
+was_that from to label e = ap (λ b. cond b to label) (eq-eqb label from e)
+
+was_other : (from to label : ℕ) → nat_eq label from ≡ false → replaced from to label ≡ label
+was_other from to label e = ap (λ b. cond b to label) e
+
+-- ---- those of some writes that come to a place
+
+pub member_more : (ms : List ℕ) (k d w : ℕ) → k < length ms → Contains (take (k + 1) ms) w →
+    Contains (take k ms) w ⊎ (slice_index_or ms k d ≡ w)
+member_more ms k d w lt c =
+    ⊎_elim (λ h. inl h) (λ h. ⊎_elim (λ e. inr e) (λ n. absurd (none_in w n)) (in_cons (slice_index_or ms k d) w [] h))
+    (split_in (take k ms) (slice_index_or ms k d ∷ []) w (subst (λ xs. Contains xs w) (take_more ms k d lt) c))
+
+pub record Joining (old now members : List ℕ) (k : ℕ) (rows : List (List Bool)) (p : ℕ) (found : Option ℕ) :
+    Type 0 where
+  pub len : length now ≡ length old
+  pub keeps : (w v : ℕ) → w < length old → v < length old → slice_index old w ≡ slice_index old v →
+      slice_index now w ≡ slice_index now v
+  pub untouched : found ≡ None → now ≡ old
+  pub none : found ≡ None → (w : ℕ) → Contains (take k members) w → has (row rows p) w ≡ true → ⊥
+  pub some : (f : ℕ) → found ≡ Some f → IsComing members rows p f × (slice_index now f ≡ slice_index old f)
+      × ((w : ℕ) → Contains (take k members) w → has (row rows p) w ≡ true → slice_index now w ≡ slice_index now f)
+  pub from : (w : ℕ) → w < length old → Relabelled old now members rows p w
+
+no_some : (f : ℕ) → None ≡ Some f → ⊥
+no_some f e = cc
+
+some_none : (f : ℕ) → Some f ≡ None → ⊥
+some_none f e = cc
+
+some_is : (f g : ℕ) → Some f ≡ Some g → f ≡ g
+some_is f g e = cc
+
+no_members : (ms : List ℕ) (w : ℕ) → Contains (take 0 ms) w → ⊥
+no_members [] w c = none_in w c
+no_members (m ∷ ms) w c = none_in w c
+
+module _ (members : List ℕ) (rows : List (List Bool)) (p : ℕ) where
+  pub joining_begun : (labels : List ℕ) → Joining labels labels members 0 rows p None
+  joining_begun labels =
+      record {
+        len = refl;
+        keeps = λ w v a b e. e;
+        untouched = λ e. refl;
+        none = λ e w c h. no_members members w c;
+        some = λ f e. absurd (no_some f e);
+        from = λ w lt. as_it_was refl;
+      }
+
+  module _ (old now : List ℕ) (k : ℕ) (lt : k < length members) (d w : ℕ) (at : slice_index_or members k d ≡ w) where
+    member : Contains members w
+    member = subst (Contains members) at (in_list members k d lt)
+      where
+        in_list : (xs : List ℕ) (k d : ℕ) → k < length xs → Contains xs (slice_index_or xs k d)
+        in_list [] k d lt = absurd (omega (arith, lt))
+        in_list (x ∷ xs) zero d lt = first_in x xs
+        in_list (x ∷ xs) (suc k) d lt = later_in x (slice_index_or xs k d) xs (in_list xs k d (omega (arith, lt)))
+
+    -- the last of those that have been gone over
+    last_or : (v : ℕ) → Contains (take (k + 1) members) v → Contains (take k members) v ⊎ (w ≡ v)
+    last_or v c = ⊎_elim (λ h. inl h) (λ e. inr (sym at ∙ e)) (member_more members k d v lt c)
+
+    not_both : (b : Bool) → b ≡ true → b ≡ false → ⊥
+    not_both b e h = cc
+
+    pub joining_passed : (found : Option ℕ) → has (row rows p) w ≡ false → Joining old now members k rows p found →
+        Joining old now members (k + 1) rows p found
+    joining_passed found out j =
+        record {
+          len = j.len;
+          keeps = j.keeps;
+          untouched = j.untouched;
+          none = λ e v c h.
+              ⊎_elim (λ z. j.none e v z h)
+              (λ s. not_both (has (row rows p) w) (ap (has (row rows p)) s ∙ h) out) (last_or v c);
+          some = λ f e.
+              let s = j.some f e in (
+                s.0,
+                s.1,
+                λ v c h.
+                    ⊎_elim (λ z. s.2 v z h)
+                    (λ z. absurd (not_both (has (row rows p) w) (ap (has (row rows p)) z ∙ h) out)) (last_or v c),
+              );
+          from = j.from;
+        }
+
+    pub joining_first : has (row rows p) w ≡ true → Joining old now members k rows p None →
+        Joining old now members (k + 1) rows p (Some w)
+    joining_first comes j =
+        record {
+          len = j.len;
+          keeps = j.keeps;
+          untouched = λ e. absurd (some_none w e);
+          none = λ e. absurd (some_none w e);
+          some = λ f e.
+              let same : w ≡ f = some_is w f e in (
+                subst (IsComing members rows p) same (record { member = member; comes = comes }),
+                ap (λ xs. slice_index xs f) (j.untouched refl),
+                λ v c h.
+                    ⊎_elim (λ z. absurd (j.none refl v z h))
+                    (λ z. ap (slice_index now) (sym z ∙ same)) (last_or v c),
+              );
+          from = j.from;
+        }
+
+    pub joining_joined : (new : List ℕ) (one : ℕ) → has (row rows p) w ≡ true → ((v : ℕ) → Contains members v → v < length now) →
+        new ≡ map (replaced (slice_index now w) (slice_index now one)) now →
+        Joining old now members k rows p (Some one) → Joining old new members (k + 1) rows p (Some one)
+    joining_joined new one comes within made j =
+        record {
+          len = ap length made ∙ length_replaced f now ∙ j.len;
+          keeps = λ a b x y e.
+              made_at a (under a x) ∙ ap f (j.keeps a b x y e) ∙ sym (made_at b (under b y));
+          untouched = λ e. absurd (some_none one e);
+          none = λ e. absurd (some_none one e);
+          some = λ g e.
+              let eq : one ≡ g = some_is one g e in (
+                subst (IsComing members rows p) eq here.0,
+                subst (λ g. slice_index new g ≡ slice_index old g) eq (to_one one (within one here.0.member) refl ∙ here.1),
+                λ v c h.
+                    subst (λ g. slice_index new v ≡ slice_index new g) eq
+                    (⊎_elim
+                    (λ z.
+                    let v_is = here.2 v z h in
+                    to_one v (within v (in_whole v c)) v_is ∙ sym (to_one one (within one here.0.member) refl))
+                    (λ z.
+                    made_at v (within v (in_whole v c))
+                    ∙ was_that (slice_index now w) (slice_index now one) (slice_index now v) (ap (slice_index now) (sym z))
+                    ∙ sym (to_one one (within one here.0.member) refl))
+                    (last_or v c)),
+              );
+          from = λ v lt.
+              ⊎_elim (λ e. moved v lt (eqb-true (slice_index now v) (slice_index now w) e))
+              (λ e.
+              again v (made_at v (under v lt) ∙ was_other (slice_index now w) (slice_index now one) (slice_index now v) e)
+              (j.from v lt))
+              (cases_Bool (nat_eq (slice_index now v) (slice_index now w)));
+        }
+      where
+        f : ℕ → ℕ
+        f = replaced (slice_index now w) (slice_index now one)
+
+        here : IsComing members rows p one × (slice_index now one ≡ slice_index old one)
+            × ((v : ℕ) → Contains (take k members) v → has (row rows p) v ≡ true → slice_index now v ≡ slice_index now one)
+        here = j.some one refl
+
+        under : (v : ℕ) → v < length old → v < length now
+        under v lt = let len = j.len in omega (arith, lt, len)
+
+        made_at : (v : ℕ) → v < length now → slice_index new v ≡ f (slice_index now v)
+        made_at v lt = ap (λ xs. slice_index xs v) made ∙ at_replaced f now v lt
+
+        in_whole : (v : ℕ) → Contains (take (k + 1) members) v → Contains members v
+        in_whole v c = ⊎_elim (λ z. in_taken members k v z) (λ e. subst (Contains members) e member) (last_or v c)
+          where
+            in_taken : (xs : List ℕ) (k v : ℕ) → Contains (take k xs) v → Contains xs v
+            in_taken [] zero v c = absurd (none_in v c)
+            in_taken [] (suc k) v c = absurd (none_in v c)
+            in_taken (x ∷ xs) zero v c = absurd (none_in v c)
+            in_taken (x ∷ xs) (suc k) v c =
+                ⊎_elim (λ e. subst (Contains (x ∷ xs)) e (first_in x xs)) (λ h. later_in x v xs (in_taken xs k v h))
+                (in_cons x v (take k xs) c)
+
+        -- what has the label of the first keeps it
+        to_one : (v : ℕ) → v < length now → slice_index now v ≡ slice_index now one → slice_index new v ≡ slice_index now one
+        to_one v lt e = made_at v lt ∙ ap f e ∙ itself (nat_eq (slice_index now one) (slice_index now w))
+          where
+            itself : (b : Bool) → cond b (slice_index now one) (slice_index now one) ≡ slice_index now one
+            itself true = refl
+            itself false = refl
+
+        again : (v : ℕ) → slice_index new v ≡ slice_index now v → Relabelled old now members rows p v →
+            Relabelled old new members rows p v
+        again v e (as_it_was h) = as_it_was (e ∙ h)
+        again v e (as_another a b x y g h) = as_another a b x y g (e ∙ h)
+
+        coming : IsComing members rows p w
+        coming = record { member = member; comes = comes }
+
+        moved : (v : ℕ) → v < length old → slice_index now v ≡ slice_index now w → Relabelled old new members rows p v
+        moved v lt e = by (j.from v lt) (j.from w (back (within w member)))
+          where
+            back : w < length now → w < length old
+            back lt = let len = j.len in omega (arith, lt, len)
+
+            label : slice_index new v ≡ slice_index old one
+            label =
+                made_at v (under v lt) ∙ was_that (slice_index now w) (slice_index now one) (slice_index now v) e ∙ here.1
+
+            by : Relabelled old now members rows p v → Relabelled old now members rows p w → Relabelled old new members rows p v
+            by (as_another a b x y g h) z = as_another a one x here.0 g label
+            by (as_it_was h) (as_it_was g) = as_another w one coming here.0 (sym h ∙ e ∙ g) label
+            by (as_it_was h) (as_another a b x y g i) = as_another b one y here.0 (sym h ∙ e ∙ i) label
+
+  pub joining_done : (old now : List ℕ) (k : ℕ) (found : Option ℕ) → length members ≤ k → Joining old now members k rows p found →
+      Joins old now members rows p
+  joining_done old now k found le j =
+      record {
+        len = j.len;
+        same = j.keeps;
+        together = λ w v a b. by found (λ e. j.none e) (λ f e. j.some f e) w v a b;
+        from = j.from;
+      }
+    where
+      whole : (w : ℕ) → Contains members w → Contains (take k members) w
+      whole w c = subst (λ xs. Contains xs w) (sym (take_all k members le)) c
+
+      by : (o : Option ℕ) → (o ≡ None → (w : ℕ) → Contains (take k members) w → has (row rows p) w ≡ true → ⊥) →
+          ((f : ℕ) → o ≡ Some f → IsComing members rows p f × (slice_index now f ≡ slice_index old f)
+          × ((w : ℕ) → Contains (take k members) w → has (row rows p) w ≡ true → slice_index now w ≡ slice_index now f)) →
+          (w v : ℕ) → IsComing members rows p w → IsComing members rows p v → slice_index now w ≡ slice_index now v
+      by None none some w v a b = absurd (none refl w (whole w a.member) a.comes)
+      by (Some f) none some w v a b =
+          let s = some f refl in s.2 w (whole w a.member) a.comes ∙ sym (s.2 v (whole v b.member) b.comes)
+
+-- ---- the steps of the loop
+
+module _ (old now : List ℕ) (ms : List ℕ) (rows : List (List Bool)) (p k : ℕ) (found : Option ℕ) (j : Joining old now ms k rows p found) where
+  pub found_within : (one : ℕ) → found ≡ Some one → All (λ w. w < length old) ms → one < length now
+  found_within one e below =
+      let c = (j.some one e).0.member in
+      let lt : one < length old = subst (λ w. w < length old) c.2 (below c.0 one c.1) in
+      let len = j.len in omega (arith, lt, len)
+
+  module _ (lt : k < length ms) (d : ℕ) (now' : List ℕ) (found' : Option ℕ) where
+    pub step_passed : has (row rows p) (slice_index_or ms k d) ≡ false → now' ≡ now → found' ≡ found →
+        Joining old now' ms (k + 1) rows p found'
+    step_passed out e h =
+        subst (λ xs. Joining old xs ms (k + 1) rows p found') (sym e)
+        (subst (Joining old now ms (k + 1) rows p) (sym h)
+        (joining_passed ms rows p old now k lt d (slice_index_or ms k d) refl found out j))
+
+    pub step_first : has (row rows p) (slice_index_or ms k d) ≡ true → found ≡ None → now' ≡ now →
+        found' ≡ Some (slice_index_or ms k d) → Joining old now' ms (k + 1) rows p found'
+    step_first comes none e h =
+        subst (λ xs. Joining old xs ms (k + 1) rows p found') (sym e)
+        (subst (Joining old now ms (k + 1) rows p) (sym h)
+        (joining_first ms rows p old now k lt d (slice_index_or ms k d) refl comes
+        (subst (Joining old now ms k rows p) none j)))
+
+    pub step_joined : has (row rows p) (slice_index_or ms k d) ≡ true → (one : ℕ) → found ≡ Some one →
+        All (λ w. w < length old) ms →
+        now' ≡ map (replaced (slice_index now (slice_index_or ms k d)) (slice_index now one)) now → found' ≡ found →
+        Joining old now' ms (k + 1) rows p found'
+    step_joined comes one some below e h =
+        subst (Joining old now' ms (k + 1) rows p) (sym (h ∙ some))
+        (joining_joined ms rows p old now k lt d (slice_index_or ms k d) refl now' one comes within e
+        (subst (Joining old now ms k rows p) some j))
+      where
+        within : (v : ℕ) → Contains ms v → v < length now
+        within v c =
+            let lt : v < length old = subst (λ w. w < length old) c.2 (below c.0 v c.1) in
+            let len = j.len in omega (arith, lt, len)
+
+pub indexes_all : (t : Writes) (n : ℕ) (ms old now : List ℕ) → ms ≡ members t n → AreIndexes t (length old) → length now ≡ length old →
+    All (λ w. w < length now) ms
+indexes_all t n ms old now e below len = λ k d lt.
+    let c : Contains (members t n) (slice_index_or ms k d) =
+    subst (λ xs. Contains xs (slice_index_or ms k d)) e (in_list ms k d lt) in
+    let w = below.below n (slice_index_or ms k d) c in less (slice_index_or ms k d) w
+  where
+    less : (x : ℕ) → x < length old → x < length now
+    less x h = omega (arith, h, len)
+
+    in_list : (xs : List ℕ) (k d : ℕ) → k < length xs → Contains xs (slice_index_or xs k d)
+    in_list [] k d lt = absurd (omega (arith, lt))
+    in_list (x ∷ xs) zero d lt = first_in x xs
+    in_list (x ∷ xs) (suc k) d lt = later_in x (slice_index_or xs k d) xs (in_list xs k d (omega (arith, lt)))
+
+-- ---- what is joined is linked
+
+module _ (m : Mach) (t : Writes) where
+  chain_back : {n : ℕ} (x y : List Instr) → Chained m n x y → (z : List Instr) → Chained m n x z → Chained m n y z
+  chain_back x y same z h = h
+  chain_back x y (meets v a b c) z h = chain_back _ y c z (meets v b a h)
+
+  pub chain_on : {n : ℕ} {x y z : List Instr} → Chained m n x y → Chained m n y z → Chained m n x z
+  chain_on same h = h
+  chain_on (meets v a b c) h = meets v a b (chain_on c h)
+
+  pub chain_turned : {n : ℕ} {x y : List Instr} → Chained m n x y → Chained m n y x
+  chain_turned {x = x} {y = y} h = chain_back x y h x same
+
+  write_is : (x y : Write) → Some x ≡ Some y → x ≡ y
+  write_is x y e = cc
+
+  pub link_turned : {w v : ℕ} → AreLinked m t w v → AreLinked m t v w
+  link_turned l =
+      record {
+        one = l.other;
+        other = l.one;
+        is_one = l.is_other;
+        is_other = l.is_one;
+        number = sym l.number;
+        chained = subst (λ n. Chained m n (after m (l.other).left) (after m (l.one).left)) l.number (chain_turned l.chained);
+      }
+
+  pub link_on : {w v u : ℕ} → AreLinked m t w v → AreLinked m t v u → AreLinked m t w u
+  link_on l k =
+      let e : l.other ≡ k.one = write_is l.other k.one (sym l.is_other ∙ k.is_one) in
+      let number : l.other.number ≡ k.one.number = ap (λ (x : Write). x.number) e in
+      record {
+        one = l.one;
+        other = k.other;
+        is_one = l.is_one;
+        is_other = k.is_other;
+        number = l.number ∙ number ∙ k.number;
+        chained = chain_on l.chained
+            (subst (λ n. Chained m n (after m (l.other).left) (after m (k.other).left)) (sym (l.number ∙ number))
+            (subst (λ (x : Write). Chained m (k.one).number (after m x.left) (after m (k.other).left)) (sym e) k.chained));
+      }
+
+  pub link_itself : (w : ℕ) → w < length (all_of t) → AreLinked m t w w
+  link_itself w lt =
+      let x = there (all_of t) w lt in
+      record { one = x.0; other = x.0; is_one = x.1; is_other = x.1; number = refl; chained = same }
+    where
+      there : (xs : List Write) (w : ℕ) → w < length xs → (x : Write) × (slice_get xs w ≡ Some x)
+      there [] w lt = absurd (omega (arith, lt))
+      there (x ∷ xs) zero lt = (x, refl)
+      there (x ∷ xs) (suc w) lt = there xs w (omega (arith, lt))
+
+  -- joining writes that are linked keeps labels sound
+  pub sound_joined : (rows : List (List Bool)) (p : ℕ) (old new ms : List ℕ) → ((w : ℕ) → Contains ms w → w < length old) →
+      Joins old new ms rows p → AreSound m t old →
+      ((w v : ℕ) → IsComing ms rows p w → IsComing ms rows p v → AreLinked m t w v) → AreSound m t new
+  sound_joined rows p old new ms below j s linked =
+      record {
+        len = j.len ∙ s.len;
+        linked = λ w lt. by w (before w lt) (j.from w (before w lt));
+      }
+    where
+      before : (w : ℕ) → w < length new → w < length old
+      before w lt = let len = j.len in omega (arith, lt, len)
+
+      by : (w : ℕ) → w < length old → Relabelled old new ms rows p w → AreLinked m t w (slice_index new w)
+      by w lt (as_it_was e) = subst (AreLinked m t w) (sym e) (s.linked w lt)
+      by w lt (as_another u v a b e h) =
+          subst (AreLinked m t w) (sym h)
+          (link_on (subst (AreLinked m t w) e (s.linked w lt))
+          (link_on (link_turned (s.linked u (below u a.member))) (link_on (linked u v a b) (s.linked v (below v b.member)))))
+
+-- ---- operands
+
+module _ (t : Writes) (rows : List (List Bool)) (p : ℕ) where
+  pub reads_begun : (labels : List ℕ) (args : List Reg) → JoinsReads labels labels t rows p (take 0 args)
+  reads_begun labels args =
+      record {
+        len = refl;
+        same = λ w v a b e. e;
+        one = λ n a. absurd (none args n a);
+        sound = λ m s linked. s;
+      }
+    where
+      none : (args : List Reg) (n : ℕ) → Among n (take 0 args) → ⊥
+      none [] n a = elim a [ ]
+      none (r ∷ rs) n a = elim a [ ]
+
+  pub reads_more : (old now new : List ℕ) (args : List Reg) (k : ℕ) (d : Reg) (ms : List ℕ) → k < length args →
+      ms ≡ members t (slice_index_or args k d).number → AreIndexes t (length old) → Joins now new ms rows p →
+      JoinsReads old now t rows p (take k args) → JoinsReads old new t rows p (take (k + 1) args)
+  reads_more old now new args k d ms lt same_members below joins before =
+      record {
+        len = j.len ∙ before.len;
+        same = λ w v a b e. j.same w v (now_under w a) (now_under v b) (before.same w v a b e);
+        one = λ n a.
+            ⊎_elim
+            (λ h.
+            let old_one = before.one n h in
+            record { one = λ w v x y. j.same w v (now_under w (below.below n w x.member)) (now_under v (below.below n v y.member)) (old_one.one w v x y) })
+            (λ e. subst (HaveOne t rows new p) e (record { one = j.together }))
+            (among_more n a);
+        sound = λ m s linked.
+            sound_joined m t rows p now new (members t r.number) (λ w c. now_under w (below.below r.number w c)) j
+            (before.sound m s (λ n w v a x y. linked n w v (earlier n a) x y)) (λ w v x y. linked r.number w v last x y);
+      }
+    where
+      r : Reg
+      r = slice_index_or args k d
+
+      j : Joins now new (members t r.number) rows p
+      j = subst (λ ms. Joins now new ms rows p) same_members joins
+
+      now_under : (w : ℕ) → w < length old → w < length now
+      now_under w lt = let len = before.len in omega (arith, lt, len)
+
+      taken : take (k + 1) args ≡ take k args ++ r ∷ []
+      taken = take_more args k d lt
+
+      among_split : (n : ℕ) (rs qs : List Reg) → Among n (rs ++ qs) → Among n rs ⊎ Among n qs
+      among_split n [] qs a = inr a
+      among_split n (r ∷ rs) qs (first e) = inl (first e)
+      among_split n (r ∷ rs) qs (later a) = ⊎_elim (λ h. inl (later h)) inr (among_split n rs qs a)
+
+      among_left : (n : ℕ) (rs qs : List Reg) → Among n rs → Among n (rs ++ qs)
+      among_left n [] qs a = elim a [ ]
+      among_left n (r ∷ rs) qs (first e) = first e
+      among_left n (r ∷ rs) qs (later a) = later (among_left n rs qs a)
+
+      among_right : (n : ℕ) (rs qs : List Reg) → Among n qs → Among n (rs ++ qs)
+      among_right n [] qs a = a
+      among_right n (r ∷ rs) qs a = later (among_right n rs qs a)
+
+      number_of_one : (n : ℕ) → Among n (r ∷ []) → r.number ≡ n
+      number_of_one n (first e) = e
+      number_of_one n (later a) = elim a [ ]
+
+      among_more : (n : ℕ) → Among n (take (k + 1) args) → Among n (take k args) ⊎ (r.number ≡ n)
+      among_more n a =
+          ⊎_elim inl (λ h. inr (number_of_one n h)) (among_split n (take k args) (r ∷ []) (subst (Among n) taken a))
+
+      earlier : (n : ℕ) → Among n (take k args) → Among n (take (k + 1) args)
+      earlier n a = subst (Among n) (sym taken) (among_left n (take k args) (r ∷ []) a)
+
+      last : Among r.number (take (k + 1) args)
+      last = subst (Among r.number) (sym taken) (among_right r.number (take k args) (r ∷ []) (first refl))
+
+  pub reads_done : (old new : List ℕ) (args : List Reg) (k : ℕ) → length args ≤ k → JoinsReads old new t rows p (take k args) →
+      JoinsReads old new t rows p args
+  reads_done old new args k le j = subst (JoinsReads old new t rows p) (take_all k args le) j
+
+-- ---- places
+
+pub record WebsBefore (m : Mach) (t : Writes) (rows : List (List Bool)) (labels : List ℕ) (place : ℕ) : Type 0 where
+  pub sound : AreSound m t labels
+  pub one : (p : ℕ) (i : Instr) (next : List Instr) (n : ℕ) → p < place → drop p m.code ≡ i ∷ next → Among n i.args →
+      HaveOne t rows labels p n
+
+pub indexes : (m : Mach) (free : ℕ) (t : Writes) (labels : List ℕ) → AreWrites m free t → length labels ≡ length (all_of t) →
+    AreIndexes t (length labels)
+indexes m free t labels writes len =
+    record {
+      below = λ n w c.
+          let x = (writes.grouped).sound n w c in
+          let lt : w < length (all_of t) = slice_get_within (all_of t) w x.0 x.1 in
+          omega (arith, lt, len);
+    }
+
+-- the instruction at a place
+pub at_index : (m : Mach) (code : List Instr) (place : ℕ) (i : Instr) → code ≡ m.code → place < length code →
+    i ≡ slice_index_or code place i → drop place m.code ≡ i ∷ drop (suc place) m.code
+at_index m code place i e lt at =
+    sym (ap (drop place) e) ∙ drop-cons code place i lt ∙ ap (λ x. x ∷ drop (suc place) code) (sym at)
+    ∙ ap (λ xs. i ∷ drop (suc place) xs) e
+
+module _ (m : Mach) (free : ℕ) (t : Writes) (rows : List (List Bool)) (writes : AreWrites m free t)
+    (reach : AreReaching m t rows) where
+  write_same : (x y : Write) → Some x ≡ Some y → x ≡ y
+  write_same x y e = cc
+
+  -- writes of an operand that come to its instruction are joined
+  coming_linked : (p : ℕ) (i : Instr) (next : List Instr) (n w v : ℕ) → p ≤ length m.code → drop p m.code ≡ i ∷ next → Among n i.args →
+      IsComing (members t n) rows p w → IsComing (members t n) rows p v → AreLinked m t w v
+  coming_linked p i next n w v le at a x y =
+      let u = reach.sound p w le x.comes in
+      let z = reach.sound p v le y.comes in
+      let one = (writes.grouped).sound n w x.member in
+      let two = (writes.grouped).sound n v y.member in
+      let un : u.0.number ≡ n = ap (λ (x : Write). x.number) (write_same u.0 one.0 (sym u.1 ∙ one.1)) ∙ one.2 in
+      let zn : z.0.number ≡ n = ap (λ (x : Write). x.number) (write_same z.0 two.0 (sym z.1 ∙ two.1)) ∙ two.2 in
+      let cu : Comes m n (after m u.0.left) (i ∷ next) =
+      subst (Comes m n (after m u.0.left)) at (subst (λ n. Comes m n (after m u.0.left) (drop p m.code)) un u.2) in
+      let cz : Comes m n (after m z.0.left) (i ∷ next) =
+      subst (Comes m n (after m z.0.left)) at (subst (λ n. Comes m n (after m z.0.left) (drop p m.code)) zn z.2) in
+      record {
+        one = u.0;
+        other = z.0;
+        is_one = u.1;
+        is_other = z.1;
+        number = un ∙ sym zn;
+        chained = subst (λ n. Chained m n (after m u.0.left) (after m z.0.left)) (sym un) (meets (read a) cu cz same);
+      }
+
+  pub webs_begun : (labels : List ℕ) → length labels ≡ length (all_of t) → ((w : ℕ) → w < length labels → slice_index labels w ≡ w) →
+      WebsBefore m t rows labels 0
+  webs_begun labels len own =
+      record {
+        sound = record {
+          len = len;
+          linked = λ w lt. subst (AreLinked m t w) (sym (own w lt)) (link_itself m t w (omega (arith, lt, len)));
+        };
+        one = λ p i next n lt. absurd (omega (arith, lt));
+      }
+
+  pub webs_more : (old new : List ℕ) (place : ℕ) (i : Instr) (next : List Instr) → place < length m.code → drop place m.code ≡ i ∷ next →
+      WebsBefore m t rows old place → JoinsReads old new t rows place i.args → WebsBefore m t rows new (place + 1)
+  webs_more old new place i next lt at before j =
+      record {
+        sound = j.sound m before.sound (λ n w v a x y. coming_linked place i next n w v (omega (arith, lt)) at a x y);
+        one = λ p k rest n le there a.
+            ⊎_elim
+            (λ less.
+            let was = before.one p k rest n less there a in
+            record { one = λ w v x y. j.same w v (below.below n w x.member) (below.below n v y.member) (was.one w v x y) })
+            (λ e.
+            let same_code : i ∷ next ≡ k ∷ rest = sym at ∙ ap (λ p. drop p m.code) (sym e) ∙ there in
+            subst (λ p. HaveOne t rows new p n) (sym e) (j.one n (subst (λ (i : Instr). Among n i.args) (sym (head i k next rest same_code)) a)))
+            (less_or p place le);
+      }
+    where
+      below : AreIndexes t (length old)
+      below = indexes m free t old writes (before.sound).len
+
+      head : (i k : Instr) (xs ys : List Instr) → i ∷ xs ≡ k ∷ ys → i ≡ k
+      head i k xs ys e = cc
+
+      less_or : (p k : ℕ) → p < k + 1 → (p < k) ⊎ (p ≡ k)
+      less_or p k le = by (cases_Bool (nat_eq p k))
+        where
+          by : (nat_eq p k ≡ true) ⊎ (nat_eq p k ≡ false) → (p < k) ⊎ (p ≡ k)
+          by (inl e) = inr (eqb-true p k e)
+          by (inr e) = inl (smaller (λ s. differ (nat_eq p k) (eq-eqb p k s) e))
+            where
+              differ : (b : Bool) → b ≡ true → b ≡ false → ⊥
+              differ b x y = cc
+
+              smaller : (p ≡ k → ⊥) → p < k
+              smaller h = omega (arith, le, h)
+
+  pub webs_done : (labels : List ℕ) (place : ℕ) → length m.code ≤ place → WebsBefore m t rows labels place → AreWebs m t rows labels
+  webs_done labels place le w =
+      record {
+        sound = w.sound;
+        one = λ p i next n at a. w.one p i next n (under p i next at) at a;
+      }
+    where
+      under : (p : ℕ) (i : Instr) (next : List Instr) → drop p m.code ≡ i ∷ next → p < place
+      under p i next at = let lt = inside m.code p i next at in omega (arith, lt, le)
+        where
+          inside : (xs : List Instr) (p : ℕ) (i : Instr) (next : List Instr) → drop p xs ≡ i ∷ next → p < length xs
+          inside [] zero i next e = absurd (no_cons i next e)
+            where
+              no_cons : (i : Instr) (next : List Instr) → [] ≡ i ∷ next → ⊥
+              no_cons i next e = cc
+          inside [] (suc p) i next e = absurd (no_cons i next e)
+            where
+              no_cons : (i : Instr) (next : List Instr) → [] ≡ i ∷ next → ⊥
+              no_cons i next e = cc
+          inside (x ∷ xs) zero i next e = omega arith
+          inside (x ∷ xs) (suc p) i next e = let lt = inside xs p i next e in omega (arith, lt)

@@ -1,0 +1,399 @@
+-- The numbers of the tables are those of a split function.
+use Rattle.std.proofs.Common.{◌≡◌, ◌≢◌, ℕ, suc, ◌+◌, ◌-◌, ◌<◌, ◌≤◌, Bool, true, false, cond, ◌⊎◌, inl, inr, ⊎_elim, List, [], ◌∷◌, Option, Some, None, length, drop, refl, sym, ap, ◌∙◌, subst, arith}
+use Rattle.std.proofs.lemmas.Bool.{cases_Bool, eq-eqb, eqb-true, lt-ltb, le-ltb}
+use Rattle.std.proofs.lemmas.List.{length-append}
+use Rattle.std.proofs.lemmas.Option.{slice_get_within}
+use Rattle.std.specs.List.{Contains}
+use Rattle.std.specs.Prelude.{nat_lt, slice_get, slice_index}
+use Rattle.bs_words.specs.declared.types.Loc.TheVariants as loc
+use Rattle.dataflow.specs.Rows.{row}
+use Rattle.mach_ir.specs.Formed.{WellFormed}
+use Rattle.mach_ir.specs.Meaning.{killed}
+use Rattle.mach_ir.specs.Placed.{WellPlaced}
+use Rattle.mach_ir.specs.Sizes.{operand_count, Size, HasSize}
+use Rattle.mach_ir.specs.Walks.{Among, Writes, IsRegister, is_param, is_colour, is_in_code, Stands, here, below}
+use Rattle.mach_ir.specs.declared.reg.Reg.{Reg}
+use Rattle.mach_ir.specs.declared.mach.Instr.{Instr}
+use Rattle.mach_ir.specs.declared.mach.Mach.{Mach}
+use Rattle.mach_laws.specs.Expand.{Ending, all, more}
+use Rattle.mach_laws.specs.Graph.{place_of}
+use Rattle.mach_laws.proofs.Places.{ending_next}
+use Rattle.mach_laws.proofs.Walking.{drop_ending, place_is}
+use Rattle.places_rules.proofs.Walked.{split_among}
+use Rattle.liveness.proofs.Bounds.{killed_is_colour}
+use Rattle.split_rules.specs.Renamed.{Naming, renamed, renamed_code}
+use Rattle.split_rules.specs.Split.{IsNaming, JoinsExactly, IsDense, IsSplit}
+use Rattle.split_rules.specs.Writes.{Comes, Chained, IsWrite, by_entry, by_instr}
+use Rattle.split_rules.proofs.Text.{number_among, args_in, results_in}
+use Rattle.split_rules.proofs.Result.{comes_write, chained_equal}
+use Rattle.split_rules.proofs.Whole.{fixed_colours}
+use Rattle.split.specs.Names.{or_first, keeper, has_label, new_number, find_coming, or_name, name_of, naming, AreTables}
+use Rattle.split.specs.Writes.{is_open, write_of, open_writes, code_writes, writes_of, all_of, members, find_at, after}
+use Rattle.split.specs.declared.tables.Tables.{Tables}
+use Rattle.split.specs.declared.writes.Write.{Write}
+use Rattle.split.proofs.Joining.{chain_turned, chain_on}
+use Rattle.split.proofs.Members.{some_is, got_in, in_got, left_in, right_in, in_open, in_writes, is_unset, IsOpenWrite, open_write, fixed_no_write, found_at, finds_at, found_coming, finds_coming}
+
+differ : (b : Bool) → b ≡ true → b ≡ false → ⊥
+differ b e h = cc
+
+abbrev number_of : Option Write → ℕ
+number_of None = 0
+number_of (Some x) = x.number
+
+module _ (m : Mach) (free : ℕ) (t : Tables) (formed : WellFormed m) (placed : WellPlaced m)
+    (numbers : (r : Reg) → IsRegister m r → r.number < free) (tables : AreTables m free t) where
+  abbrev names : Naming
+  names = naming t (length m.code)
+
+  abbrev ws : ℕ → List ℕ
+  ws n = members t.writes n
+
+  colour_fixed : (r : Reg) → Contains m.colours r → r.loc ≢ loc.Unset
+  colour_fixed = fixed_colours m placed
+
+  label : ℕ → ℕ
+  label w = slice_index tables.labels w
+
+  open_of : (w : ℕ) (x : Write) → slice_get (all_of t.writes) w ≡ Some x → IsOpenWrite m x
+  open_of w x e =
+      open_write m x (subst (λ xs. Contains xs x) tables.writes.all (got_in (all_of t.writes) w x e))
+
+  -- ---- one number
+
+  abbrev the_number : ℕ → ℕ → ℕ
+  the_number n l = new_number t.writes tables.labels free (length m.code) n l
+
+  name_known : (n w : ℕ) → Contains (ws n) w → name_of t.names.items n (Some w) ≡ the_number n (slice_index tables.labels w)
+  name_known n w c =
+      let x = tables.writes.grouped.sound n w c in
+      ap (or_name n) (tables.names.each w x.0 x.1)
+      ∙ ap (λ n. the_number n (slice_index tables.labels w)) x.2
+
+  -- the old number, or one for the label
+  kept_or : (n l : ℕ) → (the_number n l ≡ n) ⊎ (the_number n l ≡ free + l)
+  kept_or n l = by (has_label tables.labels (keeper t.writes (length m.code) n) l) refl
+    where
+      by : (b : Bool) → has_label tables.labels (keeper t.writes (length m.code) n) l ≡ b →
+          (the_number n l ≡ n) ⊎ (the_number n l ≡ free + l)
+      by true e = inl (ap (λ b. cond b n (free + l)) e)
+      by false e = inr (ap (λ b. cond b n (free + l)) e)
+
+  has_is : (o : Option ℕ) (l k : ℕ) → has_label tables.labels o l ≡ true → has_label tables.labels o k ≡ true → l ≡ k
+  has_is None l k e h = absurd (differ false e refl)
+  has_is (Some w) l k e h =
+      sym (eqb-true (slice_index tables.labels w) l e) ∙ eqb-true (slice_index tables.labels w) k h
+
+  -- webs of one register with one number are one
+  label_is : (n l k : ℕ) → n < free → the_number n l ≡ the_number n k → l ≡ k
+  label_is n l k lt e =
+      by (has_label tables.labels (keeper t.writes (length m.code) n) l) (has_label tables.labels (keeper t.writes (length m.code) n) k)
+      refl refl
+    where
+      number_by : (l : ℕ) (b : Bool) → has_label tables.labels (keeper t.writes (length m.code) n) l ≡ b →
+          the_number n l ≡ cond b n (free + l)
+      number_by l b s = ap (λ b. cond b n (free + l)) s
+
+      by : (b d : Bool) → has_label tables.labels (keeper t.writes (length m.code) n) l ≡ b →
+          has_label tables.labels (keeper t.writes (length m.code) n) k ≡ d → l ≡ k
+      by true true x y = has_is (keeper t.writes (length m.code) n) l k x y
+      by true false x y =
+          let s : n ≡ free + k = sym (number_by l true x) ∙ e ∙ number_by k false y in absurd (omega (arith, lt, s))
+      by false true x y =
+          let s : free + l ≡ n = sym (number_by l false x) ∙ e ∙ number_by k true y in absurd (omega (arith, lt, s))
+      by false false x y =
+          let s : free + l ≡ free + k = sym (number_by l false x) ∙ e ∙ number_by k false y in omega (arith, s)
+
+  -- ---- back
+
+  abbrev back_of : ℕ → ℕ
+  back_of y = cond (nat_lt y free) y (number_of (slice_get (all_of t.writes) (y - free)))
+
+  back_old : (n : ℕ) → n < free → back_of n ≡ n
+  back_old n lt = by (nat_lt n free) refl
+    where
+      below_is : n < free → nat_lt n free ≡ true
+      below_is lt = lt-ltb n free lt
+
+      by : (b : Bool) → nat_lt n free ≡ b → cond b n (number_of (slice_get (all_of t.writes) (n - free))) ≡ n
+      by true e = refl
+      by false e = absurd (differ (nat_lt n free) (below_is lt) e)
+
+  back_new : (k : ℕ) (x : Write) → slice_get (all_of t.writes) k ≡ Some x → back_of (free + k) ≡ x.number
+  back_new k x e =
+      ap (λ b. cond b (free + k) (number_of (slice_get (all_of t.writes) (free + k - free)))) (not_below free k)
+      ∙ ap (λ j. number_of (slice_get (all_of t.writes) j)) (minus free k) ∙ ap number_of e
+    where
+      not_below : (a b : ℕ) → nat_lt (a + b) a ≡ false
+      not_below a b = le-ltb (a + b) a (omega arith)
+
+      minus : (a b : ℕ) → a + b - a ≡ b
+      minus a b = omega arith
+
+  label_write : (n w : ℕ) → Contains (ws n) w → (x : Write) × (slice_get (all_of t.writes) (slice_index tables.labels w) ≡ Some x) × (x.number ≡ n)
+  label_write n w c =
+      let x = tables.writes.grouped.sound n w c in
+      let lt : w < length (all_of t.writes) = slice_get_within (all_of t.writes) w x.0 x.1 in
+      let len = tables.webs.sound.len in
+      let l = tables.webs.sound.linked w (omega (arith, lt, len)) in (
+        l.other,
+        l.is_other,
+        sym l.number ∙ ap (λ (x : Write). x.number) (some_is l.one x.0 (sym l.is_one ∙ x.1)) ∙ x.2,
+      )
+
+  back_name : (n : ℕ) → n < free → (o : Option ℕ) → ((w : ℕ) → o ≡ Some w → Contains (ws n) w) → back_of (name_of t.names.items n o) ≡ n
+  back_name n lt None known = back_old n lt
+  back_name n lt (Some w) known =
+      let c = known w refl in
+      ap back_of (name_known n w c)
+      ∙ ⊎_elim (λ e. ap back_of e ∙ back_old n lt)
+      (λ e. let x = label_write n w c in ap back_of e ∙ back_new (slice_index tables.labels w) x.0 x.1 ∙ x.2)
+      (kept_or n (slice_index tables.labels w))
+
+  coming_known : (p n w : ℕ) → find_coming (row t.rows.rows.items p) (ws n) ≡ Some w → Contains (ws n) w
+  coming_known p n w e = (found_coming (row t.rows.rows.items p) (ws n) w e).among
+
+  at_known : (k n w : ℕ) → find_at (all_of t.writes) k (ws n) ≡ Some w → Contains (ws n) w
+  at_known k n w e = (found_at (all_of t.writes) k (ws n) w e).among
+
+  -- ---- fixed ones
+
+  none_fixed : (r : Reg) → IsRegister m r → r.loc ≢ loc.Unset → (w : ℕ) → Contains (ws r.number) w → ⊥
+  none_fixed r i h w c =
+      let x = tables.writes.grouped.sound r.number w c in
+      fixed_no_write m formed colour_fixed r x.0 i h (open_of w x.0 x.1) x.2
+
+  fixed_name : (r : Reg) → IsRegister m r → r.loc ≢ loc.Unset → (o : Option ℕ) →
+      ((w : ℕ) → o ≡ Some w → Contains (ws r.number) w) → name_of t.names.items r.number o ≡ r.number
+  fixed_name r i h None known = refl
+  fixed_name r i h (Some w) known = absurd (none_fixed r i h w (known w refl))
+
+  -- ---- writes are found
+
+  write_found : (n k : ℕ) → Contains (writes_of m) (record { left = k; number = n }) → (v : ℕ) × (find_at (all_of t.writes) k (ws n) ≡ Some v)
+  write_found n k c =
+      let x : Write = record { left = k; number = n } in
+      let w = in_got (all_of t.writes) x (subst (λ xs. Contains xs x) (sym tables.writes.all) c) in
+      finds_at (all_of t.writes) k (ws n) w.0 x (tables.writes.grouped.whole w.0 x w.1) w.1 refl
+
+  param_found : (r : Reg) → IsRegister m r → r.loc ≡ loc.Unset → Among r.number m.params →
+      (v : ℕ) × (find_at (all_of t.writes) (length m.code) (ws r.number) ≡ Some v)
+  param_found r i u a =
+      let p = number_among m.params a in
+      let e = formed.numbers p.0 r (is_param p.1) i p.2 in
+      write_found r.number (length m.code)
+      (left_in (open_writes (length m.code) m.params) (code_writes m.code) (write_of (length m.code) r)
+      (in_open (length m.code) m.params r (subst (Contains m.params) e p.1) u))
+
+  result_found : (r : Reg) → IsRegister m r → r.loc ≡ loc.Unset → (i : Instr) (next : List Instr) → Stands i next m.code →
+      Writes m i r.number → (v : ℕ) × (find_at (all_of t.writes) (length next) (ws r.number) ≡ Some v)
+  result_found r k u i next s a =
+      ⊎_elim
+      (λ h.
+      let p = number_among i.results h in
+      let e = formed.numbers p.0 r (is_in_code (results_in s p.1)) k p.2 in
+      write_found r.number (length next)
+      (right_in (open_writes (length m.code) m.params) (code_writes m.code) (write_of (length next) r)
+      (in_writes m.code i next r s (subst (Contains i.results) e p.1) u)))
+      (λ h.
+      let p = number_among (killed m i) h in
+      let c = killed_is_colour m i p.0 p.1 in
+      let e = formed.numbers p.0 r (is_colour c) k p.2 in
+      absurd (colour_fixed p.0 c (ap (λ (r : Reg). r.loc) e ∙ u)))
+      (split_among r.number i.results (killed m i) a)
+
+  write_at : (r : Reg) → IsRegister m r → r.loc ≡ loc.Unset → {from : List Instr} → IsWrite m r.number from →
+      (v : ℕ) × (find_at (all_of t.writes) (length from) (ws r.number) ≡ Some v)
+  write_at r i u (by_entry a) = param_found r i u a
+  write_at r k u (by_instr {i = i} {next = next} s a) = result_found r k u i next s a
+
+  ends_with : {n : ℕ} {from : List Instr} → IsWrite m n from → Ending from m.code
+  ends_with (by_entry a) = all
+  ends_with (by_instr s a) = ending_next (ending_of s)
+    where
+      ending_of : {i : Instr} {next code : List Instr} → Stands i next code → Ending (i ∷ next) code
+      ending_of here = all
+      ending_of (below s) = more (ending_of s)
+
+  -- ---- operands and their writes
+
+  open_agree : (r : Reg) → IsRegister m r → r.loc ≡ loc.Unset → (i : Instr) (next from : List Instr) → Stands i next m.code →
+      Among r.number i.args → Comes m r.number from (i ∷ next) →
+      names.read (length next) r.number ≡ names.write (length from) r.number
+  open_agree r k u i next from s a c =
+      let n = r.number in
+      let p : ℕ = length m.code - 1 - length next in
+      let ending = stands_ending s in
+      let at : place_of m (i ∷ next) ≡ p = place_at (length m.code) (length next) in
+      let here_is : drop p m.code ≡ i ∷ next = sym (ap (λ p. drop p m.code) at) ∙ place_is m ending in
+      let within : p ≤ length m.code = below_end (length m.code) (length next) in
+      let v = write_at r k u (comes_write m c) in
+      let comes = tables.reaching.whole p v.0 n from within (subst (Comes m n from) (sym here_is) c) v.1 in
+      let member = at_known (length from) n v.0 v.1 in
+      let w = finds_coming (row t.rows.rows.items p) (ws n) v.0 member comes in
+      let found = found_coming (row t.rows.rows.items p) (ws n) w.0 w.1 in
+      let same_label = (tables.webs.one p i next n here_is a).one w.0 v.0
+      (record { member = found.among; comes = found.comes }) (record { member = member; comes = comes }) in
+      ap (name_of t.names.items n) w.1 ∙ name_known n w.0 found.among ∙ ap (the_number n) same_label
+      ∙ sym (ap (name_of t.names.items n) v.1 ∙ name_known n v.0 member)
+    where
+      stands_ending : {i : Instr} {next code : List Instr} → Stands i next code → Ending (i ∷ next) code
+      stands_ending here = all
+      stands_ending (below s) = more (stands_ending s)
+
+      place_at : (a b : ℕ) → a - suc b ≡ a - 1 - b
+      place_at a b = omega arith
+
+      below_end : (a b : ℕ) → a - 1 - b ≤ a
+      below_end a b = omega arith
+
+  agreeing : (i : Instr) (next from : List Instr) (n : ℕ) → Stands i next m.code → Among n i.args → Comes m n from (i ∷ next) →
+      names.read (length next) n ≡ names.write (length from) n
+  agreeing i next from n s a c =
+      let r = number_among i.args a in
+      let known = is_in_code (args_in s r.1) in
+      subst (λ n. names.read (length next) n ≡ names.write (length from) n) r.2
+      (⊎_elim
+      (λ o.
+      open_agree r.0 known (is_unset (r.0.loc) o) i next from s (subst (λ n. Among n i.args) (sym r.2) a)
+      (subst (λ n. Comes m n from (i ∷ next)) (sym r.2) c))
+      (λ o.
+      let fixed : r.0.loc ≢ loc.Unset = λ e. differ (is_open (r.0.loc)) (ap is_open e) o in
+      fixed_name r.0 known fixed _ (coming_known (length m.code - 1 - length next) (r.0.number))
+      ∙ sym (fixed_name r.0 known fixed _ (at_known (length from) (r.0.number))))
+      (cases_Bool (is_open (r.0.loc))))
+
+  entry_keeps : (n : ℕ) → names.write (length m.code) n ≡ n
+  entry_keeps n = by (find_at (all_of t.writes) (length m.code) (ws n)) refl
+    where
+      by : (o : Option ℕ) → find_at (all_of t.writes) (length m.code) (ws n) ≡ o → names.write (length m.code) n ≡ n
+      by None e = ap (name_of t.names.items n) e
+      by (Some w) e =
+          ap (name_of t.names.items n) e ∙ name_known n w (at_known (length m.code) n w e)
+          ∙ ap (λ b. cond b n (free + slice_index tables.labels w))
+          (ap (λ o. has_label tables.labels (or_first o (ws n)) (slice_index tables.labels w)) e
+          ∙ eq-eqb (slice_index tables.labels w) (slice_index tables.labels w) refl)
+
+  pub is_naming : IsNaming m names
+  is_naming =
+      record {
+        agree = agreeing;
+        back = back_of;
+        read_back = λ r i k. back_name r.number (numbers r i) _ (coming_known (length m.code - 1 - k) r.number);
+        write_back = λ r i k. back_name r.number (numbers r i) _ (at_known k r.number);
+        read_fixed = λ r i h k. fixed_name r i h _ (coming_known (length m.code - 1 - k) r.number);
+        write_fixed = λ r i h k. fixed_name r i h _ (at_known k r.number);
+        entry = λ n a. entry_keeps n;
+      }
+
+  -- ---- joined exactly
+
+  -- the chain from a write to the one that its label tells
+  label_chain : (r : Reg) → IsRegister m r → r.loc ≡ loc.Unset → (from : List Instr) → IsWrite m r.number from → (v : ℕ) →
+      find_at (all_of t.writes) (length from) (ws r.number) ≡ Some v → (l : ℕ) → slice_index tables.labels v ≡ l → (x : Write) →
+      slice_get (all_of t.writes) l ≡ Some x → Chained m r.number from (after m x.left)
+  label_chain r i u from w v found l is_label x got =
+      let f = found_at (all_of t.writes) (length from) (ws r.number) v found in
+      let lt : v < length (all_of t.writes) = slice_get_within (all_of t.writes) v f.write f.is in
+      let len = tables.webs.sound.len in
+      let k = tables.webs.sound.linked v (omega (arith, lt, len)) in
+      let one : k.one ≡ f.write = some_is k.one f.write (sym k.is_one ∙ f.is) in
+      let y = tables.writes.grouped.sound r.number v f.among in
+      let number : k.one.number ≡ r.number =
+      ap (λ (x : Write). x.number) (some_is k.one y.0 (sym k.is_one ∙ y.1)) ∙ y.2 in
+      let other : k.other ≡ x =
+      some_is k.other x (sym k.is_other ∙ ap (slice_get (all_of t.writes)) is_label ∙ got) in
+      let from_is : after m k.one.left ≡ from =
+      ap (after m) (ap (λ (x : Write). x.left) one ∙ f.left) ∙ drop_ending (ends_with w) in
+      subst (λ (y : Write). Chained m r.number from (after m y.left)) other
+      (subst (λ xs. Chained m r.number xs (after m (k.other).left)) from_is
+      (subst (λ n. Chained m n (after m (k.one).left) (after m (k.other).left)) number k.chained))
+
+  pub joins_exactly : JoinsExactly m names
+  joins_exactly =
+      record {
+        exact = λ r i u from to x y. (
+          λ e.
+              let n = r.number in
+              let v = write_at r i u x in
+              let w = write_at r i u y in
+              let cv = at_known (length from) n v.0 v.1 in
+              let cw = at_known (length to) n w.0 w.1 in
+              let same_number : the_number n (slice_index tables.labels v.0) ≡ the_number n (slice_index tables.labels w.0) =
+              sym (ap (name_of t.names.items n) v.1 ∙ name_known n v.0 cv) ∙ e ∙ ap (name_of t.names.items n) w.1 ∙ name_known n w.0 cw in
+              let l = label_is n (slice_index tables.labels v.0) (slice_index tables.labels w.0) (numbers r i) same_number in
+              let z = label_write n w.0 cw in
+              chain_on m t.writes
+              (label_chain r i u from x v.0 v.1 (slice_index tables.labels w.0) l z.0 z.1)
+              (chain_turned m t.writes (label_chain r i u to y w.0 w.1 (slice_index tables.labels w.0) refl z.0 z.1)),
+          λ h. chained_equal m names agreeing h,
+        );
+      }
+
+  -- ---- how large numbers are
+
+  few_open : (k : ℕ) (rs : List Reg) → length (open_writes k rs) ≤ length rs
+  few_open k [] = omega arith
+  few_open k (r ∷ rs) = by (is_open r.loc) (few_open k rs)
+    where
+      by : (b : Bool) → length (open_writes k rs) ≤ length rs →
+          length (cond b (write_of k r ∷ open_writes k rs) (open_writes k rs)) ≤ length (r ∷ rs)
+      by true le = omega (arith, le)
+      by false le = omega (arith, le)
+
+  few_code : (code : List Instr) → length (code_writes code) ≤ operand_count code
+  few_code [] = omega arith
+  few_code (i ∷ is) =
+      let a = few_open (length is) i.results in
+      let b = few_code is in
+      let c = length-append (open_writes (length is) i.results) (code_writes is) in
+      omega (arith, a, b, c)
+
+  few_writes : length (all_of t.writes) ≤ length m.params + operand_count m.code
+  few_writes =
+      let e = ap length tables.writes.all in
+      let a = few_open (length m.code) m.params in
+      let b = few_code m.code in
+      let c = length-append (open_writes (length m.code) m.params) (code_writes m.code) in
+      omega (arith, a, b, c, e)
+
+  module _ (least : (b : ℕ) → ((r : Reg) → IsRegister m r → r.number < b) → free ≤ b) where
+    small_name : (s : Size) → HasSize m s → (r : Reg) → IsRegister m r → (o : Option ℕ) →
+        ((w : ℕ) → o ≡ Some w → Contains (ws r.number) w) →
+        name_of t.names.items r.number o < s.registers + (s.operands + length m.params)
+    small_name s h r i None known = let lt = h.numbers r i in omega (arith, lt)
+    small_name s h r i (Some w) known =
+        let c = known w refl in
+        subst (λ k. k < s.registers + (s.operands + length m.params)) (sym (name_known r.number w c))
+        (⊎_elim
+        (λ e.
+        let lt = h.numbers r i in
+        subst (λ k. k < s.registers + (s.operands + length m.params)) (sym e) (omega (arith, lt)))
+        (λ e.
+        let x = label_write r.number w c in
+        let lt : slice_index tables.labels w < length (all_of t.writes) =
+        slice_get_within (all_of t.writes) (slice_index tables.labels w) x.0 x.1 in
+        let few = few_writes in
+        let ops = h.operands in
+        let low = least s.registers h.numbers in
+        subst (λ k. k < s.registers + (s.operands + length m.params)) (sym e) (omega (arith, lt, few, ops, low)))
+        (kept_or r.number (slice_index tables.labels w)))
+
+    pub is_dense : IsDense m names
+    is_dense =
+        record {
+          read = λ s h r i k. small_name s h r i _ (coming_known (length m.code - 1 - k) r.number);
+          write = λ s h r i k. small_name s h r i _ (at_known k r.number);
+        }
+
+    pub is_split : IsSplit m (renamed names m)
+    is_split = record { names = names; is = refl; naming = is_naming; joins = joins_exactly; dense = is_dense }
+
+-- the whole function, with its code renamed so
+pub split_done : (m : Mach) (free : ℕ) (t : Tables) (last : ℕ) (code : List Instr) → WellFormed m → WellPlaced m →
+    ((r : Reg) → IsRegister m r → r.number < free) →
+    ((b : ℕ) → ((r : Reg) → IsRegister m r → r.number < b) → free ≤ b) → AreTables m free t → last ≡ length m.code →
+    code ≡ renamed_code (naming t last) m.code → IsSplit m (record m { code = code })
+split_done m free t last code formed placed numbers least tables e made =
+    subst (λ xs. IsSplit m (record m { code = xs })) (sym (made ∙ ap (λ k. renamed_code (naming t k) m.code) e))
+    (is_split m free t formed placed numbers tables least)

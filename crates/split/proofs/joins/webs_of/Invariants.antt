@@ -1,0 +1,12 @@
+use Rattle.std.proofs.Common.{◌≡◌, length}
+use Rattle.split.specs.Reach.{AreReaching}
+use Rattle.split.specs.Writes.{all_of}
+use Rattle.split.proofs.Joining.{WebsBefore}
+use Rattle.split.proofs.joins.webs_of.Given as goal
+
+abbrev pub invariant-loop-place : goal.invariant-loop-place
+invariant-loop-place l =
+    record {
+      len : length l.labels.items ≡ length (all_of l.writes);
+      webs : AreReaching l.mach l.writes l.rows.rows.items → WebsBefore l.mach l.writes l.rows.rows.items l.labels.items l.place;
+    }

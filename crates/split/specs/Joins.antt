@@ -1,0 +1,84 @@
+-- Labels of writes: those that are joined have one.
+use Rattle.std.specs.Prelude.{◌≡◌, ℕ, ◌<◌, Bool, true, cond, nat_eq, List, ◌∷◌, Some, length, drop, slice_get, slice_index, Contains}
+use Rattle.bs_bits.specs.Set.{has}
+use Rattle.dataflow.specs.Rows.{row}
+use Rattle.mach_ir.specs.Walks.{Among}
+use Rattle.mach_ir.specs.declared.reg.Reg.{Reg}
+use Rattle.mach_ir.specs.declared.mach.Instr.{Instr}
+use Rattle.mach_ir.specs.declared.mach.Mach.{Mach}
+use Rattle.split_rules.specs.Writes.{Chained}
+use Rattle.split.specs.Writes.{all_of, members, after}
+use Rattle.split.specs.declared.writes.Write.{Write}
+use Rattle.split.specs.declared.writes.Writes.{Writes}
+
+-- one label in the place of another
+abbrev pub replaced : ℕ → ℕ → ℕ → ℕ
+replaced from to label = cond (nat_eq label from) to label
+
+-- one of these writes, which comes to a place
+pub record IsComing (members : List ℕ) (rows : List (List Bool)) (p w : ℕ) : Type 0 where
+  pub member : Contains members w
+  pub comes : has (row rows p) w ≡ true
+
+-- how a write has come to its label
+pub data Relabelled (old new : List ℕ) (members : List ℕ) (rows : List (List Bool)) (p w : ℕ) :
+    Type 0 where
+  as_it_was : slice_index new w ≡ slice_index old w → Relabelled old new members rows p w
+  as_another : (u v : ℕ) → IsComing members rows p u → IsComing members rows p v →
+      slice_index old w ≡ slice_index old u → slice_index new w ≡ slice_index old v →
+      Relabelled old new members rows p w
+
+-- Those of these writes that come to a place have one label. Others have come to new ones only by
+-- them, and what had one label still has.
+pub record Joins (old new : List ℕ) (members : List ℕ) (rows : List (List Bool)) (p : ℕ) :
+    Type 0 where
+  pub len : length new ≡ length old
+  pub same : (w v : ℕ) → w < length old → v < length old → slice_index old w ≡ slice_index old v →
+      slice_index new w ≡ slice_index new v
+  pub together : (w v : ℕ) → IsComing members rows p w → IsComing members rows p v →
+      slice_index new w ≡ slice_index new v
+  pub from : (w : ℕ) → w < length old → Relabelled old new members rows p w
+
+-- two writes of one register that are joined
+pub record AreLinked (m : Mach) (t : Writes) (w v : ℕ) : Type 0 where
+  pub one : Write
+  pub other : Write
+  pub is_one : slice_get (all_of t) w ≡ Some one
+  pub is_other : slice_get (all_of t) v ≡ Some other
+  pub number : one.number ≡ other.number
+  pub chained : Chained m one.number (after m one.left) (after m other.left)
+
+-- each write is joined with the one that its label tells
+pub record AreSound (m : Mach) (t : Writes) (labels : List ℕ) : Type 0 where
+  pub len : length labels ≡ length (all_of t)
+  pub linked : (w : ℕ) → w < length labels → AreLinked m t w (slice_index labels w)
+
+-- the writes of a register that come to a place have one label
+pub record HaveOne (t : Writes) (rows : List (List Bool)) (labels : List ℕ) (p n : ℕ) :
+    Type 0 where
+  pub one : (w v : ℕ) → IsComing (members t n) rows p w → IsComing (members t n) rows p v →
+      slice_index labels w ≡ slice_index labels v
+
+-- Writes that are joined have one label.
+pub record AreWebs (m : Mach) (t : Writes) (rows : List (List Bool)) (labels : List ℕ) :
+    Type 0 where
+  pub sound : AreSound m t labels
+  pub one : (p : ℕ) (i : Instr) (next : List Instr) (n : ℕ) → drop p m.code ≡ i ∷ next →
+      Among n i.args → HaveOne t rows labels p n
+
+-- the indexes of the writes of each number are below this one
+pub record AreIndexes (t : Writes) (count : ℕ) : Type 0 where
+  pub below : (n w : ℕ) → Contains (members t n) w → w < count
+
+-- The writes of each of these operands that come to the place have one label, what had one still has,
+-- and where writes that come to a place are joined, others have only come to labels of such.
+pub record JoinsReads (old new : List ℕ) (t : Writes) (rows : List (List Bool)) (p : ℕ)
+    (args : List Reg) : Type 0 where
+  pub len : length new ≡ length old
+  pub same : (w v : ℕ) → w < length old → v < length old → slice_index old w ≡ slice_index old v →
+      slice_index new w ≡ slice_index new v
+  pub one : (n : ℕ) → Among n args → HaveOne t rows new p n
+  pub sound : (m : Mach) → AreSound m t old →
+      ((n w v : ℕ) → Among n args → IsComing (members t n) rows p w →
+      IsComing (members t n) rows p v → AreLinked m t w v) →
+      AreSound m t new

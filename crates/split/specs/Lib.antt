@@ -1,0 +1,4 @@
+pub mod Writes
+pub mod Reach
+pub mod Joins
+pub mod Names

@@ -1,0 +1,68 @@
+-- The numbers of writes, and the naming that tables give.
+use Rattle.std.specs.Prelude.{◌≡◌, ℕ, ◌+◌, ◌-◌, Bool, false, cond, nat_eq, List, [], ◌∷◌, Option, Some, None, length, slice_get, slice_index}
+use Rattle.bs_bits.specs.Set.{has}
+use Rattle.dataflow.specs.Rows.{row}
+use Rattle.mach_ir.specs.declared.mach.Mach.{Mach}
+use Rattle.split_rules.specs.Renamed.{Naming}
+use Rattle.split.specs.Writes.{all_of, members, find_at, AreWrites}
+use Rattle.split.specs.Reach.{AreReaching}
+use Rattle.split.specs.Joins.{AreWebs}
+use Rattle.split.specs.declared.writes.Write.{Write}
+use Rattle.split.specs.declared.writes.Writes.{Writes}
+use Rattle.split.specs.declared.tables.Tables.{Tables}
+
+abbrev pub or_first : Option ℕ → List ℕ → Option ℕ
+or_first (Some w) ws = Some w
+or_first None [] = None
+or_first None (w ∷ ws) = Some w
+
+-- the write of a number whose web keeps it: the entry's, if there is one, or else the first
+abbrev pub keeper : Writes → ℕ → ℕ → Option ℕ
+keeper t end n = or_first (find_at (all_of t) end (members t n)) (members t n)
+
+abbrev pub has_label : List ℕ → Option ℕ → ℕ → Bool
+has_label labels None label = false
+has_label labels (Some w) label = nat_eq (slice_index labels w) label
+
+-- the number of a web of this register
+abbrev pub new_number : Writes → List ℕ → ℕ → ℕ → ℕ → ℕ → ℕ
+new_number t labels free end n label =
+    cond (has_label labels (keeper t end n) label) n (free + label)
+
+-- each write has the number of its web
+pub record AreNames (t : Writes) (labels : List ℕ) (free end : ℕ) (names : List ℕ) : Type 0 where
+  pub each : (w : ℕ) (x : Write) → slice_get (all_of t) w ≡ Some x →
+      slice_get names w ≡ Some (new_number t labels free end x.number (slice_index labels w))
+
+-- the first of these writes that comes to a place
+abbrev pub find_coming : List Bool → List ℕ → Option ℕ
+find_coming set [] = None
+find_coming set (w ∷ ws) = cond (has set w) (Some w) (find_coming set ws)
+
+abbrev pub or_name : ℕ → Option ℕ → ℕ
+or_name n None = n
+or_name n (Some k) = k
+
+-- the number of a write; a register that none was found of keeps its own
+abbrev pub name_of : List ℕ → ℕ → Option ℕ → ℕ
+name_of names n None = n
+name_of names n (Some w) = or_name n (slice_get names w)
+
+-- An operand has the number of a write that comes to it, a result that of its own.
+abbrev pub naming : Tables → ℕ → Naming
+naming t end =
+    record {
+      read = λ k n.
+          name_of t.names.items n
+          (find_coming (row t.rows.rows.items (end - 1 - k)) (members t.writes n));
+      write = λ k n.
+          name_of t.names.items n (find_at (all_of t.writes) k (members t.writes n));
+    }
+
+-- what is known of the tables of a function
+pub record AreTables (m : Mach) (free : ℕ) (t : Tables) : Type 0 where
+  pub writes : AreWrites m free t.writes
+  pub reaching : AreReaching m t.writes t.rows.rows.items
+  pub labels : List ℕ
+  pub webs : AreWebs m t.writes t.rows.rows.items labels
+  pub names : AreNames t.writes labels free (length m.code) t.names.items

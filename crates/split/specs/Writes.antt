@@ -1,0 +1,75 @@
+-- The writes of open registers, as a table.
+use Rattle.std.specs.Prelude.{◌≡◌, ℕ, ◌-◌, Bool, true, false, cond, nat_eq, List, [], ◌∷◌, ◌++◌, Option, Some, None, map, drop, length, slice_get, slice_index_or, Contains}
+use Rattle.bs_words.specs.declared.types.Loc.{Loc}
+use Rattle.bs_words.specs.declared.types.Loc.TheVariants as loc
+use Rattle.mach_ir.specs.declared.reg.Reg.{Reg}
+use Rattle.mach_ir.specs.declared.mach.Instr.{Instr}
+use Rattle.mach_ir.specs.declared.mach.Mach.{Mach}
+use Rattle.split.specs.declared.writes.Write.{Write}
+use Rattle.split.specs.declared.writes.Group as group
+use Rattle.split.specs.declared.writes.Writes.{Writes}
+
+abbrev pub is_open : Loc → Bool
+is_open loc.Unset = true
+is_open (loc.Machine n) = false
+is_open (loc.Slot n) = false
+
+abbrev pub write_of : ℕ → Reg → Write
+write_of k r = record { left = k; number = r.number }
+
+-- those among these registers, before so many instructions
+abbrev pub open_writes : ℕ → List Reg → List Write
+open_writes k [] = []
+open_writes k (r ∷ rs) = cond (is_open r.loc) (write_of k r ∷ open_writes k rs) (open_writes k rs)
+
+abbrev pub code_writes : List Instr → List Write
+code_writes [] = []
+code_writes (i ∷ is) = open_writes (length is) i.results ++ code_writes is
+
+-- of the parameters, and of the results in the order of the text
+abbrev pub writes_of : Mach → List Write
+writes_of m = open_writes (length m.code) m.params ++ code_writes m.code
+
+abbrev pub all_of : Writes → List Write
+all_of t = t.all.items
+
+abbrev pub members_in : List group.Group → ℕ → List ℕ
+members_in groups n = slice_index_or (map (λ (g : group.Group). g.members.items) groups) n []
+
+-- the indexes of the writes of a number
+abbrev pub members : Writes → ℕ → List ℕ
+members t n = members_in t.groups.items n
+
+-- an index has come to its group, and nothing else
+pub record HasMember (old new : List group.Group) (n member : ℕ) : Type 0 where
+  pub len : length new ≡ length old
+  pub here : members_in new n ≡ members_in old n ++ member ∷ []
+  pub others : (k : ℕ) → (k ≡ n → ⊥) → members_in new k ≡ members_in old k
+
+-- each index is in the group of its write's number, and nothing else is
+pub record IsGrouped (writes : List Write) (free : ℕ) (groups : List group.Group) : Type 0 where
+  pub len : length groups ≡ free
+  pub sound : (n w : ℕ) → Contains (members_in groups n) w →
+      (x : Write) × (slice_get writes w ≡ Some x) × (x.number ≡ n)
+  pub whole : (w : ℕ) (x : Write) → slice_get writes w ≡ Some x → Contains (members_in groups x.number) w
+
+-- the writes of a function
+pub record AreWrites (m : Mach) (free : ℕ) (t : Writes) : Type 0 where
+  pub all : all_of t ≡ writes_of m
+  pub grouped : IsGrouped (all_of t) free t.groups.items
+
+abbrev pub has_left : Option Write → ℕ → Bool
+has_left None k = false
+has_left (Some x) k = nat_eq x.left k
+
+abbrev pub is_at : List Write → ℕ → ℕ → Bool
+is_at writes w k = has_left (slice_get writes w) k
+
+-- the first of these writes after which so many instructions come
+abbrev pub find_at : List Write → ℕ → List ℕ → Option ℕ
+find_at writes k [] = None
+find_at writes k (w ∷ ws) = cond (is_at writes w k) (Some w) (find_at writes k ws)
+
+-- the code after so many instructions are left: what a write with this number is told by
+abbrev pub after : Mach → ℕ → List Instr
+after m k = drop (length m.code - k) m.code

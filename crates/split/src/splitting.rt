@@ -1,0 +1,72 @@
+//! Splitting, whole.
+ghost use Rattle.std.specs.Prelude.{◌<◌, ◌^◌, suc, length, IfOk};
+ghost use Rattle.mach_ir.specs.Formed.{WellFormed};
+ghost use Rattle.mach_ir.specs.Placed.{WellPlaced};
+ghost use Rattle.mach_ir.specs.Walks.{IsRegister};
+ghost use Rattle.mach_ir.specs.declared.reg.Reg.{Reg};
+ghost use Rattle.split.specs.Names.{AreTables};
+ghost use Rattle.split_rules.specs.Split.{IsSplit};
+
+use crate::joins::webs_of;
+use crate::names::names_of;
+use crate::reach::reach;
+use crate::rename::rename_code;
+use crate::tables::Tables;
+use crate::writes::Writes;
+use liveness::first_free;
+use mach_ir::Mach;
+use std::alloc::{AllocError, Global};
+
+/// The tables of a function whose registers have numbers below `free`.
+fn tables_of(alloc: Global, mach: &Mach, free: u32) -> Result<Tables, AllocError>
+    requires fits { suc (length mach.now.code) < 2 ^ 32 }
+    requires numbers { (r : Reg) → IsRegister mach.now r → r.number < free }
+    ensures { IfOk result (λ tables. WellFormed mach.now → WellPlaced mach.now → AreTables mach.now free tables) }
+{
+    let writes = Writes::of_function(alloc, mach, free)?;
+    let rows = reach(alloc, mach, free, &writes)?;
+    let labels = webs_of(alloc, mach, free, &writes, &rows)?;
+    let end = mach.code.len() as u32;
+    let names = names_of(alloc, &writes, labels.as_slice(), free, end)?;
+    Ok(Tables {
+        writes,
+        rows,
+        names,
+    })
+}
+
+/// The function with a number of its own for each web of a register whose place is open.
+///
+/// Two writes of a register are joined where there is a place at which it is live and to which both
+/// come; a web is what a chain of joined writes connects. The entry writes the parameters, and their
+/// webs keep their numbers, as does the first web of any other register. Nothing else changes.
+///
+/// The time is that of `dataflow::reaching` over the writes. The only error is want of memory, which
+/// more places, writes or registers than a number can count are too.
+pub fn split(alloc: Global, mach: Mach) -> Result<Mach, AllocError>
+    ensures { IfOk result (λ made. WellFormed mach → WellPlaced mach → IsSplit mach made) }
+{
+    if mach.code.len() >= u32::MAX as usize {
+        return Err(AllocError);
+    }
+    let end = mach.code.len() as u32;
+    let free = first_free(&mach)?;
+    let tables = tables_of(alloc, &mach, free)?;
+    let Mach {
+        name,
+        params,
+        result,
+        labels,
+        colours,
+        code,
+    } = mach;
+    let code = rename_code(alloc, &tables, end, code)?;
+    Ok(Mach {
+        name,
+        params,
+        result,
+        labels,
+        colours,
+        code,
+    })
+}

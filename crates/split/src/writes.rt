@@ -1,0 +1,153 @@
+//! The writes of the registers whose places are open.
+ghost use Rattle.std.specs.Prelude.{◌≡◌, ◌<◌, ◌++◌, ◌^◌, [], All, length, IfOk};
+ghost use Rattle.mach_ir.specs.Walks.{IsRegister};
+ghost use Rattle.mach_ir.specs.declared.reg.Reg.{Reg};
+ghost use Rattle.split.specs.Writes.{is_open, open_writes, writes_of, all_of, members, is_at, find_at, HasMember, IsGrouped, AreWrites};
+
+use bs_words::Loc;
+use mach_ir::{Mach, Reg};
+use std::alloc::{AllocError, Global};
+
+/// A write of a register: how many instructions come after it, and the register's number. The entry
+/// writes the parameters, before all instructions.
+#[derive(Clone, Copy, PartialEq, Eq, Debug)]
+pub struct Write {
+    pub left: u32,
+    pub number: u32,
+}
+
+/// Indexes of writes.
+#[derive(Drop)]
+pub struct Group {
+    pub members: Vec<u32>,
+}
+
+/// All writes of open registers, and for each number the indexes of its writes.
+#[derive(Drop)]
+pub struct Writes {
+    pub all: Vec<Write>,
+    pub groups: Vec<Group>,
+}
+
+fn is_open(place: Loc) -> bool
+    ensures { result ≡ is_open place }
+{
+    match place {
+        Loc::Unset => true,
+        Loc::Machine(_) => false,
+        Loc::Slot(_) => false,
+    }
+}
+
+fn push_open(writes: &mut Vec<Write>, left: u32, regs: &[Reg]) -> Result<(), AllocError>
+    ensures { IfOk result (λ _. writes.new.items ≡ writes.old.items ++ open_writes left regs.now) }
+{
+    for reg in regs {
+        if is_open(reg.loc) {
+            writes.push(Write {
+                left,
+                number: reg.number,
+            })?;
+        }
+    }
+    Ok(())
+}
+
+/// The writes of open registers: of the parameters, and of the results in the order of the text.
+fn all_writes(alloc: Global, mach: &Mach) -> Result<Vec<Write>, AllocError>
+    requires { length mach.now.code < 2 ^ 32 }
+    ensures { IfOk result (λ writes. writes.items ≡ writes_of mach.now) }
+{
+    let code = mach.code.as_slice();
+    let mut writes = Vec::new(alloc);
+    let mut left = code.len() as u32;
+    push_open(&mut writes, left, mach.params.as_slice())?;
+    for instr in code {
+        left -= 1;
+        push_open(&mut writes, left, instr.results.as_slice())?;
+    }
+    Ok(writes)
+}
+
+/// Adds a member to a group.
+fn add_member(groups: &mut Vec<Group>, number: u32, member: u32) -> Result<(), AllocError>
+    requires { number < length groups.old.items }
+    ensures { IfOk result (λ _. HasMember groups.old.items groups.new.items number member) }
+{
+    let group = &mut groups[number as usize];
+    group.members.push(member)?;
+    Ok(())
+}
+
+fn no_members(alloc: Global, free: u32) -> Result<Vec<Group>, AllocError>
+    ensures { IfOk result (λ groups. IsGrouped [] free groups.items) }
+{
+    let mut groups = Vec::with_capacity(alloc, free as usize)?;
+    for _number in 0..free {
+        groups.push(Group {
+            members: Vec::new(alloc),
+        })?;
+    }
+    Ok(groups)
+}
+
+/// For each number below `free` the indexes of its writes.
+fn groups_of(alloc: Global, writes: &[Write], free: u32) -> Result<Vec<Group>, AllocError>
+    requires numbers { All (λ (x : Write). x.number < free) writes.now }
+    requires few { length writes.now < 2 ^ 32 }
+    ensures { IfOk result (λ groups. IsGrouped writes.now free groups.items) }
+{
+    let mut groups = no_members(alloc, free)?;
+    for (index, write) in writes.iter().enumerate() {
+        add_member(&mut groups, write.number, index as u32)?;
+    }
+    Ok(groups)
+}
+
+impl Writes {
+    /// The writes of a function, whose registers have numbers below `free`.
+    pub fn of_function(alloc: Global, mach: &Mach, free: u32) -> Result<Writes, AllocError>
+        requires few { length mach.now.code < 2 ^ 32 }
+        requires numbers { (r : Reg) → IsRegister mach.now r → r.number < free }
+        ensures { IfOk result (AreWrites mach.now free) }
+    {
+        let all = all_writes(alloc, mach)?;
+        if all.len() > u32::MAX as usize {
+            return Err(AllocError);
+        }
+        let groups = groups_of(alloc, all.as_slice(), free)?;
+        Ok(Writes { all, groups })
+    }
+
+    /// The indexes of the writes of the number.
+    pub fn members(&self, number: u32) -> &[u32]
+        ensures { result.now ≡ members self.now number }
+    {
+        match self.groups.get(number as usize) {
+            None => &[],
+            Some(group) => group.members.as_slice(),
+        }
+    }
+
+    /// Whether so many instructions come after the write.
+    fn is_at(&self, index: u32, left: u32) -> bool
+        ensures { result ≡ is_at (all_of self.now) index left }
+    {
+        match self.all.get(index as usize) {
+            None => false,
+            Some(write) => write.left == left,
+        }
+    }
+
+    /// The write of the number after which so many instructions come.
+    pub fn find_at(&self, left: u32, number: u32) -> Option<u32>
+        ensures { result ≡ find_at (all_of self.now) left (members self.now number) }
+    {
+        for index in self.members(number) {
+            if self.is_at(*index, left) {
+                return Some(*index);
+            }
+        }
+        None
+    }
+}

@@ -1,0 +1,513 @@
+-- A function whose registers have other numbers does what it did: a number that stands for a live register holds what it held.
+use Rattle.std.proofs.Common.{◌≡◌, ◌≢◌, ℕ, Bool, true, false, cond, inl, inr, ◌⊎◌, ⊎_elim, List, [], ◌∷◌, length, Option, Some, None, refl, sym, ap, ◌∙◌, subst}
+use Rattle.std.proofs.lemmas.Bool.{cases_Bool, eq-eqb, eqb-true}
+use Rattle.std.specs.List.{Contains}
+use Rattle.std.specs.Prelude.{nat_eq}
+use Rattle.bs_words.specs.Fits.{fits, type_of_comp}
+use Rattle.bs_words.specs.Memory.{Memory}
+use Rattle.bs_words.specs.declared.types.Loc.TheVariants as loc
+use Rattle.bs_words.specs.declared.values.Value.{Value}
+use Rattle.cmm_meaning.specs.State.{Doing}
+use Rattle.mach_ir.specs.Acts.{Around, Target, On, At, Landing, AtLabel, AtHandler, Act, Goes, Pushes, Jumps, Unwinds, Asks, Replaces, Ends, EndsRaising, Stuck}
+use Rattle.mach_ir.specs.Formed.{IsFormed, WellFormed}
+use Rattle.mach_ir.specs.Runs.{Place, entered}
+use Rattle.mach_ir.specs.Meaning.{Held, State, File, put, put_if, put_all, clear, killed, written, with_held, values, past_frame, unless_addr, passes_frame, mach_act, after_label, at_handler, code_at, tries_at, landing_code, start}
+use Rattle.mach_ir.specs.Walks.{Among, first, later, OneOf, this, targets, may_raise, goes, raises, Live, read, on, aside, LiveAcross, across_step, across_raise, is_param, Stands, Writes}
+use Rattle.mach_ir.specs.Keeps.{ValsWritten, wrote_unless, Begins, Does}
+use Rattle.mach_ir.specs.declared.mach.MachOp.{MachOp}
+use Rattle.mach_ir.specs.declared.reg.Reg.{Reg}
+use Rattle.mach_ir.specs.declared.mach.Instr.{Instr}
+use Rattle.mach_ir.specs.declared.mach.Mach.{Mach}
+use Rattle.mach_laws.specs.Expand.{Ending, expand}
+use Rattle.mach_laws.proofs.General as general
+use Rattle.mach_laws.proofs.General.{at}
+use Rattle.mach_laws.proofs.Leads.{IsTry, is_try, MayLand, lands_at_label, lands_at_handler, Within, goes_in, pushes_in, jumps_in, unwinds_in, asks_in, within}
+use Rattle.mach_laws.proofs.Level as level
+use Rattle.mach_laws.proofs.Places.{ending_next, ending_label, ending_land}
+use Rattle.mach_laws.proofs.Simulate.{Agrees}
+use Rattle.places_rules.proofs.Walked.{left_among, right_among, split_among, stands_of}
+use Rattle.places_rules.proofs.Raised.{IsRaised, Told, told_jump, told_unwind, told_ask, IsSilent, told, label_silent, try_silent}
+use Rattle.split_rules.specs.Renamed.{Naming, numbered, all_numbered, renamed_code, renamed}
+use Rattle.split_rules.specs.Split.{IsNaming}
+use Rattle.split_rules.specs.Writes.{from_entry, from_write}
+use Rattle.split_rules.proofs.Formed.{contains_of, of_each}
+use Rattle.split_rules.proofs.Text.{same_label, same_handler, same_tries, alone, as_expanded, keeps_marks, was_register, among_named, number_among}
+use Rattle.split_rules.proofs.Walked.{new, killed_same, killed_stays, result_back, arg_back, wrote_old, StandsFor, stands_on, stands_aside, live_before, across_back}
+
+-- ---- files
+
+past_same : (t : Bool) (a b : File) (n x : ℕ) → a n ≡ b x → past_frame t a n ≡ past_frame t b x
+past_same false a b n x e = e
+past_same true a b n x e = ap unless_addr e
+
+abbrev IsNone : Option Held → Type 0
+IsNone o = o ≡ None
+
+pub cleared : (ks : List Reg) (f : File) (n : ℕ) → Among n ks → IsNone (clear ks f n)
+cleared (k ∷ ks) f n (first e) = ap (λ b. cond b None (clear ks f n)) (eq-eqb k.number n e)
+cleared (k ∷ ks) f n (later a) = by (nat_eq k.number n) (cleared ks f n a)
+  where
+    by : (b : Bool) → IsNone (clear ks f n) → IsNone (cond b None (clear ks f n))
+    by true e = refl
+    by false e = e
+cleared [] f n a = elim a [ ]
+
+pub not_cleared : (ks : List Reg) (f : File) (n : ℕ) → (Among n ks → ⊥) → clear ks f n ≡ f n
+not_cleared [] f n h = refl
+not_cleared (k ∷ ks) f n h = by (nat_eq k.number n) refl (not_cleared ks f n (λ a. h (later a)))
+  where
+    by : (b : Bool) → nat_eq k.number n ≡ b → clear ks f n ≡ f n → cond b None (clear ks f n) ≡ f n
+    by true s e = absurd (h (first (eqb-true k.number n s)))
+    by false s e = e
+
+differ : (b : Bool) → b ≡ true → b ≡ false → ⊥
+differ b e h = cc
+
+pub among_or_not : (n : ℕ) (rs : List Reg) → Among n rs ⊎ (Among n rs → ⊥)
+among_or_not n [] = inr (λ a. elim a [ ])
+among_or_not n (r ∷ rs) =
+    ⊎_elim (λ e. inl (first (eqb-true r.number n e)))
+    (λ e. ⊎_elim (λ a. inl (later a)) (λ h. inr (λ a. none e h a)) (among_or_not n rs))
+    (cases_Bool (nat_eq r.number n))
+  where
+    none : nat_eq r.number n ≡ false → (Among n rs → ⊥) → Among n (r ∷ rs) → ⊥
+    none e h (first s) = differ (nat_eq r.number n) (eq-eqb r.number n s) e
+    none e h (later a) = h a
+
+none_some : (d : File) → None ≡ Some d → ⊥
+none_some d e = cc
+
+some_same : (c d : File) → Some c ≡ Some d → c ≡ d
+some_same c d e = cc
+
+-- The same writes by other numbers, which tell those registers apart.
+pub record PutsToo (f' back : ℕ → ℕ) (end : ℕ) (rs : List Reg) (vs : List Value) (f g d : File) : Type 0 where
+  pub file : File
+  pub puts : put_all end (all_numbered f' rs) vs g ≡ Some file
+  pub same : (n : ℕ) → Among n rs → d n ≡ file (f' n)
+  pub others : (n : ℕ) → (Among n rs → ⊥) → d n ≡ f n
+  pub others_new : (x : ℕ) → (Among x (all_numbered f' rs) → ⊥) → file x ≡ g x
+
+pub put_twice : (f' back : ℕ → ℕ) (end : ℕ) (rs : List Reg) (vs : List Value) (f g d : File) →
+    ((n : ℕ) → Among n rs → back (f' n) ≡ n) → put_all end rs vs f ≡ Some d → PutsToo f' back end rs vs f g d
+put_twice f' back end [] [] f g d known e =
+    record {
+      file = g;
+      puts = refl;
+      same = λ n a. elim a [ ];
+      others = λ n h. ap (λ (x : File). x n) (sym (some_same f d e));
+      others_new = λ x h. refl;
+    }
+put_twice f' back end [] (v ∷ vs) f g d known e = absurd (none_some d e)
+put_twice f' back end (r ∷ rs) [] f g d known e = absurd (none_some d e)
+put_twice f' back end (r ∷ rs) (v ∷ vs) f g d known e =
+    by (fits end (type_of_comp r.comp) v) (put_all end rs vs f) refl refl e
+    (λ c h. put_twice f' back end rs vs f g c (λ n a. known n (later a)) h)
+  where
+    one : (c : File) → PutsToo f' back end rs vs f g c → put r v c ≡ d → fits end (type_of_comp r.comp) v ≡ true →
+        PutsToo f' back end (r ∷ rs) (v ∷ vs) f g d
+    one c p e t =
+        record {
+          file = put (numbered f' r) v p.file;
+          puts = ap (λ b. put_if b (numbered f' r) v (put_all end (all_numbered f' rs) vs g)) t
+              ∙ ap (put_if true (numbered f' r) v) p.puts;
+          same = λ n a. ap (λ (x : File). x n) (sym e) ∙ at_one n a (nat_eq r.number n) refl;
+          others = λ n h.
+              ap (λ (x : File). x n) (sym e) ∙ not_here r n (λ s. h (first s)) (c n) ∙ p.others n (λ a. h (later a));
+          others_new = λ x h.
+              not_here (numbered f' r) x (λ s. h (first s)) (p.file x) ∙ p.others_new x (λ a. h (later a));
+        }
+      where
+        held : Option Held
+        held = Some (record { comp = r.comp; value = v })
+
+        not_here : (s : Reg) (n : ℕ) → (s.number ≡ n → ⊥) → (o : Option Held) →
+            cond (nat_eq s.number n) (Some (record { comp = s.comp; value = v })) o ≡ o
+        not_here s n h o = test (nat_eq s.number n) refl
+          where
+            test : (b : Bool) → nat_eq s.number n ≡ b → cond b (Some (record { comp = s.comp; value = v })) o ≡ o
+            test true e = absurd (h (eqb-true s.number n e))
+            test false e = refl
+
+        rest_of : (n : ℕ) → nat_eq r.number n ≡ false → Among n (r ∷ rs) → Among n rs
+        rest_of n s (first k) = absurd (differ (nat_eq r.number n) (eq-eqb r.number n k) s)
+        rest_of n s (later a) = a
+
+        -- two of them have one new number only if they have one old
+        apart : (n : ℕ) → Among n (r ∷ rs) → nat_eq r.number n ≡ false → f' r.number ≡ f' n → ⊥
+        apart n a s h =
+            differ (nat_eq r.number n)
+            (eq-eqb r.number n (sym (known r.number (first refl)) ∙ ap back h ∙ known n a)) s
+
+        at_one : (n : ℕ) → Among n (r ∷ rs) → (b : Bool) → nat_eq r.number n ≡ b →
+            cond b held (c n) ≡ cond (nat_eq (f' r.number) (f' n)) held (p.file (f' n))
+        at_one n a true s =
+            ap (λ b. cond b held (p.file (f' n)))
+            (sym (eq-eqb (f' r.number) (f' n) (ap f' (eqb-true r.number n s))))
+        at_one n a false s =
+            p.same n (rest_of n s a)
+            ∙ sym (not_here (numbered f' r) (f' n) (apart n a s) (p.file (f' n)))
+
+    by : (t : Bool) (o : Option File) → fits end (type_of_comp r.comp) v ≡ t → put_all end rs vs f ≡ o →
+        put_if t r v o ≡ Some d → ((c : File) → put_all end rs vs f ≡ Some c → PutsToo f' back end rs vs f g c) →
+        PutsToo f' back end (r ∷ rs) (v ∷ vs) f g d
+    by false o t e h again = absurd (none_some d h)
+    by true None t e h again = absurd (none_some d h)
+    by true (Some c) t e h again = one c (again c e) (some_same (put r v c) d h) t
+
+values_same : (f' : ℕ → ℕ) (a b : File) (rs : List Reg) → ((n : ℕ) → Among n rs → a n ≡ b (f' n)) →
+    values a rs ≡ values b (all_numbered f' rs)
+values_same f' a b [] h = refl
+values_same f' a b (r ∷ rs) h =
+    ap (λ o. with_held o (values a rs)) (h r.number (first refl))
+    ∙ ap (with_held (b (f' r.number))) (values_same f' a b rs (λ n z. h n (later z)))
+
+no_held : (u : Held) → None ≡ Some u → ⊥
+no_held u e = cc
+
+module _ (m : Mach) (names : Naming) (is : IsNaming m names) (formed : WellFormed m)
+    (colour_fixed : (r : Reg) → Contains m.colours r → r.loc ≢ loc.Unset) where
+  abbrev q : Mach
+  q = renamed names m
+
+  abbrev Stand : ℕ → ℕ → List Instr → Type 0
+  Stand = StandsFor m names is colour_fixed
+
+  abbrev made : List Instr → Instr → Instr
+  made = new m names is colour_fixed
+
+  -- a number that stands for a live register holds what it holds
+  abbrev Same : List Instr → File → File → Type 0
+  Same rest a b = (n x : ℕ) → Live m n rest → is.back x ≡ n → Stand x n rest → a n ≡ b x
+
+  form_of : {i : Instr} {next : List Instr} → Ending (i ∷ next) m.code → IsFormed i
+  form_of {i} e = of_each IsFormed m.code i formed.instrs (contains_of (stands_of e))
+
+  -- ---- where registers of one origin agree
+
+  -- what the second has just written, and holds a value, the first has written with that value
+  abbrev WroteSame : Option Value → List Reg → List Reg → File → File → Type 0
+  WroteSame raised ws us a b =
+      (x : ℕ) (u : Held) → Among x (wrote_unless raised us) → b x ≡ Some u →
+      Among (is.back x) (wrote_unless raised ws) × (a (is.back x) ≡ b x)
+
+  agrees_by : (rest : List Instr) → Ending rest m.code → (a b : File) (y : Around) (ws us : List Reg) → Same rest a b →
+      WroteSame y.raised ws us a b → Agrees m ws (at rest a y) → Agrees q us (at (renamed_code names rest) b y)
+  agrees_by rest ending a b y ws us same wrote agree =
+      record {
+        agree = λ r k i j origin l e h g s t.
+            let w = was_register m names is colour_fixed r i in
+            let v = was_register m names is colour_fixed k j in
+            let one = was_there w.register r w.back h l s in
+            let two = was_there v.register k v.back g e t in
+            agree.agree w.register v.register w.among v.among
+            (ap (λ (r : Reg). r.origin) w.same ∙ origin ∙ sym (ap (λ (r : Reg). r.origin) v.same))
+            one.0 two.0 h g (one.1 ∙ s) (two.1 ∙ t);
+      }
+    where
+      was_there : (w r : Reg) → is.back r.number ≡ w.number → (u : Held) →
+          Live q r.number (renamed_code names rest) ⊎ Among r.number (wrote_unless y.raised us) → b r.number ≡ Some u →
+          (Live m w.number rest ⊎ Among w.number (wrote_unless y.raised ws)) × (a w.number ≡ b r.number)
+      was_there w r e u l s =
+          subst (λ n. (Live m n rest ⊎ Among n (wrote_unless y.raised ws)) × (a n ≡ b r.number)) e
+          (⊎_elim
+          (λ v.
+          let old = live_before m names is colour_fixed ending v in
+          (inl old.live, same (is.back r.number) r.number old.live refl old.stands))
+          (λ z. let h = wrote r.number u z s in (inr h.0, h.1)) l)
+
+  silent_wrote : {i : Instr} {next : List Instr} → Ending (i ∷ next) m.code → (o : Option Value) (a b : File) →
+      IsSilent m i ⊎ IsRaised o → WroteSame o (written m i) (written q (made next i)) a b
+  silent_wrote {i} {next} e None a b (inl s) x u z h =
+      absurd (s (is.back x) (wrote_old m names is colour_fixed (stands_of e) z))
+  silent_wrote e None a b (inr r) x u z h = elim r [ ]
+  silent_wrote e (Some v) a b s x u z h = elim z [ ]
+
+  -- ---- values that are read
+
+  across_live : {n : ℕ} {i : Instr} {next : List Instr} → LiveAcross m n i next → Live m n (i ∷ next)
+  across_live (across_step w l v) = on w l v
+  across_live (across_raise r v) = aside r v
+
+  head_same : {i j : Instr} (xs ys : List Instr) → i ∷ xs ≡ j ∷ ys → i ≡ j
+  head_same xs ys e = cc
+
+  tail_same : {i j : Instr} (xs ys : List Instr) → i ∷ xs ≡ j ∷ ys → xs ≡ ys
+  tail_same xs ys e = cc
+
+  vals_before : (i : Instr) (next : List Instr) (a b : File) (y : Around) → Ending (i ∷ next) m.code → Same (i ∷ next) a b →
+      ValsWritten m (at (i ∷ next) a y) → ValsWritten q (at (renamed_code names (i ∷ next)) b y)
+  vals_before i next a b y ending same known =
+      record {
+        written = λ j ys e frame r one val v none.
+            let w = was_register m names is colour_fixed r one in
+            let head = head_same (renamed_code names next) ys e in
+            let old = across_back m names is colour_fixed i next ending head (tail_same (renamed_code names next) ys e) v in
+            known.written i next refl (subst (λ (j : Instr). passes_frame j.op ≡ true) (sym head) frame) w.register w.among
+            (ap (λ (r : Reg). r.comp) w.same ∙ val)
+            (subst (λ n. LiveAcross m n i next) w.back old.across)
+            (ap a (sym w.back) ∙ same (is.back r.number) r.number (across_live old.across) refl old.stands ∙ none);
+      }
+
+  -- ---- where it goes
+
+  is_code : q.code ≡ expand (alone names) m.code
+  is_code = as_expanded names m.code
+
+  handlers_same : (tries : List ℕ) → at_handler q.code tries ≡ renamed_code names (at_handler m.code tries)
+  handlers_same [] = refl
+  handlers_same (l ∷ tries) = same_handler names l m.code
+
+  lands_same : (this_code that_code : List Instr) (to : Landing) → tries_at that_code ≡ tries_at this_code →
+      landing_code q.code that_code to ≡ renamed_code names (landing_code m.code this_code to)
+  lands_same this_code that_code (AtLabel l) e = same_label names l m.code
+  lands_same this_code that_code AtHandler e = ap (at_handler q.code) e ∙ handlers_same (tries_at this_code)
+
+  moved : (P : List Instr → Type 0) (next : List Instr) → P (renamed_code names next) → P (expand (alone names) next)
+  moved P next = subst P (as_expanded names next)
+
+  tries_same : (i : Instr) (next : List Instr) →
+      tries_at (made next i ∷ expand (alone names) next) ≡ tries_at (i ∷ next)
+  tries_same i next =
+      moved (λ code. tries_at (made next i ∷ code) ≡ tries_at (i ∷ next)) next (same_tries names (i ∷ next))
+
+  caught : {n x : ℕ} {i : Instr} {next : List Instr} → may_raise i.op ≡ true → (tries : List ℕ) → tries_at (i ∷ next) ≡ tries →
+      Live m n (at_handler m.code tries) → Stand x n (at_handler m.code tries) →
+      Live m n (i ∷ next) × Stand x n (i ∷ next)
+  caught r [] e v s = elim v [ ]
+  caught r (l ∷ tries) e v s = (aside (raises r e) v, stands_aside m names is colour_fixed (raises r e) s)
+
+  try_on : (f : MachOp) → IsTry f → OneOf On (targets f)
+  try_on f is_try = this
+
+  -- ---- each instruction
+
+  module _ (c : Place) (Suit : Around → Around → Type 0) (i : Instr) (next : List Instr) (a b : File)
+      (ending : Ending (i ∷ next) m.code) (same : Same (i ∷ next) a b) where
+    abbrev Round : List Instr → Around → Around → File → File → Type 0
+    Round = level.Level c m q (alone names) (keeps_marks names) is_code Same
+
+    abbrev a' : File
+    a' = past_frame (passes_frame i.op) a
+
+    abbrev b' : File
+    b' = past_frame (passes_frame i.op) b
+
+    abbrev main : Instr
+    main = made next i
+
+    abbrev write : ℕ → ℕ
+    write = names.write (length next)
+
+    abbrev killed_new : List Reg
+    killed_new = killed q main
+
+    stands : Stands i next m.code
+    stands = stands_of ending
+
+    still : (n x : ℕ) → Live m n (i ∷ next) → is.back x ≡ n → Stand x n (i ∷ next) → a' n ≡ b' x
+    still n x v e s = past_same (passes_frame i.op) a b n x (same n x v e s)
+
+    -- ---- what is killed is the same
+
+    killed_old : {x : ℕ} → Among x killed_new → Among x (killed m i)
+    killed_old {x} z = subst (λ ks. Among x ks) (killed_same m names is colour_fixed next i) z
+
+    killed_now : {x : ℕ} → Among x (killed m i) → Among x killed_new
+    killed_now {x} z = subst (λ ks. Among x ks) (sym (killed_same m names is colour_fixed next i)) z
+
+    result_of : {x : ℕ} → Among x main.results → Among (is.back x) i.results
+    result_of {x} z =
+        let o = among_named write i.results z in
+        subst (λ n. Among n i.results)
+        (sym (result_back m names is colour_fixed stands o.1 (length next)) ∙ ap is.back o.2) o.1
+
+    abbrev Puts : List Value → File → Type 0
+    Puts vs d = PutsToo write is.back c.setting.end i.results vs (clear (killed m i) a') (clear killed_new b') d
+
+    after_same : (vs : List Value) (d : File) (p : Puts vs d) (t : Target) → OneOf t (targets i.op) →
+        Same (code_at m.code next t) d p.file
+    after_same vs d p t o n x v e s =
+        ⊎_elim
+        (λ z.
+        p.same n z
+        ∙ ap p.file (s next (from_write stands (left_among i.results (killed m i) z) (goes t o))))
+        (λ free. ⊎_elim (λ z. gone free z) (λ h. kept free h) (among_or_not n (killed m i)))
+        (among_or_not n i.results)
+      where
+        not_named : (Among n i.results → ⊥) → Among x main.results → ⊥
+        not_named free z = free (subst (λ n. Among n i.results) e (result_of z))
+
+        gone : (Among n i.results → ⊥) → Among n (killed m i) → d n ≡ p.file x
+        gone free z =
+            let x_is : n ≡ x =
+            sym (killed_stays m names is colour_fixed i (length next) z).0
+            ∙ s next (from_write stands (right_among i.results (killed m i) z) (goes t o)) in
+            p.others n free ∙ cleared (killed m i) a' n z
+            ∙ sym (p.others_new x (not_named free) ∙ cleared killed_new b' x (killed_now (subst (λ y. Among y (killed m i)) x_is z)))
+
+        kept : (Among n i.results → ⊥) → (Among n (killed m i) → ⊥) → d n ≡ p.file x
+        kept free h =
+            let silent : Writes m i n → ⊥ = λ w. ⊎_elim free h (split_among n i.results (killed m i) w) in
+            p.others n free ∙ not_cleared (killed m i) a' n h
+            ∙ still n x (on silent (goes t o) v) e (stands_on m names is colour_fixed silent (goes t o) s)
+            ∙ sym (p.others_new x (not_named free)
+            ∙ not_cleared killed_new b' x
+            (λ z.
+            let old = killed_old z in
+            h (subst (λ y. Among y (killed m i)) (sym (killed_stays m names is colour_fixed i 0 old).1 ∙ e) old)))
+
+    put_wrote : (vs : List Value) (d : File) (p : Puts vs d) (o : Option Value) →
+        WroteSame o (written m i) (written q main) d p.file
+    put_wrote vs d p None x u z h =
+        ⊎_elim
+        (λ r.
+        let w = among_named write i.results r in
+        let back : is.back x ≡ w.0 = ap is.back (sym w.2) ∙ result_back m names is colour_fixed stands w.1 (length next) in (
+          left_among i.results (killed m i) (result_of r),
+          ap d back ∙ p.same w.0 w.1 ∙ ap p.file w.2,
+        ))
+        (λ free.
+        ⊎_elim (λ r. absurd (free r))
+        (λ k. absurd (no_held u (sym (cleared killed_new b' x k) ∙ sym (p.others_new x free) ∙ h)))
+        (split_among x main.results killed_new z))
+        (among_or_not x main.results)
+    put_wrote vs d p (Some v) x u z h = elim z [ ]
+
+    abbrev Past : Around → File → File → Target → Type 0
+    Past y d e to =
+        general.Past c m q (alone names) (keeps_marks names) is_code Suit Round i main next [] y y d e to
+
+    past_to : (vs : List Value) (d : File) (p : Puts vs d) (y : Around) (t : Target) → OneOf t (targets i.op) → Past y d p.file t
+    past_to vs d p y On o =
+        general.on
+        (λ w.
+        moved (λ code. Agrees q (written q main) (at code p.file y)) next
+        (agrees_by next (ending_next ending) d p.file y (written m i) (written q main) (after_same vs d p On o)
+        (put_wrote vs d p y.raised) w))
+        general.passed (λ w. (refl, after_same vs d p On o))
+    past_to vs d p y (At l) o =
+        general.elsewhere refl
+        (λ w. (
+          (refl, after_same vs d p (At l) o),
+          subst (λ code. Agrees q (written q main) (at code p.file y)) (sym (same_label names l m.code))
+              (agrees_by (after_label l m.code) (ending_label l m.code) d p.file y (written m i) (written q main)
+              (after_same vs d p (At l) o) (put_wrote vs d p y.raised) w),
+        ))
+
+    landed : (to : Landing) → MayLand i.op to → Same (landing_code m.code (i ∷ next) to) a' b'
+    landed (AtLabel l) (lands_at_label o) n x v e s =
+        let silent = label_silent m (form_of ending) l o n in
+        still n x (on silent (goes (At l) o) v) e (stands_on m names is colour_fixed silent (goes (At l) o) s)
+    landed AtHandler (lands_at_handler r) n x v e s =
+        let g = caught r (tries_at (i ∷ next)) refl v s in still n x g.0 e g.1
+
+    lands : (to : Landing) → MayLand i.op to → (y : Around) → IsSilent m i ⊎ IsRaised y.raised →
+        general.Lands c m q (alone names) (keeps_marks names) is_code Suit Round i main next [] to y y a' b'
+    lands to may y s w = (
+      (refl, landed to may),
+      subst (λ code. Agrees q (written q main) (at code b' y))
+          (sym (lands_same (i ∷ next) (main ∷ expand (alone names) next) to (tries_same i next)))
+          (agrees_by (landing_code m.code (i ∷ next) to) (ending_land to (i ∷ next) m.code) a' b' y (written m i)
+          (written q main) (landed to may) (silent_wrote ending y.raised a' b' s) w),
+    )
+
+    pushed : IsTry i.op → Same next a' b'
+    pushed t n x v e s =
+        let silent = try_silent m (form_of ending) t n in
+        still n x (on silent (goes On (try_on i.op t)) v) e (stands_on m names is colour_fixed silent (goes On (try_on i.op t)) s)
+
+    acts_same : (y : Around) (act : Act) → Within i.op act → Told (IsSilent m i) act →
+        general.Acts c m q (alone names) (keeps_marks names) is_code Suit Round i main next [] y y a' b' act act
+    acts_same y (Goes vs to after) (goes_in o) t =
+        general.both_go
+        (λ d e.
+        let p = put_twice write is.back c.setting.end i.results vs (clear (killed m i) a') (clear killed_new b') d
+        (λ n z. result_back m names is colour_fixed stands z (length next)) e in
+        (p.file, p.puts, past_to vs d p after to o))
+    acts_same y (Jumps to after) (jumps_in l) (told_jump s) = general.both_jump (tries_same i next) (lands to l after s)
+    acts_same y (Unwinds after) (unwinds_in r) (told_unwind s) =
+        general.both_unwind (tries_same i next) (lands AtHandler (lands_at_handler r) after s)
+    acts_same y (Pushes after) (pushes_in t) u =
+        general.both_push refl refl
+        (λ w. (
+          (refl, pushed t),
+          moved (λ code. Agrees q (written q main) (at code b' after)) next
+              (agrees_by next (ending_next ending) a' b' after (written m i) (written q main) (pushed t)
+              (silent_wrote ending after.raised a' b' (inl (try_silent m (form_of ending) t))) w),
+        ))
+    acts_same y (Asks whom vs go) (asks_in w) (told_ask t) =
+        general.both_ask (record { memory = refl; tries = refl }) (λ d. acts_same y (go d) (w d) (t d))
+    acts_same y (Replaces whom vs kept) w t = general.both_replace (record { memory = refl; tries = refl })
+    acts_same y (Ends d) w t = general.both_end
+    acts_same y (EndsRaising d) w t = general.both_raise
+    acts_same y Stuck w t = general.stuck_first
+
+    read_same : (n : ℕ) → Among n i.args → a n ≡ b (names.read (length next) n)
+    read_same n z =
+        same n (names.read (length next) n) (read z) (arg_back m names is colour_fixed stands z (length next))
+        (λ from comes. sym (is.agree i next from n stands z comes))
+
+    one : (y : Around) (vs : List Value) → values a i.args ≡ Some vs →
+        general.Replaces c m q (alone names) (keeps_marks names) is_code Suit Round i next y y a b vs
+    one y vs e =
+        record {
+          pre = [];
+          main = main;
+          post = [];
+          shape = refl;
+          between = b;
+          passing = general.passed;
+          vals = λ known. moved (λ code. ValsWritten q (at (main ∷ code) b y)) next (vals_before i next a b y ending same known);
+          read = vs;
+          reads = sym (values_same (names.read (length next)) a b i.args read_same) ∙ e;
+          alike = acts_same y (mach_act c.setting i.op vs y) (within c.setting i.op vs y)
+              (told m (form_of ending) c.setting vs y);
+        }
+
+  module _ (c : Place) where
+    serves : (Suit : Around → Around → Type 0) → ((x y : Around) → x ≡ y → Suit x y) →
+        level.Serves c m q (alone names) (keeps_marks names) is_code Same Suit
+    serves Suit suits =
+        record {
+          suits = λ rest x y a b l. suits x y l.0;
+          each = λ i next x y a b ending l vs e. inl
+              (subst
+              (λ y. general.Replaces c m q (alone names) (keeps_marks names) is_code Suit
+              (level.Level c m q (alone names) (keeps_marks names) is_code Same) i next x y a b vs)
+              l.0 (one c Suit i next a b ending l.1 x vs e));
+        }
+
+    -- at the entry the parameters have their numbers, and nothing else is written
+    at_entry : (vs : List Value) (a : File) → put_all c.setting.end m.params vs (λ n. None) ≡ Some a → Same m.code a a
+    at_entry vs a e n x v b s =
+        ⊎_elim
+        (λ z. ap a (sym (is.entry n z) ∙ s m.code (from_entry z)))
+        (λ free.
+        unwritten m.params vs a n free e
+        ∙ sym (unwritten m.params vs a x
+        (λ z.
+        let r = number_among m.params z in
+        let stays : is.back x ≡ x =
+        subst (λ y. is.back y ≡ y) r.2
+        (ap is.back (sym (is.entry r.0.number (subst (λ y. Among y m.params) (sym r.2) z)))
+        ∙ is.write_back r.0 (is_param r.1) (length m.code)) in
+        free (subst (λ y. Among y m.params) (sym stays ∙ b) z)) e))
+        (among_or_not n m.params)
+      where
+        unwritten : (rs : List Reg) (vs : List Value) (d : File) (n : ℕ) → (Among n rs → ⊥) →
+            put_all c.setting.end rs vs (λ n. None) ≡ Some d → d n ≡ None
+        unwritten rs vs d n free e =
+            (put_twice (λ n. n) (λ n. n) c.setting.end rs vs (λ n. None) (λ n. None) d (λ n z. refl) e).others n free
+
+    pub does_renamed_at : (arguments : List Value) (memory : Memory) (doings : List Doing) (s : State) →
+        start c m arguments memory ≡ Some s → Begins c m q arguments memory doings s
+    does_renamed_at =
+        level.begins_at c m q refl
+        (λ arguments memory a t n e proper.
+        level.follows_from c m q (alone names) (keeps_marks names) is_code Same serves a a (entered memory)
+        (at_entry arguments a e) n t proper)
+
+  -- The function with other numbers does what it did.
+  pub does_renamed : Does m (renamed names m)
+  does_renamed = λ c arguments memory doings s e. does_renamed_at c arguments memory doings s e

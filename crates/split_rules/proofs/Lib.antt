@@ -1,0 +1,6 @@
+pub mod Text
+pub mod Formed
+pub mod Walked
+pub mod Kept
+pub mod Whole
+pub mod Result

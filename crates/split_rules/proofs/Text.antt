@@ -1,0 +1,193 @@
+-- The text of a function whose registers have other numbers: its labels, tries and forms are as they were.
+use Rattle.std.proofs.Common.{◌≡◌, ◌≢◌, ℕ, Bool, true, false, cond, ⊎_elim, List, [], ◌∷◌, ◌++◌, length, refl, sym, ap, ◌∙◌, subst}
+use Rattle.std.specs.List.{Contains}
+use Rattle.bs_words.specs.declared.types.Loc.TheVariants as loc
+use Rattle.mach_ir.specs.Acts.{Target, On, At}
+use Rattle.mach_ir.specs.Formed.{comps, labels_of, labels_in, HasPlace, place_here, place_below, HasHandler, handler_here, handler_below}
+use Rattle.mach_ir.specs.Meaning.{has_label, is_handler_of, after_label, from_handler, code_at, tries_at, tries_past}
+use Rattle.mach_ir.specs.Walks.{Among, first, later, Stands, here, below, InCode, in_args, in_results, further, IsRegister, is_param, is_colour, is_in_code}
+use Rattle.mach_ir.specs.declared.reg.Reg.{Reg}
+use Rattle.mach_ir.specs.declared.mach.MachOp.{MachOp}
+use Rattle.mach_ir.specs.declared.mach.MachOp.TheVariants as mach
+use Rattle.mach_ir.specs.declared.mach.Instr.{Instr}
+use Rattle.mach_ir.specs.declared.mach.Mach.{Mach}
+use Rattle.mach_laws.specs.Expand.{KeepsMarks, no_label, not_labelled, no_handler, not_handled, no_bound, not_bound, expand}
+use Rattle.mach_laws.proofs.Walking.{none_in, first_in, later_in, in_cons}
+use Rattle.places_rules.proofs.Lists.{was}
+use Rattle.split_rules.specs.Renamed.{Naming, numbered, all_numbered, renamed_instr, renamed_code, renamed}
+use Rattle.split_rules.specs.Split.{IsNaming}
+
+module _ (names : Naming) where
+  -- ---- labels and tries
+
+  cond_renamed : (b : Bool) (xs ys : List Instr) →
+      cond b (renamed_code names xs) (renamed_code names ys) ≡ renamed_code names (cond b xs ys)
+  cond_renamed true xs ys = refl
+  cond_renamed false xs ys = refl
+
+  pub same_label : (l : ℕ) (code : List Instr) →
+      after_label l (renamed_code names code) ≡ renamed_code names (after_label l code)
+  same_label l [] = refl
+  same_label l (i ∷ is) =
+      ap (cond (has_label l i.op) (renamed_code names is)) (same_label l is)
+      ∙ cond_renamed (has_label l i.op) is (after_label l is)
+
+  pub same_handler : (l : ℕ) (code : List Instr) →
+      from_handler l (renamed_code names code) ≡ renamed_code names (from_handler l code)
+  same_handler l [] = refl
+  same_handler l (i ∷ is) =
+      ap (cond (is_handler_of l i.op) (renamed_code names (i ∷ is))) (same_handler l is)
+      ∙ cond_renamed (is_handler_of l i.op) (i ∷ is) (from_handler l is)
+
+  pub same_tries : (code : List Instr) → tries_at (renamed_code names code) ≡ tries_at code
+  same_tries [] = refl
+  same_tries (i ∷ is) = ap (tries_past i.op) (same_tries is)
+
+  pub same_at : (code next : List Instr) (t : Target) →
+      code_at (renamed_code names code) (renamed_code names next) t ≡ renamed_code names (code_at code next t)
+  same_at code next On = refl
+  same_at code next (At l) = same_label l code
+
+  pub same_labels : (code : List Instr) → labels_in (renamed_code names code) ≡ labels_in code
+  same_labels [] = refl
+  same_labels (i ∷ is) = by i.op i.args i.results (same_labels is)
+    where
+      by : (f : MachOp) (args results : List Reg) → labels_in (renamed_code names is) ≡ labels_in is →
+          labels_in (renamed_code names (record { op = f; args = args; results = results } ∷ is))
+          ≡ labels_in (record { op = f; args = args; results = results } ∷ is)
+      by (mach.Op f) args results ih = ih
+      by (mach.Mark f) args results ih = ap (λ ls. labels_of f ++ ls) ih
+
+  pub same_comps : (f : ℕ → ℕ) (rs : List Reg) → comps (all_numbered f rs) ≡ comps rs
+  same_comps f [] = refl
+  same_comps f (r ∷ rs) = ap (λ cs. r.comp ∷ cs) (same_comps f rs)
+
+  -- ---- the code, instruction by instruction
+
+  abbrev pub alone : ℕ → Instr → List Instr
+  alone n i = renamed_instr names n i ∷ []
+
+  pub as_expanded : (code : List Instr) → renamed_code names code ≡ expand alone code
+  as_expanded [] = refl
+  as_expanded (i ∷ is) = ap (λ xs. renamed_instr names (length is) i ∷ xs) (as_expanded is)
+
+  pub keeps_marks : KeepsMarks alone
+  keeps_marks =
+      record {
+        mark = λ l n i e. (renamed_instr names n i, refl, refl);
+        none = λ l n i e. not_labelled e no_label;
+        handler = λ l n i e. (renamed_instr names n i, [], refl, refl);
+        no_other = λ l n i e. not_handled e no_handler;
+        bound = λ n i e. (renamed_instr names n i, refl, refl);
+        unbound = λ n i e. not_bound e no_bound;
+      }
+
+  -- ---- places in the text
+
+  -- what an instruction of the new code was
+  pub record WasAt (i : Instr) (next code : List Instr) : Type 0 where
+    pub instr : Instr
+    pub after : List Instr
+    pub stands : Stands instr after code
+    pub same : renamed_instr names (length after) instr ≡ i
+    pub same_after : renamed_code names after ≡ next
+
+  pub was_at : {i : Instr} {next : List Instr} (code : List Instr) → Stands i next (renamed_code names code) →
+      WasAt i next code
+  was_at [] s = elim s [ ]
+  was_at {i = i} {next = next} (j ∷ is) s = by s refl refl (λ z. was_at is z)
+    where
+      by : {k : Instr} {ys : List Instr} → Stands i next (k ∷ ys) → renamed_instr names (length is) j ≡ k →
+          renamed_code names is ≡ ys → (Stands i next (renamed_code names is) → WasAt i next is) → WasAt i next (j ∷ is)
+      by here e h ih = record { instr = j; after = is; stands = here; same = e; same_after = h }
+      by (below s) e h ih =
+          let w = ih (subst (Stands i next) (sym h) s) in
+          record { instr = w.instr; after = w.after; stands = below w.stands; same = w.same; same_after = w.same_after }
+
+  pub place_renamed : {l : ℕ} {code : List Instr} → HasPlace l code → HasPlace l (renamed_code names code)
+  place_renamed (place_here e) = place_here e
+  place_renamed (place_below h) = place_below (place_renamed h)
+
+  pub handler_renamed : {l : ℕ} {code : List Instr} → HasHandler l code → HasHandler l (renamed_code names code)
+  handler_renamed (handler_here e) = handler_here e
+  handler_renamed (handler_below h) = handler_below (handler_renamed h)
+
+-- ---- members by number
+
+pub number_among : {n : ℕ} (rs : List Reg) → Among n rs → (r : Reg) × Contains rs r × (r.number ≡ n)
+number_among [] a = elim a [ ]
+number_among (r ∷ rs) (first e) = (r, first_in r rs, e)
+number_among (r ∷ rs) (later a) = let w = number_among rs a in (w.0, later_in r w.0 rs w.1, w.2)
+
+pub number_in : (r : Reg) (rs : List Reg) → Contains rs r → Among r.number rs
+number_in r [] c = absurd (none_in r c)
+number_in r (k ∷ rs) c =
+    ⊎_elim (λ e. first (ap (λ (x : Reg). x.number) e)) (λ d. later (number_in r rs d)) (in_cons k r rs c)
+
+pub named_among : {n : ℕ} (f : ℕ → ℕ) (rs : List Reg) → Among n rs → Among (f n) (all_numbered f rs)
+named_among f [] a = elim a [ ]
+named_among f (r ∷ rs) (first e) = first (ap f e)
+named_among f (r ∷ rs) (later a) = later (named_among f rs a)
+
+pub among_named : {x : ℕ} (f : ℕ → ℕ) (rs : List Reg) → Among x (all_numbered f rs) → (n : ℕ) × Among n rs × (f n ≡ x)
+among_named f [] a = elim a [ ]
+among_named f (r ∷ rs) (first e) = (r.number, first refl, e)
+among_named f (r ∷ rs) (later a) = let w = among_named f rs a in (w.0, later w.1, w.2)
+
+-- ---- registers
+
+pub args_in : {i : Instr} {next code : List Instr} {r : Reg} → Stands i next code → Contains i.args r → InCode r code
+args_in here c = in_args c
+args_in (below s) c = further (args_in s c)
+
+pub results_in : {i : Instr} {next code : List Instr} {r : Reg} → Stands i next code → Contains i.results r → InCode r code
+results_in here c = in_results c
+results_in (below s) c = further (results_in s c)
+
+module _ (m : Mach) (names : Naming) (is : IsNaming m names) where
+  -- what a register of the new function was
+  pub record WasRegister (r : Reg) : Type 0 where
+    pub register : Reg
+    pub among : IsRegister m register
+    pub same : record register { number = r.number } ≡ r
+    pub back : is.back r.number ≡ register.number
+    pub fixed : register.loc ≢ loc.Unset → r.number ≡ register.number
+
+  -- the fixed ones, as the colours, and the parameters
+  as_it_was : (r : Reg) → IsRegister m r → is.back r.number ≡ r.number → WasRegister r
+  as_it_was r i b = record { register = r; among = i; same = refl; back = b; fixed = λ h. refl }
+
+  by_reading : (k : ℕ) (w r : Reg) → IsRegister m w → numbered (names.read k) w ≡ r → WasRegister r
+  by_reading k w r i e =
+      subst WasRegister e
+      (record { register = w; among = i; same = refl; back = is.read_back w i k; fixed = λ h. is.read_fixed w i h k })
+
+  by_writing : (k : ℕ) (w r : Reg) → IsRegister m w → numbered (names.write k) w ≡ r → WasRegister r
+  by_writing k w r i e =
+      subst WasRegister e
+      (record { register = w; among = i; same = refl; back = is.write_back w i k; fixed = λ h. is.write_fixed w i h k })
+
+  was_in : (code : List Instr) (r : Reg) → ((w : Reg) → InCode w code → IsRegister m w) → InCode r (renamed_code names code) →
+      WasRegister r
+  was_in [] r known c = elim c [ ]
+  was_in (i ∷ is) r known (in_args c) =
+      let w = was (numbered (names.read (length is))) i.args r c in
+      by_reading (length is) w.what r (known w.what (in_args w.among)) w.same
+  was_in (i ∷ is) r known (in_results c) =
+      let w = was (numbered (names.write (length is))) i.results r c in
+      by_writing (length is) w.what r (known w.what (in_results w.among)) w.same
+  was_in (i ∷ is) r known (further c) = was_in is r (λ w h. known w (further h)) c
+
+  module _ (colour_fixed : (r : Reg) → Contains m.colours r → r.loc ≢ loc.Unset) where
+    pub colour_back : (r : Reg) → Contains m.colours r → is.back r.number ≡ r.number
+    colour_back r c =
+        ap is.back (sym (is.read_fixed r (is_colour c) (colour_fixed r c) 0)) ∙ is.read_back r (is_colour c) 0
+
+    pub param_back : (r : Reg) → Contains m.params r → is.back r.number ≡ r.number
+    param_back r c =
+        ap is.back (sym (is.entry r.number (number_in r m.params c))) ∙ is.write_back r (is_param c) (length m.code)
+
+    pub was_register : (r : Reg) → IsRegister (renamed names m) r → WasRegister r
+    was_register r (is_param c) = as_it_was r (is_param c) (param_back r c)
+    was_register r (is_colour c) = as_it_was r (is_colour c) (colour_back r c)
+    was_register r (is_in_code c) = was_in m.code r (λ w h. is_in_code h) c

@@ -1,0 +1,73 @@
+-- What splitting makes of a function.
+use Rattle.std.specs.Prelude.{◌≡◌, ◌≢◌, ◌↔◌, ℕ, ◌+◌, ◌<◌, List, ◌∷◌, length}
+use Rattle.bs_words.specs.declared.types.Loc.TheVariants as loc
+use Rattle.mach_ir.specs.Formed.{WellFormed}
+use Rattle.mach_ir.specs.Keeps.{Keeps}
+use Rattle.mach_ir.specs.Placed.{WellPlaced}
+use Rattle.mach_ir.specs.Seats.{Seated}
+use Rattle.mach_ir.specs.Sizes.{Size, HasSize}
+use Rattle.mach_ir.specs.Walks.{Among, Stands, IsRegister, NoAddrLive}
+use Rattle.mach_ir.specs.declared.reg.Reg.{Reg}
+use Rattle.mach_ir.specs.declared.mach.Instr.{Instr}
+use Rattle.mach_ir.specs.declared.mach.Mach.{Mach}
+use Rattle.split_rules.specs.Renamed.{Naming, renamed}
+use Rattle.split_rules.specs.Writes.{Comes, Chained, IsWrite}
+
+-- What numbers owe for a function to do what it did.
+pub record IsNaming (m : Mach) (names : Naming) : Type 0 where
+  -- an operand has the number of each write that comes to it
+  pub agree : (i : Instr) (next from : List Instr) (n : ℕ) → Stands i next m.code →
+      Among n i.args → Comes m n from (i ∷ next) →
+      names.read (length next) n ≡ names.write (length from) n
+  -- a new number is that of one old register
+  pub back : ℕ → ℕ
+  pub read_back : (r : Reg) → IsRegister m r → (k : ℕ) → back (names.read k r.number) ≡ r.number
+  pub write_back : (r : Reg) → IsRegister m r → (k : ℕ) →
+      back (names.write k r.number) ≡ r.number
+  -- a register whose place is fixed keeps its number, and so does what the entry writes
+  pub read_fixed : (r : Reg) → IsRegister m r → r.loc ≢ loc.Unset → (k : ℕ) →
+      names.read k r.number ≡ r.number
+  pub write_fixed : (r : Reg) → IsRegister m r → r.loc ≢ loc.Unset → (k : ℕ) →
+      names.write k r.number ≡ r.number
+  pub entry : (n : ℕ) → Among n m.params → names.write (length m.code) n ≡ n
+
+-- Writes of an open register have one number exactly where they are joined.
+pub record JoinsExactly (m : Mach) (names : Naming) : Type 0 where
+  pub exact : (r : Reg) → IsRegister m r → r.loc ≡ loc.Unset → (from to : List Instr) →
+      IsWrite m r.number from → IsWrite m r.number to →
+      (names.write (length from) r.number ≡ names.write (length to) r.number)
+      ↔ Chained m r.number from to
+
+-- each number is below that of registers, operands and parameters together
+pub record IsDense (m : Mach) (names : Naming) : Type 0 where
+  pub read : (s : Size) → HasSize m s → (r : Reg) → IsRegister m r → (k : ℕ) →
+      names.read k r.number < s.registers + (s.operands + length m.params)
+  pub write : (s : Size) → HasSize m s → (r : Reg) → IsRegister m r → (k : ℕ) →
+      names.write k r.number < s.registers + (s.operands + length m.params)
+
+-- Nothing but numbers of open registers has changed, and writes have one number exactly where they
+-- are joined.
+pub record IsSplit (m q : Mach) : Type 0 where
+  pub names : Naming
+  pub is : q ≡ renamed names m
+  pub naming : IsNaming m names
+  pub joins : JoinsExactly m names
+  pub dense : IsDense m names
+
+-- All writes of an open register are joined: what a reload writes is joined with nothing but what
+-- reaches a use with it.
+pub record IsOneWeb (q : Mach) : Type 0 where
+  pub one : (r : Reg) → IsRegister q r → r.loc ≡ loc.Unset → (from to : List Instr) →
+      IsWrite q r.number from → IsWrite q r.number to → Chained q r.number from to
+
+-- What a split function keeps.
+pub record IsKept (p q : Mach) : Type 0 where
+  pub keeps : Keeps p q
+  pub formed : WellFormed q
+  pub placed : WellPlaced q
+  pub seated : Seated p → Seated q
+  pub no_addr : NoAddrLive p → NoAddrLive q
+  -- There are as many instructions, operands and labels, and at most a register more for each operand
+  -- and each parameter.
+  pub size : (s : Size) → HasSize p s →
+      HasSize q (record s { registers = s.registers + (s.operands + length p.params) })
