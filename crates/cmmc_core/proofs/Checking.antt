@@ -8,10 +8,10 @@ use Rattle.cmmc_core.specs.Ends as ends
 use Rattle.cmmc_core.specs.Ends.{checked, unchecked, no_memory, Ends, written, out_fault}
 use Rattle.cmmc_core.specs.Refusal.{IsCheckRefusalRead, TellsCheckRefusal}
 use Rattle.cmmc_core.proofs.Ending.{Ends-told, Ends-told-or}
-use Rattle.text_check.specs.Check.{IsCheckOf}
-use Rattle.text_check.specs.Refusal.{IsCheckRefusal}
-use Rattle.text_check.specs.declared.check.CheckRefusal.{CheckRefusal}
-use Rattle.text_check.specs.declared.check.CheckRefusal.TheVariants.{Fault, UnknownEntry, ArgumentUnfit, TooLarge, OutOfMemory}
+use Rattle.text_commands.specs.Check.{IsCheckOf}
+use Rattle.text_commands.specs.CheckRefusal.{IsCheckRefusal}
+use Rattle.text_commands.specs.declared.check.CheckRefusal.{CheckRefusal}
+use Rattle.text_commands.specs.declared.check.CheckRefusal.TheVariants.{Fault, UnknownEntry, ArgumentUnfit, TooLarge, OutOfMemory}
 
 pub Ends-checked : (words : List (List ℕ)) (e : Effects) (check : CheckTree) (lines : List ℕ) → IsCommand words (CheckCommand check)
     → Reads (λ text. IsCheckOf check text lines) e.source → Got e.out lines → IsKept e.err → Ends words e 0

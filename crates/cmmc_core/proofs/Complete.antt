@@ -12,22 +12,22 @@ use Rattle.command_line.proofs.Unique.{command-unique, command-formed}
 use Rattle.command_line.specs.Command.{IsCommand, CommandTree, CompileCommand, RunCommand, CheckCommand, RunTree, CheckTree}
 use Rattle.command_line.specs.Words.{WellFormed}
 use Rattle.correctness.specs.Bounds.{IsRoomy}
-use Rattle.file_promise.proofs.Once.{made_for_once}
+use Rattle.text_commands.proofs.Passing.{made_for_once}
 use Rattle.image_form.specs.Tables.{Tables, Func}
 use Rattle.layout_rules.specs.TooLarge.{first_too_large}
 use Rattle.made_functions.specs.Files.{IsMadeFor}
 use Rattle.rv_machine.specs.Loading.{func_named, words_of_args}
-use Rattle.text_check.specs.Arguments.{NamesNone, HasUnfit, IsCall}
-use Rattle.text_check.specs.Check.{IsCheckOf, HasNoEntry, IsUnfitFor, IsTooLargeToCheck}
-use Rattle.text_check.proofs.Called.{named_none, call_unfit}
-use Rattle.text_compile.specs.Compile.{IsImageOf, IsTooLarge}
+use Rattle.text_commands.specs.Arguments.{NamesNone, HasUnfit, IsCall}
+use Rattle.text_commands.specs.Check.{IsCheckOf, HasNoEntry, IsUnfitFor, IsTooLargeToCheck}
+use Rattle.text_commands.proofs.Called.{named_none, call_unfit}
+use Rattle.text_commands.specs.Compile.{IsImageOf, IsTooLarge}
 use Rattle.cmmc_core.specs.Compile.{Reads}
 use Rattle.cmmc_core.specs.Complete.{NoneRose, Is, CompileComplete, RunComplete, CheckComplete, Complete}
 use Rattle.cmmc_core.specs.Effects.{Effects, Side, Rose, IsRead}
 use Rattle.cmmc_core.specs.Ends as ends
 use Rattle.cmmc_core.specs.Ends.{Output, spelling, outcome, checked, Cause, CheckCause, no_command, no_value, read_fault, fault, too_large, no_image, no_entry, unfit, unchecked, no_memory, Ends, written, refused, out_fault, err_fault}
 use Rattle.cmmc_core.specs.Run.{IsSpelling, ReadsImage, words_of_answers, longest_image}
-use Rattle.file_promise.proofs.Bytes.{bytes_of}
+use Rattle.text_commands.proofs.Passing.{bytes_of}
 use Rattle.cmmc_core.proofs.Reading.{all, too_long, IsRead-known}
 use Rattle.cmmc_core.proofs.Spelled.{one_image, spelling_short}
 

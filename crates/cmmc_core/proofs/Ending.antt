@@ -13,9 +13,9 @@ use Rattle.cmmc_core.specs.Ends.{Output, spelling, outcome, Cause, fault, too_la
 use Rattle.cmmc_core.specs.Compile.{Reads}
 use Rattle.cmmc_core.specs.Refusal.{IsRefusalRead, TellsRefusal, IsTextOf, WritesRun, IsRunRefusal, WritesOutcome, CutsOutcome, IsRunRefusalFrom, TellsOr}
 use Rattle.cmmc_core.specs.Run.{ReadsImage, IsOutcomeOf}
-use Rattle.text_compile.specs.Refusal.{SpellsImageOf, IsRefusalOf}
-use Rattle.text_compile.specs.declared.compile.Refusal as text
-use Rattle.text_compile.specs.declared.compile.Refusal.TheVariants.{Fault, TooLarge, OutOfMemory}
+use Rattle.text_commands.specs.Refusal.{SpellsImageOf, IsRefusalOf}
+use Rattle.text_commands.specs.declared.compile.Refusal as text
+use Rattle.text_commands.specs.declared.compile.Refusal.TheVariants.{Fault, TooLarge, OutOfMemory}
 use Rattle.cmmc_core.specs.declared.run.RunRefusal.{RunRefusal}
 use Rattle.cmmc_core.specs.declared.run.RunRefusal.TheVariants as refusal
 

@@ -11,7 +11,7 @@ use Rattle.image_form.specs.Tables.{Tables, Func}
 use Rattle.layout_rules.specs.TooLarge.{first_too_large}
 use Rattle.made_functions.specs.Files.{IsMadeFor}
 use Rattle.rv_machine.specs.Loading.{func_named, words_of_args}
-use Rattle.text_check.specs.Arguments.{NamesNone, HasUnfit, IsCall}
+use Rattle.text_commands.specs.Arguments.{NamesNone, HasUnfit, IsCall}
 use Rattle.cmmc_core.specs.Effects.{Effects, Rose}
 use Rattle.cmmc_core.specs.Run.{IsSpelling, words_of_answers}
 

@@ -11,8 +11,8 @@ use Rattle.command_line.specs.Words.{WellFormed}
 use Rattle.cmm_front.specs.FileOf.{HasFault}
 use Rattle.image_form.specs.Image.{tables_bytes}
 use Rattle.image_form.specs.Tables.{Tables}
-use Rattle.text_check.specs.Check.{IsCheckOf, HasNoEntry, IsUnfitFor, IsTooLargeToCheck}
-use Rattle.text_compile.specs.Compile.{IsImageOf, IsTooLarge}
+use Rattle.text_commands.specs.Check.{IsCheckOf, HasNoEntry, IsUnfitFor, IsTooLargeToCheck}
+use Rattle.text_commands.specs.Compile.{IsImageOf, IsTooLarge}
 use Rattle.cmmc_core.specs.Compile.{Reads}
 use Rattle.cmmc_core.specs.Effects.{Effects, Side, Rose, IsKept, Got, GotPart}
 use Rattle.cmmc_core.specs.Lines.{read_fault_line, no_memory_line}

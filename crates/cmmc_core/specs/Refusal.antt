@@ -9,12 +9,12 @@ use Rattle.rv_machine.specs.Loading.{func_named, words_of_args}
 use Rattle.rv_machine.specs.Run.{machine_run}
 use Rattle.rv_machine.specs.Text.{outcome_text}
 use Rattle.cmm_front.specs.FileOf.{HasFault}
-use Rattle.text_check.specs.Check.{HasNoEntry, IsUnfitFor, IsTooLargeToCheck}
-use Rattle.text_check.specs.declared.check.CheckRefusal as check
-use Rattle.text_check.specs.declared.check.CheckRefusal.TheVariants as checked
-use Rattle.text_compile.specs.Compile.{IsTooLarge}
-use Rattle.text_compile.specs.declared.compile.Refusal as text
-use Rattle.text_compile.specs.declared.compile.Refusal.TheVariants.{Fault, TooLarge, OutOfMemory}
+use Rattle.text_commands.specs.Check.{HasNoEntry, IsUnfitFor, IsTooLargeToCheck}
+use Rattle.text_commands.specs.declared.check.CheckRefusal as check
+use Rattle.text_commands.specs.declared.check.CheckRefusal.TheVariants as checked
+use Rattle.text_commands.specs.Compile.{IsTooLarge}
+use Rattle.text_commands.specs.declared.compile.Refusal as text
+use Rattle.text_commands.specs.declared.compile.Refusal.TheVariants.{Fault, TooLarge, OutOfMemory}
 use Rattle.cmmc_core.specs.Compile.{Reads}
 use Rattle.cmmc_core.specs.Effects.{Side, Rose, Tells, IsKept, Got, GotPart}
 use Rattle.cmmc_core.specs.Lines.{no_memory_line}

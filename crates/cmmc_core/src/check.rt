@@ -7,15 +7,15 @@ ghost use Rattle.cmmc_core.specs.Compile.{Reads};
 ghost use Rattle.cmmc_core.specs.Effects.{side, effects};
 ghost use Rattle.cmmc_core.specs.Ends.{Ends};
 ghost use Rattle.cmmc_core.specs.Refusal.{IsCheckFailure};
-ghost use Rattle.text_check.specs.Check.{IsCheckOf};
-ghost use Rattle.text_check.specs.Refusal.{IsCheckRefusal};
+ghost use Rattle.text_commands.specs.Check.{IsCheckOf};
+ghost use Rattle.text_commands.specs.CheckRefusal.{IsCheckRefusal};
 
 use crate::line::{READ_FAULT, WRITE_FAULT, WRITTEN, tell, tell_check_refusal};
 use crate::text::{Unread, read_text};
 use bs_io::{Sink, Source, write_all};
 use command_line::CheckWords;
 use std::alloc::Global;
-use text_check::{CheckRefusal, check_text};
+use text_commands::{CheckRefusal, check_text};
 
 /// Why nothing is reported of a source.
 #[derive(Debug, Drop)]

@@ -4,13 +4,13 @@ ghost use Rattle.bs_words.specs.Contents.{contents};
 ghost use Rattle.cmmc_core.specs.Compile.{Reads};
 ghost use Rattle.cmmc_core.specs.Effects.{side};
 ghost use Rattle.cmmc_core.specs.Refusal.{IsRefusalFrom};
-ghost use Rattle.text_compile.specs.Refusal.{SpellsImageOf, IsRefusalOf};
+ghost use Rattle.text_commands.specs.Refusal.{SpellsImageOf, IsRefusalOf};
 
 use crate::text::{Unread, read_text};
 use bs_io::Source;
 use bs_words::List;
 use std::alloc::Global;
-use text_compile::{Refusal as TextRefusal, compile_text};
+use text_commands::{Refusal as TextRefusal, compile_text};
 
 /// Why there is no image.
 #[derive(Debug, Drop)]

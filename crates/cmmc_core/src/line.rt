@@ -8,8 +8,7 @@ ghost use Rattle.cmmc_core.specs.Refusal.{TellsOr, TellsRefusal, TellsCheckRefus
 use bs_fault::{Fault, ImageRefusal, Large, fault_text, image_text, large_text};
 use bs_io::{Sink, write_all};
 use std::alloc::Global;
-use text_check::CheckRefusal;
-use text_compile::Refusal;
+use text_commands::{CheckRefusal, Refusal};
 
 /// The output was written whole.
 pub const WRITTEN: u8 = 0;

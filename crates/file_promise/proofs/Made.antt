@@ -12,7 +12,7 @@ use Rattle.code_bounds.specs.Kept.{KeepsTo}
 use Rattle.code_bounds.proofs.Few.{few}
 use Rattle.code_bounds.proofs.Keeping.{each_keeps}
 use Rattle.compiled_files.specs.Stages.{AreChained, HasChain}
-use Rattle.file_promise.specs.Exact.{IsFunctionExact}
+use Rattle.made_functions.specs.Exact.{IsFunctionExact}
 use Rattle.frame_names.specs.Names.{names_by}
 use Rattle.frame_names.proofs.Names.{exact_names}
 use Rattle.laid_files.proofs.Laid.{function_can}

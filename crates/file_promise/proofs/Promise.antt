@@ -13,7 +13,7 @@ use Rattle.image_form.specs.Image.{AreTables}
 use Rattle.image_form.specs.Tables.{Tables}
 use Rattle.layout_rules.specs.TooLarge.{first_too_large}
 use Rattle.made_functions.specs.Files.{IsMadeFor}
-use Rattle.file_promise.specs.Exact.{IsExact}
+use Rattle.made_functions.specs.Exact.{IsExact}
 use Rattle.file_promise.proofs.Bytes.{bytes_of}
 use Rattle.file_promise.proofs.Made.{are_chained, are_exact, can_be_laid, keep}
 

@@ -10,7 +10,7 @@ ghost use Rattle.cmm_tree.specs.Tree.{FileTree};
 ghost use Rattle.correctness.specs.Bounds.{IsBounded, IsRoomy};
 ghost use Rattle.correctness.specs.Correct.{IsCorrect};
 ghost use Rattle.correctness.specs.InNeed.{AsksInNeed};
-ghost use Rattle.file_promise.specs.Exact.{IsExact};
+ghost use Rattle.made_functions.specs.Exact.{IsExact};
 ghost use Rattle.image_form.specs.Image.{AreTables};
 ghost use Rattle.image_form.specs.Tables.{Tables};
 ghost use Rattle.layout_rules.specs.TooLarge.{first_too_large};

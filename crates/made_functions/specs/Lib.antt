@@ -2,3 +2,4 @@ pub mod Made
 pub mod Chained
 pub mod Bounded
 pub mod Files
+pub mod Exact

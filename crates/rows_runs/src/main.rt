@@ -11,7 +11,7 @@ use cmm_front::front;
 use command_line::{Command, read_words};
 use std::alloc::Global;
 use std::io::{self, BufRead, BufReader, BufWriter, Write};
-use text_check::{CallRefusal, call_of, told_of_run};
+use text_commands::{CallRefusal, call_of, told_of_run};
 
 /// The most functions of a text in `stdin`.
 const FUNCTIONS: u32 = 64;

@@ -1,0 +1,41 @@
+-- What is promised of the image that a checked file is compiled to, for those who compile.
+use Rattle.std.proofs.Common.{◌≡◌, ◌<◌, ℕ, All, List, None, get_or}
+use Rattle.cmm_front.specs.FileOf.{IsFileOf}
+use Rattle.cmm_lex.proofs.Languages.{AreBytes}
+use Rattle.cmm_tree.specs.Tree.{FileTree}
+use Rattle.correctness.specs.Bounds.{IsBounded, IsRoomy}
+use Rattle.correctness.specs.Correct.{IsCorrect}
+use Rattle.correctness.specs.InNeed.{AsksInNeed}
+use Rattle.file_promise.proofs.Bytes as bytes
+use Rattle.file_promise.proofs.Once as once
+use Rattle.file_promise.proofs.Promise as promise
+use Rattle.image_form.specs.Image.{AreTables}
+use Rattle.image_form.specs.Tables.{Tables}
+use Rattle.layout_rules.specs.TooLarge.{first_too_large}
+use Rattle.made_functions.specs.Exact.{IsExact}
+use Rattle.made_functions.specs.Files.{IsMadeFor}
+
+pub all_bytes : (text : List ℕ) → ((i : ℕ) → get_or text i 0 < 256) → All (λ b. b < 256) text
+all_bytes = bytes.all_bytes
+
+pub bytes_of : (text : List ℕ) → All (λ b. b < 256) text → AreBytes text
+bytes_of = bytes.bytes_of
+
+pub made_for_once : (file : FileTree) (t u : Tables) → IsMadeFor file t → IsMadeFor file u → t ≡ u
+made_for_once = once.made_for_once
+
+module _ (text : List ℕ) (file : FileTree) (is : IsFileOf text file) (image : Tables) (made : IsMadeFor file image) where
+  pub made_correct : All (λ b. b < 256) text → AreTables image → IsCorrect file image
+  made_correct are tables = promise.made_correct text file is image made are tables
+
+  pub made_in_need : All (λ b. b < 256) text → AreTables image → AsksInNeed file image
+  made_in_need are tables = promise.made_in_need text file is image made are tables
+
+  pub made_bounded : IsBounded file image
+  made_bounded = promise.made_bounded text file is image made
+
+  pub made_exact : IsExact file image
+  made_exact = promise.made_exact text file is image made
+
+  pub roomy_fits : IsRoomy file → first_too_large image ≡ None
+  roomy_fits roomy = promise.roomy_fits text file is image made roomy

@@ -1,7 +1,0 @@
-mod Words
-mod Rows
-mod Told
-mod Entries
-pub mod Called
-mod Fitting
-mod Compiled

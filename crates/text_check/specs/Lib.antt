@@ -1,5 +1,0 @@
-pub mod Lines
-pub mod Arguments
-pub mod Check
-pub mod Refusal
-pub mod Puts

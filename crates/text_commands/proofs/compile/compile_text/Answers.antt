@@ -1,0 +1,46 @@
+use Rattle.std.proofs.Common.{Err, ap, arith}
+use Rattle.cmm_front.specs.FileOf.{tree_of}
+use Rattle.cmm_walks.specs.Checked.{typed_of}
+use Rattle.file_compile.proofs.Promised.{made_correct, made_in_need, made_bounded, made_exact}
+use Rattle.file_compile.proofs.Promised.{all_bytes}
+use Rattle.image_form.specs.Tables.{tables}
+use Rattle.text_commands.proofs.Passing.{only_made, too_large}
+use Rattle.text_commands.proofs.compile.compile_text.Goals as goal
+
+-- its file is the text's, so that it is an accepted one
+pub compile-requires-clause-accepted : goal.compile-requires-clause-accepted
+compile-requires-clause-accepted c = record {
+  text = c.args.text.now;
+  are_bytes = all_bytes c.args.text.now (λ i. omega (arith, c.type_inv.text i));
+  is_file = c.in-Ok.ensures.file;
+}
+
+pub returns-in-Ok-write_image-clause-image : goal.returns-in-Ok-write_image-clause-image
+returns-in-Ok-write_image-clause-image c =
+    let text = c.args.text.now in
+    let file = tree_of (typed_of c.in-Ok.checked) in
+    let image = tables c.in-Ok-compile.image in
+    let bytes = all_bytes text (λ i. omega (arith, c.type_inv.text i)) in
+    let made = c.in-Ok-compile.ensures.made in
+    record {
+      image = image;
+      is_image = record {
+        file = file;
+        is_file = c.in-Ok.ensures.file;
+        is_image = c.in-Ok-compile.ensures.is_image;
+        made = only_made file image made;
+        correct = made_correct text file c.in-Ok.ensures.file image made bytes c.in-Ok-compile.ensures.is_image;
+        in_need = made_in_need text file c.in-Ok.ensures.file image made bytes c.in-Ok-compile.ensures.is_image;
+        bounded = made_bounded text file c.in-Ok.ensures.file image made;
+        exact = made_exact text file c.in-Ok.ensures.file image made;
+        fits = c.in-Ok-compile.ensures.fits;
+      };
+      spelled = c.in-Ok-write_image.ensures;
+    }
+
+pub returns-in-Err-TooLarge-clause-refused : goal.returns-in-Err-TooLarge-clause-refused
+returns-in-Err-TooLarge-clause-refused c =
+    rw c.in-Err-TooLarge.field-0-is (
+      too_large c.args.text.now (tree_of (typed_of c.in-Ok.checked)) c.in-Err-TooLarge.large c.in-Ok.ensures.file
+      (c.in-Err-TooLarge.ensures.large c.in-Err-TooLarge.large (ap Err c.in-Err-TooLarge.field-0-is))
+    )

@@ -1,0 +1,20 @@
+-- What compiling a text answers.
+use Rattle.std.specs.Prelude.{◌≡◌, ⊤, ℕ, List}
+use Rattle.cmm_front.specs.FileOf.{HasFault}
+use Rattle.image_form.specs.Image.{tables_bytes}
+use Rattle.image_form.specs.Tables.{Tables}
+use Rattle.text_commands.specs.Compile.{IsImageOf, IsTooLarge}
+use Rattle.text_commands.specs.declared.compile.Refusal.{Refusal}
+use Rattle.text_commands.specs.declared.compile.Refusal.TheVariants.{Fault, TooLarge, OutOfMemory}
+
+-- The bytes are the spelling of an image of the text.
+pub record SpellsImageOf (text bytes : List ℕ) : Type 0 where
+  pub image : Tables
+  pub is_image : IsImageOf text image
+  pub spelled : bytes ≡ tables_bytes image
+
+-- why a text has no image
+abbrev pub IsRefusalOf : List ℕ → Refusal → Type 0
+IsRefusalOf text (Fault told) = HasFault text told
+IsRefusalOf text (TooLarge large) = IsTooLarge text large
+IsRefusalOf text OutOfMemory = ⊤

@@ -1,0 +1,74 @@
+//! What is reported of a run of a text.
+ghost use Rattle.std.specs.Prelude.{IfOk, IfErr};
+ghost use Rattle.bs_words.specs.Contents.{contents};
+ghost use Rattle.command_line.specs.View.{check_view};
+ghost use Rattle.text_commands.specs.Check.{IsCheckOf};
+ghost use Rattle.text_commands.specs.CheckRefusal.{IsCheckRefusal};
+
+use crate::call::{CallRefusal, call_of};
+use crate::run::told_of_run;
+use bs_fault::{BuildError, Fault, FrontError, Large};
+use bs_words::List;
+use cmm_front::front;
+use command_line::CheckWords;
+use file_compile::{compile, layout};
+use std::alloc::Global;
+use thiserror::Error;
+
+/// Why nothing is reported of a run of a text.
+#[derive(Debug, Drop, Error)]
+pub enum CheckRefusal {
+    /// The text has a fault.
+    #[error("the text has a fault")]
+    Fault(Fault),
+    #[error("no function has the entry's name")]
+    UnknownEntry,
+    /// The arguments do not fit the entry, or a symbol among arguments and answers is of no static data.
+    #[error("the arguments do not fit the entry")]
+    ArgumentUnfit,
+    /// A section of the image would pass its limit.
+    #[error("the image is too large")]
+    TooLarge(Large),
+    #[error("out of memory")]
+    OutOfMemory,
+}
+
+/// What is reported of the run of a text that the words ask for: its outcome, and what it needs of stack, heap and fuel.
+/// The frames and addresses of functions are those of the text's image.
+///
+/// # Errors
+///
+/// `Fault` exactly where the text has a fault, with the one that is reported; else `UnknownEntry` exactly where it has
+/// no function of the entry's name; else `ArgumentUnfit` exactly where the words do not suit that function; else
+/// `TooLarge` exactly where a section of its image passes its limit, with the first that does. `OutOfMemory` where
+/// memory ran out before the answer is known.
+pub fn check_text(alloc: Global, text: &[u8], check: &CheckWords) -> Result<List<u8>, CheckRefusal>
+    ensures told { IfOk result (λ told. IsCheckOf (check_view check.now) text.now (contents told)) }
+    ensures refused { IfErr result (λ r. IsCheckRefusal (check_view check.now) text.now r) }
+{
+    let checked = match front(alloc, text) {
+        Ok(checked) => checked,
+        Err(FrontError::Fault(fault)) => return Err(CheckRefusal::Fault(fault)),
+        Err(FrontError::OutOfMemory) => return Err(CheckRefusal::OutOfMemory),
+    };
+    let file = checked.typed().file();
+    let call = match call_of(alloc, file, check) {
+        Ok(call) => call,
+        Err(CallRefusal::UnknownEntry) => return Err(CheckRefusal::UnknownEntry),
+        Err(CallRefusal::ArgumentUnfit) => return Err(CheckRefusal::ArgumentUnfit),
+        Err(CallRefusal::OutOfMemory) => return Err(CheckRefusal::OutOfMemory),
+    };
+    let image = match compile(alloc, &checked) {
+        Ok(image) => image,
+        Err(BuildError::TooLarge(large)) => return Err(CheckRefusal::TooLarge(large)),
+        Err(BuildError::OutOfMemory) => return Err(CheckRefusal::OutOfMemory),
+    };
+    let layout = match layout(alloc, &image) {
+        Ok(layout) => layout,
+        Err(_) => return Err(CheckRefusal::OutOfMemory),
+    };
+    match told_of_run(alloc, file, &layout, &call, check.fuel) {
+        Ok(told) => Ok(told),
+        Err(_) => Err(CheckRefusal::OutOfMemory),
+    }
+}

@@ -1,0 +1,52 @@
+//! Compiling a text.
+ghost use Rattle.std.specs.Prelude.{IfOk, IfErr};
+ghost use Rattle.bs_words.specs.Contents.{contents};
+ghost use Rattle.text_commands.specs.Refusal.{SpellsImageOf, IsRefusalOf};
+
+use bs_fault::{BuildError, Fault, FrontError, Large};
+use bs_words::List;
+use cmm_front::front;
+use file_compile::compile;
+use image_form::write_image;
+use std::alloc::Global;
+use thiserror::Error;
+
+/// Why a text has no image.
+#[derive(Debug, Drop, Error)]
+pub enum Refusal {
+    /// The text has a fault.
+    #[error("the text has a fault")]
+    Fault(Fault),
+    /// A section of its image would pass its limit.
+    #[error("the image is too large")]
+    TooLarge(Large),
+    #[error("out of memory")]
+    OutOfMemory,
+}
+
+/// The spelling of the image of a text.
+///
+/// # Errors
+///
+/// `Fault` exactly where the text has a fault, with the one that is reported; else `TooLarge` exactly where a section
+/// of its image passes its limit, with the first that does. `OutOfMemory` where memory ran out before the answer is
+/// known.
+pub fn compile_text(alloc: Global, text: &[u8]) -> Result<List<u8>, Refusal>
+    ensures image { IfOk result (λ bytes. SpellsImageOf text.now (contents bytes)) }
+    ensures refused { IfErr result (λ r. IsRefusalOf text.now r) }
+{
+    let checked = match front(alloc, text) {
+        Ok(checked) => checked,
+        Err(FrontError::Fault(fault)) => return Err(Refusal::Fault(fault)),
+        Err(FrontError::OutOfMemory) => return Err(Refusal::OutOfMemory),
+    };
+    let image = match compile(alloc, &checked) {
+        Ok(image) => image,
+        Err(BuildError::TooLarge(large)) => return Err(Refusal::TooLarge(large)),
+        Err(BuildError::OutOfMemory) => return Err(Refusal::OutOfMemory),
+    };
+    match write_image(alloc, &image) {
+        Ok(bytes) => Ok(bytes),
+        Err(_) => Err(Refusal::OutOfMemory),
+    }
+}

@@ -1,2 +1,0 @@
-pub mod Compile
-pub mod Refusal
