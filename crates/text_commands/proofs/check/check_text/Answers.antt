@@ -61,6 +61,6 @@ returns-in-Err-TooLarge-clause-refused c =
     let call = c.in-Ok-call_of.call in
     let same : file_view c.file-file.result.now ≡ file = rw (c.file-file.ensures, c.typed.ensures) refl in
     let called : IsCall (check_view c.args.check.now) file call.entry call.args.items call.answers.items =
-        subst (λ (f : FileTree). IsCall (check_view c.args.check.now) f call.entry call.args.items call.answers.items) same c.in-Ok-call_of.ensures.call in
+    subst (λ (f : FileTree). IsCall (check_view c.args.check.now) f call.entry call.args.items call.answers.items) same c.in-Ok-call_of.ensures.call in
     rw c.in-Err-TooLarge.field-0-is (too_large_to_check (check_view c.args.check.now) c.args.text.now file c.in-Err-TooLarge.large call.entry call.args.items call.answers.items c.in-Ok.ensures.file
     called (c.in-Err-TooLarge.ensures.large c.in-Err-TooLarge.large (ap Err c.in-Err-TooLarge.field-0-is)))

@@ -41,6 +41,6 @@ returns-in-Ok-write_image-clause-image c =
 pub returns-in-Err-TooLarge-clause-refused : goal.returns-in-Err-TooLarge-clause-refused
 returns-in-Err-TooLarge-clause-refused c =
     rw c.in-Err-TooLarge.field-0-is (
-      too_large c.args.text.now (tree_of (typed_of c.in-Ok.checked)) c.in-Err-TooLarge.large c.in-Ok.ensures.file
-      (c.in-Err-TooLarge.ensures.large c.in-Err-TooLarge.large (ap Err c.in-Err-TooLarge.field-0-is))
+    too_large c.args.text.now (tree_of (typed_of c.in-Ok.checked)) c.in-Err-TooLarge.large c.in-Ok.ensures.file
+    (c.in-Err-TooLarge.ensures.large c.in-Err-TooLarge.large (ap Err c.in-Err-TooLarge.field-0-is))
     )
