@@ -1,6 +1,7 @@
 //! In which forms the pieces of functions made by hand stand, at which words, and what their words are.
 //!
-//! A line of standard input is a piece: a label, a jump, the number of an external call or an address, as `label 1` or `address a0 1`; a condition, two registers and a
+//! A line of standard input is a piece: a label, a jump, the number of an external call
+//! or an address, as `label 1` or `address a0 1`; a condition, two registers and a
 //! label, as `beq a0 a1 1`; `call 65536`, `tail 65536` and `symbol a0 65536`, which lead to this address; or `fill 1022`,
 //! so many instructions. `end 65536` lays them out as a function whose entry has this address.
 //!
