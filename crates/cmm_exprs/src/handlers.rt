@@ -1,7 +1,8 @@
 //! `catch`, `exit` and `try`.
 ghost use Rattle.cmm_grammar.specs.Rule as rule;
 ghost use Rattle.cmm_grammar.specs.Rule.{Then, AnExpression, labelled_or};
-ghost use Rattle.cmm_grammar.specs.Grammar.{label_rest, handler_rest, next_handler, more_handlers, labelled_handlers, bare_handler, catch_form, exit_form, try_form};
+ghost use Rattle.cmm_grammar.specs.Grammar.{label_rest, handler_rest, next_handler, more_handlers, labelled_handlers};
+ghost use Rattle.cmm_grammar.specs.Grammar.{bare_handler, catch_form, exit_form, try_form};
 ghost use Rattle.cmm_grammar.specs.Reading.{reads};
 ghost use Rattle.cmm_tree.specs.View.{expr_view};
 ghost use Rattle.cmm_parts.specs.Results.{trees, Fails, Gives, ReadsBy};

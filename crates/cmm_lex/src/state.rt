@@ -1,6 +1,9 @@
 //! The automaton of tokens: what the bytes read so far may go on to. Strings are read apart.
 ghost use Rattle.std.specs.Prelude.{◌≡◌};
-ghost use Rattle.cmm_lex.specs.Automaton.{is_digit, is_hexadecimal, is_octal, is_binary, is_letter, is_word_byte, after_name, accepts_name, after_decimal, if_digit, after_number, accepts_number, after_operator, accepts_operator, after_start, after, accepts, is_dead};
+ghost use Rattle.cmm_lex.specs.Automaton.{is_digit, is_hexadecimal, is_octal, is_binary, is_letter, is_word_byte};
+ghost use Rattle.cmm_lex.specs.Automaton.{after_name, accepts_name, after_decimal, if_digit, after_number};
+ghost use Rattle.cmm_lex.specs.Automaton.{accepts_number, after_operator, accepts_operator, after_start, after};
+ghost use Rattle.cmm_lex.specs.Automaton.{accepts, is_dead};
 
 /// What a token is by its bytes' classes: words may be names or keywords.
 #[derive(Clone, Copy, PartialEq, Eq)]

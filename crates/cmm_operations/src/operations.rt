@@ -1,5 +1,7 @@
 //! The forms that compute with expressions.
-ghost use Rattle.cmm_grammar.specs.Grammar.{assign_form, app_form, extcall_rest, extcall_form, alloc_form, load_rest, store_rest, load_form, store_form, raise_form, pair_form, triple_form, float_form, seq_form};
+ghost use Rattle.cmm_grammar.specs.Grammar.{assign_form, app_form, extcall_rest, extcall_form, alloc_form, load_rest};
+ghost use Rattle.cmm_grammar.specs.Grammar.{store_rest, load_form, store_form, raise_form, pair_form, triple_form};
+ghost use Rattle.cmm_grammar.specs.Grammar.{float_form, seq_form};
 ghost use Rattle.cmm_tree.specs.View.{expr_view};
 ghost use Rattle.cmm_parts.specs.Results.{trees, Fails, Gives, ReadsBy};
 ghost use Rattle.cmm_operations.specs.Forms.{MayRead, ReadsForms};

@@ -8,7 +8,10 @@ ghost use Rattle.cmm_types.specs.declared.group.Group.TheVariants as groups;
 ghost use Rattle.cmm_types.specs.Lists.{AreAnnotated, AreBindingsAnnotated, AreCasesAnnotated, AreHandlersAnnotated, with_binding};
 ghost use Rattle.cmm_tree.specs.Rows.{row_of, bindings_of, cases_of, handlers_of};
 ghost use Rattle.cmm_tree.specs.Symbols.{definition_of};
-ghost use Rattle.cmm_types.specs.Types.{with_bindings, with_parameters, type_without_float, holds_float, row_holds_float, type_of_last, bindings_hold_float, is_declared_float, type_of_cases, cases_hold_float, type_of_handlers, handlers_hold_float, has_float_parameter};
+ghost use Rattle.cmm_types.specs.Types.{with_bindings, with_parameters, type_without_float, holds_float};
+ghost use Rattle.cmm_types.specs.Types.{row_holds_float, type_of_last, bindings_hold_float, is_declared_float};
+ghost use Rattle.cmm_types.specs.Types.{type_of_cases, cases_hold_float, type_of_handlers, handlers_hold_float};
+ghost use Rattle.cmm_types.specs.Types.{has_float_parameter};
 ghost use Rattle.cmm_types.specs.Gathered.{faults_in, used_as, row_faults, declared_faults, params_faults, bindings_faults, cases_faults, handlers_faults};
 ghost use Rattle.bs_fault.specs.Reported.{noted_all};
 

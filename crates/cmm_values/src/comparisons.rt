@@ -2,7 +2,9 @@
 ghost use Rattle.std.specs.Prelude.{◌≡◌, not};
 ghost use Rattle.cmm_values.specs.Orders.{order_of_pointers};
 ghost use Rattle.bs_words.specs.Memory.{sizes};
-ghost use Rattle.bs_words.specs.Operators.{truth, signed_holds, unsigned_holds, is_in, is_near, is_apart_from_block, is_apart_from_code, unequal_if, equality_of, order_of, as_value, comparison_of};
+ghost use Rattle.bs_words.specs.Operators.{truth, signed_holds, unsigned_holds, is_in, is_near, is_apart_from_block};
+ghost use Rattle.bs_words.specs.Operators.{is_apart_from_code, unequal_if, equality_of, order_of, as_value};
+ghost use Rattle.bs_words.specs.Operators.{comparison_of};
 
 use crate::memory::Memory;
 use crate::operators::only_if;

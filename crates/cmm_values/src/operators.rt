@@ -3,7 +3,8 @@ ghost use Rattle.std.specs.Prelude.{◌≡◌, bit_or, bit_xor, true, if◌then�
 ghost use Rattle.bs_words.specs.Word.{mul_word, mulh_word, div_word, rem_word, shl_word, shr_word, sar_word};
 ghost use Rattle.bs_words.specs.Memory.{sizes};
 ghost use Rattle.cmm_values.specs.Words.{applied_to_words};
-ghost use Rattle.bs_words.specs.Operators.{only_if, sum_of, difference_of, on_words, quotient_of, shift_of, masked_offset, bits_in_both, apply, condition_of, word_in};
+ghost use Rattle.bs_words.specs.Operators.{only_if, sum_of, difference_of, on_words, quotient_of, shift_of};
+ghost use Rattle.bs_words.specs.Operators.{masked_offset, bits_in_both, apply, condition_of, word_in};
 
 use crate::comparisons::{is_near, signed_comparison, unsigned_comparison};
 use crate::memory::Memory;

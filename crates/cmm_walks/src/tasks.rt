@@ -6,7 +6,8 @@ ghost use Rattle.cmm_types.specs.Light.{is_light_address};
 ghost use Rattle.cmm_types.specs.Lists.{AreAnnotated, AreBindingsAnnotated};
 ghost use Rattle.cmm_tree.specs.Rows.{row_of, bindings_of};
 ghost use Rattle.cmm_types.specs.Types.{with_bindings};
-ghost use Rattle.cmm_walks.specs.Walks.{Slotted, Does, Evaluates, names, first_tasks, operand, takes, waiting, filled, all_operands, in_order, parameters_bound, entering};
+ghost use Rattle.cmm_walks.specs.Walks.{Slotted, Does, Evaluates, names, first_tasks, operand, takes, waiting, filled};
+ghost use Rattle.cmm_walks.specs.Walks.{all_operands, in_order, parameters_bound, entering};
 ghost use Rattle.cmm_walks.specs.Cells.{cells, event_of};
 ghost use Rattle.cmm_walks.specs.Sound.{IsReady, IsScope, Adds};
 

@@ -5,7 +5,8 @@ ghost use Rattle.lin_ir.specs.Meaning.{passes_frame};
 ghost use Rattle.lin_laws.specs.Numbers.{written_numbers};
 ghost use Rattle.lin_flow.specs.Search.{all_of, groups_of, members};
 ghost use Rattle.lin_flow.specs.Nodes.{IsText};
-ghost use Rattle.frame_tables.specs.Points.{IsAsked, IsChosen, IsChoice, edges_of, IsGathered, Gathers, HasTraps, IsAfterNode, IsSearched, IsRooted, ArePoints, HasRoots};
+ghost use Rattle.frame_tables.specs.Points.{IsAsked, IsChosen, IsChoice, edges_of, IsGathered, Gathers, HasTraps};
+ghost use Rattle.frame_tables.specs.Points.{IsAfterNode, IsSearched, IsRooted, ArePoints, HasRoots};
 
 use bs_words::List;
 use dataflow::Place;

@@ -3,7 +3,8 @@ ghost use Rattle.std.specs.Prelude.{◌≡◌, ◌++◌, true, false, codes, IfO
 ghost use Rattle.bs_words.specs.Contents.{contents};
 ghost use Rattle.mach_ir.specs.Pages.{Adds};
 ghost use Rattle.mach_ir.specs.Words.{label_text, separator};
-ghost use Rattle.lin_ir.specs.Text.{spot_text, spots_text, results_text, labels_text, flow_word, flow_text, lin_word, lin_op_text, stays_first, indent_of, line_text, lines_text, lin_text};
+ghost use Rattle.lin_ir.specs.Text.{spot_text, spots_text, results_text, labels_text, flow_word, flow_text, lin_word};
+ghost use Rattle.lin_ir.specs.Text.{lin_op_text, stays_first, indent_of, line_text, lines_text, lin_text};
 
 use crate::lin::{Flow, Lin, LinOp, Line, Spot};
 use bs_words::{List, Loc};

@@ -12,11 +12,17 @@ pub struct LiveMap {
     pub before: Rows,
 }
 
-/// A register, and the numbers of those that the graph joins it with.
+/// A register, and what colouring asks of it.
 #[derive(Clone, Drop)]
 pub struct Node {
     pub reg: Reg,
+    /// The numbers of the registers that the graph joins it with, rising.
     pub neighbours: Seq<u32>,
+    /// The numbers of the registers that a move takes it from or to: one for each move, in the order of
+    /// the text. They had better stand at one place, so that the move has no words.
+    pub moves: Seq<u32>,
+    /// How often the code reads or writes it: what a slot would cost.
+    pub uses: u32,
 }
 
 /// The registers of a function, and which of them must stand apart: one is written while the other

@@ -3,7 +3,10 @@ ghost use Rattle.std.specs.Prelude.{◌≡◌, ◌++◌, codes, IfOk};
 ghost use Rattle.std.specs.Fmt.{decimal, signed_decimal};
 ghost use Rattle.bs_words.specs.Word.{signed_of};
 ghost use Rattle.mach_ir.specs.Pages.{Adds};
-ghost use Rattle.mach_ir.specs.Words.{comp_letter, register_name, label_text, word_text, separator, signed_word, unsigned_word, operator_word, chunk_word, copy_word, pure_word, access_word, calling_word, leaving_word, op_word, test_word, right_text, test_right, pure_text, access_text, callee_text, calling_text, leaving_text, op_text};
+ghost use Rattle.mach_ir.specs.Words.{comp_letter, register_name, label_text, word_text, separator, signed_word};
+ghost use Rattle.mach_ir.specs.Words.{unsigned_word, operator_word, chunk_word, copy_word, pure_word, access_word};
+ghost use Rattle.mach_ir.specs.Words.{calling_word, leaving_word, op_word, test_word, right_text, test_right};
+ghost use Rattle.mach_ir.specs.Words.{pure_text, access_text, callee_text, calling_text, leaving_text, op_text};
 
 use crate::mach::Test;
 use crate::op::{Access, Callee, Calling, CopyKind, Leaving, Op, Pure, Right};

@@ -4,7 +4,8 @@ ghost use Rattle.lin_ir.specs.Descriptors.{frame_bytes, IsWithin};
 ghost use Rattle.lin_ir.specs.Formed.{AreLocated};
 ghost use Rattle.lin_ir.specs.Walks.{OneDepth};
 ghost use Rattle.emit_rules.specs.Calls.{mark_of};
-ghost use Rattle.emit_rules.specs.Emitted.{operator_part, pure_part, access_part, calling_part, leaving_part, op_part, flow_part, part_of, descriptor, left_after, parts, emitted, IsEmitted};
+ghost use Rattle.emit_rules.specs.Emitted.{operator_part, pure_part, access_part, calling_part, leaving_part, op_part};
+ghost use Rattle.emit_rules.specs.Emitted.{flow_part, part_of, descriptor, left_after, parts, emitted, IsEmitted};
 ghost use Rattle.rv_emit.specs.Outputs.{Adds};
 ghost use Rattle.rv_emit.specs.Frames.{form_of};
 

@@ -1,6 +1,7 @@
 //! Instructions over registers.
 ghost use Rattle.std.specs.Prelude.{◌≡◌, ◌<◌, [], ◌∷◌, IfOk, option_copied, slice_get};
-ghost use Rattle.emit_rules.specs.Instructions.{low_12, register_at, with_immediate, addi, mv, operation, add, shift, lui, addiw, auipc, load, store, skip, goes_to, calls_at, ecall};
+ghost use Rattle.emit_rules.specs.Instructions.{low_12, register_at, with_immediate, addi, mv, operation, add, shift};
+ghost use Rattle.emit_rules.specs.Instructions.{lui, addiw, auipc, load, store, skip, goes_to, calls_at, ecall};
 ghost use Rattle.rv_emit.specs.Outputs.{Adds};
 
 use crate::output::Output;

@@ -2,7 +2,9 @@
 //! Set Listings" has them.
 
 ghost use Rattle.std.specs.Prelude.{◌≡◌};
-ghost use Rattle.rv_isa.specs.Rows.{alu_bits, alu_rows, alu_word_bits, alu_word_rows, alu_imm_bits, alu_imm_rows, shift_bits, shift_rows, shift_word_bits, shift_word_rows, load_bits, load_rows, store_bits, store_rows, condition_bits, condition_rows};
+ghost use Rattle.rv_isa.specs.Rows.{alu_bits, alu_rows, alu_word_bits, alu_word_rows, alu_imm_bits, alu_imm_rows};
+ghost use Rattle.rv_isa.specs.Rows.{shift_bits, shift_rows, shift_word_bits, shift_word_rows, load_bits, load_rows};
+ghost use Rattle.rv_isa.specs.Rows.{store_bits, store_rows, condition_bits, condition_rows};
 ghost use Rattle.rv_isa.specs.Decoding.{row_with, row_with2};
 
 use crate::instr::{

@@ -2,7 +2,8 @@
 ghost use Rattle.std.specs.Prelude.{◌≡◌, ◌+◌, ◌%◌, ◌≤◌, ◌<◌, ◌^◌, [], ◌∷◌, ◌++◌, map, OnOk};
 ghost use Rattle.layout_rules.specs.Conditions.{LeadsTo};
 ghost use Rattle.rv_pieces.specs.Named.{PieceFits};
-ghost use Rattle.layout_rules.specs.Words.{distance, branch_offset, jal_offset, upper, lower, inverted, far_jump, number_into, address_into, branch_code, jump_code, code_to};
+ghost use Rattle.layout_rules.specs.Words.{distance, branch_offset, jal_offset, upper, lower, inverted, far_jump};
+ghost use Rattle.layout_rules.specs.Words.{number_into, address_into, branch_code, jump_code, code_to};
 ghost use Rattle.rv_isa.specs.Encoding.{encoded, InstrFits};
 ghost use Rattle.rv_isa.specs.Registers.{number};
 

@@ -5,7 +5,8 @@ ghost use Rattle.bs_words.specs.Contents.{contents};
 ghost use Rattle.image_form.specs.Image.{IsImage, code_limit, data_limit};
 ghost use Rattle.image_form.specs.Tables.{tables, func, sym};
 ghost use Rattle.rv_machine.specs.Start.{start_memory, padded};
-ghost use Rattle.rv_machine.specs.Loading.{IsRoom, beginning, func_named, sym_named, address_of, word_of_arg, suited, takes, words_of_args, AreStartRegisters, IsStart};
+ghost use Rattle.rv_machine.specs.Loading.{IsRoom, beginning, func_named, sym_named, address_of, word_of_arg, suited};
+ghost use Rattle.rv_machine.specs.Loading.{takes, words_of_args, AreStartRegisters, IsStart};
 
 use crate::code::CODE_START;
 use crate::machine::{Machine, Room};

@@ -48,15 +48,21 @@ abbrev pub name_of : List ℕ → ℕ → Option ℕ → ℕ
 name_of names n None = n
 name_of names n (Some w) = or_name n (slice_get names w)
 
+-- the number that a register has as an operand at a place
+abbrev pub name_read : Tables → ℕ → ℕ → ℕ
+name_read t place n =
+    name_of t.names.items n (find_coming (row t.rows.rows.items place) (members t.writes n))
+
+-- and as a result before so many instructions
+abbrev pub name_written : Tables → ℕ → ℕ → ℕ
+name_written t left n = name_of t.names.items n (find_at (all_of t.writes) left (members t.writes n))
+
 -- An operand has the number of a write that comes to it, a result that of its own.
 abbrev pub naming : Tables → ℕ → Naming
 naming t end =
     record {
-      read = λ k n.
-          name_of t.names.items n
-          (find_coming (row t.rows.rows.items (end - 1 - k)) (members t.writes n));
-      write = λ k n.
-          name_of t.names.items n (find_at (all_of t.writes) k (members t.writes n));
+      read = λ k n. name_read t (end - 1 - k) n;
+      write = λ k n. name_written t k n;
     }
 
 -- what is known of the tables of a function

@@ -1,8 +1,6 @@
 //! The function with its new numbers.
 ghost use Rattle.std.specs.Prelude.{◌≡◌, ◌<◌, length, IfOk};
-ghost use Rattle.dataflow.specs.Rows.{row};
-ghost use Rattle.split.specs.Names.{find_coming, name_of, naming};
-ghost use Rattle.split.specs.Writes.{all_of, members, find_at};
+ghost use Rattle.split.specs.Names.{name_read, name_written, naming};
 ghost use Rattle.split_rules.specs.Renamed.{all_numbered, renamed_instr, renamed_code};
 
 use crate::names::{find_coming, name_of};
@@ -13,7 +11,7 @@ use std::alloc::{AllocError, Global};
 
 /// The number of an operand of the instruction at the place.
 fn read_name(tables: &Tables, place: usize, number: u32) -> u32
-    ensures { result ≡ name_of tables.now.names.items number (find_coming (row tables.now.rows.rows.items place) (members tables.now.writes number)) }
+    ensures { result ≡ name_read tables.now place number }
 {
     let found = find_coming(&tables.rows, place, tables.writes.members(number));
     name_of(&tables.names, number, found)
@@ -21,14 +19,14 @@ fn read_name(tables: &Tables, place: usize, number: u32) -> u32
 
 /// The number of a result of the instruction that so many come after.
 fn write_name(tables: &Tables, left: u32, number: u32) -> u32
-    ensures { result ≡ name_of tables.now.names.items number (find_at (all_of tables.now.writes) left (members tables.now.writes number)) }
+    ensures { result ≡ name_written tables.now left number }
 {
     let found = tables.writes.find_at(left, number);
     name_of(&tables.names, number, found)
 }
 
 fn rename_args(tables: &Tables, place: usize, args: &mut [Reg])
-    ensures { args.new ≡ all_numbered (λ n. name_of tables.now.names.items n (find_coming (row tables.now.rows.rows.items place) (members tables.now.writes n))) args.old }
+    ensures { args.new ≡ all_numbered (name_read tables.now place) args.old }
 {
     for reg in args.iter_mut() {
         let number = read_name(tables, place, reg.number);
@@ -37,7 +35,7 @@ fn rename_args(tables: &Tables, place: usize, args: &mut [Reg])
 }
 
 fn rename_results(tables: &Tables, left: u32, results: &mut [Reg])
-    ensures { results.new ≡ all_numbered (λ n. name_of tables.now.names.items n (find_at (all_of tables.now.writes) left (members tables.now.writes n))) results.old }
+    ensures { results.new ≡ all_numbered (name_written tables.now left) results.old }
 {
     for reg in results.iter_mut() {
         let number = write_name(tables, left, reg.number);
