@@ -3,6 +3,9 @@
 //! The images in `stdin` make frame calls, external calls and allocation services where blocks move, where a
 //! service refuses what it finds, and where the run ends. Each is there in both versions of images. The
 //! outcomes in `stdout` are those of a second machine, written from the rules of the machine alone.
+//!
+//! After them come 71 images of one function each, whose words are those that `rows_emit` wants of the last 71 Linear
+//! functions there: each operation, test and chunk of Linear. What they return, raise, call or ask was counted by hand.
 #![tactic(auto)]
 
 use anyhow::Result;
