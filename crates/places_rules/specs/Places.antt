@@ -1,5 +1,5 @@
 -- Mach functions whose registers are put at chosen places.
-use Rattle.std.specs.Prelude.{◌≡◌, ◌⊎◌, ℕ, ◌≤◌, List, length, map, Contains}
+use Rattle.std.specs.Prelude.{◌≡◌, ◌⊎◌, ℕ, ◌<◌, ◌≤◌, List, length, map, Contains}
 use Rattle.bs_words.specs.declared.types.Loc.{Loc}
 use Rattle.bs_words.specs.declared.types.Loc.TheVariants as loc
 use Rattle.mach_ir.specs.Placed.{IsPlaced, MayShare, Colouring}
@@ -43,6 +43,12 @@ pub record IsPlacing (m : Mach) (place : Placing) : Type 0 where
   pub places : (r : Reg) → IsRegister m r → IsPlaced (placed place r)
   pub apart : (r q : Reg) → IsRegister m r → IsRegister m q → Joined m r.number q.number →
       place r ≡ place q → MayShare (placed place r) (placed place q)
+
+-- The registers of the colours have lower numbers than those whose places are open: so none of these
+-- becomes the register of least number at a colour.
+abbrev pub ColoursLow : Mach → Type 0
+ColoursLow m =
+    (r q : Reg) → Contains m.colours r → IsRegister m q → q.loc ≡ loc.Unset → r.number < q.number
 
 -- ---- colourings
 
