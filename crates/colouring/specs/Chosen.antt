@@ -1,0 +1,122 @@
+-- Which place colouring chooses for each register of a graph: for one after the other, in a fixed order,
+-- the best colour that no neighbour has, or else the slot of its origin.
+use Rattle.std.specs.Prelude.{◌≡◌, ◌↔◌, ◌⊎◌, ℕ, ◌+◌, ◌*◌, ◌/◌, ◌<◌, Bool, true, false, cond, nat_eq, nat_lt, List, [], ◌∷◌, length, Option, Some, None, All, AllPairs, Contains, count_by, sum_by, filter, find}
+use Rattle.bs_words.specs.declared.types.Loc.{Loc}
+use Rattle.bs_words.specs.declared.types.Loc.TheVariants as loc
+use Rattle.mach_ir.specs.Graph.{place_in}
+use Rattle.mach_ir.specs.Placed.{Colouring, colours}
+use Rattle.mach_ir.specs.declared.reg.Reg.{Reg}
+use Rattle.mach_ir.specs.declared.graph.Node.{Node}
+use Rattle.mach_ir.specs.declared.graph.Graph.{Graph}
+use Rattle.mach_ir.specs.declared.graph.Colours.{Colours}
+
+-- ---- the order
+
+-- How urgent a register is. One that has fewer neighbours than there are colours is not, as some colour
+-- is left to it whatever they take. Of any other, what its slot would cost for each neighbour that it
+-- stands in the way of.
+abbrev pub urgency : Node → ℕ
+urgency x = cond (nat_lt (length x.neighbours) 21) 0 (1 + x.uses * 1024 / length x.neighbours)
+
+-- of two nodes, which comes first: the more urgent one, and of two as urgent that of the lower number
+abbrev pub ComesBefore : Node → Node → Type 0
+ComesBefore x y =
+    (urgency y < urgency x) ⊎ ((urgency x ≡ urgency y) × (x.reg.number < y.reg.number))
+
+-- the nodes whose places are open, in their order
+pub record IsOrder (g : Graph) (order : List Node) : Type 0 where
+  pub exact : (x : Node) → Contains order x ↔ (Contains g.nodes x × (x.reg.loc ≡ loc.Unset))
+  pub sorted : AllPairs ComesBefore order
+
+-- ---- what speaks for a colour, where some registers have places
+
+abbrev pub is_in : ℕ → Loc → Bool
+is_in colour loc.Unset = false
+is_in colour (loc.Machine n) = nat_eq n colour
+is_in colour (loc.Slot n) = false
+
+-- how many of these registers, by number, stand in a colour
+abbrev pub standing : Colouring → ℕ → List ℕ → ℕ
+standing place colour ns = count_by (λ n. is_in colour (place n)) ns
+
+abbrev pub node_at : List Node → ℕ → Option Node
+node_at nodes n = find (λ (x : Node). nat_eq x.reg.number n) nodes
+
+abbrev pub moves_of : Option Node → List ℕ
+moves_of None = []
+moves_of (Some x) = x.moves
+
+-- How many moves would have both ends in a colour if a register stood there: its own, and those of its
+-- neighbours that could have.
+pub record Merit : Type 0 where
+  pub own : ℕ
+  pub wanted : ℕ
+
+abbrev pub merit : Graph → Colouring → Node → ℕ → Merit
+merit g place x colour = record {
+  own = standing place colour x.moves;
+  wanted = sum_by (λ n. standing place colour (moves_of (node_at g.nodes n))) x.neighbours;
+}
+
+-- whether a register had better stand where the first merit is: the more of its own moves, the better,
+-- and then the fewer of its neighbours'
+abbrev pub is_better : Merit → Merit → Bool
+is_better a b = cond (nat_eq a.own b.own) (nat_lt a.wanted b.wanted) (nat_lt b.own a.own)
+
+-- ---- the place of one register
+
+abbrev pub is_free : Colouring → Node → ℕ → Bool
+is_free place x colour = nat_eq (standing place colour x.neighbours) 0
+
+-- the colour itself, if no later one is better
+abbrev pub kept : (ℕ → Merit) → ℕ → Option ℕ → ℕ
+kept merit colour None = colour
+kept merit colour (Some later) = cond (is_better (merit later) (merit colour)) later colour
+
+-- the first of the best of these colours
+abbrev pub first_best : (ℕ → Merit) → List ℕ → Option ℕ
+first_best merit [] = None
+first_best merit (c ∷ cs) = Some (kept merit c (first_best merit cs))
+
+-- a colour, or else the slot of the origin
+abbrev pub place_for : Reg → Option ℕ → Loc
+place_for r None = loc.Slot r.origin
+place_for r (Some colour) = loc.Machine colour
+
+-- the best free colour, or else a slot
+unfoldable pub chosen : Graph → Colouring → Node → Loc
+chosen g place x = place_for x.reg (first_best (merit g place x) (filter (is_free place x) colours))
+
+-- ---- all places
+
+abbrev pub loc_of : Option Node → Loc
+loc_of None = loc.Unset
+loc_of (Some x) = x.reg.loc
+
+-- the places that are fixed
+abbrev pub fixed : Graph → Colouring
+fixed g n = loc_of (node_at g.nodes n)
+
+-- the places with one more register at its place
+abbrev pub put : Colouring → ℕ → Loc → Colouring
+put place n here k = cond (nat_eq k n) here (place k)
+
+-- The places after those of these nodes were chosen, the first one first.
+abbrev pub coloured : Graph → Colouring → List Node → Colouring
+coloured g place [] = place
+coloured g place (x ∷ xs) = coloured g (put place x.reg.number (chosen g place x)) xs
+
+-- Each register has its fixed place or the one chosen, and a number that is no register's is `Unset`.
+pub record IsColouredBy (g : Graph) (c : Colours) : Type 0 where
+  pub order : List Node
+  pub ordered : IsOrder g order
+  pub places : (n : ℕ) → place_in c n ≡ coloured g (fixed g) order n
+
+-- ---- laws: the order is one, and so is the colouring
+
+abbrev pub OrderIsOne : Graph → Type 0
+OrderIsOne g = (first second : List Node) → IsOrder g first → IsOrder g second → first ≡ second
+
+abbrev pub ColoursAreOne : Graph → Type 0
+ColoursAreOne g = (c d : Colours) → IsColouredBy g c → IsColouredBy g d →
+    (n : ℕ) → place_in c n ≡ place_in d n
