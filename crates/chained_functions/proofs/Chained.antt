@@ -11,7 +11,8 @@ use Rattle.mach_ir.specs.Formed.{is_exit}
 use Rattle.mach_ir.specs.Formed as mach_formed
 use Rattle.mach_ir.specs.Keeps as kept
 use Rattle.mach_ir.specs.Meaning.{tries_at}
-use Rattle.mach_ir.specs.Placed.{FullyPlaced}
+use Rattle.mach_ir.specs.Graph.{place_in}
+use Rattle.mach_ir.specs.Placed.{Colouring, FullyPlaced, IsColouring}
 use Rattle.mach_ir.specs.Walks as mach_walks
 use Rattle.mach_ir.specs.declared.op.Access.TheVariants as access
 use Rattle.mach_ir.specs.declared.op.Op.{Op}
@@ -31,8 +32,12 @@ use Rattle.lin_ir.specs.declared.lin.LinOp.TheVariants as lin
 use Rattle.lin_ir.specs.declared.lin.Line.{Line}
 use Rattle.lin_ir.specs.declared.lin.Lin.{Lin}
 use Rattle.lin_ir.proofs.Keeping.{keeps_then}
-use Rattle.places_rules.specs.Places.{Placing, placed_code, last_resort, rest_in_slots}
-use Rattle.places_rules.proofs.Rest.{rest_formed, rest_keeps, rest_no_addr, rest_placed, rest_seated}
+use Rattle.places_rules.specs.Places.{Placing, placed_code, recoloured}
+use Rattle.places_rules.specs.Rest.{IsKept}
+use Rattle.places_rules.proofs.Colouring.{coloured_kept}
+use Rattle.reg_rounds.specs.Allocated.{IsAllocated}
+use Rattle.reg_rounds.proofs.Kept.{colouring_chosen}
+use Rattle.selection_places.proofs.Placed.{selected_low}
 use Rattle.linear_rules.specs.Lowered.{slot_number, lowered}
 use Rattle.linear_rules.specs.Sizes.{tries_ended}
 use Rattle.linear_rules.proofs.Homes.{IsIn, in_of, contains_of}
@@ -129,27 +134,34 @@ offset_of_line (lin.Flow f) h = tt
 -- ---- whole
 
 module _ (defined : List ℕ → Option DefinedSymbol) (tree : FunctionTree) (accepted : IsAccepted defined tree) (m : Lin)
-    (linear : IsLinearOf (rest_in_slots (selected tree)) m) where
+    (place : Colouring) (colouring : IsColouring (mach_walks.IsRegister (selected tree)) (mach_walks.Joined (selected tree)) place)
+    (linear : IsLinearOf (recoloured place (selected tree)) m) where
   promise : Selects tree (selected tree)
   promise = promised defined tree accepted
 
+  abbrev by_number : Placing
+  by_number = λ r. place r.number
+
   abbrev rest : Mach
-  rest = rest_in_slots (selected tree)
+  rest = recoloured place (selected tree)
+
+  kept_so : IsKept (selected tree) rest
+  kept_so = coloured_kept (selected tree) place promise.formed promise.placed colouring (selected_low tree)
 
   formed : mach_formed.WellFormed rest
-  formed = rest_formed (selected tree) promise.formed promise.placed
+  formed = kept_so.formed
 
   full : FullyPlaced rest
-  full = rest_placed (selected tree) promise.formed promise.placed
+  full = kept_so.placed
 
   safe : mach_walks.NoAddrLive rest
-  safe = rest_no_addr (selected tree) promise.formed promise.placed promise.no_addr
+  safe = kept_so.no_addr promise.no_addr
 
   regular : IsRegular (lowered rest)
-  regular = lowered_regular rest formed full (rest_seated (selected tree) promise.formed promise.placed promise.seated)
+  regular = lowered_regular rest formed full (kept_so.seated promise.seated)
 
   rest_tries : AllTries (tries tree) rest.code
-  rest_tries = placed_tries last_resort (tries tree) (selected tree).code (all_tries (tries tree) (selected tree).code promise.tries)
+  rest_tries = placed_tries by_number (tries tree) (selected tree).code (all_tries (tries tree) (selected tree).code promise.tries)
 
   tidies : Tidies (lowered rest) m
   tidies = tidied_tidies linear.made
@@ -168,7 +180,7 @@ module _ (defined : List ℕ → Option DefinedSymbol) (tree : FunctionTree) (ac
           let was : kept.IsNamedIn (λ f. f ≡ mach.Op g) rest =
           named_from (slot_number rest) (λ f. f ≡ mach.Op g) rest (lowered rest) refl (tidied_named (λ f. f ≡ mach.Op g) tidies here) in
           subst OffsetFits was.named
-          (all_in (λ (i : Instr). OffsetFits i.op) (placed_all last_resort OffsetFits (selected tree).code promise.offsets) (in_of was.instr rest.code was.among))
+          (all_in (λ (i : Instr). OffsetFits i.op) (placed_all by_number OffsetFits (selected tree).code promise.offsets) (in_of was.instr rest.code was.among))
 
   exit_few : (i : Instr) (next : List Instr) → mach_walks.Stands i next rest.code → (l n : ℕ) → i.op ≡ mach.Mark (mark.Exit l n) → length (tries_at (i ∷ next)) ≤ tries tree → n ≤ tries tree
   exit_few i next s l n e le = let ended = formed.nested.at_exit i next s l n e in omega (arith, ended, le)
@@ -179,8 +191,8 @@ module _ (defined : List ℕ → Option DefinedSymbol) (tree : FunctionTree) (ac
       let covered = accepted.covered in
       let values = covered.tokens_cover in
       let exits_few = selected_exits tree in
-      let same = placed_exits last_resort (selected tree).code in
-      let long = placed_long last_resort (selected tree).code in
+      let same = placed_exits by_number (selected tree).code in
+      let long = placed_long by_number (selected tree).code in
       let size = promise.size in
       let instrs = size.instrs in
       let own : (i : Instr) (next : List Instr) → mach_walks.Stands i next rest.code → (l n : ℕ) → i.op ≡ mach.Mark (mark.Exit l n) → n ≤ tries tree = λ i next s l n e. exit_few i next s l n e (tries_within (tries tree) rest.code rest_tries i next s) in
@@ -201,7 +213,7 @@ module _ (defined : List ℕ → Option DefinedSymbol) (tree : FunctionTree) (ac
   whole ds pieces made fit =
       record {
         keeps = λ named exact.
-            keeps_then (selected tree) rest m named (rest_keeps (selected tree) promise.formed promise.placed) (linear.keeps safe named exact);
+            keeps_then (selected tree) rest m named kept_so.keeps (linear.keeps safe named exact);
         regular = linear.regular;
         tidy = linear.tidy;
         tight = linear.tight;
@@ -209,24 +221,36 @@ module _ (defined : List ℕ → Option DefinedSymbol) (tree : FunctionTree) (ac
         spare_dead = linear.spare_dead;
         within = fit_within fit;
         offsets = offsets;
-        unended = tidied_unended tidies (lowered_unended rest regular (placed_end last_resort (selected_end tree)));
+        unended = tidied_unended tidies (lowered_unended rest regular (placed_end by_number (selected_end tree)));
         exact = made.exact;
         count = made.count;
         homes = linear.named ds made.exact;
         emitted = made.emitted;
       }
 
--- No more traps are pushed at a place than tries stand round one of the text.
-pub depth : {defined : List ℕ → Option DefinedSymbol} {tree : FunctionTree} {m : Lin} {ds : List Descr} {pieces : Pieces} → IsAccepted defined tree → IsMadeOf tree m ds pieces → (code : List Line) (traps : List ℕ) →
-    Traps m code traps → length traps ≤ tries tree
-depth {defined} {tree} {m} accepted made = few_traps defined tree accepted m made.linear
+-- So it is of what register allocation made.
+module _ {defined : List ℕ → Option DefinedSymbol} {tree : FunctionTree} {m : Lin} {q : Mach} (accepted : IsAccepted defined tree)
+    (allocated : IsAllocated (selected tree) q) (linear : IsLinearOf q m) where
+  abbrev colours : Colouring
+  colours = place_in allocated.colours
+
+  chosen : IsColouring (mach_walks.IsRegister (selected tree)) (mach_walks.Joined (selected tree)) colours
+  chosen = colouring_chosen allocated
+
+  of_coloured : IsLinearOf (recoloured colours (selected tree)) m
+  of_coloured = subst (λ q. IsLinearOf q m) allocated.is linear
+
+  -- No more traps are pushed at a place than tries stand round one of the text.
+  pub depth : (code : List Line) (traps : List ℕ) → Traps m code traps → length traps ≤ tries tree
+  depth = few_traps defined tree accepted m colours chosen of_coloured
+
+  -- What descriptors ask of a Linear function, whose frame and traps fit.
+  pub within : frame_bytes m + 16 * tries tree ≤ 1048576 → IsWithin m
+  within = fit_within defined tree accepted m colours chosen of_coloured
 
 -- What was made of a function of an accepted text is known whole, where its frame and its traps fit.
 pub chained : {defined : List ℕ → Option DefinedSymbol} {tree : FunctionTree} {m : Lin} {ds : List Descr} {pieces : Pieces} → IsAccepted defined tree → IsMadeOf tree m ds pieces →
     frame_bytes m + 16 * tries tree ≤ 1048576 → IsChained tree m ds pieces
-chained {defined} {tree} {m} {ds} {pieces} accepted made = whole defined tree accepted m made.linear ds pieces made
-
--- What descriptors ask of a Linear function, whose frame and traps fit.
-pub within : {defined : List ℕ → Option DefinedSymbol} {tree : FunctionTree} {m : Lin} → IsAccepted defined tree → IsLinearOf (rest_in_slots (selected tree)) m →
-    frame_bytes m + 16 * tries tree ≤ 1048576 → IsWithin m
-within {defined} {tree} {m} accepted linear = fit_within defined tree accepted m linear
+chained {defined} {tree} {m} {ds} {pieces} accepted made =
+    whole defined tree accepted m (place_in (made.allocated).colours) (colouring_chosen made.allocated)
+    (subst (λ q. IsLinearOf q m) (made.allocated).is made.linear) ds pieces made

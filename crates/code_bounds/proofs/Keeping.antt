@@ -17,8 +17,8 @@ use Rattle.mach_ir.specs.declared.mach.Mark.TheVariants as mark
 use Rattle.mach_ir.specs.declared.mach.MachOp.{MachOp}
 use Rattle.mach_ir.specs.declared.mach.MachOp.TheVariants as mach
 use Rattle.mach_ir.specs.declared.reg.Reg.{Reg}
-use Rattle.places_rules.specs.Places.{rest_in_slots}
-use Rattle.places_rules.proofs.Rest.{rest_size}
+use Rattle.reg_rounds.proofs.Kept.{allocated_kept}
+use Rattle.selection_places.proofs.Placed.{selected_low}
 use Rattle.rv_pieces.specs.Named.{marks_in, places_in}
 use Rattle.rv_pieces.specs.declared.piece.Pieces.{Pieces}
 use Rattle.selection_rules.specs.Select.{selected}
@@ -51,11 +51,12 @@ module _ (defined : List ℕ → Option DefinedSymbol) (tree : FunctionTree) (m 
   few_places : length (places_in pieces.code) ≤ 184 * tree.tokens
   few_places =
       let promise = promised defined tree accepted in
-      let size = rest_size (selected tree) promise.formed promise.placed (size_by tree.tokens) promise.size in
+      let kept = allocated_kept promise.formed promise.placed (selected_low tree) made.allocated in
+      let size = kept.size (size_by tree.tokens) promise.size in
       let instrs = size.instrs in
       let emitted = ap (λ (p : Pieces). length (places_in p.code)) made.emitted.is in
       let labels = ap length (places_are_labels m made.emitted.traps ds ∙ made.linear.labels) in
-      let few = few_labels (rest_in_slots (selected tree)).code in
+      let few = few_labels made.mach.code in
       omega (arith, instrs, emitted, labels, few)
 
   -- They keep to it where at most 250 tries nest.
@@ -63,7 +64,7 @@ module _ (defined : List ℕ → Option DefinedSymbol) (tree : FunctionTree) (m 
   keeps_to shallow = record {
     descrs = ds;
     carried = ap (λ (p : Pieces). marks_in p.code) made.emitted.is ∙ descriptors_are_carried m made.emitted.traps ds made.count;
-    bounded = bounded defined tree m accepted made.linear ds pieces made shallow;
+    bounded = bounded defined tree m accepted made.allocated made.linear ds pieces made shallow;
     labels = few_places;
   }
 

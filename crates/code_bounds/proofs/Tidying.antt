@@ -8,7 +8,8 @@ use Rattle.mach_ir.specs.declared.mach.MachOp.TheVariants as mach
 use Rattle.mach_ir.specs.declared.mach.Mark.{Mark}
 use Rattle.mach_ir.specs.declared.mach.Mark.TheVariants as mark
 use Rattle.mach_ir.specs.Meaning as machs
-use Rattle.places_rules.specs.Places.{Placing, placed, placed_code, last_resort, rest_in_slots}
+use Rattle.mach_ir.specs.Placed.{Colouring}
+use Rattle.places_rules.specs.Places.{Placing, placed, placed_code, recoloured}
 use Rattle.lin_ir.specs.Descriptors.{frame_points}
 use Rattle.lin_ir.specs.Meaning.{passes_frame}
 use Rattle.lin_ir.specs.declared.lin.Flow.TheVariants as flow
@@ -186,19 +187,23 @@ tidied_no_larger {m} (then_redirects {q = q} t l) =
 
 -- ---- all three
 
--- of a Mach function with open registers in slots, lowered and tidied
-pub made_words : (p : Mach) (r : Lin) → Tidies (lowered (rest_in_slots p)) r → lines_words r.code ≤ code_words p.code
-made_words p r t =
-    let q = rest_in_slots p in
-    let tidied = (tidied_no_larger t).words in
-    let lower = lowered_words (slot_number q) q.code in
-    let same = placed_words last_resort p.code in
-    omega (arith, tidied, lower, same)
+-- of a Mach function whose registers were placed, lowered and tidied
+module _ (p q : Mach) (r : Lin) {place : Colouring} (is : q ≡ recoloured place p) (t : Tidies (lowered q) r) where
+  abbrev by_number : Placing
+  by_number = λ r. place r.number
 
-pub made_points : (p : Mach) (r : Lin) → Tidies (lowered (rest_in_slots p)) r → frame_points r.code ≤ code_points p.code
-made_points p r t =
-    let q = rest_in_slots p in
-    let tidied = (tidied_no_larger t).points in
-    let lower = lowered_points (slot_number q) q.code in
-    let same = placed_points last_resort p.code in
-    omega (arith, tidied, lower, same)
+  pub made_words : lines_words r.code ≤ code_words p.code
+  made_words =
+      let tidied = (tidied_no_larger t).words in
+      let lower = lowered_words (slot_number q) q.code in
+      let same = ap (λ (m : Mach). code_words m.code) is in
+      let placed = placed_words by_number p.code in
+      omega (arith, tidied, lower, same, placed)
+
+  pub made_points : frame_points r.code ≤ code_points p.code
+  made_points =
+      let tidied = (tidied_no_larger t).points in
+      let lower = lowered_points (slot_number q) q.code in
+      let same = ap (λ (m : Mach). code_points m.code) is in
+      let placed = placed_points by_number p.code in
+      omega (arith, tidied, lower, same, placed)

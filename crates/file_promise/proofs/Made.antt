@@ -35,7 +35,7 @@ module _ (text : List ℕ) (file : FileTree) (is : IsFileOf text file) where
       IsChained tree made.lin made.descriptors p
   function_chained tree among p made =
       let accepted = function_accepted text file is tree among in
-      chained accepted made.made (frame_fits (definitions file) tree made.lin accepted made.made.linear)
+      chained accepted made.made (frame_fits (definitions file) tree made.lin accepted made.made.allocated made.made.linear)
 
   function_laid : (tree : FunctionTree) → Contains (functions file) tree → (p : Pieces) → IsFunctionMade tree p → IsFunctionLaid file p
   function_laid tree among p made =
@@ -48,6 +48,7 @@ module _ (text : List ℕ) (file : FileTree) (is : IsFileOf text file) where
       record {
         lin = made.lin;
         descriptors = made.descriptors;
+        made = made.made;
         chained = whole;
         laid = laid_out made.lin whole.regular.well whole.regular.seated whole.within made.descriptors p whole.emitted whole.count;
       }

@@ -1,7 +1,7 @@
 -- A run of the guarded machine beside the run of the machine.
-use Rattle.std.proofs.Common.{◌≡◌, ◌⊎◌, inl, inr, ℕ, zero, suc, Bool, true, false, cond, [], ap, ◌∙◌, sym, refl, ⊎_elim, append-nil}
+use Rattle.std.proofs.Common.{◌≡◌, ◌⊎◌, inl, inr, ℕ, zero, suc, ◌<◌, ◌≤◌, Bool, true, false, cond, [], ap, ◌∙◌, sym, refl, subst, arith, ⊎_elim, append-nil}
 use Rattle.std.proofs.lemmas.Bool.{cond-false}
-use Rattle.correctness.specs.InNeed.{AsksOnlyInNeed, IsInNeed}
+use Rattle.correctness.specs.InNeed.{AsksOnlyInNeed, AsksOnlyInNeedUntil, IsInNeed}
 use Rattle.machine_laws.specs.Steps.{IsFrontOf, IsOrderly}
 use Rattle.machine_laws.proofs.Orderly.{machine_orderly}
 use Rattle.rv_machine.specs.Run.{Schedule, after, one, seen}
@@ -51,16 +51,33 @@ one_more : (schedule : Schedule) (n : ℕ) (now : Now) → guarded_after schedul
 one_more schedule zero now = refl
 one_more schedule (suc n) now = one_more schedule n (guarded_of schedule now)
 
+-- ---- a refusal is the end
+
+refused_on : (schedule : Schedule) (n : ℕ) (now : Now) → IsRefused now → IsRefused (guarded_after schedule n now)
+refused_on schedule n (Going m) r = let e : Running ≡ Stopped BadService = r in absurd (cc)
+refused_on schedule n (Over calls end) r = subst IsRefused (sym (over_stays schedule n (Over calls end) refl)) r
+
+stays_refused : (schedule : Schedule) (k n : ℕ) (now : Now) → k ≤ n → IsRefused (guarded_after schedule k now) → IsRefused (guarded_after schedule n now)
+stays_refused schedule zero n now le r = refused_on schedule n now r
+stays_refused schedule (suc k) zero now le r = absurd (omega (arith, le))
+stays_refused schedule (suc k) (suc n) now le r = stays_refused schedule k n (guarded_of schedule now) (omega (arith, le)) r
+
+-- until a moment at which it is not refused the machine asks only in need
+pub needed_until : (schedule : Schedule) (start : Now) (n : ℕ) → (IsRefused (guarded_after schedule n start) → ⊥) → AsksOnlyInNeedUntil schedule start n
+needed_until schedule start n never k lt m e =
+    ⊎_elim (λ same. by same (is_in_need m) refl) (λ r. absurd (never (stays_refused schedule k n start (omega (arith, lt)) r)))
+    (same_or_refused schedule k start)
+  where
+    by : guarded_after schedule k start ≡ after schedule k start → (t : Bool) → is_in_need m ≡ t → IsInNeed m
+    by same true is = in_need m is
+    by same false is =
+        absurd (never (stays_refused schedule (suc k) n start (omega (arith, lt)) (ap (λ x. (seen x).end)
+        (one_more schedule k start ∙ ap (guarded_of schedule) (same ∙ e) ∙ cond-false (is_in_need m) _ _ is))))
+
 module _ (schedule : Schedule) (start : Now) (never : (n : ℕ) → IsRefused (guarded_after schedule n start) → ⊥) where
   -- where it is never refused
   pub same_run : (n : ℕ) → guarded_after schedule n start ≡ after schedule n start
   same_run n = ⊎_elim (λ e. e) (λ r. absurd (never n r)) (same_or_refused schedule n start)
 
   pub never_needless : AsksOnlyInNeed schedule start
-  never_needless n m e = by (is_in_need m) refl
-    where
-      by : (t : Bool) → is_in_need m ≡ t → IsInNeed m
-      by true is = in_need m is
-      by false is =
-          absurd (never (suc n) (ap (λ x. (seen x).end)
-          (one_more schedule n start ∙ ap (guarded_of schedule) (same_run n ∙ e) ∙ cond-false (is_in_need m) _ _ is)))
+  never_needless n m e = needed_until schedule start (suc n) (never (suc n)) n (omega arith) m e

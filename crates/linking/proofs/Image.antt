@@ -1,5 +1,5 @@
 -- An image that is assembled so is correct for its file, and asks for allocations only in need.
-use Rattle.std.proofs.Common.{◌≡◌, ℕ, zero, suc, List, [], ◌∷◌, Some, length, map, subst, ap, ◌∙◌, sym, ⊎_elim}
+use Rattle.std.proofs.Common.{◌≡◌, ℕ, zero, suc, ◌+◌, ◌*◌, ◌≤◌, List, [], ◌∷◌, Some, length, map, subst, ap, ◌∙◌, sym, ⊎_elim}
 use Rattle.std.proofs.lemmas.Option.{slice_get-map}
 use Rattle.std.specs.Prelude.{slice_get, option_map}
 use Rattle.bs_words.specs.Memory.{Memory}
@@ -15,10 +15,11 @@ use Rattle.cmm_meaning.specs.Run.{Asks, Improper, More, Outcome, Raised, Returne
 use Rattle.cmm_meaning.specs.Setting.{setting_of}
 use Rattle.cmm_meaning.specs.State.{Doing, World}
 use Rattle.correctness.specs.Correct.{Accounted, Alike, Backwards, EndsAlike, Forwards, IsCorrect, IsProper}
-use Rattle.correctness.specs.InNeed.{AsksInNeed, AsksOnlyInNeed}
+use Rattle.correctness.specs.Correct as correct
+use Rattle.correctness.specs.InNeed.{AsksInNeed, AsksOnlyInNeed, AsksOnlyInNeedUntil, NeedsItsAsks}
 use Rattle.correctness.specs.Setting.{layout_of, IsRowOf, AreRowsOf, Entered}
 use Rattle.guarded_machine.specs.Guarded.{guarded_after, guarded_of}
-use Rattle.guarded_machine.proofs.Runs.{IsRefused, guarded_orderly, never_needless, same_or_refused, same_run}
+use Rattle.guarded_machine.proofs.Runs.{IsRefused, guarded_orderly, needed_until, never_needless, same_or_refused, same_run}
 use Rattle.image_form.specs.Tables.{Tables, Func}
 use Rattle.machine_laws.specs.Steps.{IsFrontOf}
 use Rattle.meaning_fuel.specs.Whole.{whole}
@@ -50,16 +51,24 @@ never_stops More end cause proper alike stop = let e : Running ≡ Stopped cause
 never_stops (Improper kind) end cause proper alike stop = proper
 
 module _ (run : ℕ → Run) (schedule : Schedule) (start : Now) (stack heap : ℕ) where
-  forwards_same : (words : ℕ) → Forwards run (λ m. seen (guarded_after schedule m start)) stack heap words →
-      Forwards run (λ m. seen (after schedule m start)) stack heap words
-  forwards_same words f = record {
-    does = λ n given.
+  module _ (words : ℕ) (f : Forwards run (λ m. seen (guarded_after schedule m start)) stack heap words) where
+    -- what a proper run of the text accounts for is not refused
+    not_refused : (n : ℕ) (given : correct.IsGiven (run n) stack heap) → IsRefused (guarded_after schedule (f.does n given).0 start) → ⊥
+    not_refused n given r =
         let d = f.does n given in
+        never_stops (run n).outcome (seen (guarded_after schedule d.0 start)).end _ given.proper d.2.end r
+
+    until : (n : ℕ) → correct.IsGiven (run n) stack heap →
+        (m : ℕ) × (m ≤ 2 * (n + 1) * words) × Alike (run n) (seen (after schedule m start)) × AsksOnlyInNeedUntil schedule start m
+    until n given =
+        let d = f.does n given in
+        let never = not_refused n given in
         let same : guarded_after schedule d.0 start ≡ after schedule d.0 start =
-        ⊎_elim (λ e. e) (λ r. absurd (never_stops (run n).outcome (seen (guarded_after schedule d.0 start)).end _ given.proper d.2.end r))
-        (same_or_refused schedule d.0 start) in
-        (d.0, d.1, subst (λ (x : Now). Alike (run n) (seen x)) same d.2);
-  }
+        ⊎_elim (λ e. e) (λ r. absurd (never r)) (same_or_refused schedule d.0 start) in
+        (d.0, d.1, subst (λ (x : Now). Alike (run n) (seen x)) same d.2, needed_until schedule start d.0 never)
+
+    forwards_same : Forwards run (λ m. seen (after schedule m start)) stack heap words
+    forwards_same = record { does = λ n given. let u = until n given in (u.0, u.1, u.2) }
 
   module _ (b : Backwards run (λ m. seen (guarded_after schedule m start)) stack heap) where
     never_refused : ((n : ℕ) → IsProper (run n).outcome) → (m : ℕ) → IsRefused (guarded_after schedule m start) → ⊥
@@ -144,16 +153,21 @@ module _ (S : Type 0) (p : Program S) (w : Words S) (most words : ℕ) (file : F
         backwards Now (guarded_of schedule) seen stack heap most words (length image.code) a.words_fit run start told (guarded_orderly schedule)
         (λ n e. run_empty file layout entry args answers n e)
 
+    guarded_forwards : Forwards run (λ m. seen (guarded_after schedule m start)) stack heap (length image.code)
+    guarded_forwards = forwards Now (guarded_of schedule) seen stack heap most words (length image.code) a.words_fit run start told
+
     image_forwards : Forwards run (machine_run image row args answers stack heap schedule) stack heap (length image.code)
-    image_forwards =
-        forwards_same run schedule start stack heap (length image.code)
-        (forwards Now (guarded_of schedule) seen stack heap most words (length image.code) a.words_fit run start told)
+    image_forwards = forwards_same run schedule start stack heap (length image.code) guarded_forwards
 
     image_backwards : Backwards run (machine_run image row args answers stack heap schedule) stack heap
     image_backwards = backwards_same run schedule start stack heap guarded_backwards
 
-    image_asks : ((n : ℕ) → IsProper (run n).outcome) → AsksOnlyInNeed schedule start
-    image_asks proper = asks_in_need run schedule start stack heap guarded_backwards proper
+    image_asks : NeedsItsAsks run schedule start stack heap (length image.code)
+    image_asks =
+        record {
+          always = asks_in_need run schedule start stack heap guarded_backwards;
+          until = until run schedule start stack heap (length image.code) guarded_forwards;
+        }
 
   pub known_correct : IsCorrect file image
   known_correct stack heap stack_room heap_room =
@@ -164,8 +178,8 @@ module _ (S : Type 0) (p : Program S) (w : Words S) (most words : ℕ) (file : F
       }
 
   pub known_in_need : AsksInNeed file image
-  known_in_need stack heap stack_room heap_room entry f row args answers schedule entered proper =
-      image_asks stack heap stack_room heap_room entry f row args answers schedule entered proper
+  known_in_need stack heap stack_room heap_room entry f row args answers schedule entered =
+      image_asks stack heap stack_room heap_room entry f row args answers schedule entered
 
 module _ (S : Type 0) (p : Program S) (w : Words S) (most words : ℕ) (file : FileTree)
     (image : Tables) (IsGiven : List Value → Memory → Type 0) (IsDone : Doing → Type 0)

@@ -8,12 +8,15 @@ use Rattle.layout_rules.specs.Laid.{IsLaidOut}
 use Rattle.lin_ir.specs.declared.descr.Descr.{Descr}
 use Rattle.lin_ir.specs.declared.lin.Lin.{Lin}
 use Rattle.made_functions.specs.Chained.{IsChained}
+use Rattle.made_functions.specs.Made.{IsMadeOf}
 use Rattle.rv_pieces.specs.declared.piece.Pieces.{Pieces}
 
 -- The pieces of a function carry exact frame descriptors.
 pub record IsFunctionExact (tree : FunctionTree) (pieces : Pieces) : Type 0 where
   pub lin : Lin
   pub descriptors : List Descr
+  -- what the compiler makes of the function
+  pub made : IsMadeOf tree lin descriptors pieces
   -- a tight Linear function that does what is selected of the text's function, with one descriptor for
   -- each frame point, which names exactly what is live after it as val, where none is live as addr
   pub chained : IsChained tree lin descriptors pieces

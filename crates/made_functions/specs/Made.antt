@@ -1,9 +1,10 @@
--- What the compiler makes of one function of a text: its Linear function, its frame descriptors and its
--- pieces of code.
+-- What the compiler makes of one function of a text: its Mach function with a place for each register, its
+-- Linear function, its frame descriptors and its pieces of code.
 use Rattle.std.specs.Prelude.{◌≡◌, List, length}
 use Rattle.cmm_tree.specs.Tree.{FunctionTree}
 use Rattle.selection_rules.specs.Select.{selected}
-use Rattle.places_rules.specs.Places.{rest_in_slots}
+use Rattle.mach_ir.specs.declared.mach.Mach.{Mach}
+use Rattle.reg_rounds.specs.Allocated.{IsAllocated}
 use Rattle.lin_ir.specs.Descriptors.{AreExact, frame_points}
 use Rattle.lin_ir.specs.declared.descr.Descr.{Descr}
 use Rattle.lin_ir.specs.declared.lin.Lin.{Lin}
@@ -13,8 +14,11 @@ use Rattle.rv_pieces.specs.declared.piece.Pieces.{Pieces}
 
 pub record IsMadeOf (tree : FunctionTree) (m : Lin) (ds : List Descr) (pieces : Pieces) : Type 0
   where
-    -- selected, its open registers in slots, as tidy lines
-    pub linear : IsLinearOf (rest_in_slots (selected tree)) m
+    -- selected, its registers at places
+    pub mach : Mach
+    pub allocated : IsAllocated (selected tree) mach
+    -- as tidy lines
+    pub linear : IsLinearOf mach m
     -- a descriptor for each frame point, which names what is live after it
     pub exact : AreExact m ds
     pub count : length ds ≡ frame_points m.code

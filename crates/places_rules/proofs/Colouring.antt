@@ -1,5 +1,5 @@
 -- A function that has been coloured: what holds of it still does, and it does what it did.
-use Rattle.std.proofs.Common.{◌≡◌, ℕ, ◌≤◌, ⊎_elim, sym, ◌∙◌}
+use Rattle.std.proofs.Common.{◌≡◌, ℕ, ◌≤◌, ⊎_elim, sym, ◌∙◌, arith}
 use Rattle.std.specs.List.{Contains}
 use Rattle.bs_words.specs.declared.types.Loc.TheVariants as loc
 use Rattle.mach_ir.specs.Formed.{WellFormed}
@@ -10,7 +10,8 @@ use Rattle.mach_ir.specs.Sizes.{Size, HasSize, OpenAtMost}
 use Rattle.mach_ir.specs.Walks.{IsRegister, NoAddrLive, Joined}
 use Rattle.mach_ir.specs.declared.reg.Reg.{Reg}
 use Rattle.mach_ir.specs.declared.mach.Mach.{Mach}
-use Rattle.places_rules.specs.Places.{Placing, IsPlacing, recoloured, SlotsGrow}
+use Rattle.places_rules.specs.Places.{Placing, IsPlacing, ColoursLow, recoloured, SlotsGrow}
+use Rattle.places_rules.specs.Rest.{IsKept}
 use Rattle.places_rules.proofs.Text.{placed_formed}
 use Rattle.places_rules.proofs.Walked.{no_addr_before}
 use Rattle.places_rules.proofs.Whole.{placed_keeps, placed_fully, placed_seated, placed_size, placed_slots}
@@ -55,3 +56,16 @@ module _ (m : Mach) (place : Colouring) (formed : WellFormed m) (well : WellPlac
 
   pub coloured_slots : (k : ℕ) → OpenAtMost m k → SlotsGrow m (recoloured place m) k
   coloured_slots k few = placed_slots m formed by_number colouring_placing k few
+
+  -- What is kept of it, where the registers of the colours are low.
+  pub coloured_kept : ColoursLow m → IsKept m (recoloured place m)
+  coloured_kept low =
+      record {
+        keeps = coloured_keeps;
+        formed = coloured_formed;
+        placed = coloured_placed_after (λ r k c i o. let l = low r k c i o in omega (arith, l));
+        seated = coloured_seated;
+        no_addr = coloured_no_addr;
+        size = coloured_size;
+        slots = coloured_slots;
+      }

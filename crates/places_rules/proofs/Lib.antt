@@ -6,5 +6,4 @@ pub mod Walked
 pub mod Kept
 pub mod Whole
 pub mod Rest
-pub mod Placed
 pub mod Colouring

@@ -10,9 +10,10 @@
 #![tactic(auto)]
 
 ghost use Rattle.mach_ir.specs.Formed.{WellFormed};
-ghost use Rattle.mach_ir.specs.Placed.{WellPlaced};
+ghost use Rattle.mach_ir.specs.Placed.{WellPlaced, Colouring, IsColouring};
+ghost use Rattle.mach_ir.specs.Walks.{IsRegister, Joined};
 ghost use Rattle.mach_ir.specs.declared.mach.Mach.{Mach};
-ghost use Rattle.places_rules.specs.Places.{Placing, IsPlacing, ColoursLow, with_places, rest_in_slots};
+ghost use Rattle.places_rules.specs.Places.{ColoursLow, recoloured, rest_in_slots};
 ghost use Rattle.places_rules.specs.Rest.{IsKept};
 
 /// Law: a function whose open registers go to the slots of their origins is kept.
@@ -20,8 +21,8 @@ pub fn the_rest_is_kept()
     ensures { (m : Mach) → WellFormed m → WellPlaced m → IsKept m (rest_in_slots m) }
 {}
 
-/// Law: so is one whose registers stand where they are placed, joined ones apart.
-pub fn a_placing_is_kept()
-    ensures { (m : Mach) (place : Placing) → WellFormed m → WellPlaced m → ColoursLow m → IsPlacing m place →
-        IsKept m (with_places place m) }
+/// Law: so is one whose registers stand where a colouring has them.
+pub fn a_colouring_is_kept()
+    ensures { (m : Mach) (place : Colouring) → WellFormed m → WellPlaced m → ColoursLow m →
+        IsColouring (IsRegister m) (Joined m) place → IsKept m (recoloured place m) }
 {}

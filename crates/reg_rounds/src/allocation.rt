@@ -1,8 +1,16 @@
 //! Register allocation, whole.
-ghost use Rattle.std.specs.Prelude.{◌≡◌, true, IfOk};
-ghost use Rattle.places_rules.specs.Places.{rest_in_slots};
+ghost use Rattle.std.specs.Prelude.{◌≡◌, false, IfOk};
+ghost use Rattle.mach_ir.specs.Formed.{WellFormed};
+ghost use Rattle.mach_ir.specs.Placed.{WellPlaced};
+ghost use Rattle.mach_ir.specs.declared.mach.Mach.{Mach};
+ghost use Rattle.places_rules.specs.Places.{ColoursLow};
+ghost use Rattle.places_rules.specs.Rest.{IsKept};
+ghost use Rattle.reg_rounds.specs.Allocated.{IsAllocated};
 
-use crate::slots::rest_in_slots;
+use crate::places::recoloured;
+use colouring::colour;
+use interfere::graph;
+use liveness::live;
 use mach_ir::Mach;
 use std::alloc::{AllocError, Global};
 
@@ -16,20 +24,30 @@ pub struct Allocated {
     pub rest: bool,
 }
 
-/// A place for each register of a function.
+/// A place for each register of a function: what is live, the graph of what must stand apart, and its
+/// colouring.
 ///
-/// As yet there are no rounds: each register whose place is open goes to the slot that has its origin's
-/// number, which is what ends the rounds where fifty of them each asked for another. The time is linear
-/// in the function. The only error is want of memory.
+/// As yet there is one round: an operand that stands in a slot stays there, and emission loads it. The only
+/// error is want of memory.
 pub fn allocate(alloc: Global, mach: Mach) -> Result<Allocated, AllocError>
-    ensures mach { IfOk result (λ allocated. allocated.mach ≡ rest_in_slots mach) }
-    ensures rounds { IfOk result (λ allocated. allocated.rounds ≡ 0) }
-    ensures rest { IfOk result (λ allocated. allocated.rest ≡ true) }
+    requires formed { WellFormed mach }
+    requires placed { WellPlaced mach }
+    ensures mach { IfOk result (λ allocated. IsAllocated mach allocated.mach) }
+    ensures rounds { IfOk result (λ allocated. allocated.rounds ≡ 1) }
+    ensures rest { IfOk result (λ allocated. allocated.rest ≡ false) }
 {
-    let mach = rest_in_slots(alloc, mach)?;
+    let live = live(alloc, &mach)?;
+    let graph = graph(alloc, &mach, &live)?;
+    let colours = colour(alloc, &graph)?;
+    let mach = recoloured(alloc, &colours, mach)?;
     Ok(Allocated {
         mach,
-        rounds: 0,
-        rest: true,
+        rounds: 1,
+        rest: false,
     })
 }
+
+/// Law: an allocated function does what it did, and each of its registers has a place.
+pub fn allocations_are_kept()
+    ensures { (m q : Mach) → WellFormed m → WellPlaced m → ColoursLow m → IsAllocated m q → IsKept m q }
+{}

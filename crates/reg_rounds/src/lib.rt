@@ -1,10 +1,10 @@
 //! Register allocation: a place for each register of a Mach function (OCaml's `asmcomp/asmgen.ml`,
 //! where spilling, splitting, colouring and reloading turn in rounds).
 //!
-//! As yet only the end of it stands: what the rounds leave open goes to slots.
+//! As yet one colouring is all of it.
 #![tactic(auto)]
 
 mod allocation;
-mod slots;
+mod places;
 
-pub use allocation::{Allocated, allocate};
+pub use allocation::{Allocated, allocate, allocations_are_kept};
