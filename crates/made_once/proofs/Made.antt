@@ -5,16 +5,21 @@ use Rattle.lin_ir.specs.Descriptors.{AreExact}
 use Rattle.lin_ir.specs.declared.descr.Descr.{Descr}
 use Rattle.lin_ir.specs.declared.lin.Lin.{Lin}
 use Rattle.lin_laws.proofs.Unique.{exact_unique}
+use Rattle.linear_pass.specs.Linear.{IsLinearOf}
 use Rattle.linear_pass.proofs.Once.{linear_once}
+use Rattle.mach_ir.specs.declared.mach.Mach.{Mach}
 use Rattle.emit_rules.specs.Emitted.{IsEmitted}
 use Rattle.emit_rules.proofs.Once.{emitted_once}
 use Rattle.rv_pieces.specs.declared.piece.Pieces.{Pieces}
 use Rattle.made_functions.specs.Made.{IsMadeOf}
+use Rattle.made_once.proofs.Allocated.{allocated_once}
 
 module _ {tree : FunctionTree} {m n : Lin} {ds es : List Descr} {p q : Pieces} (h : IsMadeOf tree m ds p) (k : IsMadeOf tree n es q) where
   -- one Linear function
   pub lines_once : m ≡ n
-  lines_once = linear_once h.linear k.linear
+  lines_once =
+      linear_once h.linear
+      (subst (λ (p : Mach). IsLinearOf p n) (sym (allocated_once h.allocated k.allocated)) k.linear)
 
   -- its descriptors
   pub descriptors_once : ds ≡ es
