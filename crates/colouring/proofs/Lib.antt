@@ -1,0 +1,4 @@
+pub mod Order
+pub mod Found
+pub mod Choice
+pub mod Fold
