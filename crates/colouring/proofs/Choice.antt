@@ -8,7 +8,8 @@ use Rattle.mach_ir.specs.Placed.{Colouring, colours}
 use Rattle.mach_ir.specs.declared.graph.Node.{Node}
 use Rattle.mach_ir.specs.declared.graph.Graph.{Graph}
 use Rattle.mach_laws.proofs.Walking.{none_in, first_in, later_in}
-use Rattle.colouring.specs.Chosen.{Merit, merit, is_in, standing, is_better, is_free, kept, first_best, place_for, chosen}
+use Rattle.colouring.specs.declared.merit.Merit.{Merit}
+use Rattle.colouring.specs.Chosen.{merit, is_in, standing, is_better, is_free, kept, first_best, place_for, chosen}
 use Rattle.colouring.proofs.Found.{none_counted, some_counted, Counted, in_filter, into_filter}
 
 -- ---- the first of the best

@@ -13,7 +13,7 @@ use Rattle.mach_ir.specs.declared.graph.Graph.{Graph}
 use Rattle.mach_ir.specs.declared.graph.Colours.{Colours}
 use Rattle.mach_laws.proofs.Walking.{none_in, first_in, later_in, in_cons}
 use Rattle.colouring.specs.Chosen.{ComesBefore, IsOrder, IsColouredBy, loc_of, fixed, put, chosen, coloured}
-use Rattle.colouring.proofs.Order.{pairs_first, pairs_later, strict_order}
+use Rattle.colouring.proofs.Ordered.{pairs_first, pairs_later, strict_order}
 use Rattle.colouring.proofs.Found.{found_at, one_of_number, node_of, in_graph}
 use Rattle.colouring.proofs.Choice.{InColour, InSlot, choice}
 

@@ -1,4 +1,7 @@
-pub mod Order
+pub mod Ordered
 pub mod Found
 pub mod Choice
 pub mod Fold
+pub mod Counting
+pub mod Indexed
+pub mod Urgent

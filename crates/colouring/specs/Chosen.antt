@@ -9,6 +9,7 @@ use Rattle.mach_ir.specs.declared.reg.Reg.{Reg}
 use Rattle.mach_ir.specs.declared.graph.Node.{Node}
 use Rattle.mach_ir.specs.declared.graph.Graph.{Graph}
 use Rattle.mach_ir.specs.declared.graph.Colours.{Colours}
+use Rattle.colouring.specs.declared.merit.Merit.{Merit}
 
 -- ---- the order
 
@@ -46,16 +47,15 @@ abbrev pub moves_of : Option Node → List ℕ
 moves_of None = []
 moves_of (Some x) = x.moves
 
--- How many moves would have both ends in a colour if a register stood there: its own, and those of its
--- neighbours that could have.
-pub record Merit : Type 0 where
-  pub own : ℕ
-  pub wanted : ℕ
+-- how many moves of these registers have their other end in a colour
+abbrev pub wanted_by : Graph → Colouring → ℕ → List ℕ → ℕ
+wanted_by g place colour ns = sum_by (λ n. standing place colour (moves_of (node_at g.nodes n))) ns
 
+-- what speaks for a colour: the register's own moves from or to there, and those of its neighbours
 abbrev pub merit : Graph → Colouring → Node → ℕ → Merit
 merit g place x colour = record {
   own = standing place colour x.moves;
-  wanted = sum_by (λ n. standing place colour (moves_of (node_at g.nodes n))) x.neighbours;
+  wanted = wanted_by g place colour x.neighbours;
 }
 
 -- whether a register had better stand where the first merit is: the more of its own moves, the better,

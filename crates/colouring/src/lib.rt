@@ -5,6 +5,12 @@
 //! that no neighbour has, or else the slot of its origin.
 #![tactic(auto)]
 
+mod counts;
+mod merit;
+mod nodes;
+mod order;
+mod tallies;
+
 ghost use Rattle.mach_ir.specs.declared.graph.Graph.{Graph};
 ghost use Rattle.colouring.specs.Chosen.{OrderIsOne, ColoursAreOne};
 

@@ -1,4 +1,4 @@
-use Rattle.colouring.proofs.Order.{order_is_one}
+use Rattle.colouring.proofs.Ordered.{order_is_one}
 use Rattle.colouring.proofs.an_order_is_one.Goals as goal
 
 pub returns : goal.returns

@@ -1,4 +1,4 @@
-use Rattle.colouring.proofs.Order.{one_colouring}
+use Rattle.colouring.proofs.Ordered.{one_colouring}
 use Rattle.colouring.proofs.colours_are_one.Goals as goal
 
 pub returns : goal.returns
