@@ -14,7 +14,7 @@ use Rattle.colouring.proofs.Found.{none_counted, some_counted, Counted, in_filte
 
 -- ---- the first of the best
 
-best_in : (m : ℕ → Merit) (cs : List ℕ) (c : ℕ) → first_best m cs ≡ Some c → Contains cs c
+pub best_in : (m : ℕ → Merit) (cs : List ℕ) (c : ℕ) → first_best m cs ≡ Some c → Contains cs c
 best_in m [] c e = cc
 best_in m (d ∷ ds) c e = by (best_in m ds) (first_best m ds) refl e
   where

@@ -5,3 +5,4 @@ pub mod Fold
 pub mod Counting
 pub mod Indexed
 pub mod Urgent
+pub mod Turn

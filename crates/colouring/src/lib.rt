@@ -5,6 +5,7 @@
 //! that no neighbour has, or else the slot of its origin.
 #![tactic(auto)]
 
+mod choosing;
 mod counts;
 mod merit;
 mod nodes;
@@ -13,6 +14,8 @@ mod tallies;
 
 ghost use Rattle.mach_ir.specs.declared.graph.Graph.{Graph};
 ghost use Rattle.colouring.specs.Chosen.{OrderIsOne, ColoursAreOne};
+
+pub use choosing::colour;
 
 /// Law: the order in which the registers of a graph get their places is one.
 pub fn an_order_is_one()
