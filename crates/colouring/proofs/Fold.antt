@@ -12,9 +12,9 @@ use Rattle.mach_ir.specs.declared.graph.Node.{Node}
 use Rattle.mach_ir.specs.declared.graph.Graph.{Graph}
 use Rattle.mach_ir.specs.declared.graph.Colours.{Colours}
 use Rattle.mach_laws.proofs.Walking.{none_in, first_in, later_in, in_cons}
-use Rattle.colouring.specs.Chosen.{ComesBefore, IsOrder, IsColouredBy, loc_of, fixed, put, chosen, coloured}
+use Rattle.colouring.specs.Chosen.{ComesBefore, IsOrder, IsColouredBy, OthersAreUnset, loc_of, fixed, put, chosen, coloured}
 use Rattle.colouring.proofs.Ordered.{pairs_first, pairs_later, strict_order}
-use Rattle.colouring.proofs.Found.{found_at, one_of_number, node_of, in_graph}
+use Rattle.colouring.proofs.Found.{found_at, one_of_number, node_of, in_graph, missing}
 use Rattle.colouring.proofs.Choice.{InColour, InSlot, choice}
 
 put_here : (place : Colouring) (n : ℕ) (here : Loc) (k : ℕ) → k ≡ n → put place n here k ≡ here
@@ -292,3 +292,19 @@ module _ (g : Graph) (h : IsColourable g) where
         colouring = subst (λ p. IsColouring (InGraph g) (JoinedIn g) p) same (is_colouring place good);
         full = subst (λ p. NoNeedlessSlot (InGraph g) (JoinedIn g) p) same (record { full = is_full place good });
       }
+
+-- ---- numbers of no register
+
+none_put : (g : Graph) (order : List Node) (place : Colouring) (n : ℕ) →
+    ((x : Node) → Contains order x → x.reg.number ≡ n → ⊥) → coloured g place order n ≡ place n
+none_put g [] place n none = refl
+none_put g (x ∷ rest) place n none =
+    none_put g rest (put place x.reg.number (chosen g place x)) n (λ y c. none y (later_in x y rest c)) ∙
+    put_other place x.reg.number (chosen g place x) n (λ e. none x (first_in x rest) (sym e))
+
+pub others_unset : (g : Graph) → OthersAreUnset g
+others_unset g c by n none =
+    let no_node : (x : Node) → Contains g.nodes x → x.reg.number ≡ n → ⊥ = λ x i e.
+        none x.reg (in_graph g.nodes x i) e in
+    by.places n ∙ none_put g by.order (fixed g) n (λ x i. no_node x ((by.ordered.exact x).0 i).0) ∙
+    ap loc_of (missing g.nodes n no_node)

@@ -1,5 +1,5 @@
 -- The node of a number, and what is counted among numbers.
-use Rattle.std.proofs.Common.{◌≡◌, ◌+◌, ◌<◌, ◌⊎◌, inl, inr, ⊎_elim, Bool, true, false, cond, nat_eq, List, [], ◌∷◌, Some, map, refl, sym, ap, ◌∙◌, subst, arith}
+use Rattle.std.proofs.Common.{ℕ, ◌≡◌, ◌+◌, ◌<◌, ◌⊎◌, inl, inr, ⊎_elim, Bool, true, false, cond, nat_eq, List, [], ◌∷◌, Some, map, refl, sym, ap, ◌∙◌, subst, arith}
 use Rattle.std.specs.List.{AllPairs, Contains, count_by, filter}
 use Rattle.std.proofs.lemmas.Bool.{eq-eqb, ne_eqb}
 use Rattle.std.proofs.lemmas.List.Sums.{sum_by-cons}
@@ -33,6 +33,15 @@ one_of_number xs x y up c d e =
     let b : node_at xs y.reg.number ≡ Some y = found_at xs y up d in
     let f : node_at xs x.reg.number ≡ node_at xs y.reg.number = ap (node_at xs) e in
     cc
+
+-- a number that no member has
+pub missing : (nodes : List Node) (n : ℕ) → ((x : Node) → Contains nodes x → x.reg.number ≡ n → ⊥) → node_at nodes n ≡ None
+missing [] n none = refl
+missing (x ∷ xs) n none = by (missing xs n (λ y c. none y (later_in x y xs c))) (nat_eq x.reg.number n) refl
+  where
+    by : node_at xs n ≡ None → (t : Bool) → nat_eq x.reg.number n ≡ t → cond t (Some x) (node_at xs n) ≡ None
+    by later true e = absurd (none x (first_in x xs) (eqb-true x.reg.number n e))
+    by later false e = later
 
 -- the member that a register of the graph belongs to
 pub record Has (xs : List Node) (r : Reg) : Type 0 where

@@ -9,7 +9,7 @@ use Rattle.mach_ir.specs.declared.graph.Node.{Node}
 use Rattle.mach_laws.proofs.Walking.{first_in, later_in}
 use Rattle.colouring.specs.Chosen.{node_at}
 use Rattle.colouring.specs.Tables.{node_by, IsTableOf}
-use Rattle.colouring.proofs.Found.{Rising, found_at}
+use Rattle.colouring.proofs.Found.{Rising, found_at, missing}
 
 -- what the table has of the first nodes
 pub record IsIndexed (nodes : List Node) (i : ℕ) (indices : List (Option ℕ)) : Type 0 where
@@ -102,14 +102,6 @@ one_indexed nodes i before padding after x up within is le pad end t =
     }
 
 -- ---- all nodes
-
-missing : (nodes : List Node) (n : ℕ) → ((x : Node) → Contains nodes x → x.reg.number ≡ n → ⊥) → node_at nodes n ≡ None
-missing [] n none = refl
-missing (x ∷ xs) n none = by (missing xs n (λ y c. none y (later_in x y xs c))) (nat_eq x.reg.number n) refl
-  where
-    by : node_at xs n ≡ None → (t : Bool) → nat_eq x.reg.number n ≡ t → cond t (Some x) (node_at xs n) ≡ None
-    by later true e = absurd (none x (first_in x xs) (eqb-true x.reg.number n e))
-    by later false e = later
 
 pub all_indexed : (nodes : List Node) (indices : List (Option ℕ)) → Rising nodes → IsIndexed nodes (length nodes) indices → IsTableOf nodes indices
 all_indexed nodes indices up t = record {

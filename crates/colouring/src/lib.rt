@@ -13,7 +13,7 @@ mod order;
 mod tallies;
 
 ghost use Rattle.mach_ir.specs.declared.graph.Graph.{Graph};
-ghost use Rattle.colouring.specs.Chosen.{OrderIsOne, ColoursAreOne};
+ghost use Rattle.colouring.specs.Chosen.{OrderIsOne, ColoursAreOne, OthersAreUnset};
 
 pub use choosing::colour;
 
@@ -25,4 +25,9 @@ pub fn an_order_is_one()
 /// Law: all colourings of a graph by its order have the same place for each number.
 pub fn colours_are_one()
     ensures { (g : Graph) → ColoursAreOne g }
+{}
+
+/// Law: in such a colouring a number that no register has is `Unset`.
+pub fn others_are_unset()
+    ensures { (g : Graph) → OthersAreUnset g }
 {}
