@@ -1,14 +1,15 @@
 -- Which place colouring chooses for each register of a graph: for one after the other, in a fixed order,
 -- the best colour that no neighbour has, or else the slot of its origin.
-use Rattle.std.specs.Prelude.{◌≡◌, ◌↔◌, ◌⊎◌, ℕ, ◌+◌, ◌*◌, ◌/◌, ◌<◌, Bool, true, false, cond, nat_eq, nat_lt, List, [], ◌∷◌, length, Option, Some, None, All, AllPairs, Contains, count_by, sum_by, filter, find}
+use Rattle.std.specs.Prelude.{◌≡◌, ◌↔◌, ◌⊎◌, ℕ, ◌+◌, ◌*◌, ◌/◌, ◌<◌, Bool, false, cond, nat_eq, nat_lt, List, [], ◌∷◌, length, Option, Some, None, AllPairs, Contains, count_by, sum_by, filter, find}
 use Rattle.bs_words.specs.declared.types.Loc.{Loc}
 use Rattle.bs_words.specs.declared.types.Loc.TheVariants as loc
-use Rattle.mach_ir.specs.Graph.{place_in}
+use Rattle.mach_ir.specs.Graph.{InGraph, place_in}
 use Rattle.mach_ir.specs.Placed.{Colouring, colours}
 use Rattle.mach_ir.specs.declared.reg.Reg.{Reg}
 use Rattle.mach_ir.specs.declared.graph.Node.{Node}
 use Rattle.mach_ir.specs.declared.graph.Graph.{Graph}
 use Rattle.mach_ir.specs.declared.graph.Colours.{Colours}
+use Rattle.colouring.specs.declared.merit.Merit.{Merit}
 
 -- ---- the order
 
@@ -23,7 +24,7 @@ abbrev pub ComesBefore : Node → Node → Type 0
 ComesBefore x y =
     (urgency y < urgency x) ⊎ ((urgency x ≡ urgency y) × (x.reg.number < y.reg.number))
 
--- the nodes whose places are open, in their order
+-- the nodes whose places are open, each of them once, in their order
 pub record IsOrder (g : Graph) (order : List Node) : Type 0 where
   pub exact : (x : Node) → Contains order x ↔ (Contains g.nodes x × (x.reg.loc ≡ loc.Unset))
   pub sorted : AllPairs ComesBefore order
@@ -39,23 +40,23 @@ is_in colour (loc.Slot n) = false
 abbrev pub standing : Colouring → ℕ → List ℕ → ℕ
 standing place colour ns = count_by (λ n. is_in colour (place n)) ns
 
+-- the node of a number
 abbrev pub node_at : List Node → ℕ → Option Node
 node_at nodes n = find (λ (x : Node). nat_eq x.reg.number n) nodes
 
-abbrev pub moves_of : Option Node → List ℕ
-moves_of None = []
-moves_of (Some x) = x.moves
+abbrev pub node_moves : Option Node → List ℕ
+node_moves None = []
+node_moves (Some x) = x.moves
 
--- How many moves would have both ends in a colour if a register stood there: its own, and those of its
--- neighbours that could have.
-pub record Merit : Type 0 where
-  pub own : ℕ
-  pub wanted : ℕ
+-- how many moves of these registers have their other end in a colour
+abbrev pub wanted_by : Graph → Colouring → ℕ → List ℕ → ℕ
+wanted_by g place colour ns = sum_by (λ n. standing place colour (node_moves (node_at g.nodes n))) ns
 
+-- what speaks for a colour: the register's own moves from or to there, and those of its neighbours
 abbrev pub merit : Graph → Colouring → Node → ℕ → Merit
 merit g place x colour = record {
   own = standing place colour x.moves;
-  wanted = sum_by (λ n. standing place colour (moves_of (node_at g.nodes n))) x.neighbours;
+  wanted = wanted_by g place colour x.neighbours;
 }
 
 -- whether a register had better stand where the first merit is: the more of its own moves, the better,
@@ -112,11 +113,19 @@ pub record IsColouredBy (g : Graph) (c : Colours) : Type 0 where
   pub ordered : IsOrder g order
   pub places : (n : ℕ) → place_in c n ≡ coloured g (fixed g) order n
 
--- ---- laws: the order is one, and so is the colouring
+-- ---- laws
+
+-- the order of a graph is one
 
 abbrev pub OrderIsOne : Graph → Type 0
 OrderIsOne g = (first second : List Node) → IsOrder g first → IsOrder g second → first ≡ second
 
+-- and so are the places of all numbers
 abbrev pub ColoursAreOne : Graph → Type 0
 ColoursAreOne g = (c d : Colours) → IsColouredBy g c → IsColouredBy g d →
     (n : ℕ) → place_in c n ≡ place_in d n
+
+-- a number that no register has is `Unset`
+abbrev pub OthersAreUnset : Graph → Type 0
+OthersAreUnset g = (c : Colours) → IsColouredBy g c → (n : ℕ) →
+    ((r : Reg) → InGraph g r → r.number ≡ n → ⊥) → place_in c n ≡ loc.Unset

@@ -1,22 +1,33 @@
 //! Places for the registers of an interference graph (OCaml's `asmcomp/coloring.ml`).
 //!
 //! Registers get their places one after the other. First come those with so many neighbours that they may
-//! be left with none, those that a slot would cost most before the others. Each takes the best colour that
-//! no neighbour has, or else the slot of its origin.
+//! be left with no colour, those that a slot would cost most before the others. Each takes the best colour
+//! that no neighbour has, or else the slot of its origin.
 #![tactic(auto)]
 
-ghost use Rattle.std.specs.Prelude.{IfOk};
-ghost use Rattle.mach_ir.specs.Graph.{IsColourable, ColoursGraph};
-ghost use Rattle.colouring.specs.Chosen.{IsColouredBy};
+mod choosing;
+mod counts;
+mod merit;
+mod nodes;
+mod order;
+mod tallies;
 
-use mach_ir::{Colours, Graph};
-use std::alloc::{AllocError, Global};
+ghost use Rattle.mach_ir.specs.declared.graph.Graph.{Graph};
+ghost use Rattle.colouring.specs.Chosen.{OrderIsOne, ColoursAreOne, OthersAreUnset};
 
-pub fn colour(alloc: Global, graph: &Graph) -> Result<Colours, AllocError>
-    requires { IsColourable graph.now }
-    ensures colours { IfOk result (ColoursGraph graph.now) }
-    ensures value { IfOk result (IsColouredBy graph.now) }
-{
-    let _ = alloc;
-    Err(AllocError)
-}
+pub use choosing::colour;
+
+/// Law: the order in which the registers of a graph get their places is one.
+pub fn an_order_is_one()
+    ensures { (g : Graph) → OrderIsOne g }
+{}
+
+/// Law: all colourings of a graph by its order have the same place for each number.
+pub fn colours_are_one()
+    ensures { (g : Graph) → ColoursAreOne g }
+{}
+
+/// Law: in such a colouring a number that no register has is `Unset`.
+pub fn others_are_unset()
+    ensures { (g : Graph) → OthersAreUnset g }
+{}

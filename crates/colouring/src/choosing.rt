@@ -1,0 +1,51 @@
+//! The choice of places, one after the other.
+ghost use Rattle.std.specs.Prelude.{◌≡◌, IfOk};
+ghost use Rattle.mach_ir.specs.Graph.{IsColourable, ColoursGraph};
+ghost use Rattle.colouring.specs.Chosen.{chosen, IsColouredBy};
+ghost use Rattle.colouring.specs.Tables.{IsTableOf, places_by};
+
+use crate::nodes::NodeTable;
+use crate::order::order;
+use crate::tallies::Tallies;
+use bs_words::Loc;
+use mach_ir::{Colours, Graph, Node, Seq};
+use std::alloc::{AllocError, Global};
+
+/// The colours, those first that are taken first: a0 to a7, s2 to s9, t3 to t6 and s0.
+const COLOURS: [u8; 21] = [
+    10, 11, 12, 13, 14, 15, 16, 17, 18, 19, 20, 21, 22, 23, 24, 25, 28, 29, 30, 31, 8,
+];
+
+/// The place for a register where others have theirs.
+fn choose(graph: &Graph, table: &NodeTable, places: &[Loc], node: &Node) -> Loc
+    requires { IsTableOf graph.now.nodes table.now.indices.items }
+    ensures { result ≡ chosen graph.now (places_by places.now) node.now }
+{
+    let tallies = Tallies::new(graph, table, places, node);
+    match tallies.best(&COLOURS) {
+        Some(colour) => Loc::Machine(colour),
+        None => Loc::Slot(node.reg.origin),
+    }
+}
+
+/// A place for each register of a graph. Places that are fixed stay, neighbours stand apart, and a register
+/// goes to a slot only where each colour has a neighbour.
+///
+/// The time is that of sorting the nodes, and of each node's neighbours, its moves and theirs. The only
+/// error is want of memory.
+pub fn colour(alloc: Global, graph: &Graph) -> Result<Colours, AllocError>
+    requires { IsColourable graph.now }
+    ensures colours { IfOk result (ColoursGraph graph.now) }
+    ensures value { IfOk result (IsColouredBy graph.now) }
+{
+    let table = NodeTable::new(alloc, graph)?;
+    let order = order(alloc, graph)?;
+    let mut places = table.fixed_places(alloc, graph)?;
+    for node in &order {
+        let place = choose(graph, &table, places.as_slice(), *node);
+        places[node.reg.number as usize] = place;
+    }
+    Ok(Colours {
+        places: Seq::from_vec(places),
+    })
+}
