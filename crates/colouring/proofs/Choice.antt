@@ -82,7 +82,8 @@ choice_among cs m place x None e =
     let none : filter (is_free place x) cs ≡ [] = best_none m (filter (is_free place x) cs) e in
     inr (record {
       full = λ c i. ⊎_elim
-          (λ (t : is_free place x c ≡ true). absurd (none_in c (subst (λ l. Contains l c) none (into_filter (is_free place x) cs c i t))))
+          (λ (t : is_free place x c ≡ true). absurd
+          (none_in c (subst (λ l. Contains l c) none (into_filter (is_free place x) cs c i t))))
           (λ (t : is_free place x c ≡ false). taken_colour place x c t)
           (cases_Bool (is_free place x c));
       is = refl;
@@ -92,4 +93,5 @@ pub choice : (g : Graph) (place : Colouring) (x : Node) →
     InColour colours place x (chosen g place x) ⊎ InSlot colours place x (chosen g place x)
 unfolding chosen
 choice g place x =
-    choice_among colours (merit g place x) place x (first_best (merit g place x) (filter (is_free place x) colours)) refl
+    choice_among colours (merit g place x) place x
+    (first_best (merit g place x) (filter (is_free place x) colours)) refl

@@ -44,7 +44,8 @@ record Good (g : Graph) (rest : List Node) (place : Colouring) : Type 0 where
       (c : ℕ) → Contains colours c → Beside g.nodes place x c
 
 -- the origin of what is placed in a slot
-slot_of : (r : Reg) (l : Loc) (k : ℕ) → l ≡ loc.Slot k → (l ≡ loc.Unset) ⊎ IsPlaced (record r { loc = l }) → l ≡ loc.Slot r.origin
+slot_of : (r : Reg) (l : Loc) (k : ℕ) → l ≡ loc.Slot k → (l ≡ loc.Unset) ⊎ IsPlaced (record r { loc = l }) →
+    l ≡ loc.Slot r.origin
 slot_of r l k e (inl u) = cc
 slot_of r l k e (inr (in_colour n i s)) = cc
 slot_of r l k e (inr (in_slot s)) = s
@@ -67,10 +68,12 @@ module _ (g : Graph) (h : IsColourable g) where
   alone : (x : Node) → Contains g.nodes x → Contains x.neighbours x.reg.number → ⊥
   alone x c j = h.apart_from_itself x.reg.number (joined x x c j)
 
-  neighbour : (place : Colouring) (x : Node) (k c : ℕ) → Contains g.nodes x → Contains x.neighbours k → place k ≡ loc.Machine c →
+  neighbour : (place : Colouring) (x : Node) (k c : ℕ) → Contains g.nodes x → Contains x.neighbours k →
+      place k ≡ loc.Machine c →
       Beside g.nodes place x c
   neighbour place x k c i j e =
-      let other : JoinedIn g k x.reg.number = h.symmetric x.reg.number k (record { node = x; among = i; number = refl; joins = j }) in
+      let other : JoinedIn g k x.reg.number =
+      h.symmetric x.reg.number k (record { node = x; among = i; number = refl; joins = j }) in
       record {
         node = other.node;
         among = other.among;
@@ -80,14 +83,17 @@ module _ (g : Graph) (h : IsColourable g) where
 
   -- ---- one choice
 
-  module _ (rest : List Node) (place : Colouring) (x : Node) (good : Good g (x ∷ rest) place) (in_x : Contains g.nodes x)
-      (free : x.reg.loc ≡ loc.Unset) (apart : (y : Node) → Contains rest y → y.reg.number ≡ x.reg.number → ⊥) (here : Loc)
+  module _ (rest : List Node) (place : Colouring) (x : Node) (good : Good g (x ∷ rest) place)
+      (in_x : Contains g.nodes x)
+      (free : x.reg.loc ≡ loc.Unset) (apart : (y : Node) → Contains rest y → y.reg.number ≡ x.reg.number → ⊥)
+      (here : Loc)
       (chose : InColour colours place x here ⊎ InSlot colours place x here) where
     abbrev then : Colouring
     then = put place x.reg.number here
 
     which : (y : Node) → Contains g.nodes y →
-        ((y ≡ x) × (then y.reg.number ≡ here)) ⊎ ((y.reg.number ≡ x.reg.number → ⊥) × (then y.reg.number ≡ place y.reg.number))
+        ((y ≡ x) × (then y.reg.number ≡ here)) ⊎
+        ((y.reg.number ≡ x.reg.number → ⊥) × (then y.reg.number ≡ place y.reg.number))
     which y c =
         ⊎_elim
         (λ e. inl (one_of_number g.nodes y x h.order c in_x e, put_here place x.reg.number here y.reg.number e))
@@ -115,7 +121,8 @@ module _ (g : Graph) (h : IsColourable g) where
         subst (λ (z : Node). IsPlaced (record (z.reg) { loc = here })) (sym w.0) placed_here in
         inr (subst (λ l. IsPlaced (record (y.reg) { loc = l })) (sym w.1) at_here))
         (λ w.
-        ⊎_elim (λ u. inl (w.1 ∙ u)) (λ p. inr (subst (λ l. IsPlaced (record (y.reg) { loc = l })) (sym w.1) p)) (good.places y c))
+        ⊎_elim (λ u. inl (w.1 ∙ u)) (λ p. inr (subst (λ l. IsPlaced (record (y.reg) { loc = l })) (sym w.1) p))
+        (good.places y c))
         (which y c)
 
     waits : (y : Node) → Contains g.nodes y → then y.reg.number ≡ loc.Unset → Contains rest y
@@ -159,7 +166,8 @@ module _ (g : Graph) (h : IsColourable g) where
         (which z d))
         (λ w. ⊎_elim
         (λ v.
-        let s = shares y c (back y x c in_x (subst (λ (a : Node). Contains y.neighbours a.reg.number) v.0 j)) (sym w.1 ∙ e ∙ v.1) in
+        let s = shares y c (back y x c in_x (subst (λ (a : Node). Contains y.neighbours a.reg.number) v.0 j))
+        (sym w.1 ∙ e ∙ v.1) in
         let o : z.reg.origin ≡ x.reg.origin = ap (λ (a : Node). a.reg.origin) v.0 in
         (s.0 ∙ sym o, e ∙ v.1 ∙ s.1 ∙ ap loc.Slot (sym s.0)))
         (λ v.
@@ -190,7 +198,8 @@ module _ (g : Graph) (h : IsColourable g) where
         (λ s. let a : here ≡ loc.Machine s.colour = s.is in let b : here ≡ loc.Slot k = sym w.1 ∙ e in cc)
         (λ s.
         let t = s.full c among in
-        let j : Contains y.neighbours t.number = subst (λ (a : Node). Contains a.neighbours t.number) (sym w.0) t.among in
+        let j : Contains y.neighbours t.number =
+        subst (λ (a : Node). Contains a.neighbours t.number) (sym w.0) t.among in
         beside y c i (neighbour place y t.number c i j t.there))
         chose)
         (λ w. beside y c i (good.full y i open_y k (sym w.1 ∙ e) c among))
@@ -258,11 +267,15 @@ module _ (g : Graph) (h : IsColourable g) where
     is_apart r q c d =
         let w = node_of g.nodes r c in
         let v = node_of g.nodes q d in
-        subst (λ (a : Reg). JoinedIn g r.number a.number → place r.number ≡ place a.number → MayShare (placed_by place r) (placed_by place a)) v.same
-        (subst (λ (a : Reg). JoinedIn g a.number v.node.reg.number → place a.number ≡ place v.node.reg.number → MayShare (placed_by place a) (placed_by place v.node.reg)) w.same
-        (λ j e. good.apart w.node v.node w.among v.among (joins w.node v.node.reg.number w.among j) (has_place w.node w.among) e))
+        subst (λ (a : Reg). JoinedIn g r.number a.number → place r.number ≡ place a.number →
+        MayShare (placed_by place r) (placed_by place a)) v.same
+        (subst (λ (a : Reg). JoinedIn g a.number v.node.reg.number → place a.number ≡ place v.node.reg.number →
+        MayShare (placed_by place a) (placed_by place v.node.reg)) w.same
+        (λ j e. good.apart w.node v.node w.among v.among (joins w.node v.node.reg.number w.among j)
+        (has_place w.node w.among) e))
 
-    is_full : (r : Reg) → InGraph g r → r.loc ≡ loc.Unset → (k : ℕ) → place r.number ≡ loc.Slot k → (n : ℕ) → Contains colours n →
+    is_full : (r : Reg) → InGraph g r → r.loc ≡ loc.Unset → (k : ℕ) → place r.number ≡ loc.Slot k → (n : ℕ) →
+        Contains colours n →
         (q : Reg) × InGraph g q × JoinedIn g r.number q.number × (place q.number ≡ loc.Machine n)
     is_full r c =
         let w = node_of g.nodes r c in
@@ -305,6 +318,6 @@ none_put g (x ∷ rest) place n none =
 pub others_unset : (g : Graph) → OthersAreUnset g
 others_unset g c by n none =
     let no_node : (x : Node) → Contains g.nodes x → x.reg.number ≡ n → ⊥ = λ x i e.
-        none x.reg (in_graph g.nodes x i) e in
+    none x.reg (in_graph g.nodes x i) e in
     by.places n ∙ none_put g by.order (fixed g) n (λ x i. no_node x ((by.ordered.exact x).0 i).0) ∙
     ap loc_of (missing g.nodes n no_node)

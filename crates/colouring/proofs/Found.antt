@@ -1,5 +1,5 @@
 -- The node of a number, and what is counted among numbers.
-use Rattle.std.proofs.Common.{ℕ, ◌≡◌, ◌+◌, ◌<◌, ◌⊎◌, inl, inr, ⊎_elim, Bool, true, false, cond, nat_eq, List, [], ◌∷◌, Some, map, refl, sym, ap, ◌∙◌, subst, arith}
+use Rattle.std.proofs.Common.{ℕ, None, ◌≡◌, ◌+◌, ◌<◌, ◌⊎◌, inl, inr, ⊎_elim, Bool, true, false, cond, nat_eq, List, [], ◌∷◌, Some, map, refl, sym, ap, ◌∙◌, subst, arith}
 use Rattle.std.specs.List.{AllPairs, Contains, count_by, filter}
 use Rattle.std.proofs.lemmas.Bool.{eq-eqb, ne_eqb}
 use Rattle.std.proofs.lemmas.List.Sums.{sum_by-cons}
@@ -17,10 +17,12 @@ pub found_at : (xs : List Node) (x : Node) → Rising xs → Contains xs x → n
 found_at [] x up c = absurd (none_in x c)
 found_at (y ∷ ys) x up c =
     ⊎_elim
-    (λ e. ap (λ (b : Bool). cond b (Some y) (node_at ys x.reg.number)) (eq-eqb y.reg.number x.reg.number (ap (λ (z : Node). z.reg.number) e)) ∙ ap (λ z. Some z) e)
+    (λ e. ap (λ (b : Bool). cond b (Some y) (node_at ys x.reg.number))
+    (eq-eqb y.reg.number x.reg.number (ap (λ (z : Node). z.reg.number) e)) ∙ ap (λ z. Some z) e)
     (λ d.
     let under : y.reg.number < x.reg.number = pairs_first (λ (x y : Node). x.reg.number < y.reg.number) y ys up x d in
-    let apart : nat_eq y.reg.number x.reg.number ≡ false = ne_eqb y.reg.number x.reg.number (λ e. absurd (omega (arith, under, e))) in
+    let apart : nat_eq y.reg.number x.reg.number ≡ false =
+    ne_eqb y.reg.number x.reg.number (λ e. absurd (omega (arith, under, e))) in
     ap (λ (b : Bool). cond b (Some y) (node_at ys x.reg.number)) apart ∙
     found_at ys x (pairs_later (λ (x y : Node). x.reg.number < y.reg.number) y ys up) d)
     (in_cons y x ys c)
@@ -35,7 +37,8 @@ one_of_number xs x y up c d e =
     cc
 
 -- a number that no member has
-pub missing : (nodes : List Node) (n : ℕ) → ((x : Node) → Contains nodes x → x.reg.number ≡ n → ⊥) → node_at nodes n ≡ None
+pub missing : (nodes : List Node) (n : ℕ) → ((x : Node) → Contains nodes x → x.reg.number ≡ n → ⊥) →
+    node_at nodes n ≡ None
 missing [] n none = refl
 missing (x ∷ xs) n none = by (missing xs n (λ y c. none y (later_in x y xs c))) (nat_eq x.reg.number n) refl
   where
@@ -59,7 +62,8 @@ node_of (x ∷ xs) r c =
 pub in_graph : (xs : List Node) (x : Node) → Contains xs x → Contains (map (λ (x : Node). x.reg) xs) x.reg
 in_graph [] x c = absurd (none_in x c)
 in_graph (y ∷ ys) x c =
-    ⊎_elim (λ e. subst (λ (z : Node). Contains (y.reg ∷ map (λ (x : Node). x.reg) ys) z.reg) e (first_in y.reg (map (λ (x : Node). x.reg) ys)))
+    ⊎_elim (λ e. subst (λ (z : Node). Contains (y.reg ∷ map (λ (x : Node). x.reg) ys) z.reg) e
+    (first_in y.reg (map (λ (x : Node). x.reg) ys)))
     (λ d. later_in y.reg x.reg (map (λ (x : Node). x.reg) ys) (in_graph ys x d)) (in_cons y x ys c)
 
 -- ---- counts
@@ -88,7 +92,9 @@ some_counted p (y ∷ ys) some = by (some_counted p ys) (p y) refl
     by : ((count_by p ys ≡ 0 → ⊥) → Counted p ys) → (t : Bool) → p y ≡ t → Counted p (y ∷ ys)
     by later true e = record { what = y; among = first_in y ys; passes = e }
     by later false e =
-        let w = later (λ z. some (sum_by-cons (λ a. cond (p a) 1 0) y ys ∙ ap (λ (t : Bool). cond t 1 0 + count_by p ys) e ∙ (let s : 0 + count_by p ys ≡ 0 = omega (arith, z) in s))) in
+        let w = later (λ z. some
+        (sum_by-cons (λ a. cond (p a) 1 0) y ys ∙ ap (λ (t : Bool). cond t 1 0 + count_by p ys) e ∙
+        (let s : 0 + count_by p ys ≡ 0 = omega (arith, z) in s))) in
         record { what = w.what; among = later_in y w.what ys w.among; passes = w.passes }
 
 -- ---- filters
@@ -105,7 +111,8 @@ in_filter p (y ∷ ys) x c = by (in_filter p ys x) (p y) refl c
         (λ f. let r = later f in (later_in y x ys r.0, r.1)) (in_cons y x (filter p ys) d)
     by later false e d = let r = later d in (later_in y x ys r.0, r.1)
 
-pub into_filter : {A : Type 0} (p : A → Bool) (xs : List A) (x : A) → Contains xs x → p x ≡ true → Contains (filter p xs) x
+pub into_filter : {A : Type 0} (p : A → Bool) (xs : List A) (x : A) → Contains xs x → p x ≡ true →
+    Contains (filter p xs) x
 into_filter p [] x c h = absurd (none_in x c)
 into_filter p (y ∷ ys) x c h = by (λ d. into_filter p ys x d h) (p y) refl (in_cons y x ys c)
   where

@@ -41,13 +41,15 @@ past [] n le = refl
 past (x ∷ xs) zero le = absurd (omega (arith, le))
 past (x ∷ xs) (suc n) le = past xs n (omega (arith, le))
 
-behind : (xs : List (Option ℕ)) (v : Option ℕ) (n : ℕ) → (n ≡ length xs → ⊥) → get_or (xs ++ v ∷ []) n None ≡ get_or xs n None
+behind : (xs : List (Option ℕ)) (v : Option ℕ) (n : ℕ) → (n ≡ length xs → ⊥) →
+    get_or (xs ++ v ∷ []) n None ≡ get_or xs n None
 behind [] v zero ne = absurd (ne refl)
 behind [] v (suc n) ne = refl
 behind (x ∷ xs) v zero ne = refl
 behind (x ∷ xs) v (suc n) ne = behind xs v n (λ e. ne (ap suc e))
 
-pub one_indexed : (nodes : List Node) (i : ℕ) (before padding after : List (Option ℕ)) (x : Node) → Rising nodes → i < length nodes →
+pub one_indexed : (nodes : List Node) (i : ℕ) (before padding after : List (Option ℕ)) (x : Node) → Rising nodes →
+    i < length nodes →
     ((d : Node) → get_or nodes i d ≡ x) → length before ≤ x.reg.number →
     padding ≡ before ++ replicate (x.reg.number - length before) None → after ≡ padding ++ Some i ∷ [] →
     IsIndexed nodes i before → IsIndexed nodes (i + 1) after
@@ -62,7 +64,8 @@ one_indexed nodes i before padding after x up within is le pad end t =
     ap (λ l. get_or l n None) end ∙ behind padding (Some i) n (λ e. ne (e ∙ size)) ∙
     ap (λ l. get_or l n None) pad ∙ padded before (x.reg.number - length before) n in
     let here : get_or after x.reg.number None ≡ Some i =
-    subst (λ n. get_or after n None ≡ Some i) size (ap (λ l. get_or l (length padding) None) end ∙ get_or-append_seam padding (Some i) [] None) in
+    subst (λ n. get_or after n None ≡ Some i) size
+    (ap (λ l. get_or l (length padding) None) end ∙ get_or-append_seam padding (Some i) [] None) in
     let lower : (k : ℕ) (d : Node) → k < i → (get_or nodes k d).reg.number < x.reg.number = λ k d lt.
     subst (λ (y : Node). (get_or nodes k d).reg.number < y.reg.number) (is d) (up k i d lt within) in
     record {
@@ -86,24 +89,28 @@ one_indexed nodes i before padding after x up within is le pad end t =
           same (get_or nodes k d).reg.number (λ e. absurd (omega (arith, under, e))) ∙ t.miss k d less)
           (λ (not_less : i ≤ k).
           let eq : i ≡ k = omega (arith, lt, not_less) in
-          subst (λ j. get_or after (get_or nodes j d).reg.number None ≡ Some j) eq (ap (λ (y : Node). get_or after y.reg.number None) (is d) ∙ here))
+          subst (λ j. get_or after (get_or nodes j d).reg.number None ≡ Some j) eq
+          (ap (λ (y : Node). get_or after y.reg.number None) (is d) ∙ here))
           (cases_lt k i);
       below = λ k d lt. ⊎_elim
           (λ (less : k < i). let under = lower k d less in omega (arith, under, whole))
           (λ (not_less : i ≤ k).
           let eq : i ≡ k = omega (arith, lt, not_less) in
-          let e : (get_or nodes k d).reg.number ≡ x.reg.number = ap (λ j. (get_or nodes j d).reg.number) (sym eq) ∙ ap (λ (y : Node). y.reg.number) (is d) in
+          let e : (get_or nodes k d).reg.number ≡ x.reg.number = ap (λ j. (get_or nodes j d).reg.number) (sym eq) ∙
+          ap (λ (y : Node). y.reg.number) (is d) in
           omega (arith, e, whole))
           (cases_lt k i);
       next = λ d lt.
           let more : x.reg.number < (get_or nodes (i + 1) d).reg.number =
-          subst (λ (y : Node). y.reg.number < (get_or nodes (i + 1) d).reg.number) (is d) (up i (i + 1) d (omega arith) lt) in
+          subst (λ (y : Node). y.reg.number < (get_or nodes (i + 1) d).reg.number) (is d)
+          (up i (i + 1) d (omega arith) lt) in
           omega (arith, more, whole);
     }
 
 -- ---- all nodes
 
-pub all_indexed : (nodes : List Node) (indices : List (Option ℕ)) → Rising nodes → IsIndexed nodes (length nodes) indices → IsTableOf nodes indices
+pub all_indexed : (nodes : List Node) (indices : List (Option ℕ)) → Rising nodes →
+    IsIndexed nodes (length nodes) indices → IsTableOf nodes indices
 all_indexed nodes indices up t = record {
   each = λ n. by n (get_or indices n None) refl;
   has = λ k d lt. t.below k d lt;

@@ -28,7 +28,8 @@ kept_alike m m' c cs h (Some l) e =
     ap (λ (a : Merit). cond (is_better a (m c)) l c) (h l (later_in c l cs (best_in m cs l e))) ∙
     ap (λ (b : Merit). cond (is_better (m' l) b) l c) (h c (first_in c cs))
 
-best_alike : (m m' : ℕ → Merit) (cs : List ℕ) → ((c : ℕ) → Contains cs c → m c ≡ m' c) → first_best m cs ≡ first_best m' cs
+best_alike : (m m' : ℕ → Merit) (cs : List ℕ) → ((c : ℕ) → Contains cs c → m c ≡ m' c) →
+    first_best m cs ≡ first_best m' cs
 best_alike m m' [] h = refl
 best_alike m m' (c ∷ cs) h =
     ap (λ k. Some k) (kept_alike m m' c cs h (first_best m cs) refl) ∙
@@ -49,8 +50,10 @@ unfolding are_below
 below [] e c i = absurd (none_in c i)
 below (d ∷ ds) e c i = by (below ds) (nat_lt d 32) refl e
   where
-    by : (are_below ds ≡ true → (c : ℕ) → Contains ds c → c < 32) → (t : Bool) → nat_lt d 32 ≡ t → cond t (are_below ds) false ≡ true → c < 32
-    by later true a b = ⊎_elim (λ same. subst (λ n. n < 32) same (ltb-true d 32 a)) (λ j. later b c j) (in_cons d c ds i)
+    by : (are_below ds ≡ true → (c : ℕ) → Contains ds c → c < 32) → (t : Bool) → nat_lt d 32 ≡ t →
+        cond t (are_below ds) false ≡ true → c < 32
+    by later true a b = ⊎_elim (λ same. subst (λ n. n < 32) same (ltb-true d 32 a)) (λ j. later b c j)
+        (in_cons d c ds i)
     by later false a b = cc
 
 colours_below : (c : ℕ) → Contains colours c → c < 32
@@ -69,8 +72,10 @@ module _ (g : Graph) (place : Colouring) (x : Node) (t : Tallies)
   best_same : (cs : List ℕ) → ((c : ℕ) → Contains cs c → c < 32) →
       first_best (merit_by t) (filter (free_by t) cs) ≡ first_best (merit g place x) (filter (is_free place x) cs)
   best_same cs h =
-      best_alike (merit_by t) (merit g place x) (filter (free_by t) cs) (λ c i. merit_same c (h c (in_filter (free_by t) cs c i).0)) ∙
-      ap (first_best (merit g place x)) (filter_alike (free_by t) (is_free place x) cs (λ c i. ap (λ n. nat_eq n 0) (near c (h c i))))
+      best_alike (merit_by t) (merit g place x) (filter (free_by t) cs)
+      (λ c i. merit_same c (h c (in_filter (free_by t) cs c i).0)) ∙
+      ap (first_best (merit g place x))
+      (filter_alike (free_by t) (is_free place x) cs (λ c i. ap (λ n. nat_eq n 0) (near c (h c i))))
 
   pub chosen_same : place_for x.reg (first_best (merit_by t) (filter (free_by t) colours)) ≡ chosen g place x
   unfolding chosen
@@ -83,22 +88,26 @@ set_here [] n here d lt = absurd (omega (arith, lt))
 set_here (p ∷ ps) zero here d lt = refl
 set_here (p ∷ ps) (suc n) here d lt = set_here ps n here d (omega (arith, lt))
 
-set_other : (places : List Loc) (n k : ℕ) (here d : Loc) → (k ≡ n → ⊥) → get_or (set places n here) k d ≡ get_or places k d
+set_other : (places : List Loc) (n k : ℕ) (here d : Loc) → (k ≡ n → ⊥) →
+    get_or (set places n here) k d ≡ get_or places k d
 set_other [] n k here d ne = refl
 set_other (p ∷ ps) zero zero here d ne = absurd (ne refl)
 set_other (p ∷ ps) zero (suc k) here d ne = refl
 set_other (p ∷ ps) (suc n) zero here d ne = refl
 set_other (p ∷ ps) (suc n) (suc k) here d ne = set_other ps n k here d (λ e. ne (ap suc e))
 
-places_set : (places : List Loc) (n : ℕ) (here : Loc) → n < length places → places_by (set places n here) ≡ put (places_by places) n here
+places_set : (places : List Loc) (n : ℕ) (here : Loc) → n < length places →
+    places_by (set places n here) ≡ put (places_by places) n here
 places_set places n here lt = fun_ext (λ k.
     ⊎_elim
     (λ e. subst (λ j. get_or (set places n here) j loc.Unset ≡ here) (sym e) (set_here places n here loc.Unset lt) ∙
     sym (ap (λ (b : Bool). cond b here (places_by places k)) (eq-eqb k n e)))
-    (λ ne. set_other places n k here loc.Unset ne ∙ sym (ap (λ (b : Bool). cond b here (places_by places k)) (ne_eqb k n ne)))
+    (λ ne. set_other places n k here loc.Unset ne ∙
+    sym (ap (λ (b : Bool). cond b here (places_by places k)) (ne_eqb k n ne)))
     (cases_eq k n))
 
-pub one_turn : (g : Graph) (places : List Loc) (x : Node) (rest : List Node) (here : Loc) → x.reg.number < length places →
+pub one_turn : (g : Graph) (places : List Loc) (x : Node) (rest : List Node) (here : Loc) →
+    x.reg.number < length places →
     here ≡ chosen g (places_by places) x →
     coloured g (places_by (set places x.reg.number here)) rest ≡ coloured g (places_by places) (x ∷ rest)
 one_turn g places x rest here lt e =
@@ -122,15 +131,18 @@ is_within g indices items i b table order lt is =
     let among : Contains g.nodes b.now = ((order.exact b.now).0 (among_referred items b (i, lt, sym is))).0 in
     All-contains (λ (x : Node). x.reg.number < length indices) g.nodes b.now table.has among
 
-pub goes_on : (g : Graph) (places : List Loc) (items : List (Bor Node)) (i : ℕ) (b : Bor Node) (here : Loc) (all : Colouring) →
-    i < length items → b ≡ get_or items i b → b.now.reg.number < length places → here ≡ chosen g (places_by places) b.now →
+pub goes_on : (g : Graph) (places : List Loc) (items : List (Bor Node)) (i : ℕ) (b : Bor Node) (here : Loc)
+    (all : Colouring) →
+    i < length items → b ≡ get_or items i b → b.now.reg.number < length places →
+    here ≡ chosen g (places_by places) b.now →
     coloured g (places_by places) (referred (drop i items)) ≡ all →
     coloured g (places_by (set places b.now.reg.number here)) (referred (drop (i + 1) items)) ≡ all
 goes_on g places items i b here all lt is within e before =
     let rest : List (Bor Node) = drop (i + 1) items in
     let next : i + 1 ≡ suc i = omega arith in
     let split : drop i items ≡ b ∷ rest =
-    drop-cons items i b lt ∙ ap (λ (a : Bor Node). a ∷ drop (suc i) items) (sym is) ∙ ap (λ (n : ℕ). b ∷ drop n items) (sym next) in
+    drop-cons items i b lt ∙ ap (λ (a : Bor Node). a ∷ drop (suc i) items) (sym is) ∙
+    ap (λ (n : ℕ). b ∷ drop n items) (sym next) in
     one_turn g places b.now (referred rest) here within e ∙
     ap (λ (l : List (Bor Node)). coloured g (places_by places) (referred l)) (sym split) ∙ before
 
@@ -140,7 +152,8 @@ none_left [] (suc i) le = refl
 none_left (x ∷ xs) zero le = absurd (omega (arith, le))
 none_left (x ∷ xs) (suc i) le = none_left xs i (omega (arith, le))
 
-pub is_coloured : (g : Graph) (places : List Loc) (items : List (Bor Node)) (i : ℕ) (c : Colours) → IsOrder g (referred items) →
+pub is_coloured : (g : Graph) (places : List Loc) (items : List (Bor Node)) (i : ℕ) (c : Colours) →
+    IsOrder g (referred items) →
     length items ≤ i → c.places ≡ places →
     coloured g (places_by places) (referred (drop i items)) ≡ coloured g (fixed g) (referred items) → IsColouredBy g c
 is_coloured g places items i c order le same done = record {

@@ -10,31 +10,40 @@ use Rattle.colouring.proofs.choosing.colour.Goals as goal
 
 pub index_mut-requires : goal.index_mut-requires
 index_mut-requires c =
-    let ordered = subst (λ (l : List (Bor Node)). IsOrder c.args.graph.now (referred l)) (sym c.deref-node-items.ensures.value) c.in_ok-order.ensures in
-    let within = is_within c.args.graph.now c.in_ok-table.table.indices.items c.deref-node-items.result.now c.loop-node.node-index c.node-item.result
+    let ordered = subst (λ (l : List (Bor Node)). IsOrder c.args.graph.now (referred l))
+    (sym c.deref-node-items.ensures.value) c.in_ok-order.ensures in
+    let within = is_within c.args.graph.now c.in_ok-table.table.indices.items c.deref-node-items.result.now
+    c.loop-node.node-index c.node-item.result
     c.in_ok-table.ensures ordered c.loop-node-test.true c.node-item.is in
     let len = c.loop-node.invariant.len in
     omega (arith, within, len)
 
 pub loop-node-preserved : goal.loop-node-preserved
 loop-node-preserved c =
-    let ordered = subst (λ (l : List (Bor Node)). IsOrder c.args.graph.now (referred l)) (sym c.deref-node-items.ensures.value) c.in_ok-order.ensures in
-    let within = is_within c.args.graph.now c.in_ok-table.table.indices.items c.deref-node-items.result.now c.loop-node.node-index c.node-item.result
+    let ordered = subst (λ (l : List (Bor Node)). IsOrder c.args.graph.now (referred l))
+    (sym c.deref-node-items.ensures.value) c.in_ok-order.ensures in
+    let within = is_within c.args.graph.now c.in_ok-table.table.indices.items c.deref-node-items.result.now
+    c.loop-node.node-index c.node-item.result
     c.in_ok-table.ensures ordered c.loop-node-test.true c.node-item.is in
     let len = c.loop-node.invariant.len in
     record {
-      on = goes_on c.args.graph.now c.loop-node.places.items c.deref-node-items.result.now c.loop-node.node-index c.node-item.result c.choose-place.result
+      on = goes_on c.args.graph.now c.loop-node.places.items c.deref-node-items.result.now c.loop-node.node-index
+          c.node-item.result c.choose-place.result
           (coloured c.args.graph.now (fixed c.args.graph.now) (referred c.deref-node-items.result.now))
           c.loop-node-test.true c.node-item.is (omega (arith, within, len))
-          (c.choose-place.ensures ∙ ap (λ (l : List Loc). chosen c.args.graph.now (places_by l) c.node-item.result.now) c.as_slice.ensures.value)
+          (c.choose-place.ensures ∙
+          ap (λ (l : List Loc). chosen c.args.graph.now (places_by l) c.node-item.result.now)
+          c.as_slice.ensures.value)
           c.loop-node.invariant.on;
       len = length-set _ _ _ ∙ len;
     }
 
 pub returns-clause-colours : goal.returns-clause-colours
 returns-clause-colours c =
-    let ordered = subst (λ (l : List (Bor Node)). IsOrder c.args.graph.now (referred l)) (sym c.deref-node-items.ensures.value) c.in_ok-order.ensures in
+    let ordered = subst (λ (l : List (Bor Node)). IsOrder c.args.graph.now (referred l))
+    (sym c.deref-node-items.ensures.value) c.in_ok-order.ensures in
     let all : length c.deref-node-items.result.now ≤ c.loop-node.node-index = omega arith in
     colours_the_graph c.args.graph.now c.requires (record { places = c.from_vec.result })
-    (is_coloured c.args.graph.now c.loop-node.places.items c.deref-node-items.result.now c.loop-node.node-index (record { places = c.from_vec.result })
+    (is_coloured c.args.graph.now c.loop-node.places.items c.deref-node-items.result.now c.loop-node.node-index
+    (record { places = c.from_vec.result })
     ordered all c.from_vec.ensures c.loop-node.invariant.on)

@@ -4,4 +4,5 @@ use Rattle.colouring.specs.Tables.{node_by}
 use Rattle.colouring.proofs.nodes.NodeTable.fixed_places.Given as goal
 
 abbrev pub invariant-loop-index : goal.invariant-loop-index
-invariant-loop-index l = l.places.items ≡ map (λ o. loc_of (node_by l.graph.nodes o)) (take l.index-index l.self.indices.items)
+invariant-loop-index l =
+    l.places.items ≡ map (λ o. loc_of (node_by l.graph.nodes o)) (take l.index-index l.self.indices.items)

@@ -7,4 +7,5 @@ returns c =
     let same = ap length c.as_slice-node-items.ensures in
     let whole : c.loop-node.node-index ≡ length c.args.graph.now.nodes = omega (arith, same) in
     all_indexed c.args.graph.now.nodes c.loop-node.indices.items c.requires
-    (subst (λ (i : ℕ). IsIndexed c.args.graph.now.nodes i c.loop-node.indices.items) whole c.loop-node.invariant.indexed)
+    (subst (λ (i : ℕ). IsIndexed c.args.graph.now.nodes i c.loop-node.indices.items) whole
+    c.loop-node.invariant.indexed)
