@@ -1,19 +1,19 @@
-//! The interference graph of a Mach function (OCaml's `asmcomp/interf.ml`).
+//! The interference graph of a Mach function (OCaml's `asmcomp/interf.ml`): which of its registers must
+//! stand apart, since one is written while the other is live.
+//!
+//! What is live where an instruction goes on is joined with each register that it writes, what it
+//! destroys among them, in a square of bits over the numbers of registers. A move's source and target
+//! stay apart only by other instructions. The rows of the square are then read out as lists.
 #![tactic(auto)]
 
-ghost use Rattle.std.specs.Prelude.{IfOk};
-ghost use Rattle.mach_ir.specs.Formed.{WellFormed};
-ghost use Rattle.mach_ir.specs.Graph.{IsLiveMap, IsGraph};
+mod interfering;
+mod joining;
+mod matrix;
+mod members;
+mod moves;
+mod partners;
+mod registers;
+mod tables;
+mod uses;
 
-use mach_ir::{Graph, LiveMap, Mach};
-use std::alloc::{AllocError, Global};
-
-/// A stand-in.
-pub fn graph(alloc: Global, mach: &Mach, live: &LiveMap) -> Result<Graph, AllocError>
-    requires formed { WellFormed mach.now }
-    requires live { IsLiveMap mach.now live.now }
-    ensures { IfOk result (IsGraph mach.now) }
-{
-    let _ = alloc;
-    Err(AllocError)
-}
+pub use interfering::graph;

@@ -1,0 +1,175 @@
+-- Tables that get pairs, one after the other.
+use Rattle.std.proofs.Common.{◌≡◌, ℕ, ◌+◌, ◌<◌, ◌≤◌, Bool, true, false, ◌⊎◌, inl, inr, ⊎_elim, List, [], ◌∷◌, ◌++◌, length, take, get_or, refl, sym, ap, ◌∙◌, subst, arith}
+use Rattle.std.specs.List.{All, Contains}
+use Rattle.std.specs.Prelude.{Option}
+use Rattle.std.proofs.lemmas.List.{take_more, take_all}
+use Rattle.std.proofs.lemmas.List.Elements.{Contains-get_or}
+use Rattle.bs_bits.specs.Set.{has}
+use Rattle.dataflow.specs.Rows.{row}
+use Rattle.mach_laws.proofs.Walking.{none_in, first_in, later_in, in_cons}
+use Rattle.liveness.proofs.Bounds.{split_in}
+use Rattle.interfere.specs.Members.{AreMembers}
+use Rattle.interfere.specs.Moves.{is_from_to}
+use Rattle.interfere.specs.Pairs.{Table, EitherWay, one_way, other_way, Adds, IsPair, ForOne, Meeting, MeetsSet, MeetsPlaces}
+use Rattle.interfere.specs.declared.moves.Move.{Move}
+
+-- ---- members of lists
+
+pub left_in : {A : Type 0} (xs ys : List A) (y : A) → Contains xs y → Contains (xs ++ ys) y
+left_in [] ys y c = absurd (none_in y c)
+left_in (x ∷ xs) ys y c =
+    ⊎_elim (λ e. subst (Contains (x ∷ (xs ++ ys))) e (first_in x (xs ++ ys)))
+    (λ d. later_in x y (xs ++ ys) (left_in xs ys y d)) (in_cons x y xs c)
+
+pub right_in : {A : Type 0} (xs ys : List A) (y : A) → Contains ys y → Contains (xs ++ ys) y
+right_in [] ys y c = c
+right_in (x ∷ xs) ys y c = later_in x y (xs ++ ys) (right_in xs ys y c)
+
+pub of_each : {A : Type 0} (P : A → Type 0) (xs : List A) (x : A) → All P xs → Contains xs x → P x
+of_each P xs x h c = subst P c.2 (h c.0 x c.1)
+
+-- ---- relations
+
+pub either_map : {P Q : ℕ → ℕ → Type 0} → ((n k : ℕ) → P n k → Q n k) → (n k : ℕ) → EitherWay P n k → EitherWay Q n k
+either_map f n k (one_way ne h) = one_way ne (f n k h)
+either_map f n k (other_way ne h) = other_way ne (f k n h)
+
+either_split : {P Q R : ℕ → ℕ → Type 0} → ((n k : ℕ) → R n k → P n k ⊎ Q n k) → (n k : ℕ) → EitherWay R n k →
+    EitherWay P n k ⊎ EitherWay Q n k
+either_split f n k (one_way ne h) = ⊎_elim (λ p. inl (one_way ne p)) (λ q. inr (one_way ne q)) (f n k h)
+either_split f n k (other_way ne h) = ⊎_elim (λ p. inl (other_way ne p)) (λ q. inr (other_way ne q)) (f k n h)
+
+either_none : {R : ℕ → ℕ → Type 0} → ((n k : ℕ) → R n k → ⊥) → (n k : ℕ) → EitherWay R n k → ⊥
+either_none none n k (one_way ne h) = none n k h
+either_none none n k (other_way ne h) = none k n h
+
+-- ---- tables
+
+pub adds_none : (t : Table) (R : ℕ → ℕ → Type 0) → ((n k : ℕ) → R n k → ⊥) → Adds t t R
+adds_none t R none =
+    record {
+      len = refl;
+      kept = λ n k h. h;
+      sound = λ n k h. inl h;
+      whole = λ n k h. absurd (either_none none n k h);
+    }
+
+-- two relations, and one that says either
+pub adds_then : (x y z : Table) (P Q R : ℕ → ℕ → Type 0) → Adds x y P → Adds y z Q → ((n k : ℕ) → R n k → P n k ⊎ Q n k) →
+    ((n k : ℕ) → P n k → R n k) → ((n k : ℕ) → Q n k → R n k) → Adds x z R
+adds_then x y z P Q R one two split left right =
+    record {
+      len = two.len ∙ one.len;
+      kept = λ n k h. two.kept n k (one.kept n k h);
+      sound = λ n k h.
+          ⊎_elim (λ old. ⊎_elim (λ first. inl first) (λ p. inr (either_map left n k p)) (one.sound n k old))
+          (λ q. inr (either_map right n k q)) (two.sound n k h);
+      whole = λ n k h.
+          ⊎_elim (λ p. two.kept n k (one.whole n k p)) (λ q. two.whole n k q) (either_split split n k h);
+    }
+
+pub adds_same : (x y : Table) (P R : ℕ → ℕ → Type 0) → Adds x y P → ((n k : ℕ) → P n k → R n k) → ((n k : ℕ) → R n k → P n k) →
+    Adds x y R
+adds_same x y P R h to from =
+    record {
+      len = h.len;
+      kept = h.kept;
+      sound = λ n k g. ⊎_elim (λ o. inl o) (λ p. inr (either_map to n k p)) (h.sound n k g);
+      whole = λ n k g. h.whole n k (either_map from n k g);
+    }
+
+-- ---- one after the other
+
+module _ {A : Type 0} (R : A → ℕ → ℕ → Type 0) where
+  none_taken : (xs : List A) (y : A) → Contains (take 0 xs) y → ⊥
+  none_taken [] y c = none_in y c
+  none_taken (x ∷ xs) y c = none_in y c
+
+  pub one_none : (xs : List A) (t : Table) → Adds t t (ForOne R (take 0 xs))
+  one_none xs t = adds_none t (ForOne R (take 0 xs)) (λ n k h. none_taken xs h.item h.among)
+
+  pub one_more : (xs : List A) (i : ℕ) (d : A) (x y z : Table) → i < length xs → Adds x y (ForOne R (take i xs)) →
+      Adds y z (R (get_or xs i d)) → Adds x z (ForOne R (take (i + 1) xs))
+  one_more xs i d x y z lt before here =
+      adds_then x y z (ForOne R (take i xs)) (R new) (ForOne R (take (i + 1) xs)) before here
+      (λ n k h. by n k h (split_in (take i xs) (new ∷ []) h.item (subst (λ ys. Contains ys h.item) taken h.among)))
+      (λ n k h. record { item = h.item; among = subst (λ ys. Contains ys h.item) (sym taken) (left_in (take i xs) (new ∷ []) h.item h.among); there = h.there })
+      (λ n k h. record { item = new; among = subst (λ ys. Contains ys new) (sym taken) (right_in (take i xs) (new ∷ []) new (first_in new [])); there = h })
+    where
+      new : A
+      new = get_or xs i d
+
+      taken : take (i + 1) xs ≡ take i xs ++ new ∷ []
+      taken = take_more xs i d lt
+
+      by : (n k : ℕ) (h : ForOne R (take (i + 1) xs) n k) → Contains (take i xs) h.item ⊎ Contains (new ∷ []) h.item →
+          ForOne R (take i xs) n k ⊎ R new n k
+      by n k h (inl c) = inl (record { item = h.item; among = c; there = h.there })
+      by n k h (inr c) =
+          ⊎_elim (λ e. inr (subst (λ x. R x n k) (sym e) h.there)) (λ z. absurd (none_in h.item z)) (in_cons new h.item [] c)
+
+  pub one_all : (xs : List A) (i : ℕ) (x y : Table) → length xs ≤ i → Adds x y (ForOne R (take i xs)) → Adds x y (ForOne R xs)
+  one_all xs i x y le h = subst (λ ys. Adds x y (ForOne R ys)) (take_all i xs le) h
+
+-- ---- one pair
+
+pub not_joined : (t : Table) (moved : Option Move) (number other : ℕ) → is_from_to moved other number ≡ true →
+    Adds t t (Meeting moved number other)
+not_joined t moved number other e =
+    adds_none t (Meeting moved number other)
+    (λ n k h.
+    let f : is_from_to moved other number ≡ false =
+    subst (λ n. is_from_to moved other n ≡ false) (sym h.written) (subst (λ k. is_from_to moved k n ≡ false) (sym h.live) h.no_move) in
+    cc)
+
+pub now_joined : (x y : Table) (moved : Option Move) (number other : ℕ) → is_from_to moved other number ≡ false →
+    Adds x y (IsPair number other) → Adds x y (Meeting moved number other)
+now_joined x y moved number other e h =
+    adds_same x y (IsPair number other) (Meeting moved number other) h
+    (λ n k p. record {
+      written = p.one;
+      live = p.two;
+      no_move = subst (λ n. is_from_to moved k n ≡ false) p.one (subst (λ k. is_from_to moved k number ≡ false) p.two e);
+    })
+    (λ n k p. record { one = p.written; two = p.live })
+
+-- with each of a list of members is with the set
+pub with_set : (x y : Table) (moved : Option Move) (set : List Bool) (members : List ℕ) (number : ℕ) → AreMembers set members →
+    Adds x y (ForOne (Meeting moved number) members) → Adds x y (MeetsSet moved set number)
+with_set x y moved set members number are h =
+    adds_same x y (ForOne (Meeting moved number) members) (MeetsSet moved set number) h
+    (λ n k p. let t = p.there in record {
+      written = t.written;
+      live = (are.each k).0 (subst (Contains members) t.live p.among);
+      no_move = t.no_move;
+    })
+    (λ n k p. record {
+      item = k;
+      among = (are.each k).1 p.live;
+      there = record { written = p.written; live = refl; no_move = p.no_move };
+    })
+
+-- what bounds a set bounds the list of its members
+pub members_small : (bound len : ℕ) (set : List Bool) (members lent : List ℕ) → AreMembers set members → lent ≡ members →
+    ((k : ℕ) → has set k ≡ true → k < bound) → len ≡ bound → All (λ k. k < len) lent
+members_small bound len set members lent are same below e =
+    subst (λ b. All (λ k. k < b) lent) (sym e)
+    (subst (λ ks. All (λ k. k < bound) ks) (sym same)
+    (λ j d lt. below (get_or members j d) ((are.each (get_or members j d)).0 (Contains-get_or members j d lt))))
+
+-- the same with the list as it was lent
+pub with_lent : (x y : Table) (moved : Option Move) (set : List Bool) (members lent : List ℕ) (number : ℕ) → AreMembers set members →
+    lent ≡ members → Adds x y (ForOne (Meeting moved number) lent) → Adds x y (MeetsSet moved set number)
+with_lent x y moved set members lent number are same h =
+    with_set x y moved set members number are (subst (λ ks. Adds x y (ForOne (Meeting moved number) ks)) same h)
+
+-- one place more where control goes on, with lists as they were lent
+pub place_more : (moved : Option Move) (live : Table) (writes places : List ℕ) (lent_writes lent_places : List ℕ) (i : ℕ) (set : List Bool)
+    (x y z : Table) → lent_writes ≡ writes → lent_places ≡ places → i < length lent_places → set ≡ row live (get_or lent_places i 0) →
+    Adds x y (MeetsPlaces moved live writes (take i places)) → Adds y z (ForOne (MeetsSet moved set) lent_writes) →
+    Adds x z (MeetsPlaces moved live writes (take (i + 1) places))
+place_more moved live writes places lent_writes lent_places i set x y z w p lt same before here =
+    let le : length lent_places ≡ length places = ap length p in
+    one_more (λ q. ForOne (MeetsSet moved (row live q)) writes) places i 0 x y z (omega (arith, lt, le)) before
+    (subst (λ ns. Adds y z (ForOne (MeetsSet moved (row live (get_or places i 0))) ns)) w
+    (subst (λ s. Adds y z (ForOne (MeetsSet moved s) lent_writes)) (same ∙ ap (λ ps. row live (get_or ps i 0)) p) here))

@@ -1,0 +1,87 @@
+//! Moves between registers.
+ghost use Rattle.std.specs.Prelude.{◌≡◌};
+ghost use Rattle.interfere.specs.Moves.{is_move_kind, is_move_pure, is_move_op, is_move, move_between, move_of, is_from_to};
+
+use mach_ir::{CopyKind, Instr, MachOp, Op, Pure, Reg};
+
+/// A move: the numbers of the register that it reads and of the one that it writes.
+#[derive(Clone, Copy, PartialEq, Eq, Debug)]
+pub struct Move {
+    pub from: u32,
+    pub to: u32,
+}
+
+fn is_move_kind(kind: CopyKind) -> bool
+    ensures { result ≡ is_move_kind kind }
+{
+    match kind {
+        CopyKind::Move => true,
+        CopyKind::Spill => false,
+        CopyKind::Reload => false,
+    }
+}
+
+fn is_move_pure(pure: &Pure) -> bool
+    ensures { result ≡ is_move_pure pure.now }
+{
+    match pure {
+        Pure::Copy(kind) => is_move_kind(*kind),
+        Pure::Constant(_) => false,
+        Pure::Symbol(_) => false,
+        Pure::Operator(_, _) => false,
+    }
+}
+
+fn is_move_op(op: &Op) -> bool
+    ensures { result ≡ is_move_op op.now }
+{
+    match op {
+        Op::Pure(pure) => is_move_pure(pure),
+        Op::Access(_) => false,
+        Op::Calling(_) => false,
+        Op::Leaving(_) => false,
+    }
+}
+
+fn is_move(op: &MachOp) -> bool
+    ensures { result ≡ is_move op.now }
+{
+    match op {
+        MachOp::Op(op) => is_move_op(op),
+        MachOp::Mark(_) => false,
+    }
+}
+
+/// The move from the one operand to the one result, if that is what these are.
+fn move_between(args: &[Reg], results: &[Reg]) -> Option<Move>
+    ensures { result ≡ move_between args.now results.now }
+{
+    if args.len() != 1 || results.len() != 1 {
+        return None;
+    }
+    Some(Move {
+        from: args[0].number,
+        to: results[0].number,
+    })
+}
+
+/// The move that the instruction is, if it is one.
+pub fn move_of(instr: &Instr) -> Option<Move>
+    ensures { result ≡ move_of instr.now }
+{
+    if is_move(&instr.op) {
+        move_between(instr.args.as_slice(), instr.results.as_slice())
+    } else {
+        None
+    }
+}
+
+/// Whether it is a move from the one register to the other.
+pub fn is_from_to(moved: Option<Move>, from: u32, to: u32) -> bool
+    ensures { result ≡ is_from_to moved from to }
+{
+    match moved {
+        None => false,
+        Some(moved) => moved.from == from && moved.to == to,
+    }
+}
