@@ -1,5 +1,5 @@
 -- The node of a number, and what is counted among numbers.
-use Rattle.std.proofs.Common.{ℕ, None, ◌≡◌, ◌+◌, ◌<◌, ◌⊎◌, inl, inr, ⊎_elim, Bool, true, false, cond, nat_eq, List, [], ◌∷◌, Some, map, refl, sym, ap, ◌∙◌, subst, arith}
+use Rattle.std.proofs.Common.{ℕ, eqb-true, None, ◌≡◌, ◌+◌, ◌<◌, ◌⊎◌, inl, inr, ⊎_elim, Bool, true, false, cond, nat_eq, List, [], ◌∷◌, Some, map, refl, sym, ap, ◌∙◌, subst, arith}
 use Rattle.std.specs.List.{AllPairs, Contains, count_by, filter}
 use Rattle.std.proofs.lemmas.Bool.{eq-eqb, ne_eqb}
 use Rattle.std.proofs.lemmas.List.Sums.{sum_by-cons}

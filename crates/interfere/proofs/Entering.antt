@@ -1,5 +1,6 @@
 -- Registers that come to their numbers in a table.
-use Rattle.std.proofs.Common.{◌≡◌, ◌≢◌, ℕ, ◌+◌, ◌<◌, ◌≤◌, ◌⊎◌, inl, inr, ⊎_elim, List, [], ◌∷◌, ◌++◌, Some, None, length, take, set, get_or, refl, sym, ap, ◌∙◌, subst}
+use Rattle.std.proofs.Common.{◌≡◌, ◌≢◌, ℕ, ◌+◌, ◌<◌, ◌≤◌, ◌⊎◌, inl, inr, ⊎_elim, List, [], ◌∷◌, ◌++◌, Some, None}
+use Rattle.std.proofs.Common.{length, take, set, get_or, refl, sym, ap, ◌∙◌, subst}
 use Rattle.std.specs.List.{All, Contains}
 use Rattle.std.specs.Prelude.{Option}
 use Rattle.std.proofs.lemmas.Bool.{cases_eq}
@@ -73,7 +74,9 @@ enter_one t r lt =
           let g : r ≡ q = cc in
           inr (sym (ap (λ (r : Reg). r.number) g) ∙ sym e, subst (Contains (r ∷ [])) g (first_in r [])))
           (λ (ne : n ≢ r.number). inl (sym (get_or-set_other t r.number n (Some r) None ne) ∙ h)) (cases_eq n r.number);
-      whole = λ q c. ⊎_elim (λ e. subst (λ (q : Reg). HasOne made q.number) e (record { register = r; there = same })) (λ z. absurd (none_in q z)) (in_cons r q [] c);
+      whole = λ q c.
+          ⊎_elim (λ e. subst (λ (q : Reg). HasOne made q.number) e (record { register = r; there = same }))
+          (λ z. absurd (none_in q z)) (in_cons r q [] c);
     }
   where
     made : Table

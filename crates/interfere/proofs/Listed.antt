@@ -1,5 +1,6 @@
 -- Nodes, one after the other, and the graph that they make.
-use Rattle.std.proofs.Common.{◌≡◌, ℕ, zero, suc, ◌+◌, ◌<◌, ◌⊎◌, inl, inr, ⊎_elim, List, [], ◌∷◌, ◌++◌, Some, None, length, map, get_or, sym, ap, ◌∙◌, subst, arith}
+use Rattle.std.proofs.Common.{◌≡◌, ℕ, zero, suc, ◌+◌, ◌<◌, ◌⊎◌, inl, inr, ⊎_elim, List, [], ◌∷◌, ◌++◌, Some, None}
+use Rattle.std.proofs.Common.{length, map, get_or, sym, ap, ◌∙◌, subst, arith}
 use Rattle.std.specs.List.{All, AllPairs, Contains}
 use Rattle.std.specs.Prelude.{Option}
 use Rattle.std.proofs.lemmas.Bool.{cases_lt}
@@ -33,6 +34,13 @@ nodes_none t nodes e =
       below = λ x c. absurd (none_in x c);
       whole = λ n r lt h. absurd (omega (arith, lt));
     })
+
+-- what was read at a number stands there
+read_at : (xs : List (Option Reg)) (n : ℕ) (slot : Option Reg) (r : Reg) → n < length xs → slot ≡ get_or xs n slot →
+    slot ≡ Some r → IsAt xs n r
+read_at [] n slot r l e f = absurd (omega (arith, l))
+read_at (y ∷ ys) zero slot r l e f = sym e ∙ f
+read_at (y ∷ ys) (suc n) slot r l e f = read_at ys n slot r (omega (arith, l)) e f
 
 -- no register has this number
 pub nodes_same : (t : Tables) (n : ℕ) (slot : Option Reg) (nodes : List Node) → n < length t.registers.items →
@@ -68,12 +76,7 @@ nodes_more t n slot r x old new numbers lt read some node made before =
     })
   where
     at : IsAt t.registers.items n r
-    at = default t.registers.items n lt read some
-      where
-        default : (xs : List (Option Reg)) (n : ℕ) → n < length xs → slot ≡ get_or xs n slot → slot ≡ Some r → get_or xs n None ≡ Some r
-        default [] n l e f = absurd (omega (arith, l))
-        default (y ∷ ys) zero l e f = sym e ∙ f
-        default (y ∷ ys) (suc n) l e f = default ys n (omega (arith, l)) e f
+    at = read_at t.registers.items n slot r lt read some
 
     number : x.reg.number ≡ n
     number = ap (λ (r : Reg). r.number) node.reg ∙ numbers.number n r at
@@ -103,13 +106,8 @@ nodes_all t count n nodes e h = subst (λ k. AreNodesBelow t k nodes) e h
 pub has_row : (t : Tables) (n : ℕ) (slot : Option Reg) (r : Reg) → AreByNumber t → n < length t.registers.items →
     slot ≡ get_or t.registers.items n slot → slot ≡ Some r → r.number < length t.joined
 has_row t n slot r numbers lt read some =
-    subst (λ k. k < length t.joined) (sym (numbers.number n r (default t.registers.items n lt read some)))
+    subst (λ k. k < length t.joined) (sym (numbers.number n r (read_at t.registers.items n slot r lt read some)))
     (let len = numbers.len in omega (arith, lt, len))
-  where
-    default : (xs : List (Option Reg)) (n : ℕ) → n < length xs → slot ≡ get_or xs n slot → slot ≡ Some r → get_or xs n None ≡ Some r
-    default [] n l e f = absurd (omega (arith, l))
-    default (y ∷ ys) zero l e f = sym e ∙ f
-    default (y ∷ ys) (suc n) l e f = default ys n (omega (arith, l)) e f
 
 pub by_number : (m : Mach) (t : Tables) → AreTables m t → AreByNumber t
 by_number m t are = record { len = are.registers.len; number = λ n r h. (are.registers.sound n r h).0 }
@@ -134,7 +132,8 @@ pub is_graph : (m : Mach) (t : Tables) (g : Graph) (nodes : List Node) → WellF
 is_graph m t g nodes formed are has made =
     record {
       order = made_of (AllPairs (λ (x y : Node). x.reg.number < y.reg.number)) has.order;
-      sorted = made_of (All (λ (x : Node). AllPairs ◌<◌ x.neighbours)) (λ k d lt. (node_of (get_or nodes k d) (Contains-get_or nodes k d lt)).neighbours.sorted);
+      sorted = made_of (All (λ (x : Node). AllPairs ◌<◌ x.neighbours))
+          (λ k d lt. (node_of (get_or nodes k d) (Contains-get_or nodes k d lt)).neighbours.sorted);
       registers = λ r. (
         λ c. let x = of_map nodes r (subst (λ xs. Contains (map (λ (x : Node). x.reg) xs) r) made c) in subst (IsRegister m) x.reg (register x.node x.among),
         λ h. let x = found r h in

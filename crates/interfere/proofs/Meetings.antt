@@ -1,5 +1,6 @@
 -- Which registers of a function meet: what comes from its parameters and from each instruction.
-use Rattle.std.proofs.Common.{◌≡◌, ◌↔◌, ℕ, suc, ◌+◌, ◌<◌, ◌≤◌, Bool, true, false, cond, ◌&&◌, nat_eq, ◌⊎◌, inl, inr, ⊎_elim, List, [], ◌∷◌, None, length, map, drop, get_or, refl, sym, ap, ◌∙◌, subst, arith}
+use Rattle.std.proofs.Common.{◌≡◌, ◌↔◌, ℕ, suc, ◌+◌, ◌<◌, ◌≤◌, Bool, true, false, cond, ◌&&◌, nat_eq, ◌⊎◌, inl, inr}
+use Rattle.std.proofs.Common.{⊎_elim, List, [], ◌∷◌, None, length, map, drop, get_or, refl, sym, ap, ◌∙◌, subst, arith}
 use Rattle.std.specs.List.{All, Contains}
 use Rattle.std.specs.Prelude.{Option}
 use Rattle.std.proofs.lemmas.Bool.{cases_lt, eq-eqb, eqb-true}
@@ -9,7 +10,10 @@ use Rattle.dataflow.specs.Rows.{row}
 use Rattle.mach_ir.specs.Acts.{Target}
 use Rattle.mach_ir.specs.Graph.{IsLiveMap}
 use Rattle.mach_ir.specs.Meaning.{code_at, killed, written}
-use Rattle.mach_ir.specs.Walks.{Among, first, later, OneOf, this, other, targets, Leads, goes, raises, Writes, Live, read, on, aside, LiveAfter, after_step, InCode, in_args, in_results, further, IsRegister, is_param, is_colour, is_in_code, Stands, here, below, IsMove, is_move, Meets, at_write, at_params, Joined}
+use Rattle.mach_ir.specs.Walks.{Among, first, later, OneOf, this, other, targets, Leads, goes, raises, Writes, Live}
+use Rattle.mach_ir.specs.Walks.{read, on, aside, LiveAfter, after_step, InCode, in_args, in_results, further}
+use Rattle.mach_ir.specs.Walks.{IsRegister, is_param, is_colour, is_in_code, Stands, here, below, IsMove, is_move}
+use Rattle.mach_ir.specs.Walks.{Meets, at_write, at_params, Joined}
 use Rattle.mach_ir.specs.Walks as walks
 use Rattle.mach_ir.specs.declared.graph.LiveMap.{LiveMap}
 use Rattle.mach_ir.specs.declared.op.CopyKind.TheVariants as copy

@@ -1,16 +1,13 @@
 -- What the flow graph has for the instruction at a place.
-use Rattle.std.proofs.Common.{◌≡◌, ℕ, suc, ◌<◌, ◌≤◌, List, [], ◌∷◌, length, drop, get_or, sym, ap, ◌∙◌, subst, arith}
+use Rattle.std.proofs.Common.{◌≡◌, ℕ, suc, ◌<◌, ◌≤◌, List, [], ◌∷◌, length, map, drop, get_or, sym, ap, ◌∙◌, subst, arith}
 use Rattle.std.specs.List.{All}
 use Rattle.std.proofs.Math.Seq.{drop-cons}
 use Rattle.std.proofs.lemmas.List.{get_or-map}
-use Rattle.std.proofs.lemmas.List.Elements.{Contains-get_or}
 use Rattle.bs_words.specs.Contents.{contents}
 use Rattle.dataflow.specs.Flow.{IsPlace, WellFormed}
 use Rattle.dataflow.specs.declared.flow.Flow as flow
 use Rattle.dataflow.specs.declared.flow.Place as place
 use Rattle.mach_ir.specs.Meaning.{written}
-use Rattle.mach_ir.specs.Walks.{IsRegister, is_param}
-use Rattle.mach_ir.specs.declared.reg.Reg.{Reg}
 use Rattle.mach_ir.specs.declared.mach.Instr.{Instr}
 use Rattle.mach_ir.specs.declared.mach.Mach.{Mach}
 use Rattle.mach_laws.specs.Graph.{numbers, numbers_written, next_places, IsFlowOf}
@@ -27,15 +24,18 @@ pub node_read : (m : Mach) (f : flow.Flow) (p : ℕ) (code : List Instr) (i : In
 node_read m f p code i node is formed same lt read there =
     record {
       at = at;
-      next = sym (get_or-map (λ (x : place.Place). contents x.next) (contents f.places) p node [] within ∙ ap (λ (x : place.Place). contents x.next) (sym there))
+      next = of_node (λ x. contents x.next)
           ∙ is.next p ∙ ap (next_places m) at;
-      writes = sym (get_or-map (λ (x : place.Place). contents x.writes) (contents f.places) p node [] within ∙ ap (λ (x : place.Place). contents x.writes) (sym there))
+      writes = of_node (λ x. contents x.writes)
           ∙ is.writes p ∙ ap (numbers_written m) at;
       formed = subst (IsPlace (length (contents f.places)) f.bound) (sym there) (formed p node within);
     }
   where
     within : p < length (contents f.places)
     within = let count = is.places in let len : length code ≡ length m.code = ap length same in omega (arith, count, len, lt)
+
+    of_node : (part : place.Place → List ℕ) → part node ≡ get_or (map part (contents f.places)) p []
+    of_node part = sym (get_or-map part (contents f.places) p node [] within ∙ ap part (sym there))
 
     at : drop p m.code ≡ i ∷ drop (suc p) m.code
     at =
@@ -49,13 +49,6 @@ places_small m f p i node count is here e =
     let places = is.places in
     let same : length (contents f.places) ≡ count = omega (arith, places, e) in
     subst (λ k. All (λ q. q < k) (contents node.next)) same here.formed.next
-
-pub params_small : (m : Mach) (size count : ℕ) (lent : List Reg) → ((r : Reg) → IsRegister m r → r.number < size) → lent ≡ m.params →
-    count ≡ size → All (λ (r : Reg). r.number < count) lent
-params_small m size count lent above same e =
-    subst (λ k. All (λ (r : Reg). r.number < k) lent) (sym e)
-    (subst (λ rs. All (λ (r : Reg). r.number < size) rs) (sym same)
-    (λ k d lt. above (get_or m.params k d) (is_param (Contains-get_or m.params k d lt))))
 
 pub within : (m : Mach) (code : List Instr) (p : ℕ) → code ≡ m.code → length code ≤ p → length m.code ≤ p
 within m code p same le = let len : length code ≡ length m.code = ap length same in omega (arith, len, le)

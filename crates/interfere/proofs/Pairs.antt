@@ -1,5 +1,6 @@
 -- Tables that get pairs, one after the other.
-use Rattle.std.proofs.Common.{◌≡◌, ℕ, ◌+◌, ◌<◌, ◌≤◌, Bool, true, false, ◌⊎◌, inl, inr, ⊎_elim, List, [], ◌∷◌, ◌++◌, length, take, get_or, refl, sym, ap, ◌∙◌, subst, arith}
+use Rattle.std.proofs.Common.{◌≡◌, ℕ, ◌+◌, ◌<◌, ◌≤◌, Bool, true, false, ◌⊎◌, inl, inr, ⊎_elim, List, [], ◌∷◌, ◌++◌}
+use Rattle.std.proofs.Common.{length, take, get_or, refl, sym, ap, ◌∙◌, subst, arith}
 use Rattle.std.specs.List.{All, Contains}
 use Rattle.std.specs.Prelude.{Option}
 use Rattle.std.proofs.lemmas.List.{take_more, take_all}
@@ -10,7 +11,8 @@ use Rattle.mach_laws.proofs.Walking.{none_in, first_in, later_in, in_cons}
 use Rattle.liveness.proofs.Bounds.{split_in}
 use Rattle.interfere.specs.Members.{AreMembers}
 use Rattle.interfere.specs.Moves.{is_from_to}
-use Rattle.interfere.specs.Pairs.{Table, EitherWay, one_way, other_way, Adds, IsPair, ForOne, Meeting, MeetsSet, MeetsPlaces}
+use Rattle.interfere.specs.Pairs.{Table, EitherWay, one_way, other_way, Adds, IsPair, ForOne, Meeting, MeetsSet}
+use Rattle.interfere.specs.Pairs.{MeetsPlaces}
 use Rattle.interfere.specs.declared.moves.Move.{Move}
 
 -- ---- members of lists

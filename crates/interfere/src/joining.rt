@@ -50,6 +50,9 @@ fn join_set(
     requires set { (k : ℕ) → has set.now k ≡ true → k < length joined.old }
     ensures { IfOk result (λ _. Adds joined.old joined.new (ForOne (MeetsSet moved set.now) numbers.now)) }
 {
+    if numbers.is_empty() {
+        return Ok(());
+    }
     let others = members_of(alloc, set)?;
     for number in numbers {
         join_others(joined, moved, *number, others.as_slice());
@@ -58,7 +61,7 @@ fn join_set(
 }
 
 /// Joins the registers that the instruction of the node writes with those that are live where it goes
-/// on. A raise leads past its writes, so what is live there is none of them.
+/// on. Where a raise leads it has written nothing.
 fn join_writes(
     alloc: Global,
     joined: &mut Matrix,
@@ -74,13 +77,8 @@ fn join_writes(
 {
     let numbers = node.writes.as_slice();
     for place in node.next.as_slice() {
-        join_set(
-            alloc,
-            joined,
-            moved,
-            numbers,
-            live.before.at(*place as usize),
-        )?;
+        let set = live.before.at(*place as usize);
+        join_set(alloc, joined, moved, numbers, set)?;
     }
     Ok(())
 }
@@ -118,20 +116,11 @@ pub fn joined_of(
 {
     let flow = flow_of(alloc, mach)?;
     let mut joined = Matrix::new(alloc, size)?;
-    join_params(
-        alloc,
-        &mut joined,
-        mach.params.as_slice(),
-        live.before.at(0),
-    )?;
+    let params = mach.params.as_slice();
+    join_params(alloc, &mut joined, params, live.before.at(0))?;
     for (place, instr) in mach.code.as_slice().iter().enumerate() {
-        join_writes(
-            alloc,
-            &mut joined,
-            move_of(instr),
-            live,
-            &flow.places[place],
-        )?;
+        let node = &flow.places[place];
+        join_writes(alloc, &mut joined, move_of(instr), live, node)?;
     }
     Ok(joined)
 }

@@ -1,6 +1,7 @@
 //! Moves between registers.
 ghost use Rattle.std.specs.Prelude.{◌≡◌};
-ghost use Rattle.interfere.specs.Moves.{is_move_kind, is_move_pure, is_move_op, is_move, move_between, move_of, is_from_to};
+ghost use Rattle.interfere.specs.Moves.{is_move_kind, is_move_pure, is_move_op, is_move, move_between, move_of};
+ghost use Rattle.interfere.specs.Moves.{is_from_to};
 
 use mach_ir::{CopyKind, Instr, MachOp, Op, Pure, Reg};
 
