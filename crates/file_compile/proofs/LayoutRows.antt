@@ -5,7 +5,7 @@ use Rattle.image_form.specs.declared.image.FuncRow.{FuncRow}
 use Rattle.image_form.specs.Tables.{Func, func}
 use Rattle.rv_machine.specs.Memory.{code_start}
 
-drop_past : {A : Type 0} (xs : List A) (k : ℕ) → length xs ≤ k → drop k xs ≡ []
+pub drop_past : {A : Type 0} (xs : List A) (k : ℕ) → length xs ≤ k → drop k xs ≡ []
 drop_past [] zero h = refl
 drop_past [] (suc k) h = refl
 drop_past (x ∷ xs) zero h = absurd (omega arith)

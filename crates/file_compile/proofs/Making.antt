@@ -1,45 +1,61 @@
 -- The functions of a file, made one after the other.
-use Rattle.std.proofs.Common.{◌≡◌, ℕ, zero, suc, ◌<◌, List, [], ◌∷◌, ◌++◌, Some, length, refl, subst, sym, arith}
-use Rattle.std.specs.Prelude.{slice_get}
+use Rattle.std.proofs.Common.{◌≡◌, ◌≤◌, ◌+◌, ◌++◌, ℕ, zero, suc, List, [], ◌∷◌, All, Bor, length, map, drop, refl, sym, ap, subst, ◌∙◌, append-nil, arith}
+use Rattle.std.proofs.lemmas.List.Elements.{All-nil, All-cons}
+use Rattle.std.specs.Prelude.{Contains}
 use Rattle.std.specs.List.{AllZip}
-use Rattle.cmm_tree.specs.Tree.{FunctionTree}
-use Rattle.made_functions.specs.Files.{IsFunctionMade}
+use Rattle.cmm_tree.specs.Tree.{FunctionTree, FileTree, functions, functions_among}
+use Rattle.cmm_tree.specs.View.{file_view, function_view, item_view}
+use Rattle.bs_words.specs.Contents.{contents}
+use Rattle.cmm_tree.specs.declared.file.File.{File}
+use Rattle.cmm_tree.specs.declared.file.Function.{Function}
+use Rattle.cmm_tree.specs.declared.file.Item.{Item}
+use Rattle.cmm_types.proofs.Containing.{contains_head, contains_tail}
 use Rattle.rv_pieces.specs.declared.piece.Pieces.{Pieces}
+use Rattle.file_compile.specs.Accepted.{IsAcceptedFile, IsAcceptedFunction}
+use Rattle.made_functions.specs.Files.{IsFunctionMade}
+use Rattle.file_compile.proofs.LayoutRows.{drop_past}
 
--- the pieces are made of so many functions, the first ones
-abbrev pub AreMadeSoFar : ℕ → List FunctionTree → List Pieces → Type 0
-AreMadeSoFar zero fs ps = ps ≡ []
-AreMadeSoFar (suc k) (f ∷ fs) (p ∷ ps) = IsFunctionMade f p × AreMadeSoFar k fs ps
-AreMadeSoFar (suc k) _ _ = ⊥
+-- where none is left, all have been made
+pub made_all : {A B : Type 0} (R : A → B → Type 0) (xs : List A) (ys : List B) (k : ℕ) → length xs ≤ k →
+    ((rest : List B) → AllZip R (drop k xs) rest → AllZip R xs (ys ++ rest)) → AllZip R xs ys
+made_all {A} {B} R xs ys k past made =
+    subst (AllZip R xs) (append-nil ys) (made [] (subst (λ (l : List A). AllZip R l []) (sym (drop_past xs k past)) tt))
 
-cons_none : {A : Type 0} (x : A) (xs : List A) → x ∷ xs ≡ [] → ⊥
-cons_none x xs e = cc
+-- of the functions, as of their trees
+pub made_trees : (fs : List (Bor Function)) (ps : List Pieces) → AllZip (λ (f : Bor Function) p. IsFunctionMade (function_view f.now) p) fs ps →
+    AllZip IsFunctionMade (map (λ (f : Bor Function). function_view f.now) fs) ps
+made_trees [] [] made = tt
+made_trees [] (p ∷ ps) made = absurd made
+made_trees (f ∷ fs) [] made = absurd made
+made_trees (f ∷ fs) (p ∷ ps) made = (made.0, made_trees fs ps made.1)
 
-none_below : (k : ℕ) → k < 0 → ⊥
-none_below k less = omega (arith, less)
+-- what is listed of the items of a file are its functions
+pub all_listed : (file : File) (items : List Item) (fs gs : List (Bor Function)) → items ≡ contents file.items → gs ≡ fs →
+    map (λ (f : Bor Function). function_view f.now) fs ≡ functions_among (map item_view items) → map (λ (f : Bor Function). function_view f.now) gs ≡ functions (file_view file)
+all_listed file items fs gs whole same trees =
+    ap (λ (l : List (Bor Function)). map (λ (f : Bor Function). function_view f.now) l) same
+    ∙ trees
+    ∙ ap (λ (l : List Item). functions_among (map item_view l)) whole
 
-no_zero : (n : ℕ) → 0 ≡ suc n → ⊥
-no_zero n e = omega (arith, e)
+-- what is made of what is listed is made of the functions
+pub all_made : (file : File) (items : List Item) (fs gs : List (Bor Function)) (ps qs : List Pieces) → items ≡ contents file.items → gs ≡ fs →
+    map (λ (f : Bor Function). function_view f.now) fs ≡ functions_among (map item_view items) → AllZip IsFunctionMade (map (λ (f : Bor Function). function_view f.now) gs) ps →
+    qs ≡ ps → AllZip IsFunctionMade (functions (file_view file)) qs
+all_made file items fs gs ps qs whole same trees made kept =
+    subst (AllZip IsFunctionMade (functions (file_view file))) (sym kept)
+    (subst (λ (l : List FunctionTree). AllZip IsFunctionMade l ps) (all_listed file items fs gs whole same trees) made)
 
--- and one more
-made_more : (k : ℕ) (fs : List FunctionTree) (ps : List Pieces) → AreMadeSoFar k fs ps → k < length fs → (p : Pieces) →
-    ((tree : FunctionTree) → slice_get fs k ≡ Some tree → IsFunctionMade tree p) → AreMadeSoFar (suc k) fs (ps ++ (p ∷ []))
-made_more zero [] ps made less p each = absurd (none_below 0 less)
-made_more zero (f ∷ fs) [] made less p each = (each f refl, refl)
-made_more zero (f ∷ fs) (q ∷ ps) made less p each = absurd (cons_none q ps made)
-made_more (suc k) [] ps made less p each = absurd made
-made_more (suc k) (f ∷ fs) [] made less p each = absurd made
-made_more (suc k) (f ∷ fs) (q ∷ ps) made less p each = (made.0, made_more k fs ps made.1 (omega (arith, less)) p each)
+module _ (file : FileTree) (accepted : IsAcceptedFile file) where
+  each_accepted : (fs : List (Bor Function)) → ((tree : FunctionTree) → Contains (map (λ (f : Bor Function). function_view f.now) fs) tree → Contains (functions file) tree) →
+      All (λ (f : Bor Function). IsAcceptedFunction (function_view f.now)) fs
+  each_accepted [] among = All-nil (λ (f : Bor Function). IsAcceptedFunction (function_view f.now))
+  each_accepted (f ∷ fs) among =
+      let trees : List FunctionTree = map (λ (g : Bor Function). function_view g.now) fs in
+      All-cons (λ (g : Bor Function). IsAcceptedFunction (function_view g.now)) f fs
+      (record { file = file; of_file = accepted; among = among (function_view f.now) (contains_head (function_view f.now) trees) })
+      (each_accepted fs (λ tree c. among tree (contains_tail (function_view f.now) trees tree c)))
 
-pub made_next : (k n : ℕ) (fs : List FunctionTree) (ps qs : List Pieces) (p : Pieces) → AreMadeSoFar k fs ps → k < length fs → n ≡ suc k → qs ≡ ps ++ (p ∷ []) →
-    ((tree : FunctionTree) → slice_get fs k ≡ Some tree → IsFunctionMade tree p) → AreMadeSoFar n fs qs
-made_next k n fs ps qs p made less next more each =
-    subst (λ (m : ℕ). AreMadeSoFar m fs qs) (sym next) (subst (λ (xs : List Pieces). AreMadeSoFar (suc k) fs xs) (sym more) (made_more k fs ps made less p each))
-
-pub made_all : (k : ℕ) (fs : List FunctionTree) (ps : List Pieces) → AreMadeSoFar k fs ps → k ≡ length fs → AllZip IsFunctionMade fs ps
-made_all zero [] [] made e = tt
-made_all zero [] (p ∷ ps) made e = absurd (cons_none p ps made)
-made_all zero (f ∷ fs) ps made e = absurd (no_zero (length fs) e)
-made_all (suc k) [] ps made e = absurd made
-made_all (suc k) (f ∷ fs) [] made e = absurd made
-made_all (suc k) (f ∷ fs) (p ∷ ps) made e = (made.0, made_all k fs ps made.1 (omega (arith, e)))
+  -- each function of an accepted file is one of it
+  pub all_accepted : (fs : List (Bor Function)) → map (λ (f : Bor Function). function_view f.now) fs ≡ functions file →
+      All (λ (f : Bor Function). IsAcceptedFunction (function_view f.now)) fs
+  all_accepted fs same = each_accepted fs (λ tree c. subst (λ (l : List FunctionTree). Contains l tree) same c)

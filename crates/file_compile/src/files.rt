@@ -1,54 +1,55 @@
 //! All functions, and their image.
-ghost use Rattle.std.specs.Prelude.{◌≡◌, length, map, None, Some, Err, IfOk};
+ghost use Rattle.std.specs.Prelude.{◌≡◌, All, map, None, Some, Err, IfOk};
 ghost use Rattle.std.specs.List.{AllZip};
 ghost use Rattle.bs_fault.specs.declared.large.Large.{Large};
 ghost use Rattle.cmm_front.specs.FileOf.{HasPlace, HoldsTypes, tree_of};
-ghost use Rattle.cmm_tree.specs.Tree.{functions, functions_among};
-ghost use Rattle.cmm_tree.specs.View.{item_view};
+ghost use Rattle.cmm_tree.specs.Tree.{functions_among};
+ghost use Rattle.cmm_tree.specs.View.{function_view, item_view};
+ghost use Rattle.cmm_types.specs.Typing.{AreItemsAnnotated, IsFunctionAnnotated};
 ghost use Rattle.cmm_walks.specs.Checked.{typed_of};
 ghost use Rattle.image_form.specs.Image.{IsImage};
 ghost use Rattle.image_form.specs.Tables.{Tables, tables};
 ghost use Rattle.layout_rules.specs.TooLarge.{first_too_large};
 ghost use Rattle.made_functions.specs.Files.{IsFunctionMade, IsMadeFor};
-ghost use Rattle.file_compile.specs.Accepted.{IsAcceptedFile};
+ghost use Rattle.file_compile.specs.Accepted.{IsAcceptedFile, IsAcceptedFunction};
 
 use crate::passes::function_pieces;
 use assemble::assemble;
 use bs_fault::BuildError;
 use cmm_data::place_data;
-use cmm_tree::Item;
+use cmm_tree::{Function, Item};
 use cmm_walks::Checked;
 use image_form::Image;
 use rv_pieces::Pieces;
 use std::alloc::{AllocError, Global};
 
-/// How many functions a file has. No memory holds so many that there is no number.
-fn count_functions(items: &[Item]) -> Result<u32, AllocError>
-    ensures { IfOk result (λ count. count ≡ length (functions_among (map item_view items.now))) }
+/// The functions among these items, in the order of the text.
+fn functions_of(alloc: Global, items: &[Item]) -> Result<Vec<&Function>, AllocError>
+    requires { AreItemsAnnotated items.now }
+    ensures trees { IfOk result (λ functions. map (λ f. function_view f.now) functions.items ≡
+        functions_among (map item_view items.now)) }
+    ensures typed { IfOk result (λ functions. All (λ f. IsFunctionAnnotated f.now) functions.items) }
 {
-    let mut count: u32 = 0;
+    let mut functions = Vec::new(alloc);
     for item in items {
         match item {
-            Item::Function(_) => {
-                count = count.checked_add(1).ok_or(AllocError)?;
-            }
+            Item::Function(function) => functions.push(function)?,
             Item::Data(_) => {}
         }
     }
-    Ok(count)
+    Ok(functions)
 }
 
-/// The pieces of all functions, in the order of the text.
-fn all_pieces(alloc: Global, checked: &Checked, count: u32) -> Result<Vec<Pieces>, AllocError>
-    requires typed { HoldsTypes (typed_of checked.now) }
-    requires accepted { IsAcceptedFile (tree_of (typed_of checked.now)) }
-    requires count { count ≡ length (functions (tree_of (typed_of checked.now))) }
-    ensures { IfOk result (λ pieces.
-        AllZip IsFunctionMade (functions (tree_of (typed_of checked.now))) pieces.items) }
+/// The pieces of each of these functions, in their order.
+fn all_pieces(alloc: Global, functions: &[&Function]) -> Result<Vec<Pieces>, AllocError>
+    requires typed { All (λ f. IsFunctionAnnotated f.now) functions.now }
+    requires accepted { All (λ f. IsAcceptedFunction (function_view f.now)) functions.now }
+    ensures { IfOk result (λ pieces. AllZip IsFunctionMade (map (λ f. function_view f.now)
+        functions.now) pieces.items) }
 {
     let mut pieces = Vec::new(alloc);
-    for function in 0..count {
-        pieces.push(function_pieces(alloc, checked, function)?)?;
+    for function in functions {
+        pieces.push(function_pieces(alloc, function)?)?;
     }
     Ok(pieces)
 }
@@ -72,8 +73,8 @@ pub fn compile(alloc: Global, checked: &Checked) -> Result<Image, BuildError>
         → (t : Tables) × (IsMadeFor (tree_of (typed_of checked.now)) t × (first_too_large t ≡ Some large)) }
 {
     let file = checked.typed().file();
-    let count = count_functions(file.items.as_slice())?;
-    let pieces = all_pieces(alloc, checked, count)?;
+    let functions = functions_of(alloc, file.items.as_slice())?;
+    let pieces = all_pieces(alloc, functions.as_slice())?;
     let placed = place_data(alloc, file)?;
     assemble(alloc, pieces.as_slice(), checked.typed(), &placed)
 }

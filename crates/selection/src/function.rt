@@ -126,8 +126,12 @@ fn put_params(
     given.to_seq(alloc)
 }
 
-/// The Mach function of a function.
-fn selected(alloc: Global, function: &Function) -> Result<Mach, AllocError>
+/// The Mach function of a function whose tree holds its types.
+///
+/// # Errors
+///
+/// Where memory is used up. That a number of registers and labels passes 32 bits counts as that.
+pub fn select_function(alloc: Global, function: &Function) -> Result<Mach, AllocError>
     requires { IsFunctionAnnotated function.now }
     ensures { IfOk result (λ mach. mach ≡ selected (function_view function.now)) }
 {
@@ -159,7 +163,7 @@ pub fn select(alloc: Global, checked: &Checked, function: u32) -> Result<Mach, A
 {
     let items = checked.typed().file().items.as_slice();
     match function_at(items, function) {
-        Some(function) => selected(alloc, function),
+        Some(function) => select_function(alloc, function),
         None => unreachable!(),
     }
 }

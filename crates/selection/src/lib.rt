@@ -13,4 +13,4 @@ mod memory;
 mod operands;
 mod scoping;
 
-pub use function::select;
+pub use function::{select, select_function};

@@ -1,20 +1,12 @@
-use Rattle.std.proofs.Common.{◌+◌, arith}
-use Rattle.cmm_front.specs.FileOf.{tree_of}
-use Rattle.cmm_tree.specs.Tree.{functions}
-use Rattle.cmm_walks.specs.Checked.{typed_of}
-use Rattle.file_compile.proofs.Making.{made_all, made_next}
+use Rattle.std.proofs.Common.{Bor, arith}
+use Rattle.cmm_tree.specs.View.{function_view}
+use Rattle.cmm_tree.specs.declared.file.Function.{Function}
+use Rattle.made_functions.specs.Files.{IsFunctionMade}
+use Rattle.file_compile.proofs.Making.{made_all, made_trees}
 use Rattle.file_compile.proofs.files.all_pieces.Goals as goal
-
-pub loop-function-init : goal.loop-function-init
-loop-function-init c = c.new-pieces.ensures.items
-
-pub loop-function-preserved : goal.loop-function-preserved
-loop-function-preserved c =
-    made_next c.loop-function.function (c.loop-function.function + 1) (functions (tree_of (typed_of c.args.checked.now))) c.loop-function.pieces.items c.push.new.self.items
-    c.in_ok-function_pieces.field-0 c.loop-function.invariant (omega (arith, c.requires.count, c.loop-function-test.true)) (omega arith) c.in_ok-push.ensures.items
-    c.in_ok-function_pieces.ensures
 
 pub returns : goal.returns
 returns c =
-    made_all c.loop-function.function (functions (tree_of (typed_of c.args.checked.now))) c.loop-function.pieces.items c.loop-function.invariant
-    (omega (arith, c.requires.count, c.loop-function-test.false, c.loop-function.auto.function-end))
+    made_trees c.args.functions.now c.loop-function.pieces.items
+    (made_all (λ (f : Bor Function) made. IsFunctionMade (function_view f.now) made) c.args.functions.now c.loop-function.pieces.items c.loop-function.function-index
+    (omega (arith, c.loop-function-test.false)) c.loop-function.invariant)

@@ -1,6 +1,6 @@
 use Rattle.std.proofs.Common.{◌∙◌}
 use Rattle.selection.proofs.Whole.{mach-is}
-use Rattle.selection.proofs.function.selected.Goals as goal
+use Rattle.selection.proofs.function.select_function.Goals as goal
 
 pub returns : goal.returns
 returns c =
