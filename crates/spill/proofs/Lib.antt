@@ -1,0 +1,5 @@
+mod Making
+mod Copying
+mod Places
+mod LostFlow
+mod Loops
