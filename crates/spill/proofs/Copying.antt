@@ -1,8 +1,7 @@
 -- The code of a function with its stores and reloads, made from its end.
-use Rattle.std.proofs.Common.{◌≡◌, ℕ, suc, ◌+◌, ◌-◌, List, [], ◌∷◌, ◌++◌, length, refl, sym, ap, ◌∙◌, append_assoc, arith}
+use Rattle.std.proofs.Common.{◌≡◌, ℕ, ◌+◌, ◌-◌, List, [], ◌∷◌, ◌++◌, length, sym, ap, ◌∙◌, append_assoc, arith}
 use Rattle.std.proofs.lemmas.List.{append-nil, length-append}
 use Rattle.mach_ir.specs.declared.mach.Instr.{Instr}
-use Rattle.mach_laws.specs.Expand.{expand}
 use Rattle.spill.specs.Copies.{instr_at, code_at}
 use Rattle.spill.specs.declared.tables.Tables.{Tables}
 

@@ -1,5 +1,7 @@
 mod Making
 mod Copying
-mod Places
+mod Steps
 mod LostFlow
+mod WantedFlow
 mod Loops
+mod Choosing

@@ -1,20 +1,20 @@
 -- The nodes of the two graphs, made from the end of the text.
-use Rattle.std.proofs.Common.{◌≡◌, ◌↔◌, ℕ, zero, suc, ◌+◌, ◌-◌, ◌<◌, ◌≤◌, Bool, true, List, [], ◌∷◌, ◌++◌, map, length, drop, refl, sym, ap, ◌∙◌, subst, arith}
+use Rattle.std.proofs.Common.{◌≡◌, ◌↔◌, ℕ, zero, suc, ◌-◌, ◌<◌, ◌≤◌, Bool, true, List, [], ◌∷◌, ◌++◌, map, length, drop, refl, sym, ap, ◌∙◌, subst, arith}
 use Rattle.std.proofs.Math.Seq.{drop-length}
 use Rattle.std.specs.List.{Contains}
 use Rattle.std.specs.Prelude.{slice_index_or}
 use Rattle.bs_words.specs.Contents.{contents}
-use Rattle.dataflow.specs.Flow.{graph}
 use Rattle.dataflow.specs.declared.flow.Flow as flow
 use Rattle.dataflow.specs.declared.flow.Place as place
 use Rattle.mach_ir.specs.Meaning.{destroyed_by, written}
 use Rattle.mach_ir.specs.declared.mach.Instr.{Instr}
 use Rattle.mach_ir.specs.declared.mach.Mach.{Mach}
+use Rattle.mach_laws.proofs.Walking.{none_in}
 use Rattle.mach_laws.specs.Graph.{place_of, numbers, next_places, raise_places, numbers_read, numbers_written, IsFlowOf}
 use Rattle.liveness.specs.Nodes.{IsNode}
 use Rattle.liveness.proofs.Lists.{place_here, place_next}
 use Rattle.spill_rules.specs.Chosen.{destroys}
-use Rattle.spill.specs.Graphs.{IsLivingOver, IsMadeBefore, IsLostPlace, IsLostNode, AreLostNodes, at_end, before, reloaded_among, reloaded_before, wanted_uses, IsWantedPlace}
+use Rattle.spill.specs.Graphs.{IsBare, IsLivingOver, IsLostPlace, IsLostNode, AreLostNodes, at_end, before, reloaded_among, wanted_uses, IsWantedPlace}
 
 module _ (m : Mach) (old : flow.Flow) (is : IsFlowOf m old) where
   item_part : (part : place.Place → List ℕ) (xs : List place.Place) (p : ℕ) (x : place.Place) → p < length xs → x ≡ slice_index_or xs p x →
@@ -74,15 +74,27 @@ module _ (m : Mach) (old : flow.Flow) (is : IsFlowOf m old) where
           writes = h.writes ∙ writes_is;
         }
 
+pub bare_wanted : (m : Mach) (lost : List (List Bool)) (last : place.Place) → IsBare last → IsNode m (wanted_uses m lost) [] last
+bare_wanted m lost last h = record { next = h.next; aside = h.aside; reads = h.reads; writes = h.writes }
+
 module _ (m : Mach) (rows : List (List Bool)) (bound : ℕ) where
   none_left : (k : ℕ) → k ≡ length m.code → drop k m.code ≡ []
   none_left k e = ap (λ k. drop k m.code) e ∙ drop-length m.code
 
-  pub lost_begun : (k : ℕ) (last : place.Place) (old nodes : List place.Place) → k ≡ length m.code → IsLostNode m rows bound [] last →
+  bare_lost : (last : place.Place) → IsBare last → IsLostNode m rows bound [] last
+  bare_lost last h =
+      record {
+        next = h.next;
+        aside = h.aside;
+        reads = λ n. (λ c. none_in n (subst (λ xs. Contains xs n) h.reads c), λ z. absurd z);
+        writes = h.writes;
+      }
+
+  pub lost_begun : (k : ℕ) (last : place.Place) (old nodes : List place.Place) → k ≡ length m.code → IsBare last →
       old ≡ [] → nodes ≡ last ∷ old → AreLostNodes m rows bound (drop k m.code) nodes
   lost_begun k last old nodes e node none made =
       subst (λ rest. AreLostNodes m rows bound rest nodes) (sym (none_left k e))
-      (subst (AreLostNodes m rows bound []) (sym (made ∙ ap (λ xs. last ∷ xs) none)) (at_end node))
+      (subst (AreLostNodes m rows bound []) (sym (made ∙ ap (λ xs. last ∷ xs) none)) (at_end (bare_lost last node)))
 
   pub lost_more : (left : ℕ) (i : Instr) (node : place.Place) (old new : List place.Place) → drop (left - 1) m.code ≡ i ∷ drop left m.code →
       AreLostNodes m rows bound (drop left m.code) old → IsLostNode m rows bound (i ∷ drop left m.code) node → new ≡ node ∷ old →

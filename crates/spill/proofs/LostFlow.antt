@@ -1,5 +1,5 @@
 -- What reaches a place in the graph of lost registers is what is lost there.
-use Rattle.std.proofs.Common.{◌≡◌, ◌↔◌, ℕ, zero, suc, ◌+◌, ◌-◌, ◌<◌, ◌≤◌, Bool, true, false, ◌⊎◌, inl, inr, ⊎_elim, List, [], ◌∷◌, ◌++◌, map, length, drop, refl, sym, ap, ◌∙◌, subst, arith}
+use Rattle.std.proofs.Common.{◌≡◌, ℕ, zero, suc, ◌<◌, ◌≤◌, Bool, true, ◌⊎◌, inl, inr, ⊎_elim, List, [], ◌∷◌, ◌++◌, map, length, drop, refl, sym, ap, ◌∙◌, subst, arith}
 use Rattle.std.specs.List.{All, Contains}
 use Rattle.std.specs.Prelude.{slice_index_or}
 use Rattle.bs_words.specs.Contents.{contents}
@@ -11,7 +11,7 @@ use Rattle.dataflow.specs.declared.flow.Place as place
 use Rattle.mach_ir.specs.Acts.{Target, On}
 use Rattle.mach_ir.specs.Graph.{IsLiveMap}
 use Rattle.mach_ir.specs.Meaning.{destroyed_by, code_at, written}
-use Rattle.mach_ir.specs.Walks.{Among, OneOf, targets, goes, Leads, Live, Writes, Stands}
+use Rattle.mach_ir.specs.Walks.{OneOf, targets, goes, Leads, Live, Writes, Stands}
 use Rattle.mach_ir.specs.declared.graph.LiveMap.{LiveMap}
 use Rattle.mach_ir.specs.declared.mach.Instr.{Instr}
 use Rattle.mach_ir.specs.declared.mach.Mach.{Mach}
@@ -21,11 +21,11 @@ use Rattle.mach_laws.proofs.Places.{ending_next}
 use Rattle.mach_laws.proofs.Walking.{none_in, place_is}
 use Rattle.places_rules.proofs.Walked.{stands_of}
 use Rattle.liveness.proofs.Bounds.{no_items, split_in}
-use Rattle.spill_rules.specs.Chosen.{destroys, LivesOver, lives, Lost, over, still}
-use Rattle.spill.specs.Graphs.{LivesAt, IsMadeBefore, IsLostNode, AreLostNodes, at_end, before}
+use Rattle.spill_rules.specs.Chosen.{destroys, lives, Lost, over, still}
+use Rattle.spill.specs.Graphs.{IsMadeBefore, IsLostNode, AreLostNodes, at_end, before}
 use Rattle.spill.specs.Tables.{AreLost}
 use Rattle.spill.proofs.Making.{left_in, right_in}
-use Rattle.spill.proofs.Places.{ending_of, member, each, among_of, in_numbers, destroys_on, place_back, place_within, ending_place, Steps, steps_of, steps_to, leads_ending, IsSmall, IsWithin, next_within, reads_small, writes_small, live_small}
+use Rattle.spill.proofs.Steps.{ending_of, member, each, among_of, in_numbers, destroys_on, place_back, place_within, ending_place, Steps, steps_of, steps_to, leads_ending, IsWithin, next_within, reads_small, writes_small, live_small}
 
 module _ (m : Mach) (live : LiveMap) (exact : IsLiveMap m live) (old : flow.Flow) (is : IsFlowOf m old) (formed : flows.WellFormed old) where
   abbrev rows : List (List Bool)

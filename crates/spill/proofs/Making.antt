@@ -1,5 +1,5 @@
 -- The numbers that live over an instruction, one after the other.
-use Rattle.std.proofs.Common.{◌≡◌, ℕ, suc, ◌+◌, ◌<◌, Bool, true, false, ◌⊎◌, inl, inr, ⊎_elim, List, [], ◌∷◌, ◌++◌, refl, sym, ap, ◌∙◌, subst, arith}
+use Rattle.std.proofs.Common.{◌≡◌, ℕ, ◌+◌, ◌<◌, Bool, true, false, ◌⊎◌, inl, inr, ⊎_elim, List, [], ◌∷◌, ◌++◌, sym, subst, arith}
 use Rattle.std.proofs.lemmas.Bool.{cases_lt}
 use Rattle.std.specs.List.{Contains}
 use Rattle.mach_laws.proofs.Walking.{none_in, first_in, later_in, in_cons}
@@ -42,13 +42,13 @@ module _ (rows : List (List Bool)) (after : ℕ) (written : List ℕ) where
       made ≡ found ++ k ∷ [] → AreLivingOver rows after (k + 1) written made
   over_taken k found made old lives e = λ n. (
     λ c.
-    ⊎_elim (λ h. let x = (old n).0 h in (more n k x.0, x.1))
-    (λ h. ⊎_elim (λ s. (last n k s, subst (LivesAt rows after written) s lives)) (λ d. absurd (none_in n d)) (in_cons k n [] h))
-    (split_in found (k ∷ []) n (subst (λ xs. Contains xs n) e c)),
+        ⊎_elim (λ h. let x = (old n).0 h in (more n k x.0, x.1))
+        (λ h. ⊎_elim (λ s. (last n k s, subst (LivesAt rows after written) s lives)) (λ d. absurd (none_in n d)) (in_cons k n [] h))
+        (split_in found (k ∷ []) n (subst (λ xs. Contains xs n) e c)),
     λ h.
-    subst (λ xs. Contains xs n) (sym e)
-    (⊎_elim (λ lt. left_in found (k ∷ []) n ((old n).1 (lt, h.1)))
-    (λ s. right_in found (k ∷ []) n (subst (λ n. Contains (k ∷ []) n) (sym s) (first_in k []))) (below_or n k h.0)),
+        subst (λ xs. Contains xs n) (sym e)
+        (⊎_elim (λ lt. left_in found (k ∷ []) n ((old n).1 (lt, h.1)))
+        (λ s. right_in found (k ∷ []) n (subst (λ n. Contains (k ∷ []) n) (sym s) (first_in k []))) (below_or n k h.0)),
   )
 
   pub over_passed : (k : ℕ) (found : List ℕ) → AreLivingOver rows after k written found → (LivesAt rows after written k → ⊥) →
@@ -56,8 +56,8 @@ module _ (rows : List (List Bool)) (after : ℕ) (written : List ℕ) where
   over_passed k found old not_here = λ n. (
     λ c. let x = (old n).0 c in (more n k x.0, x.1),
     λ h.
-    ⊎_elim (λ lt. (old n).1 (lt, h.1)) (λ s. absurd (not_here (subst (LivesAt rows after written) s h.1)))
-    (below_or n k h.0),
+        ⊎_elim (λ lt. (old n).1 (lt, h.1)) (λ s. absurd (not_here (subst (LivesAt rows after written) s h.1)))
+        (below_or n k h.0),
   )
 
   pub made_over : (bound : ℕ) (f : MachOp) (found : List ℕ) → true ≡ destroys (destroyed_by f) →

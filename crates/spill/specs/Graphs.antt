@@ -14,6 +14,13 @@ use Rattle.liveness.specs.Nodes.{Uses}
 use Rattle.spill_rules.specs.Chosen.{destroys}
 use Rattle.spill.specs.Tables.{is_open}
 
+-- a place that leads nowhere, and reads and writes nothing
+pub record IsBare (x : place.Place) : Type 0 where
+  pub next : contents x.next ≡ []
+  pub aside : contents x.aside ≡ []
+  pub reads : contents x.reads ≡ []
+  pub writes : contents x.writes ≡ []
+
 -- ---- what is lost
 
 -- a number that is live at the place after an instruction, and not written there

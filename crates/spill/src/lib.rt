@@ -8,6 +8,7 @@
 mod copies;
 mod lists;
 mod lost;
+mod places;
 mod spilling;
 mod tables;
 mod wanted;

@@ -1,14 +1,15 @@
 //! Which registers are lost before each place.
-ghost use Rattle.std.specs.Prelude.{◌↔◌, ◌≡◌, [], IsTrue, IfOk};
+ghost use Rattle.std.specs.Prelude.{◌↔◌, ◌≡◌, IsTrue, IfOk};
 ghost use Rattle.dataflow.specs.Flow.{WellFormed};
 ghost use Rattle.mach_ir.specs.Graph.{IsLiveMap};
 ghost use Rattle.mach_ir.specs.Meaning.{destroyed_by};
 ghost use Rattle.mach_laws.specs.Graph.{IsFlowOf};
 ghost use Rattle.spill_rules.specs.Chosen.{destroys};
-ghost use Rattle.spill.specs.Graphs.{LivesAt, AreLivingOver, AreMade, IsLostPlace, IsLostNode, AreLostNodes};
+ghost use Rattle.spill.specs.Graphs.{LivesAt, AreLivingOver, AreMade, IsLostPlace, AreLostNodes};
 ghost use Rattle.spill.specs.Tables.{AreLost};
 
 use crate::lists::{copy_of, is_among, joined};
+use crate::places::bare_place;
 use bs_words::List;
 use dataflow::{Flow, Place, Rows, reaching};
 use liveness::Backward;
@@ -138,18 +139,6 @@ fn lost_place(
     })
 }
 
-/// The place after the last instruction.
-fn last_place(alloc: Global, mach: &Mach, live: &LiveMap, bound: u32) -> Place
-    ensures { IsLostNode mach.now live.now.before.rows.items bound [] result }
-{
-    Place {
-        next: List::new(alloc),
-        aside: List::new(alloc),
-        reads: List::new(alloc),
-        writes: List::new(alloc),
-    }
-}
-
 /// All places of the graph.
 fn lost_places(
     alloc: Global,
@@ -163,7 +152,7 @@ fn lost_places(
 {
     let code = mach.code.as_slice();
     let mut nodes = Backward::new(alloc);
-    nodes.push(last_place(alloc, mach, live, flow.bound))?;
+    nodes.push(bare_place(alloc))?;
     let mut left = code.len();
     while left > 0 {
         let after = left;

@@ -23,11 +23,7 @@ fn tables_of(alloc: Global, mach: &Mach, live: &LiveMap) -> Result<Tables, Alloc
     let flow = flow_of(alloc, mach)?;
     let lost = lost(alloc, mach, live, &flow)?;
     let wanted = wanted(alloc, mach, &lost, &flow)?;
-    Ok(Tables {
-        free,
-        lost,
-        wanted,
-    })
+    Ok(Tables { free, lost, wanted })
 }
 
 /// The function in which each register whose place is open and that lives over a call has a slot.

@@ -1,15 +1,16 @@
 //! Which registers are wanted before each place.
-ghost use Rattle.std.specs.Prelude.{◌≡◌, ◌&&◌, [], length, IfOk};
+ghost use Rattle.std.specs.Prelude.{◌≡◌, ◌&&◌, IfOk};
 ghost use Rattle.bs_bits.specs.Set.{has};
 ghost use Rattle.dataflow.specs.Flow.{WellFormed};
 ghost use Rattle.dataflow.specs.Rows.{row};
-ghost use Rattle.liveness.specs.Nodes.{IsNode, AreNodes};
+ghost use Rattle.liveness.specs.Nodes.{AreNodes};
 ghost use Rattle.mach_ir.specs.Formed as well;
 ghost use Rattle.mach_laws.specs.Graph.{IsFlowOf};
 ghost use Rattle.spill.specs.Graphs.{reloaded_among, wanted_uses, IsWantedPlace};
 ghost use Rattle.spill.specs.Tables.{is_open, AreLost, AreWanted};
 
 use crate::lists::copy_of;
+use crate::places::bare_place;
 use crate::tables::is_open;
 use bs_words::List;
 use dataflow::{Flow, Place, Rows, live};
@@ -25,7 +26,12 @@ pub fn is_reloaded(lost: &Rows, place: usize, reg: &Reg) -> bool
 }
 
 /// The numbers of the operands that are reloaded at the place.
-fn reloaded_among(alloc: Global, lost: &Rows, place: usize, args: &[Reg]) -> Result<Vec<u32>, AllocError>
+fn reloaded_among(
+    alloc: Global,
+    lost: &Rows,
+    place: usize,
+    args: &[Reg],
+) -> Result<Vec<u32>, AllocError>
     ensures { IfOk result (λ found. found.items ≡ reloaded_among lost.now.rows.items place args.now) }
 {
     let mut found = Vec::new(alloc);
@@ -59,18 +65,6 @@ fn wanted_place(
     })
 }
 
-/// The place after the last instruction.
-fn last_place(alloc: Global, mach: &Mach, lost: &Rows) -> Place
-    ensures { IsNode mach.now (wanted_uses mach.now lost.now.rows.items) [] result }
-{
-    Place {
-        next: List::new(alloc),
-        aside: List::new(alloc),
-        reads: List::new(alloc),
-        writes: List::new(alloc),
-    }
-}
-
 /// All places of the graph.
 fn wanted_places(
     alloc: Global,
@@ -84,7 +78,7 @@ fn wanted_places(
 {
     let code = mach.code.as_slice();
     let mut nodes = Backward::new(alloc);
-    nodes.push(last_place(alloc, mach, lost))?;
+    nodes.push(bare_place(alloc))?;
     let mut left = code.len();
     while left > 0 {
         left -= 1;

@@ -11,8 +11,8 @@ loop-left-init c =
     let end : length c.as_slice-code.result.now ≡ length m.code = ap length c.as_slice-code.ensures in
     record {
       within = omega (arith, end);
-      nodes = lost_begun m c.args.live.now.before.rows.items c.args.flow.now.bound (length c.as_slice-code.result.now) c.last_place.result
-          c.new-nodes.result c.push.new.self end c.last_place.ensures c.new-nodes.ensures c.in_ok-push.ensures;
+      nodes = lost_begun m c.args.live.now.before.rows.items c.args.flow.now.bound (length c.as_slice-code.result.now) c.bare_place.result
+          c.new-nodes.result c.push.new.self end c.bare_place.ensures c.new-nodes.ensures c.in_ok-push.ensures;
     }
 
 pub loop-left-preserved : goal.loop-left-preserved

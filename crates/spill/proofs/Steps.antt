@@ -1,5 +1,5 @@
 -- Places of a function and where they lead, as lists of numbers.
-use Rattle.std.proofs.Common.{◌≡◌, ℕ, zero, suc, ◌+◌, ◌-◌, ◌<◌, ◌≤◌, Bool, true, false, ◌⊎◌, inl, inr, ⊎_elim, List, [], ◌∷◌, ◌++◌, map, length, drop, refl, sym, ap, ◌∙◌, subst, arith}
+use Rattle.std.proofs.Common.{◌≡◌, ℕ, zero, suc, ◌-◌, ◌<◌, ◌≤◌, Bool, true, false, ⊎_elim, List, [], ◌∷◌, map, length, drop, refl, sym, ap, ◌∙◌, subst, arith}
 use Rattle.std.proofs.lemmas.List.{length-drop}
 use Rattle.std.proofs.lemmas.List.Elements.{Contains-get_or}
 use Rattle.std.specs.List.{All, Contains}
@@ -9,10 +9,9 @@ use Rattle.dataflow.specs.Flow.{Graph, graph, IsPlace}
 use Rattle.dataflow.specs.Flow as flows
 use Rattle.dataflow.specs.declared.flow.Flow as flow
 use Rattle.dataflow.specs.declared.flow.Place as place
-use Rattle.mach_ir.specs.Acts.{Target, On, At}
-use Rattle.mach_ir.specs.Meaning.{destroyed_by, code_at, from_handler, tries_at, written}
+use Rattle.mach_ir.specs.Acts.{Target, On}
+use Rattle.mach_ir.specs.Meaning.{destroyed_by, code_at, from_handler, tries_at}
 use Rattle.mach_ir.specs.Walks.{Among, first, later, OneOf, this, other, next_if, targets, may_raise, goes, raises, Leads, Raises, Live, read, on, aside, Stands, here, below}
-use Rattle.mach_ir.specs.declared.mach.Mark.{Mark}
 use Rattle.mach_ir.specs.declared.mach.Mark.TheVariants as mark
 use Rattle.mach_ir.specs.declared.mach.MachOp.{MachOp}
 use Rattle.mach_ir.specs.declared.mach.MachOp.TheVariants as mach
@@ -23,10 +22,8 @@ use Rattle.mach_laws.specs.Expand.{Ending, all, more}
 use Rattle.mach_laws.specs.Graph.{place_of, numbers, handler_places, next_places, raise_places, numbers_read, numbers_written, IsFlowOf}
 use Rattle.mach_laws.proofs.Places.{ending_from_handler}
 use Rattle.mach_laws.proofs.Walking.{none_in, first_in, later_in, in_cons, ending_at, place_is, ending_drop}
-use Rattle.places_rules.proofs.Walked.{stands_of}
 use Rattle.liveness.proofs.Bounds.{no_items}
 use Rattle.spill_rules.specs.Chosen.{destroys}
-use Rattle.spill.proofs.Making.{not_both}
 
 pub ending_of : {i : Instr} {next code : List Instr} → Stands i next code → Ending (i ∷ next) code
 ending_of here = all
