@@ -36,10 +36,9 @@ fn tables_of(alloc: Global, mach: &Mach, live: &LiveMap) -> Result<Tables, Alloc
 /// The time is that of a sweep over the function for each depth of its loops and two more, twice. The
 /// only error is want of memory, which more places or registers than a number can count are too.
 pub fn spill(alloc: Global, mach: Mach, live: &LiveMap) -> Result<Mach, AllocError>
-    requires formed { WellFormed mach }
-    requires live { IsLiveMap mach live.now }
-    ensures spilled { IfOk result (IsSpilled mach) }
-    ensures kept { IfOk result (λ made. WellPlaced mach → ParamsPlaced mach →
+    requires { IsLiveMap mach live.now }
+    ensures spilled { IfOk result (λ made. WellFormed mach → IsSpilled mach made) }
+    ensures kept { IfOk result (λ made. WellFormed mach → WellPlaced mach → ParamsPlaced mach →
         (s : IsSpilled mach made) → IsChosenKept mach made s.plan) }
 {
     let tables = tables_of(alloc, &mach, live)?;
