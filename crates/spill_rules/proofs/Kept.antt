@@ -192,16 +192,29 @@ module _ (m : Mach) (plan : Plan) (formed : WellFormed m) (placed : WellPlaced m
     own : w ≡ r → Which w r
     slotted : in_slot plan w ≡ r → Which w r
 
+  pub data IsCopiedAt (n : ℕ) : Type 0 where
+    by_reload : (k : ℕ) → plan.reloads k n ≡ true → IsCopiedAt n
+    by_spill : (k : ℕ) → plan.spills k n ≡ true → IsCopiedAt n
+
   pub record WasRegister (r : Reg) : Type 0 where
     pub register : Reg
     pub among : IsRegister m register
     pub which : Which register r
     -- only an open register has a slot
     pub unset : in_slot plan register ≡ r → register.loc ≡ loc.Unset
+    -- and one that is copied somewhere
+    pub copied : in_slot plan register ≡ r → IsCopiedAt register.number
 
   -- a register of the first is no slot of another
   not_its_slot : (r : Reg) → IsRegister m r → in_slot plan r ≡ r → r.loc ≡ loc.Unset
   not_its_slot r i e = absurd (is.fresh r i r.number (ap (λ (x : Reg). x.number) e))
+
+  not_copied : (r : Reg) → IsRegister m r → in_slot plan r ≡ r → IsCopiedAt r.number
+  not_copied r i e = absurd (is.fresh r i r.number (ap (λ (x : Reg). x.number) e))
+
+  itself_was : (r : Reg) → IsRegister m r → WasRegister r
+  itself_was r i =
+      record { register = r; among = i; which = own refl; unset = not_its_slot r i; copied = not_copied r i }
 
   in_append : {r : Reg} (xs ys : List Instr) → InCode r (xs ++ ys) → InCode r xs ⊎ InCode r ys
   in_append [] ys c = inr c
@@ -225,6 +238,7 @@ module _ (m : Mach) (plan : Plan) (formed : WellFormed m) (placed : WellPlaced m
             among = known w (first_in w rs);
             which = slotted (of_one (in_slot plan w) r d);
             unset = λ e. is.reloads_open w (known w (first_in w rs)) k t;
+            copied = λ e. by_reload k t;
           }
       one t (in_results d) ih =
           record {
@@ -232,6 +246,7 @@ module _ (m : Mach) (plan : Plan) (formed : WellFormed m) (placed : WellPlaced m
             among = known w (first_in w rs);
             which = own (of_one w r d);
             unset = λ e. is.reloads_open w (known w (first_in w rs)) k t;
+            copied = λ e. by_reload k t;
           }
       one t (further d) ih = ih d
 
@@ -253,6 +268,7 @@ module _ (m : Mach) (plan : Plan) (formed : WellFormed m) (placed : WellPlaced m
             among = known w (first_in w rs);
             which = own (of_one w r d);
             unset = λ e. is.spills_open w (known w (first_in w rs)) k t;
+            copied = λ e. by_spill k t;
           }
       one t (in_results d) ih =
           record {
@@ -260,6 +276,7 @@ module _ (m : Mach) (plan : Plan) (formed : WellFormed m) (placed : WellPlaced m
             among = known w (first_in w rs);
             which = slotted (of_one (in_slot plan w) r d);
             unset = λ e. is.spills_open w (known w (first_in w rs)) k t;
+            copied = λ e. by_spill k t;
           }
       one t (further d) ih = ih d
 
@@ -283,13 +300,13 @@ module _ (m : Mach) (plan : Plan) (formed : WellFormed m) (placed : WellPlaced m
       (λ h. was_in next r (λ w d. known w (further d)) h) (in_append (f (length next) i) (expand f next) c)
     where
       of_main : InCode r (i ∷ spills_of plan (length next) (results_of i)) → WasRegister r
-      of_main (in_args d) = record { register = r; among = known r (in_args d); which = own refl; unset = not_its_slot r (known r (in_args d)) }
-      of_main (in_results d) = record { register = r; among = known r (in_results d); which = own refl; unset = not_its_slot r (known r (in_results d)) }
+      of_main (in_args d) = itself_was r (known r (in_args d))
+      of_main (in_results d) = itself_was r (known r (in_results d))
       of_main (further d) = in_spills (length next) (results_of i) r (λ w z. known w (in_results (cond_in _ i.results w z))) d
 
   pub was_register : (r : Reg) → IsRegister q r → WasRegister r
-  was_register r (is_param c) = record { register = r; among = is_param c; which = own refl; unset = not_its_slot r (is_param c) }
-  was_register r (is_colour c) = record { register = r; among = is_colour c; which = own refl; unset = not_its_slot r (is_colour c) }
+  was_register r (is_param c) = itself_was r (is_param c)
+  was_register r (is_colour c) = itself_was r (is_colour c)
   was_register r (is_in_code c) = was_in m.code r (λ w d. is_in_code d) c
 
   pub origin_of : {w r : Reg} → Which w r → w.origin ≡ r.origin

@@ -4,3 +4,4 @@ pub mod Kept
 pub mod Whole
 pub mod Formed
 pub mod Placed
+pub mod Chosen

@@ -244,7 +244,7 @@ module _ (m : Mach) (plan : Plan) (formed : WellFormed m) (placed : WellPlaced m
 
   -- ---- sizes
 
-  few_reloads : (k : ℕ) (rs : List Reg) → (length (reloads_of plan k rs) ≤ length rs) × (operand_count (reloads_of plan k rs) ≤ 2 * length rs)
+  pub few_reloads : (k : ℕ) (rs : List Reg) → (length (reloads_of plan k rs) ≤ length rs) × (operand_count (reloads_of plan k rs) ≤ 2 * length rs)
   few_reloads k [] = (omega arith, omega arith)
   few_reloads k (r ∷ rs) = by (plan.reloads k r.number) (few_reloads k rs)
     where
@@ -254,7 +254,7 @@ module _ (m : Mach) (plan : Plan) (formed : WellFormed m) (placed : WellPlaced m
       by true h = let x = h.0 in let y = h.1 in (omega (arith, x), omega (arith, y))
       by false h = let x = h.0 in let y = h.1 in (omega (arith, x), omega (arith, y))
 
-  few_spills : (k : ℕ) (rs : List Reg) → (length (spills_of plan k rs) ≤ length rs) × (operand_count (spills_of plan k rs) ≤ 2 * length rs)
+  pub few_spills : (k : ℕ) (rs : List Reg) → (length (spills_of plan k rs) ≤ length rs) × (operand_count (spills_of plan k rs) ≤ 2 * length rs)
   few_spills k [] = (omega arith, omega arith)
   few_spills k (r ∷ rs) = by (plan.spills k r.number) (few_spills k rs)
     where
@@ -264,7 +264,7 @@ module _ (m : Mach) (plan : Plan) (formed : WellFormed m) (placed : WellPlaced m
       by true h = let x = h.0 in let y = h.1 in (omega (arith, x), omega (arith, y))
       by false h = let x = h.0 in let y = h.1 in (omega (arith, x), omega (arith, y))
 
-  cond_few : (b : Bool) (rs : List Reg) → length (cond b rs []) ≤ length rs
+  pub cond_few : (b : Bool) (rs : List Reg) → length (cond b rs []) ≤ length rs
   cond_few true rs = omega arith
   cond_few false rs = omega arith
 

@@ -1,1 +1,2 @@
 pub mod Spilled
+pub mod Chosen

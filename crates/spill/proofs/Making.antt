@@ -1,0 +1,72 @@
+-- The numbers that live over an instruction, one after the other.
+use Rattle.std.proofs.Common.{◌≡◌, ℕ, ◌+◌, ◌<◌, Bool, true, false, ◌⊎◌, inl, inr, ⊎_elim, List, [], ◌∷◌, ◌++◌, sym, subst, arith}
+use Rattle.std.proofs.lemmas.Bool.{cases_lt}
+use Rattle.std.specs.List.{Contains}
+use Rattle.mach_laws.proofs.Walking.{none_in, first_in, later_in, in_cons}
+use Rattle.liveness.proofs.Bounds.{split_in}
+use Rattle.mach_ir.specs.Meaning.{destroyed_by}
+use Rattle.mach_ir.specs.declared.mach.MachOp.{MachOp}
+use Rattle.spill_rules.specs.Chosen.{destroys}
+use Rattle.spill.specs.Graphs.{LivesAt, AreLivingOver, AreMade}
+
+pub left_in : {A : Type 0} (xs ys : List A) (y : A) → Contains xs y → Contains (xs ++ ys) y
+left_in [] ys y c = absurd (none_in y c)
+left_in (x ∷ xs) ys y c =
+    ⊎_elim (λ e. subst (Contains (x ∷ (xs ++ ys))) e (first_in x (xs ++ ys))) (λ d. later_in x y (xs ++ ys) (left_in xs ys y d))
+    (in_cons x y xs c)
+
+pub right_in : {A : Type 0} (xs ys : List A) (y : A) → Contains ys y → Contains (xs ++ ys) y
+right_in [] ys y c = c
+right_in (x ∷ xs) ys y c = later_in x y (xs ++ ys) (right_in xs ys y c)
+
+pub not_both : (b : Bool) → b ≡ true → b ≡ false → ⊥
+not_both b e h = cc
+
+module _ (rows : List (List Bool)) (after : ℕ) (written : List ℕ) where
+  pub over_none : (found : List ℕ) → found ≡ [] → AreLivingOver rows after 0 written found
+  over_none found e = λ n. (
+    λ c. absurd (none_in n (subst (λ xs. Contains xs n) e c)),
+    λ h. let lt = h.0 in absurd (omega (arith, lt)),
+  )
+
+  below_or : (n k : ℕ) → n < k + 1 → (n < k) ⊎ (n ≡ k)
+  below_or n k lt = ⊎_elim (λ h. inl h) (λ h. inr (omega (arith, lt, h))) (cases_lt n k)
+
+  more : (n k : ℕ) → n < k → n < k + 1
+  more n k lt = omega (arith, lt)
+
+  last : (n k : ℕ) → k ≡ n → n < k + 1
+  last n k e = omega (arith, e)
+
+  pub over_taken : (k : ℕ) (found made : List ℕ) → AreLivingOver rows after k written found → LivesAt rows after written k →
+      made ≡ found ++ k ∷ [] → AreLivingOver rows after (k + 1) written made
+  over_taken k found made old lives e = λ n. (
+    λ c.
+        ⊎_elim (λ h. let x = (old n).0 h in (more n k x.0, x.1))
+        (λ h. ⊎_elim (λ s. (last n k s, subst (LivesAt rows after written) s lives)) (λ d. absurd (none_in n d)) (in_cons k n [] h))
+        (split_in found (k ∷ []) n (subst (λ xs. Contains xs n) e c)),
+    λ h.
+        subst (λ xs. Contains xs n) (sym e)
+        (⊎_elim (λ lt. left_in found (k ∷ []) n ((old n).1 (lt, h.1)))
+        (λ s. right_in found (k ∷ []) n (subst (λ n. Contains (k ∷ []) n) (sym s) (first_in k []))) (below_or n k h.0)),
+  )
+
+  pub over_passed : (k : ℕ) (found : List ℕ) → AreLivingOver rows after k written found → (LivesAt rows after written k → ⊥) →
+      AreLivingOver rows after (k + 1) written found
+  over_passed k found old not_here = λ n. (
+    λ c. let x = (old n).0 c in (more n k x.0, x.1),
+    λ h.
+        ⊎_elim (λ lt. (old n).1 (lt, h.1)) (λ s. absurd (not_here (subst (LivesAt rows after written) s h.1)))
+        (below_or n k h.0),
+  )
+
+  pub made_over : (bound : ℕ) (f : MachOp) (found : List ℕ) → true ≡ destroys (destroyed_by f) →
+      AreLivingOver rows after bound written found → AreMade rows after bound written f found
+  made_over bound f found e old = λ n. (λ c. (sym e, (old n).0 c), λ h. (old n).1 h.1)
+
+  pub made_none : (bound : ℕ) (f : MachOp) (found : List ℕ) → destroys (destroyed_by f) ≡ false → found ≡ [] →
+      AreMade rows after bound written f found
+  made_none bound f found e none = λ n. (
+    λ c. absurd (none_in n (subst (λ xs. Contains xs n) none c)),
+    λ h. absurd (not_both (destroys (destroyed_by f)) h.0 e),
+  )

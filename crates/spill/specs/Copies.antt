@@ -1,0 +1,41 @@
+-- The code with its stores and reloads, by the tables.
+use Rattle.std.specs.Prelude.{ℕ, suc, ◌+◌, ◌-◌, Bool, cond, ◌&&◌, List, [], ◌∷◌, ◌++◌}
+use Rattle.bs_bits.specs.Set.{has}
+use Rattle.bs_words.specs.declared.types.Loc.TheVariants as loc
+use Rattle.dataflow.specs.Rows.{row}
+use Rattle.mach_ir.specs.declared.op.CopyKind.TheVariants as copy
+use Rattle.mach_ir.specs.declared.reg.Reg.{Reg}
+use Rattle.mach_ir.specs.declared.mach.Instr.{Instr}
+use Rattle.mach_laws.specs.Expand.{expand}
+use Rattle.spill_rules.specs.Spilled.{copied}
+use Rattle.spill.specs.Tables.{is_open}
+use Rattle.spill.specs.declared.tables.Tables.{Tables}
+
+-- the slot's register
+abbrev pub slot_of : ℕ → Reg → Reg
+slot_of free r = record r { number = free + r.number; loc = loc.Slot r.origin }
+
+abbrev pub is_reloaded : Tables → ℕ → Reg → Bool
+is_reloaded t p r = is_open r.loc && has (row t.lost.rows.items p) r.number
+
+-- the reloads of these operands at a place
+abbrev pub reloads_at : Tables → ℕ → List Reg → List Instr
+reloads_at t p [] = []
+reloads_at t p (r ∷ rs) =
+    cond (is_reloaded t p r) (copied copy.Reload (slot_of t.free r) r ∷ reloads_at t p rs)
+    (reloads_at t p rs)
+
+-- the stores of these results before a place
+abbrev pub spills_at : Tables → ℕ → List Reg → List Instr
+spills_at t p [] = []
+spills_at t p (r ∷ rs) =
+    cond (has (row t.wanted.rows.items p) r.number)
+    (copied copy.Spill r (slot_of t.free r) ∷ spills_at t p rs) (spills_at t p rs)
+
+-- the instruction at a place
+abbrev pub instr_at : Tables → ℕ → Instr → List Instr
+instr_at t p i = reloads_at t p i.args ++ i ∷ spills_at t (suc p) i.results
+
+-- the code of so many instructions
+abbrev pub code_at : Tables → ℕ → List Instr → List Instr
+code_at t end code = expand (λ k i. instr_at t (end - 1 - k) i) code

@@ -1,0 +1,43 @@
+-- What the tables of a function tell.
+use Rattle.std.specs.Prelude.{◌≡◌, ◌↔◌, ℕ, ◌<◌, ◌≤◌, Bool, true, false, List, ◌∷◌, length, drop}
+use Rattle.bs_bits.specs.Set.{has}
+use Rattle.bs_words.specs.declared.types.Loc.{Loc}
+use Rattle.bs_words.specs.declared.types.Loc.TheVariants as loc
+use Rattle.dataflow.specs.Rows.{row}
+use Rattle.mach_ir.specs.Walks.{Leads, Raises, Writes, IsRegister}
+use Rattle.mach_ir.specs.declared.reg.Reg.{Reg}
+use Rattle.mach_ir.specs.declared.mach.Instr.{Instr}
+use Rattle.mach_ir.specs.declared.mach.Mach.{Mach}
+use Rattle.spill_rules.specs.Chosen.{Lost, IsReloaded}
+use Rattle.spill.specs.declared.tables.Tables.{Tables}
+
+abbrev pub is_open : Loc → Bool
+is_open loc.Unset = true
+is_open (loc.Machine n) = false
+is_open (loc.Slot n) = false
+
+-- Some walk from this code on comes to a place where the register is reloaded, with no write of it
+-- before. A raise edge passes no write.
+pub data Wanted (m : Mach) (n : ℕ) : List Instr → Type 0 where
+  here : {i : Instr} {next : List Instr} → IsReloaded m i next n → Wanted m n (i ∷ next)
+  on : {i : Instr} {next to : List Instr} → (Writes m i n → ⊥) → Leads m i next to →
+      Wanted m n to → Wanted m n (i ∷ next)
+  aside : {i : Instr} {next to : List Instr} → Raises m i next to → Wanted m n to →
+      Wanted m n (i ∷ next)
+
+-- the sets tell exactly what is lost before each place
+pub record AreLost (m : Mach) (rows : List (List Bool)) : Type 0 where
+  pub exact : (p n : ℕ) → p ≤ length m.code →
+      (has (row rows p) n ≡ true) ↔ Lost m n (drop p m.code)
+
+-- and what is wanted
+pub record AreWanted (m : Mach) (rows : List (List Bool)) : Type 0 where
+  pub exact : (p n : ℕ) → p ≤ length m.code →
+      (has (row rows p) n ≡ true) ↔ Wanted m n (drop p m.code)
+
+-- the tables of a function
+pub record AreTables (m : Mach) (t : Tables) : Type 0 where
+  pub above : (r : Reg) → IsRegister m r → r.number < t.free
+  pub least : (b : ℕ) → ((r : Reg) → IsRegister m r → r.number < b) → t.free ≤ b
+  pub lost : AreLost m t.lost.rows.items
+  pub wanted : AreWanted m t.wanted.rows.items

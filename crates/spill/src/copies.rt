@@ -1,0 +1,126 @@
+//! The function with its stores and reloads.
+ghost use Rattle.std.specs.Prelude.{◌≡◌, ◌<◌, ◌++◌, ◌^◌, [], ◌∷◌, suc, length, IfOk};
+ghost use Rattle.spill_rules.specs.Spilled.{copied};
+ghost use Rattle.spill.specs.Copies.{slot_of, reloads_at, spills_at, instr_at, code_at};
+
+use crate::tables::Tables;
+use crate::wanted::is_reloaded;
+use bs_words::Loc;
+use liveness::Backward;
+use mach_ir::{CopyKind, Instr, MachOp, Op, Pure, Reg, Seq};
+use std::alloc::{AllocError, Global};
+
+/// The register of the slot. That it has no number counts as want of memory.
+fn slot_of(free: u32, reg: Reg) -> Result<Reg, AllocError>
+    ensures { IfOk result (λ slot. slot ≡ slot_of free reg) }
+{
+    let number = free.checked_add(reg.number).ok_or(AllocError)?;
+    Ok(Reg {
+        number,
+        loc: Loc::Slot(reg.origin),
+        ..reg
+    })
+}
+
+fn just(alloc: Global, reg: Reg) -> Result<Seq<Reg>, AllocError>
+    ensures { IfOk result (λ regs. regs ≡ reg ∷ []) }
+{
+    let mut regs = Vec::new(alloc);
+    regs.push(reg)?;
+    Ok(Seq::from_vec(regs))
+}
+
+fn copy(alloc: Global, kind: CopyKind, from: Reg, to: Reg) -> Result<Instr, AllocError>
+    ensures { IfOk result (λ instr. instr ≡ copied kind from to) }
+{
+    let args = just(alloc, from)?;
+    let results = just(alloc, to)?;
+    Ok(Instr {
+        op: MachOp::Op(Op::Pure(Pure::Copy(kind))),
+        args,
+        results,
+    })
+}
+
+/// The reloads of these operands at the place.
+fn reloads_at(
+    alloc: Global,
+    tables: &Tables,
+    place: usize,
+    args: &[Reg],
+) -> Result<Vec<Instr>, AllocError>
+    ensures { IfOk result (λ made. made.items ≡ reloads_at tables.now place args.now) }
+{
+    let mut made = Vec::new(alloc);
+    for reg in args {
+        if is_reloaded(&tables.lost, place, reg) {
+            let slot = slot_of(tables.free, *reg)?;
+            made.push(copy(alloc, CopyKind::Reload, slot, *reg)?)?;
+        }
+    }
+    Ok(made)
+}
+
+/// The stores of these results, which are written before the place.
+fn spills_at(
+    alloc: Global,
+    tables: &Tables,
+    place: usize,
+    results: &[Reg],
+) -> Result<Vec<Instr>, AllocError>
+    ensures { IfOk result (λ made. made.items ≡ spills_at tables.now place results.now) }
+{
+    let mut made = Vec::new(alloc);
+    for reg in results {
+        if tables.wanted.contains(place, reg.number) {
+            let slot = slot_of(tables.free, *reg)?;
+            made.push(copy(alloc, CopyKind::Spill, *reg, slot)?)?;
+        }
+    }
+    Ok(made)
+}
+
+/// Puts instructions before the others.
+fn push_all(made: &mut Backward<Instr>, instrs: Vec<Instr>) -> Result<(), AllocError>
+    ensures { IfOk result (λ _. made.new ≡ instrs.items ++ made.old) }
+{
+    let mut left = instrs;
+    while let Some(instr) = left.pop() {
+        made.push(instr)?;
+    }
+    Ok(())
+}
+
+/// Puts the instruction at the place before the others, with its reloads and stores.
+fn push_instr(
+    alloc: Global,
+    tables: &Tables,
+    place: usize,
+    instr: Instr,
+    made: &mut Backward<Instr>,
+) -> Result<(), AllocError>
+    requires { suc place < 2 ^ 64 }
+    ensures { IfOk result (λ _. made.new ≡ instr_at tables.now place instr ++ made.old) }
+{
+    let reloads = reloads_at(alloc, tables, place, instr.args.as_slice())?;
+    let spills = spills_at(alloc, tables, place + 1, instr.results.as_slice())?;
+    push_all(made, spills)?;
+    made.push(instr)?;
+    push_all(made, reloads)
+}
+
+/// The code with its stores and reloads.
+pub fn spill_code(
+    alloc: Global,
+    tables: &Tables,
+    code: Seq<Instr>,
+) -> Result<Seq<Instr>, AllocError>
+    ensures { IfOk result (λ made. made ≡ code_at tables.now (length code) code) }
+{
+    let mut items = code.into_vec();
+    let mut made = Backward::new(alloc);
+    while let Some(instr) = items.pop() {
+        push_instr(alloc, tables, items.len(), instr, &mut made)?;
+    }
+    Ok(Seq::from_vec(made.into_vec()))
+}

@@ -1,0 +1,31 @@
+//! Lists of numbers.
+ghost use Rattle.std.specs.Prelude.{◌≡◌, ◌++◌, ◌↔◌, IsTrue, IfOk};
+ghost use Rattle.std.specs.List.{Contains};
+
+use std::alloc::{AllocError, Global};
+
+/// The numbers of the one and then of the other.
+pub fn joined(alloc: Global, one: &[u32], other: &[u32]) -> Result<Vec<u32>, AllocError>
+    ensures { IfOk result (λ made. made.items ≡ one.now ++ other.now) }
+{
+    let mut made = Vec::new(alloc);
+    made.extend_from_slice(one)?;
+    made.extend_from_slice(other)?;
+    Ok(made)
+}
+
+/// The same numbers.
+pub fn copy_of(alloc: Global, numbers: &[u32]) -> Result<Vec<u32>, AllocError>
+    ensures { IfOk result (λ made. made.items ≡ numbers.now) }
+{
+    let mut made = Vec::new(alloc);
+    made.extend_from_slice(numbers)?;
+    Ok(made)
+}
+
+/// Whether the number is one of these.
+pub fn is_among(number: u32, numbers: &[u32]) -> bool
+    ensures { IsTrue result ↔ Contains numbers.now number }
+{
+    numbers.contains(&number)
+}

@@ -1,0 +1,182 @@
+//! Which registers are lost before each place.
+ghost use Rattle.std.specs.Prelude.{◌↔◌, ◌≡◌, IsTrue, IfOk};
+ghost use Rattle.dataflow.specs.Flow.{WellFormed};
+ghost use Rattle.mach_ir.specs.Graph.{IsLiveMap};
+ghost use Rattle.mach_ir.specs.Meaning.{destroyed_by};
+ghost use Rattle.mach_laws.specs.Graph.{IsFlowOf};
+ghost use Rattle.spill_rules.specs.Chosen.{destroys};
+ghost use Rattle.spill.specs.Graphs.{LivesAt, AreLivingOver, AreMade, IsLostPlace, AreLostNodes};
+ghost use Rattle.spill.specs.Tables.{AreLost};
+
+use crate::lists::{copy_of, is_among, joined};
+use crate::places::bare_place;
+use bs_words::List;
+use dataflow::{Flow, Place, Rows, reaching};
+use liveness::Backward;
+use mach_ir::{Calling, LiveMap, Mach, MachOp, Mark, Op};
+use std::alloc::{AllocError, Global};
+
+fn call_destroys(calling: &Calling) -> bool
+    ensures { result ≡ destroys (destroyed_by (MachOp.Op (Op.Calling calling.now))) }
+{
+    match calling {
+        Calling::Call { .. } => true,
+        Calling::TailCall { .. } => true,
+        Calling::External { .. } => true,
+    }
+}
+
+fn op_destroys(op: &Op) -> bool
+    ensures { result ≡ destroys (destroyed_by (MachOp.Op op.now)) }
+{
+    match op {
+        Op::Pure(_) => false,
+        Op::Access(_) => false,
+        Op::Calling(calling) => call_destroys(calling),
+        Op::Leaving(_) => false,
+    }
+}
+
+fn mark_destroys(mark: &Mark) -> bool
+    ensures { result ≡ destroys (destroyed_by (MachOp.Mark mark.now)) }
+{
+    match mark {
+        Mark::Exit { label: _, tries: _ } => false,
+        Mark::If {
+            test: _,
+            otherwise: _,
+        } => false,
+        Mark::Else { label: _, end: _ } => false,
+        Mark::Switch(_) => false,
+        Mark::Case {
+            indexes: _,
+            label: _,
+            end: _,
+        } => false,
+        Mark::Catch => false,
+        Mark::With { label: _, end: _ } => false,
+        Mark::Try { handler: _ } => false,
+        Mark::Leave { handler: _, end: _ } => false,
+        Mark::Handler { label: _ } => true,
+        Mark::End { label: _ } => false,
+    }
+}
+
+/// Whether it destroys colours: a call, an external call or the entry of a handler.
+fn destroys(op: &MachOp) -> bool
+    ensures { result ≡ destroys (destroyed_by op.now) }
+{
+    match op {
+        MachOp::Op(op) => op_destroys(op),
+        MachOp::Mark(mark) => mark_destroys(mark),
+    }
+}
+
+/// Whether the number is live at the place after an instruction which writes others.
+fn lives_over(live: &LiveMap, after: usize, written: &[u32], number: u32) -> bool
+    ensures { IsTrue result ↔ LivesAt live.now.before.rows.items after written.now number }
+{
+    live.before.contains(after, number) && !is_among(number, written)
+}
+
+/// The numbers below the bound that are live at the place after an instruction which writes others.
+fn living_over(
+    alloc: Global,
+    live: &LiveMap,
+    after: usize,
+    bound: u32,
+    written: &[u32],
+) -> Result<Vec<u32>, AllocError>
+    ensures { IfOk result (λ found. AreLivingOver live.now.before.rows.items after bound written.now found.items) }
+{
+    let mut found = Vec::new(alloc);
+    for number in 0..bound {
+        if lives_over(live, after, written, number) {
+            found.push(number)?;
+        }
+    }
+    Ok(found)
+}
+
+/// The numbers that live over the instruction, if it destroys colours.
+fn made_at(
+    alloc: Global,
+    live: &LiveMap,
+    after: usize,
+    bound: u32,
+    op: &MachOp,
+    written: &[u32],
+) -> Result<Vec<u32>, AllocError>
+    ensures { IfOk result (λ found. AreMade live.now.before.rows.items after bound written.now op.now found.items) }
+{
+    if destroys(op) {
+        let found = living_over(alloc, live, after, bound, written)?;
+        Ok(found)
+    } else {
+        Ok(Vec::new(alloc))
+    }
+}
+
+/// A place of the graph of liveness, before the place `after`, as one of this graph.
+fn lost_place(
+    alloc: Global,
+    live: &LiveMap,
+    after: usize,
+    bound: u32,
+    op: &MachOp,
+    place: &Place,
+) -> Result<Place, AllocError>
+    ensures { IfOk result (IsLostPlace live.now.before.rows.items after bound op.now place.now) }
+{
+    let next = copy_of(alloc, place.next.as_slice())?;
+    let reads = made_at(alloc, live, after, bound, op, place.writes.as_slice())?;
+    let writes = joined(alloc, place.reads.as_slice(), place.writes.as_slice())?;
+    Ok(Place {
+        next: List::from_vec(next),
+        aside: List::new(alloc),
+        reads: List::from_vec(reads),
+        writes: List::from_vec(writes),
+    })
+}
+
+/// All places of the graph.
+fn lost_places(
+    alloc: Global,
+    mach: &Mach,
+    live: &LiveMap,
+    flow: &Flow,
+) -> Result<Vec<Place>, AllocError>
+    requires { IsFlowOf mach.now flow.now }
+    ensures { IfOk result (λ nodes.
+        AreLostNodes mach.now live.now.before.rows.items flow.now.bound mach.now.code nodes.items) }
+{
+    let code = mach.code.as_slice();
+    let mut nodes = Backward::new(alloc);
+    nodes.push(bare_place(alloc))?;
+    let mut left = code.len();
+    while left > 0 {
+        let after = left;
+        left -= 1;
+        let op = &code[left].op;
+        let node = lost_place(alloc, live, after, flow.bound, op, &flow.places[left])?;
+        nodes.push(node)?;
+    }
+    Ok(nodes.into_vec())
+}
+
+/// The registers that are lost before each place: those of which some walk leads there from where they
+/// have lived over a call, with no read and no write of them between.
+pub fn lost(alloc: Global, mach: &Mach, live: &LiveMap, flow: &Flow) -> Result<Rows, AllocError>
+    requires flow { IsFlowOf mach.now flow.now }
+    requires formed { WellFormed flow.now }
+    requires live { IsLiveMap mach.now live.now }
+    ensures { IfOk result (λ rows. AreLost mach.now rows.rows.items) }
+{
+    let nodes = lost_places(alloc, mach, live, flow)?;
+    let flow = Flow {
+        places: List::from_vec(nodes),
+        bound: flow.bound,
+    };
+    let rows = reaching(alloc, &flow)?;
+    Ok(rows)
+}
