@@ -76,26 +76,30 @@ jump_names : (at to l : ℕ) (f : Form) → NamesAs (piece.Jump l) (code_to at t
 jump_names at to l Near = record {
   reads = λ n e. near_reads (hits n Zero);
   writes = λ n e. near_writes (hits n Zero) (is-apart n e).zero;
+  known = λ j h. absurd (cc);
   memory = λ e. refl;
 }
-jump_names at to l Middle = record { reads = λ n e. by_t1_reads n e; writes = λ n e. no_t1 n e; memory = λ e. refl }
-jump_names at to l Far = record { reads = λ n e. by_t1_reads n e; writes = λ n e. no_t1 n e; memory = λ e. refl }
+jump_names at to l Middle = record { reads = λ n e. by_t1_reads n e; writes = λ n e. no_t1 n e; known = λ j h. absurd (cc); memory = λ e. refl }
+jump_names at to l Far = record { reads = λ n e. by_t1_reads n e; writes = λ n e. no_t1 n e; known = λ j h. absurd (cc); memory = λ e. refl }
 
 branch_names : (at to : ℕ) (c : Condition) (a b : Register) (l : ℕ) (f : Form) →
     NamesAs (piece.Branch c a b l) (code_to at to (piece.Branch c a b l) f)
 branch_names at to c a b l Near = record {
   reads = λ n e. or_false (is_among n (piece_sources (piece.Branch c a b l)));
   writes = λ n e. refl;
+  known = λ j h. absurd (cc);
   memory = λ e. refl;
 }
 branch_names at to c a b l Middle = record {
   reads = λ n e. then_nothing (is_among n (piece_sources (piece.Branch c a b l))) _ (near_reads (hits n Zero));
   writes = λ n e. near_writes (hits n Zero) (is-apart n e).zero;
+  known = λ j h. absurd (cc);
   memory = λ e. refl;
 }
 branch_names at to c a b l Far = record {
   reads = λ n e. then_nothing (is_among n (piece_sources (piece.Branch c a b l))) _ (by_t1_reads n e);
   writes = λ n e. no_t1 n e;
+  known = λ j h. absurd (cc);
   memory = λ e. refl;
 }
 
@@ -103,38 +107,44 @@ pub names_as : (at to : ℕ) (p : Piece) (f : Form) → NamesAs p (code_to at to
 names_as at to (piece.Known j) f = record {
   reads = λ n e. then_nothing (is_among n (sources j)) _ (and_false (not (is_among n (targets j))));
   writes = λ n e. or_false (is_among n (targets j));
+  known = λ i h. cc;
   memory = λ e. absurd (cc);
 }
-names_as at to (piece.Label l) f = record { reads = λ n e. refl; writes = λ n e. refl; memory = λ e. refl }
+names_as at to (piece.Label l) f = record { reads = λ n e. refl; writes = λ n e. refl; known = λ j h. absurd (cc); memory = λ e. refl }
 names_as at to (piece.Branch c a b l) f = branch_names at to c a b l f
 names_as at to (piece.Jump l) f = jump_names at to l f
-names_as at to (piece.Row l) f = record { reads = λ n e. by_t1_reads n e; writes = λ n e. no_t1 n e; memory = λ e. refl }
+names_as at to (piece.Row l) f = record { reads = λ n e. by_t1_reads n e; writes = λ n e. no_t1 n e; known = λ j h. absurd (cc); memory = λ e. refl }
 names_as at to (piece.LabelAddress r l) f = record {
   reads = λ n e. made_reads (hits n r);
   writes = λ n e. made_writes (hits n r);
+  known = λ j h. absurd (cc);
   memory = λ e. refl;
 }
 names_as at to (piece.Call name) f = record {
   reads = λ n e. made_reads (hits n Ra);
   writes = λ n e. made_writes (hits n Ra);
+  known = λ j h. absurd (cc);
   memory = λ e. refl;
 }
 names_as at to (piece.TailCall name) f = record {
   reads = λ n e. by_t1_reads n e;
   writes = λ n e. by_t1_writes n e;
+  known = λ j h. absurd (cc);
   memory = λ e. refl;
 }
 names_as at to (piece.SymbolAddress r name) f = record {
   reads = λ n e. made_reads (hits n r);
   writes = λ n e. made_writes (hits n r);
+  known = λ j h. absurd (cc);
   memory = λ e. refl;
 }
 names_as at to (piece.ExternalNumber r row) f = record {
   reads = λ n e. made_reads (hits n r);
   writes = λ n e. made_writes (hits n r);
+  known = λ j h. absurd (cc);
   memory = λ e. refl;
 }
-names_as at to (piece.Descriptor d) f = record { reads = λ n e. refl; writes = λ n e. refl; memory = λ e. refl }
+names_as at to (piece.Descriptor d) f = record { reads = λ n e. refl; writes = λ n e. refl; known = λ j h. absurd (cc); memory = λ e. refl }
 
 -- ---- decoding
 

@@ -1,6 +1,6 @@
 -- What some parts name, written out: a near slot and a far one, a call, an allocation, a branch, a bound
 -- test.
-use Rattle.std.proofs.Common.{◌≡◌, true, false, List, [], ◌∷◌, ◌++◌, refl}
+use Rattle.std.proofs.Common.{◌≡◌, ℕ, true, false, List, [], ◌∷◌, ◌++◌, refl}
 use Rattle.bs_words.specs.Word.{add_word, sext_word, word_of, signed_in}
 use Rattle.bs_words.specs.declared.operators.CmpOp.TheVariants as compare
 use Rattle.bs_words.specs.declared.types.Comp.TheVariants as comp
@@ -19,6 +19,8 @@ use Rattle.emit_rules.specs.Memory.{alloc_part}
 use Rattle.emit_rules.specs.Instructions.{addi}
 use Rattle.emit_rules.specs.Tests.{branch_part}
 use Rattle.emit_rules.specs.Traps.{raise_bound_error, check_part}
+use Rattle.layout_rules.specs.Words.{far_jump}
+use Rattle.laid_parts.specs.Decoded.{NamesAs}
 use Rattle.laid_parts.specs.Laid.{behind_branch, leave_at_end, comes_back}
 use Rattle.laid_parts.specs.Named.{is_source, is_target}
 use Rattle.laid_parts.specs.Stack.{at_first, is_loaded, is_stored}
@@ -87,3 +89,10 @@ jal_comes_back = refl
 
 pub jal_goes_on : comes_back (piece.Known (instr.Jal 0 8)) ≡ false
 jal_goes_on = refl
+
+-- a tail call whose words went through a0 would not name as its piece does
+pub other_way_is_refused : (name : List ℕ) → NamesAs (piece.TailCall name) (far_jump 0 10 0 8) → ⊥
+other_way_is_refused name x = absurd (true_is_no_false (x.writes 10 refl))
+  where
+    true_is_no_false : true ≡ false → ⊥
+    true_is_no_false e = cc

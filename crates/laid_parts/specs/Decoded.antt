@@ -29,11 +29,12 @@ abbrev pub is_known : Piece → Bool
 is_known (piece.Known j) = true
 is_known _ = false
 
--- These instructions name, reserved registers aside, exactly the registers that the piece names. They
--- load and store only where the piece is that instruction.
+-- These instructions name, reserved registers aside, exactly the registers that the piece names. A piece
+-- that is an instruction has that one alone; of no other piece does one load or store.
 pub record NamesAs (p : Piece) (js : List Instr) : Type 0 where
   pub reads : (n : ℕ) → is_reserved n ≡ false → is_source_in n js ≡ is_among n (piece_sources p)
   pub writes : (n : ℕ) → is_reserved n ≡ false → is_target_in n js ≡ is_among n (piece_targets p)
+  pub known : (j : Instr) → p ≡ piece.Known j → js ≡ j ∷ []
   pub memory : is_known p ≡ false → some_loads_or_stores js ≡ false
 
 -- each word decodes, to these instructions in their order

@@ -50,9 +50,9 @@ pub fn pieces_are_laid_out()
 
 /// Law: the instructions of a piece, in whatever form and wherever it and its target lie, name as sources that they
 /// have not set before exactly the registers that the piece names as sources, and as targets exactly those that it
-/// names as targets, reserved registers aside. They load and store only where the piece is that instruction. So what
-/// is said of pieces holds of the words that are laid out of them: where their numbers fit, the words decode to these
-/// instructions.
+/// names as targets, reserved registers aside. A known instruction stands alone, and those of other pieces load and
+/// store nothing. So what pieces name is what the words name that are laid out of them: where their numbers fit, the
+/// words decode to these instructions.
 pub fn words_name_registers()
     ensures names { (at to : ℕ) (p : Piece) (form : Form) → NamesAs p (code_to at to p form) }
     ensures decode { (at to : ℕ) (p : Piece) (form : Form) → PieceFits p → at % 4 ≡ 0 → at + 4 < 2 ^ 32 →
