@@ -9,14 +9,14 @@ use Rattle.mach_ir.specs.declared.mach.Test.TheVariants as test
 use Rattle.mach_ir.specs.declared.op.Callee.TheVariants as callee
 use Rattle.mach_ir.specs.declared.op.Right.TheVariants as right
 use Rattle.rv_isa.specs.declared.instr.Instr.TheVariants as instr
-use Rattle.rv_isa.specs.declared.register.Register.TheVariants.{A0}
+use Rattle.rv_isa.specs.declared.register.Register.TheVariants.{T1, A0}
 use Rattle.rv_pieces.specs.declared.piece.Piece.{Piece}
 use Rattle.rv_pieces.specs.declared.piece.Piece.TheVariants as piece
 use Rattle.emit_rules.specs.Slots.{moved}
 use Rattle.emit_rules.specs.Calls.{call_words}
 use Rattle.emit_rules.specs.Constants.{constant}
 use Rattle.emit_rules.specs.Memory.{alloc_part}
-use Rattle.emit_rules.specs.Instructions.{addi}
+use Rattle.emit_rules.specs.Instructions.{addi, lui, calls_at}
 use Rattle.emit_rules.specs.Tests.{branch_part}
 use Rattle.emit_rules.specs.Traps.{raise_bound_error, check_part}
 use Rattle.layout_rules.specs.Words.{far_jump}
@@ -82,6 +82,10 @@ later_write_is_refused = refl
 -- a jump out of the raising path
 pub early_jump_is_refused : leave_at_end (piece.Jump 7 ∷ raise_bound_error) ≡ false
 early_jump_is_refused = refl
+
+-- an end that keeps a return address
+pub call_at_end_is_refused : leave_at_end (lui A0 0x10000 ∷ calls_at T1 ∷ []) ≡ false
+call_at_end_is_refused = refl
 
 -- a call by jal leaves a return address, and a jump none
 pub jal_comes_back : comes_back (piece.Known (instr.Jal 1 8)) ≡ true
