@@ -192,7 +192,7 @@ abbrev by_number : Colouring → Placing
 by_number place r = place r.number
 
 -- of a Mach function whose registers were placed, lowered and tidied
-module _ (p q : Mach) (r : Lin) {place : Colouring} (is : q ≡ recoloured place p) (t : Tidies (lowered q) r) where
+module _ (p q : Mach) (r : Lin) (place : Colouring) (is : q ≡ recoloured place p) (t : Tidies (lowered q) r) where
   pub made_words : lines_words r.code ≤ code_words p.code
   made_words =
       let tidied = (tidied_no_larger t).words in
