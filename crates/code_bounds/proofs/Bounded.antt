@@ -11,6 +11,7 @@ use Rattle.lin_ir.specs.Descriptors.{frame_bytes}
 use Rattle.lin_ir.specs.declared.descr.Descr.{Descr}
 use Rattle.lin_ir.specs.declared.lin.Lin.{Lin}
 use Rattle.linear_pass.specs.Linear.{IsLinearOf, NamesHomes}
+use Rattle.mach_ir.specs.Graph.{place_in}
 use Rattle.mach_ir.specs.declared.mach.Mach.{Mach}
 use Rattle.places_rules.specs.Rest.{IsKept}
 use Rattle.reg_rounds.specs.Allocated.{IsAllocated}
@@ -67,10 +68,10 @@ module _ (defined : List ℕ → Option DefinedSymbol) (tree : FunctionTree) (m 
   pub bounded : (ds : List Descr) (pieces : Pieces) → IsMadeOf tree m ds pieces → tries tree ≤ 250 → IsBoundedBy tree ds pieces
   bounded ds pieces made shallow =
       let short = function_short m made.emitted.traps ds in
-      let lines = made_words (selected tree) q m allocated.is (tidied_tidies linear.made) in
+      let lines = made_words (selected tree) q m (place_in allocated.colours) allocated.is (tidied_tidies linear.made) in
       let words = selected_words tree shallow in
       let nodes = accepted.covered.nodes_covered in
-      let calls = made_points (selected tree) q m allocated.is (tidied_tidies linear.made) in
+      let calls = made_points (selected tree) q m (place_in allocated.colours) allocated.is (tidied_tidies linear.made) in
       let points = selected_points tree shallow in
       let count = made.count in
       subst (IsBoundedBy tree ds) (sym made.emitted.is)
@@ -85,4 +86,4 @@ module _ (defined : List ℕ → Option DefinedSymbol) (tree : FunctionTree) (m 
 pub text_bounded : (text : List ℕ) (file : FileTree) → IsFileOf text file → (tree : FunctionTree) → Contains (functions file) tree →
     (m : Lin) (ds : List Descr) (pieces : Pieces) → IsMadeOf tree m ds pieces → IsBoundedBy tree ds pieces
 text_bounded text file is tree c m ds pieces made =
-    bounded (definitions file) tree m (function_accepted text file is tree c) made.linear ds pieces made (text_nests text file tree is c)
+    bounded (definitions file) tree m (function_accepted text file is tree c) made.allocated made.linear ds pieces made (text_nests text file tree is c)

@@ -187,17 +187,18 @@ tidied_no_larger {m} (then_redirects {q = q} t l) =
 
 -- ---- all three
 
--- of a Mach function whose registers were placed, lowered and tidied
-module _ (p q : Mach) (r : Lin) {place : Colouring} (is : q ≡ recoloured place p) (t : Tidies (lowered q) r) where
-  abbrev by_number : Placing
-  by_number = λ r. place r.number
+-- each register where a colouring has its number
+abbrev by_number : Colouring → Placing
+by_number place r = place r.number
 
+-- of a Mach function whose registers were placed, lowered and tidied
+module _ (p q : Mach) (r : Lin) (place : Colouring) (is : q ≡ recoloured place p) (t : Tidies (lowered q) r) where
   pub made_words : lines_words r.code ≤ code_words p.code
   made_words =
       let tidied = (tidied_no_larger t).words in
       let lower = lowered_words (slot_number q) q.code in
       let same = ap (λ (m : Mach). code_words m.code) is in
-      let placed = placed_words by_number p.code in
+      let placed = placed_words (by_number place) p.code in
       omega (arith, tidied, lower, same, placed)
 
   pub made_points : frame_points r.code ≤ code_points p.code
@@ -205,5 +206,5 @@ module _ (p q : Mach) (r : Lin) {place : Colouring} (is : q ≡ recoloured place
       let tidied = (tidied_no_larger t).points in
       let lower = lowered_points (slot_number q) q.code in
       let same = ap (λ (m : Mach). code_points m.code) is in
-      let placed = placed_points by_number p.code in
+      let placed = placed_points (by_number place) p.code in
       omega (arith, tidied, lower, same, placed)

@@ -12,5 +12,7 @@ pub mod LeavingSlots
 pub mod EverySlots
 pub mod Calls
 pub mod Marks
+pub mod Raising
+pub mod Decoded
 pub mod Whole
 pub mod Examples

@@ -15,6 +15,7 @@ use Rattle.laid_parts.specs.Laid.{CarriesSlots, AreParts, no_line, a_line, IsLai
 use Rattle.laid_parts.proofs.Each.{carried}
 use Rattle.laid_parts.proofs.EverySlots.{slots_carried}
 use Rattle.laid_parts.proofs.Marks.{line_marked, left_length}
+use Rattle.laid_parts.proofs.Raising.{raises_behind_branch}
 
 module _ (m : Lin) (w : WellFormed m) (seated : Seated m) (within : IsWithin m) (ds : List Descr) (p : Pieces) (e : IsEmitted m ds p) where
   counted : (i : Line) (next : List Line) → Stands i next m.code → (tries : List ℕ) → Traps m (i ∷ next) tries → e.traps (length next) ≡ length tries
@@ -36,6 +37,7 @@ module _ (m : Lin) (w : WellFormed m) (seated : Seated m) (within : IsWithin m) 
             subst (λ (t : ℕ). CarriesSlots (frame_of m) (length tries) i (part_of t (frame_of m) d i)) (sym (counted i next at tries traps))
             (slots_carried m w seated within i next tries (stands-contains m.code at) traps d);
         mark = line_marked t (frame_of m) i (frame_points next) (passes_frame i.op) refl left k;
+        raises = raises_behind_branch t (frame_of m) d i.op i.args i.results;
       })
       (parts-laid next (λ j rest h. s j rest (below h)) (left_after (passes_frame i.op) left)
       (left_length (frame_points next) (passes_frame i.op) left k))

@@ -1,6 +1,6 @@
 -- A function's pieces in parts, one for each line: each names exactly the locations that its line
 -- reads and writes.
-use Rattle.std.specs.Prelude.{◌≡◌, ℕ, ◌+◌, ◌*◌, Bool, true, false, cond, nat_eq, nat_lt, nat_le, ◌||◌, ◌&&◌, List, [], ◌∷◌, ◌++◌, length}
+use Rattle.std.specs.Prelude.{◌≡◌, ℕ, ◌+◌, ◌*◌, Bool, true, false, cond, nat_eq, nat_lt, nat_le, not, ◌||◌, ◌&&◌, List, [], ◌∷◌, ◌++◌, length, ⊤}
 use Rattle.bs_words.specs.declared.types.Loc.{Loc}
 use Rattle.bs_words.specs.declared.types.Loc.TheVariants as loc
 use Rattle.bs_words.specs.declared.types.Ret.{Ret}
@@ -63,6 +63,40 @@ branches _ = false
 abbrev pub up_to_branch : List Piece → List Piece
 up_to_branch [] = []
 up_to_branch (p ∷ ps) = p ∷ cond (branches p) [] (up_to_branch ps)
+
+abbrev pub behind_branch : List Piece → List Piece
+behind_branch [] = []
+behind_branch (p ∷ ps) = cond (branches p) ps (behind_branch ps)
+
+-- what may lead elsewhere than to the next piece
+abbrev pub jumps : Piece → Bool
+jumps (piece.Known (instr.Jal rd offset)) = true
+jumps (piece.Known (instr.Jalr rd rs w)) = true
+jumps (piece.Known (instr.Branch c a b offset)) = true
+jumps (piece.Branch c a b l) = true
+jumps (piece.Jump l) = true
+jumps (piece.Row l) = true
+jumps (piece.Call name) = true
+jumps (piece.TailCall name) = true
+jumps _ = false
+
+-- what goes to the address in a register, as to a handler, and keeps no return address
+abbrev pub leaves : Piece → Bool
+leaves (piece.Known (instr.Jalr rd rs w)) = nat_eq rd 0
+leaves _ = false
+
+-- pieces that run one after the other to the last of them, which leaves
+abbrev pub leave_at_end : List Piece → Bool
+leave_at_end [] = false
+leave_at_end (p ∷ []) = leaves p
+leave_at_end (p ∷ q ∷ ps) = not (jumps p) && leave_at_end (q ∷ ps)
+
+-- Behind the branch of a bound test stands its raising path, to the end of the part. So nothing that is
+-- written there comes to the next line.
+abbrev pub RaisesBehind : LinOp → List Piece → Type 0
+RaisesBehind (lin.Op (op.Leaving (leaving.Checkbound r))) part =
+    leave_at_end (behind_branch part) ≡ true
+RaisesBehind _ part = ⊤
 
 abbrev pub raises_behind : LinOp → ℕ → Bool
 raises_behind (lin.Op (op.Leaving (leaving.Checkbound r))) n =
@@ -142,6 +176,7 @@ pub data ReturnsAfter : LinOp → Piece → Type 0 where
 -- what leaves a return address: a call, or an ECALL
 abbrev pub comes_back : Piece → Bool
 comes_back (piece.Call name) = true
+comes_back (piece.Known (instr.Jal rd offset)) = nat_eq rd ra
 comes_back (piece.Known (instr.Jalr rd rs w)) = nat_eq rd ra
 comes_back (piece.Known instr.Ecall) = true
 comes_back _ = false
@@ -167,6 +202,8 @@ pub record IsPartOf (m : Lin) (ds left : List Descr) (i : Line) (next : List Lin
   pub slots : (tries : List ℕ) → Traps m (i ∷ next) tries →
       CarriesSlots (frame_of m) (length tries) i part
   pub mark : IsMarked i.op (passes_frame i.op) ds left part
+  -- what stands behind the branch of a bound test leaves the part for good
+  pub raises : RaisesBehind i.op part
 
 -- ---- whole
 

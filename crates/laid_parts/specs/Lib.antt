@@ -1,3 +1,4 @@
 pub mod Named
 pub mod Stack
 pub mod Laid
+pub mod Decoded

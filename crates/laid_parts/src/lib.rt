@@ -4,16 +4,23 @@
 //! The crate holds definitions and laws alone.
 #![tactic(auto)]
 
-ghost use Rattle.std.specs.Prelude.{◌≡◌, ℕ, List, ◌∷◌, length, Option, Contains};
+ghost use Rattle.std.specs.Prelude.{◌≡◌, ℕ, ◌+◌, ◌%◌, ◌^◌, ◌<◌, List, ◌∷◌, length, map, Option, Contains};
 ghost use Rattle.emit_rules.specs.Emitted.{part_of, IsEmitted};
 ghost use Rattle.emit_rules.specs.Entry.{Frame, frame_of};
+ghost use Rattle.laid_parts.specs.Decoded.{NamesAs, Decodes};
 ghost use Rattle.laid_parts.specs.Laid.{CarriesRegisters, CarriesSlots, IsLaidOutAs};
+ghost use Rattle.layout_rules.specs.Conditions.{LeadsTo};
+ghost use Rattle.layout_rules.specs.Words.{code_to};
+ghost use Rattle.layout_rules.specs.declared.form.Form.{Form};
 ghost use Rattle.lin_ir.specs.Descriptors.{IsWithin, frame_points};
 ghost use Rattle.lin_ir.specs.Formed.{Seated, WellFormed};
 ghost use Rattle.lin_ir.specs.Walks.{Traps};
 ghost use Rattle.lin_ir.specs.declared.descr.Descr.{Descr};
 ghost use Rattle.lin_ir.specs.declared.lin.Lin.{Lin};
 ghost use Rattle.lin_ir.specs.declared.lin.Line.{Line};
+ghost use Rattle.rv_isa.specs.Encoding.{encoded};
+ghost use Rattle.rv_pieces.specs.Named.{PieceFits};
+ghost use Rattle.rv_pieces.specs.declared.piece.Piece.{Piece};
 ghost use Rattle.rv_pieces.specs.declared.piece.Pieces.{Pieces};
 
 /// Law: the part that emission makes of a line names, as sources that it has not set before, exactly the registers
@@ -39,4 +46,15 @@ pub fn parts_name_slots()
 pub fn pieces_are_laid_out()
     ensures { (m : Lin) → WellFormed m → Seated m → IsWithin m → (ds : List Descr) (pieces : Pieces) →
         length ds ≡ frame_points m.code → IsEmitted m ds pieces → IsLaidOutAs m ds pieces }
+{}
+
+/// Law: the instructions of a piece, in whatever form and wherever it and its target lie, name as sources that they
+/// have not set before exactly the registers that the piece names as sources, and as targets exactly those that it
+/// names as targets, reserved registers aside. A known instruction stands alone, and those of other pieces load and
+/// store nothing. So what pieces name is what the words name that are laid out of them: where their numbers fit, the
+/// words decode to these instructions.
+pub fn words_name_registers()
+    ensures names { (at to : ℕ) (p : Piece) (form : Form) → NamesAs p (code_to at to p form) }
+    ensures decode { (at to : ℕ) (p : Piece) (form : Form) → PieceFits p → at % 4 ≡ 0 → at + 4 < 2 ^ 32 →
+        LeadsTo to p → Decodes (map encoded (code_to at to p form)) (code_to at to p form) }
 {}

@@ -1,13 +1,13 @@
 -- A function has one graph, and is allocated once.
-use Rattle.std.proofs.Common.{◌≡◌, ℕ, suc, ◌<◌, ⊎_elim, List, [], ◌∷◌, map, refl, sym, ap, ◌∙◌, subst, arith}
+use Rattle.std.proofs.Common.{◌≡◌, ℕ, ◌<◌, List, refl, sym, ap, ◌∙◌, subst, arith}
 use Rattle.std.specs.List.{AllPairs, Contains}
-use Rattle.mach_ir.specs.Graph.{InGraph, JoinedIn, IsGraph, moves_of, uses_of, place_in}
+use Rattle.mach_ir.specs.Graph.{InGraph, IsGraph, moves_of, uses_of}
 use Rattle.mach_ir.specs.declared.graph.Graph.{Graph}
 use Rattle.mach_ir.specs.declared.graph.Node.{Node}
 use Rattle.mach_ir.specs.declared.mach.Mach.{Mach}
 use Rattle.mach_ir.specs.declared.reg.Reg.{Reg}
+use Rattle.colouring.proofs.Found.{one_of_number}
 use Rattle.lin_laws.proofs.Unique.{ordered_same}
-use Rattle.mach_laws.proofs.Walking.{none_in, first_in, later_in, in_cons}
 use Rattle.places_rules.proofs.Lists.{was, mapped, of_all}
 
 abbrev Lower : Node → Node → Type 0
@@ -19,36 +19,6 @@ not_both x y l k = omega (arith, l, k)
 below_once : (n k : ℕ) → n < k → k < n → ⊥
 below_once n k l m = omega (arith, l, m)
 
--- ---- nodes by rising number
-
-lower_first : (x : Node) (xs : List Node) → AllPairs Lower (x ∷ xs) → (y : Node) → Contains xs y → Lower x y
-lower_first x xs p y c =
-    let le = c.1 in
-    subst (Lower x) c.2 (p 0 (suc c.0) y (omega arith) (omega (arith, le)))
-
-lower_rest : (x : Node) (xs : List Node) → AllPairs Lower (x ∷ xs) → AllPairs Lower xs
-lower_rest x xs p = λ i j d lt le. p (suc i) (suc j) d (omega (arith, lt)) (omega (arith, le))
-
-apart : (x y : Node) → x.reg.number ≡ y.reg.number → Lower x y → ⊥
-apart x y e l = omega (arith, e, l)
-
--- a number is that of one node
-one_node : (xs : List Node) → AllPairs Lower xs → (x y : Node) → Contains xs x → Contains xs y → x.reg.number ≡ y.reg.number → x ≡ y
-one_node [] p x y c d e = absurd (none_in x c)
-one_node (z ∷ zs) p x y c d e = ⊎_elim at_first at_later (in_cons z x zs c)
-  where
-    at_first : z ≡ x → x ≡ y
-    at_first f =
-        ⊎_elim (λ g. sym f ∙ g)
-        (λ d. absurd (apart z y (ap (λ (v : Node). v.reg.number) f ∙ e) (lower_first z zs p y d)))
-        (in_cons z y zs d)
-
-    at_later : Contains zs x → x ≡ y
-    at_later c =
-        ⊎_elim
-        (λ g. absurd (apart z x (ap (λ (v : Node). v.reg.number) g ∙ sym e) (lower_first z zs p x c)))
-        (λ d. one_node zs (lower_rest z zs p) x y c d e) (in_cons z y zs d)
-
 abbrev node : Reg → List ℕ → List ℕ → ℕ → Node
 node r ns ms u = record { reg = r; neighbours = ns; moves = ms; uses = u }
 
@@ -56,6 +26,12 @@ same_fields : (r q : Reg) (ns ks ms os : List ℕ) (u v : ℕ) → r ≡ q → n
 same_fields r q ns ks ms os u v a b c d = cc
 
 -- ---- two graphs of a function
+
+abbrev graph : List Node → Graph
+graph nodes = record { nodes = nodes }
+
+same_graph : (xs ys : List Node) → xs ≡ ys → graph xs ≡ graph ys
+same_graph xs ys e = cc
 
 module _ {m : Mach} where
   module _ {g h : Graph} (is : IsGraph m g) (it : IsGraph m h) where
@@ -66,14 +42,11 @@ module _ {m : Mach} where
         let reg = (is.registers x.reg).0 at in
         let joined = (is.edges x.reg reg k).0 (record { node = x; among = c; number = refl; joins = j }) in
         let back = (it.edges x.reg reg k).1 joined in
-        let same : back.node ≡ y = one_node h.nodes it.order back.node y back.among d (back.number ∙ ap (λ (r : Reg). r.number) e) in
+        let same : back.node ≡ y = one_of_number h.nodes back.node y it.order back.among d (back.number ∙ ap (λ (r : Reg). r.number) e) in
         subst (λ (v : Node). Contains v.neighbours k) same back.joins
 
-  abbrev Found : Graph → Node → Type 0
-  Found h x = Contains h.nodes x
-
   -- each node of one is a node of the other
-  within : {g h : Graph} → IsGraph m g → IsGraph m h → (x : Node) → Contains g.nodes x → Found h x
+  within : {g h : Graph} → IsGraph m g → IsGraph m h → (x : Node) → Contains g.nodes x → Contains h.nodes x
   within {g} {h} is it x c =
       let at : InGraph g x.reg = mapped (λ (v : Node). v.reg) g.nodes x c in
       let reg = (is.registers x.reg).0 at in
@@ -94,12 +67,6 @@ module _ {m : Mach} where
       ∙ ap (λ n. uses_of n m.code) number
       ∙ sym (of_all (λ (v : Node). v.uses ≡ uses_of v.reg.number m.code) h.nodes y it.uses w.among) in
       subst (Contains h.nodes) (sym (same_fields x.reg y.reg x.neighbours y.neighbours x.moves y.moves x.uses y.uses e neighbours moves uses)) w.among
-
-  abbrev graph : List Node → Graph
-  graph nodes = record { nodes = nodes }
-
-  same_graph : (xs ys : List Node) → xs ≡ ys → graph xs ≡ graph ys
-  same_graph xs ys e = cc
 
   -- A function has one graph.
   pub graph_once : {g h : Graph} → IsGraph m g → IsGraph m h → g ≡ h

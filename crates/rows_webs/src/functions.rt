@@ -11,6 +11,8 @@ const SPILL: Op = Op::Pure(Pure::Copy(CopyKind::Spill));
 
 const RELOAD: Op = Op::Pure(Pure::Copy(CopyKind::Reload));
 
+const PLUS: Op = Op::Pure(Pure::Operator(IntOp::Add, Right::Register));
+
 const RETURN: Op = Op::Leaving(Leaving::Return);
 
 const RAISE: Op = Op::Leaving(Leaving::Raise);
@@ -123,4 +125,83 @@ pub(crate) fn branches(alloc: Global) -> Result<Mach> {
     code.op(MOVE, &[other], &[A0])?;
     code.op(RETURN, &[A0], &[])?;
     code.function("branches", &[A0])
+}
+
+/// Two calls: a register that is read twice after the first and once after the second, one that is read
+/// after none, and one that is written between the calls.
+pub(crate) fn calls(alloc: Global) -> Result<Mach> {
+    let mut code = Code::new(alloc);
+    let value = open(21);
+    let early = open(22);
+    let between = open(23);
+    let sum = open(24);
+    code.op(MOVE, &[A0], &[value])?;
+    code.op(add(1), &[value], &[early])?;
+    code.op(MOVE, &[early], &[A0])?;
+    code.op(call(alloc)?, &[A0], &[A0])?;
+    code.op(MOVE, &[A0], &[between])?;
+    code.op(PLUS, &[between, value], &[sum])?;
+    code.op(PLUS, &[sum, value], &[sum])?;
+    code.op(MOVE, &[sum], &[A0])?;
+    code.op(call(alloc)?, &[A0], &[A0])?;
+    code.op(PLUS, &[between, value], &[sum])?;
+    code.op(PLUS, &[between, sum], &[sum])?;
+    code.op(MOVE, &[sum], &[A0])?;
+    code.op(RETURN, &[A0], &[])?;
+    code.function("calls", &[A0])
+}
+
+/// A branch that calls and one that does not, and a read after both. One branch writes anew.
+pub(crate) fn one_call(alloc: Global) -> Result<Mach> {
+    let mut code = Code::new(alloc);
+    let value = open(21);
+    let other = open(22);
+    code.op(constant(1), &[], &[value])?;
+    code.op(constant(2), &[], &[other])?;
+    code.test(
+        Mark::If {
+            test: Test::Holds,
+            otherwise: 1,
+        },
+        &[A0],
+    )?;
+    code.op(call(alloc)?, &[A0], &[A0])?;
+    code.op(constant(3), &[], &[other])?;
+    code.mark(Mark::Else { label: 1, end: 2 })?;
+    code.op(constant(4), &[], &[value])?;
+    code.mark(Mark::End { label: 2 })?;
+    code.op(PLUS, &[value, other], &[value])?;
+    code.op(MOVE, &[value], &[A0])?;
+    code.op(RETURN, &[A0], &[])?;
+    code.function("one_call", &[A0])
+}
+
+/// A loop that calls: what it counts is written before it and in it.
+pub(crate) fn rounds(alloc: Global) -> Result<Mach> {
+    let mut code = Code::new(alloc);
+    let count = open(21);
+    let step = open(22);
+    code.op(constant(0), &[], &[count])?;
+    code.op(MOVE, &[A0], &[step])?;
+    code.mark(Mark::Catch)?;
+    code.mark(Mark::Exit { label: 1, tries: 0 })?;
+    code.mark(Mark::With { label: 1, end: 2 })?;
+    let less = Test::Signed(CmpOp::Lt, Right::Constant(10));
+    code.test(
+        Mark::If {
+            test: less,
+            otherwise: 3,
+        },
+        &[count],
+    )?;
+    code.op(MOVE, &[count], &[A0])?;
+    code.op(call(alloc)?, &[A0], &[A0])?;
+    code.op(PLUS, &[count, step], &[count])?;
+    code.mark(Mark::Exit { label: 1, tries: 0 })?;
+    code.mark(Mark::Else { label: 3, end: 4 })?;
+    code.mark(Mark::End { label: 4 })?;
+    code.mark(Mark::End { label: 2 })?;
+    code.op(MOVE, &[count], &[A0])?;
+    code.op(RETURN, &[A0], &[])?;
+    code.function("rounds", &[A0])
 }

@@ -1,8 +1,9 @@
 //! Mach functions made by hand: what is live at each place of them, and the functions that splitting
-//! makes of them.
+//! makes of them; and those that spilling makes.
 //!
 //! `stdout` is by a reading of its own of what the terms mean: what is live by the least sets that the
-//! edges allow, webs by the writes that come to each operand.
+//! edges allow, webs by the writes that come to each operand, reloads by the calls that lead to a read,
+//! and stores by the reloads that a write comes to.
 #![tactic(auto)]
 
 mod code;
@@ -12,6 +13,7 @@ use anyhow::Result;
 use liveness::{first_free, live};
 use mach_ir::page::Page;
 use mach_ir::{LiveMap, Mach, text};
+use spill::spill;
 use split::split;
 use std::alloc::Global;
 use std::io::{self, BufWriter, Write};
@@ -49,6 +51,16 @@ fn put<W: Write>(alloc: Global, out: &mut W, mach: Mach) -> Result<()> {
     Ok(())
 }
 
+/// The function, and what spilling makes of it.
+fn put_spilled<W: Write>(alloc: Global, out: &mut W, mach: Mach) -> Result<()> {
+    out.write_all(text(alloc, &mach)?.as_slice())?;
+    let live = live(alloc, &mach)?;
+    let made = spill(alloc, mach, &live)?;
+    out.write_all(b"spilled ")?;
+    out.write_all(text(alloc, &made)?.as_slice())?;
+    Ok(())
+}
+
 fn main(rt: HostRuntime) -> Result<()> {
     let alloc = rt.alloc();
     let mut out = BufWriter::new(alloc, rt.stdout())?;
@@ -56,6 +68,10 @@ fn main(rt: HostRuntime) -> Result<()> {
     put(alloc, &mut out, functions::loops(alloc)?)?;
     put(alloc, &mut out, functions::handled(alloc)?)?;
     put(alloc, &mut out, functions::branches(alloc)?)?;
+    put_spilled(alloc, &mut out, functions::calls(alloc)?)?;
+    put_spilled(alloc, &mut out, functions::one_call(alloc)?)?;
+    put_spilled(alloc, &mut out, functions::rounds(alloc)?)?;
+    put_spilled(alloc, &mut out, functions::handled(alloc)?)?;
     out.flush()?;
     Ok(())
 }

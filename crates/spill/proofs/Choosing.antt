@@ -4,18 +4,11 @@ use Rattle.std.proofs.lemmas.Bool.{cases_Bool, eq-eqb, eqb-true}
 use Rattle.std.specs.List.{Contains}
 use Rattle.std.specs.Prelude.{nat_eq}
 use Rattle.bs_bits.specs.Set.{has}
-use Rattle.bs_words.specs.declared.types.Comp.{Comp}
 use Rattle.dataflow.specs.Rows.{row}
-use Rattle.mach_ir.specs.Acts.{On}
-use Rattle.mach_ir.specs.Formed.{comps, MarkHasForm, exit_form, if_form, else_form, switch_form, case_form, catch_form, with_form, try_form, leave_form, handler_form, end_form, IsFormed, formed_op, formed_mark, WellFormed}
-use Rattle.mach_ir.specs.Forms as forms
-use Rattle.mach_ir.specs.Forms.{HasForm}
+use Rattle.mach_ir.specs.Formed.{IsFormed, WellFormed}
 use Rattle.mach_ir.specs.Meaning.{killed, written, code_at}
-use Rattle.mach_ir.specs.Walks.{targets, goes, Leads, Writes, is_in_code, Stands, here, below}
+use Rattle.mach_ir.specs.Walks.{goes, Leads, Writes, is_in_code, Stands, here, below}
 use Rattle.mach_ir.specs.declared.reg.Reg.{Reg}
-use Rattle.mach_ir.specs.declared.op.Op.{Op}
-use Rattle.mach_ir.specs.declared.mach.Mark.{Mark}
-use Rattle.mach_ir.specs.declared.mach.MachOp.TheVariants as mach
 use Rattle.mach_ir.specs.declared.mach.Instr.{Instr}
 use Rattle.mach_ir.specs.declared.mach.Mach.{Mach}
 use Rattle.mach_laws.specs.Expand.{expand}
@@ -26,16 +19,16 @@ use Rattle.split_rules.proofs.Formed.{contains_of, of_each}
 use Rattle.split_rules.proofs.Text.{number_in, args_in}
 use Rattle.split_rules.specs.Writes.{Comes, from_entry, from_write, past, past_raise}
 use Rattle.spill_rules.specs.Chosen.{IsReloaded, ReloadsAt, StoresAt, IsChosen, IsSpilled}
-use Rattle.spill_rules.specs.Spilled.{Plan, reload, spill, reloads_of, spills_of, has_operands, operands_of, spilled_instr}
-use Rattle.spill_rules.proofs.Chosen.{not_whole, short}
-use Rattle.spill_rules.proofs.Text.{all_results}
+use Rattle.spill_rules.specs.Spilled.{Plan, reload, spill, reloads_of, spills_of, operands_of, spilled_instr}
+use Rattle.spill_rules.proofs.Chosen.{ending_of, goes_on, not_whole, short}
+use Rattle.spill_rules.proofs.Text.{all_operands, all_results}
 use Rattle.spill.specs.Copies as made
 use Rattle.spill.specs.Copies.{is_reloaded, reloads_at, spills_at, instr_at}
 use Rattle.spill.specs.Graphs.{reloaded_among}
 use Rattle.spill.specs.Tables.{Wanted, here, on, aside, AreTables}
 use Rattle.spill.specs.declared.tables.Tables.{Tables}
 use Rattle.spill.proofs.Making.{not_both}
-use Rattle.spill.proofs.Steps.{ending_of, among_of, in_numbers, place_within, Steps, steps_of, steps_to, leads_ending}
+use Rattle.spill.proofs.Steps.{among_of, in_numbers, place_within, Steps, steps_of, steps_to, leads_ending}
 use Rattle.spill.proofs.WantedFlow.{both, in_reloaded, reloaded_in, reloaded_here, here_reloaded}
 
 -- ---- tests on lists
@@ -122,75 +115,6 @@ at_is {next = next} f (j ∷ is) (below s) =
         ⊎_elim
         (λ e. absurd (not_whole t (sym (eqb-true (length is) (length next) e)))) (λ e. e) (cases_Bool (nat_eq (length is) (length next)))
 at_is f [] s = elim s [ ]
-
--- ---- forms
-
-no_comps : (rs : List Reg) → comps rs ≡ [] → rs ≡ []
-no_comps [] e = refl
-no_comps (r ∷ rs) e = absurd (some r.comp (comps rs) e)
-  where
-    some : (c : Comp) (cs : List Comp) → c ∷ cs ≡ [] → ⊥
-    some c cs e = cc
-
-takes_or : (f : Mark) (cs ds : List Comp) → MarkHasForm f cs ds → (has_operands (mach.Mark f) ≡ true) ⊎ (cs ≡ [])
-takes_or f cs ds exit_form = inr refl
-takes_or f cs ds (if_form h) = inl refl
-takes_or f cs ds else_form = inr refl
-takes_or f cs ds switch_form = inl refl
-takes_or f cs ds case_form = inr refl
-takes_or f cs ds catch_form = inr refl
-takes_or f cs ds with_form = inr refl
-takes_or f cs ds try_form = inr refl
-takes_or f cs ds leave_form = inr refl
-takes_or f cs ds handler_form = inr refl
-takes_or f cs ds end_form = inr refl
-
-cond_none : (b : Bool) (rs : List Reg) → rs ≡ [] → cond b rs [] ≡ rs
-cond_none true rs e = refl
-cond_none false rs e = sym e
-
-all_operands : {i : Instr} → IsFormed i → operands_of i ≡ i.args
-all_operands (formed_op h) = refl
-all_operands (formed_mark {f = f} {args = args} {results = results} h) =
-    ⊎_elim (λ e. ap (λ b. cond b args []) e) (λ e. cond_none (has_operands (mach.Mark f)) args (no_comps args e))
-    (takes_or f (comps args) (comps results) h)
-
-some_comp : (rs : List Reg) (r : Reg) → Contains rs r → comps rs ≡ [] → ⊥
-some_comp rs r c e = none_in r (subst (λ rs. Contains rs r) (no_comps rs e) c)
-
-op_on : (f : Op) (cs ds : List Comp) → HasForm f cs ds → (ds ≡ [] → ⊥) → targets (mach.Op f) ≡ On ∷ []
-op_on f cs ds forms.copies some = refl
-op_on f cs ds (forms.constant lt) some = refl
-op_on f cs ds forms.symbol some = refl
-op_on f cs ds (forms.operates h) some = refl
-op_on f cs ds forms.loads some = refl
-op_on f cs ds forms.stores some = refl
-op_on f cs ds (forms.allocates a b c d) some = refl
-op_on f cs ds (forms.calls arguments h) some = refl
-op_on f cs ds (forms.tail_calls arguments h) some = absurd (some refl)
-op_on f cs ds forms.calls_out some = refl
-op_on f cs ds (forms.checks h) some = refl
-op_on f cs ds forms.raises some = absurd (some refl)
-op_on f cs ds (forms.returns result) some = absurd (some refl)
-
-mark_on : (f : Mark) (cs ds : List Comp) → MarkHasForm f cs ds → (ds ≡ [] → ⊥) → targets (mach.Mark f) ≡ On ∷ []
-mark_on f cs ds exit_form some = absurd (some refl)
-mark_on f cs ds (if_form h) some = absurd (some refl)
-mark_on f cs ds else_form some = absurd (some refl)
-mark_on f cs ds switch_form some = absurd (some refl)
-mark_on f cs ds case_form some = absurd (some refl)
-mark_on f cs ds catch_form some = absurd (some refl)
-mark_on f cs ds with_form some = absurd (some refl)
-mark_on f cs ds try_form some = absurd (some refl)
-mark_on f cs ds leave_form some = absurd (some refl)
-mark_on f cs ds handler_form some = refl
-mark_on f cs ds end_form some = absurd (some refl)
-
-goes_on : {i : Instr} (r : Reg) → IsFormed i → Contains i.results r → targets i.op ≡ On ∷ []
-goes_on r (formed_op {f = f} {args = args} {results = results} h) c =
-    op_on f (comps args) (comps results) h (some_comp results r c)
-goes_on r (formed_mark {f = f} {args = args} {results = results} h) c =
-    mark_on f (comps args) (comps results) h (some_comp results r c)
 
 -- ---- writes and what wants them
 

@@ -22,10 +22,11 @@ use Rattle.mach_laws.proofs.Walking.{none_in, place_is}
 use Rattle.places_rules.proofs.Walked.{stands_of}
 use Rattle.liveness.proofs.Bounds.{no_items, split_in}
 use Rattle.spill_rules.specs.Chosen.{destroys, lives, Lost, over, still}
+use Rattle.spill_rules.proofs.Chosen.{ending_of}
 use Rattle.spill.specs.Graphs.{IsMadeBefore, IsLostNode, AreLostNodes, at_end, before}
 use Rattle.spill.specs.Tables.{AreLost}
 use Rattle.spill.proofs.Making.{left_in, right_in}
-use Rattle.spill.proofs.Steps.{ending_of, member, each, among_of, in_numbers, destroys_on, place_back, place_within, ending_place, Steps, steps_of, steps_to, leads_ending, IsWithin, next_within, reads_small, writes_small, live_small}
+use Rattle.spill.proofs.Steps.{member, each, among_of, in_numbers, destroys_on, place_back, place_within, ending_place, Steps, steps_of, steps_to, leads_ending, IsWithin, next_within, reads_small, writes_small, live_small}
 
 module _ (m : Mach) (live : LiveMap) (exact : IsLiveMap m live) (old : flow.Flow) (is : IsFlowOf m old) (formed : flows.WellFormed old) where
   abbrev rows : List (List Bool)

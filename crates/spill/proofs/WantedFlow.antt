@@ -24,9 +24,10 @@ use Rattle.liveness.proofs.Bounds.{no_items}
 use Rattle.liveness.proofs.Graph.{count_is, part_is, nodes_within}
 use Rattle.split_rules.proofs.Text.{number_in}
 use Rattle.spill_rules.specs.Chosen.{Lost, IsReloaded}
+use Rattle.spill_rules.proofs.Chosen.{ending_of}
 use Rattle.spill.specs.Graphs.{reloaded_among, reloaded_before, wanted_uses}
 use Rattle.spill.specs.Tables.{is_open, Wanted, here, on, aside, AreLost, AreWanted}
-use Rattle.spill.proofs.Steps.{ending_of, member, each, among_of, in_numbers, place_within, ending_place, Steps, steps_of, steps_to, Raised, raised_of, raises_to, leads_ending, raise_ending, reads_small, writes_small}
+use Rattle.spill.proofs.Steps.{member, each, among_of, in_numbers, place_within, ending_place, Steps, steps_of, steps_to, Raised, raised_of, raises_to, leads_ending, raise_ending, reads_small, writes_small}
 
 -- ---- operands that are reloaded
 

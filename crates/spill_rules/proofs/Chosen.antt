@@ -6,11 +6,14 @@ use Rattle.bs_words.specs.declared.types.Comp.{Comp}
 use Rattle.bs_words.specs.declared.types.Loc.TheVariants as loc
 use Rattle.mach_ir.specs.Acts.{Target, On}
 use Rattle.mach_ir.specs.Formed.{comps, MarkHasForm, exit_form, if_form, else_form, switch_form, case_form, catch_form, with_form, try_form, leave_form, handler_form, end_form, IsFormed, formed_op, formed_mark, WellFormed}
+use Rattle.mach_ir.specs.Forms as forms
+use Rattle.mach_ir.specs.Forms.{HasForm}
 use Rattle.mach_ir.specs.Meaning.{code_at}
 use Rattle.mach_ir.specs.Placed.{WellPlaced}
 use Rattle.mach_ir.specs.Seats.{argument_places, InOrder, AreSeated, in_order, places_of, Seated}
-use Rattle.mach_ir.specs.Walks.{Among, OneOf, this, other, next_if, targets, goes, Leads, Writes, Live, read, on, aside, IsRegister, is_param, is_in_code, Stands, here, below}
+use Rattle.mach_ir.specs.Walks.{Among, OneOf, this, other, targets, goes, Leads, Writes, Live, read, on, aside, IsRegister, is_param, is_in_code, Stands, here, below}
 use Rattle.mach_ir.specs.declared.op.CopyKind.TheVariants as copy
+use Rattle.mach_ir.specs.declared.op.Op.{Op}
 use Rattle.mach_ir.specs.declared.reg.Reg.{Reg}
 use Rattle.mach_ir.specs.declared.mach.Mark.{Mark}
 use Rattle.mach_ir.specs.declared.mach.MachOp.TheVariants as mach
@@ -57,11 +60,6 @@ not_whole s e = let le = short (ending_of s) in omega (arith, le, e)
 
 -- ---- what has results goes on
 
-only_next : (b : Bool) (t : Target) → OneOf t (next_if b) → t ≡ On
-only_next true t this = refl
-only_next true t (other o) = elim o [ ]
-only_next false t o = elim o [ ]
-
 no_result : (rs : List Reg) (r : Reg) → comps rs ≡ [] → Contains rs r → ⊥
 no_result [] r e c = none_in r c
 no_result (x ∷ rs) r e c = some x.comp (comps rs) e
@@ -69,23 +67,43 @@ no_result (x ∷ rs) r e c = some x.comp (comps rs) e
     some : (c : Comp) (cs : List Comp) → c ∷ cs ≡ [] → ⊥
     some c cs e = cc
 
-pub goes_on : {i : Instr} (r : Reg) (t : Target) → IsFormed i → Contains i.results r → OneOf t (targets i.op) → t ≡ On
-goes_on r t (formed_op h) c o = only_next _ t o
-goes_on r t (formed_mark {f = f} {args = args} {results = results} h) c o =
-    by f (comps args) (comps results) h (λ e. no_result results r e c) o
-  where
-    by : (f : Mark) (cs ds : List Comp) → MarkHasForm f cs ds → (ds ≡ [] → ⊥) → OneOf t (targets (mach.Mark f)) → t ≡ On
-    by f cs ds exit_form none o = absurd (none refl)
-    by f cs ds (if_form h) none o = absurd (none refl)
-    by f cs ds else_form none o = absurd (none refl)
-    by f cs ds switch_form none o = absurd (none refl)
-    by f cs ds case_form none o = absurd (none refl)
-    by f cs ds catch_form none o = absurd (none refl)
-    by f cs ds with_form none o = absurd (none refl)
-    by f cs ds try_form none o = absurd (none refl)
-    by f cs ds leave_form none o = absurd (none refl)
-    by f cs ds handler_form none o = only_next true t o
-    by f cs ds end_form none o = absurd (none refl)
+op_on : (f : Op) (cs ds : List Comp) → HasForm f cs ds → (ds ≡ [] → ⊥) → targets (mach.Op f) ≡ On ∷ []
+op_on f cs ds forms.copies some = refl
+op_on f cs ds (forms.constant lt) some = refl
+op_on f cs ds forms.symbol some = refl
+op_on f cs ds (forms.operates h) some = refl
+op_on f cs ds forms.loads some = refl
+op_on f cs ds forms.stores some = refl
+op_on f cs ds (forms.allocates a b c d) some = refl
+op_on f cs ds (forms.calls arguments h) some = refl
+op_on f cs ds (forms.tail_calls arguments h) some = absurd (some refl)
+op_on f cs ds forms.calls_out some = refl
+op_on f cs ds (forms.checks h) some = refl
+op_on f cs ds forms.raises some = absurd (some refl)
+op_on f cs ds (forms.returns result) some = absurd (some refl)
+
+mark_on : (f : Mark) (cs ds : List Comp) → MarkHasForm f cs ds → (ds ≡ [] → ⊥) → targets (mach.Mark f) ≡ On ∷ []
+mark_on f cs ds exit_form some = absurd (some refl)
+mark_on f cs ds (if_form h) some = absurd (some refl)
+mark_on f cs ds else_form some = absurd (some refl)
+mark_on f cs ds switch_form some = absurd (some refl)
+mark_on f cs ds case_form some = absurd (some refl)
+mark_on f cs ds catch_form some = absurd (some refl)
+mark_on f cs ds with_form some = absurd (some refl)
+mark_on f cs ds try_form some = absurd (some refl)
+mark_on f cs ds leave_form some = absurd (some refl)
+mark_on f cs ds handler_form some = refl
+mark_on f cs ds end_form some = absurd (some refl)
+
+pub goes_on : {i : Instr} (r : Reg) → IsFormed i → Contains i.results r → targets i.op ≡ On ∷ []
+goes_on r (formed_op {f = f} {args = args} {results = results} h) c =
+    op_on f (comps args) (comps results) h (λ e. no_result results r e c)
+goes_on r (formed_mark {f = f} {args = args} {results = results} h) c =
+    mark_on f (comps args) (comps results) h (λ e. no_result results r e c)
+
+only_on : (t : Target) → OneOf t (On ∷ []) → t ≡ On
+only_on t this = refl
+only_on t (other o) = elim o [ ]
 
 -- ---- where a write begins a walk
 
@@ -147,8 +165,8 @@ module _ (m : Mach) (plan : Plan) (formed : WellFormed m) (params : ParamsPlaced
   live_next {i} {next} {after} r s c e (at_instr {i = j} {to = to} t w (goes x o) v) =
       let same : j ∷ after ≡ i ∷ next = same_instr t s (ap length e) in
       let to_on : x ≡ On =
-      goes_on r x (of_each IsFormed m.code i formed.instrs (contains_of s)) c
-      (subst (λ (i : Instr). OneOf x (targets i.op)) (head_same same) o) in
+      only_on x
+      (subst (OneOf x) (ap (λ (i : Instr). targets i.op) (head_same same) ∙ goes_on r (of_each IsFormed m.code i formed.instrs (contains_of s)) c) o) in
       turned x to_on v
     where
       turned : (x : Target) → x ≡ On → Live m r.number (code_at m.code after x) → Live m r.number next

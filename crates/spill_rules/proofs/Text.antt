@@ -179,6 +179,25 @@ all_results (formed_mark {f = f} {args = args} {results = results} h) =
     ⊎_elim (λ e. ap (λ b. cond b results []) e)
     (λ e. cond_none (has_results (mach.Mark f)) results (no_comps results e)) (gives_or f (comps args) (comps results) h)
 
+takes_or : (f : Mark) (cs ds : List Comp) → MarkHasForm f cs ds → (has_operands (mach.Mark f) ≡ true) ⊎ (cs ≡ [])
+takes_or f cs ds exit_form = inr refl
+takes_or f cs ds (if_form h) = inl refl
+takes_or f cs ds else_form = inr refl
+takes_or f cs ds switch_form = inl refl
+takes_or f cs ds case_form = inr refl
+takes_or f cs ds catch_form = inr refl
+takes_or f cs ds with_form = inr refl
+takes_or f cs ds try_form = inr refl
+takes_or f cs ds leave_form = inr refl
+takes_or f cs ds handler_form = inr refl
+takes_or f cs ds end_form = inr refl
+
+pub all_operands : {i : Instr} → IsFormed i → operands_of i ≡ i.args
+all_operands (formed_op h) = refl
+all_operands (formed_mark {f = f} {args = args} {results = results} h) =
+    ⊎_elim (λ e. ap (λ b. cond b args []) e)
+    (λ e. cond_none (has_operands (mach.Mark f)) args (no_comps args e)) (takes_or f (comps args) (comps results) h)
+
 pub operand_in : (i : Instr) (r : Reg) → Contains (operands_of i) r → Contains i.args r
 operand_in i r c = by (has_operands i.op) c
   where
