@@ -1,6 +1,6 @@
 -- The numbers of the tables are those of a split function.
 use Rattle.std.proofs.Common.{◌≡◌, ◌≢◌, ℕ, suc, ◌+◌, ◌-◌, ◌<◌, ◌≤◌, Bool, true, false, cond, ◌⊎◌, inl, inr, ⊎_elim, List, [], ◌∷◌, Option, Some, None, length, drop, refl, sym, ap, ◌∙◌, subst, arith}
-use Rattle.std.proofs.lemmas.Bool.{cases_Bool, eq-eqb, eqb-true, lt-ltb, le-ltb}
+use Rattle.std.proofs.lemmas.Bool.{cases_Bool, eq-eqb, lt-ltb, le-ltb}
 use Rattle.std.proofs.lemmas.List.{length-append, length-drop}
 use Rattle.std.proofs.lemmas.Option.{slice_get_within}
 use Rattle.std.specs.List.{Contains}
@@ -16,7 +16,6 @@ use Rattle.mach_ir.specs.declared.reg.Reg.{Reg}
 use Rattle.mach_ir.specs.declared.mach.Instr.{Instr}
 use Rattle.mach_ir.specs.declared.mach.Mach.{Mach}
 use Rattle.mach_laws.specs.Expand.{Ending, all, more}
-use Rattle.mach_laws.specs.Graph.{place_of}
 use Rattle.mach_laws.proofs.Places.{ending_next}
 use Rattle.mach_laws.proofs.Walking.{none_in, first_in, drop_ending, place_is}
 use Rattle.places_rules.proofs.Walked.{split_among}
@@ -407,12 +406,14 @@ module _ (m : Mach) (free : ℕ) (t : Tables) (formed : WellFormed m) (placed : 
       (sym (subst (λ xs. slice_get xs (slice_index tables.labels v) ≡ Some z.0) tables.writes.all z.1) ∙ k.1)) in
       record {
         first = after m z.0.left;
-        index = subst (λ k. HasIndex m n k (slice_index tables.labels v)) (sym left ∙ sym (length_after z.0.left (subst (λ k. k ≤ length m.code) (sym left) k.2))) k.1;
+        index = subst (λ k. HasIndex m n k (slice_index tables.labels v))
+            (sym left ∙ sym (length_after z.0.left (subst (λ k. k ≤ length m.code) (sym left) k.2))) k.1;
         joined = label_chain r i u from x v found (slice_index tables.labels v) refl z.0 z.1;
         least = λ to w chain index.
             let cw = indexed n (length to) w index in
             let there = subst (λ xs. slice_get xs w ≡ Some (record { left = length to; number = n })) (sym tables.writes.all) index in
-            let f = finds_first (all_of t.writes) (length to) (ws n) w (record { left = length to; number = n }) (tables.writes.grouped.rising n) cw there refl in
+            let f = finds_first (all_of t.writes) (length to) (ws n) w (record { left = length to; number = n })
+            (tables.writes.grouped.rising n) cw there refl in
             let cf = at_known (length to) n f.0 f.1 in
             let same : the_number n (slice_index tables.labels v) ≡ the_number n (slice_index tables.labels f.0) =
             sym (ap (name_of t.names.items n) found ∙ name_known n v cv) ∙ chained_equal m names agreeing chain
@@ -437,7 +438,9 @@ module _ (m : Mach) (free : ℕ) (t : Tables) (formed : WellFormed m) (placed : 
           let x = tables.reaching.sound p w (under_end (length m.code) (length next)) f.comes in
           let y = tables.writes.grouped.sound n w f.among in
           let number : x.0.number ≡ n = ap (λ (x : Write). x.number) (some_is x.0 y.0 (sym x.1 ∙ y.1)) ∙ y.2 in
-          absurd (none (after m x.0.left) (subst (λ n. Comes m n (after m x.0.left) (i ∷ next)) number (subst (Comes m x.0.number (after m x.0.left)) (code_there s) x.2)))
+          absurd (none (after m x.0.left)
+          (subst (λ n. Comes m n (after m x.0.left) (i ∷ next)) number
+          (subst (Comes m x.0.number (after m x.0.left)) (code_there s) x.2)))
         where
           under_end : (a b : ℕ) → a - 1 - b ≤ a
           under_end a b = omega arith

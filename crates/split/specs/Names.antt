@@ -1,5 +1,5 @@
 -- The numbers of writes, and the naming that tables give.
-use Rattle.std.specs.Prelude.{◌≡◌, ℕ, ◌+◌, ◌-◌, Bool, cond, List, [], ◌∷◌, Option, Some, None, length, slice_get, slice_index}
+use Rattle.std.specs.Prelude.{◌≡◌, ℕ, ◌+◌, ◌-◌, Bool, cond, List, [], ◌∷◌, Option, Some, None, slice_get, slice_index}
 use Rattle.bs_bits.specs.Set.{has}
 use Rattle.dataflow.specs.Rows.{row}
 use Rattle.mach_ir.specs.declared.mach.Mach.{Mach}

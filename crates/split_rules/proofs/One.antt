@@ -1,5 +1,5 @@
 -- A function splits in one way.
-use Rattle.std.proofs.Common.{◌≡◌, ◌≢◌, ℕ, ◌≤◌, Bool, true, false, ⊎_elim, List, [], ◌∷◌, length, refl, sym, ap, ◌∙◌, subst, arith}
+use Rattle.std.proofs.Common.{◌≡◌, ◌≢◌, ℕ, Bool, true, false, ⊎_elim, List, [], ◌∷◌, length, refl, sym, ap, ◌∙◌, subst, arith}
 use Rattle.std.proofs.lemmas.Bool.{eq-eqb, eqb-true}
 use Rattle.std.specs.List.{Contains}
 use Rattle.std.specs.Prelude.{nat_eq}
@@ -13,11 +13,11 @@ use Rattle.mach_laws.proofs.Walking.{none_in, first_in, later_in, in_cons}
 use Rattle.places_rules.proofs.Walked.{left_among}
 use Rattle.mach_ir.specs.Meaning.{killed}
 use Rattle.split_rules.specs.Order.{IsFirstOfWeb, IsByFirst, kept, given, IsNumberOfWeb}
-use Rattle.split_rules.specs.Renamed.{Naming, numbered, all_numbered, renamed_instr, renamed_code, renamed}
+use Rattle.split_rules.specs.Renamed.{Naming, numbered, all_numbered, renamed_instr, renamed_code}
 use Rattle.split_rules.specs.Split.{IsNaming, AreByFirst, IsSplit}
 use Rattle.split_rules.specs.Writes.{Comes, IsWrite, by_instr}
 use Rattle.split_rules.proofs.Result.{comes_write}
-use Rattle.split_rules.proofs.Text.{number_among, args_in, results_in}
+use Rattle.split_rules.proofs.Text.{args_in, results_in}
 
 differ : (b : Bool) → b ≡ true → b ≡ false → ⊥
 differ b e h = cc
