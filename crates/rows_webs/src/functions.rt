@@ -2,7 +2,9 @@
 use crate::code::{A0, A1, Code, name, open, slot};
 use anyhow::Result;
 use bs_words::{CmpOp, Comp, IntOp, Ret};
-use mach_ir::{Callee, Calling, CopyKind, Leaving, Mach, Mark, Op, Pure, Right, Test};
+use mach_ir::{
+    Callee, Calling, CopyKind, External, Leaving, Mach, Mark, Op, Pure, Right, Seq, Test,
+};
 use std::alloc::Global;
 
 const MOVE: Op = Op::Pure(Pure::Copy(CopyKind::Move));
@@ -33,6 +35,24 @@ fn call(alloc: Global) -> Result<Op> {
     }))
 }
 
+/// An external call that takes nothing and gives nothing.
+fn poll(alloc: Global) -> Result<Op> {
+    let row = External {
+        name: name(alloc, "caml_poll")?,
+        params: Seq::from_vec(Vec::new(alloc)),
+        result: Ret::Unit,
+    };
+    Ok(Op::Calling(Calling::External { row, frame: false }))
+}
+
+/// A test whether a register is below a number, and else a label.
+fn below(word: u64, otherwise: u32) -> Mark {
+    Mark::If {
+        test: Test::Signed(CmpOp::Lt, Right::Constant(word)),
+        otherwise,
+    }
+}
+
 /// A register that is reloaded from one slot after each of two calls, and read after each reload.
 pub(crate) fn reloads(alloc: Global) -> Result<Mach> {
     let mut code = Code::new(alloc);
@@ -60,14 +80,7 @@ pub(crate) fn loops(alloc: Global) -> Result<Mach> {
     code.mark(Mark::Catch)?;
     code.mark(Mark::Exit { label: 1, tries: 0 })?;
     code.mark(Mark::With { label: 1, end: 2 })?;
-    let less = Test::Signed(CmpOp::Lt, Right::Constant(10));
-    code.test(
-        Mark::If {
-            test: less,
-            otherwise: 3,
-        },
-        &[count],
-    )?;
+    code.test(below(10, 3), &[count])?;
     code.op(add(1), &[count], &[count])?;
     code.mark(Mark::Exit { label: 1, tries: 0 })?;
     code.mark(Mark::Else { label: 3, end: 4 })?;
@@ -186,14 +199,7 @@ pub(crate) fn rounds(alloc: Global) -> Result<Mach> {
     code.mark(Mark::Catch)?;
     code.mark(Mark::Exit { label: 1, tries: 0 })?;
     code.mark(Mark::With { label: 1, end: 2 })?;
-    let less = Test::Signed(CmpOp::Lt, Right::Constant(10));
-    code.test(
-        Mark::If {
-            test: less,
-            otherwise: 3,
-        },
-        &[count],
-    )?;
+    code.test(below(10, 3), &[count])?;
     code.op(MOVE, &[count], &[A0])?;
     code.op(call(alloc)?, &[A0], &[A0])?;
     code.op(PLUS, &[count, step], &[count])?;
@@ -204,4 +210,78 @@ pub(crate) fn rounds(alloc: Global) -> Result<Mach> {
     code.op(MOVE, &[count], &[A0])?;
     code.op(RETURN, &[A0], &[])?;
     code.function("rounds", &[A0])
+}
+
+/// A web that two reads join, the first by its last write and the second by that and one in between, and
+/// a web before it.
+pub(crate) fn webs(alloc: Global) -> Result<Mach> {
+    let mut code = Code::new(alloc);
+    let value = open(21);
+    let sum = open(22);
+    code.op(MOVE, &[A0], &[value])?;
+    code.op(MOVE, &[value], &[A0])?;
+    code.op(constant(1), &[], &[value])?;
+    code.mark(Mark::Catch)?;
+    code.mark(Mark::Exit { label: 1, tries: 0 })?;
+    code.mark(Mark::With { label: 1, end: 2 })?;
+    code.op(add(5), &[value], &[sum])?;
+    code.test(below(10, 3), &[sum])?;
+    code.op(constant(2), &[], &[value])?;
+    code.mark(Mark::Else { label: 3, end: 4 })?;
+    code.op(constant(3), &[], &[value])?;
+    code.test(below(20, 5), &[sum])?;
+    code.mark(Mark::Exit { label: 1, tries: 0 })?;
+    code.mark(Mark::Else { label: 5, end: 6 })?;
+    code.mark(Mark::End { label: 6 })?;
+    code.mark(Mark::End { label: 4 })?;
+    code.mark(Mark::End { label: 2 })?;
+    code.op(MOVE, &[value], &[A0])?;
+    code.op(RETURN, &[A0], &[])?;
+    code.function("webs", &[A0])
+}
+
+/// A register that is read after each of two calls.
+pub(crate) fn twice(alloc: Global) -> Result<Mach> {
+    let mut code = Code::new(alloc);
+    let value = open(21);
+    code.op(MOVE, &[A0], &[value])?;
+    code.op(MOVE, &[value], &[A0])?;
+    code.op(call(alloc)?, &[A0], &[A0])?;
+    code.op(MOVE, &[value], &[A0])?;
+    code.op(call(alloc)?, &[A0], &[A0])?;
+    code.op(MOVE, &[value], &[A0])?;
+    code.op(RETURN, &[A0], &[])?;
+    code.function("twice", &[A0])
+}
+
+/// Thirty registers that live over an external call, and their sum after it.
+pub(crate) fn many(alloc: Global) -> Result<Mach> {
+    let mut code = Code::new(alloc);
+    let sum = open(51);
+    for number in 21..51 {
+        code.op(constant(u64::from(number)), &[], &[open(number)])?;
+    }
+    code.op(poll(alloc)?, &[], &[])?;
+    code.op(PLUS, &[open(21), open(22)], &[sum])?;
+    for number in 23..51 {
+        code.op(PLUS, &[sum, open(number)], &[sum])?;
+    }
+    code.op(MOVE, &[sum], &[A0])?;
+    code.op(RETURN, &[A0], &[])?;
+    code.function("many", &[])
+}
+
+/// A call that no register lives over.
+pub(crate) fn short(alloc: Global) -> Result<Mach> {
+    let mut code = Code::new(alloc);
+    let before = open(21);
+    let after = open(22);
+    code.op(MOVE, &[A0], &[before])?;
+    code.op(MOVE, &[before], &[A0])?;
+    code.op(call(alloc)?, &[A0], &[A0])?;
+    code.op(MOVE, &[A0], &[after])?;
+    code.op(add(1), &[after], &[after])?;
+    code.op(MOVE, &[after], &[A0])?;
+    code.op(RETURN, &[A0], &[])?;
+    code.function("short", &[A0])
 }

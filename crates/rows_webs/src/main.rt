@@ -1,9 +1,9 @@
 //! Mach functions made by hand: what is live at each place of them, and the functions that splitting
-//! makes of them; and those that spilling makes.
+//! makes of them; and those that spilling makes, and splitting of these.
 //!
 //! `stdout` is by a reading of its own of what the terms mean: what is live by the least sets that the
-//! edges allow, webs by the writes that come to each operand, reloads by the calls that lead to a read,
-//! and stores by the reloads that a write comes to.
+//! edges allow, webs by the writes that come to each operand and their numbers by the first of them,
+//! reloads by the calls that lead to a read, and stores by the reloads that a write comes to.
 #![tactic(auto)]
 
 mod code;
@@ -51,12 +51,15 @@ fn put<W: Write>(alloc: Global, out: &mut W, mach: Mach) -> Result<()> {
     Ok(())
 }
 
-/// The function, and what spilling makes of it.
+/// The function, what spilling makes of it, and what splitting makes of that.
 fn put_spilled<W: Write>(alloc: Global, out: &mut W, mach: Mach) -> Result<()> {
     out.write_all(text(alloc, &mach)?.as_slice())?;
     let live = live(alloc, &mach)?;
     let made = spill(alloc, mach, &live)?;
     out.write_all(b"spilled ")?;
+    out.write_all(text(alloc, &made)?.as_slice())?;
+    let made = split(alloc, made)?;
+    out.write_all(b"spilled and split ")?;
     out.write_all(text(alloc, &made)?.as_slice())?;
     Ok(())
 }
@@ -68,10 +71,14 @@ fn main(rt: HostRuntime) -> Result<()> {
     put(alloc, &mut out, functions::loops(alloc)?)?;
     put(alloc, &mut out, functions::handled(alloc)?)?;
     put(alloc, &mut out, functions::branches(alloc)?)?;
+    put(alloc, &mut out, functions::webs(alloc)?)?;
     put_spilled(alloc, &mut out, functions::calls(alloc)?)?;
     put_spilled(alloc, &mut out, functions::one_call(alloc)?)?;
     put_spilled(alloc, &mut out, functions::rounds(alloc)?)?;
     put_spilled(alloc, &mut out, functions::handled(alloc)?)?;
+    put_spilled(alloc, &mut out, functions::twice(alloc)?)?;
+    put_spilled(alloc, &mut out, functions::many(alloc)?)?;
+    put_spilled(alloc, &mut out, functions::short(alloc)?)?;
     out.flush()?;
     Ok(())
 }

@@ -8,11 +8,13 @@ use Rattle.mach_ir.specs.declared.reg.Reg.{Reg}
 use Rattle.mach_ir.specs.declared.mach.Mach.{Mach}
 use Rattle.std.proofs.lemmas.Bool.{cases_eq}
 use Rattle.std.proofs.lemmas.List.{length-set, length-map, map-set, get_or-map, get_or-set_same, get_or-set_other, take_more, take_all, length-append}
-use Rattle.mach_laws.proofs.Walking.{none_in, first_in, in_cons}
+use Rattle.std.proofs.lemmas.Option.{slice_get_within}
+use Rattle.mach_laws.proofs.Walking.{none_in, first_in, later_in, in_cons}
 use Rattle.liveness.proofs.Bounds.{split_in}
-use Rattle.split.specs.Writes.{members_in, writes_of, HasMember, IsGrouped}
+use Rattle.split_rules.specs.Order.{writes_of}
+use Rattle.split.specs.Writes.{members_in, HasMember, AreRising, ends, rises, IsGrouped}
 use Rattle.split.specs.declared.writes.Group as group
-use Rattle.split.specs.declared.writes.Write.{Write}
+use Rattle.split_rules.specs.declared.writes.Write.{Write}
 use Rattle.split.proofs.Members.{left_in, right_in, open_write}
 
 members_same : (gs : List group.Group) (k : ℕ) (g : group.Group) → k < length gs → members_in (set gs k g) k ≡ g.members.items
@@ -60,6 +62,15 @@ pushed_cases (z ∷ zs) y x zero e = inl e
 pushed_cases (z ∷ zs) y x (suc q) e =
     ⊎_elim (λ f. inl f) (λ f. inr (ap suc f.0, f.1)) (pushed_cases zs y x q e)
 
+rising_more : (ws : List ℕ) (w : ℕ) → AreRising ws → ((v : ℕ) → Contains ws v → v < w) → AreRising (ws ++ w ∷ [])
+rising_more [] w r above = rises (λ v c. absurd (none_in v c)) ends
+rising_more (u ∷ ws) w (rises low r) above =
+    rises
+    (λ v c.
+    ⊎_elim (low v) (λ d. ⊎_elim (λ e. subst (λ v. u < v) e (above u (first_in u ws))) (λ z. absurd (none_in v z)) (in_cons w v [] d))
+    (split_in ws (w ∷ []) v c))
+    (rising_more ws w r (λ v c. above v (later_in u v ws c)))
+
 module _ (writes : List Write) (free : ℕ) (old new : List group.Group) (x : Write) (w : ℕ) (end : w ≡ length writes)
     (has : HasMember old new x.number w) where
   in_group : (n v : ℕ) → Contains (members_in new n) v → Contains (members_in old n) v ⊎ ((n ≡ x.number) × (w ≡ v))
@@ -81,6 +92,19 @@ module _ (writes : List Write) (free : ℕ) (old new : List group.Group) (x : Wr
       (left_in (members_in old x.number) (w ∷ []) v (subst (λ n. Contains (members_in old n) v) e c))))
       (λ (ne : n ≢ x.number). subst (λ xs. Contains xs v) (sym (has.others n ne)) c) (cases_eq n x.number)
 
+  -- the members of a number rise, and the last index is above all
+  rising_in : IsGrouped writes free old → (n : ℕ) → AreRising (members_in new n)
+  rising_in g n =
+      ⊎_elim
+      (λ (e : n ≡ x.number).
+      subst (λ n. AreRising (members_in new n)) (sym e)
+      (subst AreRising (sym has.here)
+      (rising_more (members_in old x.number) w (g.rising x.number)
+      (λ v c.
+      let y = g.sound x.number v c in
+      let lt : v < length writes = slice_get_within writes v y.0 y.1 in omega (arith, lt, end)))))
+      (λ (ne : n ≢ x.number). subst AreRising (sym (has.others n ne)) (g.rising n)) (cases_eq n x.number)
+
   pub grouped_pushed : IsGrouped writes free old → IsGrouped (writes ++ x ∷ []) free new
   grouped_pushed g =
       record {
@@ -99,6 +123,7 @@ module _ (writes : List Write) (free : ℕ) (old new : List group.Group) (x : Wr
             (subst (λ v. Contains (members_in new x.number) v) (end ∙ sym h.0)
             (subst (λ xs. Contains xs w) (sym has.here)
             (right_in (members_in old x.number) (w ∷ []) w (first_in w []))))) (pushed_cases writes x y v e);
+        rising = rising_in g;
       }
 
 pub grouped_more : (writes : List Write) (free k w : ℕ) (old new : List group.Group) (d : Write) → k < length writes → w ≡ k →
@@ -140,6 +165,7 @@ none_grouped free k groups len e none =
       len = len ∙ e;
       sound = λ n w c. absurd (none_in w (subst (λ xs. Contains xs w) (none n) c));
       whole = λ w x h. absurd (nothing x h);
+      rising = λ n. subst AreRising (sym (none n)) ends;
     }
   where
     nothing : (x : Write) → None ≡ Some x → ⊥

@@ -1,6 +1,7 @@
 -- Labels of writes, as they are joined.
-use Rattle.std.proofs.Common.{◌≡◌, ℕ, zero, suc, ◌+◌, ◌<◌, ◌≤◌, Bool, true, false, cond, ◌⊎◌, inl, inr, ⊎_elim, List, [], ◌∷◌, ◌++◌, Option, Some, None, map, take, drop, length, refl, sym, ap, ◌∙◌, subst, arith}
+use Rattle.std.proofs.Common.{◌≡◌, ℕ, zero, suc, ◌+◌, ◌<◌, ◌≤◌, Bool, true, false, cond, ◌⊎◌, inl, inr, ⊎_elim, List, [], ◌∷◌, ◌++◌, Option, Some, None, map, min, max, take, drop, length, refl, sym, ap, ◌∙◌, subst, arith}
 use Rattle.std.proofs.lemmas.Bool.{cases_Bool, eq-eqb, eqb-true}
+use Rattle.std.proofs.Math.Nat.{max-eq_left, max-eq_right, min-eq_left, min-eq_right}
 use Rattle.std.proofs.Math.Seq.{drop-cons}
 use Rattle.std.proofs.lemmas.List.{take_more, take_all}
 use Rattle.std.proofs.lemmas.Option.{slice_get_within}
@@ -15,10 +16,10 @@ use Rattle.mach_ir.specs.declared.mach.Mach.{Mach}
 use Rattle.mach_laws.proofs.Walking.{none_in, first_in, later_in, in_cons}
 use Rattle.liveness.proofs.Bounds.{split_in}
 use Rattle.split_rules.specs.Writes.{Comes, Chained, same, meets}
-use Rattle.split.specs.Joins.{replaced, IsComing, Relabelled, as_it_was, as_another, Joins, AreLinked, AreSound, HaveOne, AreWebs, AreIndexes, JoinsReads}
+use Rattle.split.specs.Joins.{replaced, joined, IsComing, Relabelled, as_it_was, as_another, Joins, AreLinked, AreSound, HaveOne, AreWebs, AreIndexes, JoinsReads}
 use Rattle.split.specs.Reach.{AreReaching}
 use Rattle.split.specs.Writes.{all_of, members, AreWrites, after}
-use Rattle.split.specs.declared.writes.Write.{Write}
+use Rattle.split_rules.specs.declared.writes.Write.{Write}
 use Rattle.split.specs.declared.writes.Writes.{Writes}
 
 -- ---- one label in the place of another
@@ -41,9 +42,9 @@ replaced_itself k (x ∷ xs) =
     one true e = sym (eqb-true x k e)
     one false e = refl
 
-pub not_joined : (labels new : List ℕ) (to from : ℕ) → from ≡ to → new ≡ labels → new ≡ map (replaced from to) labels
-not_joined labels new to from e h =
-    h ∙ sym (replaced_itself to labels) ∙ ap (λ k. map (replaced k to) labels) (sym e)
+pub not_joined : (labels new : List ℕ) (one other : ℕ) → max one other ≡ min one other → new ≡ labels → new ≡ joined labels one other
+not_joined labels new one other e h =
+    h ∙ sym (replaced_itself (min one other) labels) ∙ ap (λ k. map (replaced k (min one other)) labels) (sym e)
 
 -- the label of one that had this label, and of one that had another
 was_that : (from to label : ℕ) → label ≡ from → replaced from to label ≡ to
@@ -63,13 +64,18 @@ member_more ms k d w lt c =
 pub record Joining (old now members : List ℕ) (k : ℕ) (rows : List (List Bool)) (p : ℕ) (found : Option ℕ) :
     Type 0 where
   pub len : length now ≡ length old
+  pub less : (w : ℕ) → w < length old → slice_index now w ≤ slice_index old w
   pub keeps : (w v : ℕ) → w < length old → v < length old → slice_index old w ≡ slice_index old v →
       slice_index now w ≡ slice_index now v
-  pub untouched : found ≡ None → now ≡ old
   pub none : found ≡ None → (w : ℕ) → Contains (take k members) w → has (row rows p) w ≡ true → ⊥
-  pub some : (f : ℕ) → found ≡ Some f → IsComing members rows p f × (slice_index now f ≡ slice_index old f)
+  pub some : (f : ℕ) → found ≡ Some f → IsComing members rows p f
       × ((w : ℕ) → Contains (take k members) w → has (row rows p) w ≡ true → slice_index now w ≡ slice_index now f)
   pub from : (w : ℕ) → w < length old → Relabelled old now members rows p w
+
+either : (a b : ℕ) → (a ≤ b) ⊎ (b ≤ a)
+either zero b = inl (omega arith)
+either (suc a) zero = inr (omega arith)
+either (suc a) (suc b) = ⊎_elim (λ le. inl (omega (arith, le))) (λ le. inr (omega (arith, le))) (either a b)
 
 no_some : (f : ℕ) → None ≡ Some f → ⊥
 no_some f e = cc
@@ -89,8 +95,8 @@ module _ (members : List ℕ) (rows : List (List Bool)) (p : ℕ) where
   joining_begun labels =
       record {
         len = refl;
+        less = λ w lt. omega arith;
         keeps = λ w v a b e. e;
-        untouched = λ e. refl;
         none = λ e w c h. no_members members w c;
         some = λ f e. absurd (no_some f e);
         from = λ w lt. as_it_was refl;
@@ -117,17 +123,16 @@ module _ (members : List ℕ) (rows : List (List Bool)) (p : ℕ) where
     joining_passed found out j =
         record {
           len = j.len;
+          less = j.less;
           keeps = j.keeps;
-          untouched = j.untouched;
           none = λ e v c h.
               ⊎_elim (λ z. j.none e v z h)
               (λ s. not_both (has (row rows p) w) (ap (has (row rows p)) s ∙ h) out) (last_or v c);
           some = λ f e.
               let s = j.some f e in (
                 s.0,
-                s.1,
                 λ v c h.
-                    ⊎_elim (λ z. s.2 v z h)
+                    ⊎_elim (λ z. s.1 v z h)
                     (λ z. absurd (not_both (has (row rows p) w) (ap (has (row rows p)) z ∙ h) out)) (last_or v c),
               );
           from = j.from;
@@ -138,13 +143,12 @@ module _ (members : List ℕ) (rows : List (List Bool)) (p : ℕ) where
     joining_first comes j =
         record {
           len = j.len;
+          less = j.less;
           keeps = j.keeps;
-          untouched = λ e. absurd (some_none w e);
           none = λ e. absurd (some_none w e);
           some = λ f e.
               let same : w ≡ f = some_is w f e in (
                 subst (IsComing members rows p) same (record { member = member; comes = comes }),
-                ap (λ xs. slice_index xs f) (j.untouched refl),
                 λ v c h.
                     ⊎_elim (λ z. absurd (j.none refl v z h))
                     (λ z. ap (slice_index now) (sym z ∙ same)) (last_or v c),
@@ -152,52 +156,63 @@ module _ (members : List ℕ) (rows : List (List Bool)) (p : ℕ) where
           from = j.from;
         }
 
-    pub joining_joined : (new : List ℕ) (one : ℕ) → has (row rows p) w ≡ true → ((v : ℕ) → Contains members v → v < length now) →
-        new ≡ map (replaced (slice_index now w) (slice_index now one)) now →
+    -- the label of the one comes in the place of the other's, which is not less
+    pub joining_joined : (new : List ℕ) (one low high : ℕ) → has (row rows p) w ≡ true → ((v : ℕ) → Contains members v → v < length now) →
+        ((low ≡ one) × (high ≡ w)) ⊎ ((low ≡ w) × (high ≡ one)) → slice_index now low ≤ slice_index now high →
+        new ≡ map (replaced (slice_index now high) (slice_index now low)) now →
         Joining old now members k rows p (Some one) → Joining old new members (k + 1) rows p (Some one)
-    joining_joined new one comes within made j =
+    joining_joined new one low high comes within pair le made j =
         record {
           len = ap length made ∙ length_replaced f now ∙ j.len;
-          keeps = λ a b x y e.
-              made_at a (under a x) ∙ ap f (j.keeps a b x y e) ∙ sym (made_at b (under b y));
-          untouched = λ e. absurd (some_none one e);
+          less = λ v lt. fallen v lt;
+          keeps = λ a b x y e. alike a b (under a x) (under b y) (j.keeps a b x y e);
           none = λ e. absurd (some_none one e);
           some = λ g e.
               let eq : one ≡ g = some_is one g e in (
                 subst (IsComing members rows p) eq here.0,
-                subst (λ g. slice_index new g ≡ slice_index old g) eq (to_one one (within one here.0.member) refl ∙ here.1),
                 λ v c h.
                     subst (λ g. slice_index new v ≡ slice_index new g) eq
-                    (⊎_elim
-                    (λ z.
-                    let v_is = here.2 v z h in
-                    to_one v (within v (in_whole v c)) v_is ∙ sym (to_one one (within one here.0.member) refl))
-                    (λ z.
-                    made_at v (within v (in_whole v c))
-                    ∙ was_that (slice_index now w) (slice_index now one) (slice_index now v) (ap (slice_index now) (sym z))
-                    ∙ sym (to_one one (within one here.0.member) refl))
+                    (⊎_elim (λ z. alike v one (within v (in_whole v c)) (within one here.0.member) (here.1 v z h))
+                    (λ z. ap (slice_index new) (sym z) ∙ together)
                     (last_or v c)),
               );
           from = λ v lt.
-              ⊎_elim (λ e. moved v lt (eqb-true (slice_index now v) (slice_index now w) e))
+              ⊎_elim (λ e. moved v lt (eqb-true (slice_index now v) (slice_index now high) e))
               (λ e.
-              again v (made_at v (under v lt) ∙ was_other (slice_index now w) (slice_index now one) (slice_index now v) e)
+              again v (made_at v (under v lt) ∙ was_other (slice_index now high) (slice_index now low) (slice_index now v) e)
               (j.from v lt))
-              (cases_Bool (nat_eq (slice_index now v) (slice_index now w)));
+              (cases_Bool (nat_eq (slice_index now v) (slice_index now high)));
         }
       where
         f : ℕ → ℕ
-        f = replaced (slice_index now w) (slice_index now one)
+        f = replaced (slice_index now high) (slice_index now low)
 
-        here : IsComing members rows p one × (slice_index now one ≡ slice_index old one)
+        here : IsComing members rows p one
             × ((v : ℕ) → Contains (take k members) v → has (row rows p) v ≡ true → slice_index now v ≡ slice_index now one)
         here = j.some one refl
+
+        coming : IsComing members rows p w
+        coming = record { member = member; comes = comes }
+
+        low_comes : IsComing members rows p low
+        low_comes =
+            ⊎_elim (λ e. subst (IsComing members rows p) (sym e.0) here.0) (λ e. subst (IsComing members rows p) (sym e.0) coming) pair
+
+        high_comes : IsComing members rows p high
+        high_comes =
+            ⊎_elim (λ e. subst (IsComing members rows p) (sym e.1) coming) (λ e. subst (IsComing members rows p) (sym e.1) here.0) pair
 
         under : (v : ℕ) → v < length old → v < length now
         under v lt = let len = j.len in omega (arith, lt, len)
 
+        back : (v : ℕ) → v < length now → v < length old
+        back v lt = let len = j.len in omega (arith, lt, len)
+
         made_at : (v : ℕ) → v < length now → slice_index new v ≡ f (slice_index now v)
         made_at v lt = ap (λ xs. slice_index xs v) made ∙ at_replaced f now v lt
+
+        alike : (a b : ℕ) → a < length now → b < length now → slice_index now a ≡ slice_index now b → slice_index new a ≡ slice_index new b
+        alike a b x y e = made_at a x ∙ ap f e ∙ sym (made_at b y)
 
         in_whole : (v : ℕ) → Contains (take (k + 1) members) v → Contains members v
         in_whole v c = ⊎_elim (λ z. in_taken members k v z) (λ e. subst (Contains members) e member) (last_or v c)
@@ -210,42 +225,67 @@ module _ (members : List ℕ) (rows : List (List Bool)) (p : ℕ) where
                 ⊎_elim (λ e. subst (Contains (x ∷ xs)) e (first_in x xs)) (λ h. later_in x v xs (in_taken xs k v h))
                 (in_cons x v (take k xs) c)
 
-        -- what has the label of the first keeps it
-        to_one : (v : ℕ) → v < length now → slice_index now v ≡ slice_index now one → slice_index new v ≡ slice_index now one
-        to_one v lt e = made_at v lt ∙ ap f e ∙ itself (nat_eq (slice_index now one) (slice_index now w))
+        -- what had the lower label keeps it, and what had the other has it now
+        low_stays : slice_index new low ≡ slice_index now low
+        low_stays = made_at low (within low low_comes.member) ∙ itself (nat_eq (slice_index now low) (slice_index now high))
           where
-            itself : (b : Bool) → cond b (slice_index now one) (slice_index now one) ≡ slice_index now one
+            itself : (b : Bool) → cond b (slice_index now low) (slice_index now low) ≡ slice_index now low
             itself true = refl
             itself false = refl
+
+        to_low : (v : ℕ) → v < length now → slice_index now v ≡ slice_index now high → slice_index new v ≡ slice_index now low
+        to_low v lt e = made_at v lt ∙ was_that (slice_index now high) (slice_index now low) (slice_index now v) e
+
+        low_high : slice_index new low ≡ slice_index new high
+        low_high = low_stays ∙ sym (to_low high (within high high_comes.member) refl)
+
+        together : slice_index new w ≡ slice_index new one
+        together =
+            ⊎_elim (λ e. ap (slice_index new) (sym e.1) ∙ sym low_high ∙ ap (slice_index new) e.0)
+            (λ e. ap (slice_index new) (sym e.0) ∙ low_high ∙ ap (slice_index new) e.1) pair
+
+        fallen : (v : ℕ) → v < length old → slice_index new v ≤ slice_index old v
+        fallen v lt =
+            ⊎_elim
+            (λ e.
+            let same : slice_index now v ≡ slice_index now high = eqb-true (slice_index now v) (slice_index now high) e in
+            let moved = to_low v (under v lt) same in
+            let was = j.less v lt in omega (arith, le, same, moved, was))
+            (λ e.
+            let stays = made_at v (under v lt) ∙ was_other (slice_index now high) (slice_index now low) (slice_index now v) e in
+            let was = j.less v lt in omega (arith, stays, was))
+            (cases_Bool (nat_eq (slice_index now v) (slice_index now high)))
 
         again : (v : ℕ) → slice_index new v ≡ slice_index now v → Relabelled old now members rows p v →
             Relabelled old new members rows p v
         again v e (as_it_was h) = as_it_was (e ∙ h)
         again v e (as_another a b x y g h) = as_another a b x y g (e ∙ h)
 
-        coming : IsComing members rows p w
-        coming = record { member = member; comes = comes }
-
-        moved : (v : ℕ) → v < length old → slice_index now v ≡ slice_index now w → Relabelled old new members rows p v
-        moved v lt e = by (j.from v lt) (j.from w (back (within w member)))
+        -- whose the lower label was before
+        origin : (u : ℕ) × IsComing members rows p u × (slice_index now low ≡ slice_index old u)
+        origin = whose (j.from low (back low (within low low_comes.member)))
           where
-            back : w < length now → w < length old
-            back lt = let len = j.len in omega (arith, lt, len)
+            whose : Relabelled old now members rows p low → (u : ℕ) × IsComing members rows p u × (slice_index now low ≡ slice_index old u)
+            whose (as_it_was h) = (low, low_comes, h)
+            whose (as_another a b x y g h) = (b, y, h)
 
-            label : slice_index new v ≡ slice_index old one
-            label =
-                made_at v (under v lt) ∙ was_that (slice_index now w) (slice_index now one) (slice_index now v) e ∙ here.1
+        moved : (v : ℕ) → v < length old → slice_index now v ≡ slice_index now high → Relabelled old new members rows p v
+        moved v lt e = by (j.from v lt) (j.from high (back high (within high high_comes.member)))
+          where
+            label : slice_index new v ≡ slice_index old origin.0
+            label = to_low v (under v lt) e ∙ origin.2
 
-            by : Relabelled old now members rows p v → Relabelled old now members rows p w → Relabelled old new members rows p v
-            by (as_another a b x y g h) z = as_another a one x here.0 g label
-            by (as_it_was h) (as_it_was g) = as_another w one coming here.0 (sym h ∙ e ∙ g) label
-            by (as_it_was h) (as_another a b x y g i) = as_another b one y here.0 (sym h ∙ e ∙ i) label
+            by : Relabelled old now members rows p v → Relabelled old now members rows p high → Relabelled old new members rows p v
+            by (as_another a b x y g h) z = as_another a origin.0 x origin.1 g label
+            by (as_it_was h) (as_it_was g) = as_another high origin.0 high_comes origin.1 (sym h ∙ e ∙ g) label
+            by (as_it_was h) (as_another a b x y g i) = as_another b origin.0 y origin.1 (sym h ∙ e ∙ i) label
 
   pub joining_done : (old now : List ℕ) (k : ℕ) (found : Option ℕ) → length members ≤ k → Joining old now members k rows p found →
       Joins old now members rows p
   joining_done old now k found le j =
       record {
         len = j.len;
+        less = j.less;
         same = j.keeps;
         together = λ w v a b. by found (λ e. j.none e) (λ f e. j.some f e) w v a b;
         from = j.from;
@@ -255,12 +295,12 @@ module _ (members : List ℕ) (rows : List (List Bool)) (p : ℕ) where
       whole w c = subst (λ xs. Contains xs w) (sym (take_all k members le)) c
 
       by : (o : Option ℕ) → (o ≡ None → (w : ℕ) → Contains (take k members) w → has (row rows p) w ≡ true → ⊥) →
-          ((f : ℕ) → o ≡ Some f → IsComing members rows p f × (slice_index now f ≡ slice_index old f)
+          ((f : ℕ) → o ≡ Some f → IsComing members rows p f
           × ((w : ℕ) → Contains (take k members) w → has (row rows p) w ≡ true → slice_index now w ≡ slice_index now f)) →
           (w v : ℕ) → IsComing members rows p w → IsComing members rows p v → slice_index now w ≡ slice_index now v
       by None none some w v a b = absurd (none refl w (whole w a.member) a.comes)
       by (Some f) none some w v a b =
-          let s = some f refl in s.2 w (whole w a.member) a.comes ∙ sym (s.2 v (whole v b.member) b.comes)
+          let s = some f refl in s.1 w (whole w a.member) a.comes ∙ sym (s.1 v (whole v b.member) b.comes)
 
 -- ---- the steps of the loop
 
@@ -289,13 +329,31 @@ module _ (old now : List ℕ) (ms : List ℕ) (rows : List (List Bool)) (p k : �
 
     pub step_joined : has (row rows p) (slice_index_or ms k d) ≡ true → (one : ℕ) → found ≡ Some one →
         All (λ w. w < length old) ms →
-        now' ≡ map (replaced (slice_index now (slice_index_or ms k d)) (slice_index now one)) now → found' ≡ found →
+        now' ≡ joined now (slice_index now one) (slice_index now (slice_index_or ms k d)) → found' ≡ found →
         Joining old now' ms (k + 1) rows p found'
     step_joined comes one some below e h =
         subst (Joining old now' ms (k + 1) rows p) (sym (h ∙ some))
-        (joining_joined ms rows p old now k lt d (slice_index_or ms k d) refl now' one comes within e
-        (subst (Joining old now ms k rows p) some j))
+        (⊎_elim
+        (λ le.
+        joining_joined ms rows p old now k lt d w refl now' one one w comes within (inl (refl, refl)) le
+        (e ∙ ap (λ k. map (replaced k (min a b)) now) (max-eq_right le) ∙ ap (λ k. map (replaced b k) now) (min-eq_left le)) before)
+        (λ le.
+        joining_joined ms rows p old now k lt d w refl now' one w one comes within (inr (refl, refl)) le
+        (e ∙ ap (λ k. map (replaced k (min a b)) now) (max-eq_left le) ∙ ap (λ k. map (replaced a k) now) (min-eq_right le)) before)
+        (either a b))
       where
+        w : ℕ
+        w = slice_index_or ms k d
+
+        a : ℕ
+        a = slice_index now one
+
+        b : ℕ
+        b = slice_index now w
+
+        before : Joining old now ms k rows p (Some one)
+        before = subst (Joining old now ms k rows p) some j
+
         within : (v : ℕ) → Contains ms v → v < length now
         within v c =
             let lt : v < length old = subst (λ w. w < length old) c.2 (below c.0 v c.1) in
@@ -396,6 +454,7 @@ module _ (t : Writes) (rows : List (List Bool)) (p : ℕ) where
   reads_begun labels args =
       record {
         len = refl;
+        less = λ w lt. omega arith;
         same = λ w v a b e. e;
         one = λ n a. absurd (none args n a);
         sound = λ m s linked. s;
@@ -411,6 +470,8 @@ module _ (t : Writes) (rows : List (List Bool)) (p : ℕ) where
   reads_more old now new args k d ms lt same_members below joins before =
       record {
         len = j.len ∙ before.len;
+        less = λ w lt.
+            let now_less = j.less w (now_under w lt) in let was_less = before.less w lt in omega (arith, now_less, was_less);
         same = λ w v a b e. j.same w v (now_under w a) (now_under v b) (before.same w v a b e);
         one = λ n a.
             ⊎_elim
@@ -472,6 +533,7 @@ module _ (t : Writes) (rows : List (List Bool)) (p : ℕ) where
 
 pub record WebsBefore (m : Mach) (t : Writes) (rows : List (List Bool)) (labels : List ℕ) (place : ℕ) : Type 0 where
   pub sound : AreSound m t labels
+  pub least : (w : ℕ) → w < length labels → slice_index labels w ≤ w
   pub one : (p : ℕ) (i : Instr) (next : List Instr) (n : ℕ) → p < place → drop p m.code ≡ i ∷ next → Among n i.args →
       HaveOne t rows labels p n
 
@@ -528,6 +590,7 @@ module _ (m : Mach) (free : ℕ) (t : Writes) (rows : List (List Bool)) (writes 
           len = len;
           linked = λ w lt. subst (AreLinked m t w) (sym (own w lt)) (link_itself m t w (omega (arith, lt, len)));
         };
+        least = λ w lt. let e = own w lt in omega (arith, e);
         one = λ p i next n lt. absurd (omega (arith, lt));
       }
 
@@ -536,6 +599,9 @@ module _ (m : Mach) (free : ℕ) (t : Writes) (rows : List (List Bool)) (writes 
   webs_more old new place i next lt at before j =
       record {
         sound = j.sound m before.sound (λ n w v a x y. coming_linked place i next n w v (omega (arith, lt)) at a x y);
+        least = λ w lt.
+            let old_lt : w < length old = let len = j.len in omega (arith, lt, len) in
+            let fallen = j.less w old_lt in let was = before.least w old_lt in omega (arith, fallen, was);
         one = λ p k rest n le there a.
             ⊎_elim
             (λ less.
@@ -570,6 +636,7 @@ module _ (m : Mach) (free : ℕ) (t : Writes) (rows : List (List Bool)) (writes 
   webs_done labels place le w =
       record {
         sound = w.sound;
+        least = w.least;
         one = λ p i next n at a. w.one p i next n (under p i next at) at a;
       }
     where

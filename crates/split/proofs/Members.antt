@@ -1,5 +1,5 @@
 -- What the table of writes has.
-use Rattle.std.proofs.Common.{◌≡◌, ◌≢◌, ℕ, zero, suc, Bool, true, false, cond, ⊎_elim, List, [], ◌∷◌, ◌++◌, Option, Some, None, length, refl, sym, ap, ◌∙◌, subst}
+use Rattle.std.proofs.Common.{◌≡◌, ◌≢◌, ℕ, zero, suc, ◌<◌, ◌≤◌, Bool, true, false, cond, ◌⊎◌, inl, inr, ⊎_elim, List, [], ◌∷◌, ◌++◌, Option, Some, None, length, refl, sym, ap, ◌∙◌, subst, arith}
 use Rattle.std.proofs.lemmas.Bool.{eq-eqb, eqb-true}
 use Rattle.std.specs.List.{Contains}
 use Rattle.std.specs.Prelude.{slice_get}
@@ -15,9 +15,10 @@ use Rattle.mach_ir.specs.declared.mach.Mach.{Mach}
 use Rattle.mach_laws.proofs.Walking.{none_in, first_in, later_in, in_cons}
 use Rattle.liveness.proofs.Bounds.{split_in, killed_is_colour}
 use Rattle.split_rules.proofs.Text.{number_among}
-use Rattle.split.specs.Writes.{is_open, write_of, open_writes, code_writes, writes_of, has_left, is_at, find_at}
+use Rattle.split_rules.specs.Order.{is_open, write_of, open_writes, code_writes, writes_of}
+use Rattle.split.specs.Writes.{has_left, is_at, find_at, AreRising, rises, is_first}
 use Rattle.split.specs.Names.{find_coming}
-use Rattle.split.specs.declared.writes.Write.{Write}
+use Rattle.split_rules.specs.declared.writes.Write.{Write}
 
 -- ---- lists
 
@@ -157,6 +158,58 @@ module _ (m : Mach) (formed : WellFormed m) (colour_fixed : (r : Reg) → Contai
   fixed_no_write r x i h o e =
       h (ap (λ (r : Reg). r.loc) (formed.numbers r o.register i o.among (sym (o.number ∙ e))) ∙ o.unset)
 
+-- ---- the first
+
+pub first_low : (u : ℕ) (us : List ℕ) (w : ℕ) → AreRising (u ∷ us) → Contains (u ∷ us) w → u ≤ w
+first_low u us w (rises low r) c = ⊎_elim (λ e. omega (arith, e)) (λ d. let lt = low w d in omega (arith, lt)) (in_cons u w us c)
+
+pub first_least : (ws : List ℕ) (l w : ℕ) → AreRising ws → is_first ws l ≡ true → Contains ws w → l ≤ w
+first_least [] l w r e c = absurd (none_in w c)
+first_least (u ∷ us) l w r e c =
+    let low = first_low u us w r c in let same : u ≡ l = eqb-true u l e in omega (arith, low, same)
+
+pub one_first : (ws : List ℕ) (l k : ℕ) → is_first ws l ≡ true → is_first ws k ≡ true → l ≡ k
+one_first [] l k e h = absurd (not_both false e refl)
+one_first (u ∷ us) l k e h = sym (eqb-true u l e) ∙ eqb-true u k h
+
+-- ---- the entry's writes stand first
+
+-- what is got is in one part or the other
+got_part : {A : Type 0} (xs ys : List A) (w : ℕ) (x : A) → slice_get (xs ++ ys) w ≡ Some x →
+    ((w < length xs) × Contains xs x) ⊎ ((length xs ≤ w) × Contains ys x)
+got_part [] ys w x e = inr (omega arith, got_in ys w x e)
+got_part (z ∷ zs) ys zero x e = inl (omega arith, got_in (z ∷ zs) zero x e)
+got_part (z ∷ zs) ys (suc w) x e =
+    ⊎_elim (λ h. inl (let lt = h.0 in omega (arith, lt), later_in z x zs h.1)) (λ h. inr (let le = h.0 in omega (arith, le), h.1))
+    (got_part zs ys w x e)
+
+open_left : (k : ℕ) (rs : List Reg) (x : Write) → Contains (open_writes k rs) x → x.left ≡ k
+open_left k rs x c = let w = open_was k rs x c in ap (λ (x : Write). x.left) (sym w.same)
+
+code_left : (code : List Instr) (x : Write) → Contains (code_writes code) x → x.left < length code
+code_left [] x c = absurd (none_in x c)
+code_left (i ∷ is) x c =
+    ⊎_elim (λ h. let e = open_left (length is) i.results x h in omega (arith, e))
+    (λ h. let lt = code_left is x h in omega (arith, lt)) (split_in (open_writes (length is) i.results) (code_writes is) x c)
+
+pub at_entry : (m : Mach) (w : ℕ) (x : Write) → slice_get (writes_of m) w ≡ Some x → x.left ≡ length m.code →
+    w < length (open_writes (length m.code) m.params)
+at_entry m w x e left =
+    ⊎_elim (λ h. h.0) (λ h. let lt = code_left m.code x h.1 in absurd (omega (arith, lt, left)))
+    (got_part (open_writes (length m.code) m.params) (code_writes m.code) w x e)
+
+pub entry_at : (m : Mach) (w : ℕ) (x : Write) → slice_get (writes_of m) w ≡ Some x →
+    w < length (open_writes (length m.code) m.params) → x.left ≡ length m.code
+entry_at m w x e lt =
+    ⊎_elim (λ h. open_left (length m.code) m.params x h.1) (λ h. let le = h.0 in absurd (omega (arith, le, lt)))
+    (got_part (open_writes (length m.code) m.params) (code_writes m.code) w x e)
+
+pub left_within : (m : Mach) (w : ℕ) (x : Write) → slice_get (writes_of m) w ≡ Some x → x.left ≤ length m.code
+left_within m w x e =
+    ⊎_elim (λ h. let s = open_left (length m.code) m.params x h.1 in omega (arith, s))
+    (λ h. let lt = code_left m.code x h.1 in omega (arith, lt))
+    (got_part (open_writes (length m.code) m.params) (code_writes m.code) w x e)
+
 -- ---- looking for one
 
 pub record FoundAt (writes : List Write) (k : ℕ) (ws : List ℕ) (w : ℕ) : Type 0 where
@@ -202,6 +255,21 @@ finds_at writes k (v ∷ ws) w x c e h = by (is_at writes v k) refl (λ d. finds
     by : (b : Bool) → is_at writes v k ≡ b → (Contains ws w → (u : ℕ) × (find_at writes k ws ≡ Some u)) →
         (u : ℕ) × (cond b (Some v) (find_at writes k ws) ≡ Some u)
     by true t ih = (v, refl)
+    by false t ih = ih (⊎_elim (λ s. absurd (not_both (is_at writes v k) (here_is s) t)) (λ d. d) (in_cons v w ws c))
+
+-- the first that is found is not after any other
+pub finds_first : (writes : List Write) (k : ℕ) (ws : List ℕ) (w : ℕ) (x : Write) → AreRising ws → Contains ws w →
+    slice_get writes w ≡ Some x → x.left ≡ k → (v : ℕ) × (find_at writes k ws ≡ Some v) × (v ≤ w)
+finds_first writes k [] w x rising c e h = absurd (none_in w c)
+finds_first writes k (v ∷ ws) w x (rises low r) c e h =
+    by (is_at writes v k) refl (λ d. finds_first writes k ws w x r d e h)
+  where
+    here_is : v ≡ w → is_at writes v k ≡ true
+    here_is s = ap (λ w. has_left (slice_get writes w) k) s ∙ ap (λ o. has_left o k) e ∙ eq-eqb x.left k h
+
+    by : (b : Bool) → is_at writes v k ≡ b → (Contains ws w → (u : ℕ) × (find_at writes k ws ≡ Some u) × (u ≤ w)) →
+        (u : ℕ) × (cond b (Some v) (find_at writes k ws) ≡ Some u) × (u ≤ w)
+    by true t ih = (v, refl, first_low v ws w (rises low r) c)
     by false t ih = ih (⊎_elim (λ s. absurd (not_both (is_at writes v k) (here_is s) t)) (λ d. d) (in_cons v w ws c))
 
 pub record FoundComing (set : List Bool) (ws : List ℕ) (w : ℕ) : Type 0 where

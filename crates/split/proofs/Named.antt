@@ -1,7 +1,7 @@
 -- The numbers of the tables are those of a split function.
 use Rattle.std.proofs.Common.{◌≡◌, ◌≢◌, ℕ, suc, ◌+◌, ◌-◌, ◌<◌, ◌≤◌, Bool, true, false, cond, ◌⊎◌, inl, inr, ⊎_elim, List, [], ◌∷◌, Option, Some, None, length, drop, refl, sym, ap, ◌∙◌, subst, arith}
-use Rattle.std.proofs.lemmas.Bool.{cases_Bool, eq-eqb, eqb-true, lt-ltb, le-ltb}
-use Rattle.std.proofs.lemmas.List.{length-append}
+use Rattle.std.proofs.lemmas.Bool.{cases_Bool, eq-eqb, lt-ltb, le-ltb}
+use Rattle.std.proofs.lemmas.List.{length-append, length-drop}
 use Rattle.std.proofs.lemmas.Option.{slice_get_within}
 use Rattle.std.specs.List.{Contains}
 use Rattle.std.specs.Prelude.{nat_lt, slice_get, slice_index}
@@ -16,23 +16,23 @@ use Rattle.mach_ir.specs.declared.reg.Reg.{Reg}
 use Rattle.mach_ir.specs.declared.mach.Instr.{Instr}
 use Rattle.mach_ir.specs.declared.mach.Mach.{Mach}
 use Rattle.mach_laws.specs.Expand.{Ending, all, more}
-use Rattle.mach_laws.specs.Graph.{place_of}
 use Rattle.mach_laws.proofs.Places.{ending_next}
-use Rattle.mach_laws.proofs.Walking.{drop_ending, place_is}
+use Rattle.mach_laws.proofs.Walking.{none_in, first_in, drop_ending, place_is}
 use Rattle.places_rules.proofs.Walked.{split_among}
 use Rattle.liveness.proofs.Bounds.{killed_is_colour}
 use Rattle.split_rules.specs.Renamed.{Naming, renamed, renamed_code}
-use Rattle.split_rules.specs.Split.{IsNaming, JoinsExactly, IsDense, IsSplit}
+use Rattle.split_rules.specs.Split.{IsNaming, JoinsExactly, AreByFirst, IsDense, IsSplit}
 use Rattle.split_rules.specs.Writes.{Comes, Chained, IsWrite, by_entry, by_instr}
 use Rattle.split_rules.proofs.Text.{number_among, args_in, results_in}
 use Rattle.split_rules.proofs.Result.{comes_write, chained_equal}
 use Rattle.split_rules.proofs.Whole.{fixed_colours}
-use Rattle.split.specs.Names.{or_first, keeper, has_label, new_number, find_coming, or_name, name_of, naming, AreTables}
-use Rattle.split.specs.Writes.{is_open, write_of, open_writes, code_writes, writes_of, all_of, members, find_at, after}
+use Rattle.split.specs.Names.{new_number, find_coming, or_name, name_of, naming, AreTables}
+use Rattle.split_rules.specs.Order.{is_open, write_of, open_writes, code_writes, writes_of, HasIndex, IsFirstOfWeb, IsFirstOfAll, IsByFirst, kept, given}
+use Rattle.split.specs.Writes.{all_of, members, AreRising, has_left, find_at, is_first, after}
 use Rattle.split.specs.declared.tables.Tables.{Tables}
-use Rattle.split.specs.declared.writes.Write.{Write}
+use Rattle.split_rules.specs.declared.writes.Write.{Write}
 use Rattle.split.proofs.Joining.{chain_turned, chain_on}
-use Rattle.split.proofs.Members.{some_is, got_in, in_got, left_in, right_in, in_open, in_writes, is_unset, IsOpenWrite, open_write, fixed_no_write, found_at, finds_at, found_coming, finds_coming}
+use Rattle.split.proofs.Members.{some_is, got_in, in_got, left_in, right_in, in_open, in_writes, is_unset, IsOpenWrite, open_write, fixed_no_write, found_at, finds_at, finds_first, first_low, first_least, one_first, at_entry, entry_at, left_within, found_coming, finds_coming}
 
 differ : (b : Bool) → b ≡ true → b ≡ false → ⊥
 differ b e h = cc
@@ -62,7 +62,7 @@ module _ (m : Mach) (free : ℕ) (t : Tables) (formed : WellFormed m) (placed : 
   -- ---- one number
 
   abbrev the_number : ℕ → ℕ → ℕ
-  the_number n l = new_number t.writes tables.labels free (length m.code) n l
+  the_number n l = new_number t.writes free n l
 
   name_known : (n w : ℕ) → Contains (ws n) w → name_of t.names.items n (Some w) ≡ the_number n (slice_index tables.labels w)
   name_known n w c =
@@ -70,39 +70,25 @@ module _ (m : Mach) (free : ℕ) (t : Tables) (formed : WellFormed m) (placed : 
       ap (or_name n) (tables.names.each w x.0 x.1)
       ∙ ap (λ n. the_number n (slice_index tables.labels w)) x.2
 
+  number_by : (n l : ℕ) (b : Bool) → is_first (ws n) l ≡ b → the_number n l ≡ cond b n (free + l)
+  number_by n l b e = ap (λ b. cond b n (free + l)) e
+
   -- the old number, or one for the label
   kept_or : (n l : ℕ) → (the_number n l ≡ n) ⊎ (the_number n l ≡ free + l)
-  kept_or n l = by (has_label tables.labels (keeper t.writes (length m.code) n) l) refl
-    where
-      by : (b : Bool) → has_label tables.labels (keeper t.writes (length m.code) n) l ≡ b →
-          (the_number n l ≡ n) ⊎ (the_number n l ≡ free + l)
-      by true e = inl (ap (λ b. cond b n (free + l)) e)
-      by false e = inr (ap (λ b. cond b n (free + l)) e)
-
-  has_is : (o : Option ℕ) (l k : ℕ) → has_label tables.labels o l ≡ true → has_label tables.labels o k ≡ true → l ≡ k
-  has_is None l k e h = absurd (differ false e refl)
-  has_is (Some w) l k e h =
-      sym (eqb-true (slice_index tables.labels w) l e) ∙ eqb-true (slice_index tables.labels w) k h
+  kept_or n l = ⊎_elim (λ e. inl (number_by n l true e)) (λ e. inr (number_by n l false e)) (cases_Bool (is_first (ws n) l))
 
   -- webs of one register with one number are one
   label_is : (n l k : ℕ) → n < free → the_number n l ≡ the_number n k → l ≡ k
-  label_is n l k lt e =
-      by (has_label tables.labels (keeper t.writes (length m.code) n) l) (has_label tables.labels (keeper t.writes (length m.code) n) k)
-      refl refl
+  label_is n l k lt e = by (is_first (ws n) l) (is_first (ws n) k) refl refl
     where
-      number_by : (l : ℕ) (b : Bool) → has_label tables.labels (keeper t.writes (length m.code) n) l ≡ b →
-          the_number n l ≡ cond b n (free + l)
-      number_by l b s = ap (λ b. cond b n (free + l)) s
-
-      by : (b d : Bool) → has_label tables.labels (keeper t.writes (length m.code) n) l ≡ b →
-          has_label tables.labels (keeper t.writes (length m.code) n) k ≡ d → l ≡ k
-      by true true x y = has_is (keeper t.writes (length m.code) n) l k x y
+      by : (b d : Bool) → is_first (ws n) l ≡ b → is_first (ws n) k ≡ d → l ≡ k
+      by true true x y = one_first (ws n) l k x y
       by true false x y =
-          let s : n ≡ free + k = sym (number_by l true x) ∙ e ∙ number_by k false y in absurd (omega (arith, lt, s))
+          let s : n ≡ free + k = sym (number_by n l true x) ∙ e ∙ number_by n k false y in absurd (omega (arith, lt, s))
       by false true x y =
-          let s : free + l ≡ n = sym (number_by l false x) ∙ e ∙ number_by k true y in absurd (omega (arith, lt, s))
+          let s : free + l ≡ n = sym (number_by n l false x) ∙ e ∙ number_by n k true y in absurd (omega (arith, lt, s))
       by false false x y =
-          let s : free + l ≡ free + k = sym (number_by l false x) ∙ e ∙ number_by k false y in omega (arith, s)
+          let s : free + l ≡ free + k = sym (number_by n l false x) ∙ e ∙ number_by n k false y in omega (arith, s)
 
   -- ---- back
 
@@ -140,6 +126,19 @@ module _ (m : Mach) (free : ℕ) (t : Tables) (formed : WellFormed m) (placed : 
         l.is_other,
         sym l.number ∙ ap (λ (x : Write). x.number) (some_is l.one x.0 (sym l.is_one ∙ x.1)) ∙ x.2,
       )
+
+  -- the label is in the group too
+  label_among : (n w : ℕ) → Contains (ws n) w → Contains (ws n) (slice_index tables.labels w)
+  label_among n w c =
+      let x = label_write n w c in
+      subst (λ k. Contains (ws k) (slice_index tables.labels w)) x.2
+      (tables.writes.grouped.whole (slice_index tables.labels w) x.0 x.1)
+
+  label_low : (n w : ℕ) → Contains (ws n) w → slice_index tables.labels w ≤ w
+  label_low n w c =
+      let x = tables.writes.grouped.sound n w c in
+      let lt : w < length (all_of t.writes) = slice_get_within (all_of t.writes) w x.0 x.1 in
+      let len = tables.webs.sound.len in tables.webs.least w (omega (arith, lt, len))
 
   back_name : (n : ℕ) → n < free → (o : Option ℕ) → ((w : ℕ) → o ≡ Some w → Contains (ws n) w) → back_of (name_of t.names.items n o) ≡ n
   back_name n lt None known = back_old n lt
@@ -217,15 +216,24 @@ module _ (m : Mach) (free : ℕ) (t : Tables) (formed : WellFormed m) (placed : 
 
   -- ---- operands and their writes
 
+  code_there : {i : Instr} {next : List Instr} → Stands i next m.code → drop (length m.code - 1 - length next) m.code ≡ i ∷ next
+  code_there {i} {next} s =
+      sym (ap (λ p. drop p m.code) (place_at (length m.code) (length next))) ∙ place_is m (stands_ending s)
+    where
+      stands_ending : {i : Instr} {next code : List Instr} → Stands i next code → Ending (i ∷ next) code
+      stands_ending here = all
+      stands_ending (below s) = more (stands_ending s)
+
+      place_at : (a b : ℕ) → a - suc b ≡ a - 1 - b
+      place_at a b = omega arith
+
   open_agree : (r : Reg) → IsRegister m r → r.loc ≡ loc.Unset → (i : Instr) (next from : List Instr) → Stands i next m.code →
       Among r.number i.args → Comes m r.number from (i ∷ next) →
       names.read (length next) r.number ≡ names.write (length from) r.number
   open_agree r k u i next from s a c =
       let n = r.number in
       let p : ℕ = length m.code - 1 - length next in
-      let ending = stands_ending s in
-      let at : place_of m (i ∷ next) ≡ p = place_at (length m.code) (length next) in
-      let here_is : drop p m.code ≡ i ∷ next = sym (ap (λ p. drop p m.code) at) ∙ place_is m ending in
+      let here_is : drop p m.code ≡ i ∷ next = code_there s in
       let within : p ≤ length m.code = below_end (length m.code) (length next) in
       let v = write_at r k u (comes_write m c) in
       let comes = tables.reaching.whole p v.0 n from within (subst (Comes m n from) (sym here_is) c) v.1 in
@@ -237,13 +245,6 @@ module _ (m : Mach) (free : ℕ) (t : Tables) (formed : WellFormed m) (placed : 
       ap (name_of t.names.items n) w.1 ∙ name_known n w.0 found.among ∙ ap (the_number n) same_label
       ∙ sym (ap (name_of t.names.items n) v.1 ∙ name_known n v.0 member)
     where
-      stands_ending : {i : Instr} {next code : List Instr} → Stands i next code → Ending (i ∷ next) code
-      stands_ending here = all
-      stands_ending (below s) = more (stands_ending s)
-
-      place_at : (a b : ℕ) → a - suc b ≡ a - 1 - b
-      place_at a b = omega arith
-
       below_end : (a b : ℕ) → a - 1 - b ≤ a
       below_end a b = omega arith
 
@@ -263,6 +264,33 @@ module _ (m : Mach) (free : ℕ) (t : Tables) (formed : WellFormed m) (placed : 
       ∙ sym (fixed_name r.0 known fixed _ (at_known (length from) (r.0.number))))
       (cases_Bool (is_open (r.0.loc))))
 
+  -- The entry's write is the first: its label, that of no later one, is its own.
+  entry_first : (n w : ℕ) → find_at (all_of t.writes) (length m.code) (ws n) ≡ Some w → is_first (ws n) (slice_index tables.labels w) ≡ true
+  entry_first n w e =
+      let f = found_at (all_of t.writes) (length m.code) (ws n) w e in
+      let early = at_entry m w f.write (subst (λ xs. slice_get xs w ≡ Some f.write) tables.writes.all f.is) f.left in
+      by (ws n) refl f.among early
+    where
+      by : (us : List ℕ) → ws n ≡ us → Contains us w → w < length (open_writes (length m.code) m.params) →
+          is_first us (slice_index tables.labels w) ≡ true
+      by [] s c early = absurd (none_in w c)
+      by (u ∷ us) s c early =
+          let rising = subst AreRising s (tables.writes.grouped.rising n) in
+          let low : u ≤ w = first_low u us w rising c in
+          let cu : Contains (ws n) u = subst (λ xs. Contains xs u) (sym s) (first_in u us) in
+          let x = tables.writes.grouped.sound n u cu in
+          let left : x.0.left ≡ length m.code =
+          entry_at m u x.0 (subst (λ xs. slice_get xs u ≡ Some x.0) tables.writes.all x.1) (omega (arith, low, early)) in
+          let here_is : find_at (all_of t.writes) (length m.code) (u ∷ us) ≡ Some u =
+          ap (λ b. cond b (Some u) (find_at (all_of t.writes) (length m.code) us))
+          (ap (λ o. has_left o (length m.code)) x.1 ∙ eq-eqb x.0.left (length m.code) left) in
+          let same : u ≡ w = some_is u w (sym here_is ∙ sym (ap (find_at (all_of t.writes) (length m.code)) s) ∙ e) in
+          let cw : Contains (ws n) w = subst (λ xs. Contains xs w) (sym s) c in
+          let label_in = subst (λ xs. Contains xs (slice_index tables.labels w)) s (label_among n w cw) in
+          let above : u ≤ slice_index tables.labels w = first_low u us (slice_index tables.labels w) rising label_in in
+          let below_it = label_low n w cw in
+          eq-eqb u (slice_index tables.labels w) (omega (arith, same, above, below_it))
+
   entry_keeps : (n : ℕ) → names.write (length m.code) n ≡ n
   entry_keeps n = by (find_at (all_of t.writes) (length m.code) (ws n)) refl
     where
@@ -270,9 +298,7 @@ module _ (m : Mach) (free : ℕ) (t : Tables) (formed : WellFormed m) (placed : 
       by None e = ap (name_of t.names.items n) e
       by (Some w) e =
           ap (name_of t.names.items n) e ∙ name_known n w (at_known (length m.code) n w e)
-          ∙ ap (λ b. cond b n (free + slice_index tables.labels w))
-          (ap (λ o. has_label tables.labels (or_first o (ws n)) (slice_index tables.labels w)) e
-          ∙ eq-eqb (slice_index tables.labels w) (slice_index tables.labels w) refl)
+          ∙ number_by n (slice_index tables.labels w) true (entry_first n w e)
 
   pub is_naming : IsNaming m names
   is_naming =
@@ -330,6 +356,95 @@ module _ (m : Mach) (free : ℕ) (t : Tables) (formed : WellFormed m) (placed : 
         );
       }
 
+  -- ---- told by the first
+
+  -- the write that has this index, as what is known of the register's writes
+  indexed : (n k v : ℕ) → HasIndex m n k v → Contains (ws n) v
+  indexed n k v e =
+      tables.writes.grouped.whole v (record { left = k; number = n })
+      (subst (λ xs. slice_get xs v ≡ Some (record { left = k; number = n })) (sym tables.writes.all) e)
+
+  has_index : (n v : ℕ) → Contains (ws n) v → (k : ℕ) × HasIndex m n k v × k ≤ length m.code
+  has_index n v c =
+      let x = tables.writes.grouped.sound n v c in
+      let got = subst (λ xs. slice_get xs v ≡ Some x.0) tables.writes.all x.1 in (
+        x.0.left,
+        subst (λ n. slice_get (writes_of m) v ≡ Some (record { left = x.0.left; number = n })) x.2 got,
+        left_within m v x.0 got,
+      )
+
+  first_of_all : (n l : ℕ) → is_first (ws n) l ≡ true → IsFirstOfAll m n l
+  first_of_all n l e =
+      record { least = λ k v i. first_least (ws n) l v (tables.writes.grouped.rising n) e (indexed n k v i) }
+
+  not_first : (n l : ℕ) → Contains (ws n) l → is_first (ws n) l ≡ false → IsFirstOfAll m n l → ⊥
+  not_first n l c e f = by (ws n) refl
+    where
+      by : (us : List ℕ) → ws n ≡ us → ⊥
+      by [] s = none_in l (subst (λ xs. Contains xs l) s c)
+      by (u ∷ us) s =
+          let rising = subst AreRising s (tables.writes.grouped.rising n) in
+          let low : u ≤ l = first_low u us l rising (subst (λ xs. Contains xs l) s c) in
+          let i = has_index n u (subst (λ xs. Contains xs u) (sym s) (first_in u us)) in
+          let high : l ≤ u = f.least i.0 u i.1 in
+          differ (is_first (ws n) l) (ap (λ xs. is_first xs l) s ∙ eq-eqb u l (omega (arith, low, high))) e
+
+  number_by_first : (n l : ℕ) → Contains (ws n) l → IsByFirst m free n l (the_number n l)
+  number_by_first n l c =
+      ⊎_elim (λ e. subst (IsByFirst m free n l) (sym (number_by n l true e)) (kept (first_of_all n l e)))
+      (λ e. subst (IsByFirst m free n l) (sym (number_by n l false e)) (given (not_first n l c e))) (cases_Bool (is_first (ws n) l))
+
+  first_of_web : (r : Reg) → IsRegister m r → r.loc ≡ loc.Unset → (from : List Instr) → IsWrite m r.number from → (v : ℕ) →
+      find_at (all_of t.writes) (length from) (ws r.number) ≡ Some v → IsFirstOfWeb m r.number from (slice_index tables.labels v)
+  first_of_web r i u from x v found =
+      let n = r.number in
+      let cv = at_known (length from) n v found in
+      let z = label_write n v cv in
+      let k = has_index n (slice_index tables.labels v) (label_among n v cv) in
+      let left : z.0.left ≡ k.0 =
+      ap (λ (x : Write). x.left) (some_is z.0 (record { left = k.0; number = n })
+      (sym (subst (λ xs. slice_get xs (slice_index tables.labels v) ≡ Some z.0) tables.writes.all z.1) ∙ k.1)) in
+      record {
+        first = after m z.0.left;
+        index = subst (λ k. HasIndex m n k (slice_index tables.labels v))
+            (sym left ∙ sym (length_after z.0.left (subst (λ k. k ≤ length m.code) (sym left) k.2))) k.1;
+        joined = label_chain r i u from x v found (slice_index tables.labels v) refl z.0 z.1;
+        least = λ to w chain index.
+            let cw = indexed n (length to) w index in
+            let there = subst (λ xs. slice_get xs w ≡ Some (record { left = length to; number = n })) (sym tables.writes.all) index in
+            let f = finds_first (all_of t.writes) (length to) (ws n) w (record { left = length to; number = n })
+            (tables.writes.grouped.rising n) cw there refl in
+            let cf = at_known (length to) n f.0 f.1 in
+            let same : the_number n (slice_index tables.labels v) ≡ the_number n (slice_index tables.labels f.0) =
+            sym (ap (name_of t.names.items n) found ∙ name_known n v cv) ∙ chained_equal m names agreeing chain
+            ∙ (ap (name_of t.names.items n) f.1 ∙ name_known n f.0 cf) in
+            let one = label_is n (slice_index tables.labels v) (slice_index tables.labels f.0) (numbers r i) same in
+            let low = label_low n f.0 cf in let le = f.2 in omega (arith, one, low, le);
+      }
+    where
+      length_after : (k : ℕ) → k ≤ length m.code → length (after m k) ≡ k
+      length_after k le = let e = length-drop (length m.code - k) m.code in omega (arith, le, e)
+
+  unread : (i : Instr) (next : List Instr) (n : ℕ) → Stands i next m.code → ((from : List Instr) → Comes m n from (i ∷ next) → ⊥) →
+      names.read (length next) n ≡ n
+  unread i next n s none =
+      by (find_coming (row t.rows.rows.items (length m.code - 1 - length next)) (ws n)) refl
+    where
+      by : (o : Option ℕ) → find_coming (row t.rows.rows.items (length m.code - 1 - length next)) (ws n) ≡ o → names.read (length next) n ≡ n
+      by None e = ap (name_of t.names.items n) e
+      by (Some w) e =
+          let p : ℕ = length m.code - 1 - length next in
+          let f = found_coming (row t.rows.rows.items p) (ws n) w e in
+          let x = tables.reaching.sound p w (under_end (length m.code) (length next)) f.comes in
+          let y = tables.writes.grouped.sound n w f.among in
+          let number : x.0.number ≡ n = ap (λ (x : Write). x.number) (some_is x.0 y.0 (sym x.1 ∙ y.1)) ∙ y.2 in
+          absurd (none (after m x.0.left)
+          (subst (λ n. Comes m n (after m x.0.left) (i ∷ next)) number
+          (subst (Comes m x.0.number (after m x.0.left)) (code_there s) x.2)))
+        where
+          under_end : (a b : ℕ) → a - 1 - b ≤ a
+          under_end a b = omega arith
+
   -- ---- how large numbers are
 
   few_open : (k : ℕ) (rs : List Reg) → length (open_writes k rs) ≤ length rs
@@ -386,8 +501,28 @@ module _ (m : Mach) (free : ℕ) (t : Tables) (formed : WellFormed m) (placed : 
           write = λ s h r i k. small_name s h r i _ (at_known k r.number);
         }
 
+    pub by_first : AreByFirst m names
+    by_first =
+        record {
+          free = free;
+          above = numbers;
+          least = least;
+          written = λ r i u from x.
+              let v = write_at r i u x in
+              let cv = at_known (length from) r.number v.0 v.1 in
+              record {
+                first = slice_index tables.labels v.0;
+                is = first_of_web r i u from x v.0 v.1;
+                by_first = subst (IsByFirst m free r.number (slice_index tables.labels v.0))
+                    (sym (ap (name_of t.names.items r.number) v.1 ∙ name_known r.number v.0 cv))
+                    (number_by_first r.number (slice_index tables.labels v.0) (label_among r.number v.0 cv));
+              };
+          unwritten = λ i next n s a none. unread i next n s none;
+        }
+
     pub is_split : IsSplit m (renamed names m)
-    is_split = record { names = names; is = refl; naming = is_naming; joins = joins_exactly; dense = is_dense }
+    is_split =
+        record { names = names; is = refl; naming = is_naming; joins = joins_exactly; by_first = by_first; dense = is_dense }
 
 -- the whole function, with its code renamed so
 pub split_done : (m : Mach) (free : ℕ) (t : Tables) (last : ℕ) (code : List Instr) → WellFormed m → WellPlaced m →

@@ -29,7 +29,7 @@ use Rattle.split_rules.proofs.Result.{comes_ends}
 use Rattle.split_rules.specs.Writes.{Comes, from_entry, from_write, past, past_raise}
 use Rattle.split.specs.Reach.{listed, made_at, ended_by, made_before, ended_before, write_uses, IsEntry, AreReaching}
 use Rattle.split.specs.Writes.{all_of, members, find_at, AreWrites, after}
-use Rattle.split.specs.declared.writes.Write.{Write}
+use Rattle.split_rules.specs.declared.writes.Write.{Write}
 use Rattle.split.specs.declared.writes.Writes as table
 use Rattle.split.proofs.Members.{some_is, got_in, left_in, right_in, IsOpenWrite, open_write, open_not_killed, found_at}
 

@@ -1,5 +1,5 @@
 -- Labels of writes: those that are joined have one.
-use Rattle.std.specs.Prelude.{◌≡◌, ℕ, ◌<◌, Bool, true, cond, nat_eq, List, ◌∷◌, Some, length, drop, slice_get, slice_index, Contains}
+use Rattle.std.specs.Prelude.{◌≡◌, ℕ, ◌<◌, ◌≤◌, Bool, true, cond, nat_eq, List, ◌∷◌, Some, map, min, max, length, drop, slice_get, slice_index, Contains}
 use Rattle.bs_bits.specs.Set.{has}
 use Rattle.dataflow.specs.Rows.{row}
 use Rattle.mach_ir.specs.Walks.{Among}
@@ -8,12 +8,16 @@ use Rattle.mach_ir.specs.declared.mach.Instr.{Instr}
 use Rattle.mach_ir.specs.declared.mach.Mach.{Mach}
 use Rattle.split_rules.specs.Writes.{Chained}
 use Rattle.split.specs.Writes.{all_of, members, after}
-use Rattle.split.specs.declared.writes.Write.{Write}
+use Rattle.split_rules.specs.declared.writes.Write.{Write}
 use Rattle.split.specs.declared.writes.Writes.{Writes}
 
 -- one label in the place of another
 abbrev pub replaced : ℕ → ℕ → ℕ → ℕ
 replaced from to label = cond (nat_eq label from) to label
+
+-- the lesser of two labels in the place of the greater
+abbrev pub joined : List ℕ → ℕ → ℕ → List ℕ
+joined labels one other = map (replaced (max one other) (min one other)) labels
 
 -- one of these writes, which comes to a place
 pub record IsComing (members : List ℕ) (rows : List (List Bool)) (p w : ℕ) : Type 0 where
@@ -28,11 +32,12 @@ pub data Relabelled (old new : List ℕ) (members : List ℕ) (rows : List (List
       slice_index old w ≡ slice_index old u → slice_index new w ≡ slice_index old v →
       Relabelled old new members rows p w
 
--- Those of these writes that come to a place have one label. Others have come to new ones only by
+-- Those of these writes that come to a place have one label. Labels only fall, others have come to new ones only by
 -- them, and what had one label still has.
 pub record Joins (old new : List ℕ) (members : List ℕ) (rows : List (List Bool)) (p : ℕ) :
     Type 0 where
   pub len : length new ≡ length old
+  pub less : (w : ℕ) → w < length old → slice_index new w ≤ slice_index old w
   pub same : (w v : ℕ) → w < length old → v < length old → slice_index old w ≡ slice_index old v →
       slice_index new w ≡ slice_index new v
   pub together : (w v : ℕ) → IsComing members rows p w → IsComing members rows p v →
@@ -59,10 +64,12 @@ pub record HaveOne (t : Writes) (rows : List (List Bool)) (labels : List ℕ) (p
   pub one : (w v : ℕ) → IsComing (members t n) rows p w → IsComing (members t n) rows p v →
       slice_index labels w ≡ slice_index labels v
 
--- Writes that are joined have one label.
+-- Writes that are joined have one label, and no label is above its write's index: so it is the least
+-- index of its web.
 pub record AreWebs (m : Mach) (t : Writes) (rows : List (List Bool)) (labels : List ℕ) :
     Type 0 where
   pub sound : AreSound m t labels
+  pub least : (w : ℕ) → w < length labels → slice_index labels w ≤ w
   pub one : (p : ℕ) (i : Instr) (next : List Instr) (n : ℕ) → drop p m.code ≡ i ∷ next →
       Among n i.args → HaveOne t rows labels p n
 
@@ -70,11 +77,12 @@ pub record AreWebs (m : Mach) (t : Writes) (rows : List (List Bool)) (labels : L
 pub record AreIndexes (t : Writes) (count : ℕ) : Type 0 where
   pub below : (n w : ℕ) → Contains (members t n) w → w < count
 
--- The writes of each of these operands that come to the place have one label, what had one still has,
+-- The writes of each of these operands that come to the place have one label, labels only fall, what had one still has,
 -- and where writes that come to a place are joined, others have only come to labels of such.
 pub record JoinsReads (old new : List ℕ) (t : Writes) (rows : List (List Bool)) (p : ℕ)
     (args : List Reg) : Type 0 where
   pub len : length new ≡ length old
+  pub less : (w : ℕ) → w < length old → slice_index new w ≤ slice_index old w
   pub same : (w v : ℕ) → w < length old → v < length old → slice_index old w ≡ slice_index old v →
       slice_index new w ≡ slice_index new v
   pub one : (n : ℕ) → Among n args → HaveOne t rows new p n

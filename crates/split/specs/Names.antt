@@ -1,38 +1,25 @@
 -- The numbers of writes, and the naming that tables give.
-use Rattle.std.specs.Prelude.{◌≡◌, ℕ, ◌+◌, ◌-◌, Bool, false, cond, nat_eq, List, [], ◌∷◌, Option, Some, None, length, slice_get, slice_index}
+use Rattle.std.specs.Prelude.{◌≡◌, ℕ, ◌+◌, ◌-◌, Bool, cond, List, [], ◌∷◌, Option, Some, None, slice_get, slice_index}
 use Rattle.bs_bits.specs.Set.{has}
 use Rattle.dataflow.specs.Rows.{row}
 use Rattle.mach_ir.specs.declared.mach.Mach.{Mach}
 use Rattle.split_rules.specs.Renamed.{Naming}
-use Rattle.split.specs.Writes.{all_of, members, find_at, AreWrites}
+use Rattle.split.specs.Writes.{all_of, members, find_at, is_first, AreWrites}
 use Rattle.split.specs.Reach.{AreReaching}
 use Rattle.split.specs.Joins.{AreWebs}
-use Rattle.split.specs.declared.writes.Write.{Write}
+use Rattle.split_rules.specs.declared.writes.Write.{Write}
 use Rattle.split.specs.declared.writes.Writes.{Writes}
 use Rattle.split.specs.declared.tables.Tables.{Tables}
 
-abbrev pub or_first : Option ℕ → List ℕ → Option ℕ
-or_first (Some w) ws = Some w
-or_first None [] = None
-or_first None (w ∷ ws) = Some w
-
--- the write of a number whose web keeps it: the entry's, if there is one, or else the first
-abbrev pub keeper : Writes → ℕ → ℕ → Option ℕ
-keeper t end n = or_first (find_at (all_of t) end (members t n)) (members t n)
-
-abbrev pub has_label : List ℕ → Option ℕ → ℕ → Bool
-has_label labels None label = false
-has_label labels (Some w) label = nat_eq (slice_index labels w) label
-
--- the number of a web of this register
-abbrev pub new_number : Writes → List ℕ → ℕ → ℕ → ℕ → ℕ → ℕ
-new_number t labels free end n label =
-    cond (has_label labels (keeper t end n) label) n (free + label)
+-- The number of a web of this register, by the index of its first write: that of the register's first
+-- write keeps the register's.
+abbrev pub new_number : Writes → ℕ → ℕ → ℕ → ℕ
+new_number t free n label = cond (is_first (members t n) label) n (free + label)
 
 -- each write has the number of its web
-pub record AreNames (t : Writes) (labels : List ℕ) (free end : ℕ) (names : List ℕ) : Type 0 where
+pub record AreNames (t : Writes) (labels : List ℕ) (free : ℕ) (names : List ℕ) : Type 0 where
   pub each : (w : ℕ) (x : Write) → slice_get (all_of t) w ≡ Some x →
-      slice_get names w ≡ Some (new_number t labels free end x.number (slice_index labels w))
+      slice_get names w ≡ Some (new_number t free x.number (slice_index labels w))
 
 -- the first of these writes that comes to a place
 abbrev pub find_coming : List Bool → List ℕ → Option ℕ
@@ -71,4 +58,4 @@ pub record AreTables (m : Mach) (free : ℕ) (t : Tables) : Type 0 where
   pub reaching : AreReaching m t.writes t.rows.rows.items
   pub labels : List ℕ
   pub webs : AreWebs m t.writes t.rows.rows.items labels
-  pub names : AreNames t.writes labels free (length m.code) t.names.items
+  pub names : AreNames t.writes labels free t.names.items

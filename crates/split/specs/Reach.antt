@@ -11,7 +11,7 @@ use Rattle.liveness.specs.Nodes.{Uses, AreEdges, IsNode}
 use Rattle.liveness.specs.declared.edges.Edges.{Edges}
 use Rattle.split_rules.specs.Writes.{Comes}
 use Rattle.split.specs.Writes.{all_of, members, find_at, after}
-use Rattle.split.specs.declared.writes.Write.{Write}
+use Rattle.split_rules.specs.declared.writes.Write.{Write}
 use Rattle.split.specs.declared.writes.Writes.{Writes}
 
 abbrev pub listed : Option ℕ → List ℕ

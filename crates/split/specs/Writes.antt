@@ -1,34 +1,11 @@
--- The writes of open registers, as a table.
-use Rattle.std.specs.Prelude.{◌≡◌, ℕ, ◌-◌, Bool, true, false, cond, nat_eq, List, [], ◌∷◌, ◌++◌, Option, Some, None, map, drop, length, slice_get, slice_index_or, Contains}
-use Rattle.bs_words.specs.declared.types.Loc.{Loc}
-use Rattle.bs_words.specs.declared.types.Loc.TheVariants as loc
-use Rattle.mach_ir.specs.declared.reg.Reg.{Reg}
+-- The table of the writes of open registers.
+use Rattle.std.specs.Prelude.{◌≡◌, ℕ, ◌-◌, ◌<◌, Bool, false, cond, nat_eq, List, [], ◌∷◌, ◌++◌, Option, Some, None, map, drop, length, slice_get, slice_index_or, Contains}
 use Rattle.mach_ir.specs.declared.mach.Instr.{Instr}
 use Rattle.mach_ir.specs.declared.mach.Mach.{Mach}
-use Rattle.split.specs.declared.writes.Write.{Write}
+use Rattle.split_rules.specs.Order.{writes_of}
+use Rattle.split_rules.specs.declared.writes.Write.{Write}
 use Rattle.split.specs.declared.writes.Group as group
 use Rattle.split.specs.declared.writes.Writes.{Writes}
-
-abbrev pub is_open : Loc → Bool
-is_open loc.Unset = true
-is_open (loc.Machine n) = false
-is_open (loc.Slot n) = false
-
-abbrev pub write_of : ℕ → Reg → Write
-write_of k r = record { left = k; number = r.number }
-
--- those among these registers, before so many instructions
-abbrev pub open_writes : ℕ → List Reg → List Write
-open_writes k [] = []
-open_writes k (r ∷ rs) = cond (is_open r.loc) (write_of k r ∷ open_writes k rs) (open_writes k rs)
-
-abbrev pub code_writes : List Instr → List Write
-code_writes [] = []
-code_writes (i ∷ is) = open_writes (length is) i.results ++ code_writes is
-
--- of the parameters, and of the results in the order of the text
-abbrev pub writes_of : Mach → List Write
-writes_of m = open_writes (length m.code) m.params ++ code_writes m.code
 
 abbrev pub all_of : Writes → List Write
 all_of t = t.all.items
@@ -46,12 +23,18 @@ pub record HasMember (old new : List group.Group) (n member : ℕ) : Type 0 wher
   pub here : members_in new n ≡ members_in old n ++ member ∷ []
   pub others : (k : ℕ) → (k ≡ n → ⊥) → members_in new k ≡ members_in old k
 
--- each index is in the group of its write's number, and nothing else is
+-- Each index is below those after it.
+pub data AreRising : List ℕ → Type 0 where
+  ends : AreRising []
+  rises : {w : ℕ} {ws : List ℕ} → ((v : ℕ) → Contains ws v → w < v) → AreRising ws → AreRising (w ∷ ws)
+
+-- each index is in the group of its write's number, in their order, and nothing else is
 pub record IsGrouped (writes : List Write) (free : ℕ) (groups : List group.Group) : Type 0 where
   pub len : length groups ≡ free
   pub sound : (n w : ℕ) → Contains (members_in groups n) w →
       (x : Write) × (slice_get writes w ≡ Some x) × (x.number ≡ n)
   pub whole : (w : ℕ) (x : Write) → slice_get writes w ≡ Some x → Contains (members_in groups x.number) w
+  pub rising : (n : ℕ) → AreRising (members_in groups n)
 
 -- the writes of a function
 pub record AreWrites (m : Mach) (free : ℕ) (t : Writes) : Type 0 where
@@ -69,6 +52,10 @@ is_at writes w k = has_left (slice_get writes w) k
 abbrev pub find_at : List Write → ℕ → List ℕ → Option ℕ
 find_at writes k [] = None
 find_at writes k (w ∷ ws) = cond (is_at writes w k) (Some w) (find_at writes k ws)
+
+abbrev pub is_first : List ℕ → ℕ → Bool
+is_first [] w = false
+is_first (v ∷ ws) w = nat_eq v w
 
 -- the code after so many instructions are left: what a write with this number is told by
 abbrev pub after : Mach → ℕ → List Instr

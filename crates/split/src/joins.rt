@@ -2,7 +2,7 @@
 ghost use Rattle.std.specs.Prelude.{◌≡◌, ◌<◌, ℕ, All, map, length, slice_index, IfOk};
 ghost use Rattle.split.specs.Writes.{AreWrites};
 ghost use Rattle.split.specs.Reach.{AreReaching};
-ghost use Rattle.split.specs.Joins.{replaced, Joins, AreIndexes, JoinsReads, AreWebs};
+ghost use Rattle.split.specs.Joins.{replaced, joined, Joins, AreIndexes, JoinsReads, AreWebs};
 
 use crate::writes::Writes;
 use dataflow::Rows;
@@ -32,14 +32,16 @@ fn relabel(labels: &mut [u32], from: u32, to: u32)
     }
 }
 
-/// Gives two writes one label.
+/// Gives two writes one label, the lesser of theirs.
 fn join(labels: &mut Vec<u32>, one: u32, other: u32)
     requires one { one < length labels.old.items }
     requires other { other < length labels.old.items }
-    ensures { labels.new.items ≡ map (replaced (slice_index labels.old.items other) (slice_index labels.old.items one)) labels.old.items }
+    ensures { labels.new.items ≡ joined labels.old.items (slice_index labels.old.items one) (slice_index labels.old.items other) }
 {
-    let to = labels[one as usize];
-    let from = labels[other as usize];
+    let one_label = labels[one as usize];
+    let other_label = labels[other as usize];
+    let to = one_label.min(other_label);
+    let from = one_label.max(other_label);
     if from != to {
         relabel(labels.as_mut_slice(), from, to);
     }
@@ -75,7 +77,7 @@ fn join_reads(labels: &mut Vec<u32>, writes: &Writes, rows: &Rows, place: usize,
     }
 }
 
-/// A label for each write: two that are joined have one.
+/// A label for each write, the index of the first of those that it is joined with.
 pub fn webs_of(
     alloc: Global,
     mach: &Mach,

@@ -1,59 +1,18 @@
 //! The numbers of webs.
-ghost use Rattle.std.specs.Prelude.{◌≡◌, slice_index, IfOk};
+ghost use Rattle.std.specs.Prelude.{◌≡◌, IfOk};
 ghost use Rattle.dataflow.specs.Rows.{row};
-ghost use Rattle.split.specs.Names.{or_first, keeper, has_label, new_number, AreNames, find_coming, or_name, name_of};
+ghost use Rattle.split.specs.Names.{new_number, AreNames, find_coming, or_name, name_of};
 
 use crate::writes::Writes;
 use dataflow::Rows;
 use std::alloc::{AllocError, Global};
 
-fn or_first(found: Option<u32>, among: &[u32]) -> Option<u32>
-    ensures { result ≡ or_first found among.now }
+/// The number of a web of this register, whose first write has this index. That there is none counts as
+/// want of memory.
+fn new_number(writes: &Writes, free: u32, number: u32, label: u32) -> Result<u32, AllocError>
+    ensures { IfOk result (λ name. name ≡ new_number writes.now free number label) }
 {
-    match found {
-        Some(index) => Some(index),
-        None => among.first().copied(),
-    }
-}
-
-/// The write of the register whose web keeps its number: that of the entry, or else the first.
-fn keeper(writes: &Writes, end: u32, number: u32) -> Option<u32>
-    ensures { result ≡ keeper writes.now end number }
-{
-    or_first(writes.find_at(end, number), writes.members(number))
-}
-
-fn has_label(labels: &[u32], index: Option<u32>, label: u32) -> bool
-    ensures { result ≡ has_label labels.now index label }
-{
-    match index {
-        None => false,
-        Some(index) => label_of(labels, index) == label,
-    }
-}
-
-fn label_of(labels: &[u32], index: u32) -> u32
-    ensures { result ≡ slice_index labels.now index }
-{
-    match labels.get(index as usize) {
-        None => 0,
-        Some(label) => *label,
-    }
-}
-
-/// The number of a web of this register. That there is none counts as want of memory.
-fn new_number(
-    writes: &Writes,
-    labels: &[u32],
-    free: u32,
-    end: u32,
-    number: u32,
-    label: u32,
-) -> Result<u32, AllocError>
-    ensures { IfOk result (λ name. name ≡ new_number writes.now labels.now free end number label) }
-{
-    let kept = keeper(writes, end, number);
-    if has_label(labels, kept, label) {
+    if writes.is_first(number, label) {
         Ok(number)
     } else {
         free.checked_add(label).ok_or(AllocError)
@@ -66,9 +25,8 @@ pub fn names_of(
     writes: &Writes,
     labels: &[u32],
     free: u32,
-    end: u32,
 ) -> Result<Vec<u32>, AllocError>
-    ensures { IfOk result (λ names. AreNames writes.now labels.now free end names.items) }
+    ensures { IfOk result (λ names. AreNames writes.now labels.now free names.items) }
 {
     let mut names = Vec::new(alloc);
     for (index, write) in writes.all.iter().enumerate() {
@@ -76,7 +34,7 @@ pub fn names_of(
             None => 0,
             Some(label) => *label,
         };
-        let name = new_number(writes, labels, free, end, write.number, label)?;
+        let name = new_number(writes, free, write.number, label)?;
         names.push(name)?;
     }
     Ok(names)

@@ -26,8 +26,7 @@ fn tables_of(alloc: Global, mach: &Mach, free: u32) -> Result<Tables, AllocError
     let writes = Writes::of_function(alloc, mach, free)?;
     let rows = reach(alloc, mach, free, &writes)?;
     let labels = webs_of(alloc, mach, free, &writes, &rows)?;
-    let end = mach.code.len() as u32;
-    let names = names_of(alloc, &writes, labels.as_slice(), free, end)?;
+    let names = names_of(alloc, &writes, labels.as_slice(), free)?;
     Ok(Tables {
         writes,
         rows,
@@ -38,8 +37,10 @@ fn tables_of(alloc: Global, mach: &Mach, free: u32) -> Result<Tables, AllocError
 /// The function with a number of its own for each web of a register whose place is open.
 ///
 /// Two writes of a register are joined where there is a place at which it is live and to which both
-/// come; a web is what a chain of joined writes connects. The entry writes the parameters, and their
-/// webs keep their numbers, as does the first web of any other register. Nothing else changes.
+/// come; a web is what a chain of joined writes connects. Webs are told by their first writes in the
+/// order of the text, in which the entry, which writes the parameters, comes first. The web of a
+/// register's first write keeps the register's number, any other has the index of its first write, from
+/// the first free number on. Nothing else changes.
 ///
 /// The time is that of `dataflow::reaching` over the writes. The only error is want of memory, which
 /// more places, writes or registers than a number can count are too.

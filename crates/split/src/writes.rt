@@ -2,21 +2,15 @@
 ghost use Rattle.std.specs.Prelude.{◌≡◌, ◌<◌, ◌++◌, ◌^◌, [], All, length, IfOk};
 ghost use Rattle.mach_ir.specs.Walks.{IsRegister};
 ghost use Rattle.mach_ir.specs.declared.reg.Reg.{Reg};
-ghost use Rattle.split.specs.Writes.{is_open, open_writes, writes_of, all_of, members, is_at, find_at, HasMember, IsGrouped, AreWrites};
+ghost use Rattle.split_rules.specs.Order.{is_open, open_writes, writes_of};
+ghost use Rattle.split.specs.Writes.{all_of, members, is_first, is_at, find_at, HasMember, IsGrouped, AreWrites};
 
 use bs_words::Loc;
 use mach_ir::{Mach, Reg};
+use split_rules::Write;
 use std::alloc::{AllocError, Global};
 
-/// A write of a register: how many instructions come after it, and the register's number. The entry
-/// writes the parameters, before all instructions.
-#[derive(Clone, Copy, PartialEq, Eq, Debug)]
-pub struct Write {
-    pub left: u32,
-    pub number: u32,
-}
-
-/// Indexes of writes.
+/// Indexes of writes, in their order.
 #[derive(Drop)]
 pub struct Group {
     pub members: Vec<u32>,
@@ -126,6 +120,16 @@ impl Writes {
         match self.groups.get(number as usize) {
             None => &[],
             Some(group) => group.members.as_slice(),
+        }
+    }
+
+    /// Whether it is the index of the first write of the number.
+    pub fn is_first(&self, number: u32, index: u32) -> bool
+        ensures { result ≡ is_first (members self.now number) index }
+    {
+        match self.members(number).first() {
+            None => false,
+            Some(first) => *first == index,
         }
     }
 

@@ -1,3 +1,4 @@
 pub mod Renamed
 pub mod Writes
+pub mod Order
 pub mod Split

@@ -1,5 +1,5 @@
 -- What splitting makes of a function.
-use Rattle.std.specs.Prelude.{◌≡◌, ◌≢◌, ◌↔◌, ℕ, ◌+◌, ◌<◌, List, ◌∷◌, length}
+use Rattle.std.specs.Prelude.{◌≡◌, ◌≢◌, ◌↔◌, ℕ, ◌+◌, ◌<◌, ◌≤◌, List, ◌∷◌, length}
 use Rattle.bs_words.specs.declared.types.Loc.TheVariants as loc
 use Rattle.mach_ir.specs.Formed.{WellFormed}
 use Rattle.mach_ir.specs.Keeps.{Keeps}
@@ -10,6 +10,7 @@ use Rattle.mach_ir.specs.Walks.{Among, Stands, IsRegister, NoAddrLive}
 use Rattle.mach_ir.specs.declared.reg.Reg.{Reg}
 use Rattle.mach_ir.specs.declared.mach.Instr.{Instr}
 use Rattle.mach_ir.specs.declared.mach.Mach.{Mach}
+use Rattle.split_rules.specs.Order.{IsNumberOfWeb}
 use Rattle.split_rules.specs.Renamed.{Naming, renamed}
 use Rattle.split_rules.specs.Writes.{Comes, Chained, IsWrite}
 
@@ -45,13 +46,25 @@ pub record IsDense (m : Mach) (names : Naming) : Type 0 where
   pub write : (s : Size) → HasSize m s → (r : Reg) → IsRegister m r → (k : ℕ) →
       names.write k r.number < s.registers + (s.operands + length m.params)
 
--- Nothing but numbers of open registers has changed, and writes have one number exactly where they
--- are joined.
+-- The web of a register's first write keeps the register's number, and each other web has the index
+-- of its first write, from the first free number on. An operand to which no write comes keeps its own.
+pub record AreByFirst (m : Mach) (names : Naming) : Type 0 where
+  pub free : ℕ
+  pub above : (r : Reg) → IsRegister m r → r.number < free
+  pub least : (b : ℕ) → ((r : Reg) → IsRegister m r → r.number < b) → free ≤ b
+  pub written : (r : Reg) → IsRegister m r → r.loc ≡ loc.Unset → (from : List Instr) →
+      IsWrite m r.number from → IsNumberOfWeb m free r.number from (names.write (length from) r.number)
+  pub unwritten : (i : Instr) (next : List Instr) (n : ℕ) → Stands i next m.code → Among n i.args →
+      ((from : List Instr) → Comes m n from (i ∷ next) → ⊥) → names.read (length next) n ≡ n
+
+-- Nothing but numbers of open registers has changed, writes have one number exactly where they are
+-- joined, and which number is told by the first of them.
 pub record IsSplit (m q : Mach) : Type 0 where
   pub names : Naming
   pub is : q ≡ renamed names m
   pub naming : IsNaming m names
   pub joins : JoinsExactly m names
+  pub by_first : AreByFirst m names
   pub dense : IsDense m names
 
 -- All writes of an open register are joined: what a reload writes is joined with nothing but what

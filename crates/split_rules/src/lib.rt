@@ -5,13 +5,21 @@
 //! writes that come to it. What the register held, the register of that number then holds: the function
 //! does what it did, step for step.
 //!
+//! The web of a register's first write keeps the register's number, and each other web has one by its own
+//! first write, so that a function splits in one way.
+//!
 //! The crate holds definitions and laws alone.
 #![tactic(auto)]
 
+mod writes;
+
+ghost use Rattle.std.specs.Prelude.{◌≡◌};
 ghost use Rattle.mach_ir.specs.Formed.{WellFormed};
 ghost use Rattle.mach_ir.specs.Placed.{WellPlaced};
 ghost use Rattle.mach_ir.specs.declared.mach.Mach.{Mach};
 ghost use Rattle.split_rules.specs.Split.{IsSplit, IsKept, IsOneWeb};
+
+pub use writes::Write;
 
 /// Law: a split function is kept.
 pub fn a_split_is_kept()
@@ -21,4 +29,9 @@ pub fn a_split_is_kept()
 /// Law: in a split function all writes of an open register are joined.
 pub fn a_number_is_a_web()
     ensures { (m q : Mach) → WellPlaced m → IsSplit m q → IsOneWeb q }
+{}
+
+/// Law: a function splits in one way.
+pub fn splits_are_one()
+    ensures { (m q k : Mach) → IsSplit m q → IsSplit m k → q ≡ k }
 {}

@@ -10,7 +10,6 @@ returns c = λ formed placed.
       reaching = reach;
       labels = c.in_ok-labels.labels.items;
       webs = c.in_ok-labels.ensures reach;
-      names = subst (λ k. AreNames c.in_ok-writes.writes c.in_ok-labels.labels.items c.args.free k c.in_ok-names.names.items) c.len-end.ensures
-          (subst (λ ls. AreNames c.in_ok-writes.writes ls c.args.free c.len-end.result c.in_ok-names.names.items) c.as_slice.ensures.value
-          c.in_ok-names.ensures);
+      names = subst (λ ls. AreNames c.in_ok-writes.writes ls c.args.free c.in_ok-names.names.items) c.as_slice.ensures.value
+          c.in_ok-names.ensures;
     }

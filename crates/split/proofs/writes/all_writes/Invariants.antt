@@ -1,5 +1,5 @@
 use Rattle.std.proofs.Common.{◌≡◌, ◌++◌, ◌+◌, drop, length}
-use Rattle.split.specs.Writes.{code_writes, writes_of}
+use Rattle.split_rules.specs.Order.{code_writes, writes_of}
 use Rattle.split.proofs.writes.all_writes.Given as goal
 
 abbrev pub invariant-loop-instr : goal.invariant-loop-instr

@@ -1,5 +1,5 @@
 use Rattle.std.proofs.Common.{◌≡◌, ◌++◌, drop}
-use Rattle.split.specs.Writes.{open_writes}
+use Rattle.split_rules.specs.Order.{open_writes}
 use Rattle.split.proofs.writes.push_open.Given as goal
 
 abbrev pub invariant-loop-reg : goal.invariant-loop-reg

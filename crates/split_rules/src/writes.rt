@@ -1,0 +1,9 @@
+//! What a write of a register is told by.
+
+/// A write of a register: how many instructions come after it, and the register's number. The entry
+/// writes the parameters, before all instructions.
+#[derive(Clone, Copy, PartialEq, Eq, Debug)]
+pub struct Write {
+    pub left: u32,
+    pub number: u32,
+}
