@@ -26,6 +26,10 @@ none_there e = cc
 among_none : (n : ℕ) → Among n [] → ⊥
 among_none n a = elim a [ ]
 
+pub ending_of : {i : Instr} {next code : List Instr} → Stands i next code → Ending (i ∷ next) code
+ending_of here = all
+ending_of (below s) = more (ending_of s)
+
 -- what is used is live
 pub used_live : {m : Mach} {n : ℕ} {rest : List Instr} → IsUsed m n rest → Live m n rest
 used_live (read e a) = walks.read a
@@ -210,10 +214,6 @@ module _ (m : Mach) (drops : ℕ → Bool) (dead : AreDead m drops) where
       by : Fate drops i is → (Stands j zs (expand f is) → IsMain j zs is) → IsMain j zs (i ∷ is)
       by (falls g d e h) again = more_of (again (subst (Stands j zs) h s))
       by (remains k e h) again = at_head k refl refl (subst (Stands j zs) h s) again
-
-  pub ending_of : {i : Instr} {next code : List Instr} → Stands i next code → Ending (i ∷ next) code
-  ending_of here = all
-  ending_of (below s) = more (ending_of s)
 
   code_back : {r : Reg} (code : List Instr) → InCode r (expand f code) → InCode r code
   code_back [] c = c

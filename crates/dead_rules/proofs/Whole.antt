@@ -219,7 +219,7 @@ module _ (m : Mach) (drops : ℕ → Bool) (dead : AreDead m drops) where
         number = u.number;
         among = u.among;
         live = after_step (goes On (pure_on (pure_of i.op g)))
-            (subst (Live q u.number) (sym w.same) (used_there m drops dead u.used (ending_next (ending_of m drops dead w.stands))));
+            (subst (Live q u.number) (sym w.same) (used_there m drops dead u.used (ending_next (ending_of w.stands))));
       }
 
   named_before : (Named : MachOp → Type 0) → IsNamedIn Named q → IsNamedIn Named m
