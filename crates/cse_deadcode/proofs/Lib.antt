@@ -1,0 +1,6 @@
+mod Loops
+mod Steps
+mod Visiting
+mod Sweeps
+mod Walked
+mod Tables

@@ -1,0 +1,51 @@
+//! Which registers are used at each place of a function.
+ghost use Rattle.std.specs.Prelude.{◌≡◌, length, false, replicate, IfOk};
+ghost use Rattle.dataflow.specs.Flow.{WellFormed};
+ghost use Rattle.cse_deadcode.specs.Flows.{AreUsed};
+ghost use Rattle.cse_deadcode.specs.Uses.{goes_at, AreUses};
+
+use crate::visits::sweep;
+use bs_bits::Bits;
+use dataflow::{Flow, Rows};
+use liveness::flow_of;
+use mach_ir::{Instr, Mach};
+use std::alloc::{AllocError, Global};
+
+/// An empty set of numbers below `bound` for each of `count` places.
+fn empty_rows(alloc: Global, count: usize, bound: u32) -> Result<Vec<Bits>, AllocError>
+    ensures { IfOk result (λ rows. rows.items ≡ replicate count (replicate bound false)) }
+{
+    let mut rows = Vec::with_capacity(alloc, count)?;
+    for _place in 0..count {
+        rows.push(Bits::new(alloc, bound)?)?;
+    }
+    Ok(rows)
+}
+
+/// The numbers that are used before each place of the graph, where instructions that may go only
+/// compute.
+fn used_in_flow(alloc: Global, flow: &Flow, code: &[Instr]) -> Result<Rows, AllocError>
+    requires { WellFormed flow.now }
+    ensures { IfOk result (λ rows. AreUsed flow.now (goes_at code.now) rows.rows.items) }
+{
+    let mut rows = empty_rows(alloc, flow.places.len(), flow.bound)?;
+    let mut set = Bits::new(alloc, flow.bound)?;
+    let mut grew = true;
+    while grew {
+        grew = sweep(flow, code, &mut rows, &mut set);
+    }
+    Ok(Rows { rows })
+}
+
+/// The registers that are used from each instruction on, and after the last.
+///
+/// The time is that of a sweep over the function for each depth of its loops and two more; the memory
+/// is a bit for each register and place. The only error is want of memory, which more places or
+/// registers than a number can count are too.
+pub fn used(alloc: Global, mach: &Mach) -> Result<Rows, AllocError>
+    ensures { IfOk result (λ rows. AreUses mach.now rows.rows.items) }
+{
+    let flow = flow_of(alloc, mach)?;
+    let rows = used_in_flow(alloc, &flow, mach.code.as_slice())?;
+    Ok(rows)
+}

@@ -1,0 +1,4 @@
+pub mod Text
+pub mod Live
+pub mod Kept
+pub mod Whole
