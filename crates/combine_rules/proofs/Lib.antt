@@ -1,0 +1,2 @@
+mod Scan
+mod Neighbours
