@@ -1,13 +1,7 @@
-// A library with one function.
+//! Combined allocation: the allocations of each straight run become one, as far as one reservation
+//! holds them (OCaml's `asmcomp/comballoc.ml`).
 #![tactic(auto)]
 
-ghost use Rattle.std.specs.Prelude.{◌≡◌};
-ghost use Rattle.comballoc.specs.Echo.{echo_of};
+mod combining;
 
-// The `ensures` clause is the contract: what `echo` returns is `echo_of` of its argument, a definition
-// in `specs/Echo.antt`, which a caller's clause can cite too.
-pub fn echo(x: usize) -> usize
-    ensures { result ≡ echo_of x }
-{
-    x
-}
+pub use combining::combine;

@@ -1,2 +1,4 @@
-mod Scan
-mod Neighbours
+pub mod Scan
+pub mod Neighbours
+pub mod Places
+pub mod Registers

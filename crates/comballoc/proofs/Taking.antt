@@ -1,0 +1,88 @@
+-- A scan takes an instruction.
+use Rattle.std.proofs.Common.{◌≡◌, ℕ, ◌+◌, Bool, true, false, cond, List, [], ◌∷◌, ◌++◌, Option, Some, None, Result, Ok, Err, IfOk, refl, sym, ap, ◌∙◌, subst, append_assoc}
+use Rattle.combine_rules.specs.Combined.{joins, Scanned, allocation, allocated, scan}
+use Rattle.combine_rules.proofs.Scan.{bytes_append, nothing_goes}
+use Rattle.comballoc.specs.Finished.{held_bytes, closed, closed_by, finished, HasTaken}
+use Rattle.comballoc.specs.declared.combining.Held.{Held}
+use Rattle.comballoc.specs.declared.combining.Scan.{Scan}
+use Rattle.mach_ir.specs.Blocks.{bytes_of}
+use Rattle.mach_ir.specs.declared.blocks.NewBlock.{NewBlock}
+use Rattle.mach_ir.specs.declared.reg.Reg.{Reg}
+use Rattle.mach_ir.specs.declared.mach.Instr.{Instr}
+
+pub appended_none : {A : Type 0} (xs : List A) → xs ++ [] ≡ xs
+appended_none [] = refl
+appended_none (x ∷ xs) = ap (λ ys. x ∷ ys) (appended_none xs)
+
+-- an open allocation with these blocks and results, and the instructions after it
+abbrev laid : List NewBlock → List Reg → List Instr → Scanned → List Instr
+laid blocks results since after =
+    allocation (blocks ++ after.blocks) (results ++ after.results) ∷ (since ++ after.code)
+
+laid_same : {blocks others : List NewBlock} {results regs : List Reg} {since code : List Instr} (after : Scanned) →
+    blocks ≡ others → results ≡ regs → since ≡ code → laid blocks results since after ≡ laid others regs code after
+laid_same {others = others} {results = results} {regs = regs} {since = since} after b r s =
+    ap (λ bs. laid bs results since after) b ∙ ap (λ rs. laid others rs since after) r
+    ∙ ap (λ is. laid others regs is after) s
+
+laid_more : (blocks more : List NewBlock) (results regs : List Reg) (since : List Instr) (after : Scanned) →
+    laid (blocks ++ more) (results ++ regs) since after
+    ≡ laid blocks results since (allocated true more regs after)
+laid_more blocks more results regs since after =
+    ap (λ bs. allocation bs ((results ++ regs) ++ after.results) ∷ (since ++ after.code)) (append_assoc blocks more after.blocks)
+    ∙ ap (λ rs. allocation (blocks ++ (more ++ after.blocks)) rs ∷ (since ++ after.code)) (append_assoc results regs after.results)
+
+-- an allocation has joined the open one
+pub joined : (s : Scan) (h t : Held) (blocks : List NewBlock) (results : List Reg) → s.held ≡ Some h →
+    joins (Some (bytes_of h.blocks)) blocks ≡ true → t.blocks ≡ h.blocks ++ blocks →
+    t.results.items ≡ h.results.items ++ results → t.since ≡ h.since →
+    HasTaken s (record { done = s.done; held = Some t }) (allocation blocks results)
+joined s h t blocks results held fits b r e rest =
+    ap (λ is. s.done.items ++ is)
+    (ap (λ n. laid t.blocks t.results.items t.since.items (scan (Some n) rest)) (ap bytes_of b ∙ bytes_append h.blocks blocks)
+    ∙ laid_same (scan (Some (bytes_of h.blocks + bytes_of blocks)) rest) b r (ap (λ v. v.items) e)
+    ∙ laid_more h.blocks blocks h.results.items results h.since.items (scan (Some (bytes_of h.blocks + bytes_of blocks)) rest)
+    ∙ ap
+    (λ b. laid h.blocks h.results.items h.since.items
+    (allocated b blocks results (scan (Some (cond b (bytes_of h.blocks + bytes_of blocks) (bytes_of blocks))) rest)))
+    (sym fits)
+    ∙ ap (λ o. closed_by o (scan (held_bytes o) (allocation blocks results ∷ rest))) (sym held))
+
+-- where nothing goes to the open allocation
+closed_alone : (o : Option Held) (after : Scanned) → after.blocks ≡ [] → after.results ≡ [] →
+    closed o ++ after.code ≡ closed_by o after
+closed_alone None after b r = refl
+closed_alone (Some h) after b r =
+    ap (λ bs. allocation bs h.results.items ∷ (h.since.items ++ after.code))
+    (sym (appended_none h.blocks) ∙ ap (λ bs. h.blocks ++ bs) (sym b))
+    ∙ ap (λ rs. allocation (h.blocks ++ after.blocks) rs ∷ (h.since.items ++ after.code))
+    (sym (appended_none h.results.items) ∙ ap (λ rs. h.results.items ++ rs) (sym r))
+
+-- an instruction has ended the straight run
+pub ended : (s t : Scan) (i : Instr) →
+    ((o : Option ℕ) (rest : List Instr) →
+    scan o (i ∷ rest) ≡ record (scan None rest) { code = i ∷ (scan None rest).code }) →
+    t.held ≡ None → t.done.items ≡ (s.done.items ++ closed s.held) ++ i ∷ [] → HasTaken s t i
+ended s t i ends held done rest =
+    let after : Scanned = scan None rest in
+    ap (λ o. t.done.items ++ closed_by o (scan (held_bytes o) rest)) held
+    ∙ ap (λ is. is ++ after.code) done
+    ∙ append_assoc (s.done.items ++ closed s.held) (i ∷ []) after.code
+    ∙ append_assoc s.done.items (closed s.held) (i ∷ after.code)
+    ∙ ap (λ is. s.done.items ++ is)
+    (closed_alone s.held (record after { code = i ∷ after.code }) (nothing_goes rest).0 (nothing_goes rest).1
+    ∙ ap (closed_by s.held) (sym (ends (held_bytes s.held) rest)))
+
+-- at the end of the code
+pub all_done : (s : Scan) → finished s [] ≡ s.done.items ++ closed s.held
+all_done s =
+    ap (λ is. s.done.items ++ is)
+    (sym (closed_alone s.held (scan (held_bytes s.held) []) refl refl) ∙ appended_none (closed s.held))
+
+pub ended_if : {A E : Type 0} (r : Result A E) (s t : Scan) (i j : Instr) → i ≡ j →
+    ((o : Option ℕ) (rest : List Instr) →
+    scan o (i ∷ rest) ≡ record (scan None rest) { code = i ∷ (scan None rest).code }) →
+    IfOk r (λ _. t.held ≡ None) → IfOk r (λ _. t.done.items ≡ (s.done.items ++ closed s.held) ++ i ∷ []) →
+    IfOk r (λ _. HasTaken s t j)
+ended_if (Ok v) s t i j same ends held done = subst (HasTaken s t) same (ended s t i ends held done)
+ended_if (Err e) s t i j same ends held done = tt
