@@ -1,11 +1,16 @@
 -- A scan takes an instruction.
-use Rattle.std.proofs.Common.{◌≡◌, ℕ, ◌+◌, Bool, true, false, cond, List, [], ◌∷◌, ◌++◌, Option, Some, None, Result, Ok, Err, IfOk, refl, sym, ap, ◌∙◌, subst, append_assoc}
-use Rattle.combine_rules.specs.Combined.{joins, Scanned, allocation, allocated, scan}
+use Rattle.std.proofs.Common.{◌≡◌, ℕ, ◌+◌, Bool, true, false, cond, List, [], ◌∷◌, ◌++◌, Option, Some, None, refl, sym, ap, ◌∙◌, subst, append_assoc}
+use Rattle.combine_rules.specs.Combined.{joins, Scanned, allocation, open_past, allocated, scanned_at, scan}
 use Rattle.combine_rules.proofs.Scan.{bytes_append, nothing_goes}
 use Rattle.comballoc.specs.Finished.{held_bytes, closed, closed_by, finished, HasTaken}
 use Rattle.comballoc.specs.declared.combining.Held.{Held}
 use Rattle.comballoc.specs.declared.combining.Scan.{Scan}
+use Rattle.std.proofs.lemmas.Bool.{true≢false}
 use Rattle.mach_ir.specs.Blocks.{bytes_of}
+use Rattle.mach_ir.specs.Placed.{is_straight}
+use Rattle.mach_ir.specs.declared.op.Op.TheVariants as op
+use Rattle.mach_ir.specs.declared.mach.MachOp.{MachOp}
+use Rattle.mach_ir.specs.declared.mach.MachOp.TheVariants as mach
 use Rattle.mach_ir.specs.declared.blocks.NewBlock.{NewBlock}
 use Rattle.mach_ir.specs.declared.reg.Reg.{Reg}
 use Rattle.mach_ir.specs.declared.mach.Instr.{Instr}
@@ -36,7 +41,7 @@ laid_more blocks more results regs since after =
 pub joined : (s : Scan) (h t : Held) (blocks : List NewBlock) (results : List Reg) → s.held ≡ Some h →
     joins (Some (bytes_of h.blocks)) blocks ≡ true → t.blocks ≡ h.blocks ++ blocks →
     t.results.items ≡ h.results.items ++ results → t.since ≡ h.since →
-    HasTaken s (record { done = s.done; held = Some t }) (allocation blocks results)
+    HasTaken s (record { alloc = s.alloc; done = s.done; held = Some t }) (allocation blocks results)
 joined s h t blocks results held fits b r e rest =
     ap (λ is. s.done.items ++ is)
     (ap (λ n. laid t.blocks t.results.items t.since.items (scan (Some n) rest)) (ap bytes_of b ∙ bytes_append h.blocks blocks)
@@ -58,12 +63,22 @@ closed_alone (Some h) after b r =
     ∙ ap (λ rs. allocation (h.blocks ++ after.blocks) rs ∷ (h.since.items ++ after.code))
     (sym (appended_none h.results.items) ∙ ap (λ rs. h.results.items ++ rs) (sym r))
 
--- an instruction has ended the straight run
-pub ended : (s t : Scan) (i : Instr) →
-    ((o : Option ℕ) (rest : List Instr) →
-    scan o (i ∷ rest) ≡ record (scan None rest) { code = i ∷ (scan None rest).code }) →
-    t.held ≡ None → t.done.items ≡ (s.done.items ++ closed s.held) ++ i ∷ [] → HasTaken s t i
-ended s t i ends held done rest =
+-- an instruction that ends the straight run stays, and nothing goes further back
+ends_run : (i : Instr) → is_straight i.op ≡ false → (o : Option ℕ) (rest : List Instr) →
+    scan o (i ∷ rest) ≡ record (scan None rest) { code = i ∷ (scan None rest).code }
+ends_run i e o rest = by i.op e
+  where
+    by : (f : MachOp) → is_straight f ≡ false →
+        scanned_at o i f (scan (open_past o f) rest) ≡ record (scan None rest) { code = i ∷ (scan None rest).code }
+    by (mach.Op (op.Pure f)) e = absurd (true≢false e)
+    by (mach.Op (op.Access f)) e = absurd (true≢false e)
+    by (mach.Op (op.Calling f)) e = refl
+    by (mach.Op (op.Leaving f)) e = refl
+    by (mach.Mark f) e = refl
+
+pub ended : (s t : Scan) (i : Instr) → is_straight i.op ≡ false → t.held ≡ None →
+    t.done.items ≡ (s.done.items ++ closed s.held) ++ i ∷ [] → HasTaken s t i
+ended s t i e held done rest =
     let after : Scanned = scan None rest in
     ap (λ o. t.done.items ++ closed_by o (scan (held_bytes o) rest)) held
     ∙ ap (λ is. is ++ after.code) done
@@ -71,18 +86,10 @@ ended s t i ends held done rest =
     ∙ append_assoc s.done.items (closed s.held) (i ∷ after.code)
     ∙ ap (λ is. s.done.items ++ is)
     (closed_alone s.held (record after { code = i ∷ after.code }) (nothing_goes rest).0 (nothing_goes rest).1
-    ∙ ap (closed_by s.held) (sym (ends (held_bytes s.held) rest)))
+    ∙ ap (closed_by s.held) (sym (ends_run i e (held_bytes s.held) rest)))
 
 -- at the end of the code
 pub all_done : (s : Scan) → finished s [] ≡ s.done.items ++ closed s.held
 all_done s =
     ap (λ is. s.done.items ++ is)
     (sym (closed_alone s.held (scan (held_bytes s.held) []) refl refl) ∙ appended_none (closed s.held))
-
-pub ended_if : {A E : Type 0} (r : Result A E) (s t : Scan) (i j : Instr) → i ≡ j →
-    ((o : Option ℕ) (rest : List Instr) →
-    scan o (i ∷ rest) ≡ record (scan None rest) { code = i ∷ (scan None rest).code }) →
-    IfOk r (λ _. t.held ≡ None) → IfOk r (λ _. t.done.items ≡ (s.done.items ++ closed s.held) ++ i ∷ []) →
-    IfOk r (λ _. HasTaken s t j)
-ended_if (Ok v) s t i j same ends held done = subst (HasTaken s t) same (ended s t i ends held done)
-ended_if (Err e) s t i j same ends held done = tt

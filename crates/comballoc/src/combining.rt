@@ -1,8 +1,9 @@
 //! One scan over the code, with at most one allocation open.
-ghost use Rattle.std.specs.Prelude.{◌≡◌, ◌≤◌, ◌+◌, ◌++◌, [], ◌∷◌, true, None, IfOk, List};
+ghost use Rattle.std.specs.Prelude.{◌≡◌, ◌≤◌, ◌+◌, ◌++◌, [], ◌∷◌, true, false, None, IfOk, List};
 ghost use Rattle.combine_rules.specs.Combined.{joins, scan, combined, allocation};
 ghost use Rattle.comballoc.specs.Finished.{held_bytes, closed, stays, finished, HasTaken};
 ghost use Rattle.mach_ir.specs.Blocks.{bytes_of};
+ghost use Rattle.mach_ir.specs.Placed.{is_straight};
 ghost use Rattle.mach_ir.specs.declared.mach.Instr.{Instr as AnInstr};
 ghost use Rattle.mach_ir.specs.declared.mach.MachOp.TheVariants as mach;
 ghost use Rattle.mach_ir.specs.declared.op.Access.TheVariants as access;
@@ -58,13 +59,14 @@ impl Held {
 /// A scan that has come to some place: the code that is settled, and what is open after it.
 #[derive(Drop)]
 struct Scan {
+    alloc: Global,
     done: Vec<Instr>,
     held: Option<Held>,
 }
 
 impl Scan {
     /// Settles the open allocation: nothing joins it any more.
-    fn close(&mut self, alloc: Global) -> Result<(), AllocError>
+    fn close(&mut self) -> Result<(), AllocError>
         ensures held { IfOk result (λ _. self.new.held ≡ None) }
         ensures done { IfOk result (λ _. self.new.done.items ≡ self.old.done.items ++ closed self.old.held) }
     {
@@ -76,7 +78,7 @@ impl Scan {
             } = held;
             self.done.push(Instr {
                 op: MachOp::Op(Op::Access(Access::Alloc(blocks))),
-                args: Seq::new(alloc),
+                args: Seq::new(self.alloc),
                 results: Seq::from_vec(results),
             })?;
             self.done.append(&mut since)?;
@@ -95,12 +97,13 @@ impl Scan {
         Ok(())
     }
 
+    #[tactic(auto, using(crate::proofs::Taking::ended))]
     /// Takes an instruction that ends the straight run.
-    fn end_run(&mut self, alloc: Global, instr: Instr) -> Result<(), AllocError>
-        ensures held { IfOk result (λ _. self.new.held ≡ None) }
-        ensures done { IfOk result (λ _. self.new.done.items ≡ (self.old.done.items ++ closed self.old.held) ++ instr ∷ []) }
+    fn end_run(&mut self, instr: Instr) -> Result<(), AllocError>
+        requires { is_straight instr.op ≡ false }
+        ensures { IfOk result (λ _. HasTaken self.old self.new instr) }
     {
-        self.close(alloc)?;
+        self.close()?;
         self.done.push(instr)?;
         Ok(())
     }
@@ -128,24 +131,23 @@ impl Scan {
     }
 
     /// Takes an allocation: it joins the open one, or is open itself from here on.
-    fn allocate(&mut self, alloc: Global, blocks: Blocks, results: Seq<Reg>) -> Result<(), AllocError>
+    fn allocate(&mut self, blocks: Blocks, results: Seq<Reg>) -> Result<(), AllocError>
         ensures { IfOk result (λ _. HasTaken self.old self.new (allocation blocks results)) }
     {
         if self.joins(&blocks) {
             return self.join(&blocks, results);
         }
-        self.close(alloc)?;
+        self.close()?;
         self.held = Some(Held {
             blocks,
             results: results.into_vec(),
-            since: Vec::new(alloc),
+            since: Vec::new(self.alloc),
         });
         Ok(())
     }
 
     fn take_access(
         &mut self,
-        alloc: Global,
         access: Access,
         args: Seq<Reg>,
         results: Seq<Reg>,
@@ -163,13 +165,12 @@ impl Scan {
                 args,
                 results,
             }),
-            Access::Alloc(blocks) => self.allocate(alloc, blocks, results),
+            Access::Alloc(blocks) => self.allocate(blocks, results),
         }
     }
 
     fn take_op(
         &mut self,
-        alloc: Global,
         op: Op,
         args: Seq<Reg>,
         results: Seq<Reg>,
@@ -182,52 +183,42 @@ impl Scan {
                 args,
                 results,
             }),
-            Op::Access(access) => self.take_access(alloc, access, args, results),
-            Op::Calling(calling) => self.end_run(
-                alloc,
-                Instr {
-                    op: MachOp::Op(Op::Calling(calling)),
-                    args,
-                    results,
-                },
-            ),
-            Op::Leaving(leaving) => self.end_run(
-                alloc,
-                Instr {
-                    op: MachOp::Op(Op::Leaving(leaving)),
-                    args,
-                    results,
-                },
-            ),
+            Op::Access(access) => self.take_access(access, args, results),
+            Op::Calling(calling) => self.end_run(Instr {
+                op: MachOp::Op(Op::Calling(calling)),
+                args,
+                results,
+            }),
+            Op::Leaving(leaving) => self.end_run(Instr {
+                op: MachOp::Op(Op::Leaving(leaving)),
+                args,
+                results,
+            }),
         }
     }
 
-    #[tactic(auto, using(crate::proofs::Taking::ended))]
     /// Takes the next instruction. A mark ends the straight run, since control may come to it from
     /// elsewhere, or go elsewhere.
-    fn take(&mut self, alloc: Global, instr: Instr) -> Result<(), AllocError>
+    fn take(&mut self, instr: Instr) -> Result<(), AllocError>
         ensures { IfOk result (λ _. HasTaken self.old self.new instr) }
     {
         let Instr { op, args, results } = instr;
         match op {
-            MachOp::Op(op) => self.take_op(alloc, op, args, results),
-            MachOp::Mark(mark) => self.end_run(
-                alloc,
-                Instr {
-                    op: MachOp::Mark(mark),
-                    args,
-                    results,
-                },
-            ),
+            MachOp::Op(op) => self.take_op(op, args, results),
+            MachOp::Mark(mark) => self.end_run(Instr {
+                op: MachOp::Mark(mark),
+                args,
+                results,
+            }),
         }
     }
 
     /// Takes these instructions, first to last.
-    fn take_all(&mut self, alloc: Global, code: Vec<Instr>) -> Result<(), AllocError>
+    fn take_all(&mut self, code: Vec<Instr>) -> Result<(), AllocError>
         ensures { IfOk result (λ _. finished self.new [] ≡ finished self.old code.items) }
     {
         for instr in code {
-            self.take(alloc, instr)?;
+            self.take(instr)?;
         }
         Ok(())
     }
@@ -239,12 +230,17 @@ fn combine_code(alloc: Global, code: Seq<Instr>) -> Result<Seq<Instr>, AllocErro
     ensures { IfOk result (λ made. made ≡ (scan None code).code) }
 {
     let mut scan = Scan {
+        alloc,
         done: Vec::with_capacity(alloc, code.len())?,
         held: None,
     };
-    scan.take_all(alloc, code.into_vec())?;
-    scan.close(alloc)?;
-    let Scan { done, held: _ } = scan;
+    scan.take_all(code.into_vec())?;
+    scan.close()?;
+    let Scan {
+        alloc: _,
+        done,
+        held: _,
+    } = scan;
     Ok(Seq::from_vec(done))
 }
 

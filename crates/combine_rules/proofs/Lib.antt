@@ -4,3 +4,8 @@ pub mod Places
 pub mod Registers
 pub mod Sizes
 pub mod Live
+pub mod Largest
+pub mod Steady
+pub mod Files
+pub mod Awaited
+pub mod Steadily

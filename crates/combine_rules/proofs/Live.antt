@@ -12,6 +12,8 @@ use Rattle.mach_ir.specs.Walks.{Among, first, later, OneOf, this, other, targets
 use Rattle.mach_ir.specs.declared.blocks.NewBlock.{NewBlock}
 use Rattle.mach_ir.specs.declared.op.Access.TheVariants as access
 use Rattle.mach_ir.specs.declared.op.Op.TheVariants as op
+use Rattle.mach_ir.specs.declared.op.Pure.{Pure}
+use Rattle.bs_words.specs.declared.types.Chunk.{Chunk}
 use Rattle.mach_ir.specs.declared.reg.Reg.{Reg}
 use Rattle.mach_ir.specs.declared.mach.MachOp.{MachOp}
 use Rattle.mach_ir.specs.declared.mach.MachOp.TheVariants as mach
@@ -35,6 +37,7 @@ pub record Runs (i : Instr) : Type 0 where
   pub handler : (l : ℕ) → is_handler_of l i.op ≡ false
   pub kills : (m : Mach) → killed m i ≡ []
   pub frame : passes_frame i.op ≡ false
+  pub apart : (blocks : List NewBlock) → i.op ≡ mach.Op (op.Access (access.Alloc blocks)) → ⊥
 
 -- How an instruction and what stands for it come to each other, by what a scan makes of what is after it and from it on.
 pub data View (i : Instr) (after : Scanned) : Scanned → List Instr → Type 0 where
@@ -78,13 +81,27 @@ viewed held i next = by i.op i.args i.results
     by_joins blocks args results false after = opened blocks refl
 
     plain : {i : Instr} → is_straight i.op ≡ true → ((l : ℕ) → has_label l i.op ≡ false) → ((l : ℕ) → is_handler_of l i.op ≡ false) →
-        ((m : Mach) → killed m i ≡ []) → passes_frame i.op ≡ false → Runs i
-    plain s l h k p = record { straight = s; label = l; handler = h; kills = k; frame = p }
+        ((m : Mach) → killed m i ≡ []) → passes_frame i.op ≡ false →
+        ((blocks : List NewBlock) → i.op ≡ mach.Op (op.Access (access.Alloc blocks)) → ⊥) → Runs i
+    plain s l h k p a = record { straight = s; label = l; handler = h; kills = k; frame = p; apart = a }
+
+    no_pure : (f : Pure) (blocks : List NewBlock) → mach.Op (op.Pure f) ≡ mach.Op (op.Access (access.Alloc blocks)) → ⊥
+    no_pure f blocks e = cc
+
+    no_load : (k : Chunk) (offset : ℕ) (blocks : List NewBlock) →
+        mach.Op (op.Access (access.Load k offset)) ≡ mach.Op (op.Access (access.Alloc blocks)) → ⊥
+    no_load k offset blocks e = cc
+
+    no_store : (k : Chunk) (offset : ℕ) (blocks : List NewBlock) →
+        mach.Op (op.Access (access.Store k offset)) ≡ mach.Op (op.Access (access.Alloc blocks)) → ⊥
+    no_store k offset blocks e = cc
 
     by : (f : MachOp) (args results : List Reg) → Viewed held (made f args results) f next
-    by (mach.Op (op.Pure f)) args results = runs (plain refl (λ l. refl) (λ l. refl) (λ m. refl) refl)
-    by (mach.Op (op.Access (access.Load k offset))) args results = runs (plain refl (λ l. refl) (λ l. refl) (λ m. refl) refl)
-    by (mach.Op (op.Access (access.Store k offset))) args results = runs (plain refl (λ l. refl) (λ l. refl) (λ m. refl) refl)
+    by (mach.Op (op.Pure f)) args results = runs (plain refl (λ l. refl) (λ l. refl) (λ m. refl) refl (no_pure f))
+    by (mach.Op (op.Access (access.Load k offset))) args results =
+        runs (plain refl (λ l. refl) (λ l. refl) (λ m. refl) refl (no_load k offset))
+    by (mach.Op (op.Access (access.Store k offset))) args results =
+        runs (plain refl (λ l. refl) (λ l. refl) (λ m. refl) refl (no_store k offset))
     by (mach.Op (op.Access (access.Alloc blocks))) args results =
         by_joins blocks args results (joins held blocks) (scan (Some (bytes_past held blocks)) next)
     by (mach.Op (op.Calling f)) args results = ends refl (nothing_goes next).0 (nothing_goes next).1

@@ -9,16 +9,31 @@
 //! The crate holds definitions and laws alone.
 #![tactic(auto)]
 
-ghost use Rattle.std.specs.Prelude.{◌<◌, ◌+◌, List};
+ghost use Rattle.std.specs.Prelude.{◌<◌, ◌≤◌, ◌+◌, ◌⊎◌, List, Contains};
 ghost use Rattle.combine_rules.specs.Combined.{combined};
-ghost use Rattle.combine_rules.specs.Neighbours.{AreNeighbours};
+ghost use Rattle.combine_rules.specs.Neighbours.{Allocates, AreNeighbours};
+ghost use Rattle.combine_rules.specs.Kept.{IsNoLarger};
 ghost use Rattle.mach_ir.specs.Blocks.{bytes_of};
 ghost use Rattle.mach_ir.specs.Forms.{reservation_most};
 ghost use Rattle.mach_ir.specs.declared.blocks.NewBlock.{NewBlock};
+ghost use Rattle.mach_ir.specs.declared.mach.Instr.{Instr};
 ghost use Rattle.mach_ir.specs.declared.mach.Mach.{Mach};
 
 /// Law: two neighbouring allocations of one straight run do not fit one reservation together.
 pub fn combined_neighbours()
     ensures { (m : Mach) (blocks others : List NewBlock) → AreNeighbours (combined m) blocks others →
         reservation_most < bytes_of blocks + bytes_of others }
+{}
+
+/// Law: an allocation of the result takes no more than one reservation, or it is one of the function.
+pub fn combined_fits()
+    ensures { (m : Mach) (i : Instr) (blocks : List NewBlock) → Contains (combined m).code i →
+        Allocates i blocks → (bytes_of blocks ≤ reservation_most)
+        ⊎ ((j : Instr) × Contains m.code j × Allocates j blocks) }
+{}
+
+/// Law: the result is no larger, and has no register that the function does not have. So none gets a
+/// place.
+pub fn combined_is_no_larger()
+    ensures { (m : Mach) → IsNoLarger m (combined m) }
 {}
