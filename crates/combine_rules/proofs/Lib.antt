@@ -9,3 +9,4 @@ pub mod Steady
 pub mod Files
 pub mod Awaited
 pub mod Steadily
+pub mod Doing

@@ -206,7 +206,7 @@ module _ (m : Mach) where
       ⊎_elim (λ a. a) (λ a. none_among (subst (λ f. Among n (killed m (made f i.args i.results))) e a))
       (split_among n i.results (killed m i) w)
 
-  alloc_goes : (i : Instr) (blocks : List NewBlock) → i.op ≡ mach.Op (op.Access (access.Alloc blocks)) → OneOf On (targets i.op)
+  pub alloc_goes : (i : Instr) (blocks : List NewBlock) → i.op ≡ mach.Op (op.Access (access.Alloc blocks)) → OneOf On (targets i.op)
   alloc_goes i blocks e = subst (λ f. OneOf On (targets f)) (sym e) this
 
   over : {n : ℕ} {i : Instr} {next : List Instr} (blocks : List NewBlock) → i.op ≡ mach.Op (op.Access (access.Alloc blocks)) →
