@@ -56,13 +56,13 @@ no_values : (vs : List Value) → Some [] ≡ Some vs → vs ≡ []
 no_values vs e = cc
 
 module _ (m : Mach) (is : IsCombinable m) where
-  abbrev q : Mach
+  abbrev pub q : Mach
   q = combined m
 
-  abbrev f : ℕ → Instr → List Instr
+  abbrev pub f : ℕ → Instr → List Instr
   f = merged m.code
 
-  abbrev at_place : List Instr → Scanned
+  abbrev pub at_place : List Instr → Scanned
   at_place rest = scanned m.code rest
 
   -- The second has allocated the blocks that go to the open allocation, and their starts stand in its registers. Else it has
@@ -77,12 +77,12 @@ module _ (m : Mach) (is : IsCombinable m) where
 
   -- ---- where nothing is pending
 
-  no_blocks : {rest : List Instr} → Ending rest m.code → (at_place rest).results ≡ [] → (at_place rest).blocks ≡ []
+  pub no_blocks : {rest : List Instr} → Ending rest m.code → (at_place rest).results ≡ [] → (at_place rest).blocks ≡ []
   no_blocks {rest} e r =
       none_length (at_place rest).blocks
       (sym (counted m is (open_at (length rest) None m.code) rest e) ∙ ap length r)
 
-  quiet : {a b : File} (rest : List Instr) (x : Around) → Ending rest m.code → (at_place rest).results ≡ [] →
+  pub quiet : {a b : File} (rest : List Instr) (x : Around) → Ending rest m.code → (at_place rest).results ≡ [] →
       ((n : ℕ) → Has (a n) (b n)) → Rel rest x x a b
   quiet {a} {b} rest x e r has =
       record {
@@ -91,7 +91,7 @@ module _ (m : Mach) (is : IsCombinable m) where
         has = λ n free. has n;
       }
 
-  calm_land : (here : List Instr) (to : Landing) → (at_place (landing_code m.code here to)).results ≡ []
+  pub calm_land : (here : List Instr) (to : Landing) → (at_place (landing_code m.code here to)).results ≡ []
   calm_land here (AtLabel l) = calm_label m.code l m.code all
   calm_land here AtHandler = by (tries_at here)
     where
@@ -101,7 +101,7 @@ module _ (m : Mach) (is : IsCombinable m) where
 
   -- ---- registers of one origin are one
 
-  agrees : (ws : List Reg) (s : _) → Agrees q ws s
+  pub agrees : (ws : List Reg) (s : _) → Agrees q ws s
   agrees ws s =
       record {
         agree = λ r k i j e v w x y g h.
@@ -227,7 +227,7 @@ module _ (m : Mach) (is : IsCombinable m) where
         Pending (at_place next) x (ahead (at_place next).blocks x) a b → (one two : Act) →
         AllSteady (at_place next).blocks x one two → Acting i i next x (ahead (at_place next).blocks x) a b one two
     acts_steady i next a b x ending plain rel one two is_lost = general.stuck_first
-    acts_steady i next a b x ending plain rel one two (goes_ahead {vs = vs} {after = after} same) =
+    acts_steady i next a b x ending plain rel one two (goes_ahead {vs = vs} {after = after} same shapes tries) =
         general.both_go
         (λ d e.
         let y = put_both i vs a b d e in
@@ -293,7 +293,7 @@ module _ (m : Mach) (is : IsCombinable m) where
         })
 
     -- what an allocation does
-    allocates : (blocks : List NewBlock) (rs : List Reg) (x : Around) → length rs ≡ length blocks →
+    pub allocates : (blocks : List NewBlock) (rs : List Reg) (x : Around) → length rs ≡ length blocks →
         mach_act c.setting (mach.Op (op.Access (access.Alloc blocks))) [] x
         ≡ only_if (is_complete x) (Goes (starts (length x.memory.blocks) rs) On (ahead blocks x))
     allocates blocks rs x e = ap (only_if (is_complete x)) (made_blocks blocks rs [] x e)
@@ -442,7 +442,7 @@ module _ (m : Mach) (is : IsCombinable m) where
         by true = inr (starts (length x.memory.blocks) i.results, ahead blocks x, refl, go)
 
     -- an allocation reads nothing
-    reads_nothing : (i : Instr) (blocks : List NewBlock) → IsAllocation i blocks → (a : File) (vs : List Value) → values a i.args ≡ Some vs → vs ≡ []
+    pub reads_nothing : (i : Instr) (blocks : List NewBlock) → IsAllocation i blocks → (a : File) (vs : List Value) → values a i.args ≡ Some vs → vs ≡ []
     reads_nothing i blocks known a vs e = no_values vs (ap (λ (k : Instr). values a k.args) (sym known.is) ∙ e)
 
     by_view : (i : Instr) (next : List Instr) (x : Around) (a b : File) → Ending (i ∷ next) m.code → (vs : List Value) → values a i.args ≡ Some vs →
@@ -460,7 +460,7 @@ module _ (m : Mach) (is : IsCombinable m) where
         let known = allocation_at m is ending blocks al in
         opened_here i next blocks x a b ending al known shape (λ n. rel.has n (λ j. none_among j)) vs (reads_nothing i blocks known a vs e)
 
-    serves : general.Serves c m q f (keeps_marks m.code) (is_code m) Ahead Rel
+    pub serves : general.Serves c m q f (keeps_marks m.code) (is_code m) Ahead Rel
     serves =
         record {
           suits = λ rest x y a b rel. record { blocks = (at_place rest).blocks; same = rel.same };

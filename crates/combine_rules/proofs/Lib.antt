@@ -10,3 +10,4 @@ pub mod Files
 pub mod Awaited
 pub mod Steadily
 pub mod Doing
+pub mod Trailing

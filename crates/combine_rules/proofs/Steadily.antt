@@ -1,7 +1,8 @@
 -- What may stand in a straight run does the same where blocks have been allocated ahead of it.
-use Rattle.std.proofs.Common.{◌≡◌, ℕ, Bool, true, false, List, [], ◌∷◌, length, refl, sym, ap, ◌∙◌, subst}
+use Rattle.std.proofs.Common.{◌≡◌, ℕ, Bool, true, false, List, [], ◌∷◌, length, map, refl, sym, ap, ◌∙◌, subst}
 use Rattle.std.proofs.lemmas.Bool.{true≢false}
 use Rattle.bs_words.specs.declared.values.Value.{Value}
+use Rattle.cmm_meaning.specs.Extends.{shape_of}
 use Rattle.cmm_meaning.specs.Setting.{Setting}
 use Rattle.combine_rules.proofs.Steady as one
 use Rattle.combine_rules.proofs.Steady.{Steadies, steady}
@@ -20,12 +21,13 @@ use Rattle.mach_ir.specs.declared.mach.MachOp.TheVariants as mach
 pub data AllSteady (bs : List NewBlock) (a : Around) : Act → Act → Type 0 where
   is_lost : {x : Act} → AllSteady bs a Stuck x
   goes_ahead : {vs : List Value} {after : Around} → length after.memory.blocks ≡ length a.memory.blocks →
+      map shape_of after.memory.blocks ≡ map shape_of a.memory.blocks → after.tries ≡ a.tries →
       AllSteady bs a (Goes vs On after) (Goes vs On (ahead bs after))
 
 joined : (b : NewBlock) (bs : List NewBlock) (a : Around) {x y z : Act} → Steadies b a x y → AllSteady bs (with_block b a) y z →
     AllSteady (b ∷ bs) a x z
 joined b bs a one.is_lost t = is_lost
-joined b bs a (one.goes_ahead same) (goes_ahead more) = goes_ahead same
+joined b bs a (one.goes_ahead same shapes tries) (goes_ahead others kept left) = goes_ahead same shapes tries
 
 module _ (c : Setting) (vs : List Value) where
   -- with none ahead: an act goes on here, or is stuck
@@ -35,7 +37,7 @@ module _ (c : Setting) (vs : List Value) where
     where
       by : {x y : Act} → Steadies (record { header = 0; cells = 0 }) a x y → AllSteady [] a x x
       by one.is_lost = is_lost
-      by (one.goes_ahead same) = goes_ahead same
+      by (one.goes_ahead same shapes tries) = goes_ahead same shapes tries
 
   steadies : (f : Op) → is_straight (mach.Op f) ≡ true → ((blocks : List NewBlock) → f ≡ op.Access (access.Alloc blocks) → ⊥) →
       (bs : List NewBlock) (a : Around) → AllSteady bs a (mach_act c (mach.Op f) vs a) (mach_act c (mach.Op f) vs (ahead bs a))

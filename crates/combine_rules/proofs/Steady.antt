@@ -19,6 +19,7 @@ use Rattle.bs_words.specs.declared.types.Ty.TheVariants as ty
 use Rattle.bs_words.specs.declared.values.Kind.{Kind}
 use Rattle.bs_words.specs.declared.values.Value.{Value}
 use Rattle.bs_words.specs.declared.values.Value.TheVariants as value
+use Rattle.cmm_meaning.specs.Extends.{shape_of}
 use Rattle.cmm_meaning.specs.Setting.{Setting}
 use Rattle.mach_ir.specs.Acts.{Around, Act, Goes, Stuck, On, act, pure_act, access_act, one_result, if_known, only_if, loaded_act, stored_act, first_written, header_written, after_store, moved_by, is_among, without, same_cell, cells_from, fresh_block, with_block}
 use Rattle.mach_ir.specs.Placed.{is_straight}
@@ -227,7 +228,7 @@ module _ (fs : List HeapBlock) where
 
   pub data Stored (m : Memory) : Result Memory Kind → Result Memory Kind → Type 0 where
     not_stored : {k : Kind} {r : Result Memory Kind} → Stored m (Err k) r
-    is_stored : {bs : List HeapBlock} {ss : List StaticList} → length bs ≡ length m.blocks → map (λ (block : HeapBlock). length block.cells) bs ≡ sizes m →
+    is_stored : {bs : List HeapBlock} {ss : List StaticList} → length bs ≡ length m.blocks → map shape_of bs ≡ map shape_of m.blocks →
         Stored m (Ok (record m { blocks = bs; statics = ss })) (Ok (record m { blocks = bs ++ fs; statics = ss }))
 
   with_same : (m : Memory) (cell : Cell) (v : Value) → Low (length m.blocks) cell → Stored m (Ok (with_value m cell v)) (Ok (with_value (with_fresh m) cell v))
@@ -237,7 +238,8 @@ module _ (fs : List HeapBlock) where
       subst (λ (z : HeapBlock). Stored m (Ok (with_value m (InBlock t i) v)) (Ok (record m { blocks = slice_set (m.blocks ++ fs) t (record z { cells = slice_set z.cells i v }) }))) (sym (block_same m t lt))
       (subst (λ bs. Stored m (Ok (with_value m (InBlock t i) v)) (Ok (record m { blocks = bs }))) (sym (set-append_left m.blocks fs t (record b { cells = slice_set b.cells i v }) lt))
       (is_stored (length-set m.blocks t (record b { cells = slice_set b.cells i v }))
-      (map-set_same (λ (block : HeapBlock). length block.cells) m.blocks t (record b { cells = slice_set b.cells i v }) (record { header = 0; cells = [] }) (length-set b.cells i v))))
+      (map-set_same shape_of m.blocks t (record b { cells = slice_set b.cells i v }) (record { header = 0; cells = [] })
+      (ap (λ k. record { header = b.header; cells = k }) (length-set b.cells i v)))))
   with_same m (InStatic l i) v low_static = is_stored refl refl
 
   put_in_same : (end : ℕ) (m : Memory) (cell : Cell) (v : Value) → Low (length m.blocks) cell → Stored m (put_in end m cell v) (put_in end (with_fresh m) cell v)
@@ -328,15 +330,16 @@ without_low s cell low b u =
 pub data Steadies (b : NewBlock) (a : Around) : Act → Act → Type 0 where
   is_lost : {x : Act} → Steadies b a Stuck x
   goes_ahead : {vs : List Value} {after : Around} → length after.memory.blocks ≡ length a.memory.blocks →
+      map shape_of after.memory.blocks ≡ map shape_of a.memory.blocks → after.tries ≡ a.tries →
       Steadies b a (Goes vs On after) (Goes vs On (with_block b after))
 
 module _ (b : NewBlock) (a : Around) where
   one_steady : {r w : Result Value Kind} → Firm r w → Steadies b a (one_result a r) (one_result (with_block b a) w)
   one_steady no_value = is_lost
-  one_steady a_value = goes_ahead refl
+  one_steady a_value = goes_ahead refl refl refl
 
   known_steady : (o : Option Value) → Steadies b a (if_known a o) (if_known (with_block b a) o)
-  known_steady (Some v) = goes_ahead refl
+  known_steady (Some v) = goes_ahead refl refl refl
   known_steady None = is_lost
 
   abbrev fs : List HeapBlock
@@ -354,9 +357,9 @@ module _ (b : NewBlock) (a : Around) where
 
   pure_steady : (c : Setting) (f : Pure) (vs : List Value) → Steadies b a (pure_act c f vs a) (pure_act c f vs (with_block b a))
   pure_steady c (pure.Copy kind) [] = is_lost
-  pure_steady c (pure.Copy kind) (x ∷ []) = goes_ahead refl
+  pure_steady c (pure.Copy kind) (x ∷ []) = goes_ahead refl refl refl
   pure_steady c (pure.Copy kind) (x ∷ y ∷ vs) = is_lost
-  pure_steady c (pure.Constant w) [] = goes_ahead refl
+  pure_steady c (pure.Constant w) [] = goes_ahead refl refl refl
   pure_steady c (pure.Constant w) (x ∷ vs) = is_lost
   pure_steady c (pure.Symbol name) [] = known_steady (c.symbol name)
   pure_steady c (pure.Symbol name) (x ∷ vs) = is_lost
@@ -379,15 +382,16 @@ module _ (b : NewBlock) (a : Around) where
       by true = is_lost
       by false = one_steady (firm (loaded_as k (end_of_data a.memory) offset (value_in a.memory cell)))
 
-  goes_same : (after w : Around) → length after.memory.blocks ≡ count → w ≡ with_block b after → Steadies b a (Goes [] On after) (Goes [] On w)
-  goes_same after w same e = subst (λ z. Steadies b a (Goes [] On after) (Goes [] On z)) (sym e) (goes_ahead same)
+  goes_same : (after w : Around) → length after.memory.blocks ≡ count →
+      map shape_of after.memory.blocks ≡ map shape_of a.memory.blocks → after.tries ≡ a.tries → w ≡ with_block b after → Steadies b a (Goes [] On after) (Goes [] On w)
+  goes_same after w same shapes tries e = subst (λ z. Steadies b a (Goes [] On after) (Goes [] On z)) (sym e) (goes_ahead same shapes tries)
 
   -- after a store
   after_steady : (u w : List Cell) → w ≡ unwritten_with count b u → {r s : Result Memory Kind} → Stored fs a.memory r s → Steadies b a (after_store a u r) (after_store (with_block b a) w s)
   after_steady u w e not_stored = is_lost
   after_steady u w e (is_stored {bs = bs} {ss = ss} same sized) =
       goes_same (record a { memory = record a.memory { blocks = bs; statics = ss }; unwritten = u })
-      (record a { memory = record a.memory { blocks = bs ++ fs; statics = ss }; unwritten = w }) same
+      (record a { memory = record a.memory { blocks = bs ++ fs; statics = ss }; unwritten = w }) same sized refl
       (ap (λ z. record a { memory = record a.memory { blocks = bs ++ fs; statics = ss }; unwritten = z }) (e ∙ ap (λ k. unwritten_with k b u) (sym same)))
 
   only_steady : (z : Bool) {x y : Act} → Steadies b a x y → Steadies b a (only_if z x) (only_if z y)
@@ -398,7 +402,7 @@ module _ (b : NewBlock) (a : Around) where
   header_steady chunk.Int t lt (value.Word h) (value.Word w) =
       only_steady (nat_eq w h)
       (goes_same (record a { unwritten = without (InHeader t) a.unwritten })
-      (record (with_block b a) { unwritten = without (InHeader t) (unwritten_with count b a.unwritten) }) refl
+      (record (with_block b a) { unwritten = without (InHeader t) (unwritten_with count b a.unwritten) }) refl refl refl
       (ap (λ z. record (with_block b a) { unwritten = z }) (without_low count (InHeader t) (low_header lt) b a.unwritten)))
   header_steady chunk.Int t lt (value.Word h) (value.Block s o) = is_lost
   header_steady chunk.Int t lt (value.Word h) (value.Function g) = is_lost
