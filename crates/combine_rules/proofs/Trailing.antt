@@ -31,7 +31,7 @@ use Rattle.mach_laws.specs.Expand.{expand, Ending, all}
 use Rattle.mach_laws.proofs.General as general
 use Rattle.mach_laws.proofs.General.{at}
 use Rattle.mach_laws.proofs.Leads.{Within, goes_in, pushes_in, jumps_in, unwinds_in, asks_in, replaces_in, ends_in, raising_in, stuck_in, within}
-use Rattle.mach_laws.proofs.Simulate as simulate
+use Rattle.mach_laws.proofs.Places.{ending_next}
 use Rattle.mach_laws.proofs.Simulate.{Agrees, ArrivesWell, Arrives, both_continue, both_pay, both_deepen, both_wait, both_finish_by, both_finish, both_finish_raising, first_stuck, later, Answers, stays, stuck, steps, Closed, simulates}
 
 appended_none : {A : Type 0} (xs : List A) → xs ++ [] ≡ xs
@@ -63,9 +63,9 @@ steady_onward is_lost = lost
 steady_onward {x} (goes_ahead same shapes tries) =
     goes (record { tries = tries; more = []; blocks = shapes ∙ sym (appended_none (map shape_of x.memory.blocks)) })
 
-only_onward : {x : Around} (t : Bool) {vs : List Value} {after : Around} → Trails after x → Onward x (only_if t (Goes vs On after))
-only_onward true h = goes h
-only_onward false h = lost
+only_onward : {x : Around} (t : Bool) (vs : List Value) {after : Around} → Trails after x → Onward x (only_if t (Goes vs On after))
+only_onward true vs h = goes h
+only_onward false vs h = lost
 
 module _ (m : Mach) (is : IsCombinable m) (c : Place) where
   abbrev q : Mach
@@ -86,6 +86,7 @@ module _ (m : Mach) (is : IsCombinable m) (c : Place) where
   -- the second stands where the first stood when nothing was pending
   record Awaiting (s t : State) : Type 0 where
     from : State
+    ending : Ending s.rest m.code
     related : Related from t
     even : IsEven from.rest
     trail : Trail from s
@@ -127,7 +128,7 @@ module _ (m : Mach) (is : IsCombinable m) (c : Place) where
 
   -- ---- where nothing is pending after a step
 
-  IsCalm : Step State → Type 0
+  abbrev IsCalm : Step State → Type 0
   IsCalm (Continues s) = IsEven s.rest
   IsCalm (Pays s) = IsEven s.rest
   IsCalm (Deepens bytes s) = IsEven s.rest
@@ -137,8 +138,11 @@ module _ (m : Mach) (is : IsCombinable m) (c : Place) where
   IsCalm (FinishesRaising d) = Unit {0}
   IsCalm IsStuck = Unit {0}
 
+  ending_of : {s t : State} → Related s t → Ending s.rest m.code
+  ending_of (general.related e rel) = e
+
   now : {s t : State} → Related s t → IsEven s.rest → Awaiting s t
-  now {s = s} r e = record { from = s; related = r; even = e; trail = none; trails = level_trail s.around }
+  now {s = s} r e = record { from = s; ending = ending_of r; related = r; even = e; trail = none; trails = level_trail s.around }
 
   arrives_calm : {ws xs : List Reg} {x w : Step State} → Catching ws xs x w → IsCalm x → Arrives c m q Trails Awaiting ws xs x w
   arrives_calm (both_continue g) e = both_continue (λ w. let h = g w in (now h.0 e, h.1))
@@ -189,7 +193,7 @@ module _ (m : Mach) (is : IsCombinable m) (c : Place) where
       (sym (ap (λ h. mach_act c.setting h vs x) al
       ∙ ap (λ us. mach_act c.setting (mach.Op (op.Access (access.Alloc blocks))) us x) (reads_nothing m is c i blocks known a vs g)
       ∙ allocates m is c blocks i.results x known.sized))
-      (only_onward (is_complete x) (trails_ahead blocks x))
+      (only_onward (is_complete x) (starts (length x.memory.blocks) i.results) (trails_ahead blocks x))
 
   onward_view : (i : Instr) (next : List Instr) (a : File) (x : Around) (vs : List Value) → Ending (i ∷ next) m.code →
       values a i.args ≡ Some vs → {s : Scanned} {xs : List Instr} → View i (scanned m.code next) s xs →
@@ -222,6 +226,7 @@ module _ (m : Mach) (is : IsCombinable m) (c : Place) where
           (λ w.
           record {
             from = r.from;
+            ending = ending_next e;
             related = r.related;
             even = r.even;
             trail = then r.trail known (stepped (Goes rs On after) h (Some d) (Continues (at next d after)) (ap (wrote next after) k)) w;
@@ -234,3 +239,49 @@ module _ (m : Mach) (is : IsCombinable m) (c : Place) where
       by_act act h (goes {vs = rs} {after = after} tr) =
           subst (λ z. Answers c m q Trails Awaiting (wrote_at m (i ∷ next)) t (on_act c m i next (past_frame (passes_frame i.op) a) x z)) (sym h)
           (by_file rs after h tr (put_all c.setting.end i.results rs (clear (killed m i) (past_frame (passes_frame i.op) a))) refl)
+
+  -- ---- each step
+
+  same_around : {s t : State} → Related s t → IsEven s.rest → t.around ≡ s.around
+  same_around (general.related {x = x} ending rel) e = rel.same ∙ ap (λ bs. ahead bs x) (no_blocks m is ending e)
+
+  decided : (rs : List Reg) → (rs ≡ []) ⊎ (rs ≡ [] → ⊥)
+  decided [] = inl refl
+  decided (r ∷ rs) = inr (some r rs)
+    where
+      some : (r : Reg) (rs : List Reg) → r ∷ rs ≡ [] → ⊥
+      some r rs e = cc
+
+  next_by : (rest : List Instr) (a : File) (x : Around) (t : State) → Awaiting (at rest a x) t → ValsWritten m (at rest a x) →
+      Answers c m q Trails Awaiting (wrote_at m rest) t (step c m (at rest a x))
+  next_by [] a x t r known = stuck
+  next_by (i ∷ next) a x t r known =
+      ⊎_elim
+      (λ e.
+      answers_calm
+      (caught_up r.trail r.related (wrote_at m (i ∷ next)) (step c m (at (i ∷ next) a x))
+      (λ u ru. closed.next (at (i ∷ next) a x) u ru known))
+      (calm_values i next a x e (values a i.args)))
+      (λ some. waits_on i next a x t r.ending some known r (values a i.args) refl)
+      (decided (scanned m.code next).results)
+
+  closed_trails : Closed c m q Trails Awaiting
+  closed_trails =
+      record {
+        suits = λ s t r. subst (Trails s.around) (sym (same_around r.related r.even)) r.trails;
+        next = λ s t r known. next_by s.rest s.file s.around t r known;
+      }
+
+  starts_even : IsEven m.code
+  starts_even = ap (λ (s : Scanned). s.results) (at_start m.code) ∙ (nothing_goes m.code).1
+
+  -- Wherever the function is not stuck, the result comes to what it does, and has allocated no more.
+  pub no_more : (a : File) (x : Around) (n : ℕ) (t : Tally) → Proper c m n (at m.code a x) t →
+      Comes Trails (run c m n (at m.code a x) t) c q (at q.code a x) t
+  no_more a x n t proper =
+      simulates c m q Trails Awaiting closed_trails n (at m.code a x) (at q.code a x) t
+      (now
+      (subst (λ code. Related (at m.code a x) (at code a x)) (sym (is_code m))
+      (general.related all (quiet m is m.code x all starts_even (λ n v e. e))))
+      starts_even)
+      proper
