@@ -169,12 +169,7 @@ impl Scan {
         }
     }
 
-    fn take_op(
-        &mut self,
-        op: Op,
-        args: Seq<Reg>,
-        results: Seq<Reg>,
-    ) -> Result<(), AllocError>
+    fn take_op(&mut self, op: Op, args: Seq<Reg>, results: Seq<Reg>) -> Result<(), AllocError>
         ensures { IfOk result (λ _. HasTaken self.old self.new (record { op = mach.Op op; args = args; results = results })) }
     {
         match op {

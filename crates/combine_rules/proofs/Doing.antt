@@ -1,27 +1,23 @@
 -- The result does what the function does: it may have allocated blocks already that the function has not yet.
-use Rattle.std.proofs.Common.{◌≡◌, ℕ, zero, suc, ◌+◌, Bool, true, false, cond, ◌⊎◌, inl, inr, ⊎_elim, List, [], ◌∷◌, ◌++◌, length, Option, Some, None, refl, sym, ap, ◌∙◌, subst, arith}
-use Rattle.std.specs.List.{Contains}
+use Rattle.std.proofs.Common.{◌≡◌, ℕ, ◌+◌, Bool, true, false, ◌⊎◌, inl, inr, ⊎_elim, List, [], ◌∷◌, ◌++◌, length, Option, Some, None, refl, sym, ap, ◌∙◌, subst, arith}
 use Rattle.std.proofs.lemmas.Bool.{true≢false}
 use Rattle.std.proofs.lemmas.List.{length-append}
-use Rattle.bs_words.specs.Memory.{Memory}
-use Rattle.bs_words.specs.declared.types.Comp.TheVariants as comp
 use Rattle.bs_words.specs.declared.values.Value.{Value}
-use Rattle.cmm_meaning.specs.State.{Doing}
-use Rattle.combine_rules.specs.Combined.{Scanned, allocation, allocated, scan, combined}
+use Rattle.combine_rules.specs.Combined.{Scanned, allocation, allocated, combined}
 use Rattle.combine_rules.specs.Kept.{IsCombinable}
 use Rattle.combine_rules.specs.Neighbours.{Allocates}
 use Rattle.combine_rules.proofs.Awaited.{IsAllocation, allocation_at, apart_from, not_read, homes, distinct, counted}
-use Rattle.combine_rules.proofs.Files.{PutAll, put_view, put_of, put_is, Has, Puts, puts_has, puts_append, clear_has, frame_has, frame_loses, Holds, holds_none, starts, starts_append, holds_after, holds_before, holds_same, Written, write_starts, held_has, values_has, length_ahead, allocated as made_blocks}
-use Rattle.combine_rules.proofs.Live.{Runs, View, runs, ends, joined, opened, view, calm_label, calm_handler, Told, label_is, handler_is, tries_here, calm, alloc_writes, alloc_goes, live_before}
+use Rattle.combine_rules.proofs.Files.{put_view, put_of, put_is, Has, Puts, puts_has, puts_append, clear_has, frame_has, frame_loses, Holds, holds_none, starts, starts_append, holds_after, holds_before, holds_same, write_starts, held_has, values_has, length_ahead, allocated as made_blocks}
+use Rattle.combine_rules.proofs.Live.{Runs, View, runs, ends, joined, opened, view, calm_label, calm_handler, label_is, handler_is, tries_here, calm, alloc_writes, alloc_goes, live_before}
 use Rattle.combine_rules.proofs.Places.{open_at, scanned, merged, keeps_marks, is_code, at_start}
 use Rattle.combine_rules.proofs.Scan.{nothing_goes}
 use Rattle.combine_rules.proofs.Sizes.{register_before}
 use Rattle.combine_rules.proofs.Steadily.{AllSteady, is_lost, goes_ahead, all_steady}
-use Rattle.mach_ir.specs.Acts.{Around, Target, On, At, Landing, AtLabel, AtHandler, Act, Goes, Pushes, Jumps, Unwinds, Asks, Replaces, Ends, EndsRaising, Stuck, only_if, is_complete, new_blocks}
+use Rattle.mach_ir.specs.Acts.{Around, Target, On, At, Landing, AtLabel, AtHandler, Act, Goes, Pushes, Jumps, Unwinds, Asks, Replaces, Ends, EndsRaising, Stuck, only_if, is_complete}
 use Rattle.mach_ir.specs.Keeps.{ValsWritten, Proper, Comes, ahead, Ahead}
 use Rattle.mach_ir.specs.Meaning.{Held, File, put_all, clear, killed, written, values, past_frame, passes_frame, mach_act, after_label, at_handler, landing_code, tries_at, run}
 use Rattle.mach_ir.specs.Runs.{Place, Tally}
-use Rattle.mach_ir.specs.Walks.{Among, first, later, OneOf, this, other, targets, Live, LiveAcross, across_step, across_raise, goes, raises, Writes, IsRegister}
+use Rattle.mach_ir.specs.Walks.{Among, other, Live, LiveAcross, across_step, across_raise, goes, raises}
 use Rattle.mach_ir.proofs.Keeping.{ahead_more}
 use Rattle.mach_ir.specs.declared.blocks.NewBlock.{NewBlock}
 use Rattle.mach_ir.specs.declared.op.Access.TheVariants as access
@@ -33,7 +29,7 @@ use Rattle.mach_ir.specs.declared.mach.Mach.{Mach}
 use Rattle.mach_laws.specs.Expand.{expand, Ending, all}
 use Rattle.mach_laws.proofs.General as general
 use Rattle.mach_laws.proofs.General.{at}
-use Rattle.mach_laws.proofs.Leads.{Within, goes_in, pushes_in, jumps_in, unwinds_in, asks_in, replaces_in, ends_in, raising_in, stuck_in, within}
+use Rattle.mach_laws.proofs.Leads.{Within, goes_in, pushes_in, jumps_in, unwinds_in, asks_in, within}
 use Rattle.mach_laws.proofs.Places.{ending_next, ending_label, ending_from_handler, ending_land as ending_landing}
 use Rattle.mach_laws.proofs.Simulate.{Agrees}
 use Rattle.places_rules.proofs.Walked.{left_among, right_among, split_among}
@@ -143,7 +139,7 @@ module _ (m : Mach) (is : IsCombinable m) where
             (lacks (a r.number) (b r.number) (has r.number) none);
       }
 
-  across_ends : (i : Instr) (next : List Instr) → Ending (i ∷ next) m.code → (at_place next).results ≡ [] → (n : ℕ) →
+  pub across_ends : (i : Instr) (next : List Instr) → Ending (i ∷ next) m.code → (at_place next).results ≡ [] → (n : ℕ) →
       LiveAcross q n i (expand f next) → LiveAcross m n i next
   across_ends i next e r n (across_step free (goes On o) v) =
       across_step free (goes On o) (calm m r (live_before m (ending_next e) v))
@@ -156,7 +152,7 @@ module _ (m : Mach) (is : IsCombinable m) where
       (calm m (calm_handler m.code l m.code all)
       (live_before m (ending_from_handler l m.code) (subst (Live q n) (handler_is m l) v)))
 
-  across_opened : (i : Instr) (next : List Instr) (blocks : List NewBlock) → Ending (i ∷ next) m.code → Allocates i blocks → (n : ℕ) →
+  pub across_opened : (i : Instr) (next : List Instr) (blocks : List NewBlock) → Ending (i ∷ next) m.code → Allocates i blocks → (n : ℕ) →
       LiveAcross q n (allocation (blocks ++ (at_place next).blocks) (i.results ++ (at_place next).results)) (expand f next) →
       LiveAcross m n i next
   across_opened i next blocks e a n (across_step free (goes On o) v) =
@@ -230,8 +226,7 @@ module _ (m : Mach) (is : IsCombinable m) where
     acts_steady i next a b x ending plain rel one two (goes_ahead {vs = vs} {after = after} same shapes tries) =
         general.both_go
         (λ d e.
-        let y = put_both i vs a b d e in
-        (
+        let y = put_both i vs a b d e in (
           y.file,
           put_is y.puts,
           general.on (λ z. agrees (written q i) _) general.passed
@@ -332,10 +327,13 @@ module _ (m : Mach) (is : IsCombinable m) where
       where
         s : Scanned
         s = at_place next
+
         all_blocks : List NewBlock
         all_blocks = blocks ++ (at_place next).blocks
+
         all_results : List Reg
         all_results = i.results ++ (at_place next).results
+
         count : ℕ
         count = length x.memory.blocks
 
@@ -357,17 +355,16 @@ module _ (m : Mach) (is : IsCombinable m) where
             (ahead blocks x) (ahead (blocks ++ (at_place next).blocks) x) d e On
         go d e =
             let rest = write_starts end (length x.memory.blocks + length i.results) (past_frame true b)
-                (homes m is (open_at (length next) None m.code) next (ending_next ending))
-                (distinct m is (open_at (length next) None m.code) next (ending_next ending)) in
+            (homes m is (open_at (length next) None m.code) next (ending_next ending))
+            (distinct m is (open_at (length next) None m.code) next (ending_next ending)) in
             let y = puts_has rest.file
-                (put_of (put_all end i.results (starts (length x.memory.blocks) i.results) (past_frame true a))
-                (put_view end i.results (starts (length x.memory.blocks) i.results) (past_frame true a))
-                (ap (λ ks. put_all end i.results (starts (length x.memory.blocks) i.results) (clear ks (past_frame true a))) (sym nothing_killed) ∙ e)) in
-            (
+            (put_of (put_all end i.results (starts (length x.memory.blocks) i.results) (past_frame true a))
+            (put_view end i.results (starts (length x.memory.blocks) i.results) (past_frame true a))
+            (ap (λ ks. put_all end i.results (starts (length x.memory.blocks) i.results) (clear ks (past_frame true a))) (sym nothing_killed) ∙ e)) in (
               y.file,
               ap (λ vs. put_all end (i.results ++ (at_place next).results) vs (past_frame true b))
                   (starts_append (length x.memory.blocks) i.results (at_place next).results)
-              ∙ put_is (puts_append rest.puts y.puts),
+                  ∙ put_is (puts_append rest.puts y.puts),
               general.on (λ z. agrees _ _) general.passed
                   (λ z.
                   record {
@@ -416,8 +413,8 @@ module _ (m : Mach) (is : IsCombinable m) where
             general.Skips c m q f (keeps_marks m.code) (is_code m) Ahead Rel i next [] (ahead blocks x) (ahead (blocks ++ (at_place next).blocks) x) b d
         go d e =
             let puts = put_of (put_all end i.results (starts (length x.memory.blocks) i.results) (past_frame (passes_frame i.op) a))
-                (put_view end i.results (starts (length x.memory.blocks) i.results) (past_frame (passes_frame i.op) a))
-                (ap (λ ks. put_all end i.results (starts (length x.memory.blocks) i.results) (clear ks (past_frame (passes_frame i.op) a))) (sym nothing_killed) ∙ e) in
+            (put_view end i.results (starts (length x.memory.blocks) i.results) (past_frame (passes_frame i.op) a))
+            (ap (λ ks. put_all end i.results (starts (length x.memory.blocks) i.results) (clear ks (past_frame (passes_frame i.op) a))) (sym nothing_killed) ∙ e) in
             record {
               after = b;
               passing = general.passed;

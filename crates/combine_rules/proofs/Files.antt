@@ -1,7 +1,7 @@
 -- Registers that are written where one file has all that another has, and blocks whose starts stand in registers.
-use Rattle.std.proofs.Common.{◌≡◌, ℕ, zero, suc, ◌+◌, Bool, true, false, cond, ◌⊎◌, inl, inr, ⊎_elim, List, [], ◌∷◌, ◌++◌, length, Option, Some, None, refl, sym, ap, ◌∙◌, subst, arith, append_assoc}
+use Rattle.std.proofs.Common.{◌≡◌, ℕ, suc, ◌+◌, Bool, true, false, cond, List, [], ◌∷◌, ◌++◌, length, Option, Some, None, refl, sym, ap, ◌∙◌, subst, arith, append_assoc}
 use Rattle.std.specs.Prelude.{nat_eq}
-use Rattle.std.proofs.lemmas.Bool.{true≢false, cases_Bool, eq-eqb, eqb-true}
+use Rattle.std.proofs.lemmas.Bool.{true≢false, eq-eqb, eqb-true}
 use Rattle.std.proofs.lemmas.List.{length-append}
 use Rattle.bs_words.specs.Fits.{fits, type_of_comp}
 use Rattle.bs_words.specs.declared.types.Comp.{Comp}
@@ -9,7 +9,7 @@ use Rattle.bs_words.specs.declared.types.Comp.TheVariants as comp
 use Rattle.bs_words.specs.declared.values.Value.{Value}
 use Rattle.bs_words.specs.declared.values.Value.TheVariants as value
 use Rattle.combine_rules.specs.Kept.{holds_block}
-use Rattle.mach_ir.specs.Acts.{Around, On, Act, Goes, new_blocks, with_block, fresh_block}
+use Rattle.mach_ir.specs.Acts.{Around, On, Goes, new_blocks, with_block, fresh_block}
 use Rattle.mach_ir.specs.Keeps.{ahead}
 use Rattle.mach_ir.specs.Meaning.{Held, File, put, put_if, put_all, clear, values, with_held, past_frame, unless_addr, is_addr}
 use Rattle.mach_ir.specs.Walks.{Among, first, later}
@@ -106,9 +106,11 @@ frame_has true a b n h = by (a n) refl
   where
     none_not : (v : Held) → None ≡ Some v → ⊥
     none_not v e = cc
+
     by_addr : (x : Held) → a n ≡ Some x → (t : Bool) → is_addr x.comp ≡ t → Has (cond t None (Some x)) (unless_addr (b n))
     by_addr x e true t v g = absurd (none_not v g)
     by_addr x e false t v g = ap unless_addr (h x e) ∙ ap (λ z. cond z None (Some x)) t ∙ g
+
     by : (o : Option Held) → a n ≡ o → Has (unless_addr o) (unless_addr (b n))
     by None e v g = absurd (none_not v g)
     by (Some x) e v g = by_addr x e (is_addr x.comp) refl v g
@@ -199,9 +201,11 @@ frame_loses true a n v e = by (a n) e
   where
     none_not : (v : Held) → None ≡ Some v → ⊥
     none_not v e = cc
+
     by_addr : (x : Held) (t : Bool) → cond t None (Some x) ≡ Some v → Some x ≡ Some v
     by_addr x true g = absurd (none_not v g)
     by_addr x false g = g
+
     by : (o : Option Held) → unless_addr o ≡ Some v → o ≡ Some v
     by None g = g
     by (Some x) g = by_addr x (is_addr x.comp) g
@@ -213,6 +217,7 @@ values_has a b (r ∷ rs) h vs e = by (a r.number) (values a rs) refl refl (λ w
   where
     no_values : (ws : List Value) → None ≡ Some ws → ⊥
     no_values ws e = cc
+
     by : (o : Option Held) (m : Option (List Value)) → a r.number ≡ o → values a rs ≡ m →
         ((ws : List Value) → values a rs ≡ Some ws → values b rs ≡ Some ws) → with_held o m ≡ Some vs →
         with_held (b r.number) (values b rs) ≡ Some vs

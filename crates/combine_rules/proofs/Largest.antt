@@ -1,15 +1,14 @@
 -- An allocation of the result is one of the function, or fits one reservation.
-use Rattle.std.proofs.Common.{◌≡◌, ℕ, ◌+◌, ◌≤◌, Bool, true, false, cond, ◌⊎◌, inl, inr, ⊎_elim, List, [], ◌∷◌, ◌++◌, Option, Some, None, refl, sym, ap, ◌∙◌, subst, arith}
+use Rattle.std.proofs.Common.{◌≡◌, ℕ, ◌+◌, ◌≤◌, Bool, true, false, cond, ◌⊎◌, inl, inr, ⊎_elim, List, [], ◌∷◌, ◌++◌, Some, None, refl, sym, ap, ◌∙◌, subst, arith}
 use Rattle.std.specs.Prelude.{nat_le}
 use Rattle.std.specs.List.{Contains}
 use Rattle.std.proofs.lemmas.Bool.{leb-true}
-use Rattle.combine_rules.specs.Combined.{joins, bytes_past, open_past, Scanned, allocation, allocated, scanned_at, scan, combined}
+use Rattle.combine_rules.specs.Combined.{joins, open_past, allocated, scanned_at, scan, combined}
 use Rattle.combine_rules.specs.Neighbours.{Allocates}
 use Rattle.combine_rules.proofs.Scan.{bytes_append, nothing_goes}
 use Rattle.combine_rules.proofs.Registers.{Came, stays, opens, came}
 use Rattle.mach_ir.specs.Blocks.{bytes_of}
 use Rattle.mach_ir.specs.Forms.{reservation_most}
-use Rattle.mach_ir.specs.Walks.{Stands}
 use Rattle.mach_ir.specs.declared.blocks.NewBlock.{NewBlock}
 use Rattle.mach_ir.specs.declared.op.Access.TheVariants as access
 use Rattle.mach_ir.specs.declared.op.Op.TheVariants as op

@@ -11,3 +11,4 @@ pub mod Awaited
 pub mod Steadily
 pub mod Doing
 pub mod Trailing
+pub mod Whole

@@ -1,14 +1,13 @@
 -- What is live in the result is live in the function, or goes to an open allocation.
 use Rattle.std.proofs.Common.{◌≡◌, ℕ, suc, Bool, true, false, cond, ◌⊎◌, inl, inr, ⊎_elim, List, [], ◌∷◌, ◌++◌, length, Option, Some, None, refl, sym, ap, ◌∙◌, subst}
-use Rattle.std.specs.List.{Contains}
-use Rattle.std.proofs.lemmas.Bool.{true≢false, cases_Bool}
+use Rattle.std.proofs.lemmas.Bool.{true≢false}
 use Rattle.combine_rules.specs.Combined.{joins, bytes_past, open_past, Scanned, allocation, allocated, scanned_at, scan, combined}
 use Rattle.combine_rules.proofs.Scan.{nothing_goes}
 use Rattle.combine_rules.proofs.Places.{open_at, piece, scanned, merged, scanned_next, scanned_is, merged_is, keeps_marks, is_code}
 use Rattle.mach_ir.specs.Acts.{Target, On, At}
-use Rattle.mach_ir.specs.Meaning.{killed, written, after_label, from_handler, code_at, tries_at, tries_past, has_label, is_handler_of, passes_frame}
+use Rattle.mach_ir.specs.Meaning.{killed, after_label, from_handler, tries_at, tries_past, has_label, is_handler_of, passes_frame}
 use Rattle.mach_ir.specs.Placed.{is_straight}
-use Rattle.mach_ir.specs.Walks.{Among, first, later, OneOf, this, other, targets, may_raise, Leads, goes, Raises, raises, Writes, Live, read, on, aside, LiveAfter, after_step, LiveAcross, across_step, across_raise}
+use Rattle.mach_ir.specs.Walks.{Among, OneOf, this, other, targets, may_raise, goes, raises, Writes, Live, read, on, aside}
 use Rattle.mach_ir.specs.declared.blocks.NewBlock.{NewBlock}
 use Rattle.mach_ir.specs.declared.op.Access.TheVariants as access
 use Rattle.mach_ir.specs.declared.op.Op.TheVariants as op
@@ -19,7 +18,7 @@ use Rattle.mach_ir.specs.declared.mach.MachOp.{MachOp}
 use Rattle.mach_ir.specs.declared.mach.MachOp.TheVariants as mach
 use Rattle.mach_ir.specs.declared.mach.Instr.{Instr}
 use Rattle.mach_ir.specs.declared.mach.Mach.{Mach}
-use Rattle.mach_laws.specs.Expand.{expand, Ending, all, more}
+use Rattle.mach_laws.specs.Expand.{expand, Ending, all}
 use Rattle.mach_laws.proofs.Places.{ending_next, ending_label, ending_from_handler, label_expand, handler_expand, tries_expand}
 use Rattle.places_rules.proofs.Walked.{left_among, right_among, split_among}
 use Rattle.split_rules.proofs.Kept.{among_or_not}
@@ -59,7 +58,7 @@ none_two : (k l : Instr) (xs : List Instr) → [] ≡ k ∷ l ∷ xs → ⊥
 none_two k l xs e = cc
 
 -- at most one instruction stands for one
-not_long : {i : Instr} {after s : Scanned} {ys : List Instr} → View i after s ys → (k l : Instr) (xs : List Instr) →
+pub not_long : {i : Instr} {after s : Scanned} {ys : List Instr} → View i after s ys → (k l : Instr) (xs : List Instr) →
     ys ≡ k ∷ l ∷ xs → ⊥
 not_long {i} (runs x) k l xs e = one_two i k l xs e
 not_long {i} (ends x b r) k l xs e = one_two i k l xs e
@@ -297,6 +296,7 @@ module _ (m : Mach) where
     where
       at_on : At k ≡ On → ⊥
       at_on g = cc
+
       label_same : (l : ℕ) → At k ≡ At l → k ≡ l
       label_same l g = cc
   back {n} (aside {i = j} {next = zs} (raises {l = l} r h) v) rest e same =

@@ -1,9 +1,8 @@
 -- Neighbouring allocations of the result do not fit one reservation together.
-use Rattle.std.proofs.Common.{◌≡◌, ℕ, zero, suc, length, ◌+◌, ◌<◌, ◌≤◌, Bool, true, false, cond, ⊎_elim, List, [], ◌∷◌, ◌++◌, Option, Some, None, refl, sym, ap, ◌∙◌, subst, arith, append_assoc}
+use Rattle.std.proofs.Common.{◌≡◌, ℕ, suc, ◌+◌, ◌<◌, Bool, true, false, cond, List, [], ◌∷◌, ◌++◌, Option, Some, None, refl, sym, ap, ◌∙◌, subst, arith, append_assoc}
 use Rattle.std.specs.List.{All}
-use Rattle.std.proofs.lemmas.Bool.{true≢false, cases_Bool, leb-false}
-use Rattle.std.specs.Prelude.{nat_le}
-use Rattle.combine_rules.specs.Combined.{joins, bytes_past, open_past, Scanned, allocation, allocated, scanned_at, scan, combined}
+use Rattle.std.proofs.lemmas.Bool.{true≢false, leb-false}
+use Rattle.combine_rules.specs.Combined.{joins, bytes_past, open_past, Scanned, allocated, scanned_at, scan, combined}
 use Rattle.combine_rules.specs.Neighbours.{is_allocation, Allocates, AreNeighbours}
 use Rattle.combine_rules.proofs.Scan.{bytes_append}
 use Rattle.mach_ir.specs.Blocks.{bytes_of}

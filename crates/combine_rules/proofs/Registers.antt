@@ -1,14 +1,11 @@
 -- Instructions and registers of the result, by those of the function.
-use Rattle.std.proofs.Common.{◌≡◌, ℕ, suc, ◌+◌, ◌<◌, ◌≤◌, Bool, true, false, cond, ◌⊎◌, inl, inr, ⊎_elim, List, [], ◌∷◌, ◌++◌, length, Option, Some, None, refl, sym, ap, ◌∙◌, subst, arith, append_assoc}
-use Rattle.std.specs.List.{All, AllPairs, Contains}
-use Rattle.std.proofs.lemmas.Bool.{true≢false, cases_Bool, leb-true}
-use Rattle.std.proofs.lemmas.List.{length-append}
-use Rattle.combine_rules.specs.Combined.{joins, bytes_past, open_past, Scanned, allocation, allocated, scanned_at, scan, combined}
+use Rattle.std.proofs.Common.{◌≡◌, ℕ, ◌+◌, Bool, true, false, cond, ◌⊎◌, inl, inr, ⊎_elim, List, [], ◌∷◌, ◌++◌, Option, Some, None, refl, sym, ap, ◌∙◌, subst}
+use Rattle.std.specs.List.{Contains}
+use Rattle.combine_rules.specs.Combined.{joins, bytes_past, open_past, Scanned, allocation, allocated, scanned_at, scan}
 use Rattle.combine_rules.proofs.Scan.{nothing_goes}
 use Rattle.mach_ir.specs.Blocks.{bytes_of}
-use Rattle.mach_ir.specs.Placed.{is_straight, AreStraight}
-use Rattle.mach_ir.specs.Sizes.{operand_count, Size, HasSize, OpenAtMost}
-use Rattle.mach_ir.specs.Walks.{Stands, here, below, InCode, in_args, in_results, further, IsRegister, is_param, is_colour, is_in_code}
+use Rattle.mach_ir.specs.Placed.{is_straight}
+use Rattle.mach_ir.specs.Walks.{Stands, here, below, InCode, in_results, further}
 use Rattle.mach_ir.specs.declared.blocks.NewBlock.{NewBlock}
 use Rattle.mach_ir.specs.declared.op.Access.TheVariants as access
 use Rattle.mach_ir.specs.declared.op.Op.TheVariants as op
@@ -16,7 +13,6 @@ use Rattle.mach_ir.specs.declared.reg.Reg.{Reg}
 use Rattle.mach_ir.specs.declared.mach.MachOp.{MachOp}
 use Rattle.mach_ir.specs.declared.mach.MachOp.TheVariants as mach
 use Rattle.mach_ir.specs.declared.mach.Instr.{Instr}
-use Rattle.mach_ir.specs.declared.mach.Mach.{Mach}
 use Rattle.mach_laws.proofs.Walking.{none_in, first_in, later_in, in_cons}
 
 -- ---- members

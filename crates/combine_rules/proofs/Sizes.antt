@@ -1,8 +1,8 @@
 -- The result is no larger, and has no other registers.
-use Rattle.std.proofs.Common.{◌≡◌, ℕ, suc, ◌+◌, ◌<◌, ◌≤◌, Bool, true, false, cond, ◌⊎◌, inl, inr, ⊎_elim, List, [], ◌∷◌, ◌++◌, length, Option, Some, None, refl, sym, ap, ◌∙◌, subst, arith}
+use Rattle.std.proofs.Common.{ℕ, ◌+◌, ◌≤◌, Bool, true, false, ◌⊎◌, inl, inr, ⊎_elim, List, [], ◌∷◌, length, Option, Some, None, subst, arith}
 use Rattle.std.specs.List.{Contains}
 use Rattle.std.proofs.lemmas.List.{length-append}
-use Rattle.combine_rules.specs.Combined.{joins, bytes_past, open_past, Scanned, allocation, allocated, scanned_at, scan, combined}
+use Rattle.combine_rules.specs.Combined.{joins, bytes_past, open_past, Scanned, allocated, scanned_at, scan, combined}
 use Rattle.combine_rules.proofs.Registers.{Came, stays, opens, came, contains_either, awaited, awaits_in}
 use Rattle.mach_ir.specs.Sizes.{operand_count, Size, HasSize, OpenAtMost}
 use Rattle.mach_ir.specs.Walks.{Stands, here, below, InCode, in_args, in_results, further, IsRegister, is_param, is_colour, is_in_code}

@@ -1,11 +1,11 @@
 -- What reads and writes registers and memory alone does the same where one block more has been allocated.
-use Rattle.std.proofs.Common.{◌≡◌, ℕ, zero, suc, ◌+◌, ◌-◌, ◌*◌, ◌/◌, ◌%◌, ◌^◌, ◌<◌, ◌≤◌, Bool, true, false, cond, not, ◌&&◌, ◌||◌, ◌⊎◌, inl, inr, ⊎_elim, List, [], ◌∷◌, ◌++◌, length, map, Option, Some, None, Result, Ok, Err, refl, sym, ap, ◌∙◌, subst, arith, append_assoc}
-use Rattle.std.specs.Prelude.{nat_eq, nat_le, nat_lt, ◌==◌, slice_get, slice_index, slice_index_or, slice_set}
-use Rattle.std.proofs.lemmas.Bool.{true≢false, cases_Bool, eq-eqb, eqb-true, ltb-true, lt-ltb, leb-true, le-leb}
-use Rattle.std.proofs.lemmas.List.{length-append, length-set, map-append, get_or_append_left, set-append_left}
+use Rattle.std.proofs.Common.{◌≡◌, ℕ, zero, suc, ◌+◌, ◌-◌, ◌*◌, ◌/◌, ◌%◌, ◌<◌, ◌≤◌, Bool, true, false, cond, not, ◌&&◌, ◌||◌, ⊎_elim, List, [], ◌∷◌, ◌++◌, length, map, Option, Some, None, Result, Ok, Err, refl, sym, ap, ◌∙◌, subst, arith}
+use Rattle.std.specs.Prelude.{nat_eq, nat_le, ◌==◌, slice_get, slice_index, slice_index_or, slice_set}
+use Rattle.std.proofs.lemmas.Bool.{true≢false, cases_Bool, eqb-true, ltb-true, lt-ltb, leb-true, le-leb}
+use Rattle.std.proofs.lemmas.List.{length-set, map-append, get_or_append_left, set-append_left}
 use Rattle.std.proofs.Math.Seq.{map-set_same}
 use Rattle.bs_words.specs.Fits.{fits, misfit}
-use Rattle.bs_words.specs.Memory.{Memory, HeapBlock, StaticList, Cell, InHeader, InBlock, InStatic, sizes, loaded, loaded_from, loaded_as, stored, stored_in, stored_as, put_in, put_part, put_whole, replaced, with_value, value_in, type_in, cell_at, in_block, cell_of_block, in_statics, width, offset_in_cell, end_of_data}
+use Rattle.bs_words.specs.Memory.{Memory, HeapBlock, StaticList, Cell, InHeader, InBlock, InStatic, sizes, loaded_from, loaded_as, stored, stored_in, stored_as, put_in, put_part, put_whole, replaced, with_value, value_in, type_in, cell_at, in_block, cell_of_block, in_statics, width, offset_in_cell, end_of_data}
 use Rattle.bs_words.specs.Operators.{apply, is_in, is_near, equality_of, order_of, comparison_of, as_value, unequal_if, truth, signed_holds, unsigned_holds}
 use Rattle.bs_words.specs.Operators as operators
 use Rattle.bs_words.specs.declared.operators.CmpOp.{CmpOp}
@@ -429,8 +429,8 @@ module _ (b : NewBlock) (a : Around) where
   store_steady k x v o w e g no_cell = is_lost
   store_steady k x v o w e g (a_cell {cell = cell} low) =
       let s : Stored fs a.memory (stored k a.memory x v) (stored k more x v) =
-          subst (λ z. Stored fs a.memory (stored_in k a.memory (offset_in_cell x) z v) (stored k more x v)) (sym e)
-          (subst (λ z. Stored fs a.memory (stored_in k a.memory (offset_in_cell x) (Some cell) v) (stored_in k more (offset_in_cell x) z v)) (sym g) (stored_in_same fs k a.memory (offset_in_cell x) cell v low)) in
+      subst (λ z. Stored fs a.memory (stored_in k a.memory (offset_in_cell x) z v) (stored k more x v)) (sym e)
+      (subst (λ z. Stored fs a.memory (stored_in k a.memory (offset_in_cell x) (Some cell) v) (stored_in k more (offset_in_cell x) z v)) (sym g) (stored_in_same fs k a.memory (offset_in_cell x) cell v low)) in
       subst (λ z. Steadies b a (stored_act k a (Some cell) x v) (cond z (first_written k (with_block b a) cell x v) (after_store (with_block b a) (unwritten_with count b a.unwritten) (stored k more x v)))) (sym (among_low count cell low b a.unwritten))
       (by s (is_among cell a.unwritten))
     where

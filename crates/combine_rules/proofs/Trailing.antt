@@ -1,23 +1,23 @@
 -- The result may wait before an allocation until the function has made all the blocks that go to it: then it has allocated no
 -- more than the function has.
-use Rattle.std.proofs.Common.{◌≡◌, ℕ, suc, ◌+◌, Bool, true, false, cond, ◌⊎◌, inl, inr, ⊎_elim, List, [], ◌∷◌, ◌++◌, length, map, Option, Some, None, refl, sym, ap, ◌∙◌, subst}
+use Rattle.std.proofs.Common.{◌≡◌, ℕ, Bool, true, false, ◌⊎◌, inl, inr, ⊎_elim, List, [], ◌∷◌, ◌++◌, length, map, Option, Some, None, refl, sym, ap, ◌∙◌, subst}
 use Rattle.std.proofs.lemmas.List.{map-append}
 use Rattle.bs_words.specs.declared.values.Value.{Value}
 use Rattle.cmm_meaning.specs.Extends.{shape_of}
 use Rattle.cmm_meaning.specs.State.{Doing}
-use Rattle.combine_rules.specs.Combined.{Scanned, scan, combined}
+use Rattle.combine_rules.specs.Combined.{Scanned, combined}
 use Rattle.combine_rules.specs.Kept.{IsCombinable}
 use Rattle.combine_rules.specs.Neighbours.{Allocates}
-use Rattle.combine_rules.proofs.Awaited.{IsAllocation, allocation_at}
-use Rattle.combine_rules.proofs.Doing.{Pending, Rel, no_blocks, calm_land, quiet, allocates, reads_nothing, serves}
+use Rattle.combine_rules.proofs.Awaited.{allocation_at}
+use Rattle.combine_rules.proofs.Doing.{Rel, no_blocks, calm_land, quiet, allocates, reads_nothing, serves}
 use Rattle.combine_rules.proofs.Files.{starts}
 use Rattle.combine_rules.proofs.Live.{View, runs, ends, joined, opened, view, calm_label}
 use Rattle.combine_rules.proofs.Places.{scanned, merged, keeps_marks, is_code, at_start}
 use Rattle.combine_rules.proofs.Scan.{nothing_goes}
 use Rattle.combine_rules.proofs.Steadily.{AllSteady, is_lost, goes_ahead, all_steady}
-use Rattle.mach_ir.specs.Acts.{Around, Target, On, At, Landing, AtHandler, Act, Goes, Pushes, Jumps, Unwinds, Asks, Replaces, Ends, EndsRaising, Stuck, only_if, is_complete, with_block, fresh_block}
+use Rattle.mach_ir.specs.Acts.{Around, Target, On, At, AtHandler, Act, Goes, Pushes, Jumps, Unwinds, Asks, Replaces, Ends, EndsRaising, Stuck, only_if, is_complete, with_block, fresh_block}
 use Rattle.mach_ir.specs.Keeps.{ValsWritten, Proper, Comes, ahead, Ahead, Trails, wrote_at}
-use Rattle.mach_ir.specs.Meaning.{State, File, put_all, clear, killed, values, past_frame, passes_frame, mach_act, code_at, after_label, landing_code, wrote, on_act, on_values, step, run}
+use Rattle.mach_ir.specs.Meaning.{State, File, put_all, clear, killed, values, past_frame, passes_frame, mach_act, code_at, wrote, on_act, on_values, step, run}
 use Rattle.mach_ir.specs.Runs.{Place, Step, Continues, Pays, Deepens, Waits, FinishesBy, Finishes, FinishesRaising, IsStuck, Tally}
 use Rattle.mach_ir.proofs.Keeping.{level_trail, trails_then}
 use Rattle.mach_ir.specs.declared.blocks.NewBlock.{NewBlock}
@@ -27,12 +27,12 @@ use Rattle.mach_ir.specs.declared.reg.Reg.{Reg}
 use Rattle.mach_ir.specs.declared.mach.MachOp.TheVariants as mach
 use Rattle.mach_ir.specs.declared.mach.Instr.{Instr}
 use Rattle.mach_ir.specs.declared.mach.Mach.{Mach}
-use Rattle.mach_laws.specs.Expand.{expand, Ending, all}
+use Rattle.mach_laws.specs.Expand.{Ending, all}
 use Rattle.mach_laws.proofs.General as general
 use Rattle.mach_laws.proofs.General.{at}
-use Rattle.mach_laws.proofs.Leads.{Within, goes_in, pushes_in, jumps_in, unwinds_in, asks_in, replaces_in, ends_in, raising_in, stuck_in, within}
+use Rattle.mach_laws.proofs.Leads.{Within, asks_in, within}
 use Rattle.mach_laws.proofs.Places.{ending_next}
-use Rattle.mach_laws.proofs.Simulate.{Agrees, ArrivesWell, Arrives, both_continue, both_pay, both_deepen, both_wait, both_finish_by, both_finish, both_finish_raising, first_stuck, later, Answers, stays, stuck, steps, Closed, simulates}
+use Rattle.mach_laws.proofs.Simulate.{Agrees, Arrives, both_continue, both_pay, both_deepen, both_wait, both_finish_by, both_finish, both_finish_raising, first_stuck, later, Answers, stays, stuck, steps, Closed, simulates}
 
 appended_none : {A : Type 0} (xs : List A) → xs ++ [] ≡ xs
 appended_none [] = refl

@@ -12,10 +12,11 @@
 ghost use Rattle.std.specs.Prelude.{◌<◌, ◌≤◌, ◌+◌, ◌⊎◌, List, Contains};
 ghost use Rattle.combine_rules.specs.Combined.{combined};
 ghost use Rattle.combine_rules.specs.Neighbours.{Allocates, AreNeighbours};
-ghost use Rattle.combine_rules.specs.Kept.{IsNoLarger};
+ghost use Rattle.combine_rules.specs.Kept.{IsCombinable, IsNoLarger};
 ghost use Rattle.mach_ir.specs.Blocks.{bytes_of};
 ghost use Rattle.mach_ir.specs.Forms.{reservation_most};
 ghost use Rattle.mach_ir.specs.declared.blocks.NewBlock.{NewBlock};
+ghost use Rattle.mach_ir.specs.Keeps.{Keeps};
 ghost use Rattle.mach_ir.specs.declared.mach.Instr.{Instr};
 ghost use Rattle.mach_ir.specs.declared.mach.Mach.{Mach};
 
@@ -36,4 +37,9 @@ pub fn combined_fits()
 /// place.
 pub fn combined_is_no_larger()
     ensures { (m : Mach) → IsNoLarger m (combined m) }
+{}
+
+/// Law: the result does what the function does, and keeps its names, slots and origins.
+pub fn combined_keeps()
+    ensures { (m : Mach) → IsCombinable m → Keeps m (combined m) }
 {}
