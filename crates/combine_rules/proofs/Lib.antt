@@ -1,0 +1,14 @@
+pub mod Scan
+pub mod Neighbours
+pub mod Places
+pub mod Registers
+pub mod Sizes
+pub mod Live
+pub mod Largest
+pub mod Steady
+pub mod Files
+pub mod Awaited
+pub mod Steadily
+pub mod Doing
+pub mod Trailing
+pub mod Whole

@@ -1,0 +1,3 @@
+pub mod Combined
+pub mod Neighbours
+pub mod Kept
