@@ -1,5 +1,5 @@
 -- The result is well-formed, and its operands and results stand where the conventions put them.
-use Rattle.std.proofs.Common.{◌≡◌, ◌≢◌, ℕ, zero, suc, ◌+◌, ◌<◌, ◌≤◌, Bool, true, false, cond, ◌⊎◌, inl, inr, ⊎_elim, List, [], ◌∷◌, ◌++◌, length, map, Option, Some, None, refl, sym, ap, ◌∙◌, subst, arith}
+use Rattle.std.proofs.Common.{◌≡◌, ◌≢◌, ℕ, zero, suc, ◌<◌, ◌≤◌, Bool, true, false, inl, inr, List, [], ◌∷◌, ◌++◌, length, Option, Some, None, refl, sym, ap, ◌∙◌, subst, arith}
 use Rattle.std.specs.List.{All, AllPairs, Contains}
 use Rattle.std.specs.Prelude.{slice_index_or}
 use Rattle.std.proofs.lemmas.Bool.{true≢false}
@@ -9,7 +9,7 @@ use Rattle.bs_words.specs.declared.types.Comp.{Comp}
 use Rattle.combine_rules.specs.Combined.{joins, bytes_past, open_past, Scanned, allocation, allocated, scanned_at, scan, combined}
 use Rattle.combine_rules.specs.Kept.{IsCombinable}
 use Rattle.combine_rules.specs.Neighbours.{Allocates}
-use Rattle.combine_rules.proofs.Awaited.{IsAllocation, allocation_at, formed_allocation, distinct_of_pairs, distinct_append, apart_from, distinct, counted}
+use Rattle.combine_rules.proofs.Awaited.{distinct_of_pairs, distinct_append, apart_from, distinct, counted}
 use Rattle.combine_rules.proofs.Files.{Distinct, no_regs, one_more}
 use Rattle.combine_rules.proofs.Largest.{Fits, what_goes}
 use Rattle.combine_rules.proofs.Live.{label_is, handler_is}
@@ -23,6 +23,7 @@ use Rattle.mach_ir.specs.Forms as form
 use Rattle.mach_ir.specs.Forms.{HasForm, IsBlock, reservation_most}
 use Rattle.mach_ir.specs.Formed.{IsFormed, formed_op, formed_mark, comps, AreDistinct, labels_of, labels_in, HasPlace, place_here, place_below, HasHandler, handler_here, handler_below, LeadsTo, LabelsStand, tries_left, leaves, IsNested, CasesAgree, WellFormed}
 use Rattle.mach_ir.specs.Meaning.{has_label, is_handler_of, after_label, from_handler, tries_at, tries_past}
+use Rattle.mach_ir.specs.Seats.{Seated, AreSeated, anywhere, mach_operand_seats, mach_result_seats, places_of}
 use Rattle.mach_ir.specs.Walks.{Among, first, later, OneOf, other, may_raise, Stands, here, below}
 use Rattle.mach_ir.specs.declared.blocks.NewBlock.{NewBlock}
 use Rattle.mach_ir.specs.declared.op.Access.TheVariants as access
@@ -38,7 +39,6 @@ use Rattle.mach_ir.specs.declared.mach.Instr.{Instr}
 use Rattle.mach_ir.specs.declared.mach.Mach.{Mach}
 use Rattle.mach_laws.specs.Expand.{Ending, all, more}
 use Rattle.mach_laws.proofs.Places.{ending_next, tries_expand}
-use Rattle.mach_laws.proofs.Walking.{none_in, first_in, later_in, in_cons}
 use Rattle.places_rules.proofs.Walked.{left_among, stands_of}
 use Rattle.split_rules.proofs.Formed.{contains_of, stands_in, of_each}
 
@@ -450,3 +450,25 @@ module _ (m : Mach) (is : IsCombinable m) where
     where
       no_return : (blocks : List NewBlock) → mach.Op (op.Leaving leaving.Return) ≡ mach.Op (op.Access (access.Alloc blocks)) → ⊥
       no_return blocks e = cc
+
+-- ---- places by the conventions
+
+pub combined_seated : (m : Mach) → Seated m → Seated (combined m)
+combined_seated m h =
+    record {
+      params = h.params;
+      operands = λ j c.
+          let s = stands_in (combined m).code j c in operands_of j s.0 (came None m.code j s.0 s.1);
+      results = λ j c.
+          let s = stands_in (combined m).code j c in results_of j s.0 (came None m.code j s.0 s.1);
+    }
+  where
+    operands_of : (j : Instr) (ys : List Instr) → Came m.code j ys → AreSeated (mach_operand_seats j.op) (places_of j.args)
+    operands_of j ys (stays o s n e) = h.operands j (contains_of s)
+    operands_of j ys (opens i blocks s a same t) =
+        subst (λ (k : Instr). AreSeated (mach_operand_seats k.op) (places_of k.args)) (sym same) anywhere
+
+    results_of : (j : Instr) (ys : List Instr) → Came m.code j ys → AreSeated (mach_result_seats j.op) (places_of j.results)
+    results_of j ys (stays o s n e) = h.results j (contains_of s)
+    results_of j ys (opens i blocks s a same t) =
+        subst (λ (k : Instr). AreSeated (mach_result_seats k.op) (places_of k.results)) (sym same) anywhere
