@@ -86,7 +86,7 @@ homes_of_all : (rs : List Reg) → ((r : Reg) → Contains rs r → holds_block 
 homes_of_all [] h = no_homes
 homes_of_all (r ∷ rs) h = a_home (h r (first_in r rs)) (homes_of_all rs (λ q c. h q (later_in r q rs c)))
 
-distinct_of_pairs : (rs : List Reg) → AreDistinct rs → Distinct rs
+pub distinct_of_pairs : (rs : List Reg) → AreDistinct rs → Distinct rs
 distinct_of_pairs [] h = no_regs
 distinct_of_pairs (r ∷ rs) h =
     one_more
@@ -99,7 +99,7 @@ distinct_of_pairs (r ∷ rs) h =
     by : (k : ℕ) → k < length rs → suc k < length (r ∷ rs)
     by k lt = omega (arith, lt)
 
-distinct_append : {xs ys : List Reg} → Distinct xs → Distinct ys → ((n : ℕ) → Among n xs → Among n ys → ⊥) → Distinct (xs ++ ys)
+pub distinct_append : {xs ys : List Reg} → Distinct xs → Distinct ys → ((n : ℕ) → Among n xs → Among n ys → ⊥) → Distinct (xs ++ ys)
 distinct_append no_regs d apart = d
 distinct_append {xs} {ys} (one_more {r = r} {rs = rs} free e) d apart =
     one_more (λ i. ⊎_elim free (λ j. apart r.number (first refl) j) (split_among r.number rs ys i))

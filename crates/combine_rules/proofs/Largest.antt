@@ -23,10 +23,10 @@ appended_none [] = refl
 appended_none (x ∷ xs) = ap (λ ys. x ∷ ys) (appended_none xs)
 
 -- nothing goes to the open allocation, or all of it fits
-abbrev Fits : ℕ → List NewBlock → Type 0
+abbrev pub Fits : ℕ → List NewBlock → Type 0
 Fits bytes blocks = (blocks ≡ []) ⊎ (bytes + bytes_of blocks ≤ reservation_most)
 
-what_goes : (bytes : ℕ) (is : List Instr) → Fits bytes (scan (Some bytes) is).blocks
+pub what_goes : (bytes : ℕ) (is : List Instr) → Fits bytes (scan (Some bytes) is).blocks
 what_goes bytes [] = inl refl
 what_goes bytes (i ∷ is) = by i.op (λ n. what_goes n is)
   where

@@ -12,3 +12,4 @@ pub mod Steadily
 pub mod Doing
 pub mod Trailing
 pub mod Whole
+pub mod Formed

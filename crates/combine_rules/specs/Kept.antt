@@ -4,7 +4,9 @@ use Rattle.bs_words.specs.declared.types.Comp.{Comp}
 use Rattle.bs_words.specs.declared.types.Comp.TheVariants as comp
 use Rattle.combine_rules.specs.Neighbours.{Allocates}
 use Rattle.mach_ir.specs.Formed.{WellFormed}
+use Rattle.mach_ir.specs.Keeps.{Keeps}
 use Rattle.mach_ir.specs.Placed.{AllocatesFresh}
+use Rattle.mach_ir.specs.Seats.{Seated}
 use Rattle.mach_ir.specs.Sizes.{Size, HasSize, OpenAtMost}
 use Rattle.mach_ir.specs.Walks.{IsRegister}
 use Rattle.mach_ir.specs.declared.blocks.NewBlock.{NewBlock}
@@ -34,3 +36,11 @@ pub record IsNoLarger (m q : Mach) : Type 0 where
   pub registers : (r : Reg) → IsRegister q r → IsRegister m r
   pub size : (s : Size) → HasSize m s → HasSize q s
   pub open_registers : (k : ℕ) → OpenAtMost m k → OpenAtMost q k
+
+-- what a function keeps whose allocations are combined
+pub record IsKept (m q : Mach) : Type 0 where
+  -- it does the same, and no addr is live after a frame point where none was
+  pub keeps : Keeps m q
+  pub formed : WellFormed q
+  pub seated : Seated m → Seated q
+  pub no_larger : IsNoLarger m q

@@ -12,11 +12,10 @@
 ghost use Rattle.std.specs.Prelude.{◌<◌, ◌≤◌, ◌+◌, ◌⊎◌, List, Contains};
 ghost use Rattle.combine_rules.specs.Combined.{combined};
 ghost use Rattle.combine_rules.specs.Neighbours.{Allocates, AreNeighbours};
-ghost use Rattle.combine_rules.specs.Kept.{IsCombinable, IsNoLarger};
+ghost use Rattle.combine_rules.specs.Kept.{IsCombinable, IsNoLarger, IsKept};
 ghost use Rattle.mach_ir.specs.Blocks.{bytes_of};
 ghost use Rattle.mach_ir.specs.Forms.{reservation_most};
 ghost use Rattle.mach_ir.specs.declared.blocks.NewBlock.{NewBlock};
-ghost use Rattle.mach_ir.specs.Keeps.{Keeps};
 ghost use Rattle.mach_ir.specs.declared.mach.Instr.{Instr};
 ghost use Rattle.mach_ir.specs.declared.mach.Mach.{Mach};
 
@@ -39,7 +38,7 @@ pub fn combined_is_no_larger()
     ensures { (m : Mach) → IsNoLarger m (combined m) }
 {}
 
-/// Law: the result does what the function does, and keeps its names, slots and origins.
-pub fn combined_keeps()
-    ensures { (m : Mach) → IsCombinable m → Keeps m (combined m) }
+/// Law: a function whose allocations are combined does what it did, and is kept.
+pub fn combined_is_kept()
+    ensures { (m : Mach) → IsCombinable m → IsKept m (combined m) }
 {}
