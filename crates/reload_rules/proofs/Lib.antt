@@ -2,3 +2,4 @@ pub mod Numbers
 pub mod Text
 pub mod Killed
 pub mod Live
+pub mod Calm
