@@ -20,7 +20,8 @@ use Rattle.places_rules.proofs.Raised.{label_silent}
 use Rattle.places_rules.proofs.Walked.{left_among, right_among, split_among, stands_of}
 use Rattle.split_rules.proofs.Formed.{contains_of, of_each}
 use Rattle.split_rules.proofs.Text.{number_among, number_in}
-use Rattle.reload_rules.specs.Reloaded.{reads_registers, writes_registers, is_renewed, fresh, number_after, number_past, renewed, copied, reloads, spills, results_from, past_instr, renewed_instr, reloaded_instr}
+use Rattle.spill_rules.specs.Spilled.{copied}
+use Rattle.reload_rules.specs.Reloaded.{reads_registers, writes_registers, is_renewed, fresh, number_after, number_past, renewed, reloads, spills, results_from, past_instr, renewed_instr, reloaded_instr}
 use Rattle.reload_rules.proofs.Killed.{same_killed}
 use Rattle.reload_rules.proofs.Numbers.{differ, IsFor, for_this, for_other, WasIn, was_own, was_fresh, after_true, after_false, for_from, for_below, for_in, for_slot, was_in, own_stays, for_stands}
 use Rattle.reload_rules.proofs.Text.{laid_instr, keeps_marks}

@@ -5,7 +5,6 @@ use Rattle.bs_words.specs.declared.types.Loc.{Loc}
 use Rattle.bs_words.specs.declared.types.Loc.TheVariants as loc
 use Rattle.mach_ir.specs.Placed.{Colouring}
 use Rattle.mach_ir.specs.Walks.{IsRegister}
-use Rattle.mach_ir.specs.declared.op.CopyKind.{CopyKind}
 use Rattle.mach_ir.specs.declared.op.CopyKind.TheVariants as copy
 use Rattle.mach_ir.specs.declared.op.Op.{Op}
 use Rattle.mach_ir.specs.declared.op.Op.TheVariants as op
@@ -17,6 +16,7 @@ use Rattle.mach_ir.specs.declared.mach.MachOp.TheVariants as mach
 use Rattle.mach_ir.specs.declared.mach.Instr.{Instr}
 use Rattle.mach_ir.specs.declared.mach.Mach.{Mach}
 use Rattle.places_rules.specs.Places.{Placing, with_places, recoloured}
+use Rattle.spill_rules.specs.Spilled.{copied}
 
 -- ---- which operands and results
 
@@ -67,10 +67,6 @@ abbrev pub renewed : Bool → ℕ → List Reg → List Reg
 renewed registers n [] = []
 renewed registers n (r ∷ rs) =
     cond (is_renewed registers r) (fresh n r) r ∷ renewed registers (number_after registers n r) rs
-
-abbrev pub copied : CopyKind → Reg → Reg → Instr
-copied kind from to =
-    record { op = mach.Op (op.Pure (pure.Copy kind)); args = from ∷ []; results = to ∷ [] }
 
 -- the copies from slots to the fresh registers, and back
 abbrev pub reloads : Bool → ℕ → List Reg → List Instr
