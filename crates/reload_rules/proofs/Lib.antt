@@ -6,3 +6,4 @@ pub mod Calm
 pub mod Registers
 pub mod Files
 pub mod Kept
+pub mod Parts
