@@ -7,3 +7,4 @@ pub mod Registers
 pub mod Files
 pub mod Kept
 pub mod Parts
+pub mod Formed
