@@ -8,3 +8,4 @@ pub mod Files
 pub mod Kept
 pub mod Parts
 pub mod Formed
+pub mod Whole
