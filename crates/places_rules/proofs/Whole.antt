@@ -40,7 +40,7 @@ slot_unset k e = cc
 -- ---- seats
 
 -- each of these places is a register of the machine
-data AreRegisters : List Loc → Type 0 where
+pub data AreRegisters : List Loc → Type 0 where
   none : AreRegisters []
   one : {n : ℕ} {ls : List Loc} → AreRegisters ls → AreRegisters (loc.Machine n ∷ ls)
 
@@ -50,12 +50,12 @@ result_registers = one none
 argument_registers : AreRegisters argument_places
 argument_registers = one (one (one (one (one (one (one (one (one (one (one (one (one (one (one (one none)))))))))))))))
 
-data FixedSeats : Seats → Type 0 where
+pub data FixedSeats : Seats → Type 0 where
   fixed_anywhere : FixedSeats Anywhere
   fixed_in_order : {places : List Loc} → AreRegisters places → FixedSeats (InOrder places)
   fixed_after_first : {places : List Loc} → AreRegisters places → FixedSeats (AfterFirst places)
 
-fixed_operands : (f : MachOp) → FixedSeats (mach_operand_seats f)
+pub fixed_operands : (f : MachOp) → FixedSeats (mach_operand_seats f)
 fixed_operands (mach.Mark f) = fixed_anywhere
 fixed_operands (mach.Op (op.Pure f)) = fixed_anywhere
 fixed_operands (mach.Op (op.Access f)) = fixed_anywhere
@@ -68,7 +68,7 @@ fixed_operands (mach.Op (op.Leaving leaving.Raise)) = fixed_in_order result_regi
 fixed_operands (mach.Op (op.Leaving leaving.Return)) = fixed_in_order result_registers
 fixed_operands (mach.Op (op.Leaving (leaving.Checkbound r))) = fixed_anywhere
 
-fixed_results : (f : MachOp) → FixedSeats (mach_result_seats f)
+pub fixed_results : (f : MachOp) → FixedSeats (mach_result_seats f)
 fixed_results (mach.Op (op.Pure f)) = fixed_anywhere
 fixed_results (mach.Op (op.Access f)) = fixed_anywhere
 fixed_results (mach.Op (op.Calling f)) = fixed_in_order result_registers
@@ -76,10 +76,10 @@ fixed_results (mach.Op (op.Leaving f)) = fixed_anywhere
 fixed_results (mach.Mark (mark.Handler l)) = fixed_in_order result_registers
 fixed_results (mach.Mark _) = fixed_anywhere
 
-tail_fixed : {l : Loc} {ls : List Loc} → AreRegisters (l ∷ ls) → AreRegisters ls
+pub tail_fixed : {l : Loc} {ls : List Loc} → AreRegisters (l ∷ ls) → AreRegisters ls
 tail_fixed (one h) = h
 
-head_fixed : {l : Loc} {ls : List Loc} → AreRegisters (l ∷ ls) → (n : ℕ) × (l ≡ loc.Machine n)
+pub head_fixed : {l : Loc} {ls : List Loc} → AreRegisters (l ∷ ls) → (n : ℕ) × (l ≡ loc.Machine n)
 head_fixed (one {n = n} h) = (n, refl)
 
 args_in_code : (code : List Instr) (i : Instr) (r : Reg) → Contains code i → Contains i.args r → InCode r code

@@ -130,7 +130,7 @@ module _ (m : Mach) (s : ℕ → ℕ) (free top : ℕ) (formed : WellFormed m) (
   form_of : {i : Instr} {next : List Instr} → Ending (i ∷ next) m.code → IsFormed i
   form_of {i} e = of_each IsFormed m.code i formed.instrs (contains_of (stands_of e))
 
-  laid_after : (i : Instr) (next : List Instr) → Ending (i ∷ next) m.code →
+  pub laid_after : (i : Instr) (next : List Instr) → Ending (i ∷ next) m.code →
       Lay (Storing i next (first_result i next) i.results) (spills (writes_registers i.op) (first_result i next) i.results ++ expand f next)
   laid_after i next ending =
       laid_results m s free top formed placed is i next (first_result i next) i.results (expand f next) ending

@@ -9,3 +9,7 @@ pub mod Kept
 pub mod Parts
 pub mod Formed
 pub mod Whole
+pub mod Placed
+pub mod Numbering
+pub mod Slotted
+pub mod Together
