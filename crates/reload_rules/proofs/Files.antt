@@ -1,10 +1,10 @@
 -- What fresh registers hold where they are read and written in place of others.
-use Rattle.std.proofs.Common.{◌≡◌, ℕ, suc, ◌<◌, ◌≤◌, Bool, true, false, cond, ◌⊎◌, inl, inr, ⊎_elim, List, [], ◌∷◌, length, Option, Some, None, refl, sym, ap, ◌∙◌, subst, arith}
-use Rattle.std.specs.List.{AllPairs, Contains}
+use Rattle.std.proofs.Common.{◌≡◌, ℕ, suc, ◌<◌, Bool, true, false, cond, ⊎_elim, List, [], ◌∷◌, Option, Some, None, refl, sym, ap, ◌∙◌, subst, arith}
+use Rattle.std.specs.List.{Contains}
 use Rattle.bs_words.specs.Fits.{fits, type_of_comp}
 use Rattle.bs_words.specs.declared.values.Value.{Value}
 use Rattle.mach_ir.specs.Formed.{AreDistinct}
-use Rattle.mach_ir.specs.Meaning.{Held, File, put, put_if, put_all, with_held, values}
+use Rattle.mach_ir.specs.Meaning.{File, put, put_if, put_all, with_held, values}
 use Rattle.mach_ir.specs.Walks.{Among, first, later}
 use Rattle.mach_ir.specs.declared.reg.Reg.{Reg}
 use Rattle.mach_laws.proofs.Walking.{none_in, first_in, later_in, in_cons}

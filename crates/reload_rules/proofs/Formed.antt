@@ -1,34 +1,32 @@
 -- A well-formed function is so with its reloads and spills.
-use Rattle.std.proofs.Common.{◌≡◌, ◌≢◌, ℕ, zero, suc, ◌<◌, ◌≤◌, Bool, true, false, cond, ◌⊎◌, inl, inr, ⊎_elim, List, [], ◌∷◌, ◌++◌, length, refl, sym, ap, ◌∙◌, subst, arith}
+use Rattle.std.proofs.Common.{◌≡◌, ◌≢◌, ℕ, zero, suc, ◌<◌, ◌≤◌, Bool, true, false, cond, ⊎_elim, List, [], ◌∷◌, length, refl, sym, ap, ◌∙◌, subst, arith}
 use Rattle.std.specs.List.{All, AllPairs, Contains}
 use Rattle.std.specs.Prelude.{slice_index_or}
 use Rattle.std.proofs.lemmas.List.Elements.{Contains-get_or}
 use Rattle.mach_ir.specs.Acts.{On, At}
 use Rattle.mach_ir.specs.Forms as form
-use Rattle.mach_ir.specs.Formed.{comps, MarkHasForm, IsFormed, formed_op, formed_mark, AreDistinct, HasPlace, HasHandler, LeadsTo, LabelsStand, tries_left, leaves, is_exit, IsNested, CasesAgree, WellFormed}
+use Rattle.mach_ir.specs.Formed.{comps, MarkHasForm, IsFormed, formed_op, formed_mark, AreDistinct, LeadsTo, LabelsStand, tries_left, leaves, is_exit, IsNested, CasesAgree, WellFormed}
 use Rattle.mach_ir.specs.Meaning.{after_label, from_handler, tries_at}
 use Rattle.mach_ir.specs.Placed.{WellPlaced}
-use Rattle.mach_ir.specs.Walks.{OneOf, other, targets, may_raise, Stands, IsRegister, is_in_code}
+use Rattle.mach_ir.specs.Walks.{OneOf, other, may_raise, Stands, is_in_code}
 use Rattle.mach_ir.specs.declared.op.CopyKind.{CopyKind}
 use Rattle.mach_ir.specs.declared.op.Leaving.TheVariants as leaving
 use Rattle.mach_ir.specs.declared.op.Op.TheVariants as op
 use Rattle.mach_ir.specs.declared.reg.Reg.{Reg}
 use Rattle.mach_ir.specs.declared.mach.Mark.TheVariants as mark
-use Rattle.mach_ir.specs.declared.mach.MachOp.{MachOp}
 use Rattle.mach_ir.specs.declared.mach.MachOp.TheVariants as mach
 use Rattle.mach_ir.specs.declared.mach.Instr.{Instr}
 use Rattle.mach_ir.specs.declared.mach.Mach.{Mach}
-use Rattle.mach_laws.specs.Expand.{expand}
 use Rattle.mach_laws.proofs.Places.{label_expand, handler_expand, tries_expand}
 use Rattle.mach_laws.proofs.Walking.{first_in, later_in}
 use Rattle.split_rules.proofs.Formed.{contains_of, of_each}
 use Rattle.split_rules.proofs.Text.{results_in}
 use Rattle.spill_rules.specs.Spilled.{copied}
 use Rattle.reload_rules.specs.Reloaded.{reads_registers, writes_registers, is_renewed, fresh, number_after, renewed}
-use Rattle.reload_rules.proofs.Files.{Apart, apart_none, apart_more, apart_of}
+use Rattle.reload_rules.proofs.Files.{Apart, apart_more, apart_of}
 use Rattle.reload_rules.proofs.Live.{IsNumbering, reloaded_by}
 use Rattle.reload_rules.proofs.Numbers.{differ, WasIn, was_own, was_fresh, after_true, after_rises, past_rises, for_from, was_in}
-use Rattle.reload_rules.proofs.Parts.{first_operand, first_result, main_for, IsCopy, is_copy, IsMain, main_where, main_op, next_tries, main_tries, same_labels, place_there, next_place, next_handler, main_there, each_in, part_in}
+use Rattle.reload_rules.proofs.Parts.{first_result, main_for, IsCopy, is_copy, IsMain, main_where, main_op, next_tries, main_tries, same_labels, place_there, next_place, next_handler, main_there, each_in, part_in}
 use Rattle.reload_rules.proofs.Registers.{number_is}
 use Rattle.reload_rules.proofs.Text.{laid_instr, keeps_marks}
 

@@ -1,6 +1,6 @@
 -- A function with its reloads and spills does what it did: what is live holds what it held, and so do the fresh registers of the
 -- instruction that is near.
-use Rattle.std.proofs.Common.{◌≡◌, ℕ, suc, ◌<◌, ◌≤◌, Bool, true, false, cond, inl, inr, ◌⊎◌, ⊎_elim, List, [], ◌∷◌, ◌++◌, length, Option, Some, None, refl, sym, ap, ◌∙◌, subst, arith, append_assoc}
+use Rattle.std.proofs.Common.{◌≡◌, ℕ, suc, ◌<◌, ◌≤◌, Bool, true, false, cond, inl, inr, ◌⊎◌, ⊎_elim, List, [], ◌∷◌, ◌++◌, length, Option, Some, None, refl, sym, ap, ◌∙◌, subst, arith}
 use Rattle.std.proofs.lemmas.Bool.{cases_Bool, eq-eqb, eqb-true}
 use Rattle.std.specs.List.{Contains}
 use Rattle.std.specs.Prelude.{nat_eq}
@@ -12,7 +12,7 @@ use Rattle.mach_ir.specs.Formed.{IsFormed, WellFormed, AreDistinct}
 use Rattle.mach_ir.specs.Placed.{WellPlaced}
 use Rattle.mach_ir.specs.Runs.{Place, Tally, Continues, entered}
 use Rattle.mach_ir.specs.Meaning.{Held, File, put, put_if, put_all, clear, killed, written, with_held, values, past_frame, passes_frame, is_handler_of, mach_act, after_label, from_handler, at_handler, code_at, tries_at, landing_code, wrote, on_values, step, run}
-use Rattle.mach_ir.specs.Walks.{Among, first, later, OneOf, this, targets, may_raise, goes, raises, Live, read, on, aside, LiveAcross, across_step, across_raise, IsRegister, is_param, is_colour, is_in_code, Stands, Writes}
+use Rattle.mach_ir.specs.Walks.{Among, first, later, OneOf, this, targets, may_raise, goes, raises, Live, read, on, aside, LiveAcross, across_step, across_raise, IsRegister, is_param, is_colour, is_in_code, Stands}
 use Rattle.mach_ir.specs.Keeps.{ValsWritten, OriginsAgree, wrote_unless, Ahead, Trails, Proper, Comes, Does}
 use Rattle.mach_ir.proofs.Keeping.{level, level_trail}
 use Rattle.mach_ir.specs.declared.op.CopyKind.{CopyKind}
@@ -30,7 +30,7 @@ use Rattle.mach_laws.proofs.Leads.{IsTry, is_try, MayLand, lands_at_label, lands
 use Rattle.mach_laws.proofs.Level.{begins_at}
 use Rattle.mach_laws.proofs.Places.{ending_next, ending_label, ending_land, ending_from_handler, label_expand, handler_expand}
 use Rattle.mach_laws.proofs.Simulate.{Agrees}
-use Rattle.mach_laws.proofs.Walking.{none_in, first_in, later_in, in_cons}
+use Rattle.mach_laws.proofs.Walking.{none_in, in_cons}
 use Rattle.places_rules.proofs.Walked.{left_among, right_among, split_among, stands_of}
 use Rattle.places_rules.proofs.Raised.{IsRaised, Told, told_jump, told_unwind, told_ask, IsSilent, told, label_silent, try_silent}
 use Rattle.liveness.proofs.Bounds.{killed_is_colour}
@@ -39,12 +39,12 @@ use Rattle.split_rules.proofs.Kept.{put_twice, cleared, not_cleared, among_or_no
 use Rattle.split_rules.proofs.Text.{number_among, number_in, args_in, results_in}
 use Rattle.spill_rules.specs.Spilled.{copied}
 use Rattle.spill_rules.proofs.Kept.{past_same, put_here, put_other, FitsIn, put_fits, put_holds, clear_fits, frame_fits}
-use Rattle.reload_rules.specs.Reloaded.{reads_registers, writes_registers, is_renewed, fresh, number_after, number_past, renewed, reloads, spills}
+use Rattle.reload_rules.specs.Reloaded.{reads_registers, writes_registers, is_renewed, fresh, number_after, reloads, spills}
 use Rattle.reload_rules.proofs.Calm.{Calm, calm_go, calm_push, calm_label, calm_handler, calm_unwind, calm_ask, IsHandler, is_handler, calm, calm_at_handler}
 use Rattle.reload_rules.proofs.Files.{values_renewed, Apart, apart_of, PutsRenewed, put_renewed}
-use Rattle.reload_rules.proofs.Live.{IsNumbering, reloaded_by, operands_at, results_at, main_of, ForOperand, ForResult, Stage, Before, Reading, Storing, Laid, main, LastOperands, LastResults, fewer_operands, fewer_results, all_operands, all_results, laid_results, laid_operands, laid_of, FreshOperand, is_operand, FreshResult, is_result, NotSpilled, Says, killed_same, unwritten, laid_tries, live_back, live_before, across_back}
-use Rattle.reload_rules.proofs.Numbers.{differ, IsFor, for_this, WasIn, was_own, was_fresh, after_true, after_false, past_rises, for_from, for_below, for_in, for_same, was_in}
-use Rattle.reload_rules.proofs.Registers.{IsMade, for_operand, for_result, made_register, made_free, made_origin, old_register}
+use Rattle.reload_rules.proofs.Live.{IsNumbering, reloaded_by, operands_at, results_at, main_of, ForOperand, ForResult, Stage, Reading, Storing, Laid, main, LastOperands, LastResults, fewer_operands, fewer_results, all_operands, all_results, laid_results, laid_operands, laid_of, FreshOperand, is_operand, is_result, NotSpilled, Says, killed_same, laid_tries, live_back, live_before, across_back}
+use Rattle.reload_rules.proofs.Numbers.{differ, for_this, WasIn, was_own, was_fresh, after_true, after_false, past_rises, for_from, for_below, for_in, for_same, was_in}
+use Rattle.reload_rules.proofs.Registers.{for_operand, for_result, made_register, made_free, made_origin, old_register}
 use Rattle.reload_rules.proofs.Text.{laid_instr, keeps_marks}
 
 no_held : (u : Held) → None ≡ Some u → ⊥
@@ -895,7 +895,7 @@ module _ (m : Mach) (s : ℕ → ℕ) (free top : ℕ) (formed : WellFormed m) (
           general.Replaces c m q f (keeps_marks s) is_code Suit Linked i next y y a b vs
       one i next a b ending holds y quiet vs e =
           let laid : Lay (Reading i next (first_result i next) [])
-              (main_for i next ∷ (spills (writes_registers i.op) (first_result i next) i.results ++ expand f next)) =
+          (main_for i next ∷ (spills (writes_registers i.op) (first_result i next) i.results ++ expand f next)) =
           main ending (laid_after i next ending) in
           let begun : HoldsReading i next (first_operand next) a b =
           record {

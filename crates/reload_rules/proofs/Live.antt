@@ -15,15 +15,15 @@ use Rattle.mach_ir.specs.declared.mach.Instr.{Instr}
 use Rattle.mach_ir.specs.declared.mach.Mach.{Mach}
 use Rattle.mach_laws.specs.Expand.{expand, Ending}
 use Rattle.mach_laws.proofs.Places.{label_expand, handler_expand, ending_next, ending_label, ending_from_handler}
-use Rattle.mach_laws.proofs.Walking.{none_in, first_in, later_in, in_cons}
+use Rattle.mach_laws.proofs.Walking.{none_in, in_cons}
 use Rattle.places_rules.proofs.Raised.{label_silent}
 use Rattle.places_rules.proofs.Walked.{left_among, right_among, split_among, stands_of}
 use Rattle.split_rules.proofs.Formed.{contains_of, of_each}
 use Rattle.split_rules.proofs.Text.{number_among, number_in}
 use Rattle.spill_rules.specs.Spilled.{copied}
-use Rattle.reload_rules.specs.Reloaded.{reads_registers, writes_registers, is_renewed, fresh, number_after, number_past, renewed, reloads, spills, results_from, past_instr, renewed_instr, reloaded_instr}
+use Rattle.reload_rules.specs.Reloaded.{reads_registers, writes_registers, is_renewed, fresh, number_after, number_past, reloads, spills, results_from, past_instr, renewed_instr}
 use Rattle.reload_rules.proofs.Killed.{same_killed}
-use Rattle.reload_rules.proofs.Numbers.{differ, IsFor, for_this, for_other, WasIn, was_own, was_fresh, after_true, after_false, for_from, for_below, for_in, for_slot, was_in, own_stays, for_stands}
+use Rattle.reload_rules.proofs.Numbers.{differ, IsFor, for_this, for_other, WasIn, was_own, was_fresh, after_true, after_false, for_from, for_below, for_in, was_in, own_stays, for_stands}
 use Rattle.reload_rules.proofs.Text.{laid_instr, keeps_marks}
 
 -- Numbers of fresh registers, by how many instructions come after: above those of all registers, and rising.

@@ -1,6 +1,6 @@
 -- The numbers of fresh registers rise in the order of the text, and are those by how many instructions come after.
-use Rattle.std.proofs.Common.{◌≡◌, ℕ, suc, ◌+◌, ◌<◌, ◌≤◌, Bool, true, false, cond, ⊎_elim, List, [], ◌∷◌, ◌++◌, length, refl, sym, ap, ◌∙◌, subst, arith}
-use Rattle.std.proofs.lemmas.Bool.{cases_Bool, eq-eqb, eqb-true}
+use Rattle.std.proofs.Common.{◌≡◌, ℕ, ◌+◌, ◌<◌, ◌≤◌, Bool, true, false, cond, List, [], ◌∷◌, ◌++◌, length, refl, sym, ap, ◌∙◌, subst, arith}
+use Rattle.std.proofs.lemmas.Bool.{eq-eqb, eqb-true}
 use Rattle.std.specs.Prelude.{nat_eq}
 use Rattle.mach_ir.specs.Sizes.{operand_count}
 use Rattle.mach_ir.specs.Walks.{Stands, here, below, IsRegister}
@@ -10,7 +10,7 @@ use Rattle.mach_ir.specs.declared.mach.Mach.{Mach}
 use Rattle.mach_laws.specs.Expand.{expand}
 use Rattle.reload_rules.specs.Reloaded.{reads_registers, writes_registers, number_after, number_past, past_instr, reloaded_instr, reloaded_code, reloaded}
 use Rattle.reload_rules.proofs.Live.{IsNumbering, reloaded_by}
-use Rattle.reload_rules.proofs.Numbers.{differ, after_few, past_rises}
+use Rattle.reload_rules.proofs.Numbers.{after_few, past_rises}
 use Rattle.reload_rules.proofs.Text.{laid_instr}
 
 past_few : (b : Bool) (n : ℕ) (rs : List Reg) → number_past b n rs ≤ n + length rs

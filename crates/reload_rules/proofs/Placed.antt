@@ -1,5 +1,5 @@
 -- A well-placed function is so with its reloads and spills, and what the conventions place stands there.
-use Rattle.std.proofs.Common.{◌≡◌, ◌≢◌, ℕ, suc, ◌<◌, ◌≤◌, Bool, true, false, cond, ◌&&◌, ◌⊎◌, inl, inr, ⊎_elim, List, [], ◌∷◌, ◌++◌, map, length, refl, sym, ap, ◌∙◌, subst, arith}
+use Rattle.std.proofs.Common.{◌≡◌, ◌≢◌, ℕ, suc, ◌<◌, Bool, true, false, cond, ◌⊎◌, inl, inr, ⊎_elim, List, [], ◌∷◌, ◌++◌, refl, sym, ap, ◌∙◌, subst, arith}
 use Rattle.std.specs.List.{Contains}
 use Rattle.bs_words.specs.declared.types.Comp.{Comp}
 use Rattle.bs_words.specs.declared.types.Loc.{Loc}
@@ -7,7 +7,7 @@ use Rattle.bs_words.specs.declared.types.Loc.TheVariants as loc
 use Rattle.mach_ir.specs.Acts.{Target, On, At}
 use Rattle.mach_ir.specs.Forms.{HasForm, copies, constant, symbol, operates, loads, stores, allocates, calls, tail_calls, calls_out, checks, raises, returns}
 use Rattle.mach_ir.specs.Formed.{comps, MarkHasForm, exit_form, if_form, else_form, switch_form, case_form, catch_form, with_form, try_form, leave_form, handler_form, end_form, IsFormed, formed_op, formed_mark, WellFormed}
-use Rattle.mach_ir.specs.Meaning.{after_label, code_at, killed}
+use Rattle.mach_ir.specs.Meaning.{code_at, killed}
 use Rattle.mach_ir.specs.Placed.{IsPlaced, MayShare, WellPlaced, colours}
 use Rattle.mach_ir.specs.Seats.{Seats, Anywhere, InOrder, AfterFirst, AreSeated, anywhere, in_order, after_first, places_of, mach_operand_seats, mach_result_seats, Seated}
 use Rattle.mach_ir.specs.Walks.{Among, first, later, OneOf, this, other, targets, goes, Live, LiveAfter, after_step, Writes, IsMove, is_move, Stands, IsRegister, is_colour, Meets, at_write, at_params, Joined, one_way, other_way}
@@ -15,26 +15,25 @@ use Rattle.mach_ir.specs.declared.op.Op.{Op}
 use Rattle.mach_ir.specs.declared.op.CopyKind.TheVariants as copy
 use Rattle.mach_ir.specs.declared.reg.Reg.{Reg}
 use Rattle.mach_ir.specs.declared.mach.Mark.{Mark}
-use Rattle.mach_ir.specs.declared.mach.MachOp.{MachOp}
 use Rattle.mach_ir.specs.declared.mach.MachOp.TheVariants as mach
 use Rattle.mach_ir.specs.declared.mach.Instr.{Instr}
 use Rattle.mach_ir.specs.declared.mach.Mach.{Mach}
-use Rattle.mach_laws.specs.Expand.{expand, Ending, all}
-use Rattle.mach_laws.proofs.Places.{label_expand, ending_next, ending_label}
-use Rattle.mach_laws.proofs.Walking.{none_in, first_in, later_in, in_cons}
+use Rattle.mach_laws.specs.Expand.{all}
+use Rattle.mach_laws.proofs.Places.{label_expand, ending_label}
+use Rattle.mach_laws.proofs.Walking.{none_in}
 use Rattle.places_rules.specs.Places.{ColoursLow}
 use Rattle.places_rules.proofs.Lists.{was, mapped}
 use Rattle.places_rules.proofs.Walked.{left_among, right_among, split_among}
-use Rattle.places_rules.proofs.Whole.{AreRegisters, FixedSeats, fixed_anywhere, fixed_in_order, fixed_after_first, fixed_operands, fixed_results, tail_fixed, head_fixed}
+use Rattle.places_rules.proofs.Whole.{AreRegisters, FixedSeats, fixed_in_order, fixed_after_first, fixed_operands, fixed_results, tail_fixed, head_fixed}
 use Rattle.split_rules.proofs.Formed.{contains_of, of_each}
 use Rattle.split_rules.proofs.Text.{number_among, number_in}
 use Rattle.spill_rules.specs.Spilled.{copied}
 use Rattle.spill_rules.proofs.Chosen.{ending_of}
 use Rattle.reload_rules.specs.Reloaded.{reads_registers, writes_registers, is_in_slot, is_renewed, fresh, number_after, renewed}
 use Rattle.reload_rules.proofs.Kept.{laid_after}
-use Rattle.reload_rules.proofs.Live.{IsNumbering, reloaded_by, results_at, main_of, ForResult, Storing, Laid, FreshResult, is_result, NotSpilled, killed_same, live_back, live_before}
-use Rattle.reload_rules.proofs.Numbers.{IsFor, WasIn, was_own, was_fresh, for_in, for_slot, was_in}
-use Rattle.reload_rules.proofs.Parts.{first_operand, first_result, main_for, Part, part_reload, part_main, part_spill, part_at, IsCopy, is_copy, IsMain, main_op, part_in}
+use Rattle.reload_rules.proofs.Live.{IsNumbering, reloaded_by, ForResult, Storing, Laid, FreshResult, is_result, killed_same, live_back, live_before}
+use Rattle.reload_rules.proofs.Numbers.{WasIn, was_own, was_fresh, for_in, for_slot, was_in}
+use Rattle.reload_rules.proofs.Parts.{first_operand, first_result, main_for, Part, part_reload, part_main, part_spill, part_at, IsCopy, is_copy, part_in}
 use Rattle.reload_rules.proofs.Registers.{for_operand, for_result, made_free, WasRegister, is_old, is_new, was_register}
 use Rattle.reload_rules.proofs.Text.{laid_instr, keeps_marks}
 

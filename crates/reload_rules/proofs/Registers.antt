@@ -12,9 +12,9 @@ use Rattle.mach_laws.specs.Expand.{expand}
 use Rattle.mach_laws.proofs.Walking.{none_in, first_in, later_in, in_cons}
 use Rattle.split_rules.proofs.Text.{args_in, results_in}
 use Rattle.spill_rules.specs.Spilled.{copied}
-use Rattle.reload_rules.specs.Reloaded.{reads_registers, writes_registers, is_in_slot, is_renewed, fresh, number_after, number_past, renewed, reloads, spills, past_instr}
+use Rattle.reload_rules.specs.Reloaded.{reads_registers, writes_registers, is_in_slot, is_renewed, fresh, number_after, number_past, reloads, spills, past_instr}
 use Rattle.reload_rules.proofs.Killed.{renewed_slot}
-use Rattle.reload_rules.proofs.Live.{IsNumbering, reloaded_by, operands_at, results_at, main_of, ForOperand, ForResult}
+use Rattle.reload_rules.proofs.Live.{IsNumbering, reloaded_by, results_at, main_of, ForOperand, ForResult}
 use Rattle.reload_rules.proofs.Numbers.{IsFor, for_this, for_other, WasIn, was_own, was_fresh, after_true, after_false, past_rises, for_from, for_below, for_in, for_slot, for_same, was_in}
 use Rattle.reload_rules.proofs.Text.{laid_instr}
 

@@ -1,20 +1,16 @@
 -- The text of a function with its reloads and spills: labels, handlers and tries stand where they did.
-use Rattle.std.proofs.Common.{◌≡◌, ℕ, suc, Bool, true, false, cond, ◌&&◌, ◌⊎◌, inl, inr, ⊎_elim, List, [], ◌∷◌, ◌++◌, refl, sym, ap, ◌∙◌, subst}
-use Rattle.std.specs.List.{Contains}
-use Rattle.bs_words.specs.declared.types.Comp.{Comp}
-use Rattle.mach_ir.specs.Formed.{comps, MarkHasForm, exit_form, if_form, else_form, switch_form, case_form, catch_form, with_form, try_form, leave_form, handler_form, end_form, IsFormed, formed_op, formed_mark}
+use Rattle.std.proofs.Common.{◌≡◌, ℕ, suc, Bool, true, false, cond, List, [], ◌∷◌, ◌++◌, refl, ap, ◌∙◌, subst}
 use Rattle.mach_ir.specs.Meaning.{has_label, is_handler_of}
 use Rattle.mach_ir.specs.declared.op.CopyKind.{CopyKind}
 use Rattle.mach_ir.specs.declared.op.CopyKind.TheVariants as copy
 use Rattle.mach_ir.specs.declared.reg.Reg.{Reg}
-use Rattle.mach_ir.specs.declared.mach.Mark.{Mark}
 use Rattle.mach_ir.specs.declared.mach.Mark.TheVariants as mark
 use Rattle.mach_ir.specs.declared.mach.MachOp.{MachOp}
 use Rattle.mach_ir.specs.declared.mach.MachOp.TheVariants as mach
 use Rattle.mach_ir.specs.declared.mach.Instr.{Instr}
 use Rattle.mach_laws.specs.Expand.{KeepsMarks, NoLabel, no_label, not_labelled, NoHandler, no_handler, not_handled, bounds_try, NoBound, no_bound, not_bound}
 use Rattle.spill_rules.specs.Spilled.{copied}
-use Rattle.reload_rules.specs.Reloaded.{reads_registers, writes_registers, is_renewed, fresh, number_after, renewed, reloads, spills, results_from, renewed_instr, reloaded_instr}
+use Rattle.reload_rules.specs.Reloaded.{reads_registers, writes_registers, is_renewed, fresh, renewed, reloads, spills, results_from, renewed_instr, reloaded_instr}
 
 -- ---- what holds of copies before other code
 

@@ -1,16 +1,16 @@
 -- What reloading makes of a function is kept, and is one function.
-use Rattle.std.proofs.Common.{◌≡◌, ℕ, ◌+◌, ◌*◌, ◌<◌, ◌≤◌, Bool, true, false, ⊎_elim, refl, sym, ap, ◌∙◌, subst, arith}
+use Rattle.std.proofs.Common.{◌≡◌, ℕ, ◌+◌, ◌*◌, ◌≤◌, Bool, true, false, refl, ap, subst, arith}
 use Rattle.bs_words.specs.declared.types.Loc.{Loc}
 use Rattle.bs_words.specs.declared.types.Loc.TheVariants as loc
 use Rattle.mach_ir.specs.Formed.{WellFormed}
 use Rattle.mach_ir.specs.Placed.{Colouring, IsColouring, IsPlaced, in_colour, in_slot, WellPlaced}
-use Rattle.mach_ir.specs.Sizes.{operand_count, Size, HasSize, OpenAtMost}
+use Rattle.mach_ir.specs.Sizes.{operand_count}
 use Rattle.mach_ir.specs.Walks.{IsRegister, Joined}
 use Rattle.mach_ir.proofs.Keeping.{keeps_then}
 use Rattle.mach_ir.specs.declared.reg.Reg.{Reg}
 use Rattle.mach_ir.specs.declared.mach.Mach.{Mach}
 use Rattle.mach_laws.proofs.Grows.{within_more}
-use Rattle.places_rules.specs.Places.{ColoursLow, SlotsGrow, recoloured}
+use Rattle.places_rules.specs.Places.{ColoursLow, recoloured}
 use Rattle.places_rules.proofs.Colouring.{coloured_kept}
 use Rattle.places_rules.proofs.Text.{placed_formed}
 use Rattle.places_rules.proofs.Walked.{no_addr_before}

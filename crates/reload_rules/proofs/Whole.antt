@@ -1,13 +1,12 @@
 -- What a function with reloads and spills keeps.
-use Rattle.std.proofs.Common.{◌≡◌, ℕ, ◌+◌, suc, ◌*◌, ◌<◌, ◌≤◌, Bool, true, false, cond, ◌&&◌, ◌⊎◌, inl, inr, ⊎_elim, List, [], ◌∷◌, ◌++◌, length, refl, sym, ap, ◌∙◌, subst, arith}
+use Rattle.std.proofs.Common.{◌≡◌, ℕ, ◌+◌, suc, ◌*◌, ◌<◌, ◌≤◌, Bool, true, false, cond, inl, ⊎_elim, List, [], ◌∷◌, ◌++◌, length, refl, sym, ap, ◌∙◌, subst, arith}
 use Rattle.std.specs.Prelude.{◌||◌}
-use Rattle.std.specs.List.{Contains}
 use Rattle.bs_words.specs.declared.types.Loc.{Loc}
 use Rattle.bs_words.specs.declared.types.Loc.TheVariants as loc
 use Rattle.std.proofs.lemmas.List.{length-append}
 use Rattle.mach_ir.specs.Acts.{Target, On, At}
 use Rattle.mach_ir.specs.Formed.{WellFormed}
-use Rattle.mach_ir.specs.Keeps.{Keeps, IsLoose, is_open, is_slot, HasOrigin, HasSlot, NamesSymbol, NamesExternal, IsNamedIn}
+use Rattle.mach_ir.specs.Keeps.{Keeps, IsLoose, is_slot, HasOrigin, NamesSymbol, NamesExternal, IsNamedIn}
 use Rattle.mach_ir.specs.Meaning.{after_label, from_handler, code_at, passes_frame, tries_at}
 use Rattle.mach_ir.specs.Placed.{WellPlaced}
 use Rattle.mach_ir.specs.Sizes.{operand_count, Size, HasSize}
@@ -21,15 +20,15 @@ use Rattle.mach_ir.specs.declared.mach.Mach.{Mach}
 use Rattle.mach_laws.specs.Expand.{expand, Ending, all}
 use Rattle.mach_laws.proofs.Grows.{held, instrs_expand, operands_expand, operands_append}
 use Rattle.mach_laws.proofs.Places.{label_expand, handler_expand, ending_label, ending_from_handler}
-use Rattle.places_rules.specs.Places.{IsSlot, SlotsGrow}
+use Rattle.places_rules.specs.Places.{IsSlot}
 use Rattle.split_rules.proofs.Formed.{contains_of}
 use Rattle.spill_rules.specs.Spilled.{copied}
 use Rattle.reload_rules.specs.Reloaded.{reads_registers, writes_registers, is_in_slot, is_renewed, fresh, number_after, renewed, reloads, spills, any_renewed, needs_registers, any_needs, results_from, renewed_instr}
 use Rattle.reload_rules.proofs.Kept.{live_register, does_reloaded}
-use Rattle.reload_rules.proofs.Live.{IsNumbering, reloaded_by, operands_at, results_at, main_of, Stage, Before, Reading, Storing, Laid, begins, reload, passes_operand, main, spill, passes_result, ends, laid_of, laid_tries, across_back}
+use Rattle.reload_rules.proofs.Live.{IsNumbering, reloaded_by, Stage, Before, Reading, Storing, Laid, begins, reload, passes_operand, main, spill, passes_result, ends, laid_of, laid_tries, across_back}
 use Rattle.reload_rules.proofs.Numbers.{differ}
-use Rattle.reload_rules.proofs.Parts.{first_operand, first_result, main_for, reloads_for, spills_for, laid_out, IsCopy, is_copy, IsMain, main_op, part_in}
-use Rattle.reload_rules.proofs.Registers.{WasRegister, is_old, is_new, made_register, made_slot, made_free, made_top, was_register, old_register}
+use Rattle.reload_rules.proofs.Parts.{first_operand, first_result, main_for, spills_for, laid_out, IsCopy, is_copy, main_op, part_in}
+use Rattle.reload_rules.proofs.Registers.{WasRegister, is_old, is_new, made_register, made_slot, made_top, was_register, old_register}
 use Rattle.reload_rules.proofs.Text.{before_reloads, before_spills, laid_instr, keeps_marks}
 
 not_true : false ≡ true → ⊥
