@@ -1,5 +1,5 @@
 -- A function that has been coloured: what holds of it still does, and it does what it did.
-use Rattle.std.proofs.Common.{◌≡◌, ℕ, ◌≤◌, ⊎_elim, sym, ◌∙◌, arith}
+use Rattle.std.proofs.Common.{◌≡◌, ℕ, ◌≤◌, inr, ⊎_elim, sym, ◌∙◌, arith}
 use Rattle.std.specs.List.{Contains}
 use Rattle.bs_words.specs.declared.types.Loc.TheVariants as loc
 use Rattle.mach_ir.specs.Formed.{WellFormed}
@@ -22,7 +22,12 @@ module _ (m : Mach) (place : Colouring) (formed : WellFormed m) (well : WellPlac
   by_number = λ r. place r.number
 
   pub colouring_placing : IsPlacing m (λ r. place r.number)
-  colouring_placing = record { fixed = colouring.fixed; places = colouring.places; apart = colouring.apart }
+  colouring_placing =
+      record {
+        fixed = colouring.fixed;
+        places = λ r i. inr (colouring.places r i);
+        apart = λ r k i j joined open_one e. colouring.apart r k i j joined e;
+      }
 
   pub coloured_keeps : Keeps m (recoloured place m)
   coloured_keeps = placed_keeps m by_number formed well colouring_placing
@@ -31,7 +36,7 @@ module _ (m : Mach) (place : Colouring) (formed : WellFormed m) (well : WellPlac
   pub coloured_placed :
       ((r k : Reg) → Contains m.colours r → IsRegister m k → place k.number ≡ r.loc → r.number ≤ k.number) →
       FullyPlaced (recoloured place m)
-  coloured_placed least = placed_fully m by_number formed well colouring_placing least
+  coloured_placed least = placed_fully m by_number formed well colouring_placing colouring.places least
 
   -- So it is where the registers of the colours have the least numbers.
   pub coloured_placed_after :

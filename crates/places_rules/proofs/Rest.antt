@@ -83,8 +83,8 @@ module _ (m : Mach) (well : WellPlaced m) where
   rest_placing =
       record {
         fixed = λ r i. by r (rested r);
-        places = λ r i. is_at r i (rested r);
-        apart = rest_apart;
+        places = λ r i. inr (is_at r i (rested r));
+        apart = λ r k i j joined open_one e. rest_apart r k i j joined e;
       }
     where
       by : (r : Reg) → Rested r → (r.loc ≡ loc.Unset) ⊎ (last_resort r ≡ r.loc)
@@ -101,7 +101,7 @@ module _ (m : Mach) (formed : WellFormed m) (well : WellPlaced m) where
   -- Each register has a place, and joined ones stand apart.
   pub rest_placed : FullyPlaced (rest_in_slots m)
   rest_placed =
-      placed_fully m last_resort formed well (rest_placing m well)
+      placed_fully m last_resort formed well (rest_placing m well) (λ r i. is_at m well r i (rested r))
       (λ r k c i e.
       let at = colour_place m last_resort well (rest_placing m well) r c in
       (well.colours).least r k c i (same_colour_place m well k at.0 (e ∙ at.1) ∙ sym at.1))

@@ -266,6 +266,7 @@ module _ (m : Mach) (place : Placing) (well : WellPlaced m) (is : IsPlacing m pl
           (at_write i next s (left_among i.results (killed m i) (among_of w.what i.results w.among)) v
           (λ move. no_move (k.reg).loc i k.gone move))) in
           let share = is.apart w.what k.reg register (is_colour k.among) joined
+          (λ u. machine_open t.colour (sym t.there ∙ sym (ap (λ (r : Reg). r.loc) w.same) ∙ u))
           (ap (λ (r : Reg). r.loc) w.same ∙ t.there ∙ sym t.place) in
           absurd
           (machine_slot t.colour (w.what).origin

@@ -34,10 +34,13 @@ slot_same k n e = cc
 machine_slot : (n k : ℕ) → loc.Machine n ≡ loc.Slot k → ⊥
 machine_slot n k e = cc
 
+slot_unset : (k : ℕ) → loc.Slot k ≡ loc.Unset → ⊥
+slot_unset k e = cc
+
 -- ---- seats
 
 -- each of these places is a register of the machine
-data AreRegisters : List Loc → Type 0 where
+pub data AreRegisters : List Loc → Type 0 where
   none : AreRegisters []
   one : {n : ℕ} {ls : List Loc} → AreRegisters ls → AreRegisters (loc.Machine n ∷ ls)
 
@@ -47,12 +50,12 @@ result_registers = one none
 argument_registers : AreRegisters argument_places
 argument_registers = one (one (one (one (one (one (one (one (one (one (one (one (one (one (one (one none)))))))))))))))
 
-data FixedSeats : Seats → Type 0 where
+pub data FixedSeats : Seats → Type 0 where
   fixed_anywhere : FixedSeats Anywhere
   fixed_in_order : {places : List Loc} → AreRegisters places → FixedSeats (InOrder places)
   fixed_after_first : {places : List Loc} → AreRegisters places → FixedSeats (AfterFirst places)
 
-fixed_operands : (f : MachOp) → FixedSeats (mach_operand_seats f)
+pub fixed_operands : (f : MachOp) → FixedSeats (mach_operand_seats f)
 fixed_operands (mach.Mark f) = fixed_anywhere
 fixed_operands (mach.Op (op.Pure f)) = fixed_anywhere
 fixed_operands (mach.Op (op.Access f)) = fixed_anywhere
@@ -65,7 +68,7 @@ fixed_operands (mach.Op (op.Leaving leaving.Raise)) = fixed_in_order result_regi
 fixed_operands (mach.Op (op.Leaving leaving.Return)) = fixed_in_order result_registers
 fixed_operands (mach.Op (op.Leaving (leaving.Checkbound r))) = fixed_anywhere
 
-fixed_results : (f : MachOp) → FixedSeats (mach_result_seats f)
+pub fixed_results : (f : MachOp) → FixedSeats (mach_result_seats f)
 fixed_results (mach.Op (op.Pure f)) = fixed_anywhere
 fixed_results (mach.Op (op.Access f)) = fixed_anywhere
 fixed_results (mach.Op (op.Calling f)) = fixed_in_order result_registers
@@ -73,10 +76,10 @@ fixed_results (mach.Op (op.Leaving f)) = fixed_anywhere
 fixed_results (mach.Mark (mark.Handler l)) = fixed_in_order result_registers
 fixed_results (mach.Mark _) = fixed_anywhere
 
-tail_fixed : {l : Loc} {ls : List Loc} → AreRegisters (l ∷ ls) → AreRegisters ls
+pub tail_fixed : {l : Loc} {ls : List Loc} → AreRegisters (l ∷ ls) → AreRegisters ls
 tail_fixed (one h) = h
 
-head_fixed : {l : Loc} {ls : List Loc} → AreRegisters (l ∷ ls) → (n : ℕ) × (l ≡ loc.Machine n)
+pub head_fixed : {l : Loc} {ls : List Loc} → AreRegisters (l ∷ ls) → (n : ℕ) × (l ≡ loc.Machine n)
 head_fixed (one {n = n} h) = (n, refl)
 
 args_in_code : (code : List Instr) (i : Instr) (r : Reg) → Contains code i → Contains i.args r → InCode r code
@@ -143,7 +146,7 @@ module _ (m : Mach) (place : Placing) where
 
     -- a register that was open and is in a slot is in that of its origin
     slot_of : (w : Reg) (k : ℕ) → IsRegister m w → place w ≡ loc.Slot k → k ≡ w.origin
-    slot_of w k i e = by (is.places w i)
+    slot_of w k i e = ⊎_elim (λ o. absurd (slot_unset k (sym e ∙ o))) by (is.places w i)
       where
         by : IsPlaced (placed place w) → k ≡ w.origin
         by (in_colour n c h) = absurd (machine_slot n k (sym h ∙ e))
@@ -183,8 +186,10 @@ module _ (m : Mach) (place : Placing) where
 
     -- ---- each has a place
 
-    is_at_place : (r : Reg) → IsRegister q r → IsPlaced r
-    is_at_place r i = let w = was_register place m r i in subst IsPlaced w.same (is.places w.register w.among)
+    open_or_placed : (r : Reg) → IsRegister q r → (r.loc ≡ loc.Unset) ⊎ IsPlaced r
+    open_or_placed r i =
+        let w = was_register place m r i in
+        ⊎_elim (λ o. inl (sym (loc_same w.register w.same) ∙ o)) (λ p. inr (subst IsPlaced w.same p)) (is.places w.register w.among)
 
     same_colours : (rs : List Reg) → ((r : Reg) → Contains rs r → place r ≡ r.loc) →
         map (λ (r : Reg). r.loc) (all_placed place rs) ≡ map (λ (r : Reg). r.loc) rs
@@ -203,29 +208,36 @@ module _ (m : Mach) (place : Placing) where
         (subst (λ b. Joined m r.number b) (sym (number_same v.register v.same)) (joined_before m place well is joined)) in
         subst (λ r. MayShare r k) w.same
         (subst (λ k. MayShare (placed place w.register) k) v.same
-        (is.apart w.register v.register w.among v.among before
+        (is.apart w.register v.register w.among v.among before (λ o. fixed_one (sym (loc_same w.register w.same) ∙ o))
         (loc_same w.register w.same ∙ e ∙ sym (loc_same v.register v.same))))
 
-    -- Each register has a place, and joined ones stand apart, where none is put at a colour that has a number below that of
-    -- the register of the colour.
-    pub placed_fully : ((r k : Reg) → Contains m.colours r → IsRegister m k → place k ≡ r.loc → r.number ≤ k.number) →
-        FullyPlaced (with_places place m)
-    placed_fully least =
+    -- Joined registers with places stand apart, where none is put at a colour that has a number below that of the register of the
+    -- colour.
+    pub placed_well : ((r k : Reg) → Contains m.colours r → IsRegister m k → place k ≡ r.loc → r.number ≤ k.number) →
+        WellPlaced (with_places place m)
+    placed_well least =
         record {
-          well = record {
-            colours = record {
-              each = same_colours m.colours (colour_stays m place well is) ∙ (well.colours).each;
-              least = λ r k c i e.
-                  let w = was (placed place) m.colours r c in
-                  let v = was_register place m k i in
-                  subst (λ n. r.number ≤ n) (number_same v.register v.same)
-                  (subst (λ n. n ≤ (v.register).number) (number_same w.what w.same)
-                  (least w.what v.register w.among v.among
-                  (loc_same v.register v.same ∙ e ∙ sym (loc_same w.what w.same) ∙ colour_stays m place well is w.what w.among)));
-            };
-            agree = record { places = λ r i. inr (is_at_place r i); apart = apart };
+          colours = record {
+            each = same_colours m.colours (colour_stays m place well is) ∙ (well.colours).each;
+            least = λ r k c i e.
+                let w = was (placed place) m.colours r c in
+                let v = was_register place m k i in
+                subst (λ n. r.number ≤ n) (number_same v.register v.same)
+                (subst (λ n. n ≤ (v.register).number) (number_same w.what w.same)
+                (least w.what v.register w.among v.among
+                (loc_same v.register v.same ∙ e ∙ sym (loc_same w.what w.same) ∙ colour_stays m place well is w.what w.among)));
           };
-          places = is_at_place;
+          agree = record { places = open_or_placed; apart = apart };
+        }
+
+    -- Then each register has a place, where none is left open.
+    pub placed_fully : ((r : Reg) → IsRegister m r → IsPlaced (placed place r)) →
+        ((r k : Reg) → Contains m.colours r → IsRegister m k → place k ≡ r.loc → r.number ≤ k.number) →
+        FullyPlaced (with_places place m)
+    placed_fully all least =
+        record {
+          well = placed_well least;
+          places = λ r i. let w = was_register place m r i in subst IsPlaced w.same (all w.register w.among);
         }
 
     -- ---- seats
@@ -356,9 +368,10 @@ module _ (m : Mach) (well : WellFormed m) where
       of_origin w slot e (in_slot h) = slot_same w.origin slot (sym h ∙ e)
 
       by : (w : Reg) (slot : ℕ) → IsRegister m w → place w ≡ loc.Slot slot → (w.loc ≡ loc.Unset) ⊎ (place w ≡ w.loc) →
-          IsPlaced (placed place w) → IsSlot m slot ⊎ Contains (map (origin_of m) few.numbers) slot
+          (place w ≡ loc.Unset) ⊎ IsPlaced (placed place w) → IsSlot m slot ⊎ Contains (map (origin_of m) few.numbers) slot
       by w slot i e (inl o) p =
           inr
-          (subst (Contains (map (origin_of m) few.numbers)) (origin_is w i ∙ of_origin w slot e p)
+          (subst (Contains (map (origin_of m) few.numbers))
+          (origin_is w i ∙ ⊎_elim (λ u. absurd (slot_unset slot (sym e ∙ u))) (λ h. of_origin w slot e h) p)
           (mapped (origin_of m) few.numbers w.number (few.all w i o)))
       by w slot i e (inr h) p = inl (record { register = w; among = i; stands = sym h ∙ e })

@@ -1,5 +1,5 @@
 -- Mach functions whose registers are put at chosen places.
-use Rattle.std.specs.Prelude.{◌≡◌, ◌⊎◌, ℕ, ◌<◌, ◌≤◌, List, length, map, Contains}
+use Rattle.std.specs.Prelude.{◌≡◌, ◌≢◌, ◌⊎◌, ℕ, ◌<◌, ◌≤◌, List, length, map, Contains}
 use Rattle.bs_words.specs.declared.types.Loc.{Loc}
 use Rattle.bs_words.specs.declared.types.Loc.TheVariants as loc
 use Rattle.mach_ir.specs.Placed.{IsPlaced, MayShare, Colouring}
@@ -36,13 +36,13 @@ with_places place m =
       code = placed_code place m.code;
     }
 
--- Fixed places stay, each place is a colour or the slot of the origin, and joined registers stand
--- apart.
+-- Fixed places stay, each place is a colour or the slot of the origin, or stays open, and joined
+-- registers that have places stand apart.
 pub record IsPlacing (m : Mach) (place : Placing) : Type 0 where
   pub fixed : (r : Reg) → IsRegister m r → (r.loc ≡ loc.Unset) ⊎ (place r ≡ r.loc)
-  pub places : (r : Reg) → IsRegister m r → IsPlaced (placed place r)
+  pub places : (r : Reg) → IsRegister m r → (place r ≡ loc.Unset) ⊎ IsPlaced (placed place r)
   pub apart : (r q : Reg) → IsRegister m r → IsRegister m q → Joined m r.number q.number →
-      place r ≡ place q → MayShare (placed place r) (placed place q)
+      place r ≢ loc.Unset → place r ≡ place q → MayShare (placed place r) (placed place q)
 
 -- The registers of the colours have lower numbers than those whose places are open: so none of these
 -- becomes the register of least number at a colour.

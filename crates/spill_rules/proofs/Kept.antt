@@ -55,16 +55,16 @@ none_some d e = cc
 some_same : (c d : File) → Some c ≡ Some d → c ≡ d
 some_same c d e = cc
 
-past_same : (t : Bool) (a b : File) (n x : ℕ) → a n ≡ b x → past_frame t a n ≡ past_frame t b x
+pub past_same : (t : Bool) (a b : File) (n x : ℕ) → a n ≡ b x → past_frame t a n ≡ past_frame t b x
 past_same false a b n x e = e
 past_same true a b n x e = ap unless_addr e
 
 -- ---- one register written
 
-put_here : (r : Reg) (v : Value) (f : File) (n : ℕ) → r.number ≡ n → put r v f n ≡ Some (record { comp = r.comp; value = v })
+pub put_here : (r : Reg) (v : Value) (f : File) (n : ℕ) → r.number ≡ n → put r v f n ≡ Some (record { comp = r.comp; value = v })
 put_here r v f n e = ap (λ b. cond b (Some (record { comp = r.comp; value = v })) (f n)) (eq-eqb r.number n e)
 
-put_other : (r : Reg) (v : Value) (f : File) (n : ℕ) → (r.number ≡ n → ⊥) → put r v f n ≡ f n
+pub put_other : (r : Reg) (v : Value) (f : File) (n : ℕ) → (r.number ≡ n → ⊥) → put r v f n ≡ f n
 put_other r v f n h = test (nat_eq r.number n) refl
   where
     test : (b : Bool) → nat_eq r.number n ≡ b → cond b (Some (record { comp = r.comp; value = v })) (f n) ≡ f n
@@ -79,13 +79,13 @@ as_numbered (r ∷ rs) = ap (λ xs. r ∷ xs) (as_numbered rs)
 
 -- what is put fits
 module _ (end : ℕ) where
-  abbrev IsFitting : Held → Type 0
+  abbrev pub IsFitting : Held → Type 0
   IsFitting h = fits end (type_of_comp h.comp) h.value ≡ true
 
-  abbrev FitsIn : Reg → Option Held → Type 0
+  abbrev pub FitsIn : Reg → Option Held → Type 0
   FitsIn r o = (h : Held) → o ≡ Some h → (h.comp ≡ r.comp) × IsFitting h
 
-  put_fits : (rs : List Reg) (vs : List Value) (f d : File) → put_all end rs vs f ≡ Some d → (r : Reg) →
+  pub put_fits : (rs : List Reg) (vs : List Value) (f d : File) → put_all end rs vs f ≡ Some d → (r : Reg) →
       ((q : Reg) → Contains rs q → q.number ≡ r.number → q ≡ r) → FitsIn r (f r.number) → FitsIn r (d r.number)
   put_fits [] [] f d e r one h = subst (λ (x : File). FitsIn r (x r.number)) (some_same f d e) h
   put_fits [] (v ∷ vs) f d e r one h = absurd (none_some d e)
@@ -114,7 +114,7 @@ module _ (end : ℕ) where
           subst (λ (x : File). FitsIn r (x r.number)) (some_same (put q v c) d k) (at_one c (again c e) t)
 
   -- what is written holds something
-  put_holds : (rs : List Reg) (vs : List Value) (f d : File) → put_all end rs vs f ≡ Some d → (n : ℕ) → Among n rs → (h : Held) × (d n ≡ Some h)
+  pub put_holds : (rs : List Reg) (vs : List Value) (f d : File) → put_all end rs vs f ≡ Some d → (n : ℕ) → Among n rs → (h : Held) × (d n ≡ Some h)
   put_holds [] vs f d e n a = elim a [ ]
   put_holds (q ∷ rs) [] f d e n a = absurd (none_some d e)
   put_holds (q ∷ rs) (v ∷ vs) f d e n a =
@@ -139,7 +139,7 @@ module _ (end : ℕ) where
       by true (Some c) e k again =
           subst (λ (x : File). (h : Held) × (x n ≡ Some h)) (some_same (put q v c) d k) (at_one c (again c e))
 
-  clear_fits : (ks : List Reg) (f : File) (r : Reg) → FitsIn r (f r.number) → FitsIn r (clear ks f r.number)
+  pub clear_fits : (ks : List Reg) (f : File) (r : Reg) → FitsIn r (f r.number) → FitsIn r (clear ks f r.number)
   clear_fits [] f r h = h
   clear_fits (k ∷ ks) f r h = by (nat_eq k.number r.number) (clear_fits ks f r h)
     where
@@ -147,7 +147,7 @@ module _ (end : ℕ) where
       by true old = λ h e. absurd (no_held h e)
       by false old = old
 
-  frame_fits : (t : Bool) (f : File) (r : Reg) → FitsIn r (f r.number) → FitsIn r (past_frame t f r.number)
+  pub frame_fits : (t : Bool) (f : File) (r : Reg) → FitsIn r (f r.number) → FitsIn r (past_frame t f r.number)
   frame_fits false f r h = h
   frame_fits true f r h = by (f r.number) h
     where

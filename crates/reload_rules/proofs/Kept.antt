@@ -1,0 +1,985 @@
+-- A function with its reloads and spills does what it did: what is live holds what it held, and so do the fresh registers of the
+-- instruction that is near.
+use Rattle.std.proofs.Common.{◌≡◌, ℕ, suc, ◌<◌, ◌≤◌, Bool, true, false, cond, inl, inr, ◌⊎◌, ⊎_elim, List, [], ◌∷◌, ◌++◌, length, Option, Some, None, refl, sym, ap, ◌∙◌, subst, arith}
+use Rattle.std.proofs.lemmas.Bool.{cases_Bool, eq-eqb, eqb-true}
+use Rattle.std.specs.List.{Contains}
+use Rattle.std.specs.Prelude.{nat_eq}
+use Rattle.bs_words.specs.Fits.{fits, type_of_comp}
+use Rattle.bs_words.specs.Memory.{Memory}
+use Rattle.bs_words.specs.declared.values.Value.{Value}
+use Rattle.mach_ir.specs.Acts.{Around, Target, On, At, Landing, AtLabel, AtHandler, Act, Goes, Pushes, Jumps, Unwinds, Asks, Replaces, Ends, EndsRaising, Stuck}
+use Rattle.mach_ir.specs.Formed.{IsFormed, WellFormed, AreDistinct}
+use Rattle.mach_ir.specs.Placed.{WellPlaced}
+use Rattle.mach_ir.specs.Runs.{Place, Tally, Continues, entered}
+use Rattle.mach_ir.specs.Meaning.{Held, File, put, put_if, put_all, clear, killed, written, with_held, values, past_frame, passes_frame, is_handler_of, mach_act, after_label, from_handler, at_handler, code_at, tries_at, landing_code, wrote, on_values, step, run}
+use Rattle.mach_ir.specs.Walks.{Among, first, later, OneOf, this, targets, may_raise, goes, raises, Live, read, on, aside, LiveAcross, across_step, across_raise, IsRegister, is_param, is_colour, is_in_code, Stands}
+use Rattle.mach_ir.specs.Keeps.{ValsWritten, OriginsAgree, wrote_unless, Ahead, Trails, Proper, Comes, Does}
+use Rattle.mach_ir.proofs.Keeping.{level, level_trail}
+use Rattle.mach_ir.specs.declared.op.CopyKind.{CopyKind}
+use Rattle.mach_ir.specs.declared.op.CopyKind.TheVariants as copy
+use Rattle.mach_ir.specs.declared.mach.Mark.TheVariants as mark
+use Rattle.mach_ir.specs.declared.mach.MachOp.{MachOp}
+use Rattle.mach_ir.specs.declared.mach.MachOp.TheVariants as mach
+use Rattle.mach_ir.specs.declared.reg.Reg.{Reg}
+use Rattle.mach_ir.specs.declared.mach.Instr.{Instr}
+use Rattle.mach_ir.specs.declared.mach.Mach.{Mach}
+use Rattle.mach_laws.specs.Expand.{Ending, expand}
+use Rattle.mach_laws.proofs.General as general
+use Rattle.mach_laws.proofs.General.{at}
+use Rattle.mach_laws.proofs.Leads.{IsTry, is_try, MayLand, lands_at_label, lands_at_handler, Within, goes_in, pushes_in, jumps_in, unwinds_in, asks_in, within}
+use Rattle.mach_laws.proofs.Level.{begins_at}
+use Rattle.mach_laws.proofs.Places.{ending_next, ending_label, ending_land, ending_from_handler, label_expand, handler_expand}
+use Rattle.mach_laws.proofs.Simulate.{Agrees}
+use Rattle.mach_laws.proofs.Walking.{none_in, in_cons}
+use Rattle.places_rules.proofs.Walked.{left_among, right_among, split_among, stands_of}
+use Rattle.places_rules.proofs.Raised.{IsRaised, Told, told_jump, told_unwind, told_ask, IsSilent, told, label_silent, try_silent}
+use Rattle.liveness.proofs.Bounds.{killed_is_colour}
+use Rattle.split_rules.proofs.Formed.{contains_of, of_each}
+use Rattle.split_rules.proofs.Kept.{put_twice, cleared, not_cleared, among_or_not}
+use Rattle.split_rules.proofs.Text.{number_among, number_in, args_in, results_in}
+use Rattle.spill_rules.specs.Spilled.{copied}
+use Rattle.spill_rules.proofs.Kept.{past_same, put_here, put_other, FitsIn, put_fits, put_holds, clear_fits, frame_fits}
+use Rattle.reload_rules.specs.Reloaded.{reads_registers, writes_registers, is_renewed, fresh, number_after, reloads, spills}
+use Rattle.reload_rules.proofs.Calm.{Calm, calm_go, calm_push, calm_label, calm_handler, calm_unwind, calm_ask, IsHandler, is_handler, calm, calm_at_handler}
+use Rattle.reload_rules.proofs.Files.{values_renewed, Apart, apart_of, PutsRenewed, put_renewed}
+use Rattle.reload_rules.proofs.Live.{IsNumbering, reloaded_by, operands_at, results_at, main_of, ForOperand, ForResult, Stage, Reading, Storing, Laid, main, LastOperands, LastResults, fewer_operands, fewer_results, all_operands, all_results, laid_results, laid_operands, laid_of, FreshOperand, is_operand, is_result, NotSpilled, Says, killed_same, laid_tries, live_back, live_before, across_back}
+use Rattle.reload_rules.proofs.Numbers.{differ, for_this, WasIn, was_own, was_fresh, after_true, after_false, past_rises, for_from, for_below, for_in, for_same, was_in}
+use Rattle.reload_rules.proofs.Registers.{for_operand, for_result, made_register, made_free, made_origin, old_register}
+use Rattle.reload_rules.proofs.Text.{laid_instr, keeps_marks}
+
+no_held : (u : Held) → None ≡ Some u → ⊥
+no_held u e = cc
+
+held_same : (x y : Held) → Some x ≡ Some y → x ≡ y
+held_same x y e = cc
+
+no_values : (vs : List Value) → None ≡ Some vs → ⊥
+no_values vs e = cc
+
+-- where a raised value comes to: at the mark of a handler, or nowhere
+data IsCaught : List Instr → Type 0 where
+  nowhere : IsCaught []
+  handled : {i : Instr} {next : List Instr} → IsHandler i.op → IsCaught (i ∷ next)
+
+handler_of : (l : ℕ) (f : MachOp) → is_handler_of l f ≡ true → IsHandler f
+handler_of l (mach.Op f) e = absurd (differ false e refl)
+handler_of l (mach.Mark (mark.Exit k n)) e = absurd (differ false e refl)
+handler_of l (mach.Mark (mark.If t k)) e = absurd (differ false e refl)
+handler_of l (mach.Mark (mark.Else k end)) e = absurd (differ false e refl)
+handler_of l (mach.Mark (mark.Switch ls)) e = absurd (differ false e refl)
+handler_of l (mach.Mark (mark.Case ns k end)) e = absurd (differ false e refl)
+handler_of l (mach.Mark mark.Catch) e = absurd (differ false e refl)
+handler_of l (mach.Mark (mark.With k end)) e = absurd (differ false e refl)
+handler_of l (mach.Mark (mark.Try k)) e = absurd (differ false e refl)
+handler_of l (mach.Mark (mark.Leave k end)) e = absurd (differ false e refl)
+handler_of l (mach.Mark (mark.Handler k)) e = is_handler
+handler_of l (mach.Mark (mark.End k)) e = absurd (differ false e refl)
+
+caught_from : (l : ℕ) (code : List Instr) → IsCaught (from_handler l code)
+caught_from l [] = nowhere
+caught_from l (i ∷ is) = by (is_handler_of l i.op) refl (caught_from l is)
+  where
+    by : (b : Bool) → is_handler_of l i.op ≡ b → IsCaught (from_handler l is) → IsCaught (cond b (i ∷ is) (from_handler l is))
+    by true e h = handled (handler_of l i.op e)
+    by false e h = h
+
+caught_at : (code : List Instr) (tries : List ℕ) → IsCaught (at_handler code tries)
+caught_at code [] = nowhere
+caught_at code (l ∷ tries) = caught_from l code
+
+-- no value is raised, but where it is caught
+data IsQuiet (rest : List Instr) (x : Around) : Type 0 where
+  none_raised : x.raised ≡ None → IsQuiet rest x
+  caught : IsCaught rest → IsQuiet rest x
+
+calm_here : (i : Instr) (next : List Instr) (x : Around) → IsQuiet (i ∷ next) x → (c : _) (vs : List Value) → Calm (mach_act c i.op vs x)
+calm_here i next x (none_raised e) c vs = calm c i.op vs x e
+calm_here i next x (caught (handled h)) c vs = calm_at_handler c i.op vs x h
+
+module _ (m : Mach) (s : ℕ → ℕ) (free top : ℕ) (formed : WellFormed m) (placed : WellPlaced m) (is : IsNumbering m s free top) where
+  abbrev q : Mach
+  q = reloaded_by s m
+
+  abbrev f : ℕ → Instr → List Instr
+  f = laid_instr s
+
+  abbrev Lay : Stage m s free top formed placed is → List Instr → Type 0
+  Lay = Laid m s free top formed placed is
+
+  abbrev first_operand : List Instr → ℕ
+  first_operand next = operands_at m s free top formed placed is next
+
+  abbrev first_result : Instr → List Instr → ℕ
+  first_result i next = results_at m s free top formed placed is i next
+
+  abbrev main_for : Instr → List Instr → Instr
+  main_for i next = main_of m s free top formed placed is i next
+
+  abbrev Operand : Instr → List Instr → ℕ → Reg → Type 0
+  Operand = ForOperand m s free top formed placed is
+
+  abbrev Result : Instr → List Instr → ℕ → Reg → Type 0
+  Result = ForResult m s free top formed placed is
+
+  abbrev Told_at : ℕ → Stage m s free top formed placed is → Type 0
+  Told_at = Says m s free top formed placed is
+
+  abbrev Unspilled : Instr → ℕ → List Reg → Type 0
+  Unspilled = NotSpilled m s free top formed placed is
+
+  form_of : {i : Instr} {next : List Instr} → Ending (i ∷ next) m.code → IsFormed i
+  form_of {i} e = of_each IsFormed m.code i formed.instrs (contains_of (stands_of e))
+
+  pub laid_after : (i : Instr) (next : List Instr) → Ending (i ∷ next) m.code →
+      Lay (Storing i next (first_result i next) i.results) (spills (writes_registers i.op) (first_result i next) i.results ++ expand f next)
+  laid_after i next ending =
+      laid_results m s free top formed placed is i next (first_result i next) i.results (expand f next) ending
+      (all_results m s free top formed placed is i next) (laid_of m s free top formed placed is next (ending_next ending))
+
+  -- what is live is a register
+  pub live_register : {n : ℕ} {rest : List Instr} → Live m n rest → Ending rest m.code → (r : Reg) × IsRegister m r × (r.number ≡ n)
+  live_register (read {i = i} a) e = let r = number_among i.args a in (r.0, is_in_code (args_in (stands_of e) r.1), r.2)
+  live_register (on w (goes On o) v) e = live_register v (ending_next e)
+  live_register (on w (goes (At l) o) v) e = live_register v (ending_label l m.code)
+  live_register (aside (raises {l = l} b r) v) e = live_register v (ending_from_handler l m.code)
+
+  live_low : {n : ℕ} {rest : List Instr} → Live m n rest → Ending rest m.code → n < free
+  live_low v e = let u = live_register v e in subst (λ n. n < free) u.2 (is.above u.0 u.1)
+
+  unless_among : (o : Option Value) (us : List Reg) (x : ℕ) → Among x (wrote_unless o us) → Among x us
+  unless_among None us x a = a
+  unless_among (Some v) us x a = elim a [ ]
+
+  wrote_all : (o : Option Value) → o ≡ None → (us : List Reg) (x : ℕ) → Among x us → Among x (wrote_unless o us)
+  wrote_all o e us x a = subst (λ o. Among x (wrote_unless o us)) (sym e) a
+
+  only_number : {x : ℕ} (r : Reg) → Among x (r ∷ []) → r.number ≡ x
+  only_number r (first e) = e
+  only_number r (later a) = elim a [ ]
+
+  head_same : {i j : Instr} (xs ys : List Instr) → i ∷ xs ≡ j ∷ ys → i ≡ j
+  head_same xs ys e = cc
+
+  tail_same : {i j : Instr} (xs ys : List Instr) → i ∷ xs ≡ j ∷ ys → xs ≡ ys
+  tail_same xs ys e = cc
+
+  is_code : q.code ≡ expand f m.code
+  is_code = refl
+
+  handlers_same : (tries : List ℕ) → at_handler q.code tries ≡ expand f (at_handler m.code tries)
+  handlers_same [] = refl
+  handlers_same (l ∷ tries) = handler_expand f (keeps_marks s) l m.code
+
+  lands_same : (this_code that_code : List Instr) (to : Landing) → tries_at that_code ≡ tries_at this_code →
+      landing_code q.code that_code to ≡ expand f (landing_code m.code this_code to)
+  lands_same this_code that_code (AtLabel l) e = label_expand f (keeps_marks s) l m.code
+  lands_same this_code that_code AtHandler e = ap (at_handler q.code) e ∙ handlers_same (tries_at this_code)
+
+  caught_live : {n : ℕ} {i : Instr} {next : List Instr} → may_raise i.op ≡ true → (tries : List ℕ) → tries_at (i ∷ next) ≡ tries →
+      Live m n (at_handler m.code tries) → Live m n (i ∷ next)
+  caught_live r [] e v = elim v [ ]
+  caught_live r (l ∷ tries) e v = aside (raises r e) v
+
+  try_on : (g : MachOp) → IsTry g → OneOf On (targets g)
+  try_on g is_try = this
+
+  module _ (c : Place) where
+    abbrev limit : ℕ
+    limit = c.setting.end
+
+    record Holds (rest : List Instr) (a b : File) : Type 0 where
+      itself : (n : ℕ) → Live m n rest → a n ≡ b n
+      fit : (r : Reg) → IsRegister m r → FitsIn limit r (a r.number)
+      agree : (r k : Reg) → IsRegister m r → IsRegister m k → r.origin ≡ k.origin → Live m r.number rest → Live m k.number rest →
+          (x y : Held) → a r.number ≡ Some x → a k.number ≡ Some y → x.value ≡ y.value
+
+    -- what is round both is the same
+    record Linked (rest : List Instr) (x y : Around) (a b : File) : Type 0 where
+      same : x ≡ y
+      quiet : IsQuiet rest x
+      holds : Holds rest a b
+
+    -- ---- copies
+
+    copy_step : (kind : CopyKind) (from to : Reg) (zs : List Instr) (b : File) (y : Around) (h : Held) → b from.number ≡ Some h →
+        fits limit (type_of_comp to.comp) h.value ≡ true →
+        step c q (at (copied kind from to ∷ zs) b y) ≡ Continues (at zs (put to h.value b) y)
+    copy_step kind from to zs b y h e fit =
+        ap (λ o. on_values c q (copied kind from to) zs b y (with_held o (Some []))) e
+        ∙ ap (λ t. wrote zs y (put_if t to h.value (Some b))) fit
+
+    vals_copy : (kind : CopyKind) (from to : Reg) (zs : List Instr) (b : File) (y : Around) →
+        ValsWritten q (at (copied kind from to ∷ zs) b y)
+    vals_copy kind from to zs b y =
+        record {
+          written = λ j ys e frame r one val v none.
+              absurd
+              (differ (passes_frame j.op) frame
+              (ap (λ (i : Instr). passes_frame i.op) (sym (head_same zs ys e))));
+        }
+
+    -- ---- before an instruction
+
+    -- the fresh registers below this number hold what their operands hold
+    record HoldsReading (i : Instr) (next : List Instr) (n : ℕ) (a b : File) : Type 0 where
+      holds : Holds (i ∷ next) a b
+      made : (x : ℕ) (w : Reg) → Operand i next x w → x < n → a w.number ≡ b x
+
+    -- a register of the first that holds what one of the second holds, and is live
+    record Reads (i : Instr) (next : List Instr) (a b : File) (r : Reg) : Type 0 where
+      register : Reg
+      among : IsRegister m register
+      origin : register.origin ≡ r.origin
+      live : Live m register.number (i ∷ next)
+      value : a register.number ≡ b r.number
+
+    reads_of : (i : Instr) (next : List Instr) (n : ℕ) (rs : List Reg) (a b : File) → Ending (i ∷ next) m.code → HoldsReading i next n a b →
+        (r : Reg) → IsRegister q r → Told_at r.number (Reading i next n rs) → Reads i next a b r
+    reads_of i next n rs a b ending h r j (inl v) =
+        let u = live_register v ending in
+        record {
+          register = r;
+          among = old_register m s free top formed placed is r u.0 j u.1 u.2;
+          origin = refl;
+          live = v;
+          value = (h.holds).itself r.number v;
+        }
+    reads_of i next n rs a b ending h r j (inr (is_operand w g lt)) =
+        record {
+          register = w;
+          among = made_register m s free top formed placed is (stands_of ending) (for_operand g);
+          origin = made_origin m s free top formed placed is r j (stands_of ending) (for_operand g);
+          live = read (number_in w i.args (for_in (reads_registers i.op) g));
+          value = h.made r.number w g lt;
+        }
+
+    agree_reading : (i : Instr) (next ys : List Instr) (n : ℕ) (rs us : List Reg) (a b : File) (y : Around) → Ending (i ∷ next) m.code →
+        Lay (Reading i next n rs) ys → HoldsReading i next n a b → ((x : ℕ) → Among x us → Told_at x (Reading i next n rs)) →
+        OriginsAgree q us (at ys b y)
+    agree_reading i next ys n rs us a b y ending laid h known =
+        record {
+          agree = λ r k ir ik origin l e g d s t.
+              let w = here r ir l in
+              let v = here k ik e in
+              (h.holds).agree w.register v.register w.among v.among (w.origin ∙ origin ∙ sym v.origin) w.live v.live g d
+              (w.value ∙ s) (v.value ∙ t);
+        }
+      where
+        here : (r : Reg) → IsRegister q r → Live q r.number ys ⊎ Among r.number us → Reads i next a b r
+        here r j l =
+            reads_of i next n rs a b ending h r j
+            (⊎_elim (λ v. live_back m s free top formed placed is v (Reading i next n rs) laid) (λ z. known r.number z) l)
+
+    module _ (Suit : Around → Around → Type 0) where
+      abbrev Passes : Type 0 → Around → List Instr → List Instr → File → File → Type 0
+      Passes Given y xs next b d = general.Passes c m q f (keeps_marks s) is_code Suit Linked Given y xs next b d
+
+      record PassedBefore (i : Instr) (next : List Instr) (n : ℕ) (rs : List Reg) (tail : List Instr) (a b : File) (y : Around) : Type 0 where
+        file : File
+        passing : Passes (Unit {0}) y (reloads (reads_registers i.op) n rs) tail b file
+        holds : HoldsReading i next (first_result i next) a file
+
+      before : (i : Instr) (next : List Instr) (a : File) (y : Around) → Ending (i ∷ next) m.code →
+          ((n : ℕ) → Among n i.args → (h : Held) × (a n ≡ Some h)) → (tail : List Instr) → Lay (Reading i next (first_result i next) []) tail →
+          (n : ℕ) (rs : List Reg) → LastOperands m s free top formed placed is i next n rs → (b : File) → HoldsReading i next n a b →
+          PassedBefore i next n rs tail a b y
+      before i next a y ending held tail laid n [] known b holds =
+          record { file = b; passing = general.passed; holds = subst (λ n. HoldsReading i next n a b) known.1 holds }
+      before i next a y ending held tail laid n (r ∷ rs) known b holds =
+          by (is_renewed (reads_registers i.op) r) refl
+          (λ k e b' h. before i next a y ending held tail laid k rs (fewer_operands m s free top formed placed is i next n k r rs known e) b' h)
+        where
+          by : (t : Bool) → is_renewed (reads_registers i.op) r ≡ t →
+              ((k : ℕ) → number_after (reads_registers i.op) n r ≡ k → (b' : File) → HoldsReading i next k a b' → PassedBefore i next k rs tail a b' y) →
+              PassedBefore i next n (r ∷ rs) tail a b y
+          by false t again =
+              let more = again n (after_false (reads_registers i.op) n r t) b holds in
+              record {
+                file = more.file;
+                passing = subst
+                    (λ t. Passes (Unit {0}) y
+                    (cond t (copied copy.Reload r (fresh n r) ∷ reloads (reads_registers i.op) (suc n) rs) (reloads (reads_registers i.op) n rs)) tail b
+                    more.file)
+                    (sym t) more.passing;
+                holds = more.holds;
+              }
+          by true t again =
+              record {
+                file = more.file;
+                passing = subst
+                    (λ t. Passes (Unit {0}) y
+                    (cond t (copied copy.Reload r (fresh n r) ∷ reloads (reads_registers i.op) (suc n) rs) (reloads (reads_registers i.op) n rs)) tail b
+                    more.file)
+                    (sym t)
+                    (general.passes
+                    (copy_step copy.Reload r (fresh n r) (reloads (reads_registers i.op) (suc n) rs ++ tail) b y h
+                    (sym ((holds.holds).itself r.number (read among)) ∙ (held r.number among).1)
+                    (subst (λ t. fits limit (type_of_comp t) h.value ≡ true) fits_so.0 fits_so.1))
+                    (vals_copy copy.Reload r (fresh n r) (reloads (reads_registers i.op) (suc n) rs ++ tail) b y)
+                    (λ u.
+                    agree_reading i next (reloads (reads_registers i.op) (suc n) rs ++ tail) (suc n) rs (wrote_unless y.raised (fresh n r ∷ [])) a b1 y
+                    ending
+                    (laid_operands m s free top formed placed is i next (suc n) rs tail ending
+                    (fewer_operands m s free top formed placed is i next n (suc n) r rs known (after_true (reads_registers i.op) n r t)) laid)
+                    holds_on
+                    (λ x z.
+                    inr
+                    (subst (FreshOperand m s free top formed placed is i next (suc n)) (only_number (fresh n r) (unless_among y.raised (fresh n r ∷ []) x z))
+                    (is_operand r made_here (omega arith)))))
+                    more.passing);
+                holds = more.holds;
+              }
+            where
+              made_here : Operand i next n r
+              made_here = known.0 n r (for_this t)
+
+              among : Among r.number i.args
+              among = number_in r i.args (for_in (reads_registers i.op) made_here)
+
+              is_reg : IsRegister m r
+              is_reg = made_register m s free top formed placed is (stands_of ending) (for_operand made_here)
+
+              h : Held
+              h = (held r.number among).0
+
+              fits_so : (h.comp ≡ r.comp) × (fits limit (type_of_comp h.comp) h.value ≡ true)
+              fits_so = (holds.holds).fit r is_reg h (held r.number among).1
+
+              as_put : a r.number ≡ Some (record { comp = r.comp; value = h.value })
+              as_put = (held r.number among).1 ∙ ap (λ t. Some (record { comp = t; value = h.value })) fits_so.0
+
+              b1 : File
+              b1 = put (fresh n r) h.value b
+
+              high : free ≤ n
+              high = made_free m s free top formed placed is (stands_of ending) (for_operand made_here)
+
+              not_live : (x : ℕ) → Live m x (i ∷ next) → n ≡ x → ⊥
+              not_live x v e = let lt = live_low v ending in omega (arith, lt, high, e)
+
+              holds_on : HoldsReading i next (suc n) a b1
+              holds_on =
+                  record {
+                    holds = record {
+                      itself = λ x v. (holds.holds).itself x v ∙ sym (put_other (fresh n r) h.value b x (not_live x v));
+                      fit = (holds.holds).fit;
+                      agree = (holds.holds).agree;
+                    };
+                    made = λ x w g lt.
+                        ⊎_elim
+                        (λ e.
+                        let same : n ≡ x = eqb-true n x e in
+                        ap (λ (k : Reg). a k.number) (sym (for_same (reads_registers i.op) made_here g same)) ∙ as_put
+                        ∙ sym (put_here (fresh n r) h.value b x same))
+                        (λ e.
+                        let ne = λ (z : n ≡ x). differ (nat_eq n x) (eq-eqb n x z) e in
+                        holds.made x w g (less n x lt ne) ∙ sym (put_other (fresh n r) h.value b x ne))
+                        (cases_Bool (nat_eq n x));
+                  }
+                where
+                  less : (n x : ℕ) → x < suc n → (n ≡ x → ⊥) → x < n
+                  less n x lt ne = omega (arith, lt, ne)
+
+              more : PassedBefore i next (suc n) rs tail a b1 y
+              more = again (suc n) (after_true (reads_registers i.op) n r t) b1 holds_on
+
+      -- ---- after an instruction
+
+      -- what the second holds once these results are left to be spilled, from this number on
+      record HoldsAfter (i : Instr) (next : List Instr) (n : ℕ) (rs : List Reg) (d e : File) : Type 0 where
+        itself : (x : ℕ) → Live m x next → Unspilled i x rs → d x ≡ e x
+        made : (x : ℕ) (w : Reg) → Result i next x w → n ≤ x → d w.number ≡ e x
+
+      -- a register of the first that holds what one of the second holds, and is live or just written
+      record Stores (i : Instr) (next : List Instr) (d e : File) (y : Around) (r : Reg) : Type 0 where
+        register : Reg
+        among : IsRegister m register
+        origin : register.origin ≡ r.origin
+        live : Live m register.number next ⊎ Among register.number (wrote_unless y.raised (written m i))
+        value : d register.number ≡ e r.number
+
+      of_result : (i : Instr) (next : List Instr) (d e : File) (y : Around) → Ending (i ∷ next) m.code → y.raised ≡ None → (r : Reg) →
+          IsRegister q r → (w : Reg) → Result i next r.number w → d w.number ≡ e r.number → Stores i next d e y r
+      of_result i next d e y ending quiet r j w g same =
+          record {
+            register = w;
+            among = made_register m s free top formed placed is (stands_of ending) (for_result g);
+            origin = made_origin m s free top formed placed is r j (stands_of ending) (for_result g);
+            live = inr
+                (wrote_all y.raised quiet (written m i) w.number
+                (left_among i.results (killed m i) (number_in w i.results (for_in (writes_registers i.op) g))));
+            value = same;
+          }
+
+      agree_storing : (i : Instr) (next ys : List Instr) (n : ℕ) (rs us : List Reg) (d e : File) (y : Around) → Ending (i ∷ next) m.code →
+          Lay (Storing i next n rs) ys → HoldsAfter i next n rs d e → y.raised ≡ None → Agrees m (written m i) (at next d y) →
+          ((r : Reg) (u : Held) → IsRegister q r → Among r.number us → e r.number ≡ Some u → Stores i next d e y r) →
+          OriginsAgree q us (at ys e y)
+      agree_storing i next ys n rs us d e y ending laid holds quiet agreed just =
+          record {
+            agree = λ r k ir ik origin l z h g s t.
+                let w = here r ir h l s in
+                let v = here k ik g z t in
+                agreed.agree w.register v.register w.among v.among (w.origin ∙ origin ∙ sym v.origin) w.live v.live h g
+                (w.value ∙ s) (v.value ∙ t);
+          }
+        where
+          of_live : (r : Reg) → IsRegister q r → Told_at r.number (Storing i next n rs) → Stores i next d e y r
+          of_live r j (inl (is_result w g le)) = of_result i next d e y ending quiet r j w g (holds.made r.number w g le)
+          of_live r j (inr g) =
+              let u = live_register g.0 (ending_next ending) in
+              record {
+                register = r;
+                among = old_register m s free top formed placed is r u.0 j u.1 u.2;
+                origin = refl;
+                live = inl g.0;
+                value = holds.itself r.number g.0 g.1;
+              }
+
+          here : (r : Reg) → IsRegister q r → (u : Held) → Live q r.number ys ⊎ Among r.number us → e r.number ≡ Some u → Stores i next d e y r
+          here r j u (inl v) g = of_live r j (live_back m s free top formed placed is v (Storing i next n rs) laid)
+          here r j u (inr z) g = just r u j z g
+
+      record PassedAfter (i : Instr) (next : List Instr) (n : ℕ) (rs : List Reg) (d e : File) (y : Around) : Type 0 where
+        file : File
+        passing : Passes (Agrees m (written m i) (at next d y)) y (spills (writes_registers i.op) n rs) (expand f next) e file
+        holds : (x : ℕ) → Live m x next → d x ≡ file x
+
+      after : (i : Instr) (next : List Instr) (d : File) (y : Around) → Ending (i ∷ next) m.code → y.raised ≡ None →
+          ((n : ℕ) → Among n i.results → (h : Held) × (d n ≡ Some h)) → ((r : Reg) → IsRegister m r → FitsIn limit r (d r.number)) →
+          (n : ℕ) (rs : List Reg) → LastResults m s free top formed placed is i next n rs → (e : File) → HoldsAfter i next n rs d e →
+          PassedAfter i next n rs d e y
+      after i next d y ending quiet held fit n [] known e holds =
+          record { file = e; passing = general.passed; holds = λ x v. holds.itself x v (λ r c. absurd (none_in r c)) }
+      after i next d y ending quiet held fit n (r ∷ rs) known e holds =
+          by (is_renewed (writes_registers i.op) r) refl
+          (λ k g e' h.
+          after i next d y ending quiet held fit k rs (fewer_results m s free top formed placed is i next n k r rs known g) e' h)
+        where
+          by : (t : Bool) → is_renewed (writes_registers i.op) r ≡ t →
+              ((k : ℕ) → number_after (writes_registers i.op) n r ≡ k → (e' : File) → HoldsAfter i next k rs d e' → PassedAfter i next k rs d e' y) →
+              PassedAfter i next n (r ∷ rs) d e y
+          by false t again =
+              let more = again n (after_false (writes_registers i.op) n r t) e
+              (record {
+                itself = λ x v free. holds.itself x v
+                    (λ j z g h.
+                    ⊎_elim
+                    (λ a. differ (is_renewed (writes_registers i.op) r) (subst (λ j. is_renewed (writes_registers i.op) j ≡ true) (sym a) g) t)
+                    (λ z. free j z g h) (in_cons r j rs z));
+                made = holds.made;
+              }) in
+              record {
+                file = more.file;
+                passing = subst
+                    (λ t. Passes (Agrees m (written m i) (at next d y)) y
+                    (cond t (copied copy.Spill (fresh n r) r ∷ spills (writes_registers i.op) (suc n) rs) (spills (writes_registers i.op) n rs))
+                    (expand f next) e more.file)
+                    (sym t) more.passing;
+                holds = more.holds;
+              }
+          by true t again =
+              record {
+                file = more.file;
+                passing = subst
+                    (λ t. Passes (Agrees m (written m i) (at next d y)) y
+                    (cond t (copied copy.Spill (fresh n r) r ∷ spills (writes_registers i.op) (suc n) rs) (spills (writes_registers i.op) n rs))
+                    (expand f next) e more.file)
+                    (sym t)
+                    (general.passes
+                    (copy_step copy.Spill (fresh n r) r (spills (writes_registers i.op) (suc n) rs ++ expand f next) e y h
+                    (sym (holds.made n r made_here (omega arith)) ∙ holds_h)
+                    (subst (λ t. fits limit (type_of_comp t) h.value ≡ true) fits_so.0 fits_so.1))
+                    (vals_copy copy.Spill (fresh n r) r (spills (writes_registers i.op) (suc n) rs ++ expand f next) e y)
+                    (λ agreed.
+                    agree_storing i next (spills (writes_registers i.op) (suc n) rs ++ expand f next) (suc n) rs (wrote_unless y.raised (r ∷ []))
+                    d e1 y ending
+                    (laid_results m s free top formed placed is i next (suc n) rs (expand f next) ending
+                    (fewer_results m s free top formed placed is i next n (suc n) r rs known (after_true (writes_registers i.op) n r t))
+                    (laid_of m s free top formed placed is next (ending_next ending)))
+                    holds_on quiet agreed (λ k u j z g. just k j (only_number r (unless_among y.raised (r ∷ []) k.number z))))
+                    more.passing);
+                holds = more.holds;
+              }
+            where
+              made_here : Result i next n r
+              made_here = known n r (for_this t)
+
+              result : Contains i.results r
+              result = for_in (writes_registers i.op) made_here
+
+              is_reg : IsRegister m r
+              is_reg = made_register m s free top formed placed is (stands_of ending) (for_result made_here)
+
+              h : Held
+              h = (held r.number (number_in r i.results result)).0
+
+              holds_h : d r.number ≡ Some h
+              holds_h = (held r.number (number_in r i.results result)).1
+
+              fits_so : (h.comp ≡ r.comp) × (fits limit (type_of_comp h.comp) h.value ≡ true)
+              fits_so = fit r is_reg h holds_h
+
+              as_put : d r.number ≡ Some (record { comp = r.comp; value = h.value })
+              as_put = holds_h ∙ ap (λ t. Some (record { comp = t; value = h.value })) fits_so.0
+
+              e1 : File
+              e1 = put r h.value e
+
+              high : (x : ℕ) → suc n ≤ x → r.number ≡ x → ⊥
+              high x le g =
+                  let lt = is.above r is_reg in
+                  let from = made_free m s free top formed placed is (stands_of ending) (for_result made_here) in omega (arith, lt, from, le, g)
+
+              holds_on : HoldsAfter i next (suc n) rs d e1
+              holds_on =
+                  record {
+                    itself = λ x v free.
+                        ⊎_elim
+                        (λ g.
+                        let same : r.number ≡ x = eqb-true r.number x g in
+                        ap d (sym same) ∙ as_put ∙ sym (put_here r h.value e x same))
+                        (λ g.
+                        let ne = λ (z : r.number ≡ x). differ (nat_eq r.number x) (eq-eqb r.number x z) g in
+                        holds.itself x v
+                        (λ j z u w.
+                        ⊎_elim (λ a. ne (ap (λ (r : Reg). r.number) a ∙ w)) (λ z. free j z u w) (in_cons r j rs z))
+                        ∙ sym (put_other r h.value e x ne))
+                        (cases_Bool (nat_eq r.number x));
+                    made = λ x w g le. holds.made x w g (omega (arith, le)) ∙ sym (put_other r h.value e x (high x le));
+                  }
+
+              just : (k : Reg) → IsRegister q k → r.number ≡ k.number → Stores i next d e1 y k
+              just k j g =
+                  record {
+                    register = k;
+                    among = old_register m s free top formed placed is k r j is_reg g;
+                    origin = refl;
+                    live = inr
+                        (wrote_all y.raised quiet (written m i) k.number
+                        (left_among i.results (killed m i) (subst (λ n. Among n i.results) g (number_in r i.results result))));
+                    value = ap d (sym g) ∙ as_put ∙ sym (put_here r h.value e k.number g);
+                  }
+
+              more : PassedAfter i next (suc n) rs d e1 y
+              more = again (suc n) (after_true (writes_registers i.op) n r t) e1 holds_on
+
+      -- ---- each instruction
+
+      module _ (i : Instr) (next : List Instr) (a b : File) (ending : Ending (i ∷ next) m.code)
+          (reading : HoldsReading i next (first_result i next) a b) where
+        abbrev a' : File
+        a' = past_frame (passes_frame i.op) a
+
+        abbrev b' : File
+        b' = past_frame (passes_frame i.op) b
+
+        abbrev post : List Instr
+        post = spills (writes_registers i.op) (first_result i next) i.results
+
+        stands : Stands i next m.code
+        stands = stands_of ending
+
+        still : (n : ℕ) → Live m n (i ∷ next) → a' n ≡ b' n
+        still n v = past_same (passes_frame i.op) a b n n ((reading.holds).itself n v)
+
+        laid_main : Lay (Storing i next (first_result i next) i.results) (post ++ expand f next)
+        laid_main = laid_after i next ending
+
+        killed_known : (r : Reg) → Contains (killed m i) r → IsRegister m r
+        killed_known r z = is_colour (killed_is_colour m i r z)
+
+        abbrev Puts : List Value → File → Type 0
+        Puts vs d =
+            PutsRenewed limit (writes_registers i.op) (first_result i next) i.results vs (clear (killed m i) a') (clear (killed m i) b') d
+
+        -- a register of the first is none of the fresh ones
+        own_result : (x : ℕ) → x < free → Among x (main_for i next).results → Among x i.results
+        own_result x lt z =
+            let k = number_among (main_for i next).results z in
+            of k.0 k.2 (was_in (writes_registers i.op) (first_result i next) i.results k.0 k.1)
+          where
+            of : (k : Reg) → k.number ≡ x → WasIn (writes_registers i.op) (first_result i next) i.results k → Among x i.results
+            of k e (was_own c t) = subst (λ n. Among n i.results) e (number_in k i.results c)
+            of k e (was_fresh y w g h) =
+                let le = made_free m s free top formed placed is stands (for_result g) in
+                let number : y ≡ k.number = ap (λ (r : Reg). r.number) h in absurd (omega (arith, lt, le, number, e))
+
+        same_after : (vs : List Value) (d : File) (p : Puts vs d) (t : Target) → OneOf t (targets i.op) → (x : ℕ) → x < free →
+            Live m x (code_at m.code next t) → Unspilled i x i.results → d x ≡ p.file x
+        same_after vs d p t o x lt v spilled =
+            ⊎_elim
+            (λ z.
+            let r = number_among i.results z in
+            ⊎_elim (λ t. absurd (spilled r.0 r.1 t r.2))
+            (λ t. ap d (sym r.2) ∙ p.own r.0 r.1 t ∙ ap p.file r.2) (cases_Bool (is_renewed (writes_registers i.op) r.0)))
+            (λ free_one.
+            p.others x free_one
+            ∙ ⊎_elim (λ z. cleared (killed m i) a' x z ∙ sym (cleared (killed m i) b' x z))
+            (λ h.
+            not_cleared (killed m i) a' x h
+            ∙ still x (on (λ w. ⊎_elim free_one h (split_among x i.results (killed m i) w)) (goes t o) v)
+            ∙ sym (not_cleared (killed m i) b' x h))
+            (among_or_not x (killed m i))
+            ∙ sym (p.others_new x (λ z. free_one (own_result x lt z))))
+            (among_or_not x i.results)
+
+        one_result : (r : Reg) → IsRegister m r → (k : Reg) → Contains i.results k → k.number ≡ r.number → k ≡ r
+        one_result r j k z e = formed.numbers k r (is_in_code (results_in stands z)) j e
+
+        fit_after : (vs : List Value) (d : File) → put_all limit i.results vs (clear (killed m i) a') ≡ Some d → (r : Reg) → IsRegister m r →
+            FitsIn limit r (d r.number)
+        fit_after vs d e r j =
+            put_fits limit i.results vs (clear (killed m i) a') d e r (one_result r j)
+            (clear_fits limit (killed m i) a' r (frame_fits limit (passes_frame i.op) a r ((reading.holds).fit r j)))
+
+        fit_still : (r : Reg) → IsRegister m r → FitsIn limit r (a' r.number)
+        fit_still r j = frame_fits limit (passes_frame i.op) a r ((reading.holds).fit r j)
+
+        agree_there : (rest : List Instr) (us : List Reg) (d : File) (y : Around) → Agrees m us (at rest d y) →
+            (r k : Reg) → IsRegister m r → IsRegister m k → r.origin ≡ k.origin → Live m r.number rest → Live m k.number rest →
+            (x z : Held) → d r.number ≡ Some x → d k.number ≡ Some z → x.value ≡ z.value
+        agree_there rest us d y agreed r k j l origin v w x z e g = agreed.agree r k j l origin (inl v) (inl w) x z e g
+
+        -- where the second begins a code, its registers of one origin agree
+        agree_begins : (rest : List Instr) (us : List Reg) (d e : File) (y : Around) → Ending rest m.code → Holds rest d e →
+            ((x : ℕ) → Among x (wrote_unless y.raised us) → ⊥) → OriginsAgree q (wrote_unless y.raised us) (at (expand f rest) e y)
+        agree_begins rest us d e y end_rest h none =
+            record {
+              agree = λ r k ir ik origin l z x u s t.
+                  let w = here r ir l in
+                  let v = here k ik z in
+                  h.agree r k w.0 v.0 origin w.1 v.1 x u (h.itself r.number w.1 ∙ s) (h.itself k.number v.1 ∙ t);
+            }
+          where
+            here : (r : Reg) → IsRegister q r → Live q r.number (expand f rest) ⊎ Among r.number (wrote_unless y.raised us) →
+                IsRegister m r × Live m r.number rest
+            here r j (inl v) =
+                let live = live_before m s free top formed placed is end_rest v in
+                let u = live_register live end_rest in (old_register m s free top formed placed is r u.0 j u.1 u.2, live)
+            here r j (inr z) = absurd (none r.number z)
+
+        -- what the second writes, where the first writes nothing
+        main_silent : IsSilent m i → (x : ℕ) → Among x (written q (main_for i next)) → ⊥
+        main_silent silent x z =
+            ⊎_elim
+            (λ h.
+            let k = number_among (main_for i next).results h in
+            of k.0 (was_in (writes_registers i.op) (first_result i next) i.results k.0 k.1))
+            (λ h.
+            silent x
+            (right_among i.results (killed m i) (subst (Among x) (killed_same m s free top formed placed is i next) h)))
+            (split_among x (main_for i next).results (killed q (main_for i next)) z)
+          where
+            of : (k : Reg) → WasIn (writes_registers i.op) (first_result i next) i.results k → ⊥
+            of k (was_own c t) = silent k.number (left_among i.results (killed m i) (number_in k i.results c))
+            of k (was_fresh y w g h) =
+                silent w.number (left_among i.results (killed m i) (number_in w i.results (for_in (writes_registers i.op) g)))
+
+        silent_none : IsSilent m i → (o : Option Value) → (x : ℕ) → Among x (wrote_unless o (written q (main_for i next))) → ⊥
+        silent_none silent o x z = main_silent silent x (unless_among o (written q (main_for i next)) x z)
+
+        none_written : (o : Option Value) → IsSilent m i ⊎ IsRaised o → (x : ℕ) → Among x (wrote_unless o (written q (main_for i next))) → ⊥
+        none_written o (inl silent) x z = silent_none silent o x z
+        none_written (Some v) (inr r) x z = elim z [ ]
+        none_written None (inr r) x z = elim r [ ]
+
+        abbrev Past : Around → File → File → Target → Type 0
+        Past y d e to = general.Past c m q f (keeps_marks s) is_code Suit Linked i (main_for i next) next post y y d e to
+
+        no_post : IsSilent m i → post ≡ []
+        no_post silent =
+            ap (λ rs. spills (writes_registers i.op) (first_result i next) rs) (none i.results (λ n z. silent n (left_among i.results (killed m i) z)))
+          where
+            none : (rs : List Reg) → ((n : ℕ) → Among n rs → ⊥) → rs ≡ []
+            none [] h = refl
+            none (r ∷ rs) h = absurd (h r.number (first refl))
+
+        just_main : (vs : List Value) (d : File) (p : Puts vs d) (y : Around) → y.raised ≡ None → (r : Reg) (u : Held) → IsRegister q r →
+            Among r.number (wrote_unless y.raised (written q (main_for i next))) → p.file r.number ≡ Some u → Stores i next d p.file y r
+        just_main vs d p y quiet r u j z e =
+            ⊎_elim
+            (λ h.
+            let k = number_among (main_for i next).results h in
+            of k.0 k.2 (was_in (writes_registers i.op) (first_result i next) i.results k.0 k.1))
+            (λ none.
+            ⊎_elim (λ h. absurd (none h))
+            (λ h.
+            absurd
+            (no_held u
+            (sym (cleared (killed m i) b' r.number (subst (Among r.number) (killed_same m s free top formed placed is i next) h))
+            ∙ sym (p.others_new r.number none) ∙ e)))
+            (split_among r.number (main_for i next).results (killed q (main_for i next))
+            (unless_among y.raised (written q (main_for i next)) r.number z)))
+            (among_or_not r.number (main_for i next).results)
+          where
+            of : (k : Reg) → k.number ≡ r.number → WasIn (writes_registers i.op) (first_result i next) i.results k → Stores i next d p.file y r
+            of k g (was_own c t) =
+                record {
+                  register = r;
+                  among = old_register m s free top formed placed is r k j (is_in_code (results_in stands c)) g;
+                  origin = refl;
+                  live = inr
+                      (wrote_all y.raised quiet (written m i) r.number
+                      (left_among i.results (killed m i) (subst (λ n. Among n i.results) g (number_in k i.results c))));
+                  value = ap d (sym g) ∙ p.own k c t ∙ ap p.file g;
+                }
+            of k g (was_fresh x w h t) =
+                let number : x ≡ r.number = ap (λ (r : Reg). r.number) t ∙ g in
+                let made : Result i next r.number w = subst (λ x. Result i next x w) number h in
+                of_result i next d p.file y ending quiet r j w made (p.made r.number w made)
+
+        past_to : (vs : List Value) (d : File) → put_all limit i.results vs (clear (killed m i) a') ≡ Some d → (p : Puts vs d) (y : Around) →
+            y.raised ≡ None → (t : Target) → OneOf t (targets i.op) → Past y d p.file t
+        past_to vs d e p y quiet On o =
+            let begun : HoldsAfter i next (first_result i next) i.results d p.file =
+            record {
+              itself = λ x v spilled. same_after vs d p On o x (live_low v (ending_next ending)) v spilled;
+              made = λ x w g le. p.made x w g;
+            } in
+            let done = after i next d y ending quiet (λ n z. put_holds limit i.results vs (clear (killed m i) a') d e n z) (fit_after vs d e)
+            (first_result i next) i.results (all_results m s free top formed placed is i next) p.file begun in
+            general.on
+            (λ agreed.
+            agree_storing i next (post ++ expand f next) (first_result i next) i.results (wrote_unless y.raised (written q (main_for i next))) d p.file y
+            ending laid_main begun quiet agreed (λ r u j z g. just_main vs d p y quiet r u j z g))
+            done.passing
+            (λ agreed.
+            record {
+              same = refl;
+              quiet = none_raised quiet;
+              holds = record { itself = done.holds; fit = fit_after vs d e; agree = agree_there next (written m i) d y agreed };
+            })
+        past_to vs d e p y quiet (At l) o =
+            let silent = label_silent m (form_of ending) l o in
+            let unspilled = λ (x : ℕ) (r : Reg) (z : Contains i.results r) (t : is_renewed (writes_registers i.op) r ≡ true) (g : r.number ≡ x).
+            silent r.number (left_among i.results (killed m i) (number_in r i.results z)) in
+            let rel : Agrees m (written m i) (at (after_label l m.code) d y) → Linked (after_label l m.code) y y d p.file =
+            λ (agreed : Agrees m (written m i) (at (after_label l m.code) d y)).
+            record {
+              same = refl;
+              quiet = none_raised quiet;
+              holds = record {
+                itself = λ x v. same_after vs d p (At l) o x (live_low v (ending_label l m.code)) v (unspilled x);
+                fit = fit_after vs d e;
+                agree = agree_there (after_label l m.code) (written m i) d y agreed;
+              };
+            } in
+            general.elsewhere (no_post silent)
+            (λ agreed. (
+              rel agreed,
+              subst (λ code. Agrees q (written q (main_for i next)) (at code p.file y)) (sym (label_expand f (keeps_marks s) l m.code))
+                  (agree_begins (after_label l m.code) (written q (main_for i next)) d p.file y (ending_label l m.code) (rel agreed).holds
+                  (silent_none silent y.raised)),
+            ))
+
+        -- where an exit or a raise lands
+        landed : (to : Landing) → MayLand i.op to → (y : Around) → Agrees m (written m i) (at (landing_code m.code (i ∷ next) to) a' y) →
+            Holds (landing_code m.code (i ∷ next) to) a' b'
+        landed (AtLabel l) (lands_at_label o) y agreed =
+            let silent = label_silent m (form_of ending) l o in
+            record {
+              itself = λ n v. still n (on (silent n) (goes (At l) o) v);
+              fit = fit_still;
+              agree = agree_there (after_label l m.code) (written m i) a' y agreed;
+            }
+        landed AtHandler (lands_at_handler r) y agreed =
+            record {
+              itself = λ n v. still n (caught_live r (tries_at (i ∷ next)) refl v);
+              fit = fit_still;
+              agree = agree_there (at_handler m.code (tries_at (i ∷ next))) (written m i) a' y agreed;
+            }
+
+        tries_so : tries_at (main_for i next ∷ (post ++ expand f next)) ≡ tries_at (i ∷ next)
+        tries_so = laid_tries m s free top formed placed is (main ending laid_main)
+
+        lands : (to : Landing) → MayLand i.op to → (y : Around) → IsSilent m i ⊎ IsRaised y.raised →
+            IsQuiet (landing_code m.code (i ∷ next) to) y →
+            general.Lands c m q f (keeps_marks s) is_code Suit Linked i (main_for i next) next post to y y a' b'
+        lands to may y silent quiet agreed = (
+          record { same = refl; quiet = quiet; holds = landed to may y agreed },
+          subst (λ code. Agrees q (written q (main_for i next)) (at code b' y))
+              (sym (lands_same (i ∷ next) (main_for i next ∷ (post ++ expand f next)) to tries_so))
+              (agree_begins (landing_code m.code (i ∷ next) to) (written q (main_for i next)) a' b' y (ending_land to (i ∷ next) m.code)
+              (landed to may y agreed) (none_written y.raised silent)),
+        )
+
+        pushed : IsTry i.op → (y : Around) → Agrees m (written m i) (at next a' y) → Holds next a' b'
+        pushed t y agreed =
+            let silent = try_silent m (form_of ending) t in
+            record {
+              itself = λ n v. still n (on (silent n) (goes On (try_on i.op t)) v);
+              fit = fit_still;
+              agree = agree_there next (written m i) a' y agreed;
+            }
+
+        apart_results : Apart i.results
+        apart_results = apart_of i.results (of_each (λ (i : Instr). AreDistinct i.results) m.code i formed.distinct (contains_of stands))
+
+        low_results : (r : Reg) → Contains i.results r → r.number < first_result i next
+        low_results r z =
+            let lt = is.above r (is_in_code (results_in stands z)) in
+            let from = is.from i next stands in
+            let rises = past_rises (reads_registers i.op) (s (length next)) i.args in omega (arith, lt, from, rises)
+
+        puts_same : (vs : List Value) (d : File) (p : Puts vs d) →
+            put_all limit (main_for i next).results vs (clear (killed q (main_for i next)) b') ≡ Some p.file
+        puts_same vs d p =
+            subst (λ ks. put_all limit (main_for i next).results vs (clear ks b') ≡ Some p.file)
+            (sym (killed_same m s free top formed placed is i next)) p.puts
+
+        acts_same : (y : Around) (act : Act) → Within i.op act → Told (IsSilent m i) act → Calm act →
+            general.Acts c m q f (keeps_marks s) is_code Suit Linked i (main_for i next) next post y y a' b' act act
+        acts_same y (Goes vs to y') (goes_in o) t (calm_go quiet) =
+            general.both_go
+            (λ d e.
+            let p = put_renewed limit (writes_registers i.op) (first_result i next) i.results vs (clear (killed m i) a') (clear (killed m i) b') d
+            apart_results low_results e in
+            (p.file, puts_same vs d p, past_to vs d e p y' quiet to o))
+        acts_same y (Jumps (AtLabel l) y') (jumps_in may) (told_jump silent) (calm_label quiet) =
+            general.both_jump tries_so (lands (AtLabel l) may y' silent (none_raised quiet))
+        acts_same y (Jumps AtHandler y') (jumps_in may) (told_jump silent) calm_handler =
+            general.both_jump tries_so (lands AtHandler may y' silent (caught (caught_at m.code (tries_at (i ∷ next)))))
+        acts_same y (Unwinds y') (unwinds_in r) (told_unwind silent) calm_unwind =
+            general.both_unwind tries_so
+            (lands AtHandler (lands_at_handler r) y' silent (caught (caught_at m.code (tries_at (i ∷ next)))))
+        acts_same y (Pushes y') (pushes_in t) u (calm_push quiet) =
+            general.both_push (no_post (try_silent m (form_of ending) t)) refl
+            (λ agreed. (
+              record { same = refl; quiet = none_raised quiet; holds = pushed t y' agreed },
+              agree_begins next (written q (main_for i next)) a' b' y' (ending_next ending) (pushed t y' agreed)
+                  (silent_none (try_silent m (form_of ending) t) y'.raised),
+            ))
+        acts_same y (Asks whom vs go) (asks_in w) (told_ask t) (calm_ask k) =
+            general.both_ask (record { memory = refl; tries = refl }) (λ d. acts_same y (go d) (w d) (t d) (k d))
+        acts_same y (Replaces whom vs kept) w t k = general.both_replace (record { memory = refl; tries = refl })
+        acts_same y (Ends d) w t k = general.both_end
+        acts_same y (EndsRaising d) w t k = general.both_raise
+        acts_same y Stuck w t k = general.stuck_first
+
+        -- ---- vals that are live over it
+
+        live_of : {n : ℕ} → LiveAcross m n i next → Live m n (i ∷ next)
+        live_of (across_step w l v) = on w l v
+        live_of (across_raise r v) = aside r v
+
+        vals_main : (y : Around) → ValsWritten m (at (i ∷ next) a y) → ValsWritten q (at (main_for i next ∷ (post ++ expand f next)) b y)
+        vals_main y known =
+            record {
+              written = λ j ys e frame r one val v none.
+                  let head = head_same (post ++ expand f next) ys e in
+                  let there : LiveAcross q r.number (main_for i next) (post ++ expand f next) =
+                  subst (λ xs. LiveAcross q r.number (main_for i next) xs) (sym (tail_same (post ++ expand f next) ys e))
+                  (subst (λ j. LiveAcross q r.number j ys) (sym head) v) in
+                  let x = across_back m s free top formed placed is i next ending laid_main there in
+                  let u = live_register (live_of x) ending in
+                  known.written i next refl (subst (λ (j : Instr). passes_frame j.op ≡ true) (sym head) frame) r
+                  (old_register m s free top formed placed is r u.0 one u.1 u.2) val x
+                  ((reading.holds).itself r.number (live_of x) ∙ none);
+            }
+
+      values_held : (a : File) (rs : List Reg) (vs : List Value) → values a rs ≡ Some vs → (n : ℕ) → Among n rs → (h : Held) × (a n ≡ Some h)
+      values_held a [] vs e n z = elim z [ ]
+      values_held a (r ∷ rs) vs e n z =
+          by (a r.number) refl (values a rs) refl e z (λ us t x. values_held a rs us t n x)
+        where
+          by : (o : Option Held) → a r.number ≡ o → (p : Option (List Value)) → values a rs ≡ p → with_held o p ≡ Some vs → Among n (r ∷ rs) →
+              ((us : List Value) → values a rs ≡ Some us → Among n rs → (h : Held) × (a n ≡ Some h)) → (h : Held) × (a n ≡ Some h)
+          by None s p t e z again = absurd (no_values vs e)
+          by (Some h) s None t e z again = absurd (no_values vs e)
+          by (Some h) s (Some us) t e (first x) again = (h, ap a (sym x) ∙ s)
+          by (Some h) s (Some us) t e (later x) again = again us t x
+
+      one : (i : Instr) (next : List Instr) (a b : File) (ending : Ending (i ∷ next) m.code) → Holds (i ∷ next) a b → (y : Around) →
+          IsQuiet (i ∷ next) y → (vs : List Value) → values a i.args ≡ Some vs →
+          general.Replaces c m q f (keeps_marks s) is_code Suit Linked i next y y a b vs
+      one i next a b ending holds y quiet vs e =
+          let laid : Lay (Reading i next (first_result i next) [])
+          (main_for i next ∷ (spills (writes_registers i.op) (first_result i next) i.results ++ expand f next)) =
+          main ending (laid_after i next ending) in
+          let begun : HoldsReading i next (first_operand next) a b =
+          record {
+            holds = holds;
+            made = λ x w g lt. let le = for_from (reads_registers i.op) g in absurd (omega (arith, lt, le));
+          } in
+          let gone = before i next a y ending (λ n z. values_held a i.args vs e n z)
+          (main_for i next ∷ (spills (writes_registers i.op) (first_result i next) i.results ++ expand f next)) laid
+          (first_operand next) i.args (all_operands m s free top formed placed is i next) b begun in
+          record {
+            pre = reloads (reads_registers i.op) (first_operand next) i.args;
+            main = main_for i next;
+            post = spills (writes_registers i.op) (first_result i next) i.results;
+            shape = refl;
+            between = gone.file;
+            passing = gone.passing;
+            vals = vals_main i next a gone.file ending gone.holds y;
+            read = vs;
+            reads = sym
+                (values_renewed a gone.file (reads_registers i.op) (first_operand next) i.args
+                (λ r z t. ((gone.holds).holds).itself r.number (read (number_in r i.args z)))
+                (λ x w g. (gone.holds).made x w g (for_below (reads_registers i.op) g)))
+                ∙ e;
+            alike = acts_same i next a gone.file ending gone.holds y (mach_act c.setting i.op vs y) (within c.setting i.op vs y)
+                (told m (form_of ending) c.setting vs y) (calm_here i next y quiet c.setting vs);
+          }
+
+    serves : (Suit : Around → Around → Type 0) → ((x y : Around) → x ≡ y → Suit x y) →
+        general.Serves c m q f (keeps_marks s) is_code Suit Linked
+    serves Suit suits =
+        record {
+          suits = λ rest x y a b l. suits x y l.same;
+          each = λ i next x y a b ending l vs e. inl
+              (subst (λ y. general.Replaces c m q f (keeps_marks s) is_code Suit Linked i next x y a b vs) l.same
+              (one Suit i next a b ending l.holds x l.quiet vs e));
+        }
+
+    -- at the entry the parameters are written
+    at_entry : (vs : List Value) (a : File) → put_all limit m.params vs (λ n. None) ≡ Some a → Holds m.code a a
+    at_entry vs a e =
+        record {
+          itself = λ n v. refl;
+          fit = λ r j.
+              put_fits limit m.params vs (λ n. None) a e r (λ k z g. formed.numbers k r (is_param z) j g) (λ h g. absurd (no_held h g));
+          agree = λ r k i j origin v w x y g h.
+              let same : r ≡ k = one_param r k i j origin x y g h in
+              ap (λ (h : Held). h.value) (held_same x y (sym g ∙ ap (λ (r : Reg). a r.number) same ∙ h));
+        }
+      where
+        unwritten_one : (n : ℕ) → (Among n m.params → ⊥) → a n ≡ None
+        unwritten_one n none = (put_twice (λ n. n) (λ n. n) limit m.params vs (λ n. None) (λ n. None) a (λ n z. refl) e).others n none
+
+        -- what holds something is a parameter, made from no other register
+        own_origin : (r : Reg) → IsRegister m r → (x : Held) → a r.number ≡ Some x → r.origin ≡ r.number
+        own_origin r i x g =
+            ⊎_elim
+            (λ z.
+            let p = number_among m.params z in
+            let same = formed.numbers p.0 r (is_param p.1) i p.2 in
+            subst (λ (r : Reg). r.origin ≡ r.number) same (of_each (λ (r : Reg). r.origin ≡ r.number) m.params p.0 formed.params p.1))
+            (λ none. absurd (no_held x (sym (unwritten_one r.number none) ∙ g))) (among_or_not r.number m.params)
+
+        one_param : (r k : Reg) → IsRegister m r → IsRegister m k → r.origin ≡ k.origin → (x y : Held) → a r.number ≡ Some x →
+            a k.number ≡ Some y → r ≡ k
+        one_param r k i j origin x y g h =
+            formed.numbers r k i j (sym (own_origin r i x g) ∙ origin ∙ own_origin k j y h)
+
+    linked_entry : (vs : List Value) (a : File) (memory : Memory) → put_all limit m.params vs (λ n. None) ≡ Some a →
+        Linked m.code (entered memory) (entered memory) a a
+    linked_entry vs a memory e = record { same = refl; quiet = none_raised refl; holds = at_entry vs a e }
+
+    comes : (Suit : Around → Around → Type 0) → ((x : Around) → Suit x x) → (vs : List Value) (a : File) (memory : Memory) →
+        put_all limit m.params vs (λ n. None) ≡ Some a → (n : ℕ) (t : Tally) → Proper c m n (at m.code a (entered memory)) t →
+        Comes Suit (run c m n (at m.code a (entered memory)) t) c q (at q.code a (entered memory)) t
+    comes Suit suits vs a memory e n t proper =
+        general.comes_from c m q f (keeps_marks s) is_code Suit Linked (serves Suit (λ x y g. subst (Suit x) g (suits x))) a a (entered memory)
+        (entered memory) (linked_entry vs a memory e) n t proper
+
+  -- The function with its reloads and spills does what it did.
+  pub does_reloaded : Does m (reloaded_by s m)
+  does_reloaded = λ c.
+      begins_at c m q refl
+      (λ arguments memory a t n e proper.
+      record {
+        no_less = comes c Ahead level arguments a memory e n t proper;
+        no_more = comes c Trails level_trail arguments a memory e n t proper;
+      })

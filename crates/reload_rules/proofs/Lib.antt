@@ -1,0 +1,15 @@
+pub mod Numbers
+pub mod Text
+pub mod Killed
+pub mod Live
+pub mod Calm
+pub mod Registers
+pub mod Files
+pub mod Kept
+pub mod Parts
+pub mod Formed
+pub mod Whole
+pub mod Placed
+pub mod Numbering
+pub mod Slotted
+pub mod Together

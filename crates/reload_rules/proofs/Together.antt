@@ -1,0 +1,137 @@
+-- What reloading makes of a function is kept, and is one function.
+use Rattle.std.proofs.Common.{◌≡◌, ℕ, ◌+◌, ◌*◌, ◌≤◌, Bool, true, false, refl, ap, subst, arith}
+use Rattle.bs_words.specs.declared.types.Loc.{Loc}
+use Rattle.bs_words.specs.declared.types.Loc.TheVariants as loc
+use Rattle.mach_ir.specs.Formed.{WellFormed}
+use Rattle.mach_ir.specs.Placed.{Colouring, IsColouring, IsPlaced, in_colour, in_slot, WellPlaced}
+use Rattle.mach_ir.specs.Sizes.{operand_count}
+use Rattle.mach_ir.specs.Walks.{IsRegister, Joined}
+use Rattle.mach_ir.proofs.Keeping.{keeps_then}
+use Rattle.mach_ir.specs.declared.reg.Reg.{Reg}
+use Rattle.mach_ir.specs.declared.mach.Mach.{Mach}
+use Rattle.mach_laws.proofs.Grows.{within_more}
+use Rattle.places_rules.specs.Places.{ColoursLow, recoloured}
+use Rattle.places_rules.proofs.Colouring.{coloured_kept}
+use Rattle.places_rules.proofs.Text.{placed_formed}
+use Rattle.places_rules.proofs.Walked.{no_addr_before}
+use Rattle.places_rules.proofs.Whole.{placed_keeps, placed_well, placed_seated, placed_size, placed_slots}
+use Rattle.reload_rules.specs.Kept.{IsKept}
+use Rattle.reload_rules.specs.Reloaded.{any_needs, reloaded, to_slots, in_slots, IsFree, IsReloadedBy, is_coloured, asks_again}
+use Rattle.reload_rules.proofs.Formed.{reloaded_formed}
+use Rattle.reload_rules.proofs.Live.{IsNumbering, reloaded_by}
+use Rattle.reload_rules.proofs.Numbering.{numbering, is_numbering, numbered_same}
+use Rattle.reload_rules.proofs.Numbers.{differ}
+use Rattle.reload_rules.proofs.Placed.{reloaded_placed, reloaded_low, reloaded_seated}
+use Rattle.reload_rules.proofs.Slotted.{slots_placing, slots_least, slots_low, slots_above, coloured_needs}
+use Rattle.reload_rules.proofs.Whole.{reloaded_keeps, reloaded_no_addr, reloaded_slots, reloaded_size, reloaded_registers}
+
+not_open : (r : Reg) → IsPlaced r → r.loc ≡ loc.Unset → ⊥
+not_open r (in_colour n c e) u = machine r.loc n e u
+  where
+    machine : (l : Loc) (n : ℕ) → l ≡ loc.Machine n → l ≡ loc.Unset → ⊥
+    machine l n e u = cc
+not_open r (in_slot e) u = slot r.loc r.origin e u
+  where
+    slot : (l : Loc) (n : ℕ) → l ≡ loc.Slot n → l ≡ loc.Unset → ⊥
+    slot l n e u = cc
+
+module _ (m : Mach) (place : Colouring) (formed : WellFormed m) (well : WellPlaced m) (low : ColoursLow m)
+    (colouring : IsColouring (IsRegister m) (Joined m) place) where
+  of_coloured : any_needs (in_slots place m).code ≡ false → IsKept m (recoloured place m) false
+  of_coloured none =
+      let kept = coloured_kept m place formed well colouring low in
+      record {
+        keeps = kept.keeps;
+        formed = kept.formed;
+        placed = (kept.placed).well;
+        all_placed = λ e. kept.placed;
+        seated = kept.seated;
+        colours_low = λ r k c i u. absurd (not_open k ((kept.placed).places k i) u);
+        no_addr = kept.no_addr;
+        in_registers = coloured_needs m place formed well colouring none;
+        size = λ s h.
+            within_more (kept.size s h) (more s.instrs s.operands) (times s.operands) (more s.registers s.operands) (same s.labels);
+        slots = kept.slots;
+      }
+    where
+      more : (a b : ℕ) → a ≤ a + b
+      more a b = omega arith
+
+      times : (a : ℕ) → a ≤ 3 * a
+      times a = omega arith
+
+      same : (a : ℕ) → a ≤ a
+      same a = omega arith
+
+  abbrev m1 : Mach
+  m1 = in_slots place m
+
+  well_there : WellPlaced (in_slots place m)
+  well_there = placed_well m (to_slots place) formed well (slots_placing m place formed well colouring) (slots_least m place formed well colouring)
+
+  formed_there : WellFormed (in_slots place m)
+  formed_there = placed_formed (to_slots place) m formed
+
+  module _ (free : ℕ) (is_free : IsFree m free) where
+    numbers : IsNumbering (in_slots place m) (numbering free (in_slots place m)) free (free + operand_count (in_slots place m).code)
+    numbers = is_numbering (in_slots place m) free (slots_above m place formed well colouring free is_free.above)
+
+    abbrev s : ℕ → ℕ
+    s = numbering free (in_slots place m)
+
+    abbrev top : ℕ
+    top = free + operand_count (in_slots place m).code
+
+    of_numbered : IsKept m (reloaded_by (numbering free (in_slots place m)) (in_slots place m)) true
+    of_numbered =
+        record {
+          keeps = keeps_then (placed_keeps m (to_slots place) formed well (slots_placing m place formed well colouring))
+              (reloaded_keeps m1 s free top formed_there well_there numbers);
+          formed = reloaded_formed m1 s free top formed_there well_there numbers;
+          placed = reloaded_placed m1 s free top formed_there well_there numbers;
+          all_placed = λ e. absurd (differ true refl e);
+          seated = λ h.
+              reloaded_seated m1 s free top formed_there well_there numbers
+              (placed_seated m (to_slots place) formed well (slots_placing m place formed well colouring) h);
+          colours_low = reloaded_low m1 s free top formed_there well_there numbers (slots_low m place formed well colouring low);
+          no_addr = λ h.
+              reloaded_no_addr m1 s free top formed_there well_there numbers
+              (no_addr_before m (to_slots place) well (slots_placing m place formed well colouring) h);
+          in_registers = reloaded_registers m1 s free top formed_there well_there numbers;
+          size = λ size h.
+              let there = placed_size m (to_slots place) size h in
+              reloaded_size m1 s free top formed_there well_there numbers size (size.registers + size.operands) there (omega arith)
+              (sum free (operand_count m1.code) size.registers size.operands (is_free.least size.registers h.numbers) there.operands);
+          slots = λ k few.
+              let grown = placed_slots m formed (to_slots place) (slots_placing m place formed well colouring) k few in
+              record {
+                others = grown.others;
+                few = grown.few;
+                all = λ slot h. grown.all slot (reloaded_slots m1 s free top formed_there well_there numbers slot h);
+              };
+        }
+      where
+        sum : (a b c d : ℕ) → a ≤ c → b ≤ d → a + b ≤ c + d
+        sum a b c d x y = omega (arith, x, y)
+
+    of_reloaded : IsKept m (reloaded free (in_slots place m)) true
+    of_reloaded = subst (λ q. IsKept m q true) (numbered_same (in_slots place m) free) of_numbered
+
+-- What reloading makes of a function by a colouring is kept.
+pub reloaded_kept : (m q : Mach) (place : Colouring) (asks : Bool) → WellFormed m → WellPlaced m → ColoursLow m →
+    IsColouring (IsRegister m) (Joined m) place → IsReloadedBy m place q asks → IsKept m q asks
+reloaded_kept m q place asks formed well low colouring (is_coloured e) = of_coloured m place formed well low colouring e
+reloaded_kept m q place asks formed well low colouring (asks_again {free = free} e h) =
+    of_reloaded m place formed well low colouring free h
+
+same_least : (a b : ℕ) → a ≤ b → b ≤ a → a ≡ b
+same_least a b x y = omega (arith, x, y)
+
+-- It makes one of each.
+pub one_reloaded : (m q k : Mach) (place : Colouring) (a b : Bool) → IsReloadedBy m place q a → IsReloadedBy m place k b →
+    (q ≡ k) × (a ≡ b)
+one_reloaded m q k place a b (is_coloured e) (is_coloured h) = (refl, refl)
+one_reloaded m q k place a b (is_coloured e) (asks_again h g) = absurd (differ (any_needs (in_slots place m).code) h e)
+one_reloaded m q k place a b (asks_again h g) (is_coloured e) = absurd (differ (any_needs (in_slots place m).code) h e)
+one_reloaded m q k place a b (asks_again {free = x} e g) (asks_again {free = y} h f) =
+    (ap (λ n. reloaded n (in_slots place m)) (same_least x y (g.least y f.above) (f.least x g.above)), refl)

@@ -1,0 +1,2 @@
+pub mod Reloaded
+pub mod Kept
