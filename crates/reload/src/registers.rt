@@ -76,7 +76,11 @@ fn is_in_slot(loc: Loc) -> bool
 fn is_renewed(registers: bool, reg: Reg) -> bool
     ensures { result ≡ is_renewed registers reg }
 {
-    if registers { is_in_slot(reg.loc) } else { false }
+    if registers {
+        is_in_slot(reg.loc)
+    } else {
+        false
+    }
 }
 
 /// Whether there has to be one for any of these.

@@ -8,7 +8,9 @@ ghost use Rattle.mach_ir.specs.declared.mach.Mach.{Mach};
 ghost use Rattle.reload_rules.specs.Reloaded.{needs_registers, any_needs, reloaded_instr, past_instr, reloaded_code, IsReloadedBy};
 
 use crate::places::{Putting, put_all};
-use crate::registers::{any_renewed, number_past, push_reloads, push_spills, reads_registers, renewed, writes_registers};
+use crate::registers::{
+    any_renewed, number_past, push_reloads, push_spills, reads_registers, renewed, writes_registers,
+};
 use liveness::first_free;
 use mach_ir::{Colours, Instr, Mach, Seq};
 use std::alloc::{AllocError, Global};
