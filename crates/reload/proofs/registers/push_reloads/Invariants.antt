@@ -1,0 +1,8 @@
+use Rattle.std.proofs.Common.{◌≡◌, ◌++◌, drop}
+use Rattle.reload_rules.specs.Reloaded.{reloads}
+use Rattle.reload.proofs.registers.push_reloads.Given as goal
+
+abbrev pub invariant-loop-reg : goal.invariant-loop-reg
+invariant-loop-reg l =
+    l.code.items ++ reloads l.registers l.number (drop l.reg-index l.regs)
+    ≡ l.initial.code.items ++ reloads l.registers l.from l.regs

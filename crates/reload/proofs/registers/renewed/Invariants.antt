@@ -1,0 +1,7 @@
+use Rattle.std.proofs.Common.{◌≡◌, ◌++◌, drop}
+use Rattle.reload_rules.specs.Reloaded.{renewed}
+use Rattle.reload.proofs.registers.renewed.Given as goal
+
+abbrev pub invariant-loop-reg : goal.invariant-loop-reg
+invariant-loop-reg l =
+    l.made.items ++ renewed l.registers l.number (drop l.reg-index l.regs) ≡ renewed l.registers l.from l.regs

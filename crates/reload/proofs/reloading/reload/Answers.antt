@@ -1,0 +1,16 @@
+use Rattle.std.proofs.Common.{◌∙◌, ap}
+use Rattle.mach_ir.specs.Graph.{place_in}
+use Rattle.reload_rules.specs.Reloaded.{any_needs}
+use Rattle.reload.proofs.Answered.{answers_coloured, answers_reloaded}
+use Rattle.reload.proofs.reloading.reload.Goals as goal
+
+pub returns-in_ok-code : goal.returns-in_ok-code
+returns-in_ok-code c =
+    answers_reloaded c.args.mach c.in_ok-slotted.slotted (place_in c.args.colours.now) c.any_needs.result c.in_ok-free.free c.in_ok-code.code
+    c.in_ok-slotted.ensures (c.any_needs.ensures ∙ ap any_needs c.as_slice.ensures) c.if-any_needs.true c.in_ok-free.ensures.above c.in_ok-free.ensures.least
+    c.in_ok-code.ensures
+
+pub returns-in_ok-coloured : goal.returns-in_ok-coloured
+returns-in_ok-coloured c =
+    answers_coloured c.args.mach c.in_ok-slotted.slotted c.in_ok-coloured.coloured (place_in c.args.colours.now) c.any_needs.result
+    c.in_ok-slotted.ensures (c.any_needs.ensures ∙ ap any_needs c.as_slice.ensures) c.if-any_needs.false c.in_ok-coloured.ensures

@@ -1,0 +1,7 @@
+use Rattle.std.proofs.Common.{◌≡◌, ◌++◌}
+use Rattle.reload_rules.specs.Reloaded.{reloaded_code}
+use Rattle.reload.proofs.reloading.reloaded_code.Given as goal
+
+abbrev pub invariant-loop-instr : goal.invariant-loop-instr
+invariant-loop-instr l =
+    l.made.items ++ reloaded_code l.number l.instr-iterator.rest.items ≡ reloaded_code l.free l.fn.code

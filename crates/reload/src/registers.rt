@@ -1,0 +1,208 @@
+//! Fresh registers for operands and results in slots, and the copies between them.
+ghost use Rattle.std.specs.Prelude.{◌≡◌, ◌++◌, ◌∷◌, [], suc, IfOk};
+ghost use Rattle.spill_rules.specs.Spilled.{copied};
+ghost use Rattle.reload_rules.specs.Reloaded.{is_copy, reads_registers, writes_registers, is_in_slot, is_renewed, fresh, number_past, renewed, reloads, spills, any_renewed};
+
+use bs_words::Loc;
+use mach_ir::{CopyKind, Instr, MachOp, Mark, Op, Pure, Reg, Seq};
+use std::alloc::{AllocError, Global};
+
+/// Whether the operation is a move, a spill or a reload.
+fn is_copy(op: &Op) -> bool
+    ensures { result ≡ is_copy op.now }
+{
+    match op {
+        Op::Pure(Pure::Copy(_)) => true,
+        Op::Pure(Pure::Constant(_)) => false,
+        Op::Pure(Pure::Symbol(_)) => false,
+        Op::Pure(Pure::Operator(_, _)) => false,
+        Op::Access(_) => false,
+        Op::Calling(_) => false,
+        Op::Leaving(_) => false,
+    }
+}
+
+/// Whether the operands may not stand in slots.
+pub(crate) fn reads_registers(op: &MachOp) -> bool
+    ensures { result ≡ reads_registers op.now }
+{
+    match op {
+        MachOp::Op(op) => !is_copy(op),
+        MachOp::Mark(Mark::If { .. }) => true,
+        MachOp::Mark(Mark::Switch(_)) => true,
+        MachOp::Mark(Mark::Exit { .. }) => false,
+        MachOp::Mark(Mark::Else { .. }) => false,
+        MachOp::Mark(Mark::Case { .. }) => false,
+        MachOp::Mark(Mark::Catch) => false,
+        MachOp::Mark(Mark::With { .. }) => false,
+        MachOp::Mark(Mark::Try { .. }) => false,
+        MachOp::Mark(Mark::Leave { .. }) => false,
+        MachOp::Mark(Mark::Handler { .. }) => false,
+        MachOp::Mark(Mark::End { .. }) => false,
+    }
+}
+
+/// Whether the results may not stand in slots.
+pub(crate) fn writes_registers(op: &MachOp) -> bool
+    ensures { result ≡ writes_registers op.now }
+{
+    match op {
+        MachOp::Op(op) => !is_copy(op),
+        MachOp::Mark(Mark::Handler { .. }) => true,
+        MachOp::Mark(Mark::If { .. }) => false,
+        MachOp::Mark(Mark::Switch(_)) => false,
+        MachOp::Mark(Mark::Exit { .. }) => false,
+        MachOp::Mark(Mark::Else { .. }) => false,
+        MachOp::Mark(Mark::Case { .. }) => false,
+        MachOp::Mark(Mark::Catch) => false,
+        MachOp::Mark(Mark::With { .. }) => false,
+        MachOp::Mark(Mark::Try { .. }) => false,
+        MachOp::Mark(Mark::Leave { .. }) => false,
+        MachOp::Mark(Mark::End { .. }) => false,
+    }
+}
+
+fn is_in_slot(loc: Loc) -> bool
+    ensures { result ≡ is_in_slot loc }
+{
+    match loc {
+        Loc::Slot(_) => true,
+        Loc::Machine(_) => false,
+        Loc::Unset => false,
+    }
+}
+
+/// Whether there has to be another register for this one.
+fn is_renewed(registers: bool, reg: Reg) -> bool
+    ensures { result ≡ is_renewed registers reg }
+{
+    if registers {
+        is_in_slot(reg.loc)
+    } else {
+        false
+    }
+}
+
+/// Whether there has to be one for any of these.
+pub(crate) fn any_renewed(registers: bool, regs: &[Reg]) -> bool
+    ensures { result ≡ any_renewed registers regs.now }
+{
+    for reg in regs {
+        if is_renewed(registers, *reg) {
+            return true;
+        }
+    }
+    false
+}
+
+fn fresh(number: u32, reg: Reg) -> Reg
+    ensures { result ≡ fresh number reg }
+{
+    Reg {
+        number,
+        loc: Loc::Unset,
+        ..reg
+    }
+}
+
+/// The next number. That there is none counts as want of memory.
+fn next(number: u32) -> Result<u32, AllocError>
+    ensures { IfOk result (λ next. next ≡ suc number) }
+{
+    number.checked_add(1).ok_or(AllocError)
+}
+
+/// The next number, past those of the fresh registers for these.
+pub(crate) fn number_past(registers: bool, from: u32, regs: &[Reg]) -> Result<u32, AllocError>
+    ensures { IfOk result (λ number. number ≡ number_past registers from regs.now) }
+{
+    let mut number = from;
+    for reg in regs {
+        if is_renewed(registers, *reg) {
+            number = next(number)?;
+        }
+    }
+    Ok(number)
+}
+
+/// These registers, with a fresh one for each that needs it.
+pub(crate) fn renewed(
+    alloc: Global,
+    registers: bool,
+    from: u32,
+    regs: &[Reg],
+) -> Result<Vec<Reg>, AllocError>
+    ensures { IfOk result (λ made. made.items ≡ renewed registers from regs.now) }
+{
+    let mut made = Vec::with_capacity(alloc, regs.len())?;
+    let mut number = from;
+    for reg in regs {
+        if is_renewed(registers, *reg) {
+            made.push(fresh(number, *reg))?;
+            number = next(number)?;
+        } else {
+            made.push(*reg)?;
+        }
+    }
+    Ok(made)
+}
+
+fn just(alloc: Global, reg: Reg) -> Result<Seq<Reg>, AllocError>
+    ensures { IfOk result (λ regs. regs ≡ reg ∷ []) }
+{
+    let mut regs = Vec::new(alloc);
+    regs.push(reg)?;
+    Ok(Seq::from_vec(regs))
+}
+
+fn copy(alloc: Global, kind: CopyKind, from: Reg, to: Reg) -> Result<Instr, AllocError>
+    ensures { IfOk result (λ instr. instr ≡ copied kind from to) }
+{
+    let args = just(alloc, from)?;
+    let results = just(alloc, to)?;
+    Ok(Instr {
+        op: MachOp::Op(Op::Pure(Pure::Copy(kind))),
+        args,
+        results,
+    })
+}
+
+/// Puts the reloads of these operands behind the code.
+pub(crate) fn push_reloads(
+    alloc: Global,
+    registers: bool,
+    from: u32,
+    regs: &[Reg],
+    code: &mut Vec<Instr>,
+) -> Result<(), AllocError>
+    ensures { IfOk result (λ _. code.new.items ≡ code.old.items ++ reloads registers from regs.now) }
+{
+    let mut number = from;
+    for reg in regs {
+        if is_renewed(registers, *reg) {
+            code.push(copy(alloc, CopyKind::Reload, *reg, fresh(number, *reg))?)?;
+            number = next(number)?;
+        }
+    }
+    Ok(())
+}
+
+/// Puts the spills of these results behind the code.
+pub(crate) fn push_spills(
+    alloc: Global,
+    registers: bool,
+    from: u32,
+    regs: &[Reg],
+    code: &mut Vec<Instr>,
+) -> Result<(), AllocError>
+    ensures { IfOk result (λ _. code.new.items ≡ code.old.items ++ spills registers from regs.now) }
+{
+    let mut number = from;
+    for reg in regs {
+        if is_renewed(registers, *reg) {
+            code.push(copy(alloc, CopyKind::Spill, fresh(number, *reg), *reg)?)?;
+            number = next(number)?;
+        }
+    }
+    Ok(())
+}
