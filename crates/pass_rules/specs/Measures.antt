@@ -1,11 +1,16 @@
 -- How large the code of a Mach function is, by its instructions.
-use Rattle.std.specs.Prelude.{ℕ, ◌+◌, ◌*◌, Bool, true, false, List, [], ◌∷◌, length}
+use Rattle.std.specs.Prelude.{ℕ, suc, ◌+◌, ◌*◌, Bool, true, false, cond, List, [], ◌∷◌, length}
+use Rattle.linear_rules.specs.Lowered.{same_spot}
+use Rattle.mach_ir.specs.Formed.{is_exit}
 use Rattle.mach_ir.specs.Meaning.{passes_frame}
 use Rattle.mach_ir.specs.declared.mach.Instr.{Instr}
 use Rattle.mach_ir.specs.declared.mach.Mark.{Mark}
 use Rattle.mach_ir.specs.declared.mach.Mark.TheVariants as mark
 use Rattle.mach_ir.specs.declared.mach.MachOp.{MachOp}
 use Rattle.mach_ir.specs.declared.mach.MachOp.TheVariants as mach
+use Rattle.mach_ir.specs.declared.op.Op.TheVariants as op
+use Rattle.mach_ir.specs.declared.op.Pure.TheVariants as pure
+use Rattle.mach_ir.specs.declared.reg.Reg.{Reg}
 
 -- ---- words
 
@@ -16,19 +21,26 @@ mark_words (mark.Exit l n) = 2 + 2 * n
 mark_words (mark.Switch labels) = 34 + 4 * length labels
 mark_words _ = 34
 
-abbrev pub op_words : MachOp → ℕ
-op_words (mach.Op f) = 32
-op_words (mach.Mark f) = mark_words f
+-- the most words of a copy: a load and a store, each with an offset that takes two words more
+abbrev pub copy_words : ℕ
+copy_words = 6
+
+-- A copy from a place to itself has no line.
+abbrev pub words_with : MachOp → List Reg → List Reg → ℕ
+words_with (mach.Op (op.Pure (pure.Copy kind))) args results =
+    cond (same_spot args results) 0 copy_words
+words_with (mach.Op f) args results = 32 + 16 * length results
+words_with (mach.Mark f) args results = mark_words f + 16 * length results
 
 -- the words of an instruction
 abbrev pub instr_words : Instr → ℕ
-instr_words i = op_words i.op + 16 * length i.results
+instr_words i = words_with i.op i.args i.results
 
 abbrev pub code_words : List Instr → ℕ
 code_words [] = 0
 code_words (i ∷ is) = instr_words i + code_words is
 
--- ---- frame points
+-- ---- frame points and exits
 
 abbrev pub one_if : Bool → ℕ
 one_if true = 1
@@ -38,3 +50,8 @@ one_if false = 0
 abbrev pub code_points : List Instr → ℕ
 code_points [] = 0
 code_points (i ∷ is) = one_if (passes_frame i.op) + code_points is
+
+-- how many instructions are exits: an exit ends up to all tries round it
+abbrev pub exits : List Instr → ℕ
+exits [] = 0
+exits (i ∷ is) = cond (is_exit i.op) (suc (exits is)) (exits is)

@@ -1,0 +1,52 @@
+-- What the passes before register allocation make of a Mach function (OCaml's `asmcomp/asmgen.ml`).
+use Rattle.std.specs.Prelude.{ℕ, ◌+◌, ◌*◌, ◌≤◌, length}
+use Rattle.combine_rules.specs.Combined.{combined}
+use Rattle.combine_rules.specs.Kept.{IsCombinable}
+use Rattle.dead_rules.specs.Dropped.{IsDropped}
+use Rattle.mach_ir.specs.Formed.{WellFormed}
+use Rattle.mach_ir.specs.Keeps.{Keeps}
+use Rattle.mach_ir.specs.Placed.{WellPlaced}
+use Rattle.mach_ir.specs.Seats.{Seated}
+use Rattle.mach_ir.specs.Sizes.{Size, HasSize, operand_count}
+use Rattle.mach_ir.specs.declared.mach.Mach.{Mach}
+use Rattle.pass_rules.specs.Carried.{IsCarried}
+use Rattle.pass_rules.specs.Measures.{copy_words}
+use Rattle.places_rules.specs.Places.{ColoursLow}
+use Rattle.spill_rules.specs.Chosen.{IsSpilled}
+use Rattle.split_rules.specs.Split.{IsSplit}
+
+-- Its allocations are combined, what only computes and is not used goes, what lives over calls goes to
+-- slots, and each web of writes gets a number of its own.
+pub record IsPrepared (m q : Mach) : Type 0 where
+  pub dropped : Mach
+  pub is_dropped : IsDropped (combined m) dropped
+  pub spilled : Mach
+  pub is_spilled : IsSpilled dropped spilled
+  pub is_split : IsSplit spilled q
+
+-- what these passes ask of a function: selection gives it
+pub record IsPreparable (m : Mach) : Type 0 where
+  pub combinable : IsCombinable m
+  pub placed : WellPlaced m
+  pub seated : Seated m
+  pub colours_low : ColoursLow m
+
+-- Bounds on the function, by those on the one that it is made of, and the number of its parameters. Spilling adds at most a copy for each
+-- operand and result, and each web has a number of its own.
+abbrev pub prepared_size : ℕ → Size → Size
+prepared_size parameters s =
+    record s {
+      instrs = s.instrs + s.operands;
+      operands = 3 * s.operands;
+      registers = 2 * s.registers + (3 * s.operands + parameters);
+    }
+
+-- What a function keeps that is prepared.
+pub record IsKept (m q : Mach) : Type 0 where
+  pub keeps : Keeps m q
+  pub formed : WellFormed q
+  pub placed : WellPlaced q
+  pub seated : Seated q
+  pub size : (s : Size) → HasSize m s → HasSize q (prepared_size (length m.params) s)
+  -- a copy for each operand and result at the most
+  pub carried : IsCarried (copy_words * operand_count m.code) m q
