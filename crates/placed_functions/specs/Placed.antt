@@ -1,0 +1,40 @@
+-- What is known of the Mach function with places that is made of a function of an accepted text, whatever
+-- passes made it. That its code does what the text says, and is as small, rests on this alone.
+use Rattle.std.specs.Prelude.{ℕ, ◌+◌, ◌*◌, ◌-◌, ◌≤◌, List, length, All}
+use Rattle.cmm_tree.specs.Measures.{all_tries}
+use Rattle.cmm_tree.specs.Tree.{FunctionTree}
+use Rattle.correctness.specs.Measures.{tries}
+use Rattle.mach_ir.specs.Formed.{WellFormed}
+use Rattle.mach_ir.specs.Keeps.{Keeps}
+use Rattle.mach_ir.specs.Placed.{FullyPlaced}
+use Rattle.mach_ir.specs.Seats.{Seated}
+use Rattle.mach_ir.specs.Sizes.{operand_count}
+use Rattle.mach_ir.specs.Walks.{NoAddrLive}
+use Rattle.mach_ir.specs.declared.mach.Instr.{Instr}
+use Rattle.mach_ir.specs.declared.mach.Mach.{Mach}
+use Rattle.pass_rules.specs.Carried.{TriesAtMost, OffsetFits, EndsInReturn}
+use Rattle.pass_rules.specs.Measures.{code_words, code_points, exits}
+use Rattle.places_rules.specs.Places.{SlotsGrow}
+use Rattle.selection_rules.specs.Select.{selected}
+
+pub record IsPlacedFor (tree : FunctionTree) (q : Mach) : Type 0 where
+  -- it does what is selected of the text's function, each register has a place, and joined ones stand
+  -- apart
+  pub keeps : Keeps (selected tree) q
+  pub formed : WellFormed q
+  pub placed : FullyPlaced q
+  pub seated : Seated q
+  pub no_addr : NoAddrLive q
+  -- no more tries stand round a place than stand round one of the text
+  pub tries : TriesAtMost q (tries tree)
+  pub offsets : All (λ (i : Instr). OffsetFits i.op) q.code
+  pub ends : EndsInReturn q.code
+  -- words: two copies for each operand and result of selected code are more than enough
+  pub words : code_words q.code ≤
+      code_words (selected tree).code + 12 * operand_count (selected tree).code
+  pub points : code_points q.code ≤ code_points (selected tree).code
+  pub exits : exits q.code ≤ exits (selected tree).code
+  pub instrs : length q.code ≤ 12000 * tree.tokens
+  pub labels : q.labels ≤ 23 * tree.tokens
+  -- a slot for each of these registers at the most
+  pub slots : SlotsGrow (selected tree) q (2 * (tree.tokens - all_tries tree.body))
