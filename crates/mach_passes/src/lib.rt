@@ -1,3 +1,12 @@
 //! The passes over Mach between selection and register allocation, in their order (OCaml's
 //! `asmcomp/asmgen.ml`), and what they carry from pass to pass.
 #![tactic(auto)]
+
+ghost use Rattle.std.specs.Prelude.{◌≡◌};
+ghost use Rattle.mach_ir.specs.declared.mach.Mach.{Mach};
+ghost use Rattle.mach_passes.specs.Prepared.{IsPrepared};
+
+/// Law: the passes make one function of each.
+pub fn preparing_makes_one()
+    ensures { (m q k : Mach) → IsPrepared m q → IsPrepared m k → q ≡ k }
+{}
