@@ -1,3 +1,5 @@
 pub mod Split
 pub mod Spilled
 pub mod Prepared
+pub mod Dropped
+pub mod Combined
