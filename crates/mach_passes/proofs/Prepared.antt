@@ -1,7 +1,8 @@
 -- What the passes before register allocation keep together.
-use Rattle.std.proofs.Common.{◌≡◌, ℕ, suc, ◌+◌, ◌*◌, ◌<◌, ◌≤◌, ⊎_elim, List, [], ◌∷◌, length, refl, sym, ap, ◌∙◌, subst, arith}
+use Rattle.std.proofs.Common.{◌≡◌, ℕ, suc, ◌+◌, ◌*◌, ◌<◌, ◌≤◌, ⊎_elim, List, [], ◌∷◌, length, refl, ap, ◌∙◌, subst, arith}
 use Rattle.std.specs.List.{Contains}
 use Rattle.combine_rules.proofs.Formed.{combined_formed, combined_seated}
+use Rattle.combine_rules.proofs.Placed.{combined_placed}
 use Rattle.combine_rules.proofs.Sizes.{size}
 use Rattle.combine_rules.proofs.Whole as combining
 use Rattle.combine_rules.specs.Combined.{combined}
@@ -26,7 +27,9 @@ use Rattle.spill_rules.specs.Chosen.{ParamsPlaced, IsSpilled, IsChosenKept}
 use Rattle.split_rules.proofs.One.{one_split}
 use Rattle.split_rules.proofs.Whole.{split_kept}
 use Rattle.split_rules.specs.Split.{IsSplit}
-use Rattle.mach_passes.specs.Prepared.{IsPrepared, IsPreparable, prepared_size, IsKept}
+use Rattle.mach_passes.specs.Prepared.{IsPrepared, IsPreparable, IsKept}
+use Rattle.mach_passes.proofs.Combined.{combined_carried}
+use Rattle.mach_passes.proofs.Dropped.{dropped_carried}
 use Rattle.mach_passes.proofs.Spilled.{spill_carried}
 use Rattle.mach_passes.proofs.Split.{split_carried}
 
@@ -244,39 +247,36 @@ prepared_by m small spilled q seated first s t =
       carried = carried_within (four_words (operand_count small.code) (operand_count m.code) (fewer_operands first)) all.carried;
     }
 
-module _ (combined_placed : (m : Mach) → IsCombinable m → WellPlaced m → WellPlaced (combined m))
-    (combined_carried : (m : Mach) → WellFormed m → IsCarried 0 m (combined m))
-    (dropped_carried : (m q : Mach) → WellFormed m → IsDropped m q → IsCarried 0 m q) where
-  combine_stage : (m : Mach) → IsCombinable m → WellPlaced m → Smaller m (combined m)
-  combine_stage m is placed =
-      record {
-        keeps = combining.keeps m is;
-        formed = combined_formed m is;
-        placed = combined_placed m is placed;
-        seated = combined_seated m;
-        params = refl;
-        size = size m;
-        carried = combined_carried m is.formed;
-      }
+combine_stage : (m : Mach) → IsCombinable m → WellPlaced m → Smaller m (combined m)
+combine_stage m is placed =
+    record {
+      keeps = combining.keeps m is;
+      formed = combined_formed m is;
+      placed = combined_placed m is placed;
+      seated = combined_seated m;
+      params = refl;
+      size = size m;
+      carried = combined_carried m is.formed;
+    }
 
-  drop_stage : (m q : Mach) → WellFormed m → WellPlaced m → IsDropped m q → Smaller m q
-  drop_stage m q formed placed s =
-      let k = dropped_kept m q formed placed s in
-      record {
-        keeps = k.keeps;
-        formed = k.formed;
-        placed = k.placed;
-        seated = k.seated;
-        params = k.params;
-        size = k.size;
-        carried = dropped_carried m q formed s;
-      }
+drop_stage : (m q : Mach) → WellFormed m → WellPlaced m → IsDropped m q → Smaller m q
+drop_stage m q formed placed s =
+    let k = dropped_kept m q formed placed s in
+    record {
+      keeps = k.keeps;
+      formed = k.formed;
+      placed = k.placed;
+      seated = k.seated;
+      params = k.params;
+      size = k.size;
+      carried = dropped_carried formed s;
+    }
 
-  pub prepared_kept : (m q : Mach) → IsPreparable m → IsPrepared m q → IsKept m q
-  prepared_kept m q is made =
-      let one = combine_stage m is.combinable is.placed in
-      let two = drop_stage (combined m) made.dropped one.formed one.placed made.is_dropped in
-      prepared_by m made.dropped made.spilled q is.seated (stage_then one two) made.is_spilled made.is_split
+pub prepared_kept : (m q : Mach) → IsPreparable m → IsPrepared m q → IsKept m q
+prepared_kept m q is made =
+    let one = combine_stage m is.combinable is.placed in
+    let two = drop_stage (combined m) made.dropped one.formed one.placed made.is_dropped in
+    prepared_by m made.dropped made.spilled q is.seated (stage_then one two) made.is_spilled made.is_split
 
 -- ---- one result
 

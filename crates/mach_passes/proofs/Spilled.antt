@@ -1,5 +1,5 @@
 -- What spilling carries: it adds a copy for each operand and result at the most.
-use Rattle.std.proofs.Common.{◌≡◌, ℕ, zero, suc, ◌+◌, ◌*◌, ◌<◌, ◌≤◌, Bool, true, false, cond, ◌⊎◌, inl, inr, ⊎_elim, List, [], ◌∷◌, ◌++◌, length, refl, sym, ap, ◌∙◌, subst, arith, append_assoc}
+use Rattle.std.proofs.Common.{◌≡◌, ℕ, suc, ◌+◌, ◌*◌, ◌≤◌, Bool, true, false, cond, ◌⊎◌, inl, inr, ⊎_elim, List, [], ◌∷◌, ◌++◌, length, refl, sym, ap, ◌∙◌, subst, arith, append_assoc}
 use Rattle.std.specs.List.{All, Contains}
 use Rattle.std.specs.Prelude.{slice_index_or}
 use Rattle.std.proofs.lemmas.List.Elements.{Contains-get_or}
@@ -12,7 +12,7 @@ use Rattle.mach_ir.specs.Forms as forms
 use Rattle.mach_ir.specs.Meaning.{passes_frame, tries_at, tries_past}
 use Rattle.mach_ir.specs.Placed.{WellPlaced}
 use Rattle.mach_ir.specs.Sizes.{operand_count}
-use Rattle.mach_ir.specs.Walks.{IsRegister, Stands, here, below}
+use Rattle.mach_ir.specs.Walks.{Stands, here, below}
 use Rattle.mach_ir.specs.declared.op.CopyKind.{CopyKind}
 use Rattle.mach_ir.specs.declared.op.CopyKind.TheVariants as copy
 use Rattle.mach_ir.specs.declared.op.Leaving.TheVariants as leaving

@@ -1,5 +1,5 @@
 -- What splitting carries: only numbers of open registers change.
-use Rattle.std.proofs.Common.{◌≡◌, ◌≢◌, ℕ, ◌+◌, ◌*◌, ◌<◌, ◌≤◌, Bool, true, false, cond, List, [], ◌∷◌, length, refl, sym, ap, ◌∙◌, subst, arith}
+use Rattle.std.proofs.Common.{◌≡◌, ℕ, ◌+◌, ◌*◌, ◌<◌, ◌≤◌, Bool, true, false, cond, List, [], ◌∷◌, length, refl, sym, ap, ◌∙◌, subst, arith}
 use Rattle.std.proofs.lemmas.Bool.{lt-ltb, ltb-true}
 use Rattle.std.specs.List.{All, Contains}
 use Rattle.std.specs.Prelude.{nat_lt, suc}
@@ -24,7 +24,7 @@ use Rattle.places_rules.specs.Places.{ColoursLow}
 use Rattle.split_rules.specs.Order.{IsByFirst, kept, given}
 use Rattle.split_rules.specs.Renamed.{Naming, numbered, all_numbered, renamed_instr, renamed_code, renamed}
 use Rattle.split_rules.specs.Split.{IsNaming, AreByFirst, IsSplit}
-use Rattle.split_rules.specs.Writes.{Comes, IsWrite, by_entry, by_instr}
+use Rattle.split_rules.specs.Writes.{Comes, IsWrite, by_instr}
 use Rattle.split_rules.proofs.Formed.{each_renamed, contains_of, of_each}
 use Rattle.split_rules.proofs.Result.{comes_write}
 use Rattle.split_rules.proofs.Text.{same_tries, was_at, args_in, results_in, number_in}

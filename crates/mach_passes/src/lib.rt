@@ -4,7 +4,12 @@
 
 ghost use Rattle.std.specs.Prelude.{◌≡◌};
 ghost use Rattle.mach_ir.specs.declared.mach.Mach.{Mach};
-ghost use Rattle.mach_passes.specs.Prepared.{IsPrepared};
+ghost use Rattle.mach_passes.specs.Prepared.{IsPreparable, IsPrepared, IsKept};
+
+/// Law: what the passes make of a function is kept.
+pub fn what_is_prepared_is_kept()
+    ensures { (m q : Mach) → IsPreparable m → IsPrepared m q → IsKept m q }
+{}
 
 /// Law: the passes make one function of each.
 pub fn preparing_makes_one()
