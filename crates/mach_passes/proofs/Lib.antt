@@ -1,5 +1,6 @@
 pub mod Split
 pub mod Spilled
-pub mod Prepared
+pub mod Whole
 pub mod Dropped
 pub mod Combined
+pub mod Stages

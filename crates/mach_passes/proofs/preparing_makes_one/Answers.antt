@@ -1,4 +1,4 @@
-use Rattle.mach_passes.proofs.Prepared.{one_prepared}
+use Rattle.mach_passes.proofs.Whole.{one_prepared}
 use Rattle.mach_passes.proofs.preparing_makes_one.Goals as goal
 
 pub returns : goal.returns

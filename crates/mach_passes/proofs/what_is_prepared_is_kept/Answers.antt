@@ -1,4 +1,4 @@
-use Rattle.mach_passes.proofs.Prepared.{prepared_kept}
+use Rattle.mach_passes.proofs.Whole.{prepared_kept}
 use Rattle.mach_passes.proofs.what_is_prepared_is_kept.Goals as goal
 
 pub returns : goal.returns

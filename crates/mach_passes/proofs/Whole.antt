@@ -226,26 +226,11 @@ split_stage m q parameters e formed placed s =
 
 -- ---- the passes
 
-four_words : (a b : ℕ) → a ≤ b → 0 + (copy_words * a + 0) ≤ copy_words * b
-four_words a b le = by a b le
+all_words : (a b : ℕ) → a ≤ b → (0 + copy_words * a) + 0 ≤ copy_words * b
+all_words a b le = by a b le
   where
-    by : (a b : ℕ) → a ≤ b → 0 + (6 * a + 0) ≤ 6 * b
+    by : (a b : ℕ) → a ≤ b → (0 + 6 * a) + 0 ≤ 6 * b
     by a b le = omega (arith, le)
-
--- What spilling and splitting make of a function that smaller stages have led to.
-pub prepared_by : (m small spilled q : Mach) → Seated m → Smaller m small → IsSpilled small spilled → IsSplit spilled q → IsKept m q
-prepared_by m small spilled q seated first s t =
-    let two = spill_stage small spilled first.formed first.placed (seated_params small (first.seated seated)) s in
-    let three = split_stage spilled q (length m.params) (ap length (two.params ∙ first.params)) two.formed two.placed t in
-    let all = stage_then first (stage_then two three) in
-    record {
-      keeps = all.keeps;
-      formed = all.formed;
-      placed = all.placed;
-      seated = all.seated seated;
-      size = all.size;
-      carried = carried_within (four_words (operand_count small.code) (operand_count m.code) (fewer_operands first)) all.carried;
-    }
 
 combine_stage : (m : Mach) → IsCombinable m → WellPlaced m → Smaller m (combined m)
 combine_stage m is placed =
@@ -272,11 +257,31 @@ drop_stage m q formed placed s =
       carried = dropped_carried formed s;
     }
 
+-- the passes that do not enlarge the function
+pub small_stage : (m q : Mach) → IsPreparable m → IsDropped (combined m) q → Smaller m q
+small_stage m q is made =
+    let one = combine_stage m is.combinable is.placed in stage_then one (drop_stage (combined m) q one.formed one.placed made)
+
+-- and spilling after them
+pub slots_stage : (m small q : Mach) → IsPreparable m → IsDropped (combined m) small → IsSpilled small q →
+    IsStage (0 + copy_words * operand_count small.code) spilled_size m q
+slots_stage m small q is made spilled =
+    let one = small_stage m small is made in
+    stage_then one (spill_stage small q one.formed one.placed (seated_params small (one.seated is.seated)) spilled)
+
 pub prepared_kept : (m q : Mach) → IsPreparable m → IsPrepared m q → IsKept m q
 prepared_kept m q is made =
-    let one = combine_stage m is.combinable is.placed in
-    let two = drop_stage (combined m) made.dropped one.formed one.placed made.is_dropped in
-    prepared_by m made.dropped made.spilled q is.seated (stage_then one two) made.is_spilled made.is_split
+    let small = small_stage m made.dropped is made.is_dropped in
+    let slots = slots_stage m made.dropped made.spilled is made.is_dropped made.is_spilled in
+    let all = stage_then slots (split_stage made.spilled q (length m.params) (ap length slots.params) slots.formed slots.placed made.is_split) in
+    record {
+      keeps = all.keeps;
+      formed = all.formed;
+      placed = all.placed;
+      seated = all.seated is.seated;
+      size = all.size;
+      carried = carried_within (all_words (operand_count (made.dropped).code) (operand_count m.code) (fewer_operands small)) all.carried;
+    }
 
 -- ---- one result
 
