@@ -65,7 +65,7 @@ labels_scan held (i ∷ is) = by i.op i.args i.results (λ o. labels_scan o is)
     by (mach.Op (op.Leaving f)) args results ih = ih None
     by (mach.Mark f) args results ih = ap (λ ls. labels_of f ++ ls) (ih None)
 
-tries_scan : (held : Option ℕ) (is : List Instr) → tries_at (scan held is).code ≡ tries_at is
+pub tries_scan : (held : Option ℕ) (is : List Instr) → tries_at (scan held is).code ≡ tries_at is
 tries_scan held [] = refl
 tries_scan held (i ∷ is) = by i.op refl (λ o. tries_scan o is)
   where

@@ -13,3 +13,4 @@ pub mod Doing
 pub mod Trailing
 pub mod Whole
 pub mod Formed
+pub mod Placed

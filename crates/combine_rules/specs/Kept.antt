@@ -5,7 +5,7 @@ use Rattle.bs_words.specs.declared.types.Comp.TheVariants as comp
 use Rattle.combine_rules.specs.Neighbours.{Allocates}
 use Rattle.mach_ir.specs.Formed.{WellFormed}
 use Rattle.mach_ir.specs.Keeps.{Keeps}
-use Rattle.mach_ir.specs.Placed.{AllocatesFresh}
+use Rattle.mach_ir.specs.Placed.{WellPlaced, AllocatesFresh}
 use Rattle.mach_ir.specs.Seats.{Seated}
 use Rattle.mach_ir.specs.Sizes.{Size, HasSize, OpenAtMost}
 use Rattle.mach_ir.specs.Walks.{IsRegister}
@@ -42,5 +42,7 @@ pub record IsKept (m q : Mach) : Type 0 where
   -- it does the same, and no addr is live after a frame point where none was
   pub keeps : Keeps m q
   pub formed : WellFormed q
+  -- no two registers are joined at fixed places that were not before
+  pub placed : WellPlaced m → WellPlaced q
   pub seated : Seated m → Seated q
   pub no_larger : IsNoLarger m q

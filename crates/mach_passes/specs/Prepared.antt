@@ -1,5 +1,5 @@
 -- What the passes before register allocation make of a Mach function (OCaml's `asmcomp/asmgen.ml`).
-use Rattle.std.specs.Prelude.{ℕ, ◌+◌, ◌*◌, ◌≤◌, length}
+use Rattle.std.specs.Prelude.{ℕ, ◌+◌, ◌*◌, length}
 use Rattle.combine_rules.specs.Combined.{combined}
 use Rattle.combine_rules.specs.Kept.{IsCombinable}
 use Rattle.dead_rules.specs.Dropped.{IsDropped}

@@ -1,3 +1,21 @@
 //! The passes over Mach between selection and register allocation, in their order (OCaml's
 //! `asmcomp/asmgen.ml`), and what they carry from pass to pass.
 #![tactic(auto)]
+
+mod passes;
+
+ghost use Rattle.std.specs.Prelude.{◌≡◌};
+ghost use Rattle.mach_ir.specs.declared.mach.Mach.{Mach};
+ghost use Rattle.mach_passes.specs.Prepared.{IsPreparable, IsPrepared, IsKept};
+
+pub use passes::{prepared, with_slots, without_dead};
+
+/// Law: what the passes make of a function is kept.
+pub fn what_is_prepared_is_kept()
+    ensures { (m q : Mach) → IsPreparable m → IsPrepared m q → IsKept m q }
+{}
+
+/// Law: the passes make one function of each.
+pub fn preparing_makes_one()
+    ensures { (m q k : Mach) → IsPrepared m q → IsPrepared m k → q ≡ k }
+{}

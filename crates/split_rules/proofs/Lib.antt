@@ -4,4 +4,4 @@ pub mod Walked
 pub mod Kept
 pub mod Whole
 pub mod Result
-mod One
+pub mod One

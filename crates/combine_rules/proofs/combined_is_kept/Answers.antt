@@ -1,4 +1,5 @@
 use Rattle.combine_rules.proofs.Formed.{combined_formed, combined_seated}
+use Rattle.combine_rules.proofs.Placed.{combined_placed}
 use Rattle.combine_rules.proofs.Sizes.{register_before, size, open_registers}
 use Rattle.combine_rules.proofs.Whole.{keeps}
 use Rattle.combine_rules.proofs.combined_is_kept.Goals as goal
@@ -8,6 +9,7 @@ returns c = λ m is.
     record {
       keeps = keeps m is;
       formed = combined_formed m is;
+      placed = combined_placed m is;
       seated = combined_seated m;
       no_larger = record { registers = register_before m; size = size m; open_registers = open_registers m };
     }

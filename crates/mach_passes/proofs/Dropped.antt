@@ -1,0 +1,115 @@
+-- Dropping what only computes and is not used carries: no word, frame point or exit is new, and tries stand where they did.
+use Rattle.std.proofs.Common.{◌≡◌, ℕ, suc, ◌≤◌, Bool, true, false, cond, List, [], ◌∷◌, length, sym, ap, ◌∙◌, subst, arith}
+use Rattle.std.specs.List.{Contains}
+use Rattle.std.specs.Prelude.{slice_index_or}
+use Rattle.std.proofs.lemmas.List.Elements.{Contains-get_or}
+use Rattle.dead_rules.specs.Dropped.{without, dropped, AreDead, IsDropped}
+use Rattle.dead_rules.proofs.Live.{IsMain, was_main, was_register}
+use Rattle.dead_rules.proofs.Text.{Fate, falls, remains, fate, keeps_marks}
+use Rattle.mach_ir.specs.Formed.{is_exit, WellFormed}
+use Rattle.mach_ir.specs.Meaning.{tries_at, tries_past}
+use Rattle.mach_ir.specs.declared.mach.Instr.{Instr}
+use Rattle.mach_ir.specs.declared.mach.Mach.{Mach}
+use Rattle.mach_laws.specs.Expand.{expand}
+use Rattle.mach_laws.proofs.Places.{tries_expand}
+use Rattle.pass_rules.specs.Carried.{OffsetFits, EndsInReturn, at_return, further, IsCarried}
+use Rattle.pass_rules.specs.Measures.{code_words, code_points, exits, other_operands}
+use Rattle.split_rules.proofs.Formed.{contains_of, stands_in, of_each}
+
+exits_later : (b : Bool) (n : ℕ) → n ≤ cond b (suc n) n
+exits_later true n = omega arith
+exits_later false n = omega arith
+
+exits_both : (b : Bool) (n k : ℕ) → n ≤ k → cond b (suc n) n ≤ cond b (suc k) k
+exits_both true n k le = omega (arith, le)
+exits_both false n k le = le
+
+module _ (m : Mach) (drops : ℕ → Bool) (dead : AreDead m drops) where
+  abbrev q : Mach
+  q = dropped drops m
+
+  abbrev f : ℕ → Instr → List Instr
+  f = without drops
+
+  -- ---- measures
+
+  fewer_words : (code : List Instr) → code_words (expand f code) ≤ code_words code
+  fewer_words [] = omega arith
+  fewer_words (i ∷ is) = by (fate drops i is) (fewer_words is)
+    where
+      by : Fate drops i is → code_words (expand f is) ≤ code_words is → code_words (expand f (i ∷ is)) ≤ code_words (i ∷ is)
+      by (falls g d s h) le =
+          let e = ap code_words h in omega (arith, e, le)
+      by (remains k s h) le =
+          let e = ap code_words h in omega (arith, e, le)
+
+  fewer_points : (code : List Instr) → code_points (expand f code) ≤ code_points code
+  fewer_points [] = omega arith
+  fewer_points (i ∷ is) = by (fate drops i is) (fewer_points is)
+    where
+      by : Fate drops i is → code_points (expand f is) ≤ code_points is → code_points (expand f (i ∷ is)) ≤ code_points (i ∷ is)
+      by (falls g d s h) le =
+          let e = ap code_points h in omega (arith, e, le)
+      by (remains k s h) le =
+          let e = ap code_points h in omega (arith, e, le)
+
+  fewer_operands : (code : List Instr) → other_operands (expand f code) ≤ other_operands code
+  fewer_operands [] = omega arith
+  fewer_operands (i ∷ is) = by (fate drops i is) (fewer_operands is)
+    where
+      by : Fate drops i is → other_operands (expand f is) ≤ other_operands is →
+          other_operands (expand f (i ∷ is)) ≤ other_operands (i ∷ is)
+      by (falls g d s h) le =
+          let e = ap other_operands h in omega (arith, e, le)
+      by (remains k s h) le =
+          let e = ap other_operands h in omega (arith, e, le)
+
+  fewer_exits : (code : List Instr) → exits (expand f code) ≤ exits code
+  fewer_exits [] = omega arith
+  fewer_exits (i ∷ is) = by (fate drops i is) (fewer_exits is)
+    where
+      by : Fate drops i is → exits (expand f is) ≤ exits is → exits (expand f (i ∷ is)) ≤ exits (i ∷ is)
+      by (falls g d s h) le =
+          let e = ap exits h in
+          let more = exits_later (is_exit i.op) (exits is) in omega (arith, e, le, more)
+      by (remains k s h) le =
+          let e = ap exits h in
+          let both = exits_both (is_exit i.op) (exits (expand f is)) (exits is) le in omega (arith, e, both)
+
+  -- ---- the rest
+
+  tries_here : {i : Instr} {zs : List Instr} (w : IsMain m drops dead i zs m.code) → tries_at (i ∷ zs) ≡ tries_at (i ∷ w.next)
+  tries_here {i} w = ap (tries_past i.op) (ap tries_at w.same ∙ tries_expand f (keeps_marks drops) w.next)
+
+  contains_back : (i : Instr) → Contains q.code i → Contains m.code i
+  contains_back i c =
+      let s = stands_in q.code i c in contains_of (was_main m drops dead m.code i s.0 s.1).stands
+
+  still_ends : {code : List Instr} → EndsInReturn code → EndsInReturn (expand f code)
+  still_ends at_return = at_return
+  still_ends (further {i = i} {is = is} e) = by (fate drops i is) (still_ends e)
+    where
+      by : Fate drops i is → EndsInReturn (expand f is) → EndsInReturn (expand f (i ∷ is))
+      by (falls g d s h) t = subst EndsInReturn (sym h) t
+      by (remains k s h) t = subst EndsInReturn (sym h) (further t)
+
+  carried : IsCarried 0 m (dropped drops m)
+  carried =
+      record {
+        words = let le = fewer_words m.code in omega (arith, le);
+        points = fewer_points m.code;
+        operands = fewer_operands m.code;
+        exits = fewer_exits m.code;
+        tries = λ most known i zs s.
+            let w = was_main m drops dead m.code i zs s in
+            subst (λ ts. length ts ≤ most) (sym (tries_here w)) (known i w.next w.stands);
+        offsets = λ fit k d lt.
+            of_each (λ (i : Instr). OffsetFits i.op) m.code (slice_index_or q.code k d) fit
+            (contains_back (slice_index_or q.code k d) (Contains-get_or q.code k d lt));
+        ends = still_ends;
+        colours_low = λ low r k c i e. low r k c (was_register m drops dead k i) e;
+      }
+
+-- Dropping carries.
+pub dropped_carried : {m q : Mach} → WellFormed m → IsDropped m q → IsCarried 0 m q
+dropped_carried {m} formed d = subst (IsCarried 0 m) (sym d.is) (carried m d.drops d.dead)

@@ -1,0 +1,292 @@
+-- What the passes before register allocation keep together.
+use Rattle.std.proofs.Common.{◌≡◌, ℕ, suc, ◌+◌, ◌*◌, ◌<◌, ◌≤◌, ⊎_elim, List, [], ◌∷◌, length, refl, ap, ◌∙◌, subst, arith}
+use Rattle.std.specs.List.{Contains}
+use Rattle.combine_rules.proofs.Formed.{combined_formed, combined_seated}
+use Rattle.combine_rules.proofs.Placed.{combined_placed}
+use Rattle.combine_rules.proofs.Sizes.{size}
+use Rattle.combine_rules.proofs.Whole as combining
+use Rattle.combine_rules.specs.Combined.{combined}
+use Rattle.combine_rules.specs.Kept.{IsCombinable}
+use Rattle.dead_rules.proofs.Whole.{dropped_kept, one_dropped}
+use Rattle.dead_rules.specs.Dropped.{IsDropped}
+use Rattle.mach_ir.proofs.Keeping.{keeps_then}
+use Rattle.mach_ir.specs.Formed.{WellFormed}
+use Rattle.mach_ir.specs.Keeps.{Keeps}
+use Rattle.mach_ir.specs.Placed.{WellPlaced}
+use Rattle.mach_ir.specs.Seats.{Seated}
+use Rattle.mach_ir.specs.Sizes.{Size, HasSize, operand_count}
+use Rattle.mach_ir.specs.Walks.{InCode, in_args, in_results, further, IsRegister, is_param, is_colour, is_in_code}
+use Rattle.mach_ir.specs.declared.reg.Reg.{Reg}
+use Rattle.mach_ir.specs.declared.mach.Instr.{Instr}
+use Rattle.mach_ir.specs.declared.mach.Mach.{Mach}
+use Rattle.mach_laws.proofs.Walking.{none_in, in_cons}
+use Rattle.pass_rules.specs.Carried.{IsCarried}
+use Rattle.pass_rules.specs.Measures.{copy_words, code_words, code_points, exits, other_operands}
+use Rattle.spill_rules.proofs.Chosen.{spilled_kept, one_spilled, seated_params}
+use Rattle.spill_rules.specs.Chosen.{ParamsPlaced, IsSpilled, IsChosenKept}
+use Rattle.split_rules.proofs.One.{one_split}
+use Rattle.split_rules.proofs.Whole.{split_kept}
+use Rattle.split_rules.specs.Split.{IsSplit}
+use Rattle.mach_passes.specs.Prepared.{IsPrepared, IsPreparable, IsKept}
+use Rattle.mach_passes.proofs.Combined.{combined_carried}
+use Rattle.mach_passes.proofs.Dropped.{dropped_carried}
+use Rattle.mach_passes.proofs.Spilled.{spill_carried}
+use Rattle.mach_passes.proofs.Split.{split_carried}
+
+-- ---- a function has its own size
+
+above_this : (a b c : ℕ) → a < suc (a + b) + c
+above_this a b c = omega arith
+
+above_that : (a b c : ℕ) → b < suc (a + b) + c
+above_that a b c = omega arith
+
+still_above : (n a b : ℕ) → n < a → n < b + a
+still_above n a b lt = omega (arith, lt)
+
+first_above : (n a b c : ℕ) → n < a → n < a + b + c
+first_above n a b c lt = omega (arith, lt)
+
+second_above : (n a b c : ℕ) → n < b → n < a + b + c
+second_above n a b c lt = omega (arith, lt)
+
+third_above : (n a b c : ℕ) → n < c → n < a + b + c
+third_above n a b c lt = omega (arith, lt)
+
+-- above the numbers and origins of registers
+abbrev IsUnder : ℕ → Reg → Type 0
+IsUnder k r = (r.number < k) × (r.origin < k)
+
+abbrev limit : List Reg → ℕ
+limit [] = 0
+limit (r ∷ rs) = suc (r.number + r.origin) + limit rs
+
+under : (rs : List Reg) (r : Reg) → Contains rs r → IsUnder (limit rs) r
+under [] r c = absurd (none_in r c)
+under (x ∷ rs) r c =
+    ⊎_elim
+    (λ e.
+    subst (IsUnder (limit (x ∷ rs))) e (above_this x.number x.origin (limit rs), above_that x.number x.origin (limit rs)))
+    (λ d.
+    let h = under rs r d in
+    (still_above r.number (limit rs) (suc (x.number + x.origin)) h.0, still_above r.origin (limit rs) (suc (x.number + x.origin)) h.1))
+    (in_cons x r rs c)
+
+in_first : (a b c : ℕ) (r : Reg) → IsUnder a r → IsUnder (a + b + c) r
+in_first a b c r h = (first_above r.number a b c h.0, first_above r.origin a b c h.1)
+
+in_second : (a b c : ℕ) (r : Reg) → IsUnder b r → IsUnder (a + b + c) r
+in_second a b c r h = (second_above r.number a b c h.0, second_above r.origin a b c h.1)
+
+in_third : (a b c : ℕ) (r : Reg) → IsUnder c r → IsUnder (a + b + c) r
+in_third a b c r h = (third_above r.number a b c h.0, third_above r.origin a b c h.1)
+
+abbrev code_limit : List Instr → ℕ
+code_limit [] = 0
+code_limit (i ∷ is) = limit i.args + limit i.results + code_limit is
+
+code_under : (code : List Instr) (r : Reg) → InCode r code → IsUnder (code_limit code) r
+code_under [] r c = elim c [ ]
+code_under (i ∷ is) r (in_args c) = in_first (limit i.args) (limit i.results) (code_limit is) r (under i.args r c)
+code_under (i ∷ is) r (in_results c) = in_second (limit i.args) (limit i.results) (code_limit is) r (under i.results r c)
+code_under (i ∷ is) r (further c) = in_third (limit i.args) (limit i.results) (code_limit is) r (code_under is r c)
+
+abbrev register_limit : Mach → ℕ
+register_limit m = limit m.params + limit m.colours + code_limit m.code
+
+register_under : (m : Mach) (r : Reg) → IsRegister m r → IsUnder (register_limit m) r
+register_under m r (is_param c) = in_first (limit m.params) (limit m.colours) (code_limit m.code) r (under m.params r c)
+register_under m r (is_colour c) = in_second (limit m.params) (limit m.colours) (code_limit m.code) r (under m.colours r c)
+register_under m r (is_in_code c) = in_third (limit m.params) (limit m.colours) (code_limit m.code) r (code_under m.code r c)
+
+abbrev own_size : Mach → Size
+own_size m =
+    record {
+      instrs = length m.code;
+      operands = operand_count m.code;
+      registers = register_limit m;
+      labels = m.labels;
+    }
+
+le_self : (a : ℕ) → a ≤ a
+le_self a = omega arith
+
+has_own_size : (m : Mach) → HasSize m (own_size m)
+has_own_size m =
+    record {
+      instrs = le_self (length m.code);
+      operands = le_self (operand_count m.code);
+      numbers = λ r i. (register_under m r i).0;
+      origins = λ r i. (register_under m r i).1;
+      labels = le_self m.labels;
+    }
+
+-- ---- carrying goes on
+
+le_then : (a b c : ℕ) → a ≤ b → b ≤ c → a ≤ c
+le_then a b c x y = omega (arith, x, y)
+
+words_then : (a b c more others : ℕ) → b ≤ a + more → c ≤ b + others → c ≤ a + (more + others)
+words_then a b c more others x y = omega (arith, x, y)
+
+words_within : (a b more most : ℕ) → b ≤ a + more → more ≤ most → b ≤ a + most
+words_within a b more most x y = omega (arith, x, y)
+
+pub carried_then : {more others : ℕ} {p q r : Mach} → IsCarried more p q → IsCarried others q r → IsCarried (more + others) p r
+carried_then {more} {others} {p} {q} {r} one two =
+    record {
+      words = words_then (code_words p.code) (code_words q.code) (code_words r.code) more others one.words two.words;
+      points = le_then (code_points r.code) (code_points q.code) (code_points p.code) two.points one.points;
+      operands = le_then (other_operands r.code) (other_operands q.code) (other_operands p.code) two.operands one.operands;
+      exits = le_then (exits r.code) (exits q.code) (exits p.code) two.exits one.exits;
+      tries = λ most h. two.tries most (one.tries most h);
+      offsets = λ h. two.offsets (one.offsets h);
+      ends = λ h. two.ends (one.ends h);
+      colours_low = λ h. two.colours_low (one.colours_low h);
+    }
+
+pub carried_within : {more most : ℕ} {p q : Mach} → more ≤ most → IsCarried more p q → IsCarried most p q
+carried_within {more} {most} {p} {q} le c =
+    record {
+      words = words_within (code_words p.code) (code_words q.code) more most c.words le;
+      points = c.points;
+      operands = c.operands;
+      exits = c.exits;
+      tries = c.tries;
+      offsets = c.offsets;
+      ends = c.ends;
+      colours_low = c.colours_low;
+    }
+
+-- ---- stages
+--
+-- What each pass gives: it adds so many words at the most, and the bounds on a function grow so.
+pub record IsStage (more : ℕ) (grown : Size → Size) (m q : Mach) : Type 0 where
+  pub keeps : Keeps m q
+  pub formed : WellFormed q
+  pub placed : WellPlaced q
+  pub seated : Seated m → Seated q
+  pub params : q.params ≡ m.params
+  pub size : (s : Size) → HasSize m s → HasSize q (grown s)
+  pub carried : IsCarried more m q
+
+pub stage_then : {more others : ℕ} {grown wider : Size → Size} {p q r : Mach} → IsStage more grown p q → IsStage others wider q r →
+    IsStage (more + others) (λ s. wider (grown s)) p r
+stage_then {grown = grown} one two =
+    record {
+      keeps = keeps_then one.keeps two.keeps;
+      formed = two.formed;
+      placed = two.placed;
+      seated = λ s. two.seated (one.seated s);
+      params = two.params ∙ one.params;
+      size = λ s h. two.size (grown s) (one.size s h);
+      carried = carried_then one.carried two.carried;
+    }
+
+-- a pass that does not enlarge the function
+abbrev pub Smaller : Mach → Mach → Type 0
+Smaller m q = IsStage 0 (λ (s : Size). s) m q
+
+pub fewer_operands : {more : ℕ} {m q : Mach} → IsStage more (λ (s : Size). s) m q → operand_count q.code ≤ operand_count m.code
+fewer_operands {m = m} stage = (stage.size (own_size m) (has_own_size m)).operands
+
+abbrev spilled_size : Size → Size
+spilled_size s = record s { instrs = s.instrs + s.operands; operands = 3 * s.operands; registers = 2 * s.registers }
+
+abbrev split_size : ℕ → Size → Size
+split_size parameters s = record s { registers = s.registers + (s.operands + parameters) }
+
+spill_stage : (m q : Mach) → WellFormed m → WellPlaced m → ParamsPlaced m → IsSpilled m q →
+    IsStage (copy_words * operand_count m.code) spilled_size m q
+spill_stage m q formed placed params s =
+    let k : IsChosenKept m q s.plan = spilled_kept m q formed placed params s in
+    record {
+      keeps = (k.kept).keeps;
+      formed = (k.kept).formed;
+      placed = (k.kept).placed;
+      seated = (k.kept).seated;
+      params = ap (λ (q : Mach). q.params) s.is;
+      size = k.size;
+      carried = spill_carried m q formed s k;
+    }
+
+split_stage : (m q : Mach) (parameters : ℕ) → length m.params ≡ parameters → WellFormed m → WellPlaced m → IsSplit m q →
+    IsStage 0 (split_size parameters) m q
+split_stage m q parameters e formed placed s =
+    let k = split_kept m q formed placed s in
+    record {
+      keeps = k.keeps;
+      formed = k.formed;
+      placed = k.placed;
+      seated = k.seated;
+      params = ap (λ (q : Mach). q.params) s.is;
+      size = λ z h. subst (λ n. HasSize q (split_size n z)) e (k.size z h);
+      carried = split_carried formed placed s;
+    }
+
+-- ---- the passes
+
+all_words : (a b : ℕ) → a ≤ b → (0 + copy_words * a) + 0 ≤ copy_words * b
+all_words a b le = by a b le
+  where
+    by : (a b : ℕ) → a ≤ b → (0 + 6 * a) + 0 ≤ 6 * b
+    by a b le = omega (arith, le)
+
+combine_stage : (m : Mach) → IsCombinable m → WellPlaced m → Smaller m (combined m)
+combine_stage m is placed =
+    record {
+      keeps = combining.keeps m is;
+      formed = combined_formed m is;
+      placed = combined_placed m is placed;
+      seated = combined_seated m;
+      params = refl;
+      size = size m;
+      carried = combined_carried m is.formed;
+    }
+
+drop_stage : (m q : Mach) → WellFormed m → WellPlaced m → IsDropped m q → Smaller m q
+drop_stage m q formed placed s =
+    let k = dropped_kept m q formed placed s in
+    record {
+      keeps = k.keeps;
+      formed = k.formed;
+      placed = k.placed;
+      seated = k.seated;
+      params = k.params;
+      size = k.size;
+      carried = dropped_carried formed s;
+    }
+
+-- the passes that do not enlarge the function
+pub small_stage : (m q : Mach) → IsPreparable m → IsDropped (combined m) q → Smaller m q
+small_stage m q is made =
+    let one = combine_stage m is.combinable is.placed in stage_then one (drop_stage (combined m) q one.formed one.placed made)
+
+-- and spilling after them
+pub slots_stage : (m small q : Mach) → IsPreparable m → IsDropped (combined m) small → IsSpilled small q →
+    IsStage (0 + copy_words * operand_count small.code) spilled_size m q
+slots_stage m small q is made spilled =
+    let one = small_stage m small is made in
+    stage_then one (spill_stage small q one.formed one.placed (seated_params small (one.seated is.seated)) spilled)
+
+pub prepared_kept : (m q : Mach) → IsPreparable m → IsPrepared m q → IsKept m q
+prepared_kept m q is made =
+    let small = small_stage m made.dropped is made.is_dropped in
+    let slots = slots_stage m made.dropped made.spilled is made.is_dropped made.is_spilled in
+    let all = stage_then slots (split_stage made.spilled q (length m.params) (ap length slots.params) slots.formed slots.placed made.is_split) in
+    record {
+      keeps = all.keeps;
+      formed = all.formed;
+      placed = all.placed;
+      seated = all.seated is.seated;
+      size = all.size;
+      carried = carried_within (all_words (operand_count (made.dropped).code) (operand_count m.code) (fewer_operands small)) all.carried;
+    }
+
+-- ---- one result
+
+pub one_prepared : (m q k : Mach) → IsPrepared m q → IsPrepared m k → q ≡ k
+one_prepared m q k a b =
+    let dropped = one_dropped (combined m) a.dropped b.dropped a.is_dropped b.is_dropped in
+    let spilled = one_spilled b.dropped a.spilled b.spilled (subst (λ d. IsSpilled d a.spilled) dropped a.is_spilled) b.is_spilled in
+    one_split b.spilled q k (subst (λ s. IsSplit s q) spilled a.is_split) b.is_split

@@ -1,0 +1,60 @@
+//! The passes, in their order.
+ghost use Rattle.std.specs.Prelude.{IfOk};
+ghost use Rattle.combine_rules.specs.Combined.{combined};
+ghost use Rattle.dead_rules.specs.Dropped.{IsDropped};
+ghost use Rattle.mach_ir.specs.Formed.{WellFormed};
+ghost use Rattle.spill_rules.specs.Chosen.{IsSpilled};
+ghost use Rattle.mach_passes.specs.Prepared.{IsPreparable, IsPrepared};
+ghost use Rattle.mach_passes.specs.Stages.{HasSlots};
+
+use comballoc::combine;
+use cse_deadcode::drop_dead;
+use liveness::live;
+use mach_ir::Mach;
+use spill::spill;
+use split::split;
+use std::alloc::{AllocError, Global};
+
+/// The function with its allocations combined, and without what only computes and is not used. The
+/// only error is want of memory.
+pub fn without_dead(alloc: Global, mach: Mach) -> Result<Mach, AllocError>
+    ensures { IfOk result (IsDropped (combined mach)) }
+{
+    let combined = combine(alloc, mach)?;
+    drop_dead(alloc, combined)
+}
+
+/// The function in which what lives over calls has slots. The only error is want of memory.
+fn spill_live(alloc: Global, mach: Mach) -> Result<Mach, AllocError>
+    requires { WellFormed mach }
+    ensures { IfOk result (IsSpilled mach) }
+{
+    let live = live(alloc, &mach)?;
+    spill(alloc, mach, &live)
+}
+
+/// The function without dead code in which what lives over calls has slots. The only error is want of
+/// memory.
+#[tactic(auto, using(crate::proofs::Stages::dropped_formed, crate::proofs::Stages::has_slots))]
+pub fn with_slots(alloc: Global, mach: Mach) -> Result<Mach, AllocError>
+    requires { IsPreparable mach }
+    ensures { IfOk result (HasSlots mach) }
+{
+    let dropped = without_dead(alloc, mach)?;
+    spill_live(alloc, dropped)
+}
+
+/// What the passes before register allocation make of a function: its allocations are combined, what
+/// only computes and is not used goes, what lives over calls goes to slots, and each web of writes gets
+/// a number of its own.
+///
+/// The only error is want of memory, which more places, writes or registers than a number can count
+/// are too.
+#[tactic(auto, using(crate::proofs::Stages::split_prepared))]
+pub fn prepared(alloc: Global, mach: Mach) -> Result<Mach, AllocError>
+    requires { IsPreparable mach }
+    ensures { IfOk result (IsPrepared mach) }
+{
+    let spilled = with_slots(alloc, mach)?;
+    split(alloc, spilled)
+}
