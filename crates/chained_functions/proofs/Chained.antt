@@ -54,7 +54,8 @@ use Rattle.selection_rules.specs.Select.{selected, select, returns, first, is_no
 use Rattle.selection_rules.proofs.Endings.{ending_moves, ending_select}
 use Rattle.selection_rules.proofs.Parts.{Ending, all, more, Within, inside_in}
 use Rattle.selection_places.proofs.Whole.{value_at, params_of, env_of}
-use Rattle.selection_promise.specs.Selects.{IsAccepted, Selects, OffsetFits}
+use Rattle.pass_rules.specs.Carried.{OffsetFits}
+use Rattle.selection_promise.specs.Selects.{IsAccepted, Selects}
 use Rattle.selection_promise.proofs.Promised.{few_tokens, promised}
 use Rattle.made_functions.specs.Chained.{IsChained}
 use Rattle.made_functions.specs.Made.{IsMadeOf}

@@ -2,6 +2,7 @@
 use Rattle.std.proofs.Common.{◌≡◌, ℕ, zero, suc, ◌<◌, ◌⊎◌, inl, inr, Bool, true, false, List, [], ◌∷◌, ◌++◌, map, refl, sym, ◌∙◌, subst, arith}
 use Rattle.std.specs.Prelude.{slice_index_or}
 use Rattle.bs_words.specs.declared.types.Comp.{Comp}
+use Rattle.bs_words.specs.declared.types.Comp.TheVariants as comp
 use Rattle.bs_words.specs.declared.types.Loc.{Loc}
 use Rattle.bs_words.specs.declared.types.Loc.TheVariants as loc
 use Rattle.mach_ir.specs.declared.blocks.NewBlock.{NewBlock}
@@ -77,7 +78,8 @@ module _ (Q : Role → Reg → Type 0) where
     asks : {S G P : List Reg} {i : Instr} {next : List Instr} → Each (ReadsSeats P S) i.args → Gives i G → is_heavy i.op ≡ true → Coded G P next → Coded S P
         (i ∷ next)
     handles : {P : List Reg} {l : ℕ} {y : Reg} {next : List Instr} → Q Seated y → Coded (y ∷ []) P next → Coded [] P (emit.handler l y ∷ next)
-    allocs : {P : List Reg} {p : Reg} {block : NewBlock} {next : List Instr} → Q New p → Coded [] (p ∷ P) next → Coded [] P (emit.alloc block p ∷ next)
+    allocs : {P : List Reg} {p : Reg} {block : NewBlock} {next : List Instr} → Q New p → p.comp ≡ comp.Val → Coded [] (p ∷ P) next →
+        Coded [] P (emit.alloc block p ∷ next)
 
   reads_more : {P O : List Reg} → ((r : Reg) → Member r P → Member r O) → (r : Reg) → Reads P r → Reads O r
   reads_more f r (reads_plain q) = reads_plain q
@@ -99,7 +101,7 @@ module _ (Q : Role → Reg → Type 0) where
   coded_more f (empties q u x) = empties q u (coded_more f x)
   coded_more f (asks a g h x) = asks (each_map (seats_more f) a) g h (coded_more f x)
   coded_more f (handles q x) = handles q (coded_more f x)
-  coded_more f (allocs {p = p} q x) = allocs q (coded_more (under p f) x)
+  coded_more f (allocs {p = p} q v x) = allocs q v (coded_more (under p f) x)
 
 -- ---- seats of different positions
 

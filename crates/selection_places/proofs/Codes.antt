@@ -392,7 +392,7 @@ module _ (Q : Role → Reg → Type 0) where
         let cells : Within (RowOwn env base operands) = λ t r i. own t r (in_right (in_right (in_right (in_right i)))) in
         let there : Reads Q (p ∷ P) p = reads_new new (coded.first refl) in
         codes_waiting env labels row base operands cells regs names ls P _
-        (allocs new
+        (allocs new refl
         (plain none (one q none) refl
         (plain (one there (one (reads_plain q) none)) none refl
         (codes_filled env labels row base operands cells regs names ls (p ∷ P) _

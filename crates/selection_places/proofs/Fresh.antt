@@ -1,7 +1,10 @@
--- An allocation of selected code writes a register of its own.
+-- An allocation of selected code writes a register of its own, of component val.
 use Rattle.std.proofs.Common.{◌≡◌, ℕ, ◌⊎◌, inl, inr, ⊎_elim, Bool, true, false, List, [], ◌∷◌, ◌++◌, refl, sym, ap, ◌∙◌, subst}
 use Rattle.std.proofs.lemmas.Bool.{true≢false, eq-eqb}
+use Rattle.std.specs.Prelude.{Contains}
+use Rattle.bs_words.specs.declared.types.Comp.TheVariants as comp
 use Rattle.cmm_tree.specs.Tree.{FunctionTree}
+use Rattle.cmm_types.proofs.Containing.{contains_none, contains_cases}
 use Rattle.mach_ir.specs.Meaning.{killed}
 use Rattle.mach_ir.specs.Placed.{colours, IsFresh, AllocatesFresh}
 use Rattle.mach_ir.specs.Walks.{Among, first, later, Writes, IsRegister, Stands, here, below}
@@ -9,6 +12,7 @@ use Rattle.mach_ir.specs.declared.blocks.NewBlock.{NewBlock}
 use Rattle.mach_ir.specs.declared.mach.Instr.{Instr}
 use Rattle.mach_ir.specs.declared.mach.MachOp.{MachOp}
 use Rattle.mach_ir.specs.declared.mach.MachOp.TheVariants as mach
+use Rattle.mach_ir.specs.declared.op.Access.TheVariants as access
 use Rattle.mach_ir.specs.declared.op.Op.TheVariants as op
 use Rattle.mach_ir.specs.declared.reg.Reg.{Reg}
 use Rattle.selection_rules.specs.Instructions as emit
@@ -58,7 +62,7 @@ heavy_alloc (mach.Op (op.Leaving f)) e = refl
 heavy_alloc (mach.Mark f) e = refl
 
 data AllocOf (Q : Role → Reg → Type 0) : Instr → Type 0 where
-  alloc_of : {block : NewBlock} {p : Reg} → Q New p → AllocOf Q (emit.alloc block p)
+  alloc_of : {block : NewBlock} {p : Reg} → Q New p → p.comp ≡ comp.Val → AllocOf Q (emit.alloc block p)
 
 alloc_at : {Q : Role → Reg → Type 0} {S P : List Reg} {code : List Instr} {i : Instr} {next : List Instr} → Coded Q S P code → Stands i next code →
     is_alloc i.op ≡ true → AllocOf Q i
@@ -73,8 +77,8 @@ alloc_at (asks {i = i} a g h x) here e = absurd (true≢false (sym e ∙ heavy_a
 alloc_at (asks a g h x) (below s) e = alloc_at x s e
 alloc_at (handles u x) here e = absurd (true≢false (sym e))
 alloc_at (handles u x) (below s) e = alloc_at x s e
-alloc_at (allocs u x) here e = alloc_of u
-alloc_at (allocs u x) (below s) e = alloc_at x s e
+alloc_at (allocs u v x) here e = alloc_of u v
+alloc_at (allocs u v x) (below s) e = alloc_at x s e
 
 module _ (Q : Role → Reg → Type 0) (lo hi k : ℕ) (tells : Block Q lo hi k) (r : Reg) (new : Q New r) where
   not_role : (t : Role) (q : Reg) → Q t q → q.number ≡ r.number → is_new t ≡ true
@@ -111,9 +115,9 @@ module _ (Q : Role → Reg → Type 0) (lo hi k : ℕ) (tells : Block Q lo hi k)
   allocates (asks b g h x) (below s) a = allocates x s a
   allocates (handles {y = y} u x) here a = absurd (none_among (one (no_seat y u) none) a)
   allocates (handles u x) (below s) a = allocates x s a
-  allocates (allocs {p = p} u x) here (first e) = eq-eqb p.number r.number e
-  allocates (allocs u x) here (later a) = elim a [ ]
-  allocates (allocs u x) (below s) a = allocates x s a
+  allocates (allocs {p = p} u v x) here (first e) = eq-eqb p.number r.number e
+  allocates (allocs u v x) here (later a) = elim a [ ]
+  allocates (allocs u v x) (below s) a = allocates x s a
 
   -- an allocation of it, before this instruction
   pub record Before (j : Instr) (rest code : List Instr) : Type 0 where
@@ -152,8 +156,8 @@ module _ (Q : Role → Reg → Type 0) (lo hi k : ℕ) (tells : Block Q lo hi k)
   allocated (asks b g h x) (below s) a = one_more (allocated x s a)
   allocated (handles u x) here a = elim a [ ]
   allocated (handles u x) (below s) a = one_more (allocated x s a)
-  allocated (allocs u x) here a = elim a [ ]
-  allocated {P = P} {j = j} {rest = rest} (allocs {p = p} {block = block} {next = next} u x) (below s) a = by (allocated x s a)
+  allocated (allocs u v x) here a = elim a [ ]
+  allocated {P = P} {j = j} {rest = rest} (allocs {p = p} {block = block} {next = next} u v x) (below s) a = by (allocated x s a)
     where
       by : Member r (p ∷ P) ⊎ Before j rest next → Member r P ⊎ Before j rest (emit.alloc block p ∷ next)
       by (inl (coded.first e)) = inr (record {
@@ -237,6 +241,34 @@ selected_allocates f = record {
   where
     by : (i : Instr) (next : List Instr) → Stands i next (selected f).code → AllocOf (Whole f) i → (r : Reg) → Member r i.results → IsFresh
         (selected f) i next r
-    by i next s (alloc_of {block = block} {p = p} new) r (coded.first e) =
+    by i next s (alloc_of {block = block} {p = p} new val) r (coded.first e) =
         subst (λ z. IsFresh (selected f) i next z) (sym e) (fresh_new f i next s p new (eq-eqb p.number p.number refl))
-    by i next s (alloc_of new) r (coded.later m) = elim m [ ]
+    by i next s (alloc_of new val) r (coded.later m) = elim m [ ]
+
+-- ---- its component
+
+data Somewhere (i : Instr) (code : List Instr) : Type 0 where
+  somewhere : {next : List Instr} → Stands i next code → Somewhere i code
+
+somewhere_in : (code : List Instr) (i : Instr) → Contains code i → Somewhere i code
+somewhere_in [] i c = absurd (contains_none i c)
+somewhere_in (j ∷ next) i c = by (contains_cases j next i c) (somewhere_in next i)
+  where
+    further : Somewhere i next → Somewhere i (j ∷ next)
+    further (somewhere s) = somewhere (below s)
+
+    by : (j ≡ i) ⊎ Contains next i → (Contains next i → Somewhere i next) → Somewhere i (j ∷ next)
+    by (inl e) others = subst (λ (k : Instr). Somewhere k (j ∷ next)) e (somewhere here)
+    by (inr m) others = further (others m)
+
+-- What an allocation writes is of component val.
+pub selected_starts : (f : FunctionTree) (i : Instr) (blocks : List NewBlock) → Contains (selected f).code i →
+    i.op ≡ mach.Op (op.Access (access.Alloc blocks)) → (r : Reg) → Contains i.results r → r.comp ≡ comp.Val
+selected_starts f i blocks c e r x = at (somewhere_in (selected f).code i c)
+  where
+    by : {k : Instr} → AllocOf (Whole f) k → Member r k.results → r.comp ≡ comp.Val
+    by (alloc_of {p = p} new val) (coded.first g) = ap (λ (z : Reg). z.comp) g ∙ val
+    by (alloc_of new val) (coded.later m) = elim m [ ]
+
+    at : Somewhere i (selected f).code → r.comp ≡ comp.Val
+    at (somewhere s) = by (alloc_at (selected_coded f) s (subst (λ o. is_alloc o ≡ true) (sym e) refl)) (member_of i.results r x)

@@ -142,8 +142,8 @@ module _ (Q : Role → Reg → Type 0) (open_plain : (r : Reg) → Q Plain r →
   soon_in (asks {i = i} a g h x) (past p w s) = absurd (true≢false (sym p ∙ heavy_pure i.op h))
   soon_in (handles u x) (reads_now m) = elim m [ ]
   soon_in (handles u x) (past p w s) = absurd (true≢false (sym p))
-  soon_in (allocs u x) (reads_now m) = elim m [ ]
-  soon_in (allocs u x) (past p w s) = absurd (true≢false (sym p))
+  soon_in (allocs u v x) (reads_now m) = elim m [ ]
+  soon_in (allocs u v x) (past p w s) = absurd (true≢false (sym p))
 
   fine_fill : {S : List Reg} {a d : Reg} → Each (Apart d) S → Member q (d ∷ S) → Fine q (emit.move a d)
   fine_fill {d = d} v (coded.first e) = straight refl (λ r m z. by r m)
@@ -187,8 +187,8 @@ module _ (Q : Role → Reg → Type 0) (open_plain : (r : Reg) → Q Plain r →
   fine_in (asks a g h x) (beyond w) s = fine_in x w s
   fine_in (handles u x) whole s = fine_handler (soon_in x s)
   fine_in (handles u x) (beyond w) s = fine_in x w s
-  fine_in (allocs u x) whole s = absurd (elim (soon_in x s) [ ])
-  fine_in (allocs u x) (beyond w) s = fine_in x w s
+  fine_in (allocs u v x) whole s = absurd (elim (soon_in x s) [ ])
+  fine_in (allocs u v x) (beyond w) s = fine_in x w s
 
   heavy_handler : (f : MachOp) → is_heavy f ≡ true → (l : ℕ) → is_handler_of l f ≡ false
   heavy_handler (mach.Op f) e l = refl
@@ -207,8 +207,8 @@ module _ (Q : Role → Reg → Type 0) (open_plain : (r : Reg) → Q Plain r →
   not_at_handler l (asks a g h x) (beyond w) e s = not_at_handler l x w e s
   not_at_handler l (handles u x) whole e s = elim (soon_in (handles u x) s) [ ]
   not_at_handler l (handles u x) (beyond w) e s = not_at_handler l x w e s
-  not_at_handler l (allocs u x) whole e s = elim (soon_in (allocs u x) s) [ ]
-  not_at_handler l (allocs u x) (beyond w) e s = not_at_handler l x w e s
+  not_at_handler l (allocs u v x) whole e s = elim (soon_in (allocs u v x) s) [ ]
+  not_at_handler l (allocs u v x) (beyond w) e s = not_at_handler l x w e s
 
 -- ---- registers by their numbers
 

@@ -152,9 +152,9 @@ module _ {Q : Role → Reg → Type 0} where
   in_coded (handles q x) (in_args c) = among_each none c
   in_coded (handles q x) (in_results c) = among_each (one (has Seated q) none) c
   in_coded (handles q x) (further i) = in_coded x i
-  in_coded (allocs q x) (in_args c) = among_each none c
-  in_coded (allocs q x) (in_results c) = among_each (one (has New q) none) c
-  in_coded (allocs q x) (further i) = in_coded x i
+  in_coded (allocs q v x) (in_args c) = among_each none c
+  in_coded (allocs q v x) (in_results c) = among_each (one (has New q) none) c
+  in_coded (allocs q v x) (further i) = in_coded x i
 
 pub listed_in : {Q : Role → Reg → Type 0} (u : Role) (rs : List Reg) → ((t : Role) (r : Reg) → Listed u rs t r → Q t r) → Each (HasRole Q) rs
 listed_in u [] own = none

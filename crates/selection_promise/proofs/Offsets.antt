@@ -32,7 +32,7 @@ use Rattle.selection_rules.specs.Select.{Code, Shape, InRegisters, ConstantRight
 use Rattle.selection_rules.proofs.Rows.{regs_length, count_width}
 use Rattle.selection_laws.proofs.Constants.{word_12}
 use Rattle.selection_places.proofs.Whole.{value_at, params_of, env_of}
-use Rattle.selection_promise.specs.Selects.{OffsetFits}
+use Rattle.pass_rules.specs.Carried.{OffsetFits}
 
 -- ---- offsets of addresses
 

@@ -21,7 +21,7 @@ use Rattle.selection_laws.proofs.Accepting.{left, right, accepted_fits}
 use Rattle.selection_laws.proofs.Proper.{selected_seated}
 use Rattle.selection_laws.proofs.Widths.{few_numbers}
 use Rattle.selection_places.proofs.Formed.{selected_well_formed}
-use Rattle.selection_places.proofs.Fresh.{selected_allocates}
+use Rattle.selection_places.proofs.Fresh.{selected_allocates, selected_starts}
 use Rattle.selection_places.proofs.NamedOnes.{selected_symbols, selected_externals}
 use Rattle.selection_places.proofs.Opens.{selected_open_by_tokens}
 use Rattle.selection_places.proofs.Placed.{selected_placed}
@@ -108,6 +108,7 @@ promised defined f is =
       no_slot = selected_no_slot f;
       origins = selected_origin f;
       allocates = selected_allocates f;
+      starts = selected_starts f;
       open_registers = selected_open_by_tokens defined f fits typed covered.tokens_cover;
       no_addr = accepted_no_addr defined f fits typed is.settled;
       tries = selected_tries f;

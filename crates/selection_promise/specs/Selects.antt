@@ -1,6 +1,7 @@
 -- What selection promises of the Mach function that it makes of a function of an accepted file.
-use Rattle.std.specs.Prelude.{◌≡◌, ◌≢◌, ℕ, ◌-◌, ◌*◌, ◌^◌, ◌<◌, ◌≤◌, List, ◌∷◌, length, Option, All}
+use Rattle.std.specs.Prelude.{◌≡◌, ◌≢◌, ℕ, ◌-◌, ◌*◌, List, Option, All, Contains}
 use Rattle.bs_words.specs.External.{External}
+use Rattle.bs_words.specs.declared.types.Comp.TheVariants as comp
 use Rattle.bs_words.specs.declared.types.Loc.TheVariants as loc
 use Rattle.cmm_grammar.specs.Covered.{IsCovered}
 use Rattle.cmm_tree.specs.Measures.{all_tries}
@@ -11,18 +12,18 @@ use Rattle.cmm_walks.specs.AddrLive.{IsLiveIn}
 use Rattle.correctness.specs.Measures.{tries}
 use Rattle.mach_ir.specs.Formed.{WellFormed, comps}
 use Rattle.mach_ir.specs.Keeps.{IsNamedIn, NamesSymbol, NamesExternal}
-use Rattle.mach_ir.specs.Meaning.{tries_at}
 use Rattle.mach_ir.specs.Placed.{WellPlaced, AllocatesFresh}
 use Rattle.mach_ir.specs.Seats.{Seated}
 use Rattle.mach_ir.specs.Sizes.{Size, HasSize, IsSmall, OpenAtMost}
-use Rattle.mach_ir.specs.Walks.{IsRegister, NoAddrLive, Stands}
+use Rattle.mach_ir.specs.Walks.{IsRegister, NoAddrLive}
+use Rattle.mach_ir.specs.declared.blocks.NewBlock.{NewBlock}
 use Rattle.mach_ir.specs.declared.mach.Instr.{Instr}
 use Rattle.mach_ir.specs.declared.mach.Mach.{Mach}
-use Rattle.mach_ir.specs.declared.mach.MachOp.{MachOp}
 use Rattle.mach_ir.specs.declared.mach.MachOp.TheVariants as mach
 use Rattle.mach_ir.specs.declared.op.Access.TheVariants as access
 use Rattle.mach_ir.specs.declared.op.Op.TheVariants as op
 use Rattle.mach_ir.specs.declared.reg.Reg.{Reg}
+use Rattle.pass_rules.specs.Carried.{TriesAtMost, OffsetFits}
 use Rattle.selection_laws.specs.Accepted.{Accepted}
 use Rattle.selection_places.specs.Names.{FunctionNames, FunctionCalls}
 use Rattle.selection_promise.specs.Runs.{PlaysAs}
@@ -46,17 +47,6 @@ size_by tokens =
       labels = 23 * tokens;
     }
 
--- no more than so many tries stand round each place of the code
-abbrev pub TriesAtMost : Mach → ℕ → Type 0
-TriesAtMost m most =
-    (i : Instr) (next : List Instr) → Stands i next m.code → length (tries_at (i ∷ next)) ≤ most
-
--- the offset of a load or of a store is a word
-abbrev pub OffsetFits : MachOp → Type 0
-OffsetFits (mach.Op (op.Access (access.Load chunk offset))) = offset < 2 ^ 64
-OffsetFits (mach.Op (op.Access (access.Store chunk offset))) = offset < 2 ^ 64
-OffsetFits _ = Unit {0}
-
 pub record Selects (f : FunctionTree) (m : Mach) : Type 0 where
   -- its name, its parameters and its result are those of the text
   pub name : m.name ≡ f.name
@@ -71,8 +61,11 @@ pub record Selects (f : FunctionTree) (m : Mach) : Type 0 where
   pub placed : WellPlaced m
   pub no_slot : (r : Reg) → IsRegister m r → (slot : ℕ) → r.loc ≢ loc.Slot slot
   pub origins : (r : Reg) → IsRegister m r → r.origin ≡ r.number
-  -- what an allocation writes is a register of its own
+  -- what an allocation writes is a register of its own, of component val
   pub allocates : AllocatesFresh m
+  pub starts : (i : Instr) (blocks : List NewBlock) → Contains m.code i →
+      i.op ≡ mach.Op (op.Access (access.Alloc blocks)) → (r : Reg) → Contains i.results r →
+      r.comp ≡ comp.Val
   -- at most two open registers for each token, where a try takes a token less
   pub open_registers : OpenAtMost m (2 * (f.tokens - all_tries f.body))
   pub no_addr : NoAddrLive m
