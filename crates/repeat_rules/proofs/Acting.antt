@@ -31,7 +31,7 @@ pub record Grown (x y : Around) : Type 0 where
   pub further : List ℕ
   pub same : sizes y.memory ≡ sizes x.memory ++ further
 
-as_it_was : (x : Around) → Grown x x
+pub as_it_was : (x : Around) → Grown x x
 as_it_was x = record { further = []; same = sym (append-nil (sizes x.memory)) }
 
 grown_on : {x y z : Around} → Grown x y → Grown y z → Grown x z

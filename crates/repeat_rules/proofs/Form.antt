@@ -286,305 +286,290 @@ in_front (x ∷ xs) ys y c =
     ⊎_elim (λ e. subst (Contains (x ∷ (xs ++ ys))) e (first_in x (xs ++ ys)))
     (λ d. later_in x y (xs ++ ys) (in_front xs ys y d)) (in_cons x y xs c)
 
--- ---- registers
-
-module _ (m : Mach) (plan : ℕ → Option Reg)
-    (moves : (i : Instr) (next made : List Instr) → IsBefore plan m i next made → is_operator i.op ≡ true → (r : Reg) →
-    plan (length next) ≡ Some r → Repeats made i r) where
+module _ (m : Mach) (plan : ℕ → Option Reg) where
   abbrev q : Mach
   q = record m { code = expand (in_place plan) m.code }
 
   abbrev g : ℕ → Instr → List Instr
   g = in_place plan
 
-  code_results : {i : Instr} {next code : List Instr} {r : Reg} → Stands i next code → Contains i.results r → InCode r code
-  code_results here c = in_results c
-  code_results (below s) c = further (code_results s c)
+  module _ (moves : (i : Instr) (next made : List Instr) → IsBefore plan m i next made → is_operator i.op ≡ true → (r : Reg) →
+      plan (length next) ≡ Some r → Repeats made i r) where
+    code_results : {i : Instr} {next code : List Instr} {r : Reg} → Stands i next code → Contains i.results r → InCode r code
+    code_results here c = in_results c
+    code_results (below s) c = further (code_results s c)
 
-  code_args : {i : Instr} {next code : List Instr} {r : Reg} → Stands i next code → Contains i.args r → InCode r code
-  code_args here c = in_args c
-  code_args (below s) c = further (code_args s c)
+    code_args : {i : Instr} {next code : List Instr} {r : Reg} → Stands i next code → Contains i.args r → InCode r code
+    code_args here c = in_args c
+    code_args (below s) c = further (code_args s c)
 
-  -- the result of an operator of the second
-  pub operator_result : (j : Instr) (r : Reg) → Contains q.code j → is_operator j.op ≡ true → Contains j.results r → IsRegister m r
-  operator_result j r c o d =
-      let s = stands_in q.code j c in of_main (was_main plan m.code j s.0 s.1)
-    where
-      of_main : {zs : List Instr} → IsMain plan j zs m.code → IsRegister m r
-      of_main w = of_fate (fate plan (length w.next) w.instr)
-        where
-          of_fate : Fate plan (length w.next) w.instr → IsRegister m r
-          of_fate (unchanged e h) =
-              is_in_code (code_results w.stands (subst (λ (x : Instr). Contains x.results r) (sym (sym e ∙ w.same)) d))
-          of_fate (moved k g h e) =
-              absurd (differ (is_operator j.op) o (ap (λ (x : Instr). is_operator x.op) (sym (sym e ∙ w.same))))
+    -- the result of an operator of the second
+    pub operator_result : (j : Instr) (r : Reg) → Contains q.code j → is_operator j.op ≡ true → Contains j.results r → IsRegister m r
+    operator_result j r c o d =
+        let s = stands_in q.code j c in of_main (was_main plan m.code j s.0 s.1)
+      where
+        of_main : {zs : List Instr} → IsMain plan j zs m.code → IsRegister m r
+        of_main w = of_fate (fate plan (length w.next) w.instr)
+          where
+            of_fate : Fate plan (length w.next) w.instr → IsRegister m r
+            of_fate (unchanged e h) =
+                is_in_code (code_results w.stands (subst (λ (x : Instr). Contains x.results r) (sym (sym e ∙ w.same)) d))
+            of_fate (moved k g h e) =
+                absurd (differ (is_operator j.op) o (ap (λ (x : Instr). is_operator x.op) (sym (sym e ∙ w.same))))
 
-  -- what is moved from
-  pub moved_from : (i : Instr) (next : List Instr) (r : Reg) → Stands i next m.code → is_operator i.op ≡ true → plan (length next) ≡ Some r →
-      IsRegister m r
-  moved_from i next r s o e =
-      let b = before_of plan s in
-      let w = moves i next b.made (record { before = b.before; whole = b.whole; made_so = b.made_so }) o r e in
-      let t = w.stands in
-      operator_result w.earlier r
-      (subst (λ xs. Contains xs w.earlier) (sym b.made_so)
-      (in_front b.made (again plan (length next) i ∷ expand g next) w.earlier
-      (subst (λ xs. Contains xs w.earlier) (sym t.within) (in_append t.others w.earlier t.run))))
-      t.operates (subst (λ rs. Contains rs r) (sym t.result) (first_in r []))
+    -- what is moved from
+    pub moved_from : (i : Instr) (next : List Instr) (r : Reg) → Stands i next m.code → is_operator i.op ≡ true → plan (length next) ≡ Some r →
+        IsRegister m r
+    moved_from i next r s o e =
+        let b = before_of plan s in
+        let w = moves i next b.made (record { before = b.before; whole = b.whole; made_so = b.made_so }) o r e in
+        let t = w.stands in
+        operator_result w.earlier r
+        (subst (λ xs. Contains xs w.earlier) (sym b.made_so)
+        (in_front b.made (again plan (length next) i ∷ expand g next) w.earlier
+        (subst (λ xs. Contains xs w.earlier) (sym t.within) (in_append t.others w.earlier t.run))))
+        t.operates (subst (λ rs. Contains rs r) (sym t.result) (first_in r []))
 
-  in_code_stands : {r : Reg} (code : List Instr) → InCode r code →
-      (j : Instr) × (zs : List Instr) × Stands j zs code × (Contains j.args r ⊎ Contains j.results r)
-  in_code_stands [] c = elim c [ ]
-  in_code_stands (i ∷ is) (in_args c) = (i, is, here, inl c)
-  in_code_stands (i ∷ is) (in_results c) = (i, is, here, inr c)
-  in_code_stands (i ∷ is) (further c) = let w = in_code_stands is c in (w.0, w.1, below w.2, w.3)
+    in_code_stands : {r : Reg} (code : List Instr) → InCode r code →
+        (j : Instr) × (zs : List Instr) × Stands j zs code × (Contains j.args r ⊎ Contains j.results r)
+    in_code_stands [] c = elim c [ ]
+    in_code_stands (i ∷ is) (in_args c) = (i, is, here, inl c)
+    in_code_stands (i ∷ is) (in_results c) = (i, is, here, inr c)
+    in_code_stands (i ∷ is) (further c) = let w = in_code_stands is c in (w.0, w.1, below w.2, w.3)
 
-  pub was_register : (r : Reg) → IsRegister q r → IsRegister m r
-  was_register r (is_param c) = is_param c
-  was_register r (is_colour c) = is_colour c
-  was_register r (is_in_code c) = let w = in_code_stands q.code c in of_main (was_main plan m.code w.0 w.1 w.2) w.3
-    where
-      only_one : (k r : Reg) → Contains (k ∷ []) r → k ≡ r
-      only_one k r c = ⊎_elim (λ e. e) (λ d. absurd (none_in r d)) (in_cons k r [] c)
+    pub was_register : (r : Reg) → IsRegister q r → IsRegister m r
+    was_register r (is_param c) = is_param c
+    was_register r (is_colour c) = is_colour c
+    was_register r (is_in_code c) = let w = in_code_stands q.code c in of_main (was_main plan m.code w.0 w.1 w.2) w.3
+      where
+        only_one : (k r : Reg) → Contains (k ∷ []) r → k ≡ r
+        only_one k r c = ⊎_elim (λ e. e) (λ d. absurd (none_in r d)) (in_cons k r [] c)
 
-      of_main : {j : Instr} {zs : List Instr} → IsMain plan j zs m.code → Contains j.args r ⊎ Contains j.results r → IsRegister m r
-      of_main {j} w d = of_fate (fate plan (length w.next) w.instr) d
-        where
-          of_fate : Fate plan (length w.next) w.instr → Contains j.args r ⊎ Contains j.results r → IsRegister m r
-          of_fate (unchanged e h) (inl a) =
-              is_in_code (code_args w.stands (subst (λ (x : Instr). Contains x.args r) (sym (sym e ∙ w.same)) a))
-          of_fate (moved k g h e) (inl a) =
-              subst (IsRegister m)
-              (only_one k r (subst (λ (x : Instr). Contains x.args r) (sym (sym e ∙ w.same)) a))
-              (moved_from w.instr w.next k w.stands g h)
-          of_fate (unchanged e h) (inr a) =
-              is_in_code (code_results w.stands (subst (λ (x : Instr). Contains x.results r) (sym (sym e ∙ w.same)) a))
-          of_fate (moved k g h e) (inr a) =
-              is_in_code (code_results w.stands (subst (λ (x : Instr). Contains x.results r) (sym (sym e ∙ w.same)) a))
+        of_main : {j : Instr} {zs : List Instr} → IsMain plan j zs m.code → Contains j.args r ⊎ Contains j.results r → IsRegister m r
+        of_main {j} w d = of_fate (fate plan (length w.next) w.instr) d
+          where
+            of_fate : Fate plan (length w.next) w.instr → Contains j.args r ⊎ Contains j.results r → IsRegister m r
+            of_fate (unchanged e h) (inl a) =
+                is_in_code (code_args w.stands (subst (λ (x : Instr). Contains x.args r) (sym (sym e ∙ w.same)) a))
+            of_fate (moved k g h e) (inl a) =
+                subst (IsRegister m)
+                (only_one k r (subst (λ (x : Instr). Contains x.args r) (sym (sym e ∙ w.same)) a))
+                (moved_from w.instr w.next k w.stands g h)
+            of_fate (unchanged e h) (inr a) =
+                is_in_code (code_results w.stands (subst (λ (x : Instr). Contains x.results r) (sym (sym e ∙ w.same)) a))
+            of_fate (moved k g h e) (inr a) =
+                is_in_code (code_results w.stands (subst (λ (x : Instr). Contains x.results r) (sym (sym e ∙ w.same)) a))
 
-module _ (m : Mach) (plan : ℕ → Option Reg)
-    (stays : (i : Instr) (next made : List Instr) → IsBefore plan m i next made → plan (length next) ≡ None → (r : Reg) →
-    Repeats made i r → ⊥) where
-  abbrev q : Mach
-  q = record m { code = expand (in_place plan) m.code }
+  module _ (stays : (i : Instr) (next made : List Instr) → IsBefore plan m i next made → plan (length next) ≡ None → (r : Reg) →
+      Repeats made i r → ⊥) where
+    -- ---- none is left
 
-  abbrev g : ℕ → Instr → List Instr
-  g = in_place plan
+    -- an instruction of the second, by the code before it
+    record Split (code made : List Instr) (j : Instr) : Type 0 where
+      instr : Instr
+      next : List Instr
+      before : List Instr
+      stands : code ≡ before ++ instr ∷ next
+      same : again plan (length next) instr ≡ j
+      whole : expand g code ≡ made ++ again plan (length next) instr ∷ expand g next
 
-  -- ---- none is left
+    pub head_of : {x y : Instr} {xs ys : List Instr} → x ∷ xs ≡ y ∷ ys → x ≡ y
+    head_of e = cc
 
-  -- an instruction of the second, by the code before it
-  record Split (code made : List Instr) (j : Instr) : Type 0 where
-    instr : Instr
-    next : List Instr
-    before : List Instr
-    stands : code ≡ before ++ instr ∷ next
-    same : again plan (length next) instr ≡ j
-    whole : expand g code ≡ made ++ again plan (length next) instr ∷ expand g next
+    pub tail_of : {x y : Instr} {xs ys : List Instr} → x ∷ xs ≡ y ∷ ys → xs ≡ ys
+    tail_of e = cc
 
-  pub head_of : {x y : Instr} {xs ys : List Instr} → x ∷ xs ≡ y ∷ ys → x ≡ y
-  head_of e = cc
+    pub none_there : {x : Instr} {xs : List Instr} → [] ≡ x ∷ xs → ⊥
+    none_there e = cc
 
-  pub tail_of : {x y : Instr} {xs ys : List Instr} → x ∷ xs ≡ y ∷ ys → xs ≡ ys
-  tail_of e = cc
+    split_at : (code made : List Instr) (j : Instr) (zs : List Instr) → expand g code ≡ made ++ j ∷ zs → Split code made j
+    split_at [] [] j zs e = absurd (none_there e)
+    split_at [] (x ∷ made) j zs e = absurd (none_there e)
+    split_at (i ∷ is) [] j zs e =
+        record { instr = i; next = is; before = []; stands = refl; same = head_of e; whole = refl }
+    split_at (i ∷ is) (x ∷ made) j zs e =
+        let w = split_at is made j zs (tail_of e) in
+        record {
+          instr = w.instr;
+          next = w.next;
+          before = i ∷ w.before;
+          stands = ap (λ xs. i ∷ xs) w.stands;
+          same = w.same;
+          whole = ap (λ y. y ∷ expand g is) (head_of e) ∙ ap (λ xs. x ∷ xs) w.whole;
+        }
 
-  pub none_there : {x : Instr} {xs : List Instr} → [] ≡ x ∷ xs → ⊥
-  none_there e = cc
+    pub left_none : (made : List Instr) (j : Instr) (zs : List Instr) → q.code ≡ made ++ j ∷ zs → (r : Reg) → Repeats made j r → ⊥
+    left_none made j zs e r w = of_split (split_at m.code made j zs e)
+      where
+        operates : is_operator j.op ≡ true
+        operates = ap is_operator (sym w.same_op) ∙ (w.stands).operates
 
-  split_at : (code made : List Instr) (j : Instr) (zs : List Instr) → expand g code ≡ made ++ j ∷ zs → Split code made j
-  split_at [] [] j zs e = absurd (none_there e)
-  split_at [] (x ∷ made) j zs e = absurd (none_there e)
-  split_at (i ∷ is) [] j zs e =
-      record { instr = i; next = is; before = []; stands = refl; same = head_of e; whole = refl }
-  split_at (i ∷ is) (x ∷ made) j zs e =
-      let w = split_at is made j zs (tail_of e) in
-      record {
-        instr = w.instr;
-        next = w.next;
-        before = i ∷ w.before;
-        stands = ap (λ xs. i ∷ xs) w.stands;
-        same = w.same;
-        whole = ap (λ y. y ∷ expand g is) (head_of e) ∙ ap (λ xs. x ∷ xs) w.whole;
-      }
+        of_split : Split m.code made j → ⊥
+        of_split t = of_fate (fate plan (length t.next) t.instr)
+          where
+            of_fate : Fate plan (length t.next) t.instr → ⊥
+            of_fate (unchanged h k) =
+                let same : t.instr ≡ j = sym h ∙ t.same in
+                stays t.instr t.next made (record { before = t.before; whole = t.stands; made_so = t.whole })
+                (k (ap (λ (x : Instr). is_operator x.op) same ∙ operates)) r
+                (subst (λ x. Repeats made x r) (sym same) w)
+            of_fate (moved k g h d) =
+                differ (is_operator j.op) operates (ap (λ (x : Instr). is_operator x.op) (sym (sym d ∙ t.same)))
 
-  pub left_none : (made : List Instr) (j : Instr) (zs : List Instr) → q.code ≡ made ++ j ∷ zs → (r : Reg) → Repeats made j r → ⊥
-  left_none made j zs e r w = of_split (split_at m.code made j zs e)
-    where
-      operates : is_operator j.op ≡ true
-      operates = ap is_operator (sym w.same_op) ∙ (w.stands).operates
+  module _ (formed : WellFormed m)
+      (moves : (i : Instr) (next made : List Instr) → IsBefore plan m i next made → is_operator i.op ≡ true → (r : Reg) →
+      plan (length next) ≡ Some r → Repeats made i r)
+      (stays : (i : Instr) (next made : List Instr) → IsBefore plan m i next made → plan (length next) ≡ None → (r : Reg) →
+      Repeats made i r → ⊥) where
+    was : (r : Reg) → IsRegister q r → IsRegister m r
+    was r i = was_register moves r i
 
-      of_split : Split m.code made j → ⊥
-      of_split t = of_fate (fate plan (length t.next) t.instr)
-        where
-          of_fate : Fate plan (length t.next) t.instr → ⊥
-          of_fate (unchanged h k) =
-              let same : t.instr ≡ j = sym h ∙ t.same in
-              stays t.instr t.next made (record { before = t.before; whole = t.stands; made_so = t.whole })
-              (k (ap (λ (x : Instr). is_operator x.op) same ∙ operates)) r
-              (subst (λ x. Repeats made x r) (sym same) w)
-          of_fate (moved k g h d) =
-              differ (is_operator j.op) operates (ap (λ (x : Instr). is_operator x.op) (sym (sym d ∙ t.same)))
+    form_of : (i : Instr) → Contains m.code i → IsFormed i
+    form_of i c = of_each IsFormed m.code i formed.instrs c
 
-module _ (m : Mach) (plan : ℕ → Option Reg) (formed : WellFormed m)
-    (moves : (i : Instr) (next made : List Instr) → IsBefore plan m i next made → is_operator i.op ≡ true → (r : Reg) →
-    plan (length next) ≡ Some r → Repeats made i r)
-    (stays : (i : Instr) (next made : List Instr) → IsBefore plan m i next made → plan (length next) ≡ None → (r : Reg) →
-    Repeats made i r → ⊥) where
-  abbrev q : Mach
-  q = record m { code = expand (in_place plan) m.code }
+    -- ---- each instruction
 
-  abbrev g : ℕ → Instr → List Instr
-  g = in_place plan
+    each_in : (P : Instr → Type 0) → ((k : ℕ) (i : Instr) → Contains m.code i → P (again plan k i)) → (j : Instr) → Contains q.code j → P j
+    each_in P h j c =
+        let s = stands_in q.code j c in
+        let w = was_main plan m.code j s.0 s.1 in
+        subst P w.same (h (length w.next) w.instr (contains_of w.stands))
 
-  was : (r : Reg) → IsRegister q r → IsRegister m r
-  was r i = was_register m plan moves r i
+    all_in : (P : Instr → Type 0) → ((k : ℕ) (i : Instr) → Contains m.code i → P (again plan k i)) → All P q.code
+    all_in P h = λ k d lt. each_in P h (slice_index_or q.code k d) (Contains-get_or q.code k d lt)
 
-  form_of : (i : Instr) → Contains m.code i → IsFormed i
-  form_of i c = of_each IsFormed m.code i formed.instrs c
+    formed_again : (k : ℕ) (i : Instr) → Contains m.code i → IsFormed (again plan k i)
+    formed_again k i c = by (fate plan k i)
+      where
+        by : Fate plan k i → IsFormed (again plan k i)
+        by (unchanged e h) = subst IsFormed (sym e) (form_of i c)
+        by (moved r g h e) =
+            let t = operator_form (form_of i c) g in
+            subst IsFormed (sym e)
+            (formed_op (subst (λ cs. HasForm (op.Pure (pure.Copy copy.Move)) (r.comp ∷ []) cs) (sym t.result) form.copies))
 
-  -- ---- each instruction
+    plain : (j : Instr) (zs : List Instr) → Stands j zs q.code → (IsPure j.op → ⊥) → IsPlain plan j zs m.code
+    plain j zs s impure = was_plain plan m.code j zs s impure
 
-  each_in : (P : Instr → Type 0) → ((k : ℕ) (i : Instr) → Contains m.code i → P (again plan k i)) → (j : Instr) → Contains q.code j → P j
-  each_in P h j c =
-      let s = stands_in q.code j c in
-      let w = was_main plan m.code j s.0 s.1 in
-      subst P w.same (h (length w.next) w.instr (contains_of w.stands))
+    plain_in : (j : Instr) → Contains q.code j → (IsPure j.op → ⊥) → Contains m.code j
+    plain_in j c impure = let s = stands_in q.code j c in contains_of (plain j s.0 s.1 impure).stands
 
-  all_in : (P : Instr → Type 0) → ((k : ℕ) (i : Instr) → Contains m.code i → P (again plan k i)) → All P q.code
-  all_in P h = λ k d lt. each_in P h (slice_index_or q.code k d) (Contains-get_or q.code k d lt)
+    next_tries : {j : Instr} {zs : List Instr} (w : IsPlain plan j zs m.code) → tries_at zs ≡ tries_at w.next
+    next_tries w = ap tries_at w.same ∙ tries_expand g (keeps_marks plan) w.next
 
-  formed_again : (k : ℕ) (i : Instr) → Contains m.code i → IsFormed (again plan k i)
-  formed_again k i c = by (fate plan k i)
-    where
-      by : Fate plan k i → IsFormed (again plan k i)
-      by (unchanged e h) = subst IsFormed (sym e) (form_of i c)
-      by (moved r g h e) =
-          let t = operator_form (form_of i c) g in
-          subst IsFormed (sym e)
-          (formed_op (subst (λ cs. HasForm (op.Pure (pure.Copy copy.Move)) (r.comp ∷ []) cs) (sym t.result) form.copies))
+    main_tries : {j : Instr} {zs : List Instr} (w : IsPlain plan j zs m.code) → tries_at (j ∷ zs) ≡ tries_at (j ∷ w.next)
+    main_tries {j} w = ap (tries_past j.op) (next_tries w)
 
-  plain : (j : Instr) (zs : List Instr) → Stands j zs q.code → (IsPure j.op → ⊥) → IsPlain plan j zs m.code
-  plain j zs s impure = was_plain plan m.code j zs s impure
+    labels_stand : LabelsStand q
+    labels_stand =
+        record {
+          named = λ i zs s l o.
+              let w = plain i zs s (λ p. pure_leads p o) in place_there plan ((formed.labels).named i w.next w.stands l o);
+          forward = λ i zs s l o e.
+              let w = plain i zs s (λ p. pure_leads p o) in
+              subst (HasPlace l) (sym w.same) (place_there plan ((formed.labels).forward i w.next w.stands l o e));
+          handlers = λ i zs s l end e.
+              let w = plain i zs s (λ p. pure_mark (mark.Leave l end) p e) in
+              subst (HasHandler l) (sym w.same) (handler_there plan ((formed.labels).handlers i w.next w.stands l end e));
+        }
 
-  plain_in : (j : Instr) → Contains q.code j → (IsPure j.op → ⊥) → Contains m.code j
-  plain_in j c impure = let s = stands_in q.code j c in contains_of (plain j s.0 s.1 impure).stands
+    nested : IsNested q
+    nested =
+        record {
+          at_entry = tries_expand g (keeps_marks plan) m.code ∙ (formed.nested).at_entry;
+          at_label = λ i zs s l o.
+              let w = plain i zs s (λ p. pure_leads p o) in
+              ap tries_at (label_expand g (keeps_marks plan) l m.code) ∙ tries_expand g (keeps_marks plan) (after_label l m.code)
+              ∙ (formed.nested).at_label i w.next w.stands l o ∙ ap (tries_left i.op) (sym (main_tries w));
+          at_try = λ i zs s l e.
+              let w = plain i zs s (λ p. pure_mark (mark.Try l) p e) in
+              next_tries w ∙ (formed.nested).at_try i w.next w.stands l e ∙ ap (λ ts. l ∷ ts) (sym (main_tries w));
+          at_handler = λ i zs s r l tries e.
+              let w = plain i zs s (λ p. pure_quiet p r) in
+              ap tries_at (handler_expand g (keeps_marks plan) l m.code) ∙ tries_expand g (keeps_marks plan) (from_handler l m.code)
+              ∙ (formed.nested).at_handler i w.next w.stands r l tries (sym (main_tries w) ∙ e);
+          at_own_handler = λ i zs s l e.
+              let w = plain i zs s (λ p. pure_mark (mark.Try l) p e) in
+              ap tries_at (handler_expand g (keeps_marks plan) l m.code) ∙ tries_expand g (keeps_marks plan) (from_handler l m.code)
+              ∙ (formed.nested).at_own_handler i w.next w.stands l e ∙ sym (main_tries w);
+          at_exit = λ i zs s l n e.
+              let w = plain i zs s (λ p. pure_mark (mark.Exit l n) p e) in
+              subst (λ ts. n ≤ length ts) (sym (main_tries w)) ((formed.nested).at_exit i w.next w.stands l n e);
+          at_end = λ i zs s e.
+              let w = plain i zs s (λ p. pure_stays p e) in main_tries w ∙ (formed.nested).at_end i w.next w.stands e;
+        }
 
-  next_tries : {j : Instr} {zs : List Instr} (w : IsPlain plan j zs m.code) → tries_at zs ≡ tries_at w.next
-  next_tries w = ap tries_at w.same ∙ tries_expand g (keeps_marks plan) w.next
+    mark_plain : (k : _) (i : Instr) → i.op ≡ mach.Mark k → is_operator i.op ≡ false
+    mark_plain k i e = ap is_operator e
 
-  main_tries : {j : Instr} {zs : List Instr} (w : IsPlain plan j zs m.code) → tries_at (j ∷ zs) ≡ tries_at (j ∷ w.next)
-  main_tries {j} w = ap (tries_past j.op) (next_tries w)
+    cases : CasesAgree q
+    cases =
+        record {
+          agree = λ i j c d labels indexes l end e h k.
+              (formed.cases).agree i j (plain_in i c (λ p. pure_mark (mark.Switch labels) p e))
+              (plain_in j d (λ p. pure_mark (mark.Case indexes l end) p h)) labels indexes l end e h k;
+          none = λ j d indexes l end e h.
+              (formed.cases).none j (plain_in j d (λ p. pure_mark (mark.Case indexes l end) p e)) indexes l end e
+              (λ i c labels o k. h i (contains_there plan m.code i (mark_plain (mark.Switch labels) i o) c) labels o k);
+        }
 
-  labels_stand : LabelsStand q
-  labels_stand =
-      record {
-        named = λ i zs s l o.
-            let w = plain i zs s (λ p. pure_leads p o) in place_there plan ((formed.labels).named i w.next w.stands l o);
-        forward = λ i zs s l o e.
-            let w = plain i zs s (λ p. pure_leads p o) in
-            subst (HasPlace l) (sym w.same) (place_there plan ((formed.labels).forward i w.next w.stands l o e));
-        handlers = λ i zs s l end e.
-            let w = plain i zs s (λ p. pure_mark (mark.Leave l end) p e) in
-            subst (HasHandler l) (sym w.same) (handler_there plan ((formed.labels).handlers i w.next w.stands l end e));
-      }
+    still_formed : WellFormed q
+    still_formed =
+        record {
+          numbers = λ r k i j e. formed.numbers r k (was r i) (was k j) e;
+          params = formed.params;
+          params_distinct = formed.params_distinct;
+          instrs = all_in IsFormed formed_again;
+          distinct = all_in (λ (i : Instr). AreDistinct i.results)
+              (λ k i c.
+              let d = of_each (λ (i : Instr). AreDistinct i.results) m.code i formed.distinct c in
+              either_way plan (λ (i : Instr). AreDistinct i.results) k i d (λ r. d));
+          returns = λ i c e. formed.returns i (plain_in i c (λ p. pure_returns p e)) e;
+          labels_once = subst (λ ls. AllPairs (λ k l. k ≢ l) ls) (sym (same_labels plan m.code)) formed.labels_once;
+          labels_below = subst (λ ls. All (λ l. l < m.labels) ls) (sym (same_labels plan m.code)) formed.labels_below;
+          labels = labels_stand;
+          nested = nested;
+          cases = cases;
+        }
 
-  nested : IsNested q
-  nested =
-      record {
-        at_entry = tries_expand g (keeps_marks plan) m.code ∙ (formed.nested).at_entry;
-        at_label = λ i zs s l o.
-            let w = plain i zs s (λ p. pure_leads p o) in
-            ap tries_at (label_expand g (keeps_marks plan) l m.code) ∙ tries_expand g (keeps_marks plan) (after_label l m.code)
-            ∙ (formed.nested).at_label i w.next w.stands l o ∙ ap (tries_left i.op) (sym (main_tries w));
-        at_try = λ i zs s l e.
-            let w = plain i zs s (λ p. pure_mark (mark.Try l) p e) in
-            next_tries w ∙ (formed.nested).at_try i w.next w.stands l e ∙ ap (λ ts. l ∷ ts) (sym (main_tries w));
-        at_handler = λ i zs s r l tries e.
-            let w = plain i zs s (λ p. pure_quiet p r) in
-            ap tries_at (handler_expand g (keeps_marks plan) l m.code) ∙ tries_expand g (keeps_marks plan) (from_handler l m.code)
-            ∙ (formed.nested).at_handler i w.next w.stands r l tries (sym (main_tries w) ∙ e);
-        at_own_handler = λ i zs s l e.
-            let w = plain i zs s (λ p. pure_mark (mark.Try l) p e) in
-            ap tries_at (handler_expand g (keeps_marks plan) l m.code) ∙ tries_expand g (keeps_marks plan) (from_handler l m.code)
-            ∙ (formed.nested).at_own_handler i w.next w.stands l e ∙ sym (main_tries w);
-        at_exit = λ i zs s l n e.
-            let w = plain i zs s (λ p. pure_mark (mark.Exit l n) p e) in
-            subst (λ ts. n ≤ length ts) (sym (main_tries w)) ((formed.nested).at_exit i w.next w.stands l n e);
-        at_end = λ i zs s e.
-            let w = plain i zs s (λ p. pure_stays p e) in main_tries w ∙ (formed.nested).at_end i w.next w.stands e;
-      }
+    still_seated : Seated m → Seated q
+    still_seated seated =
+        record {
+          params = seated.params;
+          operands = each_in (λ (i : Instr). AreSeated (mach_operand_seats i.op) (places_of i.args))
+              (λ k i c.
+              either_way plan (λ (i : Instr). AreSeated (mach_operand_seats i.op) (places_of i.args)) k i (seated.operands i c)
+              (λ r. anywhere));
+          results = each_in (λ (i : Instr). AreSeated (mach_result_seats i.op) (places_of i.results))
+              (λ k i c.
+              either_way plan (λ (i : Instr). AreSeated (mach_result_seats i.op) (places_of i.results)) k i (seated.results i c)
+              (λ r. anywhere));
+        }
 
-  mark_plain : (k : _) (i : Instr) → i.op ≡ mach.Mark k → is_operator i.op ≡ false
-  mark_plain k i e = ap is_operator e
+    smaller : (s : Size) → HasSize m s → HasSize q s
+    smaller s h =
+        let a = same_length plan m.code in
+        let b = fewer plan m.code form_of in
+        let c = h.instrs in
+        let d = h.operands in
+        record {
+          instrs = omega (arith, a, c);
+          operands = omega (arith, b, d);
+          numbers = λ r i. h.numbers r (was r i);
+          origins = λ r i. h.origins r (was r i);
+          labels = h.labels;
+        }
 
-  cases : CasesAgree q
-  cases =
-      record {
-        agree = λ i j c d labels indexes l end e h k.
-            (formed.cases).agree i j (plain_in i c (λ p. pure_mark (mark.Switch labels) p e))
-            (plain_in j d (λ p. pure_mark (mark.Case indexes l end) p h)) labels indexes l end e h k;
-        none = λ j d indexes l end e h.
-            (formed.cases).none j (plain_in j d (λ p. pure_mark (mark.Case indexes l end) p e)) indexes l end e
-            (λ i c labels o k. h i (contains_there plan m.code i (mark_plain (mark.Switch labels) i o) c) labels o k);
-      }
-
-  still_formed : WellFormed q
-  still_formed =
-      record {
-        numbers = λ r k i j e. formed.numbers r k (was r i) (was k j) e;
-        params = formed.params;
-        params_distinct = formed.params_distinct;
-        instrs = all_in IsFormed formed_again;
-        distinct = all_in (λ (i : Instr). AreDistinct i.results)
-            (λ k i c.
-            let d = of_each (λ (i : Instr). AreDistinct i.results) m.code i formed.distinct c in
-            either_way plan (λ (i : Instr). AreDistinct i.results) k i d (λ r. d));
-        returns = λ i c e. formed.returns i (plain_in i c (λ p. pure_returns p e)) e;
-        labels_once = subst (λ ls. AllPairs (λ k l. k ≢ l) ls) (sym (same_labels plan m.code)) formed.labels_once;
-        labels_below = subst (λ ls. All (λ l. l < m.labels) ls) (sym (same_labels plan m.code)) formed.labels_below;
-        labels = labels_stand;
-        nested = nested;
-        cases = cases;
-      }
-
-  still_seated : Seated m → Seated q
-  still_seated seated =
-      record {
-        params = seated.params;
-        operands = each_in (λ (i : Instr). AreSeated (mach_operand_seats i.op) (places_of i.args))
-            (λ k i c.
-            either_way plan (λ (i : Instr). AreSeated (mach_operand_seats i.op) (places_of i.args)) k i (seated.operands i c)
-            (λ r. anywhere));
-        results = each_in (λ (i : Instr). AreSeated (mach_result_seats i.op) (places_of i.results))
-            (λ k i c.
-            either_way plan (λ (i : Instr). AreSeated (mach_result_seats i.op) (places_of i.results)) k i (seated.results i c)
-            (λ r. anywhere));
-      }
-
-  smaller : (s : Size) → HasSize m s → HasSize q s
-  smaller s h =
-      let a = same_length plan m.code in
-      let b = fewer plan m.code form_of in
-      let c = h.instrs in
-      let d = h.operands in
-      record {
-        instrs = omega (arith, a, c);
-        operands = omega (arith, b, d);
-        numbers = λ r i. h.numbers r (was r i);
-        origins = λ r i. h.origins r (was r i);
-        labels = h.labels;
-      }
-
-  pub kept_by : IsFormKept m (record m { code = expand (in_place plan) m.code })
-  kept_by =
-      record {
-        formed = still_formed;
-        seated = still_seated;
-        params = refl;
-        registers = was;
-        none_left = left_none m plan stays;
-        size = smaller;
-      }
+    pub kept_by : IsFormKept m (record m { code = expand (in_place plan) m.code })
+    kept_by =
+        record {
+          formed = still_formed;
+          seated = still_seated;
+          params = refl;
+          registers = was;
+          none_left = left_none stays;
+          size = smaller;
+        }
 
 pub form_kept : (m q : Mach) → WellFormed m → IsRepeated m q → IsFormKept m q
 form_kept m q formed r = subst (IsFormKept m) (sym r.is) (kept_by m r.plan formed r.moves r.stays)

@@ -76,9 +76,9 @@ module _ (m : Mach) (plan : ℕ → Option Reg) (c : Place) where
   -- what straight code goes on with
   pub calm : (i : Instr) (a : File) → is_straight i.op ≡ true → allocates i.op ≡ false →
       clear (killed m i) (past_frame (passes_frame i.op) a) ≡ a
-  calm i a st no =
+  calm i a st none =
       ap (λ ks. clear ks (past_frame (passes_frame i.op) a)) (straight_kills m i st)
-      ∙ ap (λ t. past_frame t a) (straight_frame i.op st ∙ no)
+      ∙ ap (λ t. past_frame t a) (straight_frame i.op st ∙ none)
 
   -- an operator has just been done
   now : (j : Instr) (r : Reg) → is_operator j.op ≡ true → j.results ≡ r ∷ [] →

@@ -172,9 +172,9 @@ module _ (m : Mach) (plan : ℕ → Option Reg)
   on_back i next t ending free o w =
       ⊎_elim (λ l. inl (on free (goes t o) l)) (λ x. inr (stood_at t ending free x).before) w
 
-  aside_back : {n l : ℕ} (i : Instr) (next : List Instr) → Raises m i next (from_handler l m.code) →
+  aside_back : {n : ℕ} (l : ℕ) (i : Instr) (next : List Instr) → Raises m i next (from_handler l m.code) →
       Was n (from_handler l m.code) → Was n (i ∷ next)
-  aside_back {l = l} i next r w =
+  aside_back l i next r w =
       ⊎_elim (λ v. inl (aside r v)) (λ x. absurd (not_at_handler m plan l x.instr x.register x.standing)) w
 
   -- the same code by its head
@@ -200,7 +200,7 @@ module _ (m : Mach) (plan : ℕ → Option Reg)
   live_back {n} (aside {i = j} {next = zs} (raises {l = l} {tries = tries} r g) v) rest ending e =
       at_head rest ending e
       (λ i next end h.
-      aside_back i next
+      aside_back l i next
       (raise_there i next (subst (λ (x : Instr). may_raise x.op ≡ true) (head_same h) r) (ap tries_at (sym h) ∙ g))
       (live_back v (from_handler l m.code) (ending_from_handler l m.code) (handler_is l)))
 
