@@ -1,8 +1,7 @@
 -- What an operator gives, and what straight code leaves of it: blocks are only added.
-use Rattle.std.proofs.Common.{◌≡◌, ℕ, Bool, true, false, cond, ◌⊎◌, inl, inr, ⊎_elim, List, [], ◌∷◌, ◌++◌, length, map, Option, Some, None, Result, Ok, Err, refl, sym, ap, ◌∙◌, subst, append_assoc}
-use Rattle.std.proofs.lemmas.Bool.{true≢false}
+use Rattle.std.proofs.Common.{◌≡◌, ℕ, Bool, true, false, List, [], ◌∷◌, ◌++◌, length, map, Result, refl, sym, ap, ◌∙◌, subst, append_assoc}
 use Rattle.std.proofs.lemmas.List.{append-nil, map-append}
-use Rattle.bs_words.specs.Memory.{Memory, HeapBlock, sizes}
+use Rattle.bs_words.specs.Memory.{HeapBlock, sizes}
 use Rattle.bs_words.specs.Operators.{apply}
 use Rattle.bs_words.specs.declared.values.Kind.{Kind}
 use Rattle.bs_words.specs.declared.values.Value.{Value}

@@ -276,6 +276,15 @@ module _ (plan : ℕ → Option Reg) where
 
 -- ---- lists
 
+pub head_same : {x y : Instr} {xs ys : List Instr} → x ∷ xs ≡ y ∷ ys → x ≡ y
+head_same e = cc
+
+pub tail_same : {x y : Instr} {xs ys : List Instr} → x ∷ xs ≡ y ∷ ys → xs ≡ ys
+tail_same e = cc
+
+pub none_there : {x : Instr} {xs : List Instr} → [] ≡ x ∷ xs → ⊥
+none_there e = cc
+
 pub in_append : (xs : List Instr) (y : Instr) (ys : List Instr) → Contains (xs ++ y ∷ ys) y
 in_append [] y ys = first_in y ys
 in_append (x ∷ xs) y ys = later_in x y (xs ++ y ∷ ys) (in_append xs y ys)
@@ -373,29 +382,20 @@ module _ (m : Mach) (plan : ℕ → Option Reg) where
       same : again plan (length next) instr ≡ j
       whole : expand g code ≡ made ++ again plan (length next) instr ∷ expand g next
 
-    pub head_of : {x y : Instr} {xs ys : List Instr} → x ∷ xs ≡ y ∷ ys → x ≡ y
-    head_of e = cc
-
-    pub tail_of : {x y : Instr} {xs ys : List Instr} → x ∷ xs ≡ y ∷ ys → xs ≡ ys
-    tail_of e = cc
-
-    pub none_there : {x : Instr} {xs : List Instr} → [] ≡ x ∷ xs → ⊥
-    none_there e = cc
-
     split_at : (code made : List Instr) (j : Instr) (zs : List Instr) → expand g code ≡ made ++ j ∷ zs → Split code made j
     split_at [] [] j zs e = absurd (none_there e)
     split_at [] (x ∷ made) j zs e = absurd (none_there e)
     split_at (i ∷ is) [] j zs e =
-        record { instr = i; next = is; before = []; stands = refl; same = head_of e; whole = refl }
+        record { instr = i; next = is; before = []; stands = refl; same = head_same e; whole = refl }
     split_at (i ∷ is) (x ∷ made) j zs e =
-        let w = split_at is made j zs (tail_of e) in
+        let w = split_at is made j zs (tail_same e) in
         record {
           instr = w.instr;
           next = w.next;
           before = i ∷ w.before;
           stands = ap (λ xs. i ∷ xs) w.stands;
           same = w.same;
-          whole = ap (λ y. y ∷ expand g is) (head_of e) ∙ ap (λ xs. x ∷ xs) w.whole;
+          whole = ap (λ y. y ∷ expand g is) (head_same e) ∙ ap (λ xs. x ∷ xs) w.whole;
         }
 
     pub left_none : (made : List Instr) (j : Instr) (zs : List Instr) → q.code ≡ made ++ j ∷ zs → (r : Reg) → Repeats made j r → ⊥

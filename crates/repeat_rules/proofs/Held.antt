@@ -1,12 +1,12 @@
 -- A result that still stands holds what its operator would give now.
-use Rattle.std.proofs.Common.{◌≡◌, ◌≢◌, ℕ, Bool, true, false, cond, ◌⊎◌, inl, inr, ⊎_elim, List, [], ◌∷◌, length, Option, Some, None, refl, sym, ap, ◌∙◌, subst}
+use Rattle.std.proofs.Common.{◌≡◌, ◌≢◌, ℕ, Bool, true, false, cond, List, [], ◌∷◌, Option, Some, None, refl, sym, ap, ◌∙◌, subst}
 use Rattle.std.specs.List.{Contains}
 use Rattle.bs_words.specs.declared.types.Comp.{Comp}
 use Rattle.bs_words.specs.declared.types.Comp.TheVariants as comp
 use Rattle.bs_words.specs.declared.values.Value.{Value}
 use Rattle.combine_rules.proofs.Files.{PutAll, nil, cons, put_view, put_of, put_other, put_same, values_has, frame_loses}
 use Rattle.mach_ir.specs.Acts.{Around, On, Goes}
-use Rattle.mach_ir.specs.Meaning.{Held, File, put, put_all, clear, killed, values, with_held, past_frame, unless_addr, is_addr, passes_frame, destroyed_by, Nothing, killed_by, mach_act}
+use Rattle.mach_ir.specs.Meaning.{Held, File, put, put_all, clear, killed, values, past_frame, unless_addr, is_addr, passes_frame, mach_act}
 use Rattle.mach_ir.specs.Placed.{is_straight}
 use Rattle.mach_ir.specs.Runs.{Place}
 use Rattle.mach_ir.specs.Walks.{Among, first, later}
@@ -17,7 +17,7 @@ use Rattle.mach_laws.specs.Expand.{Ending}
 use Rattle.mach_laws.proofs.Walking.{first_in}
 use Rattle.repeat_rules.specs.Repeated.{is_operator, allocates, Ends, itself}
 use Rattle.repeat_rules.proofs.Form.{differ}
-use Rattle.repeat_rules.proofs.Acting.{Grown, OneValue, gives_value, gives_still}
+use Rattle.repeat_rules.proofs.Acting.{Grown, gives_value, gives_still}
 use Rattle.repeat_rules.proofs.Live.{numbered}
 use Rattle.repeat_rules.proofs.Standing.{operator_straight, operator_same, straight_kills, straight_frame, Standing, Earlier, just_now, earlier, earlier_of}
 

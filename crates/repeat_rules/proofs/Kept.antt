@@ -1,47 +1,35 @@
 -- A function whose repeats are moves does what it did, step by step, over registers that hold the same.
-use Rattle.std.proofs.Common.{◌≡◌, ◌≢◌, ℕ, Bool, true, false, inl, inr, ◌⊎◌, ⊎_elim, List, [], ◌∷◌, ◌++◌, length, Option, Some, None, refl, sym, ap, ◌∙◌, subst}
+use Rattle.std.proofs.Common.{◌≡◌, ℕ, true, false, inl, inr, ◌⊎◌, ⊎_elim, List, [], ◌∷◌, length, Option, Some, None, refl, sym, ap, ◌∙◌, subst}
 use Rattle.std.proofs.lemmas.Bool.{cases_Bool}
 use Rattle.bs_words.specs.Memory.{Memory}
 use Rattle.bs_words.specs.declared.types.Comp.TheVariants as comp
 use Rattle.bs_words.specs.declared.values.Value.{Value}
 use Rattle.cmm_meaning.specs.State.{Doing}
-use Rattle.mach_ir.specs.Acts.{Around, Target, On, At, Landing, AtHandler, Act, Goes, Pushes, Jumps, Unwinds, Asks, Replaces, Ends, EndsRaising, Stuck}
-use Rattle.mach_ir.specs.Formed.{WellFormed}
+use Rattle.mach_ir.specs.Acts.{Around, Target, On, At, AtHandler, Act, Goes, Pushes, Jumps, Unwinds, Asks, Replaces, Ends, EndsRaising, Stuck}
 use Rattle.mach_ir.specs.Keeps.{ValsWritten, Ahead, Trails, Proper, Follows, Begins, Does}
-use Rattle.mach_ir.specs.Meaning.{Held, State, File, put_all, clear, killed, values, with_held, past_frame, passes_frame, mach_act, code_at, landing_code, tries_at, tries_past, start}
+use Rattle.mach_ir.specs.Meaning.{Held, State, File, put_all, clear, killed, values, with_held, past_frame, passes_frame, mach_act, tries_at, tries_past, start}
 use Rattle.mach_ir.specs.Placed.{is_straight}
 use Rattle.mach_ir.specs.Runs.{Place, Tally, entered}
-use Rattle.mach_ir.specs.Walks.{IsRegister, Live, LiveAcross}
-use Rattle.mach_ir.specs.declared.op.CopyKind.TheVariants as copy
-use Rattle.mach_ir.specs.declared.op.Op.TheVariants as op
-use Rattle.mach_ir.specs.declared.op.Pure.TheVariants as pure
+use Rattle.mach_ir.specs.Walks.{IsRegister, LiveAcross}
 use Rattle.mach_ir.specs.declared.reg.Reg.{Reg}
-use Rattle.mach_ir.specs.declared.mach.MachOp.{MachOp}
-use Rattle.mach_ir.specs.declared.mach.MachOp.TheVariants as mach
 use Rattle.mach_ir.specs.declared.mach.Instr.{Instr}
 use Rattle.mach_ir.specs.declared.mach.Mach.{Mach}
 use Rattle.mach_ir.proofs.Keeping.{level, level_trail}
-use Rattle.mach_laws.specs.Expand.{Ending, all, expand}
+use Rattle.mach_laws.specs.Expand.{Ending, expand}
 use Rattle.mach_laws.proofs.General as general
 use Rattle.mach_laws.proofs.General.{at}
-use Rattle.mach_laws.proofs.Leads.{Within, goes_in, pushes_in, jumps_in, unwinds_in, asks_in, within}
+use Rattle.mach_laws.proofs.Leads.{Within, asks_in, within}
 use Rattle.mach_laws.proofs.Level as levels
-use Rattle.mach_laws.proofs.Places.{tries_expand, ending_next}
+use Rattle.mach_laws.proofs.Places.{tries_expand}
 use Rattle.mach_laws.proofs.Simulate.{Agrees}
 use Rattle.places_rules.proofs.Walked.{stands_of}
 use Rattle.repeat_rules.specs.Kept.{OwnOrigins}
 use Rattle.repeat_rules.specs.Repeated.{is_operator, allocates, Repeats, from_earlier, again, in_place, with_moves, IsBefore}
-use Rattle.repeat_rules.proofs.Form.{differ, Fate, unchanged, moved, fate, keeps_marks, was_register}
+use Rattle.repeat_rules.proofs.Form.{Fate, unchanged, moved, fate, keeps_marks, was_register, head_same, tail_same}
 use Rattle.repeat_rules.proofs.Acting.{Grown, GoesOn, is_stuck, goes_on, straight_on, as_it_was}
 use Rattle.repeat_rules.proofs.Held.{Holding, Holds, holds_next, calm}
 use Rattle.repeat_rules.proofs.Live.{Stood, across_back}
 use Rattle.repeat_rules.proofs.Standing.{operator_straight, operator_same, frame_same, Standing, not_past, not_at_entry, not_at_label, not_landed, Repeated, repeated}
-
-head_same : {i j : Instr} {xs ys : List Instr} → i ∷ xs ≡ j ∷ ys → i ≡ j
-head_same e = cc
-
-tail_same : {i j : Instr} {xs ys : List Instr} → i ∷ xs ≡ j ∷ ys → xs ≡ ys
-tail_same e = cc
 
 none_some : {x : Held} → None ≡ Some x → ⊥
 none_some e = cc
@@ -64,7 +52,7 @@ module _ (m : Mach) (plan : ℕ → Option Reg) (own : OwnOrigins m)
       record {
         agree = λ r k i j origin l e x y g h.
             let same : r.number ≡ k.number =
-                sym (own r (was_register m plan moves r i)) ∙ origin ∙ own k (was_register m plan moves k j) in
+            sym (own r (was_register m plan moves r i)) ∙ origin ∙ own k (was_register m plan moves k j) in
             ap (λ (z : Held). z.value) (some_same (sym g ∙ ap s.file same ∙ h));
       }
 

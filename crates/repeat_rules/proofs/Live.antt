@@ -1,35 +1,21 @@
 -- What is live in a function whose repeats are moves was live, or is a result that still stands.
-use Rattle.std.proofs.Common.{◌≡◌, ◌≢◌, ℕ, Bool, true, false, ◌⊎◌, inl, inr, ⊎_elim, List, [], ◌∷◌, ◌++◌, length, Option, Some, refl, sym, ap, ◌∙◌, subst}
+use Rattle.std.proofs.Common.{◌≡◌, ◌≢◌, ℕ, true, false, ◌⊎◌, inl, inr, ⊎_elim, List, [], ◌∷◌, length, Option, Some, refl, sym, ap, ◌∙◌, subst}
 use Rattle.std.specs.List.{Contains}
 use Rattle.bs_words.specs.declared.types.Comp.TheVariants as comp
 use Rattle.mach_ir.specs.Acts.{Target, On, At}
-use Rattle.mach_ir.specs.Meaning.{after_label, from_handler, code_at, tries_at, tries_past, killed, written, passes_frame}
+use Rattle.mach_ir.specs.Meaning.{after_label, from_handler, code_at, tries_at, killed, written, passes_frame}
 use Rattle.mach_ir.specs.Placed.{is_straight}
-use Rattle.mach_ir.specs.Walks.{Among, first, later, OneOf, targets, may_raise, Leads, goes, Raises, raises, Reached, at_entry, by_step, by_raise, Writes, Live, read, on, aside, LiveAfter, after_step, LiveAcross, across_step, across_raise, IsRegister, is_in_code, in_results, further, InCode, NoAddrLive, Stands, here, below, IsMove, is_move, Meets, at_write, at_params}
-use Rattle.mach_ir.specs.declared.op.CopyKind.TheVariants as copy
-use Rattle.mach_ir.specs.declared.op.Op.TheVariants as op
-use Rattle.mach_ir.specs.declared.op.Pure.TheVariants as pure
+use Rattle.mach_ir.specs.Walks.{Among, first, later, OneOf, targets, may_raise, goes, Raises, raises, Reached, at_entry, by_step, by_raise, Writes, Live, read, on, aside, LiveAfter, after_step, LiveAcross, across_step, across_raise, IsRegister, is_in_code, in_results, further, InCode, NoAddrLive, Stands, here, below, IsMove, is_move, Meets, at_write, at_params}
 use Rattle.mach_ir.specs.declared.reg.Reg.{Reg}
-use Rattle.mach_ir.specs.declared.mach.MachOp.{MachOp}
-use Rattle.mach_ir.specs.declared.mach.MachOp.TheVariants as mach
 use Rattle.mach_ir.specs.declared.mach.Instr.{Instr}
 use Rattle.mach_ir.specs.declared.mach.Mach.{Mach}
 use Rattle.mach_laws.specs.Expand.{Ending, all, more, expand}
-use Rattle.mach_laws.proofs.Places.{label_expand, handler_expand, tries_expand, ending_next, ending_label, ending_from_handler}
+use Rattle.mach_laws.proofs.Places.{label_expand, handler_expand, tries_expand, ending_from_handler}
 use Rattle.mach_laws.proofs.Walking.{none_in, first_in, later_in, in_cons, ending_at}
 use Rattle.places_rules.proofs.Walked.{left_among, split_among, stands_of}
 use Rattle.repeat_rules.specs.Repeated.{is_operator, allocates, Ends, Repeats, again, in_place, with_moves, IsBefore}
-use Rattle.repeat_rules.proofs.Form.{differ, Fate, unchanged, moved, fate, keeps_marks, IsMain, was_main, in_append, in_front, operator_result, was_register}
-use Rattle.repeat_rules.proofs.Standing.{operator_straight, straight_kills, straight_frame, op_same, written_same, targets_same, may_raise_same, frame_same, Standing, Earlier, just_now, earlier, earlier_of, not_at_entry, not_at_label, not_at_handler, Repeated, repeated}
-
-head_same : {i j : Instr} {xs ys : List Instr} → i ∷ xs ≡ j ∷ ys → i ≡ j
-head_same e = cc
-
-tail_same : {i j : Instr} {xs ys : List Instr} → i ∷ xs ≡ j ∷ ys → xs ≡ ys
-tail_same e = cc
-
-none_there : {i : Instr} {xs : List Instr} → i ∷ xs ≡ [] → ⊥
-none_there e = cc
+use Rattle.repeat_rules.proofs.Form.{differ, Fate, unchanged, moved, fate, keeps_marks, was_main, in_append, in_front, operator_result, was_register, head_same, tail_same, none_there}
+use Rattle.repeat_rules.proofs.Standing.{operator_straight, straight_kills, straight_frame, written_same, targets_same, may_raise_same, frame_same, Standing, Earlier, just_now, earlier, earlier_of, not_at_entry, not_at_label, not_at_handler, repeated}
 
 pub among_of : (r : Reg) (rs : List Reg) → Contains rs r → Among r.number rs
 among_of r [] c = absurd (none_in r c)
@@ -183,7 +169,7 @@ module _ (m : Mach) (plan : ℕ → Option Reg)
 
   at_head : {n : ℕ} {j : Instr} {zs : List Instr} (rest : List Instr) → Ending rest m.code → j ∷ zs ≡ expand f rest →
       Read n (j ∷ zs) → Was n rest
-  at_head [] ending e h = absurd (none_there e)
+  at_head [] ending e h = absurd (none_there (sym e))
   at_head (i ∷ next) ending e h = h i next ending e
 
   pub live_back : {n : ℕ} {ys : List Instr} → Live q n ys → (rest : List Instr) → Ending rest m.code → ys ≡ expand f rest → Was n rest
@@ -255,7 +241,7 @@ module _ (m : Mach) (plan : ℕ → Option Reg)
       by : Earlier m plan i next x.instr x.register → Apart n k
       by (just_now e) =
           let st = subst (λ (j : Instr). is_straight j.op ≡ true) e
-              (operator_straight (x.instr).op ((x.standing).stands).operates) in
+          (operator_straight (x.instr).op ((x.standing).stands).operates) in
           absurd
           (differs
           (sym
@@ -317,7 +303,7 @@ module _ (m : Mach) (plan : ℕ → Option Reg)
   reached_from {j} {zs} {ys} b h = by b.rest b.ending b.same b.reached
     where
       by : (rest : List Instr) → Ending rest m.code → j ∷ zs ≡ expand f rest → Reached m rest → WasReached ys
-      by [] ending e r = absurd (none_there e)
+      by [] ending e r = absurd (none_there (sym e))
       by (i ∷ next) ending e r = h i next ending e r
 
   reached_back : {ys : List Instr} → Reached q ys → WasReached ys
@@ -350,7 +336,7 @@ module _ (m : Mach) (plan : ℕ → Option Reg)
     stood_frame {i} r one addr frame s =
         let b = s.before in
         let same : r ≡ b.register =
-            numbers r b.register one (standing_register b.instr b.register b.standing) (sym b.number) in
+        numbers r b.register one (standing_register b.instr b.register b.standing) (sym b.number) in
         differ (passes_frame i.op) frame
         (straight_frame i.op s.straight ∙ s.kept (ap (λ (x : Reg). x.comp) (sym same) ∙ addr))
 
@@ -364,10 +350,10 @@ module _ (m : Mach) (plan : ℕ → Option Reg)
       where
         by : (j : Instr) (zs rest : List Instr) → Ending rest m.code → j ∷ zs ≡ expand f rest → Reached m rest →
             passes_frame j.op ≡ true → (r : Reg) → IsRegister m r → r.comp ≡ comp.Addr → LiveAcross q r.number j zs → ⊥
-        by j zs [] ending e there frame r one addr v = none_there e
+        by j zs [] ending e there frame r one addr v = none_there (sym e)
         by j zs (i ∷ next) ending e there frame r one addr v =
             let known : passes_frame i.op ≡ true =
-                sym (frame_same m plan (length next) i) ∙ ap (λ (x : Instr). passes_frame x.op) (sym (head_same e)) ∙ frame in
+            sym (frame_same m plan (length next) i) ∙ ap (λ (x : Instr). passes_frame x.op) (sym (head_same e)) ∙ frame in
             ⊎_elim (λ l. none.none i next there known r one addr l) (λ s. stood_frame r one addr known s)
             (across_back ending
             (subst (λ ys. LiveAcross q r.number (again plan (length next) i) ys) (tail_same e)

@@ -1,18 +1,12 @@
 -- The repeats of a function are moves in one way: of two operators that are left, and both stand, the later one would
 -- repeat the earlier.
-use Rattle.std.proofs.Common.{◌≡◌, ℕ, Bool, true, false, cond, List, [], ◌∷◌, ◌++◌, length, Option, Some, None, refl, sym, ap, ◌∙◌, subst, append_assoc}
+use Rattle.std.proofs.Common.{◌≡◌, ℕ, Bool, true, false, cond, List, [], ◌∷◌, ◌++◌, length, Option, Some, None, refl, sym, ap, ◌∙◌, append_assoc}
 use Rattle.mach_ir.specs.declared.reg.Reg.{Reg}
 use Rattle.mach_ir.specs.declared.mach.Instr.{Instr}
 use Rattle.mach_ir.specs.declared.mach.Mach.{Mach}
 use Rattle.repeat_rules.specs.Repeated.{is_operator, StillStands, Repeats, from_earlier, again, with_moves, IsBefore, IsRepeated}
-use Rattle.repeat_rules.proofs.Form.{alone, left_none}
+use Rattle.repeat_rules.proofs.Form.{alone, left_none, head_same, tail_same}
 use Rattle.repeat_rules.proofs.Standing.{restricted}
-
-head_same : {i j : Instr} {xs ys : List Instr} → i ∷ xs ≡ j ∷ ys → i ≡ j
-head_same e = cc
-
-tail_same : {i j : Instr} {xs ys : List Instr} → i ∷ xs ≡ j ∷ ys → xs ≡ ys
-tail_same e = cc
 
 only_same : {r s : Reg} → r ∷ [] ≡ s ∷ [] → r ≡ s
 only_same e = cc
@@ -77,8 +71,8 @@ module _ (m : Mach) (p w : ℕ → Option Reg)
           let x = moves_p i next made bp o r e in
           let y = moves_w i next made bw o s h in
           let same : r ≡ s =
-              one_result (none_before made _ bp.made_so) x.earlier y.earlier r s x.stands y.stands
-              (x.same_op ∙ sym y.same_op) (x.same_args ∙ sym y.same_args) in
+          one_result (none_before made _ bp.made_so) x.earlier y.earlier r s x.stands y.stands
+          (x.same_op ∙ sym y.same_op) (x.same_args ∙ sym y.same_args) in
           e ∙ ap Some same ∙ sym h
 
   one_instr : (i : Instr) (next made : List Instr) → IsBefore p m i next made → IsBefore w m i next made →
@@ -96,8 +90,8 @@ module _ (m : Mach) (p w : ℕ → Option Reg)
   one_code (i ∷ is) before made whole e h =
       let x : Instr = again p (length is) i in
       let same : again p (length is) i ≡ again w (length is) i =
-          one_instr i is made (record { before = before; whole = whole; made_so = e })
-          (record { before = before; whole = whole; made_so = h }) in
+      one_instr i is made (record { before = before; whole = whole; made_so = e })
+      (record { before = before; whole = whole; made_so = h }) in
       ap (λ z. z ∷ with_moves p is) same
       ∙ ap (λ xs. again w (length is) i ∷ xs)
       (one_code is (before ++ i ∷ []) (made ++ x ∷ []) (whole ∙ sym (append_assoc before (i ∷ []) is))

@@ -1,14 +1,13 @@
 -- Which results still stand where a code is left, and what an instruction leaves of them.
-use Rattle.std.proofs.Common.{◌≡◌, ◌≢◌, ℕ, Bool, true, false, cond, ◌⊎◌, inl, inr, ⊎_elim, List, [], ◌∷◌, ◌++◌, length, Option, Some, refl, sym, ap, ◌∙◌, subst, append_assoc}
-use Rattle.std.proofs.lemmas.Bool.{cases_Bool}
+use Rattle.std.proofs.Common.{◌≡◌, ◌≢◌, ℕ, Bool, true, false, cond, ⊎_elim, List, [], ◌∷◌, ◌++◌, length, Option, Some, refl, sym, ap, ◌∙◌, subst, append_assoc}
 use Rattle.std.proofs.lemmas.List.{append_cancel_right, same_from_push}
 use Rattle.std.proofs.lemmas.List.Elements.{Contains-get_or}
 use Rattle.std.specs.List.{Contains}
 use Rattle.std.specs.Prelude.{slice_index_or}
 use Rattle.bs_words.specs.declared.types.Comp.TheVariants as comp
-use Rattle.mach_ir.specs.Acts.{Target, On, At, Landing, AtLabel, AtHandler}
-use Rattle.mach_ir.specs.Meaning.{Destroyed, Nothing, has_label, is_handler_of, after_label, from_handler, at_handler, tries_at, landing_code, destroyed_by, killed_by, killed, written, passes_frame}
-use Rattle.mach_ir.specs.Placed.{is_straight, AreStraight}
+use Rattle.mach_ir.specs.Acts.{On, Landing, AtLabel, AtHandler}
+use Rattle.mach_ir.specs.Meaning.{Nothing, has_label, is_handler_of, after_label, from_handler, at_handler, tries_at, landing_code, destroyed_by, killed_by, killed, written, passes_frame}
+use Rattle.mach_ir.specs.Placed.{is_straight}
 use Rattle.mach_ir.specs.Walks.{targets, may_raise, Stands}
 use Rattle.mach_ir.specs.declared.op.Access.TheVariants as access
 use Rattle.mach_ir.specs.declared.op.Op.TheVariants as op
@@ -21,8 +20,8 @@ use Rattle.mach_ir.specs.declared.mach.Mach.{Mach}
 use Rattle.mach_laws.specs.Expand.{Ending, all, more, expand}
 use Rattle.mach_laws.proofs.Walking.{first_in, later_in, in_cons}
 use Rattle.split_rules.proofs.Formed.{of_each}
-use Rattle.repeat_rules.specs.Repeated.{is_operator, allocates, Ends, StillStands, Repeats, from_earlier, again, in_place, with_moves, IsBefore}
-use Rattle.repeat_rules.proofs.Form.{differ, IsPure, is_pure, operator_pure, label_plain, Fate, unchanged, moved, fate, before_of, in_append, in_front}
+use Rattle.repeat_rules.specs.Repeated.{is_operator, allocates, Ends, StillStands, Repeats, again, in_place, with_moves, IsBefore}
+use Rattle.repeat_rules.proofs.Form.{differ, IsPure, is_pure, operator_pure, Fate, unchanged, moved, fate, before_of, in_append, in_front, none_there}
 
 -- ---- operators
 
@@ -119,7 +118,7 @@ since made x j r s = by (snoc s.run)
         let t = same_from_push made s.others x j (s.within ∙ ap (λ ys. s.others ++ j ∷ ys) e) in just_there (sym t.1)
     by (ends_by ys y e) =
         let t = same_from_push made (s.others ++ j ∷ ys) x y
-            (s.within ∙ ap (λ zs. s.others ++ j ∷ zs) e ∙ sym (append_assoc s.others (j ∷ ys) (y ∷ []))) in
+        (s.within ∙ ap (λ zs. s.others ++ j ∷ zs) e ∙ sym (append_assoc s.others (j ∷ ys) (y ∷ []))) in
         stood
         (subst (λ xs. StillStands xs j r) (sym t.0) (restricted j r s ys (y ∷ []) e))
         (of_each (λ (i : Instr). is_straight i.op ≡ true) s.run x s.straight (x_in t.1))
@@ -131,17 +130,11 @@ since made x j r s = by (snoc s.run)
         x_in h = subst (Contains s.run) (sym h) (subst (λ zs. Contains zs y) (sym e) (in_append ys y []))
 
 none_before : (j : Instr) (r : Reg) → StillStands [] j r → ⊥
-none_before j r s = by s.others s.run s.within
+none_before j r s = by s.others s.within
   where
-    by : (others run : List Instr) → [] ≡ others ++ j ∷ run → ⊥
-    by [] run e = none_there e
-      where
-        none_there : {ys : List Instr} → [] ≡ j ∷ ys → ⊥
-        none_there e = cc
-    by (x ∷ others) run e = none_there e
-      where
-        none_there : {ys : List Instr} → [] ≡ x ∷ ys → ⊥
-        none_there e = cc
+    by : (others : List Instr) → [] ≡ others ++ j ∷ s.run → ⊥
+    by [] e = none_there e
+    by (x ∷ others) e = none_there e
 
 -- the code after a label is nothing, or stands after the mark that has it
 data Labelled (l : ℕ) (code : List Instr) : Type 0 where

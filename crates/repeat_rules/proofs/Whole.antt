@@ -1,5 +1,5 @@
 -- What a function whose repeats are moves keeps.
-use Rattle.std.proofs.Common.{◌≡◌, ◌≢◌, ℕ, Bool, true, false, inl, ⊎_elim, List, [], ◌∷◌, length, Option, Some, None, refl, sym, ap, ◌∙◌, subst}
+use Rattle.std.proofs.Common.{◌≡◌, ◌≢◌, ℕ, true, inl, ⊎_elim, List, length, Option, Some, None, refl, sym, ap, ◌∙◌, subst}
 use Rattle.std.specs.List.{Contains}
 use Rattle.bs_words.specs.declared.types.Loc.TheVariants as loc
 use Rattle.mach_ir.specs.Formed.{WellFormed}
@@ -16,7 +16,7 @@ use Rattle.mach_ir.specs.declared.mach.Instr.{Instr}
 use Rattle.mach_ir.specs.declared.mach.Mach.{Mach}
 use Rattle.split_rules.proofs.Formed.{contains_of, stands_in}
 use Rattle.repeat_rules.specs.Kept.{OwnOrigins, IsKept}
-use Rattle.repeat_rules.specs.Repeated.{is_operator, Ends, same_place, Repeats, again, with_moves, IsBefore, IsRepeated, IsFormKept}
+use Rattle.repeat_rules.specs.Repeated.{is_operator, same_place, Repeats, again, with_moves, IsBefore, IsRepeated, IsFormKept}
 use Rattle.repeat_rules.proofs.Form.{Fate, unchanged, moved, fate, was_main, was_register, kept_by}
 use Rattle.repeat_rules.proofs.Kept.{does_repeated}
 use Rattle.repeat_rules.proofs.Live.{Apart, meets_back, no_addr_back}
