@@ -1,0 +1,8 @@
+pub mod Form
+pub mod Standing
+pub mod Live
+pub mod Acting
+pub mod Held
+pub mod Kept
+pub mod One
+pub mod Whole

@@ -1,0 +1,119 @@
+-- Mach functions in which an integer operator that repeats an earlier one is a move from its result.
+use Rattle.std.specs.Prelude.{◌≡◌, ◌≢◌, ℕ, Bool, true, false, cond, List, [], ◌∷◌, ◌++◌, Option, Some, None, length, Contains}
+use Rattle.bs_words.specs.declared.types.Comp.TheVariants as comp
+use Rattle.bs_words.specs.declared.types.Loc.TheVariants as loc
+use Rattle.mach_ir.specs.Formed.{WellFormed}
+use Rattle.mach_ir.specs.Placed.{AreStraight}
+use Rattle.mach_ir.specs.Seats.{Seated}
+use Rattle.mach_ir.specs.Sizes.{Size, HasSize}
+use Rattle.mach_ir.specs.Walks.{IsRegister}
+use Rattle.mach_ir.specs.declared.op.Access.TheVariants as access
+use Rattle.mach_ir.specs.declared.op.CopyKind.TheVariants as copy
+use Rattle.mach_ir.specs.declared.op.Op.TheVariants as op
+use Rattle.mach_ir.specs.declared.op.Pure.TheVariants as pure
+use Rattle.mach_ir.specs.declared.reg.Reg.{Reg}
+use Rattle.mach_ir.specs.declared.mach.MachOp.{MachOp}
+use Rattle.mach_ir.specs.declared.mach.MachOp.TheVariants as mach
+use Rattle.mach_ir.specs.declared.mach.Instr.{Instr}
+use Rattle.mach_ir.specs.declared.mach.Mach.{Mach}
+use Rattle.mach_laws.specs.Expand.{expand}
+
+abbrev pub is_operator : MachOp → Bool
+is_operator (mach.Op (op.Pure (pure.Operator f right))) = true
+is_operator (mach.Op (op.Pure (pure.Copy kind))) = false
+is_operator (mach.Op (op.Pure (pure.Constant w))) = false
+is_operator (mach.Op (op.Pure (pure.Symbol name))) = false
+is_operator (mach.Op (op.Access f)) = false
+is_operator (mach.Op (op.Calling f)) = false
+is_operator (mach.Op (op.Leaving f)) = false
+is_operator (mach.Mark f) = false
+
+abbrev pub allocates : MachOp → Bool
+allocates (mach.Op (op.Access (access.Alloc blocks))) = true
+allocates (mach.Op (op.Access (access.Load chunk offset))) = false
+allocates (mach.Op (op.Access (access.Store chunk offset))) = false
+allocates (mach.Op (op.Pure f)) = false
+allocates (mach.Op (op.Calling f)) = false
+allocates (mach.Op (op.Leaving f)) = false
+allocates (mach.Mark f) = false
+
+-- A write of the second ends what the first holds: it is that register, or another of its fixed place
+-- or of its origin.
+pub data Ends (r w : Reg) : Type 0 where
+  itself : w.number ≡ r.number → Ends r w
+  same_place : w.loc ≡ r.loc → r.loc ≢ loc.Unset → Ends r w
+  same_origin : w.origin ≡ r.origin → Ends r w
+
+-- What an operator computed still stands at the end of this code: only instructions of its straight
+-- run come after it, they write no operand of it, and end its result nowhere.
+pub record StillStands (before : List Instr) (j : Instr) (r : Reg) : Type 0 where
+  pub others : List Instr
+  pub run : List Instr
+  pub within : before ≡ others ++ j ∷ run
+  pub straight : AreStraight run
+  pub operates : is_operator j.op ≡ true
+  pub result : j.results ≡ r ∷ []
+  -- nor does it write an operand itself
+  pub operands : (i : Instr) → Contains (j ∷ run) i → (w k : Reg) → Contains i.results w →
+      Contains j.args k → w.number ≢ k.number
+  pub stands : (i : Instr) → Contains run i → (w : Reg) → Contains i.results w → Ends r w → ⊥
+  -- an addr is lost at an allocation
+  pub kept : r.comp ≡ comp.Addr → (i : Instr) → Contains run i → allocates i.op ≡ false
+
+-- An operator after this code computes what an earlier one did, whose operands and result still stand.
+pub record Repeats (before : List Instr) (i : Instr) (r : Reg) : Type 0 where
+  pub earlier : Instr
+  pub stands : StillStands before earlier r
+  pub same_op : earlier.op ≡ i.op
+  pub same_args : earlier.args ≡ i.args
+
+-- ---- the function
+
+-- a move from this register in place of an operator
+abbrev pub from_earlier : Option Reg → Instr → Instr
+from_earlier None i = i
+from_earlier (Some r) i =
+    record {
+      op = mach.Op (op.Pure (pure.Copy copy.Move));
+      args = r ∷ [];
+      results = i.results;
+    }
+
+-- in place of an operator, by how many instructions come after it
+abbrev pub again : (ℕ → Option Reg) → ℕ → Instr → Instr
+again plan k i = cond (is_operator i.op) (from_earlier (plan k) i) i
+
+abbrev pub in_place : (ℕ → Option Reg) → ℕ → Instr → List Instr
+in_place plan k i = again plan k i ∷ []
+
+abbrev pub with_moves : (ℕ → Option Reg) → List Instr → List Instr
+with_moves plan code = expand (in_place plan) code
+
+-- The code before an instruction of a function, as it is with its moves.
+pub record IsBefore (plan : ℕ → Option Reg) (m : Mach) (i : Instr) (next made : List Instr) :
+    Type 0 where
+  pub before : List Instr
+  pub whole : m.code ≡ before ++ i ∷ next
+  pub made_so : with_moves plan m.code
+      ≡ made ++ again plan (length next) i ∷ with_moves plan next
+
+-- Exactly the operators are moves that repeat one that is left of those before them.
+pub record IsRepeated (m q : Mach) : Type 0 where
+  pub plan : ℕ → Option Reg
+  pub is : q ≡ record m { code = with_moves plan m.code }
+  pub moves : (i : Instr) (next made : List Instr) → IsBefore plan m i next made →
+      is_operator i.op ≡ true → (r : Reg) → plan (length next) ≡ Some r → Repeats made i r
+  pub stays : (i : Instr) (next made : List Instr) → IsBefore plan m i next made →
+      plan (length next) ≡ None → (r : Reg) → Repeats made i r → ⊥
+
+-- What is kept of the form of a function.
+pub record IsFormKept (p q : Mach) : Type 0 where
+  pub formed : WellFormed q
+  pub seated : Seated p → Seated q
+  pub params : q.params ≡ p.params
+  -- no register is new, and none gets a place
+  pub registers : (r : Reg) → IsRegister q r → IsRegister p r
+  -- no operator repeats an earlier one
+  pub none_left : (made : List Instr) (i : Instr) (next : List Instr) →
+      q.code ≡ made ++ i ∷ next → (r : Reg) → Repeats made i r → ⊥
+  pub size : (s : Size) → HasSize p s → HasSize q s
