@@ -217,27 +217,27 @@ module _ (g : Graph) (h : IsColourable g) where
 
   -- ---- all choices
 
-  all_chosen : (order : List Node) (place : Colouring) → Good g order place →
+  all_chosen : (fresh : ℕ) (order : List Node) (place : Colouring) → Good g order place →
       ((x : Node) → Contains order x → Contains g.nodes x × (x.reg.loc ≡ loc.Unset)) →
-      AllPairs ComesBefore order → Good g [] (coloured g place order)
-  all_chosen [] place good members up = good
-  all_chosen (x ∷ rest) place good members up =
+      AllPairs (ComesBefore (fixed g) fresh) order → Good g [] (coloured g place order)
+  all_chosen fresh [] place good members up = good
+  all_chosen fresh (x ∷ rest) place good members up =
       let here : Contains g.nodes x × (x.reg.loc ≡ loc.Unset) = members x (first_in x rest) in
       let apart : (y : Node) → Contains rest y → y.reg.number ≡ x.reg.number → ⊥ = λ y c e.
       let same : y ≡ x = one_of_number g.nodes y x h.order (members y (later_in x y rest c)).0 here.0 e in
-      let before : ComesBefore x y = pairs_first ComesBefore x rest up y c in
-      let self : ComesBefore x x = subst (ComesBefore x) same before in
-      strict_order x x self self in
-      all_chosen rest (put place x.reg.number (chosen g place x))
+      let before : ComesBefore (fixed g) fresh x y = pairs_first (ComesBefore (fixed g) fresh) x rest up y c in
+      let self : ComesBefore (fixed g) fresh x x = subst (ComesBefore (fixed g) fresh x) same before in
+      strict_order (fixed g) fresh x x self self in
+      all_chosen fresh rest (put place x.reg.number (chosen g place x))
       (one_more rest place x good here.0 here.1 apart (chosen g place x) (choice g place x))
-      (λ y c. members y (later_in x y rest c)) (pairs_later ComesBefore x rest up)
+      (λ y c. members y (later_in x y rest c)) (pairs_later (ComesBefore (fixed g) fresh) x rest up)
 
   -- ---- before all choices
 
   fixed_at : (x : Node) → Contains g.nodes x → fixed g x.reg.number ≡ x.reg.loc
   fixed_at x c = ap loc_of (found_at g.nodes x h.order c)
 
-  start : (order : List Node) → IsOrder g order → Good g order (fixed g)
+  start : {fresh : ℕ} (order : List Node) → IsOrder fresh g order → Good g order (fixed g)
   start order is = record {
     stays = λ x c. inr (fixed_at x c);
     places = λ x c. ⊎_elim (λ u. inl (fixed_at x c ∙ u))
@@ -295,10 +295,10 @@ module _ (g : Graph) (h : IsColourable g) where
     }
 
   -- what is coloured by the definition is a colouring with no needless slot
-  pub colours_the_graph : (c : Colours) → IsColouredBy g c → ColoursGraph g c
-  colours_the_graph c by =
+  pub colours_the_graph : (fresh : ℕ) (c : Colours) → IsColouredBy fresh g c → ColoursGraph g c
+  colours_the_graph fresh c by =
       let place : Colouring = coloured g (fixed g) by.order in
-      let good : Good g [] place = all_chosen by.order (fixed g) (start by.order by.ordered)
+      let good : Good g [] place = all_chosen fresh by.order (fixed g) (start by.order by.ordered)
       (λ x i. (by.ordered.exact x).0 i) by.ordered.sorted in
       let same : place ≡ place_in c = sym (fun_ext by.places) in
       record {
@@ -315,8 +315,8 @@ none_put g (x ∷ rest) place n none =
     none_put g rest (put place x.reg.number (chosen g place x)) n (λ y c. none y (later_in x y rest c)) ∙
     put_other place x.reg.number (chosen g place x) n (λ e. none x (first_in x rest) (sym e))
 
-pub others_unset : (g : Graph) → OthersAreUnset g
-others_unset g c by n none =
+pub others_unset : (fresh : ℕ) (g : Graph) → OthersAreUnset fresh g
+others_unset fresh g c by n none =
     let no_node : (x : Node) → Contains g.nodes x → x.reg.number ≡ n → ⊥ = λ x i e.
     none x.reg (in_graph g.nodes x i) e in
     by.places n ∙ none_put g by.order (fixed g) n (λ x i. no_node x ((by.ordered.exact x).0 i).0) ∙

@@ -124,8 +124,8 @@ among_referred (x ∷ xs) b i =
     (in_cons x b xs i)
 
 -- the number of a node in the order is within the table
-pub is_within : (g : Graph) (indices : List (Option ℕ)) (items : List (Bor Node)) (i : ℕ) (b : Bor Node) →
-    IsTableOf g.nodes indices → IsOrder g (referred items) → i < length items → b ≡ get_or items i b →
+pub is_within : {fresh : ℕ} (g : Graph) (indices : List (Option ℕ)) (items : List (Bor Node)) (i : ℕ) (b : Bor Node) →
+    IsTableOf g.nodes indices → IsOrder fresh g (referred items) → i < length items → b ≡ get_or items i b →
     b.now.reg.number < length indices
 is_within g indices items i b table order lt is =
     let among : Contains g.nodes b.now = ((order.exact b.now).0 (among_referred items b (i, lt, sym is))).0 in
@@ -152,10 +152,10 @@ none_left [] (suc i) le = refl
 none_left (x ∷ xs) zero le = absurd (omega (arith, le))
 none_left (x ∷ xs) (suc i) le = none_left xs i (omega (arith, le))
 
-pub is_coloured : (g : Graph) (places : List Loc) (items : List (Bor Node)) (i : ℕ) (c : Colours) →
-    IsOrder g (referred items) →
+pub is_coloured : {fresh : ℕ} (g : Graph) (places : List Loc) (items : List (Bor Node)) (i : ℕ) (c : Colours) →
+    IsOrder fresh g (referred items) →
     length items ≤ i → c.places ≡ places →
-    coloured g (places_by places) (referred (drop i items)) ≡ coloured g (fixed g) (referred items) → IsColouredBy g c
+    coloured g (places_by places) (referred (drop i items)) ≡ coloured g (fixed g) (referred items) → IsColouredBy fresh g c
 is_coloured g places items i c order le same done = record {
   order = referred items;
   ordered = order;

@@ -1,5 +1,5 @@
 -- A stable sort by urgency gives the order.
-use Rattle.std.proofs.Common.{◌≡◌, ℕ, zero, suc, ◌<◌, ◌≤◌, inl, inr, ⊎_elim, Bool, true, false, cond, nat_eq, List, [], ◌∷◌, map, length, get_or, refl, sym, ap, ◌∙◌, subst, arith, Bor, Less, Equal, Greater}
+use Rattle.std.proofs.Common.{◌≡◌, ℕ, zero, suc, ◌<◌, ◌≤◌, inl, inr, ⊎_elim, Bool, true, false, cond, nat_eq, List, [], ◌∷◌, map, length, get_or, refl, sym, ap, ◌∙◌, subst, arith, Less, Equal, Greater}
 use Rattle.std.specs.Cmp.{IsStrictWeakOrder}
 use Rattle.std.specs.List.{AllPairs, Contains, filter}
 use Rattle.std.specs.List.Sorted.{IsPermutation, IsSortedBy, IsStableBy, ties}
@@ -16,8 +16,10 @@ use Rattle.bs_words.specs.declared.types.Loc.{Loc}
 use Rattle.bs_words.specs.declared.types.Loc.TheVariants as loc
 use Rattle.mach_ir.specs.declared.graph.Node.{Node}
 use Rattle.mach_ir.specs.declared.graph.Graph.{Graph}
-use Rattle.colouring.specs.Chosen.{urgency, ComesBefore, IsOrder}
-use Rattle.colouring.specs.Tables.{is_unset, is_open, referred, is_more_urgent}
+use Rattle.mach_ir.specs.Placed.{Colouring}
+use Rattle.colouring.specs.Chosen.{fixed, urgency, ComesBefore, IsOrder}
+use Rattle.colouring.specs.Tables.{is_unset, is_open, ranked_nodes, AreRanked, is_more_urgent}
+use Rattle.colouring.specs.declared.order.Ranked.{Ranked}
 use Rattle.colouring.proofs.Found.{Rising, in_filter, into_filter}
 use Rattle.colouring.proofs.Ordered.{pairs_first, pairs_later}
 
@@ -58,8 +60,7 @@ pairs_into_map f R xs e h = λ i j d lt le.
     (subst (λ a. R a (f (get_or xs j e))) (sym (get_or-map f xs i e d under)) (h i j e lt whole))
 
 by_urgency : IsStrictWeakOrder is_more_urgent
-by_urgency = IsStrictWeakOrder-flip (λ (x y : Bor Node). is_lt (nat_cmp (urgency x.now) (urgency y.now)))
-    (ranks_by nat_cmp_total (λ (x : Bor Node). urgency x.now))
+by_urgency = IsStrictWeakOrder-flip (λ (x y : Ranked). is_lt (nat_cmp x.urgency y.urgency)) (ranks_by nat_cmp_total (λ (x : Ranked). x.urgency))
 
 not_less : (a b : ℕ) → a ≤ b → is_lt (nat_cmp b a) ≡ false
 not_less a b le = ap (λ (t : Bool). is_lt (cond t Less (cond (nat_eq b a) Equal Greater))) (le-ltb b a le) ∙
@@ -74,59 +75,78 @@ is_unset_from loc.Unset e = refl
 is_unset_from (loc.Machine n) e = cc
 is_unset_from (loc.Slot n) e = cc
 
-abbrev Below : Bor Node → Bor Node → Type 0
-Below x y = x.now.reg.number < y.now.reg.number
+abbrev Below : Ranked → Ranked → Type 0
+Below x y = x.node.now.reg.number < y.node.now.reg.number
 
-pub is_order : (g : Graph) (xs ys : List (Bor Node)) → Rising g.nodes → referred xs ≡ filter is_open g.nodes →
-    IsPermutation xs ys →
-    IsSortedBy is_more_urgent ys → IsStableBy is_more_urgent xs ys → IsOrder g (referred ys)
-is_order g xs ys up open_nodes moved sorted stable = record {
+-- by what they say of themselves
+abbrev Sooner : Ranked → Ranked → Type 0
+Sooner x y = (y.urgency < x.urgency) ⊎ ((x.urgency ≡ y.urgency) × Below x y)
+
+abbrev IsTrueOf : Colouring → ℕ → Ranked → Type 0
+IsTrueOf place fresh r = r.urgency ≡ urgency place fresh r.node.now
+
+pub is_order : (g : Graph) (fresh : ℕ) (xs ys : List Ranked) → Rising g.nodes → ranked_nodes xs ≡ filter is_open g.nodes → AreRanked (fixed g) fresh xs →
+    IsPermutation xs ys → IsSortedBy is_more_urgent ys → IsStableBy is_more_urgent xs ys → IsOrder fresh g (ranked_nodes ys)
+is_order g fresh xs ys up open_nodes ranked moved sorted stable = record {
   exact = λ x. (
     (λ c.
-        let d : Contains (referred xs) x =
-        Contains-permutation (referred ys) (referred xs) x (IsPermutation-sym (referred xs) (referred ys) same) c in
+        let d : Contains (ranked_nodes xs) x =
+        Contains-permutation (ranked_nodes ys) (ranked_nodes xs) x (IsPermutation-sym (ranked_nodes xs) (ranked_nodes ys) same) c in
         let e = in_filter is_open g.nodes x (subst (λ l. Contains l x) open_nodes d) in
         (e.0, is_unset_from x.reg.loc e.1)),
-    (λ c. Contains-permutation (referred xs) (referred ys) x same
+    (λ c. Contains-permutation (ranked_nodes xs) (ranked_nodes ys) x same
         (subst (λ l. Contains l x) (sym open_nodes) (into_filter is_open g.nodes x c.0 (ap is_unset c.1)))),
   );
   sorted = pairs;
 } where
-  same : IsPermutation (referred xs) (referred ys)
-  same = IsPermutation-map (λ (x : Bor Node). x.now) xs ys moved
+  same : IsPermutation (ranked_nodes xs) (ranked_nodes ys)
+  same = IsPermutation-map (λ (x : Ranked). x.node.now) xs ys moved
 
   up_xs : AllPairs Below xs
-  up_xs = pairs_of_map (λ (x : Bor Node). x.now) (λ (x y : Node). x.reg.number < y.reg.number) xs
+  up_xs = pairs_of_map (λ (x : Ranked). x.node.now) (λ (x y : Node). x.reg.number < y.reg.number) xs
       (subst (λ l. Rising l) (sym open_nodes)
       (AllPairs-filter (λ (x y : Node). x.reg.number < y.reg.number) is_open g.nodes up))
 
-  tied_up : (x : Bor Node) → AllPairs Below (filter (ties is_more_urgent x) ys)
+  tied_up : (x : Ranked) → AllPairs Below (filter (ties is_more_urgent x) ys)
   tied_up x = subst (λ l. AllPairs Below l) (sym (stable x)) (AllPairs-filter Below (ties is_more_urgent x) xs up_xs)
 
-  before : AllPairs (λ (x y : Bor Node). ComesBefore x.now y.now) ys
+  -- what they say is true
+  is_true : (r : Ranked) → Contains ys r → IsTrueOf (fixed g) fresh r
+  is_true r c = All-contains (IsTrueOf (fixed g) fresh) xs r ranked (Contains-permutation ys xs r (IsPermutation-sym xs ys moved) c)
+
+  before : AllPairs (λ (x y : Ranked). ComesBefore (fixed g) fresh x.node.now y.node.now) ys
   before = λ i j d lt le.
-      let u : ℕ = urgency (get_or ys i d).now in
-      let v : ℕ = urgency (get_or ys j d).now in
+      let x : Ranked = get_or ys i d in
+      let y : Ranked = get_or ys j d in
+      let u : ℕ = x.urgency in
+      let v : ℕ = y.urgency in
       let no_more : is_more_urgent (get_or ys j d) (get_or ys i d) ≡ false =
       sorted_far is_more_urgent by_urgency ys sorted i j d (omega (arith, lt)) le in
       let falls : v ≤ u = ge_from_not_lt u v no_more in
-      ⊎_elim
+      let under : i < length ys = omega (arith, lt, le) in
+      let one : IsTrueOf (fixed g) fresh x = is_true x (Contains-get_or ys i d under) in
+      let two : IsTrueOf (fixed g) fresh y = is_true y (Contains-get_or ys j d le) in
+      so x y one two
+      (⊎_elim
       (λ (less : v < u). inl less)
       (λ (not : u ≤ v).
       let e : u ≡ v = omega (arith, falls, not) in
-      let x : Bor Node = get_or ys i d in
       let self : ties is_more_urgent x (get_or ys i d) ≡ true =
       and_from _ _ (not_from_false _ (not_less u u (omega arith)))
       (not_from_false _ (not_less u u (omega arith))) in
       let tie : ties is_more_urgent x (get_or ys j d) ≡ true =
       and_from _ _ (not_from_false _ (not_less u v not)) (not_from_false _ (not_less v u falls)) in
       inr (e, within_filter Below (ties is_more_urgent x) ys i j d lt le self tie (tied_up x)))
-      (cases_lt v u)
+      (cases_lt v u))
+    where
+      so : (x y : Ranked) → IsTrueOf (fixed g) fresh x → IsTrueOf (fixed g) fresh y → Sooner x y → ComesBefore (fixed g) fresh x.node.now y.node.now
+      so x y one two (inl less) = inl (subst (λ n. urgency (fixed g) fresh y.node.now < n) one (subst (λ n. n < x.urgency) two less))
+      so x y one two (inr tie) = inr (sym one ∙ tie.0 ∙ two, tie.1)
 
-  pairs : AllPairs ComesBefore (referred ys)
+  pairs : AllPairs (ComesBefore (fixed g) fresh) (ranked_nodes ys)
   pairs = by ys before
     where
-      by : (zs : List (Bor Node)) → AllPairs (λ (x y : Bor Node). ComesBefore x.now y.now) zs →
-          AllPairs ComesBefore (referred zs)
+      by : (zs : List Ranked) → AllPairs (λ (x y : Ranked). ComesBefore (fixed g) fresh x.node.now y.node.now) zs →
+          AllPairs (ComesBefore (fixed g) fresh) (ranked_nodes zs)
       by [] h = λ i j d lt le. absurd (omega (arith, le))
-      by (z ∷ zs) h = pairs_into_map (λ (x : Bor Node). x.now) ComesBefore (z ∷ zs) z h
+      by (z ∷ zs) h = pairs_into_map (λ (x : Ranked). x.node.now) (ComesBefore (fixed g) fresh) (z ∷ zs) z h

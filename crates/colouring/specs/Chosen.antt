@@ -1,6 +1,6 @@
 -- Which place colouring chooses for each register of a graph: for one after the other, in a fixed order,
 -- the best colour that no neighbour has, or else the slot of its origin.
-use Rattle.std.specs.Prelude.{◌≡◌, ◌↔◌, ◌⊎◌, ℕ, ◌+◌, ◌*◌, ◌/◌, ◌<◌, Bool, false, cond, nat_eq, nat_lt, List, [], ◌∷◌, length, Option, Some, None, AllPairs, Contains, count_by, sum_by, filter, find}
+use Rattle.std.specs.Prelude.{◌≡◌, ◌↔◌, ◌⊎◌, ℕ, ◌+◌, ◌*◌, ◌/◌, ◌<◌, Bool, true, false, cond, not, nat_eq, nat_lt, nat_le, List, [], ◌∷◌, length, Option, Some, None, AllPairs, Contains, count_by, sum_by, filter, find}
 use Rattle.bs_words.specs.declared.types.Loc.{Loc}
 use Rattle.bs_words.specs.declared.types.Loc.TheVariants as loc
 use Rattle.mach_ir.specs.Graph.{InGraph, place_in}
@@ -11,23 +11,54 @@ use Rattle.mach_ir.specs.declared.graph.Graph.{Graph}
 use Rattle.mach_ir.specs.declared.graph.Colours.{Colours}
 use Rattle.colouring.specs.declared.merit.Merit.{Merit}
 
+-- ---- fixed places
+
+-- the node of a number
+abbrev pub node_at : List Node → ℕ → Option Node
+node_at nodes n = find (λ (x : Node). nat_eq x.reg.number n) nodes
+
+abbrev pub loc_of : Option Node → Loc
+loc_of None = loc.Unset
+loc_of (Some x) = x.reg.loc
+
+-- the places that are fixed
+abbrev pub fixed : Graph → Colouring
+fixed g n = loc_of (node_at g.nodes n)
+
 -- ---- the order
 
--- How urgent a register is. One that has fewer neighbours than there are colours is not, as some colour
--- is left to it whatever they take. Of any other, what its slot would cost for each neighbour that it
--- stands in the way of.
-abbrev pub urgency : Node → ℕ
-urgency x = cond (nat_lt (length x.neighbours) 21) 0 (1 + x.uses * 1024 / length x.neighbours)
+abbrev pub is_slot : Loc → Bool
+is_slot loc.Unset = false
+is_slot (loc.Machine n) = false
+is_slot (loc.Slot n) = true
+
+-- how many neighbours have or may take a colour: those that stand in slots take none
+abbrev pub degree : Colouring → Node → ℕ
+degree place x = count_by (λ n. not (is_slot (place n))) x.neighbours
+
+-- more than any other is
+abbrev pub most_urgent : ℕ
+most_urgent = 18446744073709551615
+
+-- How urgent a register is, where those from a number on were made by reloading. Such a one comes first,
+-- since a slot for it would only ask for another. One that has fewer neighbours than there are colours is
+-- not urgent, as some colour is left to it whatever they take. Of any other, what its slot would cost for
+-- each neighbour that it stands in the way of.
+abbrev pub urgency : Colouring → ℕ → Node → ℕ
+urgency place fresh x =
+    cond (nat_le fresh x.reg.number) most_urgent
+    (cond (nat_lt (degree place x) 21) 0 (1 + x.uses * 1024 / degree place x))
 
 -- of two nodes, which comes first: the more urgent one, and of two as urgent that of the lower number
-abbrev pub ComesBefore : Node → Node → Type 0
-ComesBefore x y =
-    (urgency y < urgency x) ⊎ ((urgency x ≡ urgency y) × (x.reg.number < y.reg.number))
+abbrev pub ComesBefore : Colouring → ℕ → Node → Node → Type 0
+ComesBefore place fresh x y =
+    (urgency place fresh y < urgency place fresh x)
+    ⊎ ((urgency place fresh x ≡ urgency place fresh y) × (x.reg.number < y.reg.number))
 
 -- the nodes whose places are open, each of them once, in their order
-pub record IsOrder (g : Graph) (order : List Node) : Type 0 where
+pub record IsOrder (fresh : ℕ) (g : Graph) (order : List Node) : Type 0 where
   pub exact : (x : Node) → Contains order x ↔ (Contains g.nodes x × (x.reg.loc ≡ loc.Unset))
-  pub sorted : AllPairs ComesBefore order
+  pub sorted : AllPairs (ComesBefore (fixed g) fresh) order
 
 -- ---- what speaks for a colour, where some registers have places
 
@@ -39,10 +70,6 @@ is_in colour (loc.Slot n) = false
 -- how many of these registers, by number, stand in a colour
 abbrev pub standing : Colouring → ℕ → List ℕ → ℕ
 standing place colour ns = count_by (λ n. is_in colour (place n)) ns
-
--- the node of a number
-abbrev pub node_at : List Node → ℕ → Option Node
-node_at nodes n = find (λ (x : Node). nat_eq x.reg.number n) nodes
 
 abbrev pub node_moves : Option Node → List ℕ
 node_moves None = []
@@ -90,14 +117,6 @@ chosen g place x = place_for x.reg (first_best (merit g place x) (filter (is_fre
 
 -- ---- all places
 
-abbrev pub loc_of : Option Node → Loc
-loc_of None = loc.Unset
-loc_of (Some x) = x.reg.loc
-
--- the places that are fixed
-abbrev pub fixed : Graph → Colouring
-fixed g n = loc_of (node_at g.nodes n)
-
 -- the places with one more register at its place
 abbrev pub put : Colouring → ℕ → Loc → Colouring
 put place n here k = cond (nat_eq k n) here (place k)
@@ -108,24 +127,25 @@ coloured g place [] = place
 coloured g place (x ∷ xs) = coloured g (put place x.reg.number (chosen g place x)) xs
 
 -- Each register has its fixed place or the one chosen, and a number that is no register's is `Unset`.
-pub record IsColouredBy (g : Graph) (c : Colours) : Type 0 where
+pub record IsColouredBy (fresh : ℕ) (g : Graph) (c : Colours) : Type 0 where
   pub order : List Node
-  pub ordered : IsOrder g order
+  pub ordered : IsOrder fresh g order
   pub places : (n : ℕ) → place_in c n ≡ coloured g (fixed g) order n
 
 -- ---- laws
 
 -- the order of a graph is one
 
-abbrev pub OrderIsOne : Graph → Type 0
-OrderIsOne g = (first second : List Node) → IsOrder g first → IsOrder g second → first ≡ second
+abbrev pub OrderIsOne : ℕ → Graph → Type 0
+OrderIsOne fresh g =
+    (first second : List Node) → IsOrder fresh g first → IsOrder fresh g second → first ≡ second
 
 -- and so are the places of all numbers
-abbrev pub ColoursAreOne : Graph → Type 0
-ColoursAreOne g = (c d : Colours) → IsColouredBy g c → IsColouredBy g d →
+abbrev pub ColoursAreOne : ℕ → Graph → Type 0
+ColoursAreOne fresh g = (c d : Colours) → IsColouredBy fresh g c → IsColouredBy fresh g d →
     (n : ℕ) → place_in c n ≡ place_in d n
 
 -- a number that no register has is `Unset`
-abbrev pub OthersAreUnset : Graph → Type 0
-OthersAreUnset g = (c : Colours) → IsColouredBy g c → (n : ℕ) →
+abbrev pub OthersAreUnset : ℕ → Graph → Type 0
+OthersAreUnset fresh g = (c : Colours) → IsColouredBy fresh g c → (n : ℕ) →
     ((r : Reg) → InGraph g r → r.number ≡ n → ⊥) → place_in c n ≡ loc.Unset

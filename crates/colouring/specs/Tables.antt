@@ -9,6 +9,7 @@ use Rattle.mach_ir.specs.declared.graph.Node.{Node}
 use Rattle.colouring.specs.Chosen.{urgency, node_at}
 use Rattle.colouring.specs.declared.merit.Merit.{Merit}
 use Rattle.colouring.specs.declared.counts.Counts.{Counts}
+use Rattle.colouring.specs.declared.order.Ranked.{Ranked}
 use Rattle.colouring.specs.declared.tallies.Tallies.{Tallies}
 
 -- ---- the order
@@ -25,9 +26,18 @@ is_open x = is_unset x.reg.loc
 abbrev pub referred : List (Bor Node) → List Node
 referred nodes = map (λ x. x.now) nodes
 
+-- the nodes that are ranked
+abbrev pub ranked_nodes : List Ranked → List Node
+ranked_nodes ranked = map (λ (r : Ranked). r.node.now) ranked
+
+-- each is as urgent as it says
+abbrev pub AreRanked : Colouring → ℕ → List Ranked → Type 0
+AreRanked place fresh ranked =
+    All (λ (r : Ranked). r.urgency ≡ urgency place fresh r.node.now) ranked
+
 -- the sort's own test
-abbrev pub is_more_urgent : Bor Node → Bor Node → Bool
-is_more_urgent x y = is_lt (nat_cmp (urgency y.now) (urgency x.now))
+abbrev pub is_more_urgent : Ranked → Ranked → Bool
+is_more_urgent x y = is_lt (nat_cmp y.urgency x.urgency)
 
 -- ---- nodes by number
 

@@ -29,18 +29,19 @@ fn choose(graph: &Graph, table: &NodeTable, places: &[Loc], node: &Node) -> Loc
 }
 
 /// A place for each register of a graph. Places that are fixed stay, neighbours stand apart, and a register
-/// goes to a slot only where each colour has a neighbour.
+/// goes to a slot only where each colour has a neighbour. Registers numbered `fresh` or above were made by
+/// reloading, and come first.
 ///
 /// The time is that of sorting the nodes, and of each node's neighbours, its moves and theirs. The only
 /// error is want of memory.
-pub fn colour(alloc: Global, graph: &Graph) -> Result<Colours, AllocError>
+pub fn colour(alloc: Global, graph: &Graph, fresh: u32) -> Result<Colours, AllocError>
     requires { IsColourable graph.now }
     ensures colours { IfOk result (ColoursGraph graph.now) }
-    ensures value { IfOk result (IsColouredBy graph.now) }
+    ensures value { IfOk result (IsColouredBy fresh graph.now) }
 {
     let table = NodeTable::new(alloc, graph)?;
-    let order = order(alloc, graph)?;
     let mut places = table.fixed_places(alloc, graph)?;
+    let order = order(alloc, graph, places.as_slice(), fresh)?;
     for node in &order {
         let place = choose(graph, &table, places.as_slice(), *node);
         places[node.reg.number as usize] = place;

@@ -1,6 +1,6 @@
 //! Places for the registers of an interference graph (OCaml's `asmcomp/coloring.ml`).
 //!
-//! Registers get their places one after the other. First come those with so many neighbours that they may
+//! Registers get their places one after the other. First come those that reloading made, then those with so many neighbours that they may
 //! be left with no colour, those that a slot would cost most before the others. Each takes the best colour
 //! that no neighbour has, or else the slot of its origin.
 #![tactic(auto)]
@@ -12,6 +12,7 @@ mod nodes;
 mod order;
 mod tallies;
 
+ghost use Rattle.std.specs.Prelude.{ℕ};
 ghost use Rattle.mach_ir.specs.declared.graph.Graph.{Graph};
 ghost use Rattle.colouring.specs.Chosen.{OrderIsOne, ColoursAreOne, OthersAreUnset};
 
@@ -19,15 +20,15 @@ pub use choosing::colour;
 
 /// Law: the order in which the registers of a graph get their places is one.
 pub fn an_order_is_one()
-    ensures { (g : Graph) → OrderIsOne g }
+    ensures { (fresh : ℕ) (g : Graph) → OrderIsOne fresh g }
 {}
 
 /// Law: all colourings of a graph by its order have the same place for each number.
 pub fn colours_are_one()
-    ensures { (g : Graph) → ColoursAreOne g }
+    ensures { (fresh : ℕ) (g : Graph) → ColoursAreOne fresh g }
 {}
 
 /// Law: in such a colouring a number that no register has is `Unset`.
 pub fn others_are_unset()
-    ensures { (g : Graph) → OthersAreUnset g }
+    ensures { (fresh : ℕ) (g : Graph) → OthersAreUnset fresh g }
 {}

@@ -10,7 +10,7 @@ use Rattle.colouring.proofs.choosing.colour.Goals as goal
 
 pub index_mut-requires : goal.index_mut-requires
 index_mut-requires c =
-    let ordered = subst (λ (l : List (Bor Node)). IsOrder c.args.graph.now (referred l))
+    let ordered = subst (λ (l : List (Bor Node)). IsOrder c.args.fresh c.args.graph.now (referred l))
     (sym c.deref-node-items.ensures.value) c.in_ok-order.ensures in
     let within = is_within c.args.graph.now c.in_ok-table.table.indices.items c.deref-node-items.result.now
     c.loop-node.node-index c.node-item.result
@@ -20,7 +20,7 @@ index_mut-requires c =
 
 pub loop-node-preserved : goal.loop-node-preserved
 loop-node-preserved c =
-    let ordered = subst (λ (l : List (Bor Node)). IsOrder c.args.graph.now (referred l))
+    let ordered = subst (λ (l : List (Bor Node)). IsOrder c.args.fresh c.args.graph.now (referred l))
     (sym c.deref-node-items.ensures.value) c.in_ok-order.ensures in
     let within = is_within c.args.graph.now c.in_ok-table.table.indices.items c.deref-node-items.result.now
     c.loop-node.node-index c.node-item.result
@@ -40,10 +40,10 @@ loop-node-preserved c =
 
 pub returns-clause-colours : goal.returns-clause-colours
 returns-clause-colours c =
-    let ordered = subst (λ (l : List (Bor Node)). IsOrder c.args.graph.now (referred l))
+    let ordered = subst (λ (l : List (Bor Node)). IsOrder c.args.fresh c.args.graph.now (referred l))
     (sym c.deref-node-items.ensures.value) c.in_ok-order.ensures in
     let all : length c.deref-node-items.result.now ≤ c.loop-node.node-index = omega arith in
-    colours_the_graph c.args.graph.now c.requires (record { places = c.from_vec.result })
+    colours_the_graph c.args.graph.now c.requires c.args.fresh (record { places = c.from_vec.result })
     (is_coloured c.args.graph.now c.loop-node.places.items c.deref-node-items.result.now c.loop-node.node-index
     (record { places = c.from_vec.result })
     ordered all c.from_vec.ensures c.loop-node.invariant.on)

@@ -1,14 +1,13 @@
 use Rattle.std.proofs.Common.{rules}
 use Rattle.std.proofs.lemmas.List.Sorted.{answers_always}
-use Rattle.colouring.specs.Chosen.{urgency}
 use Rattle.colouring.proofs.order.sort_by_urgency.Goals as goal
 
 pub returns-clause-sorted : goal.returns-clause-sorted
 returns-clause-sorted c =
-    c.in_ok-sort_by_key.ensures.sorted (λ x. record { 0 = urgency x.now })
+    c.in_ok-sort_by_key.ensures.sorted (λ x. record { 0 = x.urgency })
     (answers_always _ _ _ (λ f a r g k. search rules))
 
 pub returns-clause-stable : goal.returns-clause-stable
 returns-clause-stable c =
-    c.in_ok-sort_by_key.ensures.stable (λ x. record { 0 = urgency x.now })
+    c.in_ok-sort_by_key.ensures.stable (λ x. record { 0 = x.urgency })
     (answers_always _ _ _ (λ f a r g k. search rules))

@@ -1,0 +1,10 @@
+use Rattle.std.proofs.Common.{◌≡◌, ℕ, ◌+◌, drop, not}
+use Rattle.std.specs.Prelude.{count_by}
+use Rattle.colouring.specs.Chosen.{is_slot}
+use Rattle.colouring.specs.Tables.{places_by}
+use Rattle.colouring.proofs.order.degree.Given as goal
+
+abbrev pub invariant-loop-number : goal.invariant-loop-number
+invariant-loop-number l =
+    l.count + count_by (λ n. not (is_slot (places_by l.places.now n))) (drop l.number-index l.number-items)
+    ≡ count_by (λ n. not (is_slot (places_by l.places.now n))) l.number-items

@@ -1,0 +1,5 @@
+pub mod Feeding
+pub mod Grown
+pub mod Kept
+pub mod Graphs
+pub mod Once

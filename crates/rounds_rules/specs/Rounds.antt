@@ -1,0 +1,68 @@
+-- What register allocation makes of a function: rounds of colouring and reloading, and the last resort.
+use Rattle.std.specs.Prelude.{◌≡◌, ℕ, suc, ◌+◌, ◌*◌, ◌<◌, ◌≤◌, Bool, true, false, length}
+use Rattle.colouring.specs.Chosen.{IsColouredBy}
+use Rattle.mach_ir.specs.Formed.{WellFormed}
+use Rattle.mach_ir.specs.Graph.{IsGraph, ColoursGraph, place_in}
+use Rattle.mach_ir.specs.Keeps.{Keeps}
+use Rattle.mach_ir.specs.Placed.{FullyPlaced}
+use Rattle.mach_ir.specs.Seats.{Seated}
+use Rattle.mach_ir.specs.declared.graph.Colours.{Colours}
+use Rattle.mach_ir.specs.declared.graph.Graph.{Graph}
+use Rattle.mach_ir.specs.declared.mach.Mach.{Mach}
+use Rattle.pass_rules.specs.Carried.{IsCarried}
+use Rattle.pass_rules.specs.Measures.{copy_words, other_operands}
+use Rattle.places_rules.specs.Places.{rest_in_slots}
+use Rattle.reload_rules.specs.Reloaded.{IsFree, IsReloadedBy}
+
+-- One round: the graph of a function, its colouring, what reloading makes of the function by that, and
+-- whether it asks for another round. Registers of this number on are those of reloads.
+pub record IsRound (fresh : ℕ) (m q : Mach) (asks : Bool) : Type 0 where
+  pub graph : Graph
+  pub of_function : IsGraph m graph
+  pub colours : Colours
+  -- neighbours differ, and none stands in a slot for which a colour is left
+  pub fine : ColoursGraph graph colours
+  pub chosen : IsColouredBy fresh graph colours
+  pub reloaded : IsReloadedBy m (place_in colours) q asks
+
+-- So many rounds lead from the first function to this one, and each asked for another.
+pub data Asked (fresh : ℕ) (first : Mach) : ℕ → Mach → Type 0 where
+  none_yet : Asked fresh first 0 first
+  one_more : {rounds : ℕ} {m q : Mach} → Asked fresh first rounds m → IsRound fresh m q true →
+      Asked fresh first (suc rounds) q
+
+-- after how many rounds allocation gives up
+abbrev pub most_rounds : ℕ
+most_rounds = 50
+
+-- Either the last round asks for no other, or after so many that each asked for another the first
+-- function is taken, with a slot for each register whose place is open.
+pub data Ends (fresh : ℕ) (first : Mach) : Mach → ℕ → Bool → Type 0 where
+  asks_no_more : {rounds : ℕ} {m q : Mach} → rounds < most_rounds → Asked fresh first rounds m →
+      IsRound fresh m q false → Ends fresh first q (suc rounds) false
+  gives_up : {m : Mach} → Asked fresh first most_rounds m →
+      Ends fresh first (rest_in_slots first) most_rounds true
+
+-- What allocation makes of a function, in how many rounds, and whether it gave up.
+pub record IsAllocatedIn (m q : Mach) (rounds : ℕ) (rest : Bool) : Type 0 where
+  pub fresh : ℕ
+  pub free : IsFree m fresh
+  pub ends : Ends fresh m q rounds rest
+
+pub record IsAllocated (m q : Mach) : Type 0 where
+  pub rounds : ℕ
+  pub rest : Bool
+  pub allocated : IsAllocatedIn m q rounds rest
+
+-- What an allocated function keeps.
+pub record IsKept (m q : Mach) : Type 0 where
+  -- it does what the first does
+  pub keeps : Keeps m q
+  pub formed : WellFormed q
+  -- each register has a place, and joined ones stand apart
+  pub placed : FullyPlaced q
+  pub seated : Seated m → Seated q
+  -- of the copies that reloading makes for an operand only one has words
+  pub carried : IsCarried (copy_words * other_operands m.code) m q
+  pub labels : q.labels ≡ m.labels
+  pub instrs : length q.code ≤ length m.code + most_rounds * other_operands m.code
