@@ -4,25 +4,34 @@ use Rattle.dead_rules.specs.Dropped.{IsDropped}
 use Rattle.mach_ir.specs.Formed.{WellFormed}
 use Rattle.mach_ir.specs.Placed.{WellPlaced}
 use Rattle.mach_ir.specs.declared.mach.Mach.{Mach}
+use Rattle.repeat_rules.specs.Repeated.{IsRepeated}
 use Rattle.spill_rules.specs.Chosen.{IsSpilled}
 use Rattle.split_rules.specs.Split.{IsSplit}
 use Rattle.mach_passes.specs.Prepared.{IsPreparable, IsPrepared}
-use Rattle.mach_passes.specs.Stages.{HasSlots}
-use Rattle.mach_passes.proofs.Whole.{small_stage, slots_stage}
+use Rattle.mach_passes.specs.Stages.{IsCleaned, HasSlots}
+use Rattle.mach_passes.proofs.Whole.{repeats_stage, small_stage, slots_stage}
 
-pub dropped_formed : (m q : Mach) → IsPreparable m → IsDropped (combined m) q → WellFormed q
-dropped_formed m q is made = (small_stage m q is made).formed
+pub repeated_formed : (m q : Mach) → IsPreparable m → IsRepeated (combined m) q → WellFormed q
+repeated_formed m q is made = (repeats_stage m q is made).formed
+
+pub cleaned_formed : (m q : Mach) → IsPreparable m → IsCleaned m q → WellFormed q
+cleaned_formed m q is made = (small_stage m q is made).formed
+
+pub is_cleaned : (m repeated q : Mach) → IsRepeated (combined m) repeated → IsDropped repeated q → IsCleaned m q
+is_cleaned m repeated q made dropped = record { repeated = repeated; is_repeated = made; is_dropped = dropped }
 
 pub split_prepared : (m s q : Mach) → IsPreparable m → HasSlots m s → (WellFormed s → WellPlaced s → IsSplit s q) → IsPrepared m q
 split_prepared m s q is slots made =
-    let k = slots_stage m slots.dropped s is slots.is_dropped slots.is_spilled in
+    let k = slots_stage m slots.dropped s is slots.is_cleaned slots.is_spilled in
     record {
+      repeated = slots.is_cleaned.repeated;
+      is_repeated = slots.is_cleaned.is_repeated;
       dropped = slots.dropped;
-      is_dropped = slots.is_dropped;
+      is_dropped = slots.is_cleaned.is_dropped;
       spilled = s;
       is_spilled = slots.is_spilled;
       is_split = made k.formed k.placed;
     }
 
-pub has_slots : (m small q : Mach) → IsDropped (combined m) small → IsSpilled small q → HasSlots m q
-has_slots m small q made spilled = record { dropped = small; is_dropped = made; is_spilled = spilled }
+pub has_slots : (m small q : Mach) → IsCleaned m small → IsSpilled small q → HasSlots m q
+has_slots m small q made spilled = record { dropped = small; is_cleaned = made; is_spilled = spilled }

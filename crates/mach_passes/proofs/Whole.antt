@@ -3,7 +3,7 @@ use Rattle.std.proofs.Common.{◌≡◌, ℕ, suc, ◌+◌, ◌*◌, ◌<◌, �
 use Rattle.std.specs.List.{Contains}
 use Rattle.combine_rules.proofs.Formed.{combined_formed, combined_seated}
 use Rattle.combine_rules.proofs.Placed.{combined_placed}
-use Rattle.combine_rules.proofs.Sizes.{size}
+use Rattle.combine_rules.proofs.Sizes.{size, register_before}
 use Rattle.combine_rules.proofs.Whole as combining
 use Rattle.combine_rules.specs.Combined.{combined}
 use Rattle.combine_rules.specs.Kept.{IsCombinable}
@@ -28,8 +28,14 @@ use Rattle.split_rules.proofs.One.{one_split}
 use Rattle.split_rules.proofs.Whole.{split_kept}
 use Rattle.split_rules.specs.Split.{IsSplit}
 use Rattle.mach_passes.specs.Prepared.{IsPrepared, IsPreparable, IsKept}
+use Rattle.mach_passes.specs.Stages.{IsCleaned}
+use Rattle.repeat_rules.proofs.One.{one_repeated}
+use Rattle.repeat_rules.proofs.Whole.{repeated_kept}
+use Rattle.repeat_rules.specs.Kept.{OwnOrigins}
+use Rattle.repeat_rules.specs.Repeated.{IsRepeated}
 use Rattle.mach_passes.proofs.Combined.{combined_carried}
 use Rattle.mach_passes.proofs.Dropped.{dropped_carried}
+use Rattle.mach_passes.proofs.Repeated.{repeated_carried}
 use Rattle.mach_passes.proofs.Spilled.{spill_carried}
 use Rattle.mach_passes.proofs.Split.{split_carried}
 
@@ -257,13 +263,36 @@ drop_stage m q formed placed s =
       carried = dropped_carried formed s;
     }
 
+repeat_stage : (m q : Mach) → WellFormed m → WellPlaced m → OwnOrigins m → IsRepeated m q → Smaller m q
+repeat_stage m q formed placed own s =
+    let k = repeated_kept m q formed placed own s in
+    record {
+      keeps = k.keeps;
+      formed = k.formed;
+      placed = k.placed;
+      seated = k.seated;
+      params = k.params;
+      size = k.size;
+      carried = repeated_carried k s;
+    }
+
+-- combining makes no register from another
+combined_own : (m : Mach) → IsCombinable m → OwnOrigins (combined m)
+combined_own m is r i = is.origins r (register_before m r i)
+
 -- the passes that do not enlarge the function
-pub small_stage : (m q : Mach) → IsPreparable m → IsDropped (combined m) q → Smaller m q
+pub repeats_stage : (m q : Mach) → IsPreparable m → IsRepeated (combined m) q → Smaller m q
+repeats_stage m q is made =
+    let one = combine_stage m is.combinable is.placed in
+    stage_then one (repeat_stage (combined m) q one.formed one.placed (combined_own m is.combinable) made)
+
+pub small_stage : (m q : Mach) → IsPreparable m → IsCleaned m q → Smaller m q
 small_stage m q is made =
-    let one = combine_stage m is.combinable is.placed in stage_then one (drop_stage (combined m) q one.formed one.placed made)
+    let one = repeats_stage m made.repeated is made.is_repeated in
+    stage_then one (drop_stage made.repeated q one.formed one.placed made.is_dropped)
 
 -- and spilling after them
-pub slots_stage : (m small q : Mach) → IsPreparable m → IsDropped (combined m) small → IsSpilled small q →
+pub slots_stage : (m small q : Mach) → IsPreparable m → IsCleaned m small → IsSpilled small q →
     IsStage (0 + copy_words * operand_count small.code) spilled_size m q
 slots_stage m small q is made spilled =
     let one = small_stage m small is made in
@@ -271,8 +300,9 @@ slots_stage m small q is made spilled =
 
 pub prepared_kept : (m q : Mach) → IsPreparable m → IsPrepared m q → IsKept m q
 prepared_kept m q is made =
-    let small = small_stage m made.dropped is made.is_dropped in
-    let slots = slots_stage m made.dropped made.spilled is made.is_dropped made.is_spilled in
+    let cleaned : IsCleaned m made.dropped = record { repeated = made.repeated; is_repeated = made.is_repeated; is_dropped = made.is_dropped } in
+    let small = small_stage m made.dropped is cleaned in
+    let slots = slots_stage m made.dropped made.spilled is cleaned made.is_spilled in
     let all = stage_then slots (split_stage made.spilled q (length m.params) (ap length slots.params) slots.formed slots.placed made.is_split) in
     record {
       keeps = all.keeps;
@@ -287,6 +317,7 @@ prepared_kept m q is made =
 
 pub one_prepared : (m q k : Mach) → IsPrepared m q → IsPrepared m k → q ≡ k
 one_prepared m q k a b =
-    let dropped = one_dropped (combined m) a.dropped b.dropped a.is_dropped b.is_dropped in
+    let repeated = one_repeated (combined m) a.repeated b.repeated a.is_repeated b.is_repeated in
+    let dropped = one_dropped b.repeated a.dropped b.dropped (subst (λ d. IsDropped d a.dropped) repeated a.is_dropped) b.is_dropped in
     let spilled = one_spilled b.dropped a.spilled b.spilled (subst (λ d. IsSpilled d a.spilled) dropped a.is_spilled) b.is_spilled in
     one_split b.spilled q k (subst (λ s. IsSplit s q) spilled a.is_split) b.is_split

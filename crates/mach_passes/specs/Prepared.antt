@@ -12,14 +12,17 @@ use Rattle.mach_ir.specs.declared.mach.Mach.{Mach}
 use Rattle.pass_rules.specs.Carried.{IsCarried}
 use Rattle.pass_rules.specs.Measures.{copy_words}
 use Rattle.places_rules.specs.Places.{ColoursLow}
+use Rattle.repeat_rules.specs.Repeated.{IsRepeated}
 use Rattle.spill_rules.specs.Chosen.{IsSpilled}
 use Rattle.split_rules.specs.Split.{IsSplit}
 
--- Its allocations are combined, what only computes and is not used goes, what lives over calls goes to
--- slots, and each web of writes gets a number of its own.
+-- Its allocations are combined, repeats become moves, what only computes and is not used goes, what
+-- lives over calls goes to slots, and each web of writes gets a number of its own.
 pub record IsPrepared (m q : Mach) : Type 0 where
+  pub repeated : Mach
+  pub is_repeated : IsRepeated (combined m) repeated
   pub dropped : Mach
-  pub is_dropped : IsDropped (combined m) dropped
+  pub is_dropped : IsDropped repeated dropped
   pub spilled : Mach
   pub is_spilled : IsSpilled dropped spilled
   pub is_split : IsSplit spilled q
@@ -31,8 +34,8 @@ pub record IsPreparable (m : Mach) : Type 0 where
   pub seated : Seated m
   pub colours_low : ColoursLow m
 
--- Bounds on the function, by those on the one that it is made of, and the number of its parameters. Spilling adds at most a copy for each
--- operand and result, and each web has a number of its own.
+-- Bounds on the function, by those on the one that it is made of, and the number of its parameters.
+-- Spilling adds at most a copy for each operand and result, and each web has a number of its own.
 abbrev pub prepared_size : ℕ → Size → Size
 prepared_size parameters s =
     record s {

@@ -2,10 +2,17 @@
 use Rattle.combine_rules.specs.Combined.{combined}
 use Rattle.dead_rules.specs.Dropped.{IsDropped}
 use Rattle.mach_ir.specs.declared.mach.Mach.{Mach}
+use Rattle.repeat_rules.specs.Repeated.{IsRepeated}
 use Rattle.spill_rules.specs.Chosen.{IsSpilled}
 
--- The second is the first without dead code, in which what lives over calls has slots.
+-- The second is the first with its allocations combined, and without repeats and dead code.
+pub record IsCleaned (m q : Mach) : Type 0 where
+  pub repeated : Mach
+  pub is_repeated : IsRepeated (combined m) repeated
+  pub is_dropped : IsDropped repeated q
+
+-- The second is that of the first, in which what lives over calls has slots.
 pub record HasSlots (m q : Mach) : Type 0 where
   pub dropped : Mach
-  pub is_dropped : IsDropped (combined m) dropped
+  pub is_cleaned : IsCleaned m dropped
   pub is_spilled : IsSpilled dropped q

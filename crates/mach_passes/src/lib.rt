@@ -8,7 +8,7 @@ ghost use Rattle.std.specs.Prelude.{◌≡◌};
 ghost use Rattle.mach_ir.specs.declared.mach.Mach.{Mach};
 ghost use Rattle.mach_passes.specs.Prepared.{IsPreparable, IsPrepared, IsKept};
 
-pub use passes::{prepared, with_slots, without_dead};
+pub use passes::{prepared, with_slots, without_dead, without_repeats};
 
 /// Law: what the passes make of a function is kept.
 pub fn what_is_prepared_is_kept()

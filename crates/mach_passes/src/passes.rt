@@ -1,27 +1,37 @@
 //! The passes, in their order.
 ghost use Rattle.std.specs.Prelude.{IfOk};
 ghost use Rattle.combine_rules.specs.Combined.{combined};
-ghost use Rattle.dead_rules.specs.Dropped.{IsDropped};
 ghost use Rattle.mach_ir.specs.Formed.{WellFormed};
+ghost use Rattle.repeat_rules.specs.Repeated.{IsRepeated};
 ghost use Rattle.spill_rules.specs.Chosen.{IsSpilled};
 ghost use Rattle.mach_passes.specs.Prepared.{IsPreparable, IsPrepared};
-ghost use Rattle.mach_passes.specs.Stages.{HasSlots};
+ghost use Rattle.mach_passes.specs.Stages.{IsCleaned, HasSlots};
 
 use comballoc::combine;
-use cse_deadcode::drop_dead;
+use cse_deadcode::{cse, drop_dead};
 use liveness::live;
 use mach_ir::Mach;
 use spill::spill;
 use split::split;
 use std::alloc::{AllocError, Global};
 
-/// The function with its allocations combined, and without what only computes and is not used. The
-/// only error is want of memory.
-pub fn without_dead(alloc: Global, mach: Mach) -> Result<Mach, AllocError>
-    ensures { IfOk result (IsDropped (combined mach)) }
+/// The function with its allocations combined, in which repeats are moves. The only error is want of
+/// memory.
+pub fn without_repeats(alloc: Global, mach: Mach) -> Result<Mach, AllocError>
+    ensures { IfOk result (IsRepeated (combined mach)) }
 {
     let combined = combine(alloc, mach)?;
-    drop_dead(alloc, combined)
+    cse(alloc, combined)
+}
+
+/// The function with its allocations combined, without repeats and without what only computes and is not
+/// used. The only error is want of memory.
+#[tactic(auto, using(crate::proofs::Stages::is_cleaned))]
+pub fn without_dead(alloc: Global, mach: Mach) -> Result<Mach, AllocError>
+    ensures { IfOk result (IsCleaned mach) }
+{
+    let repeated = without_repeats(alloc, mach)?;
+    drop_dead(alloc, repeated)
 }
 
 /// The function in which what lives over calls has slots. The only error is want of memory.
@@ -35,7 +45,7 @@ fn spill_live(alloc: Global, mach: Mach) -> Result<Mach, AllocError>
 
 /// The function without dead code in which what lives over calls has slots. The only error is want of
 /// memory.
-#[tactic(auto, using(crate::proofs::Stages::dropped_formed, crate::proofs::Stages::has_slots))]
+#[tactic(auto, using(crate::proofs::Stages::cleaned_formed, crate::proofs::Stages::has_slots))]
 pub fn with_slots(alloc: Global, mach: Mach) -> Result<Mach, AllocError>
     requires { IsPreparable mach }
     ensures { IfOk result (HasSlots mach) }
@@ -44,8 +54,8 @@ pub fn with_slots(alloc: Global, mach: Mach) -> Result<Mach, AllocError>
     spill_live(alloc, dropped)
 }
 
-/// What the passes before register allocation make of a function: its allocations are combined, what
-/// only computes and is not used goes, what lives over calls goes to slots, and each web of writes gets
+/// What the passes before register allocation make of a function: its allocations are combined,
+/// repeats become moves, what only computes and is not used goes, what lives over calls goes to slots, and each web of writes gets
 /// a number of its own.
 ///
 /// The only error is want of memory, which more places, writes or registers than a number can count

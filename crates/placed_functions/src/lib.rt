@@ -2,3 +2,25 @@
 //!
 //! The crate holds definitions and laws alone.
 #![tactic(auto)]
+
+ghost use Rattle.std.specs.Prelude.{ℕ, List, Option};
+ghost use Rattle.cmm_tree.specs.Symbols.{DefinedSymbol};
+ghost use Rattle.cmm_tree.specs.Tree.{FunctionTree};
+ghost use Rattle.mach_ir.specs.declared.mach.Mach.{Mach};
+ghost use Rattle.mach_passes.specs.Prepared.{IsPreparable, IsPrepared};
+ghost use Rattle.placed_functions.specs.Placed.{IsPlacedFor};
+ghost use Rattle.rounds_rules.specs.Rounds.{IsAllocated};
+ghost use Rattle.selection_promise.specs.Selects.{IsAccepted};
+ghost use Rattle.selection_rules.specs.Select.{selected};
+
+/// Law: selection gives what the passes over Mach ask.
+pub fn selected_functions_are_preparable()
+    ensures { (defined : List ℕ → Option DefinedSymbol) (tree : FunctionTree) → IsAccepted defined tree →
+        IsPreparable (selected tree) }
+{}
+
+/// Law: what the passes and register allocation make of a function that the front accepts is known.
+pub fn prepared_functions_are_placed()
+    ensures { (defined : List ℕ → Option DefinedSymbol) (tree : FunctionTree) (p q : Mach) →
+        IsAccepted defined tree → IsPrepared (selected tree) p → IsAllocated p q → IsPlacedFor tree q }
+{}

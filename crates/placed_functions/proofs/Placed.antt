@@ -1,0 +1,109 @@
+-- What the passes and register allocation make of a function of an accepted text is known.
+use Rattle.std.proofs.Common.{◌≡◌, ℕ, ◌+◌, ◌*◌, ◌≤◌, true, List, [], ◌∷◌, length, Option, ap, ◌∙◌, arith}
+use Rattle.bs_words.specs.declared.types.Comp.TheVariants as comp
+use Rattle.cmm_tree.specs.Symbols.{DefinedSymbol}
+use Rattle.cmm_tree.specs.Tree.{FunctionTree}
+use Rattle.combine_rules.specs.Kept.{IsCombinable, holds_block}
+use Rattle.correctness.specs.Measures.{tries}
+use Rattle.mach_ir.specs.Sizes.{operand_count}
+use Rattle.mach_ir.specs.declared.mach.Instr.{Instr}
+use Rattle.mach_ir.specs.declared.mach.Mach.{Mach}
+use Rattle.mach_ir.specs.declared.mach.MachOp.{MachOp}
+use Rattle.mach_ir.specs.declared.mach.MachOp.TheVariants as mach
+use Rattle.mach_ir.specs.declared.op.Op.TheVariants as op
+use Rattle.mach_ir.specs.declared.op.Pure.TheVariants as pure
+use Rattle.mach_ir.specs.declared.reg.Reg.{Reg}
+use Rattle.mach_ir.proofs.Keeping.{keeps_then}
+use Rattle.mach_passes.specs.Prepared.{IsPreparable, IsPrepared}
+use Rattle.mach_passes.specs.Prepared as prepared
+use Rattle.mach_passes.proofs.Whole.{prepared_kept}
+use Rattle.pass_rules.specs.Measures.{operands_with, other_operands}
+use Rattle.rounds_rules.specs.Rounds.{IsAllocated}
+use Rattle.rounds_rules.specs.Rounds as rounds
+use Rattle.rounds_rules.proofs.Kept.{allocated_kept}
+use Rattle.selection_places.proofs.Placed.{selected_low}
+use Rattle.selection_promise.specs.Selects.{IsAccepted, Selects, size_by}
+use Rattle.selection_promise.proofs.Promised.{promised}
+use Rattle.selection_rules.specs.Select.{selected}
+use Rattle.placed_functions.specs.Placed.{IsPlacedFor}
+use Rattle.placed_functions.proofs.Ends.{selected_end}
+use Rattle.placed_functions.proofs.Slots.{slots_of_open}
+
+-- no more operands of other instructions than copies than of all
+few_others : (f : MachOp) (args results : List Reg) → operands_with f args results ≤ length args + length results
+few_others (mach.Op (op.Pure (pure.Copy kind))) args results = omega arith
+few_others (mach.Op (op.Pure (pure.Constant w))) args results = omega arith
+few_others (mach.Op (op.Pure (pure.Symbol name))) args results = omega arith
+few_others (mach.Op (op.Pure (pure.Operator f right))) args results = omega arith
+few_others (mach.Op (op.Access f)) args results = omega arith
+few_others (mach.Op (op.Calling f)) args results = omega arith
+few_others (mach.Op (op.Leaving f)) args results = omega arith
+few_others (mach.Mark f) args results = omega arith
+
+others_few : (code : List Instr) → other_operands code ≤ operand_count code
+others_few [] = omega arith
+others_few (i ∷ is) = let here = few_others i.op i.args i.results in let rest = others_few is in omega (arith, here, rest)
+
+module _ {defined : List ℕ → Option DefinedSymbol} {tree : FunctionTree} (accepted : IsAccepted defined tree) where
+  promise : Selects tree (selected tree)
+  promise = promised defined tree accepted
+
+  -- selection gives what the passes ask
+  pub selected_preparable : IsPreparable (selected tree)
+  selected_preparable = record {
+    combinable = record {
+      formed = promise.formed;
+      allocates = promise.allocates;
+      starts = λ i blocks among allocates r c. ap holds_block (promise.starts i blocks among allocates r c);
+      origins = promise.origins;
+    };
+    placed = promise.placed;
+    seated = promise.seated;
+    colours_low = selected_low tree;
+  }
+
+  module _ {p q : Mach} (is : IsPrepared (selected tree) p) (allocated : IsAllocated p q) where
+    pub ready : prepared.IsKept (selected tree) p
+    ready = prepared_kept (selected tree) p selected_preparable is
+
+    kept : rounds.IsKept p q
+    kept = allocated_kept p q ready.formed ready.placed ((ready.carried).colours_low (selected_low tree)) allocated
+
+    -- what is made of the function
+    pub placed_for : IsPlacedFor tree q
+    placed_for =
+        let one = ready.carried in
+        let two = kept.carried in
+        let others = others_few (selected tree).code in
+        let size = promise.size in
+        let instrs = size.instrs in
+        let operands = size.operands in
+        let ready_size = ready.size (size_by tree.tokens) size in
+        let ready_instrs = ready_size.instrs in
+        let ready_labels = ready_size.labels in
+        let long = kept.instrs in
+        let labels = kept.labels in
+        let words_one = one.words in
+        let words_two = two.words in
+        let operands_one = one.operands in
+        let points_one = one.points in
+        let points_two = two.points in
+        let exits_one = one.exits in
+        let exits_two = two.exits in
+        let whole = keeps_then ready.keeps kept.keeps in
+        record {
+          keeps = whole;
+          formed = kept.formed;
+          placed = kept.placed;
+          seated = kept.seated ready.seated;
+          no_addr = whole.addrs promise.no_addr;
+          tries = two.tries (tries tree) (one.tries (tries tree) promise.tries);
+          offsets = two.offsets (one.offsets promise.offsets);
+          ends = two.ends (one.ends (selected_end tree));
+          words = omega (arith, words_one, words_two, operands_one, others);
+          points = omega (arith, points_one, points_two);
+          exits = omega (arith, exits_one, exits_two);
+          instrs = omega (arith, ready_instrs, long, operands_one, others, operands);
+          labels = omega (arith, ready_labels, labels);
+          slots = slots_of_open whole promise.no_slot promise.origins _ promise.open_registers;
+        }
