@@ -129,5 +129,6 @@ pub fn order<'a>(
 {
     let mut ranked = open_nodes(alloc, graph, places, fresh)?;
     sort_by_urgency(&mut ranked)?;
-    nodes_of(alloc, ranked.as_slice())
+    let nodes = nodes_of(alloc, ranked.as_slice())?;
+    Ok(nodes)
 }

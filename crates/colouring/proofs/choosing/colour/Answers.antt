@@ -33,7 +33,7 @@ loop-node-preserved c =
           c.loop-node-test.true c.node-item.is (omega (arith, within, len))
           (c.choose-place.ensures ∙
           ap (λ (l : List Loc). chosen c.args.graph.now (places_by l) c.node-item.result.now)
-          c.as_slice.ensures.value)
+          c.as_slice-in-loop-node.ensures.value)
           c.loop-node.invariant.on;
       len = length-set _ _ _ ∙ len;
     }

@@ -6,5 +6,5 @@ use Rattle.colouring.proofs.order.degree.Given as goal
 
 abbrev pub invariant-loop-number : goal.invariant-loop-number
 invariant-loop-number l =
-    l.count + count_by (λ n. not (is_slot (places_by l.places.now n))) (drop l.number-index l.number-items)
-    ≡ count_by (λ n. not (is_slot (places_by l.places.now n))) l.number-items
+    l.count + count_by (λ n. not (is_slot (places_by l.places n))) (drop l.number-index l.number-items)
+    ≡ count_by (λ n. not (is_slot (places_by l.places n))) l.number-items

@@ -10,4 +10,4 @@ pub record Goes (Nodes Ranked : Type 0) : Type 0 where
 abbrev pub invariant-loop-node : goal.invariant-loop-node
 invariant-loop-node l = Goes
     (ranked_nodes l.ranked.items ++ filter is_open (drop l.node-index l.node-items) ≡ filter is_open l.node-items)
-    (AreRanked (places_by l.places.now) l.fresh l.ranked.items)
+    (AreRanked (places_by l.places) l.fresh l.ranked.items)
