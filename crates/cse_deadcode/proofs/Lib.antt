@@ -4,3 +4,9 @@ mod Visiting
 mod Sweeps
 mod Walked
 mod Tables
+mod Last
+mod Noted
+mod Noting
+mod Alike
+mod Standing
+mod Repeating

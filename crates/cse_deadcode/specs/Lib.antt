@@ -1,2 +1,6 @@
 pub mod Flows
 pub mod Uses
+pub mod Events
+pub mod Last
+pub mod Times
+pub mod Repeats

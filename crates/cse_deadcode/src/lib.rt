@@ -6,8 +6,12 @@
 #![tactic(auto)]
 
 mod dropping;
+mod events;
+mod repeats;
+mod times;
 mod uses;
 mod visits;
 
 pub use dropping::drop_dead;
+pub use repeats::cse;
 pub use uses::used;

@@ -1,0 +1,482 @@
+-- Moves from what an operator repeats by the times of the code are exactly the repeats.
+use Rattle.std.proofs.Common.{◌≡◌, ◌≢◌, ◌∙◌, ℕ, zero, suc, ◌<◌, ◌≤◌, ◌+◌, ◌-◌, Bool, true, false, cond, ◌||◌, ◌⊎◌, inl, inr, ⊎_elim, List, [], ◌∷◌, ◌++◌, length, take, drop, Option, Some, None, slice_get, refl, sym, ap, subst, append_assoc, arith}
+use Rattle.std.proofs.lemmas.List.{length-append, append-nil, append_cancel_right}
+use Rattle.std.specs.List.{Contains, list_any}
+use Rattle.liveness.proofs.Bounds.{split_in}
+use Rattle.mach_ir.specs.Formed.{IsFormed, WellFormed}
+use Rattle.mach_ir.specs.Placed.{is_straight, AreStraight}
+use Rattle.mach_ir.specs.Walks.{InCode, in_args, further, IsRegister, is_in_code}
+use Rattle.mach_ir.specs.declared.op.Access.TheVariants as access
+use Rattle.mach_ir.specs.declared.op.Op.TheVariants as op
+use Rattle.mach_ir.specs.declared.op.Pure.TheVariants as pure
+use Rattle.mach_ir.specs.declared.op.Right.{Right}
+use Rattle.mach_ir.specs.declared.reg.Reg.{Reg}
+use Rattle.mach_ir.specs.declared.mach.Instr.{Instr}
+use Rattle.mach_ir.specs.declared.mach.Mach.{Mach}
+use Rattle.mach_ir.specs.declared.mach.MachOp.{MachOp}
+use Rattle.mach_ir.specs.declared.mach.MachOp.TheVariants as mach
+use Rattle.mach_laws.proofs.Walking.{none_in, first_in, later_in, in_cons}
+use Rattle.split_rules.proofs.Formed.{of_each}
+use Rattle.repeat_rules.specs.Repeated.{is_operator, StillStands, Repeats, from_earlier, again, in_place, with_moves, IsBefore, IsRepeated}
+use Rattle.bs_words.specs.declared.operators.IntOp.{IntOp}
+use Rattle.cse_deadcode.specs.declared.events.Computed.{Computed}
+use Rattle.cse_deadcode.specs.declared.events.Event.{Event}
+use Rattle.cse_deadcode.specs.declared.events.Event.TheVariants as event
+use Rattle.cse_deadcode.specs.Events.{computation}
+use Rattle.cse_deadcode.specs.Last.{last}
+use Rattle.cse_deadcode.specs.Times.{is_same, writes, does, happens, last_time}
+use Rattle.cse_deadcode.specs.Repeats.{stands, standing_first, standing, standing_found, standing_at, repeated_op, repeated, remade, without_repeats}
+use Rattle.cse_deadcode.proofs.Last.{Found, find, last_from}
+use Rattle.cse_deadcode.proofs.Noting.{differ, second_true, any_none, never_written}
+use Rattle.cse_deadcode.proofs.Alike.{operator_of, same_itself, OperatorShape, operator_shape, alike}
+use Rattle.cse_deadcode.proofs.Standing.{all_straight, still_stands, stands_still}
+
+-- ---- parts of lists
+
+in_front : {A : Type 0} (xs ys : List A) (y : A) → Contains xs y → Contains (xs ++ ys) y
+in_front [] ys y c = absurd (none_in y c)
+in_front (x ∷ xs) ys y c =
+    ⊎_elim (λ e. subst (Contains (x ∷ (xs ++ ys))) e (first_in x (xs ++ ys)))
+    (λ d. later_in x y (xs ++ ys) (in_front xs ys y d)) (in_cons x y xs c)
+
+behind : {A : Type 0} (xs ys : List A) (y : A) → Contains ys y → Contains (xs ++ ys) y
+behind [] ys y c = c
+behind (x ∷ xs) ys y c = later_in x y (xs ++ ys) (behind xs ys y c)
+
+none_cons : {A : Type 0} {x : A} {xs : List A} → [] ≡ x ∷ xs → ⊥
+none_cons e = cc
+
+cons_none : {A : Type 0} {x : A} {xs : List A} → x ∷ xs ≡ [] → ⊥
+cons_none e = cc
+
+head_of : {A : Type 0} {x y : A} {xs ys : List A} → x ∷ xs ≡ y ∷ ys → x ≡ y
+head_of e = cc
+
+tail_of : {A : Type 0} {x y : A} {xs ys : List A} → x ∷ xs ≡ y ∷ ys → xs ≡ ys
+tail_of e = cc
+
+some_same : {A : Type 0} {x y : A} → Some x ≡ Some y → x ≡ y
+some_same e = cc
+
+none_some : {A : Type 0} {x : A} → None ≡ Some x → ⊥
+none_some e = cc
+
+some_none : {A : Type 0} {x : A} → Some x ≡ None → ⊥
+some_none e = cc
+
+at_seam : {A : Type 0} (xs : List A) (y : A) (ys : List A) → slice_get (xs ++ y ∷ ys) (length xs) ≡ Some y
+at_seam [] y ys = refl
+at_seam (x ∷ xs) y ys = at_seam xs y ys
+
+-- two places of one list, of which the second is not before the first
+data Places {A : Type 0} (xs : List A) (x : A) (past : List A) (ys : List A) (y : A) (rest : List A) : Type 0 where
+  one_place : xs ≡ ys → x ≡ y → past ≡ rest → Places xs x past ys y rest
+  further_on : (mid : List A) → ys ≡ xs ++ x ∷ mid → past ≡ mid ++ y ∷ rest → Places xs x past ys y rest
+
+places_more : {A : Type 0} {z : A} {xs : List A} {x : A} {past ys : List A} {y : A} {rest : List A} →
+    Places xs x past ys y rest → Places (z ∷ xs) x past (z ∷ ys) y rest
+places_more {z = z} (one_place e h g) = one_place (ap (λ xs. z ∷ xs) e) h g
+places_more {z = z} (further_on mid e h) = further_on mid (ap (λ xs. z ∷ xs) e) h
+
+places : {A : Type 0} (xs : List A) (x : A) (past ys : List A) (y : A) (rest : List A) → xs ++ x ∷ past ≡ ys ++ y ∷ rest →
+    length xs ≤ length ys → Places xs x past ys y rest
+places [] x past [] y rest e le = one_place refl (head_of e) (tail_of e)
+places [] x past (z ∷ ys) y rest e le =
+    further_on ys (ap (λ v. v ∷ ys) (sym (head_of e))) (tail_of e)
+places (v ∷ xs) x past [] y rest e le = absurd (omega (arith, le))
+places (v ∷ xs) x past (z ∷ ys) y rest e le =
+    let less : length xs ≤ length ys = omega (arith, le) in
+    subst (λ u. Places (v ∷ xs) x past (u ∷ ys) y rest) (head_of e)
+    (places_more (places xs x past ys y rest (tail_of e) less))
+
+-- a place is not after the last
+places_end : {A : Type 0} (xs : List A) (x : A) (past ys : List A) (y : A) → xs ++ x ∷ past ≡ ys ++ y ∷ [] →
+    Places xs x past ys y []
+places_end xs x past ys y e =
+    let a : length (xs ++ x ∷ past) ≡ length xs + length (x ∷ past) = length-append xs (x ∷ past) in
+    let b : length (ys ++ y ∷ []) ≡ length ys + 1 = length-append ys (y ∷ []) in
+    let c : length (xs ++ x ∷ past) ≡ length (ys ++ y ∷ []) = ap length e in
+    let le : length xs ≤ length ys = omega (arith, a, b, c) in
+    places xs x past ys y [] e le
+
+take_front : {A : Type 0} (xs ys : List A) → take (length xs) (xs ++ ys) ≡ xs
+take_front [] [] = refl
+take_front [] (y ∷ ys) = refl
+take_front (x ∷ xs) ys = ap (λ zs. x ∷ zs) (take_front xs ys)
+
+drop_front : {A : Type 0} (xs ys : List A) → drop (length xs) (xs ++ ys) ≡ ys
+drop_front [] [] = refl
+drop_front [] (y ∷ ys) = refl
+drop_front (x ∷ xs) ys = drop_front xs ys
+
+-- ---- what is done in an operator
+
+computed_by : (f : IntOp) (r : Right) (args : List Reg) (i : Instr) → i.op ≡ operator_of f r → i.args ≡ args →
+    happens (event.Computes (computation f r args)) i ≡ true
+computed_by f r args i e h =
+    second_true (list_any (writes (event.Computes (computation f r args))) i.results) (does (event.Computes (computation f r args)) i.op i.args)
+    (ap (λ g. does (event.Computes (computation f r args)) g i.args) e
+    ∙ ap (λ xs. does (event.Computes (computation f r args)) (operator_of f r) xs) h
+    ∙ same_itself (event.Computes (computation f r args)))
+
+data Computing (c : Computed) : MachOp → List Reg → Type 0 where
+  computing : {g : IntOp} {q : Right} {args : List Reg} → is_same (event.Computes (computation g q args)) (event.Computes c) ≡ true →
+      Computing c (mach.Op (op.Pure (pure.Operator g q))) args
+
+computing_of : (c : Computed) (f : MachOp) (args : List Reg) → does (event.Computes c) f args ≡ true → Computing c f args
+computing_of c (mach.Op (op.Pure (pure.Operator g q))) args e = computing e
+computing_of c (mach.Op (op.Pure (pure.Copy kind))) args e = absurd (differ false e refl)
+computing_of c (mach.Op (op.Pure (pure.Constant w))) args e = absurd (differ false e refl)
+computing_of c (mach.Op (op.Pure (pure.Symbol name))) args e = absurd (differ false e refl)
+computing_of c (mach.Op (op.Access (access.Alloc blocks))) args e = absurd (differ false e refl)
+computing_of c (mach.Op (op.Access (access.Load chunk offset))) args e = absurd (differ false e refl)
+computing_of c (mach.Op (op.Access (access.Store chunk offset))) args e = absurd (differ false e refl)
+computing_of c (mach.Op (op.Calling f)) args e = absurd (differ false e refl)
+computing_of c (mach.Op (op.Leaving f)) args e = absurd (differ false e refl)
+computing_of c (mach.Mark f) args e = absurd (differ false e refl)
+
+computing_operates : (c : Computed) (f : MachOp) (args : List Reg) → Computing c f args → is_operator f ≡ true
+computing_operates c f args (computing e) = refl
+
+second_of : (a b : Bool) → a ≡ false → a || b ≡ true → b ≡ true
+second_of true b e h = absurd (differ true refl e)
+second_of false b e h = h
+
+computes_in : (c : Computed) (i : Instr) → happens (event.Computes c) i ≡ true → does (event.Computes c) i.op i.args ≡ true
+computes_in c i e =
+    second_of (list_any (writes (event.Computes c)) i.results) (does (event.Computes c) i.op i.args)
+    (any_none (writes (event.Computes c)) i.results (λ w d. never_written c w)) e
+
+-- ---- an instruction and what it repeats
+
+alone : (at : Event → ℕ) (made : List Instr) (f : MachOp) (args : List Reg) → is_operator f ≡ false → repeated_op at made f args ≡ None
+alone at made (mach.Op (op.Pure (pure.Operator g q))) args e = absurd (differ true refl e)
+alone at made (mach.Op (op.Pure (pure.Copy kind))) args e = refl
+alone at made (mach.Op (op.Pure (pure.Constant w))) args e = refl
+alone at made (mach.Op (op.Pure (pure.Symbol name))) args e = refl
+alone at made (mach.Op (op.Access f)) args e = refl
+alone at made (mach.Op (op.Calling f)) args e = refl
+alone at made (mach.Op (op.Leaving f)) args e = refl
+alone at made (mach.Mark f) args e = refl
+
+record Chosen (at : Event → ℕ) (time : ℕ) (j : Instr) (r : Reg) : Type 0 where
+  first : slice_get j.results 0 ≡ Some r
+  stands_so : stands at time j.args r ≡ true
+
+chosen : (at : Event → ℕ) (time : ℕ) (j : Instr) (r : Reg) → standing at time j ≡ Some r → Chosen at time j r
+chosen at time j r e = by (slice_get j.results 0) refl e
+  where
+    told : (q : Reg) (b : Bool) → slice_get j.results 0 ≡ Some q → stands at time j.args q ≡ b → cond b (Some q) None ≡ Some r →
+        Chosen at time j r
+    told q true h s e =
+        let same : q ≡ r = some_same e in
+        record { first = h ∙ ap Some same; stands_so = ap (stands at time j.args) (sym same) ∙ s }
+    told q false h s e = absurd (none_some e)
+
+    by : (o : Option Reg) → slice_get j.results 0 ≡ o → standing_first at time j.args o ≡ Some r → Chosen at time j r
+    by None h e = absurd (none_some e)
+    by (Some q) h e = told q (stands at time j.args q) h refl e
+
+module _ (m : Mach) (formed : WellFormed m) where
+  form_of : (i : Instr) → Contains m.code i → IsFormed i
+  form_of i c = of_each IsFormed m.code i formed.instrs c
+
+  in_code : (code : List Instr) (i : Instr) (r : Reg) → Contains code i → Contains i.args r → InCode r code
+  in_code [] i r c d = absurd (none_in i c)
+  in_code (j ∷ code) i r c d =
+      ⊎_elim (λ e. in_args (subst (λ (i : Instr). Contains i.args r) (sym e) d)) (λ g. further (in_code code i r g d)) (in_cons j i code c)
+
+  told : (i j : Instr) → Contains m.code i → Contains m.code j → (r q : Reg) → Contains i.args r → Contains j.args q →
+      r.number ≡ q.number → r ≡ q
+  told i j c d r q g h e =
+      formed.numbers r q (is_in_code (in_code m.code i r c g)) (is_in_code (in_code m.code j q d h)) e
+
+  -- what is made of a code: its operators are of the function, and none repeats an earlier one
+  pub record Fresh (made : List Instr) : Type 0 where
+    pub from : (j : Instr) → Contains made j → is_operator j.op ≡ true → Contains m.code j
+    pub once : (others : List Instr) (j : Instr) (run : List Instr) → made ≡ others ++ j ∷ run → (r : Reg) → Repeats others j r → ⊥
+
+  module _ (made : List Instr) (fresh : Fresh made) (i : Instr) (known : Contains m.code i) where
+    abbrev part : OperatorShape i → Computed
+    part s = computation s.f s.r i.args
+
+    abbrev key : OperatorShape i → Event
+    key s = event.Computes (part s)
+
+    by_shape : (s : OperatorShape i) → repeated (last_time made) made i ≡ standing_at (last_time made) made (last_time made (key s))
+    by_shape s = ap (λ g. repeated_op (last_time made) made g i.args) s.is
+
+    record Earlier (s : OperatorShape i) (j : Instr) : Type 0 where
+      operates : is_operator j.op ≡ true
+      here : Contains m.code j
+      shape : OperatorShape j
+      same_op : j.op ≡ i.op
+      same_args : j.args ≡ i.args
+
+    earlier : (s : OperatorShape i) (j : Instr) → Contains made j → happens (key s) j ≡ true → Earlier s j
+    earlier s j c e =
+        let k = computing_of (part s) j.op j.args (computes_in (part s) j e) in
+        let operates = computing_operates (part s) j.op j.args k in
+        let here = fresh.from j c operates in
+        let shape = operator_shape (form_of j here) operates in
+        let same : is_same (event.Computes (computation shape.f shape.r j.args)) (key s) ≡ true =
+            sym (ap (λ g. does (key s) g j.args) shape.is) ∙ computes_in (part s) j e in
+        let both = alike shape.f s.f shape.r s.r j.args i.args shape.few s.few (told j i here known) same in
+        record {
+          operates = operates;
+          here = here;
+          shape = shape;
+          same_op = shape.is ∙ both.same_op ∙ sym s.is;
+          same_args = both.same_args;
+        }
+
+    at_found : (s : OperatorShape i) (n : ℕ) → last_time made (key s) ≡ suc n → (f : Found (happens (key s)) made n) →
+        standing_at (last_time made) made (last_time made (key s)) ≡ standing (last_time made) (suc (length f.others)) f.found
+    at_found s n e f =
+        ap (standing_at (last_time made) made) e
+        ∙ ap (λ k. standing_at (last_time made) made (suc k)) (sym f.place)
+        ∙ ap (standing_found (last_time made) (suc (length f.others)))
+        (ap (λ code. slice_get code (length f.others)) f.within ∙ at_seam f.others f.found f.run)
+
+    in_made : (others : List Instr) (j : Instr) (run : List Instr) → made ≡ others ++ j ∷ run → Contains made j
+    in_made others j run e = subst (λ code. Contains code j) (sym e) (behind others (j ∷ run) j (first_in j run))
+
+    -- ---- what is found is repeated
+
+    found_repeats : (s : OperatorShape i) (n : ℕ) → last_time made (key s) ≡ suc n → Found (happens (key s)) made n → (r : Reg) →
+        repeated (last_time made) made i ≡ Some r → Repeats made i r
+    found_repeats s n e f r h =
+        let j = f.found in
+        let x = earlier s j (in_made f.others j f.run f.within) f.holds in
+        let c = chosen (last_time made) (suc (length f.others)) j r (sym (at_found s n e f) ∙ sym (by_shape s) ∙ h) in
+        let first : Some x.shape.result ≡ Some r = sym (ap (λ rs. slice_get rs 0) x.shape.results) ∙ c.first in
+        let result : j.results ≡ r ∷ [] = x.shape.results ∙ ap (λ q. q ∷ []) (some_same first) in
+        record {
+          earlier = j;
+          stands = still_stands made f.others j f.run r f.within x.operates result c.stands_so;
+          same_op = x.same_op;
+          same_args = x.same_args;
+        }
+
+    pub found_is : is_operator i.op ≡ true → (r : Reg) → repeated (last_time made) made i ≡ Some r → Repeats made i r
+    found_is o r h = by (last_time made (key s)) refl
+      where
+        s : OperatorShape i
+        s = operator_shape (form_of i known) o
+
+        by : (n : ℕ) → last_time made (key s) ≡ n → Repeats made i r
+        by zero e = absurd (none_some (sym (ap (standing_at (last_time made) made) e) ∙ sym (by_shape s) ∙ h))
+        by (suc n) e = found_repeats s n e (find (happens (key s)) made n e) r h
+
+    -- ---- what is not found is not repeated
+
+    -- an operator that stands after later instructions stood after fewer
+    stood : (others : List Instr) (j : Instr) (mid : List Instr) (k : Instr) (rest : List Instr) (r : Reg) →
+        (t : StillStands made j r) → t.others ≡ others → t.run ≡ mid ++ k ∷ rest → StillStands (others ++ j ∷ mid) j r
+    stood others j mid k rest r t e h =
+        let within : (x : Instr) → Contains mid x → Contains t.run x =
+            λ x c. subst (λ code. Contains code x) (sym h) (in_front mid (k ∷ rest) x c) in
+        record {
+          others = others;
+          run = mid;
+          within = refl;
+          straight = all_straight mid (λ x c. of_each (λ (x : Instr). is_straight x.op ≡ true) t.run x t.straight (within x c));
+          operates = t.operates;
+          result = t.result;
+          operands = λ x c.
+              t.operands x
+              (⊎_elim (λ g. subst (Contains (j ∷ t.run)) g (first_in j t.run)) (λ d. later_in j x t.run (within x d)) (in_cons j x mid c));
+          stands = λ x c. t.stands x (within x c);
+          kept = λ g x c. t.kept g x (within x c);
+        }
+
+    missed : (s : OperatorShape i) (r : Reg) (p : Repeats made i r) (n : ℕ) → last_time made (key s) ≡ suc n →
+        (f : Found (happens (key s)) made n) → length p.stands.others ≤ length f.others →
+        repeated (last_time made) made i ≡ None → ⊥
+    missed s r p n e f le h =
+        by (places p.stands.others p.earlier p.stands.run f.others f.found f.run (sym p.stands.within ∙ f.within) le)
+      where
+        t : StillStands made p.earlier r
+        t = p.stands
+
+        by : Places t.others p.earlier t.run f.others f.found f.run → ⊥
+        by (one_place a b c) =
+            let stands_so : stands (last_time made) (suc (length t.others)) p.earlier.args r ≡ true =
+                stands_still made t.others p.earlier t.run r t.within t.operates t.straight t.operands t.stands t.kept in
+            let same : standing (last_time made) (suc (length t.others)) p.earlier ≡ Some r =
+                ap (λ rs. standing_first (last_time made) (suc (length t.others)) p.earlier.args (slice_get rs 0)) t.result
+                ∙ ap (λ b. cond b (Some r) None) stands_so in
+            some_none
+            (sym same
+            ∙ ap (λ xs. standing (last_time made) (suc (length xs)) p.earlier) a
+            ∙ ap (standing (last_time made) (suc (length f.others))) b
+            ∙ sym (at_found s n e f) ∙ sym (by_shape s) ∙ h)
+        by (further_on mid a b) =
+            let x = earlier s f.found (in_made f.others f.found f.run f.within) f.holds in
+            fresh.once f.others f.found f.run f.within r
+            record {
+              earlier = p.earlier;
+              stands = subst (λ code. StillStands code p.earlier r) (sym a) (stood t.others p.earlier mid f.found f.run r t refl b);
+              same_op = p.same_op ∙ sym x.same_op;
+              same_args = p.same_args ∙ sym x.same_args;
+            }
+
+    pub none_is : repeated (last_time made) made i ≡ None → (r : Reg) → Repeats made i r → ⊥
+    none_is h r p = by (last_time made (key s)) refl
+      where
+        s : OperatorShape i
+        s = operator_shape (form_of i known) (ap is_operator (sym p.same_op) ∙ p.stands.operates)
+
+        after_it : length p.stands.others < last_time made (key s)
+        after_it =
+            subst (λ code. length p.stands.others < last_time code (key s)) (sym p.stands.within)
+            (last_from (happens (key s)) p.stands.others p.stands.run p.earlier
+            (computed_by s.f s.r i.args p.earlier (p.same_op ∙ s.is) p.same_args))
+
+        by : (n : ℕ) → last_time made (key s) ≡ n → ⊥
+        by zero e = let lt = after_it in omega (arith, lt, e)
+        by (suc n) e =
+            let f = find (happens (key s)) made n e in
+            let lt = after_it in
+            let place = f.place in
+            let le : length p.stands.others ≤ length f.others = omega (arith, lt, e, place) in
+            missed s r p n e f le h
+
+    -- ---- one more instruction
+
+    data Fate : Type 0 where
+      same_left : repeated (last_time made) made i ≡ None → remade made i ≡ i → Fate
+      made_move : is_operator (remade made i).op ≡ false → Fate
+
+    fate : Fate
+    fate = by (repeated (last_time made) made i) refl
+      where
+        by : (o : Option Reg) → repeated (last_time made) made i ≡ o → Fate
+        by None e = same_left e (ap (λ o. from_earlier o i) e)
+        by (Some r) e = made_move (ap (λ o. is_operator (from_earlier o i).op) e)
+
+    pub fresh_more : Fresh (made ++ remade made i ∷ [])
+    fresh_more =
+        record {
+          from = λ j c o.
+              ⊎_elim (λ d. fresh.from j d o)
+              (λ d. ⊎_elim (λ e. last_of j e o fate) (λ n. absurd (none_in j n)) (in_cons (remade made i) j [] d))
+              (split_in made (remade made i ∷ []) j c);
+          once = λ others j run e r p. by others j run e r p (places_end others j run made (remade made i) (sym e));
+        }
+      where
+        last_of : (j : Instr) → remade made i ≡ j → is_operator j.op ≡ true → Fate → Contains m.code j
+        last_of j e o (same_left n h) = subst (Contains m.code) (sym h ∙ e) known
+        last_of j e o (made_move n) = absurd (differ (is_operator j.op) o (ap (λ (j : Instr). is_operator j.op) (sym e) ∙ n))
+
+        fresh_last : (r : Reg) → Fate → Repeats made (remade made i) r → ⊥
+        fresh_last r (same_left n h) p = none_is n r (subst (λ (i : Instr). Repeats made i r) h p)
+        fresh_last r (made_move n) p = differ (is_operator (remade made i).op) (ap is_operator (sym p.same_op) ∙ p.stands.operates) n
+
+        by : (others : List Instr) (j : Instr) (run : List Instr) → made ++ remade made i ∷ [] ≡ others ++ j ∷ run → (r : Reg) →
+            Repeats others j r → Places others j run made (remade made i) [] → ⊥
+        by others j run e r p (one_place a b c) =
+            fresh_last r fate (subst (λ code. Repeats code (remade made i) r) a (subst (λ (j : Instr). Repeats others j r) b p))
+        by others j run e r p (further_on mid a b) = fresh.once others j mid a r p
+
+  fresh_none : Fresh []
+  fresh_none =
+      record {
+        from = λ j c o. absurd (none_in j c);
+        once = λ others j run e r p. nothing others j run e;
+      }
+    where
+      nothing : (others : List Instr) (j : Instr) (run : List Instr) → [] ≡ others ++ j ∷ run → ⊥
+      nothing [] j run e = none_cons e
+      nothing (x ∷ others) j run e = none_cons e
+
+  fresh_all : (made code : List Instr) → Fresh made → ((i : Instr) → Contains code i → Contains m.code i) →
+      Fresh (without_repeats made code)
+  fresh_all made [] f c = f
+  fresh_all made (i ∷ next) f c =
+      fresh_all (made ++ remade made i ∷ []) next (fresh_more made f i (c i (first_in i next)))
+      (λ j d. c j (later_in i j next d))
+
+  -- ---- the plan
+
+  abbrev after : List Instr → List Instr
+  after done = without_repeats [] done
+
+  abbrev plan_at : List Instr → List Instr → Option Reg
+  plan_at done [] = None
+  plan_at done (i ∷ next) = repeated (last_time (after done)) (after done) i
+
+  -- from what an instruction is a move that so many come after
+  abbrev plan : ℕ → Option Reg
+  plan k = plan_at (take (length m.code - suc k) m.code) (drop (length m.code - suc k) m.code)
+
+  planned : (done : List Instr) (i : Instr) (next : List Instr) → m.code ≡ done ++ i ∷ next →
+      plan (length next) ≡ repeated (last_time (after done)) (after done) i
+  planned done i next e =
+      ap (λ k. plan_at (take k m.code) (drop k m.code)) count
+      ∙ ap (λ code. plan_at (take (length done) code) (drop (length done) code)) e
+      ∙ ap (λ xs. plan_at xs (drop (length done) (done ++ i ∷ next))) (take_front done (i ∷ next))
+      ∙ ap (plan_at done) (drop_front done (i ∷ next))
+    where
+      count : length m.code - suc (length next) ≡ length done
+      count =
+          let all : length m.code ≡ length done + length (i ∷ next) = ap length e ∙ length-append done (i ∷ next) in
+          omega (arith, all)
+
+  after_more : (made done rest : List Instr) → without_repeats made (done ++ rest) ≡ without_repeats (without_repeats made done) rest
+  after_more made [] rest = refl
+  after_more made (i ∷ done) rest = after_more (made ++ remade made i ∷ []) done rest
+
+  same_move : (done : List Instr) (i : Instr) (next : List Instr) → m.code ≡ done ++ i ∷ next →
+      again plan (length next) i ≡ remade (after done) i
+  same_move done i next e = by (is_operator i.op) refl
+    where
+      o : Option Reg
+      o = repeated (last_time (after done)) (after done) i
+
+      by : (b : Bool) → is_operator i.op ≡ b → again plan (length next) i ≡ remade (after done) i
+      by true h =
+          ap (λ b. cond b (from_earlier (plan (length next)) i) i) h ∙ ap (λ o. from_earlier o i) (planned done i next e)
+      by false h =
+          ap (λ b. cond b (from_earlier (plan (length next)) i) i) h
+          ∙ sym (ap (λ o. from_earlier o i) (alone (last_time (after done)) (after done) i.op i.args h))
+
+  with_plan : (done rest : List Instr) → m.code ≡ done ++ rest →
+      without_repeats (after done) rest ≡ after done ++ with_moves plan rest
+  with_plan done [] e = sym (append-nil (after done))
+  with_plan done (i ∷ next) e =
+      ap (λ made. without_repeats made next) (sym one) ∙ with_plan (done ++ i ∷ []) next (e ∙ sym (append_assoc done (i ∷ []) next))
+      ∙ ap (λ made. made ++ with_moves plan next) one
+      ∙ append_assoc (after done) (remade (after done) i ∷ []) (with_moves plan next)
+      ∙ ap (λ j. after done ++ j ∷ with_moves plan next) (sym (same_move done i next e))
+    where
+      one : after (done ++ i ∷ []) ≡ after done ++ remade (after done) i ∷ []
+      one = after_more [] done (i ∷ [])
+
+  made_before : (i : Instr) (next made : List Instr) → (b : IsBefore plan m i next made) → made ≡ after b.before
+  made_before i next made b =
+      append_cancel_right made (after b.before) (again plan (length next) i ∷ with_moves plan next)
+      (sym b.made_so ∙ sym (with_plan [] m.code refl) ∙ ap after b.whole ∙ after_more [] b.before (i ∷ next)
+      ∙ with_plan b.before (i ∷ next) b.whole)
+
+  fresh_before : (before : List Instr) (i : Instr) (next : List Instr) → m.code ≡ before ++ i ∷ next → Fresh (after before)
+  fresh_before before i next e =
+      fresh_all [] before fresh_none (λ j c. subst (λ code. Contains code j) (sym e) (in_front before (i ∷ next) j c))
+
+  of_code : (before : List Instr) (i : Instr) (next : List Instr) → m.code ≡ before ++ i ∷ next → Contains m.code i
+  of_code before i next e = subst (λ code. Contains code i) (sym e) (behind before (i ∷ next) i (first_in i next))
+
+  pub is_repeated : (q : Mach) → q ≡ record m { code = without_repeats [] m.code } → IsRepeated m q
+  is_repeated q e =
+      record {
+        plan = plan;
+        is = e ∙ ap (λ code. record m { code = code }) (with_plan [] m.code refl);
+        moves = λ i next made b o r h.
+            subst (λ code. Repeats code i r) (sym (made_before i next made b))
+            (found_is (after b.before) (fresh_before b.before i next b.whole) i (of_code b.before i next b.whole) o r
+            (sym (planned b.before i next b.whole) ∙ h));
+        stays = λ i next made b h r p.
+            none_is (after b.before) (fresh_before b.before i next b.whole) i (of_code b.before i next b.whole)
+            (sym (planned b.before i next b.whole) ∙ h) r
+            (subst (λ code. Repeats code i r) (made_before i next made b) p);
+      }

@@ -1,0 +1,5 @@
+use Rattle.cse_deadcode.proofs.Noted.{Remaking}
+use Rattle.cse_deadcode.proofs.repeats.without_repeats.Given as goal
+
+abbrev pub invariant-loop-instr : goal.invariant-loop-instr
+invariant-loop-instr l = Remaking l.fn.code l.instr-iterator.rest.items l.made.items l.times
