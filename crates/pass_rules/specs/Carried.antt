@@ -10,7 +10,7 @@ use Rattle.mach_ir.specs.declared.op.Access.TheVariants as access
 use Rattle.mach_ir.specs.declared.op.Leaving.TheVariants as leaving
 use Rattle.mach_ir.specs.declared.op.Op.TheVariants as op
 use Rattle.mach_ir.specs.declared.reg.Reg.{Reg}
-use Rattle.pass_rules.specs.Measures.{code_words, code_points, exits}
+use Rattle.pass_rules.specs.Measures.{code_words, code_points, exits, other_operands}
 use Rattle.places_rules.specs.Places.{ColoursLow}
 
 -- no more than so many tries stand round each place of the code
@@ -35,6 +35,8 @@ pub data EndsInReturn : List Instr → Type 0 where
 pub record IsCarried (more : ℕ) (p q : Mach) : Type 0 where
   pub words : code_words q.code ≤ code_words p.code + more
   pub points : code_points q.code ≤ code_points p.code
+  -- operands and results of other instructions than copies
+  pub operands : other_operands q.code ≤ other_operands p.code
   pub exits : exits q.code ≤ exits p.code
   pub tries : (most : ℕ) → TriesAtMost p most → TriesAtMost q most
   pub offsets : All (λ (i : Instr). OffsetFits i.op) p.code →

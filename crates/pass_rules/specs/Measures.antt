@@ -55,3 +55,16 @@ code_points (i ∷ is) = one_if (passes_frame i.op) + code_points is
 abbrev pub exits : List Instr → ℕ
 exits [] = 0
 exits (i ∷ is) = cond (is_exit i.op) (suc (exits is)) (exits is)
+
+-- ---- operands
+
+-- The operands and results of an instruction other than a copy: reloading makes at most a copy for
+-- each.
+abbrev pub operands_with : MachOp → List Reg → List Reg → ℕ
+operands_with (mach.Op (op.Pure (pure.Copy kind))) args results = 0
+operands_with (mach.Op f) args results = length args + length results
+operands_with (mach.Mark f) args results = length args + length results
+
+abbrev pub other_operands : List Instr → ℕ
+other_operands [] = 0
+other_operands (i ∷ is) = operands_with i.op i.args i.results + other_operands is
