@@ -1,18 +1,19 @@
 -- What was made of a function of an accepted text is known whole.
-use Rattle.std.proofs.Common.{◌≡◌, ℕ, suc, ◌+◌, ◌*◌, ◌<◌, ◌≤◌, true, not, cond, List, [], ◌∷◌, length, All, Option, refl, ap, subst, arith}
+use Rattle.std.proofs.Common.{◌≡◌, ℕ, suc, ◌+◌, ◌*◌, ◌<◌, ◌≤◌, true, not, List, [], ◌∷◌, length, All, Option, refl, subst, arith}
 use Rattle.std.proofs.Math.Nat.{mul-le-mul_right, suc-mul}
+use Rattle.std.proofs.lemmas.List.Elements.{All-weaker}
 use Rattle.bs_words.specs.declared.types.Ret.{Ret}
 use Rattle.bs_words.specs.declared.types.Ret.TheVariants as ret
 use Rattle.cmm_tree.specs.Symbols.{DefinedSymbol}
 use Rattle.cmm_tree.specs.Tree.{FunctionTree}
 use Rattle.cmm_types.specs.Types.{body_type, result_of}
 use Rattle.correctness.specs.Measures.{tries}
-use Rattle.mach_ir.specs.Formed.{is_exit}
 use Rattle.mach_ir.specs.Formed as mach_formed
 use Rattle.mach_ir.specs.Keeps as kept
-use Rattle.mach_ir.specs.Meaning.{tries_at}
 use Rattle.mach_ir.specs.Graph.{place_in}
-use Rattle.mach_ir.specs.Placed.{Colouring, FullyPlaced, IsColouring}
+use Rattle.mach_ir.specs.Placed.{Colouring, WellPlaced, IsColouring}
+use Rattle.mach_ir.specs.Seats.{Seated}
+use Rattle.mach_ir.specs.Sizes.{Size, HasSize}
 use Rattle.mach_ir.specs.Walks as mach_walks
 use Rattle.mach_ir.specs.declared.op.Access.TheVariants as access
 use Rattle.mach_ir.specs.declared.op.Op.{Op}
@@ -32,7 +33,10 @@ use Rattle.lin_ir.specs.declared.lin.LinOp.TheVariants as lin
 use Rattle.lin_ir.specs.declared.lin.Line.{Line}
 use Rattle.lin_ir.specs.declared.lin.Lin.{Lin}
 use Rattle.lin_ir.proofs.Keeping.{keeps_then}
-use Rattle.places_rules.specs.Places.{Placing, placed_code, recoloured}
+use Rattle.pass_rules.specs.Measures.{exits}
+use Rattle.pass_rules.specs.Carried.{TriesAtMost, OffsetFits, EndsInReturn, at_return, further, IsCarried}
+use Rattle.pass_rules.proofs.Placed.{placed_carried}
+use Rattle.places_rules.specs.Places.{ColoursLow, recoloured}
 use Rattle.places_rules.specs.Rest.{IsKept}
 use Rattle.places_rules.proofs.Colouring.{coloured_kept}
 use Rattle.reg_rounds.specs.Allocated.{IsAllocated}
@@ -44,7 +48,6 @@ use Rattle.linear_rules.proofs.Homes.{IsIn, in_of, contains_of}
 use Rattle.linear_rules.proofs.Lines.{all_of, named_from}
 use Rattle.linear_rules.proofs.Marks.{all_in, instr}
 use Rattle.tidy_rules.specs.Redirecting.{Tidies}
-use Rattle.tidy_rules.specs.Regular.{IsRegular}
 use Rattle.tidy_rules.proofs.Following.{tidied_tidies}
 use Rattle.tidy_rules.proofs.Lowered.{lowered_regular}
 use Rattle.linear_pass.specs.Linear.{IsLinearOf}
@@ -54,12 +57,13 @@ use Rattle.selection_rules.specs.Select.{selected, select, returns, first, is_no
 use Rattle.selection_rules.proofs.Endings.{ending_moves, ending_select}
 use Rattle.selection_rules.proofs.Parts.{Ending, all, more, Within, inside_in}
 use Rattle.selection_places.proofs.Whole.{value_at, params_of, env_of}
-use Rattle.selection_promise.specs.Selects.{IsAccepted, Selects, OffsetFits}
+use Rattle.selection_promise.specs.Selects.{IsAccepted, Selects, size_by}
+use Rattle.selection_promise.specs.Selects as selects
 use Rattle.selection_promise.proofs.Promised.{few_tokens, promised}
 use Rattle.made_functions.specs.Chained.{IsChained}
 use Rattle.made_functions.specs.Made.{IsMadeOf}
-use Rattle.chained_functions.proofs.Exits.{exits, selected_exits}
-use Rattle.chained_functions.proofs.Carried.{AllTries, all_tries, placed_tries, lowered_shallow, tidied_shallow, tidied_named, placed_all, EndsInReturn, at_return, further, placed_end, lowered_unended, tidied_unended}
+use Rattle.chained_functions.proofs.Exits.{selected_exits}
+use Rattle.chained_functions.proofs.Carried.{lowered_shallow, tidied_shallow, tidied_named, IsUnended, lowered_unended, tidied_unended}
 
 -- ---- selected code ends in a return
 
@@ -82,14 +86,6 @@ selected_end f =
 
 -- ---- how many lines
 
-placed_long : (place : Placing) (code : List Instr) → length (placed_code place code) ≡ length code
-placed_long place [] = refl
-placed_long place (i ∷ is) = ap suc (placed_long place is)
-
-placed_exits : (place : Placing) (code : List Instr) → exits (placed_code place code) ≡ exits code
-placed_exits place [] = refl
-placed_exits place (i ∷ is) = ap (λ n. cond (is_exit i.op) (suc n) n) (placed_exits place is)
-
 -- an exit ends at most so many tries
 ended_few : (k : ℕ) (code : List Instr) → ((i : Instr) (next : List Instr) → mach_walks.Stands i next code → (l n : ℕ) → i.op ≡ mach.Mark (mark.Exit l n) → n ≤ k) → tries_ended code ≤ exits code * k
 ended_few k [] h = omega arith
@@ -109,11 +105,6 @@ ended_few k (i ∷ is) h = by i.op i.args i.results (λ l n e. h i is mach_walks
     by (mach.Mark (mark.Handler l)) args results own ih = omega (arith, ih)
     by (mach.Mark (mark.End l)) args results own ih = omega (arith, ih)
 
-tries_within : (k : ℕ) (code : List Instr) → AllTries k code → (i : Instr) (next : List Instr) → mach_walks.Stands i next code → length (tries_at (i ∷ next)) ≤ k
-tries_within k [] h i next s = elim s [ ]
-tries_within k (j ∷ is) h i next mach_walks.here = h.0
-tries_within k (j ∷ is) h i next (mach_walks.below s) = tries_within k is h.1 i next s
-
 few_product : (n k : ℕ) → n ≤ 64000 → k ≤ 65536 → n * k ≤ 4194304000
 few_product n k one two =
     let a : n * k ≤ 64000 * k = mul-le-mul_right k one in
@@ -131,6 +122,76 @@ offset_of_line (lin.Op (op.Calling f)) h = tt
 offset_of_line (lin.Op (op.Leaving f)) h = tt
 offset_of_line (lin.Flow f) h = tt
 
+-- What selection says of offsets is what passes carry.
+promised_offsets : (f : MachOp) → selects.OffsetFits f → OffsetFits f
+promised_offsets (mach.Op (op.Access (access.Load k offset))) h = h
+promised_offsets (mach.Op (op.Access (access.Store k offset))) h = h
+promised_offsets (mach.Op (op.Access (access.Alloc blocks))) h = tt
+promised_offsets (mach.Op (op.Pure f)) h = tt
+promised_offsets (mach.Op (op.Calling f)) h = tt
+promised_offsets (mach.Op (op.Leaving f)) h = tt
+promised_offsets (mach.Mark f) h = tt
+
+-- ---- the lines of a coloured function
+
+module _ (p : Mach) (formed : mach_formed.WellFormed p) (well : WellPlaced p) (low : ColoursLow p) (place : Colouring)
+    (colouring : IsColouring (mach_walks.IsRegister p) (mach_walks.Joined p) place) (m : Lin) (linear : IsLinearOf (recoloured place p) m) where
+  abbrev rest : Mach
+  rest = recoloured place p
+
+  kept_so : IsKept p rest
+  kept_so = coloured_kept p place formed well colouring low
+
+  carried_so : IsCarried 0 p rest
+  carried_so = placed_carried p place colouring
+
+  tidies : Tidies (lowered rest) m
+  tidies = tidied_tidies linear.made
+
+  -- No more traps are pushed at a place than tries stand round one of the function.
+  few_traps : (k : ℕ) → TriesAtMost p k → (code : List Line) (traps : List ℕ) → Traps m code traps → length traps ≤ k
+  few_traps k few code traps (by_walk r) =
+      tidied_shallow k tidies (lowered_shallow rest kept_so.formed kept_so.placed k (carried_so.tries k few)) code traps r
+  few_traps k few code traps (unreached out) = omega arith
+
+  offsets_fit : All (λ (i : Instr). OffsetFits i.op) p.code → All (λ (i : Line). line.OffsetFits i.op) m.code
+  offsets_fit words = all_of (λ (i : Line). line.OffsetFits i.op) m.code (λ j z. offset_of_line j.op (λ g e. fits j z g e))
+    where
+      fits : (j : Line) → IsIn j m.code → (g : Op) → j.op ≡ lin.Op g → OffsetFits (mach.Op g)
+      fits j z g e =
+          let here : IsNamedIn (λ f. f ≡ mach.Op g) m = record { line = j; among = contains_of z; op = g; is = e; named = refl } in
+          let was : kept.IsNamedIn (λ f. f ≡ mach.Op g) rest =
+          named_from (slot_number rest) (λ f. f ≡ mach.Op g) rest (lowered rest) refl (tidied_named (λ f. f ≡ mach.Op g) tidies here) in
+          subst OffsetFits was.named
+          (all_in (λ (i : Instr). OffsetFits i.op) (carried_so.offsets words) (in_of was.instr rest.code was.among))
+
+  lines_few : (k : ℕ) → TriesAtMost p k → k ≤ 65536 → (s : Size) → HasSize p s → s.instrs ≤ 50000000 → exits p.code ≤ 64000 →
+      length m.code < 4294967296
+  lines_few k few shallow s size some rarely =
+      let more = (kept_so.size s size).instrs in
+      let same = carried_so.exits in
+      let stand = carried_so.tries k few in
+      let own : (i : Instr) (next : List Instr) → mach_walks.Stands i next rest.code → (l n : ℕ) → i.op ≡ mach.Mark (mark.Exit l n) → n ≤ k =
+      λ i next s l n e. let ended = (kept_so.formed).nested.at_exit i next s l n e in let le = stand i next s in omega (arith, ended, le) in
+      let ended = ended_few k rest.code own in
+      let product = few_product (exits rest.code) k (omega (arith, same, rarely)) shallow in
+      let lines = linear.lines in
+      omega (arith, lines, ended, product, more, some)
+
+  -- Frames, pushed traps and lines fit what descriptors can say.
+  fit_within : (k : ℕ) → TriesAtMost p k → (s : Size) → HasSize p s → s.instrs ≤ 50000000 → exits p.code ≤ 64000 →
+      frame_bytes m + 16 * k ≤ 1048576 → IsWithin m
+  fit_within k few s size some rarely fit =
+      record {
+        lines = lines_few k few (omega (arith, fit)) s size some rarely;
+        frame = λ code traps at. let le = few_traps k few code traps at in omega (arith, fit, le);
+      }
+
+  never_ends : Seated p → EndsInReturn p.code → IsUnended m
+  never_ends seated ends =
+      tidied_unended tidies
+      (lowered_unended rest (lowered_regular rest kept_so.formed kept_so.placed (kept_so.seated seated)) (carried_so.ends ends))
+
 -- ---- whole
 
 module _ (defined : List ℕ → Option DefinedSymbol) (tree : FunctionTree) (accepted : IsAccepted defined tree) (m : Lin)
@@ -139,89 +200,36 @@ module _ (defined : List ℕ → Option DefinedSymbol) (tree : FunctionTree) (ac
   promise : Selects tree (selected tree)
   promise = promised defined tree accepted
 
-  abbrev by_number : Placing
-  by_number = λ r. place r.number
+  low : ColoursLow (selected tree)
+  low = selected_low tree
 
-  abbrev rest : Mach
-  rest = recoloured place (selected tree)
+  tree_traps : (code : List Line) (traps : List ℕ) → Traps m code traps → length traps ≤ tries tree
+  tree_traps = few_traps (selected tree) promise.formed promise.placed low place colouring m linear (tries tree) promise.tries
 
-  kept_so : IsKept (selected tree) rest
-  kept_so = coloured_kept (selected tree) place promise.formed promise.placed colouring (selected_low tree)
-
-  formed : mach_formed.WellFormed rest
-  formed = kept_so.formed
-
-  full : FullyPlaced rest
-  full = kept_so.placed
-
-  safe : mach_walks.NoAddrLive rest
-  safe = kept_so.no_addr promise.no_addr
-
-  regular : IsRegular (lowered rest)
-  regular = lowered_regular rest formed full (kept_so.seated promise.seated)
-
-  rest_tries : AllTries (tries tree) rest.code
-  rest_tries = placed_tries by_number (tries tree) (selected tree).code (all_tries (tries tree) (selected tree).code promise.tries)
-
-  tidies : Tidies (lowered rest) m
-  tidies = tidied_tidies linear.made
-
-  few_traps : (code : List Line) (traps : List ℕ) → Traps m code traps → length traps ≤ tries tree
-  few_traps code traps (by_walk r) =
-      tidied_shallow (tries tree) tidies (lowered_shallow rest formed full (tries tree) rest_tries) code traps r
-  few_traps code traps (unreached out) = omega arith
-
-  offsets : All (λ (i : Line). line.OffsetFits i.op) m.code
-  offsets = all_of (λ (i : Line). line.OffsetFits i.op) m.code (λ j z. offset_of_line j.op (λ g e. fits j z g e))
-    where
-      fits : (j : Line) → IsIn j m.code → (g : Op) → j.op ≡ lin.Op g → OffsetFits (mach.Op g)
-      fits j z g e =
-          let here : IsNamedIn (λ f. f ≡ mach.Op g) m = record { line = j; among = contains_of z; op = g; is = e; named = refl } in
-          let was : kept.IsNamedIn (λ f. f ≡ mach.Op g) rest =
-          named_from (slot_number rest) (λ f. f ≡ mach.Op g) rest (lowered rest) refl (tidied_named (λ f. f ≡ mach.Op g) tidies here) in
-          subst OffsetFits was.named
-          (all_in (λ (i : Instr). OffsetFits i.op) (placed_all by_number OffsetFits (selected tree).code promise.offsets) (in_of was.instr rest.code was.among))
-
-  exit_few : (i : Instr) (next : List Instr) → mach_walks.Stands i next rest.code → (l n : ℕ) → i.op ≡ mach.Mark (mark.Exit l n) → length (tries_at (i ∷ next)) ≤ tries tree → n ≤ tries tree
-  exit_few i next s l n e le = let ended = formed.nested.at_exit i next s l n e in omega (arith, ended, le)
-
-  lines_few : tries tree ≤ 65536 → length m.code < 4294967296
-  lines_few few =
+  tree_within : frame_bytes m + 16 * tries tree ≤ 1048576 → IsWithin m
+  tree_within =
       let tokens = few_tokens tree accepted.checked.limits_kept in
-      let covered = accepted.covered in
-      let values = covered.tokens_cover in
-      let exits_few = selected_exits tree in
-      let same = placed_exits by_number (selected tree).code in
-      let long = placed_long by_number (selected tree).code in
-      let size = promise.size in
-      let instrs = size.instrs in
-      let own : (i : Instr) (next : List Instr) → mach_walks.Stands i next rest.code → (l n : ℕ) → i.op ≡ mach.Mark (mark.Exit l n) → n ≤ tries tree = λ i next s l n e. exit_few i next s l n e (tries_within (tries tree) rest.code rest_tries i next s) in
-      let ended = ended_few (tries tree) rest.code own in
-      let product = few_product (exits rest.code) (tries tree) (omega (arith, exits_few, same, values, tokens)) few in
-      let lines = linear.lines in
-      omega (arith, lines, ended, product, long, instrs, tokens)
-
-  -- Frames, pushed traps and lines fit what descriptors can say.
-  pub fit_within : frame_bytes m + 16 * tries tree ≤ 1048576 → IsWithin m
-  fit_within fit =
-      record {
-        lines = lines_few (omega (arith, fit));
-        frame = λ code traps at. let le = few_traps code traps at in omega (arith, fit, le);
-      }
+      let values = accepted.covered.tokens_cover in
+      let rarely = selected_exits tree in
+      fit_within (selected tree) promise.formed promise.placed low place colouring m linear (tries tree) promise.tries
+      (size_by tree.tokens) promise.size (omega (arith, tokens)) (omega (arith, tokens, values, rarely))
 
   whole : (ds : List Descr) (pieces : Pieces) → IsMadeOf tree m ds pieces → frame_bytes m + 16 * tries tree ≤ 1048576 → IsChained tree m ds pieces
   whole ds pieces made fit =
+      let coloured = coloured_kept (selected tree) place promise.formed promise.placed colouring low in
+      let safe = coloured.no_addr promise.no_addr in
+      let words = All-weaker (λ (i : Instr). selects.OffsetFits i.op) (λ (i : Instr). OffsetFits i.op) (λ i. promised_offsets i.op) (selected tree).code promise.offsets in
       record {
         keeps = λ named exact.
-            keeps_then (selected tree) rest m named kept_so.keeps (linear.keeps safe named exact);
+            keeps_then (selected tree) (recoloured place (selected tree)) m named coloured.keeps (linear.keeps safe named exact);
         regular = linear.regular;
         tidy = linear.tidy;
         tight = linear.tight;
         no_addr = linear.no_addr safe;
         spare_dead = linear.spare_dead;
-        within = fit_within fit;
-        offsets = offsets;
-        unended = tidied_unended tidies (lowered_unended rest regular (placed_end by_number (selected_end tree)));
+        within = tree_within fit;
+        offsets = offsets_fit (selected tree) promise.formed promise.placed low place colouring m linear words;
+        unended = never_ends (selected tree) promise.formed promise.placed low place colouring m linear promise.seated (selected_end tree);
         exact = made.exact;
         count = made.count;
         homes = linear.named ds made.exact;
@@ -242,11 +250,11 @@ module _ {defined : List ℕ → Option DefinedSymbol} {tree : FunctionTree} {m 
 
   -- No more traps are pushed at a place than tries stand round one of the text.
   pub depth : (code : List Line) (traps : List ℕ) → Traps m code traps → length traps ≤ tries tree
-  depth = few_traps defined tree accepted m colours chosen of_coloured
+  depth = tree_traps defined tree accepted m colours chosen of_coloured
 
   -- What descriptors ask of a Linear function, whose frame and traps fit.
   pub within : frame_bytes m + 16 * tries tree ≤ 1048576 → IsWithin m
-  within = fit_within defined tree accepted m colours chosen of_coloured
+  within = tree_within defined tree accepted m colours chosen of_coloured
 
 -- What was made of a function of an accepted text is known whole, where its frame and its traps fit.
 pub chained : {defined : List ℕ → Option DefinedSymbol} {tree : FunctionTree} {m : Lin} {ds : List Descr} {pieces : Pieces} → IsAccepted defined tree → IsMadeOf tree m ds pieces →

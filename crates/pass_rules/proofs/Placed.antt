@@ -1,16 +1,16 @@
 -- A function whose registers are put at chosen places, where fixed places stay, is no larger than it was, and ends as
 -- it did.
-use Rattle.std.proofs.Common.{◌≡◌, ◌⊎◌, inl, inr, ⊎_elim, ℕ, suc, ◌+◌, ◌≤◌, Bool, true, false, cond, ◌&&◌, List, [], ◌∷◌, length, All, refl, sym, ap, ◌∙◌, subst, arith}
+use Rattle.std.proofs.Common.{◌≡◌, ◌⊎◌, ⊎_elim, ℕ, suc, ◌+◌, ◌≤◌, Bool, true, false, cond, ◌&&◌, List, [], ◌∷◌, length, All, refl, sym, ap, ◌∙◌, subst, arith}
 use Rattle.std.specs.List.{Contains}
 use Rattle.bs_words.specs.declared.types.Loc.{Loc}
 use Rattle.bs_words.specs.declared.types.Loc.TheVariants as loc
 use Rattle.lin_ir.specs.Meaning.{same_loc}
 use Rattle.linear_rules.specs.Lowered.{same_spot, same_comp}
 use Rattle.mach_ir.specs.Formed.{is_exit}
-use Rattle.mach_ir.specs.Meaning.{tries_at, passes_frame}
-use Rattle.mach_ir.specs.Placed.{Colouring, IsPlaced, in_colour, in_slot, IsColouring, placed_by}
+use Rattle.mach_ir.specs.Meaning.{tries_at}
+use Rattle.mach_ir.specs.Placed.{Colouring, IsPlaced, in_colour, in_slot, IsColouring}
 use Rattle.mach_ir.specs.Sizes.{operand_count}
-use Rattle.mach_ir.specs.Walks.{Stands, InCode, in_args, in_results, further, IsRegister, is_in_code, Joined}
+use Rattle.mach_ir.specs.Walks.{InCode, in_args, in_results, further, IsRegister, is_in_code, Joined}
 use Rattle.mach_ir.specs.declared.mach.Instr.{Instr}
 use Rattle.mach_ir.specs.declared.mach.Mach.{Mach}
 use Rattle.mach_ir.specs.declared.mach.MachOp.{MachOp}
@@ -22,7 +22,7 @@ use Rattle.mach_laws.proofs.Walking.{first_in}
 use Rattle.places_rules.specs.Places.{Placing, ColoursLow, placed, all_placed, placed_instr, placed_code, with_places, recoloured}
 use Rattle.places_rules.proofs.Lists.{length_mapped, all_mapped}
 use Rattle.places_rules.proofs.Text.{same_tries, was_at, was_register}
-use Rattle.pass_rules.specs.Measures.{copy_words, words_with, instr_words, code_words, one_if, code_points, exits, operands_with, other_operands}
+use Rattle.pass_rules.specs.Measures.{copy_words, words_with, code_words, code_points, exits, operands_with, other_operands}
 use Rattle.pass_rules.specs.Carried.{TriesAtMost, OffsetFits, EndsInReturn, IsCarried}
 use Rattle.pass_rules.specs.Carried as carried
 
