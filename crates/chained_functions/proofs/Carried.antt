@@ -1,11 +1,10 @@
 -- What is carried from a Mach function to its tidy lines: how many traps are pushed, its operations, and that no walk
 -- comes to the end of the code.
-use Rattle.std.proofs.Common.{◌≡◌, ℕ, zero, suc, ◌≤◌, Bool, true, false, cond, List, [], ◌∷◌, ◌++◌, length, map, nat_le, All, refl, sym, ap, ◌∙◌, subst, arith}
+use Rattle.std.proofs.Common.{◌≡◌, ℕ, zero, suc, ◌≤◌, Bool, true, false, cond, List, [], ◌∷◌, ◌++◌, length, map, nat_le, refl, sym, ap, ◌∙◌, subst, arith}
 use Rattle.std.proofs.lemmas.Bool.{true≢false, eq-eqb}
-use Rattle.std.proofs.lemmas.List.Elements.{All-nil, All-cons}
 use Rattle.mach_ir.specs.Acts.{On, At, drop_tries}
 use Rattle.mach_ir.specs.Formed.{WellFormed}
-use Rattle.mach_ir.specs.Meaning.{tries_at, tries_past}
+use Rattle.mach_ir.specs.Meaning.{tries_at}
 use Rattle.mach_ir.specs.Placed.{FullyPlaced}
 use Rattle.mach_ir.specs.Walks.{OneOf, this}
 use Rattle.mach_ir.specs.Walks as mach_walks
@@ -28,15 +27,16 @@ use Rattle.lin_ir.specs.declared.lin.LinOp.TheVariants as lin
 use Rattle.lin_ir.specs.declared.lin.Line.{Line}
 use Rattle.lin_ir.specs.declared.lin.Lin.{Lin}
 use Rattle.lin_ir.specs.declared.lin.Spot.{Spot}
-use Rattle.places_rules.specs.Places.{Placing, placed_code}
+use Rattle.pass_rules.specs.Carried.{TriesAtMost, EndsInReturn}
+use Rattle.pass_rules.specs.Carried as carried
 use Rattle.linear_rules.specs.Lowered.{is_idle, pops, lines_of, lowered_code, slot_number, slot_count, lowered}
 use Rattle.linear_rules.proofs.Homes.{IsIn, is_first, is_later, in_of, contains_of}
-use Rattle.linear_rules.proofs.Marks.{instr, all_here, all_later}
+use Rattle.linear_rules.proofs.Marks.{instr}
 use Rattle.linear_rules.proofs.Meeting.{comes}
 use Rattle.linear_rules.proofs.Places.{place_tries}
 use Rattle.linear_rules.proofs.Standing.{is_at}
 use Rattle.linear_rules.proofs.Walked.{Tail, tail_all, tail_more, tail_next, tail_in, tail_stands, reached_tail}
-use Rattle.tidy_rules.specs.Leaving.{LabelsBetween, none_between, label_between, IsUseless, unreached, unread, skipped, without, with_code, is_landing, LeavesOut}
+use Rattle.tidy_rules.specs.Leaving.{LabelsBetween, none_between, label_between, IsUseless, unreached, unread, skipped, without, with_code, is_landing}
 use Rattle.tidy_rules.specs.Leaving as leaving_out
 use Rattle.tidy_rules.specs.Redirecting.{redirect, Tidies, as_it_is, then_leaves, then_redirects}
 use Rattle.tidy_rules.specs.Regular.{IsRegular}
@@ -48,22 +48,13 @@ use Rattle.tidy_rules.proofs.Redirecting as turned
 -- ---- tries
 
 -- so many tries at most stand round each place of a code
-abbrev pub AllTries : ℕ → List Instr → Type 0
+abbrev AllTries : ℕ → List Instr → Type 0
 AllTries k [] = Unit {0}
 AllTries k (i ∷ is) = (length (tries_at (i ∷ is)) ≤ k) × AllTries k is
 
-pub all_tries : (k : ℕ) (code : List Instr) → ((i : Instr) (next : List Instr) → mach_walks.Stands i next code → length (tries_at (i ∷ next)) ≤ k) → AllTries k code
+all_tries : (k : ℕ) (code : List Instr) → ((i : Instr) (next : List Instr) → mach_walks.Stands i next code → length (tries_at (i ∷ next)) ≤ k) → AllTries k code
 all_tries k [] h = tt
 all_tries k (i ∷ is) h = (h i is mach_walks.here, all_tries k is (λ j next s. h j next (mach_walks.below s)))
-
--- places change nothing of the marks
-tries_placed : (place : Placing) (code : List Instr) → tries_at (placed_code place code) ≡ tries_at code
-tries_placed place [] = refl
-tries_placed place (i ∷ is) = ap (tries_past i.op) (tries_placed place is)
-
-pub placed_tries : (place : Placing) (k : ℕ) (code : List Instr) → AllTries k code → AllTries k (placed_code place code)
-placed_tries place k [] h = tt
-placed_tries place k (i ∷ is) h = (subst (λ ts. length (tries_past i.op ts) ≤ k) (sym (tries_placed place is)) h.0, placed_tries place k is h.1)
 
 -- so many traps are pushed wherever a walk comes
 abbrev pub IsShallow : ℕ → Lin → Type 0
@@ -100,10 +91,10 @@ few_at number k (i ∷ is) h n = by i.op i.args i.results h.0 (few_at number k i
     by (mach.Mark (mark.End l)) args results own ih = few_either k side _ _ ih own
 
 -- A trap is pushed for each try.
-pub lowered_shallow : (p : Mach) → WellFormed p → FullyPlaced p → (k : ℕ) → AllTries k p.code → IsShallow k (lowered p)
+pub lowered_shallow : (p : Mach) → WellFormed p → FullyPlaced p → (k : ℕ) → TriesAtMost p k → IsShallow k (lowered p)
 lowered_shallow p formed full k h code tries r =
     let at = is_at (slot_number p) (slot_count p) p formed (comes (slot_number p) (slot_count p) p formed full r).stands in
-    subst (λ ts. length ts ≤ k) (sym at) (few_at (slot_number p) k p.code h (length code))
+    subst (λ ts. length ts ≤ k) (sym at) (few_at (slot_number p) k p.code (all_tries k p.code h) (length code))
 
 comes_shallow : {k : ℕ} {m : Lin} {code : List Line} {tries : List ℕ} → IsShallow k m → Comes m code tries → length tries ≤ k
 comes_shallow h (there {code = code} {tries = tries} r) = h code tries r
@@ -134,21 +125,7 @@ tidied_named Named (then_redirects {q = q} t l) n =
     let y = line_was q l.to l.each x.line q.code (in_of x.line (map (redirect l.to) q.code) x.among) in
     record { line = y.0; among = contains_of y.1; op = x.op; is = op_was q l.to l.each y.0.op x.op (ap (λ (j : Line). j.op) y.2 ∙ x.is); named = x.named })
 
-pub placed_all : (place : Placing) (P : MachOp → Type 0) (code : List Instr) → All (λ (i : Instr). P i.op) code → All (λ (i : Instr). P i.op) (placed_code place code)
-placed_all place P [] h = All-nil (λ (i : Instr). P i.op)
-placed_all place P (i ∷ is) h =
-    All-cons (λ (i : Instr). P i.op) _ (placed_code place is) (all_here (λ (i : Instr). P i.op) i is h) (placed_all place P is (all_later (λ (i : Instr). P i.op) i is h))
-
 -- ---- the end of the code
-
--- the last instruction is a return
-pub data EndsInReturn : List Instr → Type 0 where
-  at_return : {args results : List Reg} → EndsInReturn (instr (mach.Op (op.Leaving leaving.Return)) args results ∷ [])
-  further : {i : Instr} {is : List Instr} → EndsInReturn is → EndsInReturn (i ∷ is)
-
-pub placed_end : (place : Placing) {code : List Instr} → EndsInReturn code → EndsInReturn (placed_code place code)
-placed_end place at_return = at_return
-placed_end place (further e) = further (placed_end place e)
 
 -- the last line is a return
 data Closed : List Line → Type 0 where
@@ -179,8 +156,8 @@ module _ (number : ℕ → ℕ) where
   either_close false x y = y
 
   lowered_closed : {code : List Instr} → EndsInReturn code → Closed (lowered_code number code)
-  lowered_closed at_return = closes
-  lowered_closed (further {i = i} {is = is} e) = let c = lowered_closed e in either_close (is_idle i.op i.args i.results) c (lines_close i.op i c)
+  lowered_closed carried.at_return = closes
+  lowered_closed (carried.further {i = i} {is = is} e) = let c = lowered_closed e in either_close (is_idle i.op i.args i.results) c (lines_close i.op i c)
 
 -- a label behind a line stands behind it, or is the line
 behind : (l : ℕ) (f : LinOp) {ls : List ℕ} → IsIn l (label_of f ++ ls) → has_label l f ≡ false → IsIn l ls

@@ -1,18 +1,10 @@
 -- What was made of a function of an accepted text is known whole.
-use Rattle.std.proofs.Common.{◌≡◌, ℕ, suc, ◌+◌, ◌*◌, ◌<◌, ◌≤◌, true, not, cond, List, [], ◌∷◌, length, All, Option, refl, ap, subst, arith}
+use Rattle.std.proofs.Common.{◌≡◌, ℕ, suc, ◌+◌, ◌*◌, ◌<◌, ◌≤◌, List, [], ◌∷◌, length, All, Option, refl, subst, arith}
 use Rattle.std.proofs.Math.Nat.{mul-le-mul_right, suc-mul}
-use Rattle.bs_words.specs.declared.types.Ret.{Ret}
-use Rattle.bs_words.specs.declared.types.Ret.TheVariants as ret
 use Rattle.cmm_tree.specs.Symbols.{DefinedSymbol}
 use Rattle.cmm_tree.specs.Tree.{FunctionTree}
-use Rattle.cmm_types.specs.Types.{body_type, result_of}
 use Rattle.correctness.specs.Measures.{tries}
-use Rattle.mach_ir.specs.Formed.{is_exit}
-use Rattle.mach_ir.specs.Formed as mach_formed
 use Rattle.mach_ir.specs.Keeps as kept
-use Rattle.mach_ir.specs.Meaning.{tries_at}
-use Rattle.mach_ir.specs.Graph.{place_in}
-use Rattle.mach_ir.specs.Placed.{Colouring, FullyPlaced, IsColouring}
 use Rattle.mach_ir.specs.Walks as mach_walks
 use Rattle.mach_ir.specs.declared.op.Access.TheVariants as access
 use Rattle.mach_ir.specs.declared.op.Op.{Op}
@@ -32,64 +24,31 @@ use Rattle.lin_ir.specs.declared.lin.LinOp.TheVariants as lin
 use Rattle.lin_ir.specs.declared.lin.Line.{Line}
 use Rattle.lin_ir.specs.declared.lin.Lin.{Lin}
 use Rattle.lin_ir.proofs.Keeping.{keeps_then}
-use Rattle.places_rules.specs.Places.{Placing, placed_code, recoloured}
-use Rattle.places_rules.specs.Rest.{IsKept}
-use Rattle.places_rules.proofs.Colouring.{coloured_kept}
-use Rattle.reg_rounds.specs.Allocated.{IsAllocated}
-use Rattle.reg_rounds.proofs.Kept.{colouring_chosen}
-use Rattle.selection_places.proofs.Placed.{selected_low}
+use Rattle.pass_rules.specs.Measures.{exits}
+use Rattle.pass_rules.specs.Carried.{OffsetFits}
 use Rattle.linear_rules.specs.Lowered.{slot_number, lowered}
 use Rattle.linear_rules.specs.Sizes.{tries_ended}
 use Rattle.linear_rules.proofs.Homes.{IsIn, in_of, contains_of}
 use Rattle.linear_rules.proofs.Lines.{all_of, named_from}
 use Rattle.linear_rules.proofs.Marks.{all_in, instr}
 use Rattle.tidy_rules.specs.Redirecting.{Tidies}
-use Rattle.tidy_rules.specs.Regular.{IsRegular}
 use Rattle.tidy_rules.proofs.Following.{tidied_tidies}
 use Rattle.tidy_rules.proofs.Lowered.{lowered_regular}
 use Rattle.linear_pass.specs.Linear.{IsLinearOf}
 use Rattle.line_stands.specs.Lines as line
 use Rattle.rv_pieces.specs.declared.piece.Pieces.{Pieces}
-use Rattle.selection_rules.specs.Select.{selected, select, returns, first, is_no_value, fresh, seats}
-use Rattle.selection_rules.proofs.Endings.{ending_moves, ending_select}
-use Rattle.selection_rules.proofs.Parts.{Ending, all, more, Within, inside_in}
-use Rattle.selection_places.proofs.Whole.{value_at, params_of, env_of}
-use Rattle.pass_rules.specs.Carried.{OffsetFits}
-use Rattle.selection_promise.specs.Selects.{IsAccepted, Selects}
-use Rattle.selection_promise.proofs.Promised.{few_tokens, promised}
+use Rattle.selection_rules.specs.Select.{selected}
+use Rattle.selection_promise.specs.Selects.{IsAccepted}
+use Rattle.selection_promise.proofs.Promised.{few_tokens}
+use Rattle.placed_functions.specs.Placed.{IsPlacedFor}
+use Rattle.placed_functions.proofs.Placed.{placed_for}
+use Rattle.placed_functions.proofs.Tries.{few_nest}
 use Rattle.made_functions.specs.Chained.{IsChained}
 use Rattle.made_functions.specs.Made.{IsMadeOf}
-use Rattle.chained_functions.proofs.Exits.{exits, selected_exits}
-use Rattle.chained_functions.proofs.Carried.{AllTries, all_tries, placed_tries, lowered_shallow, tidied_shallow, tidied_named, placed_all, EndsInReturn, at_return, further, placed_end, lowered_unended, tidied_unended}
-
--- ---- selected code ends in a return
-
-ends_through : {rest code : List Instr} → Ending rest code → EndsInReturn rest → EndsInReturn code
-ends_through all e = e
-ends_through (more x) e = further (ends_through x e)
-
-returns_end : (d : Reg) (n : ℕ) (result : Ret) → EndsInReturn (returns d n result)
-returns_end d n ret.Unit = at_return
-returns_end d n (ret.Comp c) = further at_return
-
-selected_end : (f : FunctionTree) → EndsInReturn (selected f).code
-selected_end f =
-    let d = fresh (value_at f) (body_type f) in
-    let last = returns d (suc (value_at f)) (result_of (body_type f)) in
-    let body : Within last (select (env_of f) [] (not (is_no_value (body_type f))) true d (suc (suc (value_at f))) f.body last) =
-    ending_select (env_of f) [] (not (is_no_value (body_type f))) true d (suc (suc (value_at f))) f.body last in
-    let whole : Within last (selected f).code = inside_in body (ending_moves (seats 0 first (params_of f)) (params_of f) _) in
-    ends_through whole.ending (returns_end d (suc (value_at f)) (result_of (body_type f)))
+use Rattle.chained_functions.proofs.Exits.{selected_exits}
+use Rattle.chained_functions.proofs.Carried.{lowered_shallow, tidied_shallow, tidied_named, lowered_unended, tidied_unended}
 
 -- ---- how many lines
-
-placed_long : (place : Placing) (code : List Instr) → length (placed_code place code) ≡ length code
-placed_long place [] = refl
-placed_long place (i ∷ is) = ap suc (placed_long place is)
-
-placed_exits : (place : Placing) (code : List Instr) → exits (placed_code place code) ≡ exits code
-placed_exits place [] = refl
-placed_exits place (i ∷ is) = ap (λ n. cond (is_exit i.op) (suc n) n) (placed_exits place is)
 
 -- an exit ends at most so many tries
 ended_few : (k : ℕ) (code : List Instr) → ((i : Instr) (next : List Instr) → mach_walks.Stands i next code → (l n : ℕ) → i.op ≡ mach.Mark (mark.Exit l n) → n ≤ k) → tries_ended code ≤ exits code * k
@@ -110,12 +69,7 @@ ended_few k (i ∷ is) h = by i.op i.args i.results (λ l n e. h i is mach_walks
     by (mach.Mark (mark.Handler l)) args results own ih = omega (arith, ih)
     by (mach.Mark (mark.End l)) args results own ih = omega (arith, ih)
 
-tries_within : (k : ℕ) (code : List Instr) → AllTries k code → (i : Instr) (next : List Instr) → mach_walks.Stands i next code → length (tries_at (i ∷ next)) ≤ k
-tries_within k [] h i next s = elim s [ ]
-tries_within k (j ∷ is) h i next mach_walks.here = h.0
-tries_within k (j ∷ is) h i next (mach_walks.below s) = tries_within k is h.1 i next s
-
-few_product : (n k : ℕ) → n ≤ 64000 → k ≤ 65536 → n * k ≤ 4194304000
+few_product : (n k : ℕ) → n ≤ 64000 → k ≤ 32000 → n * k ≤ 2048000000
 few_product n k one two =
     let a : n * k ≤ 64000 * k = mul-le-mul_right k one in
     omega (arith, a, two)
@@ -134,124 +88,70 @@ offset_of_line (lin.Flow f) h = tt
 
 -- ---- whole
 
-module _ (defined : List ℕ → Option DefinedSymbol) (tree : FunctionTree) (accepted : IsAccepted defined tree) (m : Lin)
-    (place : Colouring) (colouring : IsColouring (mach_walks.IsRegister (selected tree)) (mach_walks.Joined (selected tree)) place)
-    (linear : IsLinearOf (recoloured place (selected tree)) m) where
-  promise : Selects tree (selected tree)
-  promise = promised defined tree accepted
-
-  abbrev by_number : Placing
-  by_number = λ r. place r.number
-
-  abbrev rest : Mach
-  rest = recoloured place (selected tree)
-
-  kept_so : IsKept (selected tree) rest
-  kept_so = coloured_kept (selected tree) place promise.formed promise.placed colouring (selected_low tree)
-
-  formed : mach_formed.WellFormed rest
-  formed = kept_so.formed
-
-  full : FullyPlaced rest
-  full = kept_so.placed
-
-  safe : mach_walks.NoAddrLive rest
-  safe = kept_so.no_addr promise.no_addr
-
-  regular : IsRegular (lowered rest)
-  regular = lowered_regular rest formed full (kept_so.seated promise.seated)
-
-  rest_tries : AllTries (tries tree) rest.code
-  rest_tries = placed_tries by_number (tries tree) (selected tree).code (all_tries (tries tree) (selected tree).code promise.tries)
-
-  tidies : Tidies (lowered rest) m
+module _ {defined : List ℕ → Option DefinedSymbol} {tree : FunctionTree} (accepted : IsAccepted defined tree) {q : Mach} (is : IsPlacedFor tree q) {m : Lin}
+    (linear : IsLinearOf q m) where
+  tidies : Tidies (lowered q) m
   tidies = tidied_tidies linear.made
 
-  few_traps : (code : List Line) (traps : List ℕ) → Traps m code traps → length traps ≤ tries tree
-  few_traps code traps (by_walk r) =
-      tidied_shallow (tries tree) tidies (lowered_shallow rest formed full (tries tree) rest_tries) code traps r
-  few_traps code traps (unreached out) = omega arith
+  -- No more traps are pushed at a place than tries stand round one of the text.
+  pub depth : (code : List Line) (traps : List ℕ) → Traps m code traps → length traps ≤ tries tree
+  depth code traps (by_walk r) = tidied_shallow (tries tree) tidies (lowered_shallow q is.formed is.placed (tries tree) is.tries) code traps r
+  depth code traps (unreached out) = omega arith
 
-  offsets : All (λ (i : Line). line.OffsetFits i.op) m.code
-  offsets = all_of (λ (i : Line). line.OffsetFits i.op) m.code (λ j z. offset_of_line j.op (λ g e. fits j z g e))
+  offsets_fit : All (λ (i : Line). line.OffsetFits i.op) m.code
+  offsets_fit = all_of (λ (i : Line). line.OffsetFits i.op) m.code (λ j z. offset_of_line j.op (λ g e. fits j z g e))
     where
       fits : (j : Line) → IsIn j m.code → (g : Op) → j.op ≡ lin.Op g → OffsetFits (mach.Op g)
       fits j z g e =
           let here : IsNamedIn (λ f. f ≡ mach.Op g) m = record { line = j; among = contains_of z; op = g; is = e; named = refl } in
-          let was : kept.IsNamedIn (λ f. f ≡ mach.Op g) rest =
-          named_from (slot_number rest) (λ f. f ≡ mach.Op g) rest (lowered rest) refl (tidied_named (λ f. f ≡ mach.Op g) tidies here) in
+          let was : kept.IsNamedIn (λ f. f ≡ mach.Op g) q =
+          named_from (slot_number q) (λ f. f ≡ mach.Op g) q (lowered q) refl (tidied_named (λ f. f ≡ mach.Op g) tidies here) in
           subst OffsetFits was.named
-          (all_in (λ (i : Instr). OffsetFits i.op) (placed_all by_number OffsetFits (selected tree).code promise.offsets) (in_of was.instr rest.code was.among))
+          (all_in (λ (i : Instr). OffsetFits i.op) is.offsets (in_of was.instr q.code was.among))
 
-  exit_few : (i : Instr) (next : List Instr) → mach_walks.Stands i next rest.code → (l n : ℕ) → i.op ≡ mach.Mark (mark.Exit l n) → length (tries_at (i ∷ next)) ≤ tries tree → n ≤ tries tree
-  exit_few i next s l n e le = let ended = formed.nested.at_exit i next s l n e in omega (arith, ended, le)
-
-  lines_few : tries tree ≤ 65536 → length m.code < 4294967296
-  lines_few few =
+  lines_few : length m.code < 4294967296
+  lines_few =
+      let own : (i : Instr) (next : List Instr) → mach_walks.Stands i next q.code → (l n : ℕ) → i.op ≡ mach.Mark (mark.Exit l n) → n ≤ tries tree =
+      λ i next s l n e. let ended = (is.formed).nested.at_exit i next s l n e in let le = is.tries i next s in omega (arith, ended, le) in
+      let ended = ended_few (tries tree) q.code own in
       let tokens = few_tokens tree accepted.checked.limits_kept in
-      let covered = accepted.covered in
-      let values = covered.tokens_cover in
-      let exits_few = selected_exits tree in
-      let same = placed_exits by_number (selected tree).code in
-      let long = placed_long by_number (selected tree).code in
-      let size = promise.size in
-      let instrs = size.instrs in
-      let own : (i : Instr) (next : List Instr) → mach_walks.Stands i next rest.code → (l n : ℕ) → i.op ≡ mach.Mark (mark.Exit l n) → n ≤ tries tree = λ i next s l n e. exit_few i next s l n e (tries_within (tries tree) rest.code rest_tries i next s) in
-      let ended = ended_few (tries tree) rest.code own in
-      let product = few_product (exits rest.code) (tries tree) (omega (arith, exits_few, same, values, tokens)) few in
+      let cover = accepted.covered.tokens_cover in
+      let rarely = selected_exits tree in
+      let same = is.exits in
+      let nest = few_nest tree.body in
+      let product = few_product (exits q.code) (tries tree) (omega (arith, same, rarely, cover, tokens)) (omega (arith, nest, cover, tokens)) in
       let lines = linear.lines in
-      omega (arith, lines, ended, product, long, instrs, tokens)
+      let instrs = is.instrs in
+      omega (arith, lines, ended, product, instrs, tokens)
 
-  -- Frames, pushed traps and lines fit what descriptors can say.
-  pub fit_within : frame_bytes m + 16 * tries tree ≤ 1048576 → IsWithin m
-  fit_within fit =
+  -- What descriptors ask of a Linear function, whose frame and traps fit.
+  pub within : frame_bytes m + 16 * tries tree ≤ 1048576 → IsWithin m
+  within fit =
       record {
-        lines = lines_few (omega (arith, fit));
-        frame = λ code traps at. let le = few_traps code traps at in omega (arith, fit, le);
+        lines = lines_few;
+        frame = λ code traps at. let le = depth code traps at in omega (arith, fit, le);
       }
 
   whole : (ds : List Descr) (pieces : Pieces) → IsMadeOf tree m ds pieces → frame_bytes m + 16 * tries tree ≤ 1048576 → IsChained tree m ds pieces
   whole ds pieces made fit =
       record {
-        keeps = λ named exact.
-            keeps_then (selected tree) rest m named kept_so.keeps (linear.keeps safe named exact);
+        keeps = λ named exact. keeps_then (selected tree) q m named is.keeps (linear.keeps is.no_addr named exact);
         regular = linear.regular;
         tidy = linear.tidy;
         tight = linear.tight;
-        no_addr = linear.no_addr safe;
+        no_addr = linear.no_addr is.no_addr;
         spare_dead = linear.spare_dead;
-        within = fit_within fit;
-        offsets = offsets;
-        unended = tidied_unended tidies (lowered_unended rest regular (placed_end by_number (selected_end tree)));
+        within = within fit;
+        offsets = offsets_fit;
+        unended = tidied_unended tidies (lowered_unended q (lowered_regular q is.formed is.placed is.seated) is.ends);
         exact = made.exact;
         count = made.count;
         homes = linear.named ds made.exact;
         emitted = made.emitted;
       }
 
--- So it is of what register allocation made.
-module _ {defined : List ℕ → Option DefinedSymbol} {tree : FunctionTree} {m : Lin} {q : Mach} (accepted : IsAccepted defined tree)
-    (allocated : IsAllocated (selected tree) q) (linear : IsLinearOf q m) where
-  abbrev colours : Colouring
-  colours = place_in allocated.colours
-
-  chosen : IsColouring (mach_walks.IsRegister (selected tree)) (mach_walks.Joined (selected tree)) colours
-  chosen = colouring_chosen allocated
-
-  of_coloured : IsLinearOf (recoloured colours (selected tree)) m
-  of_coloured = subst (λ q. IsLinearOf q m) allocated.is linear
-
-  -- No more traps are pushed at a place than tries stand round one of the text.
-  pub depth : (code : List Line) (traps : List ℕ) → Traps m code traps → length traps ≤ tries tree
-  depth = few_traps defined tree accepted m colours chosen of_coloured
-
-  -- What descriptors ask of a Linear function, whose frame and traps fit.
-  pub within : frame_bytes m + 16 * tries tree ≤ 1048576 → IsWithin m
-  within = fit_within defined tree accepted m colours chosen of_coloured
-
 -- What was made of a function of an accepted text is known whole, where its frame and its traps fit.
 pub chained : {defined : List ℕ → Option DefinedSymbol} {tree : FunctionTree} {m : Lin} {ds : List Descr} {pieces : Pieces} → IsAccepted defined tree → IsMadeOf tree m ds pieces →
     frame_bytes m + 16 * tries tree ≤ 1048576 → IsChained tree m ds pieces
-chained {defined} {tree} {m} {ds} {pieces} accepted made =
-    whole defined tree accepted m (place_in (made.allocated).colours) (colouring_chosen made.allocated)
-    (subst (λ q. IsLinearOf q m) (made.allocated).is made.linear) ds pieces made
+chained {ds = ds} {pieces = pieces} accepted made fit =
+    whole accepted (placed_for accepted made.is_prepared made.allocated) made.linear ds pieces made fit

@@ -27,10 +27,7 @@ use Rattle.selection_rules.specs.Instructions.{bare}
 use Rattle.selection_rules.specs.Instructions as emit
 use Rattle.selection_rules.specs.Select.{Code, Shape, InRegisters, ConstantRight, ConstantLeft, PowerRight, shape_of, shape_op, shape_right, shape_args, unless_left, unless_right, power_code, operator_code, Named, Label, scopes, reg_of, label_of, move_from, move_to, moves_all, exit_to, ordered, only_when, from_seat, symbol_of, unless_symbol, right_of, unless_constant, bound_test, comparison, tested, select_test, is_based, base_of, inner_dest, seat, select_base, call_of, regs_of, select, select_waiting, select_filled, select_bound, select_seq, select_cases, select_handlers, deeper, cell_stores, returns, selected, first, is_no_value, fresh, seats}
 use Rattle.selection_places.proofs.Whole.{value_at, params_of, env_of}
-
-abbrev pub exits : List Instr → ℕ
-exits [] = 0
-exits (i ∷ is) = cond (is_exit i.op) (suc (exits is)) (exits is)
+use Rattle.pass_rules.specs.Measures.{exits}
 
 -- code with no more than so many exits
 record Leaves (n : ℕ) (code : Code) : Type 0 where

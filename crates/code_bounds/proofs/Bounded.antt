@@ -11,12 +11,7 @@ use Rattle.lin_ir.specs.Descriptors.{frame_bytes}
 use Rattle.lin_ir.specs.declared.descr.Descr.{Descr}
 use Rattle.lin_ir.specs.declared.lin.Lin.{Lin}
 use Rattle.linear_pass.specs.Linear.{IsLinearOf, NamesHomes}
-use Rattle.mach_ir.specs.Graph.{place_in}
 use Rattle.mach_ir.specs.declared.mach.Mach.{Mach}
-use Rattle.places_rules.specs.Rest.{IsKept}
-use Rattle.reg_rounds.specs.Allocated.{IsAllocated}
-use Rattle.reg_rounds.proofs.Kept.{allocated_kept}
-use Rattle.selection_places.proofs.Placed.{selected_low}
 use Rattle.rv_pieces.specs.declared.piece.Pieces.{Pieces}
 use Rattle.selection_rules.specs.Select.{selected}
 use Rattle.selection_promise.specs.Selects.{IsAccepted, Selects}
@@ -30,22 +25,21 @@ use Rattle.made_functions.specs.Made.{IsMadeOf}
 use Rattle.made_functions.specs.Bounded.{IsBoundedBy}
 use Rattle.code_bounds.proofs.Lines.{function_short}
 use Rattle.code_bounds.proofs.Slots.{few_slots, frame_few}
-use Rattle.code_bounds.proofs.Tidying.{made_words, made_points}
-use Rattle.code_bounds.proofs.Tries.{few_nest}
+use Rattle.code_bounds.proofs.Tidying.{linear_words, linear_points}
+use Rattle.placed_functions.specs.Placed.{IsPlacedFor}
+use Rattle.placed_functions.proofs.Placed.{placed_for}
+use Rattle.placed_functions.proofs.Tries.{few_nest}
 
-module _ (defined : List ℕ → Option DefinedSymbol) (tree : FunctionTree) (m : Lin) (accepted : IsAccepted defined tree)
-    {q : Mach} (allocated : IsAllocated (selected tree) q) (linear : IsLinearOf q m) where
+module _ {defined : List ℕ → Option DefinedSymbol} {tree : FunctionTree} (accepted : IsAccepted defined tree) {q : Mach} (is : IsPlacedFor tree q) {m : Lin}
+    (linear : IsLinearOf q m) where
   promise : Selects tree (selected tree)
   promise = promised defined tree accepted
-
-  kept_so : IsKept (selected tree) q
-  kept_so = allocated_kept promise.formed promise.placed (selected_low tree) allocated
 
   few_made : m.slots ≤ 2 * (tree.tokens - all_tries tree.body)
   few_made =
       few_slots (selected tree) q m.slots (2 * (tree.tokens - all_tries tree.body))
       (λ k s. promise.no_slot s.register s.among k s.stands)
-      (kept_so.slots (2 * (tree.tokens - all_tries tree.body)) promise.open_registers) linear.slots
+      is.slots linear.slots
 
   -- the frame, and 16 bytes for each try that may stand on top
   pub frame_small : frame_bytes m + 16 * tries tree ≤ 16 * tree.tokens + 32
@@ -68,17 +62,19 @@ module _ (defined : List ℕ → Option DefinedSymbol) (tree : FunctionTree) (m 
   pub bounded : (ds : List Descr) (pieces : Pieces) → IsMadeOf tree m ds pieces → tries tree ≤ 250 → IsBoundedBy tree ds pieces
   bounded ds pieces made shallow =
       let short = function_short m made.emitted.traps ds in
-      let lines = made_words (selected tree) q m (place_in allocated.colours) allocated.is (tidied_tidies linear.made) in
+      let lines = linear_words q m (tidied_tidies linear.made) in
       let words = selected_words tree shallow in
+      let made_words = is.words in
       let nodes = accepted.covered.nodes_covered in
-      let calls = made_points (selected tree) q m (place_in allocated.colours) allocated.is (tidied_tidies linear.made) in
+      let calls = linear_points q m (tidied_tidies linear.made) in
+      let made_points = is.points in
       let points = selected_points tree shallow in
       let count = made.count in
       subst (IsBoundedBy tree ds) (sym made.emitted.is)
       (record {
         frame = frame_small;
-        words = omega (arith, short, lines, words, nodes);
-        points = omega (arith, count, calls, points);
+        words = omega (arith, short, lines, words, made_words, nodes);
+        points = omega (arith, count, calls, made_points, points);
         entries = All-weaker (NamesHomes m) (λ (d : Descr). length d.entries ≤ 21 + 2 * tree.tokens) few_entries ds (linear.named ds made.exact);
       })
 

@@ -1,5 +1,10 @@
 -- The pieces that are made of the functions of a text keep to it.
-use Rattle.std.proofs.Common.{ℕ, suc, ◌*◌, ◌≤◌, List, [], ◌∷◌, length, Option, ap, ◌∙◌, arith}
+use Rattle.std.proofs.Common.{ℕ, ◌*◌, ◌<◌, ◌≤◌, List, [], ◌∷◌, length, Option, ap, ◌∙◌, arith}
+use Rattle.std.proofs.lemmas.Bool.{eqb-true}
+use Rattle.std.proofs.lemmas.Bool.Decides.{Decides-eqb}
+use Rattle.std.proofs.lemmas.Map.Made.{IsDistinct-from_AllPairs}
+use Rattle.std.proofs.lemmas.Map.Steps.{length-le_from_distinct_below}
+use Rattle.std.proofs.lemmas.Map.Views.{Contains-from_any}
 use Rattle.std.specs.Prelude.{Contains}
 use Rattle.std.specs.List.{AllZip}
 use Rattle.cmm_front.specs.FileOf.{IsFileOf}
@@ -11,19 +16,13 @@ use Rattle.emit_rules.proofs.Descriptors.{descriptors_are_carried}
 use Rattle.emit_rules.proofs.Names.{places_are_labels}
 use Rattle.lin_ir.specs.declared.descr.Descr.{Descr}
 use Rattle.lin_ir.specs.declared.lin.Lin.{Lin}
-use Rattle.mach_ir.specs.Formed.{labels_in}
-use Rattle.mach_ir.specs.declared.mach.Instr.{Instr}
-use Rattle.mach_ir.specs.declared.mach.Mark.TheVariants as mark
-use Rattle.mach_ir.specs.declared.mach.MachOp.{MachOp}
-use Rattle.mach_ir.specs.declared.mach.MachOp.TheVariants as mach
-use Rattle.mach_ir.specs.declared.reg.Reg.{Reg}
-use Rattle.reg_rounds.proofs.Kept.{allocated_kept}
-use Rattle.selection_places.proofs.Placed.{selected_low}
+use Rattle.mach_ir.specs.Formed.{labels_in, WellFormed}
+use Rattle.mach_ir.specs.declared.mach.Mach.{Mach}
+use Rattle.places_rules.proofs.Lists.{of_all}
+use Rattle.placed_functions.proofs.Placed.{placed_for}
 use Rattle.rv_pieces.specs.Named.{marks_in, places_in}
 use Rattle.rv_pieces.specs.declared.piece.Pieces.{Pieces}
-use Rattle.selection_rules.specs.Select.{selected}
-use Rattle.selection_promise.specs.Selects.{IsAccepted, size_by}
-use Rattle.selection_promise.proofs.Promised.{promised}
+use Rattle.selection_promise.specs.Selects.{IsAccepted}
 use Rattle.selection_accepted.proofs.Promised.{function_accepted}
 use Rattle.selection_accepted.proofs.Selecting.{definitions}
 use Rattle.text_sizes.proofs.Nesting.{text_nests}
@@ -32,40 +31,31 @@ use Rattle.made_functions.specs.Made.{IsMadeOf}
 use Rattle.code_bounds.specs.Kept.{KeepsTo}
 use Rattle.code_bounds.proofs.Bounded.{bounded}
 
--- an instruction has at most one label
-one_label : (f : MachOp) (args results : List Reg) (is : List Instr) → length (labels_in (record { op = f; args = args; results = results } ∷ is)) ≤ suc (length (labels_in is))
-one_label (mach.Op f) args results is = omega arith
-one_label (mach.Mark (mark.Else l end)) args results is = omega arith
-one_label (mach.Mark (mark.Case indexes l end)) args results is = omega arith
-one_label (mach.Mark (mark.With l end)) args results is = omega arith
-one_label (mach.Mark (mark.Handler l)) args results is = omega arith
-one_label (mach.Mark (mark.End l)) args results is = omega arith
-one_label (mach.Mark f) args results is = omega arith
-
-few_labels : (code : List Instr) → length (labels_in code) ≤ length code
-few_labels [] = omega arith
-few_labels (i ∷ is) = let here = one_label i.op i.args i.results is in let others = few_labels is in omega (arith, here, others)
+-- Labels stand once, and below a number: there are no more of them.
+few_labels : (p : Mach) → WellFormed p → length (labels_in p.code) ≤ p.labels
+few_labels p formed =
+    length-le_from_distinct_below (labels_in p.code) p.labels
+    (IsDistinct-from_AllPairs Decides-eqb (labels_in p.code) formed.labels_once)
+    (λ l seen. of_all (λ l. l < p.labels) (labels_in p.code) l formed.labels_below (Contains-from_any eqb-true l (labels_in p.code) seen))
 
 module _ (defined : List ℕ → Option DefinedSymbol) (tree : FunctionTree) (m : Lin) (ds : List Descr) (pieces : Pieces) (accepted : IsAccepted defined tree)
     (made : IsMadeOf tree m ds pieces) where
-  few_places : length (places_in pieces.code) ≤ 184 * tree.tokens
+  few_places : length (places_in pieces.code) ≤ 23 * tree.tokens
   few_places =
-      let promise = promised defined tree accepted in
-      let kept = allocated_kept promise.formed promise.placed (selected_low tree) made.allocated in
-      let size = kept.size (size_by tree.tokens) promise.size in
-      let instrs = size.instrs in
+      let is = placed_for accepted made.is_prepared made.allocated in
+      let below = is.labels in
       let emitted = ap (λ (p : Pieces). length (places_in p.code)) made.emitted.is in
       let labels = ap length (places_are_labels m made.emitted.traps ds ∙ made.linear.labels) in
-      let few = few_labels made.mach.code in
-      omega (arith, instrs, emitted, labels, few)
+      let few = few_labels made.mach is.formed in
+      omega (arith, below, emitted, labels, few)
 
   -- They keep to it where at most 250 tries nest.
   pub keeps_to : tries tree ≤ 250 → KeepsTo tree pieces
   keeps_to shallow = record {
     descrs = ds;
     carried = ap (λ (p : Pieces). marks_in p.code) made.emitted.is ∙ descriptors_are_carried m made.emitted.traps ds made.count;
-    bounded = bounded defined tree m accepted made.allocated made.linear ds pieces made shallow;
-    labels = few_places;
+    bounded = bounded accepted (placed_for accepted made.is_prepared made.allocated) made.linear ds pieces made shallow;
+    labels = let few = few_places in omega (arith, few);
   }
 
 -- Those of each function of an accepted file do.

@@ -1,6 +1,8 @@
 -- The pieces of a function have as few words as its lines say.
-use Rattle.std.proofs.Common.{◌≡◌, ℕ, ◌+◌, ◌*◌, ◌≤◌, List, [], ◌∷◌, ◌++◌, length, Option, arith}
-use Rattle.lin_ir.specs.Meaning.{passes_frame}
+use Rattle.std.proofs.Common.{◌≡◌, ℕ, ◌+◌, ◌≤◌, Bool, true, false, cond, nat_lt, List, [], ◌∷◌, ◌++◌, length, Option, arith}
+use Rattle.bs_words.specs.declared.types.Loc.{Loc}
+use Rattle.bs_words.specs.declared.types.Loc.TheVariants as loc
+use Rattle.lin_ir.specs.Meaning.{passes_frame, same_loc}
 use Rattle.lin_ir.specs.declared.descr.Descr.{Descr}
 use Rattle.lin_ir.specs.declared.lin.Flow.TheVariants as flow
 use Rattle.lin_ir.specs.declared.lin.LinOp.{LinOp}
@@ -8,16 +10,72 @@ use Rattle.lin_ir.specs.declared.lin.LinOp.TheVariants as lin
 use Rattle.lin_ir.specs.declared.lin.Line.{Line}
 use Rattle.lin_ir.specs.declared.lin.Lin.{Lin}
 use Rattle.lin_ir.specs.declared.lin.Spot.{Spot}
+use Rattle.mach_ir.specs.declared.op.Op.TheVariants as op
+use Rattle.mach_ir.specs.declared.op.Pure.TheVariants as pure
+use Rattle.rv_isa.specs.declared.register.Register.{Register}
+use Rattle.rv_isa.specs.declared.register.Register.TheVariants.{T1, T2}
 use Rattle.rv_pieces.specs.declared.piece.Piece.{Piece}
+use Rattle.emit_rules.specs.Instructions.{register_at}
+use Rattle.emit_rules.specs.Slots.{stack_load, stack_store, slot_offset, first, target, kept, copied, moved}
+use Rattle.pass_rules.specs.Measures.{copy_words}
 use Rattle.emit_rules.specs.Emitted.{parts, part_of, descriptor, left_after, emitted}
 use Rattle.emit_rules.specs.Entry.{Frame, frame_of, entry}
 use Rattle.emit_rules.specs.Sizes.{words_at_most}
 use Rattle.emit_rules.proofs.Sizes.{entry-in, part_is_short}
-use Rattle.code_bounds.specs.Lines.{op_words, line_words, lines_words}
+use Rattle.code_bounds.specs.Lines.{words_with, line_words, lines_words}
+
+words-join : (xs ys : List Piece) → words_at_most (xs ++ ys) ≡ words_at_most xs + words_at_most ys
+words-join [] ys = omega arith
+words-join (x ∷ xs) ys = let e : words_at_most (xs ++ ys) ≡ words_at_most xs + words_at_most ys = words-join xs ys in omega (arith, e)
+
+-- ---- copies
+
+either_short : (n : ℕ) (b : Bool) {xs ys : List Piece} → words_at_most xs ≤ n → words_at_most ys ≤ n → words_at_most (cond b xs ys) ≤ n
+either_short n true x y = x
+either_short n false x y = y
+
+load_short : (scratch to : Register) (offset : ℕ) → words_at_most (stack_load scratch to offset) ≤ 3
+load_short scratch to offset = either_short 3 (nat_lt offset 2048) (omega arith) (omega arith)
+
+store_short : (scratch from : Register) (offset : ℕ) → words_at_most (stack_store scratch from offset) ≤ 3
+store_short scratch from offset = either_short 3 (nat_lt offset 2048) (omega arith) (omega arith)
+
+kept_short : (t : ℕ) (l : Loc) → words_at_most (kept t l) ≤ 3
+kept_short t (loc.Machine n) = omega arith
+kept_short t (loc.Slot k) = store_short T2 T1 (slot_offset t k)
+kept_short t loc.Unset = omega arith
+
+copy_short : (t : ℕ) (from to : Loc) → words_at_most (copied t from to) ≤ copy_words
+copy_short t (loc.Slot j) to =
+    let both = words-join (stack_load T2 (target to) (slot_offset t j)) (kept t to) in
+    let one = load_short T2 (target to) (slot_offset t j) in
+    let two = kept_short t to in
+    omega (arith, both, one, two)
+copy_short t (loc.Machine n) (loc.Slot k) = let one = store_short T2 (register_at n) (slot_offset t k) in omega (arith, one)
+copy_short t (loc.Machine n) (loc.Machine o) = omega arith
+copy_short t (loc.Machine n) loc.Unset = omega arith
+copy_short t loc.Unset to = omega arith
+
+move_short : (t : ℕ) (from to : Loc) → words_at_most (moved t from to) ≤ copy_words
+move_short t from to = either_short copy_words (same_loc from to) (omega arith) (copy_short t from to)
+
+-- ---- lines
 
 part_short : (t : ℕ) (f : Frame) (d : Option Descr) (g : LinOp) (args results : List Spot) →
-    words_at_most (part_of t f d (record { op = g; args = args; results = results })) ≤ op_words g + 16 * length results
-part_short t f d (lin.Op g) args results = let h = part_is_short t f d (record { op = lin.Op g; args = args; results = results }) in omega (arith, h)
+    words_at_most (part_of t f d (record { op = g; args = args; results = results })) ≤ words_with g (length results)
+part_short t f d (lin.Op (op.Pure (pure.Copy kind))) args results = move_short t (first args) (first results)
+part_short t f d (lin.Op (op.Pure (pure.Constant w))) args results =
+    let h = part_is_short t f d (record { op = lin.Op (op.Pure (pure.Constant w)); args = args; results = results }) in omega (arith, h)
+part_short t f d (lin.Op (op.Pure (pure.Symbol name))) args results =
+    let h = part_is_short t f d (record { op = lin.Op (op.Pure (pure.Symbol name)); args = args; results = results }) in omega (arith, h)
+part_short t f d (lin.Op (op.Pure (pure.Operator g r))) args results =
+    let h = part_is_short t f d (record { op = lin.Op (op.Pure (pure.Operator g r)); args = args; results = results }) in omega (arith, h)
+part_short t f d (lin.Op (op.Access g)) args results =
+    let h = part_is_short t f d (record { op = lin.Op (op.Access g); args = args; results = results }) in omega (arith, h)
+part_short t f d (lin.Op (op.Calling g)) args results =
+    let h = part_is_short t f d (record { op = lin.Op (op.Calling g); args = args; results = results }) in omega (arith, h)
+part_short t f d (lin.Op (op.Leaving g)) args results =
+    let h = part_is_short t f d (record { op = lin.Op (op.Leaving g); args = args; results = results }) in omega (arith, h)
 part_short t f d (lin.Flow (flow.Label l)) args results = omega arith
 part_short t f d (lin.Flow (flow.Jump l)) args results = omega arith
 part_short t f d (lin.Flow (flow.Exit l)) args results = omega arith
@@ -26,10 +84,6 @@ part_short t f d (lin.Flow g) args results = let h = part_is_short t f d (record
 
 pub line_short : (t : ℕ) (f : Frame) (d : Option Descr) (i : Line) → words_at_most (part_of t f d i) ≤ line_words i
 line_short t f d i = part_short t f d i.op i.args i.results
-
-words-join : (xs ys : List Piece) → words_at_most (xs ++ ys) ≡ words_at_most xs + words_at_most ys
-words-join [] ys = omega arith
-words-join (x ∷ xs) ys = let e : words_at_most (xs ++ ys) ≡ words_at_most xs + words_at_most ys = words-join xs ys in omega (arith, e)
 
 lines_short : (f : Frame) (traps : ℕ → ℕ) (ds : List Descr) (is : List Line) → words_at_most (parts traps f ds is) ≤ lines_words is
 lines_short f traps ds [] = omega arith

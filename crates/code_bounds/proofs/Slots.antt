@@ -1,5 +1,5 @@
 -- A function has as few slots as the text has tokens, and its frame is as small.
-use Rattle.std.proofs.Common.{◌≡◌, ℕ, ◌+◌, ◌*◌, ◌/◌, ◌<◌, ◌≤◌, ⊎_elim, Bool, true, false, cond, List, [], ◌∷◌, map, subst, arith}
+use Rattle.std.proofs.Common.{◌≡◌, ℕ, ◌+◌, ◌*◌, ◌/◌, ◌<◌, ◌≤◌, ⊎_elim, Bool, true, false, cond, List, [], ◌∷◌, length, map, subst, arith}
 use Rattle.std.specs.Prelude.{Contains, nat_eq}
 use Rattle.std.specs.List.{list_any}
 use Rattle.std.proofs.lemmas.List.{length-map}
@@ -23,20 +23,26 @@ contains_map f (x ∷ xs) k c =
 is_slot : (p : Mach) (k : ℕ) → IsSlotOf p k → IsSlot p k
 is_slot p k h = record { register = h.0; among = ⊎_elim (λ c. is_param c) (λ c. is_in_code c) h.1; stands = h.2 }
 
--- Where slots are numbered one for each that occurs, and grow by so many from none, there are so many.
-pub few_slots : (p q : Mach) (slots most : ℕ) → ((slot : ℕ) → IsSlot p slot → ⊥) → SlotsGrow p q most → OneForEach q slots → slots ≤ most
-few_slots p q slots most none grows each =
-    let bound = le-length_from_below (map each.number grows.others) slots (λ n less. covered n less) in
-    let same = length-map grows.others each.number in
-    let few = grows.few in
-    omega (arith, bound, same, few)
+-- Where slots are numbered one for each that occurs, there are no more of them than of numbers among which they are.
+pub slots_among : (q : Mach) (slots : ℕ) (numbers : List ℕ) → ((slot : ℕ) → IsSlot q slot → Contains numbers slot) → OneForEach q slots →
+    slots ≤ length numbers
+slots_among q slots numbers among each =
+    let bound = le-length_from_below (map each.number numbers) slots (λ n less. covered n less) in
+    let same = length-map numbers each.number in
+    omega (arith, bound, same)
   where
-    covered : (n : ℕ) → n < slots → list_any (nat_eq n) (map each.number grows.others) ≡ true
+    covered : (n : ℕ) → n < slots → list_any (nat_eq n) (map each.number numbers) ≡ true
     covered n less =
         let k = each.onto n less in
-        let other : Contains grows.others k.0 = ⊎_elim (λ s. absurd (none k.0 s)) (λ c. c) (grows.all k.0 (is_slot q k.0 k.1)) in
-        list_any-from_Contains nat_eq_equiv n (map each.number grows.others)
-        (subst (Contains (map each.number grows.others)) k.2 (contains_map each.number grows.others k.0 other))
+        list_any-from_Contains nat_eq_equiv n (map each.number numbers)
+        (subst (Contains (map each.number numbers)) k.2 (contains_map each.number numbers k.0 (among k.0 (is_slot q k.0 k.1))))
+
+-- So where they grow by so many from none, there are so many.
+pub few_slots : (p q : Mach) (slots most : ℕ) → ((slot : ℕ) → IsSlot p slot → ⊥) → SlotsGrow p q most → OneForEach q slots → slots ≤ most
+few_slots p q slots most none grows each =
+    let bound = slots_among q slots grows.others (λ k s. ⊎_elim (λ was. absurd (none k was)) (λ c. c) (grows.all k s)) each in
+    let few = grows.few in
+    omega (arith, bound, few)
 
 -- ---- frames
 

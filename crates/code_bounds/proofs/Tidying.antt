@@ -8,8 +8,9 @@ use Rattle.mach_ir.specs.declared.mach.MachOp.TheVariants as mach
 use Rattle.mach_ir.specs.declared.mach.Mark.{Mark}
 use Rattle.mach_ir.specs.declared.mach.Mark.TheVariants as mark
 use Rattle.mach_ir.specs.Meaning as machs
-use Rattle.mach_ir.specs.Placed.{Colouring}
-use Rattle.places_rules.specs.Places.{Placing, placed, placed_code, recoloured}
+use Rattle.mach_ir.specs.declared.op.Op.TheVariants as op
+use Rattle.mach_ir.specs.declared.op.Pure.TheVariants as pure
+use Rattle.pass_rules.specs.Measures.{copy_words, mark_words, words_with, instr_words, code_words, one_if, code_points}
 use Rattle.lin_ir.specs.Descriptors.{frame_points}
 use Rattle.lin_ir.specs.Meaning.{passes_frame}
 use Rattle.lin_ir.specs.declared.lin.Flow.TheVariants as flow
@@ -20,24 +21,8 @@ use Rattle.lin_ir.specs.declared.lin.Lin.{Lin}
 use Rattle.linear_rules.specs.Lowered.{is_idle, pops, bare, line_of, spot, lines_of_mark, lines_of, lowered_one, lowered_code, slot_number, lowered}
 use Rattle.tidy_rules.specs.Leaving.{without}
 use Rattle.tidy_rules.specs.Redirecting.{redirected, redirect, Tidies, as_it_is, then_leaves, then_redirects}
-use Rattle.selection_sizes.specs.Measures.{one_if, code_words, code_points, instr_words, op_words}
 use Rattle.code_bounds.specs.Lines as lines
-use Rattle.code_bounds.specs.Lines.{line_words, lines_words}
-
--- ---- places
-
--- other places change neither
-module _ (place : Placing) where
-  pub placed_words : (code : List Instr) → code_words (placed_code place code) ≡ code_words code
-  placed_words [] = refl
-  placed_words (i ∷ is) =
-      let others = placed_words is in
-      let same = length-map i.results (placed place) in
-      omega (arith, others, same)
-
-  pub placed_points : (code : List Instr) → code_points (placed_code place code) ≡ code_points code
-  placed_points [] = refl
-  placed_points (i ∷ is) = let others = placed_points is in omega (arith, others)
+use Rattle.code_bounds.specs.Lines.{lines_words}
 
 -- ---- lowering
 
@@ -58,7 +43,7 @@ module _ (number : ℕ → ℕ) where
   pop_points (suc n) next = pop_points n next
 
   mark_words_lower : (f : Mark) (i : Instr) (next : List Line) →
-      lines_words (lines_of_mark number f i next) ≤ op_words (mach.Mark f) + 16 * length i.results + lines_words next
+      lines_words (lines_of_mark number f i next) ≤ mark_words f + 16 * length i.results + lines_words next
   mark_words_lower (mark.Exit l n) i next = let all = pop_words n (bare number (flow.Exit l) ∷ next) in omega (arith, all)
   mark_words_lower (mark.If t l) i next = let same = length-map i.results (spot number) in omega (arith, same)
   mark_words_lower (mark.Else l end) i next = omega arith
@@ -84,20 +69,28 @@ module _ (number : ℕ → ℕ) where
   mark_points_lower (mark.Handler l) i next = refl
   mark_points_lower (mark.End l) i next = refl
 
-  op_words_lower : (f : MachOp) (i : Instr) (next : List Line) → lines_words (lines_of number f i next) ≤ op_words f + 16 * length i.results + lines_words next
-  op_words_lower (mach.Op f) i next = let same = length-map i.results (spot number) in omega (arith, same)
-  op_words_lower (mach.Mark f) i next = mark_words_lower f i next
+  op_words_lower : (f : MachOp) (i : Instr) (next : List Line) → is_idle f i.args i.results ≡ false →
+      lines_words (lines_of number f i next) ≤ words_with f i.args i.results + lines_words next
+  op_words_lower (mach.Op (op.Pure (pure.Copy kind))) i next moves =
+      subst (λ (b : Bool). copy_words + lines_words next ≤ cond b 0 copy_words + lines_words next) (sym moves) (omega arith)
+  op_words_lower (mach.Op (op.Pure (pure.Constant w))) i next moves = let same = length-map i.results (spot number) in omega (arith, same)
+  op_words_lower (mach.Op (op.Pure (pure.Symbol name))) i next moves = let same = length-map i.results (spot number) in omega (arith, same)
+  op_words_lower (mach.Op (op.Pure (pure.Operator f r))) i next moves = let same = length-map i.results (spot number) in omega (arith, same)
+  op_words_lower (mach.Op (op.Access f)) i next moves = let same = length-map i.results (spot number) in omega (arith, same)
+  op_words_lower (mach.Op (op.Calling f)) i next moves = let same = length-map i.results (spot number) in omega (arith, same)
+  op_words_lower (mach.Op (op.Leaving f)) i next moves = let same = length-map i.results (spot number) in omega (arith, same)
+  op_words_lower (mach.Mark f) i next moves = mark_words_lower f i next
 
   op_points_lower : (f : MachOp) (i : Instr) (next : List Line) → frame_points (lines_of number f i next) ≡ one_if (machs.passes_frame f) + frame_points next
   op_points_lower (mach.Op f) i next = points_next (line_of number (lin.Op f) i) next
   op_points_lower (mach.Mark f) i next = let same = mark_points_lower f i next in omega (arith, same)
 
   one_words : (i : Instr) (next : List Line) → lines_words (lowered_one number i next) ≤ instr_words i + lines_words next
-  one_words i next = by (is_idle i.op i.args i.results)
+  one_words i next = by (is_idle i.op i.args i.results) refl
     where
-      by : (b : Bool) → lines_words (cond b next (lines_of number i.op i next)) ≤ instr_words i + lines_words next
-      by true = omega arith
-      by false = op_words_lower i.op i next
+      by : (b : Bool) → is_idle i.op i.args i.results ≡ b → lines_words (cond b next (lines_of number i.op i next)) ≤ instr_words i + lines_words next
+      by true idle = omega arith
+      by false moves = op_words_lower i.op i next moves
 
   one_points : (i : Instr) (next : List Line) → frame_points (lowered_one number i next) ≤ one_if (machs.passes_frame i.op) + frame_points next
   one_points i next = by (is_idle i.op i.args i.results)
@@ -152,12 +145,12 @@ without_no_larger goes (i ∷ next) = by (goes (length next)) (without_no_larger
         let there = points_next i (without goes next) in
         record { words = omega (arith, words); points = omega (arith, points, here, there) }
 
-redirected_words : (to : ℕ → ℕ) (f : LinOp) → lines.op_words (redirected to f) ≡ lines.op_words f
-redirected_words to (lin.Op f) = refl
-redirected_words to (lin.Flow (flow.Jump l)) = refl
-redirected_words to (lin.Flow (flow.Exit l)) = refl
-redirected_words to (lin.Flow (flow.Branch test l)) = refl
-redirected_words to (lin.Flow f) = refl
+redirected_words : (to : ℕ → ℕ) (f : LinOp) (n : ℕ) → lines.words_with (redirected to f) n ≡ lines.words_with f n
+redirected_words to (lin.Op f) n = refl
+redirected_words to (lin.Flow (flow.Jump l)) n = refl
+redirected_words to (lin.Flow (flow.Exit l)) n = refl
+redirected_words to (lin.Flow (flow.Branch test l)) n = refl
+redirected_words to (lin.Flow f) n = refl
 
 redirected_passes : (to : ℕ → ℕ) (f : LinOp) → passes_frame (redirected to f) ≡ passes_frame f
 redirected_passes to (lin.Op f) = refl
@@ -172,7 +165,7 @@ redirect_no_larger to (i ∷ next) =
     let others = redirect_no_larger to next in
     let words = others.words in
     let points = others.points in
-    let own = redirected_words to i.op in
+    let own = redirected_words to i.op (length i.results) in
     let here = points_next i next in
     let there = points_next (redirect to i) (map (redirect to) next) in
     let same = ap one_if (redirected_passes to i.op) in
@@ -187,24 +180,16 @@ tidied_no_larger {m} (then_redirects {q = q} t l) =
 
 -- ---- all three
 
--- each register where a colouring has its number
-abbrev by_number : Colouring → Placing
-by_number place r = place r.number
-
--- of a Mach function whose registers were placed, lowered and tidied
-module _ (p q : Mach) (r : Lin) (place : Colouring) (is : q ≡ recoloured place p) (t : Tidies (lowered q) r) where
-  pub made_words : lines_words r.code ≤ code_words p.code
-  made_words =
+-- of a Mach function that was lowered and tidied
+module _ (q : Mach) (r : Lin) (t : Tidies (lowered q) r) where
+  pub linear_words : lines_words r.code ≤ code_words q.code
+  linear_words =
       let tidied = (tidied_no_larger t).words in
       let lower = lowered_words (slot_number q) q.code in
-      let same = ap (λ (m : Mach). code_words m.code) is in
-      let placed = placed_words (by_number place) p.code in
-      omega (arith, tidied, lower, same, placed)
+      omega (arith, tidied, lower)
 
-  pub made_points : frame_points r.code ≤ code_points p.code
-  made_points =
+  pub linear_points : frame_points r.code ≤ code_points q.code
+  linear_points =
       let tidied = (tidied_no_larger t).points in
       let lower = lowered_points (slot_number q) q.code in
-      let same = ap (λ (m : Mach). code_points m.code) is in
-      let placed = placed_points (by_number place) p.code in
-      omega (arith, tidied, lower, same, placed)
+      omega (arith, tidied, lower)

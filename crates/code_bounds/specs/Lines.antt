@@ -5,6 +5,9 @@ use Rattle.lin_ir.specs.declared.lin.Flow.TheVariants as flow
 use Rattle.lin_ir.specs.declared.lin.LinOp.{LinOp}
 use Rattle.lin_ir.specs.declared.lin.LinOp.TheVariants as lin
 use Rattle.lin_ir.specs.declared.lin.Line.{Line}
+use Rattle.mach_ir.specs.declared.op.Op.TheVariants as op
+use Rattle.mach_ir.specs.declared.op.Pure.TheVariants as pure
+use Rattle.pass_rules.specs.Measures.{copy_words}
 
 abbrev pub flow_words : Flow → ℕ
 flow_words (flow.Label l) = 0
@@ -14,12 +17,14 @@ flow_words flow.PopTrap = 2
 flow_words (flow.Switch labels) = 32 + 4 * length labels
 flow_words _ = 32
 
-abbrev pub op_words : LinOp → ℕ
-op_words (lin.Op f) = 32
-op_words (lin.Flow f) = flow_words f
+-- A copy has no more than one on Mach. Others may have 16 for each result.
+abbrev pub words_with : LinOp → (results : ℕ) → ℕ
+words_with (lin.Op (op.Pure (pure.Copy kind))) results = copy_words
+words_with (lin.Op f) results = 32 + 16 * results
+words_with (lin.Flow f) results = flow_words f + 16 * results
 
 abbrev pub line_words : Line → ℕ
-line_words i = op_words i.op + 16 * length i.results
+line_words i = words_with i.op (length i.results)
 
 abbrev pub lines_words : List Line → ℕ
 lines_words [] = 0

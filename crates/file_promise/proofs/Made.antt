@@ -7,6 +7,7 @@ use Rattle.chained_functions.proofs.Chained.{chained}
 use Rattle.cmm_front.specs.FileOf.{IsFileOf}
 use Rattle.cmm_tree.specs.Tree.{FunctionTree, FileTree, functions}
 use Rattle.cmm_types.proofs.Containing.{contains_head, contains_tail}
+use Rattle.placed_functions.proofs.Placed.{placed_for}
 use Rattle.code_bounds.proofs.Bounded.{frame_fits}
 use Rattle.code_bounds.specs.Kept.{KeepsTo}
 use Rattle.code_bounds.proofs.Few.{few}
@@ -35,7 +36,7 @@ module _ (text : List ℕ) (file : FileTree) (is : IsFileOf text file) where
       IsChained tree made.lin made.descriptors p
   function_chained tree among p made =
       let accepted = function_accepted text file is tree among in
-      chained accepted made.made (frame_fits (definitions file) tree made.lin accepted made.made.allocated made.made.linear)
+      chained accepted made.made (frame_fits accepted (placed_for accepted made.made.is_prepared made.made.allocated) made.made.linear)
 
   function_laid : (tree : FunctionTree) → Contains (functions file) tree → (p : Pieces) → IsFunctionMade tree p → IsFunctionLaid file p
   function_laid tree among p made =

@@ -1,10 +1,11 @@
--- What the compiler makes of one function of a text: its Mach function with a place for each register, its
--- Linear function, its frame descriptors and its pieces of code.
+-- What the compiler makes of one function of a text: its Mach function, what the passes over Mach and
+-- register allocation make of that, its Linear function, its frame descriptors and its pieces of code.
 use Rattle.std.specs.Prelude.{◌≡◌, List, length}
 use Rattle.cmm_tree.specs.Tree.{FunctionTree}
 use Rattle.selection_rules.specs.Select.{selected}
 use Rattle.mach_ir.specs.declared.mach.Mach.{Mach}
-use Rattle.reg_rounds.specs.Allocated.{IsAllocated}
+use Rattle.mach_passes.specs.Prepared.{IsPrepared}
+use Rattle.rounds_rules.specs.Rounds.{IsAllocated}
 use Rattle.lin_ir.specs.Descriptors.{AreExact, frame_points}
 use Rattle.lin_ir.specs.declared.descr.Descr.{Descr}
 use Rattle.lin_ir.specs.declared.lin.Lin.{Lin}
@@ -14,9 +15,12 @@ use Rattle.rv_pieces.specs.declared.piece.Pieces.{Pieces}
 
 pub record IsMadeOf (tree : FunctionTree) (m : Lin) (ds : List Descr) (pieces : Pieces) : Type 0
   where
-    -- selected, its registers at places
+    -- selected, and prepared for register allocation
+    pub prepared : Mach
+    pub is_prepared : IsPrepared (selected tree) prepared
+    -- its registers at places
     pub mach : Mach
-    pub allocated : IsAllocated (selected tree) mach
+    pub allocated : IsAllocated prepared mach
     -- as tidy lines
     pub linear : IsLinearOf mach m
     -- a descriptor for each frame point, which names what is live after it

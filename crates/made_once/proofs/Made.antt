@@ -12,14 +12,24 @@ use Rattle.emit_rules.specs.Emitted.{IsEmitted}
 use Rattle.emit_rules.proofs.Once.{emitted_once}
 use Rattle.rv_pieces.specs.declared.piece.Pieces.{Pieces}
 use Rattle.made_functions.specs.Made.{IsMadeOf}
-use Rattle.made_once.proofs.Allocated.{allocated_once}
+use Rattle.mach_passes.proofs.Whole.{one_prepared}
+use Rattle.rounds_rules.specs.Rounds.{IsAllocated}
+use Rattle.rounds_rules.proofs.Once.{allocated_once}
+use Rattle.selection_rules.specs.Select.{selected}
 
 module _ {tree : FunctionTree} {m n : Lin} {ds es : List Descr} {p q : Pieces} (h : IsMadeOf tree m ds p) (k : IsMadeOf tree n es q) where
+  -- one function before register allocation, and one after it
+  pub prepared_once : h.prepared ≡ k.prepared
+  prepared_once = one_prepared (selected tree) h.prepared k.prepared h.is_prepared k.is_prepared
+
+  pub places_once : h.mach ≡ k.mach
+  places_once = allocated_once h.allocated (subst (λ (p : Mach). IsAllocated p k.mach) (sym prepared_once) k.allocated)
+
   -- one Linear function
   pub lines_once : m ≡ n
   lines_once =
       linear_once h.linear
-      (subst (λ (p : Mach). IsLinearOf p n) (sym (allocated_once h.allocated k.allocated)) k.linear)
+      (subst (λ (p : Mach). IsLinearOf p n) (sym places_once) k.linear)
 
   -- its descriptors
   pub descriptors_once : ds ≡ es

@@ -1,3 +1,4 @@
 pub mod Slots
 pub mod Ends
+pub mod Tries
 pub mod Placed

@@ -1,4 +1,4 @@
--- Selected code has few words and few frame points.
+-- Selected code has few words, operands and frame points.
 use Rattle.std.proofs.Common.{◌≡◌, ℕ, zero, suc, ◌+◌, ◌*◌, ◌≤◌, length, Bool, true, false, not, cond, List, [], ◌∷◌, ◌++◌, Some, refl, arith}
 use Rattle.bs_words.specs.declared.types.Comp.TheVariants as comp
 use Rattle.bs_words.specs.declared.types.Ret.{Ret}
@@ -10,14 +10,16 @@ use Rattle.cmm_types.specs.Light.{is_light_address}
 use Rattle.cmm_types.specs.Types.{result_of, body_type, type_of}
 use Rattle.cmm_meaning.specs.Evaluation.{is_left_first}
 use Rattle.correctness.specs.Measures.{indexes_of, is_frame_point, frame_points, switch_indexes, tries_in, tries_in_row, tries_in_bindings, tries_in_cases, tries_in_handlers, tries}
+use Rattle.mach_ir.specs.Sizes.{operand_count}
 use Rattle.mach_ir.specs.declared.mach.Test.TheVariants as test
 use Rattle.mach_ir.specs.declared.reg.Reg.{Reg}
-use Rattle.selection_rules.specs.Select.{Code, shape_of, shape_op, shape_right, shape_args, Named, Label, scopes, reg_of, label_of, moves_all, exit_to, symbol_of, right_of, bound_test, comparison, is_based, seat, select_base, select_test, count_of, regs_of, select, select_waiting, select_filled, select_bound, select_seq, select_cases, select_handlers, deeper, labels_from, in_handlers, unless_bare, switch_labels, returns, selected, first, is_no_value, fresh, seats}
+use Rattle.selection_rules.specs.Instructions as emit
+use Rattle.selection_rules.specs.Select.{Code, shape_of, shape_op, shape_right, Named, Label, scopes, reg_of, label_of, moves_all, exit_to, symbol_of, right_of, bound_test, comparison, is_based, seat, select_base, select_test, count_of, regs_of, select, select_waiting, select_filled, select_bound, select_seq, select_cases, select_handlers, deeper, labels_from, in_handlers, unless_bare, switch_labels, returns, selected, first, is_no_value, fresh, seats}
 use Rattle.selection_places.proofs.Owned.{regs_length}
 use Rattle.selection_places.proofs.Whole.{params_length, seats_length, moved_at, value_at, params_of, env_of}
-use Rattle.selection_sizes.specs.Measures.{one_if, code_words, code_points}
+use Rattle.pass_rules.specs.Measures.{code_words, one_if, code_points}
 use Rattle.selection_sizes.proofs.Sums.{most, points, some_nodes, part_both, now_of, later_of, in_parts, row_points, row_most}
-use Rattle.selection_sizes.proofs.Weights.{Weighs, w_up, w_then, w_none, w_pure, w_alloc, w_load, w_store, w_raising, w_checkbound, w_branch, w_choose, w_handler, w_else, w_end, w_catch, w_with, w_case, w_try, w_leave, w_exits, w_move, w_from, w_to, w_moves, w_cells, w_ordered, w_when, w_unless, w_constant, w_left, w_right, w_tested, w_if, w_operator, w_call, w_external}
+use Rattle.selection_sizes.proofs.Weights.{Weighs, weight, w_up, w_then, w_none, w_pure, w_alloc, w_load, w_store, w_raising, w_checkbound, w_branch, w_choose, w_handler, w_else, w_end, w_catch, w_with, w_case, w_try, w_leave, w_exits, w_move, w_from, w_to, w_moves, w_cells, w_ordered, w_when, w_unless, w_constant, w_left, w_right, w_tested, w_if, w_operator, w_call, w_external, w_compare}
 
 -- ---- labels
 
@@ -47,12 +49,12 @@ inside_shallow k (t ∷ labels) s = by (is_bare t.label) (in_handlers labels) (i
     by false others r = (s.0, r)
 
 w_exit : (k : ℕ) (labels : List Label) (l : LabelTree) (from : List Reg) → Shallow k labels → k ≤ 250 →
-    Weighs (48 * length from + 502) 0 (exit_to (label_of labels l) from)
+    Weighs (30 * length from + 502) 0 (exit_to (label_of labels l) from)
 w_exit k [] l from s few = w_up (omega arith) (omega arith) w_none
 w_exit k (t ∷ labels) l from s few = by (same_label l t.label) (w_exit k labels l from s.1 few)
   where
-    by : (b : Bool) → Weighs (48 * length from + 502) 0 (exit_to (label_of labels l) from) →
-        Weighs (48 * length from + 502) 0 (exit_to (cond b (Some t) (label_of labels l)) from)
+    by : (b : Bool) → Weighs (30 * length from + 502) 0 (exit_to (label_of labels l) from) →
+        Weighs (30 * length from + 502) 0 (exit_to (cond b (Some t) (label_of labels l)) from)
     by true others = let here : t.tries ≤ k = s.0 in w_up (omega (arith, here, few)) (omega arith) (w_then (w_moves from t.params) (w_exits t.number t.tries))
     by false others = others
 
@@ -99,7 +101,8 @@ mutual
       let all_points = in_parts points env arguments in
       let each_point = row_points arguments in
       let count = regs_length env (suc (suc b)) arguments in
-      w_up (omega (arith, words, some, all, each, count)) (omega (arith, calls, all_points, each_point))
+      let seated = seats_length 0 (suc (suc b) + count_of arguments) regs in
+      w_up (omega (arith, words, some, all, each, count, seated)) (omega (arith, calls, all_points, each_point))
       (w_then (w_waiting k env labels _ _ arguments s (omega (arith, few)))
       (w_then (w_when (not light) (most callee) (points callee)
       (w_unless (symbol_of callee) (w_select k env labels false false _ _ callee s (omega (arith, few)))))
@@ -113,7 +116,8 @@ mutual
       let all_points = in_parts points env arguments in
       let each_point = row_points arguments in
       let count = regs_length env (suc b) arguments in
-      w_up (omega (arith, all, each, count)) (extcall_points at frame name arguments result result_at _ _ (omega (arith, all_points, each_point)))
+      let seated = seats_length 0 (suc b + count_of arguments) regs in
+      w_up (omega (arith, all, each, count, seated)) (extcall_points at frame name arguments result result_at _ _ (omega (arith, all_points, each_point)))
       (w_then (w_waiting k env labels _ _ arguments s few)
       (w_then (w_filled k env labels _ _ arguments s few)
       (w_then (w_moves regs _) (w_external name _ result frame (seats 0 (suc b + count_of arguments) regs) _ _))))
@@ -121,7 +125,8 @@ mutual
   w_select k env labels valued tail d b (If at condition e g) s few =
       w_up (omega arith) (omega arith)
       (w_then (w_test k env labels _ _ condition s (omega (arith, few))
-      (w_then (w_select k env labels false false _ _ condition s (omega (arith, few))) (w_branch test.Holds (suc (suc b)) _)))
+      (w_up (omega arith) (omega arith)
+      (w_then (w_select k env labels false false _ _ condition s (omega (arith, few))) (w_branch test.Holds (suc (suc b)) (_ ∷ [])))))
       (w_then (w_select k env labels _ tail _ _ e s (omega (arith, few)))
       (w_then (w_else _ _) (w_then (w_select k env labels _ tail _ _ g s (omega (arith, few))) (w_end _)))))
   w_select k env labels valued tail d b (Catch at body handlers) s few =
@@ -191,13 +196,13 @@ mutual
   w_base k env labels t b e s few inside = inside
 
   w_test : {value : Code} (k : ℕ) (env : List Named) (labels : List Label) (l b : ℕ) (e : Expression) → Shallow k labels → k + tries_in e ≤ 250 →
-      Weighs (most e + 34) (points e + 0) value → Weighs (most e + 34) (points e + 0) (λ next. select_test env labels l b e (value next) next)
+      Weighs (most e + 58) (points e + 0) value → Weighs (most e + 58) (points e + 0) (λ next. select_test env labels l b e (value next) next)
   w_test k env labels l b (Operator at op e g) s few v =
       let shape = shape_of op e g in
       w_tested (comparison (shape_op shape op) (shape_right shape)) _
       (λ t. w_up (omega arith) (omega arith)
       (w_then (w_ordered (is_left_first (scopes env) e g) (w_left shape (w_select k env labels false false _ _ e s (omega (arith, few))))
-      (w_right shape (w_select k env labels false false _ _ g s (omega (arith, few))))) (w_branch t l (shape_args shape _ _))))
+      (w_right shape (w_select k env labels false false _ _ g s (omega (arith, few))))) (w_compare t l shape _ _)))
       v
   w_test k env labels l b e s few v = v
 
@@ -258,9 +263,9 @@ mutual
 
 -- ---- whole
 
-w_returns : (d : Reg) (n : ℕ) (result : Ret) → code_words (returns d n result) ≤ 80
+w_returns : (d : Reg) (n : ℕ) (result : Ret) → weight (returns d n result) ≤ 80
 w_returns d n ret.Unit = omega arith
-w_returns d n (ret.Comp c) = omega arith
+w_returns d n (ret.Comp c) = let few = (w_move d (seat 0 n c)).words (emit.give_back (seat 0 n c ∷ []) ∷ []) in omega (arith, few)
 
 no_points : (d : Reg) (n : ℕ) (result : Ret) → code_points (returns d n result) ≡ 0
 no_points d n ret.Unit = refl
@@ -270,15 +275,15 @@ module _ (f : FunctionTree) (few : tries f ≤ 250) where
   abbrev value_reg : Reg
   value_reg = fresh (value_at f) (body_type f)
 
-  whole : Weighs (48 * length (seats 0 first (params_of f)) + most f.body) (0 + points f.body)
+  whole : Weighs (30 * length (seats 0 first (params_of f)) + most f.body) (0 + points f.body)
       (λ next. moves_all (seats 0 first (params_of f)) (params_of f)
       (select (env_of f) [] (not (is_no_value (body_type f))) true value_reg (suc (suc (value_at f))) f.body next))
   whole =
       w_then (w_moves (seats 0 first (params_of f)) (params_of f))
       (w_select 0 (env_of f) [] (not (is_no_value (body_type f))) true value_reg (suc (suc (value_at f))) f.body tt (omega (arith, few)))
 
-  -- words of selected code
-  pub selected_words : code_words (selected f).code ≤ 48 * length f.params + (640 * nodes_in f.body + 4 * switch_indexes f)
+  -- words of selected code, and twelve for each of its operands and results
+  pub selected_words : code_words (selected f).code + 12 * operand_count (selected f).code ≤ 48 * length f.params + (640 * nodes_in f.body + 4 * switch_indexes f)
   selected_words =
       let all = whole.words (returns value_reg (suc (value_at f)) (result_of (body_type f))) in
       let last = w_returns value_reg (suc (value_at f)) (result_of (body_type f)) in

@@ -1,12 +1,15 @@
 use Rattle.code_bounds.proofs.Bounded.{bounded, frame_small, frame_fits}
+use Rattle.placed_functions.proofs.Placed.{placed_for}
 use Rattle.code_bounds.proofs.made_functions_are_small.Goals as goal
 
 pub returns-clause-bounded : goal.returns-clause-bounded
 returns-clause-bounded c = λ defined tree m ds pieces accepted made shallow.
-    bounded defined tree m accepted made.allocated made.linear ds pieces made shallow
+    bounded accepted (placed_for accepted made.is_prepared made.allocated) made.linear ds pieces made shallow
 
 pub returns-clause-frame : goal.returns-clause-frame
-returns-clause-frame c = λ defined tree m ds pieces accepted made. frame_small defined tree m accepted made.allocated made.linear
+returns-clause-frame c = λ defined tree m ds pieces accepted made.
+    frame_small accepted (placed_for accepted made.is_prepared made.allocated) made.linear
 
 pub returns-clause-fits : goal.returns-clause-fits
-returns-clause-fits c = λ defined tree m ds pieces accepted made. frame_fits defined tree m accepted made.allocated made.linear
+returns-clause-fits c = λ defined tree m ds pieces accepted made.
+    frame_fits accepted (placed_for accepted made.is_prepared made.allocated) made.linear
