@@ -26,9 +26,12 @@ pub(crate) enum Slot {
     Heap,
     Moves,
     Fuel,
+    Jobs,
 }
 
 static NO_SLOTS: [Slot; 0] = [];
+
+static COMPILE_SLOTS: [Slot; 1] = [Slot::Jobs];
 
 static RUN_SLOTS: [Slot; 7] = [
     Slot::Plain,
@@ -66,7 +69,7 @@ impl CommandWord {
         ensures { result.now ≡ slots_of self }
     {
         match self {
-            CommandWord::Compile => &NO_SLOTS,
+            CommandWord::Compile => &COMPILE_SLOTS,
             CommandWord::Run => &RUN_SLOTS,
             CommandWord::Check => &CHECK_SLOTS,
         }
@@ -97,6 +100,7 @@ impl Slot {
             Slot::Heap => b"--heap=",
             Slot::Moves => b"--moves=",
             Slot::Fuel => b"--fuel=",
+            Slot::Jobs => b"--jobs=",
         }
     }
 

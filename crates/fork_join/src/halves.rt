@@ -15,11 +15,13 @@ use std::thread::{Threads, join};
 /// # Errors
 ///
 /// `AllocError` where memory runs out or a call of `f` says so. Some numbers may then be left out.
-pub fn map_in_halves<
-    R: Threads + Sync,
-    X: Send + Drop,
-    F: Fn(u32) -> Result<X, AllocError> + Sync,
->(rt: &R, alloc: Global, count: u32, jobs: u32, f: &F) -> Result<Vec<X>, AllocError>
+pub fn map_in_halves<R: Threads + Sync, X: Send + Drop, F: Fn(u32) -> Result<X, AllocError> + Sync>(
+    rt: &R,
+    alloc: Global,
+    count: u32,
+    jobs: u32,
+    f: &F,
+) -> Result<Vec<X>, AllocError>
     requires jobs { 1 ≤ jobs }
     requires callable { (i : ℕ) → i < count → F.pre f.now i }
     ensures { IfOk result (λ all. AreGiven (λ i x. F.post f.now i (Ok x)) 0 count all.items) }
