@@ -6,8 +6,7 @@
 #![tactic(auto)]
 
 use bs_io::{ReadSource, WriteSink};
-use cmmc_core::cmmc;
-use file_compile::OpenGate;
+use cmmc_core::{OpenGate, cmmc};
 use std::alloc::Global;
 use std::process::ExitCode;
 use std::{env, io};

@@ -14,10 +14,9 @@ use crate::line::{READ_FAULT, WRITE_FAULT, WRITTEN, tell, tell_check_refusal};
 use crate::text::{Unread, read_text};
 use bs_io::{Sink, Source, write_all};
 use command_line::CheckWords;
-use file_compile::Gate;
 use std::alloc::Global;
 use std::thread::Threads;
-use text_commands::{CheckRefusal, check_text};
+use text_commands::{CheckRefusal, Gate, check_text};
 
 /// Why nothing is reported of a source.
 #[derive(Debug, Drop)]

@@ -12,10 +12,9 @@ use crate::text::{Unread, read_text};
 use bs_io::Source;
 use bs_words::List;
 use command_line::CompileWords;
-use file_compile::Gate;
 use std::alloc::Global;
 use std::thread::Threads;
-use text_commands::{Refusal as TextRefusal, compile_text};
+use text_commands::{Gate, Refusal as TextRefusal, compile_text};
 
 /// Why there is no image.
 #[derive(Debug, Drop)]

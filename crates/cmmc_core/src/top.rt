@@ -12,9 +12,9 @@ use crate::line::{
 use crate::run::{RunRefusal, run_source};
 use bs_io::{Sink, Source, write_all};
 use command_line::{Command, WordsError, read_words};
-use file_compile::Gate;
 use std::alloc::Global;
 use std::thread::Threads;
+use text_commands::Gate;
 
 /// Does what the words say, and answers the status with which the program ends.
 ///

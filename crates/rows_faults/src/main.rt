@@ -9,8 +9,7 @@
 use anyhow::Result;
 use bs_io::{MemSink, MemSource};
 use bs_words::List;
-use cmmc_core::cmmc;
-use file_compile::OpenGate;
+use cmmc_core::{OpenGate, cmmc};
 use std::alloc::Global;
 use std::io::{self, BufRead, BufReader, BufWriter, Write};
 use std::thread::Threads;

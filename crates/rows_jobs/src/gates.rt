@@ -1,5 +1,5 @@
 //! Gates that see what the compiler does.
-use file_compile::Gate;
+use cmmc_core::Gate;
 use std::sync::atomic::{AtomicBool, AtomicU64, Ordering};
 use std::thread;
 

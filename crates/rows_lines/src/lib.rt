@@ -14,9 +14,8 @@ mod line;
 
 use bs_io::{MemSink, MemSource};
 use bs_words::List;
-use cmmc_core::cmmc;
+use cmmc_core::{OpenGate, cmmc};
 use digits::{bytes_of, push_digits};
-use file_compile::OpenGate;
 use line::Line;
 use std::alloc::{AllocError, Global};
 use std::thread::Threads;
