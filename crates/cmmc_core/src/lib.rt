@@ -8,4 +8,5 @@ mod run;
 mod text;
 mod top;
 
+pub use text_commands::{Gate, OpenGate};
 pub use top::cmmc;

@@ -13,6 +13,8 @@ use crate::run::{RunRefusal, run_source};
 use bs_io::{Sink, Source, write_all};
 use command_line::{Command, WordsError, read_words};
 use std::alloc::Global;
+use std::thread::Threads;
+use text_commands::Gate;
 
 /// Does what the words say, and answers the status with which the program ends.
 ///
@@ -20,13 +22,15 @@ use std::alloc::Global;
 /// `source` and writes its image to `out`; `run ENTRY` reads an image and writes the outcome of a run of
 /// that function; `check ENTRY` reads a Cmm text and writes the outcome of a run of that function of the text, and
 /// what the run needs of stack, heap and fuel. At status 0 nothing is written to `err`; at any other nothing but the front of the
-/// output is written to `out`.
-pub fn cmmc<S: Source, K: Sink, E: Sink>(
+/// output is written to `out`. `compile` and `check` tell the gate of each function that they compile.
+pub fn cmmc<R: Threads + Sync, S: Source, K: Sink, E: Sink, G: Gate + Sync>(
+    rt: &R,
     alloc: Global,
     words: &[String],
     source: &mut S,
     out: &mut K,
     err: &mut E,
+    gate: &G,
 ) -> u8
     ensures ends { Ends (texts words.now)
         (effects (side S.left S.faults source.old source.new)
@@ -37,16 +41,18 @@ pub fn cmmc<S: Source, K: Sink, E: Sink>(
         (side K.held K.faults out.old out.new) (side E.held E.faults err.old err.new))
         result }
 {
-    dispatch(alloc, words, source, out, err)
+    dispatch(rt, alloc, words, source, out, err, gate)
 }
 
 /// Does what the words say.
-fn dispatch<S: Source, K: Sink, E: Sink>(
+fn dispatch<R: Threads + Sync, S: Source, K: Sink, E: Sink, G: Gate + Sync>(
+    rt: &R,
     alloc: Global,
     words: &[String],
     source: &mut S,
     out: &mut K,
     err: &mut E,
+    gate: &G,
 ) -> u8
     ensures { Ends (texts words.now)
         (effects (side S.left S.faults source.old source.new)
@@ -54,7 +60,7 @@ fn dispatch<S: Source, K: Sink, E: Sink>(
         result }
 {
     match read_words(alloc, words) {
-        Ok(Command::Compile) => match compile_source(alloc, source) {
+        Ok(Command::Compile(words)) => match compile_source(rt, alloc, &words, source, gate) {
             Ok(bytes) => match write_all(out, bytes.as_slice()) {
                 Ok(()) => WRITTEN,
                 Err(_) => WRITE_FAULT,
@@ -62,7 +68,7 @@ fn dispatch<S: Source, K: Sink, E: Sink>(
             Err(Refusal::ReadFault) => tell(err, b"cmmc: read fault\n", READ_FAULT),
             Err(Refusal::Text(why)) => tell_refusal(alloc, err, &why),
         },
-        Ok(Command::Check(words)) => check(alloc, &words, source, out, err),
+        Ok(Command::Check(words)) => check(rt, alloc, &words, source, out, err, gate),
         Ok(Command::Run(run)) => match run_source(alloc, run, source, out) {
             Ok(()) => WRITTEN,
             Err(RunRefusal::WriteFault) => WRITE_FAULT,
