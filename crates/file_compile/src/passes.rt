@@ -8,21 +8,23 @@ ghost use Rattle.file_compile.specs.Accepted.{IsAcceptedFunction};
 use cmm_tree::Function;
 use frame_tables::descriptors;
 use linear_pass::linear;
+use mach_passes::prepared;
 use reg_rounds::allocate;
 use rv_emit::emit;
 use rv_pieces::Pieces;
 use selection::select_function;
 use std::alloc::{AllocError, Global};
 
-/// The pieces of a function: it is selected, every register gets a place, its operations become lines, its
-/// frame descriptors are found, and code is emitted.
+/// The pieces of a function: it is selected and prepared, every register gets a place, its operations become
+/// lines, its frame descriptors are found, and code is emitted.
 pub fn function_pieces(alloc: Global, function: &Function) -> Result<Pieces, AllocError>
     requires typed { IsFunctionAnnotated function.now }
     requires accepted { IsAcceptedFunction (function_view function.now) }
     ensures { IfOk result (IsFunctionMade (function_view function.now)) }
 {
     let mach = select_function(alloc, function)?;
-    let allocated = allocate(alloc, mach)?;
+    let prepared = prepared(alloc, mach)?;
+    let allocated = allocate(alloc, prepared)?;
     let lin = linear(alloc, &allocated.mach)?;
     let descrs = descriptors(alloc, &lin)?;
     emit(alloc, &lin, descrs.as_slice())

@@ -62,23 +62,27 @@ module _ {defined : List ℕ → Option DefinedSymbol} {tree : FunctionTree} (ac
     colours_low = selected_low tree;
   }
 
-  module _ {p q : Mach} (is : IsPrepared (selected tree) p) (allocated : IsAllocated p q) where
-    pub ready : prepared.IsKept (selected tree) p
-    ready = prepared_kept (selected tree) p selected_preparable is
+  -- and what they make is ready for allocation
+  pub ready : {p : Mach} → IsPrepared (selected tree) p → prepared.IsKept (selected tree) p
+  ready {p} is = prepared_kept (selected tree) p selected_preparable is
 
+  module _ {p q : Mach} (is : IsPrepared (selected tree) p) (allocated : IsAllocated p q) where
     kept : rounds.IsKept p q
-    kept = allocated_kept p q ready.formed ready.placed ((ready.carried).colours_low (selected_low tree)) allocated
+    kept =
+        let made = ready is in
+        allocated_kept p q made.formed made.placed ((made.carried).colours_low (selected_low tree)) allocated
 
     -- what is made of the function
     pub placed_for : IsPlacedFor tree q
     placed_for =
-        let one = ready.carried in
+        let made = ready is in
+        let one = made.carried in
         let two = kept.carried in
         let others = others_few (selected tree).code in
         let size = promise.size in
         let instrs = size.instrs in
         let operands = size.operands in
-        let ready_size = ready.size (size_by tree.tokens) size in
+        let ready_size = made.size (size_by tree.tokens) size in
         let ready_instrs = ready_size.instrs in
         let ready_labels = ready_size.labels in
         let long = kept.instrs in
@@ -90,12 +94,12 @@ module _ {defined : List ℕ → Option DefinedSymbol} {tree : FunctionTree} (ac
         let points_two = two.points in
         let exits_one = one.exits in
         let exits_two = two.exits in
-        let whole = keeps_then ready.keeps kept.keeps in
+        let whole = keeps_then made.keeps kept.keeps in
         record {
           keeps = whole;
           formed = kept.formed;
           placed = kept.placed;
-          seated = kept.seated ready.seated;
+          seated = kept.seated made.seated;
           no_addr = whole.addrs promise.no_addr;
           tries = two.tries (tries tree) (one.tries (tries tree) promise.tries);
           offsets = two.offsets (one.offsets promise.offsets);
