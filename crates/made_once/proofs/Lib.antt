@@ -1,3 +1,1 @@
-pub mod Graphs
-pub mod Allocated
 pub mod Made

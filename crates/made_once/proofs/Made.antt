@@ -12,7 +12,7 @@ use Rattle.emit_rules.specs.Emitted.{IsEmitted}
 use Rattle.emit_rules.proofs.Once.{emitted_once}
 use Rattle.rv_pieces.specs.declared.piece.Pieces.{Pieces}
 use Rattle.made_functions.specs.Made.{IsMadeOf}
-use Rattle.made_once.proofs.Allocated.{allocated_once}
+use Rattle.rounds_rules.proofs.Once.{allocated_once}
 
 module _ {tree : FunctionTree} {m n : Lin} {ds es : List Descr} {p q : Pieces} (h : IsMadeOf tree m ds p) (k : IsMadeOf tree n es q) where
   -- one Linear function
