@@ -1,18 +1,21 @@
 //! Register allocation, whole.
-ghost use Rattle.std.specs.Prelude.{◌≡◌, false, IfOk};
+ghost use Rattle.std.specs.Prelude.{◌≡◌, IfOk};
 ghost use Rattle.mach_ir.specs.Formed.{WellFormed};
 ghost use Rattle.mach_ir.specs.Placed.{WellPlaced};
 ghost use Rattle.mach_ir.specs.declared.mach.Mach.{Mach};
 ghost use Rattle.places_rules.specs.Places.{ColoursLow};
-ghost use Rattle.places_rules.specs.Rest.{IsKept};
-ghost use Rattle.reg_rounds.specs.Allocated.{IsAllocated};
+ghost use Rattle.rounds_rules.specs.Rounds.{IsRound, IsAllocatedIn};
 
-use crate::places::recoloured;
+use crate::slots::rest_in_slots;
 use colouring::colour;
 use interfere::graph;
-use liveness::live;
+use liveness::{first_free, live};
 use mach_ir::Mach;
+use reload::reload;
 use std::alloc::{AllocError, Global};
+
+/// After how many rounds allocation gives up.
+const MOST_ROUNDS: u32 = 50;
 
 /// A Mach function all of whose registers have places.
 #[derive(Clone, Drop)]
@@ -24,30 +27,53 @@ pub struct Allocated {
     pub rest: bool,
 }
 
-/// A place for each register of a function: what is live, the graph of what must stand apart, and its
-/// colouring.
-///
-/// As yet there is one round: an operand that stands in a slot stays there, and emission loads it. The only
-/// error is want of memory.
-pub fn allocate(alloc: Global, mach: Mach) -> Result<Allocated, AllocError>
+fn copy(mach: &Mach) -> Result<Mach, AllocError>
+    ensures { IfOk result (λ copy. copy ≡ mach.now) }
+{
+    mach.clone()
+}
+
+/// One round: what is live, the graph of what must stand apart, its colouring, and the copies for what that
+/// put into slots. The answer says whether another round is asked for. Registers numbered `fresh` or above
+/// were made by earlier rounds.
+fn round(alloc: Global, mach: Mach, fresh: u32) -> Result<(Mach, bool), AllocError>
     requires formed { WellFormed mach }
     requires placed { WellPlaced mach }
-    ensures mach { IfOk result (λ allocated. IsAllocated mach allocated.mach) }
-    ensures rounds { IfOk result (λ allocated. allocated.rounds ≡ 1) }
-    ensures rest { IfOk result (λ allocated. allocated.rest ≡ false) }
+    ensures { IfOk result (λ made. IsRound fresh mach made.0 made.1) }
 {
     let live = live(alloc, &mach)?;
     let graph = graph(alloc, &mach, &live)?;
-    let colours = colour(alloc, &graph)?;
-    let mach = recoloured(alloc, &colours, mach)?;
-    Ok(Allocated {
-        mach,
-        rounds: 1,
-        rest: false,
-    })
+    let colours = colour(alloc, &graph, fresh)?;
+    reload(alloc, mach, &colours)
 }
 
-/// Law: an allocated function does what it did, and each of its registers has a place.
-pub fn allocations_are_kept()
-    ensures { (m q : Mach) → WellFormed m → WellPlaced m → ColoursLow m → IsAllocated m q → IsKept m q }
-{}
+/// A place for each register of a function, in how many rounds, and whether it gave up.
+///
+/// The time is that of the rounds, each of them that of liveness, of the graph and of its colouring. The
+/// only error is want of memory, which more places, registers or uses than a number can count are too.
+pub fn allocate(alloc: Global, mach: Mach) -> Result<Allocated, AllocError>
+    requires formed { WellFormed mach }
+    requires placed { WellPlaced mach }
+    requires low { ColoursLow mach }
+    ensures { IfOk result (λ made. IsAllocatedIn mach made.mach made.rounds made.rest) }
+{
+    let fresh = first_free(&mach)?;
+    let first = copy(&mach)?;
+    let mut current = mach;
+    for rounds in 0..MOST_ROUNDS {
+        let (made, asks) = round(alloc, current, fresh)?;
+        if !asks {
+            return Ok(Allocated {
+                mach: made,
+                rounds: rounds + 1,
+                rest: false,
+            });
+        }
+        current = made;
+    }
+    Ok(Allocated {
+        mach: rest_in_slots(alloc, first)?,
+        rounds: MOST_ROUNDS,
+        rest: true,
+    })
+}

@@ -1,10 +1,11 @@
-//! Register allocation: a place for each register of a Mach function (OCaml's `asmcomp/asmgen.ml`,
-//! where spilling, splitting, colouring and reloading turn in rounds).
+//! Register allocation: a place for each register of a Mach function (OCaml's `asmcomp/asmgen.ml`).
 //!
-//! As yet one colouring is all of it.
+//! Colouring and reloading turn in rounds until no operation has an operand or a result in a slot. Where
+//! fifty rounds do not end, the function as it stood before the first gets a slot for each register whose
+//! place is open.
 #![tactic(auto)]
 
 mod allocation;
-mod places;
+mod slots;
 
-pub use allocation::{Allocated, allocate, allocations_are_kept};
+pub use allocation::{Allocated, allocate};

@@ -14,7 +14,7 @@ use Rattle.mach_ir.specs.declared.reg.Reg.{Reg}
 use Rattle.mach_ir.specs.declared.mach.Instr.{Instr}
 use Rattle.pass_rules.specs.Measures.{code_words, instr_words, copy_words}
 use Rattle.places_rules.specs.Places.{Placing, placed, all_placed, placed_instr, placed_code}
-use Rattle.reload_rules.specs.Reloaded.{is_in_slot, is_renewed, fresh, number_after, renewed, reloads, spills}
+use Rattle.reload_rules.specs.Reloaded.{is_in_slot, is_renewed, fresh, renewed, reloads, spills}
 use Rattle.spill_rules.specs.Spilled.{copied}
 
 -- ---- placings

@@ -1,16 +1,12 @@
 -- A function over the rounds: each copy of the first stands alone, and each other instruction among the copies for its operands and
 -- results.
-use Rattle.std.proofs.Common.{◌≡◌, ℕ, zero, suc, ◌+◌, ◌*◌, ◌≤◌, Bool, true, false, cond, not, ◌&&◌, nat_eq, List, [], ◌∷◌, ◌++◌, length, refl, sym, ap, ◌∙◌, subst, arith, append-nil}
+use Rattle.std.proofs.Common.{◌≡◌, ℕ, suc, ◌+◌, ◌*◌, ◌≤◌, Bool, true, false, cond, not, ◌&&◌, nat_eq, List, [], ◌∷◌, ◌++◌, length, refl, sym, ap, ◌∙◌, subst, arith}
 use Rattle.std.proofs.lemmas.List.{length-map}
 use Rattle.bs_words.specs.declared.types.Loc.{Loc}
 use Rattle.bs_words.specs.declared.types.Loc.TheVariants as loc
-use Rattle.mach_ir.specs.declared.op.CopyKind.{CopyKind}
-use Rattle.mach_ir.specs.declared.op.Op.{Op}
 use Rattle.mach_ir.specs.declared.op.Op.TheVariants as op
-use Rattle.mach_ir.specs.declared.op.Pure.{Pure}
 use Rattle.mach_ir.specs.declared.op.Pure.TheVariants as pure
 use Rattle.mach_ir.specs.declared.reg.Reg.{Reg}
-use Rattle.mach_ir.specs.declared.mach.Mark.{Mark}
 use Rattle.mach_ir.specs.declared.mach.MachOp.{MachOp}
 use Rattle.mach_ir.specs.declared.mach.MachOp.TheVariants as mach
 use Rattle.mach_ir.specs.declared.mach.Instr.{Instr}
@@ -25,8 +21,7 @@ use Rattle.places_rules.specs.Places.{Placing, placed, all_placed, placed_instr,
 use Rattle.reload_rules.specs.Reloaded.{is_copy, reads_registers, writes_registers, renewed, reloads, spills, number_past, results_from, past_instr, renewed_instr, reloaded_instr, reloaded_code}
 use Rattle.reload_rules.proofs.Text.{no_reloads, no_spills, none_renewed}
 use Rattle.reload_rules.proofs.Whole.{same_length}
-use Rattle.spill_rules.specs.Spilled.{copied}
-use Rattle.rounds_rules.proofs.Feeding.{IsSound, slot_stays, machine_stays, AreHomed, none_homed, one_homed, after, sound_after, twice, twice_instr, words_append, placed_append, FedBy, fed_at_first, fed_words, fed_placed, fed_reloaded, fed_spilled}
+use Rattle.rounds_rules.proofs.Feeding.{IsSound, slot_stays, machine_stays, AreHomed, after, sound_after, twice_instr, words_append, placed_append, FedBy, fed_at_first, fed_words, fed_placed, fed_reloaded, fed_spilled}
 
 -- ---- copies
 
@@ -290,7 +285,7 @@ module _ (place : Placing) (sound : IsSound place) where
       let text : code_words (placed_code place (before ++ (j ∷ (behind ++ q)))) ≡ code_words (placed_code place before ++ placed_code place (j ∷ (behind ++ q))) =
       ap code_words (placed_append place before (j ∷ (behind ++ q))) in
       let split : code_words (placed_code place before ++ placed_code place (j ∷ (behind ++ q))) ≡
-          code_words (placed_code place before) + (instr_words (placed_instr place j) + code_words (placed_code place (behind ++ q))) =
+      code_words (placed_code place before) + (instr_words (placed_instr place j) + code_words (placed_code place (behind ++ q))) =
       words_append (placed_code place before) (placed_code place (j ∷ (behind ++ q))) in
       let more : code_words (placed_code place (behind ++ q)) ≡ code_words (placed_code place behind ++ placed_code place q) = ap code_words (placed_append place behind q) in
       let rest = words_append (placed_code place behind) (placed_code place q) in

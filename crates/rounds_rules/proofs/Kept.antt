@@ -1,5 +1,5 @@
 -- An allocated function is what it was, each of its registers has a place, and of the copies that rounds leave few have words.
-use Rattle.std.proofs.Common.{◌≡◌, ◌≢◌, ◌⊎◌, inl, inr, ⊎_elim, ℕ, zero, suc, ◌+◌, ◌*◌, ◌<◌, ◌≤◌, Bool, true, false, cond, List, [], ◌∷◌, ◌++◌, length, All, refl, sym, ap, ◌∙◌, subst, arith}
+use Rattle.std.proofs.Common.{◌≡◌, ◌≢◌, ◌⊎◌, inl, inr, ℕ, suc, ◌+◌, ◌*◌, ◌≤◌, Bool, true, false, cond, List, [], ◌∷◌, ◌++◌, length, All, refl, sym, ap, ◌∙◌, subst, arith}
 use Rattle.std.specs.Prelude.{Contains}
 use Rattle.std.proofs.Math.Nat.{mul-le-mul_right, suc-mul}
 use Rattle.std.proofs.lemmas.List.{length-map}
@@ -21,21 +21,19 @@ use Rattle.mach_ir.specs.declared.op.Op.{Op}
 use Rattle.mach_ir.specs.declared.op.Op.TheVariants as op
 use Rattle.bs_words.specs.declared.types.Comp.{Comp}
 use Rattle.mach_ir.specs.declared.reg.Reg.{Reg}
-use Rattle.mach_ir.specs.declared.mach.MachOp.{MachOp}
 use Rattle.mach_ir.specs.declared.mach.MachOp.TheVariants as mach
 use Rattle.mach_ir.specs.declared.mach.Instr.{Instr}
 use Rattle.mach_ir.specs.declared.mach.Mach.{Mach}
 use Rattle.mach_ir.proofs.Keeping.{keeps_itself, keeps_then}
 use Rattle.mach_laws.proofs.Colouring.{colouring_of}
 use Rattle.mach_laws.proofs.Walking.{first_in, later_in}
-use Rattle.pass_rules.specs.Carried.{IsCarried, TriesAtMost, OffsetFits}
+use Rattle.pass_rules.specs.Carried.{IsCarried, OffsetFits}
 use Rattle.pass_rules.specs.Measures.{code_words, copy_words, other_operands}
-use Rattle.places_rules.specs.Places.{Placing, placed, all_placed, placed_instr, placed_code, recoloured, rest_in_slots, last_resort, or_slot, ColoursLow}
+use Rattle.places_rules.specs.Places.{Placing, all_placed, placed_code, recoloured, rest_in_slots, last_resort, or_slot, ColoursLow}
 use Rattle.places_rules.proofs.Rest.{rest_keeps, rest_placed, rest_formed, rest_seated}
-use Rattle.reload_rules.specs.Kept as reload
-use Rattle.reload_rules.specs.Reloaded.{slot_or, to_slots, in_slots, reloads, spills, renewed, reads_registers, writes_registers, results_from, past_instr, renewed_instr, reloaded_instr, reloaded_code, is_renewed, IsReloadedBy, is_coloured, asks_again}
+use Rattle.reload_rules.specs.Reloaded.{slot_or, to_slots, in_slots, reloads, spills, reads_registers, writes_registers, results_from, past_instr, renewed_instr, reloaded_instr, reloaded_code, is_renewed, IsReloadedBy, is_coloured, asks_again}
 use Rattle.reload_rules.proofs.Together.{reloaded_kept}
-use Rattle.rounds_rules.specs.Rounds.{IsRound, Asked, none_yet, one_more, most_rounds, Ends, asks_no_more, gives_up, IsAllocatedIn, IsAllocated, IsKept}
+use Rattle.rounds_rules.specs.Rounds.{IsRound, Asked, none_yet, one_more, most_rounds, Ends, asks_no_more, gives_up, IsAllocated, IsKept}
 use Rattle.rounds_rules.proofs.Feeding.{MayStand, stays, in_colour, at_home, left_open, IsSound, IsHomed, stays_homed, AreHomed, none_homed, one_homed}
 use Rattle.rounds_rules.proofs.Grown as grown
 use Rattle.rounds_rules.proofs.Grown.{same_code, other_count, copy_operands, HomedCode, no_code, homed_then, Grown, grown_first, grown_placed, grown_reloaded, grown_words, grown_points, grown_exits, grown_operands, Shallow, grown_shallow, Fit, grown_fit, ReturnsNothing, grown_ends}
@@ -379,6 +377,13 @@ module _ {fresh : ℕ} where
       instrs = omega arith;
     }
     standing (one_more a r) = next_round (standing a) r
+
+    -- what a round needs of a function, after rounds that asked for another
+    pub still_formed : {rounds : ℕ} {m : Mach} → Asked fresh first rounds m → WellFormed m
+    still_formed a = let s = standing a in s.formed
+
+    pub still_placed : {rounds : ℕ} {m : Mach} → Asked fresh first rounds m → WellPlaced m
+    still_placed a = let s = standing a in s.well
 
 not_open : (r : Reg) → IsPlaced r → r.loc ≡ loc.Unset → ⊥
 not_open r (placings.in_colour n c e) u = not_unset_machine r.loc n e u

@@ -1,6 +1,6 @@
 -- Allocation makes one function of each: a function has one graph, that one colouring by its order, and by that reloading makes one
 -- function and one answer.
-use Rattle.std.proofs.Common.{◌≡◌, ⊎_elim, ℕ, zero, suc, ◌<◌, ◌≤◌, Bool, true, false, refl, sym, ap, ◌∙◌, subst, arith}
+use Rattle.std.proofs.Common.{◌≡◌, ⊎_elim, ℕ, ◌<◌, ◌≤◌, Bool, true, false, refl, sym, subst, arith}
 use Rattle.std.proofs.lemmas.Bool.{cases_lt}
 use mathlib.Core.Path.{fun_ext}
 use Rattle.colouring.specs.Chosen.{IsColouredBy}
@@ -11,7 +11,7 @@ use Rattle.mach_ir.specs.declared.graph.Graph.{Graph}
 use Rattle.mach_ir.specs.declared.mach.Mach.{Mach}
 use Rattle.reload_rules.specs.Reloaded.{IsFree, IsReloadedBy}
 use Rattle.reload_rules.proofs.Together.{one_reloaded}
-use Rattle.rounds_rules.specs.Rounds.{IsRound, Asked, none_yet, one_more, most_rounds, Ends, asks_no_more, gives_up, IsAllocated}
+use Rattle.rounds_rules.specs.Rounds.{IsRound, Asked, none_yet, one_more, Ends, asks_no_more, gives_up, IsAllocated}
 use Rattle.rounds_rules.proofs.Graphs.{graph_once}
 
 true_is_not_false : true ≡ false → ⊥
@@ -54,8 +54,8 @@ module _ {fresh : ℕ} where
       (cases_lt n m)
     where
       same : {first p q o k : Mach} (n m : ℕ) → n ≡ m → Asked fresh first n p → IsRound fresh p q false → Asked fresh first m o → IsRound fresh o k false → q ≡ k
-      same {first} {k = k} n m e a r b s =
-          (both_once r (subst (λ (p : Mach). IsRound fresh p k false) (sym (asked_once a (subst (λ j. Asked fresh first j _) (sym e) b))) s)).0
+      same {first} {o = o} {k = k} n m e a r b s =
+          (both_once r (subst (λ (p : Mach). IsRound fresh p k false) (sym (asked_once a (subst (λ j. Asked fresh first j o) (sym e) b))) s)).0
   ends_once (asks_no_more {rounds = n} few a r) (gives_up b) = absurd (no_later n a r few b)
   ends_once (gives_up a) (asks_no_more {rounds = m} few b s) = absurd (no_later m b s few a)
   ends_once (gives_up a) (gives_up b) = refl

@@ -4,3 +4,20 @@
 //!
 //! The crate holds definitions and laws alone.
 #![tactic(auto)]
+
+ghost use Rattle.std.specs.Prelude.{◌≡◌};
+ghost use Rattle.mach_ir.specs.Formed.{WellFormed};
+ghost use Rattle.mach_ir.specs.Placed.{WellPlaced};
+ghost use Rattle.mach_ir.specs.declared.mach.Mach.{Mach};
+ghost use Rattle.places_rules.specs.Places.{ColoursLow};
+ghost use Rattle.rounds_rules.specs.Rounds.{IsAllocated, IsKept};
+
+/// Law: an allocated function does what it did, each of its registers has a place, and it has few more words.
+pub fn allocations_are_kept()
+    ensures { (m q : Mach) → WellFormed m → WellPlaced m → ColoursLow m → IsAllocated m q → IsKept m q }
+{}
+
+/// Law: allocation makes one function of each.
+pub fn allocations_are_one()
+    ensures { (m q k : Mach) → IsAllocated m q → IsAllocated m k → q ≡ k }
+{}
