@@ -16,7 +16,6 @@ use Rattle.mach_ir.specs.declared.mach.Mach.{Mach}
 use Rattle.mach_ir.specs.declared.mach.MachOp.{MachOp}
 use Rattle.mach_ir.specs.declared.mach.MachOp.TheVariants as mach
 use Rattle.mach_laws.proofs.Walking.{none_in, first_in, later_in, in_cons}
-use Rattle.split_rules.proofs.Formed.{of_each}
 use Rattle.repeat_rules.specs.Repeated.{is_operator, StillStands, Repeats, from_earlier, again, in_place, with_moves, IsBefore, IsRepeated}
 use Rattle.bs_words.specs.declared.operators.IntOp.{IntOp}
 use Rattle.cse_deadcode.specs.declared.events.Computed.{Computed}
@@ -29,7 +28,7 @@ use Rattle.cse_deadcode.specs.Repeats.{stands, standing_first, standing, standin
 use Rattle.cse_deadcode.proofs.Last.{Found, find, last_from}
 use Rattle.cse_deadcode.proofs.Noting.{differ, second_true, any_none, never_written}
 use Rattle.cse_deadcode.proofs.Alike.{operator_of, same_itself, OperatorShape, operator_shape, alike}
-use Rattle.cse_deadcode.proofs.Standing.{all_straight, still_stands, stands_still}
+use Rattle.cse_deadcode.proofs.Standing.{of_each, all_straight, still_stands, stands_still}
 
 -- ---- parts of lists
 

@@ -4,7 +4,7 @@ use Rattle.std.proofs.lemmas.Bool.{and_parts, and_from, leb-true, le-leb, ltb-tr
 use Rattle.std.proofs.lemmas.List.{length-append}
 use Rattle.std.proofs.lemmas.List.Elements.{Contains-get_or}
 use Rattle.std.specs.Prelude.{slice_index_or}
-use Rattle.std.specs.List.{Contains, list_all}
+use Rattle.std.specs.List.{All, Contains, list_all}
 use Rattle.bs_words.specs.declared.types.Comp.{Comp}
 use Rattle.bs_words.specs.declared.types.Comp.TheVariants as comp
 use Rattle.bs_words.specs.declared.types.Loc.{Loc}
@@ -17,7 +17,6 @@ use Rattle.mach_ir.specs.declared.mach.Instr.{Instr}
 use Rattle.mach_ir.specs.declared.mach.MachOp.{MachOp}
 use Rattle.mach_ir.specs.declared.mach.MachOp.TheVariants as mach
 use Rattle.mach_laws.proofs.Walking.{none_in, first_in, later_in, in_cons}
-use Rattle.split_rules.proofs.Formed.{of_each}
 use Rattle.repeat_rules.specs.Repeated.{is_operator, allocates, Ends, itself, same_place, same_origin, StillStands}
 use Rattle.cse_deadcode.specs.declared.events.Event.{Event}
 use Rattle.cse_deadcode.specs.declared.events.Event.TheVariants as event
@@ -25,6 +24,9 @@ use Rattle.cse_deadcode.specs.Times.{writes, does, happens, last_time}
 use Rattle.cse_deadcode.specs.Repeats.{operands_stand, place_stands, value_stands, result_stands, stands}
 use Rattle.cse_deadcode.proofs.Last.{AreQuiet, quiet_past, past_quiet}
 use Rattle.cse_deadcode.proofs.Noting.{differ, number_written, written_number, origin_written, written_origin, colour_written, written_colour, slot_written, written_slot, number_write, origin_write, colour_write, slot_write, AreUnwritten, unwritten, quiet, ends_run, in_run, keeps_addrs, addrs_kept}
+
+pub of_each : {A : Type 0} (P : A → Type 0) (xs : List A) (x : A) → All P xs → Contains xs x → P x
+of_each P xs x h c = subst P c.2 (h c.0 x c.1)
 
 all_in : {A : Type 0} (test : A → Bool) (xs : List A) → list_all test xs ≡ true → (x : A) → Contains xs x → test x ≡ true
 all_in test [] e x c = absurd (none_in x c)

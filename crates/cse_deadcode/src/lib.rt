@@ -1,6 +1,12 @@
+//! Two passes that take out what is computed for nothing.
+//!
+//! Common subexpression elimination (OCaml's `asmcomp/CSEgen.ml`): an integer operator that repeats an
+//! earlier one of its straight run, whose operands and result still stand, becomes a move. One map has,
+//! for each operator on its operands, for each register written, for its origin and for its place, the
+//! instruction in which that was done last; what stands is told by comparing these times.
+//!
 //! Dead code elimination (OCaml's `asmcomp/deadcode.ml`): the function without the instructions that
 //! only compute, and whose results nothing uses.
-//!
 //! A register is used where some walk reads it before it writes it; what may go counts as a read only
 //! where its own result is used. So one table tells all that goes, and nothing is left to go after it.
 #![tactic(auto)]
