@@ -80,7 +80,9 @@ fn all_pieces<R: Threads + Sync, G: Gate + Sync>(
         return Err(AllocError);
     };
     let pieces_at = |piece: u32| -> Result<Pieces, AllocError>
-        requires { (piece < length functions.now) × All (λ f. IsFunctionAnnotated f.now) functions.now × All (λ f. IsAcceptedFunction (function_view f.now)) functions.now }
+        requires { (piece < length functions.now)
+            × All (λ f. IsFunctionAnnotated f.now) functions.now
+            × All (λ f. IsAcceptedFunction (function_view f.now)) functions.now }
         ensures { IfOk result (ArePiecesAt functions.entry.now piece) }
     { gated_pieces(alloc, functions, piece, gate) };
     map_in_halves(rt, alloc, count, jobs, &pieces_at)

@@ -1,5 +1,5 @@
 -- What holds of two parts of the calls holds of the whole.
-use Rattle.std.proofs.Common.{◌≡◌, ◌≤◌, ℕ, ◌+◌, ◌-◌, ◌++◌, List, [], ◌∷◌, length, refl, sym, ap, subst, ◌∙◌, arith, length-append}
+use Rattle.std.proofs.Common.{◌≡◌, ◌≤◌, ℕ, ◌+◌, ◌-◌, ◌++◌, List, [], ◌∷◌, length, refl, sym, subst, arith, length-append}
 use Rattle.fork_join.specs.Calls.{AreGiven, AreGivenFrom}
 
 pub given_both : {X : Type 0} (Gives : ℕ → X → Type 0) (from up : ℕ) (xs ys : List X) → up ≡ from + length xs
@@ -22,4 +22,5 @@ both_given Gives from low up high count xs ys all at sum whole a b =
 pub one_more : {X : Type 0} (Gives : ℕ → X → Type 0) (from number : ℕ) (xs all : List X) (x : X) → from ≤ number → all ≡ xs ++ (x ∷ [])
     → Gives number x → AreGiven Gives from (number - from) xs → AreGiven Gives from (number + 1 - from) all
 one_more Gives from number xs all x past whole gives so =
-    both_given Gives from (number - from) number 1 (number + 1 - from) xs (x ∷ []) all (omega arith) (omega arith) whole so (record { len = refl; each = (gives, tt) })
+    both_given Gives from (number - from) number 1 (number + 1 - from) xs (x ∷ []) all (omega arith) (omega arith) whole so
+    (record { len = refl; each = (gives, tt) })

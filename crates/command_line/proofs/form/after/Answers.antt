@@ -14,7 +14,8 @@ pointwise_sym (x ∷ xs) [] = refl
 pointwise_sym (x ∷ xs) (y ∷ ys) = ap₂ ◌&&◌ (eqb_sym x y) (pointwise_sym xs ys)
 
 stripped : (word prefix : List ℕ) (r : Option (Bor (List ℕ)))
-    → MatchOption r (pointwise eqb (take (length prefix) word) prefix ≡ false) (λ x. (pointwise eqb (take (length prefix) word) prefix ≡ true) × (x.now ≡ drop (length prefix) word) × (length x.now + length prefix ≡ length word))
+    → MatchOption r (pointwise eqb (take (length prefix) word) prefix ≡ false)
+    (λ x. (pointwise eqb (take (length prefix) word) prefix ≡ true) × (x.now ≡ drop (length prefix) word) × (length x.now + length prefix ≡ length word))
     → MatchOption r (starts_with eqb word prefix ≡ false) (λ x. (starts_with eqb word prefix ≡ true) × (word ≡ prefix ++ x.now))
 stripped word prefix None m = pointwise_sym prefix (take (length prefix) word) ∙ m
 stripped word prefix (Some x) m = (

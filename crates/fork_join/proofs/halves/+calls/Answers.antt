@@ -1,4 +1,4 @@
-use Rattle.std.proofs.Common.{Ok, arith}
+use Rattle.std.proofs.Common.{arith}
 use Rattle.std.proofs.lemmas.Result.{IfOk-at_ok}
 use Rattle.fork_join.specs.Calls.{AreGiven}
 use Rattle.fork_join.proofs.Joining.{both_given}

@@ -1,4 +1,4 @@
-use Rattle.std.proofs.Common.{Ok, arith, rules}
+use Rattle.std.proofs.Common.{Ok, rules}
 use Rattle.fork_join.proofs.Joining.{one_more}
 use Rattle.fork_join.proofs.halves.in_turn.Goals as goal
 

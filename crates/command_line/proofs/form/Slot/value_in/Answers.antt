@@ -16,7 +16,8 @@ plain : (word : List ℕ) (r : Option (Bor (List ℕ))) → starts_with eqb word
 plain word (Some x) dash found = (ap not dash, found.1)
 plain word None dash found = absurd (both_ways (starts_with eqb word []) found refl)
 
-value_of : (slot : Slot) (word prefix : List ℕ) (r : Option (Bor (List ℕ))) → prefix ≡ prefix_of slot → (slot ≡ Plain → starts_with eqb word (codes "-") ≡ false) → Found word prefix r
+value_of : (slot : Slot) (word prefix : List ℕ) (r : Option (Bor (List ℕ))) → prefix ≡ prefix_of slot
+    → (slot ≡ Plain → starts_with eqb word (codes "-") ≡ false) → Found word prefix r
     → MatchOption r (fills slot word ≡ false) (λ x. (fills slot word ≡ true) × (word ≡ prefix_of slot ++ x.now))
 value_of Plain word prefix r is dash found = plain word r (dash refl) (subst (λ (p : List ℕ). Found word p r) is found)
 value_of Args word prefix r is dash found = subst (λ (p : List ℕ). Found word p r) is found
