@@ -1,5 +1,5 @@
 -- Operators that compute the same are the same.
-use Rattle.std.proofs.Common.{◌≡◌, ◌∙◌, ℕ, zero, suc, ◌<◌, ◌≤◌, ◌+◌, Bool, true, false, cond, List, [], ◌∷◌, length, map, get_or, Option, Some, None, slice_get, refl, sym, ap, arith}
+use Rattle.std.proofs.Common.{◌≡◌, ◌∙◌, ℕ, ◌≤◌, true, false, List, [], ◌∷◌, length, get_or, Option, Some, None, slice_get, refl, sym, ap, arith}
 use Rattle.std.proofs.lemmas.Cmp.{tied_itself}
 use Rattle.std.proofs.lemmas.List.{length-map}
 use Rattle.std.specs.List.{Contains}
@@ -24,7 +24,6 @@ use Rattle.mach_ir.specs.declared.mach.MachOp.{MachOp}
 use Rattle.mach_ir.specs.declared.mach.MachOp.TheVariants as mach
 use Rattle.mach_laws.proofs.Walking.{first_in, later_in}
 use Rattle.repeat_rules.specs.Repeated.{is_operator}
-use Rattle.cse_deadcode.specs.contracts.events.EventOrd.TheImpl as order
 use Rattle.cse_deadcode.specs.contracts.events.EventOrd.TheImpl.Laws as law
 use Rattle.cse_deadcode.specs.declared.events.Computed.{Computed}
 use Rattle.cse_deadcode.specs.declared.events.Event.{Event}
@@ -104,9 +103,9 @@ record SameParts (c d : Computed) : Type 0 where
 same_parts : (c d : Computed) → is_same (event.Computes c) (event.Computes d) ≡ true → SameParts c d
 same_parts c d e =
     let rest : is_eq (ordering_then (option_cmp nat_cmp c.constant d.constant) (ordering_then (option_cmp nat_cmp c.left d.left) (option_cmp nat_cmp c.right d.right))) ≡ true =
-        second_equal (nat_cmp (rank_of_operator c.operator.operator) (rank_of_operator d.operator.operator)) _ e in
+    second_equal (nat_cmp (rank_of_operator c.operator.operator) (rank_of_operator d.operator.operator)) _ e in
     let last : is_eq (ordering_then (option_cmp nat_cmp c.left d.left) (option_cmp nat_cmp c.right d.right)) ≡ true =
-        second_equal (option_cmp nat_cmp c.constant d.constant) _ rest in
+    second_equal (option_cmp nat_cmp c.constant d.constant) _ rest in
     record {
       operator = equal_numbers _ _ (first_equal (nat_cmp (rank_of_operator c.operator.operator) (rank_of_operator d.operator.operator)) _ e);
       constant = same_number c.constant d.constant (first_equal (option_cmp nat_cmp c.constant d.constant) _ rest);

@@ -1,5 +1,5 @@
 -- Where something held last in a list.
-use Rattle.std.proofs.Common.{◌≡◌, ◌∙◌, ◌⊎◌, inl, inr, ⊎_elim, ℕ, zero, suc, ◌≤◌, ◌<◌, ◌+◌, Bool, true, false, cond, List, [], ◌∷◌, ◌++◌, length, refl, sym, ap, arith}
+use Rattle.std.proofs.Common.{◌≡◌, ◌∙◌, ◌⊎◌, inl, inr, ⊎_elim, ℕ, zero, suc, ◌≤◌, ◌<◌, Bool, true, false, cond, List, [], ◌∷◌, ◌++◌, length, refl, sym, ap, arith}
 use Rattle.std.proofs.lemmas.Bool.{cases_lt}
 use Rattle.std.specs.List.{Contains}
 use Rattle.mach_laws.proofs.Walking.{none_in, in_cons, first_in, later_in}
@@ -103,8 +103,8 @@ module _ {X : Type 0} (test : X → Bool) where
   quiet_past [] [] e = λ x c. absurd (none_in x c)
   quiet_past [] (r ∷ run) e =
       λ x c.
-          ⊎_elim (λ h. ap test (sym h) ∙ none_first (test r) (last test run) e)
-          (λ d. quiet_past [] run (none_later (test r) (last test run) e) x d) (in_cons r x run c)
+      ⊎_elim (λ h. ap test (sym h) ∙ none_first (test r) (last test run) e)
+      (λ d. quiet_past [] run (none_later (test r) (last test run) e) x d) (in_cons r x run c)
   quiet_past (o ∷ others) run e =
       quiet_past others run (low (test o) (last test (others ++ run)) (length others) e)
 

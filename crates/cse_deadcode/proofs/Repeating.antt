@@ -1,11 +1,11 @@
 -- Moves from what an operator repeats by the times of the code are exactly the repeats.
-use Rattle.std.proofs.Common.{◌≡◌, ◌≢◌, ◌∙◌, ℕ, zero, suc, ◌<◌, ◌≤◌, ◌+◌, ◌-◌, Bool, true, false, cond, ◌||◌, ◌⊎◌, inl, inr, ⊎_elim, List, [], ◌∷◌, ◌++◌, length, take, drop, Option, Some, None, slice_get, refl, sym, ap, subst, append_assoc, arith}
+use Rattle.std.proofs.Common.{◌≡◌, ◌∙◌, ℕ, zero, suc, ◌<◌, ◌≤◌, ◌+◌, ◌-◌, Bool, true, false, cond, ◌||◌, ⊎_elim, List, [], ◌∷◌, ◌++◌, length, take, drop, Option, Some, None, slice_get, refl, sym, ap, subst, append_assoc, arith}
 use Rattle.std.proofs.lemmas.List.{length-append, append-nil, append_cancel_right}
 use Rattle.std.specs.List.{Contains, list_any}
 use Rattle.liveness.proofs.Bounds.{split_in}
 use Rattle.mach_ir.specs.Formed.{IsFormed, WellFormed}
-use Rattle.mach_ir.specs.Placed.{is_straight, AreStraight}
-use Rattle.mach_ir.specs.Walks.{InCode, in_args, further, IsRegister, is_in_code}
+use Rattle.mach_ir.specs.Placed.{is_straight}
+use Rattle.mach_ir.specs.Walks.{InCode, in_args, further, is_in_code}
 use Rattle.mach_ir.specs.declared.op.Access.TheVariants as access
 use Rattle.mach_ir.specs.declared.op.Op.TheVariants as op
 use Rattle.mach_ir.specs.declared.op.Pure.TheVariants as pure
@@ -16,13 +16,12 @@ use Rattle.mach_ir.specs.declared.mach.Mach.{Mach}
 use Rattle.mach_ir.specs.declared.mach.MachOp.{MachOp}
 use Rattle.mach_ir.specs.declared.mach.MachOp.TheVariants as mach
 use Rattle.mach_laws.proofs.Walking.{none_in, first_in, later_in, in_cons}
-use Rattle.repeat_rules.specs.Repeated.{is_operator, StillStands, Repeats, from_earlier, again, in_place, with_moves, IsBefore, IsRepeated}
+use Rattle.repeat_rules.specs.Repeated.{is_operator, StillStands, Repeats, from_earlier, again, with_moves, IsBefore, IsRepeated}
 use Rattle.bs_words.specs.declared.operators.IntOp.{IntOp}
 use Rattle.cse_deadcode.specs.declared.events.Computed.{Computed}
 use Rattle.cse_deadcode.specs.declared.events.Event.{Event}
 use Rattle.cse_deadcode.specs.declared.events.Event.TheVariants as event
 use Rattle.cse_deadcode.specs.Events.{computation}
-use Rattle.cse_deadcode.specs.Last.{last}
 use Rattle.cse_deadcode.specs.Times.{is_same, writes, does, happens, last_time}
 use Rattle.cse_deadcode.specs.Repeats.{stands, standing_first, standing, standing_found, standing_at, repeated_op, repeated, remade, without_repeats}
 use Rattle.cse_deadcode.proofs.Last.{Found, find, last_from}
@@ -219,7 +218,7 @@ module _ (m : Mach) (formed : WellFormed m) where
         let here = fresh.from j c operates in
         let shape = operator_shape (form_of j here) operates in
         let same : is_same (event.Computes (computation shape.f shape.r j.args)) (key s) ≡ true =
-            sym (ap (λ g. does (key s) g j.args) shape.is) ∙ computes_in (part s) j e in
+        sym (ap (λ g. does (key s) g j.args) shape.is) ∙ computes_in (part s) j e in
         let both = alike shape.f s.f shape.r s.r j.args i.args shape.few s.few (told j i here known) same in
         record {
           operates = operates;
@@ -274,7 +273,7 @@ module _ (m : Mach) (formed : WellFormed m) where
         (t : StillStands made j r) → t.others ≡ others → t.run ≡ mid ++ k ∷ rest → StillStands (others ++ j ∷ mid) j r
     stood others j mid k rest r t e h =
         let within : (x : Instr) → Contains mid x → Contains t.run x =
-            λ x c. subst (λ code. Contains code x) (sym h) (in_front mid (k ∷ rest) x c) in
+        λ x c. subst (λ code. Contains code x) (sym h) (in_front mid (k ∷ rest) x c) in
         record {
           others = others;
           run = mid;
@@ -301,10 +300,10 @@ module _ (m : Mach) (formed : WellFormed m) where
         by : Places t.others p.earlier t.run f.others f.found f.run → ⊥
         by (one_place a b c) =
             let stands_so : stands (last_time made) (suc (length t.others)) p.earlier.args r ≡ true =
-                stands_still made t.others p.earlier t.run r t.within t.operates t.straight t.operands t.stands t.kept in
+            stands_still made t.others p.earlier t.run r t.within t.operates t.straight t.operands t.stands t.kept in
             let same : standing (last_time made) (suc (length t.others)) p.earlier ≡ Some r =
-                ap (λ rs. standing_first (last_time made) (suc (length t.others)) p.earlier.args (slice_get rs 0)) t.result
-                ∙ ap (λ b. cond b (Some r) None) stands_so in
+            ap (λ rs. standing_first (last_time made) (suc (length t.others)) p.earlier.args (slice_get rs 0)) t.result
+            ∙ ap (λ b. cond b (Some r) None) stands_so in
             some_none
             (sym same
             ∙ ap (λ xs. standing (last_time made) (suc (length xs)) p.earlier) a

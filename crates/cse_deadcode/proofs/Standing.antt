@@ -1,5 +1,5 @@
 -- What stands by the times of a code is what stands in it.
-use Rattle.std.proofs.Common.{◌≡◌, ◌≢◌, ◌∙◌, ℕ, suc, ◌<◌, ◌≤◌, ◌+◌, Bool, true, false, ◌&&◌, nat_lt, nat_le, ◌⊎◌, inl, inr, ⊎_elim, List, [], ◌∷◌, ◌++◌, length, refl, sym, ap, subst, append_assoc, arith}
+use Rattle.std.proofs.Common.{◌≡◌, ◌≢◌, ◌∙◌, ℕ, suc, ◌<◌, ◌≤◌, ◌+◌, Bool, true, false, ◌&&◌, nat_lt, nat_le, ⊎_elim, List, [], ◌∷◌, ◌++◌, length, refl, sym, ap, subst, append_assoc, arith}
 use Rattle.std.proofs.lemmas.Bool.{and_parts, and_from, leb-true, le-leb, ltb-true, lt-ltb}
 use Rattle.std.proofs.lemmas.List.{length-append}
 use Rattle.std.proofs.lemmas.List.Elements.{Contains-get_or}
@@ -11,7 +11,6 @@ use Rattle.bs_words.specs.declared.types.Loc.{Loc}
 use Rattle.bs_words.specs.declared.types.Loc.TheVariants as loc
 use Rattle.mach_ir.specs.Placed.{is_straight, AreStraight}
 use Rattle.mach_ir.specs.declared.op.Op.TheVariants as op
-use Rattle.mach_ir.specs.declared.op.Pure.TheVariants as pure
 use Rattle.mach_ir.specs.declared.reg.Reg.{Reg}
 use Rattle.mach_ir.specs.declared.mach.Instr.{Instr}
 use Rattle.mach_ir.specs.declared.mach.MachOp.{MachOp}
@@ -20,10 +19,10 @@ use Rattle.mach_laws.proofs.Walking.{none_in, first_in, later_in, in_cons}
 use Rattle.repeat_rules.specs.Repeated.{is_operator, allocates, Ends, itself, same_place, same_origin, StillStands}
 use Rattle.cse_deadcode.specs.declared.events.Event.{Event}
 use Rattle.cse_deadcode.specs.declared.events.Event.TheVariants as event
-use Rattle.cse_deadcode.specs.Times.{writes, does, happens, last_time}
+use Rattle.cse_deadcode.specs.Times.{writes, happens, last_time}
 use Rattle.cse_deadcode.specs.Repeats.{operands_stand, place_stands, value_stands, result_stands, stands}
 use Rattle.cse_deadcode.proofs.Last.{AreQuiet, quiet_past, past_quiet}
-use Rattle.cse_deadcode.proofs.Noting.{differ, number_written, written_number, origin_written, written_origin, colour_written, written_colour, slot_written, written_slot, number_write, origin_write, colour_write, slot_write, AreUnwritten, unwritten, quiet, ends_run, in_run, keeps_addrs, addrs_kept}
+use Rattle.cse_deadcode.proofs.Noting.{differ, number_written, written_number, origin_written, written_origin, colour_written, written_colour, slot_written, written_slot, number_write, origin_write, colour_write, slot_write, unwritten, quiet, ends_run, in_run, keeps_addrs, addrs_kept}
 
 pub of_each : {A : Type 0} (P : A → Type 0) (xs : List A) (x : A) → All P xs → Contains xs x → P x
 of_each P xs x h c = subst P c.2 (h c.0 x c.1)
@@ -68,13 +67,13 @@ module _ (made others : List Instr) (j : Instr) (run : List Instr) (r : Reg) (wi
   quiet_later e h =
       let le = leb-true (last_time made e) time h in
       let there : last_time ((others ++ j ∷ []) ++ run) e ≤ length (others ++ j ∷ []) =
-          subst (λ n. last_time ((others ++ j ∷ []) ++ run) e ≤ n) (sym past_length) (subst (λ code. last_time code e ≤ time) past le) in
+      subst (λ n. last_time ((others ++ j ∷ []) ++ run) e ≤ n) (sym past_length) (subst (λ code. last_time code e ≤ time) past le) in
       quiet_past (happens e) (others ++ j ∷ []) run there
 
   later_quiet : (e : Event) → AreQuiet (happens e) run → nat_le (last_time made e) time ≡ true
   later_quiet e q =
       let there : last_time ((others ++ j ∷ []) ++ run) e ≤ length (others ++ j ∷ []) =
-          past_quiet (happens e) (others ++ j ∷ []) run q in
+      past_quiet (happens e) (others ++ j ∷ []) run q in
       le-leb (last_time made e) time
       (subst (λ code. last_time code e ≤ time) (sym past)
       (subst (λ n. last_time ((others ++ j ∷ []) ++ run) e ≤ n) past_length there))
@@ -142,13 +141,13 @@ module _ (made others : List Instr) (j : Instr) (run : List Instr) (r : Reg) (wi
     pub still_stands : j.results ≡ r ∷ [] → stands (last_time made) time j.args r ≡ true → StillStands made j r
     still_stands result e =
         let p = and_parts (nat_lt (last_time made event.EndsRun) time)
-            (operands_stand (last_time made) time j.args && result_stands (last_time made) time r) e in
+        (operands_stand (last_time made) time j.args && result_stands (last_time made) time r) e in
         let q = and_parts (operands_stand (last_time made) time j.args) (result_stands (last_time made) time r) p.1 in
         let a = and_parts (nat_le (last_time made (event.Writes r.number)) time)
-            (nat_le (last_time made (event.WritesOrigin r.origin)) time
-            && (place_stands (last_time made) time r.loc && value_stands (last_time made) time r.comp)) q.1 in
+        (nat_le (last_time made (event.WritesOrigin r.origin)) time
+        && (place_stands (last_time made) time r.loc && value_stands (last_time made) time r.comp)) q.1 in
         let b = and_parts (nat_le (last_time made (event.WritesOrigin r.origin)) time)
-            (place_stands (last_time made) time r.loc && value_stands (last_time made) time r.comp) a.1 in
+        (place_stands (last_time made) time r.loc && value_stands (last_time made) time r.comp) a.1 in
         let c = and_parts (place_stands (last_time made) time r.loc) (value_stands (last_time made) time r.comp) b.1 in
         record {
           others = others;

@@ -1,5 +1,5 @@
 -- Where something held last in a list.
-use Rattle.std.specs.Prelude.{◌≡◌, ℕ, zero, suc, Bool, true, false, List, [], ◌∷◌}
+use Rattle.std.specs.Prelude.{ℕ, zero, suc, Bool, true, false, List, [], ◌∷◌}
 
 abbrev pub or_before : Bool → ℕ → ℕ
 or_before true zero = 1

@@ -15,7 +15,8 @@ use std::alloc::{AllocError, Global};
 fn operands_stand(times: &Times, time: usize, args: &[Reg]) -> bool
     ensures { result ≡ operands_stand (time_in times.now) time args.now }
 {
-    args.iter().all(|reg| times.last(Event::Writes(reg.number)) < time)
+    args.iter()
+        .all(|reg| times.last(Event::Writes(reg.number)) < time)
 }
 
 /// Whether nothing was written in the fixed place later.

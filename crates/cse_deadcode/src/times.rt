@@ -5,8 +5,8 @@ ghost use Rattle.cse_deadcode.specs.declared.events.Event.{Event};
 ghost use Rattle.cse_deadcode.specs.Times.{is_same, writes_place, writes, event_of, does, happens, time_in};
 
 use crate::events::{Event, computation};
-use mach_ir::{Access, Instr, MachOp, Op, Pure, Reg};
 use bs_words::Loc;
+use mach_ir::{Access, Instr, MachOp, Op, Pure, Reg};
 use std::alloc::{AllocError, Global};
 use std::collections::BTreeMap;
 
@@ -22,14 +22,22 @@ fn event_of(op: &MachOp, args: &[Reg]) -> Option<Event>
         MachOp::Op(Op::Pure(Pure::Constant(_))) => None,
         MachOp::Op(Op::Pure(Pure::Symbol(_))) => None,
         MachOp::Op(Op::Access(Access::Alloc(_))) => Some(Event::Allocates),
-        MachOp::Op(Op::Access(Access::Load {
-            chunk: _,
-            offset: _,
-        })) => None,
-        MachOp::Op(Op::Access(Access::Store {
-            chunk: _,
-            offset: _,
-        })) => None,
+        MachOp::Op(
+            Op::Access(
+                Access::Load {
+                    chunk: _,
+                    offset: _,
+                },
+            ),
+        ) => None,
+        MachOp::Op(
+            Op::Access(
+                Access::Store {
+                    chunk: _,
+                    offset: _,
+                },
+            ),
+        ) => None,
         MachOp::Op(Op::Calling(_)) => Some(Event::EndsRun),
         MachOp::Op(Op::Leaving(_)) => Some(Event::EndsRun),
         MachOp::Mark(_) => Some(Event::EndsRun),

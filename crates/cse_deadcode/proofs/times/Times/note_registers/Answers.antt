@@ -1,4 +1,3 @@
-use Rattle.std.proofs.Common.{refl}
 use Rattle.cse_deadcode.proofs.Noted.{notes_more}
 use Rattle.cse_deadcode.proofs.times.Times.note_registers.Goals as goal
 
