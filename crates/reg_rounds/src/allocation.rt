@@ -1,11 +1,11 @@
 //! Register allocation, whole.
-ghost use Rattle.std.specs.Prelude.{◌≡◌, IfOk};
+ghost use Rattle.std.specs.Prelude.{IfOk};
 ghost use Rattle.mach_ir.specs.Formed.{WellFormed};
 ghost use Rattle.mach_ir.specs.Placed.{WellPlaced};
-ghost use Rattle.mach_ir.specs.declared.mach.Mach.{Mach};
 ghost use Rattle.places_rules.specs.Places.{ColoursLow};
 ghost use Rattle.rounds_rules.specs.Rounds.{IsRound, IsAllocatedIn};
 
+use crate::copies::copy;
 use crate::slots::rest_in_slots;
 use colouring::colour;
 use interfere::graph;
@@ -25,12 +25,6 @@ pub struct Allocated {
     pub rounds: u32,
     /// Whether what was left after the last round went to slots.
     pub rest: bool,
-}
-
-fn copy(mach: &Mach) -> Result<Mach, AllocError>
-    ensures { IfOk result (λ copy. copy ≡ mach.now) }
-{
-    mach.clone()
 }
 
 /// One round: what is live, the graph of what must stand apart, its colouring, and the copies for what that
@@ -58,7 +52,7 @@ pub fn allocate(alloc: Global, mach: Mach) -> Result<Allocated, AllocError>
     ensures { IfOk result (λ made. IsAllocatedIn mach made.mach made.rounds made.rest) }
 {
     let fresh = first_free(&mach)?;
-    let first = copy(&mach)?;
+    let first = copy(alloc, &mach)?;
     let mut current = mach;
     for rounds in 0..MOST_ROUNDS {
         let (made, asks) = round(alloc, current, fresh)?;

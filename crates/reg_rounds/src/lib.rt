@@ -6,6 +6,7 @@
 #![tactic(auto)]
 
 mod allocation;
+mod copies;
 mod slots;
 
 pub use allocation::{Allocated, allocate};

@@ -1,0 +1,30 @@
+-- One turn of the rounds, and their ends.
+use Rattle.std.proofs.Common.{◌≡◌, ℕ, suc, ◌+◌, ◌<◌, ◌≤◌, Bool, true, false, sym, subst, arith}
+use Rattle.mach_ir.specs.declared.mach.Mach.{Mach}
+use Rattle.places_rules.specs.Places.{rest_in_slots}
+use Rattle.reload_rules.specs.Reloaded.{IsFree}
+use Rattle.rounds_rules.specs.Rounds.{IsRound, Asked, one_more, most_rounds, Ends, asks_no_more, gives_up, IsAllocatedIn}
+
+plus_one : (n : ℕ) → suc n ≡ n + 1
+plus_one n = omega arith
+
+module _ {fresh : ℕ} {first : Mach} where
+  pub next_asked : (rounds : ℕ) {m q : Mach} {asks : Bool} → Asked fresh first rounds m → IsRound fresh m q asks → asks ≡ true →
+      Asked fresh first (rounds + 1) q
+  next_asked rounds {m} {q} a r e =
+      subst (λ n. Asked fresh first n q) (plus_one rounds) (one_more a (subst (λ b. IsRound fresh m q b) e r))
+
+  pub no_other : (rounds : ℕ) {m q : Mach} {asks : Bool} → IsFree first fresh → Asked fresh first rounds m → rounds < most_rounds →
+      IsRound fresh m q asks → asks ≡ false → IsAllocatedIn first q (rounds + 1) false
+  no_other rounds {m} {q} free a few r e =
+      record {
+        fresh = fresh;
+        free = free;
+        ends = subst (λ n. Ends fresh first q n false) (plus_one rounds) (asks_no_more few a (subst (λ b. IsRound fresh m q b) e r));
+      }
+
+  pub given_up : (rounds : ℕ) {m : Mach} → IsFree first fresh → Asked fresh first rounds m → rounds ≤ most_rounds → most_rounds ≤ rounds →
+      IsAllocatedIn first (rest_in_slots first) most_rounds true
+  given_up rounds {m} free a most all =
+      let e : rounds ≡ most_rounds = omega (arith, most, all) in
+      record { fresh = fresh; free = free; ends = gives_up (subst (λ n. Asked fresh first n m) e a) }

@@ -1,0 +1,30 @@
+use Rattle.std.proofs.Common.{true, sym, ap, ◌∙◌, subst}
+use Rattle.rounds_rules.specs.Rounds.{none_yet, IsAllocatedIn}
+use Rattle.rounds_rules.proofs.Kept.{still_formed, still_placed}
+use Rattle.places_rules.specs.Places.{rest_in_slots}
+use Rattle.reg_rounds.proofs.Turns.{next_asked, no_other, given_up}
+use Rattle.reg_rounds.proofs.allocation.allocate.Goals as goal
+
+pub loop-rounds-init : goal.loop-rounds-init
+loop-rounds-init c = none_yet
+
+pub round-requires-clause-formed : goal.round-requires-clause-formed
+round-requires-clause-formed c = still_formed c.requires.formed c.requires.placed c.requires.low c.loop-rounds.invariant
+
+pub round-requires-clause-placed : goal.round-requires-clause-placed
+round-requires-clause-placed c = still_placed c.requires.formed c.requires.placed c.requires.low c.loop-rounds.invariant
+
+pub loop-rounds-preserved : goal.loop-rounds-preserved
+loop-rounds-preserved c =
+    next_asked c.loop-rounds.rounds c.loop-rounds.invariant c.in_ok-made.ensures c.if-not-asks.false
+
+pub returns-then-not-asks : goal.returns-then-not-asks
+returns-then-not-asks c =
+    no_other c.loop-rounds.rounds (record { above = c.in_ok-fresh.ensures.above; least = c.in_ok-fresh.ensures.least })
+    c.loop-rounds.invariant c.loop-rounds-test.true c.in_ok-made.ensures c.if-not-asks.true
+
+pub returns : goal.returns
+returns c =
+    subst (λ q. IsAllocatedIn c.args.mach q 50 true) (sym (c.in_ok-rest_in_slots.ensures ∙ ap rest_in_slots c.in_ok-first.ensures))
+    (given_up c.loop-rounds.rounds (record { above = c.in_ok-fresh.ensures.above; least = c.in_ok-fresh.ensures.least })
+    c.loop-rounds.invariant c.loop-rounds.auto.rounds-end c.loop-rounds-test.false)

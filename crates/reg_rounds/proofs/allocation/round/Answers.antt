@@ -1,0 +1,11 @@
+use Rattle.mach_ir.specs.Graph.{place_in}
+use Rattle.mach_laws.proofs.Colouring.{colourable, colouring_of}
+use Rattle.reg_rounds.proofs.allocation.round.Goals as goal
+
+pub colour-requires : goal.colour-requires
+colour-requires c = colourable c.args.mach c.in_ok-graph.graph c.in_ok-graph.ensures c.requires.placed
+
+pub reload-requires-clause-colouring : goal.reload-requires-clause-colouring
+reload-requires-clause-colouring c =
+    colouring_of c.args.mach c.in_ok-graph.graph c.in_ok-graph.ensures (place_in c.in_ok-colours.colours)
+    c.in_ok-colours.ensures.colours.colouring
