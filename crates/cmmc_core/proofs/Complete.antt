@@ -9,7 +9,7 @@ use Rattle.bs_fault.specs.Limits.{longest_text}
 use Rattle.cmm_lex.proofs.Languages.{AreBytes}
 use Rattle.cmm_tree.specs.Tree.{FileTree}
 use Rattle.command_line.proofs.Unique.{command-unique, command-formed}
-use Rattle.command_line.specs.Command.{IsCommand, AsksToCompile, CommandTree, CompileCommand, RunCommand, CheckCommand, RunTree, CheckTree}
+use Rattle.command_line.specs.Command.{IsCommand, CommandTree, CompileCommand, RunCommand, CheckCommand, RunTree, CheckTree}
 use Rattle.command_line.specs.Words.{WellFormed}
 use Rattle.correctness.specs.Bounds.{IsRoomy}
 use Rattle.text_commands.proofs.Passing.{made_for_once}
@@ -70,11 +70,11 @@ module _ (words : List (List ℕ)) (source : Side) where
 
   -- ---- one command
 
-  compile_is_no_run : (ran : RunTree) → AsksToCompile words → IsCommand words (RunCommand ran) → ⊥
-  compile_is_no_run ran c r = let e = command-unique words (CompileCommand c.0) (RunCommand ran) c.1 r in cc
+  compile_is_no_run : (ran : RunTree) → IsCommand words CompileCommand → IsCommand words (RunCommand ran) → ⊥
+  compile_is_no_run ran c r = let e = command-unique words CompileCommand (RunCommand ran) c r in cc
 
-  compile_is_no_check : (check : CheckTree) → AsksToCompile words → IsCommand words (CheckCommand check) → ⊥
-  compile_is_no_check check c k = let e = command-unique words (CompileCommand c.0) (CheckCommand check) c.1 k in cc
+  compile_is_no_check : (check : CheckTree) → IsCommand words CompileCommand → IsCommand words (CheckCommand check) → ⊥
+  compile_is_no_check check c k = let e = command-unique words CompileCommand (CheckCommand check) c k in cc
 
   run_is_no_check : (ran : RunTree) (check : CheckTree) → IsCommand words (RunCommand ran) → IsCommand words (CheckCommand check) → ⊥
   run_is_no_check ran check r k = let e = command-unique words (RunCommand ran) (CheckCommand check) r k in cc
@@ -88,14 +88,14 @@ module _ (words : List (List ℕ)) (source : Side) where
   -- ---- the words
 
   no_command_end : (status : ℕ) → Told words source status → (WellFormed words → ⊥) → Is 2 status
-  no_command_end status (output bytes z (spelling image is c)) not = absurd (not (command-formed words (CompileCommand is.0) is.1))
+  no_command_end status (output bytes z (spelling image is c)) not = absurd (not (command-formed words CompileCommand is))
   no_command_end status (output bytes z (outcome ran text is o)) not = absurd (not (command-formed words (RunCommand ran) is))
   no_command_end status (output bytes z (checked ck lines is r)) not = absurd (not (command-formed words (CheckCommand ck) is))
   no_command_end status (cause line (no_command n k)) not = inl refl
   no_command_end status (cause line (no_value w n k)) not = absurd (not w)
   no_command_end status (cause line (read_fault c is r)) not = absurd (not (command-formed words c is))
-  no_command_end status (cause line (fault f is r)) not = absurd (not (command-formed words (CompileCommand is.0) is.1))
-  no_command_end status (cause line (too_large l is r)) not = absurd (not (command-formed words (CompileCommand is.0) is.1))
+  no_command_end status (cause line (fault f is r)) not = absurd (not (command-formed words CompileCommand is))
+  no_command_end status (cause line (too_large l is r)) not = absurd (not (command-formed words CompileCommand is))
   no_command_end status (cause line (no_image ran w is r)) not = absurd (not (command-formed words (RunCommand ran) is))
   no_command_end status (cause line (no_entry ran is r)) not = absurd (not (command-formed words (RunCommand ran) is))
   no_command_end status (cause line (unfit ran is r)) not = absurd (not (command-formed words (RunCommand ran) is))
@@ -103,14 +103,14 @@ module _ (words : List (List ℕ)) (source : Side) where
   no_command_end status (cause line no_memory) not = inr refl
 
   no_value_end : (status : ℕ) → Told words source status → ((command : CommandTree) → IsCommand words command → ⊥) → Is 2 status
-  no_value_end status (output bytes z (spelling image is c)) not = absurd (not (CompileCommand is.0) is.1)
+  no_value_end status (output bytes z (spelling image is c)) not = absurd (not CompileCommand is)
   no_value_end status (output bytes z (outcome ran text is o)) not = absurd (not (RunCommand ran) is)
   no_value_end status (output bytes z (checked ck lines is r)) not = absurd (not (CheckCommand ck) is)
   no_value_end status (cause line (no_command n k)) not = inl refl
   no_value_end status (cause line (no_value w n k)) not = inl refl
   no_value_end status (cause line (read_fault c is r)) not = absurd (not c is)
-  no_value_end status (cause line (fault f is r)) not = absurd (not (CompileCommand is.0) is.1)
-  no_value_end status (cause line (too_large l is r)) not = absurd (not (CompileCommand is.0) is.1)
+  no_value_end status (cause line (fault f is r)) not = absurd (not CompileCommand is)
+  no_value_end status (cause line (too_large l is r)) not = absurd (not CompileCommand is)
   no_value_end status (cause line (no_image ran w is r)) not = absurd (not (RunCommand ran) is)
   no_value_end status (cause line (no_entry ran is r)) not = absurd (not (RunCommand ran) is)
   no_value_end status (cause line (unfit ran is r)) not = absurd (not (RunCommand ran) is)
@@ -148,13 +148,13 @@ module _ (words : List (List ℕ)) (source : Side) where
     same_file : (P : FileTree → Type 0) (file other : FileTree) → AreBytes text → IsFileOf text file → IsFileOf text other → P file → P other
     same_file P file other are h g p = subst P (one_file text file other are h g) p
 
-  module _ (text : List ℕ) (known : source.before ≡ Some text) (is : AsksToCompile words) (calm : Rose source → ⊥) where
+  module _ (text : List ℕ) (known : source.before ≡ Some text) (is : IsCommand words CompileCommand) (calm : Rose source → ⊥) where
     fault_end : (status : ℕ) → Told words source status → (told : Fault) → HasFault text told → Is 3 status
     fault_end status (output bytes z (spelling image i c)) f has = absurd (no_file text known _ f has c _ c.holds.is_file)
     fault_end status (output bytes z (outcome ran text i o)) f has = absurd (compile_is_no_run ran is i)
     fault_end status (output bytes z (checked ck lines i o)) f has = absurd (compile_is_no_check ck is i)
-    fault_end status (cause line (no_command n k)) f has = absurd (n (command-formed words (CompileCommand is.0) is.1))
-    fault_end status (cause line (no_value w n k)) f has = absurd (n (CompileCommand is.0) is.1)
+    fault_end status (cause line (no_command n k)) f has = absurd (n (command-formed words CompileCommand is))
+    fault_end status (cause line (no_value w n k)) f has = absurd (n CompileCommand is)
     fault_end status (cause line (read_fault c i r)) f has = absurd (calm r)
     fault_end status (cause line (fault g i r)) f has = inl refl
     fault_end status (cause line (too_large l i r)) f has = absurd (no_file text known _ f has r _ r.holds.is_file)
@@ -166,8 +166,8 @@ module _ (words : List (List ℕ)) (source : Side) where
 
     accepted_end : (status : ℕ) → Told words source status → (file : FileTree) → IsFileOf text file → Is 0 status ⊎ (status ≡ 8)
     accepted_end status (output bytes z o) file is_file = inl (inl z)
-    accepted_end status (cause line (no_command n k)) file is_file = absurd (n (command-formed words (CompileCommand is.0) is.1))
-    accepted_end status (cause line (no_value w n k)) file is_file = absurd (n (CompileCommand is.0) is.1)
+    accepted_end status (cause line (no_command n k)) file is_file = absurd (n (command-formed words CompileCommand is))
+    accepted_end status (cause line (no_value w n k)) file is_file = absurd (n CompileCommand is)
     accepted_end status (cause line (read_fault c i r)) file is_file = absurd (calm r)
     accepted_end status (cause line (fault g i r)) file is_file = absurd (no_fault text known file g is_file r)
     accepted_end status (cause line (too_large l i r)) file is_file = inr refl
@@ -179,8 +179,8 @@ module _ (words : List (List ℕ)) (source : Side) where
 
     fits_end : (status : ℕ) → Told words source status → (file : FileTree) → IsFileOf text file → Fits file → Is 0 status
     fits_end status (output bytes z o) file is_file fits = inl z
-    fits_end status (cause line (no_command n k)) file is_file fits = absurd (n (command-formed words (CompileCommand is.0) is.1))
-    fits_end status (cause line (no_value w n k)) file is_file fits = absurd (n (CompileCommand is.0) is.1)
+    fits_end status (cause line (no_command n k)) file is_file fits = absurd (n (command-formed words CompileCommand is))
+    fits_end status (cause line (no_value w n k)) file is_file fits = absurd (n CompileCommand is)
     fits_end status (cause line (read_fault c i r)) file is_file fits = absurd (calm r)
     fits_end status (cause line (fault g i r)) file is_file fits = absurd (no_fault text known file g is_file r)
     fits_end status (cause line (too_large l i r)) file is_file fits =
@@ -194,8 +194,8 @@ module _ (words : List (List ℕ)) (source : Side) where
 
     roomy_end : (status : ℕ) → Told words source status → (file : FileTree) → IsFileOf text file → IsRoomy file → Is 0 status
     roomy_end status (output bytes z o) file is_file roomy = inl z
-    roomy_end status (cause line (no_command n k)) file is_file roomy = absurd (n (command-formed words (CompileCommand is.0) is.1))
-    roomy_end status (cause line (no_value w n k)) file is_file roomy = absurd (n (CompileCommand is.0) is.1)
+    roomy_end status (cause line (no_command n k)) file is_file roomy = absurd (n (command-formed words CompileCommand is))
+    roomy_end status (cause line (no_value w n k)) file is_file roomy = absurd (n CompileCommand is)
     roomy_end status (cause line (read_fault c i r)) file is_file roomy = absurd (calm r)
     roomy_end status (cause line (fault g i r)) file is_file roomy = absurd (no_fault text known file g is_file r)
     roomy_end status (cause line (too_large l i r)) file is_file roomy =
@@ -213,8 +213,8 @@ module _ (words : List (List ℕ)) (source : Side) where
         absurd (not_both h.1.file large (image, (h.1.made.made, h.1.fits)) (same_file text known (Passes large) file h.1.file h.0 is_file h.1.is_file passes))
     large_end status (output bytes z (outcome ran text i o)) file large is_file passes = absurd (compile_is_no_run ran is i)
     large_end status (output bytes z (checked ck lines i o)) file large is_file passes = absurd (compile_is_no_check ck is i)
-    large_end status (cause line (no_command n k)) file large is_file passes = absurd (n (command-formed words (CompileCommand is.0) is.1))
-    large_end status (cause line (no_value w n k)) file large is_file passes = absurd (n (CompileCommand is.0) is.1)
+    large_end status (cause line (no_command n k)) file large is_file passes = absurd (n (command-formed words CompileCommand is))
+    large_end status (cause line (no_value w n k)) file large is_file passes = absurd (n CompileCommand is)
     large_end status (cause line (read_fault c i r)) file large is_file passes = absurd (calm r)
     large_end status (cause line (fault g i r)) file large is_file passes = absurd (no_fault text known file g is_file r)
     large_end status (cause line (too_large l i r)) file large is_file passes = inl refl
@@ -224,7 +224,7 @@ module _ (words : List (List ℕ)) (source : Side) where
     large_end status (cause line (unchecked ck s l i r)) file large is_file passes = absurd (compile_is_no_check ck is i)
     large_end status (cause line no_memory) file large is_file passes = inr refl
 
-pub compile-complete : (words : List (List ℕ)) (source : Side) (text : List ℕ) (status : ℕ) → source.before ≡ Some text → AsksToCompile words → (Rose source → ⊥) → Told words source status → CompileComplete text status
+pub compile-complete : (words : List (List ℕ)) (source : Side) (text : List ℕ) (status : ℕ) → source.before ≡ Some text → IsCommand words CompileCommand → (Rose source → ⊥) → Told words source status → CompileComplete text status
 compile-complete words source text status known is calm t = record {
   fault = λ f has. fault_end words source text known is calm status t f has;
   accepted = λ file is_file. accepted_end words source text known is calm status t file is_file;

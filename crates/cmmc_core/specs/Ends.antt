@@ -6,7 +6,7 @@ use Rattle.bs_fault.specs.declared.fault.Fault.{Fault}
 use Rattle.bs_fault.specs.declared.image.ImageRefusal.{ImageRefusal}
 use Rattle.bs_fault.specs.declared.large.Large.{Large}
 use Rattle.bs_fault.specs.declared.usage.Usage.TheVariants.{Words, ValueText, UnknownEntry, ArgumentUnfit}
-use Rattle.command_line.specs.Command.{IsCommand, AsksToCompile, CommandTree, RunCommand, CheckCommand, RunTree, CheckTree}
+use Rattle.command_line.specs.Command.{IsCommand, CommandTree, CompileCommand, RunCommand, CheckCommand, RunTree, CheckTree}
 use Rattle.command_line.specs.Words.{WellFormed}
 use Rattle.cmm_front.specs.FileOf.{HasFault}
 use Rattle.image_form.specs.Image.{tables_bytes}
@@ -22,7 +22,7 @@ use Rattle.cmmc_core.specs.Run.{IsOutcomeOf, ReadsNoImage, NamesNoEntry, GivesUn
 pub data Output (words : List (List ℕ)) (source : Side) : List ℕ → Type 0 where
   -- `compile`: the one spelling of an image of the text
   spelling : (image : Tables)
-      → AsksToCompile words
+      → IsCommand words CompileCommand
       → Reads (λ text. IsImageOf text image) source
       → Output words source (tables_bytes image)
   -- `run`: the outcome of the run of the image
@@ -61,11 +61,11 @@ pub data Cause (words : List (List ℕ)) (source : Side) : ℕ → List ℕ → 
       → Cause words source 5 read_fault_line
   -- `compile`
   fault : (told : Fault)
-      → AsksToCompile words
+      → IsCommand words CompileCommand
       → Reads (λ text. HasFault text told) source
       → Cause words source 3 (fault_line told)
   too_large : (large : Large)
-      → AsksToCompile words
+      → IsCommand words CompileCommand
       → Reads (λ text. IsTooLarge text large) source
       → Cause words source 8 (large_line large)
   -- `run`

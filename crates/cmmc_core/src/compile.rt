@@ -1,8 +1,6 @@
 //! The command `compile`: a Cmm text in, an image out.
-ghost use Rattle.std.specs.Prelude.{◌≡◌, ◌<◌, ◌≤◌, All, IfOk, IfErr};
+ghost use Rattle.std.specs.Prelude.{◌≡◌, ◌<◌, All, IfOk, IfErr};
 ghost use Rattle.bs_words.specs.Contents.{contents};
-ghost use Rattle.command_line.specs.Command.{WithinJobs};
-ghost use Rattle.command_line.specs.View.{compile_view};
 ghost use Rattle.cmmc_core.specs.Compile.{Reads};
 ghost use Rattle.cmmc_core.specs.Effects.{side};
 ghost use Rattle.cmmc_core.specs.Refusal.{IsRefusalFrom};
@@ -11,10 +9,8 @@ ghost use Rattle.text_commands.specs.Refusal.{SpellsImageOf, IsRefusalOf};
 use crate::text::{Unread, read_text};
 use bs_io::Source;
 use bs_words::List;
-use command_line::CompileWords;
 use std::alloc::Global;
-use std::thread::Threads;
-use text_commands::{Gate, Refusal as TextRefusal, compile_text};
+use text_commands::{Refusal as TextRefusal, compile_text};
 
 /// Why there is no image.
 #[derive(Debug, Drop)]
@@ -25,21 +21,14 @@ pub enum Refusal {
 
 /// The spelling of the image of the text that a source holds. At most one byte past the longest text is
 /// read.
-pub fn compile_source<R: Threads + Sync, S: Source, G: Gate + Sync>(
-    rt: &R,
-    alloc: Global,
-    words: &CompileWords,
-    source: &mut S,
-    gate: &G,
-) -> Result<List<u8>, Refusal>
-    requires { WithinJobs (compile_view words.now) }
+pub fn compile_source<S: Source>(alloc: Global, source: &mut S) -> Result<List<u8>, Refusal>
     ensures image { IfOk result (λ bytes.
         Reads (λ text. SpellsImageOf text (contents bytes))
         (side S.left S.faults source.old source.new)) }
     ensures refused { IfErr result (λ r. IsRefusalFrom (side S.left S.faults source.old source.new) r) }
 {
     match read_text(alloc, source) {
-        Ok(text) => match compile_bytes(rt, alloc, text.as_slice(), words.jobs, gate) {
+        Ok(text) => match compile_bytes(alloc, text.as_slice()) {
             Ok(bytes) => Ok(bytes),
             Err(why) => Err(Refusal::Text(why)),
         },
@@ -49,18 +38,10 @@ pub fn compile_source<R: Threads + Sync, S: Source, G: Gate + Sync>(
 }
 
 /// The spelling of the image of a text, whose bytes are bytes.
-fn compile_bytes<R: Threads + Sync, G: Gate + Sync>(
-    rt: &R,
-    alloc: Global,
-    text: &[u8],
-    jobs: u32,
-    gate: &G,
-) -> Result<List<u8>, TextRefusal>
-    requires some_jobs { 1 ≤ jobs }
-    requires few_jobs { jobs ≤ 64 }
+fn compile_bytes(alloc: Global, text: &[u8]) -> Result<List<u8>, TextRefusal>
     ensures are_bytes { All (λ b. b < 256) text.now }
     ensures image { IfOk result (λ bytes. SpellsImageOf text.now (contents bytes)) }
     ensures refused { IfErr result (λ r. IsRefusalOf text.now r) }
 {
-    compile_text(rt, alloc, text, jobs, gate)
+    compile_text(alloc, text)
 }

@@ -8,5 +8,4 @@ mod run;
 mod text;
 mod top;
 
-pub use text_commands::{Gate, OpenGate};
 pub use top::cmmc;

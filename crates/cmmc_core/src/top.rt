@@ -13,8 +13,6 @@ use crate::run::{RunRefusal, run_source};
 use bs_io::{Sink, Source, write_all};
 use command_line::{Command, WordsError, read_words};
 use std::alloc::Global;
-use std::thread::Threads;
-use text_commands::Gate;
 
 /// Does what the words say, and answers the status with which the program ends.
 ///
@@ -22,15 +20,13 @@ use text_commands::Gate;
 /// `source` and writes its image to `out`; `run ENTRY` reads an image and writes the outcome of a run of
 /// that function; `check ENTRY` reads a Cmm text and writes the outcome of a run of that function of the text, and
 /// what the run needs of stack, heap and fuel. At status 0 nothing is written to `err`; at any other nothing but the front of the
-/// output is written to `out`. `compile` and `check` tell the gate of each function that they compile.
-pub fn cmmc<R: Threads + Sync, S: Source, K: Sink, E: Sink, G: Gate + Sync>(
-    rt: &R,
+/// output is written to `out`.
+pub fn cmmc<S: Source, K: Sink, E: Sink>(
     alloc: Global,
     words: &[String],
     source: &mut S,
     out: &mut K,
     err: &mut E,
-    gate: &G,
 ) -> u8
     ensures ends { Ends (texts words.now)
         (effects (side S.left S.faults source.old source.new)
@@ -41,18 +37,16 @@ pub fn cmmc<R: Threads + Sync, S: Source, K: Sink, E: Sink, G: Gate + Sync>(
         (side K.held K.faults out.old out.new) (side E.held E.faults err.old err.new))
         result }
 {
-    dispatch(rt, alloc, words, source, out, err, gate)
+    dispatch(alloc, words, source, out, err)
 }
 
 /// Does what the words say.
-fn dispatch<R: Threads + Sync, S: Source, K: Sink, E: Sink, G: Gate + Sync>(
-    rt: &R,
+fn dispatch<S: Source, K: Sink, E: Sink>(
     alloc: Global,
     words: &[String],
     source: &mut S,
     out: &mut K,
     err: &mut E,
-    gate: &G,
 ) -> u8
     ensures { Ends (texts words.now)
         (effects (side S.left S.faults source.old source.new)
@@ -60,7 +54,7 @@ fn dispatch<R: Threads + Sync, S: Source, K: Sink, E: Sink, G: Gate + Sync>(
         result }
 {
     match read_words(alloc, words) {
-        Ok(Command::Compile(words)) => match compile_source(rt, alloc, &words, source, gate) {
+        Ok(Command::Compile) => match compile_source(alloc, source) {
             Ok(bytes) => match write_all(out, bytes.as_slice()) {
                 Ok(()) => WRITTEN,
                 Err(_) => WRITE_FAULT,
@@ -68,7 +62,7 @@ fn dispatch<R: Threads + Sync, S: Source, K: Sink, E: Sink, G: Gate + Sync>(
             Err(Refusal::ReadFault) => tell(err, b"cmmc: read fault\n", READ_FAULT),
             Err(Refusal::Text(why)) => tell_refusal(alloc, err, &why),
         },
-        Ok(Command::Check(words)) => check(rt, alloc, &words, source, out, err, gate),
+        Ok(Command::Check(words)) => check(alloc, &words, source, out, err),
         Ok(Command::Run(run)) => match run_source(alloc, run, source, out) {
             Ok(()) => WRITTEN,
             Err(RunRefusal::WriteFault) => WRITE_FAULT,

@@ -6,9 +6,9 @@ use Rattle.std.proofs.lemmas.List.Sorted.{IsPermutation-sym, All-permutation, Co
 use Rattle.command_line.specs.declared.form.CommandWord.{CommandWord}
 use Rattle.command_line.specs.declared.form.CommandWord.TheVariants as word
 use Rattle.command_line.specs.declared.form.Slot.{Slot}
-use Rattle.command_line.specs.declared.form.Slot.TheVariants.{Plain, Args, Answers, Steps, Stack, Heap, Moves, Fuel, Jobs}
-use Rattle.command_line.specs.Command.{CommandTree, CompileTree, RunTree, CheckTree, Sets, given, left_out, IsCompile, IsRun, IsCheck, IsCommand, compile, run, check, default_steps, default_size, default_moves, default_jobs}
-use Rattle.command_line.specs.Values.{IsSteps, IsSize, IsJobs, IsMoves, IsItems}
+use Rattle.command_line.specs.declared.form.Slot.TheVariants.{Plain, Args, Answers, Steps, Stack, Heap, Moves, Fuel}
+use Rattle.command_line.specs.Command.{CommandTree, RunTree, CheckTree, Sets, given, left_out, IsRun, IsCheck, IsCommand, compile, run, check, default_steps, default_size, default_moves}
+use Rattle.command_line.specs.Values.{IsSteps, IsSize, IsMoves, IsItems}
 use Rattle.command_line.specs.Words.{word_of, slots_of, wanted_of, fills, IsForm, Gives}
 use Rattle.command_line.proofs.Unique.{parts}
 
@@ -27,9 +27,6 @@ sets-order : {X : Type 0} (xs ys : List (List ℕ)) (slot : Slot) (Reads : List 
 sets-order xs ys slot Reads default x p (given value g reads) = given value (gives-order xs ys slot value p g) reads
 sets-order xs ys slot Reads default x p (left_out none e) =
     left_out (λ value g. none value (gives-order ys xs slot value (IsPermutation-sym xs ys p) g)) e
-
-compile-order : (xs ys : List (List ℕ)) (c : CompileTree) → IsPermutation xs ys → IsCompile xs c → IsCompile ys c
-compile-order xs ys c p is = record { jobs = sets-order xs ys Jobs IsJobs default_jobs c.jobs p is.jobs }
 
 run-order : (xs ys : List (List ℕ)) (r : RunTree) → IsPermutation xs ys → IsRun xs r → IsRun ys r
 run-order xs ys r p is = record {
@@ -55,11 +52,10 @@ check-order xs ys c p is = record {
 -- words that differ in the order of those after the first are the same command
 pub order_free : (first : List ℕ) (xs ys : List (List ℕ)) (command : CommandTree) → IsPermutation xs ys
     → IsCommand (first ∷ xs) command → IsCommand (first ∷ ys) command
-order_free first xs ys _ p (compile others c e form is) =
+order_free first xs ys _ p (compile others e form) =
     let both = parts first (word_of word.Compile) xs others e in
     let P : List (List ℕ) → Type 0 = λ o. IsForm word.Compile o in
-    let Q : List (List ℕ) → Type 0 = λ o. IsCompile o c in
-    compile ys c (ap (λ w. w ∷ ys) both.0) (form-order word.Compile xs ys p (subst P (sym both.1) form)) (compile-order xs ys c p (subst Q (sym both.1) is))
+    compile ys (ap (λ w. w ∷ ys) both.0) (form-order word.Compile xs ys p (subst P (sym both.1) form))
 order_free first xs ys _ p (run others r e form is) =
     let both = parts first (word_of word.Run) xs others e in
     let P : List (List ℕ) → Type 0 = λ o. IsForm word.Run o in

@@ -5,12 +5,12 @@ use Rattle.rv_machine.specs.declared.setup.Arg.{Arg}
 use Rattle.command_line.specs.declared.form.CommandWord.{CommandWord}
 use Rattle.command_line.specs.declared.form.CommandWord.TheVariants as word
 use Rattle.command_line.specs.declared.form.Slot.{Slot}
-use Rattle.command_line.specs.declared.form.Slot.TheVariants.{Plain, Args, Answers, Steps, Stack, Heap, Fuel, Jobs}
+use Rattle.command_line.specs.declared.form.Slot.TheVariants.{Plain, Args, Answers, Steps, Stack, Heap, Fuel}
 use Rattle.command_line.specs.declared.form.Slot.TheVariants as slot
 use Rattle.command_line.specs.declared.command.Moves.{Moves}
 use Rattle.command_line.specs.declared.command.Moves.TheVariants.{Seed}
-use Rattle.command_line.specs.Command.{CommandTree, CompileCommand, RunCommand, CheckCommand, CompileTree, RunTree, CheckTree, IsCompile, IsRun, IsCheck, IsCommand, compile, run, check, default_steps, default_size, default_moves, default_jobs, Sets, given, left_out, WithinJobs, WithinLimits, WithinFuel}
-use Rattle.command_line.specs.Values.{Nothing, IsSteps, IsSize, IsJobs, IsMoves, never, every, seeded, SeedsMoves, seed, IsItems, number_of, most_steps, largest_size}
+use Rattle.command_line.specs.Command.{CommandTree, CompileCommand, RunCommand, CheckCommand, RunTree, CheckTree, IsRun, IsCheck, IsCommand, compile, run, check, default_steps, default_size, default_moves, Sets, given, left_out, WithinLimits, WithinFuel}
+use Rattle.command_line.specs.Values.{Nothing, IsSteps, IsSize, IsMoves, never, every, seeded, SeedsMoves, seed, IsItems, number_of, most_steps, largest_size}
 use Rattle.command_line.specs.Words.{word_of, IsForm, WellFormed}
 use Rattle.command_line.proofs.Cuts.{list-unique, tail-same}
 use Rattle.command_line.proofs.Gives.{gives-unique, sets-unique}
@@ -20,9 +20,6 @@ steps-unique bytes m n a b = a.number.value ∙ sym b.number.value
 
 size-unique : (bytes : List ℕ) (m n : ℕ) → IsSize bytes m → IsSize bytes n → m ≡ n
 size-unique bytes m n a b = a.number.value ∙ sym b.number.value
-
-jobs-unique : (bytes : List ℕ) (m n : ℕ) → IsJobs bytes m → IsJobs bytes n → m ≡ n
-jobs-unique bytes m n a b = a.number.value ∙ sym b.number.value
 
 -- after `seed:` there is one seed
 seeds-unique : (text : List ℕ) (a b : Moves) → SeedsMoves text a → SeedsMoves text b → a ≡ b
@@ -51,13 +48,6 @@ moves-unique text a b (every t e) (seeded s) = absurd (no_every text b t s)
 moves-unique text a b (seeded s) (never t e) = absurd (no_none text a t s)
 moves-unique text a b (seeded s) (every t e) = absurd (no_every text a t s)
 moves-unique text a b (seeded s) (seeded s') = seeds-unique text a b s s'
-
-same_compile : (jobs jobs' : ℕ) → jobs ≡ jobs' → let c : CompileTree = record { jobs = jobs } in let d : CompileTree = record { jobs = jobs' } in c ≡ d
-same_compile jobs jobs' a = cc
-
-pub compile-unique : (others : List (List ℕ)) → IsForm word.Compile others → (c d : CompileTree) → IsCompile others c → IsCompile others d → c ≡ d
-compile-unique others form c d a b =
-    same_compile c.jobs d.jobs (sets-unique others Jobs IsJobs default_jobs (form.once 0 Jobs (lit< tt)) jobs-unique c.jobs d.jobs a.jobs b.jobs)
 
 same_run : (entry entry' : List ℕ) (args args' answers answers' : List Arg) (steps steps' stack stack' heap heap' : ℕ) (moves moves' : Moves)
     → entry ≡ entry' → args ≡ args' → answers ≡ answers' → steps ≡ steps' → stack ≡ stack' → heap ≡ heap' → moves ≡ moves'
@@ -108,21 +98,18 @@ word-unique word.Check word.Run e = let h = (tail-same 99 114 _ _ e).0 in absurd
 word-unique word.Check word.Check e = refl
 
 pub command-unique : (words : List (List ℕ)) (c d : CommandTree) → IsCommand words c → IsCommand words d → c ≡ d
-command-unique words _ _ (compile others c e form is) (compile others' d e' form' is') =
-    let same = (parts _ _ others' others (sym e' ∙ e)).1 in
-    let P : List (List ℕ) → Type 0 = λ o. IsCompile o d in
-    ap CompileCommand (compile-unique others form c d is (subst P same is'))
-command-unique words _ _ (compile others c e form jobs) (run others' s e' form' is) =
+command-unique words _ _ (compile others e form) (compile others' e' form') = refl
+command-unique words _ _ (compile others e form) (run others' s e' form' is) =
     let h : word.Compile ≡ word.Run = word-unique word.Compile word.Run (parts _ _ others others' (sym e ∙ e')).0 in cc
-command-unique words _ _ (run others' r e' form' is) (compile others c e form jobs) =
+command-unique words _ _ (run others' r e' form' is) (compile others e form) =
     let h : word.Compile ≡ word.Run = word-unique word.Compile word.Run (parts _ _ others others' (sym e ∙ e')).0 in cc
 command-unique words _ _ (run others r e form is) (run others' s e' form' is') =
     let same = (parts _ _ others' others (sym e' ∙ e)).1 in
     let P : List (List ℕ) → Type 0 = λ o. IsRun o s in
     ap RunCommand (run-unique others form r s is (subst P same is'))
-command-unique words _ _ (compile others c e form jobs) (check others' d e' form' is) =
+command-unique words _ _ (compile others e form) (check others' d e' form' is) =
     let h : word.Compile ≡ word.Check = word-unique word.Compile word.Check (parts _ _ others others' (sym e ∙ e')).0 in cc
-command-unique words _ _ (check others' d e' form' is) (compile others c e form jobs) =
+command-unique words _ _ (check others' d e' form' is) (compile others e form) =
     let h : word.Compile ≡ word.Check = word-unique word.Compile word.Check (parts _ _ others others' (sym e ∙ e')).0 in cc
 command-unique words _ _ (run others r e form is) (check others' d e' form' is') =
     let h : word.Run ≡ word.Check = word-unique word.Run word.Check (parts _ _ others others' (sym e ∙ e')).0 in cc
@@ -157,11 +144,11 @@ pub well_formed : (command : CommandWord) (words : List (List ℕ)) (first : Lis
 well_formed command words first others e named form =
     record { command = command; others = others; begins = e ∙ ap (λ w. w ∷ others) named; form = form }
 
-pub is_compile : (command : CommandWord) (words : List (List ℕ)) (first : List ℕ) (others : List (List ℕ)) (how : CompileTree) → words ≡ first ∷ others
-    → first ≡ word_of command → IsForm command others → command ≡ word.Compile → IsCompile others how → IsCommand words (CompileCommand how)
-is_compile command words first others how e named form c is =
+pub is_compile : (command : CommandWord) (words : List (List ℕ)) (first : List ℕ) (others : List (List ℕ)) → words ≡ first ∷ others
+    → first ≡ word_of command → IsForm command others → command ≡ word.Compile → IsCommand words CompileCommand
+is_compile command words first others e named form c =
     let P : CommandWord → Type 0 = λ d. IsForm d others in
-    compile others how (e ∙ ap (λ w. w ∷ others) (named ∙ ap word_of c)) (subst P c form) is
+    compile others (e ∙ ap (λ w. w ∷ others) (named ∙ ap word_of c)) (subst P c form)
 
 pub is_run : (command : CommandWord) (words : List (List ℕ)) (first : List ℕ) (others : List (List ℕ)) (r : RunTree) → words ≡ first ∷ others
     → first ≡ word_of command → IsForm command others → command ≡ word.Run → IsRun others r → IsCommand words (RunCommand r)
@@ -175,23 +162,9 @@ is_check command words first others d e named form c is =
     let P : CommandWord → Type 0 = λ d. IsForm d others in
     check others d (e ∙ ap (λ w. w ∷ others) (named ∙ ap word_of c)) (subst P c form) is
 
-no_compile-at : (words : List (List ℕ)) (others : List (List ℕ)) → words ≡ word_of word.Compile ∷ others
-    → Nothing (IsCompile others) → Nothing (IsCommand words)
-no_compile-at words others e none _ (compile others' c e' form is) =
-    let P : List (List ℕ) → Type 0 = λ o. IsCompile o c in none c (subst P (parts _ _ others' others (sym e' ∙ e)).1 is)
-no_compile-at words others e none _ (run others' r e' form is) =
-    let h : word.Run ≡ word.Compile = word-unique word.Run word.Compile (parts _ _ others' others (sym e' ∙ e)).0 in cc
-no_compile-at words others e none _ (check others' d e' form is) =
-    let h : word.Check ≡ word.Compile = word-unique word.Check word.Compile (parts _ _ others' others (sym e' ∙ e)).0 in cc
-
-pub no_compile : (command : CommandWord) (words : List (List ℕ)) (first : List ℕ) (others : List (List ℕ)) → words ≡ first ∷ others
-    → first ≡ word_of command → command ≡ word.Compile → Nothing (IsCompile others) → Nothing (IsCommand words)
-no_compile command words first others e named c none =
-    no_compile-at words others (e ∙ ap (λ w. w ∷ others) (named ∙ ap word_of c)) none
-
 no_run-at : (words : List (List ℕ)) (others : List (List ℕ)) → words ≡ word_of word.Run ∷ others
     → Nothing (IsRun others) → Nothing (IsCommand words)
-no_run-at words others e none _ (compile others' c e' form is) =
+no_run-at words others e none _ (compile others' e' form) =
     let h : word.Compile ≡ word.Run = word-unique word.Compile word.Run (parts _ _ others' others (sym e' ∙ e)).0 in cc
 no_run-at words others e none _ (run others' r e' form is) =
     let P : List (List ℕ) → Type 0 = λ o. IsRun o r in none r (subst P (parts _ _ others' others (sym e' ∙ e)).1 is)
@@ -200,7 +173,7 @@ no_run-at words others e none _ (check others' d e' form is) =
 
 no_check-at : (words : List (List ℕ)) (others : List (List ℕ)) → words ≡ word_of word.Check ∷ others
     → Nothing (IsCheck others) → Nothing (IsCommand words)
-no_check-at words others e none _ (compile others' c e' form is) =
+no_check-at words others e none _ (compile others' e' form) =
     let h : word.Compile ≡ word.Check = word-unique word.Compile word.Check (parts _ _ others' others (sym e' ∙ e)).0 in cc
 no_check-at words others e none _ (run others' r e' form is) =
     let h : word.Run ≡ word.Check = word-unique word.Run word.Check (parts _ _ others' others (sym e' ∙ e)).0 in cc
@@ -218,13 +191,6 @@ no_run command words first others e named c none =
     no_run-at words others (e ∙ ap (λ w. w ∷ others) (named ∙ ap word_of c)) none
 
 -- ---- what is known of a run
-
-pub within_jobs : (others : List (List ℕ)) (c : CompileTree) → IsCompile others c → WithinJobs c
-within_jobs others c is = jobs_within others c.jobs is.jobs
-  where
-    jobs_within : (others : List (List ℕ)) (n : ℕ) → Sets others Jobs IsJobs default_jobs n → WithinJobs (record { jobs = n })
-    jobs_within others n (given value g of) = record { some = of.some; most = of.limit }
-    jobs_within others n (left_out none e) = record { some = omega arith; most = omega arith }
 
 steps_within : (others : List (List ℕ)) (slot : Slot) (n : ℕ) → Sets others slot IsSteps default_steps n → n ≤ most_steps
 steps_within others slot n (given value g is) = is.limit
@@ -252,7 +218,7 @@ within_fuel others c is = record { entry = is.entry_name; fuel = steps_within ot
 
 -- the words of a command have the form of one
 pub command-formed : (words : List (List ℕ)) (command : CommandTree) → IsCommand words command → WellFormed words
-command-formed words command (compile others c begins form is) = record { command = word.Compile; others = others; begins = begins; form = form }
+command-formed words command (compile others begins form) = record { command = word.Compile; others = others; begins = begins; form = form }
 command-formed words command (run others r begins form is) = record { command = word.Run; others = others; begins = begins; form = form }
 command-formed words command (check others d begins form is) = record { command = word.Check; others = others; begins = begins; form = form }
 

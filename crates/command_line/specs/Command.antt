@@ -3,16 +3,12 @@ use Rattle.std.specs.Prelude.{◌≡◌, ℕ, ◌≤◌, ◌%◌, List, [], ◌�
 use Rattle.rv_machine.specs.declared.setup.Arg.{Arg}
 use Rattle.command_line.specs.declared.form.CommandWord.TheVariants as word
 use Rattle.command_line.specs.declared.form.Slot.{Slot}
-use Rattle.command_line.specs.declared.form.Slot.TheVariants.{Plain, Args, Answers, Steps, Stack, Heap, Fuel, Jobs}
+use Rattle.command_line.specs.declared.form.Slot.TheVariants.{Plain, Args, Answers, Steps, Stack, Heap, Fuel}
 use Rattle.command_line.specs.declared.form.Slot.TheVariants as slot
 use Rattle.command_line.specs.declared.command.Moves.{Moves}
 use Rattle.command_line.specs.declared.command.Moves.TheVariants.{Never}
-use Rattle.command_line.specs.Values.{IsName, IsSteps, IsSize, IsMoves, IsItems, IsJobs, most_steps, largest_size, most_jobs}
+use Rattle.command_line.specs.Values.{IsName, IsSteps, IsSize, IsMoves, IsItems, most_steps, largest_size}
 use Rattle.command_line.specs.Words.{word_of, IsForm, Gives}
-
--- How a text is to be compiled.
-pub record CompileTree : Type 0 where
-  pub jobs : ℕ
 
 -- What a run is to do.
 pub record RunTree : Type 0 where
@@ -33,7 +29,7 @@ pub record CheckTree : Type 0 where
 
 -- A command with its values.
 pub data CommandTree : Type 0 where
-  CompileCommand : (compile : CompileTree) → CommandTree
+  CompileCommand : CommandTree
   RunCommand : (run : RunTree) → CommandTree
   CheckCommand : (check : CheckTree) → CommandTree
 
@@ -47,9 +43,6 @@ default_size = 1048576
 abbrev pub default_moves : Moves
 default_moves = Never
 
-abbrev pub default_jobs : ℕ
-default_jobs = 1
-
 -- The words set the slot to x: x is read from the value that they give, or they give none and x is the default.
 pub data Sets {X : Type 0} (others : List (List ℕ)) (slot : Slot) (Reads : List ℕ → X → Type 0) (default x : X) : Type 0 where
   given : (value : List ℕ)
@@ -59,10 +52,6 @@ pub data Sets {X : Type 0} (others : List (List ℕ)) (slot : Slot) (Reads : Lis
   left_out : ((value : List ℕ) → Gives others slot value → ⊥)
       → x ≡ default
       → Sets others slot Reads default x
-
--- The words after `compile` say this.
-pub record IsCompile (others : List (List ℕ)) (compile : CompileTree) : Type 0 where
-  pub jobs : Sets others Jobs IsJobs default_jobs compile.jobs
 
 -- The words after `run` are this run.
 pub record IsRun (others : List (List ℕ)) (run : RunTree) : Type 0 where
@@ -85,21 +74,12 @@ pub record IsCheck (others : List (List ℕ)) (check : CheckTree) : Type 0 where
 
 -- The words are this command.
 pub data IsCommand (words : List (List ℕ)) : CommandTree → Type 0 where
-  compile : (others : List (List ℕ)) (c : CompileTree)
-      → words ≡ word_of word.Compile ∷ others → IsForm word.Compile others → IsCompile others c → IsCommand words (CompileCommand c)
+  compile : (others : List (List ℕ))
+      → words ≡ word_of word.Compile ∷ others → IsForm word.Compile others → IsCommand words CompileCommand
   run : (others : List (List ℕ)) (r : RunTree)
       → words ≡ word_of word.Run ∷ others → IsForm word.Run others → IsRun others r → IsCommand words (RunCommand r)
   check : (others : List (List ℕ)) (c : CheckTree)
       → words ≡ word_of word.Check ∷ others → IsForm word.Check others → IsCheck others c → IsCommand words (CheckCommand c)
-
--- the words are the command `compile`, with whatever jobs
-abbrev pub AsksToCompile : List (List ℕ) → Type 0
-AsksToCompile words = (compile : CompileTree) × IsCommand words (CompileCommand compile)
-
--- What is known of the jobs that words can ask for.
-pub record WithinJobs (compile : CompileTree) : Type 0 where
-  pub some : 1 ≤ compile.jobs
-  pub most : compile.jobs ≤ most_jobs
 
 -- What is known of a run that words can ask for.
 pub record WithinLimits (run : RunTree) : Type 0 where
@@ -116,6 +96,6 @@ pub record WithinFuel (check : CheckTree) : Type 0 where
   pub fuel : check.fuel ≤ most_steps
 
 abbrev pub KeepsLimits : CommandTree → Type 0
-KeepsLimits (CompileCommand c) = WithinJobs c
+KeepsLimits CompileCommand = Unit {0}
 KeepsLimits (RunCommand r) = WithinLimits r
 KeepsLimits (CheckCommand c) = WithinFuel c

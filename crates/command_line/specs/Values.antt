@@ -28,10 +28,6 @@ most_steps = 1000000000000
 abbrev pub largest_size : ℕ
 largest_size = 67108864
 
--- the most jobs
-abbrev pub most_jobs : ℕ
-most_jobs = 64
-
 -- the number that digits write
 abbrev pub number_of : List ℕ → ℕ
 number_of digits = fold (λ n digit. 10 * n + (digit - 48)) 0 digits
@@ -46,12 +42,6 @@ pub record IsNumber (bytes : List ℕ) (n : ℕ) : Type 0 where
 pub record IsSteps (bytes : List ℕ) (n : ℕ) : Type 0 where
   pub number : IsNumber bytes n
   pub limit : n ≤ most_steps
-
--- the number of jobs among which functions are shared
-pub record IsJobs (bytes : List ℕ) (n : ℕ) : Type 0 where
-  pub number : IsNumber bytes n
-  pub some : 1 ≤ n
-  pub limit : n ≤ most_jobs
 
 -- the size of a stack or a half of a heap
 pub record IsSize (bytes : List ℕ) (n : ℕ) : Type 0 where

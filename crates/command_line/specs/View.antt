@@ -6,13 +6,9 @@ use Rattle.std.specs.declared.alloc.Global.{Global}
 use Rattle.bs_words.specs.Contents.{contents}
 use Rattle.command_line.specs.declared.command.Command.{Command}
 use Rattle.command_line.specs.declared.command.Command.TheVariants.{Compile, Run, Check}
-use Rattle.command_line.specs.declared.command.CompileWords.{CompileWords}
 use Rattle.command_line.specs.declared.command.RunWords.{RunWords}
 use Rattle.command_line.specs.declared.command.CheckWords.{CheckWords}
-use Rattle.command_line.specs.Command.{CommandTree, CompileCommand, RunCommand, CheckCommand, CompileTree, RunTree, CheckTree}
-
-abbrev pub compile_view : CompileWords → CompileTree
-compile_view c = record { jobs = c.jobs }
+use Rattle.command_line.specs.Command.{CommandTree, CompileCommand, RunCommand, CheckCommand, RunTree, CheckTree}
 
 abbrev pub run_view : RunWords → RunTree
 run_view r =
@@ -23,7 +19,7 @@ check_view c =
     record { entry = c.entry; args = contents c.args; answers = contents c.answers; fuel = c.fuel }
 
 abbrev pub view : Command → CommandTree
-view (Compile c) = CompileCommand (compile_view c)
+view Compile = CompileCommand
 view (Run r) = RunCommand (run_view r)
 view (Check c) = CheckCommand (check_view c)
 

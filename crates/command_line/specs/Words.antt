@@ -5,7 +5,7 @@ use Rattle.std.specs.List.{list_any, starts_with}
 use Rattle.command_line.specs.declared.form.CommandWord.{CommandWord}
 use Rattle.command_line.specs.declared.form.CommandWord.TheVariants as word
 use Rattle.command_line.specs.declared.form.Slot.{Slot}
-use Rattle.command_line.specs.declared.form.Slot.TheVariants.{Plain, Args, Answers, Steps, Stack, Heap, Moves, Fuel, Jobs}
+use Rattle.command_line.specs.declared.form.Slot.TheVariants.{Plain, Args, Answers, Steps, Stack, Heap, Moves, Fuel}
 
 -- ---- the table of commands
 
@@ -17,7 +17,7 @@ word_of word.Check = codes "check"
 
 -- what the other words may be for
 abbrev pub slots_of : CommandWord → List Slot
-slots_of word.Compile = Jobs ∷ []
+slots_of word.Compile = []
 slots_of word.Run = Plain ∷ Args ∷ Answers ∷ Steps ∷ Stack ∷ Heap ∷ Moves ∷ []
 slots_of word.Check = Plain ∷ Args ∷ Answers ∷ Fuel ∷ []
 
@@ -37,7 +37,6 @@ prefix_of Stack = codes "--stack="
 prefix_of Heap = codes "--heap="
 prefix_of Moves = codes "--moves="
 prefix_of Fuel = codes "--fuel="
-prefix_of Jobs = codes "--jobs="
 
 -- ---- the form
 

@@ -11,18 +11,11 @@ use thiserror::Error;
 #[derive(Debug, Drop)]
 pub enum Command {
     /// Reads a Cmm text and writes the image.
-    Compile(CompileWords),
+    Compile,
     /// Reads an image and writes the outcome of a run of it.
     Run(RunWords),
     /// Reads a Cmm text and writes the outcome of a run of it, and what that run needs.
     Check(CheckWords),
-}
-
-/// How a text is to be compiled.
-#[derive(Debug, Drop)]
-pub struct CompileWords {
-    /// The jobs among which the functions are shared: 1 to 64.
-    pub jobs: u32,
 }
 
 /// What a run is to do.

@@ -1,6 +1,6 @@
 //! The form of a command line: which words may stand in it, whatever their values are.
-ghost use Rattle.std.specs.Prelude.{◌≡◌, ◌≢◌, ◌≤◌, ◌↔◌, ◌++◌, true, false, MatchOption, IsTrue, count_by, nat_le, nat_eq, string_bytes};
-ghost use Rattle.std.specs.List.{list_any, list_all, starts_with};
+ghost use Rattle.std.specs.Prelude.{◌≡◌, ◌≢◌, ◌≤◌, ◌↔◌, ◌++◌, true, false, MatchOption, IsTrue, count_by, nat_le, string_bytes};
+ghost use Rattle.std.specs.List.{list_any, list_all};
 ghost use Rattle.command_line.specs.declared.form.CommandWord.{CommandWord};
 ghost use Rattle.command_line.specs.Values.{Nothing};
 ghost use Rattle.command_line.specs.View.{texts};
@@ -26,12 +26,9 @@ pub(crate) enum Slot {
     Heap,
     Moves,
     Fuel,
-    Jobs,
 }
 
 static NO_SLOTS: [Slot; 0] = [];
-
-static COMPILE_SLOTS: [Slot; 1] = [Slot::Jobs];
 
 static RUN_SLOTS: [Slot; 7] = [
     Slot::Plain,
@@ -69,7 +66,7 @@ impl CommandWord {
         ensures { result.now ≡ slots_of self }
     {
         match self {
-            CommandWord::Compile => &COMPILE_SLOTS,
+            CommandWord::Compile => &NO_SLOTS,
             CommandWord::Run => &RUN_SLOTS,
             CommandWord::Check => &CHECK_SLOTS,
         }
@@ -100,7 +97,6 @@ impl Slot {
             Slot::Heap => b"--heap=",
             Slot::Moves => b"--moves=",
             Slot::Fuel => b"--fuel=",
-            Slot::Jobs => b"--jobs=",
         }
     }
 
@@ -113,7 +109,7 @@ impl Slot {
         if self == Slot::Plain && word.starts_with(b"-") {
             return None;
         }
-        after(word, self.prefix())
+        word.strip_prefix(self.prefix())
     }
 
     fn fills(self, word: &[u8]) -> bool
@@ -145,15 +141,6 @@ impl Slot {
         }
         None
     }
-}
-
-/// What follows the prefix, if the word begins with it.
-fn after<'a>(word: &'a [u8], prefix: &[u8]) -> Option<&'a [u8]>
-    ensures { MatchOption result
-        (starts_with nat_eq word.now prefix.now ≡ false)
-        (λ rest. (starts_with nat_eq word.now prefix.now ≡ true) × (word.now ≡ prefix.now ++ rest.now)) }
-{
-    word.strip_prefix(prefix)
 }
 
 fn fills_some(slots: &[Slot], word: &[u8]) -> bool

@@ -4,12 +4,12 @@ ghost use Rattle.bs_words.specs.Contents.{contents};
 ghost use Rattle.command_line.specs.declared.command.WordsError.{WordsError};
 ghost use Rattle.command_line.specs.declared.form.CommandWord.{CommandWord};
 ghost use Rattle.command_line.specs.declared.form.Slot.{Slot};
-ghost use Rattle.command_line.specs.Values.{IsName, IsSteps, IsSize, IsJobs, IsMoves, IsItems, Nothing};
+ghost use Rattle.command_line.specs.Values.{IsName, IsSteps, IsSize, IsMoves, IsItems, Nothing};
 ghost use Rattle.command_line.specs.Words.{fills, WellFormed, IsForm, Gives};
-ghost use Rattle.command_line.specs.Command.{CommandTree, Sets, IsCompile, IsRun, IsCheck, IsCommand, KeepsLimits, default_steps, default_size, default_moves, default_jobs};
-ghost use Rattle.command_line.specs.View.{texts, view, compile_view, run_view, check_view};
+ghost use Rattle.command_line.specs.Command.{CommandTree, Sets, IsRun, IsCheck, IsCommand, KeepsLimits, default_steps, default_size, default_moves};
+ghost use Rattle.command_line.specs.View.{texts, view, run_view, check_view};
 
-use crate::command::{CheckWords, Command, CompileWords, Moves, RunWords, WordsError};
+use crate::command::{CheckWords, Command, Moves, RunWords, WordsError};
 use crate::form::{CommandWord, Slot, has_form};
 use crate::values;
 use bs_words::{List, Name};
@@ -21,9 +21,6 @@ const DEFAULT_STEPS: u64 = 100_000_000;
 
 /// The bytes of the stack and of half of the heap where no option says otherwise.
 const DEFAULT_SIZE: u32 = 1_048_576;
-
-/// The jobs among which functions are shared where no option says otherwise.
-const DEFAULT_JOBS: u32 = 1;
 
 /// The name of the function that is called.
 fn entry(alloc: Global, others: &[String]) -> Result<Name, WordsError>
@@ -96,33 +93,6 @@ fn moves(others: &[String]) -> Result<Moves, WordsError>
     }
 }
 
-/// The jobs among which functions are shared.
-fn jobs(others: &[String]) -> Result<u32, WordsError>
-    requires { count_by (fills Slot.Jobs) (texts others.now) ≤ 1 }
-    ensures value { IfOk result (λ n. Sets (texts others.now) Slot.Jobs IsJobs default_jobs n) }
-    ensures bad { IsErrOf result WordsError.ValueText
-        → Nothing (Sets (texts others.now) Slot.Jobs IsJobs default_jobs) }
-    ensures formed { ¬ IsErrOf result WordsError.Words }
-{
-    match Slot::Jobs.value_among(others) {
-        Some(text) => values::jobs(text).ok_or(WordsError::ValueText),
-        None => Ok(DEFAULT_JOBS),
-    }
-}
-
-/// What the words after `compile` say.
-fn compile(others: &[String]) -> Result<CompileWords, WordsError>
-    requires { IsForm CommandWord.Compile (texts others.now) }
-    ensures value { IfOk result (λ compile. IsCompile (texts others.now) (compile_view compile)) }
-    ensures bad { IsErrOf result WordsError.ValueText
-        → Nothing (IsCompile (texts others.now)) }
-    ensures formed { ¬ IsErrOf result WordsError.Words }
-{
-    Ok(CompileWords {
-        jobs: jobs(others)?,
-    })
-}
-
 /// The run that the words after `run` are.
 fn run(alloc: Global, others: &[String]) -> Result<RunWords, WordsError>
     requires { IsForm CommandWord.Run (texts others.now) }
@@ -160,8 +130,7 @@ fn check(alloc: Global, others: &[String]) -> Result<CheckWords, WordsError>
 
 /// The command that the words are, the program's own name left out.
 ///
-/// - `compile` has one option.
-///   - `--jobs=` is a decimal number of jobs among which the functions are shared, 1 to 64, by default 1.
+/// - `compile` has no other word.
 /// - `run ENTRY` has the name of a function and these options. ENTRY is 1 to 255 bytes, each 0x21 to
 ///   0x7E.
 ///   - `--args=` and `--answers=` list items with single commas between them: a decimal number from
@@ -201,7 +170,7 @@ pub fn read_words(alloc: Global, words: &[String]) -> Result<Command, WordsError
         return Err(WordsError::Words);
     }
     match command {
-        CommandWord::Compile => Ok(Command::Compile(compile(others)?)),
+        CommandWord::Compile => Ok(Command::Compile),
         CommandWord::Run => Ok(Command::Run(run(alloc, others)?)),
         CommandWord::Check => Ok(Command::Check(check(alloc, others)?)),
     }

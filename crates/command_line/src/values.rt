@@ -2,7 +2,7 @@
 ghost use Rattle.std.specs.Prelude.{◌≡◌, ◌≢◌, ◌<◌, ◌≤◌, ◌↔◌, ◌∷◌, ◌++◌, ℕ, MatchOption, IfOk, IsTrue, IsErrOf, All};
 ghost use Rattle.bs_words.specs.Contents.{contents};
 ghost use Rattle.command_line.specs.declared.command.WordsError.{WordsError};
-ghost use Rattle.command_line.specs.Values.{IsName, IsNumber, IsSteps, IsSize, IsJobs, IsMoves, SeedsMoves, IsItem, IsItems, Nothing};
+ghost use Rattle.command_line.specs.Values.{IsName, IsNumber, IsSteps, IsSize, IsMoves, SeedsMoves, IsItem, IsItems, Nothing};
 
 use crate::command::{Moves, WordsError};
 use bs_words::{List, Name, sub};
@@ -14,9 +14,6 @@ const MOST_STEPS: u64 = 1_000_000_000_000;
 
 /// The most bytes of a stack or of half of a heap.
 const LARGEST_SIZE: u64 = 67_108_864;
-
-/// The most jobs among which functions are shared.
-const MOST_JOBS: u64 = 64;
 
 /// The most that a number after `-` may be, and without one.
 const MOST_NEGATIVE: u64 = 9_223_372_036_854_775_808;
@@ -67,16 +64,6 @@ pub(crate) fn size(text: &[u8]) -> Option<u32>
     } else {
         None
     }
-}
-
-/// The number of jobs that the text writes.
-pub(crate) fn jobs(text: &[u8]) -> Option<u32>
-    ensures { MatchOption result
-        (Nothing (IsJobs text.now))
-        (λ n. IsJobs text.now n) }
-{
-    let jobs = number(text, MOST_JOBS)?;
-    if jobs >= 1 { Some(jobs as u32) } else { None }
 }
 
 /// When the mover asks and where it puts blocks, as the text says: `none`, `every`, or `seed:` and a

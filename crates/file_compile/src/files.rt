@@ -1,5 +1,5 @@
 //! All functions, and their image.
-ghost use Rattle.std.specs.Prelude.{◌≡◌, ◌<◌, ◌≤◌, All, length, map, None, Some, Err, IfOk};
+ghost use Rattle.std.specs.Prelude.{◌≡◌, All, map, None, Some, Err, IfOk};
 ghost use Rattle.std.specs.List.{AllZip};
 ghost use Rattle.bs_fault.specs.declared.large.Large.{Large};
 ghost use Rattle.cmm_front.specs.FileOf.{HasPlace, HoldsTypes, tree_of};
@@ -12,20 +12,16 @@ ghost use Rattle.image_form.specs.Tables.{Tables, tables};
 ghost use Rattle.layout_rules.specs.TooLarge.{first_too_large};
 ghost use Rattle.made_functions.specs.Files.{IsFunctionMade, IsMadeFor};
 ghost use Rattle.file_compile.specs.Accepted.{IsAcceptedFile, IsAcceptedFunction};
-ghost use Rattle.file_compile.specs.Pieces.{ArePiecesAt};
 
-use crate::gate::Gate;
 use crate::passes::function_pieces;
 use assemble::assemble;
 use bs_fault::BuildError;
 use cmm_data::place_data;
 use cmm_tree::{Function, Item};
 use cmm_walks::Checked;
-use fork_join::map_in_halves;
 use image_form::Image;
 use rv_pieces::Pieces;
 use std::alloc::{AllocError, Global};
-use std::thread::Threads;
 
 /// The functions among these items, in the order of the text.
 fn functions_of(alloc: Global, items: &[Item]) -> Result<Vec<&Function>, AllocError>
@@ -44,70 +40,28 @@ fn functions_of(alloc: Global, items: &[Item]) -> Result<Vec<&Function>, AllocEr
     Ok(functions)
 }
 
-/// The pieces of the function of this number. The gate is told when it is taken up and when it is done with.
-fn gated_pieces<G: Gate>(
-    alloc: Global,
-    functions: &[&Function],
-    piece: u32,
-    gate: &G,
-) -> Result<Pieces, AllocError>
-    requires there { piece < length functions.now }
-    requires typed { All (λ f. IsFunctionAnnotated f.now) functions.now }
-    requires accepted { All (λ f. IsAcceptedFunction (function_view f.now)) functions.now }
-    ensures { IfOk result (ArePiecesAt functions.now piece) }
-{
-    gate.enter(piece);
-    let pieces = function_pieces(alloc, functions[piece as usize]);
-    gate.leave(piece);
-    pieces
-}
-
-/// The pieces of each of these functions, in their order. No memory holds more functions than there are numbers.
-fn all_pieces<R: Threads + Sync, G: Gate + Sync>(
-    rt: &R,
-    alloc: Global,
-    functions: &[&Function],
-    jobs: u32,
-    gate: &G,
-) -> Result<Vec<Pieces>, AllocError>
-    requires jobs { 1 ≤ jobs }
+/// The pieces of each of these functions, in their order.
+fn all_pieces(alloc: Global, functions: &[&Function]) -> Result<Vec<Pieces>, AllocError>
     requires typed { All (λ f. IsFunctionAnnotated f.now) functions.now }
     requires accepted { All (λ f. IsAcceptedFunction (function_view f.now)) functions.now }
     ensures { IfOk result (λ pieces. AllZip IsFunctionMade (map (λ f. function_view f.now)
         functions.now) pieces.items) }
 {
-    let Ok(count) = u32::try_from(functions.len()) else {
-        return Err(AllocError);
-    };
-    let pieces_at = |piece: u32| -> Result<Pieces, AllocError>
-        requires { (piece < length functions.now)
-            × All (λ f. IsFunctionAnnotated f.now) functions.now
-            × All (λ f. IsAcceptedFunction (function_view f.now)) functions.now }
-        ensures { IfOk result (ArePiecesAt functions.entry.now piece) }
-    { gated_pieces(alloc, functions, piece, gate) };
-    map_in_halves(rt, alloc, count, jobs, &pieces_at)
+    let mut pieces = Vec::new(alloc);
+    for function in functions {
+        pieces.push(function_pieces(alloc, function)?)?;
+    }
+    Ok(pieces)
 }
 
 /// The image of a checked file: each function through all passes, and then all of them, with the static
 /// data, the external calls and the frame descriptors.
 ///
-/// Functions are lent in halves to both sides of a join, each half with its part of the jobs, down to single
-/// functions or one job, and the gate is told of each. A file is made into one image only (`made_for_once`), so
-/// the image is the same for every number of jobs and every gate.
-///
 /// # Errors
 ///
 /// `TooLarge` exactly where a section of that image passes its limit, with the first such section and its
 /// bytes. `OutOfMemory` where memory runs out.
-pub fn compile<R: Threads + Sync, G: Gate + Sync>(
-    rt: &R,
-    alloc: Global,
-    checked: &Checked,
-    jobs: u32,
-    gate: &G,
-) -> Result<Image, BuildError>
-    requires some_jobs { 1 ≤ jobs }
-    requires few_jobs { jobs ≤ 64 }
+pub fn compile(alloc: Global, checked: &Checked) -> Result<Image, BuildError>
     requires typed { HoldsTypes (typed_of checked.now) }
     requires placed { HasPlace (typed_of checked.now) }
     requires accepted { IsAcceptedFile (tree_of (typed_of checked.now)) }
@@ -120,7 +74,7 @@ pub fn compile<R: Threads + Sync, G: Gate + Sync>(
 {
     let file = checked.typed().file();
     let functions = functions_of(alloc, file.items.as_slice())?;
-    let pieces = all_pieces(rt, alloc, functions.as_slice(), jobs, gate)?;
+    let pieces = all_pieces(alloc, functions.as_slice())?;
     let placed = place_data(alloc, file)?;
     assemble(alloc, pieces.as_slice(), checked.typed(), &placed)
 }

@@ -13,5 +13,4 @@ mod run;
 pub use call::{CallRefusal, FileCall, call_of};
 pub use check::{CheckRefusal, check_text};
 pub use compile::{Refusal, compile_text};
-pub use file_compile::{Gate, OpenGate};
 pub use run::told_of_run;
