@@ -6,6 +6,6 @@ mod files;
 mod passes;
 mod rows;
 
-pub use files::compile;
-pub use passes::function_pieces;
+pub use files::{compile, stage_text};
+pub use passes::{Made, made_of};
 pub use rows::layout;

@@ -10,8 +10,8 @@ use Rattle.layout_rules.specs.Conditions.{CanBeLaid}
 use Rattle.file_compile.proofs.Making.{all_accepted, all_listed, all_made}
 use Rattle.file_compile.proofs.files.compile.Goals as goal
 
-pub all_pieces-requires-clause-accepted : goal.all_pieces-requires-clause-accepted
-all_pieces-requires-clause-accepted c =
+pub all_made-requires-clause-accepted : goal.all_made-requires-clause-accepted
+all_made-requires-clause-accepted c =
     let file = file_of (typed_of c.args.checked.now) in
     let whole : c.as_slice.result.now ≡ contents file.items =
     c.as_slice.ensures ∙ ap (λ (f : File). contents f.items) (c.file-file.ensures ∙ ap file_of c.typed.ensures) in
@@ -26,5 +26,5 @@ assemble-requires-clause-can c =
     c.as_slice.ensures ∙ ap (λ (f : File). contents f.items) (c.file-file.ensures ∙ ap file_of c.typed.ensures) in
     subst (λ (t : Typed). CanBeLaid (tree_of t) c.as_slice-3.result.now) (sym c.typed-2.ensures)
     (can_be_laid accepted.text (tree_of (typed_of c.args.checked.now)) accepted.is_file c.as_slice-3.result.now
-    (all_made file c.as_slice.result.now c.in_ok-functions.functions.items c.as_slice-2.result.now c.in_ok-pieces.pieces.items c.as_slice-3.result.now
-    whole c.as_slice-2.ensures.value c.in_ok-functions.ensures.trees c.in_ok-pieces.ensures c.as_slice-3.ensures.value))
+    (all_made file c.as_slice.result.now c.in_ok-functions.functions.items c.as_slice-2.result.now c.in_ok-made.made.pieces.items c.as_slice-3.result.now
+    whole c.as_slice-2.ensures.value c.in_ok-functions.ensures.trees c.in_ok-made.ensures.made c.as_slice-3.ensures.value))
