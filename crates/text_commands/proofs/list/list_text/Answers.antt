@@ -32,8 +32,8 @@ returns-in-Ok-stage_text-clause-listed c =
 
 pub returns-in-Err-TooLarge-clause-refused : goal.returns-in-Err-TooLarge-clause-refused
 returns-in-Err-TooLarge-clause-refused c =
-    rw c.in-Err-TooLarge.field-0-is (
-      c.in-Err-TooLarge.ensures.of_image c.in-Err-TooLarge.large (ap Err c.in-Err-TooLarge.field-0-is),
+    let is = ap Err c.in-Err-TooLarge.field-0-is in (
+      c.in-Err-TooLarge.ensures.of_image c.in-Err-TooLarge.large is,
       too_large c.args.text.now (tree_of (typed_of c.in-Ok.checked)) c.in-Err-TooLarge.large c.in-Ok.ensures.file
-          (c.in-Err-TooLarge.ensures.large c.in-Err-TooLarge.large (ap Err c.in-Err-TooLarge.field-0-is)),
+          (c.in-Err-TooLarge.ensures.large c.in-Err-TooLarge.large is),
     )
