@@ -1,8 +1,13 @@
 -- Which words give a slot a value.
-use Rattle.std.proofs.Common.{◌≡◌, ℕ, ◌+◌, ◌<◌, ◌≤◌, suc, zero, Bool, true, false, cond, List, [], ◌∷◌, ◌++◌, map, All, Contains, count_by, string_bytes, length, take, get_or, refl, sym, ap, ◌∙◌, subst, arith, ◌⊎◌, inl, inr, Option, Some, None, Result, Ok, Err, MatchOption, IfOk}
+use Rattle.std.proofs.Common.{◌≡◌, ℕ, ◌+◌, ◌<◌, ◌≤◌, suc, zero, Bool, true, false, cond, List, [], ◌∷◌, ◌++◌, map, All, Contains, count_by, string_bytes, length, take, drop, get_or, nat_eq, refl, sym, ap, ◌∙◌, subst, arith, ◌⊎◌, inl, inr, Option, Some, None, Result, Ok, Err, MatchOption, IfOk}
 use Rattle.std.specs.declared.string.String.{String}
 use Rattle.std.specs.declared.alloc.Global.{Global}
+use Rattle.std.specs.Borrow.{Bor}
+use Rattle.std.specs.List.{starts_with}
+use Rattle.std.specs.Cmp.Lexicographic.{pointwise}
 use Rattle.std.proofs.lemmas.Bool.{both_ways, cases_Bool}
+use Rattle.std.proofs.lemmas.Bool.Decides.{Decides-eqb}
+use Rattle.std.proofs.lemmas.Slice.Eq.{starts_is, strip_prefix_is}
 use Rattle.std.proofs.lemmas.List.{get_or-map, length-map, map_more, append_cancel_left}
 use Rattle.std.proofs.lemmas.List.Elements.{All-contains, All-push}
 use Rattle.std.proofs.lemmas.List.Sums.{sum_by-cons, get_or-le-sum_by}
@@ -11,7 +16,7 @@ use Rattle.command_line.specs.declared.form.Slot.TheVariants.{Plain}
 use Rattle.std.specs.Option.{ok_or}
 use Rattle.command_line.specs.declared.command.WordsError.{WordsError}
 use Rattle.command_line.specs.declared.command.WordsError.TheVariants.{ValueText}
-use Rattle.command_line.specs.Command.{Sets, given, left_out}
+use Rattle.command_line.specs.Command.{Sets, given, left_out, Tells}
 use Rattle.command_line.specs.Values.{Nothing}
 use Rattle.command_line.specs.View.{texts}
 use Rattle.command_line.specs.Words.{prefix_of, fills, Gives}
@@ -113,10 +118,37 @@ some_passes p (x ∷ xs) h =
           (found.0, (suc at.0, omega arith, at.2), found.2)
     ]
 
+-- what begins with a text is that text and more
+pub starts_cut : (start text : List ℕ) → starts_with nat_eq text start ≡ true → (value : List ℕ) × (text ≡ start ++ value)
+starts_cut start text e = (drop (length start) text, (starts_is Decides-eqb text start _ refl).0 e)
+
+-- what taking an option's name off a word says of the slot
+pub stripped : (slot : Slot) (s p : List ℕ) (r : Option (Bor (List ℕ))) → fills slot s ≡ starts_with nat_eq s p → prefix_of slot ≡ p
+    → MatchOption r (pointwise nat_eq (take (length p) s) p ≡ false)
+    (λ x. (pointwise nat_eq (take (length p) s) p ≡ true) × (x.now ≡ drop (length p) s) × (length x.now + length p ≡ length s))
+    → MatchOption r (fills slot s ≡ false) (λ value. (fills slot s ≡ true) × (s ≡ prefix_of slot ++ value.now))
+stripped slot s p (Some x) f q m =
+    let is = strip_prefix_is Decides-eqb s p (Some x) m in
+    (f ∙ (starts_is Decides-eqb s p _ refl).1 x.now is, is ∙ ap (λ t. t ++ x.now) (sym q))
+stripped slot s p None f q m = elim (cases_Bool (starts_with nat_eq s p)) [
+  | inl begins ↦ absurd (strip_prefix_is Decides-eqb s p None m _ ((starts_is Decides-eqb s p _ refl).0 begins))
+  | inr other ↦ f ∙ other
+]
+
+-- a word that has to be there gives its value
+pub wanted_given : (slot : Slot) (others : List (List ℕ)) → 1 ≤ count_by (fills slot) others
+    → ((text : List ℕ) → fills slot text ≡ true → (value : List ℕ) × (text ≡ prefix_of slot ++ value))
+    → ((value : List ℕ) → Gives others slot value → ⊥) → ⊥
+wanted_given slot others there cut none =
+    let found = some_passes (fills slot) others there in
+    let parts = cut found.0 found.2 in
+    let P : List ℕ → Type 0 = λ text. Contains others text × (fills slot text ≡ true) in
+    none parts.0 (subst P parts.1 (found.1, found.2))
+
 -- a plain word that has to be there gives its value
 pub plain_given : (others : List (List ℕ)) → 1 ≤ count_by (fills Plain) others
     → ((value : List ℕ) → Gives others Plain value → ⊥) → ⊥
-plain_given others there none = let found = some_passes (fills Plain) others there in none found.0 (found.1, found.2)
+plain_given others there none = wanted_given Plain others there (λ text _. (text, refl)) none
 
 -- the plain word is the one that is not refused
 pub plain_nothing : (others : List (List ℕ)) (v : List ℕ) (P : List ℕ → Type 0)
@@ -143,3 +175,35 @@ pub sets_each : {X Y E : Type 0} (others : List (List ℕ)) (slot : Slot) (Reads
     → Gives others slot v → (r : Result Y E) → IfOk r (λ y. Reads v (f y)) → IfOk r (λ y. Sets others slot Reads default (f y))
 sets_each others slot Reads default v f g (Ok y) reads = given v g reads
 sets_each others slot Reads default v f g (Err e) reads = tt
+
+-- the same of what a word has to tell
+
+pub tells-unique : {X : Type 0} (others : List (List ℕ)) (slot : Slot) (Reads : List ℕ → X → Type 0)
+    → count_by (fills slot) others ≤ 1 → ((v : List ℕ) (x y : X) → Reads v x → Reads v y → x ≡ y)
+    → (x y : X) → Tells others slot Reads x → Tells others slot Reads y → x ≡ y
+tells-unique others slot Reads few one x y a b =
+    let P : List ℕ → Type 0 = λ u. Reads u y in
+    one a.value x y a.reads (subst P (gives-unique slot others b.value a.value few b.gives a.gives) b.reads)
+
+pub tells_nothing : {X : Type 0} (others : List (List ℕ)) (slot : Slot) (Reads : List ℕ → X → Type 0) (v : List ℕ)
+    → count_by (fills slot) others ≤ 1 → Gives others slot v → Nothing (Reads v)
+    → Nothing (Tells others slot Reads)
+tells_nothing others slot Reads v few g refuses x tells =
+    let P : List ℕ → Type 0 = λ u. Reads u x in
+    refuses x (subst P (gives-unique slot others tells.value v few tells.gives g) tells.reads)
+
+pub tells_value : {X : Type 0} (others : List (List ℕ)) (slot : Slot) (Reads : List ℕ → X → Type 0) (v : List ℕ)
+    → Gives others slot v → (o : Option X) (r : Result X WordsError) → r ≡ ok_or o ValueText
+    → MatchOption o (Nothing (Reads v)) (λ x. Reads v x) → IfOk r (λ x. Tells others slot Reads x)
+tells_value {X} others slot Reads v g (Some x) r e reads =
+    let P : Result X WordsError → Type 0 = λ t. IfOk t (λ y. Tells others slot Reads y) in
+    subst P (sym e) (record { value = v; gives = g; reads = reads })
+tells_value {X} others slot Reads v g None r e reads =
+    let P : Result X WordsError → Type 0 = λ t. IfOk t (λ y. Tells others slot Reads y) in subst P (sym e) tt
+
+pub tells_bad : {X : Type 0} (others : List (List ℕ)) (slot : Slot) (Reads : List ℕ → X → Type 0) (v : List ℕ)
+    → count_by (fills slot) others ≤ 1 → Gives others slot v → (o : Option X) (r : Result X WordsError) → r ≡ ok_or o ValueText
+    → MatchOption o (Nothing (Reads v)) (λ x. Reads v x) → r ≡ Err ValueText → Nothing (Tells others slot Reads)
+tells_bad {X} others slot Reads v few g (Some x) r e reads bad =
+    let clash : Ok x ≡ Err ValueText = sym e ∙ bad in cc
+tells_bad others slot Reads v few g None r e reads bad = tells_nothing others slot Reads v few g reads

@@ -11,6 +11,6 @@ mod form;
 mod read;
 mod values;
 
-pub use command::{CheckWords, Command, Moves, RunWords, WordsError};
+pub use command::{CheckWords, Command, Moves, RunWords, Stage, WordsError};
 pub use read::read_words;
 pub use rv_machine::Arg;

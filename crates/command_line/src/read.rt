@@ -4,12 +4,12 @@ ghost use Rattle.bs_words.specs.Contents.{contents};
 ghost use Rattle.command_line.specs.declared.command.WordsError.{WordsError};
 ghost use Rattle.command_line.specs.declared.form.CommandWord.{CommandWord};
 ghost use Rattle.command_line.specs.declared.form.Slot.{Slot};
-ghost use Rattle.command_line.specs.Values.{IsName, IsSteps, IsSize, IsMoves, IsItems, Nothing};
+ghost use Rattle.command_line.specs.Values.{IsName, IsSteps, IsSize, IsMoves, IsItems, IsCounted, IsSeed, IsStage, Nothing, most_jobs, most_functions};
 ghost use Rattle.command_line.specs.Words.{fills, WellFormed, IsForm, Gives};
-ghost use Rattle.command_line.specs.Command.{CommandTree, Sets, IsRun, IsCheck, IsCommand, KeepsLimits, default_steps, default_size, default_moves};
+ghost use Rattle.command_line.specs.Command.{CommandTree, Sets, Tells, IsRun, IsCheck, Means, IsCommand, KeepsLimits, default_jobs, default_steps, default_size, default_moves};
 ghost use Rattle.command_line.specs.View.{texts, view, run_view, check_view};
 
-use crate::command::{CheckWords, Command, Moves, RunWords, WordsError};
+use crate::command::{CheckWords, Command, Moves, RunWords, Stage, WordsError};
 use crate::form::{CommandWord, Slot, has_form};
 use crate::values;
 use bs_words::{List, Name};
@@ -21,6 +21,15 @@ const DEFAULT_STEPS: u64 = 100_000_000;
 
 /// The bytes of the stack and of half of the heap where no option says otherwise.
 const DEFAULT_SIZE: u32 = 1_048_576;
+
+/// The most jobs of a compilation.
+const MOST_JOBS: u32 = 64;
+
+/// The jobs of a compilation where no option says otherwise.
+const DEFAULT_JOBS: u32 = 1;
+
+/// The most functions of a soak.
+const MOST_FUNCTIONS: u32 = 1_000;
 
 /// The name of the function that is called.
 fn entry(alloc: Global, others: &[String]) -> Result<Name, WordsError>
@@ -128,9 +137,102 @@ fn check(alloc: Global, others: &[String]) -> Result<CheckWords, WordsError>
     })
 }
 
+/// How many functions are compiled side by side.
+fn jobs(others: &[String]) -> Result<u32, WordsError>
+    requires { count_by (fills Slot.Jobs) (texts others.now) ≤ 1 }
+    ensures value { IfOk result (λ n. Sets (texts others.now) Slot.Jobs (IsCounted most_jobs) default_jobs n) }
+    ensures bad { IsErrOf result WordsError.ValueText
+        → Nothing (Sets (texts others.now) Slot.Jobs (IsCounted most_jobs) default_jobs) }
+    ensures formed { ¬ IsErrOf result WordsError.Words }
+{
+    match Slot::Jobs.value_among(others) {
+        Some(text) => values::counted(text, MOST_JOBS).ok_or(WordsError::ValueText),
+        None => Ok(DEFAULT_JOBS),
+    }
+}
+
+/// The stage whose text is written.
+fn stage(others: &[String]) -> Result<Stage, WordsError>
+    requires some { 1 ≤ count_by (fills Slot.Plain) (texts others.now) }
+    requires once { count_by (fills Slot.Plain) (texts others.now) ≤ 1 }
+    ensures value { IfOk result (λ stage. Tells (texts others.now) Slot.Plain IsStage stage) }
+    ensures bad { IsErrOf result WordsError.ValueText
+        → Nothing (Tells (texts others.now) Slot.Plain IsStage) }
+    ensures formed { ¬ IsErrOf result WordsError.Words }
+{
+    match Slot::Plain.value_among(others) {
+        Some(text) => values::stage(text).ok_or(WordsError::ValueText),
+        None => unreachable!(),
+    }
+}
+
+/// What the generator of a soak's text starts from.
+fn seed(others: &[String]) -> Result<u64, WordsError>
+    requires some { 1 ≤ count_by (fills Slot.Seed) (texts others.now) }
+    requires once { count_by (fills Slot.Seed) (texts others.now) ≤ 1 }
+    ensures value { IfOk result (λ n. Tells (texts others.now) Slot.Seed IsSeed n) }
+    ensures bad { IsErrOf result WordsError.ValueText
+        → Nothing (Tells (texts others.now) Slot.Seed IsSeed) }
+    ensures formed { ¬ IsErrOf result WordsError.Words }
+{
+    match Slot::Seed.value_among(others) {
+        Some(text) => values::seed(text).ok_or(WordsError::ValueText),
+        None => unreachable!(),
+    }
+}
+
+/// How many functions a soak's text has.
+fn functions(others: &[String]) -> Result<u32, WordsError>
+    requires some { 1 ≤ count_by (fills Slot.Functions) (texts others.now) }
+    requires once { count_by (fills Slot.Functions) (texts others.now) ≤ 1 }
+    ensures value { IfOk result (λ n.
+        Tells (texts others.now) Slot.Functions (IsCounted most_functions) n) }
+    ensures bad { IsErrOf result WordsError.ValueText
+        → Nothing (Tells (texts others.now) Slot.Functions (IsCounted most_functions)) }
+    ensures formed { ¬ IsErrOf result WordsError.Words }
+{
+    match Slot::Functions.value_among(others) {
+        Some(text) => values::counted(text, MOST_FUNCTIONS).ok_or(WordsError::ValueText),
+        None => unreachable!(),
+    }
+}
+
+/// The soak that the words after `soak` are.
+fn soak(others: &[String]) -> Result<Command, WordsError>
+    requires { IsForm CommandWord.Soak (texts others.now) }
+    ensures value { IfOk result (λ command. Means (texts others.now) CommandWord.Soak (view command)) }
+    ensures bad { IsErrOf result WordsError.ValueText
+        → Nothing (Means (texts others.now) CommandWord.Soak) }
+    ensures formed { ¬ IsErrOf result WordsError.Words }
+{
+    Ok(Command::Soak {
+        seed: seed(others)?,
+        functions: functions(others)?,
+    })
+}
+
+/// The command that the words after the first are.
+fn meant(alloc: Global, command: CommandWord, others: &[String]) -> Result<Command, WordsError>
+    requires { IsForm command (texts others.now) }
+    ensures value { IfOk result (λ tree. Means (texts others.now) command (view tree)) }
+    ensures bad { IsErrOf result WordsError.ValueText
+        → Nothing (Means (texts others.now) command) }
+    ensures formed { ¬ IsErrOf result WordsError.Words }
+{
+    match command {
+        CommandWord::Compile => Ok(Command::Compile {
+            jobs: jobs(others)?,
+        }),
+        CommandWord::Run => Ok(Command::Run(run(alloc, others)?)),
+        CommandWord::Check => Ok(Command::Check(check(alloc, others)?)),
+        CommandWord::List => Ok(Command::List(stage(others)?)),
+        CommandWord::Soak => soak(others),
+    }
+}
+
 /// The command that the words are, the program's own name left out.
 ///
-/// - `compile` has no other word.
+/// - `compile` has the option `--jobs=`, a decimal number from 1 to 64, and 1 by default.
 /// - `run ENTRY` has the name of a function and these options. ENTRY is 1 to 255 bytes, each 0x21 to
 ///   0x7E.
 ///   - `--args=` and `--answers=` list items with single commas between them: a decimal number from
@@ -144,6 +246,10 @@ fn check(alloc: Global, others: &[String]) -> Result<CheckWords, WordsError>
 ///     18446744073709551615.
 /// - `check ENTRY` has the name of a function, `--args=` and `--answers=` as `run` has them, and `--fuel=`,
 ///   a decimal number of units with the limit and the default of `--steps=`.
+/// - `list STAGE` has the name of a stage: `select`, `comballoc`, `cse`, `dead`, `spill`, `split`, `alloc`,
+///   `linear`, `frames` or `code`.
+/// - `soak` has `--seed=`, a decimal number below 2 to the 64th, and `--functions=`, one from 1 to 1,000.
+///   Both have to be there.
 ///
 /// Zeros may lead a number. The order of the words after the first is free.
 ///
@@ -169,9 +275,5 @@ pub fn read_words(alloc: Global, words: &[String]) -> Result<Command, WordsError
     if !has_form(command, others) {
         return Err(WordsError::Words);
     }
-    match command {
-        CommandWord::Compile => Ok(Command::Compile),
-        CommandWord::Run => Ok(Command::Run(run(alloc, others)?)),
-        CommandWord::Check => Ok(Command::Check(check(alloc, others)?)),
-    }
+    meant(alloc, command, others)
 }
