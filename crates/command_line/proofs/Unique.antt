@@ -1,5 +1,5 @@
 -- Words are at most one command.
-use Rattle.std.proofs.Common.{◌≡◌, ◌≢◌, ◌==◌, if◌then◌else◌, ℕ, ◌+◌, ◌*◌, ◌<◌, ◌≤◌, ◌%◌, ◌^◌, List, [], ◌∷◌, codes, get_or, Option, Some, None, Result, Ok, Err, MatchOption, IfOk, refl, sym, ap, ◌∙◌, subst, arith, lit<}
+use Rattle.std.proofs.Common.{Contains, ◌≡◌, ◌≢◌, ◌==◌, if◌then◌else◌, ℕ, ◌+◌, ◌*◌, ◌≤◌, ◌%◌, List, [], ◌∷◌, codes, get_or, Option, Some, None, Result, Ok, Err, MatchOption, IfOk, refl, sym, ap, ◌∙◌, subst, arith, lit<}
 use Rattle.std.proofs.lemmas.List.{append_cancel_left}
 use Rattle.rv_machine.specs.declared.setup.Arg.{Arg}
 use Rattle.command_line.specs.declared.form.CommandWord.{CommandWord}
@@ -11,22 +11,22 @@ use Rattle.command_line.specs.declared.command.Stage.{Stage}
 use Rattle.command_line.specs.declared.command.Stage.TheVariants as stage
 use Rattle.command_line.specs.declared.command.Moves.{Moves}
 use Rattle.command_line.specs.declared.command.Moves.TheVariants.{Seed}
-use Rattle.command_line.specs.Command.{CommandTree, CompileCommand, RunCommand, CheckCommand, ListCommand, SoakCommand, RunTree, CheckTree, IsRun, IsCheck, Means, IsCommand, compile, run, check, list, soak, default_jobs, default_steps, default_size, default_moves, Sets, given, left_out, Tells, WithinLimits, WithinFuel, KeepsLimits}
+use Rattle.command_line.specs.Command.{CommandTree, CompileCommand, RunCommand, CheckCommand, ListCommand, RunTree, CheckTree, IsRun, IsCheck, Means, IsCommand, compile, run, check, list, soak, default_jobs, default_steps, default_size, default_moves, Sets, given, left_out, Tells, WithinLimits, WithinFuel, KeepsLimits}
 use Rattle.command_line.specs.Values.{Nothing, IsSteps, IsSize, IsMoves, never, every, seeded, SeedsMoves, seed, IsItems, IsCounted, IsSeed, IsStage, stage_word, number_of, most_steps, largest_size, most_jobs, most_functions}
 use Rattle.command_line.specs.View.{view}
-use Rattle.command_line.specs.Words.{word_of, IsForm, WellFormed}
+use Rattle.command_line.specs.Words.{word_of, slots_of, IsForm, WellFormed}
 use Rattle.command_line.specs.declared.command.Command.{Command}
 use Rattle.command_line.specs.declared.command.WordsError.{WordsError}
 use Rattle.command_line.proofs.Cuts.{list-unique, tail-same}
 use Rattle.command_line.proofs.Gives.{gives-unique, sets-unique, tells-unique}
 
-steps-unique : (bytes : List ℕ) (m n : ℕ) → IsSteps bytes m → IsSteps bytes n → m ≡ n
+pub steps-unique : (bytes : List ℕ) (m n : ℕ) → IsSteps bytes m → IsSteps bytes n → m ≡ n
 steps-unique bytes m n a b = a.number.value ∙ sym b.number.value
 
-size-unique : (bytes : List ℕ) (m n : ℕ) → IsSize bytes m → IsSize bytes n → m ≡ n
+pub size-unique : (bytes : List ℕ) (m n : ℕ) → IsSize bytes m → IsSize bytes n → m ≡ n
 size-unique bytes m n a b = a.number.value ∙ sym b.number.value
 
-counted-unique : (limit : ℕ) (bytes : List ℕ) (m n : ℕ) → IsCounted limit bytes m → IsCounted limit bytes n → m ≡ n
+pub counted-unique : (limit : ℕ) (bytes : List ℕ) (m n : ℕ) → IsCounted limit bytes m → IsCounted limit bytes n → m ≡ n
 counted-unique limit bytes m n a b = a.number.value ∙ sym b.number.value
 
 seed-unique : (bytes : List ℕ) (m n : ℕ) → IsSeed bytes m → IsSeed bytes n → m ≡ n
@@ -74,7 +74,7 @@ no_every text m t (seed digits n t' is e) = let h = (tail-same 101 115 _ _ (sym 
 none_or_every : (text : List ℕ) → text ≡ codes "none" → text ≡ codes "every" → ⊥
 none_or_every text t t' = let h = (tail-same 110 101 _ _ (sym t ∙ t')).0 in omega arith
 
-moves-unique : (text : List ℕ) (a b : Moves) → IsMoves text a → IsMoves text b → a ≡ b
+pub moves-unique : (text : List ℕ) (a b : Moves) → IsMoves text a → IsMoves text b → a ≡ b
 moves-unique text a b (never t e) (never t' e') = e ∙ sym e'
 moves-unique text a b (never t e) (every t' e') = absurd (none_or_every text t t')
 moves-unique text a b (never t e) (seeded s) = absurd (no_none text b t s)
@@ -134,7 +134,7 @@ told_command word.List = refl
 told_command word.Soak = refl
 
 -- a word names one command
-word-unique : (c d : CommandWord) → word_of c ≡ word_of d → c ≡ d
+pub word-unique : (c d : CommandWord) → word_of c ≡ word_of d → c ≡ d
 word-unique c d e = sym (told_command c) ∙ (ap (λ t. command_by (get_or t 2 0)) e ∙ told_command d)
 
 means-unique : (others : List (List ℕ)) (command : CommandWord) (c d : CommandTree) → IsForm command others
@@ -205,6 +205,11 @@ nothing_at others command w e none = let P : CommandWord → Type 0 = λ c. Noth
 
 pub form_at : (others : List (List ℕ)) (command w : CommandWord) → command ≡ w → IsForm command others → IsForm w others
 form_at others command w e form = let P : CommandWord → Type 0 = λ c. IsForm c others in subst P e form
+
+pub stands_at : (H : Slot → Type 0) (command w : CommandWord) → command ≡ w → ((slot : Slot) → Contains (slots_of command) slot → H slot)
+    → (slot : Slot) → Contains (slots_of w) slot → H slot
+stands_at H command w e stands =
+    let P : CommandWord → Type 0 = λ c. (slot : Slot) → Contains (slots_of c) slot → H slot in subst P e stands
 
 -- what the words after a command's may mean, one by one
 pub no_compile : (others : List (List ℕ)) → Nothing (Sets others Jobs (IsCounted most_jobs) default_jobs) → Nothing (Means others word.Compile)

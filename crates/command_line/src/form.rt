@@ -2,9 +2,9 @@
 ghost use Rattle.std.specs.Prelude.{◌≡◌, ◌≢◌, ◌≤◌, ◌↔◌, ◌++◌, true, false, MatchOption, IsTrue, count_by, nat_le, string_bytes};
 ghost use Rattle.std.specs.List.{list_any, list_all};
 ghost use Rattle.command_line.specs.declared.form.CommandWord.{CommandWord};
-ghost use Rattle.command_line.specs.Values.{Nothing};
+ghost use Rattle.command_line.specs.Program.{id_of};
 ghost use Rattle.command_line.specs.View.{texts};
-ghost use Rattle.command_line.specs.Words.{word_of, slots_of, wanted_of, prefix_of, fills, IsForm, Gives};
+ghost use Rattle.command_line.specs.Words.{word_of, slots_of, wanted_of, prefix_of, fills, IsForm};
 
 /// The command that a first word names.
 #[derive(Clone, Copy, PartialEq, Eq, Debug)]
@@ -74,8 +74,21 @@ impl CommandWord {
         }
     }
 
+    /// The word that names the command.
+    pub(crate) fn word<'a>(self) -> &'a str
+        ensures { result.now ≡ word_of self }
+    {
+        match self {
+            CommandWord::Compile => "compile",
+            CommandWord::Run => "run",
+            CommandWord::Check => "check",
+            CommandWord::List => "list",
+            CommandWord::Soak => "soak",
+        }
+    }
+
     /// What the other words may be for.
-    fn slots(self) -> &'static [Slot]
+    pub(crate) fn slots(self) -> &'static [Slot]
         ensures { result.now ≡ slots_of self }
     {
         match self {
@@ -143,18 +156,23 @@ impl Slot {
             .count()
     }
 
-    /// The value of the first word that is for this slot.
-    pub(crate) fn value_among(self, others: &[String]) -> Option<&[u8]>
-        ensures { MatchOption result
-            (Nothing (Gives (texts others.now) self))
-            (λ value. Gives (texts others.now) self value.now) }
+    /// The slot's name: an option's stands between `--` and `=`.
+    pub(crate) fn id(self) -> &'static str
+        ensures { result.now ≡ id_of self }
     {
-        for word in others {
-            if let Some(value) = self.value_in(word.as_bytes()) {
-                return Some(value);
-            }
+        match self {
+            Slot::Plain => "word",
+            Slot::Args => "args",
+            Slot::Answers => "answers",
+            Slot::Steps => "steps",
+            Slot::Stack => "stack",
+            Slot::Heap => "heap",
+            Slot::Moves => "moves",
+            Slot::Fuel => "fuel",
+            Slot::Jobs => "jobs",
+            Slot::Seed => "seed",
+            Slot::Functions => "functions",
         }
-        None
     }
 }
 

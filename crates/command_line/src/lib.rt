@@ -8,6 +8,7 @@
 
 mod command;
 mod form;
+mod parser;
 mod read;
 mod values;
 

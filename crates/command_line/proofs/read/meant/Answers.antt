@@ -1,4 +1,4 @@
-use Rattle.std.proofs.Common.{Err, IsErrOf, ℕ, rules, lit<}
+use Rattle.std.proofs.Common.{List, Err, IsErrOf, ℕ, rules, lit<, refl}
 use Rattle.command_line.specs.declared.command.RunWords.{RunWords}
 use Rattle.command_line.specs.declared.command.CheckWords.{CheckWords}
 use Rattle.command_line.specs.declared.command.Stage.{Stage}
@@ -7,17 +7,45 @@ use Rattle.command_line.specs.declared.form.CommandWord.TheVariants as word
 use Rattle.command_line.specs.declared.form.Slot.TheVariants.{Plain, Jobs}
 use Rattle.command_line.specs.View.{texts, run_view, check_view}
 use Rattle.command_line.specs.Command.{compile, run, check, list}
-use Rattle.command_line.proofs.Unique.{means_at, nothing_at, form_at, no_compile, no_run, no_check, no_list}
+use Rattle.command_line.proofs.Unique.{means_at, nothing_at, form_at, stands_at, no_compile, no_run, no_check, no_list}
+use Rattle.clap.specs.Matches.{found_of, first_value}
+use Rattle.clap.specs.declared.parser.matches.Found.{Found}
+use Rattle.command_line.specs.Program.{HasText, id_of}
+use Rattle.command_line.specs.declared.form.Slot.{Slot}
 use Rattle.command_line.proofs.read.meant.Goals as goal
 
+abbrev Has : List (List ℕ) → Found → Slot → Type 0
+Has others found slot = HasText others slot (first_value found (id_of slot))
+
 pub jobs-requires : goal.jobs-requires
-jobs-requires c = (form_at (texts c.args.others.now) c.args.command word.Compile c.in-Compile.is c.requires).once 0 Jobs (lit< tt)
+jobs-requires c = record {
+  once = (form_at (texts c.args.others.now) c.args.command word.Compile c.in-Compile.is c.requires.form).once 0 Jobs (lit< tt);
+  stands = stands_at (Has (texts c.args.others.now) (found_of c.args.given.now)) c.args.command word.Compile c.in-Compile.is c.requires.stands Jobs (0, lit< tt, refl);
+}
 
-pub stage-requires-clause-some : goal.stage-requires-clause-some
-stage-requires-clause-some c = (form_at (texts c.args.others.now) c.args.command word.List c.in-List.is c.requires).there 0 Plain (lit< tt)
+pub stage-requires : goal.stage-requires
+stage-requires c = record {
+  once = (form_at (texts c.args.others.now) c.args.command word.List c.in-List.is c.requires.form).once 0 Plain (lit< tt);
+  stands = stands_at (Has (texts c.args.others.now) (found_of c.args.given.now)) c.args.command word.List c.in-List.is c.requires.stands Plain (0, lit< tt, refl);
+}
 
-pub stage-requires-clause-once : goal.stage-requires-clause-once
-stage-requires-clause-once c = (form_at (texts c.args.others.now) c.args.command word.List c.in-List.is c.requires).once 0 Plain (lit< tt)
+pub run-requires : goal.run-requires
+run-requires c = record {
+  form = form_at (texts c.args.others.now) c.args.command word.Run c.in-Run.is c.requires.form;
+  stands = stands_at (Has (texts c.args.others.now) (found_of c.args.given.now)) c.args.command word.Run c.in-Run.is c.requires.stands;
+}
+
+pub check-requires : goal.check-requires
+check-requires c = record {
+  form = form_at (texts c.args.others.now) c.args.command word.Check c.in-Check.is c.requires.form;
+  stands = stands_at (Has (texts c.args.others.now) (found_of c.args.given.now)) c.args.command word.Check c.in-Check.is c.requires.stands;
+}
+
+pub soak-requires : goal.soak-requires
+soak-requires c = record {
+  form = form_at (texts c.args.others.now) c.args.command word.Soak c.in-Soak.is c.requires.form;
+  stands = stands_at (Has (texts c.args.others.now) (found_of c.args.given.now)) c.args.command word.Soak c.in-Soak.is c.requires.stands;
+}
 
 pub returns-in_err-jobs-in-Compile-clause-bad : goal.returns-in_err-jobs-in-Compile-clause-bad
 returns-in_err-jobs-in-Compile-clause-bad c = λ e.
