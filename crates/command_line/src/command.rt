@@ -11,18 +11,38 @@ use thiserror::Error;
 #[derive(Debug, Drop)]
 pub enum Command {
     /// Reads a Cmm text and writes the image.
-    Compile(CompileWords),
+    Compile {
+        /// How many functions are compiled side by side.
+        jobs: u32,
+    },
     /// Reads an image and writes the outcome of a run of it.
     Run(RunWords),
     /// Reads a Cmm text and writes the outcome of a run of it, and what that run needs.
     Check(CheckWords),
+    /// Reads a Cmm text and writes what a stage of the compiler makes of it.
+    List(Stage),
+    /// Makes a Cmm text of its own, compiles it, and tries the image against the text.
+    Soak {
+        /// What the generator of the text starts from.
+        seed: u64,
+        /// How many functions the text has.
+        functions: u32,
+    },
 }
 
-/// How a text is to be compiled.
-#[derive(Debug, Drop)]
-pub struct CompileWords {
-    /// The jobs among which the functions are shared: 1 to 64.
-    pub jobs: u32,
+/// The stages of the compiler, in their order.
+#[derive(Clone, Copy, PartialEq, Eq, Debug, Drop)]
+pub enum Stage {
+    Select,
+    CombAlloc,
+    Cse,
+    Dead,
+    Spill,
+    Split,
+    Alloc,
+    Linear,
+    Frames,
+    Code,
 }
 
 /// What a run is to do.

@@ -8,9 +8,10 @@
 
 mod command;
 mod form;
+mod parser;
 mod read;
 mod values;
 
-pub use command::{CheckWords, Command, CompileWords, Moves, RunWords, WordsError};
+pub use command::{CheckWords, Command, Moves, RunWords, Stage, WordsError};
 pub use read::read_words;
 pub use rv_machine::Arg;
