@@ -7,8 +7,8 @@ use Rattle.command_line.specs.declared.form.CommandWord.TheVariants as word
 use Rattle.command_line.specs.declared.form.Slot.{Slot}
 use Rattle.command_line.specs.declared.form.Slot.TheVariants.{Plain, Args, Answers, Steps, Stack, Heap, Fuel, Jobs, Functions}
 use Rattle.command_line.specs.declared.form.Slot.TheVariants as slot
-use Rattle.command_line.specs.declared.command.Stage.{Stage}
-use Rattle.command_line.specs.declared.command.Stage.TheVariants as stage
+use Rattle.stages.specs.declared.stage.Stage.{Stage}
+use Rattle.stages.specs.declared.stage.Stage.TheVariants as stage
 use Rattle.command_line.specs.declared.command.Moves.{Moves}
 use Rattle.command_line.specs.declared.command.Moves.TheVariants.{Seed}
 use Rattle.command_line.specs.Command.{CommandTree, CompileCommand, RunCommand, CheckCommand, ListCommand, RunTree, CheckTree, IsRun, IsCheck, Means, IsCommand, compile, run, check, list, soak, default_jobs, default_steps, default_size, default_moves, Sets, given, left_out, Tells, WithinLimits, WithinFuel, KeepsLimits}

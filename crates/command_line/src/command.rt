@@ -4,6 +4,7 @@ ghost use Rattle.command_line.specs.declared.command.WordsError.TheVariants.{Out
 
 use bs_words::{List, Name};
 use rv_machine::Arg;
+use stages::Stage;
 use std::alloc::{AllocError, AllocFailed};
 use thiserror::Error;
 
@@ -28,21 +29,6 @@ pub enum Command {
         /// How many functions the text has.
         functions: u32,
     },
-}
-
-/// The stages of the compiler, in their order.
-#[derive(Clone, Copy, PartialEq, Eq, Debug, Drop)]
-pub enum Stage {
-    Select,
-    CombAlloc,
-    Cse,
-    Dead,
-    Spill,
-    Split,
-    Alloc,
-    Linear,
-    Frames,
-    Code,
 }
 
 /// What a run is to do.

@@ -12,6 +12,7 @@ mod parser;
 mod read;
 mod values;
 
-pub use command::{CheckWords, Command, Moves, RunWords, Stage, WordsError};
+pub use command::{CheckWords, Command, Moves, RunWords, WordsError};
 pub use read::read_words;
 pub use rv_machine::Arg;
+pub use stages::Stage;

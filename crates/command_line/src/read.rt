@@ -11,13 +11,14 @@ ghost use Rattle.command_line.specs.Program.{HasText, Stands, Defaults, id_of, p
 ghost use Rattle.command_line.specs.Command.{CommandTree, Sets, Tells, IsRun, IsCheck, Means, IsCommand, KeepsLimits, default_jobs, default_steps, default_size, default_moves};
 ghost use Rattle.command_line.specs.View.{texts, view, run_view, check_view};
 
-use crate::command::{CheckWords, Command, Moves, RunWords, Stage, WordsError};
+use crate::command::{CheckWords, Command, Moves, RunWords, WordsError};
 use crate::form::{CommandWord, Slot, has_form};
 use crate::parser::matches_of;
 use crate::values;
 use bs_words::{List, Name};
 use clap::ArgMatches;
 use rv_machine::Arg;
+use stages::Stage;
 use std::alloc::Global;
 
 /// The most jobs of a compilation.

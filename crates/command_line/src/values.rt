@@ -4,9 +4,10 @@ ghost use Rattle.bs_words.specs.Contents.{contents};
 ghost use Rattle.command_line.specs.declared.command.WordsError.{WordsError};
 ghost use Rattle.command_line.specs.Values.{IsName, IsNumber, IsSteps, IsSize, IsMoves, SeedsMoves, IsItem, IsCounted, IsSeed, IsStage, IsItems, Nothing};
 
-use crate::command::{Moves, Stage, WordsError};
+use crate::command::{Moves, WordsError};
 use bs_words::{List, Name, sub};
 use rv_machine::Arg;
+use stages::Stage;
 use std::alloc::Global;
 
 /// The most instructions that a run may be told to retire.

@@ -4,10 +4,12 @@
 
 mod files;
 mod gate;
+mod listing;
 mod passes;
 mod rows;
 
-pub use files::compile;
+pub use files::{compile, stage_text};
 pub use gate::{Gate, OpenGate};
+pub use listing::function_text;
 pub use passes::function_pieces;
 pub use rows::layout;

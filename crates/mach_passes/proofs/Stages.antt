@@ -1,4 +1,6 @@
 -- What each stage of the passes before register allocation owes the next.
+use Rattle.std.proofs.Common.{◌≡◌, sym, subst}
+use Rattle.combine_rules.proofs.Formed.{combined_formed}
 use Rattle.combine_rules.specs.Combined.{combined}
 use Rattle.dead_rules.specs.Dropped.{IsDropped}
 use Rattle.mach_ir.specs.Formed.{WellFormed}
@@ -10,6 +12,9 @@ use Rattle.split_rules.specs.Split.{IsSplit}
 use Rattle.mach_passes.specs.Prepared.{IsPreparable, IsPrepared}
 use Rattle.mach_passes.specs.Stages.{IsCleaned, HasSlots}
 use Rattle.mach_passes.proofs.Whole.{repeats_stage, small_stage, slots_stage}
+
+pub combined_is_formed : (m q : Mach) → IsPreparable m → q ≡ combined m → WellFormed q
+combined_is_formed m q is made = subst WellFormed (sym made) (combined_formed m is.combinable)
 
 pub repeated_formed : (m q : Mach) → IsPreparable m → IsRepeated (combined m) q → WellFormed q
 repeated_formed m q is made = (repeats_stage m q is made).formed

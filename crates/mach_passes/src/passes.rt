@@ -17,7 +17,9 @@ use std::alloc::{AllocError, Global};
 
 /// The function with its allocations combined, in which repeats are moves. The only error is want of
 /// memory.
+#[tactic(auto, using(crate::proofs::Stages::combined_is_formed))]
 pub fn without_repeats(alloc: Global, mach: Mach) -> Result<Mach, AllocError>
+    requires { IsPreparable mach }
     ensures { IfOk result (IsRepeated (combined mach)) }
 {
     let combined = combine(alloc, mach)?;
@@ -28,6 +30,7 @@ pub fn without_repeats(alloc: Global, mach: Mach) -> Result<Mach, AllocError>
 /// used. The only error is want of memory.
 #[tactic(auto, using(crate::proofs::Stages::is_cleaned))]
 pub fn without_dead(alloc: Global, mach: Mach) -> Result<Mach, AllocError>
+    requires { IsPreparable mach }
     ensures { IfOk result (IsCleaned mach) }
 {
     let repeated = without_repeats(alloc, mach)?;

@@ -5,3 +5,4 @@ pub mod Refusal
 pub mod Puts
 pub mod Compile
 pub mod CheckRefusal
+pub mod Listing

@@ -1,7 +1,7 @@
 use Rattle.std.proofs.Common.{List, Err, IsErrOf, ℕ, rules, lit<, refl}
 use Rattle.command_line.specs.declared.command.RunWords.{RunWords}
 use Rattle.command_line.specs.declared.command.CheckWords.{CheckWords}
-use Rattle.command_line.specs.declared.command.Stage.{Stage}
+use Rattle.stages.specs.declared.stage.Stage.{Stage}
 use Rattle.command_line.specs.declared.command.WordsError.TheVariants.{ValueText}
 use Rattle.command_line.specs.declared.form.CommandWord.TheVariants as word
 use Rattle.command_line.specs.declared.form.Slot.TheVariants.{Plain, Jobs}
