@@ -104,6 +104,10 @@ pub record IsCommand (words : List (List ℕ)) (tree : CommandTree) : Type 0 whe
   pub form : IsForm command others
   pub means : Means others command tree
 
+-- the words are the command `compile`, with whatever jobs
+abbrev pub AsksToCompile : List (List ℕ) → Type 0
+AsksToCompile words = (jobs : ℕ) × IsCommand words (CompileCommand jobs)
+
 -- What is known of a run that words can ask for.
 pub record WithinLimits (run : RunTree) : Type 0 where
   pub entry : IsName run.entry

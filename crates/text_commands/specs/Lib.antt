@@ -6,3 +6,4 @@ pub mod Puts
 pub mod Compile
 pub mod CheckRefusal
 pub mod Listing
+pub mod Trial

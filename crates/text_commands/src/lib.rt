@@ -10,10 +10,12 @@ mod entry;
 mod lines;
 mod list;
 mod run;
+mod trial;
 
 pub use call::{CallRefusal, FileCall, call_of};
 pub use check::{CheckRefusal, check_text};
 pub use compile::{Refusal, compile_text};
 pub use file_compile::{Gate, OpenGate};
 pub use list::list_text;
-pub use run::told_of_run;
+pub use run::{outcome_of_run, told_of_run};
+pub use trial::{Trial, trial_of};
