@@ -11,8 +11,8 @@ use Rattle.bs_fault.specs.Limits.{longest_text}
 use Rattle.cmmc_core.specs.Effects.{Side, Effects, IsKept, Got, GotPart, Tells, IsRead}
 use Rattle.cmmc_core.specs.Ends.{Output, spelling, outcome, Cause, fault, too_large, no_memory, Ends, written, refused, out_fault, err_fault}
 use Rattle.cmmc_core.specs.Compile.{Reads}
-use Rattle.cmmc_core.specs.Refusal.{IsRefusalRead, TellsRefusal, IsTextOf, WritesRun, IsRunRefusal, WritesOutcome, CutsOutcome, IsRunRefusalFrom, TellsOr}
-use Rattle.cmmc_core.specs.Run.{ReadsImage, IsOutcomeOf}
+use Rattle.cmmc_core.specs.Refusal.{IsRefusalRead, TellsRefusal, WritesRun, IsRunRefusal, WritesOutcome, CutsOutcome, IsRunRefusalFrom, TellsOr}
+use Rattle.cmmc_core.specs.Run.{IsTextOf, ReadsImage, IsOutcomeOf}
 use Rattle.text_commands.specs.Refusal.{SpellsImageOf, IsRefusalOf}
 use Rattle.text_commands.specs.declared.compile.Refusal as text
 use Rattle.text_commands.specs.declared.compile.Refusal.TheVariants.{Fault, TooLarge, OutOfMemory}

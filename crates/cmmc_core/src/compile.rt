@@ -1,8 +1,6 @@
 //! The command `compile`: a Cmm text in, an image out.
 ghost use Rattle.std.specs.Prelude.{◌≡◌, ◌<◌, ◌≤◌, All, IfOk, IfErr};
 ghost use Rattle.bs_words.specs.Contents.{contents};
-ghost use Rattle.command_line.specs.Command.{WithinJobs};
-ghost use Rattle.command_line.specs.View.{compile_view};
 ghost use Rattle.cmmc_core.specs.Compile.{Reads};
 ghost use Rattle.cmmc_core.specs.Effects.{side};
 ghost use Rattle.cmmc_core.specs.Refusal.{IsRefusalFrom};
@@ -11,7 +9,6 @@ ghost use Rattle.text_commands.specs.Refusal.{SpellsImageOf, IsRefusalOf};
 use crate::text::{Unread, read_text};
 use bs_io::Source;
 use bs_words::List;
-use command_line::CompileWords;
 use std::alloc::Global;
 use std::thread::Threads;
 use text_commands::{Gate, Refusal as TextRefusal, compile_text};
@@ -23,23 +20,24 @@ pub enum Refusal {
     Text(TextRefusal),
 }
 
-/// The spelling of the image of the text that a source holds. At most one byte past the longest text is
-/// read.
+/// The spelling of the image of the text that a source holds, whose functions are shared among so many jobs. At most one
+/// byte past the longest text is read.
 pub fn compile_source<R: Threads + Sync, S: Source, G: Gate + Sync>(
     rt: &R,
     alloc: Global,
-    words: &CompileWords,
+    jobs: u32,
     source: &mut S,
     gate: &G,
 ) -> Result<List<u8>, Refusal>
-    requires { WithinJobs (compile_view words.now) }
+    requires some_jobs { 1 ≤ jobs }
+    requires few_jobs { jobs ≤ 64 }
     ensures image { IfOk result (λ bytes.
         Reads (λ text. SpellsImageOf text (contents bytes))
         (side S.left S.faults source.old source.new)) }
     ensures refused { IfErr result (λ r. IsRefusalFrom (side S.left S.faults source.old source.new) r) }
 {
     match read_text(alloc, source) {
-        Ok(text) => match compile_bytes(rt, alloc, text.as_slice(), words.jobs, gate) {
+        Ok(text) => match compile_bytes(rt, alloc, text.as_slice(), jobs, gate) {
             Ok(bytes) => Ok(bytes),
             Err(why) => Err(Refusal::Text(why)),
         },

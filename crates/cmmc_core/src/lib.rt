@@ -3,8 +3,12 @@
 
 mod check;
 mod compile;
+mod kept;
+mod last;
 mod line;
+mod list;
 mod run;
+mod soak;
 mod text;
 mod top;
 

@@ -75,7 +75,7 @@ fn read_whole<S: Source>(alloc: Global, source: &mut S) -> Result<List<u8>, RunR
 }
 
 /// Writes the outcome of a run of an image.
-fn run_on<K: Sink>(
+pub fn run_on<K: Sink>(
     alloc: Global,
     run: RunWords,
     image: &Image,
