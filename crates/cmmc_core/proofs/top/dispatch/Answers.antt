@@ -66,6 +66,20 @@ returns-in-Ok-Run g c =
 pub returns-in-Ok-Check : goal.returns-in-Ok-Check
 returns-in-Ok-Check g c = c.check.ensures _ (rw c.in-Ok-Check.field-0-is at c.in-Ok-Check.ensures.command)
 
+-- ---- list and soak
+
+pub returns-in-Ok-List : goal.returns-in-Ok-List
+returns-in-Ok-List g c = c.list.ensures _ (rw c.in-Ok-List.field-0-is at c.in-Ok-List.ensures.command)
+
+pub returns-in-Ok-Soak : goal.returns-in-Ok-Soak
+returns-in-Ok-Soak g c = c.soak.ensures _ _ (rw c.in-Ok-Soak.field-0-is at c.in-Ok-Soak.ensures.command) (Keeps-same _)
+
+pub soak-requires-clause-some : goal.soak-requires-clause-some
+soak-requires-clause-some g c = (rw c.in-Ok-Soak.field-0-is at c.in-Ok-Soak.ensures.limits).1
+
+pub soak-requires-clause-few : goal.soak-requires-clause-few
+soak-requires-clause-few g c = (rw c.in-Ok-Soak.field-0-is at c.in-Ok-Soak.ensures.limits).2
+
 -- ---- words
 
 pub returns-in-Err-Words : goal.returns-in-Err-Words
