@@ -82,4 +82,5 @@ module _ {defined : List ℕ → Option DefinedSymbol} {tree : FunctionTree} (ac
 pub text_bounded : (text : List ℕ) (file : FileTree) → IsFileOf text file → (tree : FunctionTree) → Contains (functions file) tree →
     (m : Lin) (ds : List Descr) (pieces : Pieces) → IsMadeOf tree m ds pieces → IsBoundedBy tree ds pieces
 text_bounded text file is tree c m ds pieces made =
-    bounded (definitions file) tree m (function_accepted text file is tree c) made.allocated made.linear ds pieces made (text_nests text file tree is c)
+    let accepted : IsAccepted (definitions file) tree = function_accepted text file is tree c in
+    bounded accepted (placed_for accepted made.is_prepared made.allocated) made.linear ds pieces made (text_nests text file tree is c)

@@ -12,11 +12,13 @@ use Rattle.lin_ir.specs.declared.lin.Lin.{Lin}
 use Rattle.lin_ir.specs.declared.lin.Spot.{Spot}
 use Rattle.mach_ir.specs.declared.op.Op.TheVariants as op
 use Rattle.mach_ir.specs.declared.op.Pure.TheVariants as pure
+use Rattle.rv_isa.specs.declared.instr.LoadWidth.TheVariants as loads
+use Rattle.rv_isa.specs.declared.instr.StoreWidth.TheVariants as stores
 use Rattle.rv_isa.specs.declared.register.Register.{Register}
-use Rattle.rv_isa.specs.declared.register.Register.TheVariants.{T1, T2}
+use Rattle.rv_isa.specs.declared.register.Register.TheVariants.{Sp, T1, T2}
 use Rattle.rv_pieces.specs.declared.piece.Piece.{Piece}
-use Rattle.emit_rules.specs.Instructions.{register_at}
-use Rattle.emit_rules.specs.Slots.{stack_load, stack_store, slot_offset, first, target, kept, copied, moved}
+use Rattle.emit_rules.specs.Instructions.{register_at, load, store}
+use Rattle.emit_rules.specs.Slots.{far_stack, stack_load, stack_store, slot_offset, first, target, kept, copied, moved}
 use Rattle.pass_rules.specs.Measures.{copy_words}
 use Rattle.emit_rules.specs.Emitted.{parts, part_of, descriptor, left_after, emitted}
 use Rattle.emit_rules.specs.Entry.{Frame, frame_of, entry}
@@ -30,15 +32,19 @@ words-join (x ∷ xs) ys = let e : words_at_most (xs ++ ys) ≡ words_at_most xs
 
 -- ---- copies
 
-either_short : (n : ℕ) (b : Bool) {xs ys : List Piece} → words_at_most xs ≤ n → words_at_most ys ≤ n → words_at_most (cond b xs ys) ≤ n
-either_short n true x y = x
-either_short n false x y = y
-
 load_short : (scratch to : Register) (offset : ℕ) → words_at_most (stack_load scratch to offset) ≤ 3
-load_short scratch to offset = either_short 3 (nat_lt offset 2048) (omega arith) (omega arith)
+load_short scratch to offset = by (nat_lt offset 2048)
+  where
+    by : (b : Bool) → words_at_most (cond b (load loads.Ld to Sp offset ∷ []) (far_stack scratch offset ++ load loads.Ld to scratch offset ∷ [])) ≤ 3
+    by true = omega arith
+    by false = omega arith
 
 store_short : (scratch from : Register) (offset : ℕ) → words_at_most (stack_store scratch from offset) ≤ 3
-store_short scratch from offset = either_short 3 (nat_lt offset 2048) (omega arith) (omega arith)
+store_short scratch from offset = by (nat_lt offset 2048)
+  where
+    by : (b : Bool) → words_at_most (cond b (store stores.Sd from Sp offset ∷ []) (far_stack scratch offset ++ store stores.Sd from scratch offset ∷ [])) ≤ 3
+    by true = omega arith
+    by false = omega arith
 
 kept_short : (t : ℕ) (l : Loc) → words_at_most (kept t l) ≤ 3
 kept_short t (loc.Machine n) = omega arith
@@ -57,7 +63,11 @@ copy_short t (loc.Machine n) loc.Unset = omega arith
 copy_short t loc.Unset to = omega arith
 
 move_short : (t : ℕ) (from to : Loc) → words_at_most (moved t from to) ≤ copy_words
-move_short t from to = either_short copy_words (same_loc from to) (omega arith) (copy_short t from to)
+move_short t from to = by (same_loc from to)
+  where
+    by : (b : Bool) → words_at_most (cond b [] (copied t from to)) ≤ copy_words
+    by true = omega arith
+    by false = copy_short t from to
 
 -- ---- lines
 

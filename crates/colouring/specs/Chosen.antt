@@ -41,9 +41,9 @@ abbrev pub most_urgent : ℕ
 most_urgent = 18446744073709551615
 
 -- How urgent a register is, where those from a number on were made by reloading. Such a one comes first,
--- since a slot for it would only ask for another. One that has fewer neighbours than there are colours is
--- not urgent, as some colour is left to it whatever they take. Of any other, what its slot would cost for
--- each neighbour that it stands in the way of.
+-- since a slot for it would only ask for another. One that has fewer neighbours that take a colour than
+-- there are colours is not urgent, as some colour is left to it whatever they take. Of any other, what
+-- its slot would cost for each neighbour that it stands in the way of.
 abbrev pub urgency : Colouring → ℕ → Node → ℕ
 urgency place fresh x =
     cond (nat_le fresh x.reg.number) most_urgent

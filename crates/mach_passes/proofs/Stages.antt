@@ -11,13 +11,10 @@ use Rattle.spill_rules.specs.Chosen.{IsSpilled}
 use Rattle.split_rules.specs.Split.{IsSplit}
 use Rattle.mach_passes.specs.Prepared.{IsPreparable, IsPrepared}
 use Rattle.mach_passes.specs.Stages.{IsCleaned, HasSlots}
-use Rattle.mach_passes.proofs.Whole.{repeats_stage, small_stage, slots_stage}
+use Rattle.mach_passes.proofs.Whole.{small_stage, slots_stage}
 
-pub combined_is_formed : (m q : Mach) → IsPreparable m → q ≡ combined m → WellFormed q
-combined_is_formed m q is made = subst WellFormed (sym made) (combined_formed m is.combinable)
-
-pub repeated_formed : (m q : Mach) → IsPreparable m → IsRepeated (combined m) q → WellFormed q
-repeated_formed m q is made = (repeats_stage m q is made).formed
+pub combined_form : (m q : Mach) → IsPreparable m → q ≡ combined m → WellFormed q
+combined_form m q is made = subst WellFormed (sym made) (combined_formed m is.combinable)
 
 pub cleaned_formed : (m q : Mach) → IsPreparable m → IsCleaned m q → WellFormed q
 cleaned_formed m q is made = (small_stage m q is made).formed

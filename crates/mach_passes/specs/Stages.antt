@@ -11,7 +11,7 @@ pub record IsCleaned (m q : Mach) : Type 0 where
   pub is_repeated : IsRepeated (combined m) repeated
   pub is_dropped : IsDropped repeated q
 
--- The second is that of the first, in which what lives over calls has slots.
+-- The second is the first, so cleaned, in which what lives over calls has slots.
 pub record HasSlots (m q : Mach) : Type 0 where
   pub dropped : Mach
   pub is_cleaned : IsCleaned m dropped

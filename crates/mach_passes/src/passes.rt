@@ -17,7 +17,7 @@ use std::alloc::{AllocError, Global};
 
 /// The function with its allocations combined, in which repeats are moves. The only error is want of
 /// memory.
-#[tactic(auto, using(crate::proofs::Stages::combined_is_formed))]
+#[tactic(auto, using(crate::proofs::Stages::combined_form))]
 pub fn without_repeats(alloc: Global, mach: Mach) -> Result<Mach, AllocError>
     requires { IsPreparable mach }
     ensures { IfOk result (IsRepeated (combined mach)) }

@@ -1,5 +1,5 @@
 -- One turn of the rounds, and their ends.
-use Rattle.std.proofs.Common.{◌≡◌, ℕ, suc, ◌+◌, ◌<◌, ◌≤◌, Bool, true, false, sym, subst, arith}
+use Rattle.std.proofs.Common.{◌≡◌, ℕ, suc, ◌+◌, ◌<◌, ◌≤◌, Bool, true, false, subst, arith}
 use Rattle.mach_ir.specs.declared.mach.Mach.{Mach}
 use Rattle.places_rules.specs.Places.{rest_in_slots}
 use Rattle.reload_rules.specs.Reloaded.{IsFree}

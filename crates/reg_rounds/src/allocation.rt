@@ -23,7 +23,8 @@ pub struct Allocated {
     pub mach: Mach,
     /// How many rounds of colouring there were.
     pub rounds: u32,
-    /// Whether what was left after the last round went to slots.
+    /// Whether it gave up: the function as it stood before the first round then has a slot for each register
+    /// whose place is open.
     pub rest: bool,
 }
 

@@ -12,9 +12,10 @@ ghost use Rattle.mach_ir.specs.declared.mach.Mach.{Mach};
 ghost use Rattle.places_rules.specs.Places.{ColoursLow};
 ghost use Rattle.rounds_rules.specs.Rounds.{IsAllocated, IsKept};
 
-/// Law: an allocated function does what it did, each of its registers has a place, and it has few more words.
+/// Law: an allocated function does what it did, each of its registers has a place, and few words are new.
 pub fn allocations_are_kept()
-    ensures { (m q : Mach) → WellFormed m → WellPlaced m → ColoursLow m → IsAllocated m q → IsKept m q }
+    ensures { (m q : Mach) → WellFormed m → WellPlaced m → ColoursLow m → IsAllocated m q →
+        IsKept m q }
 {}
 
 /// Law: allocation makes one function of each.
