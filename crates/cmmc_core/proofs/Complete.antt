@@ -22,7 +22,7 @@ use Rattle.text_commands.specs.Check.{IsCheckOf, HasNoEntry, IsUnfitFor, IsTooLa
 use Rattle.text_commands.proofs.Called.{named_none, call_unfit}
 use Rattle.text_commands.specs.Compile.{IsImageOf, IsTooLarge}
 use Rattle.text_commands.specs.Listing.{IsListingOf}
-use Rattle.file_compile.specs.Listed.{IsOfImage}
+use Rattle.stages.specs.Image.{IsOfImage}
 use Rattle.stages.specs.declared.stage.Stage.{Stage}
 use Rattle.stages.specs.declared.stage.Stage.TheVariants as stages
 use Rattle.cmmc_core.specs.Compile.{Reads}

@@ -9,7 +9,7 @@ use Rattle.bs_fault.specs.declared.usage.Usage.TheVariants.{Words, ValueText, Un
 use Rattle.command_line.specs.Command.{IsCommand, AsksToCompile, CommandTree, RunCommand, CheckCommand, ListCommand, SoakCommand, RunTree, CheckTree}
 use Rattle.command_line.specs.Words.{WellFormed}
 use Rattle.cmm_front.specs.FileOf.{HasFault}
-use Rattle.file_compile.specs.Listed.{IsOfImage}
+use Rattle.stages.specs.Image.{IsOfImage}
 use Rattle.image_form.specs.Image.{tables_bytes}
 use Rattle.image_form.specs.Tables.{Tables}
 use Rattle.stages.specs.declared.stage.Stage.{Stage}

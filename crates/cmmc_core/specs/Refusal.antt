@@ -7,7 +7,7 @@ use Rattle.command_line.specs.Command.{RunTree, CheckTree}
 use Rattle.image_form.specs.Tables.{Tables, Func}
 use Rattle.rv_machine.specs.Loading.{func_named, words_of_args}
 use Rattle.cmm_front.specs.FileOf.{HasFault}
-use Rattle.file_compile.specs.Listed.{IsOfImage}
+use Rattle.stages.specs.Image.{IsOfImage}
 use Rattle.stages.specs.declared.stage.Stage.{Stage}
 use Rattle.text_commands.specs.Check.{HasNoEntry, IsUnfitFor, IsTooLargeToCheck}
 use Rattle.text_commands.specs.declared.check.CheckRefusal as check

@@ -1,5 +1,5 @@
 -- The text of a stage of the compiler: of one function, of all, and of the file.
-use Rattle.std.specs.Prelude.{◌≡◌, ⊤, ℕ, List, [], None}
+use Rattle.std.specs.Prelude.{◌≡◌, ℕ, List, [], None}
 use Rattle.std.specs.List.{AllZip, concat}
 use Rattle.cmm_tree.specs.Tree.{FunctionTree, FileTree, functions}
 use Rattle.combine_rules.specs.Combined.{combined}
@@ -103,16 +103,3 @@ IsStageText file Alloc text = AreFunctionTexts Alloc (functions file) text
 IsStageText file Linear text = AreFunctionTexts Linear (functions file) text
 IsStageText file Frames text = IsImageText frames_text file text
 IsStageText file Code text = IsImageText code_text file text
-
--- The stages of the image: they alone have no text where a section passes its limit.
-abbrev pub IsOfImage : Stage → Type 0
-IsOfImage Frames = ⊤
-IsOfImage Code = ⊤
-IsOfImage Select = ⊥
-IsOfImage CombAlloc = ⊥
-IsOfImage Cse = ⊥
-IsOfImage Dead = ⊥
-IsOfImage Spill = ⊥
-IsOfImage Split = ⊥
-IsOfImage Alloc = ⊥
-IsOfImage Linear = ⊥

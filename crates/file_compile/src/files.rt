@@ -13,7 +13,8 @@ ghost use Rattle.image_form.specs.Tables.{Tables, tables};
 ghost use Rattle.layout_rules.specs.TooLarge.{first_too_large};
 ghost use Rattle.made_functions.specs.Files.{IsFunctionMade, IsMadeFor};
 ghost use Rattle.file_compile.specs.Accepted.{IsAcceptedFile, IsAcceptedFunction};
-ghost use Rattle.file_compile.specs.Listed.{AreFunctionTexts, IsStageText, IsOfImage};
+ghost use Rattle.stages.specs.Image.{IsOfImage};
+ghost use Rattle.file_compile.specs.Listed.{AreFunctionTexts, IsStageText};
 ghost use Rattle.file_compile.specs.Pieces.{ArePiecesAt};
 
 use crate::gate::{Gate, OpenGate};

@@ -2,7 +2,8 @@
 use Rattle.std.specs.Prelude.{◌≡◌, ⊤, ℕ, List}
 use Rattle.cmm_front.specs.FileOf.{IsFileOf, HasFault}
 use Rattle.cmm_tree.specs.Tree.{FileTree}
-use Rattle.file_compile.specs.Listed.{IsStageText, IsOfImage}
+use Rattle.file_compile.specs.Listed.{IsStageText}
+use Rattle.stages.specs.Image.{IsOfImage}
 use Rattle.image_form.specs.Tables.{Tables}
 use Rattle.image_listings.specs.Texts.{frames_text, code_text}
 use Rattle.stages.specs.declared.stage.Stage.{Stage}
