@@ -17,7 +17,6 @@ use std::alloc::{AllocError, Global};
 
 /// The function with its allocations combined, in which repeats are moves. The only error is want of
 /// memory.
-#[tactic(auto, using(crate::proofs::Stages::combined_form))]
 pub fn without_repeats(alloc: Global, mach: Mach) -> Result<Mach, AllocError>
     requires { IsPreparable mach }
     ensures { IfOk result (IsRepeated (combined mach)) }
@@ -63,7 +62,6 @@ pub fn with_slots(alloc: Global, mach: Mach) -> Result<Mach, AllocError>
 ///
 /// The only error is want of memory, which more places, writes or registers than a number can count
 /// are too.
-#[tactic(auto, using(crate::proofs::Stages::split_prepared))]
 pub fn prepared(alloc: Global, mach: Mach) -> Result<Mach, AllocError>
     requires { IsPreparable mach }
     ensures { IfOk result (IsPrepared mach) }

@@ -1,0 +1,7 @@
+use Rattle.std.proofs.lemmas.Result.{IfOk-weaker}
+use Rattle.mach_passes.proofs.Stages.{split_prepared}
+use Rattle.mach_passes.proofs.passes.prepared.Goals as goal
+
+pub returns : goal.returns
+returns c =
+    IfOk-weaker c.split.result _ _ (λ made is. split_prepared c.args.mach c.in_ok-spilled.spilled made c.requires c.in_ok-spilled.ensures is) c.split.ensures
