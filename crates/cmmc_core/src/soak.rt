@@ -1,17 +1,17 @@
 //! The command `soak`: a text is drawn, compiled, and run by its meaning and on the machine.
-ghost use Rattle.std.specs.Prelude.{◌≡◌, ◌≤◌, ◌++◌, ◌-◌, ℕ, List, [], ◌∷◌, length, IfOk, IfErr};
+ghost use Rattle.std.specs.Prelude.{◌≡◌, ◌≤◌, ℕ, List, length, IfOk, IfErr};
 ghost use Rattle.bs_words.specs.Contents.{contents};
 ghost use Rattle.command_line.specs.Command.{IsCommand, SoakCommand};
 ghost use Rattle.command_line.specs.View.{run_view, check_view};
 ghost use Rattle.image_form.specs.Image.{IsImage, tables_bytes};
-ghost use Rattle.image_form.specs.Tables.{Tables, tables};
-ghost use Rattle.rv_machine.specs.declared.setup.Arg.TheVariants.{Word};
+ghost use Rattle.image_form.specs.Tables.{tables};
 ghost use Rattle.text_commands.specs.Trial.{IsTrial};
 ghost use Rattle.cmmc_core.specs.Effects.{Side, IsKept, side, effects};
 ghost use Rattle.cmmc_core.specs.Ends.{Ends};
 ghost use Rattle.cmmc_core.specs.Refusal.{IsSoakRefusal};
 ghost use Rattle.cmmc_core.specs.Run.{IsTextOf};
-ghost use Rattle.cmmc_core.specs.Soak.{soak_text, soak_entry, soak_args, soak_check, soak_run, soak_lines, IsLastLine, IsSoakOf};
+ghost use Rattle.cmmc_core.specs.declared.soak.SoakRefusal.TheVariants.{OutOfMemory};
+ghost use Rattle.cmmc_core.specs.Soak.{soak_text, soak_entry, soak_args, soak_check, soak_run, soak_lines, IsSoakOf};
 
 use crate::kept::Kept;
 use crate::last::last_line;
@@ -42,7 +42,7 @@ pub enum SoakRefusal {
 }
 
 impl From<AllocError> for SoakRefusal {
-    ghost from_gives = { λ _ r. r ≡ SoakRefusal.OutOfMemory };
+    ghost from_gives = { λ _ e. e ≡ OutOfMemory };
 
     fn from(_error: AllocError) -> Self {
         SoakRefusal::OutOfMemory
