@@ -664,7 +664,7 @@ list-complete words source text known stage status e = record {
 
 -- How a call of `soak` ends.
 pub data SoakEnd (seed functions status : ℕ) : Type 0 where
-  told_of : (lines : List ℕ) → status ≡ 0 → IsSoakOf seed functions lines → SoakEnd seed functions status
+  reported : (lines : List ℕ) → status ≡ 0 → IsSoakOf seed functions lines → SoakEnd seed functions status
   passing : (large : Large) → status ≡ 8 → IsTooLarge (soak_text seed functions) large → SoakEnd seed functions status
   nothing : status ≡ 9 → SoakEnd seed functions status
 
@@ -679,7 +679,7 @@ module _ (words : List (List ℕ)) (source : Side) (seed functions : ℕ) where
   soak_end is calm status (output b z (outcome ran t i o)) = absurd (run_is_no_soak words source ran seed functions i is)
   soak_end is calm status (output b z (checked ck lines i o)) = absurd (check_is_no_soak words source ck seed functions i is)
   soak_end is calm status (output b z (listed st l i o)) = absurd (list_is_no_soak words source st seed functions i is)
-  soak_end is calm status (output b z (soaked k n l i h o)) = for_one status k n is i (told_of l z h)
+  soak_end is calm status (output b z (soaked k n l i h o)) = for_one status k n is i (reported l z h)
   soak_end is calm status (cause line (no_command n k)) = absurd (n (command-formed words (SoakCommand seed functions) is))
   soak_end is calm status (cause line (no_value w n k)) = absurd (n (SoakCommand seed functions) is)
   soak_end is calm status (cause line (read_fault c i r)) = absurd (calm r)
@@ -699,23 +699,23 @@ drawn_file seed functions few P file other h g p = subst P (one_file (soak_text 
 
 module _ (seed functions : ℕ) (few : functions ≤ 1000) where
   soak_accepted : (status : ℕ) → SoakEnd seed functions status → Is 0 status ⊎ (status ≡ 8)
-  soak_accepted status (told_of lines z h) = inl (inl z)
+  soak_accepted status (reported lines z h) = inl (inl z)
   soak_accepted status (passing large z h) = inr z
   soak_accepted status (nothing z) = inl (inr z)
 
   soak_fits : (status : ℕ) → SoakEnd seed functions status → (file : FileTree) → IsFileOf (soak_text seed functions) file → Fits file → Is 0 status
-  soak_fits status (told_of lines z h) file is_file fits = inl z
+  soak_fits status (reported lines z h) file is_file fits = inl z
   soak_fits status (passing large z h) file is_file fits =
       absurd (not_both h.file large (drawn_file seed functions few Fits file h.file is_file h.is_file fits) (h.image, (h.made.made, h.passes)))
   soak_fits status (nothing z) file is_file fits = inr z
 
   soak_roomy : (status : ℕ) → SoakEnd seed functions status → (file : FileTree) → IsFileOf (soak_text seed functions) file → IsRoomy file → Is 0 status
-  soak_roomy status (told_of lines z h) file is_file roomy = inl z
+  soak_roomy status (reported lines z h) file is_file roomy = inl z
   soak_roomy status (passing large z h) file is_file roomy = absurd (h.not_roomy (drawn_file seed functions few IsRoomy file h.file is_file h.is_file roomy))
   soak_roomy status (nothing z) file is_file roomy = inr z
 
   soak_large : (status : ℕ) → SoakEnd seed functions status → (file : FileTree) (large : Large) → IsFileOf (soak_text seed functions) file → Passes large file → Is 8 status
-  soak_large status (told_of lines z h) file large is_file passes =
+  soak_large status (reported lines z h) file large is_file passes =
       let i = h.trial.is_image in
       absurd (not_both i.file large (h.image, (i.made.made, i.fits)) (drawn_file seed functions few (Passes large) file i.file is_file i.is_file passes))
   soak_large status (passing l z h) file large is_file passes = inl z
