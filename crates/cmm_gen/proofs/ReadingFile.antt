@@ -9,6 +9,7 @@ use Rattle.cmm_lex.specs.declared.token.Keyword.TheVariants as word
 use Rattle.cmm_lex.specs.declared.token.Sign.TheVariants as sign
 use Rattle.cmm_lex.specs.declared.token.TokenKind.TheVariants as kind
 use Rattle.cmm_lex.specs.Token.{TokenTree}
+use Rattle.cmm_lex.proofs.Languages.{AreBytes}
 use Rattle.cmm_tree.specs.Tree.{Expression, Operator, Let, Bind, NoBinding, Parameter, ItemTree, FileTree, data_among}
 use Rattle.bs_fault.specs.Reported.{Both, one_if, one_of, Faultless}
 use Rattle.bs_fault.specs.Limits.{most_tokens}
@@ -264,6 +265,7 @@ lines-read j (f ∷ fs) at few (more_within _ _ h within) =
 pub record ReadAs (functions : List DrawnFunction) (text : List ℕ) : Type 0 where
   pub file : FileTree
   pub reads : ReadsAs text (Ok file)
+  pub bytes : AreBytes text
   pub is_drawn : IsFileTreeOf functions file
 
 -- no data but that which is built in
@@ -287,5 +289,6 @@ text-reads functions few within =
     record {
       file = record { items = r.items };
       reads = text.file r.tokens r.items (omega arith) (whole-text (text_of functions) r.tokens r.lexes) r.spells fine;
+      bytes = r.lexes.bytes;
       is_drawn = r.are;
     }

@@ -6,7 +6,7 @@
 #![tactic(auto)]
 
 use bs_io::{ReadSource, WriteSink};
-use cmmc_core::cmmc;
+use cmmc_core::{OpenGate, cmmc};
 use std::alloc::Global;
 use std::process::ExitCode;
 use std::{env, io};
@@ -18,11 +18,13 @@ fn main(rt: HostRuntime) -> ExitCode {
             let mut out = WriteSink::new(rt.stdout());
             let mut err = WriteSink::new(rt.stderr());
             ExitCode::from(cmmc(
+                &rt,
                 rt.alloc(),
                 words.as_slice(),
                 &mut source,
                 &mut out,
                 &mut err,
+                &OpenGate,
             ))
         }
         Err(_) => ExitCode::from(1),

@@ -5,14 +5,14 @@ use Rattle.std.specs.Prelude.{OnOk, IfErr}
 use Rattle.std.proofs.lemmas.List.{take-append-drop}
 use Rattle.bs_io.specs.Faults.{Risen}
 use Rattle.bs_io.specs.Whole.{AppendsPart}
-use Rattle.command_line.specs.Command.{IsCommand, CompileCommand, RunCommand, RunTree}
+use Rattle.command_line.specs.Command.{IsCommand, AsksToCompile, RunCommand, RunTree}
 use Rattle.image_form.specs.Tables.{Tables}
 use Rattle.bs_fault.specs.Limits.{longest_text}
 use Rattle.cmmc_core.specs.Effects.{Side, Effects, IsKept, Got, GotPart, Tells, IsRead}
 use Rattle.cmmc_core.specs.Ends.{Output, spelling, outcome, Cause, fault, too_large, no_memory, Ends, written, refused, out_fault, err_fault}
 use Rattle.cmmc_core.specs.Compile.{Reads}
-use Rattle.cmmc_core.specs.Refusal.{IsRefusalRead, TellsRefusal, IsTextOf, WritesRun, IsRunRefusal, WritesOutcome, CutsOutcome, IsRunRefusalFrom, TellsOr}
-use Rattle.cmmc_core.specs.Run.{ReadsImage, IsOutcomeOf}
+use Rattle.cmmc_core.specs.Refusal.{IsRefusalRead, TellsRefusal, WritesRun, IsRunRefusal, WritesOutcome, CutsOutcome, IsRunRefusalFrom, TellsOr}
+use Rattle.cmmc_core.specs.Run.{IsTextOf, ReadsImage, IsOutcomeOf}
 use Rattle.text_commands.specs.Refusal.{SpellsImageOf, IsRefusalOf}
 use Rattle.text_commands.specs.declared.compile.Refusal as text
 use Rattle.text_commands.specs.declared.compile.Refusal.TheVariants.{Fault, TooLarge, OutOfMemory}
@@ -62,15 +62,15 @@ pub IsRead-whole : (limit : ℕ) (s : Side) (text : List ℕ) → Consumes s.bef
 IsRead-whole limit s text taken end short = record { taken = taken; whole = inl (short, end) }
 
 -- what is written is the spelling of an image of the text that was read
-spells : (words : List (List ℕ)) (s : Side) (bytes : List ℕ) → IsCommand words CompileCommand → Reads (λ text. SpellsImageOf text bytes) s → Output words s bytes
+spells : (words : List (List ℕ)) (s : Side) (bytes : List ℕ) → AsksToCompile words → Reads (λ text. SpellsImageOf text bytes) s → Output words s bytes
 spells words s bytes is r =
     subst (Output words s) (sym r.holds.spelled)
     (spelling r.holds.image is (record { text = r.text; are_bytes = r.are_bytes; read = r.read; holds = r.holds.is_image }))
 
-pub Ends-written : (words : List (List ℕ)) (e : Effects) (bytes : List ℕ) → IsCommand words CompileCommand → Reads (λ text. SpellsImageOf text bytes) e.source → Got e.out bytes → IsKept e.err → Ends words e 0
+pub Ends-written : (words : List (List ℕ)) (e : Effects) (bytes : List ℕ) → AsksToCompile words → Reads (λ text. SpellsImageOf text bytes) e.source → Got e.out bytes → IsKept e.err → Ends words e 0
 Ends-written words e bytes is r got kept = written bytes (spells words e.source bytes is r) got kept
 
-pub Ends-cut : (words : List (List ℕ)) (e : Effects) (bytes : List ℕ) → IsCommand words CompileCommand → Reads (λ text. SpellsImageOf text bytes) e.source → GotPart e.out bytes → IsKept e.err → Ends words e 6
+pub Ends-cut : (words : List (List ℕ)) (e : Effects) (bytes : List ℕ) → AsksToCompile words → Reads (λ text. SpellsImageOf text bytes) e.source → GotPart e.out bytes → IsKept e.err → Ends words e 6
 Ends-cut words e bytes is r part kept = out_fault bytes (spells words e.source bytes is r) part kept
 
 -- what a text that was read is refused for
@@ -81,7 +81,7 @@ refusal_read s read OutOfMemory are r why = tt
 
 -- the line of a text that has no image was written, or could not be
 pub Ends-refused : (words : List (List ℕ)) (e : Effects) (r : text.Refusal) (result : ℕ)
-    → IsCommand words CompileCommand
+    → AsksToCompile words
     → IsRefusalRead e.source r
     → IsKept e.out
     → TellsRefusal e.err r result

@@ -1,8 +1,3 @@
-pub mod Reading
-pub mod Answers
-pub mod Running
-pub mod Ending
-pub mod Spelled
-pub mod Complete
-mod Checking
-mod Refused
+pub mod Listing
+pub mod Drawn
+pub mod Soaking

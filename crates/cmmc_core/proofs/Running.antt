@@ -16,8 +16,8 @@ use Rattle.rv_machine.specs.Start.{start}
 use Rattle.rv_machine.specs.Text.{outcome_text}
 use Rattle.rv_machine.specs.declared.setup.LoadError.TheVariants.{UnknownEntry, ArgumentUnfit}
 use Rattle.rv_machine.specs.declared.setup.Setup.{Setup}
-use Rattle.cmmc_core.specs.Refusal.{IsTextOf, IsUnfit}
-use Rattle.cmmc_core.specs.Run.{words_of_answers, schedule_of}
+use Rattle.cmmc_core.specs.Refusal.{IsUnfit}
+use Rattle.cmmc_core.specs.Run.{IsTextOf, words_of_answers, schedule_of}
 
 -- A machine stands where the run of a setup begins.
 pub record Begun (image : Tables) (setup : Setup) (h : Hart) : Type 0 where

@@ -4,16 +4,19 @@ use Rattle.bs_fault.specs.declared.fault.Fault.{Fault}
 use Rattle.bs_fault.specs.declared.large.Large.{Large}
 use Rattle.cmm_front.specs.FileOf.{IsFileOf, HasFault}
 use Rattle.cmm_tree.specs.Tree.{FileTree}
-use Rattle.command_line.specs.Command.{IsCommand, CommandTree, CompileCommand, RunCommand, CheckCommand, RunTree, CheckTree}
+use Rattle.command_line.specs.Command.{IsCommand, AsksToCompile, CommandTree, RunCommand, CheckCommand, ListCommand, SoakCommand, RunTree, CheckTree}
 use Rattle.command_line.specs.Words.{WellFormed}
 use Rattle.correctness.specs.Bounds.{IsRoomy}
+use Rattle.stages.specs.Image.{IsOfImage}
 use Rattle.image_form.specs.Tables.{Tables, Func}
 use Rattle.layout_rules.specs.TooLarge.{first_too_large}
 use Rattle.made_functions.specs.Files.{IsMadeFor}
 use Rattle.rv_machine.specs.Loading.{func_named, words_of_args}
+use Rattle.stages.specs.declared.stage.Stage.{Stage}
 use Rattle.text_commands.specs.Arguments.{NamesNone, HasUnfit, IsCall}
 use Rattle.cmmc_core.specs.Effects.{Effects, Rose}
 use Rattle.cmmc_core.specs.Run.{IsSpelling, words_of_answers}
+use Rattle.cmmc_core.specs.Soak.{soak_text}
 
 -- No count of faults rose in the call.
 pub record NoneRose (e : Effects) : Type 0 where
@@ -101,10 +104,44 @@ pub record CheckComplete (check : CheckTree) (text : List ℕ) (status : ℕ) : 
       → first_too_large image ≡ Some large
       → Is 8 status
 
+-- What `list` comes to on a text that the source tells.
+pub record ListComplete (stage : Stage) (text : List ℕ) (status : ℕ) : Type 0 where
+  pub fault : (told : Fault) → HasFault text told → Is 3 status
+  -- a text without a fault is listed, or the stage is one of the image, and a section of that passes its limit
+  pub accepted : (file : FileTree) → IsFileOf text file → Is 0 status ⊎ (IsOfImage stage × (status ≡ 8))
+  -- where the image fits, it is listed
+  pub fits : (file : FileTree) (image : Tables)
+      → IsFileOf text file
+      → IsMadeFor file image
+      → first_too_large image ≡ None
+      → Is 0 status
+  pub roomy : (file : FileTree) → IsFileOf text file → IsRoomy file → Is 0 status
+  pub too_large : (file : FileTree) (image : Tables) (large : Large)
+      → IsOfImage stage
+      → IsFileOf text file
+      → IsMadeFor file image
+      → first_too_large image ≡ Some large
+      → Is 8 status
+
+-- What `soak` comes to: the text that is drawn has no fault.
+pub record SoakComplete (seed functions status : ℕ) : Type 0 where
+  pub accepted : Is 0 status ⊎ (status ≡ 8)
+  pub fits : (file : FileTree) (image : Tables)
+      → IsFileOf (soak_text seed functions) file
+      → IsMadeFor file image
+      → first_too_large image ≡ None
+      → Is 0 status
+  pub roomy : (file : FileTree) → IsFileOf (soak_text seed functions) file → IsRoomy file → Is 0 status
+  pub too_large : (file : FileTree) (image : Tables) (large : Large)
+      → IsFileOf (soak_text seed functions) file
+      → IsMadeFor file image
+      → first_too_large image ≡ Some large
+      → Is 8 status
+
 pub record Complete (words : List (List ℕ)) (e : Effects) (status : ℕ) : Type 0 where
   pub no_command : (WellFormed words → ⊥) → NoneRose e → Is 2 status
   pub no_value : ((command : CommandTree) → IsCommand words command → ⊥) → NoneRose e → Is 2 status
-  pub compile : IsCommand words CompileCommand
+  pub compile : AsksToCompile words
       → NoneRose e
       → (text : List ℕ)
       → e.source.before ≡ Some text
@@ -121,3 +158,13 @@ pub record Complete (words : List (List ℕ)) (e : Effects) (status : ℕ) : Typ
       → (text : List ℕ)
       → e.source.before ≡ Some text
       → CheckComplete check text status
+  pub list : (stage : Stage)
+      → IsCommand words (ListCommand stage)
+      → NoneRose e
+      → (text : List ℕ)
+      → e.source.before ≡ Some text
+      → ListComplete stage text status
+  pub soak : (seed functions : ℕ)
+      → IsCommand words (SoakCommand seed functions)
+      → NoneRose e
+      → SoakComplete seed functions status

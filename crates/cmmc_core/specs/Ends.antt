@@ -6,23 +6,27 @@ use Rattle.bs_fault.specs.declared.fault.Fault.{Fault}
 use Rattle.bs_fault.specs.declared.image.ImageRefusal.{ImageRefusal}
 use Rattle.bs_fault.specs.declared.large.Large.{Large}
 use Rattle.bs_fault.specs.declared.usage.Usage.TheVariants.{Words, ValueText, UnknownEntry, ArgumentUnfit}
-use Rattle.command_line.specs.Command.{IsCommand, CommandTree, CompileCommand, RunCommand, CheckCommand, RunTree, CheckTree}
+use Rattle.command_line.specs.Command.{IsCommand, AsksToCompile, CommandTree, RunCommand, CheckCommand, ListCommand, SoakCommand, RunTree, CheckTree}
 use Rattle.command_line.specs.Words.{WellFormed}
 use Rattle.cmm_front.specs.FileOf.{HasFault}
+use Rattle.stages.specs.Image.{IsOfImage}
 use Rattle.image_form.specs.Image.{tables_bytes}
 use Rattle.image_form.specs.Tables.{Tables}
+use Rattle.stages.specs.declared.stage.Stage.{Stage}
 use Rattle.text_commands.specs.Check.{IsCheckOf, HasNoEntry, IsUnfitFor, IsTooLargeToCheck}
 use Rattle.text_commands.specs.Compile.{IsImageOf, IsTooLarge}
+use Rattle.text_commands.specs.Listing.{IsListingOf}
 use Rattle.cmmc_core.specs.Compile.{Reads}
 use Rattle.cmmc_core.specs.Effects.{Effects, Side, Rose, IsKept, Got, GotPart}
 use Rattle.cmmc_core.specs.Lines.{read_fault_line, no_memory_line}
 use Rattle.cmmc_core.specs.Run.{IsOutcomeOf, ReadsNoImage, NamesNoEntry, GivesUnfit}
+use Rattle.cmmc_core.specs.Soak.{soak_text, IsSoakOf}
 
 -- What goes to out.
 pub data Output (words : List (List ℕ)) (source : Side) : List ℕ → Type 0 where
   -- `compile`: the one spelling of an image of the text
   spelling : (image : Tables)
-      → IsCommand words CompileCommand
+      → AsksToCompile words
       → Reads (λ text. IsImageOf text image) source
       → Output words source (tables_bytes image)
   -- `run`: the outcome of the run of the image
@@ -36,6 +40,18 @@ pub data Output (words : List (List ℕ)) (source : Side) : List ℕ → Type 0 
       → Reads (λ text. IsCheckOf check text lines) source
       → Output words source lines
 
+  -- `list`: the text of that stage of the text
+  listed : (stage : Stage) (bytes : List ℕ)
+      → IsCommand words (ListCommand stage)
+      → Reads (λ text. IsListingOf stage text bytes) source
+      → Output words source bytes
+  -- `soak`: what is reported of the text that is drawn; nothing was read
+  soaked : (seed functions : ℕ) (lines : List ℕ)
+      → IsCommand words (SoakCommand seed functions)
+      → IsSoakOf seed functions lines
+      → IsKept source
+      → Output words source lines
+
 -- Why `check` has no output, in the order in which the causes are looked for.
 pub data CheckCause (check : CheckTree) (source : Side) : ℕ → List ℕ → Type 0 where
   fault : (told : Fault)
@@ -46,6 +62,16 @@ pub data CheckCause (check : CheckTree) (source : Side) : ℕ → List ℕ → T
   too_large : (large : Large)
       → Reads (λ text. IsTooLargeToCheck check text large) source
       → CheckCause check source 8 (large_line large)
+
+-- Why `list` has no output. The size of the image is a cause for a stage of the image alone.
+pub data ListCause (stage : Stage) (source : Side) : ℕ → List ℕ → Type 0 where
+  fault : (told : Fault)
+      → Reads (λ text. HasFault text told) source
+      → ListCause stage source 3 (fault_line told)
+  too_large : (large : Large)
+      → IsOfImage stage
+      → Reads (λ text. IsTooLarge text large) source
+      → ListCause stage source 8 (large_line large)
 
 -- Why there is no output: the status that reports it, and the line.
 pub data Cause (words : List (List ℕ)) (source : Side) : ℕ → List ℕ → Type 0 where
@@ -61,11 +87,11 @@ pub data Cause (words : List (List ℕ)) (source : Side) : ℕ → List ℕ → 
       → Cause words source 5 read_fault_line
   -- `compile`
   fault : (told : Fault)
-      → IsCommand words CompileCommand
+      → AsksToCompile words
       → Reads (λ text. HasFault text told) source
       → Cause words source 3 (fault_line told)
   too_large : (large : Large)
-      → IsCommand words CompileCommand
+      → AsksToCompile words
       → Reads (λ text. IsTooLarge text large) source
       → Cause words source 8 (large_line large)
   -- `run`
@@ -85,6 +111,16 @@ pub data Cause (words : List (List ℕ)) (source : Side) : ℕ → List ℕ → 
       → IsCommand words (CheckCommand check)
       → CheckCause check source status line
       → Cause words source status line
+  unlisted : (stage : Stage) (status : ℕ) (line : List ℕ)
+      → IsCommand words (ListCommand stage)
+      → ListCause stage source status line
+      → Cause words source status line
+  -- `soak`
+  unsoaked : (seed functions : ℕ) (large : Large)
+      → IsCommand words (SoakCommand seed functions)
+      → IsTooLarge (soak_text seed functions) large
+      → IsKept source
+      → Cause words source 8 (large_line large)
   no_memory : Cause words source 9 no_memory_line
 
 -- How a call ends.

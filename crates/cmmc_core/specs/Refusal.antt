@@ -6,9 +6,9 @@ use Rattle.bs_fault.specs.declared.usage.Usage.TheVariants.{UnknownEntry, Argume
 use Rattle.command_line.specs.Command.{RunTree, CheckTree}
 use Rattle.image_form.specs.Tables.{Tables, Func}
 use Rattle.rv_machine.specs.Loading.{func_named, words_of_args}
-use Rattle.rv_machine.specs.Run.{machine_run}
-use Rattle.rv_machine.specs.Text.{outcome_text}
 use Rattle.cmm_front.specs.FileOf.{HasFault}
+use Rattle.stages.specs.Image.{IsOfImage}
+use Rattle.stages.specs.declared.stage.Stage.{Stage}
 use Rattle.text_commands.specs.Check.{HasNoEntry, IsUnfitFor, IsTooLargeToCheck}
 use Rattle.text_commands.specs.declared.check.CheckRefusal as check
 use Rattle.text_commands.specs.declared.check.CheckRefusal.TheVariants as checked
@@ -18,7 +18,10 @@ use Rattle.text_commands.specs.declared.compile.Refusal.TheVariants.{Fault, TooL
 use Rattle.cmmc_core.specs.Compile.{Reads}
 use Rattle.cmmc_core.specs.Effects.{Side, Rose, Tells, IsKept, Got, GotPart}
 use Rattle.cmmc_core.specs.Lines.{no_memory_line}
-use Rattle.cmmc_core.specs.Run.{IsOutcomeOf, ReadsNoImage, NamesNoEntry, GivesUnfit, words_of_answers, schedule_of}
+use Rattle.cmmc_core.specs.Run.{IsTextOf, IsOutcomeOf, ReadsNoImage, NamesNoEntry, GivesUnfit, words_of_answers}
+use Rattle.cmmc_core.specs.Soak.{soak_text}
+use Rattle.cmmc_core.specs.declared.soak.SoakRefusal.{SoakRefusal}
+use Rattle.cmmc_core.specs.declared.soak.SoakRefusal.TheVariants as soak
 use Rattle.cmmc_core.specs.declared.check.CheckFailure.{CheckFailure}
 use Rattle.cmmc_core.specs.declared.check.CheckFailure.TheVariants as failure
 use Rattle.cmmc_core.specs.declared.text.Unread.{Unread}
@@ -48,6 +51,26 @@ abbrev pub IsRefusalFrom : Side → Refusal → Type 0
 IsRefusalFrom source ReadFault = Rose source
 IsRefusalFrom source (Text why) = IsRefusalRead source why
 
+-- ---- list
+
+-- why nothing is listed of the text that was read
+abbrev pub IsListRefusalRead : Stage → Side → text.Refusal → Type 0
+IsListRefusalRead stage source (Fault told) = Reads (λ text. HasFault text told) source
+IsListRefusalRead stage source (TooLarge large) = IsOfImage stage × Reads (λ text. IsTooLarge text large) source
+IsListRefusalRead stage source OutOfMemory = ⊤
+
+-- why nothing is listed of a source
+abbrev pub IsListFailure : Stage → Side → Refusal → Type 0
+IsListFailure stage source ReadFault = Rose source
+IsListFailure stage source (Text why) = IsListRefusalRead stage source why
+
+-- ---- soak
+
+-- why nothing is reported of the text that is drawn
+abbrev pub IsSoakRefusal : ℕ → ℕ → SoakRefusal → Type 0
+IsSoakRefusal seed functions (soak.TooLarge large) = IsTooLarge (soak_text seed functions) large
+IsSoakRefusal seed functions soak.OutOfMemory = ⊤
+
 -- ---- check
 
 -- why nothing is reported of a run of the text that was read
@@ -65,16 +88,6 @@ IsCheckFailure check source failure.ReadFault = Rose source
 IsCheckFailure check source (failure.Text why) = IsCheckRefusalRead check source why
 
 -- ---- run
-
--- The text is the outcome of this run of the image.
-pub record IsTextOf (run : RunTree) (image : Tables) (text : List ℕ) : Type 0 where
-  pub entry : Func
-  pub args : List ℕ
-  pub answers : List ℕ
-  pub named : func_named run.entry image.funcs ≡ Some entry
-  pub suit : words_of_args image entry.params run.args ≡ Some args
-  pub answered : words_of_answers image run.answers ≡ Some answers
-  pub told : text ≡ outcome_text (machine_run image entry args answers run.stack run.heap (schedule_of run.moves) run.steps)
 
 -- The arguments or the answers do not suit the entry.
 pub record IsUnfit (run : RunTree) (image : Tables) : Type 0 where
@@ -144,6 +157,11 @@ abbrev pub TellsRefusal : Side → text.Refusal → ℕ → Type 0
 TellsRefusal err (Fault told) result = TellsOr err (fault_line told) 3 result
 TellsRefusal err (TooLarge large) result = TellsOr err (large_line large) 8 result
 TellsRefusal err OutOfMemory result = Tells err no_memory_line 9 result
+
+-- the line of a text that is drawn, of which nothing is reported
+abbrev pub TellsSoakRefusal : Side → SoakRefusal → ℕ → Type 0
+TellsSoakRefusal err (soak.TooLarge large) result = TellsOr err (large_line large) 8 result
+TellsSoakRefusal err soak.OutOfMemory result = Tells err no_memory_line 9 result
 
 -- the line of a text of whose run nothing is reported
 abbrev pub TellsCheckRefusal : Side → check.CheckRefusal → ℕ → Type 0

@@ -41,6 +41,16 @@ pub record ReadsImage (source : Side) (image : Tables) : Type 0 where
   pub read : IsRead longest_image source bytes
   pub is_image : IsSpelling bytes image
 
+-- The text is the outcome of this run of the image.
+pub record IsTextOf (run : RunTree) (image : Tables) (text : List ℕ) : Type 0 where
+  pub entry : Func
+  pub args : List ℕ
+  pub answers : List ℕ
+  pub named : func_named run.entry image.funcs ≡ Some entry
+  pub suit : words_of_args image entry.params run.args ≡ Some args
+  pub answered : words_of_answers image run.answers ≡ Some answers
+  pub told : text ≡ outcome_text (machine_run image entry args answers run.stack run.heap (schedule_of run.moves) run.steps)
+
 -- The text is the outcome of this run of the image that was read.
 pub record IsOutcomeOf (run : RunTree) (source : Side) (text : List ℕ) : Type 0 where
   pub image : Tables

@@ -15,7 +15,8 @@ use crate::text::{Unread, read_text};
 use bs_io::{Sink, Source, write_all};
 use command_line::CheckWords;
 use std::alloc::Global;
-use text_commands::{CheckRefusal, check_text};
+use std::thread::Threads;
+use text_commands::{CheckRefusal, Gate, check_text};
 
 /// Why nothing is reported of a source.
 #[derive(Debug, Drop)]
@@ -26,12 +27,14 @@ pub enum CheckFailure {
 
 /// Writes what is reported of the run of the text that a source holds, or the line that says why there is nothing, and
 /// answers the status.
-pub fn check<S: Source, K: Sink, E: Sink>(
+pub fn check<R: Threads + Sync, S: Source, K: Sink, E: Sink, G: Gate + Sync>(
+    rt: &R,
     alloc: Global,
     words: &CheckWords,
     source: &mut S,
     out: &mut K,
     err: &mut E,
+    gate: &G,
 ) -> u8
     ensures { (line : List (List ℕ))
         → IsCommand line (CheckCommand (check_view words.now))
@@ -40,7 +43,7 @@ pub fn check<S: Source, K: Sink, E: Sink>(
         (side K.held K.faults out.old out.new) (side E.held E.faults err.old err.new))
         result }
 {
-    match check_source(alloc, words, source) {
+    match check_source(rt, alloc, words, source, gate) {
         Ok(told) => match write_all(out, told.as_slice()) {
             Ok(()) => WRITTEN,
             Err(_) => WRITE_FAULT,
@@ -51,10 +54,12 @@ pub fn check<S: Source, K: Sink, E: Sink>(
 }
 
 /// What is reported of the run of the text that a source holds. At most one byte past the longest text is read.
-fn check_source<S: Source>(
+fn check_source<R: Threads + Sync, S: Source, G: Gate + Sync>(
+    rt: &R,
     alloc: Global,
     words: &CheckWords,
     source: &mut S,
+    gate: &G,
 ) -> Result<bs_words::List<u8>, CheckFailure>
     ensures told { IfOk result (λ lines.
         Reads (λ text. IsCheckOf (check_view words.now) text (contents lines))
@@ -64,7 +69,7 @@ fn check_source<S: Source>(
         r) }
 {
     match read_text(alloc, source) {
-        Ok(text) => match check_bytes(alloc, text.as_slice(), words) {
+        Ok(text) => match check_bytes(rt, alloc, text.as_slice(), words, gate) {
             Ok(told) => Ok(told),
             Err(why) => Err(CheckFailure::Text(why)),
         },
@@ -74,14 +79,16 @@ fn check_source<S: Source>(
 }
 
 /// What is reported of the run of a text, whose bytes are bytes.
-fn check_bytes(
+fn check_bytes<R: Threads + Sync, G: Gate + Sync>(
+    rt: &R,
     alloc: Global,
     text: &[u8],
     words: &CheckWords,
+    gate: &G,
 ) -> Result<bs_words::List<u8>, CheckRefusal>
     ensures are_bytes { All (λ b. b < 256) text.now }
     ensures told { IfOk result (λ lines. IsCheckOf (check_view words.now) text.now (contents lines)) }
     ensures refused { IfErr result (λ r. IsCheckRefusal (check_view words.now) text.now r) }
 {
-    check_text(alloc, text, words)
+    check_text(rt, alloc, text, words, gate)
 }

@@ -1,5 +1,5 @@
 //! The command `compile`: a Cmm text in, an image out.
-ghost use Rattle.std.specs.Prelude.{◌≡◌, ◌<◌, All, IfOk, IfErr};
+ghost use Rattle.std.specs.Prelude.{◌≡◌, ◌<◌, ◌≤◌, All, IfOk, IfErr};
 ghost use Rattle.bs_words.specs.Contents.{contents};
 ghost use Rattle.cmmc_core.specs.Compile.{Reads};
 ghost use Rattle.cmmc_core.specs.Effects.{side};
@@ -10,7 +10,8 @@ use crate::text::{Unread, read_text};
 use bs_io::Source;
 use bs_words::List;
 use std::alloc::Global;
-use text_commands::{Refusal as TextRefusal, compile_text};
+use std::thread::Threads;
+use text_commands::{Gate, Refusal as TextRefusal, compile_text};
 
 /// Why there is no image.
 #[derive(Debug, Drop)]
@@ -19,16 +20,24 @@ pub enum Refusal {
     Text(TextRefusal),
 }
 
-/// The spelling of the image of the text that a source holds. At most one byte past the longest text is
-/// read.
-pub fn compile_source<S: Source>(alloc: Global, source: &mut S) -> Result<List<u8>, Refusal>
+/// The spelling of the image of the text that a source holds, whose functions are shared among so many jobs. At most one
+/// byte past the longest text is read.
+pub fn compile_source<R: Threads + Sync, S: Source, G: Gate + Sync>(
+    rt: &R,
+    alloc: Global,
+    jobs: u32,
+    source: &mut S,
+    gate: &G,
+) -> Result<List<u8>, Refusal>
+    requires some_jobs { 1 ≤ jobs }
+    requires few_jobs { jobs ≤ 64 }
     ensures image { IfOk result (λ bytes.
         Reads (λ text. SpellsImageOf text (contents bytes))
         (side S.left S.faults source.old source.new)) }
     ensures refused { IfErr result (λ r. IsRefusalFrom (side S.left S.faults source.old source.new) r) }
 {
     match read_text(alloc, source) {
-        Ok(text) => match compile_bytes(alloc, text.as_slice()) {
+        Ok(text) => match compile_bytes(rt, alloc, text.as_slice(), jobs, gate) {
             Ok(bytes) => Ok(bytes),
             Err(why) => Err(Refusal::Text(why)),
         },
@@ -38,10 +47,18 @@ pub fn compile_source<S: Source>(alloc: Global, source: &mut S) -> Result<List<u
 }
 
 /// The spelling of the image of a text, whose bytes are bytes.
-fn compile_bytes(alloc: Global, text: &[u8]) -> Result<List<u8>, TextRefusal>
+fn compile_bytes<R: Threads + Sync, G: Gate + Sync>(
+    rt: &R,
+    alloc: Global,
+    text: &[u8],
+    jobs: u32,
+    gate: &G,
+) -> Result<List<u8>, TextRefusal>
+    requires some_jobs { 1 ≤ jobs }
+    requires few_jobs { jobs ≤ 64 }
     ensures are_bytes { All (λ b. b < 256) text.now }
     ensures image { IfOk result (λ bytes. SpellsImageOf text.now (contents bytes)) }
     ensures refused { IfErr result (λ r. IsRefusalOf text.now r) }
 {
-    compile_text(alloc, text)
+    compile_text(rt, alloc, text, jobs, gate)
 }

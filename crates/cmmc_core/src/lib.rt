@@ -3,9 +3,14 @@
 
 mod check;
 mod compile;
+mod kept;
+mod last;
 mod line;
+mod list;
 mod run;
+mod soak;
 mod text;
 mod top;
 
+pub use text_commands::{Gate, OpenGate};
 pub use top::cmmc;

@@ -3,8 +3,9 @@ ghost use Rattle.std.specs.Prelude.{◌≡◌};
 ghost use Rattle.cmmc_core.specs.Effects.{side, Tells};
 ghost use Rattle.bs_fault.specs.FaultLines.{fault_line};
 ghost use Rattle.bs_fault.specs.Lines.{large_line, image_line};
-ghost use Rattle.cmmc_core.specs.Refusal.{TellsOr, TellsRefusal, TellsCheckRefusal};
+ghost use Rattle.cmmc_core.specs.Refusal.{TellsOr, TellsRefusal, TellsCheckRefusal, TellsSoakRefusal};
 
+use crate::soak::SoakRefusal;
 use bs_fault::{Fault, ImageRefusal, Large, fault_text, image_text, large_text};
 use bs_io::{Sink, write_all};
 use std::alloc::Global;
@@ -85,6 +86,16 @@ pub fn tell_check_refusal<E: Sink>(alloc: Global, err: &mut E, refusal: &CheckRe
         CheckRefusal::ArgumentUnfit => tell(err, b"cmmc: U4 ArgumentUnfit\n", USAGE),
         CheckRefusal::TooLarge(large) => tell_large(alloc, err, large),
         CheckRefusal::OutOfMemory => tell(err, b"cmmc: no memory\n", NO_MEMORY),
+    }
+}
+
+/// Writes the line of a text that was drawn, of which nothing is reported.
+pub fn tell_soak_refusal<E: Sink>(alloc: Global, err: &mut E, refusal: &SoakRefusal) -> u8
+    ensures { TellsSoakRefusal (side E.held E.faults err.old err.new) refusal.now result }
+{
+    match refusal {
+        SoakRefusal::TooLarge(large) => tell_large(alloc, err, large),
+        SoakRefusal::OutOfMemory => tell(err, b"cmmc: no memory\n", NO_MEMORY),
     }
 }
 

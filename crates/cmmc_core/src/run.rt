@@ -5,6 +5,7 @@ ghost use Rattle.command_line.specs.View.{run_view};
 ghost use Rattle.bs_words.specs.Contents.{contents};
 ghost use Rattle.image_form.specs.Image.{IsImage};
 ghost use Rattle.image_form.specs.Tables.{tables};
+ghost use Rattle.rv_machine.specs.Loading.{IsRoom};
 ghost use Rattle.cmmc_core.specs.Effects.{side, IsRead};
 ghost use Rattle.cmmc_core.specs.Refusal.{WritesRun, WritesOutcome, IsRunRefusal, IsRunRefusalFrom, IsUnread};
 ghost use Rattle.cmmc_core.specs.Run.{words_of_answers, longest_image, schedule_of};
@@ -75,13 +76,14 @@ fn read_whole<S: Source>(alloc: Global, source: &mut S) -> Result<List<u8>, RunR
 }
 
 /// Writes the outcome of a run of an image.
-fn run_on<K: Sink>(
+pub fn run_on<K: Sink>(
     alloc: Global,
     run: RunWords,
     image: &Image,
     out: &mut K,
 ) -> Result<(), RunRefusal>
-    requires limits { WithinLimits (run_view run) }
+    requires stack { IsRoom (run_view run).stack }
+    requires heap { IsRoom (run_view run).heap }
     requires rules { IsImage image.now }
     ensures written { OnOk result
         (WritesRun (run_view run) (tables image.now) (side K.held K.faults out.old out.new)) }

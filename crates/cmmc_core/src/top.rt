@@ -9,24 +9,33 @@ use crate::compile::{Refusal, compile_source};
 use crate::line::{
     NO_MEMORY, READ_FAULT, USAGE, WRITE_FAULT, WRITTEN, tell, tell_image, tell_refusal,
 };
+use crate::list::list;
 use crate::run::{RunRefusal, run_source};
+use crate::soak::soak;
 use bs_io::{Sink, Source, write_all};
 use command_line::{Command, WordsError, read_words};
 use std::alloc::Global;
+use std::thread::Threads;
+use text_commands::Gate;
 
 /// Does what the words say, and answers the status with which the program ends.
 ///
 /// `words` are those of the command line without the program's name. `compile` reads a Cmm text from
 /// `source` and writes its image to `out`; `run ENTRY` reads an image and writes the outcome of a run of
 /// that function; `check ENTRY` reads a Cmm text and writes the outcome of a run of that function of the text, and
-/// what the run needs of stack, heap and fuel. At status 0 nothing is written to `err`; at any other nothing but the front of the
-/// output is written to `out`.
-pub fn cmmc<S: Source, K: Sink, E: Sink>(
+/// what the run needs of stack, heap and fuel; `list STAGE` reads a Cmm text and writes the text of that stage of the
+/// compiler; `soak` draws a text by a seed, compiles it, and writes what becomes of it, in five lines: how many functions
+/// it has, the bytes of its image, and the last lines of three outcomes of its last function, by the meaning of the
+/// text, and on the machine where nothing moves and where the seed draws what moves. At status 0 nothing is written to `err`; at any other nothing but the front of the
+/// output is written to `out`. `compile`, `check` and `soak` tell the gate of each function that they compile.
+pub fn cmmc<R: Threads + Sync, S: Source, K: Sink, E: Sink, G: Gate + Sync>(
+    rt: &R,
     alloc: Global,
     words: &[String],
     source: &mut S,
     out: &mut K,
     err: &mut E,
+    gate: &G,
 ) -> u8
     ensures ends { Ends (texts words.now)
         (effects (side S.left S.faults source.old source.new)
@@ -37,16 +46,18 @@ pub fn cmmc<S: Source, K: Sink, E: Sink>(
         (side K.held K.faults out.old out.new) (side E.held E.faults err.old err.new))
         result }
 {
-    dispatch(alloc, words, source, out, err)
+    dispatch(rt, alloc, words, source, out, err, gate)
 }
 
 /// Does what the words say.
-fn dispatch<S: Source, K: Sink, E: Sink>(
+fn dispatch<R: Threads + Sync, S: Source, K: Sink, E: Sink, G: Gate + Sync>(
+    rt: &R,
     alloc: Global,
     words: &[String],
     source: &mut S,
     out: &mut K,
     err: &mut E,
+    gate: &G,
 ) -> u8
     ensures { Ends (texts words.now)
         (effects (side S.left S.faults source.old source.new)
@@ -54,7 +65,7 @@ fn dispatch<S: Source, K: Sink, E: Sink>(
         result }
 {
     match read_words(alloc, words) {
-        Ok(Command::Compile) => match compile_source(alloc, source) {
+        Ok(Command::Compile { jobs }) => match compile_source(rt, alloc, jobs, source, gate) {
             Ok(bytes) => match write_all(out, bytes.as_slice()) {
                 Ok(()) => WRITTEN,
                 Err(_) => WRITE_FAULT,
@@ -62,7 +73,11 @@ fn dispatch<S: Source, K: Sink, E: Sink>(
             Err(Refusal::ReadFault) => tell(err, b"cmmc: read fault\n", READ_FAULT),
             Err(Refusal::Text(why)) => tell_refusal(alloc, err, &why),
         },
-        Ok(Command::Check(words)) => check(alloc, &words, source, out, err),
+        Ok(Command::Check(words)) => check(rt, alloc, &words, source, out, err, gate),
+        Ok(Command::List(stage)) => list(rt, alloc, stage, source, out, err),
+        Ok(Command::Soak { seed, functions }) => {
+            soak(rt, alloc, seed, functions, out, err, gate)
+        }
         Ok(Command::Run(run)) => match run_source(alloc, run, source, out) {
             Ok(()) => WRITTEN,
             Err(RunRefusal::WriteFault) => WRITE_FAULT,

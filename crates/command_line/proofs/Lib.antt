@@ -1,6 +1,10 @@
+mod Built
 mod Cuts
+mod Defaults
+mod Entered
 mod Gives
 mod Numbers
 pub mod Order
 mod Tested
 pub mod Unique
+mod Walked

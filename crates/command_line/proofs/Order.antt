@@ -4,11 +4,10 @@ use Rattle.std.specs.List.{list_any}
 use Rattle.std.specs.List.Sorted.{IsPermutation}
 use Rattle.std.proofs.lemmas.List.Sorted.{IsPermutation-sym, All-permutation, Contains-permutation, sum_by-IsPermutation}
 use Rattle.command_line.specs.declared.form.CommandWord.{CommandWord}
-use Rattle.command_line.specs.declared.form.CommandWord.TheVariants as word
 use Rattle.command_line.specs.declared.form.Slot.{Slot}
-use Rattle.command_line.specs.declared.form.Slot.TheVariants.{Plain, Args, Answers, Steps, Stack, Heap, Moves, Fuel}
-use Rattle.command_line.specs.Command.{CommandTree, RunTree, CheckTree, Sets, given, left_out, IsRun, IsCheck, IsCommand, compile, run, check, default_steps, default_size, default_moves}
-use Rattle.command_line.specs.Values.{IsSteps, IsSize, IsMoves, IsItems}
+use Rattle.command_line.specs.declared.form.Slot.TheVariants.{Plain, Args, Answers, Steps, Stack, Heap, Moves, Fuel, Jobs, Seed, Functions}
+use Rattle.command_line.specs.Command.{CommandTree, RunTree, CheckTree, Sets, given, left_out, Tells, IsRun, IsCheck, Means, IsCommand, compile, run, check, list, soak, default_jobs, default_steps, default_size, default_moves}
+use Rattle.command_line.specs.Values.{IsSteps, IsSize, IsMoves, IsItems, IsCounted, IsSeed, IsStage, most_jobs, most_functions}
 use Rattle.command_line.specs.Words.{word_of, slots_of, wanted_of, fills, IsForm, Gives}
 use Rattle.command_line.proofs.Unique.{parts}
 
@@ -49,20 +48,29 @@ check-order xs ys c p is = record {
   fuel = sets-order xs ys Fuel IsSteps default_steps c.fuel p is.fuel;
 }
 
+tells-order : {X : Type 0} (xs ys : List (List ℕ)) (slot : Slot) (Reads : List ℕ → X → Type 0) (x : X)
+    → IsPermutation xs ys → Tells xs slot Reads x → Tells ys slot Reads x
+tells-order xs ys slot Reads x p is = record { value = is.value; gives = gives-order xs ys slot is.value p is.gives; reads = is.reads }
+
+means-order : (xs ys : List (List ℕ)) (command : CommandWord) (tree : CommandTree) → IsPermutation xs ys → Means xs command tree → Means ys command tree
+means-order xs ys _ _ p (compile jobs s) = compile jobs (sets-order xs ys Jobs (IsCounted most_jobs) default_jobs jobs p s)
+means-order xs ys _ _ p (run r is) = run r (run-order xs ys r p is)
+means-order xs ys _ _ p (check c is) = check c (check-order xs ys c p is)
+means-order xs ys _ _ p (list stage is) = list stage (tells-order xs ys Plain IsStage stage p is)
+means-order xs ys _ _ p (soak seed functions s f) =
+    soak seed functions (tells-order xs ys Seed IsSeed seed p s) (tells-order xs ys Functions (IsCounted most_functions) functions p f)
+
 -- words that differ in the order of those after the first are the same command
 pub order_free : (first : List ℕ) (xs ys : List (List ℕ)) (command : CommandTree) → IsPermutation xs ys
     → IsCommand (first ∷ xs) command → IsCommand (first ∷ ys) command
-order_free first xs ys _ p (compile others e form) =
-    let both = parts first (word_of word.Compile) xs others e in
-    let P : List (List ℕ) → Type 0 = λ o. IsForm word.Compile o in
-    compile ys (ap (λ w. w ∷ ys) both.0) (form-order word.Compile xs ys p (subst P (sym both.1) form))
-order_free first xs ys _ p (run others r e form is) =
-    let both = parts first (word_of word.Run) xs others e in
-    let P : List (List ℕ) → Type 0 = λ o. IsForm word.Run o in
-    let Q : List (List ℕ) → Type 0 = λ o. IsRun o r in
-    run ys r (ap (λ w. w ∷ ys) both.0) (form-order word.Run xs ys p (subst P (sym both.1) form)) (run-order xs ys r p (subst Q (sym both.1) is))
-order_free first xs ys _ p (check others c e form is) =
-    let both = parts first (word_of word.Check) xs others e in
-    let P : List (List ℕ) → Type 0 = λ o. IsForm word.Check o in
-    let Q : List (List ℕ) → Type 0 = λ o. IsCheck o c in
-    check ys c (ap (λ w. w ∷ ys) both.0) (form-order word.Check xs ys p (subst P (sym both.1) form)) (check-order xs ys c p (subst Q (sym both.1) is))
+order_free first xs ys tree p is =
+    let both = parts first (word_of is.command) xs is.others is.begins in
+    let P : List (List ℕ) → Type 0 = λ o. IsForm is.command o in
+    let Q : List (List ℕ) → Type 0 = λ o. Means o is.command tree in
+    record {
+      command = is.command;
+      others = ys;
+      begins = ap (λ w. w ∷ ys) both.0;
+      form = form-order is.command xs ys p (subst P (sym both.1) is.form);
+      means = means-order xs ys is.command tree p (subst Q (sym both.1) is.means);
+    }

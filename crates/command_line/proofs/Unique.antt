@@ -1,44 +1,80 @@
 -- Words are at most one command.
-use Rattle.std.proofs.Common.{◌≡◌, ◌≢◌, ℕ, ◌≤◌, ◌%◌, List, [], ◌∷◌, codes, Option, Some, None, MatchOption, refl, sym, ap, ◌∙◌, subst, arith, lit<}
+use Rattle.std.proofs.Common.{Contains, ◌≡◌, ◌≢◌, ◌==◌, if◌then◌else◌, ℕ, ◌+◌, ◌*◌, ◌≤◌, ◌%◌, List, [], ◌∷◌, codes, get_or, Option, Some, None, Result, Ok, Err, MatchOption, IfOk, refl, sym, ap, ◌∙◌, subst, arith, lit<}
 use Rattle.std.proofs.lemmas.List.{append_cancel_left}
 use Rattle.rv_machine.specs.declared.setup.Arg.{Arg}
 use Rattle.command_line.specs.declared.form.CommandWord.{CommandWord}
 use Rattle.command_line.specs.declared.form.CommandWord.TheVariants as word
 use Rattle.command_line.specs.declared.form.Slot.{Slot}
-use Rattle.command_line.specs.declared.form.Slot.TheVariants.{Plain, Args, Answers, Steps, Stack, Heap, Fuel}
+use Rattle.command_line.specs.declared.form.Slot.TheVariants.{Plain, Args, Answers, Steps, Stack, Heap, Fuel, Jobs, Functions}
 use Rattle.command_line.specs.declared.form.Slot.TheVariants as slot
+use Rattle.stages.specs.declared.stage.Stage.{Stage}
+use Rattle.stages.specs.declared.stage.Stage.TheVariants as stage
 use Rattle.command_line.specs.declared.command.Moves.{Moves}
 use Rattle.command_line.specs.declared.command.Moves.TheVariants.{Seed}
-use Rattle.command_line.specs.Command.{CommandTree, CompileCommand, RunCommand, CheckCommand, RunTree, CheckTree, IsRun, IsCheck, IsCommand, compile, run, check, default_steps, default_size, default_moves, Sets, given, left_out, WithinLimits, WithinFuel}
-use Rattle.command_line.specs.Values.{Nothing, IsSteps, IsSize, IsMoves, never, every, seeded, SeedsMoves, seed, IsItems, number_of, most_steps, largest_size}
-use Rattle.command_line.specs.Words.{word_of, IsForm, WellFormed}
+use Rattle.command_line.specs.Command.{CommandTree, CompileCommand, RunCommand, CheckCommand, ListCommand, RunTree, CheckTree, IsRun, IsCheck, Means, IsCommand, compile, run, check, list, soak, default_jobs, default_steps, default_size, default_moves, Sets, given, left_out, Tells, WithinLimits, WithinFuel, KeepsLimits}
+use Rattle.command_line.specs.Values.{Nothing, IsSteps, IsSize, IsMoves, never, every, seeded, SeedsMoves, seed, IsItems, IsCounted, IsSeed, IsStage, stage_word, number_of, most_steps, largest_size, most_jobs, most_functions}
+use Rattle.command_line.specs.View.{view}
+use Rattle.command_line.specs.Words.{word_of, slots_of, IsForm, WellFormed}
+use Rattle.command_line.specs.declared.command.Command.{Command}
+use Rattle.command_line.specs.declared.command.WordsError.{WordsError}
 use Rattle.command_line.proofs.Cuts.{list-unique, tail-same}
-use Rattle.command_line.proofs.Gives.{gives-unique, sets-unique}
+use Rattle.command_line.proofs.Gives.{gives-unique, sets-unique, tells-unique}
 
-steps-unique : (bytes : List ℕ) (m n : ℕ) → IsSteps bytes m → IsSteps bytes n → m ≡ n
+pub steps-unique : (bytes : List ℕ) (m n : ℕ) → IsSteps bytes m → IsSteps bytes n → m ≡ n
 steps-unique bytes m n a b = a.number.value ∙ sym b.number.value
 
-size-unique : (bytes : List ℕ) (m n : ℕ) → IsSize bytes m → IsSize bytes n → m ≡ n
+pub size-unique : (bytes : List ℕ) (m n : ℕ) → IsSize bytes m → IsSize bytes n → m ≡ n
 size-unique bytes m n a b = a.number.value ∙ sym b.number.value
+
+pub counted-unique : (limit : ℕ) (bytes : List ℕ) (m n : ℕ) → IsCounted limit bytes m → IsCounted limit bytes n → m ≡ n
+counted-unique limit bytes m n a b = a.number.value ∙ sym b.number.value
+
+seed-unique : (bytes : List ℕ) (m n : ℕ) → IsSeed bytes m → IsSeed bytes n → m ≡ n
+seed-unique bytes m n a b = a.number.value ∙ sym b.number.value
+
+-- the second byte and the third of a stage's word tell the stage
+abbrev mark : List ℕ → ℕ
+mark text = 256 * get_or text 1 0 + get_or text 2 0
+
+abbrev stage_by : ℕ → Stage
+stage_by n = if n == 25964 then stage.Select else (if n == 28525 then stage.CombAlloc else (if n == 29541 then stage.Cse
+    else (if n == 25953 then stage.Dead else (if n == 28777 then stage.Spill else (if n == 28780 then stage.Split
+    else (if n == 27756 then stage.Alloc else (if n == 26990 then stage.Linear else (if n == 29281 then stage.Frames else stage.Code))))))))
+
+told_stage : (s : Stage) → stage_by (mark (stage_word s)) ≡ s
+told_stage stage.Select = refl
+told_stage stage.CombAlloc = refl
+told_stage stage.Cse = refl
+told_stage stage.Dead = refl
+told_stage stage.Spill = refl
+told_stage stage.Split = refl
+told_stage stage.Alloc = refl
+told_stage stage.Linear = refl
+told_stage stage.Frames = refl
+told_stage stage.Code = refl
+
+stage-unique : (text : List ℕ) (a b : Stage) → IsStage text a → IsStage text b → a ≡ b
+stage-unique text a b e f =
+    sym (told_stage a) ∙ (ap (λ t. stage_by (mark t)) (sym e ∙ f) ∙ told_stage b)
 
 -- after `seed:` there is one seed
 seeds-unique : (text : List ℕ) (a b : Moves) → SeedsMoves text a → SeedsMoves text b → a ≡ b
-seeds-unique text a b (seed digits n t is fits e) (seed digits' m t' is' fits' e') =
+seeds-unique text a b (seed digits n t is e) (seed digits' m t' is' e') =
     let same : digits ≡ digits' = append_cancel_left (codes "seed:") digits digits' (sym t ∙ t') in
-    let number : n ≡ m = is.value ∙ (ap number_of same ∙ sym is'.value) in
+    let number : n ≡ m = is.number.value ∙ (ap number_of same ∙ sym is'.number.value) in
     e ∙ (ap Seed number ∙ sym e')
 
 -- the first bytes of the texts differ
 no_none : (text : List ℕ) (m : Moves) → text ≡ codes "none" → SeedsMoves text m → ⊥
-no_none text m t (seed digits n t' is fits e) = let h = (tail-same 110 115 _ _ (sym t ∙ t')).0 in omega arith
+no_none text m t (seed digits n t' is e) = let h = (tail-same 110 115 _ _ (sym t ∙ t')).0 in omega arith
 
 no_every : (text : List ℕ) (m : Moves) → text ≡ codes "every" → SeedsMoves text m → ⊥
-no_every text m t (seed digits n t' is fits e) = let h = (tail-same 101 115 _ _ (sym t ∙ t')).0 in omega arith
+no_every text m t (seed digits n t' is e) = let h = (tail-same 101 115 _ _ (sym t ∙ t')).0 in omega arith
 
 none_or_every : (text : List ℕ) → text ≡ codes "none" → text ≡ codes "every" → ⊥
 none_or_every text t t' = let h = (tail-same 110 101 _ _ (sym t ∙ t')).0 in omega arith
 
-moves-unique : (text : List ℕ) (a b : Moves) → IsMoves text a → IsMoves text b → a ≡ b
+pub moves-unique : (text : List ℕ) (a b : Moves) → IsMoves text a → IsMoves text b → a ≡ b
 moves-unique text a b (never t e) (never t' e') = e ∙ sym e'
 moves-unique text a b (never t e) (every t' e') = absurd (none_or_every text t t')
 moves-unique text a b (never t e) (seeded s) = absurd (no_none text b t s)
@@ -85,40 +121,43 @@ check-unique others form c d a b =
 pub parts : (x y : List ℕ) (xs ys : List (List ℕ)) → x ∷ xs ≡ y ∷ ys → (x ≡ y) × (xs ≡ ys)
 parts x y xs ys e = (cc, cc)
 
+-- the third byte of a command's word tells the command
+abbrev command_by : ℕ → CommandWord
+command_by n = if n == 109 then word.Compile else (if n == 110 then word.Run else (if n == 101 then word.Check
+    else (if n == 115 then word.List else word.Soak)))
+
+told_command : (c : CommandWord) → command_by (get_or (word_of c) 2 0) ≡ c
+told_command word.Compile = refl
+told_command word.Run = refl
+told_command word.Check = refl
+told_command word.List = refl
+told_command word.Soak = refl
+
 -- a word names one command
-word-unique : (c d : CommandWord) → word_of c ≡ word_of d → c ≡ d
-word-unique word.Compile word.Compile e = refl
-word-unique word.Compile word.Run e = let h = (tail-same 99 114 _ _ e).0 in absurd (omega arith)
-word-unique word.Run word.Compile e = let h = (tail-same 114 99 _ _ e).0 in absurd (omega arith)
-word-unique word.Run word.Run e = refl
-word-unique word.Compile word.Check e = let h = (tail-same 111 104 _ _ (tail-same 99 99 _ _ e).1).0 in absurd (omega arith)
-word-unique word.Check word.Compile e = let h = (tail-same 104 111 _ _ (tail-same 99 99 _ _ e).1).0 in absurd (omega arith)
-word-unique word.Run word.Check e = let h = (tail-same 114 99 _ _ e).0 in absurd (omega arith)
-word-unique word.Check word.Run e = let h = (tail-same 99 114 _ _ e).0 in absurd (omega arith)
-word-unique word.Check word.Check e = refl
+pub word-unique : (c d : CommandWord) → word_of c ≡ word_of d → c ≡ d
+word-unique c d e = sym (told_command c) ∙ (ap (λ t. command_by (get_or t 2 0)) e ∙ told_command d)
+
+means-unique : (others : List (List ℕ)) (command : CommandWord) (c d : CommandTree) → IsForm command others
+    → Means others command c → Means others command d → c ≡ d
+means-unique others _ _ _ form (compile j s) (compile k t) =
+    ap CompileCommand (sets-unique others Jobs (IsCounted most_jobs) default_jobs (form.once 0 Jobs (lit< tt)) (counted-unique most_jobs) j k s t)
+means-unique others _ _ _ form (run r a) (run s b) = ap RunCommand (run-unique others form r s a b)
+means-unique others _ _ _ form (check c a) (check d b) = ap CheckCommand (check-unique others form c d a b)
+means-unique others _ _ _ form (list a s) (list b t) =
+    ap ListCommand (tells-unique others Plain IsStage (form.once 0 Plain (lit< tt)) stage-unique a b s t)
+means-unique others _ _ _ form (soak m k s u) (soak n l t v) =
+    let seeds : m ≡ n = tells-unique others slot.Seed IsSeed (form.once 0 slot.Seed (lit< tt)) seed-unique m n s t in
+    let counts : k ≡ l =
+    tells-unique others Functions (IsCounted most_functions) (form.once 1 Functions (lit< tt)) (counted-unique most_functions) k l u v in
+    cc
 
 pub command-unique : (words : List (List ℕ)) (c d : CommandTree) → IsCommand words c → IsCommand words d → c ≡ d
-command-unique words _ _ (compile others e form) (compile others' e' form') = refl
-command-unique words _ _ (compile others e form) (run others' s e' form' is) =
-    let h : word.Compile ≡ word.Run = word-unique word.Compile word.Run (parts _ _ others others' (sym e ∙ e')).0 in cc
-command-unique words _ _ (run others' r e' form' is) (compile others e form) =
-    let h : word.Compile ≡ word.Run = word-unique word.Compile word.Run (parts _ _ others others' (sym e ∙ e')).0 in cc
-command-unique words _ _ (run others r e form is) (run others' s e' form' is') =
-    let same = (parts _ _ others' others (sym e' ∙ e)).1 in
-    let P : List (List ℕ) → Type 0 = λ o. IsRun o s in
-    ap RunCommand (run-unique others form r s is (subst P same is'))
-command-unique words _ _ (compile others e form) (check others' d e' form' is) =
-    let h : word.Compile ≡ word.Check = word-unique word.Compile word.Check (parts _ _ others others' (sym e ∙ e')).0 in cc
-command-unique words _ _ (check others' d e' form' is) (compile others e form) =
-    let h : word.Compile ≡ word.Check = word-unique word.Compile word.Check (parts _ _ others others' (sym e ∙ e')).0 in cc
-command-unique words _ _ (run others r e form is) (check others' d e' form' is') =
-    let h : word.Run ≡ word.Check = word-unique word.Run word.Check (parts _ _ others others' (sym e ∙ e')).0 in cc
-command-unique words _ _ (check others' d e' form' is') (run others r e form is) =
-    let h : word.Run ≡ word.Check = word-unique word.Run word.Check (parts _ _ others others' (sym e ∙ e')).0 in cc
-command-unique words _ _ (check others c e form is) (check others' d e' form' is') =
-    let same = (parts _ _ others' others (sym e' ∙ e)).1 in
-    let P : List (List ℕ) → Type 0 = λ o. IsCheck o d in
-    ap CheckCommand (check-unique others form c d is (subst P same is'))
+command-unique words c d a b =
+    let both = parts (word_of a.command) (word_of b.command) a.others b.others (sym a.begins ∙ b.begins) in
+    let same : b.command ≡ a.command = sym (word-unique a.command b.command both.0) in
+    let P : CommandWord → Type 0 = λ command. Means b.others command d in
+    let Q : List (List ℕ) → Type 0 = λ others. Means others a.command d in
+    means-unique a.others a.command c d a.form a.means (subst Q (sym both.1) (subst P same b.means))
 
 -- ---- from the first word
 
@@ -144,51 +183,52 @@ pub well_formed : (command : CommandWord) (words : List (List ℕ)) (first : Lis
 well_formed command words first others e named form =
     record { command = command; others = others; begins = e ∙ ap (λ w. w ∷ others) named; form = form }
 
-pub is_compile : (command : CommandWord) (words : List (List ℕ)) (first : List ℕ) (others : List (List ℕ)) → words ≡ first ∷ others
-    → first ≡ word_of command → IsForm command others → command ≡ word.Compile → IsCommand words CompileCommand
-is_compile command words first others e named form c =
-    let P : CommandWord → Type 0 = λ d. IsForm d others in
-    compile others (e ∙ ap (λ w. w ∷ others) (named ∙ ap word_of c)) (subst P c form)
+pub is_command : (command : CommandWord) (words : List (List ℕ)) (first : List ℕ) (others : List (List ℕ)) (tree : CommandTree) → words ≡ first ∷ others
+    → first ≡ word_of command → IsForm command others → Means others command tree → IsCommand words tree
+is_command command words first others tree e named form means =
+    record { command = command; others = others; begins = e ∙ ap (λ w. w ∷ others) named; form = form; means = means }
 
-pub is_run : (command : CommandWord) (words : List (List ℕ)) (first : List ℕ) (others : List (List ℕ)) (r : RunTree) → words ≡ first ∷ others
-    → first ≡ word_of command → IsForm command others → command ≡ word.Run → IsRun others r → IsCommand words (RunCommand r)
-is_run command words first others r e named form c is =
-    let P : CommandWord → Type 0 = λ d. IsForm d others in
-    run others r (e ∙ ap (λ w. w ∷ others) (named ∙ ap word_of c)) (subst P c form) is
+pub no_command : (command : CommandWord) (words : List (List ℕ)) (first : List ℕ) (others : List (List ℕ)) → words ≡ first ∷ others
+    → first ≡ word_of command → Nothing (Means others command) → Nothing (IsCommand words)
+no_command command words first others e named none tree is =
+    let both = parts first (word_of is.command) others is.others (sym e ∙ is.begins) in
+    let same : is.command ≡ command = sym (word-unique command is.command (sym named ∙ both.0)) in
+    let P : CommandWord → Type 0 = λ c. Means is.others c tree in
+    let Q : List (List ℕ) → Type 0 = λ o. Means o command tree in
+    none tree (subst Q (sym both.1) (subst P same is.means))
 
-pub is_check : (command : CommandWord) (words : List (List ℕ)) (first : List ℕ) (others : List (List ℕ)) (d : CheckTree) → words ≡ first ∷ others
-    → first ≡ word_of command → IsForm command others → command ≡ word.Check → IsCheck others d → IsCommand words (CheckCommand d)
-is_check command words first others d e named form c is =
-    let P : CommandWord → Type 0 = λ d. IsForm d others in
-    check others d (e ∙ ap (λ w. w ∷ others) (named ∙ ap word_of c)) (subst P c form) is
+pub means_at : (others : List (List ℕ)) (command w : CommandWord) (tree : CommandTree) → command ≡ w → Means others w tree → Means others command tree
+means_at others command w tree e means = let P : CommandWord → Type 0 = λ c. Means others c tree in subst P (sym e) means
 
-no_run-at : (words : List (List ℕ)) (others : List (List ℕ)) → words ≡ word_of word.Run ∷ others
-    → Nothing (IsRun others) → Nothing (IsCommand words)
-no_run-at words others e none _ (compile others' e' form) =
-    let h : word.Compile ≡ word.Run = word-unique word.Compile word.Run (parts _ _ others' others (sym e' ∙ e)).0 in cc
-no_run-at words others e none _ (run others' r e' form is) =
-    let P : List (List ℕ) → Type 0 = λ o. IsRun o r in none r (subst P (parts _ _ others' others (sym e' ∙ e)).1 is)
-no_run-at words others e none _ (check others' d e' form is) =
-    let h : word.Check ≡ word.Run = word-unique word.Check word.Run (parts _ _ others' others (sym e' ∙ e)).0 in cc
+pub nothing_at : (others : List (List ℕ)) (command w : CommandWord) → command ≡ w → Nothing (Means others w) → Nothing (Means others command)
+nothing_at others command w e none = let P : CommandWord → Type 0 = λ c. Nothing (Means others c) in subst P (sym e) none
 
-no_check-at : (words : List (List ℕ)) (others : List (List ℕ)) → words ≡ word_of word.Check ∷ others
-    → Nothing (IsCheck others) → Nothing (IsCommand words)
-no_check-at words others e none _ (compile others' e' form) =
-    let h : word.Compile ≡ word.Check = word-unique word.Compile word.Check (parts _ _ others' others (sym e' ∙ e)).0 in cc
-no_check-at words others e none _ (run others' r e' form is) =
-    let h : word.Run ≡ word.Check = word-unique word.Run word.Check (parts _ _ others' others (sym e' ∙ e)).0 in cc
-no_check-at words others e none _ (check others' d e' form is) =
-    let P : List (List ℕ) → Type 0 = λ o. IsCheck o d in none d (subst P (parts _ _ others' others (sym e' ∙ e)).1 is)
+pub form_at : (others : List (List ℕ)) (command w : CommandWord) → command ≡ w → IsForm command others → IsForm w others
+form_at others command w e form = let P : CommandWord → Type 0 = λ c. IsForm c others in subst P e form
 
-pub no_check : (command : CommandWord) (words : List (List ℕ)) (first : List ℕ) (others : List (List ℕ)) → words ≡ first ∷ others
-    → first ≡ word_of command → command ≡ word.Check → Nothing (IsCheck others) → Nothing (IsCommand words)
-no_check command words first others e named c none =
-    no_check-at words others (e ∙ ap (λ w. w ∷ others) (named ∙ ap word_of c)) none
+pub stands_at : (H : Slot → Type 0) (command w : CommandWord) → command ≡ w → ((slot : Slot) → Contains (slots_of command) slot → H slot)
+    → (slot : Slot) → Contains (slots_of w) slot → H slot
+stands_at H command w e stands =
+    let P : CommandWord → Type 0 = λ c. (slot : Slot) → Contains (slots_of c) slot → H slot in subst P e stands
 
-pub no_run : (command : CommandWord) (words : List (List ℕ)) (first : List ℕ) (others : List (List ℕ)) → words ≡ first ∷ others
-    → first ≡ word_of command → command ≡ word.Run → Nothing (IsRun others) → Nothing (IsCommand words)
-no_run command words first others e named c none =
-    no_run-at words others (e ∙ ap (λ w. w ∷ others) (named ∙ ap word_of c)) none
+-- what the words after a command's may mean, one by one
+pub no_compile : (others : List (List ℕ)) → Nothing (Sets others Jobs (IsCounted most_jobs) default_jobs) → Nothing (Means others word.Compile)
+no_compile others none _ (compile jobs s) = none jobs s
+
+pub no_run : (others : List (List ℕ)) → Nothing (IsRun others) → Nothing (Means others word.Run)
+no_run others none _ (run r is) = none r is
+
+pub no_check : (others : List (List ℕ)) → Nothing (IsCheck others) → Nothing (Means others word.Check)
+no_check others none _ (check c is) = none c is
+
+pub no_list : (others : List (List ℕ)) → Nothing (Tells others Plain IsStage) → Nothing (Means others word.List)
+no_list others none _ (list stage is) = none stage is
+
+pub no_seed : (others : List (List ℕ)) → Nothing (Tells others slot.Seed IsSeed) → Nothing (Means others word.Soak)
+no_seed others none _ (soak m k s f) = none m s
+
+pub no_functions : (others : List (List ℕ)) → Nothing (Tells others Functions (IsCounted most_functions)) → Nothing (Means others word.Soak)
+no_functions others none _ (soak m k s f) = none k f
 
 -- ---- what is known of a run
 
@@ -216,11 +256,39 @@ within others r is =
 pub within_fuel : (others : List (List ℕ)) (c : CheckTree) → IsCheck others c → WithinFuel c
 within_fuel others c is = record { entry = is.entry_name; fuel = steps_within others Fuel c.fuel is.fuel }
 
+counted_within : (others : List (List ℕ)) (slot : Slot) (limit default n : ℕ) → 1 ≤ default → default ≤ limit
+    → Sets others slot (IsCounted limit) default n → (1 ≤ n) × (n ≤ limit)
+counted_within others slot limit default n some few (given value g is) = (is.some, is.limited)
+counted_within others slot limit default n some few (left_out none e) = (omega (arith, e), omega (arith, e))
+
+means_within : (others : List (List ℕ)) (command : CommandWord) (c : CommandTree) → Means others command c → KeepsLimits c
+means_within others _ _ (compile jobs s) = counted_within others Jobs most_jobs default_jobs jobs (omega arith) (omega arith) s
+means_within others _ _ (run r is) = within others r is
+means_within others _ _ (check c is) = within_fuel others c is
+means_within others _ _ (list stage is) = tt
+means_within others _ _ (soak m k s f) = (s.reads.limit, f.reads.some, f.reads.limited)
+
+pub command_within : (words : List (List ℕ)) (c : CommandTree) → IsCommand words c → KeepsLimits c
+command_within words c is = means_within is.others is.command c is.means
+
+pub command_of : (command : CommandWord) (words : List (List ℕ)) (first : List ℕ) (others : List (List ℕ)) (r : Result Command WordsError)
+    → words ≡ first ∷ others → first ≡ word_of command → IsForm command others
+    → IfOk r (λ c. Means others command (view c)) → IfOk r (λ c. IsCommand words (view c))
+command_of command words first others (Ok c) e named form means = is_command command words first others (view c) e named form means
+command_of command words first others (Err why) e named form means = tt
+
+pub only_of : (words : List (List ℕ)) (r : Result Command WordsError) → IfOk r (λ c. IsCommand words (view c))
+    → IfOk r (λ c. (other : CommandTree) → IsCommand words other → other ≡ view c)
+only_of words (Ok c) is = λ other o. command-unique words other (view c) o is
+only_of words (Err why) is = tt
+
+pub limits_of : (words : List (List ℕ)) (r : Result Command WordsError) → IfOk r (λ c. IsCommand words (view c)) → IfOk r (λ c. KeepsLimits (view c))
+limits_of words (Ok c) is = command_within words (view c) is
+limits_of words (Err why) is = tt
+
 -- the words of a command have the form of one
 pub command-formed : (words : List (List ℕ)) (command : CommandTree) → IsCommand words command → WellFormed words
-command-formed words command (compile others begins form) = record { command = word.Compile; others = others; begins = begins; form = form }
-command-formed words command (run others r begins form is) = record { command = word.Run; others = others; begins = begins; form = form }
-command-formed words command (check others d begins form is) = record { command = word.Check; others = others; begins = begins; form = form }
+command-formed words command is = record { command = is.command; others = is.others; begins = is.begins; form = is.form }
 
 -- ---- moves by the three texts in turn
 

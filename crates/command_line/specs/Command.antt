@@ -1,13 +1,15 @@
 -- Which words are which command.
-use Rattle.std.specs.Prelude.{◌≡◌, ℕ, ◌≤◌, ◌%◌, List, [], ◌∷◌}
+use Rattle.std.specs.Prelude.{◌≡◌, ℕ, ◌<◌, ◌≤◌, ◌^◌, ◌%◌, List, [], ◌∷◌}
 use Rattle.rv_machine.specs.declared.setup.Arg.{Arg}
+use Rattle.command_line.specs.declared.form.CommandWord.{CommandWord}
 use Rattle.command_line.specs.declared.form.CommandWord.TheVariants as word
 use Rattle.command_line.specs.declared.form.Slot.{Slot}
-use Rattle.command_line.specs.declared.form.Slot.TheVariants.{Plain, Args, Answers, Steps, Stack, Heap, Fuel}
+use Rattle.command_line.specs.declared.form.Slot.TheVariants.{Plain, Args, Answers, Steps, Stack, Heap, Fuel, Jobs, Functions}
 use Rattle.command_line.specs.declared.form.Slot.TheVariants as slot
+use Rattle.stages.specs.declared.stage.Stage.{Stage}
 use Rattle.command_line.specs.declared.command.Moves.{Moves}
 use Rattle.command_line.specs.declared.command.Moves.TheVariants.{Never}
-use Rattle.command_line.specs.Values.{IsName, IsSteps, IsSize, IsMoves, IsItems, most_steps, largest_size}
+use Rattle.command_line.specs.Values.{IsName, IsSteps, IsSize, IsMoves, IsItems, IsCounted, IsSeed, IsStage, most_steps, largest_size, most_jobs, most_functions}
 use Rattle.command_line.specs.Words.{word_of, IsForm, Gives}
 
 -- What a run is to do.
@@ -29,9 +31,11 @@ pub record CheckTree : Type 0 where
 
 -- A command with its values.
 pub data CommandTree : Type 0 where
-  CompileCommand : CommandTree
+  CompileCommand : (jobs : ℕ) → CommandTree
   RunCommand : (run : RunTree) → CommandTree
   CheckCommand : (check : CheckTree) → CommandTree
+  ListCommand : (stage : Stage) → CommandTree
+  SoakCommand : (seed functions : ℕ) → CommandTree
 
 -- what holds where no option says otherwise: so many instructions, or units of fuel
 abbrev pub default_steps : ℕ
@@ -42,6 +46,15 @@ default_size = 1048576
 
 abbrev pub default_moves : Moves
 default_moves = Never
+
+abbrev pub default_jobs : ℕ
+default_jobs = 1
+
+-- The words give the slot a value, from which x is read.
+pub record Tells {X : Type 0} (others : List (List ℕ)) (slot : Slot) (Reads : List ℕ → X → Type 0) (x : X) : Type 0 where
+  pub value : List ℕ
+  pub gives : Gives others slot value
+  pub reads : Reads value x
 
 -- The words set the slot to x: x is read from the value that they give, or they give none and x is the default.
 pub data Sets {X : Type 0} (others : List (List ℕ)) (slot : Slot) (Reads : List ℕ → X → Type 0) (default x : X) : Type 0 where
@@ -72,14 +85,28 @@ pub record IsCheck (others : List (List ℕ)) (check : CheckTree) : Type 0 where
   pub answers : Sets others Answers IsItems [] check.answers
   pub fuel : Sets others Fuel IsSteps default_steps check.fuel
 
+-- What the words after the first are, by the command that the first one names.
+pub data Means (others : List (List ℕ)) : CommandWord → CommandTree → Type 0 where
+  compile : (jobs : ℕ) → Sets others Jobs (IsCounted most_jobs) default_jobs jobs → Means others word.Compile (CompileCommand jobs)
+  run : (r : RunTree) → IsRun others r → Means others word.Run (RunCommand r)
+  check : (c : CheckTree) → IsCheck others c → Means others word.Check (CheckCommand c)
+  list : (stage : Stage) → Tells others Plain IsStage stage → Means others word.List (ListCommand stage)
+  soak : (seed functions : ℕ)
+      → Tells others slot.Seed IsSeed seed
+      → Tells others Functions (IsCounted most_functions) functions
+      → Means others word.Soak (SoakCommand seed functions)
+
 -- The words are this command.
-pub data IsCommand (words : List (List ℕ)) : CommandTree → Type 0 where
-  compile : (others : List (List ℕ))
-      → words ≡ word_of word.Compile ∷ others → IsForm word.Compile others → IsCommand words CompileCommand
-  run : (others : List (List ℕ)) (r : RunTree)
-      → words ≡ word_of word.Run ∷ others → IsForm word.Run others → IsRun others r → IsCommand words (RunCommand r)
-  check : (others : List (List ℕ)) (c : CheckTree)
-      → words ≡ word_of word.Check ∷ others → IsForm word.Check others → IsCheck others c → IsCommand words (CheckCommand c)
+pub record IsCommand (words : List (List ℕ)) (tree : CommandTree) : Type 0 where
+  pub command : CommandWord
+  pub others : List (List ℕ)
+  pub begins : words ≡ word_of command ∷ others
+  pub form : IsForm command others
+  pub means : Means others command tree
+
+-- the words are the command `compile`, with whatever jobs
+abbrev pub AsksToCompile : List (List ℕ) → Type 0
+AsksToCompile words = (jobs : ℕ) × IsCommand words (CompileCommand jobs)
 
 -- What is known of a run that words can ask for.
 pub record WithinLimits (run : RunTree) : Type 0 where
@@ -96,6 +123,8 @@ pub record WithinFuel (check : CheckTree) : Type 0 where
   pub fuel : check.fuel ≤ most_steps
 
 abbrev pub KeepsLimits : CommandTree → Type 0
-KeepsLimits CompileCommand = Unit {0}
+KeepsLimits (CompileCommand jobs) = (1 ≤ jobs) × (jobs ≤ most_jobs)
 KeepsLimits (RunCommand r) = WithinLimits r
 KeepsLimits (CheckCommand c) = WithinFuel c
+KeepsLimits (ListCommand stage) = Unit {0}
+KeepsLimits (SoakCommand seed functions) = (seed < 2 ^ 64) × (1 ≤ functions) × (functions ≤ most_functions)

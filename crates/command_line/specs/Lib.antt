@@ -1,4 +1,5 @@
 pub mod Command
+pub mod Program
 pub mod Values
 pub mod View
 pub mod Words

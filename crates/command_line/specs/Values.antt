@@ -3,6 +3,8 @@ use Rattle.std.specs.Prelude.{◌≡◌, ◌≢◌, ℕ, ◌+◌, ◌-◌, ◌*�
 use Rattle.bs_words.specs.Word.{sub_word}
 use Rattle.command_line.specs.declared.command.Moves.{Moves}
 use Rattle.command_line.specs.declared.command.Moves.TheVariants.{Never, Every, Seed}
+use Rattle.stages.specs.declared.stage.Stage.{Stage}
+use Rattle.stages.specs.declared.stage.Stage.TheVariants as stage
 use Rattle.rv_machine.specs.declared.setup.Arg.{Arg}
 use Rattle.rv_machine.specs.declared.setup.Arg.TheVariants.{Word, Symbol}
 
@@ -49,12 +51,48 @@ pub record IsSize (bytes : List ℕ) (n : ℕ) : Type 0 where
   pub limit : n ≤ largest_size
   pub aligned : n % 16 ≡ 0
 
+-- a number from 1 to the limit
+pub record IsCounted (limit : ℕ) (bytes : List ℕ) (n : ℕ) : Type 0 where
+  pub number : IsNumber bytes n
+  pub some : 1 ≤ n
+  pub limited : n ≤ limit
+
+-- the most jobs of a compilation, and the most functions of a soak
+abbrev pub most_jobs : ℕ
+most_jobs = 64
+
+abbrev pub most_functions : ℕ
+most_functions = 1000
+
+-- what a generator starts from: a number of 64 bits
+pub record IsSeed (bytes : List ℕ) (n : ℕ) : Type 0 where
+  pub number : IsNumber bytes n
+  pub limit : n < 2 ^ 64
+
+-- ---- stages
+
+-- the word for each stage of the compiler
+abbrev pub stage_word : Stage → List ℕ
+stage_word stage.Select = codes "select"
+stage_word stage.CombAlloc = codes "comballoc"
+stage_word stage.Cse = codes "cse"
+stage_word stage.Dead = codes "dead"
+stage_word stage.Spill = codes "spill"
+stage_word stage.Split = codes "split"
+stage_word stage.Alloc = codes "alloc"
+stage_word stage.Linear = codes "linear"
+stage_word stage.Frames = codes "frames"
+stage_word stage.Code = codes "code"
+
+abbrev pub IsStage : List ℕ → Stage → Type 0
+IsStage text s = text ≡ stage_word s
+
 -- ---- moves
 
--- `seed:` and a seed: a number of 64 bits
+-- `seed:` and a seed
 pub data SeedsMoves (text : List ℕ) (moves : Moves) : Type 0 where
   seed : (digits : List ℕ) (n : ℕ)
-      → text ≡ codes "seed:" ++ digits → IsNumber digits n → n < 2 ^ 64 → moves ≡ Seed n → SeedsMoves text moves
+      → text ≡ codes "seed:" ++ digits → IsSeed digits n → moves ≡ Seed n → SeedsMoves text moves
 
 -- when the mover asks and where it puts blocks: `none`, `every`, or a seed
 pub data IsMoves (text : List ℕ) (moves : Moves) : Type 0 where

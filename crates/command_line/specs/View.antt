@@ -5,10 +5,10 @@ use Rattle.std.specs.declared.string.String.{String}
 use Rattle.std.specs.declared.alloc.Global.{Global}
 use Rattle.bs_words.specs.Contents.{contents}
 use Rattle.command_line.specs.declared.command.Command.{Command}
-use Rattle.command_line.specs.declared.command.Command.TheVariants.{Compile, Run, Check}
+use Rattle.command_line.specs.declared.command.Command.TheVariants as command
 use Rattle.command_line.specs.declared.command.RunWords.{RunWords}
 use Rattle.command_line.specs.declared.command.CheckWords.{CheckWords}
-use Rattle.command_line.specs.Command.{CommandTree, CompileCommand, RunCommand, CheckCommand, RunTree, CheckTree}
+use Rattle.command_line.specs.Command.{CommandTree, CompileCommand, RunCommand, CheckCommand, ListCommand, SoakCommand, RunTree, CheckTree}
 
 abbrev pub run_view : RunWords → RunTree
 run_view r =
@@ -19,9 +19,11 @@ check_view c =
     record { entry = c.entry; args = contents c.args; answers = contents c.answers; fuel = c.fuel }
 
 abbrev pub view : Command → CommandTree
-view Compile = CompileCommand
-view (Run r) = RunCommand (run_view r)
-view (Check c) = CheckCommand (check_view c)
+view (command.Compile jobs) = CompileCommand jobs
+view (command.Run r) = RunCommand (run_view r)
+view (command.Check c) = CheckCommand (check_view c)
+view (command.List stage) = ListCommand stage
+view (command.Soak seed functions) = SoakCommand seed functions
 
 -- the words, each as its bytes
 abbrev pub texts : List (String Global) → List (List ℕ)

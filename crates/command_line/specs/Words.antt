@@ -5,7 +5,7 @@ use Rattle.std.specs.List.{list_any, starts_with}
 use Rattle.command_line.specs.declared.form.CommandWord.{CommandWord}
 use Rattle.command_line.specs.declared.form.CommandWord.TheVariants as word
 use Rattle.command_line.specs.declared.form.Slot.{Slot}
-use Rattle.command_line.specs.declared.form.Slot.TheVariants.{Plain, Args, Answers, Steps, Stack, Heap, Moves, Fuel}
+use Rattle.command_line.specs.declared.form.Slot.TheVariants.{Plain, Args, Answers, Steps, Stack, Heap, Moves, Fuel, Jobs, Seed, Functions}
 
 -- ---- the table of commands
 
@@ -14,18 +14,24 @@ abbrev pub word_of : CommandWord → List ℕ
 word_of word.Compile = codes "compile"
 word_of word.Run = codes "run"
 word_of word.Check = codes "check"
+word_of word.List = codes "list"
+word_of word.Soak = codes "soak"
 
 -- what the other words may be for
 abbrev pub slots_of : CommandWord → List Slot
-slots_of word.Compile = []
+slots_of word.Compile = Jobs ∷ []
 slots_of word.Run = Plain ∷ Args ∷ Answers ∷ Steps ∷ Stack ∷ Heap ∷ Moves ∷ []
 slots_of word.Check = Plain ∷ Args ∷ Answers ∷ Fuel ∷ []
+slots_of word.List = Plain ∷ []
+slots_of word.Soak = Seed ∷ Functions ∷ []
 
 -- what a word has to be there for
 abbrev pub wanted_of : CommandWord → List Slot
 wanted_of word.Compile = []
 wanted_of word.Run = Plain ∷ []
 wanted_of word.Check = Plain ∷ []
+wanted_of word.List = Plain ∷ []
+wanted_of word.Soak = Seed ∷ Functions ∷ []
 
 -- what stands before the value in a word of the slot: an option is `--name=value`, and a plain word is its own value
 abbrev pub prefix_of : Slot → List ℕ
@@ -37,6 +43,9 @@ prefix_of Stack = codes "--stack="
 prefix_of Heap = codes "--heap="
 prefix_of Moves = codes "--moves="
 prefix_of Fuel = codes "--fuel="
+prefix_of Jobs = codes "--jobs="
+prefix_of Seed = codes "--seed="
+prefix_of Functions = codes "--functions="
 
 -- ---- the form
 

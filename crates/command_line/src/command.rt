@@ -4,6 +4,7 @@ ghost use Rattle.command_line.specs.declared.command.WordsError.TheVariants.{Out
 
 use bs_words::{List, Name};
 use rv_machine::Arg;
+use stages::Stage;
 use std::alloc::{AllocError, AllocFailed};
 use thiserror::Error;
 
@@ -11,11 +12,23 @@ use thiserror::Error;
 #[derive(Debug, Drop)]
 pub enum Command {
     /// Reads a Cmm text and writes the image.
-    Compile,
+    Compile {
+        /// How many functions are compiled side by side.
+        jobs: u32,
+    },
     /// Reads an image and writes the outcome of a run of it.
     Run(RunWords),
     /// Reads a Cmm text and writes the outcome of a run of it, and what that run needs.
     Check(CheckWords),
+    /// Reads a Cmm text and writes what a stage of the compiler makes of it.
+    List(Stage),
+    /// Makes a Cmm text of its own, compiles it, and tries the image against the text.
+    Soak {
+        /// What the generator of the text starts from.
+        seed: u64,
+        /// How many functions the text has.
+        functions: u32,
+    },
 }
 
 /// What a run is to do.

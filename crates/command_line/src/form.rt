@@ -2,9 +2,9 @@
 ghost use Rattle.std.specs.Prelude.{◌≡◌, ◌≢◌, ◌≤◌, ◌↔◌, ◌++◌, true, false, MatchOption, IsTrue, count_by, nat_le, string_bytes};
 ghost use Rattle.std.specs.List.{list_any, list_all};
 ghost use Rattle.command_line.specs.declared.form.CommandWord.{CommandWord};
-ghost use Rattle.command_line.specs.Values.{Nothing};
+ghost use Rattle.command_line.specs.Program.{id_of};
 ghost use Rattle.command_line.specs.View.{texts};
-ghost use Rattle.command_line.specs.Words.{word_of, slots_of, wanted_of, prefix_of, fills, IsForm, Gives};
+ghost use Rattle.command_line.specs.Words.{word_of, slots_of, wanted_of, prefix_of, fills, IsForm};
 
 /// The command that a first word names.
 #[derive(Clone, Copy, PartialEq, Eq, Debug)]
@@ -12,6 +12,8 @@ pub(crate) enum CommandWord {
     Compile,
     Run,
     Check,
+    List,
+    Soak,
 }
 
 /// What a word after the first is for.
@@ -26,9 +28,14 @@ pub(crate) enum Slot {
     Heap,
     Moves,
     Fuel,
+    Jobs,
+    Seed,
+    Functions,
 }
 
 static NO_SLOTS: [Slot; 0] = [];
+
+static COMPILE_SLOTS: [Slot; 1] = [Slot::Jobs];
 
 static RUN_SLOTS: [Slot; 7] = [
     Slot::Plain,
@@ -42,7 +49,9 @@ static RUN_SLOTS: [Slot; 7] = [
 
 static CHECK_SLOTS: [Slot; 4] = [Slot::Plain, Slot::Args, Slot::Answers, Slot::Fuel];
 
-static ENTRY_WANTED: [Slot; 1] = [Slot::Plain];
+static PLAIN_SLOT: [Slot; 1] = [Slot::Plain];
+
+static SOAK_SLOTS: [Slot; 2] = [Slot::Seed, Slot::Functions];
 
 impl CommandWord {
     pub(crate) fn named(word: &[u8]) -> Option<CommandWord>
@@ -56,19 +65,38 @@ impl CommandWord {
             Some(CommandWord::Run)
         } else if word == b"check".as_slice() {
             Some(CommandWord::Check)
+        } else if word == b"list".as_slice() {
+            Some(CommandWord::List)
+        } else if word == b"soak".as_slice() {
+            Some(CommandWord::Soak)
         } else {
             None
         }
     }
 
+    /// The word that names the command.
+    pub(crate) fn word<'a>(self) -> &'a str
+        ensures { result.now ≡ word_of self }
+    {
+        match self {
+            CommandWord::Compile => "compile",
+            CommandWord::Run => "run",
+            CommandWord::Check => "check",
+            CommandWord::List => "list",
+            CommandWord::Soak => "soak",
+        }
+    }
+
     /// What the other words may be for.
-    fn slots(self) -> &'static [Slot]
+    pub(crate) fn slots(self) -> &'static [Slot]
         ensures { result.now ≡ slots_of self }
     {
         match self {
-            CommandWord::Compile => &NO_SLOTS,
+            CommandWord::Compile => &COMPILE_SLOTS,
             CommandWord::Run => &RUN_SLOTS,
             CommandWord::Check => &CHECK_SLOTS,
+            CommandWord::List => &PLAIN_SLOT,
+            CommandWord::Soak => &SOAK_SLOTS,
         }
     }
 
@@ -78,38 +106,38 @@ impl CommandWord {
     {
         match self {
             CommandWord::Compile => &NO_SLOTS,
-            CommandWord::Run | CommandWord::Check => &ENTRY_WANTED,
+            CommandWord::Run | CommandWord::Check | CommandWord::List => &PLAIN_SLOT,
+            CommandWord::Soak => &SOAK_SLOTS,
         }
     }
 }
 
 impl Slot {
-    /// What stands before the value in a word of this slot.
-    fn prefix(self) -> &'static [u8]
-        ensures { result.now ≡ prefix_of self }
-    {
-        match self {
-            Slot::Plain => b"",
-            Slot::Args => b"--args=",
-            Slot::Answers => b"--answers=",
-            Slot::Steps => b"--steps=",
-            Slot::Stack => b"--stack=",
-            Slot::Heap => b"--heap=",
-            Slot::Moves => b"--moves=",
-            Slot::Fuel => b"--fuel=",
-        }
-    }
-
     /// The value that the word gives this slot, if it is for it.
     fn value_in(self, word: &[u8]) -> Option<&[u8]>
         ensures { MatchOption result
             (fills self word.now ≡ false)
             (λ value. (fills self word.now ≡ true) × (word.now ≡ prefix_of self ++ value.now)) }
     {
-        if self == Slot::Plain && word.starts_with(b"-") {
-            return None;
+        match self {
+            Slot::Plain => {
+                if word.starts_with(b"-") {
+                    None
+                } else {
+                    Some(word)
+                }
+            }
+            Slot::Args => word.strip_prefix(b"--args=".as_slice()),
+            Slot::Answers => word.strip_prefix(b"--answers=".as_slice()),
+            Slot::Steps => word.strip_prefix(b"--steps=".as_slice()),
+            Slot::Stack => word.strip_prefix(b"--stack=".as_slice()),
+            Slot::Heap => word.strip_prefix(b"--heap=".as_slice()),
+            Slot::Moves => word.strip_prefix(b"--moves=".as_slice()),
+            Slot::Fuel => word.strip_prefix(b"--fuel=".as_slice()),
+            Slot::Jobs => word.strip_prefix(b"--jobs=".as_slice()),
+            Slot::Seed => word.strip_prefix(b"--seed=".as_slice()),
+            Slot::Functions => word.strip_prefix(b"--functions=".as_slice()),
         }
-        word.strip_prefix(self.prefix())
     }
 
     fn fills(self, word: &[u8]) -> bool
@@ -128,18 +156,23 @@ impl Slot {
             .count()
     }
 
-    /// The value of the first word that is for this slot.
-    pub(crate) fn value_among(self, others: &[String]) -> Option<&[u8]>
-        ensures { MatchOption result
-            (Nothing (Gives (texts others.now) self))
-            (λ value. Gives (texts others.now) self value.now) }
+    /// The slot's name: an option's stands between `--` and `=`.
+    pub(crate) fn id(self) -> &'static str
+        ensures { result.now ≡ id_of self }
     {
-        for word in others {
-            if let Some(value) = self.value_in(word.as_bytes()) {
-                return Some(value);
-            }
+        match self {
+            Slot::Plain => "word",
+            Slot::Args => "args",
+            Slot::Answers => "answers",
+            Slot::Steps => "steps",
+            Slot::Stack => "stack",
+            Slot::Heap => "heap",
+            Slot::Moves => "moves",
+            Slot::Fuel => "fuel",
+            Slot::Jobs => "jobs",
+            Slot::Seed => "seed",
+            Slot::Functions => "functions",
         }
-        None
     }
 }
 

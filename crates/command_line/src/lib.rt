@@ -8,9 +8,11 @@
 
 mod command;
 mod form;
+mod parser;
 mod read;
 mod values;
 
 pub use command::{CheckWords, Command, Moves, RunWords, WordsError};
 pub use read::read_words;
 pub use rv_machine::Arg;
+pub use stages::Stage;

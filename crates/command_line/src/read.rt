@@ -1,136 +1,275 @@
 //! The command that words are.
-ghost use Rattle.std.specs.Prelude.{◌≡◌, ◌≤◌, [], IfOk, IsErrOf, count_by};
+ghost use Rattle.std.specs.Prelude.{◌≡◌, ◌≤◌, [], ◌∷◌, IfOk, IsErrOf, count_by, Contains};
+ghost use Rattle.clap.specs.Words.{first_value, found_of, subcommand_of, subcommand_rows_of};
 ghost use Rattle.bs_words.specs.Contents.{contents};
 ghost use Rattle.command_line.specs.declared.command.WordsError.{WordsError};
 ghost use Rattle.command_line.specs.declared.form.CommandWord.{CommandWord};
 ghost use Rattle.command_line.specs.declared.form.Slot.{Slot};
-ghost use Rattle.command_line.specs.Values.{IsName, IsSteps, IsSize, IsMoves, IsItems, Nothing};
-ghost use Rattle.command_line.specs.Words.{fills, WellFormed, IsForm, Gives};
-ghost use Rattle.command_line.specs.Command.{CommandTree, Sets, IsRun, IsCheck, IsCommand, KeepsLimits, default_steps, default_size, default_moves};
+ghost use Rattle.command_line.specs.Values.{IsName, IsSteps, IsSize, IsMoves, IsItems, IsCounted, IsSeed, IsStage, Nothing, most_jobs, most_functions};
+ghost use Rattle.command_line.specs.Words.{fills, word_of, slots_of, WellFormed, IsForm, Gives};
+ghost use Rattle.command_line.specs.Program.{HasText, Stands, Defaults, id_of, program};
+ghost use Rattle.command_line.specs.Command.{CommandTree, Sets, Tells, IsRun, IsCheck, Means, IsCommand, KeepsLimits, default_jobs, default_steps, default_size, default_moves};
 ghost use Rattle.command_line.specs.View.{texts, view, run_view, check_view};
 
 use crate::command::{CheckWords, Command, Moves, RunWords, WordsError};
 use crate::form::{CommandWord, Slot, has_form};
+use crate::parser::matches_of;
 use crate::values;
 use bs_words::{List, Name};
+use clap::ArgMatches;
 use rv_machine::Arg;
+use stages::Stage;
 use std::alloc::Global;
 
-/// The most instructions, and the most units of fuel, where no option says otherwise.
-const DEFAULT_STEPS: u64 = 100_000_000;
+/// The most jobs of a compilation.
+const MOST_JOBS: u32 = 64;
 
-/// The bytes of the stack and of half of the heap where no option says otherwise.
-const DEFAULT_SIZE: u32 = 1_048_576;
+/// The most functions of a soak.
+const MOST_FUNCTIONS: u32 = 1_000;
+
+/// The text that stands for the slot's value, by the matches.
+fn text_for<'a>(others: &[String], given: &ArgMatches<'a>, slot: Slot) -> &'a str
+    requires { HasText (texts others.now) slot (first_value (found_of given.now) (id_of slot)) }
+    ensures { Stands (texts others.now) slot result.now }
+{
+    let _others = others;
+    match given.get_str(slot.id()) {
+        Some(text) => text,
+        None => unreachable!(),
+    }
+}
 
 /// The name of the function that is called.
-fn entry(alloc: Global, others: &[String]) -> Result<Name, WordsError>
-    requires some { 1 ≤ count_by (fills Slot.Plain) (texts others.now) }
+fn entry(alloc: Global, others: &[String], given: &ArgMatches<'_>) -> Result<Name, WordsError>
     requires once { count_by (fills Slot.Plain) (texts others.now) ≤ 1 }
+    requires stands { HasText (texts others.now) Slot.Plain (first_value (found_of given.now) (id_of Slot.Plain)) }
     ensures value { IfOk result (λ name. Gives (texts others.now) Slot.Plain name × IsName name) }
     ensures bad { IsErrOf result WordsError.ValueText
         → Nothing (λ name. Gives (texts others.now) Slot.Plain name × IsName name) }
     ensures formed { ¬ IsErrOf result WordsError.Words }
 {
-    match Slot::Plain.value_among(others) {
-        Some(text) => values::name(alloc, text),
-        None => unreachable!(),
-    }
+    values::name(alloc, text_for(others, given, Slot::Plain).as_bytes())
 }
 
 /// The items that an option lists, or none.
-fn items(alloc: Global, others: &[String], slot: Slot) -> Result<List<Arg>, WordsError>
-    requires { count_by (fills slot) (texts others.now) ≤ 1 }
+fn items(
+    alloc: Global,
+    others: &[String],
+    given: &ArgMatches<'_>,
+    slot: Slot,
+) -> Result<List<Arg>, WordsError>
+    requires once { count_by (fills slot) (texts others.now) ≤ 1 }
+    requires stands { HasText (texts others.now) slot (first_value (found_of given.now) (id_of slot)) }
+    requires left_out { Defaults slot IsItems [] }
     ensures value { IfOk result (λ items. Sets (texts others.now) slot IsItems [] (contents items)) }
     ensures bad { IsErrOf result WordsError.ValueText
         → Nothing (Sets (texts others.now) slot IsItems []) }
     ensures formed { ¬ IsErrOf result WordsError.Words }
 {
-    match slot.value_among(others) {
-        Some(text) => values::items(alloc, text),
-        None => Ok(List::new(alloc)),
-    }
+    values::items(alloc, text_for(others, given, slot).as_bytes())
 }
 
 /// The most instructions, or units of fuel.
-fn steps(others: &[String], slot: Slot) -> Result<u64, WordsError>
-    requires { count_by (fills slot) (texts others.now) ≤ 1 }
+fn steps(others: &[String], given: &ArgMatches<'_>, slot: Slot) -> Result<u64, WordsError>
+    requires once { count_by (fills slot) (texts others.now) ≤ 1 }
+    requires stands { HasText (texts others.now) slot (first_value (found_of given.now) (id_of slot)) }
+    requires left_out { Defaults slot IsSteps default_steps }
     ensures value { IfOk result (λ n. Sets (texts others.now) slot IsSteps default_steps n) }
     ensures bad { IsErrOf result WordsError.ValueText
         → Nothing (Sets (texts others.now) slot IsSteps default_steps) }
     ensures formed { ¬ IsErrOf result WordsError.Words }
 {
-    match slot.value_among(others) {
-        Some(text) => values::steps(text).ok_or(WordsError::ValueText),
-        None => Ok(DEFAULT_STEPS),
-    }
+    let text = text_for(others, given, slot);
+    values::steps(text.as_bytes()).ok_or(WordsError::ValueText)
 }
 
 /// The bytes of the stack or of half of the heap.
-fn size(others: &[String], slot: Slot) -> Result<u32, WordsError>
-    requires { count_by (fills slot) (texts others.now) ≤ 1 }
+fn size(others: &[String], given: &ArgMatches<'_>, slot: Slot) -> Result<u32, WordsError>
+    requires once { count_by (fills slot) (texts others.now) ≤ 1 }
+    requires stands { HasText (texts others.now) slot (first_value (found_of given.now) (id_of slot)) }
+    requires left_out { Defaults slot IsSize default_size }
     ensures value { IfOk result (λ n. Sets (texts others.now) slot IsSize default_size n) }
     ensures bad { IsErrOf result WordsError.ValueText
         → Nothing (Sets (texts others.now) slot IsSize default_size) }
     ensures formed { ¬ IsErrOf result WordsError.Words }
 {
-    match slot.value_among(others) {
-        Some(text) => values::size(text).ok_or(WordsError::ValueText),
-        None => Ok(DEFAULT_SIZE),
-    }
+    let text = text_for(others, given, slot);
+    values::size(text.as_bytes()).ok_or(WordsError::ValueText)
 }
 
 /// When the mover asks, and where it puts blocks.
-fn moves(others: &[String]) -> Result<Moves, WordsError>
-    requires { count_by (fills Slot.Moves) (texts others.now) ≤ 1 }
+fn moves(others: &[String], given: &ArgMatches<'_>) -> Result<Moves, WordsError>
+    requires once { count_by (fills Slot.Moves) (texts others.now) ≤ 1 }
+    requires stands { HasText (texts others.now) Slot.Moves (first_value (found_of given.now) (id_of Slot.Moves)) }
     ensures value { IfOk result (λ moves. Sets (texts others.now) Slot.Moves IsMoves default_moves moves) }
     ensures bad { IsErrOf result WordsError.ValueText
         → Nothing (Sets (texts others.now) Slot.Moves IsMoves default_moves) }
     ensures formed { ¬ IsErrOf result WordsError.Words }
 {
-    match Slot::Moves.value_among(others) {
-        Some(text) => values::moves(text).ok_or(WordsError::ValueText),
-        None => Ok(Moves::Never),
-    }
+    let text = text_for(others, given, Slot::Moves);
+    values::moves(text.as_bytes()).ok_or(WordsError::ValueText)
 }
 
 /// The run that the words after `run` are.
-fn run(alloc: Global, others: &[String]) -> Result<RunWords, WordsError>
-    requires { IsForm CommandWord.Run (texts others.now) }
+fn run(alloc: Global, others: &[String], given: &ArgMatches<'_>) -> Result<RunWords, WordsError>
+    requires form { IsForm CommandWord.Run (texts others.now) }
+    requires stands { (slot : Slot) → Contains (slots_of CommandWord.Run) slot
+        → HasText (texts others.now) slot (first_value (found_of given.now) (id_of slot)) }
     ensures value { IfOk result (λ run. IsRun (texts others.now) (run_view run)) }
     ensures bad { IsErrOf result WordsError.ValueText
         → Nothing (IsRun (texts others.now)) }
     ensures formed { ¬ IsErrOf result WordsError.Words }
 {
     Ok(RunWords {
-        entry: entry(alloc, others)?,
-        args: items(alloc, others, Slot::Args)?,
-        answers: items(alloc, others, Slot::Answers)?,
-        steps: steps(others, Slot::Steps)?,
-        stack: size(others, Slot::Stack)?,
-        heap: size(others, Slot::Heap)?,
-        moves: moves(others)?,
+        entry: entry(alloc, others, given)?,
+        args: items(alloc, others, given, Slot::Args)?,
+        answers: items(alloc, others, given, Slot::Answers)?,
+        steps: steps(others, given, Slot::Steps)?,
+        stack: size(others, given, Slot::Stack)?,
+        heap: size(others, given, Slot::Heap)?,
+        moves: moves(others, given)?,
     })
 }
 
 /// The run of a text that the words after `check` are.
-fn check(alloc: Global, others: &[String]) -> Result<CheckWords, WordsError>
-    requires { IsForm CommandWord.Check (texts others.now) }
+fn check(alloc: Global, others: &[String], given: &ArgMatches<'_>) -> Result<CheckWords, WordsError>
+    requires form { IsForm CommandWord.Check (texts others.now) }
+    requires stands { (slot : Slot) → Contains (slots_of CommandWord.Check) slot
+        → HasText (texts others.now) slot (first_value (found_of given.now) (id_of slot)) }
     ensures value { IfOk result (λ check. IsCheck (texts others.now) (check_view check)) }
     ensures bad { IsErrOf result WordsError.ValueText
         → Nothing (IsCheck (texts others.now)) }
     ensures formed { ¬ IsErrOf result WordsError.Words }
 {
     Ok(CheckWords {
-        entry: entry(alloc, others)?,
-        args: items(alloc, others, Slot::Args)?,
-        answers: items(alloc, others, Slot::Answers)?,
-        fuel: steps(others, Slot::Fuel)?,
+        entry: entry(alloc, others, given)?,
+        args: items(alloc, others, given, Slot::Args)?,
+        answers: items(alloc, others, given, Slot::Answers)?,
+        fuel: steps(others, given, Slot::Fuel)?,
     })
+}
+
+/// How many functions are compiled side by side.
+fn jobs(others: &[String], given: &ArgMatches<'_>) -> Result<u32, WordsError>
+    requires once { count_by (fills Slot.Jobs) (texts others.now) ≤ 1 }
+    requires stands { HasText (texts others.now) Slot.Jobs (first_value (found_of given.now) (id_of Slot.Jobs)) }
+    ensures value { IfOk result (λ n. Sets (texts others.now) Slot.Jobs (IsCounted most_jobs) default_jobs n) }
+    ensures bad { IsErrOf result WordsError.ValueText
+        → Nothing (Sets (texts others.now) Slot.Jobs (IsCounted most_jobs) default_jobs) }
+    ensures formed { ¬ IsErrOf result WordsError.Words }
+{
+    let text = text_for(others, given, Slot::Jobs);
+    values::counted(text.as_bytes(), MOST_JOBS).ok_or(WordsError::ValueText)
+}
+
+/// The stage whose text is written.
+fn stage(others: &[String], given: &ArgMatches<'_>) -> Result<Stage, WordsError>
+    requires once { count_by (fills Slot.Plain) (texts others.now) ≤ 1 }
+    requires stands { HasText (texts others.now) Slot.Plain (first_value (found_of given.now) (id_of Slot.Plain)) }
+    ensures value { IfOk result (λ stage. Tells (texts others.now) Slot.Plain IsStage stage) }
+    ensures bad { IsErrOf result WordsError.ValueText
+        → Nothing (Tells (texts others.now) Slot.Plain IsStage) }
+    ensures formed { ¬ IsErrOf result WordsError.Words }
+{
+    let text = text_for(others, given, Slot::Plain);
+    values::stage(text.as_bytes()).ok_or(WordsError::ValueText)
+}
+
+/// What the generator of a soak's text starts from.
+fn seed(others: &[String], given: &ArgMatches<'_>) -> Result<u64, WordsError>
+    requires once { count_by (fills Slot.Seed) (texts others.now) ≤ 1 }
+    requires stands { HasText (texts others.now) Slot.Seed (first_value (found_of given.now) (id_of Slot.Seed)) }
+    ensures value { IfOk result (λ n. Tells (texts others.now) Slot.Seed IsSeed n) }
+    ensures bad { IsErrOf result WordsError.ValueText
+        → Nothing (Tells (texts others.now) Slot.Seed IsSeed) }
+    ensures formed { ¬ IsErrOf result WordsError.Words }
+{
+    let text = text_for(others, given, Slot::Seed);
+    values::seed(text.as_bytes()).ok_or(WordsError::ValueText)
+}
+
+/// How many functions a soak's text has.
+fn functions(others: &[String], given: &ArgMatches<'_>) -> Result<u32, WordsError>
+    requires once { count_by (fills Slot.Functions) (texts others.now) ≤ 1 }
+    requires stands { HasText (texts others.now) Slot.Functions (first_value (found_of given.now) (id_of Slot.Functions)) }
+    ensures value { IfOk result (λ n.
+        Tells (texts others.now) Slot.Functions (IsCounted most_functions) n) }
+    ensures bad { IsErrOf result WordsError.ValueText
+        → Nothing (Tells (texts others.now) Slot.Functions (IsCounted most_functions)) }
+    ensures formed { ¬ IsErrOf result WordsError.Words }
+{
+    let text = text_for(others, given, Slot::Functions);
+    values::counted(text.as_bytes(), MOST_FUNCTIONS).ok_or(WordsError::ValueText)
+}
+
+/// The soak that the words after `soak` are.
+fn soak(others: &[String], given: &ArgMatches<'_>) -> Result<Command, WordsError>
+    requires form { IsForm CommandWord.Soak (texts others.now) }
+    requires stands { (slot : Slot) → Contains (slots_of CommandWord.Soak) slot
+        → HasText (texts others.now) slot (first_value (found_of given.now) (id_of slot)) }
+    ensures value { IfOk result (λ command. Means (texts others.now) CommandWord.Soak (view command)) }
+    ensures bad { IsErrOf result WordsError.ValueText
+        → Nothing (Means (texts others.now) CommandWord.Soak) }
+    ensures formed { ¬ IsErrOf result WordsError.Words }
+{
+    Ok(Command::Soak {
+        seed: seed(others, given)?,
+        functions: functions(others, given)?,
+    })
+}
+
+/// The command that the words after the first are.
+fn meant(
+    alloc: Global,
+    command: CommandWord,
+    others: &[String],
+    given: &ArgMatches<'_>,
+) -> Result<Command, WordsError>
+    requires form { IsForm command (texts others.now) }
+    requires stands { (slot : Slot) → Contains (slots_of command) slot
+        → HasText (texts others.now) slot (first_value (found_of given.now) (id_of slot)) }
+    ensures value { IfOk result (λ tree. Means (texts others.now) command (view tree)) }
+    ensures bad { IsErrOf result WordsError.ValueText
+        → Nothing (Means (texts others.now) command) }
+    ensures formed { ¬ IsErrOf result WordsError.Words }
+{
+    match command {
+        CommandWord::Compile => Ok(Command::Compile {
+            jobs: jobs(others, given)?,
+        }),
+        CommandWord::Run => Ok(Command::Run(run(alloc, others, given)?)),
+        CommandWord::Check => Ok(Command::Check(check(alloc, others, given)?)),
+        CommandWord::List => Ok(Command::List(stage(others, given)?)),
+        CommandWord::Soak => soak(others, given),
+    }
+}
+
+/// The command that the matches are.
+fn taken(
+    alloc: Global,
+    words: &[String],
+    others: &[String],
+    matches: &ArgMatches<'_>,
+) -> Result<Command, WordsError>
+    requires form { (command : CommandWord) × (texts words.now ≡ word_of command ∷ texts others.now) × IsForm command (texts others.now) }
+    requires matches { subcommand_rows_of matches.now ≡ subcommand_of program (texts words.now) }
+    ensures command { IfOk result (λ command. IsCommand (texts words.now) (view command)) }
+    ensures bad { IsErrOf result WordsError.ValueText → Nothing (IsCommand (texts words.now)) }
+    ensures formed { ¬ IsErrOf result WordsError.Words }
+{
+    let _words = words;
+    let Some((name, given)) = matches.subcommand() else {
+        unreachable!();
+    };
+    let Some(command) = CommandWord::named(name.as_bytes()) else {
+        unreachable!();
+    };
+    meant(alloc, command, others, given)
 }
 
 /// The command that the words are, the program's own name left out.
 ///
-/// - `compile` has no other word.
+/// - `compile` has the option `--jobs=`, a decimal number from 1 to 64, and 1 by default.
 /// - `run ENTRY` has the name of a function and these options. ENTRY is 1 to 255 bytes, each 0x21 to
 ///   0x7E.
 ///   - `--args=` and `--answers=` list items with single commas between them: a decimal number from
@@ -144,6 +283,10 @@ fn check(alloc: Global, others: &[String]) -> Result<CheckWords, WordsError>
 ///     18446744073709551615.
 /// - `check ENTRY` has the name of a function, `--args=` and `--answers=` as `run` has them, and `--fuel=`,
 ///   a decimal number of units with the limit and the default of `--steps=`.
+/// - `list STAGE` has the name of a stage: `select`, `comballoc`, `cse`, `dead`, `spill`, `split`, `alloc`,
+///   `linear`, `frames` or `code`.
+/// - `soak` has `--seed=`, a decimal number below 2 to the 64th, and `--functions=`, one from 1 to 1,000.
+///   Both have to be there.
 ///
 /// Zeros may lead a number. The order of the words after the first is free.
 ///
@@ -169,9 +312,6 @@ pub fn read_words(alloc: Global, words: &[String]) -> Result<Command, WordsError
     if !has_form(command, others) {
         return Err(WordsError::Words);
     }
-    match command {
-        CommandWord::Compile => Ok(Command::Compile),
-        CommandWord::Run => Ok(Command::Run(run(alloc, others)?)),
-        CommandWord::Check => Ok(Command::Check(check(alloc, others)?)),
-    }
+    let matches = matches_of(alloc, words)?;
+    taken(alloc, words, others, &matches)
 }

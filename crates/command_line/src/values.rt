@@ -2,11 +2,12 @@
 ghost use Rattle.std.specs.Prelude.{◌≡◌, ◌≢◌, ◌<◌, ◌≤◌, ◌↔◌, ◌∷◌, ◌++◌, ℕ, MatchOption, IfOk, IsTrue, IsErrOf, All};
 ghost use Rattle.bs_words.specs.Contents.{contents};
 ghost use Rattle.command_line.specs.declared.command.WordsError.{WordsError};
-ghost use Rattle.command_line.specs.Values.{IsName, IsNumber, IsSteps, IsSize, IsMoves, SeedsMoves, IsItem, IsItems, Nothing};
+ghost use Rattle.command_line.specs.Values.{IsName, IsNumber, IsSteps, IsSize, IsMoves, SeedsMoves, IsItem, IsCounted, IsSeed, IsStage, IsItems, Nothing};
 
 use crate::command::{Moves, WordsError};
 use bs_words::{List, Name, sub};
 use rv_machine::Arg;
+use stages::Stage;
 use std::alloc::Global;
 
 /// The most instructions that a run may be told to retire.
@@ -78,22 +79,74 @@ pub(crate) fn moves(text: &[u8]) -> Option<Moves>
     } else if text == b"every".as_slice() {
         Some(Moves::Every)
     } else {
-        seed(text)
+        seeded(text)
     }
 }
 
-/// The seed that the text gives.
-fn seed(text: &[u8]) -> Option<Moves>
+/// The moves by the seed that stands after `seed:`.
+fn seeded(text: &[u8]) -> Option<Moves>
     ensures { MatchOption result
         (Nothing (SeedsMoves text.now))
         (λ moves. SeedsMoves text.now moves) }
 {
     match text.strip_prefix(b"seed:".as_slice()) {
-        Some(digits) => match number(digits, u64::MAX) {
+        Some(digits) => match seed(digits) {
             Some(seed) => Some(Moves::Seed(seed)),
             None => None,
         },
         None => None,
+    }
+}
+
+/// The seed that the text writes.
+pub(crate) fn seed(text: &[u8]) -> Option<u64>
+    ensures { MatchOption result
+        (Nothing (IsSeed text.now))
+        (λ n. IsSeed text.now n) }
+{
+    number(text, u64::MAX)
+}
+
+/// The number from 1 to the limit that the text writes.
+pub(crate) fn counted(text: &[u8], limit: u32) -> Option<u32>
+    ensures { MatchOption result
+        (Nothing (IsCounted limit text.now))
+        (λ n. IsCounted limit text.now n) }
+{
+    match number(text, u64::from(limit)) {
+        Some(n) if n >= 1 => Some(n as u32),
+        _ => None,
+    }
+}
+
+/// The stage that the text names.
+pub(crate) fn stage(text: &[u8]) -> Option<Stage>
+    ensures { MatchOption result
+        (Nothing (IsStage text.now))
+        (λ stage. IsStage text.now stage) }
+{
+    if text == b"select".as_slice() {
+        Some(Stage::Select)
+    } else if text == b"comballoc".as_slice() {
+        Some(Stage::CombAlloc)
+    } else if text == b"cse".as_slice() {
+        Some(Stage::Cse)
+    } else if text == b"dead".as_slice() {
+        Some(Stage::Dead)
+    } else if text == b"spill".as_slice() {
+        Some(Stage::Spill)
+    } else if text == b"split".as_slice() {
+        Some(Stage::Split)
+    } else if text == b"alloc".as_slice() {
+        Some(Stage::Alloc)
+    } else if text == b"linear".as_slice() {
+        Some(Stage::Linear)
+    } else if text == b"frames".as_slice() {
+        Some(Stage::Frames)
+    } else if text == b"code".as_slice() {
+        Some(Stage::Code)
+    } else {
+        None
     }
 }
 

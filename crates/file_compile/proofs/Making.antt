@@ -1,5 +1,5 @@
 -- The functions of a file, made one after the other.
-use Rattle.std.proofs.Common.{◌≡◌, ◌≤◌, ◌+◌, ◌++◌, ℕ, zero, suc, List, [], ◌∷◌, All, Bor, length, map, drop, refl, sym, ap, subst, ◌∙◌, append-nil, arith}
+use Rattle.std.proofs.Common.{◌≡◌, List, [], ◌∷◌, All, Bor, map, sym, ap, subst, ◌∙◌}
 use Rattle.std.proofs.lemmas.List.Elements.{All-nil, All-cons}
 use Rattle.std.specs.Prelude.{Contains}
 use Rattle.std.specs.List.{AllZip}
@@ -13,13 +13,6 @@ use Rattle.cmm_types.proofs.Containing.{contains_head, contains_tail}
 use Rattle.rv_pieces.specs.declared.piece.Pieces.{Pieces}
 use Rattle.file_compile.specs.Accepted.{IsAcceptedFile, IsAcceptedFunction}
 use Rattle.made_functions.specs.Files.{IsFunctionMade}
-use Rattle.file_compile.proofs.LayoutRows.{drop_past}
-
--- where none is left, all have been made
-pub made_all : {A B : Type 0} (R : A → B → Type 0) (xs : List A) (ys : List B) (k : ℕ) → length xs ≤ k →
-    ((rest : List B) → AllZip R (drop k xs) rest → AllZip R xs (ys ++ rest)) → AllZip R xs ys
-made_all {A} {B} R xs ys k past made =
-    subst (AllZip R xs) (append-nil ys) (made [] (subst (λ (l : List A). AllZip R l []) (sym (drop_past xs k past)) tt))
 
 -- of the functions, as of their trees
 pub made_trees : (fs : List (Bor Function)) (ps : List Pieces) → AllZip (λ (f : Bor Function) p. IsFunctionMade (function_view f.now) p) fs ps →

@@ -24,6 +24,7 @@ use Rattle.selection_promise.specs.Selects.{IsAccepted}
 use Rattle.selection_accepted.proofs.Promised.{function_accepted}
 use Rattle.selection_accepted.proofs.Selecting.{definitions}
 use Rattle.file_compile.specs.Accepted.{IsAcceptedFunction}
+use Rattle.file_compile.specs.Listed.{IsAllocatedFor}
 
 module _ (tree : FunctionTree) (accepted : IsAcceptedFunction tree) (mach : Mach) (is : mach ≡ selected tree) where
   known : IsAccepted (definitions accepted.file) tree
@@ -72,3 +73,8 @@ module _ (tree : FunctionTree) (accepted : IsAcceptedFunction tree) (mach : Mach
                 emitted = emitted;
               };
             }
+
+-- what is allocated for a function is placed for it
+pub allocated_placed : (tree : FunctionTree) → IsAcceptedFunction tree → (m : Mach) → IsAllocatedFor tree m → IsPlacedFor tree m
+allocated_placed tree accepted m a =
+    placed_for (function_accepted accepted.of_file.text accepted.file accepted.of_file.is_file tree accepted.among) a.is_prepared a.allocated

@@ -6,6 +6,8 @@ use Rattle.cmm_tree.specs.Tree.{FileTree}
 use Rattle.correctness.specs.Bounds.{IsBounded, IsRoomy}
 use Rattle.correctness.specs.Correct.{IsCorrect}
 use Rattle.correctness.specs.InNeed.{AsksInNeed}
+use Rattle.file_compile.specs.Listed.{IsStageText}
+use Rattle.file_compile.proofs.Once as listed
 use Rattle.file_promise.proofs.Bytes as bytes
 use Rattle.file_promise.proofs.Once as once
 use Rattle.file_promise.proofs.Promise as promise
@@ -14,6 +16,7 @@ use Rattle.image_form.specs.Tables.{Tables}
 use Rattle.layout_rules.specs.TooLarge.{first_too_large}
 use Rattle.made_functions.specs.Exact.{IsExact}
 use Rattle.made_functions.specs.Files.{IsMadeFor}
+use Rattle.stages.specs.declared.stage.Stage.{Stage}
 
 pub all_bytes : (text : List ℕ) → ((i : ℕ) → get_or text i 0 < 256) → All (λ b. b < 256) text
 all_bytes = bytes.all_bytes
@@ -23,6 +26,9 @@ bytes_of = bytes.bytes_of
 
 pub made_for_once : (file : FileTree) (t u : Tables) → IsMadeFor file t → IsMadeFor file u → t ≡ u
 made_for_once = once.made_for_once
+
+pub stage_text_once : (file : FileTree) (stage : Stage) (a b : List ℕ) → IsStageText file stage a → IsStageText file stage b → a ≡ b
+stage_text_once = listed.stage_text_once
 
 module _ (text : List ℕ) (file : FileTree) (is : IsFileOf text file) (image : Tables) (made : IsMadeFor file image) where
   pub made_correct : All (λ b. b < 256) text → AreTables image → IsCorrect file image

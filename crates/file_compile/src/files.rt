@@ -1,9 +1,10 @@
 //! All functions, and their image.
-ghost use Rattle.std.specs.Prelude.{◌≡◌, All, map, None, Some, Err, IfOk};
+ghost use Rattle.std.specs.Prelude.{◌≡◌, ◌<◌, ◌≤◌, All, length, map, None, Some, Err, IfOk};
 ghost use Rattle.std.specs.List.{AllZip};
 ghost use Rattle.bs_fault.specs.declared.large.Large.{Large};
+ghost use Rattle.bs_words.specs.Contents.{contents};
 ghost use Rattle.cmm_front.specs.FileOf.{HasPlace, HoldsTypes, tree_of};
-ghost use Rattle.cmm_tree.specs.Tree.{functions_among};
+ghost use Rattle.cmm_tree.specs.Tree.{functions, functions_among};
 ghost use Rattle.cmm_tree.specs.View.{function_view, item_view};
 ghost use Rattle.cmm_types.specs.Typing.{AreItemsAnnotated, IsFunctionAnnotated};
 ghost use Rattle.cmm_walks.specs.Checked.{typed_of};
@@ -12,16 +13,26 @@ ghost use Rattle.image_form.specs.Tables.{Tables, tables};
 ghost use Rattle.layout_rules.specs.TooLarge.{first_too_large};
 ghost use Rattle.made_functions.specs.Files.{IsFunctionMade, IsMadeFor};
 ghost use Rattle.file_compile.specs.Accepted.{IsAcceptedFile, IsAcceptedFunction};
+ghost use Rattle.stages.specs.Image.{IsOfImage};
+ghost use Rattle.file_compile.specs.Listed.{AreFunctionTexts, IsStageText};
+ghost use Rattle.file_compile.specs.Pieces.{ArePiecesAt};
 
+use crate::gate::{Gate, OpenGate};
+use crate::listing::function_text;
 use crate::passes::function_pieces;
 use assemble::assemble;
 use bs_fault::BuildError;
+use bs_words::List;
 use cmm_data::place_data;
 use cmm_tree::{Function, Item};
 use cmm_walks::Checked;
+use fork_join::map_in_halves;
 use image_form::Image;
+use image_listings::{code_text, frames_text};
 use rv_pieces::Pieces;
+use stages::Stage;
 use std::alloc::{AllocError, Global};
+use std::thread::Threads;
 
 /// The functions among these items, in the order of the text.
 fn functions_of(alloc: Global, items: &[Item]) -> Result<Vec<&Function>, AllocError>
@@ -40,28 +51,70 @@ fn functions_of(alloc: Global, items: &[Item]) -> Result<Vec<&Function>, AllocEr
     Ok(functions)
 }
 
-/// The pieces of each of these functions, in their order.
-fn all_pieces(alloc: Global, functions: &[&Function]) -> Result<Vec<Pieces>, AllocError>
+/// The pieces of the function of this number. The gate is told when it is taken up and when it is done with.
+fn gated_pieces<G: Gate>(
+    alloc: Global,
+    functions: &[&Function],
+    piece: u32,
+    gate: &G,
+) -> Result<Pieces, AllocError>
+    requires there { piece < length functions.now }
+    requires typed { All (λ f. IsFunctionAnnotated f.now) functions.now }
+    requires accepted { All (λ f. IsAcceptedFunction (function_view f.now)) functions.now }
+    ensures { IfOk result (ArePiecesAt functions.now piece) }
+{
+    gate.enter(piece);
+    let pieces = function_pieces(alloc, functions[piece as usize]);
+    gate.leave(piece);
+    pieces
+}
+
+/// The pieces of each of these functions, in their order. No memory holds more functions than there are numbers.
+fn all_pieces<R: Threads + Sync, G: Gate + Sync>(
+    rt: &R,
+    alloc: Global,
+    functions: &[&Function],
+    jobs: u32,
+    gate: &G,
+) -> Result<Vec<Pieces>, AllocError>
+    requires jobs { 1 ≤ jobs }
     requires typed { All (λ f. IsFunctionAnnotated f.now) functions.now }
     requires accepted { All (λ f. IsAcceptedFunction (function_view f.now)) functions.now }
     ensures { IfOk result (λ pieces. AllZip IsFunctionMade (map (λ f. function_view f.now)
         functions.now) pieces.items) }
 {
-    let mut pieces = Vec::new(alloc);
-    for function in functions {
-        pieces.push(function_pieces(alloc, function)?)?;
-    }
-    Ok(pieces)
+    let Ok(count) = u32::try_from(functions.len()) else {
+        return Err(AllocError);
+    };
+    let pieces_at = |piece: u32| -> Result<Pieces, AllocError>
+        requires { (piece < length functions.now)
+            × All (λ f. IsFunctionAnnotated f.now) functions.now
+            × All (λ f. IsAcceptedFunction (function_view f.now)) functions.now }
+        ensures { IfOk result (ArePiecesAt functions.entry.now piece) }
+    { gated_pieces(alloc, functions, piece, gate) };
+    map_in_halves(rt, alloc, count, jobs, &pieces_at)
 }
 
 /// The image of a checked file: each function through all passes, and then all of them, with the static
 /// data, the external calls and the frame descriptors.
 ///
+/// Functions are lent in halves to both sides of a join, each half with its part of the jobs, down to single
+/// functions or one job, and the gate is told of each. A file is made into one image only (`made_for_once`), so
+/// the image is the same for every number of jobs and every gate.
+///
 /// # Errors
 ///
 /// `TooLarge` exactly where a section of that image passes its limit, with the first such section and its
 /// bytes. `OutOfMemory` where memory runs out.
-pub fn compile(alloc: Global, checked: &Checked) -> Result<Image, BuildError>
+pub fn compile<R: Threads + Sync, G: Gate + Sync>(
+    rt: &R,
+    alloc: Global,
+    checked: &Checked,
+    jobs: u32,
+    gate: &G,
+) -> Result<Image, BuildError>
+    requires some_jobs { 1 ≤ jobs }
+    requires few_jobs { jobs ≤ 64 }
     requires typed { HoldsTypes (typed_of checked.now) }
     requires placed { HasPlace (typed_of checked.now) }
     requires accepted { IsAcceptedFile (tree_of (typed_of checked.now)) }
@@ -74,7 +127,84 @@ pub fn compile(alloc: Global, checked: &Checked) -> Result<Image, BuildError>
 {
     let file = checked.typed().file();
     let functions = functions_of(alloc, file.items.as_slice())?;
-    let pieces = all_pieces(alloc, functions.as_slice())?;
+    let pieces = all_pieces(rt, alloc, functions.as_slice(), jobs, gate)?;
     let placed = place_data(alloc, file)?;
     assemble(alloc, pieces.as_slice(), checked.typed(), &placed)
+}
+
+/// The texts of these functions at a stage, one after the other.
+fn all_texts(
+    alloc: Global,
+    functions: &[&Function],
+    stage: Stage,
+) -> Result<List<u8>, AllocError>
+    requires typed { All (λ f. IsFunctionAnnotated f.now) functions.now }
+    requires accepted { All (λ f. IsAcceptedFunction (function_view f.now)) functions.now }
+    ensures { IfOk result (λ text. AreFunctionTexts stage (map (λ f. function_view f.now)
+        functions.now) (contents text)) }
+{
+    let mut text = Vec::new(alloc);
+    for function in functions {
+        let own = function_text(alloc, function, stage)?;
+        text.extend_from_slice(own.as_slice())?;
+    }
+    Ok(List::from_vec(text))
+}
+
+/// The texts of the functions of a file at a stage, one after the other.
+fn functions_text(alloc: Global, checked: &Checked, stage: Stage) -> Result<List<u8>, AllocError>
+    requires typed { HoldsTypes (typed_of checked.now) }
+    requires accepted { IsAcceptedFile (tree_of (typed_of checked.now)) }
+    ensures { IfOk result (λ text.
+        AreFunctionTexts stage (functions (tree_of (typed_of checked.now))) (contents text)) }
+{
+    let functions = functions_of(alloc, checked.typed().file().items.as_slice())?;
+    let text = all_texts(alloc, functions.as_slice(), stage)?;
+    Ok(text)
+}
+
+/// The text of a stage of a checked file: each function as the passes up to that stage make it, in the order of
+/// the file, or the frame descriptors or the words of the image, which is compiled by one job.
+///
+/// A stage of a file has one text only (`stage_text_once`): whatever code is made of a function is made of what
+/// its text shows.
+///
+/// # Errors
+///
+/// `TooLarge` exactly where the stage is one of the image, and a section of the image passes its limit, with the
+/// first such section and its bytes. `OutOfMemory` where memory runs out.
+pub fn stage_text<R: Threads + Sync>(
+    rt: &R,
+    alloc: Global,
+    checked: &Checked,
+    stage: Stage,
+) -> Result<List<u8>, BuildError>
+    requires typed { HoldsTypes (typed_of checked.now) }
+    requires placed { HasPlace (typed_of checked.now) }
+    requires accepted { IsAcceptedFile (tree_of (typed_of checked.now)) }
+    ensures text { IfOk result (λ text.
+        IsStageText (tree_of (typed_of checked.now)) stage (contents text)) }
+    ensures of_image { (large : Large) → result ≡ Err (BuildError.TooLarge large) → IsOfImage stage }
+    ensures large { (large : Large)
+        → result ≡ Err (BuildError.TooLarge large)
+        → (t : Tables) × (IsMadeFor (tree_of (typed_of checked.now)) t × (first_too_large t ≡ Some large)) }
+{
+    match stage {
+        Stage::Select => Ok(functions_text(alloc, checked, Stage::Select)?),
+        Stage::CombAlloc => Ok(functions_text(alloc, checked, Stage::CombAlloc)?),
+        Stage::Cse => Ok(functions_text(alloc, checked, Stage::Cse)?),
+        Stage::Dead => Ok(functions_text(alloc, checked, Stage::Dead)?),
+        Stage::Spill => Ok(functions_text(alloc, checked, Stage::Spill)?),
+        Stage::Split => Ok(functions_text(alloc, checked, Stage::Split)?),
+        Stage::Alloc => Ok(functions_text(alloc, checked, Stage::Alloc)?),
+        Stage::Linear => Ok(functions_text(alloc, checked, Stage::Linear)?),
+        Stage::Frames => {
+            let image = compile(rt, alloc, checked, 1, &OpenGate)?;
+            Ok(frames_text(alloc, &image)?)
+        }
+        Stage::Code => {
+            let image = compile(rt, alloc, checked, 1, &OpenGate)?;
+            Ok(code_text(alloc, &image)?)
+        }
+    }
 }

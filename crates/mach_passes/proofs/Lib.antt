@@ -5,3 +5,4 @@ pub mod Repeated
 pub mod Dropped
 pub mod Combined
 pub mod Stages
+pub mod Once

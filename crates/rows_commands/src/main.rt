@@ -14,7 +14,7 @@ fn main(rt: HostRuntime) -> Result<()> {
     let mut out = BufWriter::new(alloc, rt.stdout())?;
     for line in BufReader::new(alloc, rt.stdin())?.lines(alloc) {
         let line = line?;
-        out.write_all(table.said_to(alloc, line.as_str())?.as_slice())?;
+        out.write_all(table.said_to(&rt, alloc, line.as_str())?.as_slice())?;
     }
     out.flush()?;
     Ok(())

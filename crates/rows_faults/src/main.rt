@@ -9,9 +9,10 @@
 use anyhow::Result;
 use bs_io::{MemSink, MemSource};
 use bs_words::List;
-use cmmc_core::cmmc;
+use cmmc_core::{OpenGate, cmmc};
 use std::alloc::Global;
 use std::io::{self, BufRead, BufReader, BufWriter, Write};
+use std::thread::Threads;
 
 /// Bytes of the longest image and of the longest line that are kept.
 const IMAGE: usize = 1 << 20;
@@ -29,21 +30,29 @@ fn main(rt: HostRuntime) -> Result<()> {
     let mut out = BufWriter::new(alloc, rt.stdout())?;
     for line in BufReader::new(alloc, rt.stdin())?.lines(alloc) {
         let line = line?;
-        out.write_all(said_of(alloc, line.as_bytes())?.as_slice())?;
+        out.write_all(said_of(&rt, alloc, line.as_bytes())?.as_slice())?;
     }
     out.flush()?;
     Ok(())
 }
 
 /// What the program says of a text.
-fn said_of(alloc: Global, text: &[u8]) -> Result<Vec<u8>> {
+fn said_of<R: Threads + Sync>(rt: &R, alloc: Global, text: &[u8]) -> Result<Vec<u8>> {
     let mut words = Vec::new(alloc);
     words.push(String::from_str(alloc, "compile")?)?;
     let bytes = List::from_vec(text.to_vec(alloc)?);
     let mut source = MemSource::new(bytes, List::from_vec(Vec::new(alloc)), PIECE);
     let mut image = MemSink::new(alloc, IMAGE, List::from_vec(Vec::new(alloc)), PIECE)?;
     let mut told = MemSink::new(alloc, LINE, List::from_vec(Vec::new(alloc)), PIECE)?;
-    let status = cmmc(alloc, words.as_slice(), &mut source, &mut image, &mut told);
+    let status = cmmc(
+        rt,
+        alloc,
+        words.as_slice(),
+        &mut source,
+        &mut image,
+        &mut told,
+        &OpenGate,
+    );
     if status == 0 || status == WRITE_FAULT {
         return Ok(b"compiled\n".to_vec(alloc)?);
     }

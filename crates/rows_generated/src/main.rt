@@ -10,9 +10,10 @@ use anyhow::Result;
 use bs_io::{MemSink, MemSource};
 use bs_words::List;
 use cmm_gen::generate;
-use cmmc_core::cmmc;
+use cmmc_core::{OpenGate, cmmc};
 use std::alloc::{AllocError, Global};
 use std::io::{self, BufRead, BufReader, BufWriter, Write};
+use std::thread::Threads;
 
 /// The most bytes that are kept of an image or of what is reported.
 const KEPT: usize = 1 << 22;
@@ -34,7 +35,7 @@ fn main(rt: HostRuntime) -> Result<()> {
     let mut out = BufWriter::new(alloc, rt.stdout())?;
     for line in BufReader::new(alloc, rt.stdin())?.lines(alloc) {
         let line = line?;
-        out.write_all(outcome_of(alloc, line.as_str())?.as_slice())?;
+        out.write_all(outcome_of(&rt, alloc, line.as_str())?.as_slice())?;
     }
     out.flush()?;
     Ok(())
@@ -47,7 +48,7 @@ fn numbers_of(line: &str) -> Option<(u64, u32)> {
 }
 
 /// A line of the answer.
-fn outcome_of(alloc: Global, line: &str) -> Result<Vec<u8>, AllocError> {
+fn outcome_of<R: Threads + Sync>(rt: &R, alloc: Global, line: &str) -> Result<Vec<u8>, AllocError> {
     let Some((seed, functions)) = numbers_of(line) else {
         return b"no numbers\n".to_vec(alloc);
     };
@@ -57,19 +58,31 @@ fn outcome_of(alloc: Global, line: &str) -> Result<Vec<u8>, AllocError> {
     let text = generate(alloc, seed, functions)?;
     let mut said = line.as_bytes().to_vec(alloc)?;
     said.extend_from_slice(b": ")?;
-    said.extend_from_slice(all_outcomes(alloc, text.as_slice(), functions - 1)?.as_slice())?;
+    said.extend_from_slice(all_outcomes(rt, alloc, text.as_slice(), functions - 1)?.as_slice())?;
     Ok(said)
 }
 
 /// The outcome of the text's last function, of so many functions before it, once where all ways agree.
-fn all_outcomes(alloc: Global, text: &[u8], last: u32) -> Result<Vec<u8>, AllocError> {
+fn all_outcomes<R: Threads + Sync>(
+    rt: &R,
+    alloc: Global,
+    text: &[u8],
+    last: u32,
+) -> Result<Vec<u8>, AllocError> {
     let entry = format!(in alloc; "g{last}")?;
-    let image = told(alloc, text, "compile", "", "")?;
-    let checked = told(alloc, text, "check", entry.as_str(), "--fuel=1000000000")?;
+    let image = told(rt, alloc, text, "compile", "", "")?;
+    let checked = told(
+        rt,
+        alloc,
+        text,
+        "check",
+        entry.as_str(),
+        "--fuel=1000000000",
+    )?;
     let first = first_line(checked.as_slice());
     let mut said = first.to_vec(alloc)?;
     for moves in MOVES {
-        let run = told(alloc, image.as_slice(), "run", entry.as_str(), moves)?;
+        let run = told(rt, alloc, image.as_slice(), "run", entry.as_str(), moves)?;
         if first_line(run.as_slice()) != first {
             said.extend_from_slice(moves.as_bytes())?;
             said.extend_from_slice(b" ")?;
@@ -90,7 +103,8 @@ fn first_line(lines: &[u8]) -> &[u8] {
 }
 
 /// What the command writes that reads this.
-fn told(
+fn told<R: Threads + Sync>(
+    rt: &R,
     alloc: Global,
     input: &[u8],
     command: &str,
@@ -108,6 +122,14 @@ fn told(
     let mut source = MemSource::new(input, List::new(alloc), PIECE);
     let mut out = MemSink::new(alloc, KEPT, List::new(alloc), PIECE)?;
     let mut err = MemSink::new(alloc, KEPT, List::new(alloc), PIECE)?;
-    let _ = cmmc(alloc, words.as_slice(), &mut source, &mut out, &mut err);
+    let _ = cmmc(
+        rt,
+        alloc,
+        words.as_slice(),
+        &mut source,
+        &mut out,
+        &mut err,
+        &OpenGate,
+    );
     out.bytes().to_vec(alloc)
 }

@@ -14,10 +14,11 @@ mod line;
 
 use bs_io::{MemSink, MemSource};
 use bs_words::List;
-use cmmc_core::cmmc;
+use cmmc_core::{OpenGate, cmmc};
 use digits::{bytes_of, push_digits};
 use line::Line;
 use std::alloc::{AllocError, Global};
+use std::thread::Threads;
 
 /// The most bytes that are kept of out and of err.
 const KEPT: usize = 1 << 20;
@@ -40,20 +41,25 @@ impl Table {
     }
 
     /// What the program says to a line. The only error is want of memory.
-    pub fn said_to(&mut self, alloc: Global, line: &str) -> Result<Vec<u8>, AllocError> {
+    pub fn said_to<R: Threads + Sync>(
+        &mut self,
+        rt: &R,
+        alloc: Global,
+        line: &str,
+    ) -> Result<Vec<u8>, AllocError> {
         let Some((words, input)) = line.split_once(" | ") else {
             return b"no bar\n".to_vec(alloc);
         };
         if input != "same" {
-            self.input = input_of(alloc, input)?;
+            self.input = input_of(rt, alloc, input)?;
         }
         let input = self.input.clone()?;
-        said(alloc, Line::of(alloc, words)?, input)
+        said(rt, alloc, Line::of(alloc, words)?, input)
     }
 }
 
 /// The bytes that a command reads.
-fn input_of(alloc: Global, input: &str) -> Result<Vec<u8>, AllocError> {
+fn input_of<R: Threads + Sync>(rt: &R, alloc: Global, input: &str) -> Result<Vec<u8>, AllocError> {
     if let Some(digits) = input.strip_prefix("bytes ") {
         return bytes_of(alloc, digits);
     }
@@ -66,12 +72,25 @@ fn input_of(alloc: Global, input: &str) -> Result<Vec<u8>, AllocError> {
     let mut source = MemSource::new(text, List::new(alloc), PIECE);
     let mut image = MemSink::new(alloc, KEPT, List::new(alloc), PIECE)?;
     let mut told = MemSink::new(alloc, KEPT, List::new(alloc), PIECE)?;
-    let _ = cmmc(alloc, words.as_slice(), &mut source, &mut image, &mut told);
+    let _ = cmmc(
+        rt,
+        alloc,
+        words.as_slice(),
+        &mut source,
+        &mut image,
+        &mut told,
+        &OpenGate,
+    );
     image.bytes().to_vec(alloc)
 }
 
 /// The status, and what went to out and to err.
-fn said(alloc: Global, line: Line, input: Vec<u8>) -> Result<Vec<u8>, AllocError> {
+fn said<R: Threads + Sync>(
+    rt: &R,
+    alloc: Global,
+    line: Line,
+    input: Vec<u8>,
+) -> Result<Vec<u8>, AllocError> {
     let Line {
         words,
         read_fails,
@@ -83,7 +102,15 @@ fn said(alloc: Global, line: Line, input: Vec<u8>) -> Result<Vec<u8>, AllocError
     let mut source = MemSource::new(List::from_vec(input), List::from_vec(read_fails), piece);
     let mut out = MemSink::new(alloc, KEPT, List::from_vec(out_fails), piece)?;
     let mut err = MemSink::new(alloc, KEPT, List::from_vec(err_fails), piece)?;
-    let status = cmmc(alloc, words.as_slice(), &mut source, &mut out, &mut err);
+    let status = cmmc(
+        rt,
+        alloc,
+        words.as_slice(),
+        &mut source,
+        &mut out,
+        &mut err,
+        &OpenGate,
+    );
     let mut said = b"status ".to_vec(alloc)?;
     said.push(b'0' + status % 10)?;
     said.push(b'\n')?;

@@ -6,3 +6,4 @@ mod Entries
 pub mod Called
 mod Fitting
 mod Compiled
+mod Listed

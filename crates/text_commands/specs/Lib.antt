@@ -5,3 +5,5 @@ pub mod Refusal
 pub mod Puts
 pub mod Compile
 pub mod CheckRefusal
+pub mod Listing
+pub mod Trial

@@ -38,3 +38,7 @@ check_text fuel run =
     ++ ((end_text run.outcome ++ codes "\n")
     ++ (need_text (codes "stack") run.stack_need
     ++ (need_text (codes "heap") run.heap_need ++ need_text (codes "fuel") (fuel - run.left))))
+
+-- a line for each external call that was made, and one for how the run ended
+abbrev pub outcome_text : Run → List ℕ
+outcome_text run = calls_text run.calls ++ (end_text run.outcome ++ codes "\n")

@@ -11,8 +11,9 @@ use bs_fault::{BuildError, Fault, FrontError, Large};
 use bs_words::List;
 use cmm_front::front;
 use command_line::CheckWords;
-use file_compile::{compile, layout};
+use file_compile::{Gate, compile, layout};
 use std::alloc::Global;
+use std::thread::Threads;
 use thiserror::Error;
 
 /// Why nothing is reported of a run of a text.
@@ -34,7 +35,7 @@ pub enum CheckRefusal {
 }
 
 /// What is reported of the run of a text that the words ask for: its outcome, and what it needs of stack, heap and fuel.
-/// The frames and addresses of functions are those of the text's image.
+/// The frames and addresses of functions are those of the text's image, which is compiled by one job.
 ///
 /// # Errors
 ///
@@ -42,7 +43,13 @@ pub enum CheckRefusal {
 /// no function of the entry's name; else `ArgumentUnfit` exactly where the words do not suit that function; else
 /// `TooLarge` exactly where a section of its image passes its limit, with the first that does. `OutOfMemory` where
 /// memory ran out before the answer is known.
-pub fn check_text(alloc: Global, text: &[u8], check: &CheckWords) -> Result<List<u8>, CheckRefusal>
+pub fn check_text<R: Threads + Sync, G: Gate + Sync>(
+    rt: &R,
+    alloc: Global,
+    text: &[u8],
+    check: &CheckWords,
+    gate: &G,
+) -> Result<List<u8>, CheckRefusal>
     ensures told { IfOk result (λ told. IsCheckOf (check_view check.now) text.now (contents told)) }
     ensures refused { IfErr result (λ r. IsCheckRefusal (check_view check.now) text.now r) }
 {
@@ -58,7 +65,7 @@ pub fn check_text(alloc: Global, text: &[u8], check: &CheckWords) -> Result<List
         Err(CallRefusal::ArgumentUnfit) => return Err(CheckRefusal::ArgumentUnfit),
         Err(CallRefusal::OutOfMemory) => return Err(CheckRefusal::OutOfMemory),
     };
-    let image = match compile(alloc, &checked) {
+    let image = match compile(rt, alloc, &checked, 1, gate) {
         Ok(image) => image,
         Err(BuildError::TooLarge(large)) => return Err(CheckRefusal::TooLarge(large)),
         Err(BuildError::OutOfMemory) => return Err(CheckRefusal::OutOfMemory),

@@ -1,14 +1,15 @@
 //! Compiling a text.
-ghost use Rattle.std.specs.Prelude.{IfOk, IfErr};
+ghost use Rattle.std.specs.Prelude.{◌≤◌, IfOk, IfErr};
 ghost use Rattle.bs_words.specs.Contents.{contents};
 ghost use Rattle.text_commands.specs.Refusal.{SpellsImageOf, IsRefusalOf};
 
 use bs_fault::{BuildError, Fault, FrontError, Large};
 use bs_words::List;
 use cmm_front::front;
-use file_compile::compile;
+use file_compile::{Gate, compile};
 use image_form::write_image;
 use std::alloc::Global;
+use std::thread::Threads;
 use thiserror::Error;
 
 /// Why a text has no image.
@@ -24,14 +25,22 @@ pub enum Refusal {
     OutOfMemory,
 }
 
-/// The spelling of the image of a text.
+/// The spelling of the image of a text, whose functions are shared among so many jobs. The gate is told of each.
 ///
 /// # Errors
 ///
 /// `Fault` exactly where the text has a fault, with the one that is reported; else `TooLarge` exactly where a section
 /// of its image passes its limit, with the first that does. `OutOfMemory` where memory ran out before the answer is
 /// known.
-pub fn compile_text(alloc: Global, text: &[u8]) -> Result<List<u8>, Refusal>
+pub fn compile_text<R: Threads + Sync, G: Gate + Sync>(
+    rt: &R,
+    alloc: Global,
+    text: &[u8],
+    jobs: u32,
+    gate: &G,
+) -> Result<List<u8>, Refusal>
+    requires some_jobs { 1 ≤ jobs }
+    requires few_jobs { jobs ≤ 64 }
     ensures image { IfOk result (λ bytes. SpellsImageOf text.now (contents bytes)) }
     ensures refused { IfErr result (λ r. IsRefusalOf text.now r) }
 {
@@ -40,7 +49,7 @@ pub fn compile_text(alloc: Global, text: &[u8]) -> Result<List<u8>, Refusal>
         Err(FrontError::Fault(fault)) => return Err(Refusal::Fault(fault)),
         Err(FrontError::OutOfMemory) => return Err(Refusal::OutOfMemory),
     };
-    let image = match compile(alloc, &checked) {
+    let image = match compile(rt, alloc, &checked, jobs, gate) {
         Ok(image) => image,
         Err(BuildError::TooLarge(large)) => return Err(Refusal::TooLarge(large)),
         Err(BuildError::OutOfMemory) => return Err(Refusal::OutOfMemory),

@@ -6,7 +6,7 @@ ghost use Rattle.bs_words.specs.Word.{signed_of};
 ghost use Rattle.cmm_eval.specs.Views.{call_view, outcome_view, eval_view};
 ghost use Rattle.rv_machine.specs.Text.{obs_text, shown_text, made_text, calls_text, returned_text};
 ghost use Rattle.text_commands.specs.Puts.{Puts};
-ghost use Rattle.text_commands.specs.Lines.{kind_text, end_text, need_text, check_text};
+ghost use Rattle.text_commands.specs.Lines.{kind_text, end_text, need_text, check_text, outcome_text};
 
 use bs_words::{Call, Kind, List, Obs, signed};
 use cmm_eval::{Eval, Outcome};
@@ -26,6 +26,19 @@ pub(crate) fn told_of(alloc: Global, eval: &Eval, fuel: u64) -> Result<List<u8>,
     page.put_need(b"stack", eval.stack_need)?;
     page.put_need(b"heap", eval.heap_need)?;
     page.put_need(b"fuel", fuel.saturating_sub(eval.left))?;
+    Ok(List::from_vec(page.bytes))
+}
+
+/// The outcome of a run of a text: a line for each external call, and one for how it ended.
+pub(crate) fn outcome_of(alloc: Global, eval: &Eval) -> Result<List<u8>, AllocError>
+    ensures { IfOk result (λ text. contents text ≡ outcome_text (eval_view eval.now)) }
+{
+    let mut page = Page {
+        bytes: Vec::new(alloc),
+    };
+    page.put_calls(eval.calls.as_slice())?;
+    page.put_end(&eval.outcome)?;
+    page.put(b"\n")?;
     Ok(List::from_vec(page.bytes))
 }
 

@@ -4,11 +4,13 @@ ghost use Rattle.bs_words.specs.Contents.{contents};
 ghost use Rattle.cmm_data.specs.Faults.{data_fault_of};
 ghost use Rattle.cmm_eval.specs.Annotated.{IsTyped, FitsEntry};
 ghost use Rattle.cmm_eval.specs.Views.{layout_view};
+ghost use Rattle.cmm_meaning.specs.Run.{cmm_run};
 ghost use Rattle.cmm_tree.specs.View.{file_view};
 ghost use Rattle.text_commands.specs.Check as check;
+ghost use Rattle.text_commands.specs.Lines.{outcome_text};
 
 use crate::call::FileCall;
-use crate::lines::told_of;
+use crate::lines::{outcome_of, told_of};
 use bs_words::List;
 use cmm_eval::{Layout, eval};
 use cmm_tree::File;
@@ -41,4 +43,32 @@ pub fn told_of_run(
         fuel,
     )?;
     told_of(alloc, &run, fuel)
+}
+
+/// The outcome of the run of a call with so much fuel. The frames and addresses of the file's functions are handed in.
+pub fn outcome_of_run(
+    alloc: Global,
+    file: &File,
+    layout: &Layout,
+    call: &FileCall,
+    fuel: u64,
+) -> Result<List<u8>, AllocError>
+    requires data { data_fault_of (file_view file.now) ≡ None }
+    requires typed { IsTyped file.now }
+    requires fit { FitsEntry (file_view file.now) call.now.entry call.now.args.items }
+    ensures { IfOk result (λ told.
+        contents told
+        ≡ outcome_text (cmm_run (file_view file.now) (layout_view layout.now) call.now.entry
+        call.now.args.items call.now.answers.items fuel)) }
+{
+    let run = eval(
+        alloc,
+        file,
+        layout,
+        call.entry,
+        call.args.as_slice(),
+        call.answers.as_slice(),
+        fuel,
+    )?;
+    outcome_of(alloc, &run)
 }

@@ -20,3 +20,10 @@ pub returns-in-Ok-read_image-clause-refused : goal.returns-in-Ok-read_image-clau
 returns-in-Ok-read_image-clause-refused g c =
     refused_so {T = Unit {0}} (run_view c.args.run) _ _ _ _ _ c.in-Ok.ensures.read c.as_slice.ensures c.in-Ok-read_image.ensures.found.0
     c.in-Ok-read_image.ensures.found.1 c.run_on.result c.run_on.ensures.refused
+
+-- the words keep to what a machine may have
+pub run_on-requires-clause-stack : goal.run_on-requires-clause-stack
+run_on-requires-clause-stack g c = record { aligned = c.requires.stack_aligned; most = c.requires.stack }
+
+pub run_on-requires-clause-heap : goal.run_on-requires-clause-heap
+run_on-requires-clause-heap g c = record { aligned = c.requires.heap_aligned; most = c.requires.heap }

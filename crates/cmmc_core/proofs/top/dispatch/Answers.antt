@@ -8,12 +8,12 @@ use Rattle.cmmc_core.proofs.top.dispatch.Goals as goal
 
 pub returns-in-Ok-write_all : goal.returns-in-Ok-write_all
 returns-in-Ok-write_all g c =
-    Ends-written _ _ (contents c.in-Ok.bytes) (rw c.in-Ok-Compile.field-0-is at c.in-Ok-Compile.ensures.command) c.in-Ok.ensures.image
+    Ends-written _ _ (contents c.in-Ok.bytes) (_, rw c.in-Ok-Compile.field-0-is at c.in-Ok-Compile.ensures.command) c.in-Ok.ensures.image
     (rw c.as_slice.ensures at c.in-Ok-write_all.ensures.all) (Keeps-same _)
 
 pub returns-in-Ok : goal.returns-in-Ok
 returns-in-Ok g c =
-    Ends-cut _ _ (contents c.in-Ok.bytes) (rw c.in-Ok-Compile.field-0-is at c.in-Ok-Compile.ensures.command) c.in-Ok.ensures.image
+    Ends-cut _ _ (contents c.in-Ok.bytes) (_, rw c.in-Ok-Compile.field-0-is at c.in-Ok-Compile.ensures.command) c.in-Ok.ensures.image
     (rw c.as_slice.ensures at (GotPart-part _ _ c.in-Err.ensures.part c.in-Err.ensures.failed)) (Keeps-same _)
 
 pub returns-in-Err-ReadFault : goal.returns-in-Err-ReadFault
@@ -23,7 +23,7 @@ returns-in-Err-ReadFault g c =
 
 pub returns-in-Ok-Compile : goal.returns-in-Ok-Compile
 returns-in-Ok-Compile g c =
-    Ends-refused _ _ c.in-Err-Text.why _ (rw c.in-Ok-Compile.field-0-is at c.in-Ok-Compile.ensures.command)
+    Ends-refused _ _ c.in-Err-Text.why _ (_, rw c.in-Ok-Compile.field-0-is at c.in-Ok-Compile.ensures.command)
     (rw c.in-Err-Text.field-0-is at c.in-Err-Text.ensures.refused) (Keeps-same _) c.tell_refusal.ensures
 
 -- ---- run
@@ -65,6 +65,20 @@ returns-in-Ok-Run g c =
 
 pub returns-in-Ok-Check : goal.returns-in-Ok-Check
 returns-in-Ok-Check g c = c.check.ensures _ (rw c.in-Ok-Check.field-0-is at c.in-Ok-Check.ensures.command)
+
+-- ---- list and soak
+
+pub returns-in-Ok-List : goal.returns-in-Ok-List
+returns-in-Ok-List g c = c.list.ensures _ (rw c.in-Ok-List.field-0-is at c.in-Ok-List.ensures.command)
+
+pub returns-in-Ok-Soak : goal.returns-in-Ok-Soak
+returns-in-Ok-Soak g c = c.soak.ensures _ _ (rw c.in-Ok-Soak.field-0-is at c.in-Ok-Soak.ensures.command) (Keeps-same _)
+
+pub soak-requires-clause-some : goal.soak-requires-clause-some
+soak-requires-clause-some g c = (rw c.in-Ok-Soak.field-0-is at c.in-Ok-Soak.ensures.limits).1
+
+pub soak-requires-clause-few : goal.soak-requires-clause-few
+soak-requires-clause-few g c = (rw c.in-Ok-Soak.field-0-is at c.in-Ok-Soak.ensures.limits).2
 
 -- ---- words
 

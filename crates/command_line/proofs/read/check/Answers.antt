@@ -1,8 +1,9 @@
-use Rattle.std.proofs.Common.{Err, IsErrOf, ℕ, rules, lit<}
+use Rattle.std.proofs.Common.{Err, IsErrOf, ℕ, rules, lit<, refl}
 use Rattle.bs_words.specs.declared.list.List.{List}
 use Rattle.rv_machine.specs.declared.setup.Arg.{Arg}
 use Rattle.command_line.specs.declared.command.WordsError.TheVariants.{ValueText}
-use Rattle.command_line.specs.declared.form.Slot.TheVariants.{Fuel}
+use Rattle.command_line.specs.declared.form.Slot.TheVariants.{Plain, Args, Answers, Fuel}
+use Rattle.command_line.proofs.Defaults.{args_left_out, answers_left_out, fuel_left_out}
 use Rattle.command_line.proofs.read.check.Goals as goal
 
 pub returns-in_err-items-clause-bad : goal.returns-in_err-items-clause-bad
@@ -16,3 +17,15 @@ returns-in_err-items-2-clause-bad c = λ e check is.
 pub returns-in_err-steps-clause-bad : goal.returns-in_err-steps-clause-bad
 returns-in_err-steps-clause-bad c = λ e check is.
     let same : IsErrOf {T = ℕ} (Err c.in_err-steps.field-0.0) ValueText = search rules in c.in_err-steps.ensures.bad same check.fuel is.fuel
+
+pub entry-requires : goal.entry-requires
+entry-requires c = record { once = c.requires.form.once 0 Plain (lit< tt); stands = c.requires.stands Plain (0, lit< tt, refl) }
+
+pub items-requires : goal.items-requires
+items-requires c = record { once = c.requires.form.once 1 Args (lit< tt); stands = c.requires.stands Args (1, lit< tt, refl); left_out = args_left_out }
+
+pub items-requires-2 : goal.items-requires-2
+items-requires-2 c = record { once = c.requires.form.once 2 Answers (lit< tt); stands = c.requires.stands Answers (2, lit< tt, refl); left_out = answers_left_out }
+
+pub steps-requires : goal.steps-requires
+steps-requires c = record { once = c.requires.form.once 3 Fuel (lit< tt); stands = c.requires.stands Fuel (3, lit< tt, refl); left_out = fuel_left_out }

@@ -1,10 +1,11 @@
-use Rattle.std.proofs.Common.{Err, IsErrOf, ℕ, rules, lit<}
+use Rattle.std.proofs.Common.{Err, IsErrOf, ℕ, rules, lit<, refl}
 use Rattle.bs_words.specs.declared.list.List.{List}
 use Rattle.rv_machine.specs.declared.setup.Arg.{Arg}
 use Rattle.command_line.specs.declared.command.WordsError.TheVariants.{ValueText}
-use Rattle.command_line.specs.declared.form.Slot.TheVariants.{Heap}
+use Rattle.command_line.specs.declared.form.Slot.TheVariants.{Plain, Args, Answers, Steps, Stack, Heap}
 use Rattle.command_line.specs.declared.form.Slot.TheVariants as slot
 use Rattle.command_line.specs.declared.command.Moves.{Moves}
+use Rattle.command_line.proofs.Defaults.{args_left_out, answers_left_out, steps_left_out, stack_left_out, heap_left_out}
 use Rattle.command_line.proofs.read.run.Goals as goal
 
 pub returns-in_err-items-clause-bad : goal.returns-in_err-items-clause-bad
@@ -27,12 +28,27 @@ pub returns-in_err-size-2-clause-bad : goal.returns-in_err-size-2-clause-bad
 returns-in_err-size-2-clause-bad c = λ e run is.
     let same : IsErrOf {T = ℕ} (Err c.in_err-size-2.field-0.0) ValueText = search rules in c.in_err-size-2.ensures.bad same run.heap is.heap
 
-pub size-requires-2 : goal.size-requires-2
-size-requires-2 c = c.requires.once 5 Heap (lit< tt)
-
 pub returns-in_err-moves-clause-bad : goal.returns-in_err-moves-clause-bad
 returns-in_err-moves-clause-bad c = λ e run is.
     let same : IsErrOf {T = Moves} (Err c.in_err-moves.field-0.0) ValueText = search rules in c.in_err-moves.ensures.bad same run.moves is.moves
 
+pub entry-requires : goal.entry-requires
+entry-requires c = record { once = c.requires.form.once 0 Plain (lit< tt); stands = c.requires.stands Plain (0, lit< tt, refl) }
+
+pub items-requires : goal.items-requires
+items-requires c = record { once = c.requires.form.once 1 Args (lit< tt); stands = c.requires.stands Args (1, lit< tt, refl); left_out = args_left_out }
+
+pub items-requires-2 : goal.items-requires-2
+items-requires-2 c = record { once = c.requires.form.once 2 Answers (lit< tt); stands = c.requires.stands Answers (2, lit< tt, refl); left_out = answers_left_out }
+
+pub steps-requires : goal.steps-requires
+steps-requires c = record { once = c.requires.form.once 3 Steps (lit< tt); stands = c.requires.stands Steps (3, lit< tt, refl); left_out = steps_left_out }
+
+pub size-requires : goal.size-requires
+size-requires c = record { once = c.requires.form.once 4 Stack (lit< tt); stands = c.requires.stands Stack (4, lit< tt, refl); left_out = stack_left_out }
+
+pub size-requires-2 : goal.size-requires-2
+size-requires-2 c = record { once = c.requires.form.once 5 Heap (lit< tt); stands = c.requires.stands Heap (5, lit< tt, refl); left_out = heap_left_out }
+
 pub moves-requires : goal.moves-requires
-moves-requires c = c.requires.once 6 slot.Moves (lit< tt)
+moves-requires c = record { once = c.requires.form.once 6 slot.Moves (lit< tt); stands = c.requires.stands slot.Moves (6, lit< tt, refl) }

@@ -1,12 +1,22 @@
-use Rattle.std.proofs.Common.{Bor, arith}
+use Rattle.std.proofs.Common.{◌≡◌, Bor, length, subst, rules}
+use Rattle.std.proofs.lemmas.Result.{IfOk-weaker}
 use Rattle.cmm_tree.specs.View.{function_view}
 use Rattle.cmm_tree.specs.declared.file.Function.{Function}
+use Rattle.fork_join.specs.Calls.{AreGiven}
+use Rattle.fork_join.proofs.Each.{given_weaker, given_each}
 use Rattle.made_functions.specs.Files.{IsFunctionMade}
-use Rattle.file_compile.proofs.Making.{made_all, made_trees}
+use Rattle.file_compile.specs.Pieces.{ArePiecesAt}
+use Rattle.file_compile.proofs.Making.{made_trees}
 use Rattle.file_compile.proofs.files.all_pieces.Goals as goal
 
 pub returns : goal.returns
-returns c =
-    made_trees c.args.functions.now c.loop-function.pieces.items
-    (made_all (λ (f : Bor Function) made. IsFunctionMade (function_view f.now) made) c.args.functions.now c.loop-function.pieces.items c.loop-function.function-index
-    (omega (arith, c.loop-function-test.false)) c.loop-function.invariant)
+returns g c =
+    let fs = c.args.functions.now in
+    IfOk-weaker c.map_in_halves.result _ _
+    (λ pieces given.
+    let all : AreGiven (ArePiecesAt fs) 0 c.in-Ok.count pieces.items =
+    given_weaker _ (ArePiecesAt fs) c.in-Ok.count pieces.items (λ i x less post. search rules) given in
+    let count : c.in-Ok.count ≡ length fs = search rules in
+    made_trees fs pieces.items (given_each (λ (f : Bor Function) made. IsFunctionMade (function_view f.now) made) fs pieces.items
+    (subst (λ n. AreGiven (ArePiecesAt fs) 0 n pieces.items) count all)))
+    c.map_in_halves.ensures

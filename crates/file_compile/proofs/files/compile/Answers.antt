@@ -11,7 +11,7 @@ use Rattle.file_compile.proofs.Making.{all_accepted, all_listed, all_made}
 use Rattle.file_compile.proofs.files.compile.Goals as goal
 
 pub all_pieces-requires-clause-accepted : goal.all_pieces-requires-clause-accepted
-all_pieces-requires-clause-accepted c =
+all_pieces-requires-clause-accepted g c =
     let file = file_of (typed_of c.args.checked.now) in
     let whole : c.as_slice.result.now ≡ contents file.items =
     c.as_slice.ensures ∙ ap (λ (f : File). contents f.items) (c.file-file.ensures ∙ ap file_of c.typed.ensures) in
@@ -19,7 +19,7 @@ all_pieces-requires-clause-accepted c =
     (all_listed file c.as_slice.result.now c.in_ok-functions.functions.items c.as_slice-2.result.now whole c.as_slice-2.ensures.value c.in_ok-functions.ensures.trees)
 
 pub assemble-requires-clause-can : goal.assemble-requires-clause-can
-assemble-requires-clause-can c =
+assemble-requires-clause-can g c =
     let accepted = c.requires.accepted in
     let file = file_of (typed_of c.args.checked.now) in
     let whole : c.as_slice.result.now ≡ contents file.items =

@@ -16,14 +16,14 @@ use Rattle.text_commands.proofs.check.check_text.Goals as goal
 
 -- its file is the text's, so that it is an accepted one
 pub compile-requires-clause-accepted : goal.compile-requires-clause-accepted
-compile-requires-clause-accepted c = record {
+compile-requires-clause-accepted g c = record {
   text = c.args.text.now;
   are_bytes = all_bytes c.args.text.now (λ i. omega (arith, c.type_inv.text i));
   is_file = c.in-Ok.ensures.file;
 }
 
 pub returns-in-Err-UnknownEntry-clause-refused : goal.returns-in-Err-UnknownEntry-clause-refused
-returns-in-Err-UnknownEntry-clause-refused c =
+returns-in-Err-UnknownEntry-clause-refused g c =
     let same : file_view c.file-file.result.now ≡ tree_of (typed_of c.in-Ok.checked) = rw (c.file-file.ensures, c.typed.ensures) refl in
     record {
       file = tree_of (typed_of c.in-Ok.checked);
@@ -34,7 +34,7 @@ returns-in-Err-UnknownEntry-clause-refused c =
     }
 
 pub returns-in-Ok-told_of_run-clause-told : goal.returns-in-Ok-told_of_run-clause-told
-returns-in-Ok-told_of_run-clause-told c =
+returns-in-Ok-told_of_run-clause-told g c =
     let file = tree_of (typed_of c.in-Ok.checked) in
     let call = c.in-Ok-call_of.call in
     let image = tables c.in-Ok-compile.image in
@@ -56,7 +56,7 @@ returns-in-Ok-told_of_run-clause-told c =
     }
 
 pub returns-in-Err-TooLarge-clause-refused : goal.returns-in-Err-TooLarge-clause-refused
-returns-in-Err-TooLarge-clause-refused c =
+returns-in-Err-TooLarge-clause-refused g c =
     let file = tree_of (typed_of c.in-Ok.checked) in
     let call = c.in-Ok-call_of.call in
     let same : file_view c.file-file.result.now ≡ file = rw (c.file-file.ensures, c.typed.ensures) refl in

@@ -9,14 +9,14 @@ use Rattle.text_commands.proofs.compile.compile_text.Goals as goal
 
 -- its file is the text's, so that it is an accepted one
 pub compile-requires-clause-accepted : goal.compile-requires-clause-accepted
-compile-requires-clause-accepted c = record {
+compile-requires-clause-accepted g c = record {
   text = c.args.text.now;
   are_bytes = all_bytes c.args.text.now (λ i. omega (arith, c.type_inv.text i));
   is_file = c.in-Ok.ensures.file;
 }
 
 pub returns-in-Ok-write_image-clause-image : goal.returns-in-Ok-write_image-clause-image
-returns-in-Ok-write_image-clause-image c =
+returns-in-Ok-write_image-clause-image g c =
     let text = c.args.text.now in
     let file = tree_of (typed_of c.in-Ok.checked) in
     let image = tables c.in-Ok-compile.image in
@@ -39,7 +39,7 @@ returns-in-Ok-write_image-clause-image c =
     }
 
 pub returns-in-Err-TooLarge-clause-refused : goal.returns-in-Err-TooLarge-clause-refused
-returns-in-Err-TooLarge-clause-refused c =
+returns-in-Err-TooLarge-clause-refused g c =
     rw c.in-Err-TooLarge.field-0-is (
     too_large c.args.text.now (tree_of (typed_of c.in-Ok.checked)) c.in-Err-TooLarge.large c.in-Ok.ensures.file
     (c.in-Err-TooLarge.ensures.large c.in-Err-TooLarge.large (ap Err c.in-Err-TooLarge.field-0-is))

@@ -1,0 +1,96 @@
+-- What the command line's parser is told, and what it makes of words of the form.
+use Rattle.std.specs.Prelude.{◌≡◌, Contains, ℕ, true, false, List, [], ◌∷◌, codes, map, Option, Some}
+use Rattle.clap.specs.Walk.{Row, Rule, Text, first_of}
+use Rattle.clap.specs.Simple.{App, Shape, new_rule, new_shape, subcommand_of}
+use Rattle.clap.specs.Takes.{takes}
+use Rattle.command_line.specs.declared.form.CommandWord.{CommandWord}
+use Rattle.command_line.specs.declared.form.CommandWord.TheVariants as word
+use Rattle.command_line.specs.declared.form.Slot.{Slot}
+use Rattle.command_line.specs.declared.form.Slot.TheVariants.{Plain, Args, Answers, Steps, Stack, Heap, Moves, Fuel, Jobs, Seed, Functions}
+use Rattle.command_line.specs.Words.{word_of, slots_of, Gives}
+
+-- ---- what the parser is told
+
+-- the slot's name: an option's is what stands between `--` and `=`
+abbrev pub id_of : Slot → List ℕ
+id_of Plain = codes "word"
+id_of Args = codes "args"
+id_of Answers = codes "answers"
+id_of Steps = codes "steps"
+id_of Stack = codes "stack"
+id_of Heap = codes "heap"
+id_of Moves = codes "moves"
+id_of Fuel = codes "fuel"
+id_of Jobs = codes "jobs"
+id_of Seed = codes "seed"
+id_of Functions = codes "functions"
+
+-- the text that stands for the value where no word gives one
+abbrev pub default_texts : Slot → List (List ℕ)
+default_texts Args = codes "" ∷ []
+default_texts Answers = codes "" ∷ []
+default_texts Steps = codes "100000000" ∷ []
+default_texts Stack = codes "1048576" ∷ []
+default_texts Heap = codes "1048576" ∷ []
+default_texts Moves = codes "none" ∷ []
+default_texts Fuel = codes "100000000" ∷ []
+default_texts Jobs = codes "1" ∷ []
+default_texts _ = []
+
+abbrev pub option_rule : Text → List Text → Rule
+option_rule id defaults = record (new_rule id) { long = Some id; defaults = defaults }
+
+abbrev pub slot_rule : Slot → Rule
+slot_rule Plain = new_rule (id_of Plain)
+slot_rule slot = option_rule (id_of slot) (default_texts slot)
+
+abbrev pub command_shape : CommandWord → Shape
+command_shape command = record (new_shape (word_of command)) { rules = map slot_rule (slots_of command) }
+
+abbrev pub command_app : CommandWord → App
+command_app command = record { top = command_shape command; subs = [] }
+
+abbrev pub commands : List CommandWord
+commands = word.Compile ∷ word.Run ∷ word.Check ∷ word.List ∷ word.Soak ∷ []
+
+-- before a command is added
+abbrev pub top_app : App
+top_app = record {
+  top = record (new_shape (codes "cmmc")) {
+    no_binary_name = true;
+    disable_help_flag = true;
+    disable_help_subcommand = true;
+  };
+  subs = [];
+}
+
+abbrev pub program : App
+program = record {
+  top = record top_app.top { is_leaf = false };
+  subs = map command_shape commands;
+}
+
+-- ---- what it makes of words
+
+-- the text that stands for a slot's value: the one that a word gives, or else the default
+pub data Stands (others : List (List ℕ)) (slot : Slot) (text : List ℕ) : Type 0 where
+  word_gives : Gives others slot text → Stands others slot text
+  word_lacks : ((value : List ℕ) → Gives others slot value → ⊥) → default_texts slot ≡ text ∷ [] → Stands others slot text
+
+-- this option is the text that stands for the slot's value
+abbrev pub HasText : List (List ℕ) → Slot → Option (List ℕ) → Type 0
+HasText others slot found = (text : List ℕ) × (found ≡ Some text) × Stands others slot text
+
+-- the text by which an option is left out is read as the default, and as nothing else
+pub record Defaults {X : Type 0} (slot : Slot) (Reads : List ℕ → X → Type 0) (default : X) : Type 0 where
+  pub text : List ℕ
+  pub is : default_texts slot ≡ text ∷ []
+  pub reads : Reads text default
+  pub alone : (x : X) → Reads text x → x ≡ default
+
+-- Words of the form are taken, as the command with its slots' texts.
+pub record AreTaken (command : CommandWord) (others : List (List ℕ)) : Type 0 where
+  pub taken : takes program (word_of command ∷ others) ≡ true
+  pub rows : List Row
+  pub entered : subcommand_of program (word_of command ∷ others) ≡ Some (word_of command, rows)
+  pub stands : (slot : Slot) → Contains (slots_of command) slot → HasText others slot (first_of (id_of slot) rows)

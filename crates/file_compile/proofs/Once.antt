@@ -1,0 +1,129 @@
+-- A stage of a file has one text.
+use Rattle.std.proofs.Common.{◌≡◌, ℕ, List, [], ◌∷◌, refl, sym, ap, ◌∙◌, subst}
+use Rattle.std.specs.List.{AllZip, concat}
+use Rattle.cmm_tree.specs.Tree.{FunctionTree, FileTree, functions}
+use Rattle.combine_rules.specs.Combined.{combined}
+use Rattle.file_promise.proofs.Once.{made_for_once}
+use Rattle.image_form.specs.Tables.{Tables}
+use Rattle.image_listings.specs.Texts.{frames_text, code_text}
+use Rattle.lin_ir.specs.Text.{lin_text}
+use Rattle.lin_ir.specs.declared.lin.Lin.{Lin}
+use Rattle.linear_pass.specs.Linear.{IsLinearOf}
+use Rattle.linear_pass.proofs.Once.{linear_once}
+use Rattle.mach_ir.specs.Text.{mach_text}
+use Rattle.mach_ir.specs.declared.mach.Mach.{Mach}
+use Rattle.mach_passes.proofs.Once.{one_cleaned, one_with_slots}
+use Rattle.mach_passes.proofs.Whole.{one_prepared}
+use Rattle.made_functions.specs.Files.{IsFunctionMade}
+use Rattle.repeat_rules.proofs.One.{one_repeated}
+use Rattle.rounds_rules.specs.Rounds.{IsAllocated}
+use Rattle.rounds_rules.proofs.Once.{allocated_once}
+use Rattle.rv_pieces.specs.declared.piece.Pieces.{Pieces}
+use Rattle.selection_rules.specs.Select.{selected}
+use Rattle.stages.specs.declared.stage.Stage.{Stage}
+use Rattle.stages.specs.declared.stage.Stage.TheVariants.{Select, CombAlloc, Cse, Dead, Spill, Split, Alloc, Linear, Frames, Code}
+use Rattle.file_compile.specs.Listed.{IsAllocatedFor, IsLinearFor, IsTextOf, IsPassText, function_text, IsFunctionText, AreFunctionTexts, IsImageText, IsStageText}
+
+-- where one is made, one text is
+one_text : {X : Type 0} {text_of : X → List ℕ} {Is : X → Type 0} (a b : List ℕ) → ((x y : X) → Is x → Is y → x ≡ y) →
+    IsTextOf text_of Is a → IsTextOf text_of Is b → a ≡ b
+one_text {text_of = text_of} a b one of it = of.spelled ∙ ap text_of (one of.made it.made of.is it.is) ∙ sym it.spelled
+
+module _ (tree : FunctionTree) where
+  one_allocated : (m n : Mach) → IsAllocatedFor tree m → IsAllocatedFor tree n → m ≡ n
+  one_allocated m n a b =
+      let prepared = one_prepared (selected tree) a.prepared b.prepared a.is_prepared b.is_prepared in
+      allocated_once a.allocated (subst (λ (p : Mach). IsAllocated p n) (sym prepared) b.allocated)
+
+  one_linear : (l k : Lin) → IsLinearFor tree l → IsLinearFor tree k → l ≡ k
+  one_linear l k a b =
+      let same = one_allocated a.mach b.mach a.is_allocated b.is_allocated in
+      linear_once a.linear (subst (λ (p : Mach). IsLinearOf p k) (sym same) b.linear)
+
+  pass_once : (stage : Stage) (a b : List ℕ) → IsPassText stage tree a → IsPassText stage tree b → a ≡ b
+  pass_once Select a b of it = of ∙ sym it
+  pass_once CombAlloc a b of it = of ∙ sym it
+  pass_once Cse a b of it = one_text a b (one_repeated (combined (selected tree))) of it
+  pass_once Dead a b of it = one_text a b (one_cleaned (selected tree)) of it
+  pass_once Spill a b of it = one_text a b (one_with_slots (selected tree)) of it
+  pass_once Split a b of it = one_text a b (one_prepared (selected tree)) of it
+  pass_once Alloc a b of it = one_text a b one_allocated of it
+  pass_once Linear a b of it = one_text a b one_linear of it
+  pass_once Frames a b of it = of ∙ sym it
+  pass_once Code a b of it = of ∙ sym it
+
+  module _ {pieces : Pieces} (of : IsFunctionMade tree pieces) where
+    is_allocated : IsAllocatedFor tree of.made.mach
+    is_allocated = record { prepared = of.made.prepared; is_prepared = of.made.is_prepared; allocated = of.made.allocated }
+
+    -- what the code is made of is what the passes make
+    code_passed : (stage : Stage) → IsPassText stage tree (function_text stage tree of)
+    code_passed Select = refl
+    code_passed CombAlloc = refl
+    code_passed Cse = record { made = of.made.is_prepared.repeated; is = of.made.is_prepared.is_repeated; spelled = refl }
+    code_passed Dead = record {
+      made = of.made.is_prepared.dropped;
+      is = record {
+        repeated = of.made.is_prepared.repeated;
+        is_repeated = of.made.is_prepared.is_repeated;
+        is_dropped = of.made.is_prepared.is_dropped;
+      };
+      spelled = refl;
+    }
+    code_passed Spill = record {
+      made = of.made.is_prepared.spilled;
+      is = record {
+        dropped = of.made.is_prepared.dropped;
+        is_cleaned = record {
+          repeated = of.made.is_prepared.repeated;
+          is_repeated = of.made.is_prepared.is_repeated;
+          is_dropped = of.made.is_prepared.is_dropped;
+        };
+        is_spilled = of.made.is_prepared.is_spilled;
+      };
+      spelled = refl;
+    }
+    code_passed Split = record { made = of.made.prepared; is = of.made.is_prepared; spelled = refl }
+    code_passed Alloc = record { made = of.made.mach; is = is_allocated; spelled = refl }
+    code_passed Linear = record {
+      made = of.lin;
+      is = record { mach = of.made.mach; is_allocated = is_allocated; linear = of.made.linear };
+      spelled = refl;
+    }
+    code_passed Frames = refl
+    code_passed Code = refl
+
+  -- the text that the passes make is the function's at the stage
+  pub passed_text : (stage : Stage) (text : List ℕ) → IsPassText stage tree text → IsFunctionText stage tree text
+  passed_text stage text is =
+      record { passed = is; of_code = λ pieces of. pass_once stage text (function_text stage tree of) is (code_passed of stage) }
+
+module _ (stage : Stage) where
+  texts_once : (trees : List FunctionTree) (xs ys : List (List ℕ)) → AllZip (IsFunctionText stage) trees xs → AllZip (IsFunctionText stage) trees ys → xs ≡ ys
+  texts_once [] [] [] a b = refl
+  texts_once [] [] (y ∷ ys) a b = absurd b
+  texts_once [] (x ∷ xs) ys a b = absurd a
+  texts_once (t ∷ trees) [] ys a b = absurd a
+  texts_once (t ∷ trees) (x ∷ xs) [] a b = absurd b
+  texts_once (t ∷ trees) (x ∷ xs) (y ∷ ys) a b =
+      ap (λ (z : List ℕ). z ∷ xs) (pass_once t stage x y (a.0).passed (b.0).passed)
+      ∙ ap (λ (zs : List (List ℕ)). y ∷ zs) (texts_once trees xs ys a.1 b.1)
+
+  functions_once : (trees : List FunctionTree) (a b : List ℕ) → AreFunctionTexts stage trees a → AreFunctionTexts stage trees b → a ≡ b
+  functions_once trees a b of it = of.whole ∙ ap concat (texts_once trees of.texts it.texts of.each it.each) ∙ sym it.whole
+
+image_once : (text_of : Tables → List ℕ) (file : FileTree) (a b : List ℕ) → IsImageText text_of file a → IsImageText text_of file b → a ≡ b
+image_once text_of file a b of it = of.is ∙ ap text_of (made_for_once file of.image it.image of.made it.made) ∙ sym it.is
+
+-- The text of a stage of a file is one.
+pub stage_text_once : (file : FileTree) (stage : Stage) (a b : List ℕ) → IsStageText file stage a → IsStageText file stage b → a ≡ b
+stage_text_once file Select = functions_once Select (functions file)
+stage_text_once file CombAlloc = functions_once CombAlloc (functions file)
+stage_text_once file Cse = functions_once Cse (functions file)
+stage_text_once file Dead = functions_once Dead (functions file)
+stage_text_once file Spill = functions_once Spill (functions file)
+stage_text_once file Split = functions_once Split (functions file)
+stage_text_once file Alloc = functions_once Alloc (functions file)
+stage_text_once file Linear = functions_once Linear (functions file)
+stage_text_once file Frames = image_once frames_text file
+stage_text_once file Code = image_once code_text file

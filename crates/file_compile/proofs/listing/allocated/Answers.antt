@@ -1,0 +1,35 @@
+use Rattle.std.proofs.Common.{subst}
+use Rattle.cmm_tree.specs.View.{function_view}
+use Rattle.mach_ir.specs.declared.mach.Mach.{Mach}
+use Rattle.mach_passes.specs.Prepared.{IsPrepared}
+use Rattle.file_compile.proofs.Passing.{preparable, prepared_formed, prepared_placed, prepared_low}
+use Rattle.file_compile.proofs.listing.allocated.Goals as goal
+
+pub prepared-requires : goal.prepared-requires
+prepared-requires c = preparable (function_view c.args.function.now) c.requires.accepted c.in_ok-mach.mach c.in_ok-mach.ensures
+
+pub allocate-requires-clause-formed : goal.allocate-requires-clause-formed
+allocate-requires-clause-formed c =
+    prepared_formed (function_view c.args.function.now) c.requires.accepted c.in_ok-mach.mach c.in_ok-mach.ensures
+    c.in_ok-prepared.prepared c.in_ok-prepared.ensures
+
+pub allocate-requires-clause-placed : goal.allocate-requires-clause-placed
+allocate-requires-clause-placed c =
+    prepared_placed (function_view c.args.function.now) c.requires.accepted c.in_ok-mach.mach c.in_ok-mach.ensures
+    c.in_ok-prepared.prepared c.in_ok-prepared.ensures
+
+pub allocate-requires-clause-low : goal.allocate-requires-clause-low
+allocate-requires-clause-low c =
+    prepared_low (function_view c.args.function.now) c.requires.accepted c.in_ok-mach.mach c.in_ok-mach.ensures
+    c.in_ok-prepared.prepared c.in_ok-prepared.ensures
+
+pub returns : goal.returns
+returns c = record {
+  prepared = c.in_ok-prepared.prepared;
+  is_prepared = subst (λ (m : Mach). IsPrepared m c.in_ok-prepared.prepared) c.in_ok-mach.ensures c.in_ok-prepared.ensures;
+  allocated = record {
+    rounds = c.in_ok-placed.field-0.rounds;
+    rest = c.in_ok-placed.field-0.rest;
+    allocated = c.in_ok-placed.ensures;
+  };
+}

@@ -1,0 +1,8 @@
+use Rattle.std.proofs.lemmas.Result.{IfOk-weaker}
+use Rattle.file_compile.proofs.listing.places_text.Goals as goal
+
+pub returns : goal.returns
+returns c =
+    IfOk-weaker c.text.result _ _
+    (λ text spelled. record { made = c.in_ok-placed.placed; is = c.in_ok-placed.ensures; spelled = spelled })
+    c.text.ensures

@@ -1,0 +1,105 @@
+-- The text of a stage of the compiler: of one function, of all, and of the file.
+use Rattle.std.specs.Prelude.{◌≡◌, ℕ, List, [], None}
+use Rattle.std.specs.List.{AllZip, concat}
+use Rattle.cmm_tree.specs.Tree.{FunctionTree, FileTree, functions}
+use Rattle.combine_rules.specs.Combined.{combined}
+use Rattle.image_form.specs.Image.{AreTables}
+use Rattle.image_form.specs.Tables.{Tables}
+use Rattle.image_listings.specs.Texts.{frames_text, code_text}
+use Rattle.layout_rules.specs.TooLarge.{first_too_large}
+use Rattle.lin_ir.specs.Text.{lin_text}
+use Rattle.lin_ir.specs.declared.lin.Lin.{Lin}
+use Rattle.linear_pass.specs.Linear.{IsLinearOf}
+use Rattle.mach_ir.specs.Text.{mach_text}
+use Rattle.mach_ir.specs.declared.mach.Mach.{Mach}
+use Rattle.mach_passes.specs.Prepared.{IsPrepared}
+use Rattle.mach_passes.specs.Stages.{IsCleaned, HasSlots}
+use Rattle.made_functions.specs.Files.{IsFunctionMade, IsMadeFor}
+use Rattle.repeat_rules.specs.Repeated.{IsRepeated}
+use Rattle.rounds_rules.specs.Rounds.{IsAllocated}
+use Rattle.rv_pieces.specs.declared.piece.Pieces.{Pieces}
+use Rattle.selection_rules.specs.Select.{selected}
+use Rattle.stages.specs.declared.stage.Stage.{Stage}
+use Rattle.stages.specs.declared.stage.Stage.TheVariants.{Select, CombAlloc, Cse, Dead, Spill, Split, Alloc, Linear, Frames, Code}
+
+-- ---- functions
+
+-- It is what is selected of the function, prepared and with a place for each register.
+pub record IsAllocatedFor (tree : FunctionTree) (m : Mach) : Type 0 where
+  pub prepared : Mach
+  pub is_prepared : IsPrepared (selected tree) prepared
+  pub allocated : IsAllocated prepared m
+
+-- It is that as lines.
+pub record IsLinearFor (tree : FunctionTree) (l : Lin) : Type 0 where
+  pub mach : Mach
+  pub is_allocated : IsAllocatedFor tree mach
+  pub linear : IsLinearOf mach l
+
+-- It is the text of one of these.
+pub record IsTextOf {X : Type 0} (text_of : X → List ℕ) (Is : X → Type 0) (text : List ℕ) : Type 0 where
+  pub made : X
+  pub is : Is made
+  pub spelled : text ≡ text_of made
+
+-- the text of what the passes up to a stage make of a function; a stage of the image has none
+abbrev pub IsPassText : Stage → FunctionTree → List ℕ → Type 0
+IsPassText Select tree text = text ≡ mach_text (selected tree)
+IsPassText CombAlloc tree text = text ≡ mach_text (combined (selected tree))
+IsPassText Cse tree text = IsTextOf mach_text (IsRepeated (combined (selected tree))) text
+IsPassText Dead tree text = IsTextOf mach_text (IsCleaned (selected tree)) text
+IsPassText Spill tree text = IsTextOf mach_text (HasSlots (selected tree)) text
+IsPassText Split tree text = IsTextOf mach_text (IsPrepared (selected tree)) text
+IsPassText Alloc tree text = IsTextOf mach_text (IsAllocatedFor tree) text
+IsPassText Linear tree text = IsTextOf lin_text (IsLinearFor tree) text
+IsPassText Frames tree text = text ≡ []
+IsPassText Code tree text = text ≡ []
+
+-- the text of a function at a stage, by what its code is made of
+abbrev pub function_text : Stage → (tree : FunctionTree) {pieces : Pieces} → IsFunctionMade tree pieces → List ℕ
+function_text Select tree of = mach_text (selected tree)
+function_text CombAlloc tree of = mach_text (combined (selected tree))
+function_text Cse tree of = mach_text of.made.is_prepared.repeated
+function_text Dead tree of = mach_text of.made.is_prepared.dropped
+function_text Spill tree of = mach_text of.made.is_prepared.spilled
+function_text Split tree of = mach_text of.made.prepared
+function_text Alloc tree of = mach_text of.made.mach
+function_text Linear tree of = lin_text of.lin
+function_text Frames tree of = []
+function_text Code tree of = []
+
+-- This is the function's text at the stage: the passes up to it make it, and whatever code is made of the
+-- function is made of what this is the text of.
+pub record IsFunctionText (stage : Stage) (tree : FunctionTree) (text : List ℕ) : Type 0 where
+  pub passed : IsPassText stage tree text
+  pub of_code : (pieces : Pieces) (of : IsFunctionMade tree pieces) → text ≡ function_text stage tree of
+
+-- the texts of all, one after the other
+pub record AreFunctionTexts (stage : Stage) (trees : List FunctionTree) (text : List ℕ) : Type 0
+  where
+    pub texts : List (List ℕ)
+    pub each : AllZip (IsFunctionText stage) trees texts
+    pub whole : text ≡ concat texts
+
+-- ---- files
+
+-- This is such a text of the image that is made for the file, no section of which passes its limit.
+pub record IsImageText (text_of : Tables → List ℕ) (file : FileTree) (text : List ℕ) : Type 0 where
+  pub image : Tables
+  pub is_image : AreTables image
+  pub made : IsMadeFor file image
+  pub fits : first_too_large image ≡ None
+  pub is : text ≡ text_of image
+
+-- the text of a stage of a file
+abbrev pub IsStageText : FileTree → Stage → List ℕ → Type 0
+IsStageText file Select text = AreFunctionTexts Select (functions file) text
+IsStageText file CombAlloc text = AreFunctionTexts CombAlloc (functions file) text
+IsStageText file Cse text = AreFunctionTexts Cse (functions file) text
+IsStageText file Dead text = AreFunctionTexts Dead (functions file) text
+IsStageText file Spill text = AreFunctionTexts Spill (functions file) text
+IsStageText file Split text = AreFunctionTexts Split (functions file) text
+IsStageText file Alloc text = AreFunctionTexts Alloc (functions file) text
+IsStageText file Linear text = AreFunctionTexts Linear (functions file) text
+IsStageText file Frames text = IsImageText frames_text file text
+IsStageText file Code text = IsImageText code_text file text

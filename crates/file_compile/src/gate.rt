@@ -1,0 +1,23 @@
+//! What is told of each function as it is compiled.
+
+/// What is told when the compile of a function begins and when it ends, in the thread that compiles it. A function is
+/// told by its number among those of the file, from 0.
+///
+/// A Gate changes nothing that the compiler sees.
+pub trait Gate {
+    /// The compile of this function begins when this returns.
+    fn enter(&self, piece: u32);
+
+    /// The compile of this function has ended, also where memory ran out.
+    fn leave(&self, piece: u32);
+}
+
+/// A gate that does nothing, which the program uses.
+#[derive(Clone, Copy, PartialEq, Eq, Debug)]
+pub struct OpenGate;
+
+impl Gate for OpenGate {
+    fn enter(&self, _piece: u32) {}
+
+    fn leave(&self, _piece: u32) {}
+}

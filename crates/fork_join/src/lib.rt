@@ -1,0 +1,9 @@
+//! A function called with each number below a count, in threads that fork and join by halves.
+//!
+//! It knows nothing of what is computed: what the calls give stands in the order of their numbers, whatever
+//! order they ended in and however many threads there were.
+#![tactic(auto)]
+
+mod halves;
+
+pub use halves::map_in_halves;

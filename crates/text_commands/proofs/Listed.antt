@@ -1,0 +1,48 @@
+-- The text of a stage of the image is one of the text's image.
+use Rattle.std.proofs.Common.{◌≡◌, ◌<◌, ℕ, All, List, None}
+use Rattle.cmm_front.specs.FileOf.{IsFileOf}
+use Rattle.cmm_tree.specs.Tree.{FileTree}
+use Rattle.file_compile.proofs.Promised.{made_correct, made_in_need, made_bounded, made_exact}
+use Rattle.file_compile.specs.Listed.{IsImageText, IsStageText}
+use Rattle.image_form.specs.Image.{AreTables}
+use Rattle.image_form.specs.Tables.{Tables}
+use Rattle.image_listings.specs.Texts.{frames_text, code_text}
+use Rattle.layout_rules.specs.TooLarge.{first_too_large}
+use Rattle.made_functions.specs.Files.{IsMadeFor}
+use Rattle.stages.specs.declared.stage.Stage.{Stage}
+use Rattle.stages.specs.declared.stage.Stage.TheVariants.{Select, CombAlloc, Cse, Dead, Spill, Split, Alloc, Linear, Frames, Code}
+use Rattle.text_commands.proofs.Passing.{only_made}
+use Rattle.text_commands.specs.Compile.{IsImageOf}
+use Rattle.text_commands.specs.Listing.{ListsImage, ListsImageAt}
+
+-- the image that is made for the text's file, where it fits, is that of the text
+pub image_of : (text : List ℕ) (file : FileTree) → IsFileOf text file → All (λ b. b < 256) text → (image : Tables) → AreTables image → IsMadeFor file image →
+    first_too_large image ≡ None → IsImageOf text image
+image_of text file is are image tables made fits = record {
+  file = file;
+  is_file = is;
+  is_image = tables;
+  made = only_made file image made;
+  correct = made_correct text file is image made are tables;
+  in_need = made_in_need text file is image made are tables;
+  bounded = made_bounded text file is image made;
+  exact = made_exact text file is image made;
+  fits = fits;
+}
+
+module _ (text : List ℕ) (file : FileTree) (is : IsFileOf text file) (are : All (λ b. b < 256) text) (bytes : List ℕ) where
+  of_image : (text_of : Tables → List ℕ) → IsImageText text_of file bytes → ListsImage text_of text bytes
+  of_image text_of listed =
+      record { image = listed.image; is_image = image_of text file is are listed.image listed.is_image listed.made listed.fits; is = listed.is }
+
+  pub lists_image : (stage : Stage) → IsStageText file stage bytes → ListsImageAt stage text bytes
+  lists_image Select listed = tt
+  lists_image CombAlloc listed = tt
+  lists_image Cse listed = tt
+  lists_image Dead listed = tt
+  lists_image Spill listed = tt
+  lists_image Split listed = tt
+  lists_image Alloc listed = tt
+  lists_image Linear listed = tt
+  lists_image Frames listed = of_image frames_text listed
+  lists_image Code listed = of_image code_text listed

@@ -1,0 +1,39 @@
+use Rattle.std.proofs.Common.{Err, ap, arith}
+use Rattle.bs_words.specs.Contents.{contents}
+use Rattle.cmm_front.specs.FileOf.{tree_of}
+use Rattle.cmm_walks.specs.Checked.{typed_of}
+use Rattle.file_compile.proofs.Promised.{all_bytes, stage_text_once}
+use Rattle.text_commands.proofs.Listed.{lists_image}
+use Rattle.text_commands.proofs.Passing.{too_large}
+use Rattle.text_commands.proofs.list.list_text.Goals as goal
+
+-- its file is the text's, so that it is an accepted one
+pub stage_text-requires-clause-accepted : goal.stage_text-requires-clause-accepted
+stage_text-requires-clause-accepted g c = record {
+  text = c.args.text.now;
+  are_bytes = all_bytes c.args.text.now (λ i. omega (arith, c.type_inv.text i));
+  is_file = c.in-Ok.ensures.file;
+}
+
+pub returns-in-Ok-stage_text-clause-listed : goal.returns-in-Ok-stage_text-clause-listed
+returns-in-Ok-stage_text-clause-listed g c =
+    let text = c.args.text.now in
+    let file = tree_of (typed_of c.in-Ok.checked) in
+    let bytes = contents c.in-Ok-stage_text.bytes in
+    record {
+      file = file;
+      is_file = c.in-Ok.ensures.file;
+      is = c.in-Ok-stage_text.ensures.text;
+      only = λ other it. stage_text_once file c.args.stage other bytes it c.in-Ok-stage_text.ensures.text;
+      image =
+          lists_image text file c.in-Ok.ensures.file (all_bytes text (λ i. omega (arith, c.type_inv.text i))) bytes c.args.stage
+          c.in-Ok-stage_text.ensures.text;
+    }
+
+pub returns-in-Err-TooLarge-clause-refused : goal.returns-in-Err-TooLarge-clause-refused
+returns-in-Err-TooLarge-clause-refused g c =
+    rw c.in-Err-TooLarge.field-0-is (
+      c.in-Err-TooLarge.ensures.of_image c.in-Err-TooLarge.large (ap Err c.in-Err-TooLarge.field-0-is),
+      too_large c.args.text.now (tree_of (typed_of c.in-Ok.checked)) c.in-Err-TooLarge.large c.in-Ok.ensures.file
+          (c.in-Err-TooLarge.ensures.large c.in-Err-TooLarge.large (ap Err c.in-Err-TooLarge.field-0-is)),
+    )

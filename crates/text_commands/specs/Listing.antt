@@ -1,0 +1,46 @@
+-- What listing a stage of a text gives, and why nothing is listed.
+use Rattle.std.specs.Prelude.{◌≡◌, ⊤, ℕ, List}
+use Rattle.cmm_front.specs.FileOf.{IsFileOf, HasFault}
+use Rattle.cmm_tree.specs.Tree.{FileTree}
+use Rattle.file_compile.specs.Listed.{IsStageText}
+use Rattle.stages.specs.Image.{IsOfImage}
+use Rattle.image_form.specs.Tables.{Tables}
+use Rattle.image_listings.specs.Texts.{frames_text, code_text}
+use Rattle.stages.specs.declared.stage.Stage.{Stage}
+use Rattle.stages.specs.declared.stage.Stage.TheVariants.{Select, CombAlloc, Cse, Dead, Spill, Split, Alloc, Linear, Frames, Code}
+use Rattle.text_commands.specs.Compile.{IsImageOf, IsTooLarge}
+use Rattle.text_commands.specs.declared.compile.Refusal.{Refusal}
+use Rattle.text_commands.specs.declared.compile.Refusal.TheVariants.{Fault, TooLarge, OutOfMemory}
+
+-- These bytes are such a text of the image of the text, which is correct, and exact.
+pub record ListsImage (text_of : Tables → List ℕ) (text bytes : List ℕ) : Type 0 where
+  pub image : Tables
+  pub is_image : IsImageOf text image
+  pub is : bytes ≡ text_of image
+
+-- at a stage of the image the bytes are a text of the image
+abbrev pub ListsImageAt : Stage → List ℕ → List ℕ → Type 0
+ListsImageAt Select text bytes = ⊤
+ListsImageAt CombAlloc text bytes = ⊤
+ListsImageAt Cse text bytes = ⊤
+ListsImageAt Dead text bytes = ⊤
+ListsImageAt Spill text bytes = ⊤
+ListsImageAt Split text bytes = ⊤
+ListsImageAt Alloc text bytes = ⊤
+ListsImageAt Linear text bytes = ⊤
+ListsImageAt Frames text bytes = ListsImage frames_text text bytes
+ListsImageAt Code text bytes = ListsImage code_text text bytes
+
+-- The text has a file, and these bytes are the text of that stage of it, and no others.
+pub record IsListingOf (stage : Stage) (text bytes : List ℕ) : Type 0 where
+  pub file : FileTree
+  pub is_file : IsFileOf text file
+  pub is : IsStageText file stage bytes
+  pub only : (other : List ℕ) → IsStageText file stage other → other ≡ bytes
+  pub image : ListsImageAt stage text bytes
+
+-- Why nothing is listed. The size of the image is a cause for a stage of the image alone.
+abbrev pub IsListRefusal : Stage → List ℕ → Refusal → Type 0
+IsListRefusal stage text (Fault told) = HasFault text told
+IsListRefusal stage text (TooLarge large) = IsOfImage stage × IsTooLarge text large
+IsListRefusal stage text OutOfMemory = ⊤

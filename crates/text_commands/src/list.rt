@@ -1,0 +1,41 @@
+//! Listing a stage of the compiler for a text.
+ghost use Rattle.std.specs.Prelude.{IfOk, IfErr};
+ghost use Rattle.bs_words.specs.Contents.{contents};
+ghost use Rattle.text_commands.specs.Listing.{IsListingOf, IsListRefusal};
+
+use crate::compile::Refusal;
+use bs_fault::{BuildError, FrontError};
+use bs_words::List;
+use cmm_front::front;
+use file_compile::stage_text;
+use stages::Stage;
+use std::alloc::Global;
+use std::thread::Threads;
+
+/// The text of a stage of a text's file.
+///
+/// # Errors
+///
+/// `Fault` exactly where the text has a fault, with the one that is reported; else `TooLarge` exactly where the stage is
+/// one of the image, and a section of the image passes its limit, with the first that does. `OutOfMemory` where memory
+/// ran out before the answer is known.
+pub fn list_text<R: Threads + Sync>(
+    rt: &R,
+    alloc: Global,
+    text: &[u8],
+    stage: Stage,
+) -> Result<List<u8>, Refusal>
+    ensures listed { IfOk result (λ bytes. IsListingOf stage text.now (contents bytes)) }
+    ensures refused { IfErr result (λ r. IsListRefusal stage text.now r) }
+{
+    let checked = match front(alloc, text) {
+        Ok(checked) => checked,
+        Err(FrontError::Fault(fault)) => return Err(Refusal::Fault(fault)),
+        Err(FrontError::OutOfMemory) => return Err(Refusal::OutOfMemory),
+    };
+    match stage_text(rt, alloc, &checked, stage) {
+        Ok(bytes) => Ok(bytes),
+        Err(BuildError::TooLarge(large)) => Err(Refusal::TooLarge(large)),
+        Err(BuildError::OutOfMemory) => Err(Refusal::OutOfMemory),
+    }
+}

@@ -1,0 +1,75 @@
+//! A text compiled, and run by its meaning.
+ghost use Rattle.std.specs.Prelude.{IfOk, IfErr};
+ghost use Rattle.bs_words.specs.Contents.{contents};
+ghost use Rattle.command_line.specs.View.{check_view};
+ghost use Rattle.image_form.specs.Image.{IsImage};
+ghost use Rattle.image_form.specs.Tables.{tables};
+ghost use Rattle.text_commands.specs.CheckRefusal.{IsCheckRefusal};
+ghost use Rattle.text_commands.specs.Trial.{IsTrial};
+
+use crate::call::{CallRefusal, call_of};
+use crate::check::CheckRefusal;
+use crate::run::outcome_of_run;
+use bs_fault::{BuildError, FrontError};
+use bs_words::List;
+use cmm_front::front;
+use command_line::CheckWords;
+use file_compile::{Gate, compile, layout};
+use image_form::Image;
+use std::alloc::Global;
+use std::thread::Threads;
+
+/// The image of a text, and the outcome of a run of one of its functions by its meaning.
+#[derive(Debug, Drop)]
+pub struct Trial {
+    pub image: Image,
+    pub outcome: List<u8>,
+}
+
+/// A text's image, which is compiled by one job, and the outcome of the run that the words ask for, with the frames and
+/// addresses of functions in that image.
+///
+/// # Errors
+///
+/// `Fault` exactly where the text has a fault, with the one that is reported; else `UnknownEntry` exactly where it has
+/// no function of the entry's name; else `ArgumentUnfit` exactly where the words do not suit that function; else
+/// `TooLarge` exactly where a section of its image passes its limit, with the first that does. `OutOfMemory` where
+/// memory ran out before the answer is known.
+pub fn trial_of<R: Threads + Sync, G: Gate + Sync>(
+    rt: &R,
+    alloc: Global,
+    text: &[u8],
+    check: &CheckWords,
+    gate: &G,
+) -> Result<Trial, CheckRefusal>
+    ensures is_image { IfOk result (λ trial. IsImage trial.image) }
+    ensures told { IfOk result (λ trial.
+        IsTrial (check_view check.now) text.now (tables trial.image) (contents trial.outcome)) }
+    ensures refused { IfErr result (λ r. IsCheckRefusal (check_view check.now) text.now r) }
+{
+    let checked = match front(alloc, text) {
+        Ok(checked) => checked,
+        Err(FrontError::Fault(fault)) => return Err(CheckRefusal::Fault(fault)),
+        Err(FrontError::OutOfMemory) => return Err(CheckRefusal::OutOfMemory),
+    };
+    let file = checked.typed().file();
+    let call = match call_of(alloc, file, check) {
+        Ok(call) => call,
+        Err(CallRefusal::UnknownEntry) => return Err(CheckRefusal::UnknownEntry),
+        Err(CallRefusal::ArgumentUnfit) => return Err(CheckRefusal::ArgumentUnfit),
+        Err(CallRefusal::OutOfMemory) => return Err(CheckRefusal::OutOfMemory),
+    };
+    let image = match compile(rt, alloc, &checked, 1, gate) {
+        Ok(image) => image,
+        Err(BuildError::TooLarge(large)) => return Err(CheckRefusal::TooLarge(large)),
+        Err(BuildError::OutOfMemory) => return Err(CheckRefusal::OutOfMemory),
+    };
+    let layout = match layout(alloc, &image) {
+        Ok(layout) => layout,
+        Err(_) => return Err(CheckRefusal::OutOfMemory),
+    };
+    match outcome_of_run(alloc, file, &layout, &call, check.fuel) {
+        Ok(outcome) => Ok(Trial { image, outcome }),
+        Err(_) => Err(CheckRefusal::OutOfMemory),
+    }
+}
