@@ -12,7 +12,7 @@ use Rattle.linear_pass.specs.Linear.{IsLinearOf}
 use Rattle.linear_pass.proofs.Once.{linear_once}
 use Rattle.mach_ir.specs.Text.{mach_text}
 use Rattle.mach_ir.specs.declared.mach.Mach.{Mach}
-use Rattle.mach_passes.proofs.Once.{one_cleaned, one_with_slots}
+use Rattle.file_compile.proofs.Stages.{one_cleaned, one_with_slots}
 use Rattle.mach_passes.proofs.Whole.{one_prepared}
 use Rattle.made_functions.specs.Files.{IsFunctionMade}
 use Rattle.repeat_rules.proofs.One.{one_repeated}

@@ -5,4 +5,3 @@ pub mod Repeated
 pub mod Dropped
 pub mod Combined
 pub mod Stages
-pub mod Once
