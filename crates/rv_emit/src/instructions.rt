@@ -70,6 +70,7 @@ fn low_12(word: u64) -> u16
 }
 
 impl Output {
+    /// An operation of a register and a constant, of which the low 12 bits are taken.
     pub fn with_immediate(
         &mut self,
         op: AluImmOp,
@@ -87,18 +88,21 @@ impl Output {
         })
     }
 
+    /// A register and a constant, of which the low 12 bits are taken as a signed number: their sum.
     pub fn addi(&mut self, to: Register, from: Register, word: u64) -> Result<(), AllocError>
         ensures { IfOk result (λ _. Adds self.old self.new (addi to from word ∷ [])) }
     {
         self.with_immediate(AluImmOp::Addi, to, from, word)
     }
 
+    /// The value of one register in another.
     pub fn mv(&mut self, to: Register, from: Register) -> Result<(), AllocError>
         ensures { IfOk result (λ _. Adds self.old self.new (mv to from ∷ [])) }
     {
         self.addi(to, from, 0)
     }
 
+    /// An operation of two registers.
     pub fn operation(
         &mut self,
         op: AluOp,
@@ -116,12 +120,14 @@ impl Output {
         })
     }
 
+    /// The sum of two registers.
     pub fn add(&mut self, to: Register, left: Register, right: Register) -> Result<(), AllocError>
         ensures { IfOk result (λ _. Adds self.old self.new (add to left right ∷ [])) }
     {
         self.operation(AluOp::Add, to, left, right)
     }
 
+    /// A register shifted by so many bits, modulo 64.
     pub fn shift(
         &mut self,
         op: ShiftOp,
@@ -149,6 +155,7 @@ impl Output {
         })
     }
 
+    /// As `addi`, on words of 32 bits, whose sum is extended by its sign.
     pub fn addiw(&mut self, to: Register, from: Register, word: u64) -> Result<(), AllocError>
         ensures { IfOk result (λ _. Adds self.old self.new (addiw to from word ∷ [])) }
     {
@@ -159,6 +166,7 @@ impl Output {
         })
     }
 
+    /// The instruction's own address.
     pub fn auipc(&mut self, to: Register) -> Result<(), AllocError>
         ensures { IfOk result (λ _. Adds self.old self.new (auipc to ∷ [])) }
     {
@@ -168,6 +176,7 @@ impl Output {
         })
     }
 
+    /// The bytes from so many after the address in a register, extended as the width says.
     pub fn load(
         &mut self,
         width: LoadWidth,
@@ -185,6 +194,7 @@ impl Output {
         })
     }
 
+    /// The low bytes of a register, to so many after the address in another.
     pub fn store(
         &mut self,
         width: StoreWidth,
@@ -242,6 +252,7 @@ impl Output {
         })
     }
 
+    /// A call of the service whose number is in t2.
     pub fn ecall(&mut self) -> Result<(), AllocError>
         ensures { IfOk result (λ _. Adds self.old self.new (ecall ∷ [])) }
     {

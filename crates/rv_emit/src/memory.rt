@@ -91,6 +91,7 @@ impl Output {
         self.load(load_width(chunk), to, address, address_offset(offset))
     }
 
+    /// Loads through an address and an offset, into a register or a slot.
     pub fn load_part(
         &mut self,
         traps: u32,
@@ -109,6 +110,7 @@ impl Output {
         self.kept(traps, to)
     }
 
+    /// Stores through an address and an offset, from a register or a slot.
     pub fn store_part(
         &mut self,
         traps: u32,
@@ -201,6 +203,8 @@ impl Output {
         }
     }
 
+    /// Takes the blocks' bytes off the heap, asking the allocation service where there is no room for them, which is the
+    /// frame point, and puts each block's address where its result is.
     pub fn alloc_part(
         &mut self,
         traps: u32,

@@ -24,6 +24,7 @@ impl Output {
         }
     }
 
+    /// One piece.
     pub fn put(&mut self, piece: Piece) -> Result<(), AllocError>
         ensures { IfOk result (λ _. Adds self.old self.new (piece ∷ [])) }
     {

@@ -26,6 +26,7 @@ impl Output {
         self.goes_to(Register::T1, 0)
     }
 
+    /// Pushes a trap: the handler of the label, and the trap before.
     pub fn push_part(&mut self, label: u32) -> Result<(), AllocError>
         ensures { IfOk result (λ _. Adds self.old self.new (push_part label)) }
     {
@@ -46,6 +47,7 @@ impl Output {
         self.load(LoadWidth::Ld, Register::S1, Register::Sp, 8)
     }
 
+    /// Pops the last trap: the one before is the last again.
     pub fn pop_part(&mut self) -> Result<(), AllocError>
         ensures { IfOk result (λ _. Adds self.old self.new pop_part) }
     {
