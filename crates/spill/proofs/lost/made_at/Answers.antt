@@ -1,3 +1,4 @@
+use Rattle.std.proofs.Common.{refl}
 use Rattle.spill.proofs.Making.{made_over}
 use Rattle.spill.proofs.lost.made_at.Goals as goal
 
