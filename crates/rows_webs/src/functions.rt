@@ -35,14 +35,14 @@ fn call(alloc: Global) -> Result<Op> {
     }))
 }
 
-/// An external call that takes nothing and gives nothing.
-fn poll(alloc: Global) -> Result<Op> {
+/// An external call that takes nothing and gives nothing. With the mark it is a frame call.
+fn poll(alloc: Global, frame: bool) -> Result<Op> {
     let row = External {
         name: name(alloc, "caml_poll")?,
         params: Seq::from_vec(Vec::new(alloc)),
         result: Ret::Unit,
     };
-    Ok(Op::Calling(Calling::External { row, frame: false }))
+    Ok(Op::Calling(Calling::External { row, frame }))
 }
 
 /// A test whether a register is below a number, and else a label.
@@ -254,21 +254,45 @@ pub(crate) fn twice(alloc: Global) -> Result<Mach> {
     code.function("twice", &[A0])
 }
 
-/// Thirty registers that live over an external call, and their sum after it.
+/// Thirty registers that live over a call, and their sum after it.
 pub(crate) fn many(alloc: Global) -> Result<Mach> {
     let mut code = Code::new(alloc);
     let sum = open(51);
     for number in 21..51 {
         code.op(constant(u64::from(number)), &[], &[open(number)])?;
     }
-    code.op(poll(alloc)?, &[], &[])?;
+    code.op(call(alloc)?, &[A0], &[A0])?;
     code.op(PLUS, &[open(21), open(22)], &[sum])?;
     for number in 23..51 {
         code.op(PLUS, &[sum, open(number)], &[sum])?;
     }
     code.op(MOVE, &[sum], &[A0])?;
     code.op(RETURN, &[A0], &[])?;
-    code.function("many", &[])
+    code.function("many", &[A0])
+}
+
+/// A register that lives over an external call, one that lives over this and a frame call, and one that
+/// lives over both and a call.
+pub(crate) fn outside(alloc: Global) -> Result<Mach> {
+    let mut code = Code::new(alloc);
+    let first = open(21);
+    let second = open(22);
+    let third = open(23);
+    let sum = open(24);
+    code.op(MOVE, &[A0], &[first])?;
+    code.op(add(1), &[first], &[second])?;
+    code.op(add(2), &[second], &[third])?;
+    code.op(poll(alloc, false)?, &[], &[])?;
+    code.op(PLUS, &[first, second], &[second])?;
+    code.op(poll(alloc, true)?, &[], &[])?;
+    code.op(PLUS, &[second, third], &[sum])?;
+    code.op(MOVE, &[sum], &[A0])?;
+    code.op(call(alloc)?, &[A0], &[A0])?;
+    code.op(MOVE, &[A0], &[sum])?;
+    code.op(PLUS, &[sum, third], &[sum])?;
+    code.op(MOVE, &[sum], &[A0])?;
+    code.op(RETURN, &[A0], &[])?;
+    code.function("outside", &[A0])
 }
 
 /// A call that no register lives over.

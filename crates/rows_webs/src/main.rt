@@ -78,6 +78,7 @@ fn main(rt: HostRuntime) -> Result<()> {
     put_spilled(alloc, &mut out, functions::handled(alloc)?)?;
     put_spilled(alloc, &mut out, functions::twice(alloc)?)?;
     put_spilled(alloc, &mut out, functions::many(alloc)?)?;
+    put_spilled(alloc, &mut out, functions::outside(alloc)?)?;
     put_spilled(alloc, &mut out, functions::short(alloc)?)?;
     out.flush()?;
     Ok(())

@@ -1,19 +1,18 @@
 -- The nodes of the two graphs, made from the end of the text.
-use Rattle.std.proofs.Common.{◌≡◌, ◌↔◌, ℕ, zero, suc, ◌-◌, ◌<◌, ◌≤◌, Bool, true, List, [], ◌∷◌, ◌++◌, map, length, drop, refl, sym, ap, ◌∙◌, subst, arith}
+use Rattle.std.proofs.Common.{◌≡◌, ◌↔◌, ℕ, zero, suc, ◌-◌, ◌<◌, ◌≤◌, Bool, List, [], ◌∷◌, ◌++◌, map, length, drop, refl, sym, ap, ◌∙◌, subst, arith}
 use Rattle.std.proofs.Math.Seq.{drop-length}
 use Rattle.std.specs.List.{Contains}
 use Rattle.std.specs.Prelude.{slice_index_or}
 use Rattle.bs_words.specs.Contents.{contents}
 use Rattle.dataflow.specs.declared.flow.Flow as flow
 use Rattle.dataflow.specs.declared.flow.Place as place
-use Rattle.mach_ir.specs.Meaning.{destroyed_by, written}
+use Rattle.mach_ir.specs.Meaning.{Everything, destroyed_by, written}
 use Rattle.mach_ir.specs.declared.mach.Instr.{Instr}
 use Rattle.mach_ir.specs.declared.mach.Mach.{Mach}
 use Rattle.mach_laws.proofs.Walking.{none_in}
 use Rattle.mach_laws.specs.Graph.{place_of, numbers, next_places, raise_places, numbers_read, numbers_written, IsFlowOf}
 use Rattle.liveness.specs.Nodes.{IsNode}
 use Rattle.liveness.proofs.Lists.{place_here, place_next}
-use Rattle.spill_rules.specs.Chosen.{destroys}
 use Rattle.spill.specs.Graphs.{IsBare, IsLivingOver, IsLostPlace, IsLostNode, AreLostNodes, at_end, before, reloaded_among, wanted_uses, IsWantedPlace}
 
 module _ (m : Mach) (old : flow.Flow) (is : IsFlowOf m old) where
@@ -51,7 +50,7 @@ module _ (m : Mach) (old : flow.Flow) (is : IsFlowOf m old) where
 
     abbrev Made : List (List Bool) → List ℕ → ℕ → List ℕ → Type 0
     Made rows found after ws =
-        (n : ℕ) → Contains found n ↔ ((destroys (destroyed_by i.op) ≡ true) × IsLivingOver rows after old.bound ws n)
+        (n : ℕ) → Contains found n ↔ ((destroyed_by i.op ≡ Everything) × IsLivingOver rows after old.bound ws n)
 
     pub lost_node_is : (rows : List (List Bool)) (y : place.Place) → IsLostPlace rows left old.bound i.op x y →
         IsLostNode m rows old.bound (i ∷ drop left m.code) y

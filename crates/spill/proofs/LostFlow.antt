@@ -1,5 +1,5 @@
 -- What reaches a place in the graph of lost registers is what is lost there.
-use Rattle.std.proofs.Common.{◌≡◌, ℕ, zero, suc, ◌<◌, ◌≤◌, Bool, true, ◌⊎◌, inl, inr, ⊎_elim, List, [], ◌∷◌, ◌++◌, map, length, drop, refl, sym, ap, ◌∙◌, subst, arith}
+use Rattle.std.proofs.Common.{◌≡◌, ℕ, zero, suc, ◌<◌, ◌≤◌, Bool, ◌⊎◌, inl, inr, ⊎_elim, List, [], ◌∷◌, ◌++◌, map, length, drop, refl, sym, ap, ◌∙◌, subst, arith}
 use Rattle.std.specs.List.{All, Contains}
 use Rattle.std.specs.Prelude.{slice_index_or}
 use Rattle.bs_words.specs.Contents.{contents}
@@ -10,7 +10,7 @@ use Rattle.dataflow.specs.declared.flow.Flow as flow
 use Rattle.dataflow.specs.declared.flow.Place as place
 use Rattle.mach_ir.specs.Acts.{Target, On}
 use Rattle.mach_ir.specs.Graph.{IsLiveMap}
-use Rattle.mach_ir.specs.Meaning.{destroyed_by, code_at, written}
+use Rattle.mach_ir.specs.Meaning.{Everything, destroyed_by, code_at, written}
 use Rattle.mach_ir.specs.Walks.{OneOf, targets, goes, Leads, Live, Writes, Stands}
 use Rattle.mach_ir.specs.declared.graph.LiveMap.{LiveMap}
 use Rattle.mach_ir.specs.declared.mach.Instr.{Instr}
@@ -21,7 +21,7 @@ use Rattle.mach_laws.proofs.Places.{ending_next}
 use Rattle.mach_laws.proofs.Walking.{none_in, place_is}
 use Rattle.places_rules.proofs.Walked.{stands_of}
 use Rattle.liveness.proofs.Bounds.{no_items, split_in}
-use Rattle.spill_rules.specs.Chosen.{destroys, lives, Lost, over, still}
+use Rattle.spill_rules.specs.Chosen.{lives, Lost, over, still}
 use Rattle.spill_rules.proofs.Chosen.{ending_of}
 use Rattle.spill.specs.Graphs.{IsMadeBefore, IsLostNode, AreLostNodes, at_end, before}
 use Rattle.spill.specs.Tables.{AreLost}
@@ -92,7 +92,7 @@ module _ (m : Mach) (live : LiveMap) (exact : IsLiveMap m live) (old : flow.Flow
         let a = at o le in
         none_in q (subst (λ xs. Contains xs q) (a.part (λ x. contents x.aside) ∙ (a.is_node).aside) c)
 
-    turned : {i : Instr} {next : List Instr} (n : ℕ) (t : Target) → t ≡ On → Stands i next m.code → destroys (destroyed_by i.op) ≡ true →
+    turned : {i : Instr} {next : List Instr} (n : ℕ) (t : Target) → t ≡ On → Stands i next m.code → destroyed_by i.op ≡ Everything →
         (Writes m i n → ⊥) → OneOf t (targets i.op) → Live m n next → Lost m n (code_at m.code next t)
     turned {i} {next} n t e s d w o v =
         subst (λ t. Lost m n (code_at m.code next t)) (sym e)
@@ -149,7 +149,7 @@ module _ (m : Mach) (live : LiveMap) (exact : IsLiveMap m live) (old : flow.Flow
         subst (λ xs. Contains xs p) (sym (a.part (λ x. contents x.next) ∙ (a.is_node).next ∙ ap (next_places m) (place_is m e)))
         (subst (Contains (next_places m (i ∷ next))) (place_back m p to le h) (steps_to m l))
 
-    next_live : {i : Instr} {next to : List Instr} {n : ℕ} → destroys (destroyed_by i.op) ≡ true → Leads m i next to → Live m n to → Live m n next
+    next_live : {i : Instr} {next to : List Instr} {n : ℕ} → destroyed_by i.op ≡ Everything → Leads m i next to → Live m n to → Live m n next
     next_live {i} {next} {n = n} d (goes t o) v = subst (λ t. Live m n (code_at m.code next t)) (destroys_on i.op t d o) v
 
     comes_to : {n : ℕ} {rest : List Instr} → Lost m n rest → (p : ℕ) → p ≤ length m.code → drop p m.code ≡ rest → ComesTo g p n

@@ -4,9 +4,8 @@ use Rattle.std.proofs.lemmas.Bool.{cases_lt}
 use Rattle.std.specs.List.{Contains}
 use Rattle.mach_laws.proofs.Walking.{none_in, first_in, later_in, in_cons}
 use Rattle.liveness.proofs.Bounds.{split_in}
-use Rattle.mach_ir.specs.Meaning.{destroyed_by}
+use Rattle.mach_ir.specs.Meaning.{Everything, destroyed_by}
 use Rattle.mach_ir.specs.declared.mach.MachOp.{MachOp}
-use Rattle.spill_rules.specs.Chosen.{destroys}
 use Rattle.spill.specs.Graphs.{LivesAt, AreLivingOver, AreMade}
 
 pub left_in : {A : Type 0} (xs ys : List A) (y : A) → Contains xs y → Contains (xs ++ ys) y
@@ -60,13 +59,6 @@ module _ (rows : List (List Bool)) (after : ℕ) (written : List ℕ) where
         (below_or n k h.0),
   )
 
-  pub made_over : (bound : ℕ) (f : MachOp) (found : List ℕ) → true ≡ destroys (destroyed_by f) →
+  pub made_over : (bound : ℕ) (f : MachOp) (found : List ℕ) → destroyed_by f ≡ Everything →
       AreLivingOver rows after bound written found → AreMade rows after bound written f found
-  made_over bound f found e old = λ n. (λ c. (sym e, (old n).0 c), λ h. (old n).1 h.1)
-
-  pub made_none : (bound : ℕ) (f : MachOp) (found : List ℕ) → destroys (destroyed_by f) ≡ false → found ≡ [] →
-      AreMade rows after bound written f found
-  made_none bound f found e none = λ n. (
-    λ c. absurd (none_in n (subst (λ xs. Contains xs n) none c)),
-    λ h. absurd (not_both (destroys (destroyed_by f)) h.0 e),
-  )
+  made_over bound f found e old = λ n. (λ c. (e, (old n).0 c), λ h. (old n).1 h.1)

@@ -10,7 +10,7 @@ use Rattle.dataflow.specs.Flow as flows
 use Rattle.dataflow.specs.declared.flow.Flow as flow
 use Rattle.dataflow.specs.declared.flow.Place as place
 use Rattle.mach_ir.specs.Acts.{Target, On}
-use Rattle.mach_ir.specs.Meaning.{destroyed_by, code_at, from_handler, tries_at}
+use Rattle.mach_ir.specs.Meaning.{Nothing, Everything, destroyed_by, code_at, from_handler, tries_at}
 use Rattle.mach_ir.specs.Walks.{Among, first, later, OneOf, this, other, next_if, targets, may_raise, goes, raises, Leads, Raises, Live, read, on, aside}
 use Rattle.mach_ir.specs.declared.mach.Mark.TheVariants as mark
 use Rattle.mach_ir.specs.declared.mach.MachOp.{MachOp}
@@ -23,7 +23,6 @@ use Rattle.mach_laws.specs.Graph.{place_of, numbers, handler_places, next_places
 use Rattle.mach_laws.proofs.Places.{ending_from_handler}
 use Rattle.mach_laws.proofs.Walking.{none_in, first_in, later_in, in_cons, ending_at, place_is, ending_drop}
 use Rattle.liveness.proofs.Bounds.{no_items}
-use Rattle.spill_rules.specs.Chosen.{destroys}
 
 pub member : {A : Type 0} (P : A → Type 0) (xs : List A) (y : A) → All P xs → Contains xs y → P y
 member P xs y h c = subst P c.2 (h c.0 y c.1)
@@ -41,17 +40,17 @@ pub in_numbers : {n : ℕ} {rs : List Reg} → Among n rs → Contains (numbers 
 in_numbers {n} (first {r = r} {rs = rs} e) = subst (Contains (r.number ∷ numbers rs)) e (first_in r.number (numbers rs))
 in_numbers {n} (later {r = r} {rs = rs} a) = later_in r.number n (numbers rs) (in_numbers a)
 
--- ---- what destroys colours goes on, if anywhere
+-- ---- what destroys every colour goes on, if anywhere
 
 only_next : (b : Bool) (t : Target) → OneOf t (next_if b) → t ≡ On
 only_next true t this = refl
 only_next true t (other o) = elim o [ ]
 only_next false t o = elim o [ ]
 
-differ : false ≡ true → ⊥
+differ : Nothing ≡ Everything → ⊥
 differ e = cc
 
-pub destroys_on : (f : MachOp) (t : Target) → destroys (destroyed_by f) ≡ true → OneOf t (targets f) → t ≡ On
+pub destroys_on : (f : MachOp) (t : Target) → destroyed_by f ≡ Everything → OneOf t (targets f) → t ≡ On
 destroys_on (mach.Op f) t e o = only_next _ t o
 destroys_on (mach.Mark (mark.Exit l n)) t e o = absurd (differ e)
 destroys_on (mach.Mark (mark.If test l)) t e o = absurd (differ e)

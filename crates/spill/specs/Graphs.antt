@@ -4,14 +4,13 @@ use Rattle.bs_bits.specs.Set.{has}
 use Rattle.bs_words.specs.Contents.{contents}
 use Rattle.dataflow.specs.Rows.{row}
 use Rattle.dataflow.specs.declared.flow.Place as place
-use Rattle.mach_ir.specs.Meaning.{destroyed_by, written}
+use Rattle.mach_ir.specs.Meaning.{Everything, destroyed_by, written}
 use Rattle.mach_ir.specs.declared.reg.Reg.{Reg}
 use Rattle.mach_ir.specs.declared.mach.Instr.{Instr}
 use Rattle.mach_ir.specs.declared.mach.MachOp.{MachOp}
 use Rattle.mach_ir.specs.declared.mach.Mach.{Mach}
 use Rattle.mach_laws.specs.Graph.{place_of, numbers, next_places, numbers_read, numbers_written}
 use Rattle.liveness.specs.Nodes.{Uses}
-use Rattle.spill_rules.specs.Chosen.{destroys}
 use Rattle.spill.specs.Tables.{is_open}
 
 -- a place that leads nowhere, and reads and writes nothing
@@ -40,7 +39,7 @@ AreLivingOver rows after bound written found =
 abbrev pub AreMade : List (List Bool) → ℕ → ℕ → List ℕ → MachOp → List ℕ → Type 0
 AreMade rows after bound written f found =
     (n : ℕ) → Contains found n ↔
-    ((destroys (destroyed_by f) ≡ true) × IsLivingOver rows after bound written n)
+    ((destroyed_by f ≡ Everything) × IsLivingOver rows after bound written n)
 
 -- A place of the graph of liveness as one of this graph: what lives over it comes from it, and reads
 -- and writes end what came. Nothing goes aside.
@@ -55,7 +54,7 @@ pub record IsLostPlace (rows : List (List Bool)) (after bound : ℕ) (f : MachOp
 abbrev pub IsMadeBefore : Mach → List (List Bool) → ℕ → List Instr → ℕ → Type 0
 IsMadeBefore m rows bound [] n = ⊥
 IsMadeBefore m rows bound (i ∷ next) n =
-    (destroys (destroyed_by i.op) ≡ true)
+    (destroyed_by i.op ≡ Everything)
     × IsLivingOver rows (place_of m next) bound (numbers (written m i)) n
 
 -- the node of the place from which this code is left

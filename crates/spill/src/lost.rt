@@ -2,9 +2,8 @@
 ghost use Rattle.std.specs.Prelude.{◌↔◌, ◌≡◌, IsTrue, IfOk};
 ghost use Rattle.dataflow.specs.Flow.{WellFormed};
 ghost use Rattle.mach_ir.specs.Graph.{IsLiveMap};
-ghost use Rattle.mach_ir.specs.Meaning.{destroyed_by};
+ghost use Rattle.mach_ir.specs.Meaning.{Everything, destroyed_by};
 ghost use Rattle.mach_laws.specs.Graph.{IsFlowOf};
-ghost use Rattle.spill_rules.specs.Chosen.{destroys};
 ghost use Rattle.spill.specs.Graphs.{LivesAt, AreLivingOver, AreMade, IsLostPlace, AreLostNodes};
 ghost use Rattle.spill.specs.Tables.{AreLost};
 
@@ -16,29 +15,29 @@ use liveness::Backward;
 use mach_ir::{Calling, LiveMap, Mach, MachOp, Mark, Op};
 use std::alloc::{AllocError, Global};
 
-fn call_destroys(calling: &Calling) -> bool
-    ensures { result ≡ destroys (destroyed_by (MachOp.Op (Op.Calling calling.now))) }
+fn call_destroys_all(calling: &Calling) -> bool
+    ensures { IsTrue result ↔ (destroyed_by (MachOp.Op (Op.Calling calling.now)) ≡ Everything) }
 {
     match calling {
         Calling::Call { .. } => true,
         Calling::TailCall { .. } => true,
-        Calling::External { .. } => true,
+        Calling::External { .. } => false,
     }
 }
 
-fn op_destroys(op: &Op) -> bool
-    ensures { result ≡ destroys (destroyed_by (MachOp.Op op.now)) }
+fn op_destroys_all(op: &Op) -> bool
+    ensures { IsTrue result ↔ (destroyed_by (MachOp.Op op.now) ≡ Everything) }
 {
     match op {
         Op::Pure(_) => false,
         Op::Access(_) => false,
-        Op::Calling(calling) => call_destroys(calling),
+        Op::Calling(calling) => call_destroys_all(calling),
         Op::Leaving(_) => false,
     }
 }
 
-fn mark_destroys(mark: &Mark) -> bool
-    ensures { result ≡ destroys (destroyed_by (MachOp.Mark mark.now)) }
+fn mark_destroys_all(mark: &Mark) -> bool
+    ensures { IsTrue result ↔ (destroyed_by (MachOp.Mark mark.now) ≡ Everything) }
 {
     match mark {
         Mark::Exit { label: _, tries: _ } => false,
@@ -62,13 +61,13 @@ fn mark_destroys(mark: &Mark) -> bool
     }
 }
 
-/// Whether it destroys colours: a call, an external call or the entry of a handler.
-fn destroys(op: &MachOp) -> bool
-    ensures { result ≡ destroys (destroyed_by op.now) }
+/// Whether it destroys every colour: a call or the entry of a handler.
+fn destroys_all(op: &MachOp) -> bool
+    ensures { IsTrue result ↔ (destroyed_by op.now ≡ Everything) }
 {
     match op {
-        MachOp::Op(op) => op_destroys(op),
-        MachOp::Mark(mark) => mark_destroys(mark),
+        MachOp::Op(op) => op_destroys_all(op),
+        MachOp::Mark(mark) => mark_destroys_all(mark),
     }
 }
 
@@ -98,7 +97,7 @@ fn living_over(
     Ok(found)
 }
 
-/// The numbers that live over the instruction, if it destroys colours.
+/// The numbers that live over the instruction, if it destroys every colour.
 fn made_at(
     alloc: Global,
     live: &LiveMap,
@@ -109,7 +108,7 @@ fn made_at(
 ) -> Result<Vec<u32>, AllocError>
     ensures { IfOk result (λ found. AreMade live.now.before.rows.items after bound written.now op.now found.items) }
 {
-    if destroys(op) {
+    if destroys_all(op) {
         let found = living_over(alloc, live, after, bound, written)?;
         Ok(found)
     } else {

@@ -28,10 +28,10 @@ fn tables_of(alloc: Global, mach: &Mach, live: &LiveMap) -> Result<Tables, Alloc
 
 /// The function in which each register whose place is open and that lives over a call has a slot.
 ///
-/// It is reloaded before each read to which some walk leads from a call, an external call or the entry
-/// of a handler that it has lived over, with no read and no write of it between; each of its writes that
-/// comes to such a read is stored right after it, and no other. A slot has the number of the register's
-/// origin, and its register a number that no other has.
+/// It is reloaded before each read to which some walk leads from a call or the entry of a handler that it
+/// has lived over, with no read and no write of it between; each of its writes that comes to such a read
+/// is stored right after it, and no other. A slot has the number of the register's origin, and its
+/// register a number that no other has.
 ///
 /// The time is that of a sweep over the function for each depth of its loops and two more, twice. The
 /// only error is want of memory, which more places or registers than a number can count are too.

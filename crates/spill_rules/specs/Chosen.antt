@@ -1,8 +1,8 @@
 -- Which registers spilling stores and reloads: those that live over a call, stored where they are
 -- written, and reloaded late.
-use Rattle.std.specs.Prelude.{◌≡◌, ◌≢◌, ◌↔◌, ◌⊎◌, ℕ, ◌+◌, ◌*◌, ◌<◌, ◌≤◌, Bool, true, false, List, ◌∷◌, length, Contains}
+use Rattle.std.specs.Prelude.{◌≡◌, ◌≢◌, ◌↔◌, ◌⊎◌, ℕ, ◌+◌, ◌*◌, ◌<◌, ◌≤◌, true, List, ◌∷◌, length, Contains}
 use Rattle.bs_words.specs.declared.types.Loc.TheVariants as loc
-use Rattle.mach_ir.specs.Meaning.{Destroyed, Nothing, Temporaries, Everything, destroyed_by}
+use Rattle.mach_ir.specs.Meaning.{Everything, destroyed_by}
 use Rattle.mach_ir.specs.Sizes.{Size, HasSize}
 use Rattle.mach_ir.specs.Walks.{Among, Live, Writes, Leads, Stands, IsRegister}
 use Rattle.mach_ir.specs.declared.reg.Reg.{Reg}
@@ -11,16 +11,11 @@ use Rattle.mach_ir.specs.declared.mach.Mach.{Mach}
 use Rattle.split_rules.specs.Writes.{Comes}
 use Rattle.spill_rules.specs.Spilled.{Plan, reloads_of, spills_of, operands_of, results_of, spilled, IsKept}
 
-abbrev pub destroys : Destroyed → Bool
-destroys Nothing = false
-destroys Temporaries = true
-destroys Everything = true
-
--- A register is live over an instruction that destroys colours (a call, an external call, the entry
--- of a handler): it is live where control goes on from there, and not written there. A tail call goes
--- nowhere.
+-- A register is live over an instruction that destroys every colour (a call or the entry of a
+-- handler): it is live where control goes on from there, and not written there. A tail call goes
+-- nowhere. An external call leaves colours, so what is live over it may keep one.
 pub data LivesOver (m : Mach) (n : ℕ) (i : Instr) (next : List Instr) : List Instr → Type 0 where
-  lives : {to : List Instr} → Stands i next m.code → destroys (destroyed_by i.op) ≡ true →
+  lives : {to : List Instr} → Stands i next m.code → destroyed_by i.op ≡ Everything →
       (Writes m i n → ⊥) → Leads m i next to → Live m n to → LivesOver m n i next to
 
 -- A register is lost from where it has lived over such an instruction up to its next read, which
@@ -86,7 +81,7 @@ pub record ParamsPlaced (m : Mach) : Type 0 where
 -- ---- what it gives
 
 -- A register stands in the slot of an open one, with the number of that one's origin. That one lives
--- over a call, an external call or the entry of a handler.
+-- over a call or the entry of a handler.
 pub record IsNeededSlot (m : Mach) (r : Reg) : Type 0 where
   pub register : Reg
   pub among : IsRegister m register
