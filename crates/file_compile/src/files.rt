@@ -173,7 +173,7 @@ fn functions_text(alloc: Global, checked: &Checked, stage: Stage) -> Result<List
 ///
 /// `TooLarge` exactly where the stage is one of the image, and a section of the image passes its limit, with the
 /// first such section and its bytes. `OutOfMemory` where memory runs out.
-pub fn stage_text<R: Threads + Sync>(
+pub fn stage<R: Threads + Sync>(
     rt: &R,
     alloc: Global,
     checked: &Checked,
