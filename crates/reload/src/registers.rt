@@ -1,7 +1,8 @@
 //! Fresh registers for operands and results in slots, and the copies between them.
 ghost use Rattle.std.specs.Prelude.{◌≡◌, ◌++◌, ◌∷◌, [], suc, IfOk};
 ghost use Rattle.spill_rules.specs.Spilled.{copied};
-ghost use Rattle.reload_rules.specs.Reloaded.{is_copy, reads_registers, writes_registers, is_in_slot, is_renewed, fresh, number_past, renewed, reloads, spills, any_renewed};
+ghost use Rattle.reload_rules.specs.Reloaded.{is_copy, reads_registers, writes_registers, is_in_slot, is_renewed};
+ghost use Rattle.reload_rules.specs.Reloaded.{fresh, number_past, renewed, reloads, spills, any_renewed};
 
 use bs_words::Loc;
 use mach_ir::{CopyKind, Instr, MachOp, Mark, Op, Pure, Reg, Seq};
