@@ -12,7 +12,7 @@ use Rattle.cmmc_core.specs.Effects.{Side, Effects, IsKept, Got, GotPart, Tells, 
 use Rattle.cmmc_core.specs.Ends.{Output, spelling, outcome, Cause, fault, too_large, no_memory, Ends, written, refused, out_fault, err_fault}
 use Rattle.cmmc_core.specs.Compile.{Reads}
 use Rattle.cmmc_core.specs.Refusal.{IsRefusalRead, TellsRefusal, WritesRun, IsRunRefusal, WritesOutcome, CutsOutcome, IsRunRefusalFrom, TellsOr}
-use Rattle.cmmc_core.specs.Run.{IsTextOf, ReadsImage, IsOutcomeOf}
+use Rattle.cmmc_core.specs.Run.{IsRunText, ReadsImage, IsOutcomeOf}
 use Rattle.text_commands.specs.Refusal.{SpellsImageOf, IsRefusalOf}
 use Rattle.text_commands.specs.declared.compile.Refusal as text
 use Rattle.text_commands.specs.declared.compile.Refusal.TheVariants.{Fault, TooLarge, OutOfMemory}
@@ -99,33 +99,6 @@ pub Ends-run-cut : (words : List (List ℕ)) (e : Effects) (run : RunTree) → I
 Ends-run-cut words e run is w kept = out_fault w.text (outcome run w.text is w.is_outcome) w.got kept
 
 -- the outcome of the image that was read
-of_read : (run : RunTree) (source : Side) (image : Tables) (text : List ℕ) → ReadsImage source image → IsTextOf run image text → IsOutcomeOf run source text
-of_read run source image text reads t = record {
-  image = image;
-  reads = reads;
-  entry = t.entry;
-  args = t.args;
-  answers = t.answers;
-  named = t.named;
-  suit = t.suit;
-  answered = t.answered;
-  told = t.told;
-}
-
-run_refused : (run : RunTree) (source out : Side) (image : Tables) (r : RunRefusal) → ReadsImage source image → IsRunRefusal run image out r → IsRunRefusalFrom run source out r
-run_refused run source out image refusal.ReadFault reads why = absurd why
-run_refused run source out image (refusal.Image w) reads why = absurd why
-run_refused run source out image refusal.UnknownEntry reads why = (why.0, record { image = image; reads = reads; unknown = why.1 })
-run_refused run source out image refusal.ArgumentUnfit reads why =
-    (why.0, record { image = image; reads = reads; entry = why.1.entry; named = why.1.named; unfit = why.1.unfit })
-run_refused run source out image refusal.WriteFault reads why =
-    record { text = why.text; is_outcome = of_read run source image why.text reads why.is_text; got = why.got }
-run_refused run source out image refusal.OutOfMemory reads why = why
-
-pub IfErr-run : (run : RunTree) (source out : Side) (image : Tables) (r : Result (Unit {0}) RunRefusal) → ReadsImage source image → IfErr r (λ w. IsRunRefusal run image out w) → IfErr r (λ w. IsRunRefusalFrom run source out w)
-IfErr-run run source out image (Ok u) reads why = why
-IfErr-run run source out image (Err w) reads why = run_refused run source out image w reads why
-
 pub OnOk-run : (run : RunTree) (source out : Side) (image : Tables) (r : Result (Unit {0}) RunRefusal) → ReadsImage source image → OnOk r (WritesRun run image out) → OnOk r (WritesOutcome run source out)
-OnOk-run run source out image (Ok u) reads w = record { text = w.text; is_outcome = of_read run source image w.text reads w.is_text; got = w.got }
+OnOk-run run source out image (Ok u) reads w = record { text = w.text; is_outcome = record { image = image; reads = reads; is_text = w.is_text }; got = w.got }
 OnOk-run run source out image (Err e) reads w = w

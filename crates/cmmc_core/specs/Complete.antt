@@ -123,9 +123,11 @@ pub record ListComplete (stage : Stage) (text : List ℕ) (status : ℕ) : Type 
       → first_too_large image ≡ Some large
       → Is 8 status
 
--- What `soak` comes to: the text that is drawn has no fault.
+-- What `soak` comes to. The text that is drawn has no fault.
 pub record SoakComplete (seed functions status : ℕ) : Type 0 where
+  -- it is tried, whatever becomes of the runs, or a section of its image passes its limit
   pub accepted : Is 0 status ⊎ (status ≡ 8)
+  -- where the image fits, it is tried
   pub fits : (file : FileTree) (image : Tables)
       → IsFileOf (soak_text seed functions) file
       → IsMadeFor file image
@@ -138,6 +140,7 @@ pub record SoakComplete (seed functions status : ℕ) : Type 0 where
       → first_too_large image ≡ Some large
       → Is 8 status
 
+-- Where no count of faults rose, the words and what the source tells give the status, but for want of memory.
 pub record Complete (words : List (List ℕ)) (e : Effects) (status : ℕ) : Type 0 where
   pub no_command : (WellFormed words → ⊥) → NoneRose e → Is 2 status
   pub no_value : ((command : CommandTree) → IsCommand words command → ⊥) → NoneRose e → Is 2 status

@@ -11,7 +11,7 @@ use Rattle.rv_machine.specs.declared.setup.Arg.{Arg}
 use Rattle.rv_machine.specs.declared.setup.Arg.TheVariants.{Word}
 use Rattle.text_commands.specs.Lines.{need_text}
 use Rattle.text_commands.specs.Trial.{IsTrial}
-use Rattle.cmmc_core.specs.Run.{IsTextOf}
+use Rattle.cmmc_core.specs.Run.{IsRunText}
 
 -- the text that the generator draws
 abbrev pub soak_text : ℕ → ℕ → List ℕ
@@ -49,7 +49,7 @@ soak_run functions moves = record {
 
 -- ---- what is reported
 
--- It begins its line of the text.
+-- What comes after this begins a line.
 abbrev pub BeginsLine : List ℕ → Type 0
 BeginsLine front = (front ≡ []) ⊎ ((before : List ℕ) × (front ≡ before ++ 10 ∷ []))
 
@@ -77,8 +77,8 @@ pub record IsSoakOf (seed functions : ℕ) (lines : List ℕ) : Type 0 where
   pub at_rest : List ℕ
   pub in_motion : List ℕ
   pub trial : IsTrial (soak_check functions) (soak_text seed functions) image meant
-  pub rests : IsTextOf (soak_run functions Never) image at_rest
-  pub moves : IsTextOf (soak_run functions (Seed seed)) image in_motion
+  pub rests : IsRunText (soak_run functions Never) image at_rest
+  pub moves : IsRunText (soak_run functions (Seed seed)) image in_motion
   pub check : List ℕ
   pub still : List ℕ
   pub moved : List ℕ

@@ -9,7 +9,7 @@ ghost use Rattle.text_commands.specs.Trial.{IsTrial};
 ghost use Rattle.cmmc_core.specs.Effects.{Side, IsKept, side, effects};
 ghost use Rattle.cmmc_core.specs.Ends.{Ends};
 ghost use Rattle.cmmc_core.specs.Refusal.{IsSoakRefusal};
-ghost use Rattle.cmmc_core.specs.Run.{IsTextOf};
+ghost use Rattle.cmmc_core.specs.Run.{IsRunText};
 ghost use Rattle.cmmc_core.specs.declared.soak.SoakRefusal.TheVariants.{OutOfMemory};
 ghost use Rattle.cmmc_core.specs.Soak.{soak_text, soak_entry, soak_args, soak_check, soak_run, soak_lines, IsSoakOf};
 
@@ -196,7 +196,7 @@ fn outcome_under(
     requires rules { IsImage image.now }
     requires trial { (meant : List ℕ)
         × IsTrial (soak_check functions) (soak_text seed functions) (tables image.now) meant }
-    ensures { IfOk result (λ text. IsTextOf (soak_run functions moves) (tables image.now) text.items) }
+    ensures { IfOk result (λ text. IsRunText (soak_run functions moves) (tables image.now) text.items) }
 {
     let run = run_words(alloc, functions, moves)?;
     let mut kept = Kept::new(alloc);
