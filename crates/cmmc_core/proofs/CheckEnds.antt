@@ -12,7 +12,7 @@ use Rattle.text_commands.specs.Check.{IsCheckOf, HasNoEntry, IsUnfitFor, IsTooLa
 use Rattle.cmmc_core.specs.Compile.{Reads}
 use Rattle.cmmc_core.specs.Complete.{Is, CheckComplete}
 use Rattle.cmmc_core.specs.Effects.{Side}
-use Rattle.cmmc_core.specs.Ends.{CheckCause, fault, no_entry, unfit, too_large}
+use Rattle.cmmc_core.specs.Ends.{fault, no_entry, unfit, too_large}
 use Rattle.cmmc_core.proofs.CommandEnd.{CheckEnd, answered, unanswered, OrNoMemory}
 use Rattle.cmmc_core.proofs.TextKnown.{Fits, Passes, not_both, no_fault, no_file, read_same}
 
@@ -20,16 +20,16 @@ module _ (source : Side) (text : List ℕ) (known : source.before ≡ Some text)
   abbrev Called : ℕ → List ℕ → List ℕ → FileTree → Type 0
   Called entry args answers file = IsCall check file entry args answers
 
-  told_of : (lines : List ℕ) (t : List ℕ) → IsCheckOf check t lines → (file : FileTree) × IsFileOf t file
+  abbrev told_of : (lines : List ℕ) (t : List ℕ) → IsCheckOf check t lines → (file : FileTree) × IsFileOf t file
   told_of lines t h = (h.file, h.is_file)
 
-  unnamed_of : (t : List ℕ) → HasNoEntry check t → (file : FileTree) × IsFileOf t file
+  abbrev unnamed_of : (t : List ℕ) → HasNoEntry check t → (file : FileTree) × IsFileOf t file
   unnamed_of t h = (h.file, h.is_file)
 
-  unfit_of : (t : List ℕ) → IsUnfitFor check t → (file : FileTree) × IsFileOf t file
+  abbrev unfit_of : (t : List ℕ) → IsUnfitFor check t → (file : FileTree) × IsFileOf t file
   unfit_of t h = (h.file, h.is_file)
 
-  large_of : (large : Large) (t : List ℕ) → IsTooLargeToCheck check t large → (file : FileTree) × IsFileOf t file
+  abbrev large_of : (large : Large) (t : List ℕ) → IsTooLargeToCheck check t large → (file : FileTree) × IsFileOf t file
   large_of large t h = (h.file, h.is_file)
 
   -- a text with a fault has no file

@@ -1,5 +1,5 @@
 -- How `compile` ends, of a text that the source tells.
-use Rattle.std.proofs.Common.{◌≡◌, ◌⊎◌, ℕ, List, Some, refl, inl, inr}
+use Rattle.std.proofs.Common.{◌≡◌, ◌⊎◌, ℕ, List, Some, inl, inr}
 use Rattle.bs_fault.specs.declared.fault.Fault.{Fault}
 use Rattle.bs_fault.specs.declared.large.Large.{Large}
 use Rattle.cmm_front.specs.FileOf.{IsFileOf, HasFault}
@@ -12,10 +12,10 @@ use Rattle.cmmc_core.specs.Effects.{Side}
 use Rattle.cmmc_core.proofs.CommandEnd.{CompileEnd, made, faulty, passing, OrNoMemory}
 use Rattle.cmmc_core.proofs.TextKnown.{Fits, Passes, not_both, no_fault, no_file, read_same}
 
-image_of : (image : Tables) (t : List ℕ) → IsImageOf t image → (file : FileTree) × IsFileOf t file
+abbrev image_of : (image : Tables) (t : List ℕ) → IsImageOf t image → (file : FileTree) × IsFileOf t file
 image_of image t h = (h.file, h.is_file)
 
-large_of : (large : Large) (t : List ℕ) → IsTooLarge t large → (file : FileTree) × IsFileOf t file
+abbrev large_of : (large : Large) (t : List ℕ) → IsTooLarge t large → (file : FileTree) × IsFileOf t file
 large_of large t h = (h.file, h.is_file)
 
 module _ (source : Side) (text : List ℕ) (known : source.before ≡ Some text) where

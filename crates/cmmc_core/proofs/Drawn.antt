@@ -1,9 +1,9 @@
 -- The last function of a text that is drawn takes the two words, in its file and in the image of that.
-use Rattle.std.proofs.Common.{◌≡◌, ◌⊎◌, inl, inr, ℕ, zero, suc, ◌+◌, ◌-◌, ◌<◌, ◌≤◌, Bool, true, false, cond, List, [], ◌∷◌, length, map, Option, Some, None, slice_get, find, bytes_eq, refl, sym, ap, ◌∙◌, subst, lit<, arith}
+use Rattle.std.proofs.Common.{◌≡◌, ◌⊎◌, inl, inr, ℕ, zero, suc, ◌-◌, ◌≤◌, Bool, true, false, cond, List, [], ◌∷◌, length, map, Option, Some, None, slice_get, find, bytes_eq, refl, sym, ap, ◌∙◌, subst, arith}
 use Rattle.std.specs.List.{AllByRecursion}
 use Rattle.bs_words.specs.declared.types.Comp.TheVariants as comp
 use Rattle.bs_words.specs.declared.values.Value.TheVariants.{Word}
-use Rattle.cmm_data.specs.Placement.{data_end, value_of_symbol}
+use Rattle.cmm_data.specs.Placement.{data_end}
 use Rattle.cmm_front.specs.FileOf.{IsFileOf}
 use Rattle.cmm_front.proofs.Readings.{one_file_read}
 use Rattle.cmm_gen.specs.Drawn.{DrawnFunction}
@@ -16,11 +16,10 @@ use Rattle.cmm_lex.proofs.Languages.{AreBytes}
 use Rattle.cmm_meaning.specs.Evaluation.{fit_parameters}
 use Rattle.cmm_tree.specs.Tree.{FunctionTree, ItemTree, FileTree, functions, functions_among, comps_of}
 use Rattle.command_line.specs.declared.command.Moves.{Moves}
-use Rattle.correctness.specs.Correct.{IsCorrect}
 use Rattle.correctness.specs.Setting.{AreRowsOf}
 use Rattle.image_form.specs.Tables.{Tables, Func}
 use Rattle.rv_machine.specs.Loading.{func_named, words_of_args}
-use Rattle.text_commands.specs.Arguments.{NamesNone, HasUnfit, Unfit, no_argument, misfit, no_answer, words_of}
+use Rattle.text_commands.specs.Arguments.{NamesNone, HasUnfit, Unfit, no_argument, misfit, no_answer}
 use Rattle.cmmc_core.specs.Run.{IsUnfit, words_of_answers}
 use Rattle.cmmc_core.specs.Soak.{soak_text, soak_entry, soak_args, soak_check, soak_run}
 

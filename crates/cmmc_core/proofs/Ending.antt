@@ -1,7 +1,7 @@
 -- How the parts of the top call put its end together.
 use Rattle.std.proofs.Common.{ℕ, ◌≤◌, ◌<◌, All, List, length, take, drop, Option, Some, None, Result, Ok, Err, refl, sym, subst, inl, inr, arith, length-drop}
 use Rattle.std.specs.Io.KnownBytes.{Keeps, Consumes, IsAtEnd}
-use Rattle.std.specs.Prelude.{OnOk, IfErr}
+use Rattle.std.specs.Prelude.{OnOk}
 use Rattle.std.proofs.lemmas.List.{take-append-drop}
 use Rattle.bs_io.specs.Faults.{Risen}
 use Rattle.bs_io.specs.Whole.{AppendsPart}
@@ -11,13 +11,12 @@ use Rattle.bs_fault.specs.Limits.{longest_text}
 use Rattle.cmmc_core.specs.Effects.{Side, Effects, IsKept, Got, GotPart, Tells, IsRead}
 use Rattle.cmmc_core.specs.Ends.{Output, spelling, outcome, Cause, fault, too_large, no_memory, Ends, written, refused, out_fault, err_fault}
 use Rattle.cmmc_core.specs.Compile.{Reads}
-use Rattle.cmmc_core.specs.Refusal.{IsRefusalRead, TellsRefusal, WritesRun, IsRunRefusal, WritesOutcome, CutsOutcome, IsRunRefusalFrom, TellsOr}
-use Rattle.cmmc_core.specs.Run.{IsRunText, ReadsImage, IsOutcomeOf}
+use Rattle.cmmc_core.specs.Refusal.{IsRefusalRead, TellsRefusal, WritesRun, WritesOutcome, CutsOutcome, TellsOr}
+use Rattle.cmmc_core.specs.Run.{ReadsImage}
 use Rattle.text_commands.specs.Refusal.{SpellsImageOf, IsRefusalOf}
 use Rattle.text_commands.specs.declared.compile.Refusal as text
 use Rattle.text_commands.specs.declared.compile.Refusal.TheVariants.{Fault, TooLarge, OutOfMemory}
 use Rattle.cmmc_core.specs.declared.run.RunRefusal.{RunRefusal}
-use Rattle.cmmc_core.specs.declared.run.RunRefusal.TheVariants as refusal
 
 -- what was not touched is kept
 pub Keeps-same : (known : Option (List ℕ)) → Keeps known known

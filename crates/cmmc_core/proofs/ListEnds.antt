@@ -12,14 +12,14 @@ use Rattle.text_commands.specs.Compile.{IsTooLarge}
 use Rattle.text_commands.specs.Listing.{IsListingOf}
 use Rattle.cmmc_core.specs.Complete.{Is, ListComplete}
 use Rattle.cmmc_core.specs.Effects.{Side}
-use Rattle.cmmc_core.specs.Ends.{ListCause, fault, too_large}
+use Rattle.cmmc_core.specs.Ends.{fault, too_large}
 use Rattle.cmmc_core.proofs.CommandEnd.{ListEnd, shown, unshown, OrNoMemory}
 use Rattle.cmmc_core.proofs.TextKnown.{Fits, Passes, not_both, no_fault, no_file, read_same}
 
-listing_of : (stage : Stage) (bytes t : List ℕ) → IsListingOf stage t bytes → (file : FileTree) × IsFileOf t file
+abbrev listing_of : (stage : Stage) (bytes t : List ℕ) → IsListingOf stage t bytes → (file : FileTree) × IsFileOf t file
 listing_of stage bytes t h = (h.file, h.is_file)
 
-large_of : (large : Large) (t : List ℕ) → IsTooLarge t large → (file : FileTree) × IsFileOf t file
+abbrev large_of : (large : Large) (t : List ℕ) → IsTooLarge t large → (file : FileTree) × IsFileOf t file
 large_of large t h = (h.file, h.is_file)
 
 -- what is listed of the image is of one that fits

@@ -1,5 +1,5 @@
 -- How `run` ends, of bytes that the source tells.
-use Rattle.std.proofs.Common.{◌≡◌, ◌⊎◌, ℕ, List, Some, None, sym, ap, ◌∙◌, inl, inr, arith}
+use Rattle.std.proofs.Common.{◌≡◌, ℕ, List, Some, None, sym, ap, ◌∙◌, inl, inr, arith}
 use Rattle.command_line.specs.Command.{RunTree}
 use Rattle.image_form.specs.Tables.{Tables, Func}
 use Rattle.rv_machine.specs.Loading.{func_named, words_of_args}

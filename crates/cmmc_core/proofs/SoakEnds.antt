@@ -1,5 +1,5 @@
 -- How `soak` ends: the text that is drawn has one file, and no fault.
-use Rattle.std.proofs.Common.{◌≡◌, ◌⊎◌, ℕ, ◌≤◌, List, subst, inl, inr}
+use Rattle.std.proofs.Common.{◌≡◌, ◌⊎◌, ℕ, ◌≤◌, subst, inl, inr}
 use Rattle.bs_fault.specs.declared.large.Large.{Large}
 use Rattle.cmm_front.proofs.OneFile.{one_file}
 use Rattle.cmm_front.specs.FileOf.{IsFileOf}

@@ -227,7 +227,10 @@ fn lines_of(
         moved.now) }
 {
     let bytes = write_image(alloc, image)?;
-    let head = format!(in alloc; "functions {functions}\nimage {}\ncheck ", bytes.as_slice().len())?;
+    let head = format!(in alloc;
+        "functions {functions}\nimage {}\ncheck ",
+        bytes.as_slice().len()
+    )?;
     let mut lines = head.into_bytes();
     lines.extend_from_slice(check)?;
     lines.extend_from_slice(b"still ")?;

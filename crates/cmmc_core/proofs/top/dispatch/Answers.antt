@@ -75,10 +75,10 @@ pub returns-in-Ok-Soak : goal.returns-in-Ok-Soak
 returns-in-Ok-Soak g c = c.soak.ensures _ _ (rw c.in-Ok-Soak.field-0-is at c.in-Ok-Soak.ensures.command) (Keeps-same _)
 
 pub soak-requires-clause-some : goal.soak-requires-clause-some
-soak-requires-clause-some g c = (rw c.in-Ok-Soak.field-0-is at c.in-Ok-Soak.ensures.limits).1
+soak-requires-clause-some g c = λ lives within. (rw c.in-Ok-Soak.field-0-is at c.in-Ok-Soak.ensures.limits).1
 
 pub soak-requires-clause-few : goal.soak-requires-clause-few
-soak-requires-clause-few g c = (rw c.in-Ok-Soak.field-0-is at c.in-Ok-Soak.ensures.limits).2
+soak-requires-clause-few g c = λ lives within. (rw c.in-Ok-Soak.field-0-is at c.in-Ok-Soak.ensures.limits).2
 
 -- ---- words
 
