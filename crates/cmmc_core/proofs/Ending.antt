@@ -1,22 +1,18 @@
 -- How the parts of the top call put its end together.
-use Rattle.std.proofs.Common.{ℕ, ◌≤◌, ◌<◌, All, List, length, take, drop, Option, Some, None, Result, Ok, Err, refl, sym, subst, inl, inr, arith, length-drop}
-use Rattle.std.specs.Io.KnownBytes.{Keeps, Consumes, IsAtEnd}
-use Rattle.std.specs.Prelude.{OnOk}
+use Rattle.std.proofs.Common.{ℕ, ◌<◌, All, List, take, drop, Option, Some, None, refl, sym, subst, inl, inr, arith, length-drop}
+use Rattle.std.specs.Io.KnownBytes.{Keeps}
 use Rattle.std.proofs.lemmas.List.{take-append-drop}
 use Rattle.bs_io.specs.Faults.{Risen}
 use Rattle.bs_io.specs.Whole.{AppendsPart}
 use Rattle.command_line.specs.Command.{IsCommand, AsksToCompile, RunCommand, RunTree}
-use Rattle.image_form.specs.Tables.{Tables}
 use Rattle.bs_fault.specs.Limits.{longest_text}
 use Rattle.cmmc_core.specs.Effects.{Side, Effects, IsKept, Got, GotPart, Tells, IsRead}
 use Rattle.cmmc_core.specs.Ends.{Output, spelling, outcome, Cause, fault, too_large, no_memory, Ends, written, refused, out_fault, err_fault}
 use Rattle.cmmc_core.specs.Compile.{Reads}
-use Rattle.cmmc_core.specs.Refusal.{IsRefusalRead, TellsRefusal, WritesRun, WritesOutcome, CutsOutcome, TellsOr}
-use Rattle.cmmc_core.specs.Run.{ReadsImage}
+use Rattle.cmmc_core.specs.Refusal.{IsRefusalRead, TellsRefusal, WritesOutcome, CutsOutcome, TellsOr}
 use Rattle.text_commands.specs.Refusal.{SpellsImageOf, IsRefusalOf}
 use Rattle.text_commands.specs.declared.compile.Refusal as text
 use Rattle.text_commands.specs.declared.compile.Refusal.TheVariants.{Fault, TooLarge, OutOfMemory}
-use Rattle.cmmc_core.specs.declared.run.RunRefusal.{RunRefusal}
 
 -- what was not touched is kept
 pub Keeps-same : (known : Option (List ℕ)) → Keeps known known
@@ -56,10 +52,6 @@ Ends-told-or words e status result line cause kept (inr told) = Ends-told words 
 
 -- ---- compile
 
--- the text that was read whole
-pub IsRead-whole : (limit : ℕ) (s : Side) (text : List ℕ) → Consumes s.before s.after text → IsAtEnd s.after → length text ≤ limit → IsRead limit s text
-IsRead-whole limit s text taken end short = record { taken = taken; whole = inl (short, end) }
-
 -- what is written is the spelling of an image of the text that was read
 spells : (words : List (List ℕ)) (s : Side) (bytes : List ℕ) → AsksToCompile words → Reads (λ text. SpellsImageOf text bytes) s → Output words s bytes
 spells words s bytes is r =
@@ -96,8 +88,3 @@ Ends-run words e run is w kept = written w.text (outcome run w.text is w.is_outc
 
 pub Ends-run-cut : (words : List (List ℕ)) (e : Effects) (run : RunTree) → IsCommand words (RunCommand run) → CutsOutcome run e.source e.out → IsKept e.err → Ends words e 6
 Ends-run-cut words e run is w kept = out_fault w.text (outcome run w.text is w.is_outcome) w.got kept
-
--- the outcome of the image that was read
-pub OnOk-run : (run : RunTree) (source out : Side) (image : Tables) (r : Result (Unit {0}) RunRefusal) → ReadsImage source image → OnOk r (WritesRun run image out) → OnOk r (WritesOutcome run source out)
-OnOk-run run source out image (Ok u) reads w = record { text = w.text; is_outcome = record { image = image; reads = reads; is_text = w.is_text }; got = w.got }
-OnOk-run run source out image (Err e) reads w = w
