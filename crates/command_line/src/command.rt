@@ -13,7 +13,7 @@ use thiserror::Error;
 pub enum Command {
     /// Reads a Cmm text and writes the image.
     Compile {
-        /// How many functions are compiled side by side.
+        /// The most functions that are compiled at a time.
         jobs: u32,
     },
     /// Reads an image and writes the outcome of a run of it.
@@ -22,7 +22,7 @@ pub enum Command {
     Check(CheckWords),
     /// Reads a Cmm text and writes what a stage of the compiler makes of it.
     List(Stage),
-    /// Makes a Cmm text of its own, compiles it, and tries the image against the text.
+    /// Makes a Cmm text of its own, compiles it, and writes how runs of the text and of the image end.
     Soak {
         /// What the generator of the text starts from.
         seed: u64,

@@ -27,7 +27,7 @@ const MOST_JOBS: u32 = 64;
 /// The most functions of a soak.
 const MOST_FUNCTIONS: u32 = 1_000;
 
-/// The text that stands for the slot's value, by the matches.
+/// The text that stands for the slot's value, by the matches. The words are named by the contract alone.
 fn text_for<'a>(others: &[String], given: &ArgMatches<'a>, slot: Slot) -> &'a str
     requires { HasText (texts others.now) slot (first_value (found_of given.now) (id_of slot)) }
     ensures { Stands (texts others.now) slot result.now }
@@ -149,7 +149,7 @@ fn check(alloc: Global, others: &[String], given: &ArgMatches<'_>) -> Result<Che
     })
 }
 
-/// How many functions are compiled side by side.
+/// The most functions that are compiled at a time.
 fn jobs(others: &[String], given: &ArgMatches<'_>) -> Result<u32, WordsError>
     requires once { count_by (fills Slot.Jobs) (texts others.now) ≤ 1 }
     requires stands { HasText (texts others.now) Slot.Jobs (first_value (found_of given.now) (id_of Slot.Jobs)) }

@@ -6,11 +6,9 @@ use Rattle.combine_rules.specs.Combined.{combined}
 use Rattle.file_promise.proofs.Once.{made_for_once}
 use Rattle.image_form.specs.Tables.{Tables}
 use Rattle.image_listings.specs.Texts.{frames_text, code_text}
-use Rattle.lin_ir.specs.Text.{lin_text}
 use Rattle.lin_ir.specs.declared.lin.Lin.{Lin}
 use Rattle.linear_pass.specs.Linear.{IsLinearOf}
 use Rattle.linear_pass.proofs.Once.{linear_once}
-use Rattle.mach_ir.specs.Text.{mach_text}
 use Rattle.mach_ir.specs.declared.mach.Mach.{Mach}
 use Rattle.file_compile.proofs.Stages.{one_cleaned, one_with_slots}
 use Rattle.mach_passes.proofs.Whole.{one_prepared}

@@ -1,7 +1,6 @@
 -- The texts of the functions of a file, one after the other.
-use Rattle.std.proofs.Common.{◌≡◌, ◌<◌, ◌≤◌, ◌+◌, ◌++◌, ℕ, List, [], ◌∷◌, Bor, length, map, take, get_or, refl, sym, ap, subst, ◌∙◌, append-nil}
+use Rattle.std.proofs.Common.{◌≡◌, ◌<◌, ◌+◌, ◌++◌, ℕ, List, [], ◌∷◌, Bor, length, map, take, get_or, refl, sym, ap, subst, ◌∙◌, append-nil}
 use Rattle.std.proofs.lemmas.Grind.{take_at_read}
-use Rattle.std.proofs.lemmas.List.{take_all}
 use Rattle.std.proofs.lemmas.List.Folds.{concat-append}
 use Rattle.std.specs.List.{AllZip, concat}
 use Rattle.cmm_tree.specs.Tree.{FunctionTree}
@@ -30,9 +29,6 @@ next_trees fs k f less at =
     ap (λ (l : List (Bor Function)). map tree l) taken ∙ map_push tree (take k fs) f
 
 module _ (stage : Stage) where
-  pub no_texts : AreFunctionTexts stage [] []
-  no_texts = record { texts = []; each = tt; whole = refl }
-
   one_more : (trees : List FunctionTree) (t : FunctionTree) (text own : List ℕ) → AreFunctionTexts stage trees text → IsFunctionText stage t own →
       AreFunctionTexts stage (trees ++ (t ∷ [])) (text ++ own)
   one_more trees t text own are is = record {
@@ -48,7 +44,3 @@ module _ (stage : Stage) where
   texts_more fs k f text own new less at more is are =
       subst (λ (l : List FunctionTree). AreFunctionTexts stage l new) (sym (next_trees fs k f less at))
       (subst (AreFunctionTexts stage (map tree (take k fs) ++ (tree f ∷ []))) (sym more) (one_more (map tree (take k fs)) (tree f) text own are is))
-
-  pub texts_all : (fs : List (Bor Function)) (k : ℕ) (text : List ℕ) → length fs ≤ k → AreFunctionTexts stage (map tree (take k fs)) text →
-      AreFunctionTexts stage (map tree fs) text
-  texts_all fs k text past are = subst (λ (l : List (Bor Function)). AreFunctionTexts stage (map tree l) text) (take_all k fs past) are

@@ -133,11 +133,7 @@ pub fn compile<R: Threads + Sync, G: Gate + Sync>(
 }
 
 /// The texts of these functions at a stage, one after the other.
-fn all_texts(
-    alloc: Global,
-    functions: &[&Function],
-    stage: Stage,
-) -> Result<List<u8>, AllocError>
+fn all_texts(alloc: Global, functions: &[&Function], stage: Stage) -> Result<List<u8>, AllocError>
     requires typed { All (λ f. IsFunctionAnnotated f.now) functions.now }
     requires accepted { All (λ f. IsAcceptedFunction (function_view f.now)) functions.now }
     ensures { IfOk result (λ text. AreFunctionTexts stage (map (λ f. function_view f.now)
@@ -173,7 +169,7 @@ fn functions_text(alloc: Global, checked: &Checked, stage: Stage) -> Result<List
 ///
 /// `TooLarge` exactly where the stage is one of the image, and a section of the image passes its limit, with the
 /// first such section and its bytes. `OutOfMemory` where memory runs out.
-pub fn stage_text<R: Threads + Sync>(
+pub fn stage<R: Threads + Sync>(
     rt: &R,
     alloc: Global,
     checked: &Checked,

@@ -8,8 +8,9 @@ mod listing;
 mod passes;
 mod rows;
 
-pub use files::{compile, stage_text};
+pub use files::{compile, stage};
 pub use gate::{Gate, OpenGate};
 pub use listing::function_text;
 pub use passes::function_pieces;
 pub use rows::layout;
+pub use stages::Stage;

@@ -17,6 +17,8 @@ use std::alloc::{AllocError, Global};
 
 /// The pieces of a function: it is selected and prepared, every register gets a place, its operations become
 /// lines, its frame descriptors are found, and code is emitted.
+///
+/// The only error is want of memory.
 pub fn function_pieces(alloc: Global, function: &Function) -> Result<Pieces, AllocError>
     requires typed { IsFunctionAnnotated function.now }
     requires accepted { IsAcceptedFunction (function_view function.now) }

@@ -9,7 +9,9 @@ use image_form::Image;
 use rv_machine::CODE_START;
 use std::alloc::{AllocError, Global};
 
-/// The bytes of the frame of each function, and its address.
+/// The bytes of the frame of each function, and its address in the region of code.
+///
+/// The only error is want of memory.
 pub fn layout(alloc: Global, image: &Image) -> Result<Layout, AllocError>
     ensures { IfOk result (λ layout. layout_view layout ≡ setting.layout_of (tables image.now)) }
 {

@@ -20,9 +20,7 @@ pub(crate) fn told_of(alloc: Global, eval: &Eval, fuel: u64) -> Result<List<u8>,
     let mut page = Page {
         bytes: Vec::new(alloc),
     };
-    page.put_calls(eval.calls.as_slice())?;
-    page.put_end(&eval.outcome)?;
-    page.put(b"\n")?;
+    page.put_outcome(eval)?;
     page.put_need(b"stack", eval.stack_need)?;
     page.put_need(b"heap", eval.heap_need)?;
     page.put_need(b"fuel", fuel.saturating_sub(eval.left))?;
@@ -36,9 +34,7 @@ pub(crate) fn outcome_of(alloc: Global, eval: &Eval) -> Result<List<u8>, AllocEr
     let mut page = Page {
         bytes: Vec::new(alloc),
     };
-    page.put_calls(eval.calls.as_slice())?;
-    page.put_end(&eval.outcome)?;
-    page.put(b"\n")?;
+    page.put_outcome(eval)?;
     Ok(List::from_vec(page.bytes))
 }
 
@@ -146,6 +142,15 @@ impl Page {
                 self.put(kind_name(*kind))
             }
         }
+    }
+
+    /// A line for each external call, and one for how the run ended.
+    fn put_outcome(&mut self, eval: &Eval) -> Result<(), AllocError>
+        ensures { IfOk result (λ _. Puts self.old self.new (outcome_text (eval_view eval.now))) }
+    {
+        self.put_calls(eval.calls.as_slice())?;
+        self.put_end(&eval.outcome)?;
+        self.put(b"\n")
     }
 
     /// A word and a number on a line.

@@ -7,7 +7,6 @@ use crate::compile::Refusal;
 use bs_fault::{BuildError, FrontError};
 use bs_words::List;
 use cmm_front::front;
-use file_compile::stage_text;
 use stages::Stage;
 use std::alloc::Global;
 use std::thread::Threads;
@@ -33,7 +32,7 @@ pub fn list_text<R: Threads + Sync>(
         Err(FrontError::Fault(fault)) => return Err(Refusal::Fault(fault)),
         Err(FrontError::OutOfMemory) => return Err(Refusal::OutOfMemory),
     };
-    match stage_text(rt, alloc, &checked, stage) {
+    match file_compile::stage(rt, alloc, &checked, stage) {
         Ok(bytes) => Ok(bytes),
         Err(BuildError::TooLarge(large)) => Err(Refusal::TooLarge(large)),
         Err(BuildError::OutOfMemory) => Err(Refusal::OutOfMemory),

@@ -1,7 +1,6 @@
-use Rattle.std.proofs.Common.{◌≡◌, ◌++◌, ℕ, List, arith, ap, ◌∙◌, sym, subst}
+use Rattle.std.proofs.Common.{◌≡◌, ◌++◌, ℕ, List, ap, ◌∙◌}
 use Rattle.bs_words.specs.Contents.{contents}
-use Rattle.cmm_tree.specs.View.{function_view}
-use Rattle.file_compile.proofs.Texts.{texts_more, texts_all}
+use Rattle.file_compile.proofs.Texts.{texts_more}
 use Rattle.file_compile.proofs.files.all_texts.Goals as goal
 
 pub loop-function-preserved : goal.loop-function-preserved

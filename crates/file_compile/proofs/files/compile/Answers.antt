@@ -11,7 +11,7 @@ use Rattle.file_compile.proofs.Making.{all_accepted, all_listed, all_made}
 use Rattle.file_compile.proofs.files.compile.Goals as goal
 
 pub all_pieces-requires-clause-accepted : goal.all_pieces-requires-clause-accepted
-all_pieces-requires-clause-accepted g c =
+all_pieces-requires-clause-accepted g c = λ lifetimes outlive.
     let file = file_of (typed_of c.args.checked.now) in
     let whole : c.as_slice.result.now ≡ contents file.items =
     c.as_slice.ensures ∙ ap (λ (f : File). contents f.items) (c.file-file.ensures ∙ ap file_of c.typed.ensures) in

@@ -1,6 +1,5 @@
-use Rattle.std.proofs.Common.{◌≡◌, ℕ, ◌+◌, ◌++◌, List, [], drop, map, sym, ap, ◌∙◌, append-nil, arith}
+use Rattle.std.proofs.Common.{◌+◌, arith}
 use Rattle.image_form.specs.declared.image.FuncRow.{FuncRow}
-use Rattle.image_form.specs.Tables.{Func, func}
 use Rattle.rv_machine.specs.Memory.{code_start}
 use Rattle.file_compile.proofs.LayoutRows.{whole_map, same_layout}
 use Rattle.file_compile.proofs.rows.layout.Goals as goal

@@ -8,26 +8,26 @@ use Rattle.text_commands.proofs.Passing.{too_large}
 use Rattle.text_commands.proofs.list.list_text.Goals as goal
 
 -- its file is the text's, so that it is an accepted one
-pub stage_text-requires-clause-accepted : goal.stage_text-requires-clause-accepted
-stage_text-requires-clause-accepted g c = record {
+pub stage-requires-clause-accepted : goal.stage-requires-clause-accepted
+stage-requires-clause-accepted g c = record {
   text = c.args.text.now;
   are_bytes = all_bytes c.args.text.now (λ i. omega (arith, c.type_inv.text i));
   is_file = c.in-Ok.ensures.file;
 }
 
-pub returns-in-Ok-stage_text-clause-listed : goal.returns-in-Ok-stage_text-clause-listed
-returns-in-Ok-stage_text-clause-listed g c =
+pub returns-in-Ok-stage-clause-listed : goal.returns-in-Ok-stage-clause-listed
+returns-in-Ok-stage-clause-listed g c =
     let text = c.args.text.now in
     let file = tree_of (typed_of c.in-Ok.checked) in
-    let bytes = contents c.in-Ok-stage_text.bytes in
+    let bytes = contents c.in-Ok-stage.bytes in
     record {
       file = file;
       is_file = c.in-Ok.ensures.file;
-      is = c.in-Ok-stage_text.ensures.text;
-      only = λ other it. stage_text_once file c.args.stage other bytes it c.in-Ok-stage_text.ensures.text;
+      is = c.in-Ok-stage.ensures.text;
+      only = λ other it. stage_text_once file c.args.stage other bytes it c.in-Ok-stage.ensures.text;
       image =
           lists_image text file c.in-Ok.ensures.file (all_bytes text (λ i. omega (arith, c.type_inv.text i))) bytes c.args.stage
-          c.in-Ok-stage_text.ensures.text;
+          c.in-Ok-stage.ensures.text;
     }
 
 pub returns-in-Err-TooLarge-clause-refused : goal.returns-in-Err-TooLarge-clause-refused
