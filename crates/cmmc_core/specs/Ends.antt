@@ -79,7 +79,8 @@ HasInput _ = ⊤
 
 -- Why there is no output: the status that reports it, and the line.
 pub data Cause (words : List (List ℕ)) (source : Side) : ℕ → List ℕ → Type 0 where
-  -- the words do not have the form of a command, or have a value that no command has; nothing was read
+  -- the words do not have the form of a command, or have a value that no command has; nothing was
+  -- read
   no_command : (WellFormed words → ⊥) → IsKept source → Cause words source 2 (usage_line Words)
   no_value : WellFormed words
       → ((command : CommandTree) → IsCommand words command → ⊥)

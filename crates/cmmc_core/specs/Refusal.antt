@@ -56,7 +56,8 @@ IsRefusalFrom source (Text why) = IsRefusalRead source why
 -- why nothing is listed of the text that was read
 abbrev pub IsListRefusalRead : Stage → Side → text.Refusal → Type 0
 IsListRefusalRead stage source (Fault told) = Reads (λ text. HasFault text told) source
-IsListRefusalRead stage source (TooLarge large) = IsOfImage stage × Reads (λ text. IsTooLarge text large) source
+IsListRefusalRead stage source (TooLarge large) =
+    IsOfImage stage × Reads (λ text. IsTooLarge text large) source
 IsListRefusalRead stage source OutOfMemory = ⊤
 
 -- why nothing is listed of a source

@@ -49,7 +49,9 @@ pub record IsRunText (run : RunTree) (image : Tables) (text : List ℕ) : Type 0
   pub named : func_named run.entry image.funcs ≡ Some entry
   pub suit : words_of_args image entry.params run.args ≡ Some args
   pub answered : words_of_answers image run.answers ≡ Some answers
-  pub told : text ≡ outcome_text (machine_run image entry args answers run.stack run.heap (schedule_of run.moves) run.steps)
+  pub told : text
+      ≡ outcome_text
+      (machine_run image entry args answers run.stack run.heap (schedule_of run.moves) run.steps)
 
 -- The text is the outcome of this run of the image that was read.
 pub record IsOutcomeOf (run : RunTree) (source : Side) (text : List ℕ) : Type 0 where
@@ -80,7 +82,8 @@ pub record NamesNoEntry (run : RunTree) (source : Side) : Type 0 where
 pub record IsUnfit (run : RunTree) (image : Tables) : Type 0 where
   pub entry : Func
   pub named : func_named run.entry image.funcs ≡ Some entry
-  pub unfit : (words_of_args image entry.params run.args ≡ None) ⊎ (words_of_answers image run.answers ≡ None)
+  pub unfit : (words_of_args image entry.params run.args ≡ None)
+      ⊎ (words_of_answers image run.answers ≡ None)
 
 -- So it is of the image that was read.
 pub record GivesUnfit (run : RunTree) (source : Side) : Type 0 where

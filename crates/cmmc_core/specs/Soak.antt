@@ -34,7 +34,12 @@ abbrev pub soak_room : ℕ
 soak_room = 67108864
 
 abbrev pub soak_check : ℕ → CheckTree
-soak_check functions = record { entry = soak_entry functions; args = soak_args; answers = []; fuel = soak_steps }
+soak_check functions = record {
+  entry = soak_entry functions;
+  args = soak_args;
+  answers = [];
+  fuel = soak_steps;
+}
 
 abbrev pub soak_run : ℕ → Moves → RunTree
 soak_run functions moves = record {
@@ -69,8 +74,9 @@ soak_lines functions bytes check still moved =
     ++ (need_text (codes "image") bytes
     ++ (codes "check " ++ (check ++ (codes "still " ++ (still ++ (codes "moved " ++ moved))))))
 
--- The lines that are reported of the text that is drawn: of its image, and of the outcomes of its last function, by the
--- meaning of the text, and on the machine where nothing moves and where the seed draws what moves.
+-- The lines that are reported of the text that is drawn: of its image, and of the outcomes of its
+-- last function, by the meaning of the text, and on the machine where nothing moves and where the
+-- seed draws what moves.
 pub record IsSoakOf (seed functions : ℕ) (lines : List ℕ) : Type 0 where
   pub image : Tables
   pub meant : List ℕ
