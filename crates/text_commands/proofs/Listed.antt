@@ -1,7 +1,10 @@
 -- The text of a stage of the image is one of the text's image.
 use Rattle.std.proofs.Common.{◌≡◌, ◌<◌, ℕ, All, List, None}
 use Rattle.cmm_front.specs.FileOf.{IsFileOf}
+use Rattle.cmm_meaning.specs.Run.{cmm_run}
 use Rattle.cmm_tree.specs.Tree.{FileTree}
+use Rattle.command_line.specs.Command.{CheckTree}
+use Rattle.correctness.specs.Setting.{layout_of}
 use Rattle.file_compile.proofs.Promised.{made_correct, made_in_need, made_bounded, made_exact}
 use Rattle.file_compile.specs.Listed.{IsImageText, IsStageText}
 use Rattle.image_form.specs.Image.{AreTables}
@@ -12,8 +15,11 @@ use Rattle.made_functions.specs.Files.{IsMadeFor}
 use Rattle.stages.specs.declared.stage.Stage.{Stage}
 use Rattle.stages.specs.declared.stage.Stage.TheVariants.{Select, CombAlloc, Cse, Dead, Spill, Split, Alloc, Linear, Frames, Code}
 use Rattle.text_commands.proofs.Passing.{only_made}
+use Rattle.text_commands.specs.Arguments.{IsCall}
 use Rattle.text_commands.specs.Compile.{IsImageOf}
+use Rattle.text_commands.specs.Lines.{outcome_text}
 use Rattle.text_commands.specs.Listing.{ListsImage, ListsImageAt}
+use Rattle.text_commands.specs.Trial.{IsTrial}
 
 -- the image that is made for the text's file, where it fits, is that of the text
 pub image_of : (text : List ℕ) (file : FileTree) → IsFileOf text file → All (λ b. b < 256) text → (image : Tables) → AreTables image → IsMadeFor file image →
@@ -28,6 +34,20 @@ image_of text file is are image tables made fits = record {
   bounded = made_bounded text file is image made;
   exact = made_exact text file is image made;
   fits = fits;
+}
+
+-- it, and the outcome of a run of a function of the file
+pub tried : (check : CheckTree) (text : List ℕ) (file : FileTree) → IsFileOf text file → All (λ b. b < 256) text → (image : Tables) → AreTables image →
+    IsMadeFor file image → first_too_large image ≡ None → (entry : ℕ) (args answers outcome : List ℕ) → IsCall check file entry args answers →
+    outcome ≡ outcome_text (cmm_run file (layout_of image) entry args answers check.fuel) → IsTrial check text image outcome
+unfolding image_of
+tried check text file is are image tables made fits entry args answers outcome call told = record {
+  is_image = image_of text file is are image tables made fits;
+  entry = entry;
+  args = args;
+  answers = answers;
+  call = call;
+  told = told;
 }
 
 module _ (text : List ℕ) (file : FileTree) (is : IsFileOf text file) (are : All (λ b. b < 256) text) (bytes : List ℕ) where

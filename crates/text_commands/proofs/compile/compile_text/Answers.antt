@@ -1,15 +1,15 @@
 use Rattle.std.proofs.Common.{Err, ap, arith}
 use Rattle.cmm_front.specs.FileOf.{tree_of}
 use Rattle.cmm_walks.specs.Checked.{typed_of}
-use Rattle.file_compile.proofs.Promised.{made_correct, made_in_need, made_bounded, made_exact}
 use Rattle.file_compile.proofs.Promised.{all_bytes}
 use Rattle.image_form.specs.Tables.{tables}
-use Rattle.text_commands.proofs.Passing.{only_made, too_large}
+use Rattle.text_commands.proofs.Listed.{image_of}
+use Rattle.text_commands.proofs.Passing.{too_large}
 use Rattle.text_commands.proofs.compile.compile_text.Goals as goal
 
 -- its file is the text's, so that it is an accepted one
 pub compile-requires-clause-accepted : goal.compile-requires-clause-accepted
-compile-requires-clause-accepted g c = record {
+compile-requires-clause-accepted g c = λ lifetimes outlive. record {
   text = c.args.text.now;
   are_bytes = all_bytes c.args.text.now (λ i. omega (arith, c.type_inv.text i));
   is_file = c.in-Ok.ensures.file;
@@ -21,20 +21,9 @@ returns-in-Ok-write_image-clause-image g c =
     let file = tree_of (typed_of c.in-Ok.checked) in
     let image = tables c.in-Ok-compile.image in
     let bytes = all_bytes text (λ i. omega (arith, c.type_inv.text i)) in
-    let made = c.in-Ok-compile.ensures.made in
     record {
       image = image;
-      is_image = record {
-        file = file;
-        is_file = c.in-Ok.ensures.file;
-        is_image = c.in-Ok-compile.ensures.is_image;
-        made = only_made file image made;
-        correct = made_correct text file c.in-Ok.ensures.file image made bytes c.in-Ok-compile.ensures.is_image;
-        in_need = made_in_need text file c.in-Ok.ensures.file image made bytes c.in-Ok-compile.ensures.is_image;
-        bounded = made_bounded text file c.in-Ok.ensures.file image made;
-        exact = made_exact text file c.in-Ok.ensures.file image made;
-        fits = c.in-Ok-compile.ensures.fits;
-      };
+      is_image = image_of text file c.in-Ok.ensures.file bytes image c.in-Ok-compile.ensures.is_image c.in-Ok-compile.ensures.made c.in-Ok-compile.ensures.fits;
       spelled = c.in-Ok-write_image.ensures;
     }
 

@@ -9,7 +9,7 @@ use Rattle.text_commands.proofs.list.list_text.Goals as goal
 
 -- its file is the text's, so that it is an accepted one
 pub stage-requires-clause-accepted : goal.stage-requires-clause-accepted
-stage-requires-clause-accepted g c = record {
+stage-requires-clause-accepted g c = λ lifetimes outlive. record {
   text = c.args.text.now;
   are_bytes = all_bytes c.args.text.now (λ i. omega (arith, c.type_inv.text i));
   is_file = c.in-Ok.ensures.file;
@@ -31,9 +31,8 @@ returns-in-Ok-stage-clause-listed g c =
     }
 
 pub returns-in-Err-TooLarge-clause-refused : goal.returns-in-Err-TooLarge-clause-refused
-returns-in-Err-TooLarge-clause-refused g c =
-    rw c.in-Err-TooLarge.field-0-is (
-      c.in-Err-TooLarge.ensures.of_image c.in-Err-TooLarge.large (ap Err c.in-Err-TooLarge.field-0-is),
-      too_large c.args.text.now (tree_of (typed_of c.in-Ok.checked)) c.in-Err-TooLarge.large c.in-Ok.ensures.file
-          (c.in-Err-TooLarge.ensures.large c.in-Err-TooLarge.large (ap Err c.in-Err-TooLarge.field-0-is)),
-    )
+returns-in-Err-TooLarge-clause-refused g c = (
+  c.in-Err-TooLarge.ensures.of_image c.in-Err-TooLarge.large (ap Err c.in-Err-TooLarge.field-0-is),
+  too_large c.args.text.now (tree_of (typed_of c.in-Ok.checked)) c.in-Err-TooLarge.large c.in-Ok.ensures.file
+      (c.in-Err-TooLarge.ensures.large c.in-Err-TooLarge.large (ap Err c.in-Err-TooLarge.field-0-is)),
+)
