@@ -1,9 +1,9 @@
 -- The last function of a text that is drawn takes the two words, in its file and in the image of that.
-use Rattle.std.proofs.Common.{◌≡◌, ◌⊎◌, inl, inr, ℕ, zero, suc, ◌+◌, ◌-◌, ◌<◌, ◌≤◌, Bool, true, false, cond, List, [], ◌∷◌, length, map, Option, Some, None, slice_get, find, bytes_eq, refl, sym, ap, ◌∙◌, subst, lit<, arith}
+use Rattle.std.proofs.Common.{◌≡◌, ◌⊎◌, inl, inr, ℕ, zero, suc, ◌-◌, ◌≤◌, Bool, true, false, cond, List, [], ◌∷◌, length, map, Option, Some, None, slice_get, find, bytes_eq, refl, sym, ap, ◌∙◌, subst, arith}
 use Rattle.std.specs.List.{AllByRecursion}
 use Rattle.bs_words.specs.declared.types.Comp.TheVariants as comp
 use Rattle.bs_words.specs.declared.values.Value.TheVariants.{Word}
-use Rattle.cmm_data.specs.Placement.{data_end, value_of_symbol}
+use Rattle.cmm_data.specs.Placement.{data_end}
 use Rattle.cmm_front.specs.FileOf.{IsFileOf}
 use Rattle.cmm_front.proofs.Readings.{one_file_read}
 use Rattle.cmm_gen.specs.Drawn.{DrawnFunction}
@@ -16,13 +16,11 @@ use Rattle.cmm_lex.proofs.Languages.{AreBytes}
 use Rattle.cmm_meaning.specs.Evaluation.{fit_parameters}
 use Rattle.cmm_tree.specs.Tree.{FunctionTree, ItemTree, FileTree, functions, functions_among, comps_of}
 use Rattle.command_line.specs.declared.command.Moves.{Moves}
-use Rattle.correctness.specs.Correct.{IsCorrect}
 use Rattle.correctness.specs.Setting.{AreRowsOf}
 use Rattle.image_form.specs.Tables.{Tables, Func}
 use Rattle.rv_machine.specs.Loading.{func_named, words_of_args}
-use Rattle.text_commands.specs.Arguments.{NamesNone, HasUnfit, Unfit, no_argument, misfit, no_answer, words_of}
-use Rattle.cmmc_core.specs.Refusal.{IsUnfit}
-use Rattle.cmmc_core.specs.Run.{words_of_answers}
+use Rattle.text_commands.specs.Arguments.{NamesNone, HasUnfit, Unfit, no_argument, misfit, no_answer}
+use Rattle.cmmc_core.specs.Run.{IsUnfit, words_of_answers}
 use Rattle.cmmc_core.specs.Soak.{soak_text, soak_entry, soak_args, soak_check, soak_run}
 
 -- ---- what is found
@@ -46,9 +44,12 @@ none_step y rest false go is = go is
 
 -- where one passes the test, one is found
 never_none : {A : Type 0} (p : A → Bool) (xs : List A) (i : ℕ) (x : A) → slice_get xs i ≡ Some x → p x ≡ true → find p xs ≡ None → ⊥
-never_none p [] i x at yes none = cc
-never_none p (y ∷ ys) zero x at yes none = let e : y ≡ x = cc in none_here y (find p ys) (p y) (subst (λ z. p z ≡ true) (sym e) yes) none
-never_none p (y ∷ ys) (suc i) x at yes none = none_step y (find p ys) (p y) (λ e. never_none p ys i x at yes e) none
+never_none p [] i x at holds missing = cc
+never_none p (y ∷ ys) zero x at holds missing = let e : y ≡ x = cc in none_here y (find p ys) (p y) (subst (λ z. p z ≡ true) (sym e) holds) missing
+never_none p (y ∷ ys) (suc i) x at holds missing = none_step y (find p ys) (p y) (λ e. never_none p ys i x at holds e) missing
+
+filled : {A : Type 0} (x : A) → Some x ≡ None → ⊥
+filled x e = cc
 
 -- ---- functions that are drawn
 
@@ -67,7 +68,7 @@ each_two _ _ _ (more k f fs tree items is rest) = (two_ints k f tree is, each_tw
 
 -- two words suit such a function
 suits : (count : ℕ) (file : FileTree) (f : FunctionTree) → TakesTwo f → Unfit file f (soak_check count) → ⊥
-suits count file f two (no_argument e) = let e : Some (3 ∷ 4 ∷ []) ≡ None = e in cc
+suits count file f two (no_argument e) = filled (3 ∷ 4 ∷ []) e
 suits count file f two (misfit args are not) =
     let e : Some (3 ∷ 4 ∷ []) ≡ Some args = are in
     let same : args ≡ 3 ∷ 4 ∷ [] = cc in
@@ -77,7 +78,7 @@ suits count file f two (misfit args are not) =
     sym fit ∙ ap (λ c. fit_parameters (data_end file) c (Word 3 ∷ Word 4 ∷ [])) (sym two)
     ∙ ap (λ (a : List ℕ). fit_parameters (data_end file) (comps_of f) (map Word a)) (sym same) ∙ off in
     cc
-suits count file f two (no_answer e) = let e : Some ([] {ℕ}) ≡ None = e in cc
+suits count file f two (no_answer e) = filled {A = List ℕ} [] e
 
 -- ---- rows of an image
 
@@ -110,9 +111,8 @@ row_suits count image moves u two = by u.unfit
     by : (words_of_args image u.entry.params soak_args ≡ None) ⊎ (words_of_answers image [] ≡ None) → ⊥
     by (inl e) =
         let fit : words_of_args image (comp.Int ∷ comp.Int ∷ []) soak_args ≡ Some (3 ∷ 4 ∷ []) = refl in
-        let bad : Some (3 ∷ 4 ∷ []) ≡ None = sym fit ∙ ap (λ c. words_of_args image c soak_args) (sym two) ∙ e in
-        cc
-    by (inr e) = let bad : Some ([] {ℕ}) ≡ None = e in cc
+        filled (3 ∷ 4 ∷ []) (sym fit ∙ ap (λ c. words_of_args image c soak_args) (sym two) ∙ e)
+    by (inr e) = filled {A = List ℕ} [] e
 
 module _ (seed count : ℕ) (few : count ≤ 1000) where
   read : ReadAs (drawn count (generator seed)) (soak_text seed count)
@@ -137,7 +137,7 @@ module _ (seed count : ℕ) (few : count ≤ 1000) where
 
     -- the file has the function, and the words suit it
     pub entry_named : NamesNone file (soak_entry count) → ⊥
-    entry_named no = never_none (λ (f : FunctionTree). bytes_eq f.name (soak_entry count)) (functions file) (count - 1) last.tree last.found named no
+    entry_named missing = never_none (λ (f : FunctionTree). bytes_eq f.name (soak_entry count)) (functions file) (count - 1) last.tree last.found named missing
 
     pub entry_suited : HasUnfit (soak_check count) file → ⊥
     entry_suited u =
@@ -148,10 +148,10 @@ module _ (seed count : ℕ) (few : count ≤ 1000) where
     -- ---- and so has the image
     module _ (image : Tables) (rows : AreRowsOf (functions file) image.funcs) where
       pub row_named : func_named (soak_entry count) image.funcs ≡ None → ⊥
-      row_named no =
+      row_named missing =
           let row = row_at (functions file) image.funcs rows (count - 1) last.tree last.found in
           never_none (λ (r : Func). bytes_eq r.name (soak_entry count)) image.funcs (count - 1) row.row row.at
-          (ap (λ n. bytes_eq n (soak_entry count)) row.name ∙ named) no
+          (ap (λ n. bytes_eq n (soak_entry count)) row.name ∙ named) missing
 
       pub row_suited : (moves : Moves) → IsUnfit (soak_run count moves) image → ⊥
       row_suited moves u =

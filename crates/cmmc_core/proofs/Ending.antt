@@ -1,23 +1,18 @@
 -- How the parts of the top call put its end together.
-use Rattle.std.proofs.Common.{ℕ, ◌≤◌, ◌<◌, All, List, length, take, drop, Option, Some, None, Result, Ok, Err, refl, sym, subst, inl, inr, arith, length-drop}
-use Rattle.std.specs.Io.KnownBytes.{Keeps, Consumes, IsAtEnd}
-use Rattle.std.specs.Prelude.{OnOk, IfErr}
+use Rattle.std.proofs.Common.{ℕ, ◌<◌, All, List, take, drop, Option, Some, None, refl, sym, subst, inl, inr, arith, length-drop}
+use Rattle.std.specs.Io.KnownBytes.{Keeps}
 use Rattle.std.proofs.lemmas.List.{take-append-drop}
 use Rattle.bs_io.specs.Faults.{Risen}
 use Rattle.bs_io.specs.Whole.{AppendsPart}
 use Rattle.command_line.specs.Command.{IsCommand, AsksToCompile, RunCommand, RunTree}
-use Rattle.image_form.specs.Tables.{Tables}
 use Rattle.bs_fault.specs.Limits.{longest_text}
 use Rattle.cmmc_core.specs.Effects.{Side, Effects, IsKept, Got, GotPart, Tells, IsRead}
 use Rattle.cmmc_core.specs.Ends.{Output, spelling, outcome, Cause, fault, too_large, no_memory, Ends, written, refused, out_fault, err_fault}
 use Rattle.cmmc_core.specs.Compile.{Reads}
-use Rattle.cmmc_core.specs.Refusal.{IsRefusalRead, TellsRefusal, WritesRun, IsRunRefusal, WritesOutcome, CutsOutcome, IsRunRefusalFrom, TellsOr}
-use Rattle.cmmc_core.specs.Run.{IsTextOf, ReadsImage, IsOutcomeOf}
+use Rattle.cmmc_core.specs.Refusal.{IsRefusalRead, TellsRefusal, WritesOutcome, CutsOutcome, TellsOr}
 use Rattle.text_commands.specs.Refusal.{SpellsImageOf, IsRefusalOf}
 use Rattle.text_commands.specs.declared.compile.Refusal as text
 use Rattle.text_commands.specs.declared.compile.Refusal.TheVariants.{Fault, TooLarge, OutOfMemory}
-use Rattle.cmmc_core.specs.declared.run.RunRefusal.{RunRefusal}
-use Rattle.cmmc_core.specs.declared.run.RunRefusal.TheVariants as refusal
 
 -- what was not touched is kept
 pub Keeps-same : (known : Option (List ℕ)) → Keeps known known
@@ -57,10 +52,6 @@ Ends-told-or words e status result line cause kept (inr told) = Ends-told words 
 
 -- ---- compile
 
--- the text that was read whole
-pub IsRead-whole : (limit : ℕ) (s : Side) (text : List ℕ) → Consumes s.before s.after text → IsAtEnd s.after → length text ≤ limit → IsRead limit s text
-IsRead-whole limit s text taken end short = record { taken = taken; whole = inl (short, end) }
-
 -- what is written is the spelling of an image of the text that was read
 spells : (words : List (List ℕ)) (s : Side) (bytes : List ℕ) → AsksToCompile words → Reads (λ text. SpellsImageOf text bytes) s → Output words s bytes
 spells words s bytes is r =
@@ -97,35 +88,3 @@ Ends-run words e run is w kept = written w.text (outcome run w.text is w.is_outc
 
 pub Ends-run-cut : (words : List (List ℕ)) (e : Effects) (run : RunTree) → IsCommand words (RunCommand run) → CutsOutcome run e.source e.out → IsKept e.err → Ends words e 6
 Ends-run-cut words e run is w kept = out_fault w.text (outcome run w.text is w.is_outcome) w.got kept
-
--- the outcome of the image that was read
-of_read : (run : RunTree) (source : Side) (image : Tables) (text : List ℕ) → ReadsImage source image → IsTextOf run image text → IsOutcomeOf run source text
-of_read run source image text reads t = record {
-  image = image;
-  reads = reads;
-  entry = t.entry;
-  args = t.args;
-  answers = t.answers;
-  named = t.named;
-  suit = t.suit;
-  answered = t.answered;
-  told = t.told;
-}
-
-run_refused : (run : RunTree) (source out : Side) (image : Tables) (r : RunRefusal) → ReadsImage source image → IsRunRefusal run image out r → IsRunRefusalFrom run source out r
-run_refused run source out image refusal.ReadFault reads why = absurd why
-run_refused run source out image (refusal.Image w) reads why = absurd why
-run_refused run source out image refusal.UnknownEntry reads why = (why.0, record { image = image; reads = reads; unknown = why.1 })
-run_refused run source out image refusal.ArgumentUnfit reads why =
-    (why.0, record { image = image; reads = reads; entry = why.1.entry; named = why.1.named; unfit = why.1.unfit })
-run_refused run source out image refusal.WriteFault reads why =
-    record { text = why.text; is_outcome = of_read run source image why.text reads why.is_text; got = why.got }
-run_refused run source out image refusal.OutOfMemory reads why = why
-
-pub IfErr-run : (run : RunTree) (source out : Side) (image : Tables) (r : Result (Unit {0}) RunRefusal) → ReadsImage source image → IfErr r (λ w. IsRunRefusal run image out w) → IfErr r (λ w. IsRunRefusalFrom run source out w)
-IfErr-run run source out image (Ok u) reads why = why
-IfErr-run run source out image (Err w) reads why = run_refused run source out image w reads why
-
-pub OnOk-run : (run : RunTree) (source out : Side) (image : Tables) (r : Result (Unit {0}) RunRefusal) → ReadsImage source image → OnOk r (WritesRun run image out) → OnOk r (WritesOutcome run source out)
-OnOk-run run source out image (Ok u) reads w = record { text = w.text; is_outcome = of_read run source image w.text reads w.is_text; got = w.got }
-OnOk-run run source out image (Err e) reads w = w

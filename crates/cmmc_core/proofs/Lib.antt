@@ -1,3 +1,19 @@
-pub mod Listing
-pub mod Drawn
-pub mod Soaking
+mod Answers
+mod Checking
+mod CheckEnds
+mod CommandEnd
+mod CompileEnds
+mod Complete
+mod Drawn
+mod Ending
+mod LastLine
+mod ListEnds
+mod Listing
+mod Reading
+mod Refused
+mod RunEnds
+mod Running
+mod SoakEnds
+mod Soaking
+mod Spelled
+mod TextKnown

@@ -16,14 +16,9 @@ refused_from run source out image reads refusal.ReadFault p = elim p [ ]
 refused_from run source out image reads (refusal.Image why) p = elim p [ ]
 refused_from run source out image reads refusal.UnknownEntry p = (p.0, record { image = image; reads = reads; unknown = p.1 })
 refused_from run source out image reads refusal.ArgumentUnfit p =
-    (p.0, record { image = image; reads = reads; entry = p.1.entry; named = p.1.named; unfit = p.1.unfit })
+    (p.0, record { image = image; reads = reads; is_unfit = p.1 })
 refused_from run source out image reads refusal.WriteFault p =
-    let t = p.is_text in
-    record {
-      text = p.text;
-      is_outcome = record { image = image; reads = reads; entry = t.entry; args = t.args; answers = t.answers; named = t.named; suit = t.suit; answered = t.answered; told = t.told };
-      got = p.got;
-    }
+    record { text = p.text; is_outcome = record { image = image; reads = reads; is_text = p.is_text }; got = p.got }
 refused_from run source out image reads refusal.OutOfMemory p = p
 
 pub refused_so : {T : Type 0} (run : RunTree) (source out : Side) (image : Tables) (bytes slice : List ℕ) → IsRead longest_image source bytes → slice ≡ bytes →

@@ -16,8 +16,7 @@ use Rattle.rv_machine.specs.Start.{start}
 use Rattle.rv_machine.specs.Text.{outcome_text}
 use Rattle.rv_machine.specs.declared.setup.LoadError.TheVariants.{UnknownEntry, ArgumentUnfit}
 use Rattle.rv_machine.specs.declared.setup.Setup.{Setup}
-use Rattle.cmmc_core.specs.Refusal.{IsUnfit}
-use Rattle.cmmc_core.specs.Run.{IsTextOf, words_of_answers, schedule_of}
+use Rattle.cmmc_core.specs.Run.{IsRunText, IsUnfit, words_of_answers, schedule_of}
 
 -- A machine stands where the run of a setup begins.
 pub record Begun (image : Tables) (setup : Setup) (h : Hart) : Type 0 where
@@ -77,7 +76,7 @@ unfit-answers image setup h run entry_is b none =
 pub text-of : (image : Tables) (setup : Setup) (h : Hart) (run : RunTree) (schedule : Schedule) (answers : List ℕ) → AreTables image → Begun image setup h
     → run.entry ≡ setup.entry → run.args ≡ contents setup.args → run.stack ≡ setup.stack → run.heap ≡ setup.heap
     → runtime.schedule_of schedule ≡ schedule_of run.moves
-    → words_of_answers image run.answers ≡ Some answers → IsTextOf run image (outcome_text (run_of h answers schedule run.steps))
+    → words_of_answers image run.answers ≡ Some answers → IsRunText run image (outcome_text (run_of h answers schedule run.steps))
 text-of image setup h run schedule answers tables b entry_is args_are stack_is heap_is moves_are answered = record {
   entry = b.entry;
   args = b.args;

@@ -1,5 +1,5 @@
 -- How a call of `soak` ends, and what its parts cannot answer.
-use Rattle.std.proofs.Common.{◌≡◌, ℕ, ◌≤◌, List, ◌++◌, ◌∷◌, [], None, codes, refl, sym, ◌∙◌, arith, append_assoc}
+use Rattle.std.proofs.Common.{◌≡◌, ℕ, ◌≤◌, List, ◌++◌, ◌∷◌, [], None, codes, refl, sym, subst, ◌∙◌, arith, append_assoc}
 use Rattle.bs_fault.specs.declared.fault.Fault.{Fault}
 use Rattle.bs_fault.specs.declared.large.Large.{Large}
 use Rattle.cmm_front.proofs.OneFile.{file_or_fault}
@@ -20,8 +20,8 @@ use Rattle.text_commands.specs.Lines.{end_text}
 use Rattle.text_commands.specs.Trial.{IsTrial}
 use Rattle.cmmc_core.specs.Effects.{Effects, IsKept, Got, GotPart}
 use Rattle.cmmc_core.specs.Ends.{soaked, unsoaked, no_memory, Ends, written, out_fault}
-use Rattle.cmmc_core.specs.Refusal.{IsUnfit, IsSoakRefusal, TellsSoakRefusal}
-use Rattle.cmmc_core.specs.Run.{IsTextOf, schedule_of}
+use Rattle.cmmc_core.specs.Refusal.{IsSoakRefusal, TellsSoakRefusal}
+use Rattle.cmmc_core.specs.Run.{IsRunText, IsUnfit, schedule_of}
 use Rattle.cmmc_core.specs.Soak.{soak_text, soak_entry, soak_check, soak_run, IsSoakOf}
 use Rattle.cmmc_core.specs.declared.soak.SoakRefusal.{SoakRefusal}
 use Rattle.cmmc_core.specs.declared.soak.SoakRefusal.TheVariants.{TooLarge, OutOfMemory}
@@ -41,18 +41,15 @@ module _ (words : List (List ℕ)) (e : Effects) (seed functions : ℕ) (is : Is
 
 -- ---- outcomes end with a line feed
 
-fed : (calls end text : List ℕ) → text ≡ calls ++ (end ++ codes "\n") → (words : List ℕ) × (text ≡ words ++ 10 ∷ [])
-fed calls end text is = (calls ++ end, is ∙ sym (append_assoc calls end (codes "\n")))
-
 pub trial_fed : (check : CheckTree) (text : List ℕ) (image : Tables) (outcome : List ℕ) → IsTrial check text image outcome → (words : List ℕ) × (outcome ≡ words ++ 10 ∷ [])
 trial_fed check text image outcome t =
     let run = cmm_run t.is_image.file (layout_of image) t.entry t.args t.answers check.fuel in
-    fed (machine.calls_text run.calls) (end_text run.outcome) outcome t.told
+    (machine.calls_text run.calls ++ end_text run.outcome, t.told ∙ sym (append_assoc (machine.calls_text run.calls) (end_text run.outcome) (codes "\n")))
 
-pub run_fed : (run : RunTree) (image : Tables) (text : List ℕ) → IsTextOf run image text → (words : List ℕ) × (text ≡ words ++ 10 ∷ [])
+pub run_fed : (run : RunTree) (image : Tables) (text : List ℕ) → IsRunText run image text → (words : List ℕ) × (text ≡ words ++ 10 ∷ [])
 run_fed run image text t =
     let seen = machine_run image t.entry t.args t.answers run.stack run.heap (schedule_of run.moves) run.steps in
-    fed (machine.calls_text seen.calls) (machine.end_text seen.end) text t.told
+    (machine.calls_text seen.calls ++ machine.end_text seen.end, t.told)
 
 -- ---- what is drawn has no fault, and its last function takes the words
 
@@ -76,10 +73,14 @@ module _ (seed count : ℕ) (some : 1 ≤ count) (few : count ≤ 1000) where
     rows = (t.is_image.correct 0 0 room_none room_none).rows
 
     pub no_unknown_row : func_named (soak_entry count) image.funcs ≡ None → ⊥
-    no_unknown_row no = row_named seed count few some t.is_image.file t.is_image.is_file image rows no
+    no_unknown_row none = row_named seed count few some t.is_image.file t.is_image.is_file image rows none
 
     pub no_unfit_row : (moves : Moves) → IsUnfit (soak_run count moves) image → ⊥
     no_unfit_row moves u = row_suited seed count few some t.is_image.file t.is_image.is_file image rows moves u
+
+-- what holds of the words and of the text that were handed over holds of these
+pub for_soak : (P : CheckTree → List ℕ → Type 0) (a b : CheckTree) (s t u : List ℕ) → a ≡ b → s ≡ t → t ≡ u → P a s → P b u
+for_soak P a b s t u same read drawn p = subst (λ text. P b text) (read ∙ drawn) (subst (λ check. P check s) same p)
 
 -- a section of the image of the text that is drawn passes its limit
 pub passing : (check : CheckTree) (text : List ℕ) (large : Large) → IsTooLargeToCheck check text large → IsTooLarge text large

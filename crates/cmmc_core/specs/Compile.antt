@@ -1,4 +1,4 @@
--- What the commands `compile` and `check` read.
+-- What the commands on a Cmm text read.
 use Rattle.std.specs.Prelude.{ℕ, ◌<◌, List, All}
 use Rattle.bs_fault.specs.Limits.{longest_text}
 use Rattle.cmmc_core.specs.Effects.{Side, IsRead}

@@ -79,7 +79,8 @@ pub record CheckComplete (check : CheckTree) (text : List ℕ) (status : ℕ) : 
       → NamesNone file check.entry
       → Is 2 status
   pub unfit : (file : FileTree) → IsFileOf text file → HasUnfit check file → Is 2 status
-  -- a call that suits is run, whatever becomes of the run, or a section of the image of its text passes its limit
+  -- a call that suits is run, whatever becomes of the run, or a section of the image passes its
+  -- limit
   pub accepted : (file : FileTree) (entry : ℕ) (args answers : List ℕ)
       → IsFileOf text file
       → IsCall check file entry args answers
@@ -107,8 +108,11 @@ pub record CheckComplete (check : CheckTree) (text : List ℕ) (status : ℕ) : 
 -- What `list` comes to on a text that the source tells.
 pub record ListComplete (stage : Stage) (text : List ℕ) (status : ℕ) : Type 0 where
   pub fault : (told : Fault) → HasFault text told → Is 3 status
-  -- a text without a fault is listed, or the stage is one of the image, and a section of that passes its limit
-  pub accepted : (file : FileTree) → IsFileOf text file → Is 0 status ⊎ (IsOfImage stage × (status ≡ 8))
+  -- a text without a fault is listed, or the stage is one of the image, of which a section passes
+  -- its limit
+  pub accepted : (file : FileTree)
+      → IsFileOf text file
+      → Is 0 status ⊎ (IsOfImage stage × (status ≡ 8))
   -- where the image fits, it is listed
   pub fits : (file : FileTree) (image : Tables)
       → IsFileOf text file
@@ -123,21 +127,28 @@ pub record ListComplete (stage : Stage) (text : List ℕ) (status : ℕ) : Type 
       → first_too_large image ≡ Some large
       → Is 8 status
 
--- What `soak` comes to: the text that is drawn has no fault.
+-- What `soak` comes to. The text that is drawn has no fault.
 pub record SoakComplete (seed functions status : ℕ) : Type 0 where
+  -- it is tried, whatever becomes of the runs, or a section of its image passes its limit
   pub accepted : Is 0 status ⊎ (status ≡ 8)
+  -- where the image fits, it is tried
   pub fits : (file : FileTree) (image : Tables)
       → IsFileOf (soak_text seed functions) file
       → IsMadeFor file image
       → first_too_large image ≡ None
       → Is 0 status
-  pub roomy : (file : FileTree) → IsFileOf (soak_text seed functions) file → IsRoomy file → Is 0 status
+  pub roomy : (file : FileTree)
+      → IsFileOf (soak_text seed functions) file
+      → IsRoomy file
+      → Is 0 status
   pub too_large : (file : FileTree) (image : Tables) (large : Large)
       → IsFileOf (soak_text seed functions) file
       → IsMadeFor file image
       → first_too_large image ≡ Some large
       → Is 8 status
 
+-- Where no count of faults rose, the words and what the source tells give the status, but for want
+-- of memory.
 pub record Complete (words : List (List ℕ)) (e : Effects) (status : ℕ) : Type 0 where
   pub no_command : (WellFormed words → ⊥) → NoneRose e → Is 2 status
   pub no_value : ((command : CommandTree) → IsCommand words command → ⊥) → NoneRose e → Is 2 status

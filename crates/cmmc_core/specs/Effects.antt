@@ -15,7 +15,12 @@ pub record Side : Type 0 where
 -- by what it tells of its bytes and by its count, of its states before the call and after it
 abbrev pub side : {X : Type 0} → (X → Option (List ℕ)) → (X → ℕ) → X → X → Side
 side bytes faults old new =
-    record { before = bytes old; after = bytes new; faults_before = faults old; faults_after = faults new }
+    record {
+      before = bytes old;
+      after = bytes new;
+      faults_before = faults old;
+      faults_after = faults new;
+    }
 
 -- What the three did.
 pub record Effects : Type 0 where

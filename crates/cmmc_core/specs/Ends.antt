@@ -1,5 +1,5 @@
 -- How a call of the program ends, status by status.
-use Rattle.std.specs.Prelude.{ℕ, List}
+use Rattle.std.specs.Prelude.{⊤, ℕ, List}
 use Rattle.bs_fault.specs.FaultLines.{fault_line}
 use Rattle.bs_fault.specs.Lines.{usage_line, large_line, image_line}
 use Rattle.bs_fault.specs.declared.fault.Fault.{Fault}
@@ -39,7 +39,6 @@ pub data Output (words : List (List ℕ)) (source : Side) : List ℕ → Type 0 
       → IsCommand words (CheckCommand check)
       → Reads (λ text. IsCheckOf check text lines) source
       → Output words source lines
-
   -- `list`: the text of that stage of the text
   listed : (stage : Stage) (bytes : List ℕ)
       → IsCommand words (ListCommand stage)
@@ -73,9 +72,15 @@ pub data ListCause (stage : Stage) (source : Side) : ℕ → List ℕ → Type 0
       → Reads (λ text. IsTooLarge text large) source
       → ListCause stage source 8 (large_line large)
 
+-- the command has input
+abbrev pub HasInput : CommandTree → Type 0
+HasInput (SoakCommand seed functions) = ⊥
+HasInput _ = ⊤
+
 -- Why there is no output: the status that reports it, and the line.
 pub data Cause (words : List (List ℕ)) (source : Side) : ℕ → List ℕ → Type 0 where
-  -- the words do not have the form of a command, or have a value that no command has; nothing was read
+  -- the words do not have the form of a command, or have a value that no command has; nothing was
+  -- read
   no_command : (WellFormed words → ⊥) → IsKept source → Cause words source 2 (usage_line Words)
   no_value : WellFormed words
       → ((command : CommandTree) → IsCommand words command → ⊥)
@@ -83,6 +88,7 @@ pub data Cause (words : List (List ℕ)) (source : Side) : ℕ → List ℕ → 
       → Cause words source 2 (usage_line ValueText)
   read_fault : (command : CommandTree)
       → IsCommand words command
+      → HasInput command
       → Rose source
       → Cause words source 5 read_fault_line
   -- `compile`
@@ -107,15 +113,17 @@ pub data Cause (words : List (List ℕ)) (source : Side) : ℕ → List ℕ → 
       → IsCommand words (RunCommand run)
       → GivesUnfit run source
       → Cause words source 2 (usage_line ArgumentUnfit)
+  -- `check`
   unchecked : (check : CheckTree) (status : ℕ) (line : List ℕ)
       → IsCommand words (CheckCommand check)
       → CheckCause check source status line
       → Cause words source status line
+  -- `list`
   unlisted : (stage : Stage) (status : ℕ) (line : List ℕ)
       → IsCommand words (ListCommand stage)
       → ListCause stage source status line
       → Cause words source status line
-  -- `soak`
+  -- `soak`: nothing was read
   unsoaked : (seed functions : ℕ) (large : Large)
       → IsCommand words (SoakCommand seed functions)
       → IsTooLarge (soak_text seed functions) large

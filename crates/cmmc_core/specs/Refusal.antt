@@ -1,11 +1,11 @@
 -- What the parts of the program answer one another.
-use Rattle.std.specs.Prelude.{◌≡◌, ◌⊎◌, ⊤, ℕ, List, Some, None}
+use Rattle.std.specs.Prelude.{◌≡◌, ◌⊎◌, ⊤, ℕ, List, None}
 use Rattle.bs_fault.specs.FaultLines.{fault_line}
 use Rattle.bs_fault.specs.Lines.{usage_line, large_line}
 use Rattle.bs_fault.specs.declared.usage.Usage.TheVariants.{UnknownEntry, ArgumentUnfit}
 use Rattle.command_line.specs.Command.{RunTree, CheckTree}
-use Rattle.image_form.specs.Tables.{Tables, Func}
-use Rattle.rv_machine.specs.Loading.{func_named, words_of_args}
+use Rattle.image_form.specs.Tables.{Tables}
+use Rattle.rv_machine.specs.Loading.{func_named}
 use Rattle.cmm_front.specs.FileOf.{HasFault}
 use Rattle.stages.specs.Image.{IsOfImage}
 use Rattle.stages.specs.declared.stage.Stage.{Stage}
@@ -18,7 +18,7 @@ use Rattle.text_commands.specs.declared.compile.Refusal.TheVariants.{Fault, TooL
 use Rattle.cmmc_core.specs.Compile.{Reads}
 use Rattle.cmmc_core.specs.Effects.{Side, Rose, Tells, IsKept, Got, GotPart}
 use Rattle.cmmc_core.specs.Lines.{no_memory_line}
-use Rattle.cmmc_core.specs.Run.{IsTextOf, IsOutcomeOf, ReadsNoImage, NamesNoEntry, GivesUnfit, words_of_answers}
+use Rattle.cmmc_core.specs.Run.{IsRunText, IsOutcomeOf, IsUnfit, ReadsNoImage, NamesNoEntry, GivesUnfit}
 use Rattle.cmmc_core.specs.Soak.{soak_text}
 use Rattle.cmmc_core.specs.declared.soak.SoakRefusal.{SoakRefusal}
 use Rattle.cmmc_core.specs.declared.soak.SoakRefusal.TheVariants as soak
@@ -56,7 +56,8 @@ IsRefusalFrom source (Text why) = IsRefusalRead source why
 -- why nothing is listed of the text that was read
 abbrev pub IsListRefusalRead : Stage → Side → text.Refusal → Type 0
 IsListRefusalRead stage source (Fault told) = Reads (λ text. HasFault text told) source
-IsListRefusalRead stage source (TooLarge large) = IsOfImage stage × Reads (λ text. IsTooLarge text large) source
+IsListRefusalRead stage source (TooLarge large) =
+    IsOfImage stage × Reads (λ text. IsTooLarge text large) source
 IsListRefusalRead stage source OutOfMemory = ⊤
 
 -- why nothing is listed of a source
@@ -89,22 +90,16 @@ IsCheckFailure check source (failure.Text why) = IsCheckRefusalRead check source
 
 -- ---- run
 
--- The arguments or the answers do not suit the entry.
-pub record IsUnfit (run : RunTree) (image : Tables) : Type 0 where
-  pub entry : Func
-  pub named : func_named run.entry image.funcs ≡ Some entry
-  pub unfit : (words_of_args image entry.params run.args ≡ None) ⊎ (words_of_answers image run.answers ≡ None)
-
 -- out has the outcome
 pub record WritesRun (run : RunTree) (image : Tables) (out : Side) : Type 0 where
   pub text : List ℕ
-  pub is_text : IsTextOf run image text
+  pub is_text : IsRunText run image text
   pub got : Got out text
 
 -- out has the front of the outcome
 pub record CutsRun (run : RunTree) (image : Tables) (out : Side) : Type 0 where
   pub text : List ℕ
-  pub is_text : IsTextOf run image text
+  pub is_text : IsRunText run image text
   pub got : GotPart out text
 
 -- why an image has no outcome, or not the whole of it on out

@@ -42,26 +42,22 @@ pub record ReadsImage (source : Side) (image : Tables) : Type 0 where
   pub is_image : IsSpelling bytes image
 
 -- The text is the outcome of this run of the image.
-pub record IsTextOf (run : RunTree) (image : Tables) (text : List ℕ) : Type 0 where
+pub record IsRunText (run : RunTree) (image : Tables) (text : List ℕ) : Type 0 where
   pub entry : Func
   pub args : List ℕ
   pub answers : List ℕ
   pub named : func_named run.entry image.funcs ≡ Some entry
   pub suit : words_of_args image entry.params run.args ≡ Some args
   pub answered : words_of_answers image run.answers ≡ Some answers
-  pub told : text ≡ outcome_text (machine_run image entry args answers run.stack run.heap (schedule_of run.moves) run.steps)
+  pub told : text
+      ≡ outcome_text
+      (machine_run image entry args answers run.stack run.heap (schedule_of run.moves) run.steps)
 
 -- The text is the outcome of this run of the image that was read.
 pub record IsOutcomeOf (run : RunTree) (source : Side) (text : List ℕ) : Type 0 where
   pub image : Tables
   pub reads : ReadsImage source image
-  pub entry : Func
-  pub args : List ℕ
-  pub answers : List ℕ
-  pub named : func_named run.entry image.funcs ≡ Some entry
-  pub suit : words_of_args image entry.params run.args ≡ Some args
-  pub answered : words_of_answers image run.answers ≡ Some answers
-  pub told : text ≡ outcome_text (machine_run image entry args answers run.stack run.heap (schedule_of run.moves) run.steps)
+  pub is_text : IsRunText run image text
 
 -- ---- why there is none
 
@@ -83,9 +79,14 @@ pub record NamesNoEntry (run : RunTree) (source : Side) : Type 0 where
   pub unknown : func_named run.entry image.funcs ≡ None
 
 -- The arguments do not suit the entry, or a symbol of arguments or answers is no data symbol.
+pub record IsUnfit (run : RunTree) (image : Tables) : Type 0 where
+  pub entry : Func
+  pub named : func_named run.entry image.funcs ≡ Some entry
+  pub unfit : (words_of_args image entry.params run.args ≡ None)
+      ⊎ (words_of_answers image run.answers ≡ None)
+
+-- So it is of the image that was read.
 pub record GivesUnfit (run : RunTree) (source : Side) : Type 0 where
   pub image : Tables
   pub reads : ReadsImage source image
-  pub entry : Func
-  pub named : func_named run.entry image.funcs ≡ Some entry
-  pub unfit : (words_of_args image entry.params run.args ≡ None) ⊎ (words_of_answers image run.answers ≡ None)
+  pub is_unfit : IsUnfit run image

@@ -11,7 +11,7 @@ use Rattle.rv_machine.specs.declared.setup.Arg.{Arg}
 use Rattle.rv_machine.specs.declared.setup.Arg.TheVariants.{Word}
 use Rattle.text_commands.specs.Lines.{need_text}
 use Rattle.text_commands.specs.Trial.{IsTrial}
-use Rattle.cmmc_core.specs.Run.{IsTextOf}
+use Rattle.cmmc_core.specs.Run.{IsRunText}
 
 -- the text that the generator draws
 abbrev pub soak_text : ℕ → ℕ → List ℕ
@@ -34,7 +34,12 @@ abbrev pub soak_room : ℕ
 soak_room = 67108864
 
 abbrev pub soak_check : ℕ → CheckTree
-soak_check functions = record { entry = soak_entry functions; args = soak_args; answers = []; fuel = soak_steps }
+soak_check functions = record {
+  entry = soak_entry functions;
+  args = soak_args;
+  answers = [];
+  fuel = soak_steps;
+}
 
 abbrev pub soak_run : ℕ → Moves → RunTree
 soak_run functions moves = record {
@@ -49,7 +54,7 @@ soak_run functions moves = record {
 
 -- ---- what is reported
 
--- It begins its line of the text.
+-- What comes after this begins a line.
 abbrev pub BeginsLine : List ℕ → Type 0
 BeginsLine front = (front ≡ []) ⊎ ((before : List ℕ) × (front ≡ before ++ 10 ∷ []))
 
@@ -69,16 +74,17 @@ soak_lines functions bytes check still moved =
     ++ (need_text (codes "image") bytes
     ++ (codes "check " ++ (check ++ (codes "still " ++ (still ++ (codes "moved " ++ moved))))))
 
--- The lines that are reported of the text that is drawn: of its image, and of the outcomes of its last function, by the
--- meaning of the text, and on the machine where nothing moves and where the seed draws what moves.
+-- The lines that are reported of the text that is drawn: of its image, and of the outcomes of its
+-- last function, by the meaning of the text, and on the machine where nothing moves and where the
+-- seed draws what moves.
 pub record IsSoakOf (seed functions : ℕ) (lines : List ℕ) : Type 0 where
   pub image : Tables
   pub meant : List ℕ
   pub at_rest : List ℕ
   pub in_motion : List ℕ
   pub trial : IsTrial (soak_check functions) (soak_text seed functions) image meant
-  pub rests : IsTextOf (soak_run functions Never) image at_rest
-  pub moves : IsTextOf (soak_run functions (Seed seed)) image in_motion
+  pub rests : IsRunText (soak_run functions Never) image at_rest
+  pub moves : IsRunText (soak_run functions (Seed seed)) image in_motion
   pub check : List ℕ
   pub still : List ℕ
   pub moved : List ℕ

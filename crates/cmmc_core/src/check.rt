@@ -25,8 +25,8 @@ pub enum CheckFailure {
     Text(CheckRefusal),
 }
 
-/// Writes what is reported of the run of the text that a source holds, or the line that says why there is nothing, and
-/// answers the status.
+/// Writes what is reported of the run of the text that a source holds, or the line that says why
+/// there is nothing, and answers the status.
 pub fn check<R: Threads + Sync, S: Source, K: Sink, E: Sink, G: Gate + Sync>(
     rt: &R,
     alloc: Global,
@@ -53,7 +53,8 @@ pub fn check<R: Threads + Sync, S: Source, K: Sink, E: Sink, G: Gate + Sync>(
     }
 }
 
-/// What is reported of the run of the text that a source holds. At most one byte past the longest text is read.
+/// What is reported of the run of the text that a source holds. At most one byte past the longest
+/// text is read.
 fn check_source<R: Threads + Sync, S: Source, G: Gate + Sync>(
     rt: &R,
     alloc: Global,
@@ -87,7 +88,8 @@ fn check_bytes<R: Threads + Sync, G: Gate + Sync>(
     gate: &G,
 ) -> Result<bs_words::List<u8>, CheckRefusal>
     ensures are_bytes { All (λ b. b < 256) text.now }
-    ensures told { IfOk result (λ lines. IsCheckOf (check_view words.now) text.now (contents lines)) }
+    ensures told { IfOk result (λ lines.
+        IsCheckOf (check_view words.now) text.now (contents lines)) }
     ensures refused { IfErr result (λ r. IsCheckRefusal (check_view words.now) text.now r) }
 {
     check_text(rt, alloc, text, words, gate)

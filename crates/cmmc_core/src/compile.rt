@@ -20,8 +20,8 @@ pub enum Refusal {
     Text(TextRefusal),
 }
 
-/// The spelling of the image of the text that a source holds, whose functions are shared among so many jobs. At most one
-/// byte past the longest text is read.
+/// The spelling of the image of the text that a source holds, whose functions are shared among so
+/// many jobs. At most one byte past the longest text is read.
 pub fn compile_source<R: Threads + Sync, S: Source, G: Gate + Sync>(
     rt: &R,
     alloc: Global,
@@ -34,7 +34,8 @@ pub fn compile_source<R: Threads + Sync, S: Source, G: Gate + Sync>(
     ensures image { IfOk result (λ bytes.
         Reads (λ text. SpellsImageOf text (contents bytes))
         (side S.left S.faults source.old source.new)) }
-    ensures refused { IfErr result (λ r. IsRefusalFrom (side S.left S.faults source.old source.new) r) }
+    ensures refused { IfErr result (λ r.
+        IsRefusalFrom (side S.left S.faults source.old source.new) r) }
 {
     match read_text(alloc, source) {
         Ok(text) => match compile_bytes(rt, alloc, text.as_slice(), jobs, gate) {

@@ -41,7 +41,8 @@ impl Sink for Kept {
     fn write(&mut self, piece: &[u8]) -> Result<usize, Failed>
         ensures within { IfOk result (λ count. count ≤ length piece.now) }
         ensures appended { IfOk result (λ count.
-            Appends (Some self.old.bytes.items) (Some self.new.bytes.items) (take count piece.now)) }
+            Appends (Some self.old.bytes.items) (Some self.new.bytes.items)
+            (take count piece.now)) }
         ensures kept { OnErr result
             (Keeps (Some self.old.bytes.items) (Some self.new.bytes.items)) }
         ensures failed { OnErr result (Risen self.old.faults self.new.faults) }

@@ -17,8 +17,8 @@ use std::alloc::Global;
 use std::thread::Threads;
 use text_commands::{Refusal as TextRefusal, list_text};
 
-/// Writes the text of a stage of the text that a source holds, or the line that says why there is none, and answers the
-/// status.
+/// Writes the text of a stage of the text that a source holds, or the line that says why there is
+/// none, and answers the status.
 pub fn list<R: Threads + Sync, S: Source, K: Sink, E: Sink>(
     rt: &R,
     alloc: Global,
@@ -44,7 +44,8 @@ pub fn list<R: Threads + Sync, S: Source, K: Sink, E: Sink>(
     }
 }
 
-/// The text of a stage of the text that a source holds. At most one byte past the longest text is read.
+/// The text of a stage of the text that a source holds. At most one byte past the longest text is
+/// read.
 fn list_source<R: Threads + Sync, S: Source>(
     rt: &R,
     alloc: Global,

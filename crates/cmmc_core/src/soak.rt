@@ -9,7 +9,7 @@ ghost use Rattle.text_commands.specs.Trial.{IsTrial};
 ghost use Rattle.cmmc_core.specs.Effects.{Side, IsKept, side, effects};
 ghost use Rattle.cmmc_core.specs.Ends.{Ends};
 ghost use Rattle.cmmc_core.specs.Refusal.{IsSoakRefusal};
-ghost use Rattle.cmmc_core.specs.Run.{IsTextOf};
+ghost use Rattle.cmmc_core.specs.Run.{IsRunText};
 ghost use Rattle.cmmc_core.specs.declared.soak.SoakRefusal.TheVariants.{OutOfMemory};
 ghost use Rattle.cmmc_core.specs.Soak.{soak_text, soak_entry, soak_args, soak_check, soak_run, soak_lines, IsSoakOf};
 
@@ -49,8 +49,8 @@ impl From<AllocError> for SoakRefusal {
     }
 }
 
-/// Writes what is reported of the text of so many functions that the seed draws, or the line that says why there is
-/// nothing, and answers the status. It reads nothing.
+/// Writes what is reported of the text of so many functions that the seed draws, or the line that
+/// says why there is nothing, and answers the status. It reads nothing.
 pub fn soak<R: Threads + Sync, K: Sink, E: Sink, G: Gate + Sync>(
     rt: &R,
     alloc: Global,
@@ -79,7 +79,8 @@ pub fn soak<R: Threads + Sync, K: Sink, E: Sink, G: Gate + Sync>(
     }
 }
 
-/// What is reported of the text of so many functions that the seed draws. It is compiled by one job.
+/// What is reported of the text of so many functions that the seed draws. It is compiled by one
+/// job.
 fn report<R: Threads + Sync, G: Gate + Sync>(
     rt: &R,
     alloc: Global,
@@ -106,7 +107,8 @@ fn report<R: Threads + Sync, G: Gate + Sync>(
     Ok(lines)
 }
 
-/// The image of the text that the seed draws, and the outcome of its last function by the meaning of the text.
+/// The image of the text that the seed draws, and the outcome of its last function by the meaning
+/// of the text.
 fn tried<R: Threads + Sync, G: Gate + Sync>(
     rt: &R,
     alloc: Global,
@@ -196,7 +198,8 @@ fn outcome_under(
     requires rules { IsImage image.now }
     requires trial { (meant : List ℕ)
         × IsTrial (soak_check functions) (soak_text seed functions) (tables image.now) meant }
-    ensures { IfOk result (λ text. IsTextOf (soak_run functions moves) (tables image.now) text.items) }
+    ensures { IfOk result (λ text.
+        IsRunText (soak_run functions moves) (tables image.now) text.items) }
 {
     let run = run_words(alloc, functions, moves)?;
     let mut kept = Kept::new(alloc);
@@ -223,11 +226,15 @@ fn lines_of(
 ) -> Result<Vec<u8>, AllocError>
     requires { IsImage image.now }
     ensures { IfOk result (λ lines.
-        lines.items ≡ soak_lines functions (length (tables_bytes (tables image.now))) check.now still.now
+        lines.items
+        ≡ soak_lines functions (length (tables_bytes (tables image.now))) check.now still.now
         moved.now) }
 {
     let bytes = write_image(alloc, image)?;
-    let head = format!(in alloc; "functions {functions}\nimage {}\ncheck ", bytes.as_slice().len())?;
+    let head = format!(in alloc;
+        "functions {functions}\nimage {}\ncheck ",
+        bytes.as_slice().len()
+    )?;
     let mut lines = head.into_bytes();
     lines.extend_from_slice(check)?;
     lines.extend_from_slice(b"still ")?;

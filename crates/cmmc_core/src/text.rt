@@ -23,7 +23,8 @@ pub enum Unread {
 pub fn read_text<S: Source>(alloc: Global, source: &mut S) -> Result<List<u8>, Unread>
     ensures read { IfOk result (λ bytes.
         IsRead longest_text (side S.left S.faults source.old source.new) (contents bytes)) }
-    ensures unread { IfErr result (λ r. IsTextUnread (side S.left S.faults source.old source.new) r) }
+    ensures unread { IfErr result (λ r.
+        IsTextUnread (side S.left S.faults source.old source.new) r) }
 {
     match read_all(alloc, source, LONGEST_TEXT) {
         Ok(text) => Ok(text),

@@ -20,14 +20,25 @@ use text_commands::Gate;
 
 /// Does what the words say, and answers the status with which the program ends.
 ///
-/// `words` are those of the command line without the program's name. `compile` reads a Cmm text from
-/// `source` and writes its image to `out`; `run ENTRY` reads an image and writes the outcome of a run of
-/// that function; `check ENTRY` reads a Cmm text and writes the outcome of a run of that function of the text, and
-/// what the run needs of stack, heap and fuel; `list STAGE` reads a Cmm text and writes the text of that stage of the
-/// compiler; `soak` draws a text by a seed, compiles it, and writes what becomes of it, in five lines: how many functions
-/// it has, the bytes of its image, and the last lines of three outcomes of its last function, by the meaning of the
-/// text, and on the machine where nothing moves and where the seed draws what moves. At status 0 nothing is written to `err`; at any other nothing but the front of the
-/// output is written to `out`. `compile`, `check` and `soak` tell the gate of each function that they compile.
+/// `words` are those of the command line without the program's name:
+///
+/// - `compile` reads a Cmm text from `source` and writes its image to `out`;
+/// - `run ENTRY` reads an image and writes the outcome of a run of that function;
+/// - `check ENTRY` reads a Cmm text and writes the outcome of a run of that function of the text,
+///   and what the run needs of stack, heap and fuel;
+/// - `list STAGE` reads a Cmm text and writes the text of that stage of the compiler;
+/// - `soak` reads nothing. It draws a text by a seed, compiles it, and writes five lines: how many
+///   functions the text has, the bytes of its image, and the last lines of three outcomes of its
+///   last function, by the meaning of the text, and on the machine where nothing moves and where
+///   the seed draws what moves.
+///
+/// `compile`, `check` and `soak` tell the gate of each function that they compile.
+///
+/// The statuses are 0 where the output was written whole, 2 where the words are no command or do
+/// not suit what was read, 3 where the text has a fault, 4 where the bytes are no image, 5 where a
+/// read failed, 6 where a write failed, 8 where a section of the image passes its limit, and 9
+/// where there was no memory. At 0 nothing is written to `err`; at any other nothing but the front
+/// of the output is written to `out`.
 pub fn cmmc<R: Threads + Sync, S: Source, K: Sink, E: Sink, G: Gate + Sync>(
     rt: &R,
     alloc: Global,

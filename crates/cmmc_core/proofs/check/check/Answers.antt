@@ -17,7 +17,7 @@ returns-in-Ok g c = λ line is.
 
 pub returns-in-Err-ReadFault : goal.returns-in-Err-ReadFault
 returns-in-Err-ReadFault g c = λ line is.
-    Ends-told line _ 5 _ _ (read_fault _ is (rw c.in-Err-ReadFault.field-0-is at c.in-Err-ReadFault.ensures.failed)) (Keeps-same _) c.tell.ensures
+    Ends-told line _ 5 _ _ (read_fault _ is tt (rw c.in-Err-ReadFault.field-0-is at c.in-Err-ReadFault.ensures.failed)) (Keeps-same _) c.tell.ensures
 
 pub returns : goal.returns
 returns g c = λ line is.

@@ -10,7 +10,7 @@ returns-in-Ok-write_all g c = λ line source is unread.
 pub returns-in-Ok : goal.returns-in-Ok
 returns-in-Ok g c = λ line source is unread.
     Ends-soaked-cut line _ c.args.seed c.args.functions is unread c.in-Ok.lines.items c.in-Ok.ensures.told
-    (rw c.as_slice.ensures.value at (GotPart-part _ _ c.in-Err.ensures.part c.in-Err.ensures.failed)) (Keeps-same _)
+    (rw c.as_slice.ensures.value at (GotPart-part _ _ c.in-Err-write_all.ensures.part c.in-Err-write_all.ensures.failed)) (Keeps-same _)
 
 pub returns : goal.returns
 returns g c = λ line source is unread.

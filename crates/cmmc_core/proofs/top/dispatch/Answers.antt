@@ -18,7 +18,7 @@ returns-in-Ok g c =
 
 pub returns-in-Err-ReadFault : goal.returns-in-Err-ReadFault
 returns-in-Err-ReadFault g c =
-    Ends-told _ _ 5 _ _ (read_fault _ c.in-Ok-Compile.ensures.command
+    Ends-told _ _ 5 _ _ (read_fault _ (rw c.in-Ok-Compile.field-0-is at c.in-Ok-Compile.ensures.command) tt
     (rw c.in-Err-ReadFault.field-0-is at c.in-Err-ReadFault.ensures.refused)) (Keeps-same _) c.tell.ensures
 
 pub returns-in-Ok-Compile : goal.returns-in-Ok-Compile
@@ -39,7 +39,7 @@ returns-in-Err-WriteFault g c =
 pub returns-in-Err-ReadFault-run_source : goal.returns-in-Err-ReadFault-run_source
 returns-in-Err-ReadFault-run_source g c =
     let why = rw c.in-Err-ReadFault-run_source.field-0-is at c.in-Err-ReadFault-run_source.ensures.refused in
-    Ends-told _ _ 5 _ _ (read_fault _ c.in-Ok-Run.ensures.command why.1) why.0 c.tell-in-Err-ReadFault-run_source.ensures
+    Ends-told _ _ 5 _ _ (read_fault _ (rw c.in-Ok-Run.field-0-is at c.in-Ok-Run.ensures.command) tt why.1) why.0 c.tell-in-Err-ReadFault-run_source.ensures
 
 pub returns-in-Err-Image : goal.returns-in-Err-Image
 returns-in-Err-Image g c =
@@ -75,10 +75,10 @@ pub returns-in-Ok-Soak : goal.returns-in-Ok-Soak
 returns-in-Ok-Soak g c = c.soak.ensures _ _ (rw c.in-Ok-Soak.field-0-is at c.in-Ok-Soak.ensures.command) (Keeps-same _)
 
 pub soak-requires-clause-some : goal.soak-requires-clause-some
-soak-requires-clause-some g c = (rw c.in-Ok-Soak.field-0-is at c.in-Ok-Soak.ensures.limits).1
+soak-requires-clause-some g c = λ lives within. (rw c.in-Ok-Soak.field-0-is at c.in-Ok-Soak.ensures.limits).1
 
 pub soak-requires-clause-few : goal.soak-requires-clause-few
-soak-requires-clause-few g c = (rw c.in-Ok-Soak.field-0-is at c.in-Ok-Soak.ensures.limits).2
+soak-requires-clause-few g c = λ lives within. (rw c.in-Ok-Soak.field-0-is at c.in-Ok-Soak.ensures.limits).2
 
 -- ---- words
 

@@ -1,0 +1,121 @@
+-- How a call ends where no count rose, by the command that its words are.
+use Rattle.std.proofs.Common.{◌≡◌, ◌⊎◌, ℕ, List, refl, subst, inl, inr}
+use Rattle.bs_fault.specs.declared.fault.Fault.{Fault}
+use Rattle.bs_fault.specs.declared.image.ImageRefusal.{ImageRefusal}
+use Rattle.bs_fault.specs.declared.large.Large.{Large}
+use Rattle.cmm_front.specs.FileOf.{HasFault}
+use Rattle.command_line.proofs.Unique.{command-unique, command-formed}
+use Rattle.command_line.specs.Command.{IsCommand, CommandTree, CompileCommand, RunCommand, CheckCommand, ListCommand, SoakCommand, RunTree, CheckTree}
+use Rattle.command_line.specs.Words.{WellFormed}
+use Rattle.image_form.specs.Tables.{Tables}
+use Rattle.stages.specs.declared.stage.Stage.{Stage}
+use Rattle.text_commands.specs.Check.{IsCheckOf}
+use Rattle.text_commands.specs.Compile.{IsImageOf, IsTooLarge}
+use Rattle.text_commands.specs.Listing.{IsListingOf}
+use Rattle.cmmc_core.specs.Compile.{Reads}
+use Rattle.cmmc_core.specs.Complete.{NoneRose, Is}
+use Rattle.cmmc_core.specs.Effects.{Effects, Side, Rose}
+use Rattle.cmmc_core.specs.Ends.{Output, spelling, outcome, checked, listed, soaked, Cause, CheckCause, ListCause, no_command, no_value, read_fault, fault, too_large, no_image, no_entry, unfit, unchecked, unlisted, unsoaked, no_memory, Ends, written, refused, out_fault, err_fault}
+use Rattle.cmmc_core.specs.Run.{IsOutcomeOf, ReadsNoImage, NamesNoEntry, GivesUnfit}
+use Rattle.cmmc_core.specs.Soak.{soak_text, IsSoakOf}
+
+-- How a call ends where no count rose: with its output, or with a cause.
+pub data Told (words : List (List ℕ)) (source : Side) (status : ℕ) : Type 0 where
+  output : (bytes : List ℕ) → status ≡ 0 → Output words source bytes → Told words source status
+  cause : (line : List ℕ) → Cause words source status line → Told words source status
+
+pub told : (words : List (List ℕ)) (e : Effects) (status : ℕ) → Ends words e status → NoneRose e → Told words e.source status
+told words e status (written bytes o got kept) none = output bytes refl o
+told words e status (refused s line why kept got) none = cause line why
+told words e status (out_fault bytes o part kept) none = absurd (none.out part.rose)
+told words e status (err_fault s line why kept part) none = absurd (none.err part.rose)
+
+-- ---- the commands, one by one, but for want of memory
+
+pub data CompileEnd (source : Side) (status : ℕ) : Type 0 where
+  made : (image : Tables) → status ≡ 0 → Reads (λ text. IsImageOf text image) source → CompileEnd source status
+  faulty : (f : Fault) → status ≡ 3 → Reads (λ text. HasFault text f) source → CompileEnd source status
+  passing : (large : Large) → status ≡ 8 → Reads (λ text. IsTooLarge text large) source → CompileEnd source status
+
+pub data RunEnd (run : RunTree) (source : Side) (status : ℕ) : Type 0 where
+  ran : (text : List ℕ) → status ≡ 0 → IsOutcomeOf run source text → RunEnd run source status
+  imageless : (refusal : ImageRefusal) → status ≡ 4 → ReadsNoImage source refusal → RunEnd run source status
+  unnamed : status ≡ 2 → NamesNoEntry run source → RunEnd run source status
+  unsuited : status ≡ 2 → GivesUnfit run source → RunEnd run source status
+
+pub data CheckEnd (check : CheckTree) (source : Side) (status : ℕ) : Type 0 where
+  answered : (lines : List ℕ) → status ≡ 0 → Reads (λ text. IsCheckOf check text lines) source → CheckEnd check source status
+  unanswered : (line : List ℕ) → CheckCause check source status line → CheckEnd check source status
+
+pub data ListEnd (stage : Stage) (source : Side) (status : ℕ) : Type 0 where
+  shown : (bytes : List ℕ) → status ≡ 0 → Reads (λ text. IsListingOf stage text bytes) source → ListEnd stage source status
+  unshown : (line : List ℕ) → ListCause stage source status line → ListEnd stage source status
+
+pub data SoakEnd (seed functions status : ℕ) : Type 0 where
+  reported : (lines : List ℕ) → status ≡ 0 → IsSoakOf seed functions lines → SoakEnd seed functions status
+  unreported : (large : Large) → status ≡ 8 → IsTooLarge (soak_text seed functions) large → SoakEnd seed functions status
+
+abbrev pub CommandEnd : CommandTree → Side → ℕ → Type 0
+CommandEnd (CompileCommand jobs) source status = CompileEnd source status
+CommandEnd (RunCommand run) source status = RunEnd run source status
+CommandEnd (CheckCommand check) source status = CheckEnd check source status
+CommandEnd (ListCommand stage) source status = ListEnd stage source status
+CommandEnd (SoakCommand seed functions) source status = SoakEnd seed functions status
+
+-- either there was no memory, or this
+abbrev pub OrNoMemory : ℕ → Type 0 → Type 0
+OrNoMemory status End = (status ≡ 9) ⊎ End
+
+module _ (words : List (List ℕ)) (source : Side) where
+  -- the words are one command: they do not end as another
+  one_command : (status : ℕ) (tree other : CommandTree) → IsCommand words tree → IsCommand words other → CommandEnd other source status
+      → OrNoMemory status (CommandEnd tree source status)
+  one_command status tree other is as_other e =
+      inr (subst (λ t. CommandEnd t source status) (command-unique words other tree as_other is) e)
+
+  pub command_end : (tree : CommandTree) → IsCommand words tree → (Rose source → ⊥) → (status : ℕ) → Told words source status
+      → OrNoMemory status (CommandEnd tree source status)
+  command_end tree is calm status (output bytes z (spelling image i r)) = one_command status tree (CompileCommand i.0) is i.1 (made image z r)
+  command_end tree is calm status (output bytes z (outcome run text i r)) = one_command status tree (RunCommand run) is i (ran text z r)
+  command_end tree is calm status (output bytes z (checked check lines i r)) = one_command status tree (CheckCommand check) is i (answered lines z r)
+  command_end tree is calm status (output bytes z (listed stage text i r)) = one_command status tree (ListCommand stage) is i (shown text z r)
+  command_end tree is calm status (output bytes z (soaked seed functions lines i r k)) =
+      one_command status tree (SoakCommand seed functions) is i (reported lines z r)
+  command_end tree is calm status (cause line (no_command n k)) = absurd (n (command-formed words tree is))
+  command_end tree is calm status (cause line (no_value w n k)) = absurd (n tree is)
+  command_end tree is calm status (cause line (read_fault c i h r)) = absurd (calm r)
+  command_end tree is calm status (cause line (fault f i r)) = one_command 3 tree (CompileCommand i.0) is i.1 (faulty f refl r)
+  command_end tree is calm status (cause line (too_large large i r)) = one_command 8 tree (CompileCommand i.0) is i.1 (passing large refl r)
+  command_end tree is calm status (cause line (no_image run refusal i r)) = one_command 4 tree (RunCommand run) is i (imageless refusal refl r)
+  command_end tree is calm status (cause line (no_entry run i r)) = one_command 2 tree (RunCommand run) is i (unnamed refl r)
+  command_end tree is calm status (cause line (unfit run i r)) = one_command 2 tree (RunCommand run) is i (unsuited refl r)
+  command_end tree is calm status (cause line (unchecked check s l i r)) = one_command s tree (CheckCommand check) is i (unanswered l r)
+  command_end tree is calm status (cause line (unlisted stage s l i r)) = one_command s tree (ListCommand stage) is i (unshown l r)
+  command_end tree is calm status (cause line (unsoaked seed functions large i r k)) =
+      one_command 8 tree (SoakCommand seed functions) is i (unreported large refl r)
+  command_end tree is calm status (cause line no_memory) = inl refl
+
+  -- ---- words that are no command
+
+  pub no_value_end : (status : ℕ) → Told words source status → ((tree : CommandTree) → IsCommand words tree → ⊥) → Is 2 status
+  no_value_end status (output bytes z (spelling image i r)) not = absurd (not (CompileCommand i.0) i.1)
+  no_value_end status (output bytes z (outcome run text i r)) not = absurd (not (RunCommand run) i)
+  no_value_end status (output bytes z (checked check lines i r)) not = absurd (not (CheckCommand check) i)
+  no_value_end status (output bytes z (listed stage text i r)) not = absurd (not (ListCommand stage) i)
+  no_value_end status (output bytes z (soaked seed functions lines i r k)) not = absurd (not (SoakCommand seed functions) i)
+  no_value_end status (cause line (no_command n k)) not = inl refl
+  no_value_end status (cause line (no_value w n k)) not = inl refl
+  no_value_end status (cause line (read_fault c i h r)) not = absurd (not c i)
+  no_value_end status (cause line (fault f i r)) not = absurd (not (CompileCommand i.0) i.1)
+  no_value_end status (cause line (too_large large i r)) not = absurd (not (CompileCommand i.0) i.1)
+  no_value_end status (cause line (no_image run refusal i r)) not = absurd (not (RunCommand run) i)
+  no_value_end status (cause line (no_entry run i r)) not = absurd (not (RunCommand run) i)
+  no_value_end status (cause line (unfit run i r)) not = absurd (not (RunCommand run) i)
+  no_value_end status (cause line (unchecked check s l i r)) not = absurd (not (CheckCommand check) i)
+  no_value_end status (cause line (unlisted stage s l i r)) not = absurd (not (ListCommand stage) i)
+  no_value_end status (cause line (unsoaked seed functions large i r k)) not = absurd (not (SoakCommand seed functions) i)
+  no_value_end status (cause line no_memory) not = inr refl
+
+  -- words of another form are no command
+  pub no_command_end : (status : ℕ) → Told words source status → (WellFormed words → ⊥) → Is 2 status
+  no_command_end status told not = no_value_end status told (λ tree i. not (command-formed words tree i))
