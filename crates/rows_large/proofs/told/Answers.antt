@@ -19,11 +19,11 @@ answer-requires-clause-can c =
     let file = file_of (typed_of c.in-Ok.checked) in
     let items : c.as_slice.result.now ≡ contents file.items =
     c.as_slice.ensures ∙ ap (λ (f : File). contents f.items) (c.file.ensures ∙ ap file_of c.typed.ensures) in
-    let many = c.in_ok-count.ensures ∙ ap (λ (list : List Item). length (functions_among (map item_view list))) items in
+    let many = c.in_ok-count_functions.ensures ∙ ap (λ (list : List Item). length (functions_among (map item_view list))) items in
     let heavy = sum_by-cons (λ (p : Pieces). weight_of p.code) c.in_ok-pieces.pieces [] in
     record {
       of_file = file_can c.as_bytes.result.now (tree_of (typed_of c.in-Ok.checked)) c.in-Ok.ensures.file;
-      each_one = omega (arith, many, c.if-count.false);
+      each_one = omega (arith, many, c.if-branch-ne1.false);
       each = (c.in_ok-pieces.ensures.laid (tree_of (typed_of c.in-Ok.checked)), tt);
       few = omega (arith, heavy, c.in_ok-pieces.ensures.few);
     }
