@@ -1,13 +1,12 @@
 -- Slots make descriptors that keep the rules of images, and points make functions that can be laid out.
-use Rattle.std.proofs.Common.{◌≡◌, ℕ, suc, ◌+◌, ◌*◌, ◌%◌, ◌/◌, ◌^◌, ◌<◌, ◌≤◌, Bool, true, false, cond, List, [], ◌∷◌, ◌++◌, length, Option, Some, None, refl, sym, ap, subst, ◌∙◌, length-append, arith, inl, inr, ◌⊎◌}
-use Rattle.std.specs.List.{AllByRecursion, count_by, sum_by}
+use Rattle.std.proofs.Common.{◌≡◌, ℕ, suc, ◌+◌, ◌*◌, ◌%◌, ◌/◌, ◌^◌, ◌<◌, ◌≤◌, Bool, true, false, cond, List, [], ◌∷◌, ◌++◌, length, None, refl, sym, ap, subst, length-append, arith, inl, inr}
+use Rattle.std.specs.List.{AllByRecursion, count_by}
 use Rattle.std.proofs.lemmas.List.Sums.{sum_by-append, sum_by-cons}
 use Rattle.cmm_tree.specs.Tree.{FileTree}
 use Rattle.image_form.specs.Image.{EachNext, IsEntry, IsNextEntry}
 use Rattle.layout_rules.proofs.Rules.{all_append}
-use Rattle.layout_rules.specs.Conditions.{IsDescriptor, AreDescriptors, IsFunctionLaid, IsNamed, weight, weight_of}
+use Rattle.layout_rules.specs.Conditions.{IsDescriptor, AreDescriptors, IsNamed, weight, weight_of}
 use Rattle.lin_ir.specs.declared.descr.Descr.{Descr}
-use Rattle.mach_ir.specs.declared.op.External.{External}
 use Rattle.rows_large.specs.Points.{AreSlots, no_slot, one_slot, IsShort, ArePoints, no_point, one_point, CanStand}
 use Rattle.rv_isa.specs.Encoding.{InstrFits}
 use Rattle.rv_isa.specs.declared.instr.Instr.{Instr}

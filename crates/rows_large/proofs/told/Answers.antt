@@ -1,10 +1,9 @@
-use Rattle.std.proofs.Common.{◌≡◌, ℕ, ◌+◌, ◌<◌, ◌^◌, List, [], ◌∷◌, length, map, ap, sym, ◌∙◌, arith}
-use Rattle.std.specs.Prelude.{sum_by}
+use Rattle.std.proofs.Common.{◌≡◌, List, [], length, map, ap, ◌∙◌, arith}
 use Rattle.std.proofs.lemmas.List.Sums.{sum_by-cons}
 use Rattle.accepted_files.proofs.Files.{file_can}
 use Rattle.bs_words.specs.Contents.{contents}
 use Rattle.cmm_front.specs.FileOf.{tree_of}
-use Rattle.cmm_tree.specs.Tree.{functions, functions_among}
+use Rattle.cmm_tree.specs.Tree.{functions_among}
 use Rattle.cmm_tree.specs.View.{item_view}
 use Rattle.cmm_tree.specs.declared.file.File.{File}
 use Rattle.cmm_tree.specs.declared.file.Item.{Item}

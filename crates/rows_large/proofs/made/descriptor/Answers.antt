@@ -1,4 +1,4 @@
-use Rattle.std.proofs.Common.{◌≡◌, ℕ, suc, ◌+◌, ◌*◌, ◌≤◌, List, sym, subst, refl, arith}
+use Rattle.std.proofs.Common.{◌≡◌, ℕ, suc, ◌+◌, sym, subst, refl, arith}
 use Rattle.rows_large.specs.Points.{AreSlots, no_slot, one_slot}
 use Rattle.rows_large.proofs.Points.{slots_describe}
 use Rattle.rows_large.proofs.made.descriptor.Goals as goal

@@ -1,4 +1,4 @@
-use Rattle.std.proofs.Common.{◌≡◌, sym, subst, refl, arith}
+use Rattle.std.proofs.Common.{sym, subst, refl, arith}
 use Rattle.rows_large.specs.Points.{ArePoints}
 use Rattle.rows_large.proofs.Points.{points_stand}
 use Rattle.rows_large.proofs.made.pieces_of.Goals as goal

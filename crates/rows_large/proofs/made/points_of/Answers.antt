@@ -1,4 +1,4 @@
-use Rattle.std.proofs.Common.{◌≡◌, ℕ, List, ◌∷◌, [], ◌++◌, ap, sym, subst, ◌∙◌, arith}
+use Rattle.std.proofs.Common.{List, ◌∷◌, [], ◌++◌, ap, sym, subst, ◌∙◌, arith}
 use Rattle.rv_pieces.specs.declared.piece.Piece.{Piece}
 use Rattle.rows_large.specs.Points.{ArePoints, no_point}
 use Rattle.rows_large.proofs.made.points_of.Goals as goal
