@@ -2,8 +2,8 @@
 //!
 //! A line has the words of a command, a bar, and what the command reads. That is a text; or, after `image`, a text whose
 //! image is read; or, after `bytes`, hexadecimal digits; or `same`, for what the line before read. Before the words may
-//! stand which reads and writes fail (`read-fails=0`, `out-fails=1`, `err-fails=0`), and the most bytes of one read or
-//! write (`piece=4`).
+//! stand which reads and writes fail (`read-fails=0`, `out-fails=1`, `err-fails=0`), which writes take nothing
+//! (`out-sticks=1`, `err-sticks=0`), and the most bytes of one read or write (`piece=4`).
 //!
 //! Each answer is the status, what went to out, in hexadecimal digits where it is an image, and what went to err, with
 //! `..` where that is no whole line.
@@ -11,6 +11,7 @@
 
 mod digits;
 mod line;
+mod sticking;
 
 use bs_io::{MemSink, MemSource};
 use bs_words::List;
@@ -19,12 +20,23 @@ use digits::{bytes_of, push_digits};
 use line::Line;
 use std::alloc::{AllocError, Global};
 use std::thread::Threads;
+use sticking::Sticking;
 
-/// The most bytes that are kept of out and of err.
-const KEPT: usize = 1 << 20;
+/// The most bytes that are kept of out, and of err.
+const KEPT: usize = 1 << 25;
+
+const LINE: usize = 1 << 12;
 
 /// The most bytes of one read or write, where a line does not say.
 pub(crate) const PIECE: usize = 1 << 16;
+
+/// What a command answers: its status, and what went to out and to err.
+#[derive(Drop)]
+pub struct Answer {
+    pub status: u8,
+    pub out: Vec<u8>,
+    pub err: Vec<u8>,
+}
 
 /// A table, line by line.
 #[derive(Drop)]
@@ -50,11 +62,34 @@ impl Table {
         let Some((words, input)) = line.split_once(" | ") else {
             return b"no bar\n".to_vec(alloc);
         };
+        let line = Line::of(alloc, words)?;
+        let is_image = matches!(line.words.first(), Some(word) if word.as_str() == "compile");
+        let answer = self.answer(rt, alloc, line, input)?;
+        said(alloc, is_image, &answer)
+    }
+
+    /// What the program answers to the words of a line, with what it reads.
+    pub fn answer_to<R: Threads + Sync>(
+        &mut self,
+        rt: &R,
+        alloc: Global,
+        words: &str,
+        input: &str,
+    ) -> Result<Answer, AllocError> {
+        self.answer(rt, alloc, Line::of(alloc, words)?, input)
+    }
+
+    fn answer<R: Threads + Sync>(
+        &mut self,
+        rt: &R,
+        alloc: Global,
+        line: Line,
+        input: &str,
+    ) -> Result<Answer, AllocError> {
         if input != "same" {
             self.input = input_of(rt, alloc, input)?;
         }
-        let input = self.input.clone()?;
-        said(rt, alloc, Line::of(alloc, words)?, input)
+        answered(rt, alloc, line, self.input.clone()?)
     }
 }
 
@@ -71,7 +106,7 @@ fn input_of<R: Threads + Sync>(rt: &R, alloc: Global, input: &str) -> Result<Vec
     let text = List::from_vec(text.as_bytes().to_vec(alloc)?);
     let mut source = MemSource::new(text, List::new(alloc), PIECE);
     let mut image = MemSink::new(alloc, KEPT, List::new(alloc), PIECE)?;
-    let mut told = MemSink::new(alloc, KEPT, List::new(alloc), PIECE)?;
+    let mut told = MemSink::new(alloc, LINE, List::new(alloc), PIECE)?;
     let _ = cmmc(
         rt,
         alloc,
@@ -84,24 +119,28 @@ fn input_of<R: Threads + Sync>(rt: &R, alloc: Global, input: &str) -> Result<Vec
     image.bytes().to_vec(alloc)
 }
 
-/// The status, and what went to out and to err.
-fn said<R: Threads + Sync>(
+/// What the program answers to a line.
+fn answered<R: Threads + Sync>(
     rt: &R,
     alloc: Global,
     line: Line,
     input: Vec<u8>,
-) -> Result<Vec<u8>, AllocError> {
+) -> Result<Answer, AllocError> {
     let Line {
         words,
         read_fails,
         out_fails,
         err_fails,
+        out_sticks,
+        err_sticks,
         piece,
     } = line;
     let piece = if piece == 0 { PIECE } else { piece };
     let mut source = MemSource::new(List::from_vec(input), List::from_vec(read_fails), piece);
-    let mut out = MemSink::new(alloc, KEPT, List::from_vec(out_fails), piece)?;
-    let mut err = MemSink::new(alloc, KEPT, List::from_vec(err_fails), piece)?;
+    let out = MemSink::new(alloc, KEPT, List::from_vec(out_fails), piece)?;
+    let mut out = Sticking::new(out, out_sticks);
+    let err = MemSink::new(alloc, LINE, List::from_vec(err_fails), piece)?;
+    let mut err = Sticking::new(err, err_sticks);
     let status = cmmc(
         rt,
         alloc,
@@ -111,14 +150,24 @@ fn said<R: Threads + Sync>(
         &mut err,
         &OpenGate,
     );
+    Ok(Answer {
+        status,
+        out: out.bytes().to_vec(alloc)?,
+        err: err.bytes().to_vec(alloc)?,
+    })
+}
+
+/// The status, and what went to out and to err.
+fn said(alloc: Global, is_image: bool, answer: &Answer) -> Result<Vec<u8>, AllocError> {
     let mut said = b"status ".to_vec(alloc)?;
-    said.push(b'0' + status % 10)?;
+    said.push(b'0' + answer.status % 10)?;
     said.push(b'\n')?;
-    match words.first() {
-        Some(word) if word.as_str() == "compile" => push_digits(alloc, &mut said, out.bytes())?,
-        _ => said.extend_from_slice(out.bytes())?,
+    if is_image {
+        push_digits(alloc, &mut said, answer.out.as_slice())?;
+    } else {
+        said.extend_from_slice(answer.out.as_slice())?;
     }
-    said.extend_from_slice(err.bytes())?;
+    said.extend_from_slice(answer.err.as_slice())?;
     if !said.ends_with(b"\n") {
         said.extend_from_slice(b"..\n")?;
     }

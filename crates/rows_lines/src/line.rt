@@ -10,6 +10,9 @@ pub(crate) struct Line {
     pub read_fails: Vec<u64>,
     pub out_fails: Vec<u64>,
     pub err_fails: Vec<u64>,
+    /// The numbers of the writes of out and of err that take nothing.
+    pub out_sticks: Vec<u64>,
+    pub err_sticks: Vec<u64>,
     /// The most bytes of one read or write.
     pub piece: usize,
 }
@@ -21,6 +24,8 @@ impl Line {
             read_fails: Vec::new(alloc),
             out_fails: Vec::new(alloc),
             err_fails: Vec::new(alloc),
+            out_sticks: Vec::new(alloc),
+            err_sticks: Vec::new(alloc),
             piece: PIECE,
         };
         for word in text.split(' ') {
@@ -30,6 +35,10 @@ impl Line {
                 line.out_fails.push(number_of(number))?;
             } else if let Some(number) = word.strip_prefix("err-fails=") {
                 line.err_fails.push(number_of(number))?;
+            } else if let Some(number) = word.strip_prefix("out-sticks=") {
+                line.out_sticks.push(number_of(number))?;
+            } else if let Some(number) = word.strip_prefix("err-sticks=") {
+                line.err_sticks.push(number_of(number))?;
             } else if let Some(number) = word.strip_prefix("piece=") {
                 line.piece = number_of(number) as usize;
             } else {

@@ -1,0 +1,87 @@
+//! What `assemble` says to pieces of one function with so many frame descriptors, each of so many entries.
+//!
+//! A line of standard input has both numbers. What is printed is the line of the section that is too large, or `fits`.
+//! `stdout` was counted by hand: a descriptor has 12 bytes and 4 for each entry, the table 4 more, and at most 67,108,864.
+#![tactic(auto)]
+
+mod made;
+
+ghost use Rattle.std.specs.Prelude.{◌≡◌, length, map, IfOk};
+ghost use Rattle.cmm_front.specs.FileOf.{tree_of, HoldsTypes, HasPlace};
+ghost use Rattle.cmm_tree.specs.Tree.{functions_among};
+ghost use Rattle.cmm_tree.specs.View.{item_view};
+ghost use Rattle.cmm_walks.specs.Checked.{typed_of};
+ghost use Rattle.layout_rules.specs.Conditions.{CanBeLaid};
+
+use anyhow::Result;
+use assemble::assemble;
+use bs_fault::{BuildError, large_text};
+use cmm_data::place_data;
+use cmm_front::front;
+use cmm_tree::Item;
+use cmm_walks::Checked;
+use made::pieces_of;
+use rv_pieces::Pieces;
+use std::alloc::{AllocError, Global};
+use std::io::{self, BufRead, BufReader, BufWriter, Write};
+
+/// A text of one function.
+const TEXT: &str = "(function \"f\" () [])";
+
+fn main(rt: HostRuntime) -> Result<()> {
+    let alloc = rt.alloc();
+    let mut out = BufWriter::new(alloc, rt.stdout())?;
+    for line in BufReader::new(alloc, rt.stdin())?.lines(alloc) {
+        let line = line?;
+        if let Some((points, entries)) = line.as_str().split_once(' ') {
+            let points = points.parse::<u32>()?;
+            let entries = entries.parse::<u32>()?;
+            out.write_all(told(alloc, points, entries)?.as_slice())?;
+        }
+    }
+    out.flush()?;
+    Ok(())
+}
+
+/// How many functions a file has.
+fn count_functions(items: &[Item]) -> Result<u32, AllocError>
+    ensures { IfOk result (λ count. count ≡ length (functions_among (map item_view items.now))) }
+{
+    let mut count: u32 = 0;
+    let mut rest = items;
+    while let [item, others @ ..] = rest {
+        match item {
+            Item::Function(_) => count = count.checked_add(1).ok_or(AllocError)?,
+            Item::Data(_) => {}
+        }
+        rest = others;
+    }
+    Ok(count)
+}
+
+/// What is said to so many descriptors.
+fn told(alloc: Global, points: u32, entries: u32) -> Result<Vec<u8>, AllocError> {
+    let checked = match front(alloc, TEXT.as_bytes()) {
+        Ok(checked) => checked,
+        Err(_) => return b"no file\n".to_vec(alloc),
+    };
+    let pieces = pieces_of(alloc, points, entries)?;
+    if count_functions(checked.typed().file().items.as_slice())? != 1 {
+        return b"no function\n".to_vec(alloc);
+    }
+    answer(alloc, &checked, &[pieces])
+}
+
+/// The answer to these pieces of the functions of a file.
+fn answer(alloc: Global, checked: &Checked, pieces: &[Pieces]) -> Result<Vec<u8>, AllocError>
+    requires typed { HoldsTypes (typed_of checked.now) }
+    requires placed { HasPlace (typed_of checked.now) }
+    requires can { CanBeLaid (tree_of (typed_of checked.now)) pieces.now }
+{
+    let placed = place_data(alloc, checked.typed().file())?;
+    match assemble(alloc, pieces, checked.typed(), &placed) {
+        Ok(_) => b"fits\n".to_vec(alloc),
+        Err(BuildError::TooLarge(large)) => Ok(large_text(alloc, &large)?.into_vec()),
+        Err(BuildError::OutOfMemory) => b"no memory\n".to_vec(alloc),
+    }
+}

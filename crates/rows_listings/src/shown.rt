@@ -1,0 +1,99 @@
+//! What is shown of the text of a stage.
+use std::alloc::{AllocError, Global};
+
+/// What is shown of a text, by a word that says which part.
+pub(crate) fn shown_of(alloc: Global, part: &str, text: &str) -> Result<Vec<u8>, AllocError> {
+    match part {
+        "whole" => text.as_bytes().to_vec(alloc),
+        "first" => match text.split_once('\n') {
+            Some((line, _)) => whole_line(alloc, line),
+            None => b"nothing\n".to_vec(alloc),
+        },
+        "slots" => slots_of(alloc, text),
+        "sizes" => sizes_of(alloc, text),
+        operation => lines_of(alloc, operation, text),
+    }
+}
+
+fn whole_line(alloc: Global, line: &str) -> Result<Vec<u8>, AllocError> {
+    let mut whole = line.as_bytes().to_vec(alloc)?;
+    whole.push(b'\n')?;
+    Ok(whole)
+}
+
+/// How many different slots stand in the text.
+fn slots_of(alloc: Global, text: &str) -> Result<Vec<u8>, AllocError> {
+    let mut slots: Vec<&str> = Vec::new(alloc);
+    for word in text.split(' ') {
+        if let Some((slot, _)) = word.split_once("]:") {
+            if slot.starts_with("[") && !slots.as_slice().contains(&slot) {
+                slots.push(slot)?;
+            }
+        }
+    }
+    let count = slots.as_slice().len();
+    Ok(format!(in alloc; "{count} slots\n")?.into_bytes())
+}
+
+/// The lines without their first word, which is an address.
+fn sizes_of(alloc: Global, text: &str) -> Result<Vec<u8>, AllocError> {
+    let mut lines = Vec::new(alloc);
+    for line in text.split_terminator('\n') {
+        if let Some((_, rest)) = line.split_once(' ') {
+            lines.extend_from_slice(rest.as_bytes())?;
+            lines.push(b'\n')?;
+        }
+    }
+    Ok(lines)
+}
+
+/// The instructions of an operation, without the names of their registers and labels.
+fn lines_of(alloc: Global, operation: &str, text: &str) -> Result<Vec<u8>, AllocError> {
+    let mut lines = Vec::new(alloc);
+    for line in text.split_terminator('\n') {
+        if operation_of(line) == operation {
+            put_nameless(&mut lines, line)?;
+        }
+    }
+    Ok(lines)
+}
+
+/// The word of the operation of a line.
+fn operation_of(line: &str) -> &str {
+    let rest = match line.split_once(" = ") {
+        Some((_, rest)) => rest,
+        None => line.trim_start(),
+    };
+    match rest.split_once(' ') {
+        Some((word, _)) => word,
+        None => rest,
+    }
+}
+
+/// Whether a word is a label, with a comma after it or none.
+fn is_label(word: &str) -> bool {
+    let bytes = word.as_bytes();
+    matches!(bytes.first(), Some(b'L')) && matches!(bytes.get(1), Some(b'0'..=b'9'))
+}
+
+/// Puts the words of a line, each register and label without its name.
+fn put_nameless(lines: &mut Vec<u8>, line: &str) -> Result<(), AllocError> {
+    for word in line.trim_start().split(' ') {
+        match word.split_once(':') {
+            Some((_, kind)) => {
+                lines.extend_from_slice(b" _:")?;
+                lines.extend_from_slice(kind.as_bytes())?;
+            }
+            None if is_label(word) => {
+                let label: &[u8] = if word.ends_with(",") { b" L_," } else { b" L_" };
+                lines.extend_from_slice(label)?;
+            }
+            None => {
+                lines.push(b' ')?;
+                lines.extend_from_slice(word.as_bytes())?;
+            }
+        }
+    }
+    lines.push(b'\n')?;
+    Ok(())
+}
