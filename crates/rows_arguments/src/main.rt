@@ -50,7 +50,9 @@ fn of_command(alloc: Global, command: &Command) -> Result<String> {
             let steps = run.steps;
             let stack = run.stack;
             let heap = run.heap;
-            Ok(format!(in alloc; "run {entry} args{args} answers{answers} steps {steps} stack {stack} heap {heap} moves {moves}")?)
+            Ok(format!(in alloc;
+                "run {entry} args{args} answers{answers} steps {steps} stack {stack} heap {heap} moves {moves}"
+            )?)
         }
         Command::Check(check) => {
             let entry = of_name(alloc, check.entry.as_bytes())?;

@@ -57,11 +57,7 @@ fn outcomes_are_alike(lines: &str) -> bool {
 }
 
 /// What `soak` prints with these options, or its line on err.
-fn printed<R: Threads + Sync>(
-    rt: &R,
-    alloc: Global,
-    options: &str,
-) -> Result<Vec<u8>, AllocError> {
+fn printed<R: Threads + Sync>(rt: &R, alloc: Global, options: &str) -> Result<Vec<u8>, AllocError> {
     let mut words = Vec::new(alloc);
     words.push(String::from_str(alloc, "soak")?)?;
     for option in options.split(' ') {
