@@ -5,7 +5,8 @@
 //! `slots` stand in it; or the instructions of one operation, as `alloc`, with `_` for each register's name and `L_` for
 //! each label.
 //!
-//! `stdout` was made by hand, from what the passes promise: names of registers, and the order of moves, are not part of it.
+//! `stdout` was made by hand, from what the passes promise: names of registers (but the one that a descriptor names, the
+//! first that external calls keep), and the order of moves, are not part of it.
 #![tactic(auto)]
 
 mod shown;
