@@ -90,7 +90,8 @@ pub fn attempt(
     requires fits { bytes_used blocks.old.items ≤ caller.heap }
     requires table { caller.heap / 16 ≤ vec_capacity blocks.old }
     requires zero { slice_index registers.old 0 ≡ 0 }
-    ensures tries { Tries result (tables image.now) caller (planned plan.entry caller blocks.old.items)
+    ensures tries { Tries result (tables image.now) caller
+        (planned plan.entry caller blocks.old.items)
         (parts registers.old memory.old blocks.old.items)
         (parts registers.new memory.new blocks.new.items) }
     ensures space { IsSpace caller.heap space.new }
@@ -137,7 +138,8 @@ fn move_all(
     requires placed { AllByRecursion (IsPlaced caller.heap) blocks.old.items }
     requires far { AllByRecursion IsLow blocks.old.items }
     requires fits { bytes_used blocks.old.items ≤ caller.heap }
-    ensures moved { Moves (tables image.now) caller (placed_at blocks.old.items space.old.starts.items)
+    ensures moved { Moves (tables image.now) caller
+        (placed_at blocks.old.items space.old.starts.items)
         (parts registers.old memory.old blocks.old.items)
         (parts registers.new memory.new blocks.new.items) }
     ensures space { IsSpace caller.heap space.new }
@@ -174,7 +176,8 @@ fn redirect_first(
 )
     requires { IsImage image.now }
     ensures exact { (base : ℕ) (sp : ℕ) → RedirectsFirst (forward table.now)
-        (map desc (contents image.now.descs)) base memory.now registers.old registers.new address sp }
+        (map desc (contents image.now.descs)) base memory.now registers.old registers.new
+        address sp }
     ensures zero { slice_index registers.new 0 ≡ slice_index registers.old 0 }
 {
     if address == CODE_START {

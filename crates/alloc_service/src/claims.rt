@@ -133,7 +133,8 @@ fn release_block(table: &mut Table, start: u64, words: u64)
     requires inside { is_in_heap table.old.heap (record { start = start; words = words }) ≡ true }
     ensures outside { (a : ℕ) → covers a (record { start = start; words = words }) ≡ false
         → mark_at table.new a ≡ mark_at table.old a }
-    ensures inside { (a : ℕ) → covers a (record { start = start; words = words }) ≡ true → mark_at table.new a ≡ 0 }
+    ensures inside { (a : ℕ) → covers a (record { start = start; words = words }) ≡ true →
+        mark_at table.new a ≡ 0 }
     ensures same_heap { table.new.heap ≡ table.old.heap }
 {
     let end = start + 8 * words;

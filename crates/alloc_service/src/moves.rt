@@ -26,7 +26,8 @@ use rv_machine::{BlockPlace, CODE_START, Memory, Table};
 pub fn gather(memory: &Memory, table: &Table, blocks: &[BlockPlace], words: &mut Vec<u64>)
     requires small { AllByRecursion IsLow blocks.now }
     requires room { vec_len words.old + words_of blocks.now ≤ vec_capacity words.old }
-    ensures gathered { words.new.items ≡ words.old.items ++ words_moved (forward table.now) memory.now blocks.now }
+    ensures gathered { words.new.items
+        ≡ words.old.items ++ words_moved (forward table.now) memory.now blocks.now }
     ensures capacity { vec_capacity words.old ≤ vec_capacity words.new }
 {
     for block in blocks {
@@ -41,7 +42,8 @@ fn gather_block(memory: &Memory, table: &Table, start: u64, count: u64, words: &
     requires room { vec_len words.old + suc count ≤ vec_capacity words.old }
     ensures len { vec_len words.new ≡ vec_len words.old + suc count }
     ensures gathered { words.new.items ≡ words.old.items
-        ++ rewritten_block (forward table.now) memory.now (record { start = start; words = count }) }
+        ++ rewritten_block (forward table.now) memory.now
+        (record { start = start; words = count }) }
     ensures capacity { vec_capacity words.old ≤ vec_capacity words.new }
 {
     let header = memory.word(start - 8);
@@ -153,7 +155,8 @@ fn redirect(memory: &mut Memory, table: &Table, address: u64)
 
 /// Rewrites the root cells.
 pub fn redirect_roots(memory: &mut Memory, table: &Table, image: &Image)
-    ensures { memory.new ≡ redirected_now (forward table.now) memory.old (root_cells (tables image.now)) }
+    ensures { memory.new
+        ≡ redirected_now (forward table.now) memory.old (root_cells (tables image.now)) }
 {
     for offset in image.roots.as_slice() {
         redirect(memory, table, DATA_START + u64::from(*offset));
@@ -172,7 +175,8 @@ pub fn redirect_slots(
     requires image { IsImage image.now }
     requires base { base ≤ 0x40000000 }
     requires above { 0x10000 ≤ base }
-    ensures { Redirects (forward table.now) (map desc (contents image.now.descs)) base memory.old memory.new address sp }
+    ensures { Redirects (forward table.now)
+        (map desc (contents image.now.descs)) base memory.old memory.new address sp }
 {
     let mut most = (STACK_END - base) / 16 + 1;
     let mut address = address;
@@ -193,7 +197,8 @@ pub fn redirect_slots(
 }
 
 fn redirect_frame(memory: &mut Memory, table: &Table, at: u64, entries: &[u32])
-    ensures { memory.new ≡ redirected_now (forward table.now) memory.old (slots_named at entries.now) }
+    ensures { memory.new
+        ≡ redirected_now (forward table.now) memory.old (slots_named at entries.now) }
 {
     for entry in entries {
         if entry % 2 == 0 {
@@ -204,7 +209,8 @@ fn redirect_frame(memory: &mut Memory, table: &Table, at: u64, entries: &[u32])
 
 /// Rewrites the registers that the first frame names.
 pub fn redirect_registers(registers: &mut [u64; 32], table: &Table, entries: &[u32])
-    ensures exact { registers.new ≡ redirected_registers_now (forward table.now) registers.old (registers_named entries.now) }
+    ensures exact { registers.new
+        ≡ redirected_registers_now (forward table.now) registers.old (registers_named entries.now) }
     ensures zero { slice_index registers.new 0 ≡ slice_index registers.old 0 }
 {
     for entry in entries {
@@ -215,7 +221,8 @@ pub fn redirect_registers(registers: &mut [u64; 32], table: &Table, entries: &[u
 // Rewrites the register that an entry names, where it names one.
 fn redirect_entry(registers: &mut [u64; 32], table: &Table, entry: u32)
     ensures exact { registers.new ≡ cond (is_register entry)
-        (with_register (entry / 2) (forward table.now (slice_index registers.old (entry / 2))) registers.old)
+        (with_register (entry / 2)
+        (forward table.now (slice_index registers.old (entry / 2))) registers.old)
         registers.old }
     ensures zero { slice_index registers.new 0 ≡ slice_index registers.old 0 }
 {
@@ -226,7 +233,8 @@ fn redirect_entry(registers: &mut [u64; 32], table: &Table, entry: u32)
 
 // x0 stays, and so do registers that there are not.
 fn redirect_register(registers: &mut [u64; 32], table: &Table, r: usize)
-    ensures exact { registers.new ≡ with_register r (forward table.now (slice_index registers.old r)) registers.old }
+    ensures exact { registers.new
+        ≡ with_register r (forward table.now (slice_index registers.old r)) registers.old }
     ensures zero { slice_index registers.new 0 ≡ slice_index registers.old 0 }
 {
     if r != 0 && r < 32 {

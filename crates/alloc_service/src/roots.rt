@@ -29,7 +29,8 @@ pub fn survey(
     requires base { base ≤ 0x40000000 }
     ensures { result
         ≡ option_map (roots_by (root_by (tables image.now) table.now) registers.now memory.now true)
-        (frames_from (most_frames base) (map desc (contents image.now.descs)) base memory.now true address sp) }
+        (frames_from (most_frames base)
+        (map desc (contents image.now.descs)) base memory.now true address sp) }
 {
     let mut most = (STACK_END - base) / 16 + 1;
     let mut first = true;
@@ -73,7 +74,8 @@ fn are_roots(
 ) -> bool
     requires { IsImage image.now }
     ensures { result
-        ≡ (cond first (list_all (λ r. root_by (tables image.now) table.now (slice_index registers.now r))
+        ≡ (cond first
+        (list_all (λ r. root_by (tables image.now) table.now (slice_index registers.now r))
         (registers_named (contents row.now.entries))) true
         && list_all (λ a. root_by (tables image.now) table.now (word memory.now a))
         (slots_named at (contents row.now.entries))) }

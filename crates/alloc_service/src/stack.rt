@@ -16,7 +16,8 @@ pub const STACK_END: u64 = 0x4000_0000;
 /// The descriptor of a return address. It is found by halves, since return offsets rise.
 pub fn descriptor_of(image: &Image, address: u64) -> Option<&DescRow>
     requires { IsImage image.now }
-    ensures { option_map desc (option_copied result) ≡ descriptor_at (map desc (contents image.now.descs)) address }
+    ensures { option_map desc (option_copied result)
+        ≡ descriptor_at (map desc (contents image.now.descs)) address }
 {
     let rows = image.descs.as_slice();
     let mut low = 0;

@@ -34,7 +34,8 @@ pub fn take_young(
     requires table { heap / 16 ≤ vec_capacity blocks.old }
     requires fits { bytes_used blocks.old.items ≤ heap }
     requires some { AllByRecursion HasCells blocks.old.items }
-    ensures taken { Takes result (young_blocks memory.now from) heap blocks.old.items blocks.new.items }
+    ensures taken { Takes result
+        (young_blocks memory.now from) heap blocks.old.items blocks.new.items }
     ensures empty { young.new.items ≡ [] }
     ensures room { 4097 ≤ vec_capacity young.new }
     ensures table { heap / 16 ≤ vec_capacity blocks.new }

@@ -32,8 +32,10 @@ impl<'a, 'b> Source<'a, 'b> {
         requires laid { IsFunctionLaid (tree_of self.now) function.now }
         requires few { size_of function.now < 2 ^ 48 }
         requires same { length forms.now ≡ length function.now.code }
-        requires inside { entry + total_words function.now.code forms.now ≤ self.now.places.now.end }
-        ensures { OnOk result (words.new.items ≡ words.old.items ++ function_words (tree_of self.now)
+        requires inside { entry + total_words function.now.code forms.now ≤
+            self.now.places.now.end }
+        ensures { OnOk result (words.new.items
+            ≡ words.old.items ++ function_words (tree_of self.now)
             (entries_of self.now) entry function.now.code forms.now) }
     {
         let code = function.code.as_slice();

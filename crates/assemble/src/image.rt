@@ -66,12 +66,15 @@ pub fn assemble<'a>(
     requires typed { AreItemsAnnotated (contents (file_of typed.now).items) }
     requires placed { IsMapOf (file_view (file_of typed.now)) placed.now }
     requires can { CanBeLaid (file_view (file_of typed.now)) pieces.now }
-    ensures laid { IfOk result (λ image. IsLaidOut (file_view (file_of typed.now)) pieces.now (tables image)) }
+    ensures laid { IfOk result (λ image.
+        IsLaidOut (file_view (file_of typed.now)) pieces.now (tables image)) }
     ensures is_image { IfOk result IsImage }
     ensures fits { IfOk result (λ image. first_too_large (tables image) ≡ None) }
     ensures large { (large : Large)
         → result ≡ Err (BuildError.TooLarge large)
-        → (t : Tables) × (IsLaidOut (file_view (file_of typed.now)) pieces.now t × (first_too_large t ≡ Some large)) }
+        → (t : Tables)
+        × (IsLaidOut (file_view (file_of typed.now)) pieces.now t
+        × (first_too_large t ≡ Some large)) }
 {
     let file = typed.file();
     let symbols = SymbolTable::of_file(alloc, file)?;

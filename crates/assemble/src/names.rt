@@ -21,7 +21,8 @@ impl<'a, 'b> Source<'a, 'b> {
     fn address_of_symbol(&self, name: &Name) -> u32
         requires source { IsSource self.now }
         requires fits { first_too_large (laid_of self.now) ≡ None }
-        ensures { result ≡ address_of_value (entries_of self.now) (value_of_symbol (tree_of self.now) name.now) }
+        ensures { result
+            ≡ address_of_value (entries_of self.now) (value_of_symbol (tree_of self.now) name.now) }
     {
         match self.symbols.value_of(name.as_bytes()) {
             Some(value) => self.address_of_value(value) as u32,
@@ -32,7 +33,8 @@ impl<'a, 'b> Source<'a, 'b> {
     /// The number of an external call in the image.
     fn number_of_call(&self, alloc: Global, row: &External) -> Result<u32, AllocError>
         requires { IsSource self.now }
-        ensures { IfOk result (λ number. number ≡ number_of (externals (tree_of self.now)) (row_of row.now)) }
+        ensures { IfOk result (λ number.
+            number ≡ number_of (externals (tree_of self.now)) (row_of row.now)) }
     {
         let number = self.calls.number_of(alloc, row)?;
         Ok(number as u32)
@@ -59,7 +61,8 @@ impl<'a, 'b> Source<'a, 'b> {
         requires source { IsSource self.now }
         requires fits { first_too_large (laid_of self.now) ≡ None }
         requires low { (label : ℕ) → entry + places_of labels.now label ≤ self.now.places.now.end }
-        ensures { IfOk result (λ target. target ≡ target_of (names_by self.now entry (places_of labels.now)) piece.now) }
+        ensures { IfOk result (λ target.
+            target ≡ target_of (names_by self.now entry (places_of labels.now)) piece.now) }
     {
         match piece {
             Piece::Known(_) => Ok(0),

@@ -55,7 +55,8 @@ fn row(
     requires few { size_of pieces.now < 2 ^ 48 }
     requires same { length forms.now ≡ length pieces.now.code }
     requires inside { 4 * (entry + words_in pieces.now.code forms.now) < 2 ^ 32 }
-    ensures { IfOk result (λ row. func row ≡ row_at entry (function_view function.now) pieces.now forms.now) }
+    ensures { IfOk result (λ row.
+        func row ≡ row_at entry (function_view function.now) pieces.now forms.now) }
 {
     Ok(FuncRow {
         name: Name::from_vec(Vec::from_slice(alloc, function.name.as_bytes())?),

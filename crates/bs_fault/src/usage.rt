@@ -6,6 +6,7 @@ ghost use Rattle.bs_fault.specs.Lines.{usage_word, usage_line};
 use bs_words::List;
 use std::alloc::{AllocError, Global};
 
+/// What is wrong with the words of a command line.
 #[derive(Clone, Copy, PartialEq, Eq, Debug)]
 pub enum Usage {
     /// U1: the words are not in their grammar.

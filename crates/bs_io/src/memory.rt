@@ -94,7 +94,8 @@ impl Source for MemSource {
         ensures within { IfOk result (λ count. count ≤ length into.new) }
         ensures taken { IfOk result (λ count. Consumes (Some self.old.left) (Some self.new.left)
             (take count into.new)) }
-        ensures end { IfOk result (λ count. count ≡ 0 → 0 < length into.new → IsAtEnd (Some self.new.left)) }
+        ensures end { IfOk result (λ count. count ≡ 0 → 0 < length into.new →
+            IsAtEnd (Some self.new.left)) }
         ensures kept { OnErr result (Keeps (Some self.old.left) (Some self.new.left)) }
         ensures failed { OnErr result (Risen self.old.faults self.new.faults) }
         ensures never_falls { self.old.faults ≤ self.new.faults }
@@ -149,7 +150,8 @@ impl Model for MemSink {
       faults = s.faults;
     } };
 
-    ghost invariant = { λ s. (vec_len s.held ≤ s.room) × (s.room ≤ vec_capacity s.held) × (1 ≤ s.most) };
+    ghost invariant = { λ s. (vec_len s.held ≤ s.room) × (s.room ≤ vec_capacity s.held)
+        × (1 ≤ s.most) };
 }
 
 impl MemSink {
@@ -207,7 +209,8 @@ impl Sink for MemSink {
         ensures fails { IsErr result ↔ (Contains self.old.fails self.old.calls ⊎
             ((0 < length piece.now) × (self.old.room ≤ length self.old.held))) }
         ensures count { IfOk result (λ count. count ≡ write_count self.old (length piece.now)) }
-        ensures after { IfOk result (λ count. self.new ≡ after_write self.old (take count piece.now)) }
+        ensures after { IfOk result (λ count.
+            self.new ≡ after_write self.old (take count piece.now)) }
         ensures after_failure { OnErr result (self.new ≡ after_failed_write self.old) }
 
         // The trait's clauses.

@@ -19,7 +19,8 @@ pub trait Sink {
     /// none of a nonempty piece, is counted. One that fails appends nothing.
     fn write(&mut self, piece: &[u8]) -> Result<usize, Failed>
         ensures within { IfOk result (λ count. count ≤ length piece.now) }
-        ensures appended { IfOk result (λ count. Appends (held self.old) (held self.new) (take count piece.now)) }
+        ensures appended { IfOk result (λ count.
+            Appends (held self.old) (held self.new) (take count piece.now)) }
         ensures kept { OnErr result (Keeps (held self.old) (held self.new)) }
         ensures failed { OnErr result (Risen (faults self.old) (faults self.new)) }
         ensures stuck { IfOk result (λ count. count ≡ 0 → 0 < length piece.now →

@@ -21,8 +21,10 @@ pub trait Source {
     /// answers 0 for a nonempty buffer only at the end. A read that fails moves nothing and is counted.
     fn read(&mut self, into: &mut [u8]) -> Result<usize, Failed>
         ensures within { IfOk result (λ count. count ≤ length into.new) }
-        ensures taken { IfOk result (λ count. Consumes (left self.old) (left self.new) (take count into.new)) }
-        ensures end { IfOk result (λ count. count ≡ 0 → 0 < length into.new → IsAtEnd (left self.new)) }
+        ensures taken { IfOk result (λ count.
+            Consumes (left self.old) (left self.new) (take count into.new)) }
+        ensures end { IfOk result (λ count. count ≡ 0 → 0 < length into.new →
+            IsAtEnd (left self.new)) }
         ensures kept { OnErr result (Keeps (left self.old) (left self.new)) }
         ensures failed { OnErr result (Risen (faults self.old) (faults self.new)) }
         ensures never_falls { faults self.old ≤ faults self.new };

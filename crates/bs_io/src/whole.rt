@@ -40,8 +40,10 @@ const CHUNK: usize = 64 * 1024;
 /// After want of memory at most `limit` bytes were taken, and they are lost, as after a failed read.
 pub fn read_all<S: Source>(alloc: Global, source: &mut S, limit: u64) -> Result<List<u8>, InFault>
     requires { limit < 2 ^ 64 - 1 }
-    ensures all { IfOk result (λ bytes. IfSome (S.left source.old) (λ left. contents bytes ≡ left)) }
-    ensures taken { IfOk result (λ bytes. Consumes (S.left source.old) (S.left source.new) (contents bytes)) }
+    ensures all { IfOk result (λ bytes.
+        IfSome (S.left source.old) (λ left. contents bytes ≡ left)) }
+    ensures taken { IfOk result (λ bytes.
+        Consumes (S.left source.old) (S.left source.new) (contents bytes)) }
     ensures ended { OnOk result (IsAtEnd (S.left source.new)) }
     ensures within { IfOk result (λ bytes. length (contents bytes) ≤ limit) }
     ensures short { IfErr result (StopsShort (S.left source.old) (S.left source.new) limit) }
@@ -94,7 +96,8 @@ fn read_at<S: Source>(source: &mut S, buffer: &mut [u8], at: usize) -> Result<us
     requires { at < length buffer.old }
     ensures front { take at buffer.new ≡ take at buffer.old }
     ensures fits { IfOk result (λ count. at + count ≤ length buffer.new) }
-    ensures taken { IfOk result (λ count. Consumes (S.left source.old) (S.left source.new) (take count
+    ensures taken { IfOk result (λ count.
+        Consumes (S.left source.old) (S.left source.new) (take count
         (drop at buffer.new))) }
     ensures end { IfOk result (λ count. count ≡ 0 → IsAtEnd (S.left source.new)) }
     ensures kept { OnErr result (Keeps (S.left source.old) (S.left source.new)) }

@@ -19,7 +19,8 @@ ghost use Rattle.selection_promise.specs.Selects.{IsAccepted};
 
 /// Law: no more traps are pushed at a place of a compiled function than tries stand round one of its text.
 pub fn traps_are_few()
-    ensures { (defined : List ℕ → Option DefinedSymbol) (tree : FunctionTree) (m : Lin) (ds : List Descr)
+    ensures { (defined : List ℕ →
+        Option DefinedSymbol) (tree : FunctionTree) (m : Lin) (ds : List Descr)
         (pieces : Pieces) → IsAccepted defined tree → IsMadeOf tree m ds pieces → (code : List Line)
         (traps : List ℕ) → Traps m code traps → length traps ≤ tries tree }
 {}
@@ -27,7 +28,8 @@ pub fn traps_are_few()
 /// Law: what the passes made of a function that the front accepts is known whole, where its frame and its traps fit
 /// what descriptors can say.
 pub fn made_functions_are_chained()
-    ensures { (defined : List ℕ → Option DefinedSymbol) (tree : FunctionTree) (m : Lin) (ds : List Descr)
+    ensures { (defined : List ℕ →
+        Option DefinedSymbol) (tree : FunctionTree) (m : Lin) (ds : List Descr)
         (pieces : Pieces) → IsAccepted defined tree → IsMadeOf tree m ds pieces →
         frame_bytes m + 16 * tries tree ≤ 1048576 → IsChained tree m ds pieces }
 {}

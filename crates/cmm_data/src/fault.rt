@@ -35,7 +35,8 @@ fn end_of_items(start: u64, items: &[DataItem]) -> Result<u64, Fault>
     requires { start ≤ data_start + data_limit }
     ensures within { IfOk result (λ end. end ≤ data_start + data_limit) }
     ensures end { IfOk result (λ end. end ≡ end_of_items start (map data_item_view items.now)) }
-    ensures faultless { IfOk result (λ end. first_fault (items_from start (map data_item_view items.now)) ≡ None) }
+    ensures faultless { IfOk result (λ end.
+        first_fault (items_from start (map data_item_view items.now)) ≡ None) }
     ensures fault { IfErr result (λ fault. first_fault (items_from start
         (map data_item_view items.now)) ≡ Some fault) }
 {

@@ -56,7 +56,8 @@ fn built_in_symbol(alloc: Global) -> Result<DataSymbol, AllocError>
 
 fn symbol(alloc: Global, name: &[u8], address: u64) -> Result<DataSymbol, AllocError>
     requires { address < 2 ^ 32 }
-    ensures { IfOk result (λ symbol. symbol_view symbol ≡ record { name = name.now; address = address }) }
+    ensures { IfOk result (λ symbol.
+        symbol_view symbol ≡ record { name = name.now; address = address }) }
 {
     let name = Vec::from_slice(alloc, name)?;
     Ok(DataSymbol {
@@ -99,9 +100,11 @@ fn place_items(
           end = end_of_items start (map data_item_view items.now);
           items = items_from start (map data_item_view items.now);
         })) }
-    ensures symbols { IfOk result (λ _. map symbol_view symbols.new.items ≡ map symbol_view symbols.old.items ++
+    ensures symbols { IfOk result (λ _.
+        map symbol_view symbols.new.items ≡ map symbol_view symbols.old.items ++
         symbols_among (items_from start (map data_item_view items.now))) }
-    ensures roots { IfOk result (λ _. roots.new.items ≡ roots.old.items ++ roots_among (items_from start
+    ensures roots { IfOk result (λ _.
+        roots.new.items ≡ roots.old.items ++ roots_among (items_from start
         (map data_item_view items.now))) }
 {
     let mut filling = Filling::new(alloc);
@@ -128,7 +131,8 @@ fn add_symbol(
     datum: &Datum,
 ) -> Result<(), AllocError>
     requires { address < 2 ^ 32 }
-    ensures { IfOk result (λ _. map symbol_view symbols.new.items ≡ map symbol_view symbols.old.items ++
+    ensures { IfOk result (λ _.
+        map symbol_view symbols.new.items ≡ map symbol_view symbols.old.items ++
         option_to_list (symbol_at address (datum_view datum.now))) }
 {
     if let Datum::Define(name) = datum {

@@ -198,7 +198,8 @@ impl<'a> Machine<'a> {
     fn take_place(&mut self, tests: Tests) -> bool
         ensures here { self.new.here ≡ self.old.here }
         ensures world { self.new.world ≡ self.old.world }
-        ensures place { IsTrue result → TakesPlace self.old.frames.items tests self.new.frames.items }
+        ensures place { IsTrue result →
+            TakesPlace self.old.frames.items tests self.new.frames.items }
         ensures none { IsFalse result → self.new.frames.items ≡ self.old.frames.items }
     {
         let mut before = tests;

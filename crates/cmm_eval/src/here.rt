@@ -35,7 +35,8 @@ pub(crate) struct Here<'a> {
 
 /// The innermost binding of a name, which stands last among those of its name.
 fn innermost<'b, 'a>(names: &'b [Bound<'a>], name: &Name) -> Option<&'b Bound<'a>>
-    ensures { option_map bound_view (option_copied result) ≡ innermost (bounds_view names.now) name.now }
+    ensures { option_map bound_view (option_copied result)
+        ≡ innermost (bounds_view names.now) name.now }
 {
     let mut left = names.len();
     while left > 0 {

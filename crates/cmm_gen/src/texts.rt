@@ -17,7 +17,8 @@ const DEPTH: u32 = 3;
 
 /// Writes a number from -100 to 100: a word mod 201, less 100.
 fn write_number(text: &mut String, words: &mut Lcg64Xsh32) -> Result<(), AllocError>
-    ensures text { OnOk result (text.new.bytes.items ≡ text.old.bytes.items ++ drawn_text (number words.old).0) }
+    ensures text { OnOk result (text.new.bytes.items
+        ≡ text.old.bytes.items ++ drawn_text (number words.old).0) }
     ensures words { words.new ≡ (number words.old).1 }
 {
     let draw = words.next_word() % 201;
@@ -53,7 +54,8 @@ fn write_two(
 ) -> Result<(), AllocError>
     ensures text { OnOk result (text.new.bytes.items ≡ text.old.bytes.items
         ++ (opening.now ++ drawn_text (expression depth words.old).0
-        ++ codes " " ++ drawn_text (expression depth (expression depth words.old).1).0 ++ closing.now)) }
+        ++ codes " " ++ drawn_text (expression depth (expression depth words.old).1).0
+        ++ closing.now)) }
     ensures words { OnOk result (words.new ≡ (expression depth (expression depth words.old).1).1) }
 {
     text.push_str(opening)?;
@@ -162,7 +164,8 @@ fn write_function(text: &mut String, words: &mut Lcg64Xsh32, number: u32) -> Res
 pub fn generate(alloc: Global, seed: u64, functions: u32) -> Result<List<u8>, AllocError>
     requires some { 1 ≤ functions }
     requires few { functions ≤ 1000 }
-    ensures text { IfOk result (λ text. contents text ≡ text_of (drawn functions (generator seed))) }
+    ensures text { IfOk result (λ text.
+        contents text ≡ text_of (drawn functions (generator seed))) }
     ensures proper { IfOk result (λ text. IsProperText (contents text)) }
 {
     let mut words = Lcg64Xsh32::seed_from_u64(seed);

@@ -98,7 +98,8 @@ impl Checker {
     fn note_arity(&mut self, parameters: Option<usize>, at: u32, arguments: usize)
         ensures names { self.new.names ≡ self.old.names }
         ensures labels { self.new.labels ≡ self.old.labels }
-        ensures found { self.new.found ≡ noted_all (arity_faults parameters at arguments) self.old.found }
+        ensures found { self.new.found
+            ≡ noted_all (arity_faults parameters at arguments) self.old.found }
     {
         if let Some(parameters) = parameters {
             self.note_if(parameters != arguments, Fault::Arity { at });
@@ -167,7 +168,8 @@ impl Checker {
     pub fn note_params(&mut self, params: &[Param])
         ensures names { self.new.names ≡ self.old.names }
         ensures labels { self.new.labels ≡ self.old.labels }
-        ensures found { self.new.found ≡ noted_all (params_faults (params_view params.now)) self.old.found }
+        ensures found { self.new.found
+            ≡ noted_all (params_faults (params_view params.now)) self.old.found }
     {
         for param in params {
             self.note_comp(param.comp, param.comp_at);
@@ -193,7 +195,8 @@ impl Checker {
     pub fn note_repeated(&mut self, handlers: &[Handler])
         ensures names { self.new.names ≡ self.old.names }
         ensures labels { self.new.labels ≡ self.old.labels }
-        ensures found { self.new.found ≡ noted_all (repeated_faults (handlers_of handlers.now)) self.old.found }
+        ensures found { self.new.found
+            ≡ noted_all (repeated_faults (handlers_of handlers.now)) self.old.found }
     {
         for (index, handler) in handlers.iter().enumerate() {
             let (_, later) = handlers.split_at(index + 1);
@@ -203,7 +206,8 @@ impl Checker {
 
     /// Binds the parameters, first to last.
     pub fn bind_params(&mut self, alloc: Global, params: &[Param]) -> Result<(), AllocError>
-        ensures names { OnOk result (self.new.names ≡ with_parameters (params_view params.now) self.old.names) }
+        ensures names { OnOk result (self.new.names
+            ≡ with_parameters (params_view params.now) self.old.names) }
         ensures labels { self.new.labels ≡ self.old.labels }
         ensures found { self.new.found ≡ self.old.found }
     {

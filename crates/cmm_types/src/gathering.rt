@@ -27,7 +27,8 @@ pub struct Gathering {
 pub fn gather(alloc: Global, items: &[Item]) -> Result<Gathering, AllocError>
     ensures symbols { IfOk result (λ all. all.symbols ≡ with_symbols (built_in ∷ []) (symbols_among
         (map item_view items.now))) }
-    ensures found { IfOk result (λ all. all.found ≡ noted_all (symbol_faults (built_in ∷ []) (symbols_among
+    ensures found { IfOk result (λ all.
+        all.found ≡ noted_all (symbol_faults (built_in ∷ []) (symbols_among
         (map item_view items.now))) None) }
 {
     let mut symbols = Symbols::new(alloc);
@@ -68,7 +69,8 @@ impl Gathering {
 
     /// Defines the symbols of the item.
     fn add_item(&mut self, alloc: Global, item: &Item) -> Result<(), AllocError>
-        ensures symbols { OnOk result (self.new.symbols ≡ with_symbols self.old.symbols (item_symbols
+        ensures symbols { OnOk result (self.new.symbols
+            ≡ with_symbols self.old.symbols (item_symbols
             (item_view item.now))) }
         ensures found { OnOk result (self.new.found ≡ noted_all (symbol_faults self.old.symbols
             (item_symbols (item_view item.now))) self.old.found) }
@@ -87,7 +89,8 @@ impl Gathering {
 
     /// Defines the symbols of static data.
     fn add_data(&mut self, alloc: Global, items: &[DataItem]) -> Result<(), AllocError>
-        ensures symbols { OnOk result (self.new.symbols ≡ with_symbols self.old.symbols (data_symbols
+        ensures symbols { OnOk result (self.new.symbols
+            ≡ with_symbols self.old.symbols (data_symbols
             (map data_item_view items.now))) }
         ensures found { OnOk result (self.new.found ≡ noted_all (symbol_faults self.old.symbols
             (data_symbols (map data_item_view items.now))) self.old.found) }

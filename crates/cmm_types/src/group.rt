@@ -21,6 +21,7 @@ pub enum Group {
     Scope,
 }
 
+/// The rule by which a form is typed, for forms that share one.
 pub fn group_of_form(form: &Form) -> Group
     ensures { result ≡ group_of form.now }
 {

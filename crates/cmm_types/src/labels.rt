@@ -122,7 +122,8 @@ impl Labels {
 
     /// Makes those labels of the handlers visible that are visible in handlers too.
     pub fn add_lasting(&mut self, alloc: Global, handlers: &[Handler]) -> Result<(), AllocError>
-        ensures ok { OnOk result (self.new ≡ lasting_labels_of (handlers_of handlers.now) ++ self.old) }
+        ensures ok { OnOk result (self.new ≡ lasting_labels_of (handlers_of handlers.now)
+            ++ self.old) }
     {
         let mut left = handlers.len();
         while left > 0 {
@@ -143,7 +144,8 @@ impl Labels {
 
     /// The number of parameters of the innermost handler of the label.
     pub fn find(&self, label: &Label) -> Option<usize>
-        ensures { result ≡ option_map parameters_of_label (handler_of self.now (label_view label.now)) }
+        ensures { result
+            ≡ option_map parameters_of_label (handler_of self.now (label_view label.now)) }
     {
         innermost(self.visible.as_slice(), label)
     }

@@ -40,7 +40,8 @@ impl Model for Names {
 
 /// What the last of the entries says that has the name.
 fn innermost(entries: &[Entry], name: &Name) -> Option<Meaning>
-    ensures { result ≡ option_map meaning_of (binding_of (map scoped_view (reverse entries.now)) name.now) }
+    ensures { result
+        ≡ option_map meaning_of (binding_of (map scoped_view (reverse entries.now)) name.now) }
 {
     let mut left = entries.len();
     while left > 0 {

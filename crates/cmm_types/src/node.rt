@@ -407,7 +407,8 @@ impl Checker {
         ensures typed { PartsTyped self.old.names form.now }
         ensures names { self.new.names ≡ self.old.names }
         ensures labels { self.new.labels ≡ self.old.labels }
-        ensures found { self.new.found ≡ noted_all (faults_in (definition_of symbols.now) self.old.names
+        ensures found { self.new.found
+            ≡ noted_all (faults_in (definition_of symbols.now) self.old.names
             self.old.labels (form_view at form.now)) self.old.found }
         ensures plain { result.plain ≡ type_without_float self.old.names (form_view at form.now) }
         ensures float { result.float ≡ holds_float (form_view at form.now) }
@@ -467,8 +468,10 @@ impl Checker {
         ensures found { OnOk result (self.new.found ≡ noted_all (row_faults role
             (definition_of symbols.now) self.old.names self.old.labels
             (row_of exprs.old.items)) self.old.found) }
-        ensures plain { IfOk result (λ seen. seen.plain ≡ type_of_last self.old.names (row_of exprs.old.items)) }
-        ensures float { IfOk result (λ seen. seen.float ≡ row_holds_float (row_of exprs.old.items)) }
+        ensures plain { IfOk result (λ seen.
+            seen.plain ≡ type_of_last self.old.names (row_of exprs.old.items)) }
+        ensures float { IfOk result (λ seen.
+            seen.float ≡ row_holds_float (row_of exprs.old.items)) }
     {
         let seen = self.operands(alloc, symbols, role, exprs.as_mut_slice())?;
         Ok(seen)
@@ -491,7 +494,8 @@ impl Checker {
         ensures found { OnOk result (self.new.found ≡ noted_all (row_faults role
             (definition_of symbols.now) self.old.names self.old.labels
             (row_of exprs.old)) self.old.found) }
-        ensures plain { IfOk result (λ seen. seen.plain ≡ type_of_last self.old.names (row_of exprs.old)) }
+        ensures plain { IfOk result (λ seen.
+            seen.plain ≡ type_of_last self.old.names (row_of exprs.old)) }
         ensures float { IfOk result (λ seen. seen.float ≡ row_holds_float (row_of exprs.old)) }
     {
         let mut plain = Ty::NoValue;
@@ -512,7 +516,8 @@ impl Checker {
         symbols: &Symbols,
         bindings: &mut Vec<Binding>,
     ) -> Result<bool, AllocError>
-        ensures view { OnOk result (bindings_of bindings.new.items ≡ bindings_of bindings.old.items) }
+        ensures view { OnOk result (bindings_of bindings.new.items
+            ≡ bindings_of bindings.old.items) }
         ensures typed { OnOk result (AreBindingsAnnotated self.old.names bindings.new.items) }
         ensures names { OnOk result (self.new.names ≡ with_bindings self.old.names
             (bindings_of bindings.old.items)) }
@@ -520,7 +525,8 @@ impl Checker {
         ensures found { OnOk result (self.new.found ≡ noted_all (bindings_faults
             (definition_of symbols.now) self.old.names self.old.labels
             (bindings_of bindings.old.items)) self.old.found) }
-        ensures float { IfOk result (λ float. float ≡ bindings_hold_float (bindings_of bindings.old.items)) }
+        ensures float { IfOk result (λ float.
+            float ≡ bindings_hold_float (bindings_of bindings.old.items)) }
     {
         let held = self.bind_all(alloc, symbols, bindings.as_mut_slice())?;
         Ok(held)
@@ -537,12 +543,14 @@ impl Checker {
     ) -> Result<bool, AllocError>
         ensures view { OnOk result (bindings_of bindings.new ≡ bindings_of bindings.old) }
         ensures typed { OnOk result (AreBindingsAnnotated self.old.names bindings.new) }
-        ensures names { OnOk result (self.new.names ≡ with_bindings self.old.names (bindings_of bindings.old)) }
+        ensures names { OnOk result (self.new.names
+            ≡ with_bindings self.old.names (bindings_of bindings.old)) }
         ensures labels { OnOk result (self.new.labels ≡ self.old.labels) }
         ensures found { OnOk result (self.new.found ≡ noted_all (bindings_faults
             (definition_of symbols.now) self.old.names self.old.labels
             (bindings_of bindings.old)) self.old.found) }
-        ensures float { IfOk result (λ float. float ≡ bindings_hold_float (bindings_of bindings.old)) }
+        ensures float { IfOk result (λ float.
+            float ≡ bindings_hold_float (bindings_of bindings.old)) }
     {
         let mut float = false;
         for index in 0..bindings.len() {
@@ -560,8 +568,10 @@ impl Checker {
         symbols: &Symbols,
         binding: &mut Binding,
     ) -> Result<bool, AllocError>
-        ensures view { OnOk result (binding.new ≡ record binding.old { value = binding.new.value }) }
-        ensures value_view { OnOk result (expr_view binding.new.value ≡ expr_view binding.old.value) }
+        ensures view { OnOk result (binding.new
+            ≡ record binding.old { value = binding.new.value }) }
+        ensures value_view { OnOk result (expr_view binding.new.value
+            ≡ expr_view binding.old.value) }
         ensures typed { OnOk result (IsAnnotated self.old.names binding.new.value) }
         ensures names { OnOk result (self.new.names ≡ with_binding self.old.names binding.old) }
         ensures labels { OnOk result (self.new.labels ≡ self.old.labels) }
@@ -598,7 +608,8 @@ impl Checker {
             (cases_of cases.old.items)) self.old.found) }
         ensures plain { IfOk result (λ seen. seen.plain ≡ type_of_cases self.old.names
             (cases_of cases.old.items)) }
-        ensures float { IfOk result (λ seen. seen.float ≡ cases_hold_float (cases_of cases.old.items)) }
+        ensures float { IfOk result (λ seen.
+            seen.float ≡ cases_hold_float (cases_of cases.old.items)) }
     {
         let seen = self.visit_cases(alloc, symbols, cases.as_mut_slice())?;
         Ok(seen)
@@ -619,7 +630,8 @@ impl Checker {
         ensures found { OnOk result (self.new.found ≡ noted_all (cases_faults
             (definition_of symbols.now) self.old.names self.old.labels
             (cases_of cases.old)) self.old.found) }
-        ensures plain { IfOk result (λ seen. seen.plain ≡ type_of_cases self.old.names (cases_of cases.old)) }
+        ensures plain { IfOk result (λ seen.
+            seen.plain ≡ type_of_cases self.old.names (cases_of cases.old)) }
         ensures float { IfOk result (λ seen. seen.float ≡ cases_hold_float (cases_of cases.old)) }
     {
         let mut plain = Ty::Never;
@@ -640,7 +652,8 @@ impl Checker {
         symbols: &Symbols,
         handlers: &mut Vec<Handler>,
     ) -> Result<Seen, AllocError>
-        ensures view { OnOk result (handlers_of handlers.new.items ≡ handlers_of handlers.old.items) }
+        ensures view { OnOk result (handlers_of handlers.new.items
+            ≡ handlers_of handlers.old.items) }
         ensures typed { OnOk result (AreHandlersAnnotated self.old.names handlers.new.items) }
         ensures names { OnOk result (self.new.names ≡ self.old.names) }
         ensures labels { OnOk result (self.new.labels ≡ self.old.labels) }
@@ -649,7 +662,8 @@ impl Checker {
             (handlers_of handlers.old.items)) self.old.found) }
         ensures plain { IfOk result (λ seen. seen.plain ≡ type_of_handlers self.old.names
             (handlers_of handlers.old.items)) }
-        ensures float { IfOk result (λ seen. seen.float ≡ handlers_hold_float (handlers_of handlers.old.items)) }
+        ensures float { IfOk result (λ seen.
+            seen.float ≡ handlers_hold_float (handlers_of handlers.old.items)) }
     {
         let seen = self.visit_handlers(alloc, symbols, handlers.as_mut_slice())?;
         Ok(seen)
@@ -672,7 +686,8 @@ impl Checker {
             (handlers_of handlers.old)) self.old.found) }
         ensures plain { IfOk result (λ seen. seen.plain ≡ type_of_handlers self.old.names
             (handlers_of handlers.old)) }
-        ensures float { IfOk result (λ seen. seen.float ≡ handlers_hold_float (handlers_of handlers.old)) }
+        ensures float { IfOk result (λ seen.
+            seen.float ≡ handlers_hold_float (handlers_of handlers.old)) }
     {
         let mut plain = Ty::Never;
         let mut float = false;

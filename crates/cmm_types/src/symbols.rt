@@ -90,7 +90,8 @@ impl Symbols {
         name: &[u8],
         new: Definition,
     ) -> Result<Option<Definition>, AllocError>
-        ensures before { IfOk result (λ before. before ≡ option_map definition (definition_of self.old name.now)) }
+        ensures before { IfOk result (λ before.
+            before ≡ option_map definition (definition_of self.old name.now)) }
         ensures after { OnOk result (self.new ≡ with_symbol self.old (defined name.now new)) }
     {
         match self.find_bytes(name) {

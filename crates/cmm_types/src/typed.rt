@@ -86,7 +86,8 @@ impl Checker {
         requires labels { self.old.labels ≡ [] }
         ensures view { OnOk result (map item_view items.new ≡ map item_view items.old) }
         ensures typed { OnOk result (AreItemsAnnotated items.new) }
-        ensures found { OnOk result (self.new.found ≡ noted_all (items_faults (definition_of symbols.now)
+        ensures found { OnOk result (self.new.found
+            ≡ noted_all (items_faults (definition_of symbols.now)
             (map item_view items.old)) self.old.found) }
     {
         for index in 0..items.len() {

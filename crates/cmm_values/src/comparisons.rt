@@ -193,7 +193,8 @@ fn block_equality(
     other: u64,
     at: u64,
 ) -> Result<bool, Kind>
-    ensures { result ≡ equality_of (sizes memory.now) (Value.Block serial offset) (Value.Block other at) }
+    ensures { result
+        ≡ equality_of (sizes memory.now) (Value.Block serial offset) (Value.Block other at) }
 {
     if serial == other {
         return Ok(offset == at);

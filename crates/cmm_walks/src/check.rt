@@ -17,8 +17,10 @@ use std::alloc::{AllocError, Global};
 /// Whether no other order is needed: the first comes before the second, by the use, then by the frame
 /// point, then by the binding.
 fn in_order(one: Limits, other: Limits) -> bool
-    ensures first { IsTrue result → Before one.bound one.point one.used other.bound other.point other.used }
-    ensures second { IsFalse result → Before other.bound other.point other.used one.bound one.point one.used }
+    ensures first { IsTrue result →
+        Before one.bound one.point one.used other.bound other.point other.used }
+    ensures second { IsFalse result →
+        Before other.bound other.point other.used one.bound one.point one.used }
 {
     if one.used != other.used {
         return one.used < other.used;
@@ -89,7 +91,8 @@ fn told_in_items(alloc: Global, items: &[Item]) -> Result<Option<Limits>, AllocE
 /// to hold its type.
 pub(crate) fn check_file(alloc: Global, file: &File) -> Result<(), FrontError>
     requires { AreItemsAnnotated (contents file.now.items) }
-    ensures settled { IfOk result (λ _. (bound point used : ℕ) → IsLive (file_view file.now) bound point used → ⊥) }
+    ensures settled { IfOk result (λ _. (bound point used : ℕ) →
+        IsLive (file_view file.now) bound point used → ⊥) }
     ensures fault { IfErr result (λ e. IsRefusal (file_view file.now) e) }
 {
     let told = told_in_items(alloc, file.items.as_slice())?;

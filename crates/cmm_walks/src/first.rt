@@ -150,8 +150,10 @@ impl<'a> Search<'a> {
         requires search { IsSearch self.now }
         requires fits { own_limit goal < unlabelled }
         requires unlabelled { IsUnlabelled (length self.now.nodes.now) labels.old }
-        ensures unlabelled { IfOk result (λ _. IsUnlabelled (length self.now.nodes.now) labels.new) }
-        ensures seeds { IfOk result (λ _. AreSlotSeeds self.now.nodes.now goal slot found.old.items found.new.items) }
+        ensures unlabelled { IfOk result (λ _.
+            IsUnlabelled (length self.now.nodes.now) labels.new) }
+        ensures seeds { IfOk result (λ _.
+            AreSlotSeeds self.now.nodes.now goal slot found.old.items found.new.items) }
     {
         let places = members(&self.mentions, slot);
         if !some_address_to(self.nodes, slot, places) {

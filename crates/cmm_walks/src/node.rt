@@ -76,7 +76,8 @@ pub fn quiet(alloc: Global, cell: u32) -> Result<Node, AllocError>
 
 /// The same with two nodes after it.
 pub fn forked(alloc: Global, first: u32, second: u32) -> Result<Node, AllocError>
-    ensures { IfOk result (λ node. (node.step ≡ steps.Quiet) × (contents node.next ≡ first ∷ second ∷ [])) }
+    ensures { IfOk result (λ node. (node.step ≡ steps.Quiet)
+        × (contents node.next ≡ first ∷ second ∷ [])) }
 {
     let mut next = Vec::new(alloc);
     next.push(first)?;

@@ -30,6 +30,7 @@ pub fn behind(slot: u32, count: usize) -> Result<u32, AllocError>
     Ok(slot + count as u32)
 }
 
+/// Whether values of the type are addresses into blocks, which no allocation may outlive.
 pub fn is_address(ty: Ty) -> bool
     ensures { result ≡ is_address ty }
 {
@@ -39,6 +40,7 @@ pub fn is_address(ty: Ty) -> bool
     }
 }
 
+/// The type of a register's values.
 pub fn type_of_comp(comp: Comp) -> Ty
     ensures { result ≡ type_of_comp comp }
 {

@@ -15,6 +15,15 @@ use crate::numbers::{after, behind, is_address, type_of_comp};
 use cmm_tree::{Binding, Case, Expr, Handler, Label, Param};
 use std::alloc::{AllocError, Global};
 
+/// What a handler evaluates once its parameters are bound, and where it then goes on.
+#[derive(Clone, Copy)]
+struct Handled<'a> {
+    scope: u32,
+    free: u32,
+    body: &'a Expr,
+    caught: u32,
+}
+
 impl<'a> Cells<'a> {
     /// The node of an expression.
     fn evaluate(
@@ -172,22 +181,22 @@ impl<'a> Cells<'a> {
     fn enter_bound(
         &mut self,
         alloc: Global,
-        inner: u32,
         slot: u32,
-        free: u32,
         param: &'a Param,
         others: &'a [Param],
-        body: &'a Expr,
-        caught: u32,
+        handled: Handled<'a>,
     ) -> Result<Node, AllocError>
-        ensures { IfOk result (λ node. (s : List Slotted) → IsReady (cells self.old) caught →
-            IsScope (cells self.old) inner s → IsAnnotated (names s) body.now →
+        ensures { IfOk result (λ node. (s : List Slotted) →
+            IsReady (cells self.old) handled.entry.caught →
+            IsScope (cells self.old) handled.entry.scope s →
+            IsAnnotated (names s) handled.entry.body.now →
             Steps (cells self.old) (cells self.new) (parameters_bound slot
-            (params_view (param.now ∷ others.now)) ++ (Evaluates s free
-            (expr_view body.now) ∷ tasks_at (cells self.old) caught)) node) }
+            (params_view (param.now ∷ others.now)) ++ (Evaluates s handled.entry.free
+            (expr_view handled.entry.body.now)
+            ∷ tasks_at (cells self.old) handled.entry.caught)) node) }
     {
         let next = after(slot)?;
-        let evaluated = self.eval(inner, free, body, caught)?;
+        let evaluated = self.eval(handled.scope, handled.free, handled.body, handled.caught)?;
         let bound = self.parameters_bound(next, others, evaluated)?;
         let address = is_address(type_of_comp(param.comp));
         let at = param.at;
@@ -216,7 +225,13 @@ impl<'a> Cells<'a> {
         match params {
             [] => self.evaluate(alloc, inner, free, body, caught),
             [param, others @ ..] => {
-                self.enter_bound(alloc, inner, slot, free, param, others, body, caught)
+                let handled = Handled {
+                    scope: inner,
+                    free,
+                    body,
+                    caught,
+                };
+                self.enter_bound(alloc, slot, param, others, handled)
             }
         }
     }

@@ -42,7 +42,8 @@ impl Counts {
     /// Counts one more register in a machine register.
     fn add_one(&mut self, register: u8)
         requires { (r : ℕ) → r < 32 → count_at self.old r + 1 < 2 ^ 128 }
-        ensures { (r : ℕ) → r < 32 → count_at self.new r ≡ count_at self.old r + cond (nat_eq register r) 1 0 }
+        ensures { (r : ℕ) → r < 32 →
+            count_at self.new r ≡ count_at self.old r + cond (nat_eq register r) 1 0 }
     {
         let register = usize::from(register);
         if register < 32 {
@@ -53,7 +54,8 @@ impl Counts {
     /// Counts one more register, at its place. A slot has no count.
     fn add(&mut self, place: Loc)
         requires { (r : ℕ) → r < 32 → count_at self.old r + 1 < 2 ^ 128 }
-        ensures { (r : ℕ) → r < 32 → count_at self.new r ≡ count_at self.old r + cond (is_in r place) 1 0 }
+        ensures { (r : ℕ) → r < 32 →
+            count_at self.new r ≡ count_at self.old r + cond (is_in r place) 1 0 }
     {
         match place {
             Loc::Unset => {}

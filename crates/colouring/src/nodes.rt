@@ -46,7 +46,8 @@ impl NodeTable {
     /// The fixed places of the graph whose table this is, by number.
     pub fn fixed_places(&self, alloc: Global, graph: &Graph) -> Result<Vec<Loc>, AllocError>
         requires { IsTableOf graph.now.nodes self.now.indices.items }
-        ensures places { IfOk result (λ places. (n : ℕ) → places_by places.items n ≡ fixed graph.now n) }
+        ensures places { IfOk result (λ places. (n : ℕ) →
+            places_by places.items n ≡ fixed graph.now n) }
         ensures len { IfOk result (λ places. length places.items ≡ length self.now.indices.items) }
     {
         let mut places = Vec::with_capacity(alloc, self.indices.len())?;

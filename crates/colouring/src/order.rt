@@ -81,7 +81,8 @@ fn open_nodes<'a>(
     places: &[Loc],
     fresh: u32,
 ) -> Result<Vec<Ranked<'a>>, AllocError>
-    ensures nodes { IfOk result (λ ranked. ranked_nodes ranked.items ≡ filter is_open graph.now.nodes) }
+    ensures nodes { IfOk result (λ ranked.
+        ranked_nodes ranked.items ≡ filter is_open graph.now.nodes) }
     ensures ranked { IfOk result (λ ranked. AreRanked (places_by places.now) fresh ranked.items) }
 {
     let mut ranked = Vec::new(alloc);

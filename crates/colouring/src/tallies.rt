@@ -40,7 +40,8 @@ impl Tallies {
     pub fn new(graph: &Graph, table: &NodeTable, places: &[Loc], node: &Node) -> Self
         requires { IsTableOf graph.now.nodes table.now.indices.items }
         ensures near { (register : ℕ) → register < 32 →
-            count_at result.near register ≡ standing (places_by places.now) register node.now.neighbours }
+            count_at result.near register
+            ≡ standing (places_by places.now) register node.now.neighbours }
         ensures own { (register : ℕ) → register < 32 →
             count_at result.own register ≡ standing (places_by places.now) register node.now.moves }
         ensures wanted { (register : ℕ) → register < 32 → count_at result.wanted register ≡

@@ -48,7 +48,8 @@ impl Held {
     fn join(&mut self, blocks: &Blocks, results: Seq<Reg>) -> Result<(), AllocError>
         requires { joins (Some (bytes_of self.old.blocks)) blocks.now ≡ true }
         ensures blocks { IfOk result (λ _. self.new.blocks ≡ self.old.blocks ++ blocks.now) }
-        ensures results { IfOk result (λ _. self.new.results.items ≡ self.old.results.items ++ results) }
+        ensures results { IfOk result (λ _.
+            self.new.results.items ≡ self.old.results.items ++ results) }
         ensures since { self.new.since ≡ self.old.since }
     {
         push_all(&mut self.blocks, blocks)?;
@@ -68,7 +69,8 @@ impl Scan {
     /// Settles the open allocation: nothing joins it any more.
     fn close(&mut self) -> Result<(), AllocError>
         ensures held { IfOk result (λ _. self.new.held ≡ None) }
-        ensures done { IfOk result (λ _. self.new.done.items ≡ self.old.done.items ++ closed self.old.held) }
+        ensures done { IfOk result (λ _.
+            self.new.done.items ≡ self.old.done.items ++ closed self.old.held) }
     {
         if let Some(held) = self.held.take() {
             let Held {
@@ -88,7 +90,8 @@ impl Scan {
 
     /// Takes an instruction that goes on in the straight run.
     fn go_on(&mut self, instr: Instr) -> Result<(), AllocError>
-        ensures { IfOk result (λ _. (rest : List AnInstr) → finished self.new rest ≡ stays self.old instr rest) }
+        ensures { IfOk result (λ _. (rest : List AnInstr) →
+            finished self.new rest ≡ stays self.old instr rest) }
     {
         match &mut self.held {
             Some(held) => held.since.push(instr)?,
@@ -152,7 +155,9 @@ impl Scan {
         args: Seq<Reg>,
         results: Seq<Reg>,
     ) -> Result<(), AllocError>
-        ensures { IfOk result (λ _. HasTaken self.old self.new (record { op = mach.Op (op.Access access); args = args; results = results })) }
+        ensures { IfOk result (λ _.
+            HasTaken self.old self.new
+            (record { op = mach.Op (op.Access access); args = args; results = results })) }
     {
         match access {
             Access::Load { chunk, offset } => self.go_on(Instr {
@@ -170,7 +175,9 @@ impl Scan {
     }
 
     fn take_op(&mut self, op: Op, args: Seq<Reg>, results: Seq<Reg>) -> Result<(), AllocError>
-        ensures { IfOk result (λ _. HasTaken self.old self.new (record { op = mach.Op op; args = args; results = results })) }
+        ensures { IfOk result (λ _.
+            HasTaken self.old self.new
+            (record { op = mach.Op op; args = args; results = results })) }
     {
         match op {
             Op::Pure(pure) => self.go_on(Instr {

@@ -21,7 +21,8 @@ ghost use Rattle.mach_ir.specs.declared.mach.Mach.{Mach};
 
 /// Law: two neighbouring allocations of one straight run do not fit one reservation together.
 pub fn combined_neighbours()
-    ensures { (m : Mach) (blocks others : List NewBlock) → AreNeighbours (combined m) blocks others →
+    ensures { (m : Mach) (blocks others : List NewBlock) →
+        AreNeighbours (combined m) blocks others →
         reservation_most < bytes_of blocks + bytes_of others }
 {}
 

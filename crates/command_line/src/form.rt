@@ -184,7 +184,8 @@ fn fills_some(slots: &[Slot], word: &[u8]) -> bool
 
 fn each_fills(slots: &[Slot], others: &[String]) -> bool
     ensures { result
-        ≡ list_all (λ word. list_any (λ slot. fills slot (string_bytes word)) slots.now) others.now }
+        ≡ list_all (λ word.
+        list_any (λ slot. fills slot (string_bytes word)) slots.now) others.now }
 {
     others.iter().all(|word| fills_some(slots, word.as_bytes()))
 }

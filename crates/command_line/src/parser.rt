@@ -77,7 +77,8 @@ fn with_command<'a>(
     parser: Command<'a>,
     command: CommandWord,
 ) -> Result<Command<'a>, AllocError>
-    ensures { IfOk result (λ more. app_of more ≡ with_subcommand (app_of parser.entry) (command_shape command)) }
+    ensures { IfOk result (λ more.
+        app_of more ≡ with_subcommand (app_of parser.entry) (command_shape command)) }
 {
     let added = subcommand(alloc, command)?;
     parser.subcommand(added)

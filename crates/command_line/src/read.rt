@@ -8,7 +8,8 @@ ghost use Rattle.command_line.specs.declared.form.Slot.{Slot};
 ghost use Rattle.command_line.specs.Values.{IsName, IsSteps, IsSize, IsMoves, IsItems, IsCounted, IsSeed, IsStage, Nothing, most_jobs, most_functions};
 ghost use Rattle.command_line.specs.Words.{fills, word_of, slots_of, WellFormed, IsForm, Gives};
 ghost use Rattle.command_line.specs.Program.{HasText, Stands, Defaults, id_of, program};
-ghost use Rattle.command_line.specs.Command.{CommandTree, Sets, Tells, IsRun, IsCheck, Means, IsCommand, KeepsLimits, default_jobs, default_steps, default_size, default_moves};
+ghost use Rattle.command_line.specs.Command.{CommandTree, Sets, Tells, IsRun, IsCheck, Means, IsCommand, KeepsLimits};
+ghost use Rattle.command_line.specs.Command.{default_jobs, default_steps, default_size, default_moves};
 ghost use Rattle.command_line.specs.View.{texts, view, run_view, check_view};
 
 use crate::command::{CheckWords, Command, Moves, RunWords, WordsError};
@@ -42,7 +43,8 @@ fn text_for<'a>(others: &[String], given: &ArgMatches<'a>, slot: Slot) -> &'a st
 /// The name of the function that is called.
 fn entry(alloc: Global, others: &[String], given: &ArgMatches<'_>) -> Result<Name, WordsError>
     requires once { count_by (fills Slot.Plain) (texts others.now) ≤ 1 }
-    requires stands { HasText (texts others.now) Slot.Plain (first_value (found_of given.now) (id_of Slot.Plain)) }
+    requires stands { HasText (texts others.now) Slot.Plain
+        (first_value (found_of given.now) (id_of Slot.Plain)) }
     ensures value { IfOk result (λ name. Gives (texts others.now) Slot.Plain name × IsName name) }
     ensures bad { IsErrOf result WordsError.ValueText
         → Nothing (λ name. Gives (texts others.now) Slot.Plain name × IsName name) }
@@ -59,9 +61,11 @@ fn items(
     slot: Slot,
 ) -> Result<List<Arg>, WordsError>
     requires once { count_by (fills slot) (texts others.now) ≤ 1 }
-    requires stands { HasText (texts others.now) slot (first_value (found_of given.now) (id_of slot)) }
+    requires stands { HasText (texts others.now) slot
+        (first_value (found_of given.now) (id_of slot)) }
     requires left_out { Defaults slot IsItems [] }
-    ensures value { IfOk result (λ items. Sets (texts others.now) slot IsItems [] (contents items)) }
+    ensures value { IfOk result (λ items.
+        Sets (texts others.now) slot IsItems [] (contents items)) }
     ensures bad { IsErrOf result WordsError.ValueText
         → Nothing (Sets (texts others.now) slot IsItems []) }
     ensures formed { ¬ IsErrOf result WordsError.Words }
@@ -72,7 +76,8 @@ fn items(
 /// The most instructions, or units of fuel.
 fn steps(others: &[String], given: &ArgMatches<'_>, slot: Slot) -> Result<u64, WordsError>
     requires once { count_by (fills slot) (texts others.now) ≤ 1 }
-    requires stands { HasText (texts others.now) slot (first_value (found_of given.now) (id_of slot)) }
+    requires stands { HasText (texts others.now) slot
+        (first_value (found_of given.now) (id_of slot)) }
     requires left_out { Defaults slot IsSteps default_steps }
     ensures value { IfOk result (λ n. Sets (texts others.now) slot IsSteps default_steps n) }
     ensures bad { IsErrOf result WordsError.ValueText
@@ -86,7 +91,8 @@ fn steps(others: &[String], given: &ArgMatches<'_>, slot: Slot) -> Result<u64, W
 /// The bytes of the stack or of half of the heap.
 fn size(others: &[String], given: &ArgMatches<'_>, slot: Slot) -> Result<u32, WordsError>
     requires once { count_by (fills slot) (texts others.now) ≤ 1 }
-    requires stands { HasText (texts others.now) slot (first_value (found_of given.now) (id_of slot)) }
+    requires stands { HasText (texts others.now) slot
+        (first_value (found_of given.now) (id_of slot)) }
     requires left_out { Defaults slot IsSize default_size }
     ensures value { IfOk result (λ n. Sets (texts others.now) slot IsSize default_size n) }
     ensures bad { IsErrOf result WordsError.ValueText
@@ -100,8 +106,10 @@ fn size(others: &[String], given: &ArgMatches<'_>, slot: Slot) -> Result<u32, Wo
 /// When the mover asks, and where it puts blocks.
 fn moves(others: &[String], given: &ArgMatches<'_>) -> Result<Moves, WordsError>
     requires once { count_by (fills Slot.Moves) (texts others.now) ≤ 1 }
-    requires stands { HasText (texts others.now) Slot.Moves (first_value (found_of given.now) (id_of Slot.Moves)) }
-    ensures value { IfOk result (λ moves. Sets (texts others.now) Slot.Moves IsMoves default_moves moves) }
+    requires stands { HasText (texts others.now) Slot.Moves
+        (first_value (found_of given.now) (id_of Slot.Moves)) }
+    ensures value { IfOk result (λ moves.
+        Sets (texts others.now) Slot.Moves IsMoves default_moves moves) }
     ensures bad { IsErrOf result WordsError.ValueText
         → Nothing (Sets (texts others.now) Slot.Moves IsMoves default_moves) }
     ensures formed { ¬ IsErrOf result WordsError.Words }
@@ -152,8 +160,10 @@ fn check(alloc: Global, others: &[String], given: &ArgMatches<'_>) -> Result<Che
 /// The most functions that are compiled at a time.
 fn jobs(others: &[String], given: &ArgMatches<'_>) -> Result<u32, WordsError>
     requires once { count_by (fills Slot.Jobs) (texts others.now) ≤ 1 }
-    requires stands { HasText (texts others.now) Slot.Jobs (first_value (found_of given.now) (id_of Slot.Jobs)) }
-    ensures value { IfOk result (λ n. Sets (texts others.now) Slot.Jobs (IsCounted most_jobs) default_jobs n) }
+    requires stands { HasText (texts others.now) Slot.Jobs
+        (first_value (found_of given.now) (id_of Slot.Jobs)) }
+    ensures value { IfOk result (λ n.
+        Sets (texts others.now) Slot.Jobs (IsCounted most_jobs) default_jobs n) }
     ensures bad { IsErrOf result WordsError.ValueText
         → Nothing (Sets (texts others.now) Slot.Jobs (IsCounted most_jobs) default_jobs) }
     ensures formed { ¬ IsErrOf result WordsError.Words }
@@ -165,7 +175,8 @@ fn jobs(others: &[String], given: &ArgMatches<'_>) -> Result<u32, WordsError>
 /// The stage whose text is written.
 fn stage(others: &[String], given: &ArgMatches<'_>) -> Result<Stage, WordsError>
     requires once { count_by (fills Slot.Plain) (texts others.now) ≤ 1 }
-    requires stands { HasText (texts others.now) Slot.Plain (first_value (found_of given.now) (id_of Slot.Plain)) }
+    requires stands { HasText (texts others.now) Slot.Plain
+        (first_value (found_of given.now) (id_of Slot.Plain)) }
     ensures value { IfOk result (λ stage. Tells (texts others.now) Slot.Plain IsStage stage) }
     ensures bad { IsErrOf result WordsError.ValueText
         → Nothing (Tells (texts others.now) Slot.Plain IsStage) }
@@ -178,7 +189,8 @@ fn stage(others: &[String], given: &ArgMatches<'_>) -> Result<Stage, WordsError>
 /// What the generator of a soak's text starts from.
 fn seed(others: &[String], given: &ArgMatches<'_>) -> Result<u64, WordsError>
     requires once { count_by (fills Slot.Seed) (texts others.now) ≤ 1 }
-    requires stands { HasText (texts others.now) Slot.Seed (first_value (found_of given.now) (id_of Slot.Seed)) }
+    requires stands { HasText (texts others.now) Slot.Seed
+        (first_value (found_of given.now) (id_of Slot.Seed)) }
     ensures value { IfOk result (λ n. Tells (texts others.now) Slot.Seed IsSeed n) }
     ensures bad { IsErrOf result WordsError.ValueText
         → Nothing (Tells (texts others.now) Slot.Seed IsSeed) }
@@ -191,7 +203,8 @@ fn seed(others: &[String], given: &ArgMatches<'_>) -> Result<u64, WordsError>
 /// How many functions a soak's text has.
 fn functions(others: &[String], given: &ArgMatches<'_>) -> Result<u32, WordsError>
     requires once { count_by (fills Slot.Functions) (texts others.now) ≤ 1 }
-    requires stands { HasText (texts others.now) Slot.Functions (first_value (found_of given.now) (id_of Slot.Functions)) }
+    requires stands { HasText (texts others.now) Slot.Functions
+        (first_value (found_of given.now) (id_of Slot.Functions)) }
     ensures value { IfOk result (λ n.
         Tells (texts others.now) Slot.Functions (IsCounted most_functions) n) }
     ensures bad { IsErrOf result WordsError.ValueText
@@ -207,7 +220,8 @@ fn soak(others: &[String], given: &ArgMatches<'_>) -> Result<Command, WordsError
     requires form { IsForm CommandWord.Soak (texts others.now) }
     requires stands { (slot : Slot) → Contains (slots_of CommandWord.Soak) slot
         → HasText (texts others.now) slot (first_value (found_of given.now) (id_of slot)) }
-    ensures value { IfOk result (λ command. Means (texts others.now) CommandWord.Soak (view command)) }
+    ensures value { IfOk result (λ command.
+        Means (texts others.now) CommandWord.Soak (view command)) }
     ensures bad { IsErrOf result WordsError.ValueText
         → Nothing (Means (texts others.now) CommandWord.Soak) }
     ensures formed { ¬ IsErrOf result WordsError.Words }
@@ -251,7 +265,8 @@ fn taken(
     others: &[String],
     matches: &ArgMatches<'_>,
 ) -> Result<Command, WordsError>
-    requires form { (command : CommandWord) × (texts words.now ≡ word_of command ∷ texts others.now) × IsForm command (texts others.now) }
+    requires form { (command : CommandWord) × (texts words.now ≡ word_of command ∷ texts others.now)
+        × IsForm command (texts others.now) }
     requires matches { subcommand_rows_of matches.now ≡ subcommand_of program (texts words.now) }
     ensures command { IfOk result (λ command. IsCommand (texts words.now) (view command)) }
     ensures bad { IsErrOf result WordsError.ValueText → Nothing (IsCommand (texts words.now)) }

@@ -73,7 +73,8 @@ pub fn selected_functions_keep()
 pub fn runs_are_ready()
     ensures { (lins : ℕ → Lin) (named : ℕ → NamedAt) (f : ℕ) (c : Place) → WellFormed (lins f) →
         (u : State) (i : Line) (next : List Line) →
-        IsReached State (linear_program lins named) f c u → u.rest ≡ i ∷ next → IsReadyFor i u.around }
+        IsReached State (linear_program lins named) f c u → u.rest ≡ i ∷ next →
+        IsReadyFor i u.around }
 {}
 
 /// Law: the stub of an image ends its runs: behind the return of the entry, or a raise that none has caught, two
@@ -81,9 +82,11 @@ pub fn runs_are_ready()
 pub fn stubs_end_runs()
     ensures { (file : FileTree) (image : Tables) (ps : List Pieces) (has : HasFunctions image)
         (bases : (stack : ℕ) → IsRoom stack → IsStackBase (stack_bottom - stack)) (laid : ℕ → Laid)
-        (entry : ℕ → ℕ) → IsLaidOut file ps image → data_end file ≡ data_start + length image.bytes →
+        (entry : ℕ → ℕ) → IsLaidOut file ps image →
+        data_end file ≡ data_start + length image.bytes →
         (run : Setup) (f : ℕ) → slice_get image.funcs f ≡ Some run.row →
-        IsStub Now (guarded_of run.schedule) seen run.stack run.heap (layout_of image) (data_end file)
+        IsStub Now (guarded_of run.schedule) seen run.stack run.heap (layout_of image)
+        (data_end file)
         run.row.result
         (λ d o x. Back image has bases laid entry (λ f. Nowhere) run nothing_below d o x) }
 {}

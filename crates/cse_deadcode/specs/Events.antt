@@ -1,4 +1,4 @@
--- What an instruction does to what operators before it computed.
+-- Operators by their ranks, and what an operator computes from its operands.
 use Rattle.std.specs.Prelude.{ℕ, ◌+◌, List, Option, Some, None, slice_get}
 use Rattle.std.specs.Option.{option_map}
 use Rattle.bs_words.specs.declared.operators.CmpOp.{CmpOp}

@@ -32,7 +32,8 @@ fn keep(
     after: usize,
     instr: Instr,
 ) -> Result<(), AllocError>
-    ensures { IfOk result (λ _. left.new ≡ cond (is_dead rows.now.rows.items after instr) [] (instr ∷ []) ++ left.old) }
+    ensures { IfOk result (λ _.
+        left.new ≡ cond (is_dead rows.now.rows.items after instr) [] (instr ∷ []) ++ left.old) }
 {
     if !is_dead(rows, after, &instr) {
         left.push(instr)?;
@@ -42,7 +43,8 @@ fn keep(
 
 /// The code that is left.
 fn drop_code(alloc: Global, rows: &Rows, code: Seq<Instr>) -> Result<Seq<Instr>, AllocError>
-    ensures { IfOk result (λ left. left ≡ expand (without (drops_by rows.now.rows.items code)) code) }
+    ensures { IfOk result (λ left.
+        left ≡ expand (without (drops_by rows.now.rows.items code)) code) }
 {
     let mut items = code.into_vec();
     let mut left = Backward::new(alloc);

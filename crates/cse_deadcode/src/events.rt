@@ -1,4 +1,4 @@
-//! What an instruction does to what operators before it computed.
+//! What an instruction does that counts for what operators before it computed, and an order of it.
 ghost use Rattle.std.specs.Prelude.{◌≡◌, refl, nat_eq, slice_get};
 ghost use Rattle.std.specs.Option.{option_map};
 ghost use Rattle.std.specs.Cmp.{partial_order_from_own_ties, unsigned_ties};
@@ -90,7 +90,8 @@ impl Ord for Operator {
 
     ghost matches_partial_cmp = { λ x y. refl };
 
-    ghost matches_eq = { λ x y. unsigned_ties (rank_of_operator x.operator) (rank_of_operator y.operator) };
+    ghost matches_eq = { λ x y.
+        unsigned_ties (rank_of_operator x.operator) (rank_of_operator y.operator) };
 
     fn cmp(&self, other: &Operator) -> Ordering {
         self.rank().cmp(&other.rank())

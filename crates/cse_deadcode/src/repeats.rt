@@ -3,7 +3,8 @@ ghost use Rattle.std.specs.Prelude.{◌≡◌, ◌∷◌, [], IfOk};
 ghost use Rattle.mach_ir.specs.Formed.{WellFormed};
 ghost use Rattle.repeat_rules.specs.Repeated.{from_earlier, IsRepeated};
 ghost use Rattle.cse_deadcode.specs.Times.{time_in};
-ghost use Rattle.cse_deadcode.specs.Repeats.{operands_stand, place_stands, value_stands, result_stands, stands, standing, standing_at, repeated, without_repeats};
+ghost use Rattle.cse_deadcode.specs.Repeats.{operands_stand, place_stands, value_stands, result_stands, stands};
+ghost use Rattle.cse_deadcode.specs.Repeats.{standing, standing_at, repeated, without_repeats};
 
 use crate::events::{Event, computation};
 use crate::times::Times;

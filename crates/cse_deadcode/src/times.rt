@@ -71,14 +71,16 @@ impl Times {
     }
 
     fn note(&mut self, event: Event, time: usize) -> Result<(), AllocError>
-        ensures { IfOk result (λ _. (e : Event) → time_in self.new e ≡ cond (is_same event e) time (time_in self.old e)) }
+        ensures { IfOk result (λ _. (e : Event) →
+            time_in self.new e ≡ cond (is_same event e) time (time_in self.old e)) }
     {
         self.times.insert(event, time)?;
         Ok(())
     }
 
     fn note_place(&mut self, place: Loc, time: usize) -> Result<(), AllocError>
-        ensures { IfOk result (λ _. (e : Event) → time_in self.new e ≡ cond (writes_place e place) time (time_in self.old e)) }
+        ensures { IfOk result (λ _. (e : Event) →
+            time_in self.new e ≡ cond (writes_place e place) time (time_in self.old e)) }
     {
         match place {
             Loc::Unset => Ok(()),
@@ -88,7 +90,8 @@ impl Times {
     }
 
     fn note_register(&mut self, reg: &Reg, time: usize) -> Result<(), AllocError>
-        ensures { IfOk result (λ _. (e : Event) → time_in self.new e ≡ cond (writes e reg.now) time (time_in self.old e)) }
+        ensures { IfOk result (λ _. (e : Event) →
+            time_in self.new e ≡ cond (writes e reg.now) time (time_in self.old e)) }
     {
         self.note(Event::Writes(reg.number), time)?;
         self.note(Event::WritesOrigin(reg.origin), time)?;
@@ -96,7 +99,8 @@ impl Times {
     }
 
     fn note_registers(&mut self, regs: &[Reg], time: usize) -> Result<(), AllocError>
-        ensures { IfOk result (λ _. (e : Event) → time_in self.new e ≡ cond (list_any (writes e) regs.now) time (time_in self.old e)) }
+        ensures { IfOk result (λ _. (e : Event) →
+            time_in self.new e ≡ cond (list_any (writes e) regs.now) time (time_in self.old e)) }
     {
         for reg in regs {
             self.note_register(reg, time)?;
@@ -105,7 +109,8 @@ impl Times {
     }
 
     fn note_op(&mut self, op: &MachOp, args: &[Reg], time: usize) -> Result<(), AllocError>
-        ensures { IfOk result (λ _. (e : Event) → time_in self.new e ≡ cond (does e op.now args.now) time (time_in self.old e)) }
+        ensures { IfOk result (λ _. (e : Event) →
+            time_in self.new e ≡ cond (does e op.now args.now) time (time_in self.old e)) }
     {
         match event_of(op, args) {
             None => Ok(()),
@@ -115,7 +120,8 @@ impl Times {
 
     /// Notes what the instruction does. After an error nothing is known of the times.
     pub fn note_instr(&mut self, instr: &Instr, time: usize) -> Result<(), AllocError>
-        ensures { IfOk result (λ _. (e : Event) → time_in self.new e ≡ cond (happens e instr.now) time (time_in self.old e)) }
+        ensures { IfOk result (λ _. (e : Event) →
+            time_in self.new e ≡ cond (happens e instr.now) time (time_in self.old e)) }
     {
         self.note_op(&instr.op, instr.args.as_slice(), time)?;
         self.note_registers(instr.results.as_slice(), time)

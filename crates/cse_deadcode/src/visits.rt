@@ -75,7 +75,9 @@ fn is_wanted(rows: &[Bits], next: &[u32], writes: &[u32]) -> bool
 
 /// Whether the place uses what it reads.
 fn is_user(place: &Place, computes: bool, rows: &[Bits]) -> bool
-    ensures { result ≡ (not computes || is_wanted (contents place.now.next) (contents place.now.writes) rows.now) }
+    ensures { result
+        ≡ (not computes
+        || is_wanted (contents place.now.next) (contents place.now.writes) rows.now) }
 {
     !computes || is_wanted(rows, place.next.as_slice(), place.writes.as_slice())
 }
@@ -97,7 +99,8 @@ fn add_rows(set: &mut Bits, rows: &[Bits], places: &[u32])
 fn take_out(set: &mut Bits, numbers: &[u32])
     requires { All (λ k. k < length set.old) numbers.now }
     ensures size { length set.new ≡ length set.old }
-    ensures members { (r : ℕ) → has set.new r ≡ (has set.old r && not (list_any (λ k. k == r) numbers.now)) }
+    ensures members { (r : ℕ) →
+        has set.new r ≡ (has set.old r && not (list_any (λ k. k == r) numbers.now)) }
 {
     for k in numbers {
         set.remove(*k);
@@ -108,7 +111,8 @@ fn take_out(set: &mut Bits, numbers: &[u32])
 fn put_in(set: &mut Bits, numbers: &[u32])
     requires { All (λ k. k < length set.old) numbers.now }
     ensures size { length set.new ≡ length set.old }
-    ensures members { (r : ℕ) → has set.new r ≡ (has set.old r || list_any (λ k. k == r) numbers.now) }
+    ensures members { (r : ℕ) →
+        has set.new r ≡ (has set.old r || list_any (λ k. k == r) numbers.now) }
 {
     for k in numbers {
         set.insert(*k);
@@ -119,7 +123,8 @@ fn put_in(set: &mut Bits, numbers: &[u32])
 fn put_in_if(set: &mut Bits, numbers: &[u32], told: bool)
     requires { All (λ k. k < length set.old) numbers.now }
     ensures size { length set.new ≡ length set.old }
-    ensures members { (r : ℕ) → has set.new r ≡ (has set.old r || (told && list_any (λ k. k == r) numbers.now)) }
+    ensures members { (r : ℕ) →
+        has set.new r ≡ (has set.old r || (told && list_any (λ k. k == r) numbers.now)) }
 {
     if told {
         put_in(set, numbers);

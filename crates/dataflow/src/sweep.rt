@@ -28,7 +28,8 @@ fn add_rows(set: &mut Bits, rows: &[Bits], places: &[u32])
 pub(crate) fn take_out(set: &mut Bits, numbers: &[u32])
     requires { All (λ k. k < length set.old) numbers.now }
     ensures size { length set.new ≡ length set.old }
-    ensures members { (r : ℕ) → has set.new r ≡ (has set.old r && not (list_any (λ k. k == r) numbers.now)) }
+    ensures members { (r : ℕ) →
+        has set.new r ≡ (has set.old r && not (list_any (λ k. k == r) numbers.now)) }
 {
     for k in numbers {
         set.remove(*k);
@@ -39,7 +40,8 @@ pub(crate) fn take_out(set: &mut Bits, numbers: &[u32])
 pub(crate) fn put_in(set: &mut Bits, numbers: &[u32])
     requires { All (λ k. k < length set.old) numbers.now }
     ensures size { length set.new ≡ length set.old }
-    ensures members { (r : ℕ) → has set.new r ≡ (has set.old r || list_any (λ k. k == r) numbers.now) }
+    ensures members { (r : ℕ) →
+        has set.new r ≡ (has set.old r || list_any (λ k. k == r) numbers.now) }
 {
     for k in numbers {
         set.insert(*k);

@@ -128,7 +128,8 @@ impl ExternalRows {
 
     #[cycle(walk)]
     fn walk_bindings(&mut self, alloc: Global, bindings: &[Binding]) -> Result<(), AllocError>
-        ensures { OnOk result (self.new ≡ firsts_behind self.old (calls_among_bindings bindings.now)) }
+        ensures { OnOk result (self.new
+            ≡ firsts_behind self.old (calls_among_bindings bindings.now)) }
     {
         for binding in bindings {
             self.walk(alloc, &binding.value)?;
@@ -148,7 +149,8 @@ impl ExternalRows {
 
     #[cycle(walk)]
     fn walk_handlers(&mut self, alloc: Global, handlers: &[Handler]) -> Result<(), AllocError>
-        ensures { OnOk result (self.new ≡ firsts_behind self.old (calls_among_handlers handlers.now)) }
+        ensures { OnOk result (self.new
+            ≡ firsts_behind self.old (calls_among_handlers handlers.now)) }
     {
         for handler in handlers {
             self.walk(alloc, &handler.body)?;
@@ -157,7 +159,8 @@ impl ExternalRows {
     }
 
     fn walk_item(&mut self, alloc: Global, item: &Item) -> Result<(), AllocError>
-        ensures { OnOk result (self.new ≡ firsts_behind self.old (calls_among_items (item.now ∷ []))) }
+        ensures { OnOk result (self.new
+            ≡ firsts_behind self.old (calls_among_items (item.now ∷ []))) }
     {
         match item {
             Item::Function(function) => self.walk(alloc, &function.body),

@@ -39,7 +39,8 @@ fn functions_of(alloc: Global, items: &[Item]) -> Result<Vec<&Function>, AllocEr
     requires { AreItemsAnnotated items.now }
     ensures trees { IfOk result (λ functions. map (λ f. function_view f.now) functions.items ≡
         functions_among (map item_view items.now)) }
-    ensures typed { IfOk result (λ functions. All (λ f. IsFunctionAnnotated f.now) functions.items) }
+    ensures typed { IfOk result (λ functions.
+        All (λ f. IsFunctionAnnotated f.now) functions.items) }
 {
     let mut functions = Vec::new(alloc);
     for item in items {
@@ -118,12 +119,14 @@ pub fn compile<R: Threads + Sync, G: Gate + Sync>(
     requires typed { HoldsTypes (typed_of checked.now) }
     requires placed { HasPlace (typed_of checked.now) }
     requires accepted { IsAcceptedFile (tree_of (typed_of checked.now)) }
-    ensures made { IfOk result (λ image. IsMadeFor (tree_of (typed_of checked.now)) (tables image)) }
+    ensures made { IfOk result (λ image.
+        IsMadeFor (tree_of (typed_of checked.now)) (tables image)) }
     ensures is_image { IfOk result IsImage }
     ensures fits { IfOk result (λ image. first_too_large (tables image) ≡ None) }
     ensures large { (large : Large)
         → result ≡ Err (BuildError.TooLarge large)
-        → (t : Tables) × (IsMadeFor (tree_of (typed_of checked.now)) t × (first_too_large t ≡ Some large)) }
+        → (t : Tables)
+        × (IsMadeFor (tree_of (typed_of checked.now)) t × (first_too_large t ≡ Some large)) }
 {
     let file = checked.typed().file();
     let functions = functions_of(alloc, file.items.as_slice())?;
@@ -180,10 +183,12 @@ pub fn stage<R: Threads + Sync>(
     requires accepted { IsAcceptedFile (tree_of (typed_of checked.now)) }
     ensures text { IfOk result (λ text.
         IsStageText (tree_of (typed_of checked.now)) stage (contents text)) }
-    ensures of_image { (large : Large) → result ≡ Err (BuildError.TooLarge large) → IsOfImage stage }
+    ensures of_image { (large : Large) → result ≡ Err (BuildError.TooLarge large) →
+        IsOfImage stage }
     ensures large { (large : Large)
         → result ≡ Err (BuildError.TooLarge large)
-        → (t : Tables) × (IsMadeFor (tree_of (typed_of checked.now)) t × (first_too_large t ≡ Some large)) }
+        → (t : Tables)
+        × (IsMadeFor (tree_of (typed_of checked.now)) t × (first_too_large t ≡ Some large)) }
 {
     match stage {
         Stage::Select => Ok(functions_text(alloc, checked, Stage::Select)?),

@@ -24,11 +24,14 @@ pub fn files_are_made_once()
 /// Law: the image that is made for the file of an accepted text is correct for it and bounded by it, it asks for an
 /// allocation only where s10 is below the limit word, and each of its descriptors is exact.
 pub fn made_images_are_right()
-    ensures correct { (text : List ℕ) (file : FileTree) → IsFileOf text file → All (λ b. b < 256) text →
+    ensures correct { (text : List ℕ) (file : FileTree) → IsFileOf text file →
+        All (λ b. b < 256) text →
         (image : Tables) → AreTables image → IsMadeFor file image → IsCorrect file image }
-    ensures in_need { (text : List ℕ) (file : FileTree) → IsFileOf text file → All (λ b. b < 256) text →
+    ensures in_need { (text : List ℕ) (file : FileTree) → IsFileOf text file →
+        All (λ b. b < 256) text →
         (image : Tables) → AreTables image → IsMadeFor file image → AsksInNeed file image }
-    ensures bounded { (text : List ℕ) (file : FileTree) → IsFileOf text file → All (λ b. b < 256) text →
+    ensures bounded { (text : List ℕ) (file : FileTree) → IsFileOf text file →
+        All (λ b. b < 256) text →
         (image : Tables) → IsMadeFor file image → IsBounded file image }
     ensures exact { (text : List ℕ) (file : FileTree) → IsFileOf text file → (image : Tables) →
         IsMadeFor file image → IsExact file image }
@@ -36,6 +39,7 @@ pub fn made_images_are_right()
 
 /// Law: no section of the image of a roomy file passes its limit.
 pub fn roomy_files_fit()
-    ensures { (text : List ℕ) (file : FileTree) → IsFileOf text file → All (λ b. b < 256) text → (image : Tables) →
+    ensures { (text : List ℕ) (file : FileTree) → IsFileOf text file → All (λ b. b < 256) text →
+        (image : Tables) →
         IsMadeFor file image → IsRoomy file → first_too_large image ≡ None }
 {}

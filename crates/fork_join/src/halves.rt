@@ -55,12 +55,14 @@ fn halves<R: Threads + Sync, X: Send + Drop, F: Fn(u32) -> Result<X, AllocError>
     let front = move || -> Result<Vec<X>, AllocError>
         requires { IsSync R.row × IsSync F.row × IsSend X.row × (1 ≤ few)
             × (from + low < 2 ^ 32) × ((i : ℕ) → from ≤ i → i < from + low → F.pre f.now i) }
-        ensures { IfOk result (λ all. AreGiven (λ i x. F.post f.entry.now i (Ok x)) from low all.items) }
+        ensures { IfOk result (λ all.
+            AreGiven (λ i x. F.post f.entry.now i (Ok x)) from low all.items) }
     { halves(rt, alloc, from, low, few, f) };
     let back = move || -> Result<Vec<X>, AllocError>
         requires { IsSync R.row × IsSync F.row × IsSend X.row × (1 ≤ rest)
             × (up + high < 2 ^ 32) × ((i : ℕ) → up ≤ i → i < up + high → F.pre f.now i) }
-        ensures { IfOk result (λ all. AreGiven (λ i x. F.post f.entry.now i (Ok x)) up high all.items) }
+        ensures { IfOk result (λ all.
+            AreGiven (λ i x. F.post f.entry.now i (Ok x)) up high all.items) }
     { halves(rt, alloc, up, high, rest, f) };
     let (a, b) = join(rt, front, back);
     let mut all = a?;

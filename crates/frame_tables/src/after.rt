@@ -87,7 +87,8 @@ fn gather_from(
     aside: bool,
     number: u32,
 ) -> Result<(), AllocError>
-    ensures { IfOk result (λ _. Gathers search.now nodes.now choice aside number numbers.old.items numbers.new.items) }
+    ensures { IfOk result (λ _.
+        Gathers search.now nodes.now choice aside number numbers.old.items numbers.new.items) }
 {
     if is_chosen(search, number, choice) {
         match node_numbered(nodes, number) {
@@ -120,7 +121,8 @@ fn gather(
 
 /// How many traps are pushed at the position with the number.
 fn traps_of(search: &Search, number: u32) -> usize
-    ensures { (x : Position) → slice_get (all_of search.now) number ≡ Some x → result ≡ length x.tries }
+    ensures { (x : Position) → slice_get (all_of search.now) number ≡ Some x →
+        result ≡ length x.tries }
 {
     match search.position_at(number) {
         None => 0,
@@ -193,7 +195,8 @@ pub fn enter_points(
 ) -> Result<(), AllocError>
     requires lines { length lin.now.code < 4294967296 }
     requires groups { length (groups_of search.old) ≡ suc (length lin.now.code) }
-    ensures { IfOk result (λ _. HasRoots lin.now search.old search.new reached (length lin.now.code)) }
+    ensures { IfOk result (λ _.
+        HasRoots lin.now search.old search.new reached (length lin.now.code)) }
 {
     let code = lin.code.as_slice();
     for place in 0..code.len() as u32 {

@@ -34,7 +34,8 @@ fn push_entry(
     traps: u32,
 ) -> Result<(), AllocError>
     requires { 8 * number + 16 * traps < 2 ^ 32 }
-    ensures { IfOk result (λ _. entries.new.items ≡ entries.old.items ++ entry_if member (entry_of traps number)) }
+    ensures { IfOk result (λ _.
+        entries.new.items ≡ entries.old.items ++ entry_if member (entry_of traps number)) }
 {
     if !member {
         return Ok(());

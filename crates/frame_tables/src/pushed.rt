@@ -14,7 +14,8 @@ use std::alloc::{AllocError, Global};
 fn table_of(alloc: Global, lin: &Lin, positions: &[Position]) -> Result<Vec<u32>, AllocError>
     requires depth { OneDepth lin.now }
     requires walked { AreWalkedTo lin.now positions.now }
-    ensures { IfOk result (λ traps. AreTabled lin.now positions.now (length positions.now) traps.items) }
+    ensures { IfOk result (λ traps.
+        AreTabled lin.now positions.now (length positions.now) traps.items) }
 {
     let lines = lin.code.len();
     let mut traps = vec![in alloc; 0; lines]?;

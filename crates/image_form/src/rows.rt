@@ -91,8 +91,10 @@ fn func_from<'a>(
     bytes: &'a [u8],
 ) -> Result<(FuncRow, &'a [u8]), Stop>
     requires { Holds seen.old (func_names (map func before.now)) }
-    ensures gives { Gives (λ x. (func x.0, x.1.now)) result (func_at (map func before.now) bytes.now) }
-    ensures seen { IfOk result (λ x. Holds seen.new (func_names (map func before.now) ++ x.0.name ∷ [])) }
+    ensures gives { Gives (λ x.
+        (func x.0, x.1.now)) result (func_at (map func before.now) bytes.now) }
+    ensures seen { IfOk result (λ x.
+        Holds seen.new (func_names (map func before.now) ++ x.0.name ∷ [])) }
 {
     let (name, rest) = new_name_from(alloc, seen, bytes)?;
     let (offset, rest) = func_offset_from(before, rest)?;
@@ -118,7 +120,8 @@ fn funcs_from<'a>(
     bytes: &'a [u8],
 ) -> Result<(Vec<FuncRow>, &'a [u8]), Stop>
     requires { Holds seen.old [] }
-    ensures gives { Gives (λ x. (map func x.0.items, x.1.now)) result (rows_at func_at [] count bytes.now) }
+    ensures gives { Gives (λ x.
+        (map func x.0.items, x.1.now)) result (rows_at func_at [] count bytes.now) }
     ensures seen { IfOk result (λ x. Holds seen.new (func_names (map func x.0.items))) }
 {
     let mut rows = Vec::new(alloc);
@@ -147,7 +150,8 @@ pub(crate) fn func_table(alloc: Global, seen: &mut Seen, body: &[u8]) -> Result<
 }
 
 fn numbers_from(alloc: Global, count: usize, bytes: &[u8]) -> Result<(Vec<u32>, &[u8]), Stop>
-    ensures { Gives (λ x. (x.0.items, x.1.now)) result (rows_at (λ _. number_at w32) [] count bytes.now) }
+    ensures { Gives (λ x.
+        (x.0.items, x.1.now)) result (rows_at (λ _. number_at w32) [] count bytes.now) }
 {
     let mut numbers = Vec::new(alloc);
     let mut rest = bytes;
@@ -184,7 +188,8 @@ fn sym_offset_from<'a>(
     before: &[SymRow],
     bytes: &'a [u8],
 ) -> Result<(u32, &'a [u8]), Stop>
-    ensures { Gives (λ x. (x.0, x.1.now)) result (sym_offset_at data_len (map sym before.now) bytes.now) }
+    ensures { Gives (λ x.
+        (x.0, x.1.now)) result (sym_offset_at data_len (map sym before.now) bytes.now) }
 {
     let (offset, rest) = u32_from(bytes)?;
     if offset as usize > data_len || !falls_not(before, offset) {
@@ -296,7 +301,8 @@ fn roots_from(
     count: u32,
     bytes: &[u8],
 ) -> Result<(Vec<u32>, &[u8]), Stop>
-    ensures { Gives (λ x. (x.0.items, x.1.now)) result (rows_at (root_at data_len) [] count bytes.now) }
+    ensures { Gives (λ x.
+        (x.0.items, x.1.now)) result (rows_at (root_at data_len) [] count bytes.now) }
 {
     let mut rows = Vec::new(alloc);
     let mut rest = bytes;
@@ -464,7 +470,8 @@ fn after_from<'a>(
     before: &[DescRow],
     bytes: &'a [u8],
 ) -> Result<(u32, &'a [u8]), Stop>
-    ensures { Gives (λ x. (x.0, x.1.now)) result (after_at code_len (map desc before.now) bytes.now) }
+    ensures { Gives (λ x.
+        (x.0, x.1.now)) result (after_at code_len (map desc before.now) bytes.now) }
 {
     let (offset, rest) = u32_from(bytes)?;
     if !is_return(code_len, offset) || !returns_behind(before, offset) {
@@ -535,7 +542,8 @@ pub(crate) fn desc_table(
     code_len: usize,
     body: &[u8],
 ) -> Result<Vec<DescRow>, Stop>
-    ensures { Gives (λ rows. map desc rows.items) result (table_at (desc_at version code_len) body.now) }
+    ensures { Gives (λ rows.
+        map desc rows.items) result (table_at (desc_at version code_len) body.now) }
 {
     let (count, rest) = u32_from(body)?;
     let (rows, rest) = descs_from(alloc, version, code_len, count, rest)?;

@@ -148,7 +148,8 @@ pub(crate) fn ext_text(alloc: Global, row: &ExtRow) -> Result<Vec<u8>, AllocErro
 
 fn put_entries(out: &mut Vec<u8>, version: u32, entries: &[u32]) -> Result<(), AllocError>
     requires { AllByRecursion (λ e. e < entry_limit version) entries.now }
-    ensures { OnOk result (out.new.items ≡ out.old.items ++ flat_map (le_entry version) entries.now) }
+    ensures { OnOk result (out.new.items
+        ≡ out.old.items ++ flat_map (le_entry version) entries.now) }
 {
     for entry in entries {
         put_wide(out, version, *entry)?;
@@ -239,7 +240,8 @@ fn ext_table(alloc: Global, rows: &[ExtRow]) -> Result<Vec<u8>, AllocError>
 fn desc_table(alloc: Global, version: u32, rows: &[DescRow]) -> Result<Vec<u8>, AllocError>
     requires few { length rows.now < 2 ^ 32 }
     requires each { (limit : ℕ) × AllByRecursion (IsDesc version limit) (map desc rows.now) }
-    ensures { IfOk result (λ body. body.items ≡ table_bytes (desc_bytes version) (map desc rows.now)) }
+    ensures { IfOk result (λ body.
+        body.items ≡ table_bytes (desc_bytes version) (map desc rows.now)) }
 {
     let mut out = Vec::new(alloc);
     put_u32(&mut out, rows.len() as u32)?;

@@ -26,7 +26,8 @@ pub fn frames_text(alloc: Global, image: &Image) -> Result<List<u8>, AllocError>
 }
 
 fn put_lines(page: &mut Page, rows: &[DescRow]) -> Result<(), AllocError>
-    requires { (version : ℕ) × (limit : ℕ) × AllByRecursion (IsDesc version limit) (map desc rows.now)
+    requires { (version : ℕ) × (limit : ℕ)
+        × AllByRecursion (IsDesc version limit) (map desc rows.now)
         × limit < 2 ^ 31 }
     ensures { IfOk result (λ _. Adds page.old page.new (flat_map desc_line (map desc rows.now))) }
 {

@@ -48,7 +48,8 @@ fn join_set(
 ) -> Result<(), AllocError>
     requires numbers { All (λ n. n < length joined.old) numbers.now }
     requires set { (k : ℕ) → has set.now k ≡ true → k < length joined.old }
-    ensures { IfOk result (λ _. Adds joined.old joined.new (ForOne (MeetsSet moved set.now) numbers.now)) }
+    ensures { IfOk result (λ _.
+        Adds joined.old joined.new (ForOne (MeetsSet moved set.now) numbers.now)) }
 {
     if numbers.is_empty() {
         return Ok(());
@@ -73,7 +74,8 @@ fn join_writes(
     requires live { AreBelow (length joined.old) live.now.before.rows.items }
     requires places { All (λ q. q < length live.now.before.rows.items) (contents node.now.next) }
     ensures { IfOk result (λ _. Adds joined.old joined.new
-        (MeetsPlaces moved live.now.before.rows.items (contents node.now.writes) (contents node.now.next))) }
+        (MeetsPlaces moved live.now.before.rows.items (contents node.now.writes)
+        (contents node.now.next))) }
 {
     let numbers = node.writes.as_slice();
     for place in node.next.as_slice() {

@@ -61,7 +61,8 @@ fn add_move(table: &mut Vec<Partners>, moved: Option<Move>) -> Result<(), AllocE
 pub fn partners_of(alloc: Global, code: &[Instr], size: u32) -> Result<Vec<Partners>, AllocError>
     requires { (r : Reg) → InCode r code.now → r.number < size }
     ensures len { IfOk result (λ table. length table.items ≡ size) }
-    ensures moves { IfOk result (λ table. (n : ℕ) → partners_in table.items n ≡ moves_of n code.now) }
+    ensures moves { IfOk result (λ table. (n : ℕ) →
+        partners_in table.items n ≡ moves_of n code.now) }
 {
     let mut table = no_partners(alloc, size)?;
     for instr in code {

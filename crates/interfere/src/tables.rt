@@ -106,7 +106,8 @@ impl Tables {
     /// The nodes of all registers, by rising number.
     pub fn nodes(&self, alloc: Global) -> Result<Vec<Node>, AllocError>
         requires { AreByNumber self.now }
-        ensures { IfOk result (λ nodes. AreNodesBelow self.now (length self.now.registers.items) nodes.items) }
+        ensures { IfOk result (λ nodes.
+            AreNodesBelow self.now (length self.now.registers.items) nodes.items) }
     {
         let mut nodes = Vec::new(alloc);
         for number in 0..self.registers.len() {

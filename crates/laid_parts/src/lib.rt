@@ -36,7 +36,8 @@ pub fn parts_name_registers()
 /// ones; or the line moves a location to itself, and its part is empty. The return address, where the function is
 /// left, and the trap that a line pushes or pops are not compared.
 pub fn parts_name_slots()
-    ensures { (m : Lin) → WellFormed m → Seated m → IsWithin m → (i : Line) (next : List Line) (tries : List ℕ) →
+    ensures { (m : Lin) → WellFormed m → Seated m → IsWithin m →
+        (i : Line) (next : List Line) (tries : List ℕ) →
         Contains m.code i → Traps m (i ∷ next) tries → (d : Option Descr) →
         CarriesSlots (frame_of m) (length tries) i (part_of (length tries) (frame_of m) d i) }
 {}
@@ -44,7 +45,8 @@ pub fn parts_name_slots()
 /// Law: emitted pieces, with a descriptor for each frame point that is no tail call, are laid out as their Linear
 /// function.
 pub fn pieces_are_laid_out()
-    ensures { (m : Lin) → WellFormed m → Seated m → IsWithin m → (ds : List Descr) (pieces : Pieces) →
+    ensures { (m : Lin) → WellFormed m → Seated m → IsWithin m →
+        (ds : List Descr) (pieces : Pieces) →
         length ds ≡ frame_points m.code → IsEmitted m ds pieces → IsLaidOutAs m ds pieces }
 {}
 
@@ -55,6 +57,7 @@ pub fn pieces_are_laid_out()
 /// words decode to these instructions.
 pub fn words_name_registers()
     ensures names { (at to : ℕ) (p : Piece) (form : Form) → NamesAs p (code_to at to p form) }
-    ensures decode { (at to : ℕ) (p : Piece) (form : Form) → PieceFits p → at % 4 ≡ 0 → at + 4 < 2 ^ 32 →
+    ensures decode { (at to : ℕ) (p : Piece) (form : Form) → PieceFits p → at % 4 ≡ 0 →
+        at + 4 < 2 ^ 32 →
         LeadsTo to p → Decodes (map encoded (code_to at to p form)) (code_to at to p form) }
 {}

@@ -100,7 +100,8 @@ fn two_places(alloc: Global, first: u32, second: u32) -> Result<Vec<u32>, AllocE
 }
 
 fn places_of_labels(alloc: Global, labels: &Labels, among: &[u32]) -> Result<Vec<u32>, AllocError>
-    ensures { IfOk result (λ places. (p : ℕ) → places.items ≡ map (place_to labels.now p) (map At among.now)) }
+    ensures { IfOk result (λ places. (p : ℕ) →
+        places.items ≡ map (place_to labels.now p) (map At among.now)) }
 {
     let mut places = Vec::new(alloc);
     for label in among {
@@ -127,7 +128,8 @@ fn places_after_flow(
     place: u32,
 ) -> Result<Vec<u32>, AllocError>
     requires { suc place < 2 ^ 32 }
-    ensures { IfOk result (λ places. places.items ≡ map (place_to labels.now place) (targets (LinOp.Flow flow.now))) }
+    ensures { IfOk result (λ places.
+        places.items ≡ map (place_to labels.now place) (targets (LinOp.Flow flow.now))) }
 {
     match flow {
         Flow::Label(_) => one_place(alloc, place + 1),
@@ -152,7 +154,8 @@ pub fn places_after(
     place: u32,
 ) -> Result<Vec<u32>, AllocError>
     requires { suc place < 2 ^ 32 }
-    ensures { IfOk result (λ places. places.items ≡ map (place_to labels.now place) (targets op.now)) }
+    ensures { IfOk result (λ places.
+        places.items ≡ map (place_to labels.now place) (targets op.now)) }
 {
     match op {
         LinOp::Op(op) => places_after_op(alloc, op, place),

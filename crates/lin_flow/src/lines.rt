@@ -57,7 +57,8 @@ pub fn reads_of(alloc: Global, args: &[Spot]) -> Result<List<u32>, AllocError>
 }
 
 fn push_all(numbers: &mut Vec<u32>, spots: &[Spot]) -> Result<(), AllocError>
-    ensures { IfOk result (λ _. numbers.new.items ≡ numbers.old.items ++ map (λ s. number_in s.loc) spots.now) }
+    ensures { IfOk result (λ _.
+        numbers.new.items ≡ numbers.old.items ++ map (λ s. number_in s.loc) spots.now) }
 {
     for spot in spots {
         let number = number_of(spot.loc)?;
@@ -93,7 +94,8 @@ fn push_temporaries(numbers: &mut Vec<u32>) -> Result<(), AllocError>
 }
 
 fn push_destroyed_by_call(numbers: &mut Vec<u32>, calling: &Calling) -> Result<(), AllocError>
-    ensures { IfOk result (λ _. numbers.new.items ≡ numbers.old.items ++ destroyed_numbers (destroyed
+    ensures { IfOk result (λ _.
+        numbers.new.items ≡ numbers.old.items ++ destroyed_numbers (destroyed
         (Op.Calling calling.now))) }
 {
     match calling {
@@ -104,7 +106,8 @@ fn push_destroyed_by_call(numbers: &mut Vec<u32>, calling: &Calling) -> Result<(
 }
 
 fn push_destroyed_by_op(numbers: &mut Vec<u32>, op: &Op) -> Result<(), AllocError>
-    ensures { IfOk result (λ _. numbers.new.items ≡ numbers.old.items ++ destroyed_numbers (destroyed
+    ensures { IfOk result (λ _.
+        numbers.new.items ≡ numbers.old.items ++ destroyed_numbers (destroyed
         op.now)) }
 {
     match op {

@@ -56,7 +56,8 @@ pub fn live_walks(alloc: Global, lin: &Lin) -> Result<LiveWalks, AllocError>
 impl LiveWalks {
     /// Whether some walk comes to the place.
     pub fn is_reached(&self, place: u32) -> bool
-        ensures { (m : Lin) → AreLive m self.now → place < length m.code → IsTrue result ↔ IsReachedAt m place }
+        ensures { (m : Lin) → AreLive m self.now → place < length m.code →
+            IsTrue result ↔ IsReachedAt m place }
     {
         self.search.has_first(place, self.reached)
     }
@@ -90,7 +91,8 @@ impl LiveWalks {
     /// Whether some walk comes to the line at the place and goes on to where the location of the
     /// number is live as val.
     pub fn is_live_after(&self, place: u32, number: u32) -> bool
-        ensures { (m : Lin) → AreLive m self.now → IsTrue result ↔ IsReadAfter m place (loc_of number) }
+        ensures { (m : Lin) → AreLive m self.now →
+            IsTrue result ↔ IsReadAfter m place (loc_of number) }
     {
         for position in self.search.members(place) {
             if self.is_live_after_position(*position, place, number) {

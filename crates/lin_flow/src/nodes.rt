@@ -30,7 +30,8 @@ fn enter_innermost(
     tries: &[u32],
 ) -> Result<Vec<u32>, AllocError>
     requires { (l : ℕ) → place_in labels.now l < length (groups_of search.old) }
-    ensures { IfOk result (λ numbers. Landed search.old search.new (landing_to labels.now true tries.now) numbers.items) }
+    ensures { IfOk result (λ numbers.
+        Landed search.old search.new (landing_to labels.now true tries.now) numbers.items) }
 {
     let mut numbers = Vec::new(alloc);
     match tries {
@@ -52,7 +53,8 @@ fn enter_handler(
     tries: &[u32],
 ) -> Result<Vec<u32>, AllocError>
     requires { (l : ℕ) → place_in labels.now l < length (groups_of search.old) }
-    ensures { IfOk result (λ numbers. Landed search.old search.new (landing_to labels.now raises tries.now) numbers.items) }
+    ensures { IfOk result (λ numbers.
+        Landed search.old search.new (landing_to labels.now raises tries.now) numbers.items) }
 {
     if raises {
         enter_innermost(alloc, labels, search, tries)
@@ -73,7 +75,8 @@ fn node_of_line(
     requires labels { (l : ℕ) → place_in labels.now l < length (groups_of search.old) }
     requires next { suc place < length (groups_of search.old) }
     requires small { length (groups_of search.old) ≤ 4294967296 }
-    ensures { IfOk result (λ node. IsNodeOfLine labels.now search.old search.new line.now place tries.now node) }
+    ensures { IfOk result (λ node.
+        IsNodeOfLine labels.now search.old search.new line.now place tries.now node) }
 {
     let after = tries_after(alloc, &line.op, tries)?;
     let places = places_after(alloc, labels, &line.op, place)?;
@@ -100,7 +103,8 @@ fn node_at(
 ) -> Result<Place, AllocError>
     requires text { IsText lin.now labels.now }
     requires groups { length (groups_of search.old) ≡ suc (length lin.now.code) }
-    ensures { IfOk result (λ node. (number : ℕ) → slice_get (all_of search.old) number ≡ Some position.now →
+    ensures { IfOk result (λ node. (number : ℕ) →
+        slice_get (all_of search.old) number ≡ Some position.now →
         Visited lin.now search.old search.new number node) }
 {
     match lin.code.get(position.place as usize) {

@@ -91,7 +91,8 @@ impl Search {
 
     /// Whether the number is that of the position.
     fn is_at(&self, number: u32, place: u32, tries: &[u32]) -> bool
-        ensures { IsTrue result → slice_get (all_of self.now) number ≡ Some (position place tries.now) }
+        ensures { IsTrue result →
+            slice_get (all_of self.now) number ≡ Some (position place tries.now) }
     {
         match self.position_at(number) {
             None => false,
@@ -101,7 +102,8 @@ impl Search {
 
     /// The number of the position, if it has one.
     fn find(&self, place: u32, tries: &[u32]) -> Option<u32>
-        ensures { IfSome result (λ number. slice_get (all_of self.now) number ≡ Some (position place tries.now)) }
+        ensures { IfSome result (λ number.
+            slice_get (all_of self.now) number ≡ Some (position place tries.now)) }
     {
         for number in self.members(place) {
             if self.is_at(*number, place, tries) {
@@ -114,7 +116,8 @@ impl Search {
     /// Gives the position a number of its own.
     fn add(&mut self, alloc: Global, place: u32, tries: &[u32]) -> Result<u32, AllocError>
         requires { place < length (groups_of self.old) }
-        ensures { IfOk result (λ number. Entered self.old self.new (position place tries.now) number) }
+        ensures { IfOk result (λ number.
+            Entered self.old self.new (position place tries.now) number) }
     {
         let count = self.positions.len();
         let number = number_after(count)?;
@@ -127,7 +130,8 @@ impl Search {
     /// The number of the position, a new one if it has none yet.
     pub fn enter(&mut self, alloc: Global, place: u32, tries: &[u32]) -> Result<u32, AllocError>
         requires { place < length (groups_of self.old) }
-        ensures { IfOk result (λ number. Entered self.old self.new (position place tries.now) number) }
+        ensures { IfOk result (λ number.
+            Entered self.old self.new (position place tries.now) number) }
     {
         if let Some(number) = self.find(place, tries) {
             return Ok(number);
@@ -143,7 +147,8 @@ impl Search {
         tries: &[u32],
     ) -> Result<Vec<u32>, AllocError>
         requires { All (λ p. p < length (groups_of self.old)) places.now }
-        ensures grown { IfOk result (λ _. Grown self.old self.new (map (λ p. position p tries.now) places.now)) }
+        ensures grown { IfOk result (λ _.
+            Grown self.old self.new (map (λ p. position p tries.now) places.now)) }
         ensures numbers { IfOk result (λ numbers. AreNumbersOf (all_of self.new) numbers.items
             (map (λ p. position p tries.now) places.now)) }
     {

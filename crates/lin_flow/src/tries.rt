@@ -7,6 +7,7 @@ use lin_ir::{Flow, LinOp};
 use mach_ir::Seq;
 use std::alloc::{AllocError, Global};
 
+/// A copy of the labels of open tries. The only error is want of memory.
 pub fn copy_of(alloc: Global, tries: &[u32]) -> Result<Seq<u32>, AllocError>
     ensures { IfOk result (λ copy. copy ≡ tries.now) }
 {

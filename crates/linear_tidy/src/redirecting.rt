@@ -74,7 +74,8 @@ impl Targets {
 
     /// Enters where jumps to the label go.
     fn put(&mut self, label: u32, target: u32) -> Result<(), AllocError>
-        ensures { IfOk result (λ _. (l : ℕ) → target_in self.new l ≡ cond (nat_eq label l) target (target_in self.old l)) }
+        ensures { IfOk result (λ _. (l : ℕ) →
+            target_in self.new l ≡ cond (nat_eq label l) target (target_in self.old l)) }
     {
         self.targets.insert(label, target)?;
         Ok(())

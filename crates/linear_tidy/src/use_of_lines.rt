@@ -17,7 +17,8 @@ use std::alloc::{AllocError, Global};
 /// Whether only labels stand from the one place to the other.
 fn labels_between(code: &[Line], from: usize, to: usize) -> bool
     requires { to ≤ length code.now }
-    ensures { from ≤ length code.now → IsTrue result ↔ LabelsBetween (drop from code.now) (drop to code.now) }
+    ensures { from ≤ length code.now →
+        IsTrue result ↔ LabelsBetween (drop from code.now) (drop to code.now) }
 {
     if to < from {
         return false;

@@ -23,7 +23,8 @@ ghost use Rattle.selection_rules.specs.Bounded.{BoundedDoing};
 /// Law: where Linear functions keep what is selected of a file, they do what its functions do.
 pub fn stages_compose()
     ensures { (file : FileTree) (layout : Layout) (most : ℕ) (machs : ℕ → Mach) (lins : ℕ → Lin)
-        (named : ℕ → NamedAt) → IsSelected file layout machs most → AreLowered file machs lins named →
+        (named : ℕ → NamedAt) → IsSelected file layout machs most →
+        AreLowered file machs lins named →
         Keeps State (linear_program lins named) file layout most IsGivenWords BoundedDoing }
 {}
 

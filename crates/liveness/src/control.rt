@@ -101,7 +101,8 @@ fn two_places(alloc: Global, first: u32, second: u32) -> Result<Vec<u32>, AllocE
 }
 
 fn places_of_labels(alloc: Global, labels: &Labels, among: &[u32]) -> Result<Vec<u32>, AllocError>
-    ensures { IfOk result (λ places. (p : ℕ) → places.items ≡ map (place_to labels.now p) (map At among.now)) }
+    ensures { IfOk result (λ places. (p : ℕ) →
+        places.items ≡ map (place_to labels.now p) (map At among.now)) }
 {
     let mut places = Vec::new(alloc);
     for label in among {
@@ -128,7 +129,8 @@ fn places_after_mark(
     place: u32,
 ) -> Result<Vec<u32>, AllocError>
     requires { suc place < 2 ^ 32 }
-    ensures { IfOk result (λ places. places.items ≡ map (place_to labels.now place) (targets (MachOp.Mark mark.now))) }
+    ensures { IfOk result (λ places.
+        places.items ≡ map (place_to labels.now place) (targets (MachOp.Mark mark.now))) }
 {
     match mark {
         Mark::Exit { label, tries: _ } => one_place(alloc, labels.place_of(*label)),
@@ -164,7 +166,8 @@ pub fn places_after(
     place: u32,
 ) -> Result<Vec<u32>, AllocError>
     requires { suc place < 2 ^ 32 }
-    ensures { IfOk result (λ places. places.items ≡ map (place_to labels.now place) (targets op.now)) }
+    ensures { IfOk result (λ places.
+        places.items ≡ map (place_to labels.now place) (targets op.now)) }
 {
     match op {
         MachOp::Op(op) => places_after_op(alloc, op, place),
@@ -179,7 +182,8 @@ pub fn places_aside(
     op: &MachOp,
     tries: &Backward<u32>,
 ) -> Result<Vec<u32>, AllocError>
-    ensures { IfOk result (λ places. places.items ≡ handler_places_in labels.now (walks.may_raise op.now) tries.now) }
+    ensures { IfOk result (λ places.
+        places.items ≡ handler_places_in labels.now (walks.may_raise op.now) tries.now) }
 {
     if !may_raise(op) {
         return Ok(Vec::new(alloc));

@@ -20,7 +20,8 @@ use std::alloc::{AllocError, Global};
 fn nodes_of(alloc: Global, mach: &Mach, labels: &Labels) -> Result<Vec<Place>, AllocError>
     requires labels { AreLabelsOf mach.now labels.now }
     requires fits { suc (length mach.now.code) < 2 ^ 32 }
-    ensures { IfOk result (λ nodes. AreNodes mach.now (register_uses mach.now) mach.now.code nodes.items) }
+    ensures { IfOk result (λ nodes.
+        AreNodes mach.now (register_uses mach.now) mach.now.code nodes.items) }
 {
     let code = mach.code.as_slice();
     let mut nodes = Backward::new(alloc);

@@ -41,7 +41,8 @@ fn above_code(bound: u32, code: &[Instr]) -> Result<u32, AllocError>
 /// want of memory.
 pub fn first_free(mach: &Mach) -> Result<u32, AllocError>
     ensures above { IfOk result (λ free. (r : Reg) → IsRegister mach.now r → r.number < free) }
-    ensures least { IfOk result (λ free. (b : ℕ) → ((r : Reg) → IsRegister mach.now r → r.number < b) → free ≤ b) }
+    ensures least { IfOk result (λ free. (b : ℕ) →
+        ((r : Reg) → IsRegister mach.now r → r.number < b) → free ≤ b) }
 {
     let above_params = above(0, mach.params.as_slice())?;
     let above_colours = above(above_params, mach.colours.as_slice())?;

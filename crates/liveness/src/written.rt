@@ -16,7 +16,8 @@ fn is_temporary(register: u8) -> bool
 }
 
 fn call_destroys(calling: &Calling, register: u8) -> bool
-    ensures { result ≡ is_destroyed (destroyed_by (MachOp.Op (Op.Calling calling.now))) (Loc.Machine register) }
+    ensures { result
+        ≡ is_destroyed (destroyed_by (MachOp.Op (Op.Calling calling.now))) (Loc.Machine register) }
 {
     match calling {
         Calling::Call { .. } => true,
@@ -120,7 +121,9 @@ fn push_killed(
     op: &MachOp,
     results: &[Reg],
 ) -> Result<(), AllocError>
-    ensures { IfOk result (λ _. found.new.items ≡ found.old.items ++ numbers (killed_among colours.now (destroyed_by op.now) results.now)) }
+    ensures { IfOk result (λ _.
+        found.new.items
+        ≡ found.old.items ++ numbers (killed_among colours.now (destroyed_by op.now) results.now)) }
 {
     for colour in colours {
         let destroyed = is_destroyed(op, colour.loc);

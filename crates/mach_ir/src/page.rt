@@ -30,6 +30,7 @@ impl Page {
         }
     }
 
+    /// Adds a piece of text at the end. The only error is want of memory.
     pub fn put(&mut self, piece: &[u8]) -> Result<(), AllocError>
         ensures { IfOk result (λ _. Adds self.old self.new piece.now) }
     {
@@ -37,6 +38,7 @@ impl Page {
         Ok(())
     }
 
+    /// Adds a number in decimal.
     pub fn put_number(&mut self, number: u64) -> Result<(), AllocError>
         ensures { IfOk result (λ _. Adds self.old self.new (decimal number)) }
     {
@@ -52,6 +54,7 @@ impl Page {
         self.put(digits.format(signed(word)).as_bytes())
     }
 
+    /// Adds a label: `L` and its number.
     pub fn put_label(&mut self, label: u32) -> Result<(), AllocError>
         ensures { IfOk result (λ _. Adds self.old self.new (label_text label)) }
     {

@@ -66,7 +66,8 @@ fn answer_call<K: Sink>(
     requires room { machine.old.retired < 2 ^ 64 - 1 }
     requires within { taken.old ≤ length answers.now }
     requires few { length (contents row.now.params) ≤ 16 }
-    ensures reported { Reports result (answered_now (ext row.now) machine.old returns answers.now taken.old)
+    ensures reported { Reports result
+        (answered_now (ext row.now) machine.old returns answers.now taken.old)
         machine.new returns (drop taken.new answers.now) }
     ensures text { Writes result (K.held out.old) (K.held out.new)
         (progress_text (answered_now (ext row.now) machine.old returns answers.now taken.old)) }
@@ -100,7 +101,8 @@ fn finish<K: Sink>(
     requires room { machine.old.retired < 2 ^ 64 - 1 }
     requires few { length (contents row.now.params) ≤ 16 }
     ensures reported { IfOk result (λ end. (end ≡ None)
-        × (machine.new ≡ returned_with (registers_after answer machine.old.registers) machine.old)) }
+        × (machine.new
+        ≡ returned_with (registers_after answer machine.old.registers) machine.old)) }
     ensures text { Writes result (K.held out.old) (K.held out.new)
         (calls_text (call_made (ext row.now) machine.old ∷ [])) }
     ensures counts { Counts result (K.faults out.old) (K.faults out.new) }
@@ -125,7 +127,8 @@ pub fn frame_call<K: Sink>(
     requires room { machine.old.retired < 2 ^ 64 - 1 }
     requires services { machine.old.services < 2 ^ 64 - 1 }
     requires within { taken.old ≤ length answers.now }
-    ensures reported { Reports result (frame_call_now schedule.now machine.old returns answers.now taken.old)
+    ensures reported { Reports result
+        (frame_call_now schedule.now machine.old returns answers.now taken.old)
         machine.new returns (drop taken.new answers.now) }
     ensures text { Writes result (K.held out.old) (K.held out.new)
         (progress_text (frame_call_now schedule.now machine.old returns answers.now taken.old)) }
@@ -222,7 +225,8 @@ fn conclude<K: Sink>(
 ) -> Result<Option<RunEnd>, OutFault>
     requires near { machine.old.pc < 2 ^ 32 }
     requires room { machine.old.retired < 2 ^ 64 - 1 }
-    ensures reported { IfOk result (λ end. (h : Hart) (returns : Ret) (all left : List ℕ) → Serves end
+    ensures reported { IfOk result (λ end. (h : Hart) (returns : Ret) (all left : List ℕ) →
+        Serves end
         (concluded row.now.result (made row.now.name shown.now) answer.raises answer.value left
         machine.old (calling_none h returns all)) machine.new returns left) }
     ensures text { (h : Hart) (returns : Ret) (all left : List ℕ) → Writes result

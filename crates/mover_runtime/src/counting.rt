@@ -48,7 +48,8 @@ pub fn collect(machine: &mut Machine<'_>, plan: Plan<'_>) -> ServiceEnd
 pub fn finish_call(machine: &mut Machine<'_>, answer: Option<u64>)
     requires near { machine.old.pc < 2 ^ 32 }
     requires room { machine.old.retired < 2 ^ 64 - 1 }
-    ensures exact { machine.new ≡ returned_with (registers_after answer machine.old.registers) machine.old }
+    ensures exact { machine.new
+        ≡ returned_with (registers_after answer machine.old.registers) machine.old }
     ensures retired { machine.new.retired ≡ suc machine.old.retired }
 {
     machine.finish_call(answer);

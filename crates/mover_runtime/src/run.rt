@@ -65,7 +65,8 @@ fn one<K: Sink>(
     requires room { machine.old.retired < 2 ^ 64 - 1 }
     requires services { machine.old.services < 2 ^ 64 - 1 }
     requires within { taken.old ≤ length answers.now }
-    ensures reported { Reports result (one_now schedule.now asks machine.old returns answers.now taken.old)
+    ensures reported { Reports result
+        (one_now schedule.now asks machine.old returns answers.now taken.old)
         machine.new returns (drop taken.new answers.now) }
     ensures text { Writes result (K.held out.old) (K.held out.new)
         (progress_text (one_now schedule.now asks machine.old returns answers.now taken.old)) }

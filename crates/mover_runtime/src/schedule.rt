@@ -70,8 +70,10 @@ impl Asks<'_> {
     /// Whether the mover asks before the next instruction, which has that number.
     #[inline]
     pub(crate) fn next(&mut self, number: u64) -> bool
-        ensures asks { (s : Schedule) → StandsAt s number self.old → result ≡ (schedule_of s).asks number }
-        ensures on { (s : Schedule) → StandsAt s number self.old → StandsAt s (suc number) self.new }
+        ensures asks { (s : Schedule) → StandsAt s number self.old →
+            result ≡ (schedule_of s).asks number }
+        ensures on { (s : Schedule) → StandsAt s number self.old →
+            StandsAt s (suc number) self.new }
     {
         match self {
             Asks::Never => false,

@@ -43,7 +43,8 @@ pub fn serve<K: Sink>(
     requires room { machine.old.retired < 2 ^ 64 - 1 }
     requires services { machine.old.services < 2 ^ 64 - 1 }
     requires within { taken.old ≤ length answers.now }
-    ensures reported { Reports result (service_now schedule.now machine.old returns answers.now taken.old)
+    ensures reported { Reports result
+        (service_now schedule.now machine.old returns answers.now taken.old)
         machine.new returns (drop taken.new answers.now) }
     ensures text { Writes result (K.held out.old) (K.held out.new)
         (progress_text (service_now schedule.now machine.old returns answers.now taken.old)) }
@@ -79,9 +80,11 @@ pub fn serve<K: Sink>(
 pub fn service(machine: &mut Machine<'_>, schedule: &Schedule) -> ServiceEnd
     requires { MovesBlocks machine.old }
     ensures allocates { register machine.old t2 ≡ 3 → ServesBy result (with_counts both_counted
-        (allocated ((schedule_of schedule.now).plan machine.old.services) machine.old)) machine.new }
+        (allocated ((schedule_of schedule.now).plan machine.old.services) machine.old))
+        machine.new }
     ensures collects { register machine.old t2 ≡ 4 → ServesBy result (with_counts services_counted
-        (collected ((schedule_of schedule.now).plan machine.old.services) machine.old)) machine.new }
+        (collected ((schedule_of schedule.now).plan machine.old.services) machine.old))
+        machine.new }
     ensures kept { Keeps result machine.old machine.new }
 {
     let plan = schedule.plan(machine.services());
@@ -128,7 +131,8 @@ fn end_returned<K: Sink>(
     returns: Ret,
     out: &mut K,
 ) -> Result<RunEnd, OutFault>
-    ensures reported { IfOk result (λ end. end ≡ RunEnd.Returned (value_returned returns machine.now)) }
+    ensures reported { IfOk result (λ end.
+        end ≡ RunEnd.Returned (value_returned returns machine.now)) }
     ensures text { Writes result (K.held out.old) (K.held out.new)
         (last_line (ends.Returned (value_returned returns machine.now))) }
     ensures counts { Counts result (K.faults out.old) (K.faults out.new) }

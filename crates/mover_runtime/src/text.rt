@@ -76,7 +76,8 @@ fn put_obs<K: Sink>(text: &[u8], obs: Obs, out: &mut K) -> Result<(), OutFault>
 /// in the first of sixteen places.
 pub fn observe_arguments(machine: &Machine<'_>, comps: &List<Comp>) -> [Obs; 16]
     requires { length (contents comps.now) ≤ 16 }
-    ensures shown { take (length (contents comps.now)) result ≡ arguments_from 10 (contents comps.now) machine.now }
+    ensures shown { take (length (contents comps.now)) result
+        ≡ arguments_from 10 (contents comps.now) machine.now }
     ensures len { length result ≡ 16 }
 {
     let mut shown = [Obs::Word(0); 16];

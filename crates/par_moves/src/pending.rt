@@ -55,7 +55,8 @@ impl Pending {
     pub fn take(&mut self, source: Loc) -> Result<Option<Move>, AllocError>
         ensures taken { (moves : Moves) → Holds self.old.readers moves → IfOk result (λ found.
             (found ≡ first_reader source moves) × Holds self.new.readers (others source moves)) }
-        ensures fewer { IfOk result (λ found. MatchOption found (held self.new.readers ≡ held self.old.readers)
+        ensures fewer { IfOk result (λ found.
+            MatchOption found (held self.new.readers ≡ held self.old.readers)
             (λ _. held self.new.readers + 1 ≡ held self.old.readers)) }
     {
         let key = key(source);

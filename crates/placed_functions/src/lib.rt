@@ -15,12 +15,14 @@ ghost use Rattle.selection_rules.specs.Select.{selected};
 
 /// Law: selection gives what the passes over Mach ask.
 pub fn selected_functions_are_preparable()
-    ensures { (defined : List ℕ → Option DefinedSymbol) (tree : FunctionTree) → IsAccepted defined tree →
+    ensures { (defined : List ℕ → Option DefinedSymbol) (tree : FunctionTree) →
+        IsAccepted defined tree →
         IsPreparable (selected tree) }
 {}
 
 /// Law: what the passes and register allocation make of a function that the front accepts is known.
 pub fn prepared_functions_are_placed()
     ensures { (defined : List ℕ → Option DefinedSymbol) (tree : FunctionTree) (p q : Mach) →
-        IsAccepted defined tree → IsPrepared (selected tree) p → IsAllocated p q → IsPlacedFor tree q }
+        IsAccepted defined tree → IsPrepared (selected tree) p → IsAllocated p q →
+        IsPlacedFor tree q }
 {}

@@ -89,7 +89,8 @@ fn put_code(
     colours: &Colours,
     code: Seq<Instr>,
 ) -> Result<Seq<Instr>, AllocError>
-    ensures { IfOk result (λ done. done ≡ placed_code (placing putting (place_in colours.now)) code) }
+    ensures { IfOk result (λ done.
+        done ≡ placed_code (placing putting (place_in colours.now)) code) }
 {
     let mut done = Vec::with_capacity(alloc, code.len())?;
     for instr in code.into_vec() {
@@ -107,7 +108,8 @@ pub(crate) fn put_all(
     colours: &Colours,
     mach: Mach,
 ) -> Result<Mach, AllocError>
-    ensures { IfOk result (λ done. done ≡ with_places (placing putting (place_in colours.now)) mach) }
+    ensures { IfOk result (λ done.
+        done ≡ with_places (placing putting (place_in colours.now)) mach) }
 {
     let Mach {
         name,

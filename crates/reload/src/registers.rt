@@ -176,7 +176,8 @@ pub(crate) fn push_reloads(
     regs: &[Reg],
     code: &mut Vec<Instr>,
 ) -> Result<(), AllocError>
-    ensures { IfOk result (λ _. code.new.items ≡ code.old.items ++ reloads registers from regs.now) }
+    ensures { IfOk result (λ _.
+        code.new.items ≡ code.old.items ++ reloads registers from regs.now) }
 {
     let mut number = from;
     for reg in regs {

@@ -43,7 +43,8 @@ fn push_instr(
     code: &mut Vec<Instr>,
 ) -> Result<u32, AllocError>
     ensures number { IfOk result (λ next. next ≡ past_instr number instr) }
-    ensures code { IfOk result (λ _. code.new.items ≡ code.old.items ++ reloaded_instr number instr) }
+    ensures code { IfOk result (λ _.
+        code.new.items ≡ code.old.items ++ reloaded_instr number instr) }
 {
     let Instr { op, args, results } = instr;
     let reads = reads_registers(&op);

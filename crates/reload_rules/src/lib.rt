@@ -18,8 +18,10 @@ ghost use Rattle.reload_rules.specs.Reloaded.{IsReloadedBy};
 
 /// Law: what reloading makes of a function by a colouring of it is kept.
 pub fn what_is_reloaded_is_kept()
-    ensures { (m q : Mach) (place : Colouring) (asks : Bool) → WellFormed m → WellPlaced m → ColoursLow m →
-        IsColouring (IsRegister m) (Joined m) place → IsReloadedBy m place q asks → IsKept m q asks }
+    ensures { (m q : Mach) (place : Colouring) (asks : Bool) → WellFormed m → WellPlaced m →
+        ColoursLow m →
+        IsColouring (IsRegister m) (Joined m) place → IsReloadedBy m place q asks →
+        IsKept m q asks }
 {}
 
 /// Law: reloading makes one function of each, and one answer.

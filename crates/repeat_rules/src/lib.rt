@@ -22,7 +22,8 @@ pub fn a_function_without_repeats_is_formed()
 
 /// Law: a function whose repeats are moves is kept, where no register is made from another.
 pub fn what_is_repeated_is_kept()
-    ensures { (m q : Mach) → WellFormed m → WellPlaced m → OwnOrigins m → IsRepeated m q → IsKept m q }
+    ensures { (m q : Mach) → WellFormed m → WellPlaced m → OwnOrigins m → IsRepeated m q →
+        IsKept m q }
 {}
 
 /// Law: the repeats of a function are moves in one way.

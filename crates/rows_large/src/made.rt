@@ -46,7 +46,8 @@ fn points_of(alloc: Global, points: u32, entries: u32) -> Result<Vec<Piece>, All
 
 fn put_point(alloc: Global, code: &mut Vec<Piece>, entries: u32) -> Result<(), AllocError>
     requires { entries ≤ 2 ^ 20 }
-    ensures { (n : ℕ) → ArePoints n code.old.items → OnOk result (ArePoints (suc n) code.new.items) }
+    ensures { (n : ℕ) → ArePoints n code.old.items →
+        OnOk result (ArePoints (suc n) code.new.items) }
 {
     let descr = descriptor(alloc, entries)?;
     code.push(Piece::Known(FILLING))?;

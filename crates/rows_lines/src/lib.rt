@@ -46,6 +46,7 @@ pub struct Table {
 }
 
 impl Table {
+    /// No row has been read.
     pub fn new(alloc: Global) -> Table {
         Table {
             input: Vec::new(alloc),

@@ -18,6 +18,7 @@ pub(crate) struct Line {
 }
 
 impl Line {
+    /// The line of this text. The only error is want of memory.
     pub fn of(alloc: Global, text: &str) -> Result<Line, AllocError> {
         let mut line = Line {
             words: Vec::new(alloc),

@@ -54,6 +54,7 @@ fn entry<T: Copy>(table: &[(&'static str, T)], word: &str) -> Option<T> {
     None
 }
 
+/// The integer operator of that name, if there is one.
 pub fn operator(word: &str) -> Option<IntOp> {
     match word.strip_prefix("u") {
         Some(compare) => entry(&COMPARISONS, compare).map(IntOp::CmpU),
@@ -64,6 +65,7 @@ pub fn operator(word: &str) -> Option<IntOp> {
     }
 }
 
+/// The memory chunk of that name, if there is one.
 pub fn chunk(word: &str) -> Option<Chunk> {
     entry(&CHUNKS, word)
 }
@@ -96,6 +98,7 @@ pub fn number(word: &str) -> Option<u64> {
     }
 }
 
+/// What a function of that result's name gives.
 pub fn ret(word: &str) -> Ret {
     match word {
         "int" => Ret::Comp(Comp::Int),

@@ -79,7 +79,8 @@ impl Output {
         right: Register,
         label: u32,
     ) -> Result<(), AllocError>
-        ensures { IfOk result (λ _. Adds self.old self.new (signed_branch op left right label ∷ [])) }
+        ensures { IfOk result (λ _.
+            Adds self.old self.new (signed_branch op left right label ∷ [])) }
     {
         match op {
             CmpOp::Eq => self.branch(Condition::Beq, left, right, label),
@@ -98,7 +99,8 @@ impl Output {
         right: Register,
         label: u32,
     ) -> Result<(), AllocError>
-        ensures { IfOk result (λ _. Adds self.old self.new (unsigned_branch op left right label ∷ [])) }
+        ensures { IfOk result (λ _.
+            Adds self.old self.new (unsigned_branch op left right label ∷ [])) }
     {
         match op {
             CmpOp::Eq => self.branch(Condition::Beq, left, right, label),
@@ -128,7 +130,8 @@ impl Output {
         left: Register,
         label: u32,
     ) -> Result<(), AllocError>
-        ensures { IfOk result (λ _. Adds self.old self.new (test_branch test args.now left label ∷ [])) }
+        ensures { IfOk result (λ _.
+            Adds self.old self.new (test_branch test args.now left label ∷ [])) }
     {
         match test {
             Test::Holds => self.branch(Condition::Bne, left, Register::Zero, label),
@@ -150,7 +153,8 @@ impl Output {
         label: u32,
         args: &[Spot],
     ) -> Result<(), AllocError>
-        ensures { IfOk result (λ _. Adds self.old self.new (branch_part traps test label args.now)) }
+        ensures { IfOk result (λ _.
+            Adds self.old self.new (branch_part traps test label args.now)) }
     {
         let left = first(args);
         self.fetched(traps, Register::T1, left)?;
@@ -210,7 +214,8 @@ impl Output {
         labels: &[u32],
         args: &[Spot],
     ) -> Result<(), AllocError>
-        ensures { IfOk result (λ _. Adds self.old self.new (switch_part traps labels.now args.now)) }
+        ensures { IfOk result (λ _.
+            Adds self.old self.new (switch_part traps labels.now args.now)) }
     {
         self.value_words(traps, first(args))?;
         if labels.len() <= 4 {

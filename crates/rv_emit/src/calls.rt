@@ -56,7 +56,8 @@ fn external_service(frame: bool) -> u64
 impl Output {
     /// The mark of a return address, where it has a descriptor.
     pub fn mark(&mut self, descriptor: Option<&Descr>) -> Result<(), AllocError>
-        ensures { IfOk result (λ _. Adds self.old self.new (mark_of (option_copied descriptor.entry))) }
+        ensures { IfOk result (λ _.
+            Adds self.old self.new (mark_of (option_copied descriptor.entry))) }
     {
         match descriptor {
             None => Ok(()),
@@ -98,7 +99,8 @@ impl Output {
     }
 
     fn callee_words(&mut self, traps: u32, callee: &Callee, args: &[Spot]) -> Result<(), AllocError>
-        ensures { IfOk result (λ _. Adds self.old self.new (callee_words traps callee.now args.now)) }
+        ensures { IfOk result (λ _.
+            Adds self.old self.new (callee_words traps callee.now args.now)) }
     {
         match callee {
             Callee::Symbol(_) => Ok(()),

@@ -73,7 +73,8 @@ impl Output {
 
     /// A word of 32 bits, shifted by so many bits to the left.
     fn ended(&mut self, to: Register, word: u64, amount: u64) -> Result<(), AllocError>
-        ensures { IfOk result (λ _. Adds self.old self.new (constant_32 to word ++ shifted to amount)) }
+        ensures { IfOk result (λ _.
+            Adds self.old self.new (constant_32 to word ++ shifted to amount)) }
     {
         self.constant_32(to, word)?;
         self.shifted(to, amount)
@@ -88,7 +89,8 @@ impl Output {
         amount: u64,
     ) -> Result<(), AllocError>
         requires { amount + 12 * steps ≤ 64 }
-        ensures { IfOk result (λ _. Adds self.old self.new (constant_shifted steps to word amount)) }
+        ensures { IfOk result (λ _.
+            Adds self.old self.new (constant_shifted steps to word amount)) }
     {
         if is_word_32(word) {
             return self.ended(to, word, amount);

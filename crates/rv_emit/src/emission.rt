@@ -107,7 +107,8 @@ impl Output {
     ) -> Result<(), AllocError>
         ensures { IfOk result (λ _.
             Adds self.old self.new
-            (calling_part traps (form_of frame) (mark_of (option_copied mark.entry)) op.now args.now)) }
+            (calling_part traps (form_of frame)
+            (mark_of (option_copied mark.entry)) op.now args.now)) }
     {
         match op {
             Calling::Call { callee, result: _ } => {
@@ -152,7 +153,8 @@ impl Output {
     ) -> Result<(), AllocError>
         ensures { IfOk result (λ _.
             Adds self.old self.new
-            (op_part traps (form_of frame) (mark_of (option_copied mark.entry)) op.now args.now results.now)) }
+            (op_part traps (form_of frame)
+            (mark_of (option_copied mark.entry)) op.now args.now results.now)) }
     {
         match op {
             Op::Pure(op) => self.pure_part(traps, op, args, results),
@@ -215,7 +217,8 @@ impl Output {
     ) -> Result<(), AllocError>
         ensures { IfOk result (λ _.
             Adds self.old self.new
-            (parts (λ left. slice_index pushed.now left) (form_of frame) descriptors.now code.now)) }
+            (parts (λ left.
+            slice_index pushed.now left) (form_of frame) descriptors.now code.now)) }
     {
         let mut rest = code;
         let mut left = descriptors;

@@ -118,7 +118,8 @@ impl Output {
         offset: u64,
         args: &[Spot],
     ) -> Result<(), AllocError>
-        ensures { IfOk result (λ _. Adds self.old self.new (store_part traps chunk offset args.now)) }
+        ensures { IfOk result (λ _.
+            Adds self.old self.new (store_part traps chunk offset args.now)) }
     {
         let base = register_of(Register::T1, first(args));
         let value = second(args);
@@ -172,7 +173,8 @@ impl Output {
     /// So many bytes above s10 becomes the value of a location.
     fn address(&mut self, traps: u32, to: Loc, bytes: u64) -> Result<(), AllocError>
         ensures { IfOk result (λ _.
-            Adds self.old self.new (sum_to Register.T1 (target to) Register.S10 bytes ++ kept traps to)) }
+            Adds self.old self.new (sum_to Register.T1 (target to) Register.S10 bytes
+            ++ kept traps to)) }
     {
         self.sum_to(Register::T1, target(to), Register::S10, bytes)?;
         self.kept(traps, to)
@@ -188,7 +190,8 @@ impl Output {
     ) -> Result<(), AllocError>
         requires exact { bytes ≡ bytes_of blocks.now }
         requires below { bytes < 2 ^ 32 }
-        ensures { IfOk result (λ _. Adds self.old self.new (addresses traps blocks.now results.now)) }
+        ensures { IfOk result (λ _.
+            Adds self.old self.new (addresses traps blocks.now results.now)) }
     {
         match blocks.split_first() {
             None => Ok(()),

@@ -113,7 +113,8 @@ impl Output {
         left: Register,
         word: u64,
     ) -> Result<(), AllocError>
-        ensures { IfOk result (λ _. Adds self.old self.new (compared_with less far op to left word)) }
+        ensures { IfOk result (λ _.
+            Adds self.old self.new (compared_with less far op to left word)) }
     {
         match op {
             CmpOp::Eq => {

@@ -42,7 +42,8 @@ impl Output {
 
     /// The trap pointer becomes what it was before the innermost trap, at which sp points.
     fn earlier_trap(&mut self) -> Result<(), AllocError>
-        ensures { IfOk result (λ _. Adds self.old self.new (load LoadWidth.Ld Register.S1 Register.Sp 8 ∷ [])) }
+        ensures { IfOk result (λ _.
+            Adds self.old self.new (load LoadWidth.Ld Register.S1 Register.Sp 8 ∷ [])) }
     {
         self.load(LoadWidth::Ld, Register::S1, Register::Sp, 8)
     }

@@ -34,7 +34,8 @@ fn put_desc(
     at: u64,
 ) -> Result<(), AllocError>
     requires { 4 * at < 2 ^ 32 }
-    ensures { OnOk result (map desc rows.new.items ≡ map desc rows.old.items ++ desc_in at piece.now) }
+    ensures { OnOk result (map desc rows.new.items
+        ≡ map desc rows.old.items ++ desc_in at piece.now) }
 {
     if let Piece::Descriptor(descr) = piece {
         rows.push(row(alloc, descr, at)?)?;
@@ -53,7 +54,8 @@ pub fn put_descs(
 ) -> Result<(), AllocError>
     requires same { length forms.now ≡ length code.now }
     requires inside { 4 * (from + total_words code.now forms.now) < 2 ^ 32 }
-    ensures { OnOk result (map desc rows.new.items ≡ map desc rows.old.items ++ descs_in from code.now forms.now) }
+    ensures { OnOk result (map desc rows.new.items
+        ≡ map desc rows.old.items ++ descs_in from code.now forms.now) }
 {
     let mut at = from;
     for index in 0..code.len() {

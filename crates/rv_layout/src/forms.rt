@@ -159,7 +159,8 @@ struct Grown {
 fn grow(alloc: Global, code: &[Piece], forms: &[Form], labels: &Labels) -> Result<Grown, AllocError>
     requires few { length code.now < 2 ^ 48 }
     requires same { length forms.now ≡ length code.now }
-    ensures grown { IfOk result (λ grown. grown.forms.items ≡ grown_from (places_of labels.now) 0 code.now forms.now) }
+    ensures grown { IfOk result (λ grown.
+        grown.forms.items ≡ grown_from (places_of labels.now) 0 code.now forms.now) }
     ensures ranks { IfOk result (λ grown. grown.ranks ≡ ranks grown.forms.items) }
 {
     let mut next = Vec::new(alloc);

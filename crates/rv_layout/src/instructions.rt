@@ -58,7 +58,8 @@ fn near_branch(condition: Condition, left: Register, right: Register, at: u64, t
     requires to_fits { to < 2 ^ 32 }
     requires from_aligned { at % 4 ≡ 0 }
     requires to_aligned { to % 4 ≡ 0 }
-    ensures exact { result ≡ Instr.Branch condition (number left) (number right) (branch_offset at to) }
+    ensures exact { result
+        ≡ Instr.Branch condition (number left) (number right) (branch_offset at to) }
     ensures fits { InstrFits result }
 {
     Instr::Branch {
@@ -115,7 +116,8 @@ fn far_jump(
 ) -> Result<(), AllocError>
     requires from_fits { at < 2 ^ 32 }
     requires to_fits { to < 2 ^ 32 }
-    ensures { OnOk result (words.new.items ≡ words.old.items ++ map encoded (far_jump (number link) (number through) at to)) }
+    ensures { OnOk result (words.new.items
+        ≡ words.old.items ++ map encoded (far_jump (number link) (number through) at to)) }
 {
     let bytes = distance(at, to);
     put(
@@ -137,7 +139,8 @@ fn far_jump(
 
 /// A number of 32 bits into a register.
 fn number_into(words: &mut Vec<u32>, register: Register, value: u32) -> Result<(), AllocError>
-    ensures { OnOk result (words.new.items ≡ words.old.items ++ map encoded (number_into (number register) value)) }
+    ensures { OnOk result (words.new.items
+        ≡ words.old.items ++ map encoded (number_into (number register) value)) }
 {
     put(
         words,
@@ -151,7 +154,8 @@ fn number_into(words: &mut Vec<u32>, register: Register, value: u32) -> Result<(
 
 /// Adds the lower part of a number to a register.
 fn add(register: Register, addend: u32) -> Instr
-    ensures exact { result ≡ Instr.OpImm AluImmOp.Addi (number register) (number register) (lower addend) }
+    ensures exact { result
+        ≡ Instr.OpImm AluImmOp.Addi (number register) (number register) (lower addend) }
     ensures fits { InstrFits result }
 {
     Instr::OpImm {
@@ -170,7 +174,8 @@ fn address_into(
 ) -> Result<(), AllocError>
     requires from_fits { at < 2 ^ 32 }
     requires to_fits { to < 2 ^ 32 }
-    ensures { OnOk result (words.new.items ≡ words.old.items ++ map encoded (address_into (number register) at to)) }
+    ensures { OnOk result (words.new.items
+        ≡ words.old.items ++ map encoded (address_into (number register) at to)) }
 {
     let bytes = distance(at, to);
     put(
@@ -202,7 +207,8 @@ fn branch(
     requires to_fits { ends.to < 2 ^ 32 }
     requires from_aligned { ends.at % 4 ≡ 0 }
     requires to_aligned { ends.to % 4 ≡ 0 }
-    ensures { OnOk result (words.new.items ≡ words.old.items ++ map encoded (branch_code form condition left right ends.at ends.to)) }
+    ensures { OnOk result (words.new.items
+        ≡ words.old.items ++ map encoded (branch_code form condition left right ends.at ends.to)) }
 {
     match form {
         Form::Near => put(words, near_branch(condition, left, right, ends.at, ends.to)),
@@ -222,7 +228,8 @@ fn jump(words: &mut Vec<u32>, form: Form, at: u64, to: u64) -> Result<(), AllocE
     requires to_fits { to < 2 ^ 32 }
     requires from_aligned { at % 4 ≡ 0 }
     requires to_aligned { to % 4 ≡ 0 }
-    ensures { OnOk result (words.new.items ≡ words.old.items ++ map encoded (jump_code form at to)) }
+    ensures { OnOk result (words.new.items
+        ≡ words.old.items ++ map encoded (jump_code form at to)) }
 {
     match form {
         Form::Near => put(words, near_jump(at, to)),
@@ -244,7 +251,8 @@ pub fn put_piece(
     requires from_fits { at + 4 < 2 ^ 32 }
     requires from_aligned { at % 4 ≡ 0 }
     requires to_aligned { LeadsTo to piece.now }
-    ensures { OnOk result (words.new.items ≡ words.old.items ++ map encoded (code_to at to piece.now form)) }
+    ensures { OnOk result (words.new.items
+        ≡ words.old.items ++ map encoded (code_to at to piece.now form)) }
 {
     let place = u64::from(to);
     match piece {

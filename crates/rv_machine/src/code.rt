@@ -29,7 +29,8 @@ pub fn read(code: &List<u32>, address: u64, width: u64) -> u64
     requires width { IsWidth width }
     requires inside { is_inside (code_region (contents code.now)) address width ≡ true }
     ensures exact { result ≡ part
-        (slice_index (words_of_halves (contents code.now)) (index_in (code_region (contents code.now)) address))
+        (slice_index (words_of_halves (contents code.now))
+        (index_in (code_region (contents code.now)) address))
         (byte_in (code_region (contents code.now)) address) width }
     ensures below { result < 2 ^ (8 * width) }
 {

@@ -202,7 +202,8 @@ fn at_entry<'a>(
     requires image { IsImage image.now }
     requires stack { IsRoom stack }
     requires heap { IsRoom heap }
-    ensures { IfOk result (λ machine. IsStart (tables image.now) offset words.now stack heap machine) }
+    ensures { IfOk result (λ machine.
+        IsStart (tables image.now) offset words.now stack heap machine) }
 {
     let memory = start_memory(alloc, image, stack, heap)?;
     // A block has 16 bytes at least, so that no more fit into a half.

@@ -84,7 +84,8 @@ impl<'a> Model for Machine<'a> {
 
     // x0 holds 0, so that it is read as the others are. The stack lies above the heap.
     ghost invariant = { λ m. (slice_index m.registers 0 ≡ 0) × IsImage m.image.now
-        × IsHeap m.heap m.blocks.items × IsSpace m.heap m.space × (m.heap / 16 ≤ vec_capacity m.blocks)
+        × IsHeap m.heap m.blocks.items × IsSpace m.heap m.space
+        × (m.heap / 16 ≤ vec_capacity m.blocks)
         × (0x38010000 ≤ m.stack_base) × (m.stack_base ≤ 0x40000000) };
 }
 
@@ -243,7 +244,8 @@ impl<'a> Machine<'a> {
     /// Goes on after an external call with its answer, if it has one.
     pub fn finish_call(&mut self, answer: Option<u64>)
         requires near { self.old.pc < 2 ^ 32 }
-        ensures { self.new ≡ counted (returned_with (registers_after answer self.old.registers) self.old) }
+        ensures { self.new
+            ≡ counted (returned_with (registers_after answer self.old.registers) self.old) }
     {
         destroy(&mut self.registers);
         if let Some(answer) = answer {

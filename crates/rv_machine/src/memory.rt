@@ -23,7 +23,8 @@ impl Model for Memory {
 
     ghost Value = { List memory.Region };
 
-    ghost view = { λ m. m.statics ∷ m.domain ∷ m.lower_half ∷ m.upper_half ∷ m.young ∷ m.stack ∷ [] };
+    ghost view = { λ m.
+        m.statics ∷ m.domain ∷ m.lower_half ∷ m.upper_half ∷ m.young ∷ m.stack ∷ [] };
 }
 
 impl Memory {

@@ -59,7 +59,8 @@ fn serial_in(blocks: &[BlockPlace], address: u64) -> Option<u64>
 // The serial of the block that starts at an address, among the young ones from `from` on, the one at the
 // highest address being the first.
 fn young_serial(memory: &Memory, from: u64, address: u64) -> Option<u64>
-    ensures exact { result ≡ serial_from 0 (reverse (or_none (young_blocks memory.now from))) address }
+    ensures exact { result
+        ≡ serial_from 0 (reverse (or_none (young_blocks memory.now from))) address }
     ensures below { IfSome result (λ serial. serial < 2 ^ 32) }
 {
     if from % 8 != 0 || from < YOUNG_START || from > YOUNG_TOP {

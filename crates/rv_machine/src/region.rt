@@ -21,7 +21,8 @@ impl Model for Region {
 
     ghost view = { λ r. record { start = r.start; bytes = r.bytes; words = r.words.items } };
 
-    ghost invariant = { λ r. (r.start % 8 ≡ 0) × (r.start + r.bytes < 2 ^ 64) × (r.bytes ≤ 8 * length r.words.items) };
+    ghost invariant = { λ r. (r.start % 8 ≡ 0) × (r.start + r.bytes < 2 ^ 64)
+        × (r.bytes ≤ 8 * length r.words.items) };
 }
 
 impl Region {

@@ -12,12 +12,16 @@ pub const DATA_START: u64 = 0x1000_0000;
 /// The domain page, whose first word is the limit word.
 pub const DOMAIN_START: u64 = 0x2000_0000;
 
+/// The address of the heap's first half, in which the heap begins.
 pub const LOWER_HALF: u64 = 0x3000_0000;
 
+/// The address of the heap's second half.
 pub const UPPER_HALF: u64 = 0x3400_0000;
 
+/// The lowest address of the young area, which fills downwards.
 pub const YOUNG_START: u64 = 0x3800_0000;
 
+/// The address right after the young area, where its first block ends.
 pub const YOUNG_TOP: u64 = 0x3801_0000;
 /// The bottom of the stack, where a trap frame stands that no program pushed.
 pub const STACK_BOTTOM: u64 = 0x3FFF_FFF0;

@@ -146,7 +146,8 @@ impl<'a> Machine<'a> {
     fn load(&mut self, width: LoadWidth, rd: u8, rs1: u8, imm: u16) -> StepEnd
         requires fits { InstrFits (Instr.Load width rd rs1 imm) }
         requires within { self.old.pc < 2 ^ 32 }
-        ensures exact { next_of result self.new ≡ counted_next (executed (Instr.Load width rd rs1 imm) self.old) }
+        ensures exact { next_of result self.new
+            ≡ counted_next (executed (Instr.Load width rd rs1 imm) self.old) }
         ensures kept { Keeps result self.old self.new }
     {
         let address = bs_words::add(self.register(rs1), arithmetic::imm_i(imm));

@@ -22,7 +22,8 @@ impl Model for Table {
 
     ghost view = { λ t. record { heap = t.heap; marks = t.marks.items } };
 
-    ghost invariant = { λ t. (t.heap % 16 ≡ 0) × (t.heap ≤ 67108864) × (length t.marks.items ≡ 8192 + t.heap / 8 + t.heap / 8) };
+    ghost invariant = { λ t. (t.heap % 16 ≡ 0) × (t.heap ≤ 67108864)
+        × (length t.marks.items ≡ 8192 + t.heap / 8 + t.heap / 8) };
 }
 
 impl Table {

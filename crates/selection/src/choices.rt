@@ -390,7 +390,8 @@ fn case_bodies<F: Fn(&mut Scope, &mut Backwards, Place, &Expr) -> Result<(), All
     requires selects { Selects (F.post below.now) }
     requires typed { AreCasesAnnotated (names_in scope.old) choices.cases.now }
     ensures code { OnOk result (code.new ≡ select_cases scope.old.names scope.old.labels
-        place.valued place.tail place.dest choices.entry.all.now choices.entry.end choices.entry.first
+        place.valued place.tail place.dest choices.entry.all.now choices.entry.end
+        choices.entry.first
         place.base (cases_of choices.entry.cases.now) code.old) }
     ensures scope { OnOk result (scope.new ≡ scope.old) }
 {

@@ -166,7 +166,8 @@ fn handler_bodies<F: Fn(&mut Scope, &mut Backwards, Place, &Expr) -> Result<(), 
     requires selects { Selects (F.post below.now) }
     requires typed { AreHandlersAnnotated (names_in scope.old) handlers.now }
     ensures code { OnOk result (code.new ≡ select_handlers scope.old.names scope.old.labels
-        place.valued place.tail place.dest end first place.base (handlers_of handlers.now) code.old) }
+        place.valued place.tail place.dest end first place.base
+        (handlers_of handlers.now) code.old) }
     ensures scope { OnOk result (scope.new ≡ scope.old) }
 {
     let mut label = behind_labels(first, handlers)?;

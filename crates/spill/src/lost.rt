@@ -86,7 +86,8 @@ fn living_over(
     bound: u32,
     written: &[u32],
 ) -> Result<Vec<u32>, AllocError>
-    ensures { IfOk result (λ found. AreLivingOver live.now.before.rows.items after bound written.now found.items) }
+    ensures { IfOk result (λ found.
+        AreLivingOver live.now.before.rows.items after bound written.now found.items) }
 {
     let mut found = Vec::new(alloc);
     for number in 0..bound {
@@ -106,7 +107,8 @@ fn made_at(
     op: &MachOp,
     written: &[u32],
 ) -> Result<Vec<u32>, AllocError>
-    ensures { IfOk result (λ found. AreMade live.now.before.rows.items after bound written.now op.now found.items) }
+    ensures { IfOk result (λ found.
+        AreMade live.now.before.rows.items after bound written.now op.now found.items) }
 {
     if destroys_all(op) {
         let found = living_over(alloc, live, after, bound, written)?;

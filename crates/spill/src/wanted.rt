@@ -32,7 +32,8 @@ fn reloaded_among(
     place: usize,
     args: &[Reg],
 ) -> Result<Vec<u32>, AllocError>
-    ensures { IfOk result (λ found. found.items ≡ reloaded_among lost.now.rows.items place args.now) }
+    ensures { IfOk result (λ found.
+        found.items ≡ reloaded_among lost.now.rows.items place args.now) }
 {
     let mut found = Vec::new(alloc);
     for reg in args {

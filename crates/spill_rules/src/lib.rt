@@ -27,7 +27,8 @@ pub fn spilling_changes_nothing()
 
 /// Law: what spilling chooses is a plan.
 pub fn a_chosen_plan_is_one()
-    ensures { (m : Mach) (plan : Plan) → WellFormed m → ParamsPlaced m → IsChosen m plan → IsPlan m plan }
+    ensures { (m : Mach) (plan : Plan) → WellFormed m → ParamsPlaced m → IsChosen m plan →
+        IsPlan m plan }
 {}
 
 /// Law: what spilling makes of a function is kept, and gives slots only to what lives over calls.

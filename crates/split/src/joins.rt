@@ -36,7 +36,9 @@ fn relabel(labels: &mut [u32], from: u32, to: u32)
 fn join(labels: &mut Vec<u32>, one: u32, other: u32)
     requires one { one < length labels.old.items }
     requires other { other < length labels.old.items }
-    ensures { labels.new.items ≡ joined labels.old.items (slice_index labels.old.items one) (slice_index labels.old.items other) }
+    ensures { labels.new.items
+        ≡ joined labels.old.items (slice_index labels.old.items one)
+        (slice_index labels.old.items other) }
 {
     let one_label = labels[one as usize];
     let other_label = labels[other as usize];
@@ -70,7 +72,8 @@ fn join_at(labels: &mut Vec<u32>, members: &[u32], rows: &Rows, place: usize)
 /// The same for each operand of the instruction at the place.
 fn join_reads(labels: &mut Vec<u32>, writes: &Writes, rows: &Rows, place: usize, args: &[Reg])
     requires { AreIndexes writes.now (length labels.old.items) }
-    ensures { JoinsReads labels.old.items labels.new.items writes.now rows.now.rows.items place args.now }
+    ensures { JoinsReads labels.old.items labels.new.items writes.now rows.now.rows.items place
+        args.now }
 {
     for reg in args {
         join_at(labels, writes.members(reg.number), rows, place);

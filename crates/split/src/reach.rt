@@ -100,7 +100,8 @@ fn nodes_of(
 ) -> Result<Vec<Place>, AllocError>
     requires labels { AreLabelsOf mach.now labels.now }
     requires fits { suc (length mach.now.code) < 2 ^ 32 }
-    ensures { IfOk result (λ nodes. AreNodes mach.now (write_uses writes.now) mach.now.code nodes.items) }
+    ensures { IfOk result (λ nodes.
+        AreNodes mach.now (write_uses writes.now) mach.now.code nodes.items) }
 {
     let code = mach.code.as_slice();
     let end = code.len();

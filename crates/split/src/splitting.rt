@@ -21,7 +21,8 @@ use std::alloc::{AllocError, Global};
 fn tables_of(alloc: Global, mach: &Mach, free: u32) -> Result<Tables, AllocError>
     requires fits { suc (length mach.now.code) < 2 ^ 32 }
     requires numbers { (r : Reg) → IsRegister mach.now r → r.number < free }
-    ensures { IfOk result (λ tables. WellFormed mach.now → WellPlaced mach.now → AreTables mach.now free tables) }
+    ensures { IfOk result (λ tables. WellFormed mach.now → WellPlaced mach.now →
+        AreTables mach.now free tables) }
 {
     let writes = Writes::of_function(alloc, mach, free)?;
     let rows = reach(alloc, mach, free, &writes)?;

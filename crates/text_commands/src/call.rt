@@ -51,7 +51,8 @@ pub fn call_of(alloc: Global, file: &File, check: &CheckWords) -> Result<FileCal
     ensures call { IfOk result (λ c.
         IsCall (check_view check.now) (file_view file.now) c.entry c.args.items
         c.answers.items) }
-    ensures refused { IfErr result (λ r. IsCallRefusal (check_view check.now) (file_view file.now) r) }
+    ensures refused { IfErr result (λ r.
+        IsCallRefusal (check_view check.now) (file_view file.now) r) }
 {
     let entry = match entry_named(file, &check.entry) {
         Ok(Some(entry)) => entry,
@@ -85,7 +86,8 @@ fn words_for(
     check: &CheckWords,
 ) -> Result<Option<Suited>, AllocError>
     requires data { data_fault_of (file_view file.now) ≡ None }
-    requires numbered { slice_get (functions (file_view file.now)) number ≡ Some (function_view function.now) }
+    requires numbered { slice_get (functions (file_view file.now)) number
+        ≡ Some (function_view function.now) }
     ensures { IfOk result (λ found.
         MatchOption found
         (Unfit (file_view file.now) (function_view function.now) (check_view check.now)) (λ s.
