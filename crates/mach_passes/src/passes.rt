@@ -17,7 +17,6 @@ use std::alloc::{AllocError, Global};
 
 /// The function with its allocations combined, in which copies are read from their sources. The only
 /// error is want of memory.
-#[tactic(auto, using(crate::proofs::Stages::combined_form))]
 fn with_sources(alloc: Global, mach: Mach) -> Result<Mach, AllocError>
     requires { IsPreparable mach }
     ensures { IfOk result (IsPropagated (combined mach)) }
@@ -28,7 +27,7 @@ fn with_sources(alloc: Global, mach: Mach) -> Result<Mach, AllocError>
 
 /// The function with its allocations combined, in which copies are read from their sources and repeats
 /// are moves. The only error is want of memory.
-#[tactic(auto, using(crate::proofs::Stages::propagated_formed, crate::proofs::Stages::has_no_repeats))]
+#[tactic(auto, using(crate::proofs::Stages::has_no_repeats))]
 pub fn without_repeats(alloc: Global, mach: Mach) -> Result<Mach, AllocError>
     requires { IsPreparable mach }
     ensures { IfOk result (HasNoRepeats mach) }
