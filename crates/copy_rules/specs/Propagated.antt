@@ -1,5 +1,5 @@
 -- Mach functions in which operands are read from the registers that they are copies of.
-use Rattle.std.specs.Prelude.{◌≡◌, ◌≢◌, ℕ, List, [], ◌∷◌, ◌++◌, length, map, Contains, ⊥}
+use Rattle.std.specs.Prelude.{◌≡◌, ◌≢◌, ℕ, false, List, [], ◌∷◌, ◌++◌, length, map, Contains}
 use Rattle.bs_words.specs.declared.types.Comp.TheVariants as comp
 use Rattle.bs_words.specs.declared.types.Loc.TheVariants as loc
 use Rattle.mach_ir.specs.Placed.{AreStraight}
@@ -14,8 +14,8 @@ use Rattle.mach_laws.specs.Expand.{expand}
 use Rattle.repeat_rules.specs.Repeated.{allocates, Ends}
 
 abbrev pub move : Reg → Reg → Instr
-move source copy =
-    record { op = mach.Op (op.Pure (pure.Copy copy.Move)); args = source ∷ []; results = copy ∷ [] }
+move from to =
+    record { op = mach.Op (op.Pure (pure.Copy copy.Move)); args = from ∷ []; results = to ∷ [] }
 
 -- One register is a copy of another at the end of this code: a move made it so, only instructions of the
 -- move's straight run come after it, and none of them writes the copy or ends the source.

@@ -2,7 +2,6 @@
 use Rattle.std.proofs.Common.{◌≡◌, ℕ, List, [], ◌∷◌, refl, sym, ap, ◌∙◌, subst}
 use Rattle.std.specs.List.{AllZip, concat}
 use Rattle.cmm_tree.specs.Tree.{FunctionTree, FileTree, functions}
-use Rattle.combine_rules.specs.Combined.{combined}
 use Rattle.file_promise.proofs.Once.{made_for_once}
 use Rattle.image_form.specs.Tables.{Tables}
 use Rattle.image_listings.specs.Texts.{frames_text, code_text}
@@ -10,10 +9,10 @@ use Rattle.lin_ir.specs.declared.lin.Lin.{Lin}
 use Rattle.linear_pass.specs.Linear.{IsLinearOf}
 use Rattle.linear_pass.proofs.Once.{linear_once}
 use Rattle.mach_ir.specs.declared.mach.Mach.{Mach}
-use Rattle.file_compile.proofs.Stages.{one_cleaned, one_with_slots}
+use Rattle.file_compile.proofs.Stages.{one_without_repeats, one_cleaned, one_with_slots}
 use Rattle.mach_passes.proofs.Whole.{one_prepared}
+use Rattle.mach_passes.specs.Stages.{HasNoRepeats, IsCleaned}
 use Rattle.made_functions.specs.Files.{IsFunctionMade}
-use Rattle.repeat_rules.proofs.One.{one_repeated}
 use Rattle.rounds_rules.specs.Rounds.{IsAllocated}
 use Rattle.rounds_rules.proofs.Once.{allocated_once}
 use Rattle.rv_pieces.specs.declared.piece.Pieces.{Pieces}
@@ -41,7 +40,7 @@ module _ (tree : FunctionTree) where
   pass_once : (stage : Stage) (a b : List ℕ) → IsPassText stage tree a → IsPassText stage tree b → a ≡ b
   pass_once Select a b of it = of ∙ sym it
   pass_once CombAlloc a b of it = of ∙ sym it
-  pass_once Cse a b of it = one_text a b (one_repeated (combined (selected tree))) of it
+  pass_once Cse a b of it = one_text a b (one_without_repeats (selected tree)) of it
   pass_once Dead a b of it = one_text a b (one_cleaned (selected tree)) of it
   pass_once Spill a b of it = one_text a b (one_with_slots (selected tree)) of it
   pass_once Split a b of it = one_text a b (one_prepared (selected tree)) of it
@@ -54,29 +53,31 @@ module _ (tree : FunctionTree) where
     is_allocated : IsAllocatedFor tree of.made.mach
     is_allocated = record { prepared = of.made.prepared; is_prepared = of.made.is_prepared; allocated = of.made.allocated }
 
+    lean : HasNoRepeats (selected tree) of.made.is_prepared.repeated
+    lean = record {
+      propagated = of.made.is_prepared.propagated;
+      is_propagated = of.made.is_prepared.is_propagated;
+      is_repeated = of.made.is_prepared.is_repeated;
+    }
+
+    cleaned : IsCleaned (selected tree) of.made.is_prepared.dropped
+    cleaned = record {
+      repeated = of.made.is_prepared.repeated;
+      has_no_repeats = lean;
+      is_dropped = of.made.is_prepared.is_dropped;
+    }
+
     -- what the code is made of is what the passes make
     code_passed : (stage : Stage) → IsPassText stage tree (function_text stage tree of)
     code_passed Select = refl
     code_passed CombAlloc = refl
-    code_passed Cse = record { made = of.made.is_prepared.repeated; is = of.made.is_prepared.is_repeated; spelled = refl }
-    code_passed Dead = record {
-      made = of.made.is_prepared.dropped;
-      is = record {
-        repeated = of.made.is_prepared.repeated;
-        is_repeated = of.made.is_prepared.is_repeated;
-        is_dropped = of.made.is_prepared.is_dropped;
-      };
-      spelled = refl;
-    }
+    code_passed Cse = record { made = of.made.is_prepared.repeated; is = lean; spelled = refl }
+    code_passed Dead = record { made = of.made.is_prepared.dropped; is = cleaned; spelled = refl }
     code_passed Spill = record {
       made = of.made.is_prepared.spilled;
       is = record {
         dropped = of.made.is_prepared.dropped;
-        is_cleaned = record {
-          repeated = of.made.is_prepared.repeated;
-          is_repeated = of.made.is_prepared.is_repeated;
-          is_dropped = of.made.is_prepared.is_dropped;
-        };
+        is_cleaned = cleaned;
         is_spilled = of.made.is_prepared.is_spilled;
       };
       spelled = refl;

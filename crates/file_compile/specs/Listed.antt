@@ -13,9 +13,8 @@ use Rattle.linear_pass.specs.Linear.{IsLinearOf}
 use Rattle.mach_ir.specs.Text.{mach_text}
 use Rattle.mach_ir.specs.declared.mach.Mach.{Mach}
 use Rattle.mach_passes.specs.Prepared.{IsPrepared}
-use Rattle.mach_passes.specs.Stages.{IsCleaned, HasSlots}
+use Rattle.mach_passes.specs.Stages.{HasNoRepeats, IsCleaned, HasSlots}
 use Rattle.made_functions.specs.Files.{IsFunctionMade, IsMadeFor}
-use Rattle.repeat_rules.specs.Repeated.{IsRepeated}
 use Rattle.rounds_rules.specs.Rounds.{IsAllocated}
 use Rattle.rv_pieces.specs.declared.piece.Pieces.{Pieces}
 use Rattle.selection_rules.specs.Select.{selected}
@@ -46,7 +45,7 @@ pub record IsTextOf {X : Type 0} (text_of : X → List ℕ) (Is : X → Type 0) 
 abbrev pub IsPassText : Stage → FunctionTree → List ℕ → Type 0
 IsPassText Select tree text = text ≡ mach_text (selected tree)
 IsPassText CombAlloc tree text = text ≡ mach_text (combined (selected tree))
-IsPassText Cse tree text = IsTextOf mach_text (IsRepeated (combined (selected tree))) text
+IsPassText Cse tree text = IsTextOf mach_text (HasNoRepeats (selected tree)) text
 IsPassText Dead tree text = IsTextOf mach_text (IsCleaned (selected tree)) text
 IsPassText Spill tree text = IsTextOf mach_text (HasSlots (selected tree)) text
 IsPassText Split tree text = IsTextOf mach_text (IsPrepared (selected tree)) text

@@ -2,6 +2,7 @@ pub mod Split
 pub mod Spilled
 pub mod Whole
 pub mod Repeated
+pub mod Propagated
 pub mod Dropped
 pub mod Combined
 pub mod Stages

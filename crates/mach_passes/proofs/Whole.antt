@@ -7,6 +7,9 @@ use Rattle.combine_rules.proofs.Sizes.{size, register_before}
 use Rattle.combine_rules.proofs.Whole as combining
 use Rattle.combine_rules.specs.Combined.{combined}
 use Rattle.combine_rules.specs.Kept.{IsCombinable}
+use Rattle.copy_rules.proofs.One.{one_propagated}
+use Rattle.copy_rules.proofs.Whole.{propagated_kept}
+use Rattle.copy_rules.specs.Propagated.{IsPropagated}
 use Rattle.dead_rules.proofs.Whole.{dropped_kept, one_dropped}
 use Rattle.dead_rules.specs.Dropped.{IsDropped}
 use Rattle.mach_ir.proofs.Keeping.{keeps_then}
@@ -28,13 +31,14 @@ use Rattle.split_rules.proofs.One.{one_split}
 use Rattle.split_rules.proofs.Whole.{split_kept}
 use Rattle.split_rules.specs.Split.{IsSplit}
 use Rattle.mach_passes.specs.Prepared.{IsPrepared, IsPreparable, IsKept}
-use Rattle.mach_passes.specs.Stages.{IsCleaned}
+use Rattle.mach_passes.specs.Stages.{HasNoRepeats, IsCleaned}
 use Rattle.repeat_rules.proofs.One.{one_repeated}
 use Rattle.repeat_rules.proofs.Whole.{repeated_kept}
 use Rattle.repeat_rules.specs.Kept.{OwnOrigins}
 use Rattle.repeat_rules.specs.Repeated.{IsRepeated}
 use Rattle.mach_passes.proofs.Combined.{combined_carried}
 use Rattle.mach_passes.proofs.Dropped.{dropped_carried}
+use Rattle.mach_passes.proofs.Propagated.{propagated_carried}
 use Rattle.mach_passes.proofs.Repeated.{repeated_carried}
 use Rattle.mach_passes.proofs.Spilled.{spill_carried}
 use Rattle.mach_passes.proofs.Split.{split_carried}
@@ -263,6 +267,19 @@ drop_stage m q formed placed s =
       carried = dropped_carried formed s;
     }
 
+propagate_stage : (m q : Mach) → WellFormed m → WellPlaced m → OwnOrigins m → IsPropagated m q → Smaller m q
+propagate_stage m q formed placed own s =
+    let k = propagated_kept m q formed placed own s in
+    record {
+      keeps = k.keeps;
+      formed = k.formed;
+      placed = k.placed;
+      seated = k.seated;
+      params = k.params;
+      size = k.size;
+      carried = propagated_carried k s;
+    }
+
 repeat_stage : (m q : Mach) → WellFormed m → WellPlaced m → OwnOrigins m → IsRepeated m q → Smaller m q
 repeat_stage m q formed placed own s =
     let k = repeated_kept m q formed placed own s in
@@ -280,15 +297,28 @@ repeat_stage m q formed placed own s =
 combined_own : (m : Mach) → IsCombinable m → OwnOrigins (combined m)
 combined_own m is r i = is.origins r (register_before m r i)
 
--- the passes that do not enlarge the function
-pub repeats_stage : (m q : Mach) → IsPreparable m → IsRepeated (combined m) q → Smaller m q
-repeats_stage m q is made =
+-- nor does propagating copies
+propagated_own : (m q : Mach) → IsPreparable m → IsPropagated (combined m) q → OwnOrigins q
+propagated_own m q is made r i =
     let one = combine_stage m is.combinable is.placed in
-    stage_then one (repeat_stage (combined m) q one.formed one.placed (combined_own m is.combinable) made)
+    let own = combined_own m is.combinable in
+    own r ((propagated_kept (combined m) q one.formed one.placed own made).registers r i)
+
+-- the passes that do not enlarge the function
+pub propagates_stage : (m q : Mach) → IsPreparable m → IsPropagated (combined m) q → Smaller m q
+propagates_stage m q is made =
+    let one = combine_stage m is.combinable is.placed in
+    stage_then one (propagate_stage (combined m) q one.formed one.placed (combined_own m is.combinable) made)
+
+pub repeats_stage : (m q : Mach) → IsPreparable m → HasNoRepeats m q → Smaller m q
+repeats_stage m q is made =
+    let one = propagates_stage m made.propagated is made.is_propagated in
+    stage_then one
+    (repeat_stage made.propagated q one.formed one.placed (propagated_own m made.propagated is made.is_propagated) made.is_repeated)
 
 pub small_stage : (m q : Mach) → IsPreparable m → IsCleaned m q → Smaller m q
 small_stage m q is made =
-    let one = repeats_stage m made.repeated is made.is_repeated in
+    let one = repeats_stage m made.repeated is made.has_no_repeats in
     stage_then one (drop_stage made.repeated q one.formed one.placed made.is_dropped)
 
 -- and spilling after them
@@ -300,7 +330,9 @@ slots_stage m small q is made spilled =
 
 pub prepared_kept : (m q : Mach) → IsPreparable m → IsPrepared m q → IsKept m q
 prepared_kept m q is made =
-    let cleaned : IsCleaned m made.dropped = record { repeated = made.repeated; is_repeated = made.is_repeated; is_dropped = made.is_dropped } in
+    let lean : HasNoRepeats m made.repeated =
+    record { propagated = made.propagated; is_propagated = made.is_propagated; is_repeated = made.is_repeated } in
+    let cleaned : IsCleaned m made.dropped = record { repeated = made.repeated; has_no_repeats = lean; is_dropped = made.is_dropped } in
     let small = small_stage m made.dropped is cleaned in
     let slots = slots_stage m made.dropped made.spilled is cleaned made.is_spilled in
     let all = stage_then slots (split_stage made.spilled q (length m.params) (ap length slots.params) slots.formed slots.placed made.is_split) in
@@ -317,7 +349,9 @@ prepared_kept m q is made =
 
 pub one_prepared : (m q k : Mach) → IsPrepared m q → IsPrepared m k → q ≡ k
 one_prepared m q k a b =
-    let repeated = one_repeated (combined m) a.repeated b.repeated a.is_repeated b.is_repeated in
+    let propagated = one_propagated (combined m) a.propagated b.propagated a.is_propagated b.is_propagated in
+    let repeated =
+    one_repeated b.propagated a.repeated b.repeated (subst (λ c. IsRepeated c a.repeated) propagated a.is_repeated) b.is_repeated in
     let dropped = one_dropped b.repeated a.dropped b.dropped (subst (λ d. IsDropped d a.dropped) repeated a.is_dropped) b.is_dropped in
     let spilled = one_spilled b.dropped a.spilled b.spilled (subst (λ d. IsSpilled d a.spilled) dropped a.is_spilled) b.is_spilled in
     one_split b.spilled q k (subst (λ s. IsSplit s q) spilled a.is_split) b.is_split

@@ -2,6 +2,7 @@
 use Rattle.std.specs.Prelude.{ℕ, ◌+◌, ◌*◌, length}
 use Rattle.combine_rules.specs.Combined.{combined}
 use Rattle.combine_rules.specs.Kept.{IsCombinable}
+use Rattle.copy_rules.specs.Propagated.{IsPropagated}
 use Rattle.dead_rules.specs.Dropped.{IsDropped}
 use Rattle.mach_ir.specs.Formed.{WellFormed}
 use Rattle.mach_ir.specs.Keeps.{Keeps}
@@ -16,11 +17,14 @@ use Rattle.repeat_rules.specs.Repeated.{IsRepeated}
 use Rattle.spill_rules.specs.Chosen.{IsSpilled}
 use Rattle.split_rules.specs.Split.{IsSplit}
 
--- Its allocations are combined, repeats become moves, what only computes and is not used goes, what
--- lives over calls goes to slots, and each web of writes gets a number of its own.
+-- Its allocations are combined, copies are read from their sources, repeats become moves, what only
+-- computes and is not used goes, what lives over calls goes to slots, and each web of writes gets a
+-- number of its own.
 pub record IsPrepared (m q : Mach) : Type 0 where
+  pub propagated : Mach
+  pub is_propagated : IsPropagated (combined m) propagated
   pub repeated : Mach
-  pub is_repeated : IsRepeated (combined m) repeated
+  pub is_repeated : IsRepeated propagated repeated
   pub dropped : Mach
   pub is_dropped : IsDropped repeated dropped
   pub spilled : Mach

@@ -1,14 +1,22 @@
 -- What stands between the passes before register allocation.
 use Rattle.combine_rules.specs.Combined.{combined}
+use Rattle.copy_rules.specs.Propagated.{IsPropagated}
 use Rattle.dead_rules.specs.Dropped.{IsDropped}
 use Rattle.mach_ir.specs.declared.mach.Mach.{Mach}
 use Rattle.repeat_rules.specs.Repeated.{IsRepeated}
 use Rattle.spill_rules.specs.Chosen.{IsSpilled}
 
--- The second is the first with its allocations combined, and without repeats and dead code.
+-- The second is the first with its allocations combined and its copies propagated, and without
+-- repeats.
+pub record HasNoRepeats (m q : Mach) : Type 0 where
+  pub propagated : Mach
+  pub is_propagated : IsPropagated (combined m) propagated
+  pub is_repeated : IsRepeated propagated q
+
+-- The second is the first so, and without dead code.
 pub record IsCleaned (m q : Mach) : Type 0 where
   pub repeated : Mach
-  pub is_repeated : IsRepeated (combined m) repeated
+  pub has_no_repeats : HasNoRepeats m repeated
   pub is_dropped : IsDropped repeated q
 
 -- The second is the first, so cleaned, in which what lives over calls has slots.

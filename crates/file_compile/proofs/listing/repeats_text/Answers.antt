@@ -2,8 +2,7 @@ use Rattle.std.proofs.Common.{subst}
 use Rattle.std.proofs.lemmas.Result.{IfOk-weaker}
 use Rattle.cmm_tree.specs.View.{function_view}
 use Rattle.mach_ir.specs.declared.mach.Mach.{Mach}
-use Rattle.combine_rules.specs.Combined.{combined}
-use Rattle.repeat_rules.specs.Repeated.{IsRepeated}
+use Rattle.mach_passes.specs.Stages.{HasNoRepeats}
 use Rattle.file_compile.proofs.Passing.{preparable}
 use Rattle.file_compile.proofs.listing.repeats_text.Goals as goal
 
@@ -16,7 +15,7 @@ returns c =
     (λ text spelled.
     record {
       made = c.in_ok-passed.passed;
-      is = subst (λ (m : Mach). IsRepeated (combined m) c.in_ok-passed.passed) c.in_ok-mach.ensures c.in_ok-passed.ensures;
+      is = subst (λ (m : Mach). HasNoRepeats m c.in_ok-passed.passed) c.in_ok-mach.ensures c.in_ok-passed.ensures;
       spelled = spelled;
     })
     c.text.ensures
