@@ -12,7 +12,7 @@ use Rattle.mach_ir.specs.Forms as form
 use Rattle.mach_ir.specs.Forms.{HasForm}
 use Rattle.mach_ir.specs.Formed.{comps, IsFormed, formed_op, formed_mark, WellFormed}
 use Rattle.mach_ir.specs.Placed.{is_straight}
-use Rattle.mach_ir.specs.Walks.{InCode, in_args, in_results, further, IsRegister, is_in_code}
+use Rattle.mach_ir.specs.Walks.{IsRegister, is_in_code}
 use Rattle.mach_ir.specs.declared.op.CopyKind.TheVariants as kind
 use Rattle.mach_ir.specs.declared.op.Op.TheVariants as op
 use Rattle.mach_ir.specs.declared.op.Pure.TheVariants as pure
@@ -31,7 +31,7 @@ use Rattle.cse_deadcode.specs.Copies.{is_move, same_comp, is_open, is_copy, sour
 use Rattle.cse_deadcode.proofs.Last.{AreQuiet, Found, find, last_from}
 use Rattle.cse_deadcode.proofs.Noting.{differ, first_true, only_first, number_written, written_number, number_write, unwritten, quiet, ends_run, in_run}
 use Rattle.cse_deadcode.proofs.Alike.{one_of}
-use Rattle.cse_deadcode.proofs.Parts.{in_front, behind, at_seam, head_of, Places, one_place, further_on, places}
+use Rattle.cse_deadcode.proofs.Parts.{in_front, behind, at_seam, head_of, Places, one_place, further_on, places, operand_in, result_in}
 use Rattle.cse_deadcode.proofs.Planned as step
 use Rattle.cse_deadcode.proofs.Standing.{of_each, all_straight, quiet_later, later_quiet, still_holds, holds_still}
 
@@ -157,16 +157,6 @@ module _ (m : Mach) (formed : WellFormed m) where
 
   abbrev AreMade : List Instr → Type 0
   AreMade made = (j : Instr) → Contains made j → IsMade j
-
-  operand_in : (code : List Instr) (i : Instr) (r : Reg) → Contains code i → Contains i.args r → InCode r code
-  operand_in [] i r c d = absurd (none_in i c)
-  operand_in (j ∷ code) i r c d =
-      ⊎_elim (λ e. in_args (subst (λ (i : Instr). Contains i.args r) (sym e) d)) (λ g. further (operand_in code i r g d)) (in_cons j i code c)
-
-  result_in : (code : List Instr) (i : Instr) (r : Reg) → Contains code i → Contains i.results r → InCode r code
-  result_in [] i r c d = absurd (none_in i c)
-  result_in (j ∷ code) i r c d =
-      ⊎_elim (λ e. in_results (subst (λ (i : Instr). Contains i.results r) (sym e) d)) (λ g. further (result_in code i r g d)) (in_cons j i code c)
 
   -- ---- an operand after what is made
 

@@ -4,7 +4,7 @@ use Rattle.std.specs.List.{Contains, list_any}
 use Rattle.liveness.proofs.Bounds.{split_in}
 use Rattle.mach_ir.specs.Formed.{IsFormed, WellFormed}
 use Rattle.mach_ir.specs.Placed.{is_straight}
-use Rattle.mach_ir.specs.Walks.{InCode, in_args, further, is_in_code}
+use Rattle.mach_ir.specs.Walks.{is_in_code}
 use Rattle.mach_ir.specs.declared.op.Access.TheVariants as access
 use Rattle.mach_ir.specs.declared.op.Op.TheVariants as op
 use Rattle.mach_ir.specs.declared.op.Pure.TheVariants as pure
@@ -27,7 +27,7 @@ use Rattle.cse_deadcode.specs.Repeats.{stands, standing_first, standing, standin
 use Rattle.cse_deadcode.proofs.Last.{Found, find, last_from}
 use Rattle.cse_deadcode.proofs.Noting.{differ, second_true, any_none, never_written}
 use Rattle.cse_deadcode.proofs.Alike.{operator_of, same_itself, OperatorShape, operator_shape, alike}
-use Rattle.cse_deadcode.proofs.Parts.{in_front, behind, none_cons, some_same, none_some, some_none, at_seam, Places, one_place, further_on, places, places_end}
+use Rattle.cse_deadcode.proofs.Parts.{in_front, behind, none_cons, some_same, none_some, some_none, at_seam, Places, one_place, further_on, places, places_end, operand_in}
 use Rattle.cse_deadcode.proofs.Planned as step
 use Rattle.cse_deadcode.proofs.Standing.{of_each, all_straight, still_stands, stands_still}
 
@@ -103,15 +103,10 @@ module _ (m : Mach) (formed : WellFormed m) where
   form_of : (i : Instr) → Contains m.code i → IsFormed i
   form_of i c = of_each IsFormed m.code i formed.instrs c
 
-  in_code : (code : List Instr) (i : Instr) (r : Reg) → Contains code i → Contains i.args r → InCode r code
-  in_code [] i r c d = absurd (none_in i c)
-  in_code (j ∷ code) i r c d =
-      ⊎_elim (λ e. in_args (subst (λ (i : Instr). Contains i.args r) (sym e) d)) (λ g. further (in_code code i r g d)) (in_cons j i code c)
-
   told : (i j : Instr) → Contains m.code i → Contains m.code j → (r q : Reg) → Contains i.args r → Contains j.args q →
       r.number ≡ q.number → r ≡ q
   told i j c d r q g h e =
-      formed.numbers r q (is_in_code (in_code m.code i r c g)) (is_in_code (in_code m.code j q d h)) e
+      formed.numbers r q (is_in_code (operand_in m.code i r c g)) (is_in_code (operand_in m.code j q d h)) e
 
   -- what is made of a code: its operators are of the function, and none repeats an earlier one
   pub record Fresh (made : List Instr) : Type 0 where
