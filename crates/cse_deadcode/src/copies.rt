@@ -139,8 +139,8 @@ fn with_sources(alloc: Global, code: Seq<Instr>) -> Result<Seq<Instr>, AllocErro
 /// of its straight run made it so, both still stand, and neither has a place.
 ///
 /// Registers are taken by number, so the function must be well-formed. A copy of a copy is read from
-/// the first source, since the move between them reads that already. The time is that of a look-up in a
-/// map for each register. The only error is want of memory.
+/// the first source, since the move between them reads that already. The time is that of a few look-ups
+/// in a map for each register and operator. The only error is want of memory.
 pub fn propagate(alloc: Global, mach: Mach) -> Result<Mach, AllocError>
     requires formed { WellFormed mach }
     ensures { IfOk result (λ after. IsPropagated mach after) }
