@@ -190,7 +190,7 @@ few_operands f r cs ds (form.operates {rest = rest} h) = let few = few_right f r
 one_result : (f : IntOp) (r : Right) (cs ds : List Comp) → HasForm (op.Pure (pure.Operator f r)) cs ds → length ds ≡ 1
 one_result f r cs ds (form.operates h) = refl
 
-one_of : (rs : List Reg) → length rs ≡ 1 → (r : Reg) × (rs ≡ r ∷ [])
+pub one_of : (rs : List Reg) → length rs ≡ 1 → (r : Reg) × (rs ≡ r ∷ [])
 one_of [] e = absurd (omega (arith, e))
 one_of (r ∷ []) e = (r, refl)
 one_of (r ∷ q ∷ rs) e = absurd (omega (arith, e))

@@ -8,5 +8,8 @@ mod Last
 mod Noted
 mod Noting
 mod Alike
+mod Parts
+mod Planned
 mod Standing
 mod Repeating
+mod Copying

@@ -1,15 +1,14 @@
 -- The table of times after an instruction.
-use Rattle.std.proofs.Common.{◌≡◌, ◌∙◌, ℕ, suc, ◌+◌, ◌<◌, Bool, true, false, cond, ◌||◌, List, [], ◌∷◌, ◌++◌, length, take, get_or, Option, refl, sym, ap, arith}
+use Rattle.std.proofs.Common.{◌≡◌, ◌∙◌, ℕ, suc, ◌+◌, ◌<◌, Bool, true, false, cond, ◌||◌, List, [], ◌∷◌, ◌++◌, length, take, get_or, refl, sym, ap, arith}
 use mathlib.Core.Path.{fun_ext}
 use Rattle.std.proofs.lemmas.List.Folds.{list_any_more}
 use Rattle.std.specs.List.{list_any}
 use Rattle.mach_ir.specs.declared.reg.Reg.{Reg}
 use Rattle.mach_ir.specs.declared.mach.Instr.{Instr}
-use Rattle.repeat_rules.specs.Repeated.{from_earlier}
 use Rattle.cse_deadcode.specs.declared.events.Event.{Event}
 use Rattle.cse_deadcode.specs.declared.times.Times.{Times}
+use Rattle.cse_deadcode.specs.Made.{Making, remade, made_by}
 use Rattle.cse_deadcode.specs.Times.{writes, happens, last_time, time_in, AreTimes}
-use Rattle.cse_deadcode.specs.Repeats.{repeated, remade, without_repeats}
 use Rattle.cse_deadcode.proofs.Last.{last_more}
 
 -- ---- notes, one after another
@@ -70,35 +69,35 @@ times_more old new made after i time are e h same =
 -- ---- the loop
 
 -- what is made so far, its times, and what is still to come
-pub record Remaking (code rest made : List Instr) (times : Times) : Type 0 where
+pub record Remaking (make : Making) (code rest made : List Instr) (times : Times) : Type 0 where
   pub are : AreTimes times made
-  pub whole : without_repeats made rest ≡ without_repeats [] code
+  pub whole : made_by make made rest ≡ made_by make [] code
 
-pub remaking_begun : (code rest made : List Instr) (times : Times) → rest ≡ code → made ≡ [] → ((e : Event) → time_in times e ≡ 0) →
-    Remaking code rest made times
-remaking_begun code rest made times e h zero =
+pub remaking_begun : (make : Making) (code rest made : List Instr) (times : Times) → rest ≡ code → made ≡ [] →
+    ((e : Event) → time_in times e ≡ 0) → Remaking make code rest made times
+remaking_begun make code rest made times e h zero =
     record {
       are = record { each = λ e. zero e ∙ ap (λ code. last_time code e) (sym h) };
-      whole = ap (λ made. without_repeats made rest) h ∙ ap (without_repeats []) e;
+      whole = ap (λ made. made_by make made rest) h ∙ ap (made_by make []) e;
     }
 
-pub remaking_more : (code rest later made after : List Instr) (times new : Times) (i x : Instr) (o : Option Reg) (time : ℕ) →
-    rest ≡ i ∷ later → o ≡ repeated (time_in times) made i → x ≡ from_earlier o i → time ≡ length made + 1 →
+pub remaking_more : (make : Making) (code rest later made after : List Instr) (times new : Times) (i x : Instr) (time : ℕ) →
+    rest ≡ i ∷ later → x ≡ make (time_in times) made i → time ≡ length made + 1 →
     ((e : Event) → time_in new e ≡ cond (happens e x) time (time_in times e)) → after ≡ made ++ x ∷ [] →
-    Remaking code rest made times → Remaking code later after new
-remaking_more code rest later made after times new i x o time next is made_so now noted pushed r =
+    Remaking make code rest made times → Remaking make code later after new
+remaking_more make code rest later made after times new i x time next is now noted pushed r =
     record {
       are = times_more times new made after x time r.are now noted pushed;
-      whole = ap (λ code. without_repeats code later) (pushed ∙ ap (λ y. made ++ y ∷ []) same)
-          ∙ ap (without_repeats made) (sym next) ∙ r.whole;
+      whole = ap (λ code. made_by make code later) (pushed ∙ ap (λ y. made ++ y ∷ []) same)
+          ∙ ap (made_by make made) (sym next) ∙ r.whole;
     }
   where
     clock : time_in times ≡ last_time made
     clock = fun_ext (λ e. r.are.each e)
 
-    same : x ≡ remade made i
-    same = made_so ∙ ap (λ o. from_earlier o i) (is ∙ ap (λ at. repeated at made i) clock)
+    same : x ≡ remade make made i
+    same = is ∙ ap (λ at. make at made i) clock
 
-pub remaking_done : (code rest made result : List Instr) (times : Times) → Remaking code rest made times → rest ≡ [] → result ≡ made →
-    result ≡ without_repeats [] code
-remaking_done code rest made result times r none e = e ∙ ap (without_repeats made) (sym none) ∙ r.whole
+pub remaking_done : (make : Making) (code rest made result : List Instr) (times : Times) → Remaking make code rest made times →
+    rest ≡ [] → result ≡ made → result ≡ made_by make [] code
+remaking_done make code rest made result times r none e = e ∙ ap (made_by make made) (sym none) ∙ r.whole

@@ -1,11 +1,10 @@
 -- Moves from what an operator repeats by the times of the code are exactly the repeats.
-use Rattle.std.proofs.Common.{◌≡◌, ◌∙◌, ℕ, zero, suc, ◌<◌, ◌≤◌, ◌+◌, ◌-◌, Bool, true, false, cond, ◌||◌, ⊎_elim, List, [], ◌∷◌, ◌++◌, length, take, drop, Option, Some, None, slice_get, refl, sym, ap, subst, append_assoc, arith}
-use Rattle.std.proofs.lemmas.List.{length-append, append-nil, append_cancel_right}
+use Rattle.std.proofs.Common.{◌≡◌, ◌∙◌, ℕ, zero, suc, ◌<◌, ◌≤◌, Bool, true, false, cond, ◌||◌, ⊎_elim, List, [], ◌∷◌, ◌++◌, length, Option, Some, None, slice_get, refl, sym, ap, subst, arith}
 use Rattle.std.specs.List.{Contains, list_any}
 use Rattle.liveness.proofs.Bounds.{split_in}
 use Rattle.mach_ir.specs.Formed.{IsFormed, WellFormed}
 use Rattle.mach_ir.specs.Placed.{is_straight}
-use Rattle.mach_ir.specs.Walks.{InCode, in_args, further, is_in_code}
+use Rattle.mach_ir.specs.Walks.{is_in_code}
 use Rattle.mach_ir.specs.declared.op.Access.TheVariants as access
 use Rattle.mach_ir.specs.declared.op.Op.TheVariants as op
 use Rattle.mach_ir.specs.declared.op.Pure.TheVariants as pure
@@ -16,96 +15,21 @@ use Rattle.mach_ir.specs.declared.mach.Mach.{Mach}
 use Rattle.mach_ir.specs.declared.mach.MachOp.{MachOp}
 use Rattle.mach_ir.specs.declared.mach.MachOp.TheVariants as mach
 use Rattle.mach_laws.proofs.Walking.{none_in, first_in, later_in, in_cons}
-use Rattle.repeat_rules.specs.Repeated.{is_operator, StillStands, Repeats, from_earlier, again, with_moves, IsBefore, IsRepeated}
+use Rattle.repeat_rules.specs.Repeated.{is_operator, StillStands, Repeats, from_earlier, IsBefore, IsRepeated}
 use Rattle.bs_words.specs.declared.operators.IntOp.{IntOp}
 use Rattle.cse_deadcode.specs.declared.events.Computed.{Computed}
 use Rattle.cse_deadcode.specs.declared.events.Event.{Event}
 use Rattle.cse_deadcode.specs.declared.events.Event.TheVariants as event
 use Rattle.cse_deadcode.specs.Events.{computation}
+use Rattle.cse_deadcode.specs.Made.{remade, made_by}
 use Rattle.cse_deadcode.specs.Times.{is_same, writes, does, happens, last_time}
-use Rattle.cse_deadcode.specs.Repeats.{stands, standing_first, standing, standing_found, standing_at, repeated_op, repeated, remade, without_repeats}
+use Rattle.cse_deadcode.specs.Repeats.{stands, standing_first, standing, standing_found, standing_at, repeated_op, repeated, without_repeat}
 use Rattle.cse_deadcode.proofs.Last.{Found, find, last_from}
 use Rattle.cse_deadcode.proofs.Noting.{differ, second_true, any_none, never_written}
 use Rattle.cse_deadcode.proofs.Alike.{operator_of, same_itself, OperatorShape, operator_shape, alike}
+use Rattle.cse_deadcode.proofs.Parts.{in_front, behind, none_cons, some_same, none_some, some_none, at_seam, Places, one_place, further_on, places, places_end, operand_in}
+use Rattle.cse_deadcode.proofs.Planned as step
 use Rattle.cse_deadcode.proofs.Standing.{of_each, all_straight, still_stands, stands_still}
-
--- ---- parts of lists
-
-in_front : {A : Type 0} (xs ys : List A) (y : A) → Contains xs y → Contains (xs ++ ys) y
-in_front [] ys y c = absurd (none_in y c)
-in_front (x ∷ xs) ys y c =
-    ⊎_elim (λ e. subst (Contains (x ∷ (xs ++ ys))) e (first_in x (xs ++ ys)))
-    (λ d. later_in x y (xs ++ ys) (in_front xs ys y d)) (in_cons x y xs c)
-
-behind : {A : Type 0} (xs ys : List A) (y : A) → Contains ys y → Contains (xs ++ ys) y
-behind [] ys y c = c
-behind (x ∷ xs) ys y c = later_in x y (xs ++ ys) (behind xs ys y c)
-
-none_cons : {A : Type 0} {x : A} {xs : List A} → [] ≡ x ∷ xs → ⊥
-none_cons e = cc
-
-cons_none : {A : Type 0} {x : A} {xs : List A} → x ∷ xs ≡ [] → ⊥
-cons_none e = cc
-
-head_of : {A : Type 0} {x y : A} {xs ys : List A} → x ∷ xs ≡ y ∷ ys → x ≡ y
-head_of e = cc
-
-tail_of : {A : Type 0} {x y : A} {xs ys : List A} → x ∷ xs ≡ y ∷ ys → xs ≡ ys
-tail_of e = cc
-
-some_same : {A : Type 0} {x y : A} → Some x ≡ Some y → x ≡ y
-some_same e = cc
-
-none_some : {A : Type 0} {x : A} → None ≡ Some x → ⊥
-none_some e = cc
-
-some_none : {A : Type 0} {x : A} → Some x ≡ None → ⊥
-some_none e = cc
-
-at_seam : {A : Type 0} (xs : List A) (y : A) (ys : List A) → slice_get (xs ++ y ∷ ys) (length xs) ≡ Some y
-at_seam [] y ys = refl
-at_seam (x ∷ xs) y ys = at_seam xs y ys
-
--- two places of one list, of which the second is not before the first
-data Places {A : Type 0} (xs : List A) (x : A) (past : List A) (ys : List A) (y : A) (rest : List A) : Type 0 where
-  one_place : xs ≡ ys → x ≡ y → past ≡ rest → Places xs x past ys y rest
-  further_on : (mid : List A) → ys ≡ xs ++ x ∷ mid → past ≡ mid ++ y ∷ rest → Places xs x past ys y rest
-
-places_more : {A : Type 0} {z : A} {xs : List A} {x : A} {past ys : List A} {y : A} {rest : List A} →
-    Places xs x past ys y rest → Places (z ∷ xs) x past (z ∷ ys) y rest
-places_more {z = z} (one_place e h g) = one_place (ap (λ xs. z ∷ xs) e) h g
-places_more {z = z} (further_on mid e h) = further_on mid (ap (λ xs. z ∷ xs) e) h
-
-places : {A : Type 0} (xs : List A) (x : A) (past ys : List A) (y : A) (rest : List A) → xs ++ x ∷ past ≡ ys ++ y ∷ rest →
-    length xs ≤ length ys → Places xs x past ys y rest
-places [] x past [] y rest e le = one_place refl (head_of e) (tail_of e)
-places [] x past (z ∷ ys) y rest e le =
-    further_on ys (ap (λ v. v ∷ ys) (sym (head_of e))) (tail_of e)
-places (v ∷ xs) x past [] y rest e le = absurd (omega (arith, le))
-places (v ∷ xs) x past (z ∷ ys) y rest e le =
-    let less : length xs ≤ length ys = omega (arith, le) in
-    subst (λ u. Places (v ∷ xs) x past (u ∷ ys) y rest) (head_of e)
-    (places_more (places xs x past ys y rest (tail_of e) less))
-
--- a place is not after the last
-places_end : {A : Type 0} (xs : List A) (x : A) (past ys : List A) (y : A) → xs ++ x ∷ past ≡ ys ++ y ∷ [] →
-    Places xs x past ys y []
-places_end xs x past ys y e =
-    let a : length (xs ++ x ∷ past) ≡ length xs + length (x ∷ past) = length-append xs (x ∷ past) in
-    let b : length (ys ++ y ∷ []) ≡ length ys + 1 = length-append ys (y ∷ []) in
-    let c : length (xs ++ x ∷ past) ≡ length (ys ++ y ∷ []) = ap length e in
-    let le : length xs ≤ length ys = omega (arith, a, b, c) in
-    places xs x past ys y [] e le
-
-take_front : {A : Type 0} (xs ys : List A) → take (length xs) (xs ++ ys) ≡ xs
-take_front [] [] = refl
-take_front [] (y ∷ ys) = refl
-take_front (x ∷ xs) ys = ap (λ zs. x ∷ zs) (take_front xs ys)
-
-drop_front : {A : Type 0} (xs ys : List A) → drop (length xs) (xs ++ ys) ≡ ys
-drop_front [] [] = refl
-drop_front [] (y ∷ ys) = refl
-drop_front (x ∷ xs) ys = drop_front xs ys
 
 -- ---- what is done in an operator
 
@@ -179,15 +103,10 @@ module _ (m : Mach) (formed : WellFormed m) where
   form_of : (i : Instr) → Contains m.code i → IsFormed i
   form_of i c = of_each IsFormed m.code i formed.instrs c
 
-  in_code : (code : List Instr) (i : Instr) (r : Reg) → Contains code i → Contains i.args r → InCode r code
-  in_code [] i r c d = absurd (none_in i c)
-  in_code (j ∷ code) i r c d =
-      ⊎_elim (λ e. in_args (subst (λ (i : Instr). Contains i.args r) (sym e) d)) (λ g. further (in_code code i r g d)) (in_cons j i code c)
-
   told : (i j : Instr) → Contains m.code i → Contains m.code j → (r q : Reg) → Contains i.args r → Contains j.args q →
       r.number ≡ q.number → r ≡ q
   told i j c d r q g h e =
-      formed.numbers r q (is_in_code (in_code m.code i r c g)) (is_in_code (in_code m.code j q d h)) e
+      formed.numbers r q (is_in_code (operand_in m.code i r c g)) (is_in_code (operand_in m.code j q d h)) e
 
   -- what is made of a code: its operators are of the function, and none repeats an earlier one
   pub record Fresh (made : List Instr) : Type 0 where
@@ -343,8 +262,8 @@ module _ (m : Mach) (formed : WellFormed m) where
     -- ---- one more instruction
 
     data Fate : Type 0 where
-      same_left : repeated (last_time made) made i ≡ None → remade made i ≡ i → Fate
-      made_move : is_operator (remade made i).op ≡ false → Fate
+      same_left : repeated (last_time made) made i ≡ None → remade without_repeat made i ≡ i → Fate
+      made_move : is_operator (remade without_repeat made i).op ≡ false → Fate
 
     fate : Fate
     fate = by (repeated (last_time made) made i) refl
@@ -353,28 +272,28 @@ module _ (m : Mach) (formed : WellFormed m) where
         by None e = same_left e (ap (λ o. from_earlier o i) e)
         by (Some r) e = made_move (ap (λ o. is_operator (from_earlier o i).op) e)
 
-    pub fresh_more : Fresh (made ++ remade made i ∷ [])
+    pub fresh_more : Fresh (made ++ remade without_repeat made i ∷ [])
     fresh_more =
         record {
           from = λ j c o.
               ⊎_elim (λ d. fresh.from j d o)
-              (λ d. ⊎_elim (λ e. last_of j e o fate) (λ n. absurd (none_in j n)) (in_cons (remade made i) j [] d))
-              (split_in made (remade made i ∷ []) j c);
-          once = λ others j run e r p. by others j run e r p (places_end others j run made (remade made i) (sym e));
+              (λ d. ⊎_elim (λ e. last_of j e o fate) (λ n. absurd (none_in j n)) (in_cons (remade without_repeat made i) j [] d))
+              (split_in made (remade without_repeat made i ∷ []) j c);
+          once = λ others j run e r p. by others j run e r p (places_end others j run made (remade without_repeat made i) (sym e));
         }
       where
-        last_of : (j : Instr) → remade made i ≡ j → is_operator j.op ≡ true → Fate → Contains m.code j
+        last_of : (j : Instr) → remade without_repeat made i ≡ j → is_operator j.op ≡ true → Fate → Contains m.code j
         last_of j e o (same_left n h) = subst (Contains m.code) (sym h ∙ e) known
         last_of j e o (made_move n) = absurd (differ (is_operator j.op) o (ap (λ (j : Instr). is_operator j.op) (sym e) ∙ n))
 
-        fresh_last : (r : Reg) → Fate → Repeats made (remade made i) r → ⊥
+        fresh_last : (r : Reg) → Fate → Repeats made (remade without_repeat made i) r → ⊥
         fresh_last r (same_left n h) p = none_is n r (subst (λ (i : Instr). Repeats made i r) h p)
-        fresh_last r (made_move n) p = differ (is_operator (remade made i).op) (ap is_operator (sym p.same_op) ∙ p.stands.operates) n
+        fresh_last r (made_move n) p = differ (is_operator (remade without_repeat made i).op) (ap is_operator (sym p.same_op) ∙ p.stands.operates) n
 
-        by : (others : List Instr) (j : Instr) (run : List Instr) → made ++ remade made i ∷ [] ≡ others ++ j ∷ run → (r : Reg) →
-            Repeats others j r → Places others j run made (remade made i) [] → ⊥
+        by : (others : List Instr) (j : Instr) (run : List Instr) → made ++ remade without_repeat made i ∷ [] ≡ others ++ j ∷ run → (r : Reg) →
+            Repeats others j r → Places others j run made (remade without_repeat made i) [] → ⊥
         by others j run e r p (one_place a b c) =
-            fresh_last r fate (subst (λ code. Repeats code (remade made i) r) a (subst (λ (j : Instr). Repeats others j r) b p))
+            fresh_last r fate (subst (λ code. Repeats code (remade without_repeat made i) r) a (subst (λ (j : Instr). Repeats others j r) b p))
         by others j run e r p (further_on mid a b) = fresh.once others j mid a r p
 
   fresh_none : Fresh []
@@ -389,73 +308,44 @@ module _ (m : Mach) (formed : WellFormed m) where
       nothing (x ∷ others) j run e = none_cons e
 
   fresh_all : (made code : List Instr) → Fresh made → ((i : Instr) → Contains code i → Contains m.code i) →
-      Fresh (without_repeats made code)
+      Fresh (made_by without_repeat made code)
   fresh_all made [] f c = f
   fresh_all made (i ∷ next) f c =
-      fresh_all (made ++ remade made i ∷ []) next (fresh_more made f i (c i (first_in i next)))
+      fresh_all (made ++ remade without_repeat made i ∷ []) next (fresh_more made f i (c i (first_in i next)))
       (λ j d. c j (later_in i j next d))
 
   -- ---- the plan
 
   abbrev after : List Instr → List Instr
-  after done = without_repeats [] done
+  after done = made_by without_repeat [] done
 
-  abbrev plan_at : List Instr → List Instr → Option Reg
-  plan_at done [] = None
-  plan_at done (i ∷ next) = repeated (last_time (after done)) (after done) i
+  abbrev choice : List Instr → Instr → Option Reg
+  choice made i = repeated (last_time made) made i
+
+  -- a move, if it is in place of an operator
+  abbrev put : Option Reg → Instr → Instr
+  put o i = cond (is_operator i.op) (from_earlier o i) i
+
+  same_move : (made : List Instr) (i : Instr) → put (choice made i) i ≡ remade without_repeat made i
+  same_move made i = by (is_operator i.op) refl
+    where
+      by : (b : Bool) → is_operator i.op ≡ b → put (choice made i) i ≡ remade without_repeat made i
+      by true h = ap (λ b. cond b (from_earlier (choice made i) i) i) h
+      by false h =
+          ap (λ b. cond b (from_earlier (choice made i) i) i) h
+          ∙ sym (ap (λ o. from_earlier o i) (alone (last_time made) made i.op i.args h))
 
   -- from what an instruction is a move that so many come after
   abbrev plan : ℕ → Option Reg
-  plan k = plan_at (take (length m.code - suc k) m.code) (drop (length m.code - suc k) m.code)
+  plan = step.plan without_repeat choice None m.code
 
   planned : (done : List Instr) (i : Instr) (next : List Instr) → m.code ≡ done ++ i ∷ next →
       plan (length next) ≡ repeated (last_time (after done)) (after done) i
-  planned done i next e =
-      ap (λ k. plan_at (take k m.code) (drop k m.code)) count
-      ∙ ap (λ code. plan_at (take (length done) code) (drop (length done) code)) e
-      ∙ ap (λ xs. plan_at xs (drop (length done) (done ++ i ∷ next))) (take_front done (i ∷ next))
-      ∙ ap (plan_at done) (drop_front done (i ∷ next))
-    where
-      count : length m.code - suc (length next) ≡ length done
-      count =
-          let all : length m.code ≡ length done + length (i ∷ next) = ap length e ∙ length-append done (i ∷ next) in
-          omega (arith, all)
-
-  after_more : (made done rest : List Instr) → without_repeats made (done ++ rest) ≡ without_repeats (without_repeats made done) rest
-  after_more made [] rest = refl
-  after_more made (i ∷ done) rest = after_more (made ++ remade made i ∷ []) done rest
-
-  same_move : (done : List Instr) (i : Instr) (next : List Instr) → m.code ≡ done ++ i ∷ next →
-      again plan (length next) i ≡ remade (after done) i
-  same_move done i next e = by (is_operator i.op) refl
-    where
-      o : Option Reg
-      o = repeated (last_time (after done)) (after done) i
-
-      by : (b : Bool) → is_operator i.op ≡ b → again plan (length next) i ≡ remade (after done) i
-      by true h =
-          ap (λ b. cond b (from_earlier (plan (length next)) i) i) h ∙ ap (λ o. from_earlier o i) (planned done i next e)
-      by false h =
-          ap (λ b. cond b (from_earlier (plan (length next)) i) i) h
-          ∙ sym (ap (λ o. from_earlier o i) (alone (last_time (after done)) (after done) i.op i.args h))
-
-  with_plan : (done rest : List Instr) → m.code ≡ done ++ rest →
-      without_repeats (after done) rest ≡ after done ++ with_moves plan rest
-  with_plan done [] e = sym (append-nil (after done))
-  with_plan done (i ∷ next) e =
-      ap (λ made. without_repeats made next) (sym one) ∙ with_plan (done ++ i ∷ []) next (e ∙ sym (append_assoc done (i ∷ []) next))
-      ∙ ap (λ made. made ++ with_moves plan next) one
-      ∙ append_assoc (after done) (remade (after done) i ∷ []) (with_moves plan next)
-      ∙ ap (λ j. after done ++ j ∷ with_moves plan next) (sym (same_move done i next e))
-    where
-      one : after (done ++ i ∷ []) ≡ after done ++ remade (after done) i ∷ []
-      one = after_more [] done (i ∷ [])
+  planned = step.planned without_repeat choice None m.code
 
   made_before : (i : Instr) (next made : List Instr) → (b : IsBefore plan m i next made) → made ≡ after b.before
   made_before i next made b =
-      append_cancel_right made (after b.before) (again plan (length next) i ∷ with_moves plan next)
-      (sym b.made_so ∙ sym (with_plan [] m.code refl) ∙ ap after b.whole ∙ after_more [] b.before (i ∷ next)
-      ∙ with_plan b.before (i ∷ next) b.whole)
+      step.made_before without_repeat choice None m.code put same_move b.before i next made b.whole b.made_so
 
   fresh_before : (before : List Instr) (i : Instr) (next : List Instr) → m.code ≡ before ++ i ∷ next → Fresh (after before)
   fresh_before before i next e =
@@ -464,11 +354,11 @@ module _ (m : Mach) (formed : WellFormed m) where
   of_code : (before : List Instr) (i : Instr) (next : List Instr) → m.code ≡ before ++ i ∷ next → Contains m.code i
   of_code before i next e = subst (λ code. Contains code i) (sym e) (behind before (i ∷ next) i (first_in i next))
 
-  pub is_repeated : (q : Mach) → q ≡ record m { code = without_repeats [] m.code } → IsRepeated m q
+  pub is_repeated : (q : Mach) → q ≡ record m { code = made_by without_repeat [] m.code } → IsRepeated m q
   is_repeated q e =
       record {
         plan = plan;
-        is = e ∙ ap (λ code. record m { code = code }) (with_plan [] m.code refl);
+        is = e ∙ ap (λ code. record m { code = code }) (step.made_so without_repeat choice None m.code put same_move);
         moves = λ i next made b o r h.
             subst (λ code. Repeats code i r) (sym (made_before i next made b))
             (found_is (after b.before) (fresh_before b.before i next b.whole) i (of_code b.before i next b.whole) o r

@@ -63,14 +63,14 @@ module _ (made others : List Instr) (j : Instr) (run : List Instr) (r : Reg) (wi
 
   -- ---- later than the operator
 
-  quiet_later : (e : Event) → nat_le (last_time made e) time ≡ true → AreQuiet (happens e) run
+  pub quiet_later : (e : Event) → nat_le (last_time made e) time ≡ true → AreQuiet (happens e) run
   quiet_later e h =
       let le = leb-true (last_time made e) time h in
       let there : last_time ((others ++ j ∷ []) ++ run) e ≤ length (others ++ j ∷ []) =
       subst (λ n. last_time ((others ++ j ∷ []) ++ run) e ≤ n) (sym past_length) (subst (λ code. last_time code e ≤ time) past le) in
       quiet_past (happens e) (others ++ j ∷ []) run there
 
-  later_quiet : (e : Event) → AreQuiet (happens e) run → nat_le (last_time made e) time ≡ true
+  pub later_quiet : (e : Event) → AreQuiet (happens e) run → nat_le (last_time made e) time ≡ true
   later_quiet e q =
       let there : last_time ((others ++ j ∷ []) ++ run) e ≤ length (others ++ j ∷ []) =
       past_quiet (happens e) (others ++ j ∷ []) run q in
@@ -137,18 +137,58 @@ module _ (made others : List Instr) (j : Instr) (run : List Instr) (r : Reg) (wi
   kept_value comp.Val h = refl
   kept_value comp.Float h = refl
 
+  -- ---- what is held
+
+  -- what the register held at the time it still holds
+  pub record Holds : Type 0 where
+    pub stands : (i : Instr) → Contains run i → (w : Reg) → Contains i.results w → Ends r w → ⊥
+    pub kept : r.comp ≡ comp.Addr → (i : Instr) → Contains run i → allocates i.op ≡ false
+
+  pub still_holds : result_stands (last_time made) time r ≡ true → Holds
+  still_holds e =
+      let a = and_parts (nat_le (last_time made (event.Writes r.number)) time)
+      (nat_le (last_time made (event.WritesOrigin r.origin)) time
+      && (place_stands (last_time made) time r.loc && value_stands (last_time made) time r.comp)) e in
+      let b = and_parts (nat_le (last_time made (event.WritesOrigin r.origin)) time)
+      (place_stands (last_time made) time r.loc && value_stands (last_time made) time r.comp) a.1 in
+      let c = and_parts (place_stands (last_time made) time r.loc) (value_stands (last_time made) time r.comp) b.1 in
+      record {
+        stands = λ i d w f h. by (unwritten (event.Writes r.number) run (quiet_later (event.Writes r.number) a.0) i d w f)
+            (unwritten (event.WritesOrigin r.origin) run (quiet_later (event.WritesOrigin r.origin) b.0) i d w f)
+            (place_kept r.loc c.0 i d w f) h;
+        kept = λ h i d. value_kept r.comp c.1 h i d;
+      }
+    where
+      by : {w : Reg} → (writes (event.Writes r.number) w ≡ true → ⊥) →
+          (writes (event.WritesOrigin r.origin) w ≡ true → ⊥) → (w.loc ≡ r.loc → r.loc ≢ loc.Unset → ⊥) → Ends r w → ⊥
+      by {w = w} number origin place (itself e) = number (written_number r.number w e)
+      by {w = w} number origin place (same_place e h) = place e h
+      by {w = w} number origin place (same_origin e) = origin (written_origin r.origin w e)
+
+  pub holds_still : ((i : Instr) → Contains run i → (w : Reg) → Contains i.results w → Ends r w → ⊥) →
+      (r.comp ≡ comp.Addr → (i : Instr) → Contains run i → allocates i.op ≡ false) →
+      result_stands (last_time made) time r ≡ true
+  holds_still kept addrs =
+      and_from (nat_le (last_time made (event.Writes r.number)) time)
+      (nat_le (last_time made (event.WritesOrigin r.origin)) time
+      && (place_stands (last_time made) time r.loc && value_stands (last_time made) time r.comp))
+      (later_quiet (event.Writes r.number)
+      (quiet (event.Writes r.number) run (number_write r.number) (λ i c w d e. kept i c w d (itself (number_written r.number w e)))))
+      (and_from (nat_le (last_time made (event.WritesOrigin r.origin)) time)
+      (place_stands (last_time made) time r.loc && value_stands (last_time made) time r.comp)
+      (later_quiet (event.WritesOrigin r.origin)
+      (quiet (event.WritesOrigin r.origin) run (origin_write r.origin)
+      (λ i c w d e. kept i c w d (same_origin (origin_written r.origin w e)))))
+      (and_from (place_stands (last_time made) time r.loc) (value_stands (last_time made) time r.comp)
+      (kept_place r.loc (λ i c w d e h. kept i c w d (same_place e h))) (kept_value r.comp addrs)))
+
   module _ (operates : is_operator j.op ≡ true) where
     pub still_stands : j.results ≡ r ∷ [] → stands (last_time made) time j.args r ≡ true → StillStands made j r
     still_stands result e =
         let p = and_parts (nat_lt (last_time made event.EndsRun) time)
         (operands_stand (last_time made) time j.args && result_stands (last_time made) time r) e in
         let q = and_parts (operands_stand (last_time made) time j.args) (result_stands (last_time made) time r) p.1 in
-        let a = and_parts (nat_le (last_time made (event.Writes r.number)) time)
-        (nat_le (last_time made (event.WritesOrigin r.origin)) time
-        && (place_stands (last_time made) time r.loc && value_stands (last_time made) time r.comp)) q.1 in
-        let b = and_parts (nat_le (last_time made (event.WritesOrigin r.origin)) time)
-        (place_stands (last_time made) time r.loc && value_stands (last_time made) time r.comp) a.1 in
-        let c = and_parts (place_stands (last_time made) time r.loc) (value_stands (last_time made) time r.comp) b.1 in
+        let h = still_holds q.1 in
         record {
           others = others;
           run = run;
@@ -162,17 +202,9 @@ module _ (made others : List Instr) (j : Instr) (run : List Instr) (r : Reg) (wi
               (quiet_since (event.Writes k.number)
               (all_in (λ (k : Reg). nat_lt (last_time made (event.Writes k.number)) time) j.args q.0 k g)) i d w f
               (written_number k.number w h);
-          stands = λ i d w f h. by (unwritten (event.Writes r.number) run (quiet_later (event.Writes r.number) a.0) i d w f)
-              (unwritten (event.WritesOrigin r.origin) run (quiet_later (event.WritesOrigin r.origin) b.0) i d w f)
-              (place_kept r.loc c.0 i d w f) h;
-          kept = λ h i d. value_kept r.comp c.1 h i d;
+          stands = h.stands;
+          kept = h.kept;
         }
-      where
-        by : {w : Reg} → (writes (event.Writes r.number) w ≡ true → ⊥) →
-            (writes (event.WritesOrigin r.origin) w ≡ true → ⊥) → (w.loc ≡ r.loc → r.loc ≢ loc.Unset → ⊥) → Ends r w → ⊥
-        by {w = w} number origin place (itself e) = number (written_number r.number w e)
-        by {w = w} number origin place (same_place e h) = place e h
-        by {w = w} number origin place (same_origin e) = origin (written_origin r.origin w e)
 
     -- the same from what is known of the operator
     pub stands_still : AreStraight run →
@@ -194,15 +226,4 @@ module _ (made others : List Instr) (j : Instr) (run : List Instr) (r : Reg) (wi
         since_quiet (event.Writes k.number)
         (quiet (event.Writes k.number) (j ∷ run) (number_write k.number)
         (λ i c w d e. operands i c w k d g (number_written k.number w e)))))
-        (and_from (nat_le (last_time made (event.Writes r.number)) time)
-        (nat_le (last_time made (event.WritesOrigin r.origin)) time
-        && (place_stands (last_time made) time r.loc && value_stands (last_time made) time r.comp))
-        (later_quiet (event.Writes r.number)
-        (quiet (event.Writes r.number) run (number_write r.number) (λ i c w d e. kept i c w d (itself (number_written r.number w e)))))
-        (and_from (nat_le (last_time made (event.WritesOrigin r.origin)) time)
-        (place_stands (last_time made) time r.loc && value_stands (last_time made) time r.comp)
-        (later_quiet (event.WritesOrigin r.origin)
-        (quiet (event.WritesOrigin r.origin) run (origin_write r.origin)
-        (λ i c w d e. kept i c w d (same_origin (origin_written r.origin w e)))))
-        (and_from (place_stands (last_time made) time r.loc) (value_stands (last_time made) time r.comp)
-        (kept_place r.loc (λ i c w d e h. kept i c w d (same_place e h))) (kept_value r.comp addrs)))))
+        (holds_still kept addrs))

@@ -1,5 +1,5 @@
--- Which operators repeat earlier ones, by when events happened last, and the code that is made so.
-use Rattle.std.specs.Prelude.{ℕ, zero, suc, Bool, true, cond, ◌&&◌, nat_lt, nat_le, List, [], ◌∷◌, ◌++◌, Option, Some, None, slice_get}
+-- Which operators repeat earlier ones, by when events happened last.
+use Rattle.std.specs.Prelude.{ℕ, zero, suc, Bool, true, cond, ◌&&◌, nat_lt, nat_le, List, Option, Some, None, slice_get}
 use Rattle.std.specs.List.{list_all}
 use Rattle.bs_words.specs.declared.types.Comp.{Comp}
 use Rattle.bs_words.specs.declared.types.Comp.TheVariants as comp
@@ -12,14 +12,10 @@ use Rattle.mach_ir.specs.declared.mach.MachOp.{MachOp}
 use Rattle.mach_ir.specs.declared.mach.MachOp.TheVariants as mach
 use Rattle.mach_ir.specs.declared.mach.Instr.{Instr}
 use Rattle.repeat_rules.specs.Repeated.{from_earlier}
-use Rattle.cse_deadcode.specs.declared.events.Event.{Event}
 use Rattle.cse_deadcode.specs.declared.events.Event.TheVariants as event
 use Rattle.cse_deadcode.specs.Events.{computation}
-use Rattle.cse_deadcode.specs.Times.{last_time}
-
--- the time of the last of each event
-abbrev pub Clock : Type 0
-Clock = Event → ℕ
+use Rattle.cse_deadcode.specs.Made.{Making}
+use Rattle.cse_deadcode.specs.Times.{Clock}
 
 -- no operand was written at the time or later
 abbrev pub operands_stand : Clock → ℕ → List Reg → Bool
@@ -80,11 +76,6 @@ repeated_op at made (mach.Mark f) args = None
 abbrev pub repeated : Clock → List Instr → Instr → Option Reg
 repeated at made i = repeated_op at made i.op i.args
 
--- what comes of an instruction after this code
-abbrev pub remade : List Instr → Instr → Instr
-remade made i = from_earlier (repeated (last_time made) made i) i
-
--- the first list is what came of the code before the second
-abbrev pub without_repeats : List Instr → List Instr → List Instr
-without_repeats made [] = made
-without_repeats made (i ∷ next) = without_repeats (made ++ remade made i ∷ []) next
+-- an instruction, or a move in its place
+abbrev pub without_repeat : Making
+without_repeat at made i = from_earlier (repeated at made i) i

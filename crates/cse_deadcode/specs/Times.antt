@@ -58,8 +58,12 @@ does e f args = is_event (event_of f args) e
 abbrev pub happens : Event → Instr → Bool
 happens e i = list_any (writes e) i.results || does e i.op i.args
 
+-- the time of the last of each event
+abbrev pub Clock : Type 0
+Clock = Event → ℕ
+
 -- where an event happened last in a code, counted from 1, or 0
-abbrev pub last_time : List Instr → Event → ℕ
+abbrev pub last_time : List Instr → Clock
 last_time code e = last (happens e) code
 
 -- the same by the table

@@ -1,9 +1,13 @@
-//! Two passes that take out what is computed for nothing.
+//! Three passes that take out what is computed for nothing.
 //!
 //! Common subexpression elimination (OCaml's `asmcomp/CSEgen.ml`): an integer operator that repeats an
 //! earlier one of its straight run, whose operands and result still stand, becomes a move. One map has,
 //! for each operator on its operands, for each register written, for its origin and for its place, the
 //! instruction in which that was done last; what stands is told by comparing these times.
+//!
+//! Copy propagation: an operand that a move of its straight run made a copy of another register is
+//! read from that one, by the same times. OCaml's `CSEgen` gives a move's target the number of the
+//! value that its source has, and so sees through moves to the same end.
 //!
 //! Dead code elimination (OCaml's `asmcomp/deadcode.ml`): the function without the instructions that
 //! only compute, and whose results nothing uses.
@@ -11,6 +15,7 @@
 //! where its own result is used. So one table tells all that goes, and nothing is left to go after it.
 #![tactic(auto)]
 
+mod copies;
 mod dropping;
 mod events;
 mod repeats;
@@ -18,6 +23,7 @@ mod times;
 mod uses;
 mod visits;
 
+pub use copies::propagate;
 pub use dropping::drop_dead;
 pub use repeats::cse;
 pub use uses::used;

@@ -2,9 +2,10 @@
 ghost use Rattle.std.specs.Prelude.{◌≡◌, ◌∷◌, [], IfOk};
 ghost use Rattle.mach_ir.specs.Formed.{WellFormed};
 ghost use Rattle.repeat_rules.specs.Repeated.{from_earlier, IsRepeated};
+ghost use Rattle.cse_deadcode.specs.Made.{made_by};
 ghost use Rattle.cse_deadcode.specs.Times.{time_in};
 ghost use Rattle.cse_deadcode.specs.Repeats.{operands_stand, place_stands, value_stands, result_stands, stands};
-ghost use Rattle.cse_deadcode.specs.Repeats.{standing, standing_at, repeated, without_repeats};
+ghost use Rattle.cse_deadcode.specs.Repeats.{standing, standing_at, repeated, without_repeat};
 
 use crate::events::{Event, computation};
 use crate::times::Times;
@@ -44,7 +45,7 @@ fn value_stands(times: &Times, time: usize, comp: Comp) -> bool
 }
 
 /// Whether nothing that came later ended what the register held.
-fn result_stands(times: &Times, time: usize, reg: &Reg) -> bool
+pub(crate) fn result_stands(times: &Times, time: usize, reg: &Reg) -> bool
     ensures { result ≡ result_stands (time_in times.now) time reg.now }
 {
     times.last(Event::Writes(reg.number)) <= time
@@ -127,7 +128,7 @@ fn from_earlier(alloc: Global, earlier: Option<Reg>, instr: Instr) -> Result<Ins
 }
 
 fn without_repeats(alloc: Global, code: Seq<Instr>) -> Result<Seq<Instr>, AllocError>
-    ensures { IfOk result (λ made. made ≡ without_repeats [] code) }
+    ensures { IfOk result (λ made. made ≡ made_by without_repeat [] code) }
 {
     let mut times = Times::new(alloc);
     let mut made = Vec::with_capacity(alloc, code.len())?;

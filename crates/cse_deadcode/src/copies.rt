@@ -1,0 +1,165 @@
+//! Operands, read from the registers that they are copies of.
+ghost use Rattle.std.specs.Prelude.{◌≡◌, [], map, IfOk};
+ghost use Rattle.mach_ir.specs.Formed.{WellFormed};
+ghost use Rattle.copy_rules.specs.Propagated.{IsPropagated};
+ghost use Rattle.cse_deadcode.specs.Made.{made_by};
+ghost use Rattle.cse_deadcode.specs.Times.{time_in};
+ghost use Rattle.cse_deadcode.specs.Copies.{is_move, same_comp, is_open, is_copy, source_by, source_at, source_of};
+ghost use Rattle.cse_deadcode.specs.Copies.{read_by, with_sources};
+
+use crate::events::Event;
+use crate::repeats::result_stands;
+use crate::times::Times;
+use bs_words::{Comp, Loc};
+use mach_ir::{CopyKind, Instr, Mach, MachOp, Op, Pure, Reg, Seq};
+use std::alloc::{AllocError, Global};
+
+fn is_move(op: &MachOp) -> bool
+    ensures { result ≡ is_move op.now }
+{
+    match op {
+        MachOp::Op(Op::Pure(Pure::Copy(kind))) => matches!(kind, CopyKind::Move),
+        MachOp::Op(Op::Pure(Pure::Constant(_))) => false,
+        MachOp::Op(Op::Pure(Pure::Symbol(_))) => false,
+        MachOp::Op(Op::Pure(Pure::Operator(_, _))) => false,
+        MachOp::Op(Op::Access(_)) => false,
+        MachOp::Op(Op::Calling(_)) => false,
+        MachOp::Op(Op::Leaving(_)) => false,
+        MachOp::Mark(_) => false,
+    }
+}
+
+/// Whether both are one component.
+fn same_comp(one: Comp, other: Comp) -> bool
+    ensures { result ≡ same_comp one other }
+{
+    match one {
+        Comp::Int => matches!(other, Comp::Int),
+        Comp::Val => matches!(other, Comp::Val),
+        Comp::Addr => matches!(other, Comp::Addr),
+        Comp::Float => matches!(other, Comp::Float),
+    }
+}
+
+fn is_open(place: Loc) -> bool
+    ensures { result ≡ is_open place }
+{
+    match place {
+        Loc::Unset => true,
+        Loc::Machine(_) => false,
+        Loc::Slot(_) => false,
+    }
+}
+
+/// Whether the register, which a move from the source wrote last, at the time, is still its copy.
+fn is_copy(times: &Times, time: usize, source: &Reg, reg: &Reg) -> bool
+    ensures { result ≡ is_copy (time_in times.now) time source.now reg.now }
+{
+    same_comp(source.comp, reg.comp)
+        && (is_open(source.loc)
+            && (is_open(reg.loc)
+                && (times.last(Event::EndsRun) <= time && result_stands(times, time, source))))
+}
+
+/// What is read in place of the register, which the instruction wrote last, at the time.
+fn source_by(times: &Times, time: usize, earlier: &Instr, reg: Reg) -> Reg
+    ensures { result ≡ source_by (time_in times.now) time earlier.now reg }
+{
+    if !is_move(&earlier.op) {
+        return reg;
+    }
+    match earlier.args.get(0) {
+        None => reg,
+        Some(source) => {
+            if is_copy(times, time, source, &reg) {
+                *source
+            } else {
+                reg
+            }
+        }
+    }
+}
+
+/// What is read in place of the register, which was written last at the time. At 0 none wrote it.
+fn source_at(times: &Times, made: &[Instr], time: usize, reg: Reg) -> Reg
+    ensures { result ≡ source_at (time_in times.now) made.now time reg }
+{
+    if time == 0 {
+        return reg;
+    }
+    match made.get(time - 1) {
+        None => reg,
+        Some(earlier) => source_by(times, time, earlier, reg),
+    }
+}
+
+/// What is read in place of the register after this code.
+fn source_of(times: &Times, made: &[Instr], reg: Reg) -> Reg
+    ensures { result ≡ source_of (time_in times.now) made.now reg }
+{
+    source_at(times, made, times.last(Event::Writes(reg.number)), reg)
+}
+
+fn read_each(times: &Times, made: &[Instr], regs: &mut [Reg])
+    ensures { regs.new ≡ map (source_of (time_in times.now) made.now) regs.old }
+{
+    for reg in regs.iter_mut() {
+        *reg = source_of(times, made, *reg);
+    }
+}
+
+/// The instruction, its operands read from what they are copies of after this code. It takes no memory.
+fn read_sources(times: &Times, made: &[Instr], instr: Instr) -> Instr
+    ensures { result ≡ read_by (source_of (time_in times.now) made.now) instr }
+{
+    let Instr { op, args, results } = instr;
+    let mut args = args.into_vec();
+    read_each(times, made, args.as_mut_slice());
+    Instr {
+        op,
+        args: Seq::from_vec(args),
+        results,
+    }
+}
+
+fn with_sources(alloc: Global, code: Seq<Instr>) -> Result<Seq<Instr>, AllocError>
+    ensures { IfOk result (λ made. made ≡ made_by with_sources [] code) }
+{
+    let mut times = Times::new(alloc);
+    let mut made = Vec::with_capacity(alloc, code.len())?;
+    for instr in code.into_vec() {
+        let instr = read_sources(&times, made.as_slice(), instr);
+        times.note_instr(&instr, made.len() + 1)?;
+        made.push(instr)?;
+    }
+    Ok(Seq::from_vec(made))
+}
+
+/// The function in which each operand that is a copy of another register is read from that one: a move
+/// of its straight run made it so, both still stand, and neither has a place.
+///
+/// Registers are taken by number, so the function must be well-formed. A copy of a copy is read from
+/// the first source, since the move between them reads that already. The time is that of a few look-ups
+/// in a map for each register and operator. The only error is want of memory.
+pub fn propagate(alloc: Global, mach: Mach) -> Result<Mach, AllocError>
+    requires formed { WellFormed mach }
+    ensures { IfOk result (λ after. IsPropagated mach after) }
+{
+    let Mach {
+        name,
+        params,
+        result,
+        labels,
+        colours,
+        code,
+    } = mach;
+    let code = with_sources(alloc, code)?;
+    Ok(Mach {
+        name,
+        params,
+        result,
+        labels,
+        colours,
+        code,
+    })
+}
