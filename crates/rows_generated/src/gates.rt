@@ -1,5 +1,5 @@
 //! Gates that see what the compiler does.
-use cmmc_core::Gate;
+use rows_lines::Gate;
 use std::sync::atomic::{AtomicBool, AtomicU64, Ordering};
 use std::thread;
 

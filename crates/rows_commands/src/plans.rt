@@ -1,12 +1,10 @@
 //! Runs of compiled texts under plans that a hand made: valid ones, and ones that no mover can follow.
 //!
-//! A line of standard input has the name of a function, its argument, before how many instructions the mover asks, a bar,
-//! its plans, a bar, and a text, or `same` for the one before. Plans are lists of new starts, one for each block, with
-//! commas between them and semicolons between the lists. What is printed is the outcome of the run.
+//! A row has the name of a function, its argument, before how many instructions the mover asks, a bar, its plans, a bar,
+//! and a text, or `same` for the one before. Plans are lists of new starts, one for each block, with commas between them
+//! and semicolons between the lists. What is printed is the outcome of the run.
 //!
-//! `stdout` is known from the rules of moves: a plan that is not valid is no plan.
-#![tactic(auto)]
-
+//! The outcomes are known from the rules of moves: a plan that is not valid is no plan.
 ghost use Rattle.image_form.specs.Image.{IsImage};
 
 use anyhow::Result;
@@ -17,7 +15,6 @@ use mover_runtime::{Schedule, run_image};
 use rows_lines::Table;
 use rv_machine::{Arg, LoadError, Setup, load};
 use std::alloc::{AllocError, Global};
-use std::io::{self, BufRead, BufReader, BufWriter, Write};
 use std::thread::Threads;
 
 /// The most bytes of an outcome that are kept.
@@ -29,26 +26,14 @@ const ROOM: u32 = 1 << 20;
 /// The most instructions.
 const STEPS: u64 = 100_000_000;
 
-fn main(rt: HostRuntime) -> Result<()> {
-    let alloc = rt.alloc();
-    let mut table = Table::new(alloc);
-    let mut out = BufWriter::new(alloc, rt.stdout())?;
-    for line in BufReader::new(alloc, rt.stdin())?.lines(alloc) {
-        let line = line?;
-        out.write_all(said_to(&rt, alloc, &mut table, line.as_str())?.as_slice())?;
-    }
-    out.flush()?;
-    Ok(())
-}
-
-/// The outcome of the run of a line.
-fn said_to<R: Threads + Sync>(
+/// The outcome of the run of a row.
+pub(crate) fn said_to<R: Threads + Sync>(
     rt: &R,
     alloc: Global,
     table: &mut Table,
-    line: &str,
+    row: &str,
 ) -> Result<Vec<u8>> {
-    let Some((call, rest)) = line.split_once(" | ") else {
+    let Some((call, rest)) = row.split_once(" | ") else {
         return Ok(b"no bar\n".to_vec(alloc)?);
     };
     let Some((plans, text)) = rest.split_once(" | ") else {
