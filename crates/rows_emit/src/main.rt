@@ -4,7 +4,7 @@
 //! address of the function's first word. A symbol's name is its address in decimal digits, an external call's name its
 //! number. `stdout` has for each function its words, of which none are the program's: a script has written assembly for each
 //! line from the machine's rules, and GNU's assembler and linker have made words of it. The last 71 functions stand with these
-//! words in `rows_mover` too, which runs them.
+//! words in `rows_commands` too, which runs them.
 #![tactic(auto)]
 
 mod laid;
