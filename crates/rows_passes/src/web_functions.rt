@@ -1,39 +1,15 @@
-//! The functions of the rows.
-use crate::code::{A0, A1, Code, name, open, slot};
-use anyhow::Result;
-use bs_words::{CmpOp, Comp, IntOp, Ret};
-use mach_ir::{
-    Callee, Calling, CopyKind, External, Leaving, Mach, Mark, Op, Pure, Right, Seq, Test,
+//! Mach functions that are split and spilled.
+use crate::code::{
+    A0, A1, Code, MOVE, RELOAD, RETURN, SPILL, VAL, add, call, constant, name, open, slot,
 };
+use anyhow::Result;
+use bs_words::{CmpOp, IntOp, Ret};
+use mach_ir::{Calling, External, Leaving, Mach, Mark, Op, Pure, Right, Seq, Test};
 use std::alloc::Global;
-
-const MOVE: Op = Op::Pure(Pure::Copy(CopyKind::Move));
-
-const SPILL: Op = Op::Pure(Pure::Copy(CopyKind::Spill));
-
-const RELOAD: Op = Op::Pure(Pure::Copy(CopyKind::Reload));
 
 const PLUS: Op = Op::Pure(Pure::Operator(IntOp::Add, Right::Register));
 
-const RETURN: Op = Op::Leaving(Leaving::Return);
-
 const RAISE: Op = Op::Leaving(Leaving::Raise);
-
-fn constant(word: u64) -> Op {
-    Op::Pure(Pure::Constant(word))
-}
-
-fn add(word: u64) -> Op {
-    Op::Pure(Pure::Operator(IntOp::Add, Right::Constant(word)))
-}
-
-fn call(alloc: Global) -> Result<Op> {
-    let callee = Callee::Symbol(name(alloc, "camlMain__f")?);
-    Ok(Op::Calling(Calling::Call {
-        callee,
-        result: Ret::Comp(Comp::Val),
-    }))
-}
 
 /// An external call that takes nothing and gives nothing. With the mark it is a frame call.
 fn poll(alloc: Global, frame: bool) -> Result<Op> {
@@ -68,7 +44,7 @@ pub(crate) fn reloads(alloc: Global) -> Result<Mach> {
     code.op(RELOAD, &[stored], &[value])?;
     code.op(MOVE, &[value], &[A0])?;
     code.op(RETURN, &[A0], &[])?;
-    code.function("reloads", &[A0])
+    code.function("reloads", &[A0], VAL)
 }
 
 /// A loop: what is written before it and in it is read at its test, and what is written after it is
@@ -89,7 +65,7 @@ pub(crate) fn loops(alloc: Global) -> Result<Mach> {
     code.op(constant(7), &[], &[count])?;
     code.op(MOVE, &[count], &[A0])?;
     code.op(RETURN, &[A0], &[])?;
-    code.function("loops", &[])
+    code.function("loops", &[], VAL)
 }
 
 /// A try whose handler reads what was written before it: not what is written after the call.
@@ -110,7 +86,7 @@ pub(crate) fn handled(alloc: Global) -> Result<Mach> {
     code.mark(Mark::End { label: 2 })?;
     code.op(MOVE, &[other], &[A0])?;
     code.op(RETURN, &[A0], &[])?;
-    code.function("handled", &[A0, A1])
+    code.function("handled", &[A0, A1], VAL)
 }
 
 /// Two branches that write, of which one raises, and a write that nothing reads.
@@ -137,7 +113,7 @@ pub(crate) fn branches(alloc: Global) -> Result<Mach> {
     code.op(add(6), &[other], &[other])?;
     code.op(MOVE, &[other], &[A0])?;
     code.op(RETURN, &[A0], &[])?;
-    code.function("branches", &[A0])
+    code.function("branches", &[A0], VAL)
 }
 
 /// Two calls: a register that is read twice after the first and once after the second, one that is read
@@ -161,7 +137,7 @@ pub(crate) fn calls(alloc: Global) -> Result<Mach> {
     code.op(PLUS, &[between, sum], &[sum])?;
     code.op(MOVE, &[sum], &[A0])?;
     code.op(RETURN, &[A0], &[])?;
-    code.function("calls", &[A0])
+    code.function("calls", &[A0], VAL)
 }
 
 /// A branch that calls and one that does not, and a read after both. One branch writes anew.
@@ -186,7 +162,7 @@ pub(crate) fn one_call(alloc: Global) -> Result<Mach> {
     code.op(PLUS, &[value, other], &[value])?;
     code.op(MOVE, &[value], &[A0])?;
     code.op(RETURN, &[A0], &[])?;
-    code.function("one_call", &[A0])
+    code.function("one_call", &[A0], VAL)
 }
 
 /// A loop that calls: what it counts is written before it and in it.
@@ -209,7 +185,7 @@ pub(crate) fn rounds(alloc: Global) -> Result<Mach> {
     code.mark(Mark::End { label: 2 })?;
     code.op(MOVE, &[count], &[A0])?;
     code.op(RETURN, &[A0], &[])?;
-    code.function("rounds", &[A0])
+    code.function("rounds", &[A0], VAL)
 }
 
 /// A web that two reads join, the first by its last write and the second by that and one in between, and
@@ -237,7 +213,7 @@ pub(crate) fn webs(alloc: Global) -> Result<Mach> {
     code.mark(Mark::End { label: 2 })?;
     code.op(MOVE, &[value], &[A0])?;
     code.op(RETURN, &[A0], &[])?;
-    code.function("webs", &[A0])
+    code.function("webs", &[A0], VAL)
 }
 
 /// A register that is read after each of two calls.
@@ -251,7 +227,7 @@ pub(crate) fn twice(alloc: Global) -> Result<Mach> {
     code.op(call(alloc)?, &[A0], &[A0])?;
     code.op(MOVE, &[value], &[A0])?;
     code.op(RETURN, &[A0], &[])?;
-    code.function("twice", &[A0])
+    code.function("twice", &[A0], VAL)
 }
 
 /// Thirty registers that live over a call, and their sum after it.
@@ -268,7 +244,7 @@ pub(crate) fn many(alloc: Global) -> Result<Mach> {
     }
     code.op(MOVE, &[sum], &[A0])?;
     code.op(RETURN, &[A0], &[])?;
-    code.function("many", &[A0])
+    code.function("many", &[A0], VAL)
 }
 
 /// A register that lives over an external call, one that lives over this and a frame call, and one that
@@ -292,7 +268,7 @@ pub(crate) fn outside(alloc: Global) -> Result<Mach> {
     code.op(PLUS, &[sum, third], &[sum])?;
     code.op(MOVE, &[sum], &[A0])?;
     code.op(RETURN, &[A0], &[])?;
-    code.function("outside", &[A0])
+    code.function("outside", &[A0], VAL)
 }
 
 /// A call that no register lives over.
@@ -307,5 +283,5 @@ pub(crate) fn short(alloc: Global) -> Result<Mach> {
     code.op(add(1), &[after], &[after])?;
     code.op(MOVE, &[after], &[A0])?;
     code.op(RETURN, &[A0], &[])?;
-    code.function("short", &[A0])
+    code.function("short", &[A0], VAL)
 }

@@ -1,14 +1,10 @@
-//! Mach functions made by hand: what is live at each place of them, and the functions that splitting
-//! makes of them; and those that spilling makes, and splitting of these.
+//! What is live at each place of Mach functions made by hand, and the functions that splitting makes of them; and those
+//! that spilling makes, and splitting of these.
 //!
-//! `stdout` is by a reading of its own of what the terms mean: what is live by the least sets that the
-//! edges allow, webs by the writes that come to each operand and their numbers by the first of them,
-//! reloads by the calls that lead to a read, and stores by the reloads that a write comes to.
-#![tactic(auto)]
-
-mod code;
-mod functions;
-
+//! What is wanted is by a reading of its own of what the terms mean: what is live by the least sets that the edges allow,
+//! webs by the writes that come to each operand and their numbers by the first of them, reloads by the calls that lead to a
+//! read, and stores by the reloads that a write comes to.
+use crate::web_functions;
 use anyhow::Result;
 use liveness::{first_free, live};
 use mach_ir::page::Page;
@@ -16,7 +12,7 @@ use mach_ir::{LiveMap, Mach, text};
 use spill::spill;
 use split::split;
 use std::alloc::Global;
-use std::io::{self, BufWriter, Write};
+use std::io::Write;
 
 /// The numbers of the registers that are live at the place.
 fn put_place(page: &mut Page, live: &LiveMap, place: usize, free: u32) -> Result<()> {
@@ -64,22 +60,19 @@ fn put_spilled<W: Write>(alloc: Global, out: &mut W, mach: Mach) -> Result<()> {
     Ok(())
 }
 
-fn main(rt: HostRuntime) -> Result<()> {
-    let alloc = rt.alloc();
-    let mut out = BufWriter::new(alloc, rt.stdout())?;
-    put(alloc, &mut out, functions::reloads(alloc)?)?;
-    put(alloc, &mut out, functions::loops(alloc)?)?;
-    put(alloc, &mut out, functions::handled(alloc)?)?;
-    put(alloc, &mut out, functions::branches(alloc)?)?;
-    put(alloc, &mut out, functions::webs(alloc)?)?;
-    put_spilled(alloc, &mut out, functions::calls(alloc)?)?;
-    put_spilled(alloc, &mut out, functions::one_call(alloc)?)?;
-    put_spilled(alloc, &mut out, functions::rounds(alloc)?)?;
-    put_spilled(alloc, &mut out, functions::handled(alloc)?)?;
-    put_spilled(alloc, &mut out, functions::twice(alloc)?)?;
-    put_spilled(alloc, &mut out, functions::many(alloc)?)?;
-    put_spilled(alloc, &mut out, functions::outside(alloc)?)?;
-    put_spilled(alloc, &mut out, functions::short(alloc)?)?;
-    out.flush()?;
-    Ok(())
+/// Puts what is made of each function.
+pub(crate) fn put_all<W: Write>(alloc: Global, out: &mut W) -> Result<()> {
+    put(alloc, out, web_functions::reloads(alloc)?)?;
+    put(alloc, out, web_functions::loops(alloc)?)?;
+    put(alloc, out, web_functions::handled(alloc)?)?;
+    put(alloc, out, web_functions::branches(alloc)?)?;
+    put(alloc, out, web_functions::webs(alloc)?)?;
+    put_spilled(alloc, out, web_functions::calls(alloc)?)?;
+    put_spilled(alloc, out, web_functions::one_call(alloc)?)?;
+    put_spilled(alloc, out, web_functions::rounds(alloc)?)?;
+    put_spilled(alloc, out, web_functions::handled(alloc)?)?;
+    put_spilled(alloc, out, web_functions::twice(alloc)?)?;
+    put_spilled(alloc, out, web_functions::many(alloc)?)?;
+    put_spilled(alloc, out, web_functions::outside(alloc)?)?;
+    put_spilled(alloc, out, web_functions::short(alloc)?)
 }

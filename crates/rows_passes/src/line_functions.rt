@@ -1,42 +1,72 @@
-//! The functions of the rows.
-use crate::code::{A0, A0_INT, A1, Code, S2, S2_INT, S3, S3_ADDR, S3_INT, name, numbers, slot};
+//! Mach functions that are lowered.
+use crate::code::{A0, A1, Code, MOVE, RELOAD, RETURN, SPILL, VAL, add, call, constant, name};
 use anyhow::Result;
-use bs_words::{CmpOp, Comp, IntOp, Ret};
-use mach_ir::{
-    Access, Blocks, Callee, Calling, CopyKind, External, Leaving, Mach, Mark, NewBlock, Op, Pure,
-    Right, Seq, Test,
-};
+use bs_words::{CmpOp, Comp, Loc, Ret};
+use mach_ir::{Access, Blocks, Calling, External, Mach, Mark, NewBlock, Op, Reg, Right, Seq, Test};
 use std::alloc::Global;
 
-const MOVE: Op = Op::Pure(Pure::Copy(CopyKind::Move));
+// Registers by their places: their numbers do not matter to linearisation.
 
-const SPILL: Op = Op::Pure(Pure::Copy(CopyKind::Spill));
+const A0_INT: Reg = Reg {
+    number: 0,
+    comp: Comp::Int,
+    loc: Loc::Machine(10),
+    origin: 0,
+};
 
-const RELOAD: Op = Op::Pure(Pure::Copy(CopyKind::Reload));
+const S2_INT: Reg = Reg {
+    number: 0,
+    comp: Comp::Int,
+    loc: Loc::Machine(18),
+    origin: 0,
+};
 
-const RETURN: Op = Op::Leaving(Leaving::Return);
+const S2: Reg = Reg {
+    number: 0,
+    comp: Comp::Val,
+    loc: Loc::Machine(18),
+    origin: 0,
+};
 
-fn constant(word: u64) -> Op {
-    Op::Pure(Pure::Constant(word))
+const S3_INT: Reg = Reg {
+    number: 0,
+    comp: Comp::Int,
+    loc: Loc::Machine(19),
+    origin: 0,
+};
+
+const S3: Reg = Reg {
+    number: 0,
+    comp: Comp::Val,
+    loc: Loc::Machine(19),
+    origin: 0,
+};
+
+const S3_ADDR: Reg = Reg {
+    number: 0,
+    comp: Comp::Addr,
+    loc: Loc::Machine(19),
+    origin: 0,
+};
+
+fn slot(number: u32) -> Reg {
+    Reg {
+        number: 0,
+        comp: Comp::Val,
+        loc: Loc::Slot(number),
+        origin: 0,
+    }
 }
 
-fn add(word: u64) -> Op {
-    Op::Pure(Pure::Operator(IntOp::Add, Right::Constant(word)))
-}
-
-fn call(alloc: Global) -> Result<Op> {
-    let callee = Callee::Symbol(name(alloc, "camlMain__f")?);
-    Ok(Op::Calling(Calling::Call {
-        callee,
-        result: Ret::Comp(Comp::Val),
-    }))
+fn numbers(alloc: Global, numbers: &[u32]) -> Result<Seq<u32>> {
+    Ok(Seq::from_vec(numbers.to_vec(alloc)?))
 }
 
 fn frame_call(alloc: Global) -> Result<Op> {
     let row = External {
         name: name(alloc, "collect")?,
         params: Seq::new(alloc),
-        result: Ret::Comp(Comp::Val),
+        result: VAL,
     };
     Ok(Op::Calling(Calling::External { row, frame: true }))
 }
@@ -75,7 +105,7 @@ pub(crate) fn counting(alloc: Global) -> Result<Mach> {
     code.mark(Mark::End { label: 2 })?;
     code.op(MOVE, &[S2_INT], &[A0_INT])?;
     code.op(RETURN, &[A0_INT], &[])?;
-    code.function("counting")
+    code.function("counting", &[], Ret::Unit)
 }
 
 /// A try whose handler reads a slot, and an exit that ends the try.
@@ -95,7 +125,7 @@ pub(crate) fn caught(alloc: Global) -> Result<Mach> {
     code.op(RELOAD, &[slot(4)], &[A0])?;
     code.mark(Mark::End { label: 4 })?;
     code.op(RETURN, &[A0], &[])?;
-    code.function("caught")
+    code.function("caught", &[], Ret::Unit)
 }
 
 /// An allocation in a loop, over which a register and a slot are live.
@@ -122,7 +152,7 @@ pub(crate) fn allocating(alloc: Global) -> Result<Mach> {
     code.op(MOVE, &[S2], &[A0])?;
     code.op(call(alloc)?, &[A0, A1], &[A0])?;
     code.op(RETURN, &[A0], &[])?;
-    code.function("allocating")
+    code.function("allocating", &[], Ret::Unit)
 }
 
 /// A frame call in a try, whose handler and what follows it read other slots.
@@ -139,7 +169,7 @@ pub(crate) fn framed(alloc: Global) -> Result<Mach> {
     code.mark(Mark::End { label: 2 })?;
     code.op(MOVE, &[A1], &[A0])?;
     code.op(RETURN, &[A0], &[])?;
-    code.function("framed")
+    code.function("framed", &[], Ret::Unit)
 }
 
 /// A switch with an empty case and one that jumps over nothing.
@@ -163,7 +193,7 @@ pub(crate) fn cases(alloc: Global) -> Result<Mach> {
     code.mark(Mark::End { label: 9 })?;
     code.op(MOVE, &[S2_INT], &[A0_INT])?;
     code.op(RETURN, &[A0_INT], &[])?;
-    code.function("cases")
+    code.function("cases", &[], Ret::Unit)
 }
 
 /// Tests inside one another, so that jumps lead to jumps.
@@ -191,7 +221,7 @@ pub(crate) fn nested(alloc: Global) -> Result<Mach> {
     code.mark(Mark::End { label: 4 })?;
     code.op(MOVE, &[S2_INT], &[A0_INT])?;
     code.op(RETURN, &[A0_INT], &[])?;
-    code.function("nested")
+    code.function("nested", &[], Ret::Unit)
 }
 
 /// Moves of a location to itself: one that changes nothing, one that is read, one that is not, and one
@@ -206,7 +236,7 @@ pub(crate) fn moves(alloc: Global) -> Result<Mach> {
     code.op(MOVE, &[S3_INT], &[S3])?;
     code.op(MOVE, &[S3], &[S3_INT])?;
     code.op(RETURN, &[A0_INT], &[])?;
-    code.function("moves")
+    code.function("moves", &[], Ret::Unit)
 }
 
 /// A frame call under two traps. What follows it reads a register; the inner handler reads one slot
@@ -229,7 +259,7 @@ pub(crate) fn deep(alloc: Global) -> Result<Mach> {
     code.op(RELOAD, &[slot(0)], &[A0])?;
     code.mark(Mark::End { label: 2 })?;
     code.op(RETURN, &[A0], &[])?;
-    code.function("deep")
+    code.function("deep", &[], Ret::Unit)
 }
 
 /// An allocation in a handler to which nothing is raised.
@@ -244,5 +274,5 @@ pub(crate) fn idle(alloc: Global) -> Result<Mach> {
     code.op(RELOAD, &[slot(0)], &[A0])?;
     code.mark(Mark::End { label: 2 })?;
     code.op(RETURN, &[A0], &[])?;
-    code.function("idle")
+    code.function("idle", &[], Ret::Unit)
 }

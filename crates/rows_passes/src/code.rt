@@ -1,17 +1,24 @@
 //! Mach functions put together instruction by instruction.
 use anyhow::Result;
-use bs_words::{Comp, Loc, Name, Ret};
-use mach_ir::{Instr, Mach, MachOp, Mark, Op, Reg, Seq};
+use bs_words::{Comp, IntOp, Loc, Name, Ret};
+use mach_ir::{
+    Callee, Calling, CopyKind, Instr, Leaving, Mach, MachOp, Mark, Op, Pure, Reg, Right, Seq,
+};
 use std::alloc::Global;
 
-// Registers by their places: their numbers do not matter to linearisation.
+/// The colours, each with the register of its index as number.
+const COLOURS: [u8; 21] = [
+    10, 11, 12, 13, 14, 15, 16, 17, 18, 19, 20, 21, 22, 23, 24, 25, 28, 29, 30, 31, 8,
+];
 
-pub(crate) const A0_INT: Reg = Reg {
-    number: 0,
-    comp: Comp::Int,
-    loc: Loc::Machine(10),
-    origin: 0,
-};
+fn placed(number: u32, place: u8) -> Reg {
+    Reg {
+        number,
+        comp: Comp::Val,
+        loc: Loc::Machine(place),
+        origin: number,
+    }
+}
 
 pub(crate) const A0: Reg = Reg {
     number: 0,
@@ -21,53 +28,29 @@ pub(crate) const A0: Reg = Reg {
 };
 
 pub(crate) const A1: Reg = Reg {
-    number: 0,
+    number: 1,
     comp: Comp::Val,
     loc: Loc::Machine(11),
-    origin: 0,
+    origin: 1,
 };
 
-pub(crate) const S2_INT: Reg = Reg {
-    number: 0,
-    comp: Comp::Int,
-    loc: Loc::Machine(18),
-    origin: 0,
-};
-
-pub(crate) const S2: Reg = Reg {
-    number: 0,
-    comp: Comp::Val,
-    loc: Loc::Machine(18),
-    origin: 0,
-};
-
-pub(crate) const S3_INT: Reg = Reg {
-    number: 0,
-    comp: Comp::Int,
-    loc: Loc::Machine(19),
-    origin: 0,
-};
-
-pub(crate) const S3: Reg = Reg {
-    number: 0,
-    comp: Comp::Val,
-    loc: Loc::Machine(19),
-    origin: 0,
-};
-
-pub(crate) const S3_ADDR: Reg = Reg {
-    number: 0,
-    comp: Comp::Addr,
-    loc: Loc::Machine(19),
-    origin: 0,
-};
-
-pub(crate) fn slot(number: u32) -> Reg {
+/// A register whose place is open.
+pub(crate) fn open(number: u32) -> Reg {
     Reg {
-        number: 0,
+        number,
         comp: Comp::Val,
-        loc: Loc::Slot(number),
-        origin: 0,
+        loc: Loc::Unset,
+        origin: number,
+    }
+}
+
+/// A register in the slot that has its number.
+pub(crate) fn slot(number: u32, origin: u32) -> Reg {
+    Reg {
+        number,
+        comp: Comp::Val,
+        loc: Loc::Slot(origin),
+        origin,
     }
 }
 
@@ -75,12 +58,43 @@ pub(crate) fn name(alloc: Global, name: &str) -> Result<Name> {
     Ok(Name::from_vec(name.as_bytes().to_vec(alloc)?))
 }
 
-pub(crate) fn numbers(alloc: Global, numbers: &[u32]) -> Result<Seq<u32>> {
-    Ok(Seq::from_vec(numbers.to_vec(alloc)?))
-}
-
 fn regs(alloc: Global, regs: &[Reg]) -> Result<Seq<Reg>> {
     Ok(Seq::from_vec(regs.to_vec(alloc)?))
+}
+
+fn colours(alloc: Global) -> Result<Seq<Reg>> {
+    let mut colours = Vec::new(alloc);
+    for number in 0..21 {
+        colours.push(placed(number, COLOURS[number as usize]))?;
+    }
+    Ok(Seq::from_vec(colours))
+}
+
+pub(crate) const MOVE: Op = Op::Pure(Pure::Copy(CopyKind::Move));
+
+pub(crate) const SPILL: Op = Op::Pure(Pure::Copy(CopyKind::Spill));
+
+pub(crate) const RELOAD: Op = Op::Pure(Pure::Copy(CopyKind::Reload));
+
+pub(crate) const RETURN: Op = Op::Leaving(Leaving::Return);
+
+/// That a function gives a val.
+pub(crate) const VAL: Ret = Ret::Comp(Comp::Val);
+
+pub(crate) fn constant(word: u64) -> Op {
+    Op::Pure(Pure::Constant(word))
+}
+
+pub(crate) fn add(word: u64) -> Op {
+    Op::Pure(Pure::Operator(IntOp::Add, Right::Constant(word)))
+}
+
+pub(crate) fn call(alloc: Global) -> Result<Op> {
+    let callee = Callee::Symbol(name(alloc, "camlMain__f")?);
+    Ok(Op::Calling(Calling::Call {
+        callee,
+        result: VAL,
+    }))
 }
 
 /// The code of a function.
@@ -126,14 +140,14 @@ impl Code {
     }
 
     /// The function with this code.
-    pub(crate) fn function(self, called: &str) -> Result<Mach> {
+    pub(crate) fn function(self, called: &str, params: &[Reg], result: Ret) -> Result<Mach> {
         let Code { alloc, instrs } = self;
         Ok(Mach {
             name: name(alloc, called)?,
-            params: Seq::new(alloc),
-            result: Ret::Unit,
+            params: regs(alloc, params)?,
+            result,
             labels: 10,
-            colours: Seq::new(alloc),
+            colours: colours(alloc)?,
             code: Seq::from_vec(instrs),
         })
     }
