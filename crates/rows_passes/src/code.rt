@@ -140,12 +140,12 @@ impl Code {
     }
 
     /// The function with this code.
-    pub(crate) fn function(self, called: &str, params: &[Reg], result: Ret) -> Result<Mach> {
+    pub(crate) fn function(self, called: &str, params: &[Reg], gives: Ret) -> Result<Mach> {
         let Code { alloc, instrs } = self;
         Ok(Mach {
             name: name(alloc, called)?,
             params: regs(alloc, params)?,
-            result,
+            result: gives,
             labels: 10,
             colours: colours(alloc)?,
             code: Seq::from_vec(instrs),
