@@ -1,20 +1,41 @@
-//! What `cmmc` says to the words of each line of standard input (`rows_lines` has the form of a line).
+//! What `cmmc` says to each line of standard input, in tables.
 //!
-//! The lines in `stdin` and `stdout` are a table of words that are no command, of values in and out of their grammars and
-//! limits, of the commands' answers, and of reads and writes that fail in turn. They were counted by hand.
+//! A line `= NAME` begins a table and prints nothing. The lines after it are the table's rows: `Subject` has the names, and
+//! what the rows of each table are about.
 #![tactic(auto)]
+
+mod compiled;
+mod devices;
+mod faults;
+mod limits;
+mod listings;
+mod plans;
+mod shown;
+mod subject;
+mod texts;
 
 use anyhow::Result;
 use rows_lines::Table;
 use std::io::{self, BufRead, BufReader, BufWriter, Write};
+use subject::Subject;
 
 fn main(rt: HostRuntime) -> Result<()> {
     let alloc = rt.alloc();
+    let mut subject = Subject::Commands;
     let mut table = Table::new(alloc);
     let mut out = BufWriter::new(alloc, rt.stdout())?;
     for line in BufReader::new(alloc, rt.stdin())?.lines(alloc) {
         let line = line?;
-        out.write_all(table.said_to(&rt, alloc, line.as_str())?.as_slice())?;
+        match line.as_str().strip_prefix("= ") {
+            Some(name) => {
+                subject = Subject::of(name);
+                table = Table::new(alloc);
+            }
+            None => {
+                let said = subject.said_to(&rt, alloc, &mut table, line.as_str())?;
+                out.write_all(said.as_slice())?;
+            }
+        }
     }
     out.flush()?;
     Ok(())

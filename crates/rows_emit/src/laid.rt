@@ -1,4 +1,4 @@
-//! From the pieces of a function to its words.
+//! From the pieces of a function to the forms in which they stand, and to its words.
 ghost use Rattle.std.specs.Prelude.{IsTrue};
 ghost use Rattle.layout_rules.specs.Conditions.{LeadsTo};
 ghost use Rattle.rv_isa.specs.Encoding.{InstrFits};
@@ -160,6 +160,14 @@ fn is_settled(piece: &Piece, to: u32) -> bool
     }
 }
 
+/// Puts the words of a piece at an address, none where it cannot stand there.
+fn put_words_at(words: &mut Vec<u32>, piece: &Piece, form: Form, at: u64, to: u32) -> Result<()> {
+    if is_settled(piece, to) && at % 4 == 0 && at < 0xFFFF_0000 {
+        put_piece(words, piece, form, at, to)?;
+    }
+    Ok(())
+}
+
 /// The words of pieces, whose first stands at this address.
 fn words(
     alloc: Global,
@@ -173,25 +181,13 @@ fn words(
     for (piece, form) in code.iter().zip(forms) {
         let to = target(places, entry, piece);
         let place = u64::from(entry) + u64::from(bytes(at));
-        if is_settled(piece, to) && place % 4 == 0 && place < 0xFFFF_0000 {
-            put_piece(&mut words, piece, *form, place, to)?;
-        }
+        put_words_at(&mut words, piece, *form, place, to)?;
         at = at.wrapping_add(words_of(piece, *form));
     }
     Ok(words)
 }
 
-/// Puts a line of words.
-fn put_line<W: Write>(alloc: Global, out: &mut W, words: &[u32]) -> Result<()> {
-    for word in words {
-        let digits = format!(in alloc; "{word:08x} ")?;
-        out.write_all(digits.as_bytes())?;
-    }
-    out.write_all(b"\n")?;
-    Ok(())
-}
-
-/// Puts the words of pieces, whose first stands at this address.
+/// Puts the words of pieces, whose first stands at this address, in a line.
 pub(crate) fn put_code<W: Write>(
     alloc: Global,
     out: &mut W,
@@ -204,5 +200,63 @@ pub(crate) fn put_code<W: Write>(
     let forms = forms_of(alloc, code)?;
     let places = places(alloc, code, forms.as_slice())?;
     let words = words(alloc, code, forms.as_slice(), places.as_slice(), entry)?;
-    put_line(alloc, out, words.as_slice())
+    for word in words.as_slice() {
+        let digits = format!(in alloc; "{word:08x} ")?;
+        out.write_all(digits.as_bytes())?;
+    }
+    out.write_all(b"\n")?;
+    Ok(())
+}
+
+/// Whether a line tells of it.
+fn is_told(piece: &Piece) -> bool {
+    match piece {
+        Piece::Known(_) => false,
+        Piece::Label(_) => false,
+        _ => true,
+    }
+}
+
+/// Puts a line with a place, in words, a form and words.
+fn put_line<W: Write>(
+    alloc: Global,
+    out: &mut W,
+    at: u64,
+    form: Form,
+    words: &[u32],
+) -> Result<()> {
+    let place = format!(in alloc; "{at} {form:?}")?;
+    out.write_all(place.as_bytes())?;
+    for word in words {
+        let digits = format!(in alloc; " {word:08x}")?;
+        out.write_all(digits.as_bytes())?;
+    }
+    out.write_all(b"\n")?;
+    Ok(())
+}
+
+/// Puts a line for each piece but labels and fillings, where the first piece stands at this address.
+pub(crate) fn put_forms<W: Write>(
+    alloc: Global,
+    out: &mut W,
+    code: &[Piece],
+    entry: u32,
+) -> Result<()> {
+    if code.len() >= 1 << 32 {
+        return Ok(());
+    }
+    let forms = forms_of(alloc, code)?;
+    let places = places(alloc, code, forms.as_slice())?;
+    let mut at: u64 = 0;
+    for (piece, form) in code.iter().zip(forms.as_slice()) {
+        if is_told(piece) {
+            let to = target(places.as_slice(), entry, piece);
+            let place = u64::from(entry) + u64::from(bytes(at));
+            let mut words = Vec::new(alloc);
+            put_words_at(&mut words, piece, *form, place, to)?;
+            put_line(alloc, out, at, *form, words.as_slice())?;
+        }
+        at = at.wrapping_add(words_of(piece, *form));
+    }
+    Ok(())
 }

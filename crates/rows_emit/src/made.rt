@@ -1,14 +1,42 @@
-//! From a Linear function to its pieces.
+//! The words of Linear functions that are made by hand, with their frame descriptors, once they are emitted and laid out.
+//!
+//! The rows are functions: `lin SLOTS`, an instruction a line in the form that `rows_meanings` has too, and `end ENTRY`, the
+//! address of the function's first word. A symbol's name is its address in decimal digits, an external call's name its
+//! number. Shown are for each function its words, of which none are the program's: a script has written assembly for each
+//! line from the machine's rules, and GNU's assembler and linker have made words of it. The last 71 functions stand with
+//! these words in the table `images` of `rows_commands` too, which runs them.
 ghost use Rattle.lin_ir.specs.Formed.{AreLocated};
 
 use crate::laid::put_code;
 use anyhow::Result;
+use bs_words::{Name, Ret};
 use frame_tables::descriptors;
-use lin_ir::Lin;
+use lin_ir::{Lin, Line};
 use lin_tests::{has_one_depth, is_located, is_within};
+use mach_ir::Seq;
+use rows_reading::apart;
 use rv_emit::emit;
 use std::alloc::Global;
 use std::io::Write;
+
+/// The function with these lines.
+pub(crate) fn function(alloc: Global, slots: u32, lines: Vec<Line>) -> Lin {
+    Lin {
+        name: Name::from_vec(Vec::new(alloc)),
+        params: Seq::new(alloc),
+        result: Ret::Unit,
+        slots,
+        code: Seq::from_vec(lines),
+    }
+}
+
+/// Puts the instruction of a line, if it is one.
+pub(crate) fn take(alloc: Global, lines: &mut Vec<Line>, line: &str) -> Result<()> {
+    if let Some(line) = apart(alloc, line)?.line()? {
+        lines.push(line)?;
+    }
+    Ok(())
+}
 
 /// The words of a function whose locations are colours, t0 and its slots.
 fn put_located<W: Write>(alloc: Global, out: &mut W, lin: &Lin, entry: u32) -> Result<()>

@@ -1,59 +1,73 @@
-//! The words of Linear functions that are made by hand, with their frame descriptors, once they are emitted and laid out.
+//! What is laid out of pieces and of Linear functions that are made by hand.
 //!
-//! `stdin` has functions: `lin SLOTS`, an instruction a line in the form that `rows_meanings` has too, and `end ENTRY`, the
-//! address of the function's first word. A symbol's name is its address in decimal digits, an external call's name its
-//! number. `stdout` has for each function its words, of which none are the program's: a script has written assembly for each
-//! line from the machine's rules, and GNU's assembler and linker have made words of it. The last 71 functions stand with these
-//! words in `rows_mover` too, which runs them.
+//! A line `= NAME` of standard input begins a table and prints nothing. The lines after it are the table's rows: `Subject`
+//! has the names.
 #![tactic(auto)]
 
 mod laid;
 mod made;
+mod pieces;
 
 use anyhow::Result;
-use bs_words::{Name, Ret};
-use lin_ir::{Lin, Line};
-use mach_ir::Seq;
+use laid::put_forms;
 use made::put_words_of;
-use rows_reading::apart;
-use std::alloc::Global;
 use std::io::{self, BufRead, BufReader, BufWriter, Write};
 
-/// The function with these lines.
-fn function(alloc: Global, slots: u32, lines: Vec<Line>) -> Lin {
-    Lin {
-        name: Name::from_vec(Vec::new(alloc)),
-        params: Seq::new(alloc),
-        result: Ret::Unit,
-        slots,
-        code: Seq::from_vec(lines),
-    }
+/// What a table is about.
+#[derive(Clone, Copy)]
+enum Subject {
+    /// Lists of pieces (`pieces`).
+    Pieces,
+    /// Linear functions (`made`).
+    Functions,
+    /// No table has this name.
+    Unknown,
 }
 
-/// Puts the instruction of a line, if it is one.
-fn take(alloc: Global, lines: &mut Vec<Line>, line: &str) -> Result<()> {
-    if let Some(line) = apart(alloc, line)?.line()? {
-        lines.push(line)?;
+impl Subject {
+    /// The subject with this name.
+    fn of(name: &str) -> Subject {
+        match name {
+            "pieces" => Subject::Pieces,
+            "functions" => Subject::Functions,
+            _ => Subject::Unknown,
+        }
     }
-    Ok(())
 }
 
 fn main(rt: HostRuntime) -> Result<()> {
     let alloc = rt.alloc();
     let mut out = BufWriter::new(alloc, rt.stdout())?;
+    let mut subject = Subject::Pieces;
+    let mut pieces = Vec::new(alloc);
     let mut slots: u32 = 0;
     let mut lines = Vec::new(alloc);
     for line in BufReader::new(alloc, rt.stdin())?.lines(alloc) {
         let line = line?;
-        if let Some(number) = line.as_str().strip_prefix("lin ") {
+        if let Some(name) = line.as_str().strip_prefix("= ") {
+            subject = Subject::of(name);
+        } else if let Some(number) = line.as_str().strip_prefix("lin ") {
             slots = number.parse::<u32>()?;
         } else if let Some(entry) = line.as_str().strip_prefix("end ") {
             let entry = entry.parse::<u32>()?;
-            let lin = function(alloc, slots, lines);
-            lines = Vec::new(alloc);
-            put_words_of(alloc, &mut out, &lin, entry)?;
+            match subject {
+                Subject::Pieces => {
+                    put_forms(alloc, &mut out, pieces.as_slice(), entry)?;
+                    pieces.clear();
+                }
+                Subject::Functions => {
+                    let lin = made::function(alloc, slots, lines);
+                    lines = Vec::new(alloc);
+                    put_words_of(alloc, &mut out, &lin, entry)?;
+                }
+                Subject::Unknown => out.write_all(b"no table\n")?,
+            }
         } else {
-            take(alloc, &mut lines, line.as_str())?;
+            match subject {
+                Subject::Pieces => pieces::put_pieces(alloc, &mut pieces, line.as_str())?,
+                Subject::Functions => made::take(alloc, &mut lines, line.as_str())?,
+                Subject::Unknown => out.write_all(b"no table\n")?,
+            }
         }
     }
     out.flush()?;

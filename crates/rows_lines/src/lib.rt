@@ -15,7 +15,8 @@ mod sticking;
 
 use bs_io::{MemSink, MemSource};
 use bs_words::List;
-use cmmc_core::{OpenGate, cmmc};
+use cmmc_core::cmmc;
+pub use cmmc_core::{Gate, OpenGate};
 use digits::{bytes_of, push_digits};
 use line::Line;
 use std::alloc::{AllocError, Global};
@@ -90,8 +91,25 @@ impl Table {
         if input != "same" {
             self.input = input_of(rt, alloc, input)?;
         }
-        answered(rt, alloc, line, self.input.clone()?)
+        answered(rt, alloc, line, self.input.clone()?, &OpenGate)
     }
+}
+
+/// What the program answers to the words of a line that reads these bytes. The gate is told of what it compiles.
+pub fn answer_of<R: Threads + Sync, G: Gate + Sync>(
+    rt: &R,
+    alloc: Global,
+    words: &str,
+    input: &[u8],
+    gate: &G,
+) -> Result<Answer, AllocError> {
+    answered(
+        rt,
+        alloc,
+        Line::of(alloc, words)?,
+        input.to_vec(alloc)?,
+        gate,
+    )
 }
 
 /// The bytes that a command reads.
@@ -102,30 +120,17 @@ fn input_of<R: Threads + Sync>(rt: &R, alloc: Global, input: &str) -> Result<Vec
     let Some(text) = input.strip_prefix("image ") else {
         return input.as_bytes().to_vec(alloc);
     };
-    let mut words = Vec::new(alloc);
-    words.push(String::from_str(alloc, "compile")?)?;
-    let text = List::from_vec(text.as_bytes().to_vec(alloc)?);
-    let mut source = MemSource::new(text, List::new(alloc), PIECE);
-    let mut image = MemSink::new(alloc, KEPT, List::new(alloc), PIECE)?;
-    let mut told = MemSink::new(alloc, LINE, List::new(alloc), PIECE)?;
-    let _ = cmmc(
-        rt,
-        alloc,
-        words.as_slice(),
-        &mut source,
-        &mut image,
-        &mut told,
-        &OpenGate,
-    );
-    image.bytes().to_vec(alloc)
+    let answer = answer_of(rt, alloc, "compile", text.as_bytes(), &OpenGate)?;
+    Ok(answer.out)
 }
 
 /// What the program answers to a line.
-fn answered<R: Threads + Sync>(
+fn answered<R: Threads + Sync, G: Gate + Sync>(
     rt: &R,
     alloc: Global,
     line: Line,
     input: Vec<u8>,
+    gate: &G,
 ) -> Result<Answer, AllocError> {
     let Line {
         words,
@@ -149,7 +154,7 @@ fn answered<R: Threads + Sync>(
         &mut source,
         &mut out,
         &mut err,
-        &OpenGate,
+        gate,
     );
     Ok(Answer {
         status,

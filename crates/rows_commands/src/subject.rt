@@ -1,0 +1,85 @@
+//! What the tables are about.
+use crate::{compiled, devices, faults, limits, listings, plans};
+use anyhow::Result;
+use rows_lines::Table;
+use std::alloc::Global;
+use std::thread::Threads;
+
+/// What a table is about, which says how its rows are read and what is shown of the answers. Where no module is named, a
+/// row has the form of `rows_lines`, and all that `cmmc` says to it is shown.
+#[derive(Clone, Copy)]
+pub(crate) enum Subject {
+    /// Words that are no command, values in and out of their grammars and limits, the commands' answers, and reads and
+    /// writes that fail in turn. The answers were counted by hand.
+    Commands,
+    /// The command `check`: its outcomes, what it needs, and each way in which it has none. The answers were counted by
+    /// hand.
+    Checks,
+    /// Faults of texts and their places (`faults`).
+    Faults,
+    /// Devices of which one read or one write goes wrong (`devices`).
+    Devices,
+    /// Texts at the ends of the limits, and just past them (`limits`).
+    Limits,
+    /// What `cmmc list` prints of texts (`listings`).
+    Listings,
+    /// Runs of compiled texts under plans that a hand made (`plans`).
+    Plans,
+    /// Texts of the whole language (`compiled`).
+    Compiled,
+    /// Texts with every operator, chunk, comparison and form of operands, with external calls and frame calls that
+    /// answer, and with every form of control, each compiled and run at the edges of words, under several ways to move
+    /// blocks. The answers are what an evaluator in another language makes of the meaning of these texts.
+    Operators,
+    /// How `cmmc run` runs images that were put together by hand. They make frame calls, external calls and allocation
+    /// services where blocks move, where a service refuses what it finds, and where the run ends. Each is there in both
+    /// versions of images. The outcomes are those of a second machine, written from the rules of the machine alone.
+    ///
+    /// After them come 71 images of one function each, whose words are those that `rows_emit` wants of the last 71 Linear
+    /// functions there: each operation, test and chunk of Linear. What they return, raise, call or ask was counted by
+    /// hand.
+    Images,
+    /// No table has this name.
+    Unknown,
+}
+
+impl Subject {
+    /// The subject with this name.
+    pub(crate) fn of(name: &str) -> Subject {
+        match name {
+            "commands" => Subject::Commands,
+            "checks" => Subject::Checks,
+            "faults" => Subject::Faults,
+            "devices" => Subject::Devices,
+            "limits" => Subject::Limits,
+            "listings" => Subject::Listings,
+            "plans" => Subject::Plans,
+            "compiled" => Subject::Compiled,
+            "operators" => Subject::Operators,
+            "images" => Subject::Images,
+            _ => Subject::Unknown,
+        }
+    }
+
+    /// What is shown of a row.
+    pub(crate) fn said_to<R: Threads + Sync>(
+        self,
+        rt: &R,
+        alloc: Global,
+        table: &mut Table,
+        row: &str,
+    ) -> Result<Vec<u8>> {
+        match self {
+            Subject::Commands | Subject::Checks | Subject::Operators | Subject::Images => {
+                Ok(table.said_to(rt, alloc, row)?)
+            }
+            Subject::Faults => Ok(faults::said_to(rt, alloc, row)?),
+            Subject::Devices => Ok(devices::said_to(rt, alloc, table, row)?),
+            Subject::Limits => limits::said_to(rt, alloc, table, row),
+            Subject::Listings => listings::said_to(rt, alloc, table, row),
+            Subject::Plans => plans::said_to(rt, alloc, table, row),
+            Subject::Compiled => compiled::said_to(rt, alloc, table, row),
+            Subject::Unknown => Ok(b"no table\n".to_vec(alloc)?),
+        }
+    }
+}

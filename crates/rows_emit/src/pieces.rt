@@ -1,0 +1,111 @@
+//! In which forms the pieces of functions made by hand stand, at which words, and what their words are.
+//!
+//! A row is a piece: a label, a jump, the number of an external call or an address, as `label 1` or `address a0 1`; a
+//! condition, two registers and a label, as `beq a0 a1 1`; `call 65536`, `tail 65536` and `symbol a0 65536`, which lead to
+//! this address; or `fill 1022`, so many instructions. `end 65536` lays them out as a function whose entry has this address.
+//!
+//! Shown is a line for each piece but labels and fillings: its place, in words, its form and its words. The lines were made
+//! by a script that knows the rules alone: what 13 and 21 bits reach, and the manual's formats.
+use anyhow::Result;
+use bs_words::Name;
+use rv_isa::{AluImmOp, Condition, Instr, Register};
+use rv_pieces::Piece;
+use std::alloc::Global;
+
+/// What stands between pieces that tell something.
+const FILLING: Instr = Instr::OpImm {
+    op: AluImmOp::Addi,
+    rd: 0,
+    rs1: 0,
+    imm: 0,
+};
+
+/// Puts the pieces of a line.
+pub(crate) fn put_pieces(alloc: Global, pieces: &mut Vec<Piece>, line: &str) -> Result<()> {
+    let (name, operands) = match line.split_once(' ') {
+        Some(split) => split,
+        None => (line, ""),
+    };
+    match operands.split_once(' ') {
+        Some((first, second)) => put_two(alloc, pieces, name, first, second),
+        None => put_one(alloc, pieces, name, operands),
+    }
+}
+
+/// Those with one operand, a number.
+fn put_one(alloc: Global, pieces: &mut Vec<Piece>, name: &str, operand: &str) -> Result<()> {
+    let number = operand.parse::<u32>()?;
+    match name {
+        "label" => pieces.push(Piece::Label(number))?,
+        "jump" => pieces.push(Piece::Jump(number))?,
+        "row" => pieces.push(Piece::Row(number))?,
+        "call" => pieces.push(Piece::Call(digits(alloc, operand)?))?,
+        "tail" => pieces.push(Piece::TailCall(digits(alloc, operand)?))?,
+        _ => {
+            for _ in 0..number {
+                pieces.push(Piece::Known(FILLING))?;
+            }
+        }
+    }
+    Ok(())
+}
+
+/// Those with a register first.
+fn put_two(
+    alloc: Global,
+    pieces: &mut Vec<Piece>,
+    name: &str,
+    first: &str,
+    second: &str,
+) -> Result<()> {
+    let to = register(first);
+    match second.split_once(' ') {
+        Some((right, label)) => {
+            let branch = Piece::Branch {
+                condition: condition(name),
+                left: to,
+                right: register(right),
+                label: label.parse::<u32>()?,
+            };
+            pieces.push(branch)?;
+        }
+        None => {
+            if name == "address" {
+                let label = second.parse::<u32>()?;
+                pieces.push(Piece::LabelAddress { to, label })?;
+            } else {
+                let name = digits(alloc, second)?;
+                pieces.push(Piece::SymbolAddress { to, name })?;
+            }
+        }
+    }
+    Ok(())
+}
+
+/// The name that an address is in decimal digits.
+fn digits(alloc: Global, address: &str) -> Result<Name> {
+    Ok(Name::from_vec(address.as_bytes().to_vec(alloc)?))
+}
+
+fn condition(name: &str) -> Condition {
+    match name {
+        "beq" => Condition::Beq,
+        "bne" => Condition::Bne,
+        "blt" => Condition::Blt,
+        "bge" => Condition::Bge,
+        "bltu" => Condition::Bltu,
+        _ => Condition::Bgeu,
+    }
+}
+
+fn register(name: &str) -> Register {
+    match name {
+        "a0" => Register::A0,
+        "a1" => Register::A1,
+        "s9" => Register::S9,
+        "t1" => Register::T1,
+        "t2" => Register::T2,
+        "t6" => Register::T6,
+        _ => Register::Zero,
+    }
+}
