@@ -9,9 +9,8 @@ use Rattle.lin_ir.specs.declared.lin.Lin.{Lin}
 use Rattle.linear_pass.specs.Linear.{IsLinearOf}
 use Rattle.linear_pass.proofs.Once.{linear_once}
 use Rattle.mach_ir.specs.declared.mach.Mach.{Mach}
-use Rattle.file_compile.proofs.Stages.{one_without_repeats, one_cleaned, one_with_slots}
-use Rattle.mach_passes.proofs.Whole.{one_prepared}
-use Rattle.mach_passes.specs.Stages.{HasNoRepeats, IsCleaned}
+use Rattle.mach_passes.proofs.Whole.{one_without_repeats, one_cleaned, one_with_slots, one_prepared}
+use Rattle.mach_passes.specs.Stages.{HasSlots}
 use Rattle.made_functions.specs.Files.{IsFunctionMade}
 use Rattle.rounds_rules.specs.Rounds.{IsAllocated}
 use Rattle.rounds_rules.proofs.Once.{allocated_once}
@@ -53,35 +52,16 @@ module _ (tree : FunctionTree) where
     is_allocated : IsAllocatedFor tree of.made.mach
     is_allocated = record { prepared = of.made.prepared; is_prepared = of.made.is_prepared; allocated = of.made.allocated }
 
-    lean : HasNoRepeats (selected tree) of.made.is_prepared.repeated
-    lean = record {
-      propagated = of.made.is_prepared.propagated;
-      is_propagated = of.made.is_prepared.is_propagated;
-      is_repeated = of.made.is_prepared.is_repeated;
-    }
-
-    cleaned : IsCleaned (selected tree) of.made.is_prepared.dropped
-    cleaned = record {
-      repeated = of.made.is_prepared.repeated;
-      has_no_repeats = lean;
-      is_dropped = of.made.is_prepared.is_dropped;
-    }
+    slots : HasSlots (selected tree) of.made.is_prepared.spilled
+    slots = of.made.is_prepared.has_slots
 
     -- what the code is made of is what the passes make
     code_passed : (stage : Stage) → IsPassText stage tree (function_text stage tree of)
     code_passed Select = refl
     code_passed CombAlloc = refl
-    code_passed Cse = record { made = of.made.is_prepared.repeated; is = lean; spelled = refl }
-    code_passed Dead = record { made = of.made.is_prepared.dropped; is = cleaned; spelled = refl }
-    code_passed Spill = record {
-      made = of.made.is_prepared.spilled;
-      is = record {
-        dropped = of.made.is_prepared.dropped;
-        is_cleaned = cleaned;
-        is_spilled = of.made.is_prepared.is_spilled;
-      };
-      spelled = refl;
-    }
+    code_passed Cse = record { made = slots.is_cleaned.repeated; is = slots.is_cleaned.has_no_repeats; spelled = refl }
+    code_passed Dead = record { made = slots.dropped; is = slots.is_cleaned; spelled = refl }
+    code_passed Spill = record { made = of.made.is_prepared.spilled; is = slots; spelled = refl }
     code_passed Split = record { made = of.made.prepared; is = of.made.is_prepared; spelled = refl }
     code_passed Alloc = record { made = of.made.mach; is = is_allocated; spelled = refl }
     code_passed Linear = record {

@@ -1,5 +1,5 @@
 -- Turning repeats into moves carries: a move has no more words than an operator, and neither is a frame point, an exit or a mark.
-use Rattle.std.proofs.Common.{◌≡◌, ℕ, suc, ◌+◌, ◌*◌, ◌≤◌, Bool, true, false, cond, List, [], ◌∷◌, length, refl, sym, ap, ◌∙◌, subst, arith, Option, Some}
+use Rattle.std.proofs.Common.{◌≡◌, ℕ, suc, ◌≤◌, Bool, true, false, cond, List, [], ◌∷◌, length, refl, sym, ap, ◌∙◌, subst, arith, Option, Some}
 use Rattle.std.specs.List.{Contains}
 use Rattle.std.specs.Prelude.{slice_index_or}
 use Rattle.std.proofs.lemmas.List.Elements.{Contains-get_or}
@@ -15,7 +15,6 @@ use Rattle.mach_ir.specs.declared.mach.Instr.{Instr}
 use Rattle.mach_ir.specs.declared.mach.Mach.{Mach}
 use Rattle.mach_ir.specs.declared.mach.MachOp.{MachOp}
 use Rattle.mach_ir.specs.declared.mach.MachOp.TheVariants as mach
-use Rattle.mach_laws.specs.Expand.{expand}
 use Rattle.mach_laws.proofs.Places.{tries_expand}
 use Rattle.pass_rules.specs.Carried.{OffsetFits, EndsInReturn, at_return, further, IsCarried}
 use Rattle.pass_rules.specs.Measures.{copy_words, words_with, instr_words, code_words, code_points, one_if, exits, operands_with, other_operands}

@@ -1,5 +1,5 @@
 -- What the passes before register allocation keep together.
-use Rattle.std.proofs.Common.{◌≡◌, ℕ, suc, ◌+◌, ◌*◌, ◌<◌, ◌≤◌, ⊎_elim, List, [], ◌∷◌, length, refl, ap, ◌∙◌, subst, arith}
+use Rattle.std.proofs.Common.{◌≡◌, ℕ, suc, ◌+◌, ◌*◌, ◌<◌, ◌≤◌, ⊎_elim, List, [], ◌∷◌, length, refl, sym, ap, ◌∙◌, subst, arith}
 use Rattle.std.specs.List.{Contains}
 use Rattle.combine_rules.proofs.Formed.{combined_formed, combined_seated}
 use Rattle.combine_rules.proofs.Placed.{combined_placed}
@@ -7,6 +7,7 @@ use Rattle.combine_rules.proofs.Sizes.{size, register_before}
 use Rattle.combine_rules.proofs.Whole as combining
 use Rattle.combine_rules.specs.Combined.{combined}
 use Rattle.combine_rules.specs.Kept.{IsCombinable}
+use Rattle.copy_rules.proofs.Form as copies
 use Rattle.copy_rules.proofs.One.{one_propagated}
 use Rattle.copy_rules.proofs.Whole.{propagated_kept}
 use Rattle.copy_rules.specs.Propagated.{IsPropagated}
@@ -31,7 +32,8 @@ use Rattle.split_rules.proofs.One.{one_split}
 use Rattle.split_rules.proofs.Whole.{split_kept}
 use Rattle.split_rules.specs.Split.{IsSplit}
 use Rattle.mach_passes.specs.Prepared.{IsPrepared, IsPreparable, IsKept}
-use Rattle.mach_passes.specs.Stages.{HasNoRepeats, IsCleaned}
+use Rattle.mach_passes.specs.Stages.{IsCommoned, HasNoRepeats, IsCleaned, HasSlots}
+use Rattle.repeat_rules.proofs.Form as repeats
 use Rattle.repeat_rules.proofs.One.{one_repeated}
 use Rattle.repeat_rules.proofs.Whole.{repeated_kept}
 use Rattle.repeat_rules.specs.Kept.{OwnOrigins}
@@ -297,24 +299,42 @@ repeat_stage m q formed placed own s =
 combined_own : (m : Mach) → IsCombinable m → OwnOrigins (combined m)
 combined_own m is r i = is.origins r (register_before m r i)
 
--- nor does propagating copies
-propagated_own : (m q : Mach) → IsPreparable m → IsPropagated (combined m) q → OwnOrigins q
-propagated_own m q is made r i =
-    let one = combine_stage m is.combinable is.placed in
-    let own = combined_own m is.combinable in
-    own r ((propagated_kept (combined m) q one.formed one.placed own made).registers r i)
+-- nor does propagating copies, or making repeats moves
+propagated_own : (m q : Mach) → WellFormed m → WellPlaced m → OwnOrigins m → IsPropagated m q → OwnOrigins q
+propagated_own m q formed placed own made r i = own r ((propagated_kept m q formed placed own made).registers r i)
+
+repeated_own : (m q : Mach) → WellFormed m → WellPlaced m → OwnOrigins m → IsRepeated m q → OwnOrigins q
+repeated_own m q formed placed own made r i = own r ((repeated_kept m q formed placed own made).registers r i)
+
+pub propagated_formed : (m q : Mach) → WellFormed m → IsPropagated m q → WellFormed q
+propagated_formed m q formed p = subst WellFormed (sym p.is) (copies.form_kept m p.plan p.reads formed).formed
+
+pub commoned_formed : (m q : Mach) → WellFormed m → IsCommoned m q → WellFormed q
+commoned_formed m q formed c =
+    (repeats.form_kept c.propagated q (propagated_formed m c.propagated formed c.is_propagated) c.is_repeated).formed
+
+-- a round of both, on a function of which no register is made from another
+module _ (m q : Mach) (formed : WellFormed m) (placed : WellPlaced m) (own : OwnOrigins m) (c : IsCommoned m q) where
+  read : Smaller m c.propagated
+  read = propagate_stage m c.propagated formed placed own c.is_propagated
+
+  read_own : OwnOrigins c.propagated
+  read_own = propagated_own m c.propagated formed placed own c.is_propagated
+
+  common_stage : Smaller m q
+  common_stage = stage_then read (repeat_stage c.propagated q read.formed read.placed read_own c.is_repeated)
+
+  common_own : OwnOrigins q
+  common_own = repeated_own c.propagated q read.formed read.placed read_own c.is_repeated
 
 -- the passes that do not enlarge the function
-pub propagates_stage : (m q : Mach) → IsPreparable m → IsPropagated (combined m) q → Smaller m q
-propagates_stage m q is made =
-    let one = combine_stage m is.combinable is.placed in
-    stage_then one (propagate_stage (combined m) q one.formed one.placed (combined_own m is.combinable) made)
-
 pub repeats_stage : (m q : Mach) → IsPreparable m → HasNoRepeats m q → Smaller m q
 repeats_stage m q is made =
-    let one = propagates_stage m made.propagated is made.is_propagated in
-    stage_then one
-    (repeat_stage made.propagated q one.formed one.placed (propagated_own m made.propagated is made.is_propagated) made.is_repeated)
+    let one = combine_stage m is.combinable is.placed in
+    let own = combined_own m is.combinable in
+    let first = common_stage (combined m) made.once one.formed one.placed own made.first in
+    let own_once = common_own (combined m) made.once one.formed one.placed own made.first in
+    stage_then (stage_then one first) (common_stage made.once q first.formed first.placed own_once made.second)
 
 pub small_stage : (m q : Mach) → IsPreparable m → IsCleaned m q → Smaller m q
 small_stage m q is made =
@@ -322,19 +342,18 @@ small_stage m q is made =
     stage_then one (drop_stage made.repeated q one.formed one.placed made.is_dropped)
 
 -- and spilling after them
-pub slots_stage : (m small q : Mach) → IsPreparable m → IsCleaned m small → IsSpilled small q →
-    IsStage (0 + copy_words * operand_count small.code) spilled_size m q
-slots_stage m small q is made spilled =
-    let one = small_stage m small is made in
-    stage_then one (spill_stage small q one.formed one.placed (seated_params small (one.seated is.seated)) spilled)
+pub slots_stage : (m q : Mach) → IsPreparable m → (made : HasSlots m q) →
+    IsStage (0 + copy_words * operand_count (made.dropped).code) spilled_size m q
+slots_stage m q is made =
+    let one = small_stage m made.dropped is made.is_cleaned in
+    stage_then one
+    (spill_stage made.dropped q one.formed one.placed (seated_params made.dropped (one.seated is.seated)) made.is_spilled)
 
 pub prepared_kept : (m q : Mach) → IsPreparable m → IsPrepared m q → IsKept m q
 prepared_kept m q is made =
-    let lean : HasNoRepeats m made.repeated =
-    record { propagated = made.propagated; is_propagated = made.is_propagated; is_repeated = made.is_repeated } in
-    let cleaned : IsCleaned m made.dropped = record { repeated = made.repeated; has_no_repeats = lean; is_dropped = made.is_dropped } in
-    let small = small_stage m made.dropped is cleaned in
-    let slots = slots_stage m made.dropped made.spilled is cleaned made.is_spilled in
+    let dropped = made.has_slots.dropped in
+    let small = small_stage m dropped is made.has_slots.is_cleaned in
+    let slots = slots_stage m made.spilled is made.has_slots in
     let all = stage_then slots (split_stage made.spilled q (length m.params) (ap length slots.params) slots.formed slots.placed made.is_split) in
     record {
       keeps = all.keeps;
@@ -342,16 +361,32 @@ prepared_kept m q is made =
       placed = all.placed;
       seated = all.seated is.seated;
       size = all.size;
-      carried = carried_within (all_words (operand_count (made.dropped).code) (operand_count m.code) (fewer_operands small)) all.carried;
+      carried = carried_within (all_words (operand_count dropped.code) (operand_count m.code) (fewer_operands small)) all.carried;
     }
 
 -- ---- one result
 
+one_commoned : (m q k : Mach) → IsCommoned m q → IsCommoned m k → q ≡ k
+one_commoned m q k a b =
+    let propagated = one_propagated m a.propagated b.propagated a.is_propagated b.is_propagated in
+    one_repeated b.propagated q k (subst (λ (c : Mach). IsRepeated c q) propagated a.is_repeated) b.is_repeated
+
+pub one_without_repeats : (m q k : Mach) → HasNoRepeats m q → HasNoRepeats m k → q ≡ k
+one_without_repeats m q k a b =
+    let once = one_commoned (combined m) a.once b.once a.first b.first in
+    one_commoned b.once q k (subst (λ (c : Mach). IsCommoned c q) once a.second) b.second
+
+pub one_cleaned : (m q k : Mach) → IsCleaned m q → IsCleaned m k → q ≡ k
+one_cleaned m q k a b =
+    let repeated = one_without_repeats m a.repeated b.repeated a.has_no_repeats b.has_no_repeats in
+    one_dropped b.repeated q k (subst (λ (d : Mach). IsDropped d q) repeated a.is_dropped) b.is_dropped
+
+pub one_with_slots : (m q k : Mach) → HasSlots m q → HasSlots m k → q ≡ k
+one_with_slots m q k a b =
+    let cleaned = one_cleaned m a.dropped b.dropped a.is_cleaned b.is_cleaned in
+    one_spilled b.dropped q k (subst (λ (d : Mach). IsSpilled d q) cleaned a.is_spilled) b.is_spilled
+
 pub one_prepared : (m q k : Mach) → IsPrepared m q → IsPrepared m k → q ≡ k
 one_prepared m q k a b =
-    let propagated = one_propagated (combined m) a.propagated b.propagated a.is_propagated b.is_propagated in
-    let repeated =
-    one_repeated b.propagated a.repeated b.repeated (subst (λ c. IsRepeated c a.repeated) propagated a.is_repeated) b.is_repeated in
-    let dropped = one_dropped b.repeated a.dropped b.dropped (subst (λ d. IsDropped d a.dropped) repeated a.is_dropped) b.is_dropped in
-    let spilled = one_spilled b.dropped a.spilled b.spilled (subst (λ d. IsSpilled d a.spilled) dropped a.is_spilled) b.is_spilled in
-    one_split b.spilled q k (subst (λ s. IsSplit s q) spilled a.is_split) b.is_split
+    let spilled = one_with_slots m a.spilled b.spilled a.has_slots b.has_slots in
+    one_split b.spilled q k (subst (λ (s : Mach). IsSplit s q) spilled a.is_split) b.is_split

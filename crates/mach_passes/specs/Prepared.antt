@@ -1,9 +1,6 @@
 -- What the passes before register allocation make of a Mach function (OCaml's `asmcomp/asmgen.ml`).
 use Rattle.std.specs.Prelude.{ℕ, ◌+◌, ◌*◌, length}
-use Rattle.combine_rules.specs.Combined.{combined}
 use Rattle.combine_rules.specs.Kept.{IsCombinable}
-use Rattle.copy_rules.specs.Propagated.{IsPropagated}
-use Rattle.dead_rules.specs.Dropped.{IsDropped}
 use Rattle.mach_ir.specs.Formed.{WellFormed}
 use Rattle.mach_ir.specs.Keeps.{Keeps}
 use Rattle.mach_ir.specs.Placed.{WellPlaced}
@@ -13,22 +10,15 @@ use Rattle.mach_ir.specs.declared.mach.Mach.{Mach}
 use Rattle.pass_rules.specs.Carried.{IsCarried}
 use Rattle.pass_rules.specs.Measures.{copy_words}
 use Rattle.places_rules.specs.Places.{ColoursLow}
-use Rattle.repeat_rules.specs.Repeated.{IsRepeated}
-use Rattle.spill_rules.specs.Chosen.{IsSpilled}
 use Rattle.split_rules.specs.Split.{IsSplit}
+use Rattle.mach_passes.specs.Stages.{HasSlots}
 
--- Its allocations are combined, copies are read from their sources, repeats become moves, what only
--- computes and is not used goes, what lives over calls goes to slots, and each web of writes gets a
--- number of its own.
+-- Its allocations are combined, operands are read from what they are copies of, repeats become moves,
+-- what only computes and is not used goes, what lives over calls goes to slots, and each web of writes
+-- gets a number of its own.
 pub record IsPrepared (m q : Mach) : Type 0 where
-  pub propagated : Mach
-  pub is_propagated : IsPropagated (combined m) propagated
-  pub repeated : Mach
-  pub is_repeated : IsRepeated propagated repeated
-  pub dropped : Mach
-  pub is_dropped : IsDropped repeated dropped
   pub spilled : Mach
-  pub is_spilled : IsSpilled dropped spilled
+  pub has_slots : HasSlots m spilled
   pub is_split : IsSplit spilled q
 
 -- what these passes ask of a function: selection gives it

@@ -6,12 +6,19 @@ use Rattle.mach_ir.specs.declared.mach.Mach.{Mach}
 use Rattle.repeat_rules.specs.Repeated.{IsRepeated}
 use Rattle.spill_rules.specs.Chosen.{IsSpilled}
 
--- The second is the first with its allocations combined and its copies propagated, and without
--- repeats.
-pub record HasNoRepeats (m q : Mach) : Type 0 where
+-- The second is the first with operands read from what they are copies of, and then moves for repeats.
+pub record IsCommoned (m q : Mach) : Type 0 where
   pub propagated : Mach
-  pub is_propagated : IsPropagated (combined m) propagated
+  pub is_propagated : IsPropagated m propagated
   pub is_repeated : IsRepeated propagated q
+
+-- The second is the first with its allocations combined and its repeats made moves, in two rounds: what
+-- was computed from a repeat repeats too once that is a copy, as the address of an element does once
+-- its offset is.
+pub record HasNoRepeats (m q : Mach) : Type 0 where
+  pub once : Mach
+  pub first : IsCommoned (combined m) once
+  pub second : IsCommoned once q
 
 -- The second is the first so, and without dead code.
 pub record IsCleaned (m q : Mach) : Type 0 where

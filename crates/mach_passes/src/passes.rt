@@ -1,11 +1,9 @@
 //! The passes, in their order.
 ghost use Rattle.std.specs.Prelude.{IfOk};
-ghost use Rattle.combine_rules.specs.Combined.{combined};
-ghost use Rattle.copy_rules.specs.Propagated.{IsPropagated};
 ghost use Rattle.mach_ir.specs.Formed.{WellFormed};
 ghost use Rattle.spill_rules.specs.Chosen.{IsSpilled};
 ghost use Rattle.mach_passes.specs.Prepared.{IsPreparable, IsPrepared};
-ghost use Rattle.mach_passes.specs.Stages.{HasNoRepeats, IsCleaned, HasSlots};
+ghost use Rattle.mach_passes.specs.Stages.{IsCommoned, HasNoRepeats, IsCleaned, HasSlots};
 
 use comballoc::combine;
 use cse_deadcode::{cse, drop_dead, propagate};
@@ -15,29 +13,32 @@ use spill::spill;
 use split::split;
 use std::alloc::{AllocError, Global};
 
-/// The function with its allocations combined, in which copies are read from their sources. The only
+/// The function with operands read from what they are copies of, and then moves for repeats. The only
 /// error is want of memory.
-fn with_sources(alloc: Global, mach: Mach) -> Result<Mach, AllocError>
-    requires { IsPreparable mach }
-    ensures { IfOk result (IsPropagated (combined mach)) }
+#[tactic(auto, using(crate::proofs::Stages::is_commoned))]
+fn common(alloc: Global, mach: Mach) -> Result<Mach, AllocError>
+    requires formed { WellFormed mach }
+    ensures { IfOk result (IsCommoned mach) }
 {
-    let combined = combine(alloc, mach)?;
-    propagate(alloc, combined)
+    let propagated = propagate(alloc, mach)?;
+    cse(alloc, propagated)
 }
 
-/// The function with its allocations combined, in which copies are read from their sources and repeats
-/// are moves. The only error is want of memory.
+/// The function with its allocations combined, and without repeats: twice operands are read from what
+/// they are copies of, and repeats made moves, so that what was computed from a repeat is one too. The
+/// only error is want of memory.
 #[tactic(auto, using(crate::proofs::Stages::has_no_repeats))]
 pub fn without_repeats(alloc: Global, mach: Mach) -> Result<Mach, AllocError>
     requires { IsPreparable mach }
     ensures { IfOk result (HasNoRepeats mach) }
 {
-    let propagated = with_sources(alloc, mach)?;
-    cse(alloc, propagated)
+    let combined = combine(alloc, mach)?;
+    let once = common(alloc, combined)?;
+    common(alloc, once)
 }
 
-/// The function with its allocations combined, copies read from their sources, without repeats and
-/// without what only computes and is not used. The only error is want of memory.
+/// The function with its allocations combined, without repeats and without what only computes and is
+/// not used. The only error is want of memory.
 #[tactic(auto, using(crate::proofs::Stages::is_cleaned))]
 pub fn without_dead(alloc: Global, mach: Mach) -> Result<Mach, AllocError>
     requires { IsPreparable mach }
@@ -67,9 +68,9 @@ pub fn with_slots(alloc: Global, mach: Mach) -> Result<Mach, AllocError>
     spill_live(alloc, dropped)
 }
 
-/// What the passes before register allocation make of a function: its allocations are combined, copies
-/// are read from their sources, repeats become moves, what only computes and is not used goes, what
-/// lives over calls goes to slots, and each web of writes gets a number of its own.
+/// What the passes before register allocation make of a function: its allocations are combined,
+/// operands are read from what they are copies of, repeats become moves, what only computes and is not
+/// used goes, what lives over calls goes to slots, and each web of writes gets a number of its own.
 ///
 /// The only error is want of memory, which more places, writes or registers than a number can count
 /// are too.
