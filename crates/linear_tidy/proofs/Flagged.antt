@@ -1,10 +1,10 @@
 -- Lines by their flags.
 use Rattle.std.proofs.Common.{◌≡◌, ℕ, zero, suc, ◌+◌, ◌-◌, ◌<◌, ◌≤◌, Bool, true, false, cond, ⊎_elim, List, [], ◌∷◌, ◌++◌, length, drop, get_or, refl, sym, ap, ◌∙◌, subst, arith, append_assoc}
 use Rattle.std.proofs.lemmas.Bool.{cases_lt}
-use Rattle.std.proofs.lemmas.List.{append-nil, drop_more, get_or_append_left, get_or_push, length_push}
+use Rattle.std.proofs.lemmas.List.{append-nil, get_or_append_left, get_or_push, length_push}
 use Rattle.std.specs.List.{All}
 use Rattle.std.specs.Prelude.{slice_index_or}
-use Rattle.lin_ir.specs.Walks.{Stands, here, below}
+use Rattle.lin_ir.specs.Walks.{Stands, here, below, Reached}
 use Rattle.lin_ir.specs.declared.lin.Line.{Line}
 use Rattle.lin_ir.specs.declared.lin.Lin.{Lin}
 use Rattle.lin_laws.specs.Graph.{HaveNumbers, AreNumbered}
@@ -15,7 +15,8 @@ use Rattle.tidy_rules.specs.Redirecting.{redirect, last_label, redirected_all}
 use Rattle.tidy_rules.specs.Regular.{IsTidy}
 use Rattle.tidy_rules.specs.Tidied.{IsTidied, IsUseful}
 use Rattle.tidy_rules.proofs.Leaving.{in_code}
-use Rattle.linear_tidy.specs.Flags.{TellsUse, AreFlags, goes_by, kept, unless_gone}
+use Rattle.linear_tidy.specs.Flags.{TellsUse, AreFlags, AllReached, goes_by, kept, unless_gone}
+use Rattle.linear_tidy.proofs.Left.{line_left, was}
 use Rattle.linear_tidy.proofs.Useful.{all_map}
 
 -- ---- flags so far
@@ -51,33 +52,17 @@ flags_all m flags k e h = record { len = h.len ∙ e; each = λ p lt. h.each p (
 
 -- ---- the lines that are kept
 
-kept_begun : (k : ℕ) (flags : List Bool) (code : List Line) (b : Bool) (i : Line) → k < length flags → k < length code → get_or flags k false ≡ b →
-    get_or code k i ≡ i →
-    kept (drop k flags) (drop k code) ≡ cond b (kept (drop (k + 1) flags) (drop (k + 1) code)) (i ∷ kept (drop (k + 1) flags) (drop (k + 1) code))
-kept_begun k flags code b i lt less e same =
-    ap (λ xs. kept xs (drop k code)) (drop_more flags k false lt ∙ ap (λ b. b ∷ drop (k + 1) flags) e)
-    ∙ ap (kept (b ∷ drop (k + 1) flags)) (drop_more code k i less ∙ ap (λ j. j ∷ drop (k + 1) code) same) ∙ by b
-  where
-    by : (b : Bool) → kept (b ∷ drop (k + 1) flags) (i ∷ drop (k + 1) code) ≡
-        cond b (kept (drop (k + 1) flags) (drop (k + 1) code)) (i ∷ kept (drop (k + 1) flags) (drop (k + 1) code))
-    by true = refl
-    by false = refl
+pub kept_next : (b : Bool) (flags : List Bool) (i : Line) (old new rest : List Line) → new ≡ old ++ unless_gone b i →
+    new ++ kept flags rest ≡ old ++ kept (b ∷ flags) (i ∷ rest)
+kept_next true flags i old new rest e = ap (λ xs. xs ++ kept flags rest) (e ∙ append-nil old)
+kept_next false flags i old new rest e = ap (λ xs. xs ++ kept flags rest) e ∙ append_assoc old (i ∷ []) (kept flags rest)
 
-pub kept_more : (k : ℕ) (flags : List Bool) (code items more : List Line) (b : Bool) (i : Line) → k < length code → length flags ≡ length code →
-    b ≡ get_or flags k false → i ≡ get_or code k i → more ≡ items ++ unless_gone b i →
-    items ++ kept (drop k flags) (drop k code) ≡ kept flags code → more ++ kept (drop (k + 1) flags) (drop (k + 1) code) ≡ kept flags code
-kept_more k flags code items more b i lt len e same is h = by b e is
-  where
-    rest : List Line
-    rest = kept (drop (k + 1) flags) (drop (k + 1) code)
+pub kept_rest : (i : Line) (old new rest : List Line) → new ≡ old ++ unless_gone false i → new ++ kept [] rest ≡ old ++ kept [] (i ∷ rest)
+kept_rest i old new rest e = ap (λ xs. xs ++ rest) e ∙ append_assoc old (i ∷ []) rest
 
-    by : (b : Bool) → b ≡ get_or flags k false → more ≡ items ++ unless_gone b i → more ++ rest ≡ kept flags code
-    by true e is =
-        ap (λ xs. xs ++ rest) (is ∙ append-nil items)
-        ∙ ap (λ xs. items ++ xs) (sym (kept_begun k flags code true i (omega (arith, lt, len)) lt (sym e) (sym same))) ∙ h
-    by false e is =
-        ap (λ xs. xs ++ rest) is ∙ append_assoc items (i ∷ []) rest
-        ∙ ap (λ xs. items ++ xs) (sym (kept_begun k flags code false i (omega (arith, lt, len)) lt (sym e) (sym same))) ∙ h
+pub kept_none : (flags : List Bool) → kept flags [] ≡ []
+kept_none [] = refl
+kept_none (b ∷ flags) = refl
 
 -- ---- by the number of lines after a line
 
@@ -166,6 +151,20 @@ module _ (m : Lin) (flags : List Bool) (h : AreFlags m flags) where
             (λ j z. all_in Results numbered.results (in_code m (goes_by flags) goes_useless j m.code z));
       }
 
+  -- walks come to what is left
+  pub left_reached : AllReached (with_code m (without (goes_by flags) m.code))
+  left_reached =
+      record {
+        each = λ j js s low.
+            let y = was (goes_by flags) m.code s in
+            let x = standing y.stands in
+            let r = ((tells_at x).no (sym (flag_at x) ∙ y.stays) j y.next x.is).reached low in (
+              r.0,
+              subst (λ xs. Reached (with_code m (without (goes_by flags) m.code)) (j ∷ xs) r.0) y.same
+                  (line_left m (goes_by flags) goes_useless y.stays r.1),
+            );
+      }
+
 -- ---- fewer lines
 
 without_fewer : (g : ℕ → Bool) (code : List Line) → length (without g code) ≤ length code
@@ -223,6 +222,9 @@ first_round m now flags is numbered f =
 
 pub next_numbered : (m now r : Lin) (flags : List Bool) → Round m now flags → r ≡ with_code now (without (goes_by flags) now.code) → AreNumbered r
 next_numbered m now r flags h is = subst AreNumbered (sym is) (left_numbered now flags h.told h.numbered)
+
+pub next_reached : (m now r : Lin) (flags : List Bool) → Round m now flags → r ≡ with_code now (without (goes_by flags) now.code) → AllReached r
+next_reached m now r flags h is = subst AllReached (sym is) (left_reached now flags h.told)
 
 pub next_round : (m now r : Lin) (flags others : List Bool) → Round m now flags → r ≡ with_code now (without (goes_by flags) now.code) →
     AreFlags r others → Round m r others

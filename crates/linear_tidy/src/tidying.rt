@@ -5,7 +5,7 @@ ghost use Rattle.tidy_rules.specs.Tidied.{IsTidied};
 
 use crate::leaving::{leave_out, none_set};
 use crate::redirecting::redirect_jumps;
-use crate::use_of_lines::useless_lines;
+use crate::use_of_lines::{useless_lines, useless_lines_left};
 use lin_ir::Lin;
 use std::alloc::{AllocError, Global};
 
@@ -14,8 +14,8 @@ use std::alloc::{AllocError, Global};
 /// comes without it. Labels and the entries of handlers stay.
 ///
 /// Each location has to be a register of the machine or one of the function's slots. Walks are
-/// searched once and again after each time that lines went: most functions take two or three
-/// searches. The only error is want of memory, which more lines or slots than a number can count
+/// searched once. When lines went, walks still come to the others, so they are searched again only
+/// where moves of a location to itself are left. The only error is want of memory, which more lines or slots than a number can count
 /// are too.
 pub fn tidy(alloc: Global, lin: Lin) -> Result<Lin, AllocError>
     requires { AreNumbered lin }
@@ -25,7 +25,7 @@ pub fn tidy(alloc: Global, lin: Lin) -> Result<Lin, AllocError>
     let mut flags = useless_lines(alloc, &now)?;
     while !none_set(flags.as_slice()) {
         now = leave_out(alloc, now, flags.as_slice())?;
-        flags = useless_lines(alloc, &now)?;
+        flags = useless_lines_left(alloc, &now)?;
     }
     Ok(now)
 }

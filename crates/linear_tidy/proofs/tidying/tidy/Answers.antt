@@ -1,7 +1,7 @@
 use Rattle.std.proofs.Common.{◌≡◌, false, sym, ◌∙◌, subst}
 use Rattle.std.proofs.lemmas.Bool.{true≢false}
 use Rattle.std.specs.List.{All}
-use Rattle.linear_tidy.proofs.Flagged.{redirected_numbered, first_round, next_numbered, next_round, last_round, fewer_left, left_by}
+use Rattle.linear_tidy.proofs.Flagged.{redirected_numbered, first_round, next_numbered, next_reached, next_round, last_round, fewer_left, left_by}
 use Rattle.linear_tidy.proofs.tidying.tidy.Goals as goal
 
 pub useless_lines-requires : goal.useless_lines-requires
@@ -11,9 +11,15 @@ pub loop-alloc-init : goal.loop-alloc-init
 loop-alloc-init c =
     first_round c.args.lin c.in_ok-now.now c.in_ok-flags.flags.items c.in_ok-now.ensures c.requires c.in_ok-flags.ensures
 
-pub useless_lines-requires-in-loop-alloc : goal.useless_lines-requires-in-loop-alloc
-useless_lines-requires-in-loop-alloc c =
+pub useless_lines_left-requires-clause-numbered : goal.useless_lines_left-requires-clause-numbered
+useless_lines_left-requires-clause-numbered c =
     next_numbered c.args.lin c.loop-alloc.now c.in_ok-now-2.now c.loop-alloc.flags.items c.loop-alloc.invariant
+    (left_by c.loop-alloc.now c.in_ok-now-2.now c.as_slice-in-loop-alloc.result.now c.loop-alloc.flags.items c.as_slice-in-loop-alloc.ensures.value
+    c.in_ok-now-2.ensures)
+
+pub useless_lines_left-requires-clause-reached : goal.useless_lines_left-requires-clause-reached
+useless_lines_left-requires-clause-reached c =
+    next_reached c.args.lin c.loop-alloc.now c.in_ok-now-2.now c.loop-alloc.flags.items c.loop-alloc.invariant
     (left_by c.loop-alloc.now c.in_ok-now-2.now c.as_slice-in-loop-alloc.result.now c.loop-alloc.flags.items c.as_slice-in-loop-alloc.ensures.value
     c.in_ok-now-2.ensures)
 
