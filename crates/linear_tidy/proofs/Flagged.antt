@@ -1,9 +1,9 @@
 -- Lines by their flags.
 use Rattle.std.proofs.Common.{◌≡◌, ℕ, zero, suc, ◌+◌, ◌-◌, ◌<◌, ◌≤◌, Bool, true, false, cond, ⊎_elim, List, [], ◌∷◌, ◌++◌, length, drop, get_or, refl, sym, ap, ◌∙◌, subst, arith, append_assoc}
 use Rattle.std.proofs.lemmas.Bool.{cases_lt}
-use Rattle.std.proofs.lemmas.List.{append-nil, get_or_append_left, get_or_push, length_push}
+use Rattle.std.proofs.lemmas.List.{length-drop, append-nil, get_or_append_left, get_or_push, length_push}
 use Rattle.std.specs.List.{All}
-use Rattle.std.specs.Prelude.{slice_index_or}
+use Rattle.std.specs.Prelude.{slice_index_or, IsTrue}
 use Rattle.lin_ir.specs.Walks.{Stands, here, below, Reached}
 use Rattle.lin_ir.specs.declared.lin.Line.{Line}
 use Rattle.lin_ir.specs.declared.lin.Lin.{Lin}
@@ -12,11 +12,13 @@ use Rattle.linear_rules.proofs.Lines.{all_of}
 use Rattle.linear_rules.proofs.Marks.{all_in}
 use Rattle.tidy_rules.specs.Leaving.{IsUseless, without, with_code, LeavesOut, LeavesOften, not_once, once_more}
 use Rattle.tidy_rules.specs.Redirecting.{redirect, last_label, redirected_all}
-use Rattle.tidy_rules.specs.Regular.{IsTidy}
+use Rattle.tidy_rules.specs.Regular.{IsReadBehind, IsTidy}
 use Rattle.tidy_rules.specs.Tidied.{IsTidied, IsUseful}
-use Rattle.tidy_rules.proofs.Leaving.{in_code}
-use Rattle.linear_tidy.specs.Flags.{TellsUse, AreFlags, AllReached, goes_by, kept, unless_gone}
-use Rattle.linear_tidy.proofs.Left.{line_left, was}
+use Rattle.tidy_rules.proofs.Leaving.{in_code, first_same}
+use Rattle.linear_tidy.proofs.Between.{drop_line}
+use Rattle.linear_tidy.specs.Forms.{IsNoSelfMove}
+use Rattle.linear_tidy.specs.Flags.{TellsUse, AreFlags, AllReached, AreRead, NoMoveGoes, goes_by, kept, unless_gone}
+use Rattle.linear_tidy.proofs.Left.{line_left, read_left, was}
 use Rattle.linear_tidy.proofs.Useful.{all_map}
 
 -- ---- flags so far
@@ -165,6 +167,48 @@ module _ (m : Lin) (flags : List Bool) (h : AreFlags m flags) where
             );
       }
 
+  -- moves of a location to itself are read as before
+  pub left_read : NoMoveGoes flags m.code → AreRead (with_code m (without (goes_by flags) m.code))
+  left_read none =
+      record {
+        each = λ j js s from to z.
+            let y = was (goes_by flags) m.code s in
+            let x = standing y.stands in
+            let r = ((tells_at x).no (sym (flag_at x) ∙ y.stays) j y.next x.is).read from to z in
+            subst (λ xs. IsReadBehind (with_code m (without (goes_by flags) m.code)) j xs to) y.same
+            (read_left m (goes_by flags) goes_useless
+            (λ i next s e. let k = standing s in none.each k.at i next k.is (sym (flag_at k) ∙ e)) y.stays z r);
+      }
+
+-- ---- no move goes
+
+pub record NoMoveSoFar (flags : List Bool) (code : List Line) (k : ℕ) : Type 0 where
+  pub each : (p : ℕ) → p < k → (i : Line) (next : List Line) → drop p code ≡ i ∷ next → IsTrue (slice_index_or flags p false) → IsNoSelfMove i
+
+pub none_yet : (flags : List Bool) (code : List Line) → NoMoveSoFar flags code 0
+none_yet flags code = record { each = λ p lt. absurd (omega (arith, lt)) }
+
+pub none_more : (flags : List Bool) (code : List Line) (k : ℕ) (b : Bool) (i : Line) → k < length code → b ≡ get_or flags k false → i ≡ get_or code k i →
+    (IsTrue b → IsNoSelfMove i) → NoMoveSoFar flags code k → NoMoveSoFar flags code (k + 1)
+none_more flags code k b i lt e at still h =
+    record {
+      each = λ p less j next d t.
+          ⊎_elim (λ (before : p < k). h.each p before j next d t)
+          (λ (le : k ≤ p).
+          let same : p ≡ k = omega (arith, less, le) in
+          let here : drop k code ≡ j ∷ next = sym (ap (λ n. drop n code) same) ∙ d in
+          let line : i ≡ j = first_same i j (drop (k + 1) code) next (sym (drop_line code k i lt at) ∙ here) in
+          subst IsNoSelfMove line (still (e ∙ sym (ap (λ n. get_or flags n false) same) ∙ t)))
+          (cases_lt p k);
+    }
+
+none_past : (code : List Line) (i : Line) (next : List Line) (p : ℕ) → drop p code ≡ i ∷ next → p < length code
+none_past code i next p d = let e = ap length d in let n = length-drop p code in omega (arith, e, n)
+
+pub none_all : (flags : List Bool) (code : List Line) (k : ℕ) → length code ≤ k → NoMoveSoFar flags code k → NoMoveGoes flags code
+none_all flags code k le h =
+    record { each = λ p i next d. (let lt = none_past code i next p d in h.each p (omega (arith, lt, le)) i next d) }
+
 -- ---- fewer lines
 
 without_fewer : (g : ℕ → Bool) (code : List Line) → length (without g code) ≤ length code
@@ -225,6 +269,13 @@ next_numbered m now r flags h is = subst AreNumbered (sym is) (left_numbered now
 
 pub next_reached : (m now r : Lin) (flags : List Bool) → Round m now flags → r ≡ with_code now (without (goes_by flags) now.code) → AllReached r
 next_reached m now r flags h is = subst AllReached (sym is) (left_reached now flags h.told)
+
+pub next_read : (m now r : Lin) (flags : List Bool) → Round m now flags → r ≡ with_code now (without (goes_by flags) now.code) →
+    NoMoveGoes flags now.code → AreRead r
+next_read m now r flags h is none = subst AreRead (sym is) (left_read now flags h.told none)
+
+pub no_move_by : (code xs : List Line) (slice flags : List Bool) → xs ≡ code → slice ≡ flags → NoMoveGoes slice xs → NoMoveGoes flags code
+no_move_by code xs slice flags e f h = subst (NoMoveGoes flags) e (subst (λ s. NoMoveGoes s xs) f h)
 
 pub next_round : (m now r : Lin) (flags others : List Bool) → Round m now flags → r ≡ with_code now (without (goes_by flags) now.code) →
     AreFlags r others → Round m r others

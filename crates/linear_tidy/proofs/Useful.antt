@@ -37,7 +37,7 @@ use Rattle.tidy_rules.specs.Regular.{IsReadBehind}
 use Rattle.tidy_rules.specs.Vals.{as_val, line_as_vals, as_vals}
 use Rattle.tidy_rules.proofs.Leaving.{first_same, rest_same, GoesOn, self_goes}
 use Rattle.tidy_rules.proofs.Vals.{reached_vals, reached_of, live_vals, live_of}
-use Rattle.linear_tidy.specs.Flags.{TellsSkipped, IsSearched, AllReached, IsIdle, not_read, not_needed, TellsIdle, TellsUse}
+use Rattle.linear_tidy.specs.Flags.{TellsSkipped, IsSearched, AllReached, AreRead, IsIdle, not_read, not_needed, TellsIdle, TellsUse}
 use Rattle.linear_tidy.specs.Forms.{copies, MovesItself, IsNoSelfMove}
 use Rattle.linear_tidy.proofs.Between.{drop_line}
 use Rattle.linear_tidy.proofs.SelfMoves.{self_copies, self_place}
@@ -214,23 +214,29 @@ module _ (m : Lin) (p : ℕ) where
       }
 
   pub use_skipped : (b : Bool) → ((i : Line) (next : List Line) → drop p m.code ≡ i ∷ next → is_landing i.op ≡ false →
-      (tries : List ℕ) × Reached m (i ∷ next) tries) → All IsNoSelfMove m.code → TellsSkipped m p b → TellsUse m p b
-  use_skipped b reached still tells =
+      (tries : List ℕ) × Reached m (i ∷ next) tries) →
+      ((i : Line) (next : List Line) → drop p m.code ≡ i ∷ next → (from to : Spot) → IsSelfMove i from to → IsReadBehind m i next to) →
+      TellsSkipped m p b → TellsUse m p b
+  use_skipped b reached read tells =
       record {
         yes = λ t i next d. let x = tells.yes t i next d in skipped x.is x.between;
         no = λ t i next d.
             record {
               reached = λ e. reached i next d e;
-              read = λ from to z. absurd (all_in IsNoSelfMove still (tail_in (at_place m p i next d)) from to z);
+              read = λ from to z. read i next d from to z;
               jumps = λ l e q. tells.no t i next d (record { label = l; is = e; between = q });
             };
       }
 
   pub use_walked : (b : Bool) → IsReachedAt m p → All IsNoSelfMove m.code → TellsSkipped m p b → TellsUse m p b
-  use_walked b r = use_skipped b (λ i next d e. (r.tries, subst (λ xs. Reached m xs r.tries) d r.reached))
+  use_walked b r still =
+      use_skipped b (λ i next d e. (r.tries, subst (λ xs. Reached m xs r.tries) d r.reached))
+      (λ i next d from to z. absurd (all_in IsNoSelfMove still (tail_in (at_place m p i next d)) from to z))
 
-  pub use_all_reached : (b : Bool) → AllReached m → All IsNoSelfMove m.code → TellsSkipped m p b → TellsUse m p b
-  use_all_reached b h = use_skipped b (λ i next d e. h.each i next (tail_stands (at_place m p i next d)) e)
+  pub use_all_reached : (b : Bool) → AllReached m → AreRead m → TellsSkipped m p b → TellsUse m p b
+  use_all_reached b h read =
+      use_skipped b (λ i next d e. h.each i next (tail_stands (at_place m p i next d)) e)
+      (λ i next d from to z. read.each i next (tail_stands (at_place m p i next d)) from to z)
 
 -- the positions that were searched are those to which walks come
 module _ (m : Lin) (w : Walks) (reached : ℕ) (h : IsSearched m w reached) where

@@ -13,7 +13,9 @@ use Rattle.lin_flow.specs.Walked.{AreLive, IsReadAfter, IsWalked}
 use Rattle.lin_flow.specs.declared.walks.Walks.{Walks}
 use Rattle.lin_flow.specs.declared.live.LiveWalks.{LiveWalks}
 use Rattle.tidy_rules.specs.Leaving.{is_landing, bare, IsUseless, LabelsBetween}
+use Rattle.tidy_rules.specs.Regular.{IsReadBehind}
 use Rattle.tidy_rules.specs.Tidied.{IsUseful}
+use Rattle.linear_tidy.specs.Forms.{IsNoSelfMove}
 
 -- the line jumps to where control comes without it
 pub record IsSkipped (m : Lin) (i : Line) (next : List Line) : Type 0 where
@@ -37,6 +39,16 @@ pub record IsSearched (m : Lin) (w : Walks) (reached : ℕ) : Type 0 where
 pub record AllReached (m : Lin) : Type 0 where
   pub each : (i : Line) (next : List Line) → Stands i next m.code → is_landing i.op ≡ false →
       (tries : List ℕ) × Reached m (i ∷ next) tries
+
+-- each move of a location to itself is read behind
+pub record AreRead (m : Lin) : Type 0 where
+  pub each : (i : Line) (next : List Line) → Stands i next m.code → (from to : Spot) →
+      IsSelfMove i from to → IsReadBehind m i next to
+
+-- no line whose flag is set moves a location to itself
+pub record NoMoveGoes (flags : List Bool) (code : List Line) : Type 0 where
+  pub each : (p : ℕ) (i : Line) (next : List Line) → drop p code ≡ i ∷ next →
+      IsTrue (slice_index_or flags p false) → IsNoSelfMove i
 
 -- Why a line to which walks come has no use, by what is live after it in a function.
 pub data IsIdle (m v : Lin) (p : ℕ) (i : Line) (next : List Line) : Type 0 where

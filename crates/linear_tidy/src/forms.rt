@@ -86,7 +86,8 @@ pub fn self_move(line: &Line) -> Option<Loc>
     one_place(line.args.as_slice(), line.results.as_slice())
 }
 
-fn is_no_self_move(line: &Line) -> bool
+/// Whether the line moves no location to itself.
+pub fn is_no_self_move(line: &Line) -> bool
     ensures { IsTrue result ↔ IsNoSelfMove line.now }
 {
     match self_move(line) {

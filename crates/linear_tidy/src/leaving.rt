@@ -2,8 +2,10 @@
 ghost use Rattle.std.specs.Prelude.{◌≡◌, ◌↔◌, ◌++◌, ◌∷◌, List, All, false, length, IfOk, IsTrue};
 ghost use Rattle.lin_ir.specs.declared.lin.Line.{Line};
 ghost use Rattle.tidy_rules.specs.Leaving.{without, with_code};
-ghost use Rattle.linear_tidy.specs.Flags.{goes_by, kept, unless_gone};
+ghost use Rattle.linear_tidy.specs.Flags.{NoMoveGoes, goes_by, kept, unless_gone};
+ghost use Rattle.linear_tidy.specs.Forms.{IsNoSelfMove};
 
+use crate::forms::is_no_self_move;
 use lin_ir::{Lin, Line};
 use mach_ir::Seq;
 use std::alloc::{AllocError, Global};
@@ -13,6 +15,25 @@ pub fn none_set(flags: &[bool]) -> bool
     ensures { IsTrue result ↔ All (λ flag. flag ≡ false) flags.now }
 {
     flags.iter().all(|flag| !*flag)
+}
+
+fn stays_or_moves_none(goes: bool, line: &Line) -> bool
+    ensures { IsTrue result → IsTrue goes → IsNoSelfMove line.now }
+{
+    if goes { is_no_self_move(line) } else { true }
+}
+
+/// Whether no line whose flag is set moves a location to itself.
+pub fn no_move_goes(code: &[Line], flags: &[bool]) -> bool
+    requires { length flags.now ≡ length code.now }
+    ensures { IsTrue result → NoMoveGoes flags.now code.now }
+{
+    for place in 0..code.len() {
+        if !stays_or_moves_none(flags[place], &code[place]) {
+            return false;
+        }
+    }
+    true
 }
 
 /// Adds the line, unless it goes.

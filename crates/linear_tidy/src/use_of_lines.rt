@@ -5,7 +5,7 @@ ghost use Rattle.lin_flow.specs.Labels.{AreLabelsOf};
 ghost use Rattle.lin_flow.specs.Walked.{AreLive};
 ghost use Rattle.tidy_rules.specs.Leaving.{LabelsBetween};
 ghost use Rattle.tidy_rules.specs.Vals.{as_vals};
-ghost use Rattle.linear_tidy.specs.Flags.{IsSearched, AllReached, TellsSkipped, TellsIdle, TellsUse, AreFlags};
+ghost use Rattle.linear_tidy.specs.Flags.{IsSearched, AllReached, AreRead, TellsSkipped, TellsIdle, TellsUse, AreFlags};
 ghost use Rattle.linear_tidy.specs.Forms.{IsNoSelfMove};
 
 use crate::forms::{is_label, is_landing, jump_of, no_self_moves, self_move};
@@ -136,10 +136,11 @@ fn by_walks(alloc: Global, lin: &Lin) -> Result<Vec<bool>, AllocError>
     Ok(flags)
 }
 
-/// For each line, whether it has no use, where walks come to all that are no landings.
+/// For each line, whether it has no use, where walks come to all but landings, and moves of a
+/// location to itself are read.
 fn by_labels(alloc: Global, lin: &Lin) -> Result<Vec<bool>, AllocError>
-    requires still { All IsNoSelfMove lin.now.code }
     requires reached { AllReached lin.now }
+    requires read { AreRead lin.now }
     ensures { IfOk result (λ flags. AreFlags lin.now flags.items) }
 {
     let count = number_after(lin.code.len())?;
@@ -163,13 +164,19 @@ pub fn useless_lines(alloc: Global, lin: &Lin) -> Result<Vec<bool>, AllocError>
     }
 }
 
-/// The same of what is left when lines without use have gone: walks come to all of it.
-pub fn useless_lines_left(alloc: Global, lin: &Lin) -> Result<Vec<bool>, AllocError>
+/// The same of what is left when lines without use have gone: walks come to all of it, and moves of
+/// a location to itself are still read if none of them went.
+pub fn useless_lines_left(
+    alloc: Global,
+    lin: &Lin,
+    no_move_went: bool,
+) -> Result<Vec<bool>, AllocError>
     requires numbered { AreNumbered lin.now }
     requires reached { AllReached lin.now }
+    requires read { IsTrue no_move_went → AreRead lin.now }
     ensures { IfOk result (λ flags. AreFlags lin.now flags.items) }
 {
-    if no_self_moves(lin.code.as_slice()) {
+    if no_move_went {
         by_labels(alloc, lin)
     } else {
         by_reads(alloc, lin)
