@@ -1,10 +1,10 @@
 -- Lines by their flags.
 use Rattle.std.proofs.Common.{◌≡◌, ℕ, zero, suc, ◌+◌, ◌-◌, ◌<◌, ◌≤◌, Bool, true, false, cond, ⊎_elim, List, [], ◌∷◌, ◌++◌, length, drop, get_or, refl, sym, ap, ◌∙◌, subst, arith, append_assoc}
 use Rattle.std.proofs.lemmas.Bool.{cases_lt}
-use Rattle.std.proofs.lemmas.List.{append-nil, drop_more, get_or_append_left, get_or_push, length_push}
+use Rattle.std.proofs.lemmas.List.{length-drop, append-nil, get_or_append_left, get_or_push, length_push}
 use Rattle.std.specs.List.{All}
-use Rattle.std.specs.Prelude.{slice_index_or}
-use Rattle.lin_ir.specs.Walks.{Stands, here, below}
+use Rattle.std.specs.Prelude.{slice_index_or, IsTrue}
+use Rattle.lin_ir.specs.Walks.{Stands, here, below, Reached}
 use Rattle.lin_ir.specs.declared.lin.Line.{Line}
 use Rattle.lin_ir.specs.declared.lin.Lin.{Lin}
 use Rattle.lin_laws.specs.Graph.{HaveNumbers, AreNumbered}
@@ -12,10 +12,13 @@ use Rattle.linear_rules.proofs.Lines.{all_of}
 use Rattle.linear_rules.proofs.Marks.{all_in}
 use Rattle.tidy_rules.specs.Leaving.{IsUseless, without, with_code, LeavesOut, LeavesOften, not_once, once_more}
 use Rattle.tidy_rules.specs.Redirecting.{redirect, last_label, redirected_all}
-use Rattle.tidy_rules.specs.Regular.{IsTidy}
+use Rattle.tidy_rules.specs.Regular.{IsReadBehind, IsTidy}
 use Rattle.tidy_rules.specs.Tidied.{IsTidied, IsUseful}
-use Rattle.tidy_rules.proofs.Leaving.{in_code}
-use Rattle.linear_tidy.specs.Flags.{TellsUse, AreFlags, goes_by, kept, unless_gone}
+use Rattle.tidy_rules.proofs.Leaving.{in_code, first_same}
+use Rattle.linear_tidy.proofs.Between.{drop_line}
+use Rattle.linear_tidy.specs.Forms.{IsNoSelfMove}
+use Rattle.linear_tidy.specs.Flags.{TellsUse, AreFlags, AllReached, AreRead, NoMoveGoes, goes_by, kept, unless_gone}
+use Rattle.linear_tidy.proofs.Left.{line_left, read_left, was}
 use Rattle.linear_tidy.proofs.Useful.{all_map}
 
 -- ---- flags so far
@@ -51,33 +54,17 @@ flags_all m flags k e h = record { len = h.len ∙ e; each = λ p lt. h.each p (
 
 -- ---- the lines that are kept
 
-kept_begun : (k : ℕ) (flags : List Bool) (code : List Line) (b : Bool) (i : Line) → k < length flags → k < length code → get_or flags k false ≡ b →
-    get_or code k i ≡ i →
-    kept (drop k flags) (drop k code) ≡ cond b (kept (drop (k + 1) flags) (drop (k + 1) code)) (i ∷ kept (drop (k + 1) flags) (drop (k + 1) code))
-kept_begun k flags code b i lt less e same =
-    ap (λ xs. kept xs (drop k code)) (drop_more flags k false lt ∙ ap (λ b. b ∷ drop (k + 1) flags) e)
-    ∙ ap (kept (b ∷ drop (k + 1) flags)) (drop_more code k i less ∙ ap (λ j. j ∷ drop (k + 1) code) same) ∙ by b
-  where
-    by : (b : Bool) → kept (b ∷ drop (k + 1) flags) (i ∷ drop (k + 1) code) ≡
-        cond b (kept (drop (k + 1) flags) (drop (k + 1) code)) (i ∷ kept (drop (k + 1) flags) (drop (k + 1) code))
-    by true = refl
-    by false = refl
+pub kept_next : (b : Bool) (flags : List Bool) (i : Line) (old new rest : List Line) → new ≡ old ++ unless_gone b i →
+    new ++ kept flags rest ≡ old ++ kept (b ∷ flags) (i ∷ rest)
+kept_next true flags i old new rest e = ap (λ xs. xs ++ kept flags rest) (e ∙ append-nil old)
+kept_next false flags i old new rest e = ap (λ xs. xs ++ kept flags rest) e ∙ append_assoc old (i ∷ []) (kept flags rest)
 
-pub kept_more : (k : ℕ) (flags : List Bool) (code items more : List Line) (b : Bool) (i : Line) → k < length code → length flags ≡ length code →
-    b ≡ get_or flags k false → i ≡ get_or code k i → more ≡ items ++ unless_gone b i →
-    items ++ kept (drop k flags) (drop k code) ≡ kept flags code → more ++ kept (drop (k + 1) flags) (drop (k + 1) code) ≡ kept flags code
-kept_more k flags code items more b i lt len e same is h = by b e is
-  where
-    rest : List Line
-    rest = kept (drop (k + 1) flags) (drop (k + 1) code)
+pub kept_rest : (i : Line) (old new rest : List Line) → new ≡ old ++ unless_gone false i → new ++ kept [] rest ≡ old ++ kept [] (i ∷ rest)
+kept_rest i old new rest e = ap (λ xs. xs ++ rest) e ∙ append_assoc old (i ∷ []) rest
 
-    by : (b : Bool) → b ≡ get_or flags k false → more ≡ items ++ unless_gone b i → more ++ rest ≡ kept flags code
-    by true e is =
-        ap (λ xs. xs ++ rest) (is ∙ append-nil items)
-        ∙ ap (λ xs. items ++ xs) (sym (kept_begun k flags code true i (omega (arith, lt, len)) lt (sym e) (sym same))) ∙ h
-    by false e is =
-        ap (λ xs. xs ++ rest) is ∙ append_assoc items (i ∷ []) rest
-        ∙ ap (λ xs. items ++ xs) (sym (kept_begun k flags code false i (omega (arith, lt, len)) lt (sym e) (sym same))) ∙ h
+pub kept_none : (flags : List Bool) → kept flags [] ≡ []
+kept_none [] = refl
+kept_none (b ∷ flags) = refl
 
 -- ---- by the number of lines after a line
 
@@ -166,6 +153,62 @@ module _ (m : Lin) (flags : List Bool) (h : AreFlags m flags) where
             (λ j z. all_in Results numbered.results (in_code m (goes_by flags) goes_useless j m.code z));
       }
 
+  -- walks come to what is left
+  pub left_reached : AllReached (with_code m (without (goes_by flags) m.code))
+  left_reached =
+      record {
+        each = λ j js s low.
+            let y = was (goes_by flags) m.code s in
+            let x = standing y.stands in
+            let r = ((tells_at x).no (sym (flag_at x) ∙ y.stays) j y.next x.is).reached low in (
+              r.0,
+              subst (λ xs. Reached (with_code m (without (goes_by flags) m.code)) (j ∷ xs) r.0) y.same
+                  (line_left m (goes_by flags) goes_useless y.stays r.1),
+            );
+      }
+
+  -- moves of a location to itself are read as before
+  pub left_read : NoMoveGoes flags m.code → AreRead (with_code m (without (goes_by flags) m.code))
+  left_read none =
+      record {
+        each = λ j js s from to z.
+            let y = was (goes_by flags) m.code s in
+            let x = standing y.stands in
+            let r = ((tells_at x).no (sym (flag_at x) ∙ y.stays) j y.next x.is).read from to z in
+            subst (λ xs. IsReadBehind (with_code m (without (goes_by flags) m.code)) j xs to) y.same
+            (read_left m (goes_by flags) goes_useless
+            (λ i next s e. let k = standing s in none.each k.at i next k.is (sym (flag_at k) ∙ e)) y.stays z r);
+      }
+
+-- ---- no move goes
+
+pub record NoMoveSoFar (flags : List Bool) (code : List Line) (k : ℕ) : Type 0 where
+  pub each : (p : ℕ) → p < k → (i : Line) (next : List Line) → drop p code ≡ i ∷ next → IsTrue (slice_index_or flags p false) → IsNoSelfMove i
+
+pub none_yet : (flags : List Bool) (code : List Line) → NoMoveSoFar flags code 0
+none_yet flags code = record { each = λ p lt. absurd (omega (arith, lt)) }
+
+pub none_more : (flags : List Bool) (code : List Line) (k : ℕ) (b : Bool) (i : Line) → k < length code → b ≡ get_or flags k false → i ≡ get_or code k i →
+    (IsTrue b → IsNoSelfMove i) → NoMoveSoFar flags code k → NoMoveSoFar flags code (k + 1)
+none_more flags code k b i lt e at still h =
+    record {
+      each = λ p less j next d t.
+          ⊎_elim (λ (before : p < k). h.each p before j next d t)
+          (λ (le : k ≤ p).
+          let same : p ≡ k = omega (arith, less, le) in
+          let here : drop k code ≡ j ∷ next = sym (ap (λ n. drop n code) same) ∙ d in
+          let line : i ≡ j = first_same i j (drop (k + 1) code) next (sym (drop_line code k i lt at) ∙ here) in
+          subst IsNoSelfMove line (still (e ∙ sym (ap (λ n. get_or flags n false) same) ∙ t)))
+          (cases_lt p k);
+    }
+
+none_past : (code : List Line) (i : Line) (next : List Line) (p : ℕ) → drop p code ≡ i ∷ next → p < length code
+none_past code i next p d = let e = ap length d in let n = length-drop p code in omega (arith, e, n)
+
+pub none_all : (flags : List Bool) (code : List Line) (k : ℕ) → length code ≤ k → NoMoveSoFar flags code k → NoMoveGoes flags code
+none_all flags code k le h =
+    record { each = λ p i next d. (let lt = none_past code i next p d in h.each p (omega (arith, lt, le)) i next d) }
+
 -- ---- fewer lines
 
 without_fewer : (g : ℕ → Bool) (code : List Line) → length (without g code) ≤ length code
@@ -223,6 +266,16 @@ first_round m now flags is numbered f =
 
 pub next_numbered : (m now r : Lin) (flags : List Bool) → Round m now flags → r ≡ with_code now (without (goes_by flags) now.code) → AreNumbered r
 next_numbered m now r flags h is = subst AreNumbered (sym is) (left_numbered now flags h.told h.numbered)
+
+pub next_reached : (m now r : Lin) (flags : List Bool) → Round m now flags → r ≡ with_code now (without (goes_by flags) now.code) → AllReached r
+next_reached m now r flags h is = subst AllReached (sym is) (left_reached now flags h.told)
+
+pub next_read : (m now r : Lin) (flags : List Bool) → Round m now flags → r ≡ with_code now (without (goes_by flags) now.code) →
+    NoMoveGoes flags now.code → AreRead r
+next_read m now r flags h is none = subst AreRead (sym is) (left_read now flags h.told none)
+
+pub no_move_by : (code xs : List Line) (slice flags : List Bool) → xs ≡ code → slice ≡ flags → NoMoveGoes slice xs → NoMoveGoes flags code
+no_move_by code xs slice flags e f h = subst (NoMoveGoes flags) e (subst (λ s. NoMoveGoes s xs) f h)
 
 pub next_round : (m now r : Lin) (flags others : List Bool) → Round m now flags → r ≡ with_code now (without (goes_by flags) now.code) →
     AreFlags r others → Round m r others

@@ -1,5 +1,6 @@
 pub mod SelfMoves
 pub mod Between
 pub mod Useful
+pub mod Left
 pub mod Flagged
 pub mod Leading

@@ -10,7 +10,7 @@ use Rattle.lin_ir.specs.declared.lin.LinOp.{LinOp}
 use Rattle.lin_ir.specs.declared.lin.LinOp.TheVariants as lin
 use Rattle.lin_ir.specs.declared.lin.Line.{Line}
 use Rattle.lin_ir.specs.declared.lin.Spot.{Spot}
-use Rattle.linear_tidy.specs.Forms.{copies, IsOnePlace, MovesItself}
+use Rattle.linear_tidy.specs.Forms.{copies, IsOnePlace, MovesItself, IsNoSelfMove}
 
 of_parts : (f : LinOp) (args results : List Spot) (l : Loc) → copies f ≡ true → IsOnePlace args results l →
     MovesItself (record { op = f; args = args; results = results }) l
@@ -41,3 +41,9 @@ self_place (is_self_move {from = from} {to = to} same) = record { from = from; t
 pub moves_itself : (i : Line) (o : Option Loc) → copies i.op ≡ true → IfSome o (λ l. IsOnePlace i.args i.results l) → IfSome o (λ l. MovesItself i l)
 moves_itself i None e h = h
 moves_itself i (Some l) e h = of_parts i.op i.args i.results l e h
+
+pub none_itself : (i : Line) → ((from to : Spot) → IsSelfMove i from to → None ≡ Some to.loc) → IsNoSelfMove i
+none_itself i all from to z = absurd (let e = all from to z in cc)
+
+pub moves_one : (i : Line) (l : Loc) → MovesItself i l → IsNoSelfMove i → ⊥
+moves_one i l moves none = none moves.from moves.to moves.is

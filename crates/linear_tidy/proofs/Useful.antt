@@ -1,6 +1,7 @@
 -- What lines are for, by what walks of the function as vals read.
 use Rattle.std.proofs.Common.{◌≡◌, ◌↔◌, ℕ, zero, suc, ◌+◌, ◌<◌, ◌≤◌, Bool, true, false, not, List, [], ◌∷◌, Result, Ok, Err, map, length, drop, get_or, refl, sym, ap, ◌∙◌, subst, arith}
 use Rattle.std.proofs.lemmas.Bool.{true≢false}
+use Rattle.std.proofs.lemmas.Option.{slice_get_within}
 use Rattle.std.specs.List.{All}
 use Rattle.std.specs.Prelude.{IsTrue, IfOk}
 use Rattle.bs_words.specs.declared.types.Comp.{Comp}
@@ -18,22 +19,26 @@ use Rattle.lin_ir.specs.declared.lin.Line.{Line}
 use Rattle.lin_ir.specs.declared.lin.Lin.{Lin}
 use Rattle.lin_ir.specs.declared.lin.Spot.{Spot}
 use Rattle.lin_laws.proofs.Numbers.{loc_of_number}
-use Rattle.lin_laws.proofs.Places.{drop_none, drop_is, ends_label, place_is}
-use Rattle.lin_laws.specs.Graph.{loc_of, place_of, HasNumber, HaveNumbers, AreNumbered}
+use Rattle.lin_laws.proofs.Places.{drop_none, drop_is, ends_label, place_is, place_drop}
+use Rattle.lin_laws.specs.Graph.{loc_of, place_of, position, HasNumber, HaveNumbers, AreNumbered}
+use Rattle.lin_laws.specs.declared.position.Position.{Position}
 use Rattle.lin_laws.specs.Numbers.{number_in}
 use Rattle.lin_flow.specs.Walked.{AreLive, IsReachedAt, IsReadAfter}
+use Rattle.lin_flow.specs.Search as search
+use Rattle.lin_flow.specs.Search.{HasFirst}
 use Rattle.lin_flow.specs.declared.live.LiveWalks.{LiveWalks}
+use Rattle.lin_flow.specs.declared.walks.Walks.{Walks}
 use Rattle.linear_rules.proofs.Homes.{IsIn, is_first, is_later}
 use Rattle.linear_rules.proofs.Lines.{all_of}
 use Rattle.linear_rules.proofs.Marks.{all_in}
-use Rattle.linear_rules.proofs.Walked.{Tail, tail_all, tail_more, tail_in}
+use Rattle.linear_rules.proofs.Walked.{Tail, tail_all, tail_more, tail_in, tail_stands}
 use Rattle.tidy_rules.specs.Leaving.{is_landing, bare, IsUseless, unreached, unread, skipped, LabelsBetween}
 use Rattle.tidy_rules.specs.Regular.{IsReadBehind}
 use Rattle.tidy_rules.specs.Vals.{as_val, line_as_vals, as_vals}
 use Rattle.tidy_rules.proofs.Leaving.{first_same, rest_same, GoesOn, self_goes}
 use Rattle.tidy_rules.proofs.Vals.{reached_vals, reached_of, live_vals, live_of}
-use Rattle.linear_tidy.specs.Flags.{IsIdle, not_read, not_needed, TellsIdle, TellsUse}
-use Rattle.linear_tidy.specs.Forms.{copies, MovesItself}
+use Rattle.linear_tidy.specs.Flags.{TellsSkipped, IsSearched, AllReached, AreRead, IsIdle, not_read, not_needed, TellsIdle, TellsUse}
+use Rattle.linear_tidy.specs.Forms.{copies, MovesItself, IsNoSelfMove}
 use Rattle.linear_tidy.proofs.Between.{drop_line}
 use Rattle.linear_tidy.proofs.SelfMoves.{self_copies, self_place}
 
@@ -98,7 +103,7 @@ self_one a b =
 self_landing : {i : Line} {from to : Spot} → IsSelfMove i from to → is_landing i.op ≡ false
 self_landing (is_self_move same) = refl
 
-only_on : {i : Line} {from to : Spot} {t : Target} → IsSelfMove i from to → OneOf t (targets i.op) → t ≡ On
+pub only_on : {i : Line} {from to : Spot} {t : Target} → IsSelfMove i from to → OneOf t (targets i.op) → t ≡ On
 only_on (is_self_move same) this = refl
 only_on (is_self_move same) (other o) = elim o [ ]
 
@@ -127,10 +132,10 @@ not_true : (b : Bool) → not b ≡ false → b ≡ true
 not_true true e = refl
 not_true false e = absurd (true≢false e)
 
-module _ (m : Lin) (w : LiveWalks) (p : ℕ) (i : Line) (at : (j : Line) (next : List Line) → drop p m.code ≡ j ∷ next → i ≡ j) where
-  pub idle_move : (l : Loc) (n : ℕ) (b : Bool) → MovesItself i l → n ≡ number_in l →
+module _ (m : Lin) (p : ℕ) (i : Line) (at : (j : Line) (next : List Line) → drop p m.code ≡ j ∷ next → i ≡ j) where
+  pub idle_move : (w : LiveWalks) (l : Loc) (n : ℕ) (b : Bool) → MovesItself i l → n ≡ number_in l →
       ((v : Lin) → AreLive v w → IsTrue b ↔ IsReadAfter v p (loc_of n)) → TellsIdle m w p (not b)
-  idle_move l n b moves e same =
+  idle_move w l n b moves e same =
       let Named : Lin → ℕ → Type 0 = λ v k. IsReadAfter v p (loc_of k) in
       record {
         yes = λ t v h j next d.
@@ -146,37 +151,43 @@ module _ (m : Lin) (w : LiveWalks) (p : ℕ) (i : Line) (at : (j : Line) (next :
             };
       }
 
-  pub idle_other : ((from to : Spot) → IsSelfMove i from to → ⊥) → ((l : ℕ) → i ≡ bare (flow.Jump l) → ⊥) → TellsIdle m w p false
-  idle_other still none =
+  pub idle_skip : (w : LiveWalks) (b : Bool) → ((from to : Spot) → IsSelfMove i from to → ⊥) → TellsSkipped m p b → TellsIdle m w p b
+  idle_skip w b still tells =
       record {
-        yes = λ t. absurd (true≢false (sym t));
+        yes = λ t v h j next d. let x = tells.yes t j next d in not_needed x.is x.between;
         no = λ t v h j next d.
             record {
               read = λ from to y. absurd (still from to (subst (λ (k : Line). IsSelfMove k from to) (sym (at j next d)) y));
-              jumps = λ k u q. none k (at j next d ∙ u);
+              jumps = λ k u q. tells.no t j next d (record { label = k; is = u; between = q });
             };
       }
 
-  pub idle_jump : (l to : ℕ) (b : Bool) → i ≡ bare (flow.Jump l) → to ≡ place_of m (after_label l m.code) → p < length m.code →
-      (p + 1 ≤ length m.code → IsTrue b ↔ LabelsBetween (drop (p + 1) m.code) (drop to m.code)) → TellsIdle m w p b
-  idle_jump l to b is e lt same =
+  pub skip_none : ((l : ℕ) → i ≡ bare (flow.Jump l) → ⊥) → TellsSkipped m p false
+  skip_none none =
+      record {
+        yes = λ t. absurd (true≢false (sym t));
+        no = λ t j next d x. none x.label (at j next d ∙ x.is);
+      }
+
+  pub skip_jump : (l to : ℕ) (b : Bool) → i ≡ bare (flow.Jump l) → to ≡ place_of m (after_label l m.code) → p < length m.code →
+      (p + 1 ≤ length m.code → IsTrue b ↔ LabelsBetween (drop (p + 1) m.code) (drop to m.code)) → TellsSkipped m p b
+  skip_jump l to b is e lt same =
       let both = same (omega (arith, lt)) in
       let there : drop to m.code ≡ after_label l m.code = ap (λ k. drop k m.code) e ∙ place_is m (ends_label l m.code) in
       let next_is : (j : Line) (next : List Line) → drop p m.code ≡ j ∷ next → drop (p + 1) m.code ≡ next =
       λ j next d. (let k : p + 1 ≡ suc p = omega arith in ap (λ k. drop k m.code) k) ∙ (drop_is p m.code j next d).1 in
       record {
-        yes = λ t v h j next d.
-            not_needed (sym (at j next d) ∙ is)
-            (subst (LabelsBetween next) there (subst (λ xs. LabelsBetween xs (drop to m.code)) (next_is j next d) (both.0 t)));
-        no = λ t v h j next d.
+        yes = λ t j next d.
             record {
-              read = λ from into y. absurd (jump_copies (sym (at j next d) ∙ is) y);
-              jumps = λ k u q.
-                  let same_label : k ≡ l = label_one k l (sym u ∙ sym (at j next d) ∙ is) in
-                  let past : LabelsBetween next (drop to m.code) =
-                  subst (LabelsBetween next) (ap (λ k. after_label k m.code) same_label ∙ sym there) q in
-                  true≢false (sym (both.1 (subst (λ xs. LabelsBetween xs (drop to m.code)) (sym (next_is j next d)) past)) ∙ t);
+              label = l;
+              is = sym (at j next d) ∙ is;
+              between = subst (LabelsBetween next) there (subst (λ xs. LabelsBetween xs (drop to m.code)) (next_is j next d) (both.0 t));
             };
+        no = λ t j next d x.
+            let same_label : x.label ≡ l = label_one x.label l (sym x.is ∙ sym (at j next d) ∙ is) in
+            let past : LabelsBetween next (drop to m.code) =
+            subst (LabelsBetween next) (ap (λ k. after_label k m.code) same_label ∙ sym there) x.between in
+            true≢false (sym (both.1 (subst (λ xs. LabelsBetween xs (drop to m.code)) (sym (next_is j next d)) past)) ∙ t);
       }
     where
       label_of : LinOp → ℕ
@@ -185,6 +196,70 @@ module _ (m : Lin) (w : LiveWalks) (p : ℕ) (i : Line) (at : (j : Line) (next :
 
       label_one : (k l : ℕ) → bare (flow.Jump k) ≡ bare (flow.Jump l) → k ≡ l
       label_one k l e = ap (λ (i : Line). label_of i.op) e
+
+-- ---- where no line moves a location to itself
+
+at_place : (m : Lin) (p : ℕ) (i : Line) (next : List Line) → drop p m.code ≡ i ∷ next → Tail (i ∷ next) m.code
+at_place m p i next d = subst (λ xs. Tail xs m.code) d (drop_tail p m.code)
+
+module _ (m : Lin) (p : ℕ) where
+  pub use_passed_by : (IsReachedAt m p → ⊥) → (b : Bool) → ((i : Line) (next : List Line) → drop p m.code ≡ i ∷ next → is_landing i.op ≡ false) →
+      b ≡ true → TellsUse m p b
+  use_passed_by out b low is =
+      record {
+        yes = λ t i next d.
+            unreached (low i next d)
+            (λ tries r. out (record { tries = tries; reached = subst (λ xs. Reached m xs tries) (sym d) r }));
+        no = λ t. absurd (true≢false (sym is ∙ t));
+      }
+
+  pub use_skipped : (b : Bool) → ((i : Line) (next : List Line) → drop p m.code ≡ i ∷ next → is_landing i.op ≡ false →
+      (tries : List ℕ) × Reached m (i ∷ next) tries) →
+      ((i : Line) (next : List Line) → drop p m.code ≡ i ∷ next → (from to : Spot) → IsSelfMove i from to → IsReadBehind m i next to) →
+      TellsSkipped m p b → TellsUse m p b
+  use_skipped b reached read tells =
+      record {
+        yes = λ t i next d. let x = tells.yes t i next d in skipped x.is x.between;
+        no = λ t i next d.
+            record {
+              reached = λ e. reached i next d e;
+              read = λ from to z. read i next d from to z;
+              jumps = λ l e q. tells.no t i next d (record { label = l; is = e; between = q });
+            };
+      }
+
+  pub use_walked : (b : Bool) → IsReachedAt m p → All IsNoSelfMove m.code → TellsSkipped m p b → TellsUse m p b
+  use_walked b r still =
+      use_skipped b (λ i next d e. (r.tries, subst (λ xs. Reached m xs r.tries) d r.reached))
+      (λ i next d from to z. absurd (all_in IsNoSelfMove still (tail_in (at_place m p i next d)) from to z))
+
+  pub use_all_reached : (b : Bool) → AllReached m → AreRead m → TellsSkipped m p b → TellsUse m p b
+  use_all_reached b h read =
+      use_skipped b (λ i next d e. h.each i next (tail_stands (at_place m p i next d)) e)
+      (λ i next d from to z. read.each i next (tail_stands (at_place m p i next d)) from to z)
+
+-- the positions that were searched are those to which walks come
+module _ (m : Lin) (w : Walks) (reached : ℕ) (h : IsSearched m w reached) where
+  pub first_searched : (p : ℕ) → HasFirst w.search p reached → IsReachedAt m p
+  first_searched p f =
+      record {
+        tries = f.there.found.tries;
+        reached = subst (λ k. Reached m (drop k m.code) f.there.found.tries) f.there.place
+            (h.walked.reached.sound f.number f.there.found f.there.is);
+      }
+
+  pub searched_first : (p : ℕ) → p ≤ length m.code → IsReachedAt m p → HasFirst w.search p reached
+  searched_first p le r =
+      let y = h.walked.reached.complete (drop p m.code) r.tries r.reached in
+      let x : Position = position (place_of m (drop p m.code)) r.tries in
+      let lt : y.0 < length (search.all_of w.search) = slice_get_within (search.all_of w.search) y.0 x y.1 in
+      let count = h.count in
+      let both = h.walked.all in
+      record {
+        number = y.0;
+        below = omega (arith, lt, count, both);
+        there = record { found = x; is = y.1; place = place_drop p m.code le };
+      }
 
 -- ---- by what the walks read
 

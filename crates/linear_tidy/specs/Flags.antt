@@ -2,16 +2,53 @@
 use Rattle.std.specs.Prelude.{◌≡◌, ℕ, suc, ◌-◌, ◌<◌, Bool, true, false, List, [], ◌∷◌, drop, length, slice_index_or, IsTrue, IsFalse}
 use Rattle.lin_ir.specs.Formed.{IsSelfMove}
 use Rattle.lin_ir.specs.Meaning.{after_label}
+use Rattle.lin_ir.specs.Walks.{Stands, Reached}
 use Rattle.lin_ir.specs.declared.lin.Flow.TheVariants as flow
 use Rattle.lin_ir.specs.declared.lin.Spot.{Spot}
 use Rattle.lin_ir.specs.declared.lin.Line.{Line}
 use Rattle.lin_ir.specs.declared.lin.Lin.{Lin}
 use Rattle.lin_laws.specs.Graph.{loc_of}
 use Rattle.lin_laws.specs.Numbers.{number_in}
-use Rattle.lin_flow.specs.Walked.{AreLive, IsReadAfter}
+use Rattle.lin_flow.specs.Walked.{AreLive, IsReadAfter, IsWalked}
+use Rattle.lin_flow.specs.declared.walks.Walks.{Walks}
 use Rattle.lin_flow.specs.declared.live.LiveWalks.{LiveWalks}
-use Rattle.tidy_rules.specs.Leaving.{bare, IsUseless, LabelsBetween}
+use Rattle.tidy_rules.specs.Leaving.{is_landing, bare, IsUseless, LabelsBetween}
+use Rattle.tidy_rules.specs.Regular.{IsReadBehind}
 use Rattle.tidy_rules.specs.Tidied.{IsUseful}
+use Rattle.linear_tidy.specs.Forms.{IsNoSelfMove}
+
+-- the line jumps to where control comes without it
+pub record IsSkipped (m : Lin) (i : Line) (next : List Line) : Type 0 where
+  pub label : ℕ
+  pub is : i ≡ bare (flow.Jump label)
+  pub between : LabelsBetween next (after_label label m.code)
+
+-- whether the line at the place does
+pub record TellsSkipped (m : Lin) (p : ℕ) (skipped : Bool) : Type 0 where
+  pub yes : IsTrue skipped → (i : Line) (next : List Line) → drop p m.code ≡ i ∷ next →
+      IsSkipped m i next
+  pub no : IsFalse skipped → (i : Line) (next : List Line) → drop p m.code ≡ i ∷ next →
+      IsSkipped m i next → ⊥
+
+-- so many positions are those to which walks come
+pub record IsSearched (m : Lin) (w : Walks) (reached : ℕ) : Type 0 where
+  pub walked : IsWalked m w.search w.nodes.items
+  pub count : reached ≡ length w.nodes.items
+
+-- walks come to each line, but to labels and entries of handlers they need not
+pub record AllReached (m : Lin) : Type 0 where
+  pub each : (i : Line) (next : List Line) → Stands i next m.code → is_landing i.op ≡ false →
+      (tries : List ℕ) × Reached m (i ∷ next) tries
+
+-- each move of a location to itself is read behind
+pub record AreRead (m : Lin) : Type 0 where
+  pub each : (i : Line) (next : List Line) → Stands i next m.code → (from to : Spot) →
+      IsSelfMove i from to → IsReadBehind m i next to
+
+-- no line whose flag is set moves a location to itself
+pub record NoMoveGoes (flags : List Bool) (code : List Line) : Type 0 where
+  pub each : (p : ℕ) (i : Line) (next : List Line) → drop p code ≡ i ∷ next →
+      IsTrue (slice_index_or flags p false) → IsNoSelfMove i
 
 -- Why a line to which walks come has no use, by what is live after it in a function.
 pub data IsIdle (m v : Lin) (p : ℕ) (i : Line) (next : List Line) : Type 0 where

@@ -28,3 +28,7 @@ pub record MovesItself (i : Line) (l : Loc) : Type 0 where
   pub to : Spot
   pub is : IsSelfMove i from to
   pub at : to.loc ≡ l
+
+-- the line moves no location to itself
+abbrev pub IsNoSelfMove : Line → Type 0
+IsNoSelfMove i = (from to : Spot) → IsSelfMove i from to → ⊥

@@ -1,10 +1,10 @@
 //! What kind of line a line is.
-ghost use Rattle.std.specs.Prelude.{◌≡◌, ◌↔◌, ℕ, Some, IfSome, IsTrue, []};
+ghost use Rattle.std.specs.Prelude.{◌≡◌, ◌↔◌, ℕ, All, Some, IfSome, IsTrue, []};
 ghost use Rattle.bs_words.specs.declared.types.Loc.{Loc};
 ghost use Rattle.lin_ir.specs.Formed.{IsSelfMove};
 ghost use Rattle.lin_ir.specs.declared.lin.Spot.{Spot};
 ghost use Rattle.tidy_rules.specs.Leaving.{bare, is_landing};
-ghost use Rattle.linear_tidy.specs.Forms.{copies, IsOnePlace, MovesItself};
+ghost use Rattle.linear_tidy.specs.Forms.{copies, IsOnePlace, MovesItself, IsNoSelfMove};
 
 use bs_words::Loc;
 use lin_ir::{Flow, LinOp, Line, Spot};
@@ -84,6 +84,23 @@ pub fn self_move(line: &Line) -> Option<Loc>
         return None;
     }
     one_place(line.args.as_slice(), line.results.as_slice())
+}
+
+/// Whether the line moves no location to itself.
+pub fn is_no_self_move(line: &Line) -> bool
+    ensures { IsTrue result ↔ IsNoSelfMove line.now }
+{
+    match self_move(line) {
+        None => true,
+        Some(_loc) => false,
+    }
+}
+
+/// Whether no line moves a location to itself.
+pub fn no_self_moves(code: &[Line]) -> bool
+    ensures { IsTrue result ↔ All IsNoSelfMove code.now }
+{
+    code.iter().all(|line| is_no_self_move(line))
 }
 
 fn has_no_spots(line: &Line) -> bool

@@ -1,8 +1,11 @@
 //! Lines left out.
-ghost use Rattle.std.specs.Prelude.{◌≡◌, ◌↔◌, ◌++◌, All, false, length, IfOk, IsTrue};
+ghost use Rattle.std.specs.Prelude.{◌≡◌, ◌↔◌, ◌++◌, ◌∷◌, List, All, false, length, IfOk, IsTrue};
+ghost use Rattle.lin_ir.specs.declared.lin.Line.{Line};
 ghost use Rattle.tidy_rules.specs.Leaving.{without, with_code};
-ghost use Rattle.linear_tidy.specs.Flags.{goes_by, kept, unless_gone};
+ghost use Rattle.linear_tidy.specs.Flags.{NoMoveGoes, goes_by, kept, unless_gone};
+ghost use Rattle.linear_tidy.specs.Forms.{IsNoSelfMove};
 
+use crate::forms::is_no_self_move;
 use lin_ir::{Lin, Line};
 use mach_ir::Seq;
 use std::alloc::{AllocError, Global};
@@ -14,33 +17,64 @@ pub fn none_set(flags: &[bool]) -> bool
     flags.iter().all(|flag| !*flag)
 }
 
-/// The same line.
-fn copy_line(line: &Line) -> Result<Line, AllocError>
-    ensures { IfOk result (λ copy. copy ≡ line.now) }
+fn stays_or_moves_none(goes: bool, line: &Line) -> bool
+    ensures { IsTrue result → IsTrue goes → IsNoSelfMove line.now }
 {
-    line.clone()
+    if goes { is_no_self_move(line) } else { true }
 }
 
-/// Adds a copy of the line, unless it goes.
-fn push_unless(left: &mut Vec<Line>, goes: bool, line: &Line) -> Result<(), AllocError>
-    ensures { IfOk result (λ _. left.new.items ≡ left.old.items ++ unless_gone goes line.now) }
+/// Whether no line whose flag is set moves a location to itself.
+pub fn no_move_goes(code: &[Line], flags: &[bool]) -> bool
+    requires { length flags.now ≡ length code.now }
+    ensures { IsTrue result → NoMoveGoes flags.now code.now }
 {
-    if goes {
-        return Ok(());
+    for place in 0..code.len() {
+        if !stays_or_moves_none(flags[place], &code[place]) {
+            return false;
+        }
     }
-    let copy = copy_line(line)?;
-    left.push(copy)?;
+    true
+}
+
+/// Adds the line, unless it goes.
+fn push_unless(left: &mut Vec<Line>, goes: bool, line: Line) -> Result<(), AllocError>
+    ensures { IfOk result (λ _. left.new.items ≡ left.old.items ++ unless_gone goes line) }
+{
+    if !goes {
+        left.push(line)?;
+    }
     Ok(())
 }
 
-/// The lines whose flags are not set, in order.
-fn unset_lines(alloc: Global, code: &[Line], flags: &[bool]) -> Result<Seq<Line>, AllocError>
-    requires { length flags.now ≡ length code.now }
-    ensures { IfOk result (λ left. left ≡ kept flags.now code.now) }
+/// Adds the line, unless the first flag is set. The other flags.
+fn push_next<'a>(
+    left: &mut Vec<Line>,
+    flags: &'a [bool],
+    line: Line,
+) -> Result<&'a [bool], AllocError>
+    ensures { IfOk result (λ others. (rest : List Line) → left.new.items ++ kept others.now rest ≡
+        left.old.items ++ kept flags.entry.now (line ∷ rest)) }
 {
-    let mut left = Vec::new(alloc);
-    for place in 0..code.len() {
-        push_unless(&mut left, flags[place], &code[place])?;
+    match flags.split_first() {
+        None => {
+            push_unless(left, false, line)?;
+            Ok(flags)
+        }
+        Some((goes, others)) => {
+            push_unless(left, *goes, line)?;
+            Ok(others)
+        }
+    }
+}
+
+/// The lines whose flags are not set, in order.
+fn unset_lines(alloc: Global, code: Seq<Line>, flags: &[bool]) -> Result<Seq<Line>, AllocError>
+    ensures { IfOk result (λ left. left ≡ kept flags.now code) }
+{
+    let mut left = Vec::with_capacity(alloc, code.len())?;
+    let mut others = flags;
+    for line in code.into_vec() {
+        others = push_next(&mut left, others, line)?;
     }
     Ok(Seq::from_vec(left))
 }
@@ -57,7 +91,7 @@ pub fn leave_out(alloc: Global, lin: Lin, flags: &[bool]) -> Result<Lin, AllocEr
         slots,
         code,
     } = lin;
-    let code = unset_lines(alloc, code.as_slice(), flags)?;
+    let code = unset_lines(alloc, code, flags)?;
     Ok(Lin {
         name,
         params,

@@ -3,9 +3,9 @@ ghost use Rattle.std.specs.Prelude.{IfOk};
 ghost use Rattle.lin_laws.specs.Graph.{AreNumbered};
 ghost use Rattle.tidy_rules.specs.Tidied.{IsTidied};
 
-use crate::leaving::{leave_out, none_set};
+use crate::leaving::{leave_out, no_move_goes, none_set};
 use crate::redirecting::redirect_jumps;
-use crate::use_of_lines::useless_lines;
+use crate::use_of_lines::{useless_lines, useless_lines_left};
 use lin_ir::Lin;
 use std::alloc::{AllocError, Global};
 
@@ -14,8 +14,8 @@ use std::alloc::{AllocError, Global};
 /// comes without it. Labels and the entries of handlers stay.
 ///
 /// Each location has to be a register of the machine or one of the function's slots. Walks are
-/// searched once and again after each time that lines went: most functions take two or three
-/// searches. The only error is want of memory, which more lines or slots than a number can count
+/// searched once. When lines went, walks still come to the others, so they are searched again only
+/// where a move of a location to itself went, which may have read what another moved. The only error is want of memory, which more lines or slots than a number can count
 /// are too.
 pub fn tidy(alloc: Global, lin: Lin) -> Result<Lin, AllocError>
     requires { AreNumbered lin }
@@ -24,8 +24,9 @@ pub fn tidy(alloc: Global, lin: Lin) -> Result<Lin, AllocError>
     let mut now = redirect_jumps(alloc, lin)?;
     let mut flags = useless_lines(alloc, &now)?;
     while !none_set(flags.as_slice()) {
+        let moves_stay = no_move_goes(now.code.as_slice(), flags.as_slice());
         now = leave_out(alloc, now, flags.as_slice())?;
-        flags = useless_lines(alloc, &now)?;
+        flags = useless_lines_left(alloc, &now, moves_stay)?;
     }
     Ok(now)
 }

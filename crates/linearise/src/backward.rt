@@ -24,13 +24,12 @@ impl Model for Backward {
 }
 
 impl Backward {
-    /// No lines. It takes no memory.
-    pub fn new(alloc: Global) -> Self
-        ensures { result ≡ [] }
+    /// No lines, with room for so many.
+    pub fn with_room(alloc: Global, count: usize) -> Result<Self, AllocError>
+        ensures { IfOk result (λ lines. lines ≡ []) }
     {
-        Backward {
-            items: Vec::new(alloc),
-        }
+        let items = Vec::with_capacity(alloc, count)?;
+        Ok(Backward { items })
     }
 
     /// Puts a line before the others. Where memory is used up nothing has changed.

@@ -16,8 +16,8 @@ use std::alloc::{AllocError, Global};
 fn lower_code(alloc: Global, numbers: &[u32], code: &[Instr]) -> Result<Seq<Line>, AllocError>
     ensures { IfOk result (λ lines. lines ≡ lowered_code (number_in numbers.now) code.now) }
 {
-    let mut lines = Backward::new(alloc);
     let mut left = code.len();
+    let mut lines = Backward::with_room(alloc, left)?;
     while left > 0 {
         left -= 1;
         push_instr(alloc, numbers, &code[left], &mut lines)?;

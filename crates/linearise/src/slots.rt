@@ -71,7 +71,7 @@ fn count_one_more(count: u32) -> Result<u32, AllocError>
 fn counts(alloc: Global, flags: &[bool]) -> Result<Vec<u32>, AllocError>
     ensures { IfOk result (λ numbers. numbers.items ≡ running 0 flags.now) }
 {
-    let mut numbers = Vec::new(alloc);
+    let mut numbers = Vec::with_capacity(alloc, flags.len() + 1)?;
     let mut count = 0;
     for flag in flags {
         numbers.push(count)?;

@@ -2,7 +2,7 @@ use Rattle.std.proofs.Common.{sym, subst}
 use Rattle.lin_laws.specs.Graph.{AreNumbered}
 use Rattle.linear_tidy.proofs.Flagged.{flags_more}
 use Rattle.linear_tidy.proofs.Useful.{vals_numbered}
-use Rattle.linear_tidy.proofs.use_of_lines.useless_lines.Goals as goal
+use Rattle.linear_tidy.proofs.use_of_lines.by_reads.Goals as goal
 
 pub live_walks-requires : goal.live_walks-requires
 live_walks-requires c = subst AreNumbered (sym c.in_ok-vals.ensures) (vals_numbered c.args.lin.now c.requires)
