@@ -17,7 +17,7 @@ use Rattle.stages.specs.declared.stage.Stage.TheVariants.{Select, CombAlloc, Cse
 use Rattle.text_commands.proofs.Passing.{only_made}
 use Rattle.text_commands.specs.Arguments.{IsCall}
 use Rattle.text_commands.specs.Compile.{IsImageOf}
-use Rattle.text_commands.specs.Lines.{outcome_text}
+use Rattle.text_commands.specs.Lines.{cmm_outcome_text}
 use Rattle.text_commands.specs.Listing.{ListsImage, ListsImageAt}
 use Rattle.text_commands.specs.Trial.{IsTrial}
 
@@ -39,7 +39,7 @@ image_of text file is are image tables made fits = record {
 -- it, and the outcome of a run of a function of the file
 pub tried : (check : CheckTree) (text : List ℕ) (file : FileTree) → IsFileOf text file → All (λ b. b < 256) text → (image : Tables) → AreTables image →
     IsMadeFor file image → first_too_large image ≡ None → (entry : ℕ) (args answers outcome : List ℕ) → IsCall check file entry args answers →
-    outcome ≡ outcome_text (cmm_run file (layout_of image) entry args answers check.fuel) → IsTrial check text image outcome
+    outcome ≡ cmm_outcome_text (cmm_run file (layout_of image) entry args answers check.fuel) → IsTrial check text image outcome
 unfolding image_of
 tried check text file is are image tables made fits entry args answers outcome call told = record {
   is_image = image_of text file is are image tables made fits;
