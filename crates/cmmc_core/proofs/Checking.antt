@@ -5,7 +5,7 @@ use Rattle.cmmc_core.specs.Compile.{Reads}
 use Rattle.cmmc_core.specs.Effects.{Effects, IsKept, Got, GotPart}
 use Rattle.cmmc_core.specs.Ends as ends
 use Rattle.cmmc_core.specs.Ends.{checked, unchecked, no_memory, Ends, written, out_fault}
-use Rattle.cmmc_core.specs.Refusal.{IsCheckRefusalRead, TellsCheckRefusal}
+use Rattle.cmmc_core.specs.Refusal.{IsCheckRefusalRead, ReportsCheckRefusal}
 use Rattle.cmmc_core.proofs.Ending.{Ends-told, Ends-told-or}
 use Rattle.text_commands.specs.Check.{IsCheckOf}
 use Rattle.text_commands.specs.declared.check.CheckRefusal.{CheckRefusal}
@@ -23,7 +23,7 @@ pub Ends-unchecked : (words : List (List ℕ)) (e : Effects) (check : CheckTree)
     → IsCommand words (CheckCommand check)
     → IsCheckRefusalRead check e.source r
     → IsKept e.out
-    → TellsCheckRefusal e.err r result
+    → ReportsCheckRefusal e.err r result
     → Ends words e result
 Ends-unchecked words e check (Fault told) result is why kept tells = Ends-told-or words e 3 result _ (unchecked check 3 _ is (ends.fault told why)) kept tells
 Ends-unchecked words e check UnknownEntry result is why kept tells = Ends-told words e 2 result _ (unchecked check 2 _ is (ends.no_entry why)) kept tells

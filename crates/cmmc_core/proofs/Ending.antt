@@ -6,10 +6,10 @@ use Rattle.bs_io.specs.Faults.{Risen}
 use Rattle.bs_io.specs.Whole.{AppendsPart}
 use Rattle.command_line.specs.Command.{IsCommand, AsksToCompile, RunCommand, RunTree}
 use Rattle.bs_fault.specs.Limits.{longest_text}
-use Rattle.cmmc_core.specs.Effects.{Side, Effects, IsKept, Got, GotPart, Tells, IsRead}
+use Rattle.cmmc_core.specs.Effects.{Side, Effects, IsKept, Got, GotPart, Reports, IsRead}
 use Rattle.cmmc_core.specs.Ends.{Output, spelling, outcome, Cause, fault, too_large, no_memory, Ends, written, refused, out_fault, err_fault}
 use Rattle.cmmc_core.specs.Compile.{Reads}
-use Rattle.cmmc_core.specs.Refusal.{IsRefusalRead, TellsRefusal, WritesOutcome, CutsOutcome, TellsOr}
+use Rattle.cmmc_core.specs.Refusal.{IsRefusalRead, ReportsRefusal, WritesOutcome, CutsOutcome, ReportsOr}
 use Rattle.text_commands.specs.Refusal.{SpellsImageOf, IsRefusalOf}
 use Rattle.text_commands.specs.declared.compile.Refusal as text
 use Rattle.text_commands.specs.declared.compile.Refusal.TheVariants.{Fault, TooLarge, OutOfMemory}
@@ -34,7 +34,7 @@ GotPart-part s piece (count, short, appended) rose = record {
 pub Ends-told : (words : List (List ℕ)) (e : Effects) (status result : ℕ) (line : List ℕ)
     → Cause words e.source status line
     → IsKept e.out
-    → Tells e.err line status result
+    → Reports e.err line status result
     → Ends words e result
 Ends-told words e status result line cause kept (inl (same, got)) =
     subst (Ends words e) (sym same) (refused status line cause kept got)
@@ -45,7 +45,7 @@ Ends-told words e status result line cause kept (inr (same, part)) =
 pub Ends-told-or : (words : List (List ℕ)) (e : Effects) (status result : ℕ) (line : List ℕ)
     → Cause words e.source status line
     → IsKept e.out
-    → TellsOr e.err line status result
+    → ReportsOr e.err line status result
     → Ends words e result
 Ends-told-or words e status result line cause kept (inl told) = Ends-told words e status result line cause kept told
 Ends-told-or words e status result line cause kept (inr told) = Ends-told words e 9 result _ no_memory kept told
@@ -75,7 +75,7 @@ pub Ends-refused : (words : List (List ℕ)) (e : Effects) (r : text.Refusal) (r
     → AsksToCompile words
     → IsRefusalRead e.source r
     → IsKept e.out
-    → TellsRefusal e.err r result
+    → ReportsRefusal e.err r result
     → Ends words e result
 Ends-refused words e (Fault told) result is why kept tells = Ends-told-or words e 3 result _ (fault told is why) kept tells
 Ends-refused words e (TooLarge large) result is why kept tells = Ends-told-or words e 8 result _ (too_large large is why) kept tells

@@ -6,6 +6,7 @@ mod CompileEnds
 mod Complete
 mod Drawn
 mod Ending
+mod ImageEnds
 mod LastLine
 mod ListEnds
 mod Listing

@@ -6,7 +6,7 @@ use Rattle.cmmc_core.specs.Compile.{Reads}
 use Rattle.cmmc_core.specs.Effects.{Side, Effects, IsKept, Got, GotPart, IsRead}
 use Rattle.cmmc_core.specs.Ends as ends
 use Rattle.cmmc_core.specs.Ends.{listed, unlisted, no_memory, Ends, written, out_fault}
-use Rattle.cmmc_core.specs.Refusal.{IsListRefusalRead, TellsRefusal}
+use Rattle.cmmc_core.specs.Refusal.{IsListRefusalRead, ReportsRefusal}
 use Rattle.cmmc_core.proofs.Ending.{Ends-told, Ends-told-or}
 use Rattle.stages.specs.declared.stage.Stage.{Stage}
 use Rattle.text_commands.specs.Listing.{IsListingOf, IsListRefusal}
@@ -32,7 +32,7 @@ pub Ends-unlisted : (words : List (List ℕ)) (e : Effects) (stage : Stage) (r :
     → IsCommand words (ListCommand stage)
     → IsListRefusalRead stage e.source r
     → IsKept e.out
-    → TellsRefusal e.err r result
+    → ReportsRefusal e.err r result
     → Ends words e result
 Ends-unlisted words e stage (Fault told) result is why kept tells = Ends-told-or words e 3 result _ (unlisted stage 3 _ is (ends.fault told why)) kept tells
 Ends-unlisted words e stage (TooLarge large) result is why kept tells = Ends-told-or words e 8 result _ (unlisted stage 8 _ is (ends.too_large large why.0 why.1)) kept tells

@@ -1,4 +1,4 @@
--- How `run` ends, of bytes that the source tells.
+-- How `run` ends, of bytes that the source is known to hold.
 use Rattle.std.proofs.Common.{◌≡◌, ℕ, List, Some, None, sym, ap, ◌∙◌, inl, inr, arith}
 use Rattle.command_line.specs.Command.{RunTree}
 use Rattle.image_form.specs.Tables.{Tables, Func}

@@ -20,7 +20,7 @@ use Rattle.text_commands.specs.Lines.{end_text}
 use Rattle.text_commands.specs.Trial.{IsTrial}
 use Rattle.cmmc_core.specs.Effects.{Effects, IsKept, Got, GotPart}
 use Rattle.cmmc_core.specs.Ends.{soaked, unsoaked, no_memory, Ends, written, out_fault}
-use Rattle.cmmc_core.specs.Refusal.{IsSoakRefusal, TellsSoakRefusal}
+use Rattle.cmmc_core.specs.Refusal.{IsSoakRefusal, ReportsSoakRefusal}
 use Rattle.cmmc_core.specs.Run.{IsRunText, IsUnfit, schedule_of}
 use Rattle.cmmc_core.specs.Soak.{soak_text, soak_entry, soak_check, soak_run, IsSoakOf}
 use Rattle.cmmc_core.specs.declared.soak.SoakRefusal.{SoakRefusal}
@@ -35,7 +35,7 @@ module _ (words : List (List ℕ)) (e : Effects) (seed functions : ℕ) (is : Is
   pub Ends-soaked-cut : (lines : List ℕ) → IsSoakOf seed functions lines → GotPart e.out lines → IsKept e.err → Ends words e 6
   Ends-soaked-cut lines told part kept = out_fault lines (soaked seed functions lines is told unread) part kept
 
-  pub Ends-unsoaked : (r : SoakRefusal) (result : ℕ) → IsSoakRefusal seed functions r → IsKept e.out → TellsSoakRefusal e.err r result → Ends words e result
+  pub Ends-unsoaked : (r : SoakRefusal) (result : ℕ) → IsSoakRefusal seed functions r → IsKept e.out → ReportsSoakRefusal e.err r result → Ends words e result
   Ends-unsoaked (TooLarge large) result why kept tells = Ends-told-or words e 8 result _ (unsoaked seed functions large is why unread) kept tells
   Ends-unsoaked OutOfMemory result why kept tells = Ends-told words e 9 result _ no_memory kept tells
 

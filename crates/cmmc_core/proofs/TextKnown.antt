@@ -1,4 +1,4 @@
--- What was read of a text that the source tells, and what its file is.
+-- What was read of a text that the source is known to hold, and what its file is.
 use Rattle.std.proofs.Common.{◌≡◌, ℕ, ◌+◌, ◌≤◌, List, Option, Some, None, length, sym, ◌∙◌, subst, arith}
 use Rattle.bs_fault.specs.Limits.{longest_text}
 use Rattle.bs_fault.specs.declared.fault.Fault.{Fault}
@@ -8,6 +8,7 @@ use Rattle.cmm_front.proofs.Readings.{is_read}
 use Rattle.cmm_front.specs.FileOf.{IsFileOf, HasFault}
 use Rattle.cmm_lex.proofs.Languages.{AreBytes}
 use Rattle.cmm_tree.specs.Tree.{FileTree}
+use Rattle.correctness.specs.Bounds.{IsRoomy}
 use Rattle.image_form.specs.Tables.{Tables}
 use Rattle.layout_rules.specs.TooLarge.{first_too_large}
 use Rattle.made_functions.specs.Files.{IsMadeFor}
@@ -29,13 +30,19 @@ Passes large file = (image : Tables) × (IsMadeFor file image × (first_too_larg
 pub some_none : {A : Type 0} (o : Option A) (x : A) → o ≡ Some x → o ≡ None → ⊥
 some_none o x s n = let e : Some x ≡ None = sym s ∙ n in cc
 
+-- so does some section of it, and then the file is not roomy
+pub record IsPassed (file : FileTree) : Type 0 where
+  pub large : Large
+  pub passes : Passes large file
+  pub not_roomy : IsRoomy file → ⊥
+
 -- one image is made for a file: it does not do both
 pub not_both : (file : FileTree) (large : Large) → Fits file → Passes large file → ⊥
 not_both file large fits passes =
     let fit : Tables → Type 0 = λ t. first_too_large t ≡ None in
     some_none (first_too_large passes.0) large passes.1.1 (subst fit (made_for_once file fits.0 passes.0 fits.1.0 passes.1.0) fits.1.1)
 
--- ---- bytes that the source tells
+-- ---- bytes that the source is known to hold
 
 module _ (source : Side) (limit : ℕ) (text : List ℕ) (known : source.before ≡ Some text) where
   -- what holds of all the bytes holds of what was read, and the other way round, where they are not too long
@@ -45,7 +52,7 @@ module _ (source : Side) (limit : ℕ) (text : List ℕ) (known : source.before 
   pub before_read : (P : List ℕ → Type 0) (read : List ℕ) → IsRead limit source read → (length read ≡ limit + 1 → ⊥) → P read → P text
   before_read P read r short p = elim (IsRead-known limit source text read known r) [ all same ↦ subst P (sym same) p | too_long long cut ↦ absurd (short cut) ]
 
--- ---- a text that the source tells
+-- ---- a text that the source is known to hold
 
 module _ (source : Side) (text : List ℕ) (known : source.before ≡ Some text) where
   -- where the text has a file, it was read
@@ -71,6 +78,14 @@ module _ (source : Side) (text : List ℕ) (known : source.before ≡ Some text)
   no_file P f has r file h =
       let k = of_read_file P r file h in
       file_or_fault text file f k.0 k.1 has
+
+  -- what the file of what was read has, the text's has
+  pub file_has : (P : List ℕ → Type 0) (Q : FileTree → Type 0) (file : FileTree) → IsFileOf text file
+      → (of : (t : List ℕ) → P t → (other : FileTree) × (IsFileOf t other × Q other)) → Reads P source → Q file
+  file_has P Q file is_file of r =
+      let h = of_file P file is_file r in
+      let o = of text h.1 in
+      subst Q (one_file text o.0 file h.0 o.1.0 is_file) o.1.1
 
   -- the file of what was read is that of the text, and has what that has
   pub read_same : (P : List ℕ → Type 0) (Q : FileTree → Type 0) (file : FileTree) → IsFileOf text file → Q file

@@ -1,5 +1,5 @@
 -- That nothing but want of memory stands between good input and its output, where no count rose.
-use Rattle.std.specs.Prelude.{◌≡◌, ◌⊎◌, ℕ, List, Some, None}
+use Rattle.std.specs.Prelude.{⊤, ◌≡◌, ◌⊎◌, ℕ, List, Some, None}
 use Rattle.bs_fault.specs.declared.fault.Fault.{Fault}
 use Rattle.bs_fault.specs.declared.large.Large.{Large}
 use Rattle.cmm_front.specs.FileOf.{IsFileOf, HasFault}
@@ -28,25 +28,43 @@ pub record NoneRose (e : Effects) : Type 0 where
 abbrev pub Is : ℕ → ℕ → Type 0
 Is wanted status = (status ≡ wanted) ⊎ (status ≡ 9)
 
--- What `compile` comes to on a text that the source tells.
+-- ---- texts
+
+-- What a command comes to by the image that is made for the text's file, where it is asked of that
+-- file. Of a file that is sized there is no output without an image that fits.
+pub record ImageComplete (text : List ℕ) (IsAsked IsSized : FileTree → Type 0) (status : ℕ) : Type 0
+  where
+    -- there is an output, or the file is sized, and a section of its image passes its limit
+    pub accepted : (file : FileTree)
+        → IsFileOf text file
+        → IsAsked file
+        → Is 0 status ⊎ (IsSized file × (status ≡ 8))
+    -- where the image fits, there is an output
+    pub fits : (file : FileTree) (image : Tables)
+        → IsFileOf text file
+        → IsAsked file
+        → IsMadeFor file image
+        → first_too_large image ≡ None
+        → Is 0 status
+    pub roomy : (file : FileTree) → IsFileOf text file → IsAsked file → IsRoomy file → Is 0 status
+    pub too_large : (file : FileTree) (image : Tables) (large : Large)
+        → IsFileOf text file
+        → IsSized file
+        → IsMadeFor file image
+        → first_too_large image ≡ Some large
+        → Is 8 status
+
+-- the command is asked of every file
+abbrev pub Every : FileTree → Type 0
+Every file = ⊤
+
+-- What `compile` comes to on a text that the source is known to hold.
 pub record CompileComplete (text : List ℕ) (status : ℕ) : Type 0 where
   pub fault : (told : Fault) → HasFault text told → Is 3 status
-  -- a text without a fault is compiled, or a section of its image passes its limit
-  pub accepted : (file : FileTree) → IsFileOf text file → Is 0 status ⊎ (status ≡ 8)
-  -- one whose image fits is compiled
-  pub fits : (file : FileTree) (image : Tables)
-      → IsFileOf text file
-      → IsMadeFor file image
-      → first_too_large image ≡ None
-      → Is 0 status
-  pub roomy : (file : FileTree) → IsFileOf text file → IsRoomy file → Is 0 status
-  pub too_large : (file : FileTree) (image : Tables) (large : Large)
-      → IsFileOf text file
-      → IsMadeFor file image
-      → first_too_large image ≡ Some large
-      → Is 8 status
+  -- a text without a fault is compiled
+  pub image : ImageComplete text Every Every status
 
--- What `run` comes to on bytes that the source tells.
+-- What `run` comes to on bytes that the source is known to hold.
 pub record RunComplete (run : RunTree) (bytes : List ℕ) (status : ℕ) : Type 0 where
   -- an image whose entry, arguments and answers suit is run, whatever becomes of the run
   pub outcome : (image : Tables) (entry : Func) (args answers : List ℕ)
@@ -71,7 +89,14 @@ pub record RunComplete (run : RunTree) (bytes : List ℕ) (status : ℕ) : Type 
       → Is 2 status
   pub no_image : ((image : Tables) → IsSpelling bytes image → ⊥) → Is 4 status
 
--- What `check` comes to on a text that the source tells.
+-- The words ask for a call of a function of the file.
+pub record IsCalled (check : CheckTree) (file : FileTree) : Type 0 where
+  pub entry : ℕ
+  pub args : List ℕ
+  pub answers : List ℕ
+  pub call : IsCall check file entry args answers
+
+-- What `check` comes to on a text that the source is known to hold.
 pub record CheckComplete (check : CheckTree) (text : List ℕ) (status : ℕ) : Type 0 where
   pub fault : (told : Fault) → HasFault text told → Is 3 status
   pub no_entry : (file : FileTree)
@@ -79,76 +104,23 @@ pub record CheckComplete (check : CheckTree) (text : List ℕ) (status : ℕ) : 
       → NamesNone file check.entry
       → Is 2 status
   pub unfit : (file : FileTree) → IsFileOf text file → HasUnfit check file → Is 2 status
-  -- a call that suits is run, whatever becomes of the run, or a section of the image passes its
-  -- limit
-  pub accepted : (file : FileTree) (entry : ℕ) (args answers : List ℕ)
-      → IsFileOf text file
-      → IsCall check file entry args answers
-      → Is 0 status ⊎ (status ≡ 8)
-  -- where the image fits, it is run
-  pub fits : (file : FileTree) (image : Tables) (entry : ℕ) (args answers : List ℕ)
-      → IsFileOf text file
-      → IsCall check file entry args answers
-      → IsMadeFor file image
-      → first_too_large image ≡ None
-      → Is 0 status
-  pub roomy : (file : FileTree) (entry : ℕ) (args answers : List ℕ)
-      → IsFileOf text file
-      → IsCall check file entry args answers
-      → IsRoomy file
-      → Is 0 status
-  pub too_large : (file : FileTree) (image : Tables) (large : Large) (entry : ℕ)
-      (args answers : List ℕ)
-      → IsFileOf text file
-      → IsCall check file entry args answers
-      → IsMadeFor file image
-      → first_too_large image ≡ Some large
-      → Is 8 status
+  -- a call that suits is run, whatever becomes of the run
+  pub image : ImageComplete text (IsCalled check) (IsCalled check) status
 
--- What `list` comes to on a text that the source tells.
+-- What `list` comes to on a text that the source is known to hold.
 pub record ListComplete (stage : Stage) (text : List ℕ) (status : ℕ) : Type 0 where
   pub fault : (told : Fault) → HasFault text told → Is 3 status
-  -- a text without a fault is listed, or the stage is one of the image, of which a section passes
-  -- its limit
-  pub accepted : (file : FileTree)
-      → IsFileOf text file
-      → Is 0 status ⊎ (IsOfImage stage × (status ≡ 8))
-  -- where the image fits, it is listed
-  pub fits : (file : FileTree) (image : Tables)
-      → IsFileOf text file
-      → IsMadeFor file image
-      → first_too_large image ≡ None
-      → Is 0 status
-  pub roomy : (file : FileTree) → IsFileOf text file → IsRoomy file → Is 0 status
-  pub too_large : (file : FileTree) (image : Tables) (large : Large)
-      → IsOfImage stage
-      → IsFileOf text file
-      → IsMadeFor file image
-      → first_too_large image ≡ Some large
-      → Is 8 status
+  -- a text without a fault is listed; only a stage of the image asks that it fits
+  pub image : ImageComplete text Every (λ file. IsOfImage stage) status
 
 -- What `soak` comes to. The text that is drawn has no fault.
 pub record SoakComplete (seed functions status : ℕ) : Type 0 where
   -- it is tried, whatever becomes of the runs, or a section of its image passes its limit
   pub accepted : Is 0 status ⊎ (status ≡ 8)
-  -- where the image fits, it is tried
-  pub fits : (file : FileTree) (image : Tables)
-      → IsFileOf (soak_text seed functions) file
-      → IsMadeFor file image
-      → first_too_large image ≡ None
-      → Is 0 status
-  pub roomy : (file : FileTree)
-      → IsFileOf (soak_text seed functions) file
-      → IsRoomy file
-      → Is 0 status
-  pub too_large : (file : FileTree) (image : Tables) (large : Large)
-      → IsFileOf (soak_text seed functions) file
-      → IsMadeFor file image
-      → first_too_large image ≡ Some large
-      → Is 8 status
+  pub image : ImageComplete (soak_text seed functions) Every Every status
 
--- Where no count of faults rose, the words and what the source tells give the status, but for want
--- of memory.
+-- Where no count of faults rose, the words and what the source is known to hold give the status, but
+-- for want of memory.
 pub record Complete (words : List (List ℕ)) (e : Effects) (status : ℕ) : Type 0 where
   pub no_command : (WellFormed words → ⊥) → NoneRose e → Is 2 status
   pub no_value : ((command : CommandTree) → IsCommand words command → ⊥) → NoneRose e → Is 2 status

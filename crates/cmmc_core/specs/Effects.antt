@@ -1,6 +1,6 @@
 -- What a call of the program did to its source, to out and to err.
 --
--- The bytes of each are there where it tells them. Each keeps a count of faults that never falls.
+-- The bytes of each are there where they are known. Each keeps a count of faults that never falls.
 use Rattle.std.specs.Prelude.{◌≡◌, ℕ, ◌+◌, ◌<◌, ◌≤◌, ◌⊎◌, List, ◌++◌, length, Option}
 use Rattle.std.specs.Io.KnownBytes.{Consumes, Appends, Keeps, IsAtEnd}
 use Rattle.bs_io.specs.Faults.{Risen}
@@ -12,7 +12,7 @@ pub record Side : Type 0 where
   pub faults_before : ℕ
   pub faults_after : ℕ
 
--- by what it tells of its bytes and by its count, of its states before the call and after it
+-- by what is known of its bytes and by its count, of its states before the call and after it
 abbrev pub side : {X : Type 0} → (X → Option (List ℕ)) → (X → ℕ) → X → X → Side
 side bytes faults old new =
     record {
@@ -53,8 +53,8 @@ pub record GotPart (side : Side) (bytes : List ℕ) : Type 0 where
   pub rose : Rose side
 
 -- a line was written to it whole, and the status is its own; or not whole, and the status is 6
-abbrev pub Tells : Side → List ℕ → ℕ → ℕ → Type 0
-Tells side line status result =
+abbrev pub Reports : Side → List ℕ → ℕ → ℕ → Type 0
+Reports side line status result =
     ((result ≡ status) × Got side line) ⊎ ((result ≡ 6) × GotPart side line)
 
 -- These are the bytes that were read: all that there were, up to one past the limit.

@@ -16,7 +16,7 @@ use Rattle.text_commands.specs.Compile.{IsTooLarge}
 use Rattle.text_commands.specs.declared.compile.Refusal as text
 use Rattle.text_commands.specs.declared.compile.Refusal.TheVariants.{Fault, TooLarge, OutOfMemory}
 use Rattle.cmmc_core.specs.Compile.{Reads}
-use Rattle.cmmc_core.specs.Effects.{Side, Rose, Tells, IsKept, Got, GotPart}
+use Rattle.cmmc_core.specs.Effects.{Side, Rose, Reports, IsKept, Got, GotPart}
 use Rattle.cmmc_core.specs.Lines.{no_memory_line}
 use Rattle.cmmc_core.specs.Run.{IsRunText, IsOutcomeOf, IsUnfit, ReadsNoImage, NamesNoEntry, GivesUnfit}
 use Rattle.cmmc_core.specs.Soak.{soak_text}
@@ -144,24 +144,24 @@ IsUnread source refusal.OutOfMemory = ⊤
 -- ---- lines for which there may be no memory
 
 -- the line was reported, or that there is no memory for it
-abbrev pub TellsOr : Side → List ℕ → ℕ → ℕ → Type 0
-TellsOr err line status result = Tells err line status result ⊎ Tells err no_memory_line 9 result
+abbrev pub ReportsOr : Side → List ℕ → ℕ → ℕ → Type 0
+ReportsOr err line status result = Reports err line status result ⊎ Reports err no_memory_line 9 result
 
 -- the line of a text that has no image
-abbrev pub TellsRefusal : Side → text.Refusal → ℕ → Type 0
-TellsRefusal err (Fault told) result = TellsOr err (fault_line told) 3 result
-TellsRefusal err (TooLarge large) result = TellsOr err (large_line large) 8 result
-TellsRefusal err OutOfMemory result = Tells err no_memory_line 9 result
+abbrev pub ReportsRefusal : Side → text.Refusal → ℕ → Type 0
+ReportsRefusal err (Fault told) result = ReportsOr err (fault_line told) 3 result
+ReportsRefusal err (TooLarge large) result = ReportsOr err (large_line large) 8 result
+ReportsRefusal err OutOfMemory result = Reports err no_memory_line 9 result
 
 -- the line of a text that is drawn, of which nothing is reported
-abbrev pub TellsSoakRefusal : Side → SoakRefusal → ℕ → Type 0
-TellsSoakRefusal err (soak.TooLarge large) result = TellsOr err (large_line large) 8 result
-TellsSoakRefusal err soak.OutOfMemory result = Tells err no_memory_line 9 result
+abbrev pub ReportsSoakRefusal : Side → SoakRefusal → ℕ → Type 0
+ReportsSoakRefusal err (soak.TooLarge large) result = ReportsOr err (large_line large) 8 result
+ReportsSoakRefusal err soak.OutOfMemory result = Reports err no_memory_line 9 result
 
 -- the line of a text of whose run nothing is reported
-abbrev pub TellsCheckRefusal : Side → check.CheckRefusal → ℕ → Type 0
-TellsCheckRefusal err (checked.Fault told) result = TellsOr err (fault_line told) 3 result
-TellsCheckRefusal err checked.UnknownEntry result = Tells err (usage_line UnknownEntry) 2 result
-TellsCheckRefusal err checked.ArgumentUnfit result = Tells err (usage_line ArgumentUnfit) 2 result
-TellsCheckRefusal err (checked.TooLarge large) result = TellsOr err (large_line large) 8 result
-TellsCheckRefusal err checked.OutOfMemory result = Tells err no_memory_line 9 result
+abbrev pub ReportsCheckRefusal : Side → check.CheckRefusal → ℕ → Type 0
+ReportsCheckRefusal err (checked.Fault told) result = ReportsOr err (fault_line told) 3 result
+ReportsCheckRefusal err checked.UnknownEntry result = Reports err (usage_line UnknownEntry) 2 result
+ReportsCheckRefusal err checked.ArgumentUnfit result = Reports err (usage_line ArgumentUnfit) 2 result
+ReportsCheckRefusal err (checked.TooLarge large) result = ReportsOr err (large_line large) 8 result
+ReportsCheckRefusal err checked.OutOfMemory result = Reports err no_memory_line 9 result

@@ -12,5 +12,20 @@ mod soak;
 mod text;
 mod top;
 
+ghost use Rattle.std.specs.Prelude.{◌≡◌, ◌<◌, ℕ, List, All};
+ghost use Rattle.bs_fault.specs.declared.fault.Fault.{Fault};
+ghost use Rattle.cmm_front.specs.FileOf.{IsFileOf, HasFault};
+ghost use Rattle.cmm_tree.specs.Tree.{FileTree};
+
 pub use text_commands::{Gate, OpenGate};
 pub use top::cmmc;
+
+/// Law: a text has one file at most, one fault at most that is reported, and not both.
+pub fn one_file_or_one_fault()
+    ensures files { (text : List ℕ) → All (λ b. b < 256) text → (file other : FileTree) →
+        IsFileOf text file → IsFileOf text other → file ≡ other }
+    ensures faults { (text : List ℕ) → All (λ b. b < 256) text → (told other : Fault) →
+        HasFault text told → HasFault text other → told ≡ other }
+    ensures apart { (text : List ℕ) → All (λ b. b < 256) text → (file : FileTree) →
+        (told : Fault) → IsFileOf text file → HasFault text told → ⊥ }
+{}

@@ -1,9 +1,9 @@
 //! The lines on err, and the statuses.
 ghost use Rattle.std.specs.Prelude.{◌≡◌};
-ghost use Rattle.cmmc_core.specs.Effects.{side, Tells};
+ghost use Rattle.cmmc_core.specs.Effects.{side, Reports};
 ghost use Rattle.bs_fault.specs.FaultLines.{fault_line};
 ghost use Rattle.bs_fault.specs.Lines.{large_line, image_line};
-ghost use Rattle.cmmc_core.specs.Refusal.{TellsOr, TellsRefusal, TellsCheckRefusal, TellsSoakRefusal};
+ghost use Rattle.cmmc_core.specs.Refusal.{ReportsOr, ReportsRefusal, ReportsCheckRefusal, ReportsSoakRefusal};
 
 use crate::soak::SoakRefusal;
 use bs_fault::{Fault, ImageRefusal, Large, fault_text, image_text, large_text};
@@ -37,7 +37,7 @@ pub const NO_MEMORY: u8 = 9;
 
 /// Writes a whole line to err and answers `status`, or 6 where the line cannot be written whole.
 pub fn tell<E: Sink>(err: &mut E, line: &[u8], status: u8) -> u8
-    ensures { Tells (side E.held E.faults err.old err.new) line.now status result }
+    ensures { Reports (side E.held E.faults err.old err.new) line.now status result }
 {
     match write_all(err, line) {
         Ok(()) => status,
@@ -47,7 +47,7 @@ pub fn tell<E: Sink>(err: &mut E, line: &[u8], status: u8) -> u8
 
 /// Writes the line of a section that is too large, for which there may be no memory.
 fn tell_large<E: Sink>(alloc: Global, err: &mut E, large: &Large) -> u8
-    ensures { TellsOr (side E.held E.faults err.old err.new) (large_line large.now) 8 result }
+    ensures { ReportsOr (side E.held E.faults err.old err.new) (large_line large.now) 8 result }
 {
     match large_text(alloc, large) {
         Ok(line) => tell(err, line.as_slice(), TOO_LARGE),
@@ -57,7 +57,7 @@ fn tell_large<E: Sink>(alloc: Global, err: &mut E, large: &Large) -> u8
 
 /// Writes the line of a text's fault, for which there may be no memory.
 fn tell_fault<E: Sink>(alloc: Global, err: &mut E, fault: &Fault) -> u8
-    ensures { TellsOr (side E.held E.faults err.old err.new) (fault_line fault.now) 3 result }
+    ensures { ReportsOr (side E.held E.faults err.old err.new) (fault_line fault.now) 3 result }
 {
     match fault_text(alloc, fault) {
         Ok(line) => tell(err, line.as_slice(), TEXT),
@@ -67,7 +67,7 @@ fn tell_fault<E: Sink>(alloc: Global, err: &mut E, fault: &Fault) -> u8
 
 /// Writes the line of a text that has no image.
 pub fn tell_refusal<E: Sink>(alloc: Global, err: &mut E, refusal: &Refusal) -> u8
-    ensures { TellsRefusal (side E.held E.faults err.old err.new) refusal.now result }
+    ensures { ReportsRefusal (side E.held E.faults err.old err.new) refusal.now result }
 {
     match refusal {
         Refusal::Fault(fault) => tell_fault(alloc, err, fault),
@@ -78,7 +78,7 @@ pub fn tell_refusal<E: Sink>(alloc: Global, err: &mut E, refusal: &Refusal) -> u
 
 /// Writes the line of a text of whose run nothing is reported.
 pub fn tell_check_refusal<E: Sink>(alloc: Global, err: &mut E, refusal: &CheckRefusal) -> u8
-    ensures { TellsCheckRefusal (side E.held E.faults err.old err.new) refusal.now result }
+    ensures { ReportsCheckRefusal (side E.held E.faults err.old err.new) refusal.now result }
 {
     match refusal {
         CheckRefusal::Fault(fault) => tell_fault(alloc, err, fault),
@@ -91,7 +91,7 @@ pub fn tell_check_refusal<E: Sink>(alloc: Global, err: &mut E, refusal: &CheckRe
 
 /// Writes the line of a text that was drawn, of which nothing is reported.
 pub fn tell_soak_refusal<E: Sink>(alloc: Global, err: &mut E, refusal: &SoakRefusal) -> u8
-    ensures { TellsSoakRefusal (side E.held E.faults err.old err.new) refusal.now result }
+    ensures { ReportsSoakRefusal (side E.held E.faults err.old err.new) refusal.now result }
 {
     match refusal {
         SoakRefusal::TooLarge(large) => tell_large(alloc, err, large),
@@ -101,7 +101,7 @@ pub fn tell_soak_refusal<E: Sink>(alloc: Global, err: &mut E, refusal: &SoakRefu
 
 /// Writes the line of bytes that are no image, for which there may be no memory.
 pub fn tell_image<E: Sink>(alloc: Global, err: &mut E, refusal: &ImageRefusal) -> u8
-    ensures { TellsOr (side E.held E.faults err.old err.new) (image_line refusal.now) 4 result }
+    ensures { ReportsOr (side E.held E.faults err.old err.new) (image_line refusal.now) 4 result }
 {
     match image_text(alloc, refusal) {
         Ok(line) => tell(err, line.as_slice(), NO_IMAGE),

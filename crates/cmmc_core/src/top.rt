@@ -32,7 +32,7 @@ use text_commands::Gate;
 ///   last function, by the meaning of the text, and on the machine where nothing moves and where
 ///   the seed draws what moves.
 ///
-/// `compile`, `check` and `soak` tell the gate of each function that they compile.
+/// At `compile`, `check` and `soak` the gate hears of each function that is compiled.
 ///
 /// The statuses are 0 where the output was written whole, 2 where the words are no command or do
 /// not suit what was read, 3 where the text has a fault, 4 where the bytes are no image, 5 where a

@@ -1,10 +1,10 @@
 -- A stage of a file has one text.
-use Rattle.std.proofs.Common.{◌≡◌, ℕ, List, [], ◌∷◌, refl, sym, ap, ◌∙◌, subst}
+use Rattle.std.proofs.Common.{◌≡◌, ℕ, List, [], ◌∷◌, Option, Some, None, refl, sym, ap, ◌∙◌, subst}
+use Rattle.std.specs.Prelude.{MatchOption}
 use Rattle.std.specs.List.{AllZip, concat}
 use Rattle.cmm_tree.specs.Tree.{FunctionTree, FileTree, functions}
 use Rattle.file_promise.proofs.Once.{made_for_once}
 use Rattle.image_form.specs.Tables.{Tables}
-use Rattle.image_listings.specs.Texts.{frames_text, code_text}
 use Rattle.lin_ir.specs.declared.lin.Lin.{Lin}
 use Rattle.linear_pass.specs.Linear.{IsLinearOf}
 use Rattle.linear_pass.proofs.Once.{linear_once}
@@ -18,7 +18,7 @@ use Rattle.rv_pieces.specs.declared.piece.Pieces.{Pieces}
 use Rattle.selection_rules.specs.Select.{selected}
 use Rattle.stages.specs.declared.stage.Stage.{Stage}
 use Rattle.stages.specs.declared.stage.Stage.TheVariants.{Select, CombAlloc, Cse, Dead, Spill, Split, Alloc, Linear, Frames, Code}
-use Rattle.file_compile.specs.Listed.{IsAllocatedFor, IsLinearFor, IsTextOf, IsPassText, function_text, IsFunctionText, AreFunctionTexts, IsImageText, IsStageText}
+use Rattle.file_compile.specs.Listed.{IsAllocatedFor, IsLinearFor, IsTextOf, IsPassText, function_text, IsFunctionText, AreFunctionTexts, IsImageText, image_text, IsStageText}
 
 -- where one is made, one text is
 one_text : {X : Type 0} {text_of : X → List ℕ} {Is : X → Type 0} (a b : List ℕ) → ((x y : X) → Is x → Is y → x ≡ y) →
@@ -94,15 +94,13 @@ module _ (stage : Stage) where
 image_once : (text_of : Tables → List ℕ) (file : FileTree) (a b : List ℕ) → IsImageText text_of file a → IsImageText text_of file b → a ≡ b
 image_once text_of file a b of it = of.is ∙ ap text_of (made_for_once file of.image it.image of.made it.made) ∙ sym it.is
 
+text_once : (file : FileTree) (stage : Stage) (a b : List ℕ) (o : Option (Tables → List ℕ))
+    → MatchOption o (AreFunctionTexts stage (functions file) a) (λ text_of. IsImageText text_of file a)
+    → MatchOption o (AreFunctionTexts stage (functions file) b) (λ text_of. IsImageText text_of file b)
+    → a ≡ b
+text_once file stage a b None of it = functions_once stage (functions file) a b of it
+text_once file stage a b (Some text_of) of it = image_once text_of file a b of it
+
 -- The text of a stage of a file is one.
 pub stage_text_once : (file : FileTree) (stage : Stage) (a b : List ℕ) → IsStageText file stage a → IsStageText file stage b → a ≡ b
-stage_text_once file Select = functions_once Select (functions file)
-stage_text_once file CombAlloc = functions_once CombAlloc (functions file)
-stage_text_once file Cse = functions_once Cse (functions file)
-stage_text_once file Dead = functions_once Dead (functions file)
-stage_text_once file Spill = functions_once Spill (functions file)
-stage_text_once file Split = functions_once Split (functions file)
-stage_text_once file Alloc = functions_once Alloc (functions file)
-stage_text_once file Linear = functions_once Linear (functions file)
-stage_text_once file Frames = image_once frames_text file
-stage_text_once file Code = image_once code_text file
+stage_text_once file stage a b of it = text_once file stage a b (image_text stage) of it

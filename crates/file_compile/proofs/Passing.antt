@@ -10,6 +10,7 @@ use Rattle.lin_ir.specs.declared.lin.Lin.{Lin}
 use Rattle.linear_pass.specs.Linear.{IsLinearOf}
 use Rattle.mach_ir.specs.Formed.{WellFormed}
 use Rattle.mach_ir.specs.Placed.{WellPlaced}
+use Rattle.mach_ir.specs.Text.{mach_text}
 use Rattle.mach_ir.specs.declared.mach.Mach.{Mach}
 use Rattle.mach_passes.specs.Prepared.{IsPreparable, IsPrepared}
 use Rattle.made_functions.specs.Files.{IsFunctionMade}
@@ -24,7 +25,7 @@ use Rattle.selection_promise.specs.Selects.{IsAccepted}
 use Rattle.selection_accepted.proofs.Promised.{function_accepted}
 use Rattle.selection_accepted.proofs.Selecting.{definitions}
 use Rattle.file_compile.specs.Accepted.{IsAcceptedFunction}
-use Rattle.file_compile.specs.Listed.{IsAllocatedFor}
+use Rattle.file_compile.specs.Listed.{IsAllocatedFor, IsTextOf}
 
 module _ (tree : FunctionTree) (accepted : IsAcceptedFunction tree) (mach : Mach) (is : mach ≡ selected tree) where
   known : IsAccepted (definitions accepted.file) tree
@@ -78,3 +79,9 @@ module _ (tree : FunctionTree) (accepted : IsAcceptedFunction tree) (mach : Mach
 pub allocated_placed : (tree : FunctionTree) → IsAcceptedFunction tree → (m : Mach) → IsAllocatedFor tree m → IsPlacedFor tree m
 allocated_placed tree accepted m a =
     placed_for (function_accepted accepted.of_file.text accepted.file accepted.of_file.is_file tree accepted.among) a.is_prepared a.allocated
+
+-- the text of what a pass makes of a selected function is one of that
+pub of_selected_text : (Is : Mach → Mach → Type 0) (tree : FunctionTree) (mach passed : Mach) (text : List ℕ) → mach ≡ selected tree → Is mach passed → text ≡ mach_text passed →
+    IsTextOf mach_text (Is (selected tree)) text
+of_selected_text Is tree mach passed text is made spelled =
+    record { made = passed; is = subst (λ (m : Mach). Is m passed) is made; spelled = spelled }

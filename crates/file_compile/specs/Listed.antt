@@ -1,5 +1,5 @@
 -- The text of a stage of the compiler: of one function, of all, and of the file.
-use Rattle.std.specs.Prelude.{◌≡◌, ℕ, List, [], None}
+use Rattle.std.specs.Prelude.{◌≡◌, ℕ, List, [], Option, Some, None, MatchOption}
 use Rattle.std.specs.List.{AllZip, concat}
 use Rattle.cmm_tree.specs.Tree.{FunctionTree, FileTree, functions}
 use Rattle.combine_rules.specs.Combined.{combined}
@@ -90,15 +90,21 @@ pub record IsImageText (text_of : Tables → List ℕ) (file : FileTree) (text :
   pub fits : first_too_large image ≡ None
   pub is : text ≡ text_of image
 
+-- which text of the image a stage is, if it is one; the other stages are texts of functions
+abbrev pub image_text : Stage → Option (Tables → List ℕ)
+image_text Frames = Some frames_text
+image_text Code = Some code_text
+image_text Select = None
+image_text CombAlloc = None
+image_text Cse = None
+image_text Dead = None
+image_text Spill = None
+image_text Split = None
+image_text Alloc = None
+image_text Linear = None
+
 -- the text of a stage of a file
 abbrev pub IsStageText : FileTree → Stage → List ℕ → Type 0
-IsStageText file Select text = AreFunctionTexts Select (functions file) text
-IsStageText file CombAlloc text = AreFunctionTexts CombAlloc (functions file) text
-IsStageText file Cse text = AreFunctionTexts Cse (functions file) text
-IsStageText file Dead text = AreFunctionTexts Dead (functions file) text
-IsStageText file Spill text = AreFunctionTexts Spill (functions file) text
-IsStageText file Split text = AreFunctionTexts Split (functions file) text
-IsStageText file Alloc text = AreFunctionTexts Alloc (functions file) text
-IsStageText file Linear text = AreFunctionTexts Linear (functions file) text
-IsStageText file Frames text = IsImageText frames_text file text
-IsStageText file Code text = IsImageText code_text file text
+IsStageText file stage text =
+    MatchOption (image_text stage) (AreFunctionTexts stage (functions file) text)
+    (λ text_of. IsImageText text_of file text)

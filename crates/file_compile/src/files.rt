@@ -52,7 +52,7 @@ fn functions_of(alloc: Global, items: &[Item]) -> Result<Vec<&Function>, AllocEr
     Ok(functions)
 }
 
-/// The pieces of the function of this number. The gate is told when it is taken up and when it is done with.
+/// The pieces of the function of this number. The gate hears when its compile begins and when it ends.
 fn gated_pieces<G: Gate>(
     alloc: Global,
     functions: &[&Function],
@@ -100,7 +100,7 @@ fn all_pieces<R: Threads + Sync, G: Gate + Sync>(
 /// data, the external calls and the frame descriptors.
 ///
 /// Functions are lent in halves to both sides of a join, each half with its part of the jobs, down to single
-/// functions or one job, and the gate is told of each. A file is made into one image only (`made_for_once`), so
+/// functions or one job, and the gate hears of each. A file is made into one image only (`made_for_once`), so
 /// the image is the same for every number of jobs and every gate.
 ///
 /// # Errors

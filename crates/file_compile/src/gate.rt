@@ -1,7 +1,7 @@
-//! What is told of each function as it is compiled.
+//! What hears of each function as it is compiled.
 
-/// What is told when the compile of a function begins and when it ends, in the thread that compiles it. A function is
-/// told by its number among those of the file, from 0.
+/// Hears when the compile of a function begins and when it ends, in the thread that compiles it. A function is known by
+/// its number among those of the file, from 0.
 ///
 /// A Gate changes nothing that the compiler sees.
 pub trait Gate {

@@ -1,23 +1,22 @@
 -- The text of a stage of the image is one of the text's image.
-use Rattle.std.proofs.Common.{◌≡◌, ◌<◌, ℕ, All, List, None}
+use Rattle.std.proofs.Common.{◌≡◌, ◌<◌, ℕ, All, List, Option, Some, None}
+use Rattle.std.specs.Prelude.{MatchOption, IfSome}
 use Rattle.cmm_front.specs.FileOf.{IsFileOf}
 use Rattle.cmm_meaning.specs.Run.{cmm_run}
-use Rattle.cmm_tree.specs.Tree.{FileTree}
+use Rattle.cmm_tree.specs.Tree.{FileTree, functions}
 use Rattle.command_line.specs.Command.{CheckTree}
 use Rattle.correctness.specs.Setting.{layout_of}
 use Rattle.file_compile.proofs.Promised.{made_correct, made_in_need, made_bounded, made_exact}
-use Rattle.file_compile.specs.Listed.{IsImageText, IsStageText}
+use Rattle.file_compile.specs.Listed.{AreFunctionTexts, IsImageText, image_text, IsStageText}
 use Rattle.image_form.specs.Image.{AreTables}
 use Rattle.image_form.specs.Tables.{Tables}
-use Rattle.image_listings.specs.Texts.{frames_text, code_text}
 use Rattle.layout_rules.specs.TooLarge.{first_too_large}
 use Rattle.made_functions.specs.Files.{IsMadeFor}
 use Rattle.stages.specs.declared.stage.Stage.{Stage}
-use Rattle.stages.specs.declared.stage.Stage.TheVariants.{Select, CombAlloc, Cse, Dead, Spill, Split, Alloc, Linear, Frames, Code}
 use Rattle.text_commands.proofs.Passing.{only_made}
 use Rattle.text_commands.specs.Arguments.{IsCall}
 use Rattle.text_commands.specs.Compile.{IsImageOf}
-use Rattle.text_commands.specs.Lines.{outcome_text}
+use Rattle.text_commands.specs.Lines.{cmm_outcome_text}
 use Rattle.text_commands.specs.Listing.{ListsImage, ListsImageAt}
 use Rattle.text_commands.specs.Trial.{IsTrial}
 
@@ -39,7 +38,7 @@ image_of text file is are image tables made fits = record {
 -- it, and the outcome of a run of a function of the file
 pub tried : (check : CheckTree) (text : List ℕ) (file : FileTree) → IsFileOf text file → All (λ b. b < 256) text → (image : Tables) → AreTables image →
     IsMadeFor file image → first_too_large image ≡ None → (entry : ℕ) (args answers outcome : List ℕ) → IsCall check file entry args answers →
-    outcome ≡ outcome_text (cmm_run file (layout_of image) entry args answers check.fuel) → IsTrial check text image outcome
+    outcome ≡ cmm_outcome_text (cmm_run file (layout_of image) entry args answers check.fuel) → IsTrial check text image outcome
 unfolding image_of
 tried check text file is are image tables made fits entry args answers outcome call told = record {
   is_image = image_of text file is are image tables made fits;
@@ -55,14 +54,11 @@ module _ (text : List ℕ) (file : FileTree) (is : IsFileOf text file) (are : Al
   of_image text_of listed =
       record { image = listed.image; is_image = image_of text file is are listed.image listed.is_image listed.made listed.fits; is = listed.is }
 
+  lists_by : (stage : Stage) (o : Option (Tables → List ℕ))
+      → MatchOption o (AreFunctionTexts stage (functions file) bytes) (λ text_of. IsImageText text_of file bytes)
+      → IfSome o (λ text_of. ListsImage text_of text bytes)
+  lists_by stage None listed = tt
+  lists_by stage (Some text_of) listed = of_image text_of listed
+
   pub lists_image : (stage : Stage) → IsStageText file stage bytes → ListsImageAt stage text bytes
-  lists_image Select listed = tt
-  lists_image CombAlloc listed = tt
-  lists_image Cse listed = tt
-  lists_image Dead listed = tt
-  lists_image Spill listed = tt
-  lists_image Split listed = tt
-  lists_image Alloc listed = tt
-  lists_image Linear listed = tt
-  lists_image Frames listed = of_image frames_text listed
-  lists_image Code listed = of_image code_text listed
+  lists_image stage listed = lists_by stage (image_text stage) listed

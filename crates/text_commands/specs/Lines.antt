@@ -31,12 +31,12 @@ abbrev pub need_text : List ℕ → ℕ → List ℕ
 need_text name number = name ++ (codes " " ++ (decimal number ++ codes "\n"))
 
 -- a line for each external call that was made, and one for how the run ended
-abbrev pub outcome_text : Run → List ℕ
-outcome_text run = calls_text run.calls ++ (end_text run.outcome ++ codes "\n")
+abbrev pub cmm_outcome_text : Run → List ℕ
+cmm_outcome_text run = calls_text run.calls ++ (end_text run.outcome ++ codes "\n")
 
 -- that, and then the bytes of stack and heap that the run needs, and the units of fuel that it spent of so many
 abbrev pub check_text : ℕ → Run → List ℕ
 check_text fuel run =
-    outcome_text run
+    cmm_outcome_text run
     ++ (need_text (codes "stack") run.stack_need
     ++ (need_text (codes "heap") run.heap_need ++ need_text (codes "fuel") (fuel - run.left)))

@@ -1,13 +1,11 @@
 -- What listing a stage of a text gives, and why nothing is listed.
-use Rattle.std.specs.Prelude.{◌≡◌, ⊤, ℕ, List}
+use Rattle.std.specs.Prelude.{◌≡◌, ⊤, ℕ, List, IfSome}
 use Rattle.cmm_front.specs.FileOf.{IsFileOf, HasFault}
 use Rattle.cmm_tree.specs.Tree.{FileTree}
-use Rattle.file_compile.specs.Listed.{IsStageText}
+use Rattle.file_compile.specs.Listed.{image_text, IsStageText}
 use Rattle.stages.specs.Image.{IsOfImage}
 use Rattle.image_form.specs.Tables.{Tables}
-use Rattle.image_listings.specs.Texts.{frames_text, code_text}
 use Rattle.stages.specs.declared.stage.Stage.{Stage}
-use Rattle.stages.specs.declared.stage.Stage.TheVariants.{Select, CombAlloc, Cse, Dead, Spill, Split, Alloc, Linear, Frames, Code}
 use Rattle.text_commands.specs.Compile.{IsImageOf, IsTooLarge}
 use Rattle.text_commands.specs.declared.compile.Refusal.{Refusal}
 use Rattle.text_commands.specs.declared.compile.Refusal.TheVariants.{Fault, TooLarge, OutOfMemory}
@@ -20,16 +18,7 @@ pub record ListsImage (text_of : Tables → List ℕ) (text bytes : List ℕ) : 
 
 -- at a stage of the image the bytes are a text of the image
 abbrev pub ListsImageAt : Stage → List ℕ → List ℕ → Type 0
-ListsImageAt Select text bytes = ⊤
-ListsImageAt CombAlloc text bytes = ⊤
-ListsImageAt Cse text bytes = ⊤
-ListsImageAt Dead text bytes = ⊤
-ListsImageAt Spill text bytes = ⊤
-ListsImageAt Split text bytes = ⊤
-ListsImageAt Alloc text bytes = ⊤
-ListsImageAt Linear text bytes = ⊤
-ListsImageAt Frames text bytes = ListsImage frames_text text bytes
-ListsImageAt Code text bytes = ListsImage code_text text bytes
+ListsImageAt stage text bytes = IfSome (image_text stage) (λ text_of. ListsImage text_of text bytes)
 
 -- The text has a file, and these bytes are the text of that stage of it, and no others.
 pub record IsListingOf (stage : Stage) (text bytes : List ℕ) : Type 0 where

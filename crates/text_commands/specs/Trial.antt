@@ -6,7 +6,7 @@ use Rattle.correctness.specs.Setting.{layout_of}
 use Rattle.image_form.specs.Tables.{Tables}
 use Rattle.text_commands.specs.Arguments.{IsCall}
 use Rattle.text_commands.specs.Compile.{IsImageOf}
-use Rattle.text_commands.specs.Lines.{outcome_text}
+use Rattle.text_commands.specs.Lines.{cmm_outcome_text}
 
 -- This is the image of the text, and this the outcome of the run of its file's function that the words name, with the
 -- frames and addresses of the image.
@@ -17,4 +17,4 @@ pub record IsTrial (check : CheckTree) (text : List ℕ) (image : Tables) (outco
     pub args : List ℕ
     pub answers : List ℕ
     pub call : IsCall check is_image.file entry args answers
-    pub told : outcome ≡ outcome_text (cmm_run is_image.file (layout_of image) entry args answers check.fuel)
+    pub told : outcome ≡ cmm_outcome_text (cmm_run is_image.file (layout_of image) entry args answers check.fuel)

@@ -5,13 +5,12 @@ ghost use Rattle.command_line.specs.View.{check_view};
 ghost use Rattle.text_commands.specs.Check.{IsCheckOf};
 ghost use Rattle.text_commands.specs.CheckRefusal.{IsCheckRefusal};
 
-use crate::call::{CallRefusal, call_of};
+use crate::ready::made_ready;
 use crate::run::told_of_run;
-use bs_fault::{BuildError, Fault, FrontError, Large};
+use bs_fault::{Fault, Large};
 use bs_words::List;
-use cmm_front::front;
 use command_line::CheckWords;
-use file_compile::{Gate, compile, layout};
+use file_compile::Gate;
 use std::alloc::Global;
 use std::thread::Threads;
 use thiserror::Error;
@@ -53,28 +52,9 @@ pub fn check_text<R: Threads + Sync, G: Gate + Sync>(
     ensures told { IfOk result (λ told. IsCheckOf (check_view check.now) text.now (contents told)) }
     ensures refused { IfErr result (λ r. IsCheckRefusal (check_view check.now) text.now r) }
 {
-    let checked = match front(alloc, text) {
-        Ok(checked) => checked,
-        Err(FrontError::Fault(fault)) => return Err(CheckRefusal::Fault(fault)),
-        Err(FrontError::OutOfMemory) => return Err(CheckRefusal::OutOfMemory),
-    };
-    let file = checked.typed().file();
-    let call = match call_of(alloc, file, check) {
-        Ok(call) => call,
-        Err(CallRefusal::UnknownEntry) => return Err(CheckRefusal::UnknownEntry),
-        Err(CallRefusal::ArgumentUnfit) => return Err(CheckRefusal::ArgumentUnfit),
-        Err(CallRefusal::OutOfMemory) => return Err(CheckRefusal::OutOfMemory),
-    };
-    let image = match compile(rt, alloc, &checked, 1, gate) {
-        Ok(image) => image,
-        Err(BuildError::TooLarge(large)) => return Err(CheckRefusal::TooLarge(large)),
-        Err(BuildError::OutOfMemory) => return Err(CheckRefusal::OutOfMemory),
-    };
-    let layout = match layout(alloc, &image) {
-        Ok(layout) => layout,
-        Err(_) => return Err(CheckRefusal::OutOfMemory),
-    };
-    match told_of_run(alloc, file, &layout, &call, check.fuel) {
+    let ready = made_ready(rt, alloc, text, check, gate)?;
+    let file = ready.checked.typed().file();
+    match told_of_run(alloc, file, &ready.layout, &ready.call, check.fuel) {
         Ok(told) => Ok(told),
         Err(_) => Err(CheckRefusal::OutOfMemory),
     }

@@ -25,7 +25,7 @@ pub enum Refusal {
     OutOfMemory,
 }
 
-/// The spelling of the image of a text, whose functions are shared among so many jobs. The gate is told of each.
+/// The spelling of the image of a text, whose functions are shared among so many jobs. The gate hears of each.
 ///
 /// # Errors
 ///

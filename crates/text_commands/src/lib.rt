@@ -9,6 +9,7 @@ mod compile;
 mod entry;
 mod lines;
 mod list;
+mod ready;
 mod run;
 mod trial;
 

@@ -6,7 +6,7 @@ ghost use Rattle.bs_words.specs.Word.{signed_of};
 ghost use Rattle.cmm_eval.specs.Views.{call_view, outcome_view, eval_view};
 ghost use Rattle.rv_machine.specs.Text.{obs_text, shown_text, made_text, calls_text, returned_text};
 ghost use Rattle.text_commands.specs.Puts.{Puts};
-ghost use Rattle.text_commands.specs.Lines.{kind_text, end_text, need_text, check_text, outcome_text};
+ghost use Rattle.text_commands.specs.Lines.{kind_text, end_text, need_text, check_text, cmm_outcome_text};
 
 use bs_words::{Call, Kind, List, Obs, signed};
 use cmm_eval::{Eval, Outcome};
@@ -29,7 +29,7 @@ pub(crate) fn told_of(alloc: Global, eval: &Eval, fuel: u64) -> Result<List<u8>,
 
 /// The outcome of a run of a text: a line for each external call, and one for how it ended.
 pub(crate) fn outcome_of(alloc: Global, eval: &Eval) -> Result<List<u8>, AllocError>
-    ensures { IfOk result (λ text. contents text ≡ outcome_text (eval_view eval.now)) }
+    ensures { IfOk result (λ text. contents text ≡ cmm_outcome_text (eval_view eval.now)) }
 {
     let mut page = Page {
         bytes: Vec::new(alloc),
@@ -146,7 +146,7 @@ impl Page {
 
     /// A line for each external call, and one for how the run ended.
     fn put_outcome(&mut self, eval: &Eval) -> Result<(), AllocError>
-        ensures { IfOk result (λ _. Puts self.old self.new (outcome_text (eval_view eval.now))) }
+        ensures { IfOk result (λ _. Puts self.old self.new (cmm_outcome_text (eval_view eval.now))) }
     {
         self.put_calls(eval.calls.as_slice())?;
         self.put_end(&eval.outcome)?;

@@ -7,7 +7,7 @@ ghost use Rattle.cmm_eval.specs.Views.{layout_view};
 ghost use Rattle.cmm_meaning.specs.Run.{cmm_run};
 ghost use Rattle.cmm_tree.specs.View.{file_view};
 ghost use Rattle.text_commands.specs.Check as check;
-ghost use Rattle.text_commands.specs.Lines.{outcome_text};
+ghost use Rattle.text_commands.specs.Lines.{cmm_outcome_text};
 
 use crate::call::FileCall;
 use crate::lines::{outcome_of, told_of};
@@ -58,7 +58,7 @@ pub fn outcome_of_run(
     requires fit { FitsEntry (file_view file.now) call.now.entry call.now.args.items }
     ensures { IfOk result (λ told.
         contents told
-        ≡ outcome_text (cmm_run (file_view file.now) (layout_view layout.now) call.now.entry
+        ≡ cmm_outcome_text (cmm_run (file_view file.now) (layout_view layout.now) call.now.entry
         call.now.args.items call.now.answers.items fuel)) }
 {
     let run = eval(

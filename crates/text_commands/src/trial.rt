@@ -7,14 +7,12 @@ ghost use Rattle.image_form.specs.Tables.{tables};
 ghost use Rattle.text_commands.specs.CheckRefusal.{IsCheckRefusal};
 ghost use Rattle.text_commands.specs.Trial.{IsTrial};
 
-use crate::call::{CallRefusal, call_of};
 use crate::check::CheckRefusal;
+use crate::ready::made_ready;
 use crate::run::outcome_of_run;
-use bs_fault::{BuildError, FrontError};
 use bs_words::List;
-use cmm_front::front;
 use command_line::CheckWords;
-use file_compile::{Gate, compile, layout};
+use file_compile::Gate;
 use image_form::Image;
 use std::alloc::Global;
 use std::thread::Threads;
@@ -47,29 +45,13 @@ pub fn trial_of<R: Threads + Sync, G: Gate + Sync>(
         IsTrial (check_view check.now) text.now (tables trial.image) (contents trial.outcome)) }
     ensures refused { IfErr result (λ r. IsCheckRefusal (check_view check.now) text.now r) }
 {
-    let checked = match front(alloc, text) {
-        Ok(checked) => checked,
-        Err(FrontError::Fault(fault)) => return Err(CheckRefusal::Fault(fault)),
-        Err(FrontError::OutOfMemory) => return Err(CheckRefusal::OutOfMemory),
-    };
-    let file = checked.typed().file();
-    let call = match call_of(alloc, file, check) {
-        Ok(call) => call,
-        Err(CallRefusal::UnknownEntry) => return Err(CheckRefusal::UnknownEntry),
-        Err(CallRefusal::ArgumentUnfit) => return Err(CheckRefusal::ArgumentUnfit),
-        Err(CallRefusal::OutOfMemory) => return Err(CheckRefusal::OutOfMemory),
-    };
-    let image = match compile(rt, alloc, &checked, 1, gate) {
-        Ok(image) => image,
-        Err(BuildError::TooLarge(large)) => return Err(CheckRefusal::TooLarge(large)),
-        Err(BuildError::OutOfMemory) => return Err(CheckRefusal::OutOfMemory),
-    };
-    let layout = match layout(alloc, &image) {
-        Ok(layout) => layout,
-        Err(_) => return Err(CheckRefusal::OutOfMemory),
-    };
-    match outcome_of_run(alloc, file, &layout, &call, check.fuel) {
-        Ok(outcome) => Ok(Trial { image, outcome }),
+    let ready = made_ready(rt, alloc, text, check, gate)?;
+    let file = ready.checked.typed().file();
+    match outcome_of_run(alloc, file, &ready.layout, &ready.call, check.fuel) {
+        Ok(outcome) => Ok(Trial {
+            image: ready.image,
+            outcome,
+        }),
         Err(_) => Err(CheckRefusal::OutOfMemory),
     }
 }

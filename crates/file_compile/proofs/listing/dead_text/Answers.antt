@@ -1,9 +1,7 @@
-use Rattle.std.proofs.Common.{subst}
 use Rattle.std.proofs.lemmas.Result.{IfOk-weaker}
 use Rattle.cmm_tree.specs.View.{function_view}
-use Rattle.mach_ir.specs.declared.mach.Mach.{Mach}
 use Rattle.mach_passes.specs.Stages.{IsCleaned}
-use Rattle.file_compile.proofs.Passing.{preparable}
+use Rattle.file_compile.proofs.Passing.{preparable, of_selected_text}
 use Rattle.file_compile.proofs.listing.dead_text.Goals as goal
 
 pub without_dead-requires : goal.without_dead-requires
@@ -12,10 +10,5 @@ without_dead-requires c = preparable (function_view c.args.function.now) c.requi
 pub returns : goal.returns
 returns c =
     IfOk-weaker c.text.result _ _
-    (λ text spelled.
-    record {
-      made = c.in_ok-passed.passed;
-      is = subst (λ (m : Mach). IsCleaned m c.in_ok-passed.passed) c.in_ok-mach.ensures c.in_ok-passed.ensures;
-      spelled = spelled;
-    })
+    (λ text spelled. of_selected_text IsCleaned (function_view c.args.function.now) _ _ _ c.in_ok-mach.ensures c.in_ok-passed.ensures spelled)
     c.text.ensures

@@ -1,9 +1,7 @@
-use Rattle.std.proofs.Common.{subst}
 use Rattle.std.proofs.lemmas.Result.{IfOk-weaker}
 use Rattle.cmm_tree.specs.View.{function_view}
-use Rattle.mach_ir.specs.declared.mach.Mach.{Mach}
 use Rattle.mach_passes.specs.Stages.{HasNoRepeats}
-use Rattle.file_compile.proofs.Passing.{preparable}
+use Rattle.file_compile.proofs.Passing.{preparable, of_selected_text}
 use Rattle.file_compile.proofs.listing.repeats_text.Goals as goal
 
 pub without_repeats-requires : goal.without_repeats-requires
@@ -12,10 +10,5 @@ without_repeats-requires c = preparable (function_view c.args.function.now) c.re
 pub returns : goal.returns
 returns c =
     IfOk-weaker c.text.result _ _
-    (λ text spelled.
-    record {
-      made = c.in_ok-passed.passed;
-      is = subst (λ (m : Mach). HasNoRepeats m c.in_ok-passed.passed) c.in_ok-mach.ensures c.in_ok-passed.ensures;
-      spelled = spelled;
-    })
+    (λ text spelled. of_selected_text HasNoRepeats (function_view c.args.function.now) _ _ _ c.in_ok-mach.ensures c.in_ok-passed.ensures spelled)
     c.text.ensures

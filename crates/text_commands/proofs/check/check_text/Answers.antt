@@ -1,66 +1,34 @@
-use Rattle.std.proofs.Common.{◌≡◌, Err, refl, ap, ◌∙◌, subst, arith}
+use Rattle.std.proofs.Common.{◌≡◌, refl, ap, ◌∙◌}
 use Rattle.cmm_eval.specs.Views.{layout_view}
 use Rattle.cmm_front.specs.FileOf.{tree_of}
 use Rattle.cmm_meaning.specs.Layout.{Layout}
 use Rattle.cmm_tree.specs.Tree.{FileTree}
 use Rattle.cmm_tree.specs.View.{file_view}
 use Rattle.cmm_walks.specs.Checked.{typed_of}
-use Rattle.command_line.specs.View.{check_view}
-use Rattle.file_compile.proofs.Promised.{all_bytes}
 use Rattle.image_form.specs.Tables.{tables}
 use Rattle.text_commands.proofs.Passing.{only_made}
-use Rattle.text_commands.proofs.Compiled.{too_large_to_check}
-use Rattle.text_commands.specs.Arguments.{NamesNone, IsCall}
 use Rattle.text_commands.specs.Check.{told_of_run}
 use Rattle.text_commands.proofs.check.check_text.Goals as goal
 
--- its file is the text's, so that it is an accepted one
-pub compile-requires-clause-accepted : goal.compile-requires-clause-accepted
-compile-requires-clause-accepted g c = λ lifetimes outlive. record {
-  text = c.args.text.now;
-  are_bytes = all_bytes c.args.text.now (λ i. omega (arith, c.type_inv.text i));
-  is_file = c.in-Ok.ensures.file;
-}
-
-pub returns-in-Err-UnknownEntry-clause-refused : goal.returns-in-Err-UnknownEntry-clause-refused
-returns-in-Err-UnknownEntry-clause-refused g c =
-    let same : file_view c.file-file.result.now ≡ tree_of (typed_of c.in-Ok.checked) = rw (c.file-file.ensures, c.typed.ensures) refl in
-    record {
-      file = tree_of (typed_of c.in-Ok.checked);
-      is_file = c.in-Ok.ensures.file;
-      none =
-          subst (λ (f : FileTree). NamesNone f c.args.check.now.entry) same
-          (rw c.in-Err-UnknownEntry.field-0-is at c.in-Err-UnknownEntry.ensures.refused);
-    }
-
-pub returns-in-Ok-told_of_run-clause-told : goal.returns-in-Ok-told_of_run-clause-told
-returns-in-Ok-told_of_run-clause-told g c =
-    let file = tree_of (typed_of c.in-Ok.checked) in
-    let call = c.in-Ok-call_of.call in
-    let image = tables c.in-Ok-compile.image in
+pub returns-in-Ok-clause-told : goal.returns-in-Ok-clause-told
+returns-in-Ok-clause-told g c =
+    let r = c.in_ok-ready.ready in
+    let is = c.in_ok-ready.ensures.ready in
+    let file = tree_of (typed_of r.checked) in
+    let image = tables r.image in
     let same : file_view c.file-file.result.now ≡ file = rw (c.file-file.ensures, c.typed.ensures) refl in
     record {
       file = file;
-      is_file = c.in-Ok.ensures.file;
-      entry = call.entry;
-      args = call.args.items;
-      answers = call.answers.items;
-      call = subst (λ (f : FileTree). IsCall (check_view c.args.check.now) f call.entry call.args.items call.answers.items) same c.in-Ok-call_of.ensures.call;
+      is_file = is.is_file;
+      entry = r.call.entry;
+      args = r.call.args.items;
+      answers = r.call.answers.items;
+      call = is.call;
       image = image;
-      made = only_made file image c.in-Ok-compile.ensures.made;
-      fits = c.in-Ok-compile.ensures.fits;
+      made = only_made file image is.made;
+      fits = is.fits;
       told =
-          c.in-Ok-told_of_run.ensures
-          ∙ ap (λ (f : FileTree). told_of_run f (layout_view c.in-Ok-layout.layout) call.entry call.args.items call.answers.items c.args.check.now.fuel) same
-          ∙ ap (λ (l : Layout). told_of_run file l call.entry call.args.items call.answers.items c.args.check.now.fuel) c.in-Ok-layout.ensures;
+          c.in-Ok.ensures
+          ∙ ap (λ (f : FileTree). told_of_run f (layout_view r.layout) r.call.entry r.call.args.items r.call.answers.items c.args.check.now.fuel) same
+          ∙ ap (λ (l : Layout). told_of_run file l r.call.entry r.call.args.items r.call.answers.items c.args.check.now.fuel) c.in_ok-ready.ensures.layout;
     }
-
-pub returns-in-Err-TooLarge-clause-refused : goal.returns-in-Err-TooLarge-clause-refused
-returns-in-Err-TooLarge-clause-refused g c =
-    let file = tree_of (typed_of c.in-Ok.checked) in
-    let call = c.in-Ok-call_of.call in
-    let same : file_view c.file-file.result.now ≡ file = rw (c.file-file.ensures, c.typed.ensures) refl in
-    let called : IsCall (check_view c.args.check.now) file call.entry call.args.items call.answers.items =
-    subst (λ (f : FileTree). IsCall (check_view c.args.check.now) f call.entry call.args.items call.answers.items) same c.in-Ok-call_of.ensures.call in
-    rw c.in-Err-TooLarge.field-0-is (too_large_to_check (check_view c.args.check.now) c.args.text.now file c.in-Err-TooLarge.large call.entry call.args.items call.answers.items c.in-Ok.ensures.file
-    called (c.in-Err-TooLarge.ensures.large c.in-Err-TooLarge.large (ap Err c.in-Err-TooLarge.field-0-is)))

@@ -1,0 +1,84 @@
+//! A text with its image and a call of one of its functions, ready to be run by its meaning.
+ghost use Rattle.std.specs.Prelude.{◌≡◌, IfOk, IfErr};
+ghost use Rattle.cmm_eval.specs.Views.{layout_view};
+ghost use Rattle.cmm_front.specs.FileOf.{HasPlace, HoldsTypes, tree_of};
+ghost use Rattle.cmm_walks.specs.Checked.{typed_of};
+ghost use Rattle.command_line.specs.View.{check_view};
+ghost use Rattle.correctness.specs.Setting.{layout_of};
+ghost use Rattle.image_form.specs.Image.{IsImage};
+ghost use Rattle.image_form.specs.Tables.{tables};
+ghost use Rattle.text_commands.specs.CheckRefusal.{IsCheckRefusal};
+ghost use Rattle.text_commands.specs.Ready.{IsReady};
+
+use crate::call::{CallRefusal, FileCall, call_of};
+use crate::check::CheckRefusal;
+use bs_fault::{BuildError, FrontError};
+use cmm_eval::Layout;
+use cmm_front::front;
+use cmm_walks::Checked;
+use command_line::CheckWords;
+use file_compile::{Gate, compile, layout};
+use image_form::Image;
+use std::alloc::Global;
+use std::thread::Threads;
+
+/// The file of a text, the call that words ask for, and what is taken from the text's image for its run.
+#[derive(Drop)]
+pub struct Ready {
+    pub checked: Checked,
+    pub call: FileCall,
+    pub image: Image,
+    /// The frames and addresses of the functions in the image.
+    pub layout: Layout,
+}
+
+/// The text made ready for the run that the words ask for. It is compiled by one job.
+///
+/// # Errors
+///
+/// `Fault` exactly where the text has a fault, with the one that is reported; else `UnknownEntry` exactly where it has
+/// no function of the entry's name; else `ArgumentUnfit` exactly where the words do not suit that function; else
+/// `TooLarge` exactly where a section of its image passes its limit, with the first that does. `OutOfMemory` where
+/// memory ran out before the answer is known.
+pub fn made_ready<R: Threads + Sync, G: Gate + Sync>(
+    rt: &R,
+    alloc: Global,
+    text: &[u8],
+    check: &CheckWords,
+    gate: &G,
+) -> Result<Ready, CheckRefusal>
+    ensures ready { IfOk result (λ r.
+        IsReady (check_view check.now) text.now (tree_of (typed_of r.checked)) r.call.entry
+        r.call.args.items r.call.answers.items (tables r.image)) }
+    ensures typed { IfOk result (λ r. HoldsTypes (typed_of r.checked)) }
+    ensures placed { IfOk result (λ r. HasPlace (typed_of r.checked)) }
+    ensures is_image { IfOk result (λ r. IsImage r.image) }
+    ensures layout { IfOk result (λ r. layout_view r.layout ≡ layout_of (tables r.image)) }
+    ensures refused { IfErr result (λ r. IsCheckRefusal (check_view check.now) text.now r) }
+{
+    let checked = match front(alloc, text) {
+        Ok(checked) => checked,
+        Err(FrontError::Fault(fault)) => return Err(CheckRefusal::Fault(fault)),
+        Err(FrontError::OutOfMemory) => return Err(CheckRefusal::OutOfMemory),
+    };
+    let call = match call_of(alloc, checked.typed().file(), check) {
+        Ok(call) => call,
+        Err(CallRefusal::UnknownEntry) => return Err(CheckRefusal::UnknownEntry),
+        Err(CallRefusal::ArgumentUnfit) => return Err(CheckRefusal::ArgumentUnfit),
+        Err(CallRefusal::OutOfMemory) => return Err(CheckRefusal::OutOfMemory),
+    };
+    let image = match compile(rt, alloc, &checked, 1, gate) {
+        Ok(image) => image,
+        Err(BuildError::TooLarge(large)) => return Err(CheckRefusal::TooLarge(large)),
+        Err(BuildError::OutOfMemory) => return Err(CheckRefusal::OutOfMemory),
+    };
+    match layout(alloc, &image) {
+        Ok(layout) => Ok(Ready {
+            checked,
+            call,
+            image,
+            layout,
+        }),
+        Err(_) => Err(CheckRefusal::OutOfMemory),
+    }
+}
