@@ -2,9 +2,10 @@
 //! function keeps.
 //!
 //! Where a move's target is read later in its straight run, and neither register has been written since,
-//! its source is read instead: copy propagation, of a block. Both functions run in step, over the same
-//! registers. More is live in the second only between a move and a read of its target, where its source
-//! is not written, and no frame point loses it.
+//! its source is read instead: copy propagation, within straight runs, between registers without places
+//! that hold values of one kind, and of an addr over no allocation. Both functions run in step, over the
+//! same registers. More is live in the second only between a move and a read of its target, where its
+//! source is not written, and no frame point loses it.
 //!
 //! The crate holds definitions and laws alone.
 #![tactic(auto)]
