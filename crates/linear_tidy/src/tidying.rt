@@ -15,8 +15,8 @@ use std::alloc::{AllocError, Global};
 ///
 /// Each location has to be a register of the machine or one of the function's slots. Walks are
 /// searched once. When lines went, walks still come to the others, so they are searched again only
-/// where a move of a location to itself went, which may have read what another moved. The only error is want of memory, which more lines or slots than a number can count
-/// are too.
+/// where a move of a location to itself went, which may have read what another moved. The only
+/// error is want of memory, which more lines or slots than a number can count are too.
 pub fn tidy(alloc: Global, lin: Lin) -> Result<Lin, AllocError>
     requires { AreNumbered lin }
     ensures { IfOk result (IsTidied lin) }
