@@ -136,10 +136,11 @@ has_all : {X : Type 0} (m : Lin) (now all first : ℕ → X) (k : ℕ) → lengt
 has_all m now all first k le nowhere h l =
     ⊎_elim (λ e. e) (λ y. y.0 ∙ nowhere l (stands_nowhere l m.code (λ p d lt. y.1 p d (omega (arith, lt, le)) lt))) (h.each l)
 
-pub own : ℕ → ℕ
+-- a label is its own target, and no exit is told of it
+abbrev pub own : ℕ → ℕ
 own l = l
 
-pub none_told : ℕ → Option ℕ
+abbrev pub none_told : ℕ → Option ℕ
 none_told l = None
 
 pub record TargetsSoFar (m : Lin) (t : Targets) (k : ℕ) : Type 0 where
