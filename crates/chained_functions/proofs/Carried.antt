@@ -1,6 +1,6 @@
 -- What is carried from a Mach function to its tidy lines: how many traps are pushed, its operations, and that no walk
 -- comes to the end of the code.
-use Rattle.std.proofs.Common.{◌≡◌, ℕ, zero, suc, ◌≤◌, Bool, true, false, cond, List, [], ◌∷◌, ◌++◌, length, map, nat_le, refl, sym, ap, ◌∙◌, subst, arith}
+use Rattle.std.proofs.Common.{◌≡◌, ℕ, zero, suc, ◌≤◌, Bool, true, false, cond, List, [], ◌∷◌, ◌++◌, length, map, nat_le, Option, refl, sym, ap, ◌∙◌, subst, arith}
 use Rattle.std.proofs.lemmas.Bool.{true≢false, eq-eqb}
 use Rattle.mach_ir.specs.Acts.{On, At, drop_tries}
 use Rattle.mach_ir.specs.Formed.{WellFormed}
@@ -108,7 +108,7 @@ tidied_shallow k (then_leaves {q = q} {r = r} t l) h =
     subst (IsShallow k) (sym l.is) (λ code tries x. comes_shallow more (left.source q l.goes l.each x).reached)
 tidied_shallow k (then_redirects {q = q} {r = r} t l) h =
     let more = tidied_shallow k t h in
-    subst (IsShallow k) (sym l.is) (λ code tries x. let y = turned.source q l.to l.each x in more y.code tries y.reached)
+    subst (IsShallow k) (sym l.is) (λ code tries x. let y = turned.source q l.to l.exits l.each l.out x in more y.code tries y.reached)
 
 -- ---- operations
 
@@ -122,8 +122,8 @@ tidied_named Named (then_leaves {q = q} t l) n =
 tidied_named Named (then_redirects {q = q} t l) n =
     tidied_named Named t
     (let x = subst (IsNamedIn Named) l.is n in
-    let y = line_was q l.to l.each x.line q.code (in_of x.line (map (redirect l.to) q.code) x.among) in
-    record { line = y.0; among = contains_of y.1; op = x.op; is = op_was q l.to l.each y.0.op x.op (ap (λ (j : Line). j.op) y.2 ∙ x.is); named = x.named })
+    let y = line_was q l.to l.exits l.each l.out x.line q.code (in_of x.line (map (redirect l.to l.exits) q.code) x.among) in
+    record { line = y.0; among = contains_of y.1; op = x.op; is = op_was q l.to l.exits l.each l.out y.0.op x.op (ap (λ (j : Line). j.op) y.2 ∙ x.is); named = x.named })
 
 -- ---- the end of the code
 
@@ -248,9 +248,9 @@ module _ (m : Lin) (goes : ℕ → Bool) (each : (i : Line) (next : List Line) �
   leaving_unended : IsUnended (with_code m (K m.code))
   leaving_unended tries r = let y = left.source m goes each r in ended y.code tries y.reached y.same
 
-no_turned : (to : ℕ → ℕ) (is : List Line) → map (redirect to) is ≡ [] → is ≡ []
-no_turned to [] e = refl
-no_turned to (i ∷ is) e = absurd (no_lines _ _ e)
+no_turned : (to : ℕ → ℕ) (exits : ℕ → Option ℕ) (is : List Line) → map (redirect to exits) is ≡ [] → is ≡ []
+no_turned to exits [] e = refl
+no_turned to exits (i ∷ is) e = absurd (no_lines _ _ e)
 
 -- The tidy function is left as the first is.
 pub tidied_unended : {m r : Lin} → Tidies m r → IsUnended m → IsUnended r
@@ -259,4 +259,4 @@ tidied_unended (then_leaves {q = q} t l) h = subst IsUnended (sym l.is) (leaving
 tidied_unended (then_redirects {q = q} t l) h =
     let more = tidied_unended t h in
     subst IsUnended (sym l.is)
-    (λ tries r. let y = turned.source q l.to l.each r in more tries (subst (λ code. Reached q code tries) (no_turned l.to y.code y.same) y.reached))
+    (λ tries r. let y = turned.source q l.to l.exits l.each l.out r in more tries (subst (λ code. Reached q code tries) (no_turned l.to l.exits y.code y.same) y.reached))

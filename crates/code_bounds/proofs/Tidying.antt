@@ -1,5 +1,5 @@
 -- Words and frame points do not grow where registers get places, where code is lowered, and where lines are tidied.
-use Rattle.std.proofs.Common.{◌≡◌, ℕ, zero, suc, ◌+◌, ◌*◌, ◌≤◌, Bool, true, false, cond, List, [], ◌∷◌, length, map, refl, sym, ap, subst, arith}
+use Rattle.std.proofs.Common.{◌≡◌, ℕ, zero, suc, ◌+◌, ◌*◌, ◌≤◌, Bool, true, false, cond, List, [], ◌∷◌, length, map, Option, refl, sym, ap, subst, arith}
 use Rattle.std.proofs.lemmas.List.{length-map}
 use Rattle.mach_ir.specs.declared.mach.Instr.{Instr}
 use Rattle.mach_ir.specs.declared.mach.Mach.{Mach}
@@ -21,6 +21,7 @@ use Rattle.lin_ir.specs.declared.lin.Lin.{Lin}
 use Rattle.linear_rules.specs.Lowered.{is_idle, pops, bare, line_of, spot, lines_of_mark, lines_of, lowered_one, lowered_code, slot_number, lowered}
 use Rattle.tidy_rules.specs.Leaving.{without}
 use Rattle.tidy_rules.specs.Redirecting.{redirected, redirect, Tidies, as_it_is, then_leaves, then_redirects}
+use Rattle.tidy_rules.proofs.Redirecting.{jump_same, same_frame}
 use Rattle.code_bounds.specs.Lines as lines
 use Rattle.code_bounds.specs.Lines.{lines_words}
 
@@ -145,30 +146,24 @@ without_no_larger goes (i ∷ next) = by (goes (length next)) (without_no_larger
         let there = points_next i (without goes next) in
         record { words = omega (arith, words); points = omega (arith, points, here, there) }
 
-redirected_words : (to : ℕ → ℕ) (f : LinOp) (n : ℕ) → lines.words_with (redirected to f) n ≡ lines.words_with f n
-redirected_words to (lin.Op f) n = refl
-redirected_words to (lin.Flow (flow.Jump l)) n = refl
-redirected_words to (lin.Flow (flow.Exit l)) n = refl
-redirected_words to (lin.Flow (flow.Branch test l)) n = refl
-redirected_words to (lin.Flow f) n = refl
+-- a jump and an exit are as many words
+redirected_words : (to : ℕ → ℕ) (exits : ℕ → Option ℕ) (f : LinOp) (n : ℕ) → lines.words_with (redirected to exits f) n ≡ lines.words_with f n
+redirected_words to exits (lin.Op f) n = refl
+redirected_words to exits (lin.Flow (flow.Jump l)) n = jump_same (λ f. lines.words_with f n) _ (λ l. refl) (λ l. refl) (exits l) (to l)
+redirected_words to exits (lin.Flow (flow.Exit l)) n = refl
+redirected_words to exits (lin.Flow (flow.Branch test l)) n = refl
+redirected_words to exits (lin.Flow f) n = refl
 
-redirected_passes : (to : ℕ → ℕ) (f : LinOp) → passes_frame (redirected to f) ≡ passes_frame f
-redirected_passes to (lin.Op f) = refl
-redirected_passes to (lin.Flow (flow.Jump l)) = refl
-redirected_passes to (lin.Flow (flow.Exit l)) = refl
-redirected_passes to (lin.Flow (flow.Branch test l)) = refl
-redirected_passes to (lin.Flow f) = refl
-
-redirect_no_larger : (to : ℕ → ℕ) (code : List Line) → NoLarger (map (redirect to) code) code
-redirect_no_larger to [] = record { words = omega arith; points = omega arith }
-redirect_no_larger to (i ∷ next) =
-    let others = redirect_no_larger to next in
+redirect_no_larger : (to : ℕ → ℕ) (exits : ℕ → Option ℕ) (code : List Line) → NoLarger (map (redirect to exits) code) code
+redirect_no_larger to exits [] = record { words = omega arith; points = omega arith }
+redirect_no_larger to exits (i ∷ next) =
+    let others = redirect_no_larger to exits next in
     let words = others.words in
     let points = others.points in
-    let own = redirected_words to i.op (length i.results) in
+    let own = redirected_words to exits i.op (length i.results) in
     let here = points_next i next in
-    let there = points_next (redirect to i) (map (redirect to) next) in
-    let same = ap one_if (redirected_passes to i.op) in
+    let there = points_next (redirect to exits i) (map (redirect to exits) next) in
+    let same = ap one_if (same_frame to exits i.op) in
     record { words = omega (arith, words, own); points = omega (arith, points, here, there, same) }
 
 pub tidied_no_larger : {m r : Lin} → Tidies m r → NoLarger r.code m.code
@@ -176,7 +171,7 @@ tidied_no_larger as_it_is = record { words = omega arith; points = omega arith }
 tidied_no_larger {m} (then_leaves {q = q} t l) =
     subst (λ (r : Lin). NoLarger r.code m.code) (sym l.is) (no_larger_then (without_no_larger l.goes q.code) (tidied_no_larger t))
 tidied_no_larger {m} (then_redirects {q = q} t l) =
-    subst (λ (r : Lin). NoLarger r.code m.code) (sym l.is) (no_larger_then (redirect_no_larger l.to q.code) (tidied_no_larger t))
+    subst (λ (r : Lin). NoLarger r.code m.code) (sym l.is) (no_larger_then (redirect_no_larger l.to l.exits q.code) (tidied_no_larger t))
 
 -- ---- all three
 

@@ -11,7 +11,7 @@ use Rattle.lin_laws.specs.Graph.{HaveNumbers, AreNumbered}
 use Rattle.linear_rules.proofs.Lines.{all_of}
 use Rattle.linear_rules.proofs.Marks.{all_in}
 use Rattle.tidy_rules.specs.Leaving.{IsUseless, without, with_code, LeavesOut, LeavesOften, not_once, once_more}
-use Rattle.tidy_rules.specs.Redirecting.{redirect, last_label, redirected_all}
+use Rattle.tidy_rules.specs.Redirecting.{redirect, last_label, last_exit, redirected_all}
 use Rattle.tidy_rules.specs.Regular.{IsReadBehind, IsTidy}
 use Rattle.tidy_rules.specs.Tidied.{IsTidied, IsUseful}
 use Rattle.tidy_rules.proofs.Leaving.{in_code, first_same}
@@ -256,8 +256,8 @@ redirected_numbered m r is numbered =
     let Results : Line → Type 0 = λ i. HaveNumbers m.slots i.results in
     subst AreNumbered (sym is)
     (record {
-      args = all_map (redirect (last_label m)) Args m.code (λ i z. all_in Args numbered.args z);
-      results = all_map (redirect (last_label m)) Results m.code (λ i z. all_in Results numbered.results z);
+      args = all_map (redirect (last_label m) (last_exit m)) Args m.code (λ i z. all_in Args numbered.args z);
+      results = all_map (redirect (last_label m) (last_exit m)) Results m.code (λ i z. all_in Results numbered.results z);
     })
 
 pub first_round : (m now : Lin) (flags : List Bool) → now ≡ redirected_all m → AreNumbered m → AreFlags now flags → Round m now flags

@@ -2,63 +2,83 @@
 use Rattle.std.proofs.Common.{◌≡◌, ℕ, zero, suc, ◌+◌, ◌-◌, ◌<◌, ◌≤◌, cond, Bool, true, false, ◌⊎◌, inl, inr, ⊎_elim, List, [], ◌∷◌, Option, Some, None, drop, length, get_or, refl, sym, ap, ◌∙◌, arith}
 use Rattle.std.proofs.lemmas.Bool.{cases_lt}
 use Rattle.std.proofs.lemmas.List.{get_or_default, length-drop}
-use Rattle.std.specs.Option.{unwrap_or}
+use Rattle.std.specs.Option.{unwrap_or, option_map}
 use Rattle.std.specs.Prelude.{slice_index_or}
 use Rattle.lin_ir.specs.Meaning.{has_label, after_label}
+use Rattle.lin_ir.specs.declared.lin.Flow.{Flow}
 use Rattle.lin_ir.specs.declared.lin.Flow.TheVariants as flow
+use Rattle.lin_ir.specs.declared.lin.LinOp.{LinOp}
 use Rattle.lin_ir.specs.declared.lin.Line.{Line}
 use Rattle.lin_ir.specs.declared.lin.Lin.{Lin}
+use Rattle.lin_ir.specs.declared.lin.Spot.{Spot}
 use Rattle.lin_laws.proofs.Places.{ends_label, place_is}
 use Rattle.lin_flow.specs.Labels.{place_in, AreLabelsOf}
 use Rattle.lin_flow.specs.declared.labels.Labels.{Labels}
 use Rattle.tidy_rules.specs.Leaving.{bare}
-use Rattle.tidy_rules.specs.Redirecting.{is_label, jumps_to, leads_to, next_label, followed, last_label}
-use Rattle.tidy_rules.proofs.Following.{label_is, jump_is}
+use Rattle.tidy_rules.specs.Redirecting.{is_label, first_goes, leads_to, leaves_to, next_label, followed, last_label, last_exit}
+use Rattle.tidy_rules.proofs.Following.{line, label_is}
 use Rattle.linear_tidy.proofs.Between.{drop_line}
-use Rattle.linear_tidy.specs.Targets.{target_in, AreTargets}
+use Rattle.linear_tidy.specs.Targets.{target_in, exit_in, AreTargets}
 use Rattle.linear_tidy.specs.declared.redirecting.Targets.{Targets}
 
 -- ---- from a place on
 
-no_lines : (code : List Line) → length code ≡ 0 → leads_to code ≡ None
-no_lines [] e = refl
-no_lines (i ∷ is) e = absurd (omega (arith, e))
+-- what is told of the first line that is no label
+module _ (told : LinOp → (args results : List Spot) → Option ℕ) where
+  no_lines : (code : List Line) → length code ≡ 0 → first_goes told code ≡ None
+  no_lines [] e = refl
+  no_lines (i ∷ is) e = absurd (omega (arith, e))
 
-pub leads_past : (code : List Line) (k : ℕ) → length code ≤ k → leads_to (drop k code) ≡ None
-leads_past code k le = let e = length-drop k code in no_lines (drop k code) (omega (arith, e, le))
+  pub first_past : (code : List Line) (k : ℕ) → length code ≤ k → first_goes told (drop k code) ≡ None
+  first_past code k le = let e = length-drop k code in no_lines (drop k code) (omega (arith, e, le))
+
+  pub first_later : (code : List Line) (k : ℕ) (i : Line) → k < length code → i ≡ get_or code k i → (l : ℕ) × (i ≡ bare (flow.Label l)) →
+      first_goes told (drop k code) ≡ first_goes told (drop (k + 1) code)
+  first_later code k i lt e label = ap (first_goes told) (drop_line code k i lt e ∙ ap (λ j. j ∷ drop (k + 1) code) label.1)
+
+  module _ (goes : ℕ → Flow) (is : (l : ℕ) (f : LinOp) (args results : List Spot) → told f args results ≡ Some l → line f args results ≡ bare (goes l)) where
+    no_such : (i : Line) → ((l : ℕ) → i ≡ bare (goes l) → ⊥) → told i.op i.args i.results ≡ None
+    no_such i out = by (told i.op i.args i.results) refl
+      where
+        by : (o : Option ℕ) → told i.op i.args i.results ≡ o → told i.op i.args i.results ≡ None
+        by None e = e
+        by (Some l) e = absurd (out l (is l i.op i.args i.results e))
+
+    pub first_nowhere : (code : List Line) (k : ℕ) (i : Line) → k < length code → i ≡ get_or code k i → ((l : ℕ) × (i ≡ bare (flow.Label l)) → ⊥) →
+        ((l : ℕ) → i ≡ bare (goes l) → ⊥) → first_goes told (drop k code) ≡ None
+    first_nowhere code k i lt e low out = ap (first_goes told) (drop_line code k i lt e) ∙ by (is_label i.op i.args i.results) refl
+      where
+        by : (b : Bool) → is_label i.op i.args i.results ≡ b →
+            cond b (first_goes told (drop (k + 1) code)) (told i.op i.args i.results) ≡ None
+        by true s = absurd (low (label_is i.op i.args i.results s))
+        by false s = no_such i out
 
 pub leads_now : (code : List Line) (k n : ℕ) (i : Line) → k < length code → i ≡ get_or code k i → i ≡ bare (flow.Jump n) → leads_to (drop k code) ≡ Some n
 leads_now code k n i lt e is = ap leads_to (drop_line code k i lt e ∙ ap (λ j. j ∷ drop (k + 1) code) is)
 
-pub leads_later : (code : List Line) (k : ℕ) (i : Line) → k < length code → i ≡ get_or code k i → (l : ℕ) × (i ≡ bare (flow.Label l)) →
-    leads_to (drop k code) ≡ leads_to (drop (k + 1) code)
-leads_later code k i lt e label = ap leads_to (drop_line code k i lt e ∙ ap (λ j. j ∷ drop (k + 1) code) label.1)
-
-no_jump : (i : Line) → ((l : ℕ) → i ≡ bare (flow.Jump l) → ⊥) → jumps_to i.op i.args i.results ≡ None
-no_jump i out = by (jumps_to i.op i.args i.results) refl
-  where
-    by : (o : Option ℕ) → jumps_to i.op i.args i.results ≡ o → jumps_to i.op i.args i.results ≡ None
-    by None e = e
-    by (Some l) e = absurd (out l (jump_is l i.op i.args i.results e))
-
-pub leads_nowhere : (code : List Line) (k : ℕ) (i : Line) → k < length code → i ≡ get_or code k i → ((l : ℕ) × (i ≡ bare (flow.Label l)) → ⊥) →
-    ((l : ℕ) → i ≡ bare (flow.Jump l) → ⊥) → leads_to (drop k code) ≡ None
-leads_nowhere code k i lt e low out = ap leads_to (drop_line code k i lt e) ∙ by (is_label i.op i.args i.results) refl
-  where
-    by : (b : Bool) → is_label i.op i.args i.results ≡ b →
-        cond b (leads_to (drop (k + 1) code)) (jumps_to i.op i.args i.results) ≡ None
-    by true s = absurd (low (label_is i.op i.args i.results s))
-    by false s = no_jump i out
+pub leaves_now : (code : List Line) (k n : ℕ) (i : Line) → k < length code → i ≡ get_or code k i → i ≡ bare (flow.Exit n) → leaves_to (drop k code) ≡ Some n
+leaves_now code k n i lt e is = ap leaves_to (drop_line code k i lt e ∙ ap (λ j. j ∷ drop (k + 1) code) is)
 
 -- ---- one jump after the other
 
--- the label to which one jumps from a label, by the places of labels
+-- the code after a label, by the places of labels
+after_is : (m : Lin) (labels : Labels) (slice : List Line) (l place : ℕ) → AreLabelsOf m labels → slice ≡ m.code → place ≡ place_in labels l →
+    drop place slice ≡ after_label l m.code
+after_is m labels slice l place table same at =
+    ap (drop place) same ∙ ap (λ p. drop p m.code) (at ∙ table.each l) ∙ place_is m (ends_label l m.code)
+
+-- the label to which one jumps from a label
 pub next_is : (m : Lin) (labels : Labels) (slice : List Line) (l place : ℕ) (o : Option ℕ) → AreLabelsOf m labels → slice ≡ m.code →
     place ≡ place_in labels l → o ≡ leads_to (drop place slice) → next_label m l ≡ unwrap_or o l
 next_is m labels slice l place o table same at e =
-    let there : drop place slice ≡ after_label l m.code =
-    ap (drop place) same ∙ ap (λ p. drop p m.code) (at ∙ table.each l) ∙ place_is m (ends_label l m.code) in
-    ap (λ o. unwrap_or o l) (sym (e ∙ ap leads_to there))
+    ap (λ o. unwrap_or o l) (sym (e ∙ ap leads_to (after_is m labels slice l place table same at)))
+
+-- and the exit there
+pub exit_is_at : (m : Lin) (labels : Labels) (slice : List Line) (l last place : ℕ) (o : Option ℕ) → AreLabelsOf m labels → slice ≡ m.code →
+    last ≡ last_label m l → place ≡ place_in labels last → o ≡ leaves_to (drop place slice) → option_map (last_label m) o ≡ last_exit m l
+exit_is_at m labels slice l last place o table same is at e =
+    ap (option_map (last_label m))
+    (e ∙ ap leaves_to (after_is m labels slice last place table same at) ∙ ap (λ k. leaves_to (after_label k m.code)) is)
 
 followed_stays : (m : Lin) (n l : ℕ) → next_label m l ≡ l → followed m n l ≡ l
 followed_stays m zero l e = refl
@@ -78,23 +98,23 @@ followed_out m n k l last le h = let none : n - k ≡ 0 = omega (arith, le) in s
 
 -- ---- the table
 
--- each label has its target, or is its own and stands at none of the first k lines
-pub record TargetsSoFar (m : Lin) (t : Targets) (k : ℕ) : Type 0 where
-  pub each : (l : ℕ) → (target_in t l ≡ last_label m l) ⊎
-      ((target_in t l ≡ l) × ((p : ℕ) (d : Line) → p < k → p < length m.code → has_label l (slice_index_or m.code p d).op ≡ false))
+-- it stands at none of the first k lines
+abbrev StandsNot : Lin → ℕ → ℕ → Type 0
+StandsNot m k l = (p : ℕ) (d : Line) → p < k → p < length m.code → has_label l (slice_index_or m.code p d).op ≡ false
 
-pub targets_begun : (m : Lin) (t : Targets) → ((l : ℕ) → target_in t l ≡ l) → TargetsSoFar m t 0
-targets_begun m t own = record { each = λ l. inr (own l, λ p d lt. absurd (omega (arith, lt))) }
+-- each label has what it is to have, or stands at none of the first k lines and has what it has at first
+pub record HasSoFar {X : Type 0} (m : Lin) (k : ℕ) (now all first : ℕ → X) : Type 0 where
+  pub each : (l : ℕ) → (now l ≡ all l) ⊎ ((now l ≡ first l) × StandsNot m k l)
 
-pub targets_more : (m : Lin) (old new : Targets) (k : ℕ) (i : Line) → i ≡ get_or m.code k i →
-    ((l : ℕ) → target_in new l ≡ cond (has_label l i.op) (last_label m l) (target_in old l)) → TargetsSoFar m old k → TargetsSoFar m new (k + 1)
-targets_more m old new k i at made h = record { each = λ l. by l (has_label l i.op) refl (made l) (h.each l) }
+has_begun : {X : Type 0} (m : Lin) (now all first : ℕ → X) → ((l : ℕ) → now l ≡ first l) → HasSoFar m 0 now all first
+has_begun m now all first own = record { each = λ l. inr (own l, λ p d lt. absurd (omega (arith, lt))) }
+
+has_more : {X : Type 0} (m : Lin) (old new all first : ℕ → X) (k : ℕ) (i : Line) → i ≡ get_or m.code k i →
+    ((l : ℕ) → new l ≡ cond (has_label l i.op) (all l) (old l)) → HasSoFar m k old all first → HasSoFar m (k + 1) new all first
+has_more m old new all first k i at made h = record { each = λ l. by l (has_label l i.op) refl (made l) (h.each l) }
   where
-    by : (l : ℕ) (b : Bool) → has_label l i.op ≡ b → target_in new l ≡ cond b (last_label m l) (target_in old l) →
-        (target_in old l ≡ last_label m l) ⊎ ((target_in old l ≡ l) × ((p : ℕ) (d : Line) → p < k → p < length m.code →
-        has_label l (slice_index_or m.code p d).op ≡ false)) →
-        (target_in new l ≡ last_label m l) ⊎ ((target_in new l ≡ l) × ((p : ℕ) (d : Line) → p < k + 1 → p < length m.code →
-        has_label l (slice_index_or m.code p d).op ≡ false))
+    by : (l : ℕ) (b : Bool) → has_label l i.op ≡ b → new l ≡ cond b (all l) (old l) → (old l ≡ all l) ⊎ ((old l ≡ first l) × StandsNot m k l) →
+        (new l ≡ all l) ⊎ ((new l ≡ first l) × StandsNot m (k + 1) l)
     by l true s e h = inl e
     by l false s e (inl h) = inl (e ∙ h)
     by l false s e (inr h) = inr (e ∙ h.0, λ p d lt in_code. ⊎_elim (λ less. h.1 p d less in_code) (λ le. here p d lt in_code le) (cases_lt p k))
@@ -111,14 +131,46 @@ stands_nowhere l [] none = refl
 stands_nowhere l (i ∷ is) none =
     ap (λ b. cond b is (after_label l is)) (none 0 i (omega arith)) ∙ stands_nowhere l is (λ p d lt. none (suc p) d (omega (arith, lt)))
 
+has_all : {X : Type 0} (m : Lin) (now all first : ℕ → X) (k : ℕ) → length m.code ≤ k → ((l : ℕ) → after_label l m.code ≡ [] → first l ≡ all l) →
+    HasSoFar m k now all first → (l : ℕ) → now l ≡ all l
+has_all m now all first k le nowhere h l =
+    ⊎_elim (λ e. e) (λ y. y.0 ∙ nowhere l (stands_nowhere l m.code (λ p d lt. y.1 p d (omega (arith, lt, le)) lt))) (h.each l)
+
+-- a label is its own target, and no exit is told of it
+abbrev pub own : ℕ → ℕ
+own l = l
+
+abbrev pub none_told : ℕ → Option ℕ
+none_told l = None
+
+pub record TargetsSoFar (m : Lin) (t : Targets) (k : ℕ) : Type 0 where
+  pub to : HasSoFar m k (target_in t) (last_label m) own
+  pub exits : HasSoFar m k (exit_in t) (last_exit m) none_told
+
+pub targets_begun : (m : Lin) (t : Targets) → ((l : ℕ) → target_in t l ≡ l) → ((l : ℕ) → exit_in t l ≡ None) → TargetsSoFar m t 0
+targets_begun m t to exits = record {
+  to = has_begun m (target_in t) (last_label m) own to;
+  exits = has_begun m (exit_in t) (last_exit m) none_told exits;
+}
+
+pub targets_more : (m : Lin) (old new : Targets) (k : ℕ) (i : Line) → i ≡ get_or m.code k i →
+    ((l : ℕ) → target_in new l ≡ cond (has_label l i.op) (last_label m l) (target_in old l)) →
+    ((l : ℕ) → exit_in new l ≡ cond (has_label l i.op) (last_exit m l) (exit_in old l)) → TargetsSoFar m old k → TargetsSoFar m new (k + 1)
+targets_more m old new k i at to exits h = record {
+  to = has_more m (target_in old) (target_in new) (last_label m) own k i at to h.to;
+  exits = has_more m (exit_in old) (exit_in new) (last_exit m) none_told k i at exits h.exits;
+}
+
+stays_nowhere : (m : Lin) (l : ℕ) → after_label l m.code ≡ [] → last_label m l ≡ l
+stays_nowhere m l none = followed_stays m (length m.code) l (ap (λ is. unwrap_or (leads_to is) l) none)
+
+exits_nowhere : (m : Lin) (l : ℕ) → after_label l m.code ≡ [] → None ≡ last_exit m l
+exits_nowhere m l none =
+    sym (ap (λ k. option_map (last_label m) (leaves_to (after_label k m.code))) (stays_nowhere m l none)
+    ∙ ap (λ is. option_map (last_label m) (leaves_to is)) none)
+
 pub targets_all : (m : Lin) (t : Targets) (k : ℕ) → length m.code ≤ k → TargetsSoFar m t k → AreTargets m t
-targets_all m t k le h = record { each = λ l. by l (h.each l) }
-  where
-    by : (l : ℕ) → (target_in t l ≡ last_label m l) ⊎ ((target_in t l ≡ l) × ((p : ℕ) (d : Line) → p < k → p < length m.code →
-        has_label l (slice_index_or m.code p d).op ≡ false)) →
-        target_in t l ≡ last_label m l
-    by l (inl h) = h
-    by l (inr h) =
-        let none : after_label l m.code ≡ [] = stands_nowhere l m.code (λ p d lt. h.1 p d (omega (arith, lt, le)) lt) in
-        let stays : next_label m l ≡ l = ap (λ is. unwrap_or (leads_to is) l) none in
-        h.0 ∙ sym (followed_stays m (length m.code) l stays)
+targets_all m t k le h = record {
+  to = has_all m (target_in t) (last_label m) own k le (λ l none. sym (stays_nowhere m l none)) h.to;
+  exits = has_all m (exit_in t) (last_exit m) none_told k le (exits_nowhere m) h.exits;
+}

@@ -129,6 +129,26 @@ pub fn jump_of(line: &Line) -> Option<u32>
     }
 }
 
+/// The label to which the line exits, if it is an exit.
+pub fn exit_of(line: &Line) -> Option<u32>
+    ensures { (l : ℕ) → (result ≡ Some l) ↔ (line.now ≡ bare (Flow.Exit l)) }
+{
+    if !has_no_spots(line) {
+        return None;
+    }
+    match &line.op {
+        LinOp::Flow(Flow::Exit(label)) => Some(*label),
+        LinOp::Flow(Flow::Label(_)) => None,
+        LinOp::Flow(Flow::Jump(_)) => None,
+        LinOp::Flow(Flow::Branch { test: _, label: _ }) => None,
+        LinOp::Flow(Flow::Switch(_)) => None,
+        LinOp::Flow(Flow::PushTrap(_)) => None,
+        LinOp::Flow(Flow::PopTrap) => None,
+        LinOp::Flow(Flow::EnterTrap) => None,
+        LinOp::Op(_) => None,
+    }
+}
+
 /// Whether the line is a label.
 pub fn is_label(line: &Line) -> bool
     ensures { IsTrue result ↔ ((l : ℕ) × (line.now ≡ bare (Flow.Label l))) }

@@ -1,11 +1,11 @@
 //! Jumps that go at once where others lead.
-ghost use Rattle.std.specs.Prelude.{◌≡◌, ◌<◌, ◌^◌, ℕ, cond, drop, length, map, nat_eq, IfOk};
+ghost use Rattle.std.specs.Prelude.{◌≡◌, ◌<◌, ◌^◌, ℕ, None, cond, drop, length, map, nat_eq, IfOk};
 ghost use Rattle.lin_ir.specs.Meaning.{has_label};
 ghost use Rattle.lin_flow.specs.Labels.{AreLabelsOf};
-ghost use Rattle.tidy_rules.specs.Redirecting.{redirected, redirect, leads_to, last_label, redirected_all};
-ghost use Rattle.linear_tidy.specs.Targets.{target_in, AreTargets};
+ghost use Rattle.tidy_rules.specs.Redirecting.{goes_by, redirected, redirect, leads_to, leaves_to, last_label, last_exit, redirected_all};
+ghost use Rattle.linear_tidy.specs.Targets.{target_in, exit_in, AreTargets};
 
-use crate::forms::{is_label, jump_of};
+use crate::forms::{exit_of, is_label, jump_of};
 use lin_flow::{Labels, number_after};
 use lin_ir::{Flow, Lin, LinOp, Line};
 use mach_ir::Seq;
@@ -19,6 +19,22 @@ fn jump_from(code: &[Line], place: usize) -> Option<u32>
     for at in place..code.len() {
         let line = &code[at];
         if let Some(label) = jump_of(line) {
+            return Some(label);
+        }
+        if !is_label(line) {
+            return None;
+        }
+    }
+    None
+}
+
+/// The label to which the first line from the place on that is no label exits, if it is an exit.
+fn exit_from(code: &[Line], place: usize) -> Option<u32>
+    ensures { result ≡ leaves_to (drop place code.now) }
+{
+    for at in place..code.len() {
+        let line = &code[at];
+        if let Some(label) = exit_of(line) {
             return Some(label);
         }
         if !is_label(line) {
@@ -46,51 +62,91 @@ fn last_label(lin: &Lin, labels: &Labels, label: u32) -> u32
     last
 }
 
+/// The label to which control goes on from a label by labels and jumps, one exit, and labels and
+/// jumps again.
+fn last_exit(lin: &Lin, labels: &Labels, label: u32) -> Option<u32>
+    requires { AreLabelsOf lin.now labels.now }
+    ensures { result ≡ last_exit lin.now label }
+{
+    let last = last_label(lin, labels, label);
+    match exit_from(lin.code.as_slice(), labels.place_of(last) as usize) {
+        None => None,
+        Some(out) => Some(last_label(lin, labels, out)),
+    }
+}
+
+/// Where control comes from a label.
+#[derive(Drop)]
+struct Way {
+    /// By labels and jumps alone.
+    label: u32,
+    /// By an exit that stands there, and labels and jumps again.
+    exit: Option<u32>,
+}
+
 /// Where jumps to labels go instead.
 #[derive(Drop)]
 pub struct Targets {
-    targets: BTreeMap<u32, u32>,
+    ways: BTreeMap<u32, Way>,
 }
 
 impl Targets {
     /// Every label is its own target.
     fn new(alloc: Global) -> Targets
-        ensures { (l : ℕ) → target_in result l ≡ l }
+        ensures to { (l : ℕ) → target_in result l ≡ l }
+        ensures exits { (l : ℕ) → exit_in result l ≡ None }
     {
         Targets {
-            targets: BTreeMap::new(alloc),
+            ways: BTreeMap::new(alloc),
         }
     }
 
-    /// Where jumps to the label go: to itself where nothing is known of it.
+    /// Where branches to the label go: to itself where nothing is known of it.
     fn target_of(&self, label: u32) -> u32
         ensures { result ≡ target_in self.now label }
     {
-        match self.targets.get(&label) {
+        match self.ways.get(&label) {
             None => label,
-            Some(target) => *target,
+            Some(way) => way.label,
         }
     }
 
-    /// Enters where jumps to the label go.
-    fn put(&mut self, label: u32, target: u32) -> Result<(), AllocError>
-        ensures { IfOk result (λ _. (l : ℕ) →
-            target_in self.new l ≡ cond (nat_eq label l) target (target_in self.old l)) }
+    /// Where jumps to the label exit, if they lead to an exit.
+    fn exit_of(&self, label: u32) -> Option<u32>
+        ensures { result ≡ exit_in self.now label }
     {
-        self.targets.insert(label, target)?;
+        match self.ways.get(&label) {
+            None => None,
+            Some(way) => way.exit,
+        }
+    }
+
+    /// Enters where control comes from the label.
+    fn put(&mut self, label: u32, way: Way) -> Result<(), AllocError>
+        ensures to { IfOk result (λ _. (l : ℕ) →
+            target_in self.new l ≡ cond (nat_eq label l) way.label (target_in self.old l)) }
+        ensures exits { IfOk result (λ _. (l : ℕ) →
+            exit_in self.new l ≡ cond (nat_eq label l) way.exit (exit_in self.old l)) }
+    {
+        self.ways.insert(label, way)?;
         Ok(())
     }
 
-    /// Enters where jumps to the label of a line go, if it has one.
+    /// Enters where control comes from the label of a line, if it has one.
     fn put_line(&mut self, lin: &Lin, labels: &Labels, line: &Line) -> Result<(), AllocError>
         requires { AreLabelsOf lin.now labels.now }
-        ensures { IfOk result (λ _. (l : ℕ) → target_in self.new l ≡
+        ensures to { IfOk result (λ _. (l : ℕ) → target_in self.new l ≡
             cond (has_label l line.now.op) (last_label lin.now l) (target_in self.old l)) }
+        ensures exits { IfOk result (λ _. (l : ℕ) → exit_in self.new l ≡
+            cond (has_label l line.now.op) (last_exit lin.now l) (exit_in self.old l)) }
     {
         match &line.op {
             LinOp::Flow(Flow::Label(label)) => {
-                let target = last_label(lin, labels, *label);
-                self.put(*label, target)
+                let way = Way {
+                    label: last_label(lin, labels, *label),
+                    exit: last_exit(lin, labels, *label),
+                };
+                self.put(*label, way)
             }
             LinOp::Flow(Flow::Jump(_)) => Ok(()),
             LinOp::Flow(Flow::Exit(_)) => Ok(()),
@@ -116,11 +172,22 @@ impl Targets {
         Ok(targets)
     }
 
+    /// What a jump to the label becomes.
+    fn redirect_jump(&self, label: u32) -> Flow
+        ensures { result ≡ goes_by (exit_in self.now label) (target_in self.now label) }
+    {
+        match self.exit_of(label) {
+            None => Flow::Jump(self.target_of(label)),
+            Some(out) => Flow::Exit(out),
+        }
+    }
+
     fn redirect_flow(&self, flow: Flow) -> Flow
-        ensures { LinOp.Flow result ≡ redirected (target_in self.now) (LinOp.Flow flow) }
+        ensures { LinOp.Flow result ≡
+            redirected (target_in self.now) (exit_in self.now) (LinOp.Flow flow) }
     {
         match flow {
-            Flow::Jump(label) => Flow::Jump(self.target_of(label)),
+            Flow::Jump(label) => self.redirect_jump(label),
             Flow::Exit(label) => Flow::Exit(self.target_of(label)),
             Flow::Branch { test, label } => Flow::Branch {
                 test,
@@ -135,7 +202,7 @@ impl Targets {
     }
 
     fn redirect(&self, line: Line) -> Line
-        ensures { result ≡ redirect (target_in self.now) line }
+        ensures { result ≡ redirect (target_in self.now) (exit_in self.now) line }
     {
         let Line { op, args, results } = line;
         let op = match op {
@@ -146,7 +213,8 @@ impl Targets {
     }
 
     fn redirect_code(&self, alloc: Global, code: Seq<Line>) -> Result<Seq<Line>, AllocError>
-        ensures { IfOk result (λ turned. turned ≡ map (redirect (target_in self.now)) code) }
+        ensures { IfOk result (λ turned.
+            turned ≡ map (redirect (target_in self.now) (exit_in self.now)) code) }
     {
         let mut turned = Vec::with_capacity(alloc, code.len())?;
         for line in code.into_vec() {
@@ -157,6 +225,7 @@ impl Targets {
 }
 
 /// The function in which jumps, exits and branches go at once where the jumps lead to which they go.
+/// A jump that leads to an exit is an exit itself: so a turn of a loop has one instruction less.
 pub fn redirect_jumps(alloc: Global, lin: Lin) -> Result<Lin, AllocError>
     ensures { IfOk result (λ redirected. redirected ≡ redirected_all lin) }
 {

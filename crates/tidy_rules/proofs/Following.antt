@@ -1,8 +1,9 @@
 -- Jumps followed to where they lead.
 use Rattle.std.proofs.Common.{◌≡◌, ℕ, zero, suc, Bool, true, false, cond, List, [], ◌∷◌, length, Option, Some, None, refl, sym, ap, subst}
 use Rattle.std.proofs.lemmas.Bool.{true≢false}
-use Rattle.std.specs.Option.{unwrap_or}
+use Rattle.std.specs.Option.{unwrap_or, option_map}
 use Rattle.lin_ir.specs.Meaning.{after_label}
+use Rattle.lin_ir.specs.declared.lin.Flow.{Flow}
 use Rattle.lin_ir.specs.declared.lin.Flow.TheVariants as flow
 use Rattle.lin_ir.specs.declared.lin.LinOp.{LinOp}
 use Rattle.lin_ir.specs.declared.lin.LinOp.TheVariants as lin
@@ -10,10 +11,10 @@ use Rattle.lin_ir.specs.declared.lin.Line.{Line}
 use Rattle.lin_ir.specs.declared.lin.Lin.{Lin}
 use Rattle.lin_ir.specs.declared.lin.Spot.{Spot}
 use Rattle.tidy_rules.specs.Leaving.{bare, LabelsBetween, none_between, label_between, LeavesOften, not_once, once_more}
-use Rattle.tidy_rules.specs.Redirecting.{is_label, jumps_to, leads_to, next_label, followed, last_label, redirected_all, GoesOnTo, itself, and_on, Redirects, Tidies, as_it_is, then_leaves, then_redirects}
+use Rattle.tidy_rules.specs.Redirecting.{is_label, jumps_to, exits_to, first_goes, leads_to, leaves_to, next_label, followed, last_label, last_exit, redirected_all, GoesOnTo, itself, and_on, ExitsTo, by_exit, Redirects, Tidies, as_it_is, then_leaves, then_redirects}
 use Rattle.tidy_rules.specs.Tidied.{IsTidied}
 
-abbrev line : LinOp → List Spot → List Spot → Line
+abbrev pub line : LinOp → List Spot → List Spot → Line
 line f args results = record { op = f; args = args; results = results }
 
 no_label : (l : ℕ) → None ≡ Some l → ⊥
@@ -50,25 +51,40 @@ jump_is l (lin.Flow flow.PopTrap) args results e = absurd (no_label l e)
 jump_is l (lin.Flow flow.EnterTrap) args results e = absurd (no_label l e)
 jump_is l (lin.Op f) args results e = absurd (no_label l e)
 
+pub exit_is : (l : ℕ) (f : LinOp) (args results : List Spot) → exits_to f args results ≡ Some l → line f args results ≡ bare (flow.Exit l)
+exit_is l (lin.Flow (flow.Exit k)) [] [] e = ap (λ k. bare (flow.Exit k)) (same_label k l e)
+exit_is l (lin.Flow (flow.Exit k)) [] (s ∷ ss) e = absurd (no_label l e)
+exit_is l (lin.Flow (flow.Exit k)) (s ∷ ss) results e = absurd (no_label l e)
+exit_is l (lin.Flow (flow.Label k)) args results e = absurd (no_label l e)
+exit_is l (lin.Flow (flow.Jump k)) args results e = absurd (no_label l e)
+exit_is l (lin.Flow (flow.Branch t k)) args results e = absurd (no_label l e)
+exit_is l (lin.Flow (flow.Switch ls)) args results e = absurd (no_label l e)
+exit_is l (lin.Flow (flow.PushTrap k)) args results e = absurd (no_label l e)
+exit_is l (lin.Flow flow.PopTrap) args results e = absurd (no_label l e)
+exit_is l (lin.Flow flow.EnterTrap) args results e = absurd (no_label l e)
+exit_is l (lin.Op f) args results e = absurd (no_label l e)
+
 -- ---- code
 
--- only labels stand before the jump
-record JumpsAt (code : List Line) (l : ℕ) : Type 0 where
+-- only labels stand before the line
+record StandsAt (code : List Line) (f : Flow) : Type 0 where
   next : List Line
-  between : LabelsBetween code (bare (flow.Jump l) ∷ next)
+  between : LabelsBetween code (bare f ∷ next)
 
-jumps_at : (code : List Line) (l : ℕ) → leads_to code ≡ Some l → JumpsAt code l
-jumps_at [] l e = absurd (no_label l e)
-jumps_at (i ∷ next) l e = by (is_label i.op i.args i.results) refl e (jumps_at next l)
-  where
-    by : (b : Bool) → is_label i.op i.args i.results ≡ b → cond b (leads_to next) (jumps_to i.op i.args i.results) ≡ Some l →
-        (leads_to next ≡ Some l → JumpsAt next l) → JumpsAt (i ∷ next) l
-    by true s e ih =
-        let y = ih e in
-        let is = label_is i.op i.args i.results s in
-        record { next = y.next; between = subst (λ i. LabelsBetween (i ∷ next) (bare (flow.Jump l) ∷ y.next)) (sym is.1) (label_between y.between) }
-    by false s e ih =
-        record { next = next; between = subst (λ i. LabelsBetween (i ∷ next) (bare (flow.Jump l) ∷ next)) (sym (jump_is l i.op i.args i.results e)) none_between }
+-- what is told of the first line that is no label is told of a jump, or of an exit
+module _ (told : LinOp → (args results : List Spot) → Option ℕ) (goes : ℕ → Flow) (is : (l : ℕ) (f : LinOp) (args results : List Spot) → told f args results ≡ Some l → line f args results ≡ bare (goes l)) where
+  stands_at : (code : List Line) (l : ℕ) → first_goes told code ≡ Some l → StandsAt code (goes l)
+  stands_at [] l e = absurd (no_label l e)
+  stands_at (i ∷ next) l e = by (is_label i.op i.args i.results) refl e (stands_at next l)
+    where
+      by : (b : Bool) → is_label i.op i.args i.results ≡ b → cond b (first_goes told next) (told i.op i.args i.results) ≡ Some l →
+          (first_goes told next ≡ Some l → StandsAt next (goes l)) → StandsAt (i ∷ next) (goes l)
+      by true s e ih =
+          let y = ih e in
+          let label = label_is i.op i.args i.results s in
+          record { next = y.next; between = subst (λ i. LabelsBetween (i ∷ next) (bare (goes l) ∷ y.next)) (sym label.1) (label_between y.between) }
+      by false s e ih =
+          record { next = next; between = subst (λ i. LabelsBetween (i ∷ next) (bare (goes l) ∷ next)) (sym (is l i.op i.args i.results e)) none_between }
 
 module _ (m : Lin) where
   on_next : {k l : ℕ} → GoesOnTo m k l → GoesOnTo m k (next_label m l)
@@ -76,7 +92,7 @@ module _ (m : Lin) where
     where
       by : (o : Option ℕ) → leads_to (after_label l m.code) ≡ o → GoesOnTo m k (unwrap_or o l)
       by None e = g
-      by (Some n) e = and_on g (jumps_at (after_label l m.code) n e).between
+      by (Some n) e = and_on g (stands_at jumps_to flow.Jump jump_is (after_label l m.code) n e).between
 
   on_often : (n : ℕ) {k l : ℕ} → GoesOnTo m k l → GoesOnTo m k (followed m n l)
   on_often zero g = g
@@ -85,9 +101,18 @@ module _ (m : Lin) where
   pub goes_last : (l : ℕ) → GoesOnTo m l (last_label m l)
   goes_last l = on_often (length m.code) itself
 
+  pub goes_out : (l n : ℕ) → last_exit m l ≡ Some n → ExitsTo m l n
+  goes_out l n e = by (leaves_to (after_label (last_label m l) m.code)) refl e
+    where
+      by : (o : Option ℕ) → leaves_to (after_label (last_label m l) m.code) ≡ o → option_map (last_label m) o ≡ Some n → ExitsTo m l n
+      by None u e = absurd (no_label n e)
+      by (Some k) u e =
+          by_exit (goes_last l) (stands_at exits_to flow.Exit exit_is (after_label (last_label m l) m.code) k u).between
+          (subst (GoesOnTo m k) (same_label (last_label m k) n e) (goes_last k))
+
   -- the jumps of a function may all go at once where others lead
   pub redirects_all : Redirects m (redirected_all m)
-  redirects_all = record { to = last_label m; is = refl; each = goes_last }
+  redirects_all = record { to = last_label m; exits = last_exit m; is = refl; each = goes_last; out = goes_out }
 
 often_tidies : {m q r : Lin} → Tidies m q → LeavesOften q r → Tidies m r
 often_tidies h not_once = h

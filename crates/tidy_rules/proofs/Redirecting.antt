@@ -10,14 +10,14 @@ use Rattle.bs_words.specs.declared.values.Value.{Value}
 use Rattle.cmm_meaning.specs.State.{Doing}
 use Rattle.mach_ir.specs.Acts.{Around, Target, On, At, truth_of, branches}
 use Rattle.mach_ir.specs.Meaning.{is_destroyed}
-use Rattle.mach_ir.specs.Runs.{Place, Step, first_tally, entered}
+use Rattle.mach_ir.specs.Runs.{Place, Step, Pays, first_tally, entered}
 use Rattle.mach_ir.specs.Walks.{OneOf, this, other}
 use Rattle.mach_ir.specs.declared.mach.MachOp.{MachOp}
 use Rattle.mach_ir.specs.declared.op.Op.{Op}
 use Rattle.mach_laws.proofs.Walking.{none_in}
 use Rattle.lin_ir.specs.Formed.{is_exit, label_of, lin_operand_seats, lin_result_seats}
 use Rattle.lin_ir.specs.Keeps.{IsNamedIn}
-use Rattle.lin_ir.specs.Meaning.{State, Locations, put_all, values, destroyed_by, lin_act, on_act, wrote, has_label, after_label, code_at, passes_frame, begun, start}
+use Rattle.lin_ir.specs.Meaning.{State, Locations, put_all, clear, values, destroyed_by, lin_act, on_act, wrote, has_label, after_label, code_at, passes_frame, begun, start}
 use Rattle.lin_ir.specs.Walks as walks
 use Rattle.lin_ir.specs.Walks.{targets, may_raise, tries_after, Writes, Reached, at_entry, by_step, by_raise, Live, read, on, aside, LiveAcross, across_step, across_raise}
 use Rattle.lin_ir.specs.declared.lin.Flow.{Flow}
@@ -33,122 +33,129 @@ use Rattle.linear_rules.specs.Kept.{step, ValsHeld}
 use Rattle.linear_rules.proofs.Homes.{IsIn, is_first, is_later, in_of, contains_of}
 use Rattle.tidy_rules.specs.Keeps.{Begins, KeepsLin}
 use Rattle.tidy_rules.specs.Leaving.{bare, LabelsBetween, none_between, label_between, with_code}
-use Rattle.tidy_rules.specs.Redirecting.{redirected, redirect, GoesOnTo, itself, and_on, Redirects}
+use Rattle.tidy_rules.specs.Redirecting.{goes_by, redirected, redirect, GoesOnTo, itself, and_on, ExitsTo, by_exit, Redirects}
 use Rattle.tidy_rules.proofs.Turns.{turns}
 use Rattle.tidy_rules.proofs.Simulate.{Arrives, both_continue, both_pay, first_stuck, Answers, stays, stuck, steps, Closed, Leads, acts, simulates, alike_goes}
 use Rattle.tidy_rules.proofs.Leaving.{first_same, rest_same, jump_unwritten}
 
 -- ---- what is the same of a line that is redirected
 
-pub same_destroyed : (to : ℕ → ℕ) (f : LinOp) → destroyed_by (redirected to f) ≡ destroyed_by f
-same_destroyed to (lin.Op f) = refl
-same_destroyed to (lin.Flow (flow.Label k)) = refl
-same_destroyed to (lin.Flow (flow.Jump k)) = refl
-same_destroyed to (lin.Flow (flow.Exit k)) = refl
-same_destroyed to (lin.Flow (flow.Branch t k)) = refl
-same_destroyed to (lin.Flow (flow.Switch ls)) = refl
-same_destroyed to (lin.Flow (flow.PushTrap k)) = refl
-same_destroyed to (lin.Flow flow.PopTrap) = refl
-same_destroyed to (lin.Flow flow.EnterTrap) = refl
+-- what is the same of jumps and exits is the same of what a jump becomes
+pub jump_same : {X : Type 0} (h : LinOp → X) (x : X) → ((l : ℕ) → h (lin.Flow (flow.Jump l)) ≡ x) → ((l : ℕ) → h (lin.Flow (flow.Exit l)) ≡ x) →
+    (o : Option ℕ) (l : ℕ) → h (lin.Flow (goes_by o l)) ≡ x
+jump_same h x jumps exits None l = jumps l
+jump_same h x jumps exits (Some n) l = exits n
 
-pub same_tries : (ts : List ℕ) (to : ℕ → ℕ) (f : LinOp) → tries_after (redirected to f) ts ≡ tries_after f ts
-same_tries ts to (lin.Op f) = refl
-same_tries ts to (lin.Flow (flow.Label k)) = refl
-same_tries ts to (lin.Flow (flow.Jump k)) = refl
-same_tries ts to (lin.Flow (flow.Exit k)) = refl
-same_tries ts to (lin.Flow (flow.Branch t k)) = refl
-same_tries ts to (lin.Flow (flow.Switch ls)) = refl
-same_tries ts to (lin.Flow (flow.PushTrap k)) = refl
-same_tries ts to (lin.Flow flow.PopTrap) = refl
-same_tries ts to (lin.Flow flow.EnterTrap) = refl
+pub same_destroyed : (to : ℕ → ℕ) (exits : ℕ → Option ℕ) (f : LinOp) → destroyed_by (redirected to exits f) ≡ destroyed_by f
+same_destroyed to exits (lin.Op f) = refl
+same_destroyed to exits (lin.Flow (flow.Label k)) = refl
+same_destroyed to exits (lin.Flow (flow.Jump k)) = jump_same destroyed_by _ (λ l. refl) (λ l. refl) (exits k) (to k)
+same_destroyed to exits (lin.Flow (flow.Exit k)) = refl
+same_destroyed to exits (lin.Flow (flow.Branch t k)) = refl
+same_destroyed to exits (lin.Flow (flow.Switch ls)) = refl
+same_destroyed to exits (lin.Flow (flow.PushTrap k)) = refl
+same_destroyed to exits (lin.Flow flow.PopTrap) = refl
+same_destroyed to exits (lin.Flow flow.EnterTrap) = refl
 
-pub same_raise : (to : ℕ → ℕ) (f : LinOp) → may_raise (redirected to f) ≡ may_raise f
-same_raise to (lin.Op f) = refl
-same_raise to (lin.Flow (flow.Label k)) = refl
-same_raise to (lin.Flow (flow.Jump k)) = refl
-same_raise to (lin.Flow (flow.Exit k)) = refl
-same_raise to (lin.Flow (flow.Branch t k)) = refl
-same_raise to (lin.Flow (flow.Switch ls)) = refl
-same_raise to (lin.Flow (flow.PushTrap k)) = refl
-same_raise to (lin.Flow flow.PopTrap) = refl
-same_raise to (lin.Flow flow.EnterTrap) = refl
+pub same_tries : (ts : List ℕ) (to : ℕ → ℕ) (exits : ℕ → Option ℕ) (f : LinOp) → tries_after (redirected to exits f) ts ≡ tries_after f ts
+same_tries ts to exits (lin.Op f) = refl
+same_tries ts to exits (lin.Flow (flow.Label k)) = refl
+same_tries ts to exits (lin.Flow (flow.Jump k)) = jump_same (λ f. tries_after f ts) _ (λ l. refl) (λ l. refl) (exits k) (to k)
+same_tries ts to exits (lin.Flow (flow.Exit k)) = refl
+same_tries ts to exits (lin.Flow (flow.Branch t k)) = refl
+same_tries ts to exits (lin.Flow (flow.Switch ls)) = refl
+same_tries ts to exits (lin.Flow (flow.PushTrap k)) = refl
+same_tries ts to exits (lin.Flow flow.PopTrap) = refl
+same_tries ts to exits (lin.Flow flow.EnterTrap) = refl
 
-pub same_frame : (to : ℕ → ℕ) (f : LinOp) → passes_frame (redirected to f) ≡ passes_frame f
-same_frame to (lin.Op f) = refl
-same_frame to (lin.Flow (flow.Label k)) = refl
-same_frame to (lin.Flow (flow.Jump k)) = refl
-same_frame to (lin.Flow (flow.Exit k)) = refl
-same_frame to (lin.Flow (flow.Branch t k)) = refl
-same_frame to (lin.Flow (flow.Switch ls)) = refl
-same_frame to (lin.Flow (flow.PushTrap k)) = refl
-same_frame to (lin.Flow flow.PopTrap) = refl
-same_frame to (lin.Flow flow.EnterTrap) = refl
+pub same_raise : (to : ℕ → ℕ) (exits : ℕ → Option ℕ) (f : LinOp) → may_raise (redirected to exits f) ≡ may_raise f
+same_raise to exits (lin.Op f) = refl
+same_raise to exits (lin.Flow (flow.Label k)) = refl
+same_raise to exits (lin.Flow (flow.Jump k)) = jump_same may_raise _ (λ l. refl) (λ l. refl) (exits k) (to k)
+same_raise to exits (lin.Flow (flow.Exit k)) = refl
+same_raise to exits (lin.Flow (flow.Branch t k)) = refl
+same_raise to exits (lin.Flow (flow.Switch ls)) = refl
+same_raise to exits (lin.Flow (flow.PushTrap k)) = refl
+same_raise to exits (lin.Flow flow.PopTrap) = refl
+same_raise to exits (lin.Flow flow.EnterTrap) = refl
 
-pub same_label : (l : ℕ) (to : ℕ → ℕ) (f : LinOp) → has_label l (redirected to f) ≡ has_label l f
-same_label l to (lin.Op f) = refl
-same_label l to (lin.Flow (flow.Label k)) = refl
-same_label l to (lin.Flow (flow.Jump k)) = refl
-same_label l to (lin.Flow (flow.Exit k)) = refl
-same_label l to (lin.Flow (flow.Branch t k)) = refl
-same_label l to (lin.Flow (flow.Switch ls)) = refl
-same_label l to (lin.Flow (flow.PushTrap k)) = refl
-same_label l to (lin.Flow flow.PopTrap) = refl
-same_label l to (lin.Flow flow.EnterTrap) = refl
+pub same_frame : (to : ℕ → ℕ) (exits : ℕ → Option ℕ) (f : LinOp) → passes_frame (redirected to exits f) ≡ passes_frame f
+same_frame to exits (lin.Op f) = refl
+same_frame to exits (lin.Flow (flow.Label k)) = refl
+same_frame to exits (lin.Flow (flow.Jump k)) = jump_same passes_frame _ (λ l. refl) (λ l. refl) (exits k) (to k)
+same_frame to exits (lin.Flow (flow.Exit k)) = refl
+same_frame to exits (lin.Flow (flow.Branch t k)) = refl
+same_frame to exits (lin.Flow (flow.Switch ls)) = refl
+same_frame to exits (lin.Flow (flow.PushTrap k)) = refl
+same_frame to exits (lin.Flow flow.PopTrap) = refl
+same_frame to exits (lin.Flow flow.EnterTrap) = refl
 
-pub same_leaves : (to : ℕ → ℕ) (f : LinOp) → walks.leaves (redirected to f) ≡ walks.leaves f
-same_leaves to (lin.Op f) = refl
-same_leaves to (lin.Flow (flow.Label k)) = refl
-same_leaves to (lin.Flow (flow.Jump k)) = refl
-same_leaves to (lin.Flow (flow.Exit k)) = refl
-same_leaves to (lin.Flow (flow.Branch t k)) = refl
-same_leaves to (lin.Flow (flow.Switch ls)) = refl
-same_leaves to (lin.Flow (flow.PushTrap k)) = refl
-same_leaves to (lin.Flow flow.PopTrap) = refl
-same_leaves to (lin.Flow flow.EnterTrap) = refl
+pub same_label : (l : ℕ) (to : ℕ → ℕ) (exits : ℕ → Option ℕ) (f : LinOp) → has_label l (redirected to exits f) ≡ has_label l f
+same_label l to exits (lin.Op f) = refl
+same_label l to exits (lin.Flow (flow.Label k)) = refl
+same_label l to exits (lin.Flow (flow.Jump k)) = jump_same (has_label l) _ (λ l. refl) (λ l. refl) (exits k) (to k)
+same_label l to exits (lin.Flow (flow.Exit k)) = refl
+same_label l to exits (lin.Flow (flow.Branch t k)) = refl
+same_label l to exits (lin.Flow (flow.Switch ls)) = refl
+same_label l to exits (lin.Flow (flow.PushTrap k)) = refl
+same_label l to exits (lin.Flow flow.PopTrap) = refl
+same_label l to exits (lin.Flow flow.EnterTrap) = refl
 
-pub same_exit : (to : ℕ → ℕ) (f : LinOp) → is_exit (redirected to f) ≡ is_exit f
-same_exit to (lin.Op f) = refl
-same_exit to (lin.Flow (flow.Label k)) = refl
-same_exit to (lin.Flow (flow.Jump k)) = refl
-same_exit to (lin.Flow (flow.Exit k)) = refl
-same_exit to (lin.Flow (flow.Branch t k)) = refl
-same_exit to (lin.Flow (flow.Switch ls)) = refl
-same_exit to (lin.Flow (flow.PushTrap k)) = refl
-same_exit to (lin.Flow flow.PopTrap) = refl
-same_exit to (lin.Flow flow.EnterTrap) = refl
+pub same_leaves : (to : ℕ → ℕ) (exits : ℕ → Option ℕ) (f : LinOp) → walks.leaves (redirected to exits f) ≡ walks.leaves f
+same_leaves to exits (lin.Op f) = refl
+same_leaves to exits (lin.Flow (flow.Label k)) = refl
+same_leaves to exits (lin.Flow (flow.Jump k)) = jump_same walks.leaves _ (λ l. refl) (λ l. refl) (exits k) (to k)
+same_leaves to exits (lin.Flow (flow.Exit k)) = refl
+same_leaves to exits (lin.Flow (flow.Branch t k)) = refl
+same_leaves to exits (lin.Flow (flow.Switch ls)) = refl
+same_leaves to exits (lin.Flow (flow.PushTrap k)) = refl
+same_leaves to exits (lin.Flow flow.PopTrap) = refl
+same_leaves to exits (lin.Flow flow.EnterTrap) = refl
 
-pub same_labels : (to : ℕ → ℕ) (f : LinOp) → label_of (redirected to f) ≡ label_of f
-same_labels to (lin.Op f) = refl
-same_labels to (lin.Flow (flow.Label k)) = refl
-same_labels to (lin.Flow (flow.Jump k)) = refl
-same_labels to (lin.Flow (flow.Exit k)) = refl
-same_labels to (lin.Flow (flow.Branch t k)) = refl
-same_labels to (lin.Flow (flow.Switch ls)) = refl
-same_labels to (lin.Flow (flow.PushTrap k)) = refl
-same_labels to (lin.Flow flow.PopTrap) = refl
-same_labels to (lin.Flow flow.EnterTrap) = refl
+-- a line that becomes no exit was none
+pub exit_was : (to : ℕ → ℕ) (exits : ℕ → Option ℕ) (f : LinOp) → is_exit (redirected to exits f) ≡ false → is_exit f ≡ false
+exit_was to exits (lin.Op f) e = refl
+exit_was to exits (lin.Flow (flow.Label k)) e = refl
+exit_was to exits (lin.Flow (flow.Jump k)) e = refl
+exit_was to exits (lin.Flow (flow.Exit k)) e = e
+exit_was to exits (lin.Flow (flow.Branch t k)) e = refl
+exit_was to exits (lin.Flow (flow.Switch ls)) e = refl
+exit_was to exits (lin.Flow (flow.PushTrap k)) e = refl
+exit_was to exits (lin.Flow flow.PopTrap) e = refl
+exit_was to exits (lin.Flow flow.EnterTrap) e = refl
 
-pub same_operands : (to : ℕ → ℕ) (f : LinOp) → lin_operand_seats (redirected to f) ≡ lin_operand_seats f
-same_operands to (lin.Op f) = refl
-same_operands to (lin.Flow (flow.Label k)) = refl
-same_operands to (lin.Flow (flow.Jump k)) = refl
-same_operands to (lin.Flow (flow.Exit k)) = refl
-same_operands to (lin.Flow (flow.Branch t k)) = refl
-same_operands to (lin.Flow (flow.Switch ls)) = refl
-same_operands to (lin.Flow (flow.PushTrap k)) = refl
-same_operands to (lin.Flow flow.PopTrap) = refl
-same_operands to (lin.Flow flow.EnterTrap) = refl
+pub same_labels : (to : ℕ → ℕ) (exits : ℕ → Option ℕ) (f : LinOp) → label_of (redirected to exits f) ≡ label_of f
+same_labels to exits (lin.Op f) = refl
+same_labels to exits (lin.Flow (flow.Label k)) = refl
+same_labels to exits (lin.Flow (flow.Jump k)) = jump_same label_of _ (λ l. refl) (λ l. refl) (exits k) (to k)
+same_labels to exits (lin.Flow (flow.Exit k)) = refl
+same_labels to exits (lin.Flow (flow.Branch t k)) = refl
+same_labels to exits (lin.Flow (flow.Switch ls)) = refl
+same_labels to exits (lin.Flow (flow.PushTrap k)) = refl
+same_labels to exits (lin.Flow flow.PopTrap) = refl
+same_labels to exits (lin.Flow flow.EnterTrap) = refl
 
-pub same_results : (to : ℕ → ℕ) (f : LinOp) → lin_result_seats (redirected to f) ≡ lin_result_seats f
-same_results to (lin.Op f) = refl
-same_results to (lin.Flow (flow.Label k)) = refl
-same_results to (lin.Flow (flow.Jump k)) = refl
-same_results to (lin.Flow (flow.Exit k)) = refl
-same_results to (lin.Flow (flow.Branch t k)) = refl
-same_results to (lin.Flow (flow.Switch ls)) = refl
-same_results to (lin.Flow (flow.PushTrap k)) = refl
-same_results to (lin.Flow flow.PopTrap) = refl
-same_results to (lin.Flow flow.EnterTrap) = refl
+pub same_operands : (to : ℕ → ℕ) (exits : ℕ → Option ℕ) (f : LinOp) → lin_operand_seats (redirected to exits f) ≡ lin_operand_seats f
+same_operands to exits (lin.Op f) = refl
+same_operands to exits (lin.Flow (flow.Label k)) = refl
+same_operands to exits (lin.Flow (flow.Jump k)) = jump_same lin_operand_seats _ (λ l. refl) (λ l. refl) (exits k) (to k)
+same_operands to exits (lin.Flow (flow.Exit k)) = refl
+same_operands to exits (lin.Flow (flow.Branch t k)) = refl
+same_operands to exits (lin.Flow (flow.Switch ls)) = refl
+same_operands to exits (lin.Flow (flow.PushTrap k)) = refl
+same_operands to exits (lin.Flow flow.PopTrap) = refl
+same_operands to exits (lin.Flow flow.EnterTrap) = refl
+
+pub same_results : (to : ℕ → ℕ) (exits : ℕ → Option ℕ) (f : LinOp) → lin_result_seats (redirected to exits f) ≡ lin_result_seats f
+same_results to exits (lin.Op f) = refl
+same_results to exits (lin.Flow (flow.Label k)) = refl
+same_results to exits (lin.Flow (flow.Jump k)) = jump_same lin_result_seats _ (λ l. refl) (λ l. refl) (exits k) (to k)
+same_results to exits (lin.Flow (flow.Exit k)) = refl
+same_results to exits (lin.Flow (flow.Branch t k)) = refl
+same_results to exits (lin.Flow (flow.Switch ls)) = refl
+same_results to exits (lin.Flow (flow.PushTrap k)) = refl
+same_results to exits (lin.Flow flow.PopTrap) = refl
+same_results to exits (lin.Flow flow.EnterTrap) = refl
 
 -- ---- labels and jumps
 
@@ -184,19 +191,54 @@ quiet_live is_there v = v
 quiet_live {l = l} (by_label {l = k} p) v = on (label_unwritten k l) (walks.goes On this) (quiet_live p v)
 quiet_live {l = l} (by_jump {l = k} p) v = on (jump_unwritten k l) (walks.goes (At k) this) (quiet_live p v)
 
+-- ---- and one exit
+
+-- from the first code control goes by labels and jumps to the second, or it takes one exit on the way
+pub data Round (m : Lin) (a b : List Line) : Type 0 where
+  quietly : Quiet m a b → Round m a b
+  with_exit : {l : ℕ} {next : List Line} → Quiet m a (bare (flow.Exit l) ∷ next) → Quiet m (after_label l m.code) b → Round m a b
+
+round_reached : {m : Lin} {a b : List Line} {tries : List ℕ} → Round m a b → Reached m a tries → Reached m b tries
+round_reached (quietly p) r = quiet_reached p r
+round_reached (with_exit {l = l} p q) r = quiet_reached q (by_step (quiet_reached p r) (walks.goes (At l) this))
+
+exit_unwritten : (k : ℕ) (l : Loc) → Writes (bare (flow.Exit k)) l → ⊥
+exit_unwritten k l w = ⊎_elim (λ y. none_in (record { loc = l; comp = y.0 }) y.1) (λ e. true≢false (sym e)) w
+
+round_live : {m : Lin} {l : Loc} {t : Comp} {a b : List Line} {tries : List ℕ} → Round m a b → Live m l t b tries → Live m l t a tries
+round_live (quietly p) v = quiet_live p v
+round_live {l = l} (with_exit {l = k} p q) v = quiet_live p (on (exit_unwritten k l) (walks.goes (At k) this) (quiet_live q v))
+
+-- from where it comes to an exit by labels and jumps it goes on to the label
+pub data Leaves (m : Lin) (a : List Line) (n : ℕ) : Type 0 where
+  leaves : {l : ℕ} {next : List Line} → Quiet m a (bare (flow.Exit l) ∷ next) → Quiet m (after_label l m.code) (after_label n m.code) → Leaves m a n
+
+leaves_to : {m : Lin} {l n : ℕ} → ExitsTo m l n → Leaves m (after_label l m.code) n
+leaves_to (by_exit g p h) = leaves (quiet_then (quiet_to g) (quiet_labels p)) (quiet_to h)
+
+leaves_round : {m : Lin} {a : List Line} {n : ℕ} → Leaves m a n → Round m a (after_label n m.code)
+leaves_round (leaves p q) = with_exit p q
+
+abbrev is_jump : LinOp → Bool
+is_jump (lin.Flow (flow.Jump l)) = true
+is_jump _ = false
+
+jump_label : (k l : ℕ) → lin.Flow (flow.Jump l) ≡ lin.Flow (flow.Jump k) → k ≡ l
+jump_label k l e = cc
+
 none_first : (j : Line) (js : List Line) → [] ≡ j ∷ js → ⊥
 none_first j js e = cc
 
-module _ (m : Lin) (to : ℕ → ℕ) (each : (l : ℕ) → GoesOnTo m l (to l)) where
+module _ (m : Lin) (to : ℕ → ℕ) (exits : ℕ → Option ℕ) (each : (l : ℕ) → GoesOnTo m l (to l)) (out : (l n : ℕ) → exits l ≡ Some n → ExitsTo m l n) where
   abbrev pub T : List Line → List Line
-  T = map (redirect to)
+  T = map (redirect to exits)
 
   abbrev pub turned : Lin
   turned = with_code m (T m.code)
 
   label_turned : (l : ℕ) (is : List Line) → after_label l (T is) ≡ T (after_label l is)
   label_turned l [] = refl
-  label_turned l (i ∷ is) = ap (λ b. cond b (T is) (after_label l (T is))) (same_label l to i.op) ∙ by (has_label l i.op) (label_turned l is)
+  label_turned l (i ∷ is) = ap (λ b. cond b (T is) (after_label l (T is))) (same_label l to exits i.op) ∙ by (has_label l i.op) (label_turned l is)
     where
       by : (b : Bool) → after_label l (T is) ≡ T (after_label l is) → cond b (T is) (after_label l (T is)) ≡ T (cond b is (after_label l is))
       by true e = refl
@@ -213,27 +255,38 @@ module _ (m : Lin) (to : ℕ → ℕ) (each : (l : ℕ) → GoesOnTo m l (to l))
     pub target : Target
     pub among : OneOf target (targets f)
     pub code : List Line
-    pub quiet : Quiet m (code_at m.code next target) code
+    pub round : Round m (code_at m.code next target) code
     pub same : T code ≡ code_at turned.code (T next) t
 
   same_target : (f : LinOp) (next : List Line) (t : Target) → OneOf t (targets f) → Was f next t
-  same_target f next t o = record { target = t; among = o; code = code_at m.code next t; quiet = is_there; same = target_turned next t }
+  same_target f next t o = record { target = t; among = o; code = code_at m.code next t; round = quietly is_there; same = target_turned next t }
 
   label_target : {f : LinOp} (next : List Line) (l : ℕ) → OneOf (At l) (targets f) → Was f next (At (to l))
   label_target next l o = record {
     target = At l;
     among = o;
     code = after_label (to l) m.code;
-    quiet = quiet_to (each l);
+    round = quietly (quiet_to (each l));
     same = target_turned next
         (At (to l));
   }
 
-  pub was : (f : LinOp) (next : List Line) (t : Target) → OneOf t (targets (redirected to f)) → Was f next t
+  pub was : (f : LinOp) (next : List Line) (t : Target) → OneOf t (targets (redirected to exits f)) → Was f next t
   was (lin.Op f) next t o = same_target (lin.Op f) next t o
   was (lin.Flow (flow.Label k)) next t o = same_target (lin.Flow (flow.Label k)) next t o
-  was (lin.Flow (flow.Jump k)) next t this = label_target next k this
-  was (lin.Flow (flow.Jump k)) next t (other o) = elim o [ ]
+  was (lin.Flow (flow.Jump k)) next t o = by (exits k) refl t o
+    where
+      by : (x : Option ℕ) → exits k ≡ x → (t : Target) → OneOf t (targets (lin.Flow (goes_by x (to k)))) → Was (lin.Flow (flow.Jump k)) next t
+      by None e t this = label_target next k this
+      by None e t (other o) = elim o [ ]
+      by (Some n) e t this = record {
+        target = At k;
+        among = this;
+        code = after_label n m.code;
+        round = leaves_round (leaves_to (out k n e));
+        same = target_turned next (At n);
+      }
+      by (Some n) e t (other o) = elim o [ ]
   was (lin.Flow (flow.Exit k)) next t this = label_target next k this
   was (lin.Flow (flow.Exit k)) next t (other o) = elim o [ ]
   was (lin.Flow (flow.Branch test k)) next t this = same_target (lin.Flow (flow.Branch test k)) next On this
@@ -248,7 +301,7 @@ module _ (m : Lin) (to : ℕ → ℕ) (each : (l : ℕ) → GoesOnTo m l (to l))
     pub line : Line
     pub next : List Line
     pub is_code : is ≡ line ∷ next
-    pub is_line : redirect to line ≡ j
+    pub is_line : redirect to exits line ≡ j
     pub is_next : T next ≡ js
 
   pub split : (is : List Line) (j : Line) (js : List Line) → T is ≡ j ∷ js → Split is j js
@@ -257,9 +310,9 @@ module _ (m : Lin) (to : ℕ → ℕ) (each : (l : ℕ) → GoesOnTo m l (to l))
     line = i;
     next = is;
     is_code = refl;
-    is_line = first_same (redirect to i) j (T is) js e;
+    is_line = first_same (redirect to exits i) j (T is) js e;
     is_next = rest_same
-        (redirect to i) j (T is) js e;
+        (redirect to exits i) j (T is) js e;
   }
 
   pub record Source (js : List Line) (tries : List ℕ) : Type 0 where
@@ -277,8 +330,8 @@ module _ (m : Lin) (to : ℕ → ℕ) (each : (l : ℕ) → GoesOnTo m l (to l))
       record {
         code = w.code;
         same = w.same ∙ ap (λ ks. code_at turned.code ks t) s.is_next;
-        reached = subst (Reached m w.code) (sym (same_tries tries to s.line.op) ∙ ap (λ (j : Line). tries_after j.op tries) s.is_line)
-            (quiet_reached w.quiet (by_step back (walks.goes w.target w.among)));
+        reached = subst (Reached m w.code) (sym (same_tries tries to exits s.line.op) ∙ ap (λ (j : Line). tries_after j.op tries) s.is_line)
+            (round_reached w.round (by_step back (walks.goes w.target w.among)));
       }
   source (by_raise {i = j} {next = js} r (walks.raises {h = h} {tries = tries} e)) =
       let y = source r in
@@ -287,14 +340,14 @@ module _ (m : Lin) (to : ℕ → ℕ) (each : (l : ℕ) → GoesOnTo m l (to l))
         code = after_label h m.code;
         same = target_turned [] (At h);
         reached = by_raise (subst (λ is. Reached m is (h ∷ tries)) s.is_code y.reached)
-            (walks.raises (sym (same_raise to s.line.op) ∙ ap (λ (j : Line). may_raise j.op) s.is_line ∙ e));
+            (walks.raises (sym (same_raise to exits s.line.op) ∙ ap (λ (j : Line). may_raise j.op) s.is_line ∙ e));
       }
 
   -- a line that a walk comes to
   pub record SourceLine (j : Line) (js : List Line) (tries : List ℕ) : Type 0 where
     pub line : Line
     pub next : List Line
-    pub is_line : redirect to line ≡ j
+    pub is_line : redirect to exits line ≡ j
     pub is_next : T next ≡ js
     pub reached : Reached m (line ∷ next) tries
 
@@ -304,14 +357,14 @@ module _ (m : Lin) (to : ℕ → ℕ) (each : (l : ℕ) → GoesOnTo m l (to l))
       let s = split y.code j js y.same in
       record { line = s.line; next = s.next; is_line = s.is_line; is_next = s.is_next; reached = subst (λ is. Reached m is tries) s.is_code y.reached }
 
-  unwritten : (i j : Line) (l : Loc) → redirect to i ≡ j → (Writes j l → ⊥) → Writes i l → ⊥
+  unwritten : (i j : Line) (l : Loc) → redirect to exits i ≡ j → (Writes j l → ⊥) → Writes i l → ⊥
   unwritten i j l e free w = subst (λ j. Writes j l → ⊥) (sym e) free
-      (⊎_elim (λ y. inl_of y) (λ d. inr_of (ap (λ d. is_destroyed d l) (same_destroyed to i.op) ∙ d)) w)
+      (⊎_elim (λ y. inl_of y) (λ d. inr_of (ap (λ d. is_destroyed d l) (same_destroyed to exits i.op) ∙ d)) w)
     where
-      inl_of : (t : Comp) × Contains i.results (record { loc = l; comp = t }) → Writes (redirect to i) l
+      inl_of : (t : Comp) × Contains i.results (record { loc = l; comp = t }) → Writes (redirect to exits i) l
       inl_of y = inl y
 
-      inr_of : is_destroyed (destroyed_by (redirected to i.op)) l ≡ true → Writes (redirect to i) l
+      inr_of : is_destroyed (destroyed_by (redirected to exits i.op)) l ≡ true → Writes (redirect to exits i) l
       inr_of d = inr d
 
   pub live_before : {l : Loc} {t : Comp} {js : List Line} {tries : List ℕ} → Live turned l t js tries → (is : List Line) → T is ≡ js → Live m l t is tries
@@ -323,30 +376,30 @@ module _ (m : Lin) (to : ℕ → ℕ) (each : (l : ℕ) → GoesOnTo m l (to l))
       let w = was s.line.op s.next k (subst (λ (j : Line). OneOf k (targets j.op)) (sym s.is_line) o) in
       subst (λ is. Live m l t is tries) (sym s.is_code)
       (on (unwritten s.line j l s.is_line free) (walks.goes w.target w.among)
-      (quiet_live w.quiet
-      (subst (Live m l t w.code) (sym (ap (λ (j : Line). tries_after j.op tries) s.is_line) ∙ same_tries tries to s.line.op)
+      (round_live w.round
+      (subst (Live m l t w.code) (sym (ap (λ (j : Line). tries_after j.op tries) s.is_line) ∙ same_tries tries to exits s.line.op)
       (live_before v w.code (w.same ∙ ap (λ ks. code_at turned.code ks k) s.is_next)))))
   live_before {l} {t} (aside {i = j} {next = js} (walks.raises {h = h} {tries = tries} x) v) is e =
       let s = split is j js e in
       subst (λ is. Live m l t is (h ∷ tries)) (sym s.is_code)
-      (aside (walks.raises (sym (same_raise to s.line.op) ∙ ap (λ (j : Line). may_raise j.op) s.is_line ∙ x))
+      (aside (walks.raises (sym (same_raise to exits s.line.op) ∙ ap (λ (j : Line). may_raise j.op) s.is_line ∙ x))
       (live_before v (after_label h m.code) (target_turned [] (At h))))
 
   pub live_across : {l : Loc} {t : Comp} {j : Line} {js : List Line} {tries : List ℕ} → LiveAcross turned l t j js tries → (i : Line) (next : List Line) →
-      redirect to i ≡ j → T next ≡ js →
+      redirect to exits i ≡ j → T next ≡ js →
       LiveAcross m l t i next tries
   live_across {l} {t} {j} {js} {tries} (across_step free (walks.goes k o) v) i next e u =
       let w = was i.op next k (subst (λ (j : Line). OneOf k (targets j.op)) (sym e) o) in
       across_step (unwritten i j l e free) (walks.goes w.target w.among)
-      (quiet_live w.quiet
-      (subst (Live m l t w.code) (sym (ap (λ (j : Line). tries_after j.op tries) e) ∙ same_tries tries to i.op)
+      (round_live w.round
+      (subst (Live m l t w.code) (sym (ap (λ (j : Line). tries_after j.op tries) e) ∙ same_tries tries to exits i.op)
       (live_before v w.code (w.same ∙ ap (λ ks. code_at turned.code ks k) u))))
   live_across (across_raise (walks.raises {h = h} x) v) i next e u =
-      across_raise (walks.raises (sym (same_raise to i.op) ∙ ap (λ (j : Line). may_raise j.op) e ∙ x))
+      across_raise (walks.raises (sym (same_raise to exits i.op) ∙ ap (λ (j : Line). may_raise j.op) e ∙ x))
       (live_before v (after_label h m.code) (target_turned [] (At h)))
 
-  frame_was : {j : Line} (i : Line) → redirect to i ≡ j → passes_frame j.op ≡ true → passes_frame i.op ≡ true
-  frame_was i e frame = sym (same_frame to i.op) ∙ ap (λ (j : Line). passes_frame j.op) e ∙ frame
+  frame_was : {j : Line} (i : Line) → redirect to exits i ≡ j → passes_frame j.op ≡ true → passes_frame i.op ≡ true
+  frame_was i e frame = sym (same_frame to exits i.op) ∙ ap (λ (j : Line). passes_frame j.op) e ∙ frame
 
   pub no_addr_turned : NoAddrReached m → NoAddrReached turned
   no_addr_turned h =
@@ -356,12 +409,12 @@ module _ (m : Lin) (to : ℕ → ℕ) (each : (l : ℕ) → GoesOnTo m l (to l))
             (live_across w a.line a.next a.is_line a.is_next);
       }
 
-  pub line_was : (j : Line) (is : List Line) → IsIn j (T is) → (i : Line) × IsIn i is × (redirect to i ≡ j)
+  pub line_was : (j : Line) (is : List Line) → IsIn j (T is) → (i : Line) × IsIn i is × (redirect to exits i ≡ j)
   line_was j [] z = elim z [ ]
-  line_was j (i ∷ is) z = by (redirect to i) refl (T is) z (λ u. line_was j is u)
+  line_was j (i ∷ is) z = by (redirect to exits i) refl (T is) z (λ u. line_was j is u)
     where
-      by : (k : Line) → redirect to i ≡ k → (ks : List Line) → IsIn j (k ∷ ks) → (IsIn j ks → (i : Line) × IsIn i is × (redirect to i ≡ j)) →
-          (x : Line) × IsIn x (i ∷ is) × (redirect to x ≡ j)
+      by : (k : Line) → redirect to exits i ≡ k → (ks : List Line) → IsIn j (k ∷ ks) → (IsIn j ks → (i : Line) × IsIn i is × (redirect to exits i ≡ j)) →
+          (x : Line) × IsIn x (i ∷ is) × (redirect to exits x ≡ j)
       by k e ks is_first ih = (i, is_first, e)
       by k e ks (is_later z) ih = let y = ih z in (y.0, is_later y.1, y.2)
 
@@ -371,9 +424,12 @@ module _ (m : Lin) (to : ℕ → ℕ) (each : (l : ℕ) → GoesOnTo m l (to l))
     abbrev at : List Line → Locations → Around → State
     at is f a = record { rest = is; file = f; around = a }
 
-    -- the first comes to the place of the second by labels and jumps
+    -- The first comes to the place of the second by labels and jumps, or to an exit while the second stands at one that
+    -- was a jump.
     data Rel : State → State → Type 0 where
       rel : {is b js : List Line} {f : Locations} {a : Around} → Reached m is a.tries → Quiet m is b → T b ≡ js → Rel (at is f a) (at js f a)
+      rel_leaves : {is js : List Line} {n : ℕ} {args results : List Spot} {f : Locations} {a : Around} → Reached m is a.tries → Leaves m is n →
+          values c.setting.end f args ≡ Some [] → Rel (at is f a) (at (record { op = lin.Flow (flow.Exit n); args = args; results = results } ∷ js) f a)
 
     abbrev Answer : State → Step State → Type 0
     Answer = Answers c m (step c turned) (ValsHeld c turned) Rel
@@ -414,18 +470,34 @@ module _ (m : Lin) (to : ℕ → ℕ) (each : (l : ℕ) → GoesOnTo m l (to l))
     goes_next next a r None = first_stuck
     goes_next next a r (Some g) = both_continue (rel r is_there refl)
 
-    line_turned : (f : LinOp) (args results : List Spot) (next : List Line) (g : Locations) (a : Around) → Reached m
+    -- a jump that stays one
+    jump_turned : (k : ℕ) (args results : List Spot) (next : List Line) (g : Locations) (a : Around) →
+        Reached m (record { op = lin.Flow (flow.Jump k); args = args; results = results } ∷ next) a.tries → (vs : List Value) →
+        Arrive (on_act c m (record { op = lin.Flow (flow.Jump k); args = args; results = results }) next g a (lin_act c.setting (lin.Flow (flow.Jump k)) vs a))
+        (on_act c turned (record { op = lin.Flow (flow.Jump (to k)); args = args; results = results }) (T next) g a
+        (lin_act c.setting (lin.Flow (flow.Jump (to k))) vs a))
+    jump_turned k args results next g a r [] = goes_label k a (by_step r (walks.goes (At k) this)) _
+    jump_turned k args results next g a r (v ∷ vs) = first_stuck
+
+    abbrev StaysJump : LinOp → Type 0
+    StaysJump f = (k : ℕ) → f ≡ lin.Flow (flow.Jump k) → exits k ≡ None
+
+    line_turned : (f : LinOp) (args results : List Spot) (next : List Line) (g : Locations) (a : Around) → StaysJump f → Reached m
         (record { op = f; args = args; results = results } ∷ next) a.tries → (vs : List Value) →
         Arrive (on_act c m (record { op = f; args = args; results = results }) next g a (lin_act c.setting f vs a))
-        (on_act c turned (record { op = redirected to f; args = args; results = results }) (T next) g a (lin_act c.setting (redirected to f) vs a))
-    line_turned (lin.Op f) args results next g a r vs = same_line (lin.Op f) args results next g a r vs
-    line_turned (lin.Flow (flow.Label k)) args results next g a r vs = same_line (lin.Flow (flow.Label k)) args results next g a r vs
-    line_turned (lin.Flow (flow.Jump k)) args results next g a r [] = goes_label k a (by_step r (walks.goes (At k) this)) _
-    line_turned (lin.Flow (flow.Jump k)) args results next g a r (v ∷ vs) = first_stuck
-    line_turned (lin.Flow (flow.Exit k)) args results next g a r [] =
+        (on_act c turned (record { op = redirected to exits f; args = args; results = results }) (T next) g a (lin_act c.setting (redirected to exits f) vs a))
+    line_turned (lin.Op f) args results next g a jumps r vs = same_line (lin.Op f) args results next g a r vs
+    line_turned (lin.Flow (flow.Label k)) args results next g a jumps r vs = same_line (lin.Flow (flow.Label k)) args results next g a r vs
+    line_turned (lin.Flow (flow.Jump k)) args results next g a jumps r vs =
+        subst (λ o. Arrive
+        (on_act c m (record { op = lin.Flow (flow.Jump k); args = args; results = results }) next g a (lin_act c.setting (lin.Flow (flow.Jump k)) vs a))
+        (on_act c turned (record { op = lin.Flow (goes_by o (to k)); args = args; results = results }) (T next) g a
+        (lin_act c.setting (lin.Flow (goes_by o (to k))) vs a)))
+        (sym (jumps k refl)) (jump_turned k args results next g a r vs)
+    line_turned (lin.Flow (flow.Exit k)) args results next g a jumps r [] =
         both_pay (rel (by_step r (walks.goes (At k) this)) (quiet_to (each k)) (target_turned [] (At (to k))))
-    line_turned (lin.Flow (flow.Exit k)) args results next g a r (v ∷ vs) = first_stuck
-    line_turned (lin.Flow (flow.Branch test k)) args results next g a r vs = by (truth_of (sizes a.memory) test vs)
+    line_turned (lin.Flow (flow.Exit k)) args results next g a jumps r (v ∷ vs) = first_stuck
+    line_turned (lin.Flow (flow.Branch test k)) args results next g a jumps r vs = by (truth_of (sizes a.memory) test vs)
       where
         by : (o : Option Bool) → Arrive
             (on_act c m (record { op = lin.Flow (flow.Branch test k); args = args; results = results }) next g a (branches a (At k) On o))
@@ -433,34 +505,100 @@ module _ (m : Lin) (to : ℕ → ℕ) (each : (l : ℕ) → GoesOnTo m l (to l))
         by None = first_stuck
         by (Some true) = goes_label k a (by_step r (walks.goes (At k) (other this))) _
         by (Some false) = goes_next next a (by_step r (walks.goes On this)) _
-    line_turned (lin.Flow (flow.Switch ls)) args results next g a r vs = same_line (lin.Flow (flow.Switch ls)) args results next g a r vs
-    line_turned (lin.Flow (flow.PushTrap k)) args results next g a r vs = same_line (lin.Flow (flow.PushTrap k)) args results next g a r vs
-    line_turned (lin.Flow flow.PopTrap) args results next g a r vs = same_line (lin.Flow flow.PopTrap) args results next g a r vs
-    line_turned (lin.Flow flow.EnterTrap) args results next g a r vs = same_line (lin.Flow flow.EnterTrap) args results next g a r vs
+    line_turned (lin.Flow (flow.Switch ls)) args results next g a jumps r vs = same_line (lin.Flow (flow.Switch ls)) args results next g a r vs
+    line_turned (lin.Flow (flow.PushTrap k)) args results next g a jumps r vs = same_line (lin.Flow (flow.PushTrap k)) args results next g a r vs
+    line_turned (lin.Flow flow.PopTrap) args results next g a jumps r vs = same_line (lin.Flow flow.PopTrap) args results next g a r vs
+    line_turned (lin.Flow flow.EnterTrap) args results next g a jumps r vs = same_line (lin.Flow flow.EnterTrap) args results next g a r vs
 
     held_back : (i : Line) (next : List Line) (g : Locations) (a : Around) → ValsHeld c m (at (i ∷ next) g a) → ValsHeld c turned
-        (at (redirect to i ∷ T next) g a)
+        (at (redirect to exits i ∷ T next) g a)
     held_back i next g a vals =
         record {
           held = λ k ks same frame l w.
-              let head : redirect to i ≡ k = first_same (redirect to i) k (T next) ks same in
-              let tail : T next ≡ ks = rest_same (redirect to i) k (T next) ks same in
+              let head : redirect to exits i ≡ k = first_same (redirect to exits i) k (T next) ks same in
+              let tail : T next ≡ ks = rest_same (redirect to exits i) k (T next) ks same in
               vals.held i next refl (frame_was i head frame) l (live_across w i next head tail);
         }
 
-    turned_line : (i : Line) (next : List Line) (g : Locations) (a : Around) → Reached m (i ∷ next) a.tries → ValsHeld c m (at (i ∷ next) g a) → Answer
-        (at (redirect to i ∷ T next) g a) (step c m (at (i ∷ next) g a))
-    turned_line i next g a r vals = steps (held_back i next g a vals) (by (values c.setting.end g i.args))
+    abbrev exit_line : ℕ → List Spot → List Spot → Line
+    exit_line n args results = record { op = lin.Flow (flow.Exit n); args = args; results = results }
+
+    abbrev jump_line : ℕ → List Spot → List Spot → Line
+    jump_line k args results = record { op = lin.Flow (flow.Jump k); args = args; results = results }
+
+    passes_none : (i k : Line) (is ks : List Line) → i ∷ is ≡ k ∷ ks → passes_frame i.op ≡ false → passes_frame k.op ≡ true → ⊥
+    passes_none i k is ks e none frame = true≢false (sym frame ∙ ap (λ (j : Line). passes_frame j.op) (sym (first_same i k is ks e)) ∙ none)
+
+    exit_held : (n : ℕ) (args results : List Spot) (js : List Line) (g : Locations) (a : Around) → ValsHeld c turned (at (exit_line n args results ∷ js) g a)
+    exit_held n args results js g a =
+        record { held = λ k ks same frame l w. absurd (passes_none (exit_line n args results) k js ks same refl frame) }
+
+    -- a jump that became an exit waits for the first to come to its own
+    jump_waits : (k n : ℕ) → exits k ≡ Some n → (args results : List Spot) (next : List Line) (g : Locations) (a : Around) →
+        Reached m (jump_line k args results ∷ next) a.tries →
+        Answer (at (exit_line n args results ∷ T next) g a) (step c m (at (jump_line k args results ∷ next) g a))
+    jump_waits k n e args results next g a r = by (values c.setting.end g args) refl
       where
-        by : (o : Option (List Value)) → Arrive (kept.on_values c m i next g a o) (kept.on_values c turned (redirect to i) (T next) g a o)
-        by None = first_stuck
-        by (Some vs) = line_turned i.op i.args i.results next g a r vs
+        by : (o : Option (List Value)) → values c.setting.end g args ≡ o → Answer (at (exit_line n args results ∷ T next) g a)
+            (kept.on_values c m (jump_line k args results) next g a o)
+        by None u = stuck
+        by (Some (v ∷ vs)) u = stuck
+        by (Some []) u = wrote_by results
+          where
+            wrote_by : (rs : List Spot) → Answer (at (exit_line n args results ∷ T next) g a)
+                (wrote (after_label k m.code) a (put_all c.setting.end rs [] (clear (destroyed_by (lin.Flow (flow.Jump k))) g)))
+            wrote_by [] = stays (rel_leaves (by_step r (walks.goes (At k) this)) (leaves_to (out k n e)) u)
+            wrote_by (s ∷ ss) = stuck
+
+    -- whether a line is a jump that becomes an exit
+    data Becomes (f : LinOp) : Type 0 where
+      an_exit : {k n : ℕ} → f ≡ lin.Flow (flow.Jump k) → exits k ≡ Some n → Becomes f
+      its_like : StaysJump f → Becomes f
+
+    other_flow : {f : LinOp} → is_jump f ≡ false → StaysJump f
+    other_flow none k e = absurd (true≢false (sym (ap is_jump e) ∙ none))
+
+    becomes : (f : LinOp) → Becomes f
+    becomes (lin.Flow (flow.Jump k)) = by (exits k) refl
+      where
+        by : (o : Option ℕ) → exits k ≡ o → Becomes (lin.Flow (flow.Jump k))
+        by (Some n) e = an_exit refl e
+        by None e = its_like (λ l same. ap exits (jump_label l k same) ∙ e)
+    becomes (lin.Op f) = its_like (other_flow refl)
+    becomes (lin.Flow (flow.Label k)) = its_like (other_flow refl)
+    becomes (lin.Flow (flow.Exit k)) = its_like (other_flow refl)
+    becomes (lin.Flow (flow.Branch t k)) = its_like (other_flow refl)
+    becomes (lin.Flow (flow.Switch ls)) = its_like (other_flow refl)
+    becomes (lin.Flow (flow.PushTrap k)) = its_like (other_flow refl)
+    becomes (lin.Flow flow.PopTrap) = its_like (other_flow refl)
+    becomes (lin.Flow flow.EnterTrap) = its_like (other_flow refl)
+
+    turned_line : (i : Line) (next : List Line) (g : Locations) (a : Around) → Reached m (i ∷ next) a.tries → ValsHeld c m (at (i ∷ next) g a) → Answer
+        (at (redirect to exits i ∷ T next) g a) (step c m (at (i ∷ next) g a))
+    turned_line i next g a r vals = by (becomes i.op)
+      where
+        on_values : StaysJump i.op → (o : Option (List Value)) → Arrive (kept.on_values c m i next g a o)
+            (kept.on_values c turned (redirect to exits i) (T next) g a o)
+        on_values jumps None = first_stuck
+        on_values jumps (Some vs) = line_turned i.op i.args i.results next g a jumps r vs
+
+        by : Becomes i.op → Answer (at (redirect to exits i ∷ T next) g a) (step c m (at (i ∷ next) g a))
+        by (an_exit {k = k} {n = n} e u) =
+            subst (λ f. Reached m (record { op = f; args = i.args; results = i.results } ∷ next) a.tries →
+            Answer (at (record { op = redirected to exits f; args = i.args; results = i.results } ∷ T next) g a)
+            (step c m (at (record { op = f; args = i.args; results = i.results } ∷ next) g a))) (sym e)
+            (subst (λ o. Reached m (record { op = lin.Flow (flow.Jump k); args = i.args; results = i.results } ∷ next) a.tries →
+            Answer (at (record { op = lin.Flow (goes_by o (to k)); args = i.args; results = i.results } ∷ T next) g a)
+            (step c m (at (record { op = lin.Flow (flow.Jump k); args = i.args; results = i.results } ∷ next) g a))) (sym u)
+            (jump_waits k n u i.args i.results next g a)) r
+        by (its_like jumps) = steps (held_back i next g a vals) (on_values jumps (values c.setting.end g i.args))
 
     closed : Closed c m (step c turned) (ValsHeld c turned) Rel
     closed = record { around = λ s u r. around_same s u r; next = λ s u r vals. next_same s u r vals }
       where
         around_same : (s u : State) → Rel s u → s.around ≡ u.around
         around_same s u (rel r q e) = refl
+        around_same s u (rel_leaves r l e) = refl
 
         from_code : (is : List Line) (g : Locations) (a : Around) → Reached m is a.tries → ValsHeld c m (at is g a) → Answer (at (T is) g a)
             (step c m (at is g a))
@@ -473,8 +611,20 @@ module _ (m : Lin) (to : ℕ → ℕ) (each : (l : ℕ) → GoesOnTo m l (to l))
         by js g a r (by_label p) e vals = stays (rel (by_step r (walks.goes On this)) p e)
         by js g a r (by_jump {l = k} p) e vals = stays (rel (by_step r (walks.goes (At k) this)) p e)
 
+        -- both count the unit at the exit, whether the second has it for an exit or for a jump
+        at_exit : {is next : List Line} {l : ℕ} (n : ℕ) (args results : List Spot) (js : List Line) (g : Locations) (a : Around) → Reached m is a.tries →
+            Quiet m is (bare (flow.Exit l) ∷ next) → Quiet m (after_label l m.code) (after_label n m.code) → values c.setting.end g args ≡ Some [] →
+            Answer (at (exit_line n args results ∷ js) g a) (step c m (at is g a))
+        at_exit {l = l} n args results js g a r is_there q e =
+            steps (exit_held n args results js g a)
+            (subst (λ o. Arrive (Pays (at (after_label l m.code) g a)) (kept.on_values c turned (exit_line n args results) js g a o)) (sym e)
+            (both_pay (rel (by_step r (walks.goes (At l) this)) q (target_turned [] (At n)))))
+        at_exit n args results js g a r (by_label p) q e = stays (rel_leaves (by_step r (walks.goes On this)) (leaves p q) e)
+        at_exit n args results js g a r (by_jump {l = k} p) q e = stays (rel_leaves (by_step r (walks.goes (At k) this)) (leaves p q) e)
+
         next_same : (s u : State) → Rel s u → ValsHeld c m s → Answer u (step c m s)
         next_same s u (rel {js = js} {f = f} {a = a} r q e) vals = by js f a r q e vals
+        next_same s u (rel_leaves {js = js} {n = n} {args = args} {results = results} {f = f} {a = a} r (leaves p q) e) vals = at_exit n args results js f a r p q e
 
     turned_begins : (arguments : List Value) (memory : Memory) (doings : List Doing) (s : State) → start c m arguments memory ≡ Some s →
         Begins c m turned arguments memory doings s
@@ -503,10 +653,10 @@ module _ (m : Lin) (to : ℕ → ℕ) (each : (l : ℕ) → GoesOnTo m l (to l))
   not_op : (f : Flow) (g : Op) → lin.Flow f ≡ lin.Op g → ⊥
   not_op f g e = cc
 
-  pub op_was : (f : LinOp) (g : Op) → redirected to f ≡ lin.Op g → f ≡ lin.Op g
+  pub op_was : (f : LinOp) (g : Op) → redirected to exits f ≡ lin.Op g → f ≡ lin.Op g
   op_was (lin.Op f) g e = e
   op_was (lin.Flow (flow.Label k)) g e = absurd (not_op _ g e)
-  op_was (lin.Flow (flow.Jump k)) g e = absurd (not_op _ g e)
+  op_was (lin.Flow (flow.Jump k)) g e = absurd (not_op (goes_by (exits k) (to k)) g e)
   op_was (lin.Flow (flow.Exit k)) g e = absurd (not_op _ g e)
   op_was (lin.Flow (flow.Branch t k)) g e = absurd (not_op _ g e)
   op_was (lin.Flow (flow.Switch ls)) g e = absurd (not_op _ g e)
@@ -538,4 +688,4 @@ module _ (m : Lin) (to : ℕ → ℕ) (each : (l : ℕ) → GoesOnTo m l (to l))
 
 -- Redirected, a function does what it did.
 pub redirecting_keeps : {m r : Lin} → Redirects m r → KeepsLin m r
-redirecting_keeps {m} h = subst (KeepsLin m) (sym h.is) (turned_keeps m h.to h.each)
+redirecting_keeps {m} h = subst (KeepsLin m) (sym h.is) (turned_keeps m h.to h.exits h.each h.out)

@@ -1,5 +1,5 @@
 -- What is kept of a function's shape where jumps are redirected, and in all.
-use Rattle.std.proofs.Common.{◌≡◌, ◌≢◌, ℕ, suc, ◌≤◌, Bool, true, false, cond, ◌⊎◌, inl, inr, ⊎_elim, List, [], ◌∷◌, ◌++◌, length, All, refl, sym, ap, ◌∙◌, subst, arith}
+use Rattle.std.proofs.Common.{◌≡◌, ◌≢◌, ℕ, suc, ◌≤◌, Bool, true, false, cond, ⊎_elim, List, [], ◌∷◌, ◌++◌, length, All, Option, Some, None, refl, sym, ap, ◌∙◌, subst, arith}
 use Rattle.std.proofs.lemmas.Bool.{true≢false, eqb-true}
 use Rattle.std.specs.List.{Contains, AllPairs}
 use Rattle.bs_words.specs.declared.types.Comp.{Comp}
@@ -26,9 +26,9 @@ use Rattle.linear_rules.proofs.Lines.{all_of}
 use Rattle.linear_rules.proofs.Marks.{all_in, pairs_here, pairs_later}
 use Rattle.linear_rules.proofs.Walked.{Tail, tail_all, tail_more, tail_next, tail_label, tail_in, tail_stands, stands_tail, reached_tail}
 use Rattle.tidy_rules.specs.Leaving.{bare, LabelsBetween, none_between, label_between}
-use Rattle.tidy_rules.specs.Redirecting.{redirected, redirect, GoesOnTo, itself, and_on, Redirects, Tidies, as_it_is, then_leaves, then_redirects}
+use Rattle.tidy_rules.specs.Redirecting.{goes_by, redirected, redirect, GoesOnTo, itself, and_on, ExitsTo, by_exit, Redirects, Tidies, as_it_is, then_leaves, then_redirects}
 use Rattle.tidy_rules.specs.Regular.{AtHomes, IsRegular}
-use Rattle.tidy_rules.proofs.Redirecting.{same_raise, same_exit, same_labels, same_leaves, same_operands, same_results, T, turned, split, source, source_line, line_was, op_was}
+use Rattle.tidy_rules.proofs.Redirecting.{jump_same, exit_was, same_raise, same_labels, same_leaves, same_operands, same_results, T, turned, split, source, source_line, line_was, op_was}
 use Rattle.tidy_rules.proofs.Shape.{compare, spare_free, balance_of, SameShape, leaving_regular, leaving_shape}
 
 -- ---- ends of a list
@@ -96,16 +96,20 @@ later_after l {ys} (tail_more {j = j} {zs = zs} t) once z = by (has_label l j.op
 
 -- ---- forms
 
-module _ (to : ℕ → ℕ) (args results : List Spot) where
+module _ (to : ℕ → ℕ) (exits : ℕ → Option ℕ) (args results : List Spot) where
   abbrev line : LinOp → Line
-  line f = record { op = redirected to f; args = args; results = results }
+  line f = record { op = redirected to exits f; args = args; results = results }
 
   of_form : (f : Flow) {xs rs : List Comp} → FlowHasForm f xs rs → comps args ≡ xs → comps results ≡ rs → FlowHasForm f (comps args) (comps results)
   of_form f {xs} {rs} h e u = subst (λ ys. FlowHasForm f ys (comps results)) (sym e) (subst (FlowHasForm f xs) (sym u) h)
 
   form_turned : {f : Flow} {xs rs : List Comp} → FlowHasForm f xs rs → comps args ≡ xs → comps results ≡ rs → IsFormed (line (lin.Flow f))
   form_turned (label_form {l = l}) e u = formed_flow (of_form (flow.Label l) label_form e u)
-  form_turned (jump_form {l = l}) e u = formed_flow (of_form (flow.Jump (to l)) jump_form e u)
+  form_turned (jump_form {l = l}) e u = by (exits l)
+    where
+      by : (o : Option ℕ) → IsFormed (record { op = lin.Flow (goes_by o (to l)); args = args; results = results })
+      by None = formed_flow (of_form (flow.Jump (to l)) jump_form e u)
+      by (Some n) = formed_flow (of_form (flow.Exit n) exit_form e u)
   form_turned (exit_form {l = l}) e u = formed_flow (of_form (flow.Exit (to l)) exit_form e u)
   form_turned (branch_form {t = t} {l = l} h) e u = formed_flow (of_form (flow.Branch t (to l)) (branch_form h) e u)
   form_turned (switch_form {labels = ls}) e u = formed_flow (of_form (flow.Switch ls) switch_form e u)
@@ -113,9 +117,9 @@ module _ (to : ℕ → ℕ) (args results : List Spot) where
   form_turned pop_form e u = formed_flow (of_form flow.PopTrap pop_form e u)
   form_turned enter_form e u = formed_flow (of_form flow.EnterTrap enter_form e u)
 
-line_formed : (to : ℕ → ℕ) {i : Line} → IsFormed i → IsFormed (redirect to i)
-line_formed to (formed_op h) = formed_op h
-line_formed to (formed_flow {args = args} {results = results} h) = form_turned to args results h refl refl
+line_formed : (to : ℕ → ℕ) (exits : ℕ → Option ℕ) {i : Line} → IsFormed i → IsFormed (redirect to exits i)
+line_formed to exits (formed_op h) = formed_op h
+line_formed to exits (formed_flow {args = args} {results = results} h) = form_turned to exits args results h refl refl
 
 -- ---- operations and labels
 
@@ -135,25 +139,37 @@ one_label : (k l : ℕ) → OneOf (At l) (At k ∷ []) → l ≡ k
 one_label k l this = refl
 one_label k l (other o) = elim o [ ]
 
-module _ (to : ℕ → ℕ) where
-  names_was : (l : ℕ) (f : LinOp) → NamesLabel l (redirected to f) → NamesLabel l f ⊎ ((k : ℕ) × NamesLabel k f × (l ≡ to k))
-  names_was l (lin.Op f) n = inl n
-  names_was l (lin.Flow (flow.Label k)) n = inl n
-  names_was l (lin.Flow (flow.Jump k)) (goes_to o) = inr (k, goes_to this, one_label (to k) l o)
-  names_was l (lin.Flow (flow.Jump k)) (pushes e) = absurd (not_push _ l refl e)
-  names_was l (lin.Flow (flow.Exit k)) (goes_to o) = inr (k, goes_to this, one_label (to k) l o)
-  names_was l (lin.Flow (flow.Exit k)) (pushes e) = absurd (not_push _ l refl e)
-  names_was l (lin.Flow (flow.Branch t k)) (goes_to (other o)) = inr (k, goes_to (other this), one_label (to k) l o)
-  names_was l (lin.Flow (flow.Branch t k)) (pushes e) = absurd (not_push _ l refl e)
-  names_was l (lin.Flow (flow.Switch ls)) n = inl n
-  names_was l (lin.Flow (flow.PushTrap k)) n = inl n
-  names_was l (lin.Flow flow.PopTrap) n = inl n
-  names_was l (lin.Flow flow.EnterTrap) n = inl n
+module _ (to : ℕ → ℕ) (exits : ℕ → Option ℕ) where
+  -- a label that a redirected line names is that of the line, or the label to which that goes on, or a jump became an exit to it
+  data NamedBy (l : ℕ) (f : LinOp) : Type 0 where
+    as_before : NamesLabel l f → NamedBy l f
+    goes_on_to : {k : ℕ} → NamesLabel k f → l ≡ to k → NamedBy l f
+    exits_to : {k : ℕ} → NamesLabel k f → exits k ≡ Some l → is_exit (redirected to exits f) ≡ true → NamedBy l f
 
-  pop_was : (f : LinOp) → redirected to f ≡ lin.Flow flow.PopTrap → f ≡ lin.Flow flow.PopTrap
+  names_was : (l : ℕ) (f : LinOp) → NamesLabel l (redirected to exits f) → NamedBy l f
+  names_was l (lin.Op f) n = as_before n
+  names_was l (lin.Flow (flow.Label k)) n = as_before n
+  names_was l (lin.Flow (flow.Jump k)) n = by (exits k) refl n
+    where
+      by : (o : Option ℕ) → exits k ≡ o → NamesLabel l (lin.Flow (goes_by o (to k))) → NamedBy l (lin.Flow (flow.Jump k))
+      by None e (goes_to o) = goes_on_to (goes_to this) (one_label (to k) l o)
+      by None e (pushes u) = absurd (not_push _ l refl u)
+      by (Some n) e (goes_to o) =
+          exits_to (goes_to this) (e ∙ ap Some (sym (one_label n l o))) (ap (λ o. is_exit (lin.Flow (goes_by o (to k)))) e)
+      by (Some n) e (pushes u) = absurd (not_push _ l refl u)
+  names_was l (lin.Flow (flow.Exit k)) (goes_to o) = goes_on_to (goes_to this) (one_label (to k) l o)
+  names_was l (lin.Flow (flow.Exit k)) (pushes e) = absurd (not_push _ l refl e)
+  names_was l (lin.Flow (flow.Branch t k)) (goes_to (other o)) = goes_on_to (goes_to (other this)) (one_label (to k) l o)
+  names_was l (lin.Flow (flow.Branch t k)) (pushes e) = absurd (not_push _ l refl e)
+  names_was l (lin.Flow (flow.Switch ls)) n = as_before n
+  names_was l (lin.Flow (flow.PushTrap k)) n = as_before n
+  names_was l (lin.Flow flow.PopTrap) n = as_before n
+  names_was l (lin.Flow flow.EnterTrap) n = as_before n
+
+  pop_was : (f : LinOp) → redirected to exits f ≡ lin.Flow flow.PopTrap → f ≡ lin.Flow flow.PopTrap
   pop_was (lin.Op f) e = e
   pop_was (lin.Flow (flow.Label k)) e = e
-  pop_was (lin.Flow (flow.Jump k)) e = absurd (not_pop _ refl e)
+  pop_was (lin.Flow (flow.Jump k)) e = absurd (not_pop _ (jump_same is_turned true (λ l. refl) (λ l. refl) (exits k) (to k)) e)
   pop_was (lin.Flow (flow.Exit k)) e = absurd (not_pop _ refl e)
   pop_was (lin.Flow (flow.Branch t k)) e = absurd (not_pop _ refl e)
   pop_was (lin.Flow (flow.Switch ls)) e = e
@@ -161,10 +177,10 @@ module _ (to : ℕ → ℕ) where
   pop_was (lin.Flow flow.PopTrap) e = e
   pop_was (lin.Flow flow.EnterTrap) e = e
 
-  push_was : (l : ℕ) (f : LinOp) → redirected to f ≡ lin.Flow (flow.PushTrap l) → f ≡ lin.Flow (flow.PushTrap l)
+  push_was : (l : ℕ) (f : LinOp) → redirected to exits f ≡ lin.Flow (flow.PushTrap l) → f ≡ lin.Flow (flow.PushTrap l)
   push_was l (lin.Op f) e = e
   push_was l (lin.Flow (flow.Label k)) e = e
-  push_was l (lin.Flow (flow.Jump k)) e = absurd (not_push _ l refl e)
+  push_was l (lin.Flow (flow.Jump k)) e = absurd (not_push _ l (jump_same is_turned true (λ l. refl) (λ l. refl) (exits k) (to k)) e)
   push_was l (lin.Flow (flow.Exit k)) e = absurd (not_push _ l refl e)
   push_was l (lin.Flow (flow.Branch t k)) e = absurd (not_push _ l refl e)
   push_was l (lin.Flow (flow.Switch ls)) e = e
@@ -172,19 +188,20 @@ module _ (to : ℕ → ℕ) where
   push_was l (lin.Flow flow.PopTrap) e = e
   push_was l (lin.Flow flow.EnterTrap) e = e
 
-module _ (m : Lin) (to : ℕ → ℕ) (each : (l : ℕ) → GoesOnTo m l (to l)) (regular : IsRegular m) where
+module _ (m : Lin) (to : ℕ → ℕ) (exits : ℕ → Option ℕ) (each : (l : ℕ) → GoesOnTo m l (to l)) (out : (l n : ℕ) → exits l ≡ Some n → ExitsTo m l n)
+    (regular : IsRegular m) where
   abbrev R : Lin
-  R = turned m to each
+  R = turned m to exits each out
 
   abbrev L : List Line → List Line
-  L = T m to each
+  L = T m to exits each out
 
   labels_turned : (is : List Line) → labels_in (L is) ≡ labels_in is
   labels_turned [] = refl
-  labels_turned (i ∷ is) = ap (λ ks. ks ++ labels_in (L is)) (same_labels to i.op) ∙ ap (λ ls. label_of i.op ++ ls) (labels_turned is)
+  labels_turned (i ∷ is) = ap (λ ks. ks ++ labels_in (L is)) (same_labels to exits i.op) ∙ ap (λ ls. label_of i.op ++ ls) (labels_turned is)
 
   enters_turned : {l : ℕ} {is : List Line} → EntersAt l is → EntersAt l (L is)
-  enters_turned (enters_here e u) = enters_here (ap (redirected to) e) (ap (redirected to) u)
+  enters_turned (enters_here e u) = enters_here (ap (redirected to exits) e) (ap (redirected to exits) u)
   enters_turned (enters_below h) = enters_below (enters_turned h)
 
   lines_same : (is : List Line) → length (L is) ≡ length is
@@ -196,6 +213,11 @@ module _ (m : Lin) (to : ℕ → ℕ) (each : (l : ℕ) → GoesOnTo m l (to l))
   stands_on itself c = c
   stands_on (and_on {k = k} {n = n} g p) c =
       regular.well.named (bare (flow.Jump n)) (contains_of (tail_in (tail_then (between_tail p) (tail_label k m.code)))) n (goes_to this)
+
+  exits_on : {k n : ℕ} → ExitsTo m k n → Contains (labels_in m.code) k → Contains (labels_in m.code) n
+  exits_on (by_exit {last = last} {out = out} g p h) c =
+      stands_on h
+      (regular.well.named (bare (flow.Exit out)) (contains_of (tail_in (tail_then (between_tail p) (tail_label last m.code)))) out (goes_to this))
 
   later_on : {k n : ℕ} {ys : List Line} → Tail ys m.code → GoesOnTo m k n → IsIn k (labels_in ys) → IsIn n (labels_in ys)
   later_on w itself z = z
@@ -214,8 +236,8 @@ module _ (m : Lin) (to : ℕ → ℕ) (each : (l : ℕ) → GoesOnTo m l (to l))
     where
       by : (js : List Line) (tries others : List ℕ) → Reached R js tries → Reached R js others → tries ≡ others
       by js tries others r s =
-          let x = source m to each r in
-          let y = source m to each s in
+          let x = source m to exits each out r in
+          let y = source m to exits each out s in
           let len : length x.code ≡ length y.code = sym (lines_same x.code) ∙ ap length (x.same ∙ sym y.same) ∙ lines_same y.code in
           regular.traps.one y.code tries others
           (subst (λ is. Reached m is tries) (same_tail (reached_tail m x.reached) (reached_tail m y.reached) len) x.reached) y.reached
@@ -223,15 +245,15 @@ module _ (m : Lin) (to : ℕ → ℕ) (each : (l : ℕ) → GoesOnTo m l (to l))
   balance_turned : TrapsBalance R
   balance_turned =
       balance_of R traps_turned
-      (λ j js tries r e n. let x = source_line m to each r in regular.well.traps.pops x.line x.next tries x.reached
-      (pop_was to x.line.op (ap (λ (j : Line). j.op) x.is_line ∙ e)) n)
-      (λ j js tries r e. let x = source_line m to each r in regular.well.traps.leaves x.line x.next tries x.reached
-      (sym (same_leaves to x.line.op) ∙ ap (λ (j : Line). walks.leaves j.op) x.is_line ∙ e))
+      (λ j js tries r e n. let x = source_line m to exits each out r in regular.well.traps.pops x.line x.next tries x.reached
+      (pop_was to exits x.line.op (ap (λ (j : Line). j.op) x.is_line ∙ e)) n)
+      (λ j js tries r e. let x = source_line m to exits each out r in regular.well.traps.leaves x.line x.next tries x.reached
+      (sym (same_leaves to exits x.line.op) ∙ ap (λ (j : Line). walks.leaves j.op) x.is_line ∙ e))
 
   -- ---- lines
 
-  from_line : (P : Line → Type 0) → ((i : Line) → IsIn i m.code → P (redirect to i)) → (j : Line) → IsIn j R.code → P j
-  from_line P h j z = let y = line_was m to each j m.code z in subst P y.2 (h y.0 y.1)
+  from_line : (P : Line → Type 0) → ((i : Line) → IsIn i m.code → P (redirect to exits i)) → (j : Line) → IsIn j R.code → P j
+  from_line P h j z = let y = line_was m to exits each out j m.code z in subst P y.2 (h y.0 y.1)
 
   home_turned : {l : _} → IsHome m l → IsHome R l
   home_turned (is_colour z) = is_colour z
@@ -260,15 +282,19 @@ module _ (m : Lin) (to : ℕ → ℕ) (each : (l : ℕ) → GoesOnTo m l (to l))
       from_line (λ j. (l : ℕ) → NamesLabel l j.op → Contains (labels_in R.code) l)
       (λ i z l n.
       subst (λ ls. Contains ls l) (sym labels_same)
-      (⊎_elim (λ n. regular.well.named i (contains_of z) l n)
-      (λ y. subst (Contains (labels_in m.code)) (sym y.2) (stands_on (each y.0) (regular.well.named i (contains_of z) y.0 y.1))) (names_was to l i.op n)))
+      (by i z l (names_was to exits l i.op n)))
+    where
+      by : (i : Line) → IsIn i m.code → (l : ℕ) → NamedBy to exits l i.op → Contains (labels_in m.code) l
+      by i z l (as_before n) = regular.well.named i (contains_of z) l n
+      by i z l (goes_on_to {k = k} n e) = subst (Contains (labels_in m.code)) (sym e) (stands_on (each k) (regular.well.named i (contains_of z) k n))
+      by i z l (exits_to {k = k} n e x) = exits_on (out k l e) (regular.well.named i (contains_of z) k n)
 
   well_turned : WellFormed R
   well_turned =
       record {
-        forms = all_of IsFormed R.code (from_line IsFormed (λ i z. line_formed to (all_in IsFormed regular.well.forms z)));
+        forms = all_of IsFormed R.code (from_line IsFormed (λ i z. line_formed to exits (all_in IsFormed regular.well.forms z)));
         returns = λ j c. from_line (λ j. j.op ≡ lin.Op (op.Leaving leaving.Return) → comps j.args ≡ results_of m.result)
-            (λ i z e. regular.well.returns i (contains_of z) (op_was m to each i.op _ e)) j (in_of j R.code c);
+            (λ i z e. regular.well.returns i (contains_of z) (op_was m to exits each out i.op _ e)) j (in_of j R.code c);
         params = spots_turned m.params regular.well.params;
         locations = all_of (λ (i : Line). Locates R i.args × Locates R i.results) R.code
             (λ j z. let h = all_in HomesOf homes_turned z in (located j.args h.0, located j.results h.1));
@@ -276,7 +302,7 @@ module _ (m : Lin) (to : ℕ → ℕ) (each : (l : ℕ) → GoesOnTo m l (to l))
         labels = subst (λ ls. AllPairs (λ k l. k ≢ l) ls) (sym labels_same) regular.well.labels;
         named = λ j c l n. named_turned j (in_of j R.code c) l n;
         handlers = λ j c. from_line (λ j. (l : ℕ) → j.op ≡ lin.Flow (flow.PushTrap l) → EntersAt l R.code)
-            (λ i z l e. enters_turned (regular.well.handlers i (contains_of z) l (push_was to l i.op e))) j (in_of j R.code c);
+            (λ i z l e. enters_turned (regular.well.handlers i (contains_of z) l (push_was to exits l i.op e))) j (in_of j R.code c);
         traps = balance_turned;
       }
 
@@ -285,16 +311,16 @@ module _ (m : Lin) (to : ℕ → ℕ) (each : (l : ℕ) → GoesOnTo m l (to l))
   record Stood (j : Line) (js is : List Line) : Type 0 where
     line : Line
     next : List Line
-    is_line : redirect to line ≡ j
+    is_line : redirect to exits line ≡ j
     is_next : L next ≡ js
     stands : Tail (line ∷ next) is
 
   stood : {j : Line} {js : List Line} (is xs : List Line) → L is ≡ xs → Tail (j ∷ js) xs → Stood j js is
   stood {j} {js} is xs e tail_all =
-      let s = split m to each is j js e in
+      let s = split m to exits each out is j js e in
       record { line = s.line; next = s.next; is_line = s.is_line; is_next = s.is_next; stands = subst (Tail (s.line ∷ s.next)) (sym s.is_code) tail_all }
   stood {j} {js} is xs e (tail_more {j = k} {zs = zs} t) =
-      let s = split m to each is k zs e in
+      let s = split m to exits each out is k zs e in
       let y = stood s.next zs s.is_next t in
       record {
         line = y.line;
@@ -305,13 +331,18 @@ module _ (m : Lin) (to : ℕ → ℕ) (each : (l : ℕ) → GoesOnTo m l (to l))
             (tail_more y.stands);
       }
 
-  forward_label : (i : Line) (next : List Line) → Tail (i ∷ next) m.code → is_exit i.op ≡ false → (l : ℕ) → NamesLabel l (redirected to i.op) → Contains
-      (labels_in next) l
-  forward_label i next w e l n =
-      ⊎_elim (λ n. regular.forward.labels i next (tail_stands w) e l n)
-      (λ y. subst (Contains (labels_in next)) (sym y.2)
-      (contains_of (later_on (tail_next w) (each y.0) (in_of y.0 (labels_in next) (regular.forward.labels i next (tail_stands w) e y.0 y.1)))))
-      (names_was to l i.op n)
+  forward_label : (i : Line) (next : List Line) → Tail (i ∷ next) m.code → is_exit (redirected to exits i.op) ≡ false → (l : ℕ) →
+      NamesLabel l (redirected to exits i.op) → Contains (labels_in next) l
+  forward_label i next w e l n = by (names_was to exits l i.op n)
+    where
+      labels : (k : ℕ) → NamesLabel k i.op → Contains (labels_in next) k
+      labels k n = regular.forward.labels i next (tail_stands w) (exit_was to exits i.op e) k n
+
+      by : NamedBy to exits l i.op → Contains (labels_in next) l
+      by (as_before n) = labels l n
+      by (goes_on_to {k = k} n u) =
+          subst (Contains (labels_in next)) (sym u) (contains_of (later_on (tail_next w) (each k) (in_of k (labels_in next) (labels k n))))
+      by (exits_to n u x) = absurd (true≢false (sym x ∙ e))
 
   forward_turned : GoesForward R
   forward_turned =
@@ -319,19 +350,19 @@ module _ (m : Lin) (to : ℕ → ℕ) (each : (l : ℕ) → GoesOnTo m l (to l))
         labels = λ j js s e l n.
             let y = stood m.code R.code refl (stands_tail s) in
             subst (λ ls. Contains ls l) (sym (labels_turned y.next) ∙ ap labels_in y.is_next)
-            (forward_label y.line y.next y.stands (sym (same_exit to y.line.op) ∙ ap (λ (j : Line). is_exit j.op) y.is_line ∙ e) l
+            (forward_label y.line y.next y.stands (ap (λ (j : Line). is_exit j.op) y.is_line ∙ e) l
             (subst (λ (j : Line). NamesLabel l j.op) (sym y.is_line) n));
         handlers = λ j js l tries r raise.
-            let x = source_line m to each r in
+            let x = source_line m to exits each out r in
             subst (λ ls. Contains ls l) (sym (labels_turned x.next) ∙ ap labels_in x.is_next)
-            (regular.forward.handlers x.line x.next l tries x.reached (sym (same_raise to x.line.op) ∙ ap (λ (j : Line). may_raise j.op) x.is_line ∙ raise));
+            (regular.forward.handlers x.line x.next l tries x.reached (sym (same_raise to exits x.line.op) ∙ ap (λ (j : Line). may_raise j.op) x.is_line ∙ raise));
       }
 
   -- a move is not redirected
-  move_was : (i : Line) (j : Line) {from to' : Spot} → redirect to i ≡ j → IsSelfMove j from to' → IsSelfMove i from to'
+  move_was : (i : Line) (j : Line) {from to' : Spot} → redirect to exits i ≡ j → IsSelfMove j from to' → IsSelfMove i from to'
   move_was i j e (is_self_move {from = a} {to = b} same) =
-      let o = op_was m to each i.op _ (ap (λ (j : Line). j.op) e) in
-      let back : redirect to i ≡ i = ap (λ o. record { op = o; args = i.args; results = i.results }) (ap (redirected to) o ∙ sym o) in
+      let o = op_was m to exits each out i.op _ (ap (λ (j : Line). j.op) e) in
+      let back : redirect to exits i ≡ i = ap (λ o. record { op = o; args = i.args; results = i.results }) (ap (redirected to exits) o ∙ sym o) in
       subst (λ (k : Line). IsSelfMove k a b) (sym e ∙ back) (is_self_move same)
 
   regular_turned : IsRegular R
@@ -344,24 +375,24 @@ module _ (m : Lin) (to : ℕ → ℕ) (each : (l : ℕ) → GoesOnTo m l (to l))
         seated = record {
           params = regular.seated.params;
           operands = λ j c. from_line (λ j. AreSeated (lin_operand_seats j.op) (places_of j.args))
-              (λ i z. subst (λ s. AreSeated s (places_of i.args)) (sym (same_operands to i.op)) (regular.seated.operands i (contains_of z))) j
+              (λ i z. subst (λ s. AreSeated s (places_of i.args)) (sym (same_operands to exits i.op)) (regular.seated.operands i (contains_of z))) j
               (in_of j R.code c);
           results = λ j c. from_line (λ j. AreSeated (lin_result_seats j.op) (places_of j.results))
-              (λ i z. subst (λ s. AreSeated s (places_of i.results)) (sym (same_results to i.op)) (regular.seated.results i (contains_of z))) j
+              (λ i z. subst (λ s. AreSeated s (places_of i.results)) (sym (same_results to exits i.op)) (regular.seated.results i (contains_of z))) j
               (in_of j R.code c);
         };
         changes = λ j c from to' z.
-            let y = line_was m to each j m.code (in_of j R.code c) in regular.changes y.0 (contains_of y.1) from to' (move_was y.0 j y.2 z);
+            let y = line_was m to exits each out j m.code (in_of j R.code c) in regular.changes y.0 (contains_of y.1) from to' (move_was y.0 j y.2 z);
       }
 
   shape_turned : SameShape m R
   shape_turned = record { slots = refl; params = refl; labels = labels_same; lines = omega (arith, lines_same m.code) }
 
 redirecting_regular : {m r : Lin} → Redirects m r → IsRegular m → IsRegular r
-redirecting_regular {m} h regular = subst IsRegular (sym h.is) (regular_turned m h.to h.each regular)
+redirecting_regular {m} h regular = subst IsRegular (sym h.is) (regular_turned m h.to h.exits h.each h.out regular)
 
 redirecting_shape : {m r : Lin} → Redirects m r → IsRegular m → SameShape m r
-redirecting_shape {m} h regular = subst (SameShape m) (sym h.is) (shape_turned m h.to h.each regular)
+redirecting_shape {m} h regular = subst (SameShape m) (sym h.is) (shape_turned m h.to h.exits h.each h.out regular)
 
 -- ---- all
 

@@ -1,7 +1,8 @@
 -- Jumps that go at once where the jumps lead to which they go.
-use Rattle.std.specs.Option.{unwrap_or}
+use Rattle.std.specs.Option.{unwrap_or, option_map}
 use Rattle.std.specs.Prelude.{◌≡◌, ℕ, zero, suc, Bool, true, false, cond, Option, Some, None, List, [], ◌∷◌, length, map}
 use Rattle.lin_ir.specs.Meaning.{after_label}
+use Rattle.lin_ir.specs.declared.lin.Flow.{Flow}
 use Rattle.lin_ir.specs.declared.lin.Flow.TheVariants as flow
 use Rattle.lin_ir.specs.declared.lin.LinOp.{LinOp}
 use Rattle.lin_ir.specs.declared.lin.LinOp.TheVariants as lin
@@ -10,16 +11,22 @@ use Rattle.lin_ir.specs.declared.lin.Line.{Line}
 use Rattle.lin_ir.specs.declared.lin.Lin.{Lin}
 use Rattle.tidy_rules.specs.Leaving.{bare, LabelsBetween, with_code, LeavesOut}
 
--- Jumps, exits and branches go elsewhere; an exit is still a unit. The rows of a table and the
--- handlers of pushed traps stay where they are.
-abbrev pub redirected : (ℕ → ℕ) → LinOp → LinOp
-redirected to (lin.Flow (flow.Jump l)) = lin.Flow (flow.Jump (to l))
-redirected to (lin.Flow (flow.Exit l)) = lin.Flow (flow.Exit (to l))
-redirected to (lin.Flow (flow.Branch test l)) = lin.Flow (flow.Branch test (to l))
-redirected to f = f
+-- what a jump becomes: an exit to the first label, if it is one, and else a jump to the second
+abbrev pub goes_by : Option ℕ → ℕ → Flow
+goes_by (Some n) l = flow.Exit n
+goes_by None l = flow.Jump l
 
-abbrev pub redirect : (ℕ → ℕ) → Line → Line
-redirect to i = record { op = redirected to i.op; args = i.args; results = i.results }
+-- Jumps, exits and branches go elsewhere. A jump whose label leads to an exit is an exit itself, and
+-- so counts the unit. The rows of a table and the handlers of pushed traps stay where they are.
+abbrev pub redirected : (to : ℕ → ℕ) (exits : ℕ → Option ℕ) → LinOp → LinOp
+redirected to exits (lin.Flow (flow.Jump l)) = lin.Flow (goes_by (exits l) (to l))
+redirected to exits (lin.Flow (flow.Exit l)) = lin.Flow (flow.Exit (to l))
+redirected to exits (lin.Flow (flow.Branch test l)) = lin.Flow (flow.Branch test (to l))
+redirected to exits f = f
+
+abbrev pub redirect : (to : ℕ → ℕ) (exits : ℕ → Option ℕ) → Line → Line
+redirect to exits i =
+    record { op = redirected to exits i.op; args = i.args; results = i.results }
 
 -- from the first label control goes by labels and jumps alone to the second
 pub data GoesOnTo (m : Lin) (l : ℕ) : ℕ → Type 0 where
@@ -27,11 +34,21 @@ pub data GoesOnTo (m : Lin) (l : ℕ) : ℕ → Type 0 where
   and_on : {k n : ℕ} {next : List Line} → GoesOnTo m l k →
       LabelsBetween (after_label k m.code) (bare (flow.Jump n) ∷ next) → GoesOnTo m l n
 
+-- from the first label control goes by labels and jumps alone to an exit, and from there to the
+-- second
+pub data ExitsTo (m : Lin) (l n : ℕ) : Type 0 where
+  by_exit : {last out : ℕ} {next : List Line} → GoesOnTo m l last →
+      LabelsBetween (after_label last m.code) (bare (flow.Exit out) ∷ next) →
+      GoesOnTo m out n → ExitsTo m l n
+
 -- the second function is the first with other ways to the same places
 pub record Redirects (m r : Lin) : Type 0 where
   pub to : ℕ → ℕ
-  pub is : r ≡ with_code m (map (redirect to) m.code)
+  pub exits : ℕ → Option ℕ
+  pub is : r ≡ with_code m (map (redirect to exits) m.code)
   pub each : (l : ℕ) → GoesOnTo m l (to l)
+  -- the unit of that exit is counted by the jump that becomes one
+  pub out : (l n : ℕ) → exits l ≡ Some n → ExitsTo m l n
 
 -- ---- all jumps at once
 
@@ -45,11 +62,24 @@ abbrev pub jumps_to : LinOp → (args results : List Spot) → Option ℕ
 jumps_to (lin.Flow (flow.Jump l)) [] [] = Some l
 jumps_to _ args results = None
 
+-- where an exit with no operands goes
+abbrev pub exits_to : LinOp → (args results : List Spot) → Option ℕ
+exits_to (lin.Flow (flow.Exit l)) [] [] = Some l
+exits_to _ args results = None
+
+-- where the first line that is no label goes, told so of it
+abbrev pub first_goes : (LinOp → (args results : List Spot) → Option ℕ) → List Line → Option ℕ
+first_goes told [] = None
+first_goes told (i ∷ next) =
+    cond (is_label i.op i.args i.results) (first_goes told next) (told i.op i.args i.results)
+
 -- where the first line that is no label jumps
 abbrev pub leads_to : List Line → Option ℕ
-leads_to [] = None
-leads_to (i ∷ next) =
-    cond (is_label i.op i.args i.results) (leads_to next) (jumps_to i.op i.args i.results)
+leads_to = first_goes jumps_to
+
+-- where it exits
+abbrev pub leaves_to : List Line → Option ℕ
+leaves_to = first_goes exits_to
 
 -- the label to which one jumps at once from a label, and else that label itself
 abbrev pub next_label : Lin → ℕ → ℕ
@@ -65,9 +95,13 @@ followed m (suc n) l = followed m n (next_label m l)
 abbrev pub last_label : Lin → ℕ → ℕ
 last_label m l = followed m (length m.code) l
 
+-- where one comes from there by an exit, and by labels and jumps again
+abbrev pub last_exit : Lin → ℕ → Option ℕ
+last_exit m l = option_map (last_label m) (leaves_to (after_label (last_label m l) m.code))
+
 -- the function in which jumps go at once where others lead
 abbrev pub redirected_all : Lin → Lin
-redirected_all m = with_code m (map (redirect (last_label m)) m.code)
+redirected_all m = with_code m (map (redirect (last_label m) (last_exit m)) m.code)
 
 -- ---- changes in any order
 
