@@ -67,11 +67,11 @@ abbrev pub exits_to : LinOp → (args results : List Spot) → Option ℕ
 exits_to (lin.Flow (flow.Exit l)) [] [] = Some l
 exits_to _ args results = None
 
--- where the first line that is no label goes, told so of it
+-- where the first line that is no label goes, by what says so of one line
 abbrev pub first_goes : (LinOp → (args results : List Spot) → Option ℕ) → List Line → Option ℕ
-first_goes told [] = None
-first_goes told (i ∷ next) =
-    cond (is_label i.op i.args i.results) (first_goes told next) (told i.op i.args i.results)
+first_goes goes [] = None
+first_goes goes (i ∷ next) =
+    cond (is_label i.op i.args i.results) (first_goes goes next) (goes i.op i.args i.results)
 
 -- where the first line that is no label jumps
 abbrev pub leads_to : List Line → Option ℕ
