@@ -146,7 +146,8 @@ impl Page {
 
     /// A line for each external call, and one for how the run ended.
     fn put_outcome(&mut self, eval: &Eval) -> Result<(), AllocError>
-        ensures { IfOk result (λ _. Puts self.old self.new (cmm_outcome_text (eval_view eval.now))) }
+        ensures { IfOk result (λ _.
+            Puts self.old self.new (cmm_outcome_text (eval_view eval.now))) }
     {
         self.put_calls(eval.calls.as_slice())?;
         self.put_end(&eval.outcome)?;
