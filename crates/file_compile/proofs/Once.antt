@@ -52,7 +52,7 @@ module _ (tree : FunctionTree) where
     is_allocated : IsAllocatedFor tree of.made.mach
     is_allocated = record { prepared = of.made.prepared; is_prepared = of.made.is_prepared; allocated = of.made.allocated }
 
-    slots : HasSlots (selected tree) of.made.is_prepared.spilled
+    abbrev slots : HasSlots (selected tree) of.made.is_prepared.spilled
     slots = of.made.is_prepared.has_slots
 
     -- what the code is made of is what the passes make
