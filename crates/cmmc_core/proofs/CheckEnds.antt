@@ -16,7 +16,7 @@ use Rattle.cmmc_core.proofs.CommandEnd.{CheckEnd, answered, unanswered, OrNoMemo
 use Rattle.cmmc_core.proofs.ImageEnds.{ImageEnd, no_memory, output, passed, unasked, image-complete}
 use Rattle.cmmc_core.proofs.TextKnown.{Fits, IsPassed, no_fault, no_file, read_same, file_has}
 
-module _ (source : Side) (text : List ℕ) (known : source.before ≡ Some text) (check : CheckTree) where
+module _ (source out : Side) (text : List ℕ) (known : source.before ≡ Some text) (check : CheckTree) where
   abbrev told_of : (lines : List ℕ) (t : List ℕ) → IsCheckOf check t lines → (file : FileTree) × IsFileOf t file
   told_of lines t h = (h.file, h.is_file)
 
@@ -33,7 +33,7 @@ module _ (source : Side) (text : List ℕ) (known : source.before ≡ Some text)
   faulty : (P : List ℕ → Type 0) (f : Fault) → HasFault text f → (of : (t : List ℕ) → P t → (file : FileTree) × IsFileOf t file) → Reads P source → ⊥
   faulty P f has of r = let o = of r.text r.holds in no_file source text known P f has r o.0 o.1
 
-  fault_end : (status : ℕ) → OrNoMemory status (CheckEnd check source status) → (f : Fault) → HasFault text f → Is 3 status
+  fault_end : (status : ℕ) → OrNoMemory status (CheckEnd check source out status) → (f : Fault) → HasFault text f → Is 3 status
   fault_end status (inl z) f has = inr z
   fault_end status (inr (answered lines z r)) f has = absurd (faulty _ f has (told_of lines) r)
   fault_end status (inr (unanswered line (fault g r))) f has = inl refl
@@ -41,7 +41,7 @@ module _ (source : Side) (text : List ℕ) (known : source.before ≡ Some text)
   fault_end status (inr (unanswered line (unfit r))) f has = absurd (faulty _ f has unfit_of r)
   fault_end status (inr (unanswered line (too_large large r))) f has = absurd (faulty _ f has (large_of large) r)
 
-  entry_end : (status : ℕ) → OrNoMemory status (CheckEnd check source status) → (file : FileTree) → IsFileOf text file → NamesNone file check.entry → Is 2 status
+  entry_end : (status : ℕ) → OrNoMemory status (CheckEnd check source out status) → (file : FileTree) → IsFileOf text file → NamesNone file check.entry → Is 2 status
   entry_end status (inl z) file is_file none = inr z
   entry_end status (inr (answered lines z r)) file is_file none =
       let h = read_same source text known _ (λ f. NamesNone f check.entry) file is_file none (told_of lines) r in
@@ -53,7 +53,7 @@ module _ (source : Side) (text : List ℕ) (known : source.before ≡ Some text)
       let h = read_same source text known _ (λ f. NamesNone f check.entry) file is_file none (large_of large) r in
       absurd (named_none check h.0.file h.0.entry h.0.args h.0.answers h.0.call h.1)
 
-  unfit_end : (status : ℕ) → OrNoMemory status (CheckEnd check source status) → (file : FileTree) → IsFileOf text file → HasUnfit check file → Is 2 status
+  unfit_end : (status : ℕ) → OrNoMemory status (CheckEnd check source out status) → (file : FileTree) → IsFileOf text file → HasUnfit check file → Is 2 status
   unfit_end status (inl z) file is_file not = inr z
   unfit_end status (inr (answered lines z r)) file is_file not =
       let h = read_same source text known _ (HasUnfit check) file is_file not (told_of lines) r in
@@ -82,7 +82,7 @@ module _ (source : Side) (text : List ℕ) (known : source.before ≡ Some text)
   passed_of : (large : Large) (t : List ℕ) → IsTooLargeToCheck check t large → (file : FileTree) × (IsFileOf t file × IsPassed file)
   passed_of large t h = (h.file, (h.is_file, record { large = large; passes = (h.image, (h.made.made, h.passes)); not_roomy = h.not_roomy }))
 
-  image_end : (status : ℕ) → OrNoMemory status (CheckEnd check source status) → ImageEnd text (IsCalled check) (IsCalled check) status
+  image_end : (status : ℕ) → OrNoMemory status (CheckEnd check source out status) → ImageEnd text (IsCalled check) (IsCalled check) out status
   image_end status (inl z) = no_memory z
   image_end status (inr (answered lines z r)) = output z (λ file is_file c. file_has source text known _ Fits file is_file (fits_of lines) r)
   image_end status (inr (unanswered line (fault g r))) = unasked (λ file is_file c. no_fault source text known file g is_file r)
@@ -91,10 +91,10 @@ module _ (source : Side) (text : List ℕ) (known : source.before ≡ Some text)
   image_end status (inr (unanswered line (too_large large r))) =
       passed refl (λ file is_file c. (c, file_has source text known _ IsPassed file is_file (passed_of large) r))
 
-  pub check-complete : (status : ℕ) → OrNoMemory status (CheckEnd check source status) → CheckComplete check text status
+  pub check-complete : (status : ℕ) → OrNoMemory status (CheckEnd check source out status) → CheckComplete check text out status
   check-complete status e = record {
     fault = fault_end status e;
     no_entry = entry_end status e;
     unfit = unfit_end status e;
-    image = image-complete text (IsCalled check) (IsCalled check) (λ file c. c) status (image_end status e);
+    image = image-complete text (IsCalled check) (IsCalled check) (λ file c. c) out status (image_end status e);
   }

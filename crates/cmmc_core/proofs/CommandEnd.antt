@@ -1,4 +1,4 @@
--- How a call ends where no count rose, by the command that its words are.
+-- How a call ends where the counts of the source and of err did not rise, by the command that its words are.
 use Rattle.std.proofs.Common.{◌≡◌, ◌⊎◌, ℕ, List, refl, subst, inl, inr}
 use Rattle.bs_fault.specs.declared.fault.Fault.{Fault}
 use Rattle.bs_fault.specs.declared.image.ImageRefusal.{ImageRefusal}
@@ -13,68 +13,79 @@ use Rattle.text_commands.specs.Check.{IsCheckOf}
 use Rattle.text_commands.specs.Compile.{IsImageOf, IsTooLarge}
 use Rattle.text_commands.specs.Listing.{IsListingOf}
 use Rattle.cmmc_core.specs.Compile.{Reads}
-use Rattle.cmmc_core.specs.Complete.{NoneRose, Is}
+use Rattle.cmmc_core.specs.Complete.{Faultless, Is, HasOutput}
 use Rattle.cmmc_core.specs.Effects.{Effects, Side, Rose}
-use Rattle.cmmc_core.specs.Ends.{Output, spelling, outcome, checked, listed, soaked, Cause, CheckCause, ListCause, no_command, no_value, read_fault, fault, too_large, no_image, no_entry, unfit, unchecked, unlisted, unsoaked, no_memory, Ends, written, refused, out_fault, err_fault}
+use Rattle.cmmc_core.specs.Ends.{Output, spelling, outcome, checked, listed, soaked, HasInput, Cause, CheckCause, ListCause, no_command, no_value, read_fault, fault, too_large, no_image, no_entry, unfit, unchecked, unlisted, unsoaked, no_memory, Ends, written, refused, out_fault, err_fault}
 use Rattle.cmmc_core.specs.Run.{IsOutcomeOf, ReadsNoImage, NamesNoEntry, GivesUnfit}
 use Rattle.cmmc_core.specs.Soak.{soak_text, IsSoakOf}
 
--- How a call ends where no count rose: with its output, or with a cause.
-pub data Told (words : List (List ℕ)) (source : Side) (status : ℕ) : Type 0 where
-  output : (bytes : List ℕ) → status ≡ 0 → Output words source bytes → Told words source status
-  cause : (line : List ℕ) → Cause words source status line → Told words source status
+-- the output was written, or its write failed
+abbrev pub IsWritten : Side → ℕ → Type 0
+IsWritten out status = (status ≡ 0) ⊎ (Rose out × (status ≡ 6))
 
-pub told : (words : List (List ℕ)) (e : Effects) (status : ℕ) → Ends words e status → NoneRose e → Told words e.source status
-told words e status (written bytes o got kept) none = output bytes refl o
-told words e status (refused s line why kept got) none = cause line why
-told words e status (out_fault bytes o part kept) none = absurd (none.out part.rose)
-told words e status (err_fault s line why kept part) none = absurd (none.err part.rose)
+pub has_output : (out : Side) (status : ℕ) → IsWritten out status → HasOutput out status
+has_output out status (inl z) = inl (inl z)
+has_output out status (inr rose) = inr rose
+
+pub no_output : (out : Side) (status : ℕ) → status ≡ 9 → HasOutput out status
+no_output out status z = inl (inr z)
+
+-- How a call ends where a line can be written: with its output, or with a cause.
+pub data Told (words : List (List ℕ)) (source out : Side) (status : ℕ) : Type 0 where
+  output : (bytes : List ℕ) → IsWritten out status → Output words source bytes → Told words source out status
+  cause : (line : List ℕ) → Cause words source status line → Told words source out status
+
+pub told : (words : List (List ℕ)) (e : Effects) (status : ℕ) → Ends words e status → Faultless e.err → Told words e.source e.out status
+told words e status (written bytes o got kept) calm = output bytes (inl refl) o
+told words e status (refused s line why kept got) calm = cause line why
+told words e status (out_fault bytes o part kept) calm = output bytes (inr (part.rose, refl)) o
+told words e status (err_fault s line why kept part) calm = absurd (calm part.rose)
 
 -- ---- the commands, one by one, but for want of memory
 
-pub data CompileEnd (source : Side) (status : ℕ) : Type 0 where
-  made : (image : Tables) → status ≡ 0 → Reads (λ text. IsImageOf text image) source → CompileEnd source status
-  faulty : (f : Fault) → status ≡ 3 → Reads (λ text. HasFault text f) source → CompileEnd source status
-  passing : (large : Large) → status ≡ 8 → Reads (λ text. IsTooLarge text large) source → CompileEnd source status
+pub data CompileEnd (source out : Side) (status : ℕ) : Type 0 where
+  made : (image : Tables) → IsWritten out status → Reads (λ text. IsImageOf text image) source → CompileEnd source out status
+  faulty : (f : Fault) → status ≡ 3 → Reads (λ text. HasFault text f) source → CompileEnd source out status
+  passing : (large : Large) → status ≡ 8 → Reads (λ text. IsTooLarge text large) source → CompileEnd source out status
 
-pub data RunEnd (run : RunTree) (source : Side) (status : ℕ) : Type 0 where
-  ran : (text : List ℕ) → status ≡ 0 → IsOutcomeOf run source text → RunEnd run source status
-  imageless : (refusal : ImageRefusal) → status ≡ 4 → ReadsNoImage source refusal → RunEnd run source status
-  unnamed : status ≡ 2 → NamesNoEntry run source → RunEnd run source status
-  unsuited : status ≡ 2 → GivesUnfit run source → RunEnd run source status
+pub data RunEnd (run : RunTree) (source out : Side) (status : ℕ) : Type 0 where
+  ran : (text : List ℕ) → IsWritten out status → IsOutcomeOf run source text → RunEnd run source out status
+  imageless : (refusal : ImageRefusal) → status ≡ 4 → ReadsNoImage source refusal → RunEnd run source out status
+  unnamed : status ≡ 2 → NamesNoEntry run source → RunEnd run source out status
+  unsuited : status ≡ 2 → GivesUnfit run source → RunEnd run source out status
 
-pub data CheckEnd (check : CheckTree) (source : Side) (status : ℕ) : Type 0 where
-  answered : (lines : List ℕ) → status ≡ 0 → Reads (λ text. IsCheckOf check text lines) source → CheckEnd check source status
-  unanswered : (line : List ℕ) → CheckCause check source status line → CheckEnd check source status
+pub data CheckEnd (check : CheckTree) (source out : Side) (status : ℕ) : Type 0 where
+  answered : (lines : List ℕ) → IsWritten out status → Reads (λ text. IsCheckOf check text lines) source → CheckEnd check source out status
+  unanswered : (line : List ℕ) → CheckCause check source status line → CheckEnd check source out status
 
-pub data ListEnd (stage : Stage) (source : Side) (status : ℕ) : Type 0 where
-  shown : (bytes : List ℕ) → status ≡ 0 → Reads (λ text. IsListingOf stage text bytes) source → ListEnd stage source status
-  unshown : (line : List ℕ) → ListCause stage source status line → ListEnd stage source status
+pub data ListEnd (stage : Stage) (source out : Side) (status : ℕ) : Type 0 where
+  shown : (bytes : List ℕ) → IsWritten out status → Reads (λ text. IsListingOf stage text bytes) source → ListEnd stage source out status
+  unshown : (line : List ℕ) → ListCause stage source status line → ListEnd stage source out status
 
-pub data SoakEnd (seed functions status : ℕ) : Type 0 where
-  reported : (lines : List ℕ) → status ≡ 0 → IsSoakOf seed functions lines → SoakEnd seed functions status
-  unreported : (large : Large) → status ≡ 8 → IsTooLarge (soak_text seed functions) large → SoakEnd seed functions status
+pub data SoakEnd (seed functions : ℕ) (out : Side) (status : ℕ) : Type 0 where
+  reported : (lines : List ℕ) → IsWritten out status → IsSoakOf seed functions lines → SoakEnd seed functions out status
+  unreported : (large : Large) → status ≡ 8 → IsTooLarge (soak_text seed functions) large → SoakEnd seed functions out status
 
-abbrev pub CommandEnd : CommandTree → Side → ℕ → Type 0
-CommandEnd (CompileCommand jobs) source status = CompileEnd source status
-CommandEnd (RunCommand run) source status = RunEnd run source status
-CommandEnd (CheckCommand check) source status = CheckEnd check source status
-CommandEnd (ListCommand stage) source status = ListEnd stage source status
-CommandEnd (SoakCommand seed functions) source status = SoakEnd seed functions status
+abbrev pub CommandEnd : CommandTree → Side → Side → ℕ → Type 0
+CommandEnd (CompileCommand jobs) source out status = CompileEnd source out status
+CommandEnd (RunCommand run) source out status = RunEnd run source out status
+CommandEnd (CheckCommand check) source out status = CheckEnd check source out status
+CommandEnd (ListCommand stage) source out status = ListEnd stage source out status
+CommandEnd (SoakCommand seed functions) source out status = SoakEnd seed functions out status
 
 -- either there was no memory, or this
 abbrev pub OrNoMemory : ℕ → Type 0 → Type 0
 OrNoMemory status End = (status ≡ 9) ⊎ End
 
-module _ (words : List (List ℕ)) (source : Side) where
+module _ (words : List (List ℕ)) (source out : Side) where
   -- the words are one command: they do not end as another
-  one_command : (status : ℕ) (tree other : CommandTree) → IsCommand words tree → IsCommand words other → CommandEnd other source status
-      → OrNoMemory status (CommandEnd tree source status)
+  one_command : (status : ℕ) (tree other : CommandTree) → IsCommand words tree → IsCommand words other → CommandEnd other source out status
+      → OrNoMemory status (CommandEnd tree source out status)
   one_command status tree other is as_other e =
-      inr (subst (λ t. CommandEnd t source status) (command-unique words other tree as_other is) e)
+      inr (subst (λ t. CommandEnd t source out status) (command-unique words other tree as_other is) e)
 
-  pub command_end : (tree : CommandTree) → IsCommand words tree → (Rose source → ⊥) → (status : ℕ) → Told words source status
-      → OrNoMemory status (CommandEnd tree source status)
+  pub command_end : (tree : CommandTree) → IsCommand words tree → (HasInput tree → Faultless source) → (status : ℕ) → Told words source out status
+      → OrNoMemory status (CommandEnd tree source out status)
   command_end tree is calm status (output bytes z (spelling image i r)) = one_command status tree (CompileCommand i.0) is i.1 (made image z r)
   command_end tree is calm status (output bytes z (outcome run text i r)) = one_command status tree (RunCommand run) is i (ran text z r)
   command_end tree is calm status (output bytes z (checked check lines i r)) = one_command status tree (CheckCommand check) is i (answered lines z r)
@@ -83,7 +94,7 @@ module _ (words : List (List ℕ)) (source : Side) where
       one_command status tree (SoakCommand seed functions) is i (reported lines z r)
   command_end tree is calm status (cause line (no_command n k)) = absurd (n (command-formed words tree is))
   command_end tree is calm status (cause line (no_value w n k)) = absurd (n tree is)
-  command_end tree is calm status (cause line (read_fault c i h r)) = absurd (calm r)
+  command_end tree is calm status (cause line (read_fault c i h r)) = absurd (calm (subst HasInput (command-unique words c tree i is) h) r)
   command_end tree is calm status (cause line (fault f i r)) = one_command 3 tree (CompileCommand i.0) is i.1 (faulty f refl r)
   command_end tree is calm status (cause line (too_large large i r)) = one_command 8 tree (CompileCommand i.0) is i.1 (passing large refl r)
   command_end tree is calm status (cause line (no_image run refusal i r)) = one_command 4 tree (RunCommand run) is i (imageless refusal refl r)
@@ -97,7 +108,7 @@ module _ (words : List (List ℕ)) (source : Side) where
 
   -- ---- words that are no command
 
-  pub no_value_end : (status : ℕ) → Told words source status → ((tree : CommandTree) → IsCommand words tree → ⊥) → Is 2 status
+  pub no_value_end : (status : ℕ) → Told words source out status → ((tree : CommandTree) → IsCommand words tree → ⊥) → Is 2 status
   no_value_end status (output bytes z (spelling image i r)) not = absurd (not (CompileCommand i.0) i.1)
   no_value_end status (output bytes z (outcome run text i r)) not = absurd (not (RunCommand run) i)
   no_value_end status (output bytes z (checked check lines i r)) not = absurd (not (CheckCommand check) i)
@@ -117,5 +128,5 @@ module _ (words : List (List ℕ)) (source : Side) where
   no_value_end status (cause line no_memory) not = inr refl
 
   -- words of another form are no command
-  pub no_command_end : (status : ℕ) → Told words source status → (WellFormed words → ⊥) → Is 2 status
+  pub no_command_end : (status : ℕ) → Told words source out status → (WellFormed words → ⊥) → Is 2 status
   no_command_end status told not = no_value_end status told (λ tree i. not (command-formed words tree i))

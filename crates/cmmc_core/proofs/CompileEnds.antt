@@ -18,18 +18,18 @@ image_of image t h = (h.file, (h.is_file, (image, (h.made.made, h.fits))))
 pub large_of : (large : Large) (t : List ℕ) → IsTooLarge t large → (file : FileTree) × (IsFileOf t file × IsPassed file)
 large_of large t h = (h.file, (h.is_file, record { large = large; passes = (h.image, (h.made.made, h.passes)); not_roomy = h.not_roomy }))
 
-module _ (source : Side) (text : List ℕ) (known : source.before ≡ Some text) where
-  fault_end : (status : ℕ) → OrNoMemory status (CompileEnd source status) → (f : Fault) → HasFault text f → Is 3 status
+module _ (source out : Side) (text : List ℕ) (known : source.before ≡ Some text) where
+  fault_end : (status : ℕ) → OrNoMemory status (CompileEnd source out status) → (f : Fault) → HasFault text f → Is 3 status
   fault_end status (inl z) f has = inr z
   fault_end status (inr (made image z r)) f has = absurd (no_file source text known _ f has r _ r.holds.is_file)
   fault_end status (inr (faulty g z r)) f has = inl z
   fault_end status (inr (passing large z r)) f has = absurd (no_file source text known _ f has r _ r.holds.is_file)
 
-  image_end : (status : ℕ) → OrNoMemory status (CompileEnd source status) → ImageEnd text Every Every status
+  image_end : (status : ℕ) → OrNoMemory status (CompileEnd source out status) → ImageEnd text Every Every out status
   image_end status (inl z) = no_memory z
   image_end status (inr (made image z r)) = output z (λ file is_file sized. file_has source text known _ Fits file is_file (image_of image) r)
   image_end status (inr (faulty g z r)) = unasked (λ file is_file ask. no_fault source text known file g is_file r)
   image_end status (inr (passing large z r)) = passed z (λ file is_file ask. (tt, file_has source text known _ IsPassed file is_file (large_of large) r))
 
-  pub compile-complete : (status : ℕ) → OrNoMemory status (CompileEnd source status) → CompileComplete text status
-  compile-complete status e = record { fault = fault_end status e; image = image-complete text Every Every (λ file sized. tt) status (image_end status e) }
+  pub compile-complete : (status : ℕ) → OrNoMemory status (CompileEnd source out status) → CompileComplete text out status
+  compile-complete status e = record { fault = fault_end status e; image = image-complete text Every Every (λ file sized. tt) out status (image_end status e) }

@@ -31,20 +31,20 @@ listed_fits Code text bytes of h = (h.is.image, (h.is.made, h.is.fits))
 listed_of : (stage : Stage) (bytes : List ℕ) → IsOfImage stage → (t : List ℕ) → IsListingOf stage t bytes → (file : FileTree) × (IsFileOf t file × Fits file)
 listed_of stage bytes of t h = (h.file, (h.is_file, listed_fits stage t bytes of h))
 
-module _ (source : Side) (text : List ℕ) (known : source.before ≡ Some text) (stage : Stage) where
-  fault_end : (status : ℕ) → OrNoMemory status (ListEnd stage source status) → (f : Fault) → HasFault text f → Is 3 status
+module _ (source out : Side) (text : List ℕ) (known : source.before ≡ Some text) (stage : Stage) where
+  fault_end : (status : ℕ) → OrNoMemory status (ListEnd stage source out status) → (f : Fault) → HasFault text f → Is 3 status
   fault_end status (inl z) f has = inr z
   fault_end status (inr (shown bytes z r)) f has = absurd (no_file source text known _ f has r _ r.holds.is_file)
   fault_end status (inr (unshown line (fault g r))) f has = inl refl
   fault_end status (inr (unshown line (too_large large of r))) f has = absurd (no_file source text known _ f has r _ r.holds.is_file)
 
-  image_end : (status : ℕ) → OrNoMemory status (ListEnd stage source status) → ImageEnd text Every (λ file. IsOfImage stage) status
+  image_end : (status : ℕ) → OrNoMemory status (ListEnd stage source out status) → ImageEnd text Every (λ file. IsOfImage stage) out status
   image_end status (inl z) = no_memory z
   image_end status (inr (shown bytes z r)) = output z (λ file is_file of. file_has source text known _ Fits file is_file (listed_of stage bytes of) r)
   image_end status (inr (unshown line (fault g r))) = unasked (λ file is_file ask. no_fault source text known file g is_file r)
   image_end status (inr (unshown line (too_large large of r))) =
       passed refl (λ file is_file ask. (of, file_has source text known _ IsPassed file is_file (large_of large) r))
 
-  pub list-complete : (status : ℕ) → OrNoMemory status (ListEnd stage source status) → ListComplete stage text status
+  pub list-complete : (status : ℕ) → OrNoMemory status (ListEnd stage source out status) → ListComplete stage text out status
   list-complete status e =
-      record { fault = fault_end status e; image = image-complete text Every (λ file. IsOfImage stage) (λ file of. tt) status (image_end status e) }
+      record { fault = fault_end status e; image = image-complete text Every (λ file. IsOfImage stage) (λ file of. tt) out status (image_end status e) }

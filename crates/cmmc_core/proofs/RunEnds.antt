@@ -3,10 +3,10 @@ use Rattle.std.proofs.Common.{◌≡◌, ℕ, List, Some, None, sym, ap, ◌∙�
 use Rattle.command_line.specs.Command.{RunTree}
 use Rattle.image_form.specs.Tables.{Tables, Func}
 use Rattle.rv_machine.specs.Loading.{func_named, words_of_args}
-use Rattle.cmmc_core.specs.Complete.{Is, RunComplete}
+use Rattle.cmmc_core.specs.Complete.{Is, HasOutput, RunComplete}
 use Rattle.cmmc_core.specs.Effects.{Side, IsRead}
 use Rattle.cmmc_core.specs.Run.{IsSpelling, ReadsImage, words_of_answers, longest_image}
-use Rattle.cmmc_core.proofs.CommandEnd.{RunEnd, ran, imageless, unnamed, unsuited, OrNoMemory}
+use Rattle.cmmc_core.proofs.CommandEnd.{RunEnd, ran, imageless, unnamed, unsuited, OrNoMemory, has_output, no_output}
 use Rattle.cmmc_core.proofs.Spelled.{one_image, spelling_short}
 use Rattle.cmmc_core.proofs.TextKnown.{some_none, of_read, before_read}
 
@@ -34,7 +34,7 @@ module _ (run : RunTree) (bytes : List ℕ) where
 
 -- ---- the ends
 
-module _ (source : Side) (bytes : List ℕ) (known : source.before ≡ Some bytes) (run : RunTree) where
+module _ (source out : Side) (bytes : List ℕ) (known : source.before ≡ Some bytes) (run : RunTree) where
   -- what was read of the bytes is all of them, or they are longer than any image
   read_image : (image : Tables) → ReadsImage source image → IsSpelling bytes image
   read_image image r =
@@ -46,10 +46,10 @@ module _ (source : Side) (bytes : List ℕ) (known : source.before ≡ Some byte
       of_read source longest_image bytes known (λ b. IsSpelling b image) read r
       (λ long. absurd (let short = spelling_short bytes image s in omega arith)) s
 
-  outcome_end : (status : ℕ) → OrNoMemory status (RunEnd run source status) → (image : Tables) (entry : Func) (args answers : List ℕ) → IsSpelling bytes image
-      → func_named run.entry image.funcs ≡ Some entry → words_of_args image entry.params run.args ≡ Some args → words_of_answers image run.answers ≡ Some answers → Is 0 status
-  outcome_end status (inl z) image entry args answers s named suit answered = inr z
-  outcome_end status (inr (ran text z o)) image entry args answers s named suit answered = inl z
+  outcome_end : (status : ℕ) → OrNoMemory status (RunEnd run source out status) → (image : Tables) (entry : Func) (args answers : List ℕ) → IsSpelling bytes image
+      → func_named run.entry image.funcs ≡ Some entry → words_of_args image entry.params run.args ≡ Some args → words_of_answers image run.answers ≡ Some answers → HasOutput out status
+  outcome_end status (inl z) image entry args answers s named suit answered = no_output out status z
+  outcome_end status (inr (ran text z o)) image entry args answers s named suit answered = has_output out status z
   outcome_end status (inr (imageless refusal z r)) image entry args answers s named suit answered =
       absurd (r.no_image.none image (spelling_read r.bytes image r.read s))
   outcome_end status (inr (unnamed z r)) image entry args answers s named suit answered =
@@ -58,14 +58,14 @@ module _ (source : Side) (bytes : List ℕ) (known : source.before ≡ Some byte
       let t = read_image r.image r.reads in
       absurd (elim r.is_unfit.unfit [ inl none ↦ suit_twice run bytes image r.image entry r.is_unfit.entry args s t named r.is_unfit.named suit none | inr none ↦ answered_twice run bytes image r.image answers s t answered none ])
 
-  entry_end : (status : ℕ) → OrNoMemory status (RunEnd run source status) → (image : Tables) → IsSpelling bytes image → func_named run.entry image.funcs ≡ None → Is 2 status
+  entry_end : (status : ℕ) → OrNoMemory status (RunEnd run source out status) → (image : Tables) → IsSpelling bytes image → func_named run.entry image.funcs ≡ None → Is 2 status
   entry_end status (inl z) image s none = inr z
   entry_end status (inr (ran text z o)) image s none = absurd (named_twice run bytes o.image image o.is_text.entry (read_image o.image o.reads) s o.is_text.named none)
   entry_end status (inr (imageless refusal z r)) image s none = absurd (r.no_image.none image (spelling_read r.bytes image r.read s))
   entry_end status (inr (unnamed z r)) image s none = inl z
   entry_end status (inr (unsuited z r)) image s none = inl z
 
-  args_end : (status : ℕ) → OrNoMemory status (RunEnd run source status) → (image : Tables) (entry : Func) → IsSpelling bytes image
+  args_end : (status : ℕ) → OrNoMemory status (RunEnd run source out status) → (image : Tables) (entry : Func) → IsSpelling bytes image
       → func_named run.entry image.funcs ≡ Some entry → words_of_args image entry.params run.args ≡ None → Is 2 status
   args_end status (inl z) image entry s named none = inr z
   args_end status (inr (ran text z o)) image entry s named none =
@@ -74,7 +74,7 @@ module _ (source : Side) (bytes : List ℕ) (known : source.before ≡ Some byte
   args_end status (inr (unnamed z r)) image entry s named none = inl z
   args_end status (inr (unsuited z r)) image entry s named none = inl z
 
-  answers_end : (status : ℕ) → OrNoMemory status (RunEnd run source status) → (image : Tables) (entry : Func) → IsSpelling bytes image
+  answers_end : (status : ℕ) → OrNoMemory status (RunEnd run source out status) → (image : Tables) (entry : Func) → IsSpelling bytes image
       → func_named run.entry image.funcs ≡ Some entry → words_of_answers image run.answers ≡ None → Is 2 status
   answers_end status (inl z) image entry s named none = inr z
   answers_end status (inr (ran text z o)) image entry s named none =
@@ -83,14 +83,14 @@ module _ (source : Side) (bytes : List ℕ) (known : source.before ≡ Some byte
   answers_end status (inr (unnamed z r)) image entry s named none = inl z
   answers_end status (inr (unsuited z r)) image entry s named none = inl z
 
-  image_end : (status : ℕ) → OrNoMemory status (RunEnd run source status) → ((image : Tables) → IsSpelling bytes image → ⊥) → Is 4 status
+  image_end : (status : ℕ) → OrNoMemory status (RunEnd run source out status) → ((image : Tables) → IsSpelling bytes image → ⊥) → Is 4 status
   image_end status (inl z) none = inr z
   image_end status (inr (ran text z o)) none = absurd (none o.image (read_image o.image o.reads))
   image_end status (inr (imageless refusal z r)) none = inl z
   image_end status (inr (unnamed z r)) none = absurd (none r.image (read_image r.image r.reads))
   image_end status (inr (unsuited z r)) none = absurd (none r.image (read_image r.image r.reads))
 
-  pub run-complete : (status : ℕ) → OrNoMemory status (RunEnd run source status) → RunComplete run bytes status
+  pub run-complete : (status : ℕ) → OrNoMemory status (RunEnd run source out status) → RunComplete run bytes out status
   run-complete status e = record {
     outcome = outcome_end status e;
     no_entry = entry_end status e;

@@ -3,24 +3,25 @@ use Rattle.std.proofs.Common.{◌≡◌, ◌⊎◌, ℕ, ◌≤◌, subst, inl, 
 use Rattle.cmm_front.proofs.OneFile.{one_file}
 use Rattle.cmm_front.specs.FileOf.{IsFileOf}
 use Rattle.cmm_tree.specs.Tree.{FileTree}
-use Rattle.cmmc_core.specs.Complete.{Is, Every, SoakComplete}
+use Rattle.cmmc_core.specs.Complete.{HasOutput, Every, SoakComplete}
+use Rattle.cmmc_core.specs.Effects.{Side}
 use Rattle.cmmc_core.specs.Soak.{soak_text}
-use Rattle.cmmc_core.proofs.CommandEnd.{SoakEnd, reported, unreported, OrNoMemory}
+use Rattle.cmmc_core.proofs.CommandEnd.{SoakEnd, reported, unreported, OrNoMemory, has_output, no_output}
 use Rattle.cmmc_core.proofs.Drawn.{drawn_bytes}
 use Rattle.cmmc_core.proofs.CompileEnds.{large_of}
 use Rattle.cmmc_core.proofs.ImageEnds.{ImageEnd, no_memory, output, passed, image-complete}
 use Rattle.cmmc_core.proofs.TextKnown.{Fits, IsPassed}
 
-module _ (seed functions : ℕ) (few : functions ≤ 1000) where
+module _ (seed functions : ℕ) (few : functions ≤ 1000) (out : Side) where
   same_file : (P : FileTree → Type 0) (file other : FileTree) → IsFileOf (soak_text seed functions) file → IsFileOf (soak_text seed functions) other → P file → P other
   same_file P file other h g p = subst P (one_file (soak_text seed functions) file other (drawn_bytes seed functions few) h g) p
 
-  accepted_end : (status : ℕ) → OrNoMemory status (SoakEnd seed functions status) → Is 0 status ⊎ (status ≡ 8)
-  accepted_end status (inl z) = inl (inr z)
-  accepted_end status (inr (reported lines z h)) = inl (inl z)
+  accepted_end : (status : ℕ) → OrNoMemory status (SoakEnd seed functions out status) → HasOutput out status ⊎ (status ≡ 8)
+  accepted_end status (inl z) = inl (no_output out status z)
+  accepted_end status (inr (reported lines z h)) = inl (has_output out status z)
   accepted_end status (inr (unreported large z h)) = inr z
 
-  image_end : (status : ℕ) → OrNoMemory status (SoakEnd seed functions status) → ImageEnd (soak_text seed functions) Every Every status
+  image_end : (status : ℕ) → OrNoMemory status (SoakEnd seed functions out status) → ImageEnd (soak_text seed functions) Every Every out status
   image_end status (inl z) = no_memory z
   image_end status (inr (reported lines z h)) =
       let i = h.trial.is_image in
@@ -29,8 +30,8 @@ module _ (seed functions : ℕ) (few : functions ≤ 1000) where
       let of = large_of large (soak_text seed functions) h in
       passed z (λ file is_file ask. (tt, same_file IsPassed of.0 file of.1.0 is_file of.1.1))
 
-  pub soak-complete : (status : ℕ) → OrNoMemory status (SoakEnd seed functions status) → SoakComplete seed functions status
+  pub soak-complete : (status : ℕ) → OrNoMemory status (SoakEnd seed functions out status) → SoakComplete seed functions out status
   soak-complete status e = record {
     accepted = accepted_end status e;
-    image = image-complete (soak_text seed functions) Every Every (λ file sized. tt) status (image_end status e);
+    image = image-complete (soak_text seed functions) Every Every (λ file sized. tt) out status (image_end status e);
   }

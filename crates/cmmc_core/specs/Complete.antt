@@ -1,4 +1,5 @@
--- That nothing but want of memory stands between good input and its output, where no count rose.
+-- That nothing but want of memory, or a read or a write that failed, stands between good input and
+-- its output, and between bad input and its line.
 use Rattle.std.specs.Prelude.{⊤, ◌≡◌, ◌⊎◌, ℕ, List, Some, None}
 use Rattle.bs_fault.specs.declared.fault.Fault.{Fault}
 use Rattle.bs_fault.specs.declared.large.Large.{Large}
@@ -14,65 +15,72 @@ use Rattle.made_functions.specs.Files.{IsMadeFor}
 use Rattle.rv_machine.specs.Loading.{func_named, words_of_args}
 use Rattle.stages.specs.declared.stage.Stage.{Stage}
 use Rattle.text_commands.specs.Arguments.{NamesNone, HasUnfit, IsCall}
-use Rattle.cmmc_core.specs.Effects.{Effects, Rose}
+use Rattle.cmmc_core.specs.Effects.{Effects, Side, Rose}
 use Rattle.cmmc_core.specs.Run.{IsSpelling, words_of_answers}
 use Rattle.cmmc_core.specs.Soak.{soak_text}
 
--- No count of faults rose in the call.
-pub record NoneRose (e : Effects) : Type 0 where
-  pub source : Rose e.source → ⊥
-  pub out : Rose e.out → ⊥
-  pub err : Rose e.err → ⊥
+-- no read of it failed, and no write to it: its count of faults did not rise in the call
+abbrev pub Faultless : Side → Type 0
+Faultless side = Rose side → ⊥
 
 -- One status, but for want of memory.
 abbrev pub Is : ℕ → ℕ → Type 0
 Is wanted status = (status ≡ wanted) ⊎ (status ≡ 9)
 
+-- There is an output: status 0, but for want of memory, or 6 where a write to out failed.
+abbrev pub HasOutput : Side → ℕ → Type 0
+HasOutput out status = Is 0 status ⊎ (Rose out × (status ≡ 6))
+
 -- ---- texts
 
 -- What a command comes to by the image that is made for the text's file, where it is asked of that
 -- file. Of a file that is sized there is no output without an image that fits.
-pub record ImageComplete (text : List ℕ) (IsAsked IsSized : FileTree → Type 0) (status : ℕ) : Type 0
-  where
-    -- there is an output, or the file is sized, and a section of its image passes its limit
-    pub accepted : (file : FileTree)
-        → IsFileOf text file
-        → IsAsked file
-        → Is 0 status ⊎ (IsSized file × (status ≡ 8))
-    -- where the image fits, there is an output
-    pub fits : (file : FileTree) (image : Tables)
-        → IsFileOf text file
-        → IsAsked file
-        → IsMadeFor file image
-        → first_too_large image ≡ None
-        → Is 0 status
-    pub roomy : (file : FileTree) → IsFileOf text file → IsAsked file → IsRoomy file → Is 0 status
-    pub too_large : (file : FileTree) (image : Tables) (large : Large)
-        → IsFileOf text file
-        → IsSized file
-        → IsMadeFor file image
-        → first_too_large image ≡ Some large
-        → Is 8 status
+pub record ImageComplete
+    (text : List ℕ) (IsAsked IsSized : FileTree → Type 0) (out : Side) (status : ℕ)
+    : Type 0 where
+  -- there is an output, or the file is sized, and a section of its image passes its limit
+  pub accepted : (file : FileTree)
+      → IsFileOf text file
+      → IsAsked file
+      → HasOutput out status ⊎ (IsSized file × (status ≡ 8))
+  -- where the image fits, there is an output
+  pub fits : (file : FileTree) (image : Tables)
+      → IsFileOf text file
+      → IsAsked file
+      → IsMadeFor file image
+      → first_too_large image ≡ None
+      → HasOutput out status
+  pub roomy : (file : FileTree)
+      → IsFileOf text file
+      → IsAsked file
+      → IsRoomy file
+      → HasOutput out status
+  pub too_large : (file : FileTree) (image : Tables) (large : Large)
+      → IsFileOf text file
+      → IsSized file
+      → IsMadeFor file image
+      → first_too_large image ≡ Some large
+      → Is 8 status
 
 -- the command is asked of every file
 abbrev pub Every : FileTree → Type 0
 Every file = ⊤
 
 -- What `compile` comes to on a text that the source is known to hold.
-pub record CompileComplete (text : List ℕ) (status : ℕ) : Type 0 where
+pub record CompileComplete (text : List ℕ) (out : Side) (status : ℕ) : Type 0 where
   pub fault : (told : Fault) → HasFault text told → Is 3 status
   -- a text without a fault is compiled
-  pub image : ImageComplete text Every Every status
+  pub image : ImageComplete text Every Every out status
 
 -- What `run` comes to on bytes that the source is known to hold.
-pub record RunComplete (run : RunTree) (bytes : List ℕ) (status : ℕ) : Type 0 where
+pub record RunComplete (run : RunTree) (bytes : List ℕ) (out : Side) (status : ℕ) : Type 0 where
   -- an image whose entry, arguments and answers suit is run, whatever becomes of the run
   pub outcome : (image : Tables) (entry : Func) (args answers : List ℕ)
       → IsSpelling bytes image
       → func_named run.entry image.funcs ≡ Some entry
       → words_of_args image entry.params run.args ≡ Some args
       → words_of_answers image run.answers ≡ Some answers
-      → Is 0 status
+      → HasOutput out status
   pub no_entry : (image : Tables)
       → IsSpelling bytes image
       → func_named run.entry image.funcs ≡ None
@@ -97,7 +105,7 @@ pub record IsCalled (check : CheckTree) (file : FileTree) : Type 0 where
   pub call : IsCall check file entry args answers
 
 -- What `check` comes to on a text that the source is known to hold.
-pub record CheckComplete (check : CheckTree) (text : List ℕ) (status : ℕ) : Type 0 where
+pub record CheckComplete (check : CheckTree) (text : List ℕ) (out : Side) (status : ℕ) : Type 0 where
   pub fault : (told : Fault) → HasFault text told → Is 3 status
   pub no_entry : (file : FileTree)
       → IsFileOf text file
@@ -105,49 +113,55 @@ pub record CheckComplete (check : CheckTree) (text : List ℕ) (status : ℕ) : 
       → Is 2 status
   pub unfit : (file : FileTree) → IsFileOf text file → HasUnfit check file → Is 2 status
   -- a call that suits is run, whatever becomes of the run
-  pub image : ImageComplete text (IsCalled check) (IsCalled check) status
+  pub image : ImageComplete text (IsCalled check) (IsCalled check) out status
 
 -- What `list` comes to on a text that the source is known to hold.
-pub record ListComplete (stage : Stage) (text : List ℕ) (status : ℕ) : Type 0 where
+pub record ListComplete (stage : Stage) (text : List ℕ) (out : Side) (status : ℕ) : Type 0 where
   pub fault : (told : Fault) → HasFault text told → Is 3 status
   -- a text without a fault is listed; only a stage of the image asks that it fits
-  pub image : ImageComplete text Every (λ file. IsOfImage stage) status
+  pub image : ImageComplete text Every (λ file. IsOfImage stage) out status
 
 -- What `soak` comes to. The text that is drawn has no fault.
-pub record SoakComplete (seed functions status : ℕ) : Type 0 where
+pub record SoakComplete (seed functions : ℕ) (out : Side) (status : ℕ) : Type 0 where
   -- it is tried, whatever becomes of the runs, or a section of its image passes its limit
-  pub accepted : Is 0 status ⊎ (status ≡ 8)
-  pub image : ImageComplete (soak_text seed functions) Every Every status
+  pub accepted : HasOutput out status ⊎ (status ≡ 8)
+  pub image : ImageComplete (soak_text seed functions) Every Every out status
 
--- Where no count of faults rose, the words and what the source is known to hold give the status, but
--- for want of memory.
+-- The words and what the source is known to hold give the status, but for want of memory. A fault of
+-- out matters only where there is an output, and one of the source only where it is read.
 pub record Complete (words : List (List ℕ)) (e : Effects) (status : ℕ) : Type 0 where
-  pub no_command : (WellFormed words → ⊥) → NoneRose e → Is 2 status
-  pub no_value : ((command : CommandTree) → IsCommand words command → ⊥) → NoneRose e → Is 2 status
+  pub no_command : (WellFormed words → ⊥) → Faultless e.err → Is 2 status
+  pub no_value : ((command : CommandTree) → IsCommand words command → ⊥)
+      → Faultless e.err
+      → Is 2 status
   pub compile : AsksToCompile words
-      → NoneRose e
+      → Faultless e.source
+      → Faultless e.err
       → (text : List ℕ)
       → e.source.before ≡ Some text
-      → CompileComplete text status
+      → CompileComplete text e.out status
   pub run : (run : RunTree)
       → IsCommand words (RunCommand run)
-      → NoneRose e
+      → Faultless e.source
+      → Faultless e.err
       → (bytes : List ℕ)
       → e.source.before ≡ Some bytes
-      → RunComplete run bytes status
+      → RunComplete run bytes e.out status
   pub check : (check : CheckTree)
       → IsCommand words (CheckCommand check)
-      → NoneRose e
+      → Faultless e.source
+      → Faultless e.err
       → (text : List ℕ)
       → e.source.before ≡ Some text
-      → CheckComplete check text status
+      → CheckComplete check text e.out status
   pub list : (stage : Stage)
       → IsCommand words (ListCommand stage)
-      → NoneRose e
+      → Faultless e.source
+      → Faultless e.err
       → (text : List ℕ)
       → e.source.before ≡ Some text
-      → ListComplete stage text status
+      → ListComplete stage text e.out status
   pub soak : (seed functions : ℕ)
       → IsCommand words (SoakCommand seed functions)
-      → NoneRose e
-      → SoakComplete seed functions status
+      → Faultless e.err
+      → SoakComplete seed functions e.out status
