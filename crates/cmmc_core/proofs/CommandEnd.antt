@@ -13,7 +13,7 @@ use Rattle.text_commands.specs.Check.{IsCheckOf}
 use Rattle.text_commands.specs.Compile.{IsImageOf, IsTooLarge}
 use Rattle.text_commands.specs.Listing.{IsListingOf}
 use Rattle.cmmc_core.specs.Compile.{Reads}
-use Rattle.cmmc_core.specs.Complete.{Faultless, Is, HasOutput}
+use Rattle.cmmc_core.specs.Complete.{HasNotRisen, Is, HasOutput}
 use Rattle.cmmc_core.specs.Effects.{Effects, Side, Rose}
 use Rattle.cmmc_core.specs.Ends.{Output, spelling, outcome, checked, listed, soaked, HasInput, Cause, CheckCause, ListCause, no_command, no_value, read_fault, fault, too_large, no_image, no_entry, unfit, unchecked, unlisted, unsoaked, no_memory, Ends, written, refused, out_fault, err_fault}
 use Rattle.cmmc_core.specs.Run.{IsOutcomeOf, ReadsNoImage, NamesNoEntry, GivesUnfit}
@@ -35,7 +35,7 @@ pub data Told (words : List (List ℕ)) (source out : Side) (status : ℕ) : Typ
   output : (bytes : List ℕ) → IsWritten out status → Output words source bytes → Told words source out status
   cause : (line : List ℕ) → Cause words source status line → Told words source out status
 
-pub told : (words : List (List ℕ)) (e : Effects) (status : ℕ) → Ends words e status → Faultless e.err → Told words e.source e.out status
+pub told : (words : List (List ℕ)) (e : Effects) (status : ℕ) → Ends words e status → HasNotRisen e.err → Told words e.source e.out status
 told words e status (written bytes o got kept) calm = output bytes (inl refl) o
 told words e status (refused s line why kept got) calm = cause line why
 told words e status (out_fault bytes o part kept) calm = output bytes (inr (part.rose, refl)) o
@@ -84,7 +84,7 @@ module _ (words : List (List ℕ)) (source out : Side) where
   one_command status tree other is as_other e =
       inr (subst (λ t. CommandEnd t source out status) (command-unique words other tree as_other is) e)
 
-  pub command_end : (tree : CommandTree) → IsCommand words tree → (HasInput tree → Faultless source) → (status : ℕ) → Told words source out status
+  pub command_end : (tree : CommandTree) → IsCommand words tree → (HasInput tree → HasNotRisen source) → (status : ℕ) → Told words source out status
       → OrNoMemory status (CommandEnd tree source out status)
   command_end tree is calm status (output bytes z (spelling image i r)) = one_command status tree (CompileCommand i.0) is i.1 (made image z r)
   command_end tree is calm status (output bytes z (outcome run text i r)) = one_command status tree (RunCommand run) is i (ran text z r)

@@ -2,7 +2,7 @@
 use Rattle.std.proofs.Common.{ℕ, List}
 use Rattle.command_line.proofs.Unique.{command_within}
 use Rattle.command_line.specs.Command.{IsCommand, CommandTree, CompileCommand, RunCommand, CheckCommand, ListCommand, SoakCommand}
-use Rattle.cmmc_core.specs.Complete.{Faultless, Complete}
+use Rattle.cmmc_core.specs.Complete.{HasNotRisen, Complete}
 use Rattle.cmmc_core.specs.Effects.{Effects}
 use Rattle.cmmc_core.specs.Ends.{HasInput, Ends}
 use Rattle.cmmc_core.proofs.CommandEnd.{CommandEnd, OrNoMemory, told, command_end, no_command_end, no_value_end}
@@ -13,7 +13,7 @@ use Rattle.cmmc_core.proofs.ListEnds.{list-complete}
 use Rattle.cmmc_core.proofs.SoakEnds.{soak-complete}
 
 module _ (words : List (List ℕ)) (e : Effects) (status : ℕ) (ends : Ends words e status) where
-  end_of : (tree : CommandTree) → IsCommand words tree → (HasInput tree → Faultless e.source) → Faultless e.err
+  end_of : (tree : CommandTree) → IsCommand words tree → (HasInput tree → HasNotRisen e.source) → HasNotRisen e.err
       → OrNoMemory status (CommandEnd tree e.source e.out status)
   end_of tree is calm reported = command_end words e.source e.out tree is calm status (told words e status ends reported)
 

@@ -1,5 +1,5 @@
--- That nothing but want of memory, or a read or a write that failed, stands between good input and
--- its output, and between bad input and its line.
+-- That nothing but want of memory, an image past its limit, or a read or a write that failed, stands
+-- between good input and its output, and between bad input and its line.
 use Rattle.std.specs.Prelude.{⊤, ◌≡◌, ◌⊎◌, ℕ, List, Some, None}
 use Rattle.bs_fault.specs.declared.fault.Fault.{Fault}
 use Rattle.bs_fault.specs.declared.large.Large.{Large}
@@ -19,22 +19,23 @@ use Rattle.cmmc_core.specs.Effects.{Effects, Side, Rose}
 use Rattle.cmmc_core.specs.Run.{IsSpelling, words_of_answers}
 use Rattle.cmmc_core.specs.Soak.{soak_text}
 
--- no read of it failed, and no write to it: its count of faults did not rise in the call
-abbrev pub Faultless : Side → Type 0
-Faultless side = Rose side → ⊥
+-- Its count of faults did not rise in the call, and is not the greatest there is: so no read of it
+-- failed, and no write to it.
+abbrev pub HasNotRisen : Side → Type 0
+HasNotRisen side = Rose side → ⊥
 
 -- One status, but for want of memory.
 abbrev pub Is : ℕ → ℕ → Type 0
 Is wanted status = (status ≡ wanted) ⊎ (status ≡ 9)
 
--- There is an output: status 0, but for want of memory, or 6 where a write to out failed.
+-- There is an output: status 0, but for want of memory, or 6, which comes only where out's count rose.
 abbrev pub HasOutput : Side → ℕ → Type 0
 HasOutput out status = Is 0 status ⊎ (Rose out × (status ≡ 6))
 
 -- ---- texts
 
 -- What a command comes to by the image that is made for the text's file, where it is asked of that
--- file. Of a file that is sized there is no output without an image that fits.
+-- file. Where a file is sized and its image does not fit, the status is 8.
 pub record ImageComplete
     (text : List ℕ) (IsAsked IsSized : FileTree → Type 0) (out : Side) (status : ℕ)
     : Type 0 where
@@ -69,7 +70,7 @@ Every file = ⊤
 -- What `compile` comes to on a text that the source is known to hold.
 pub record CompileComplete (text : List ℕ) (out : Side) (status : ℕ) : Type 0 where
   pub fault : (told : Fault) → HasFault text told → Is 3 status
-  -- a text without a fault is compiled
+  -- a text without a fault is compiled, or a section of its image passes its limit
   pub image : ImageComplete text Every Every out status
 
 -- What `run` comes to on bytes that the source is known to hold.
@@ -130,38 +131,38 @@ pub record SoakComplete (seed functions : ℕ) (out : Side) (status : ℕ) : Typ
 -- The words and what the source is known to hold give the status, but for want of memory. A fault of
 -- out matters only where there is an output, and one of the source only where it is read.
 pub record Complete (words : List (List ℕ)) (e : Effects) (status : ℕ) : Type 0 where
-  pub no_command : (WellFormed words → ⊥) → Faultless e.err → Is 2 status
+  pub no_command : (WellFormed words → ⊥) → HasNotRisen e.err → Is 2 status
   pub no_value : ((command : CommandTree) → IsCommand words command → ⊥)
-      → Faultless e.err
+      → HasNotRisen e.err
       → Is 2 status
   pub compile : AsksToCompile words
-      → Faultless e.source
-      → Faultless e.err
+      → HasNotRisen e.source
+      → HasNotRisen e.err
       → (text : List ℕ)
       → e.source.before ≡ Some text
       → CompileComplete text e.out status
   pub run : (run : RunTree)
       → IsCommand words (RunCommand run)
-      → Faultless e.source
-      → Faultless e.err
+      → HasNotRisen e.source
+      → HasNotRisen e.err
       → (bytes : List ℕ)
       → e.source.before ≡ Some bytes
       → RunComplete run bytes e.out status
   pub check : (check : CheckTree)
       → IsCommand words (CheckCommand check)
-      → Faultless e.source
-      → Faultless e.err
+      → HasNotRisen e.source
+      → HasNotRisen e.err
       → (text : List ℕ)
       → e.source.before ≡ Some text
       → CheckComplete check text e.out status
   pub list : (stage : Stage)
       → IsCommand words (ListCommand stage)
-      → Faultless e.source
-      → Faultless e.err
+      → HasNotRisen e.source
+      → HasNotRisen e.err
       → (text : List ℕ)
       → e.source.before ≡ Some text
       → ListComplete stage text e.out status
   pub soak : (seed functions : ℕ)
       → IsCommand words (SoakCommand seed functions)
-      → Faultless e.err
+      → HasNotRisen e.err
       → SoakComplete seed functions e.out status
