@@ -5,7 +5,6 @@ use Rattle.std.specs.Option.{unwrap_or}
 use Rattle.std.proofs.lemmas.List.Elements.{All-nil, All-weaker, All-contains, All-from_get_or}
 use Rattle.std.proofs.lemmas.Option.{same_Some, none-some, slice_get-map, slice_get-get_or, slice_get_within, unwrap_or-slice_get, get_or_from_slice_get, slice_get_cases}
 use Rattle.std.proofs.lemmas.List.{length-append, length-map}
-use Rattle.bs_words.specs.Contents.{contents}
 use Rattle.cmm_tree.specs.Tree.{FunctionTree, Expression}
 use Rattle.cmm_tree.specs.View.{params_view, param_view}
 use Rattle.cmm_tree.specs.declared.expr.Expr.{Expr}
@@ -18,7 +17,7 @@ use Rattle.cmm_walks.specs.First.{IsFirstTold}
 use Rattle.cmm_walks.specs.Made.{Filled}
 use Rattle.cmm_walks.specs.Sound.{IsBelow, IsHeld, IsSound, IsScope, Extends, GoesAs, Steps}
 use Rattle.cmm_walks.specs.Walks.{Task, Evaluates, names, with_slots, parameters_bound, walk_tasks, Next}
-use Rattle.cmm_walks.specs.Table.{shown, step_at, next_at, AreLinked, IsLinked, LeadsToBinding}
+use Rattle.cmm_walks.specs.Table.{shown, step_at, next_at, next_cells, AreLinked, IsLinked, LeadsToBinding}
 use Rattle.cmm_walks.specs.Refusal.{ToldIn}
 use Rattle.cmm_walks.specs.declared.limits.Limits.{Limits}
 use Rattle.cmm_walks.specs.declared.items.Item.{Item}
@@ -94,11 +93,11 @@ filled-more old a b nodes nodes' done next x n f at q pushed step_of =
           elim (last-or-former nodes n c y e) [
             | inl t ↦
                 let is : c ≡ done = t.0 ∙ f.count in
-                let G : node.Node → Type 0 = λ z. GoesAs b (tasks_at b c) z.step (contents z.next) in
-                subst G t.1 (goes-at b (tasks_in (scope_at a) (tasks_at a) x) (tasks_at b c) n.step (contents n.next) (sym (ap (tasks_at b) is ∙ tasks)) s.goes)
+                let G : node.Node → Type 0 = λ z. GoesAs b (tasks_at b c) z.step (next_cells z.next) in
+                subst G t.1 (goes-at b (tasks_in (scope_at a) (tasks_at a) x) (tasks_at b c) n.step (next_cells n.next) (sym (ap (tasks_at b) is ∙ tasks)) s.goes)
             | inr r ↦
                 let c_within : c < length nodes = slice_get_within nodes c y r in
-                goes-at b (tasks_at a c) (tasks_at b c) y.step (contents y.next) (sym (tasks-extend a b c s.extends (omega (arith, f.count)))) (goes-kept a b (tasks_at a c) y.step (contents y.next) s.extends (f.goes c y r))
+                goes-at b (tasks_at a c) (tasks_at b c) y.step (next_cells y.next) (sym (tasks-extend a b c s.extends (omega (arith, f.count)))) (goes-kept a b (tasks_at a c) y.step (next_cells y.next) s.extends (f.goes c y r))
           ];
     })
 
@@ -126,15 +125,15 @@ pub goes-table : (old items : List Item) (nodes : List node.Node) → Filled old
 goes-table old items nodes f c =
     elim ((slice_get_cases nodes c).1) [
       | inl s ↦
-          at-table items (tasks_at items c) s.0.step (step_at nodes c) (contents s.0.next) (next_at nodes c)
+          at-table items (tasks_at items c) s.0.step (step_at nodes c) (next_cells s.0.next) (next_at nodes c)
           (get-map (λ (n : node.Node). n.step) nodes c s.0 step.Quiet s.2)
-          (get-map (λ (n : node.Node). contents n.next) nodes c s.0 [] s.2)
+          (get-map (λ (n : node.Node). next_cells n.next) nodes c s.0 [] s.2)
           (f.goes c s.0 s.2)
       | inr p ↦
           goes-at items [] (tasks_at items c) (step_at nodes c) (next_at nodes c) (sym (tasks-past items c (omega (arith, p.0, f.count))))
           (at-table items [] step.Quiet (step_at nodes c) [] (next_at nodes c)
           (get-none (λ (n : node.Node). n.step) nodes c step.Quiet p.1)
-          (get-none (λ (n : node.Node). contents n.next) nodes c [] p.1)
+          (get-none (λ (n : node.Node). next_cells n.next) nodes c [] p.1)
           (goes-last items))
     ]
 
@@ -156,7 +155,7 @@ agrees old items nodes f = record {
 
 linked-node : (old items : List Item) (nodes : List node.Node) → Filled old items nodes (length items) → (c : ℕ) (n : node.Node) → slice_get nodes c ≡ Some n → IsLinked (length nodes) n
 linked-node old items nodes f c n e =
-    let P : ℕ → Type 0 = λ m. All (λ q. q < m) (contents n.next) in
+    let P : ℕ → Type 0 = λ m. All (λ q. q < m) (next_cells n.next) in
     record { next = subst P (sym f.count) ((f.goes c n e).linked) }
 
 linked-all : (all nodes : List node.Node) (count : ℕ) → nodes ≡ all → ((c : ℕ) (n : node.Node) → slice_get nodes c ≡ Some n → IsLinked count n) → All (IsLinked count) nodes

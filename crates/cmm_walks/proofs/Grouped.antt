@@ -5,8 +5,7 @@ use Rattle.std.specs.List.{All, Contains}
 use Rattle.std.proofs.lemmas.Bool.{cases_eq}
 use Rattle.std.proofs.lemmas.List.{length-set, length-map, map-set, get_or-map, get_or-set_same, get_or-set_other, take_more, take_all}
 use Rattle.std.proofs.lemmas.List.Elements.{Contains-append_left, Contains-push, Contains-push_cases}
-use Rattle.bs_words.specs.Contents.{contents}
-use Rattle.cmm_walks.specs.Table.{step_at, next_at, slot_below, IsNode, IsLinked, AreLinked, AreNodes}
+use Rattle.cmm_walks.specs.Table.{step_at, next_at, next_cells, slot_below, IsNode, IsLinked, AreLinked, AreNodes}
 use Rattle.cmm_walks.specs.Groups.{members, Added, NamesSlot, HasSlotAdded, AreBefore, AreMentions}
 use Rattle.cmm_walks.specs.declared.groups.Group as group
 use Rattle.cmm_walks.specs.declared.node.Step.{Step}
@@ -124,16 +123,16 @@ next_within (n ∷ nodes) (suc q) p c = let r : q < length nodes = next_within n
 less_than : (a b : ℕ) → a < b + 1 → (a ≢ b) → a < b
 less_than a b h ne = grind arith
 
-pub next_read : (nodes : List node.Node) (i : ℕ) (n : node.Node) → i < length nodes → n ≡ get_or nodes i n → next_at nodes i ≡ contents n.next
-next_read nodes i n within read = let f : node.Node → List ℕ = λ x. contents x.next in get_or-map f nodes i n [] within ∙ ap f (sym read)
+pub next_read : (nodes : List node.Node) (i : ℕ) (n : node.Node) → i < length nodes → n ≡ get_or nodes i n → next_at nodes i ≡ next_cells n.next
+next_read nodes i n within read = let f : node.Node → List ℕ = λ x. next_cells x.next in get_or-map f nodes i n [] within ∙ ap f (sym read)
 
 pub step_read : (nodes : List node.Node) (i : ℕ) (n : node.Node) → i < length nodes → n ≡ get_or nodes i n → step_at nodes i ≡ n.step
 step_read nodes i n within read = let f : node.Node → Step = λ x. x.step in get_or-map f nodes i n step.Quiet within ∙ ap f (sym read)
 
-pub next_all : (nodes : List node.Node) (i count : ℕ) (n : node.Node) (items : List ℕ) → AreLinked nodes → i < length nodes → n ≡ get_or nodes i n → items ≡ contents n.next → count ≡ length nodes → All (λ (q : ℕ). q < count) items
+pub next_all : (nodes : List node.Node) (i count : ℕ) (n : node.Node) (items : List ℕ) → AreLinked nodes → i < length nodes → n ≡ get_or nodes i n → items ≡ next_cells n.next → count ≡ length nodes → All (λ (q : ℕ). q < count) items
 next_all nodes i count n items links within read listed len =
     let here : IsLinked (length nodes) (get_or nodes i n) = links i n within in
-    let P : node.Node → Type 0 = λ m. All (λ (q : ℕ). q < length nodes) (contents m.next) in
+    let P : node.Node → Type 0 = λ m. All (λ (q : ℕ). q < length nodes) (next_cells m.next) in
     let Q : List ℕ → Type 0 = λ l. All (λ (q : ℕ). q < length nodes) l in
     let R : ℕ → Type 0 = λ k. All (λ (q : ℕ). q < k) items in
     subst R (sym len) (subst Q (sym listed) (subst P (sym read) here.next))
@@ -160,7 +159,7 @@ turning_none nodes now len empty = record {
 }
 
 pub turning_more : (nodes : List node.Node) (i number number' : ℕ) (n : node.Node) (now new : List group.Group) (next : List ℕ) → i < length nodes → n ≡ get_or nodes i n → number' ≡ suc number
-    → next ≡ contents n.next
+    → next ≡ next_cells n.next
     → Turning nodes i number now → length new ≡ length now → ((j x : ℕ) → Contains (members new j) x ↔ (Contains (members now j) x ⊎ (Contains next j × (number ≡ x))))
     → Turning nodes (i + 1) number' new
 turning_more nodes i number number' n now new next within read up listed t len ex = record {

@@ -4,7 +4,6 @@ use Rattle.std.specs.List.{All, Contains}
 use Rattle.std.proofs.lemmas.List.Elements.{All-nil, All-cons, Contains-append_left, Contains-append_right, Contains-append_cases}
 use Rattle.std.proofs.lemmas.Option.{same_Some, none-some}
 use Rattle.std.proofs.lemmas.List.{length-map}
-use Rattle.bs_words.specs.Contents.{contents}
 use Rattle.bs_words.specs.Fits.{type_of_comp}
 use Rattle.bs_words.specs.declared.types.Ty.{Ty}
 use Rattle.cmm_tree.specs.Tree.{LabelTree, Expression, Bindings, Parameter}
@@ -19,7 +18,7 @@ use Rattle.cmm_walks.specs.Cells.{scope_at, tasks_at, tasks_in}
 use Rattle.cmm_walks.specs.Sound.{IsBelow, IsHeld, Extends, Adds, GoesTo, GoesAs, Steps, BodiesAt, AddsBodies}
 use Rattle.cmm_walks.specs.Walks.{Event, Slotted, Task, Does, Binds, is_address, bodies, parameters_bound, Evaluates, Enters, OneOf, MayRaise, Raises, Exits, Catches, Handles, tasks_of, entering, behind_raise, behind_exit, Next}
 use Rattle.cmm_walks.specs.Walks as steps
-use Rattle.cmm_walks.specs.Table.{shown}
+use Rattle.cmm_walks.specs.Table.{shown, next_cells}
 use Rattle.cmm_walks.specs.declared.items.Item.{Item}
 use Rattle.cmm_walks.specs.declared.node.Node as node
 use Rattle.cmm_walks.specs.declared.node.Step.{Step}
@@ -100,51 +99,51 @@ same_event : (a b : Event) → a ∷ [] ≡ b ∷ [] → a ≡ b
 same_event a b e = cc
 
 pub goes-does : (items : List Item) (event : Event) (tasks : List Task) (n : node.Node) (q : ℕ)
-    → (shown n.step ≡ event ∷ []) × (contents n.next ≡ q ∷ [])
+    → (shown n.step ≡ event ∷ []) × (next_cells n.next ≡ q ∷ [])
     → q < length items
     → tasks_at items q ≡ tasks
-    → GoesAs items (Does event ∷ tasks) n.step (contents n.next)
+    → GoesAs items (Does event ∷ tasks) n.step (next_cells n.next)
 goes-does items event tasks n q is within at =
     let R : List Event → Type 0 = λ l. Next (Does event ∷ tasks) l tasks in
-    goes-node items (Does event ∷ tasks) n.step n.step (q ∷ []) (contents n.next) refl is.1
+    goes-node items (Does event ∷ tasks) n.step n.step (q ∷ []) (next_cells n.next) refl is.1
     (goes-one items (Does event ∷ tasks) n.step q tasks within at
     (λ es left h. let a = after (Does event ∷ tasks) es left h in (a.0 ∙ sym is.0, a.1))
     (subst R (sym is.0) (steps.does event tasks))
     (λ x e. (tasks, ap (λ (y : Event). Does y ∷ tasks) (same_event event x (sym is.0 ∙ e)))))
 
 abbrev pub IsQuiet : node.Node → List ℕ → Type 0
-IsQuiet n next = (n.step ≡ step.Quiet) × (contents n.next ≡ next)
+IsQuiet n next = (n.step ≡ step.Quiet) × (next_cells n.next ≡ next)
 
-pub goes-quiet : (items : List Item) (tasks : List Task) (n : node.Node) (next : List ℕ) → IsQuiet n next → GoesAs items tasks step.Quiet next → GoesAs items tasks n.step (contents n.next)
-goes-quiet items tasks n next is g = goes-node items tasks step.Quiet n.step next (contents n.next) is.0 is.1 g
+pub goes-quiet : (items : List Item) (tasks : List Task) (n : node.Node) (next : List ℕ) → IsQuiet n next → GoesAs items tasks step.Quiet next → GoesAs items tasks n.step (next_cells n.next)
+goes-quiet items tasks n next is g = goes-node items tasks step.Quiet n.step next (next_cells n.next) is.0 is.1 g
 
-pub goes-none : (items : List Item) (n : node.Node) → IsQuiet n [] → GoesAs items [] n.step (contents n.next)
+pub goes-none : (items : List Item) (n : node.Node) → IsQuiet n [] → GoesAs items [] n.step (next_cells n.next)
 goes-none items n is = goes-quiet items [] n [] is (goes-last items)
 
 pub goes-evaluates : (items : List Item) (s : List Slotted) (slot : ℕ) (e : Expression) (tasks : List Task) (n : node.Node) (q : ℕ) → IsQuiet n (q ∷ []) → q < length items
     → tasks_at items q ≡ tasks_of s slot e ++ tasks
-    → GoesAs items (Evaluates s slot e ∷ tasks) n.step (contents n.next)
+    → GoesAs items (Evaluates s slot e ∷ tasks) n.step (next_cells n.next)
 goes-evaluates items s slot e tasks n q is within at =
     goes-quiet items (Evaluates s slot e ∷ tasks) n (q ∷ []) is
     (goes-one items (Evaluates s slot e ∷ tasks) step.Quiet q (tasks_of s slot e ++ tasks) within at (λ es left h. after (Evaluates s slot e ∷ tasks) es left h) (steps.evaluates s slot e tasks) (quiet-doing (Evaluates s slot e ∷ tasks)))
 
 pub goes-enters : (items : List Item) (s : List Slotted) (slot : ℕ) (bs : Bindings) (body : Expression) (tasks : List Task) (n : node.Node) (q : ℕ) → IsQuiet n (q ∷ []) → q < length items
     → tasks_at items q ≡ entering s slot bs body ++ tasks
-    → GoesAs items (Enters s slot bs body ∷ tasks) n.step (contents n.next)
+    → GoesAs items (Enters s slot bs body ∷ tasks) n.step (next_cells n.next)
 goes-enters items s slot bs body tasks n q is within at =
     goes-quiet items (Enters s slot bs body ∷ tasks) n (q ∷ []) is
     (goes-one items (Enters s slot bs body ∷ tasks) step.Quiet q (entering s slot bs body ++ tasks) within at (λ es left h. after (Enters s slot bs body ∷ tasks) es left h) (steps.enters s slot bs body tasks) (quiet-doing (Enters s slot bs body ∷ tasks)))
 
 pub goes-catches : (items : List Item) (s : List Slotted) (slot : ℕ) (in_handler : Bool) (hs : _) (tasks : List Task) (n : node.Node) (q : ℕ) → IsQuiet n (q ∷ []) → q < length items
     → tasks_at items q ≡ tasks
-    → GoesAs items (Catches s slot in_handler hs ∷ tasks) n.step (contents n.next)
+    → GoesAs items (Catches s slot in_handler hs ∷ tasks) n.step (next_cells n.next)
 goes-catches items s slot in_handler hs tasks n q is within at =
     goes-quiet items (Catches s slot in_handler hs ∷ tasks) n (q ∷ []) is
     (goes-one items (Catches s slot in_handler hs ∷ tasks) step.Quiet q tasks within at (λ es left h. after (Catches s slot in_handler hs ∷ tasks) es left h) (steps.leaves_catch s slot in_handler hs tasks) (quiet-doing (Catches s slot in_handler hs ∷ tasks)))
 
 pub goes-handles : (items : List Item) (s : List Slotted) (slot name_at : ℕ) (name : List ℕ) (h : Expression) (tasks : List Task) (n : node.Node) (q : ℕ) → IsQuiet n (q ∷ []) → q < length items
     → tasks_at items q ≡ tasks
-    → GoesAs items (Handles s slot name_at name h ∷ tasks) n.step (contents n.next)
+    → GoesAs items (Handles s slot name_at name h ∷ tasks) n.step (next_cells n.next)
 goes-handles items s slot name_at name h tasks n q is within at =
     goes-quiet items (Handles s slot name_at name h ∷ tasks) n (q ∷ []) is
     (goes-one items (Handles s slot name_at name h ∷ tasks) step.Quiet q tasks within at (λ es left k. after (Handles s slot name_at name h ∷ tasks) es left k) (steps.leaves_try s slot name_at name h tasks) (quiet-doing (Handles s slot name_at name h ∷ tasks)))
@@ -163,20 +162,20 @@ stuck items tasks none = record {
 no-answer : (o : Option (List Task)) (left : List Task) → o ≡ None → o ≡ Some left → ⊥
 no-answer o left p q = none-some left (sym p ∙ q)
 
-pub goes-raises-none : (items : List Item) (tasks : List Task) (n : node.Node) → IsQuiet n [] → behind_raise tasks ≡ None → GoesAs items (Raises ∷ tasks) n.step (contents n.next)
+pub goes-raises-none : (items : List Item) (tasks : List Task) (n : node.Node) → IsQuiet n [] → behind_raise tasks ≡ None → GoesAs items (Raises ∷ tasks) n.step (next_cells n.next)
 goes-raises-none items tasks n is none =
     goes-quiet items (Raises ∷ tasks) n [] is (stuck items (Raises ∷ tasks) (λ es left h. no-answer (behind_raise tasks) left none (after (Raises ∷ tasks) es left h).1))
 
-pub goes-raises : (items : List Item) (tasks : List Task) (n : node.Node) (q : ℕ) → IsQuiet n (q ∷ []) → q < length items → behind_raise tasks ≡ Some (tasks_at items q) → GoesAs items (Raises ∷ tasks) n.step (contents n.next)
+pub goes-raises : (items : List Item) (tasks : List Task) (n : node.Node) (q : ℕ) → IsQuiet n (q ∷ []) → q < length items → behind_raise tasks ≡ Some (tasks_at items q) → GoesAs items (Raises ∷ tasks) n.step (next_cells n.next)
 goes-raises items tasks n q is within answer =
     goes-quiet items (Raises ∷ tasks) n (q ∷ []) is
     (goes-one items (Raises ∷ tasks) step.Quiet q (tasks_at items q) within refl (λ es left h. let a = after (Raises ∷ tasks) es left h in (a.0, same_Some left (tasks_at items q) (sym a.1 ∙ answer))) (steps.raises tasks (tasks_at items q) answer) (quiet-doing (Raises ∷ tasks)))
 
-pub goes-exits-none : (items : List Item) (label : LabelTree) (tasks : List Task) (n : node.Node) → IsQuiet n [] → behind_exit label tasks ≡ None → GoesAs items (Exits label ∷ tasks) n.step (contents n.next)
+pub goes-exits-none : (items : List Item) (label : LabelTree) (tasks : List Task) (n : node.Node) → IsQuiet n [] → behind_exit label tasks ≡ None → GoesAs items (Exits label ∷ tasks) n.step (next_cells n.next)
 goes-exits-none items label tasks n is none =
     goes-quiet items (Exits label ∷ tasks) n [] is (stuck items (Exits label ∷ tasks) (λ es left h. no-answer (behind_exit label tasks) left none (after (Exits label ∷ tasks) es left h).1))
 
-pub goes-exits : (items : List Item) (label : LabelTree) (tasks : List Task) (n : node.Node) (q : ℕ) → IsQuiet n (q ∷ []) → q < length items → behind_exit label tasks ≡ Some (tasks_at items q) → GoesAs items (Exits label ∷ tasks) n.step (contents n.next)
+pub goes-exits : (items : List Item) (label : LabelTree) (tasks : List Task) (n : node.Node) (q : ℕ) → IsQuiet n (q ∷ []) → q < length items → behind_exit label tasks ≡ Some (tasks_at items q) → GoesAs items (Exits label ∷ tasks) n.step (next_cells n.next)
 goes-exits items label tasks n q is within answer =
     goes-quiet items (Exits label ∷ tasks) n (q ∷ []) is
     (goes-one items (Exits label ∷ tasks) step.Quiet q (tasks_at items q) within refl (λ es left h. let a = after (Exits label ∷ tasks) es left h in (a.0, same_Some left (tasks_at items q) (sym a.1 ∙ answer))) (steps.exits label tasks (tasks_at items q) answer) (quiet-doing (Exits label ∷ tasks)))
@@ -235,7 +234,7 @@ goes-bodies items s slot behind qs all r = record {
 }
 
 pub goes-one_of : (items : List Item) (s : List Slotted) (slot : ℕ) (behind : List Task) (n : node.Node) (qs : List ℕ) (es : List Expression) → IsQuiet n qs → BodiesAt items s slot behind qs es
-    → GoesAs items (OneOf s slot es ∷ behind) n.step (contents n.next)
+    → GoesAs items (OneOf s slot es ∷ behind) n.step (next_cells n.next)
 goes-one_of items s slot behind n qs es is r = goes-quiet items (OneOf s slot es ∷ behind) n qs is (goes-bodies items s slot behind qs es r)
 
 goes-fork : (items : List Item) (tasks : List Task) (a b : ℕ) → a < length items → b < length items → tasks_at items a ≡ tasks → tasks_at items b ≡ Raises ∷ tasks
@@ -259,7 +258,7 @@ goes-fork items tasks a b p q at_a at_b = record {
 }
 
 pub goes-may_raise : (items : List Item) (tasks : List Task) (n : node.Node) (a b : ℕ) → IsQuiet n (a ∷ b ∷ []) → a < length items → b < length items → tasks_at items a ≡ tasks → tasks_at items b ≡ Raises ∷ tasks
-    → GoesAs items (MayRaise ∷ tasks) n.step (contents n.next)
+    → GoesAs items (MayRaise ∷ tasks) n.step (next_cells n.next)
 goes-may_raise items tasks n a b is p q at_a at_b = goes-quiet items (MayRaise ∷ tasks) n (a ∷ b ∷ []) is (goes-fork items tasks a b p q at_a at_b)
 
 -- ---- further cells

@@ -1,8 +1,8 @@
 -- The table that is made of cells.
 use Rattle.std.specs.Prelude.{◌≡◌, ℕ, ◌<◌, ◌≤◌, List, length, Some, slice_get}
-use Rattle.bs_words.specs.Contents.{contents}
 use Rattle.cmm_walks.specs.Cells.{tasks_at}
 use Rattle.cmm_walks.specs.Sound.{IsSound, Extends, GoesAs}
+use Rattle.cmm_walks.specs.Table.{next_cells}
 use Rattle.cmm_walks.specs.Walks.{Task}
 use Rattle.cmm_walks.specs.declared.items.Item.{Item}
 use Rattle.cmm_walks.specs.declared.node.Node as node
@@ -21,4 +21,4 @@ pub record Filled (old items : List Item) (nodes : List node.Node) (done : ℕ) 
   pub within : done ≤ length items
   pub goes : (c : ℕ) (n : node.Node)
       → slice_get nodes c ≡ Some n
-      → GoesAs items (tasks_at items c) n.step (contents n.next)
+      → GoesAs items (tasks_at items c) n.step (next_cells n.next)

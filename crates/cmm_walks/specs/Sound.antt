@@ -1,7 +1,6 @@
 -- Cells that agree with what they stand for.
 use Rattle.std.specs.Prelude.{◌≡◌, ℕ, suc, ◌<◌, List, [], ◌∷◌, ◌++◌, length, Option, Some, None, Contains}
 use Rattle.std.specs.List.{All}
-use Rattle.bs_words.specs.Contents.{contents}
 use Rattle.cmm_tree.specs.Tree.{Expression}
 use Rattle.cmm_tree.specs.View.{expr_view, params_view}
 use Rattle.cmm_tree.specs.declared.expr.Handler.{Handler}
@@ -11,7 +10,7 @@ use Rattle.cmm_tree.specs.Rows.{bindings_of}
 use Rattle.cmm_types.specs.Types.{with_bindings, with_parameters}
 use Rattle.cmm_walks.specs.Cells.{item_at, scope_at, tasks_at, handler_tasks}
 use Rattle.cmm_walks.specs.Walks.{Event, Slotted, Task, Does, Evaluates, names, handling, Next}
-use Rattle.cmm_walks.specs.Table.{shown}
+use Rattle.cmm_walks.specs.Table.{shown, next_cells}
 use Rattle.cmm_walks.specs.declared.items.Item.{Item}
 use Rattle.cmm_walks.specs.declared.items.Item.TheVariants as item
 use Rattle.cmm_walks.specs.declared.node.Node as node
@@ -155,7 +154,7 @@ pub record GoesAs (items : List Item) (tasks : List Task) (step : Step)
 pub record Steps (old new : List Item) (tasks : List Task) (n : node.Node) : Type 0 where
   pub extends : Extends old new
   pub sound : IsSound new
-  pub goes : GoesAs new tasks n.step (contents n.next)
+  pub goes : GoesAs new tasks n.step (next_cells n.next)
 
 -- cells for the evaluation of each of these, and then for these tasks
 abbrev pub BodiesAt : List Item → List Slotted → ℕ → List Task → List ℕ → List Expression → Type 0

@@ -1,12 +1,13 @@
 -- What a walk does over a table of nodes.
 use Rattle.std.specs.Prelude.{◌≡◌, ℕ, ◌<◌, ◌≤◌, true, List, [], ◌∷◌, ◌++◌, map, slice_index_or, length, Contains}
 use Rattle.std.specs.List.{All}
-use Rattle.bs_words.specs.Contents.{contents}
 use Rattle.cmm_walks.specs.Walks.{Event}
 use Rattle.cmm_walks.specs.Walks as event
 use Rattle.cmm_walks.specs.AddrLive.{Unbound}
 use Rattle.cmm_walks.specs.declared.node.Step.{Step}
 use Rattle.cmm_walks.specs.declared.node.Step.TheVariants as step
+use Rattle.cmm_walks.specs.declared.node.Next.{Next}
+use Rattle.cmm_walks.specs.declared.node.Next.TheVariants as next
 use Rattle.cmm_walks.specs.declared.node.Node as node
 use Rattle.cmm_walks.specs.declared.limits.Limits as limits
 
@@ -17,13 +18,20 @@ shown (step.Binds slot address at) = event.Binds slot address at ∷ []
 shown (step.Uses slot at) = event.Uses slot at ∷ []
 shown (step.Passes at) = event.Passes at ∷ []
 
+-- the nodes that may come next, in order
+abbrev pub next_cells : Next → List ℕ
+next_cells next.Nowhere = []
+next_cells (next.One cell) = cell ∷ []
+next_cells (next.Two cells) = cells
+next_cells (next.Any cells) = cells.items
+
 -- what a walk does at a node; past the last one nothing
 abbrev pub step_at : List node.Node → ℕ → Step
 step_at nodes p = slice_index_or (map (λ (n : node.Node). n.step) nodes) p step.Quiet
 
 -- the nodes that may come after it
 abbrev pub next_at : List node.Node → ℕ → List ℕ
-next_at nodes p = slice_index_or (map (λ (n : node.Node). contents n.next) nodes) p []
+next_at nodes p = slice_index_or (map (λ (n : node.Node). next_cells n.next) nodes) p []
 
 -- A way from one node to another, with the events of all nodes before the last.
 pub data Trail (nodes : List node.Node) : ℕ → List Event → ℕ → Type 0 where
@@ -80,7 +88,7 @@ slot_below bound _ = Unit {0}
 
 -- every node that is named exists, and every slot is below the bound
 pub record IsNode (count bound : ℕ) (n : node.Node) : Type 0 where
-  pub next : All (λ q. q < count) (contents n.next)
+  pub next : All (λ q. q < count) (next_cells n.next)
   pub slot : slot_below bound n.step
 
 abbrev pub AreNodes : ℕ → List node.Node → Type 0
@@ -88,7 +96,7 @@ AreNodes bound nodes = All (IsNode (length nodes) bound) nodes
 
 -- every node that is named exists
 pub record IsLinked (count : ℕ) (n : node.Node) : Type 0 where
-  pub next : All (λ q. q < count) (contents n.next)
+  pub next : All (λ q. q < count) (next_cells n.next)
 
 abbrev pub AreLinked : List node.Node → Type 0
 AreLinked nodes = All (IsLinked (length nodes)) nodes

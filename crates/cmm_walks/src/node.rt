@@ -1,13 +1,10 @@
 //! The table of what a walk does: numbered nodes, each with an event and the nodes that may come next.
-ghost use Rattle.std.specs.Prelude.{◌≡◌, ◌∷◌, [], IfOk};
-ghost use Rattle.bs_words.specs.Contents.{contents};
+ghost use Rattle.std.specs.Prelude.{◌≡◌, ◌∷◌, []};
 ghost use Rattle.cmm_walks.specs.Cells.{event_of};
-ghost use Rattle.cmm_walks.specs.Table.{shown};
+ghost use Rattle.cmm_walks.specs.Table.{shown, next_cells};
 ghost use Rattle.cmm_walks.specs.declared.node.Step.TheVariants as steps;
 
 use crate::items::Action;
-use bs_words::List;
-use std::alloc::{AllocError, Global};
 
 /// What a walk does at a node.
 #[derive(Clone, Copy, PartialEq, Eq, Debug)]
@@ -22,11 +19,36 @@ pub enum Step {
     Passes { at: u32 },
 }
 
+/// The nodes that may come next, by number. Most nodes have one or two, which need no memory of their own.
+#[derive(Debug, Drop)]
+pub enum Next {
+    Nowhere,
+    One(u32),
+    /// An array, so that both can be lent as a slice.
+    Two([u32; 2]),
+    /// Any number of nodes, as after a switch.
+    Any(Vec<u32>),
+}
+
+impl Next {
+    /// The nodes, in order.
+    pub fn as_slice(&self) -> &[u32]
+        ensures { result.now ≡ next_cells self.now }
+    {
+        match self {
+            Next::Nowhere => &[],
+            Next::One(cell) => std::slice::from_ref(cell),
+            Next::Two(cells) => cells,
+            Next::Any(cells) => cells.as_slice(),
+        }
+    }
+}
+
 /// One node: what a walk does there, and the numbers of the nodes that may come next.
 #[derive(Debug, Drop)]
 pub struct Node {
     pub step: Step,
-    pub next: List<u32>,
+    pub next: Next,
 }
 
 fn step_of(action: Action) -> Step
@@ -40,60 +62,51 @@ fn step_of(action: Action) -> Step
 }
 
 /// A node with this event, with one node after it.
-pub fn telling(alloc: Global, action: Action, cell: u32) -> Result<Node, AllocError>
-    ensures { IfOk result (λ node. (shown node.step ≡ event_of action ∷ []) ×
-        (contents node.next ≡ cell ∷ [])) }
+pub fn telling(action: Action, cell: u32) -> Node
+    ensures { (shown result.step ≡ event_of action ∷ []) × (next_cells result.next ≡ cell ∷ []) }
 {
-    let mut next = Vec::new(alloc);
-    next.push(cell)?;
-    Ok(Node {
+    Node {
         step: step_of(action),
-        next: List::from_vec(next),
-    })
+        next: Next::One(cell),
+    }
 }
 
 /// A node without an event, with no node after it.
-pub fn last(alloc: Global) -> Node
-    ensures { (result.step ≡ steps.Quiet) × (contents result.next ≡ []) }
+pub fn last() -> Node
+    ensures { (result.step ≡ steps.Quiet) × (next_cells result.next ≡ []) }
 {
     Node {
         step: Step::Quiet,
-        next: List::new(alloc),
+        next: Next::Nowhere,
     }
 }
 
 /// A node without an event, with one node after it.
-pub fn quiet(alloc: Global, cell: u32) -> Result<Node, AllocError>
-    ensures { IfOk result (λ node. (node.step ≡ steps.Quiet) × (contents node.next ≡ cell ∷ [])) }
+pub fn quiet(cell: u32) -> Node
+    ensures { (result.step ≡ steps.Quiet) × (next_cells result.next ≡ cell ∷ []) }
 {
-    let mut next = Vec::new(alloc);
-    next.push(cell)?;
-    Ok(Node {
+    Node {
         step: Step::Quiet,
-        next: List::from_vec(next),
-    })
+        next: Next::One(cell),
+    }
 }
 
 /// The same with two nodes after it.
-pub fn forked(alloc: Global, first: u32, second: u32) -> Result<Node, AllocError>
-    ensures { IfOk result (λ node. (node.step ≡ steps.Quiet)
-        × (contents node.next ≡ first ∷ second ∷ [])) }
+pub fn forked(first: u32, second: u32) -> Node
+    ensures { (result.step ≡ steps.Quiet) × (next_cells result.next ≡ first ∷ second ∷ []) }
 {
-    let mut next = Vec::new(alloc);
-    next.push(first)?;
-    next.push(second)?;
-    Ok(Node {
+    Node {
         step: Step::Quiet,
-        next: List::from_vec(next),
-    })
+        next: Next::Two([first, second]),
+    }
 }
 
 /// A node without an event, with these nodes after it.
 pub fn any_of(next: Vec<u32>) -> Node
-    ensures { (result.step ≡ steps.Quiet) × (contents result.next ≡ next.items) }
+    ensures { (result.step ≡ steps.Quiet) × (next_cells result.next ≡ next.items) }
 {
     Node {
         step: Step::Quiet,
-        next: List::from_vec(next),
+        next: Next::Any(next),
     }
 }

@@ -28,7 +28,6 @@ impl<'a> Cells<'a> {
     /// The node of an expression.
     fn evaluate(
         &mut self,
-        alloc: Global,
         scope: u32,
         slot: u32,
         expr: &'a Expr,
@@ -40,14 +39,12 @@ impl<'a> Cells<'a> {
             (expr_view expr.now) ∷ tasks_at (cells self.old) rest) node) }
     {
         let cell = self.form(scope, slot, expr, rest)?;
-        let node = quiet(alloc, cell)?;
-        Ok(node)
+        Ok(quiet(cell))
     }
 
     /// The node of bindings and what is evaluated in their scope.
     fn enter(
         &mut self,
-        alloc: Global,
         scope: u32,
         slot: u32,
         bindings: &'a [Binding],
@@ -63,14 +60,12 @@ impl<'a> Cells<'a> {
             (cells self.old) rest) node) }
     {
         let cell = self.entering(scope, slot, bindings, body, rest)?;
-        let node = quiet(alloc, cell)?;
-        Ok(node)
+        Ok(quiet(cell))
     }
 
     /// The node of a choice of two.
     fn either(
         &mut self,
-        alloc: Global,
         scope: u32,
         slot: u32,
         on_true: &'a Expr,
@@ -86,8 +81,7 @@ impl<'a> Cells<'a> {
     {
         let first = self.eval(scope, slot, on_true, rest)?;
         let second = self.eval(scope, slot, on_false, rest)?;
-        let node = forked(alloc, first, second)?;
-        Ok(node)
+        Ok(forked(first, second))
     }
 
     /// Cells for the bodies of the cases, each with `rest` after it.
@@ -136,51 +130,43 @@ impl<'a> Cells<'a> {
     }
 
     /// The node of a call or a test.
-    fn go_on_or_raise(&mut self, alloc: Global, rest: u32) -> Result<Node, AllocError>
+    fn go_on_or_raise(&mut self, rest: u32) -> Result<Node, AllocError>
         ensures { IfOk result (λ node. IsReady (cells self.old) rest →
             Steps (cells self.old) (cells self.new) (MayRaise ∷ tasks_at
             (cells self.old) rest) node) }
     {
         let raises = self.raises(rest)?;
-        let node = forked(alloc, rest, raises)?;
-        Ok(node)
+        Ok(forked(rest, raises))
     }
 
     /// The node of a raise.
-    fn leave_by_raise(&self, alloc: Global, rest: u32) -> Result<Node, AllocError>
-        ensures { IfOk result (λ node. IsSound (cells self.now) →
+    fn leave_by_raise(&self, rest: u32) -> Node
+        ensures { IsSound (cells self.now) →
             Steps (cells self.now) (cells self.now) (Raises ∷ tasks_at
-            (cells self.now) rest) node) }
+            (cells self.now) rest) result }
     {
         match self.raise(rest) {
-            None => Ok(last(alloc)),
-            Some(cell) => {
-                let node = quiet(alloc, cell)?;
-                Ok(node)
-            }
+            None => last(),
+            Some(cell) => quiet(cell),
         }
     }
 
     /// The node of an exit.
-    fn leave_by_exit(&self, alloc: Global, label: &Label, rest: u32) -> Result<Node, AllocError>
+    fn leave_by_exit(&self, label: &Label, rest: u32) -> Result<Node, AllocError>
         ensures { IfOk result (λ node. IsSound (cells self.now) →
             Steps (cells self.now) (cells self.now) (Exits
             (label_view label.now) ∷ tasks_at (cells self.now) rest) node) }
     {
         let found = self.exit(label, rest)?;
         match found {
-            None => Ok(last(alloc)),
-            Some(cell) => {
-                let node = quiet(alloc, cell)?;
-                Ok(node)
-            }
+            None => Ok(last()),
+            Some(cell) => Ok(quiet(cell)),
         }
     }
 
     /// The node of the first parameter of a handler.
     fn enter_bound(
         &mut self,
-        alloc: Global,
         slot: u32,
         param: &'a Param,
         others: &'a [Param],
@@ -200,14 +186,12 @@ impl<'a> Cells<'a> {
         let bound = self.parameters_bound(next, others, evaluated)?;
         let address = is_address(type_of_comp(param.comp));
         let at = param.at;
-        let node = telling(alloc, Action::Binds { slot, address, at }, bound)?;
-        Ok(node)
+        Ok(telling(Action::Binds { slot, address, at }, bound))
     }
 
     /// The node of a handler in the scope of its parameters.
     fn enter_handler(
         &mut self,
-        alloc: Global,
         inner: u32,
         slot: u32,
         params: &'a [Param],
@@ -223,7 +207,7 @@ impl<'a> Cells<'a> {
     {
         let free = behind(slot, params.len())?;
         match params {
-            [] => self.evaluate(alloc, inner, free, body, caught),
+            [] => self.evaluate(inner, free, body, caught),
             [param, others @ ..] => {
                 let handled = Handled {
                     scope: inner,
@@ -231,7 +215,7 @@ impl<'a> Cells<'a> {
                     body,
                     caught,
                 };
-                self.enter_bound(alloc, slot, param, others, handled)
+                self.enter_bound(slot, param, others, handled)
             }
         }
     }
@@ -239,7 +223,6 @@ impl<'a> Cells<'a> {
     /// The node of a handler.
     fn handle(
         &mut self,
-        alloc: Global,
         scope: u32,
         slot: u32,
         handlers: &'a [Handler],
@@ -268,7 +251,7 @@ impl<'a> Cells<'a> {
         })?;
         let params = own.params.as_slice();
         let inner = self.with_slots(scope, slot, params)?;
-        let node = self.enter_handler(alloc, inner, slot, params, &own.body, caught)?;
+        let node = self.enter_handler(inner, slot, params, &own.body, caught)?;
         Ok(node)
     }
 
@@ -282,39 +265,39 @@ impl<'a> Cells<'a> {
             (cells self.old)) (tasks_at (cells self.old)) item.entry) node) }
     {
         match item {
-            Item::Empty => Ok(last(alloc)),
-            Item::Named { .. } => Ok(last(alloc)),
-            Item::Does { action, rest } => telling(alloc, action, rest),
+            Item::Empty => Ok(last()),
+            Item::Named { .. } => Ok(last()),
+            Item::Does { action, rest } => Ok(telling(action, rest)),
             Item::Evaluates {
                 scope,
                 slot,
                 expr,
                 rest,
-            } => self.evaluate(alloc, scope, slot, expr, rest),
+            } => self.evaluate(scope, slot, expr, rest),
             Item::Enters {
                 scope,
                 slot,
                 bindings,
                 body,
                 rest,
-            } => self.enter(alloc, scope, slot, bindings, body, rest),
+            } => self.enter(scope, slot, bindings, body, rest),
             Item::Either {
                 scope,
                 slot,
                 on_true,
                 on_false,
                 rest,
-            } => self.either(alloc, scope, slot, on_true, on_false, rest),
+            } => self.either(scope, slot, on_true, on_false, rest),
             Item::OneOf {
                 scope,
                 slot,
                 cases,
                 rest,
             } => self.one_of(alloc, scope, slot, cases, rest),
-            Item::MayRaise { rest } => self.go_on_or_raise(alloc, rest),
-            Item::Raises { rest } => self.leave_by_raise(alloc, rest),
-            Item::Exits { label, rest } => self.leave_by_exit(alloc, label, rest),
-            Item::Catches { rest, .. } => quiet(alloc, rest),
+            Item::MayRaise { rest } => self.go_on_or_raise(rest),
+            Item::Raises { rest } => Ok(self.leave_by_raise(rest)),
+            Item::Exits { label, rest } => self.leave_by_exit(label, rest),
+            Item::Catches { rest, .. } => Ok(quiet(rest)),
             Item::Handler {
                 scope,
                 slot,
@@ -322,8 +305,8 @@ impl<'a> Cells<'a> {
                 own,
                 first,
                 rest,
-            } => self.handle(alloc, scope, slot, handlers, own, first, rest),
-            Item::Handles { rest, .. } => quiet(alloc, rest),
+            } => self.handle(scope, slot, handlers, own, first, rest),
+            Item::Handles { rest, .. } => Ok(quiet(rest)),
         }
     }
 }

@@ -17,7 +17,7 @@ returns c = λ s r scope on_true on_false.
       extends = extends-then v0 v1 v2 f.extends g.extends;
       sound = g.sound;
       goes =
-          goes-one_of v2 s c.args.slot (tasks_at v0 c.args.rest) c.in_ok-node.node (c.in_ok-first.first ∷ c.in_ok-second.second ∷ []) (expr_view c.args.on_true.now ∷ expr_view c.args.on_false.now ∷ []) c.in_ok-node.ensures (
+          goes-one_of v2 s c.args.slot (tasks_at v0 c.args.rest) c.forked.result (c.in_ok-first.first ∷ c.in_ok-second.second ∷ []) (expr_view c.args.on_true.now ∷ expr_view c.args.on_false.now ∷ []) c.forked.ensures (
             kept-within g.extends f.within,
             tasks-extend v1 v2 c.in_ok-first.first g.extends f.within ∙ f.is,
             (g.within, g.is ∙ ap (λ (l : List Task). Evaluates s c.args.slot (expr_view c.args.on_false.now) ∷ l) (tasks-extend v0 v1 c.args.rest f.extends r.within), tt),

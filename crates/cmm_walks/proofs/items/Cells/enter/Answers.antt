@@ -10,5 +10,5 @@ returns c = λ s r scope typed body.
     record {
       extends = f.extends;
       sound = f.sound;
-      goes = goes-enters (cells c.entering.new.self) s c.args.slot (bindings_of c.args.bindings.now) (expr_view c.args.body.now) (tasks_at (cells c.args.self.now) c.args.rest) c.in_ok-node.node c.in_ok-cell.cell c.in_ok-node.ensures f.within f.is;
+      goes = goes-enters (cells c.entering.new.self) s c.args.slot (bindings_of c.args.bindings.now) (expr_view c.args.body.now) (tasks_at (cells c.args.self.now) c.args.rest) c.quiet.result c.in_ok-cell.cell c.quiet.ensures f.within f.is;
     }

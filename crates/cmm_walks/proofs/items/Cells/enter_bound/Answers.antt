@@ -14,11 +14,11 @@ returns c = λ s r scope typed.
     let others = parameters_bound c.in_ok-next.next (params_view c.args.others.now) in
     let e = c.in_ok-evaluated.ensures s r scope typed in
     let x = then (c.in_ok-bound.ensures (ready e)) e in
-    steps-as v0 v2 _ _ c.in_ok-node.node (first-parameter s c.args.slot c.args.handled.free c.in_ok-next.next c.args.param.now c.args.others.now c.is_address-address.result c.type_of_comp.result (expr_view c.args.handled.body.now) behind c.in_ok-next.ensures c.is_address-address.ensures c.type_of_comp.ensures)
+    steps-as v0 v2 _ _ c.telling.result (first-parameter s c.args.slot c.args.handled.free c.in_ok-next.next c.args.param.now c.args.others.now c.is_address-address.result c.type_of_comp.result (expr_view c.args.handled.body.now) behind c.in_ok-next.ensures c.is_address-address.ensures c.type_of_comp.ensures)
     (record {
       extends = x.extends;
       sound = x.sound;
       goes =
-          goes-does v2 (Binds c.args.slot c.is_address-address.result c.args.param.now.at) (others ++ (Evaluates s c.args.handled.free (expr_view c.args.handled.body.now) ∷ behind)) c.in_ok-node.node c.in_ok-bound.bound c.in_ok-node.ensures x.within
+          goes-does v2 (Binds c.args.slot c.is_address-address.result c.args.param.now.at) (others ++ (Evaluates s c.args.handled.free (expr_view c.args.handled.body.now) ∷ behind)) c.telling.result c.in_ok-bound.bound c.telling.ensures x.within
           (x.is ∙ append_assoc others (Evaluates s c.args.handled.free (expr_view c.args.handled.body.now) ∷ []) behind);
     })

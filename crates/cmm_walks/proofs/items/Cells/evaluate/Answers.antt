@@ -9,5 +9,5 @@ returns c = λ s r scope typed.
     record {
       extends = f.extends;
       sound = f.sound;
-      goes = goes-evaluates (cells c.form.new.self) s c.args.slot (expr_view c.args.expr.now) (tasks_at (cells c.args.self.now) c.args.rest) c.in_ok-node.node c.in_ok-cell.cell c.in_ok-node.ensures f.within f.is;
+      goes = goes-evaluates (cells c.form.new.self) s c.args.slot (expr_view c.args.expr.now) (tasks_at (cells c.args.self.now) c.args.rest) c.quiet.result c.in_ok-cell.cell c.quiet.ensures f.within f.is;
     }

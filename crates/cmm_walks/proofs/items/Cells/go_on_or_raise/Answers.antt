@@ -9,5 +9,5 @@ returns c = λ r.
     record {
       extends = f.extends;
       sound = f.sound;
-      goes = goes-may_raise (cells c.raises.new.self) (tasks_at (cells c.args.self.now) c.args.rest) c.in_ok-node.node c.args.rest c.in_ok-raises.raises c.in_ok-node.ensures (kept-within f.extends r.within) f.within (tasks-extend (cells c.args.self.now) (cells c.raises.new.self) c.args.rest f.extends r.within) f.is;
+      goes = goes-may_raise (cells c.raises.new.self) (tasks_at (cells c.args.self.now) c.args.rest) c.forked.result c.args.rest c.in_ok-raises.raises c.forked.ensures (kept-within f.extends r.within) f.within (tasks-extend (cells c.args.self.now) (cells c.raises.new.self) c.args.rest f.extends r.within) f.is;
     }

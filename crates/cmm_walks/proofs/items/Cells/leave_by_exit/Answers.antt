@@ -15,12 +15,12 @@ returns-in-None c = λ sound.
       goes = goes-exits-none v (label_view c.args.label.now) (tasks_at v c.args.rest) c.last.result c.last.ensures (leads-found (length v) (tasks_at v) c.in_ok-found.found _ _ c.in-None.is (c.in_ok-found.ensures sound));
     }
 
-pub returns-in_ok-node-in-Some : goal.returns-in_ok-node-in-Some
-returns-in_ok-node-in-Some c = λ sound.
+pub returns-in-Some : goal.returns-in-Some
+returns-in-Some c = λ sound.
     let v = cells c.args.self.now in
     let l = leads-found (length v) (tasks_at v) c.in_ok-found.found _ _ c.in-Some.is (c.in_ok-found.ensures sound) in
     record {
       extends = extends-none v;
       sound = sound;
-      goes = goes-exits v (label_view c.args.label.now) (tasks_at v c.args.rest) c.in_ok-node-in-Some.node c.in-Some.cell c.in_ok-node-in-Some.ensures l.0 l.1;
+      goes = goes-exits v (label_view c.args.label.now) (tasks_at v c.args.rest) c.quiet.result c.in-Some.cell c.quiet.ensures l.0 l.1;
     }

@@ -14,12 +14,12 @@ returns-in-None c = λ sound.
       goes = goes-raises-none v (tasks_at v c.args.rest) c.last.result c.last.ensures (leads-found (length v) (tasks_at v) c.raise.result _ _ c.in-None.is (c.raise.ensures sound));
     }
 
-pub returns-in_ok-node-in-Some : goal.returns-in_ok-node-in-Some
-returns-in_ok-node-in-Some c = λ sound.
+pub returns-in-Some : goal.returns-in-Some
+returns-in-Some c = λ sound.
     let v = cells c.args.self.now in
     let l = leads-found (length v) (tasks_at v) c.raise.result _ _ c.in-Some.is (c.raise.ensures sound) in
     record {
       extends = extends-none v;
       sound = sound;
-      goes = goes-raises v (tasks_at v c.args.rest) c.in_ok-node-in-Some.node c.in-Some.cell c.in_ok-node-in-Some.ensures l.0 l.1;
+      goes = goes-raises v (tasks_at v c.args.rest) c.quiet.result c.in-Some.cell c.quiet.ensures l.0 l.1;
     }

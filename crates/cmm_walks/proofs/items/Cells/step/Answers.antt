@@ -16,11 +16,9 @@ returns-in-Named c = λ sound.
     item-as v v c.last-in-Named.result c.args.item _ c.in-Named.is (λ b h. record { extends = extends-none v; sound = sound; goes = goes-none v c.last-in-Named.result c.last-in-Named.ensures })
 
 pub returns-in-Does : goal.returns-in-Does
-returns-in-Does c =
+returns-in-Does c = λ sound.
     let v = cells c.args.self.now in
-    IfOk-weaker c.telling.result _ _
-    (λ node k. λ sound. item-as v v node c.args.item _ c.in-Does.is (λ b h. record { extends = extends-none v; sound = sound; goes = goes-does v (event_of c.in-Does.action) (tasks_at v c.in-Does.rest) node c.in-Does.rest k b refl }))
-    c.telling.ensures
+    item-as v v c.telling.result c.args.item _ c.in-Does.is (λ b h. record { extends = extends-none v; sound = sound; goes = goes-does v (event_of c.in-Does.action) (tasks_at v c.in-Does.rest) c.telling.result c.in-Does.rest c.telling.ensures b refl })
 
 pub returns-in-Evaluates : goal.returns-in-Evaluates
 returns-in-Evaluates c =
@@ -58,11 +56,9 @@ returns-in-MayRaise c =
     c.go_on_or_raise.ensures
 
 pub returns-in-Raises : goal.returns-in-Raises
-returns-in-Raises c =
+returns-in-Raises c = λ sound.
     let v = cells c.args.self.now in
-    IfOk-weaker c.leave_by_raise.result _ _
-    (λ node k. λ sound. item-as v v node c.args.item _ c.in-Raises.is (λ b h. k sound))
-    c.leave_by_raise.ensures
+    item-as v v c.leave_by_raise.result c.args.item _ c.in-Raises.is (λ b h. c.leave_by_raise.ensures sound)
 
 pub returns-in-Exits : goal.returns-in-Exits
 returns-in-Exits c =
@@ -72,11 +68,9 @@ returns-in-Exits c =
     c.leave_by_exit.ensures
 
 pub returns-in-Catches : goal.returns-in-Catches
-returns-in-Catches c =
+returns-in-Catches c = λ sound.
     let v = cells c.args.self.now in
-    IfOk-weaker c.quiet.result _ _
-    (λ node k. λ sound. item-as v v node c.args.item _ c.in-Catches.is (λ b h. record { extends = extends-none v; sound = sound; goes = goes-catches v _ _ _ _ (tasks_at v c.in-Catches.rest) node c.in-Catches.rest k b.1 refl }))
-    c.quiet.ensures
+    item-as v v c.quiet.result c.args.item _ c.in-Catches.is (λ b h. record { extends = extends-none v; sound = sound; goes = goes-catches v _ _ _ _ (tasks_at v c.in-Catches.rest) c.quiet.result c.in-Catches.rest c.quiet.ensures b.1 refl })
 
 pub returns-in-Handler : goal.returns-in-Handler
 returns-in-Handler c =
@@ -86,8 +80,6 @@ returns-in-Handler c =
     c.handle.ensures
 
 pub returns-in-Handles : goal.returns-in-Handles
-returns-in-Handles c =
+returns-in-Handles c = λ sound.
     let v = cells c.args.self.now in
-    IfOk-weaker c.quiet-in-Handles.result _ _
-    (λ node k. λ sound. item-as v v node c.args.item _ c.in-Handles.is (λ b h. record { extends = extends-none v; sound = sound; goes = goes-handles v _ _ _ _ _ (tasks_at v c.in-Handles.rest) node c.in-Handles.rest k b.1 refl }))
-    c.quiet-in-Handles.ensures
+    item-as v v c.quiet-in-Handles.result c.args.item _ c.in-Handles.is (λ b h. record { extends = extends-none v; sound = sound; goes = goes-handles v _ _ _ _ _ (tasks_at v c.in-Handles.rest) c.quiet-in-Handles.result c.in-Handles.rest c.quiet-in-Handles.ensures b.1 refl })
