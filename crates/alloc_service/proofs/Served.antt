@@ -15,6 +15,7 @@ use Rattle.rv_machine.specs.declared.cause.Cause.{Cause}
 use Rattle.rv_machine.specs.declared.cause.Cause.TheVariants.{BadRoot}
 use Rattle.alloc_service.specs.Attempt.{Parts, frames_at, moved_to, roots_at}
 use Rattle.alloc_service.specs.Plan.{both_counted, services_counted, with_counts}
+use Rattle.alloc_service.specs.Surveyed.{stack_of}
 use Rattle.alloc_service.specs.declared.attempt.Caller.{Caller}
 
 -- ---- what a survey has found
@@ -24,9 +25,16 @@ pub record Surveyed (o : Option (List Frame)) (g : List Frame → Bool) (b : Boo
   pub found : o ≡ Some fs
   pub holds : g fs ≡ b
 
-pub surveyed_by : (o : Option (List Frame)) (g : List Frame → Bool) (b : Bool) → Some b ≡ option_map g o → Surveyed o g b
-surveyed_by None g b e = absurd (cc)
-surveyed_by (Some fs) g b e = record { fs = fs; found = refl; holds = let same : b ≡ g fs = cc in sym same }
+same_roots : (x b : Bool) → stack_of (Some b) ≡ stack_of (Some x) → x ≡ b
+same_roots true true e = refl
+same_roots false false e = refl
+same_roots true false e = absurd (cc)
+same_roots false true e = absurd (cc)
+
+pub surveyed_by : (o : Option (List Frame)) (g : List Frame → Bool) (b : Bool) → stack_of (Some b) ≡ stack_of (option_map g o) → Surveyed o g b
+surveyed_by None g true e = absurd (cc)
+surveyed_by None g false e = absurd (cc)
+surveyed_by (Some fs) g b e = record { fs = fs; found = refl; holds = same_roots (g fs) b e }
 
 -- ---- the steps
 

@@ -13,6 +13,8 @@ use Rattle.rv_machine.specs.declared.space.Space.{Space}
 use Rattle.alloc_service.specs.Forward.{IsForward}
 use Rattle.alloc_service.specs.Plan.{plan_of}
 use Rattle.alloc_service.specs.declared.attempt.Caller.{Caller}
+use Rattle.alloc_service.specs.declared.roots.Stack.{Stack}
+use Rattle.alloc_service.specs.declared.roots.Stack.TheVariants.{NoFrames, BadRoot, Fine}
 use Rattle.alloc_service.specs.declared.plan.Plan.{Plan}
 
 -- The parts of a machine that a service reads and changes.
@@ -51,14 +53,13 @@ abbrev pub Moves : Tables → Caller → List Placed → Parts → Parts → Typ
 Moves image caller news old new =
     (fs : List Frame) → frames_at image caller old ≡ Some fs → new ≡ moved_to image news fs old
 
--- what a service comes to from the stack walk on: whether all that the frames name may be there, where
--- there are frames
-abbrev pub Tries : Option Bool → Tables → Caller → List Placed → Parts → Parts → Type 0
-Tries None image caller news old new = (frames_at image caller old ≡ None) × (new ≡ old)
-Tries (Some true) image caller news old new =
+-- what a service comes to from the stack walk on
+abbrev pub Tries : Stack → Tables → Caller → List Placed → Parts → Parts → Type 0
+Tries NoFrames image caller news old new = (frames_at image caller old ≡ None) × (new ≡ old)
+Tries Fine image caller news old new =
     (fs : List Frame) × (frames_at image caller old ≡ Some fs) × (roots_at image old fs ≡ true)
     × (new ≡ moved_to image news fs old)
-Tries (Some false) image caller news old new =
+Tries BadRoot image caller news old new =
     (fs : List Frame) × (frames_at image caller old ≡ Some fs) × (roots_at image old fs ≡ false) × (new ≡ old)
 
 -- The space with the new starts of the blocks, each marked at the block's old start.

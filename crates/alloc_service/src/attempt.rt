@@ -16,7 +16,7 @@ use crate::choice::choose;
 use crate::forward::{forget, forward_all};
 use crate::moves;
 use crate::plan::Plan;
-use crate::roots::survey;
+use crate::roots::{Stack, survey};
 use crate::stack::descriptor_of;
 use image_form::Image;
 use rv_machine::{BlockPlace, CODE_START, Memory, Space, Table};
@@ -67,9 +67,8 @@ pub struct Caller {
     pub sp: u64,
 }
 
-/// Chooses new places for the blocks and moves them there, or reports what is amiss with the stack:
-/// nothing where it does not read as frames, `false` where a frame names what may not be there. Then
-/// nothing has changed. The space is left as it was.
+/// Chooses new places for the blocks and moves them there where the stack is fine; else nothing has
+/// changed. The space is left as it was.
 pub fn attempt(
     plan: Plan<'_>,
     image: &Image,
@@ -78,7 +77,7 @@ pub fn attempt(
     memory: &mut Memory,
     space: &mut Space,
     blocks: &mut Vec<BlockPlace>,
-) -> Option<bool>
+) -> Stack
     requires image { IsImage image.now }
     requires low { 0x38010000 ≤ caller.base }
     requires high { caller.base ≤ 0x40000000 }
@@ -97,7 +96,7 @@ pub fn attempt(
     ensures space { IsSpace caller.heap space.new }
     ensures table { caller.heap / 16 ≤ vec_capacity blocks.new }
     ensures zero { slice_index registers.new 0 ≡ 0 }
-    ensures kept { result ≡ Some true → AllByRecursion (IsKept caller.heap) blocks.new.items }
+    ensures kept { result ≡ Stack.Fine → AllByRecursion (IsKept caller.heap) blocks.new.items }
     ensures bytes { bytes_used blocks.new.items ≤ caller.heap }
 {
     let Caller {
@@ -108,16 +107,20 @@ pub fn attempt(
         sp,
     } = caller;
     prepare(plan, number, heap, space, blocks);
-    let Some(fine) = survey(image, &space.table, base, registers, memory, address, sp) else {
-        restore(heap, space, blocks);
-        return None;
-    };
-    if !fine {
-        restore(heap, space, blocks);
-        return Some(false);
+    match survey(image, &space.table, base, registers, memory, address, sp) {
+        Stack::NoFrames => {
+            restore(heap, space, blocks);
+            Stack::NoFrames
+        }
+        Stack::BadRoot => {
+            restore(heap, space, blocks);
+            Stack::BadRoot
+        }
+        Stack::Fine => {
+            move_all(image, caller, registers, memory, space, blocks);
+            Stack::Fine
+        }
     }
-    move_all(image, caller, registers, memory, space, blocks);
-    Some(true)
 }
 
 // Moves the blocks to the starts in the space, and rewrites all that points to them.

@@ -8,14 +8,25 @@ ghost use Rattle.rv_machine.specs.Relocation.{is_in_code, is_in_data};
 ghost use Rattle.rv_machine.specs.Frames.{frames_from, most_frames, registers_named, slots_named};
 ghost use Rattle.rv_machine.specs.Memory.{word};
 ghost use Rattle.alloc_service.specs.Forward.{root_by, roots_by};
+ghost use Rattle.alloc_service.specs.Surveyed.{stack_of};
 
 use crate::stack::{STACK_END, descriptor_of, is_frame};
 use image_form::{DescRow, Image};
 use rv_machine::start::DATA_START;
 use rv_machine::{CODE_START, Memory, Table};
 
-/// Whether all that the frames name may stand there, or nothing where the stack does not read as frames.
-/// The frames are those from a return address and a stack pointer on.
+/// What stands on the stack.
+#[derive(Clone, Copy, PartialEq, Eq, Debug)]
+pub enum Stack {
+    /// It does not read as frames.
+    NoFrames,
+    /// A frame names what may not be there.
+    BadRoot,
+    /// All that the frames name may be there.
+    Fine,
+}
+
+/// What stands on the stack: the frames are those from a return address and a stack pointer on.
 pub fn survey(
     image: &Image,
     table: &Table,
@@ -24,13 +35,13 @@ pub fn survey(
     memory: &Memory,
     address: u64,
     sp: u64,
-) -> Option<bool>
+) -> Stack
     requires image { IsImage image.now }
     requires base { base ≤ 0x40000000 }
-    ensures { result
-        ≡ option_map (roots_by (root_by (tables image.now) table.now) registers.now memory.now true)
+    ensures { result ≡ stack_of (option_map
+        (roots_by (root_by (tables image.now) table.now) registers.now memory.now true)
         (frames_from (most_frames base)
-        (map desc (contents image.now.descs)) base memory.now true address sp) }
+        (map desc (contents image.now.descs)) base memory.now true address sp)) }
 {
     let mut most = (STACK_END - base) / 16 + 1;
     let mut first = true;
@@ -39,11 +50,13 @@ pub fn survey(
     let mut fine = true;
     while most > 0 {
         if address == CODE_START {
-            return Some(fine);
+            return if fine { Stack::Fine } else { Stack::BadRoot };
         }
-        let row = descriptor_of(image, address)?;
+        let Some(row) = descriptor_of(image, address) else {
+            return Stack::NoFrames;
+        };
         if !is_frame(base, first, at, row) {
-            return None;
+            return Stack::NoFrames;
         }
         let here = are_roots(image, table, registers, memory, first, at, row);
         fine = both(fine, here);
@@ -53,7 +66,7 @@ pub fn survey(
         first = false;
         most -= 1;
     }
-    None
+    Stack::NoFrames
 }
 
 fn both(a: bool, b: bool) -> bool

@@ -8,6 +8,7 @@ ghost use Rattle.alloc_service.specs.Plan.{Keeps, Serves, both_counted, plan_of,
 
 use crate::attempt::{Caller, attempt};
 use crate::plan::Plan;
+use crate::roots::Stack;
 use crate::service_end::ServiceEnd;
 use crate::young::{Taken, take_young};
 use rv_isa::Register;
@@ -109,7 +110,7 @@ fn relocate(machine: &mut Machine<'_>, plan: Plan<'_>, from: u64) -> ServiceEnd
         address,
         sp,
     };
-    let Some(fine) = attempt(
+    match attempt(
         plan,
         machine.image,
         caller,
@@ -117,16 +118,20 @@ fn relocate(machine: &mut Machine<'_>, plan: Plan<'_>, from: u64) -> ServiceEnd
         &mut machine.memory,
         &mut machine.space,
         &mut machine.blocks,
-    ) else {
-        machine.blocks.truncate(count);
-        return ServiceEnd::Stopped(Cause::BadFrame);
-    };
-    if !fine {
-        machine.blocks.truncate(count);
-        return ServiceEnd::Stopped(Cause::BadRoot);
+    ) {
+        Stack::NoFrames => {
+            machine.blocks.truncate(count);
+            ServiceEnd::Stopped(Cause::BadFrame)
+        }
+        Stack::BadRoot => {
+            machine.blocks.truncate(count);
+            ServiceEnd::Stopped(Cause::BadRoot)
+        }
+        Stack::Fine => {
+            machine.services = machine.services.saturating_add(1);
+            ServiceEnd::Goes
+        }
     }
-    machine.services = machine.services.saturating_add(1);
-    ServiceEnd::Goes
 }
 
 // Whether so many bytes may be asked for.
