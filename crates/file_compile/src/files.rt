@@ -70,6 +70,17 @@ fn gated_pieces<G: Gate>(
     pieces
 }
 
+/// The tokens of each of these functions, in their order.
+fn tokens_of(alloc: Global, functions: &[&Function]) -> Result<Vec<u32>, AllocError>
+    ensures { IfOk result (λ tokens. length tokens.items ≡ length functions.now) }
+{
+    let mut tokens = Vec::new(alloc);
+    for function in functions {
+        tokens.push(function.tokens)?;
+    }
+    Ok(tokens)
+}
+
 /// The pieces of each of these functions, in their order. No memory holds more functions than there are numbers.
 fn all_pieces<R: Threads + Sync, G: Gate + Sync>(
     rt: &R,
@@ -84,23 +95,24 @@ fn all_pieces<R: Threads + Sync, G: Gate + Sync>(
     ensures { IfOk result (λ pieces. AllZip IsFunctionMade (map (λ f. function_view f.now)
         functions.now) pieces.items) }
 {
-    let Ok(count) = u32::try_from(functions.len()) else {
+    if functions.len() > u32::MAX as usize {
         return Err(AllocError);
-    };
+    }
+    let tokens = tokens_of(alloc, functions)?;
     let pieces_at = |piece: u32| -> Result<Pieces, AllocError>
         requires { (piece < length functions.now)
             × All (λ f. IsFunctionAnnotated f.now) functions.now
             × All (λ f. IsAcceptedFunction (function_view f.now)) functions.now }
         ensures { IfOk result (ArePiecesAt functions.entry.now piece) }
     { gated_pieces(alloc, functions, piece, gate) };
-    map_in_halves(rt, alloc, count, jobs, &pieces_at)
+    map_in_halves(rt, alloc, tokens.as_slice(), jobs, &pieces_at)
 }
 
 /// The image of a checked file: each function through all passes, and then all of them, with the static
 /// data, the external calls and the frame descriptors.
 ///
-/// Functions are lent in halves to both sides of a join, each half with its part of the jobs, down to single
-/// functions or one job, and the gate hears of each. A file is made into one image only (`made_for_once`), so
+/// Functions are lent in halves of their tokens to both sides of a join, each half with its part of the jobs, down to
+/// single functions or one job, and the gate hears of each. A file is made into one image only (`made_for_once`), so
 /// the image is the same for every number of jobs and every gate.
 ///
 /// # Errors

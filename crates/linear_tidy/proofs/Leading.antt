@@ -1,5 +1,5 @@
 -- Where jumps lead.
-use Rattle.std.proofs.Common.{◌≡◌, ℕ, zero, suc, ◌+◌, ◌-◌, ◌<◌, ◌≤◌, cond, Bool, true, false, ◌⊎◌, inl, inr, ⊎_elim, List, [], ◌∷◌, Option, Some, None, drop, length, get_or, refl, sym, ap, ◌∙◌, arith}
+use Rattle.std.proofs.Common.{◌≡◌, ◌↔◌, ℕ, zero, suc, ◌+◌, ◌-◌, ◌<◌, ◌≤◌, cond, Bool, true, false, ◌⊎◌, inl, inr, ⊎_elim, List, [], ◌∷◌, Option, Some, None, drop, length, get_or, refl, sym, ap, ◌∙◌, arith}
 use Rattle.std.proofs.lemmas.Bool.{cases_lt}
 use Rattle.std.proofs.lemmas.List.{get_or_default, length-drop}
 use Rattle.std.specs.Option.{unwrap_or, option_map}
@@ -18,46 +18,61 @@ use Rattle.tidy_rules.specs.Leaving.{bare}
 use Rattle.tidy_rules.specs.Redirecting.{is_label, first_goes, leads_to, leaves_to, next_label, followed, last_label, last_exit}
 use Rattle.tidy_rules.proofs.Following.{line, label_is}
 use Rattle.linear_tidy.proofs.Between.{drop_line}
-use Rattle.linear_tidy.specs.Targets.{target_in, exit_in, AreTargets}
+use Rattle.linear_tidy.specs.Targets.{first_line, target_in, exit_in, AreTargets}
 use Rattle.linear_tidy.specs.declared.redirecting.Targets.{Targets}
 
 -- ---- from a place on
 
--- what is told of the first line that is no label
+no_lines : (code : List Line) → length code ≡ 0 → first_line code ≡ None
+no_lines [] e = refl
+no_lines (i ∷ is) e = absurd (omega (arith, e))
+
+pub first_past : (code : List Line) (k : ℕ) → length code ≤ k → first_line (drop k code) ≡ None
+first_past code k le = let e = length-drop k code in no_lines (drop k code) (omega (arith, e, le))
+
+pub first_later : (code : List Line) (k : ℕ) (i : Line) → k < length code → i ≡ get_or code k i → (l : ℕ) × (i ≡ bare (flow.Label l)) →
+    first_line (drop k code) ≡ first_line (drop (k + 1) code)
+first_later code k i lt e label = ap first_line (drop_line code k i lt e ∙ ap (λ j. j ∷ drop (k + 1) code) label.1)
+
+pub first_here : (code : List Line) (k : ℕ) (i : Line) → k < length code → i ≡ get_or code k i → ((l : ℕ) × (i ≡ bare (flow.Label l)) → ⊥) →
+    first_line (drop k code) ≡ Some i
+first_here code k i lt e other = ap first_line (drop_line code k i lt e) ∙ by (is_label i.op i.args i.results) refl
+  where
+    by : (b : Bool) → is_label i.op i.args i.results ≡ b → cond b (first_line (drop (k + 1) code)) (Some i) ≡ Some i
+    by true s = absurd (other (label_is i.op i.args i.results s))
+    by false s = refl
+
+-- what is told of it
 module _ (told : LinOp → (args results : List Spot) → Option ℕ) where
-  no_lines : (code : List Line) → length code ≡ 0 → first_goes told code ≡ None
-  no_lines [] e = refl
-  no_lines (i ∷ is) e = absurd (omega (arith, e))
+  abbrev told_of : Option Line → Option ℕ
+  told_of None = None
+  told_of (Some i) = told i.op i.args i.results
 
-  pub first_past : (code : List Line) (k : ℕ) → length code ≤ k → first_goes told (drop k code) ≡ None
-  first_past code k le = let e = length-drop k code in no_lines (drop k code) (omega (arith, e, le))
+  told_of_first : (code : List Line) → told_of (first_line code) ≡ first_goes told code
+  told_of_first [] = refl
+  told_of_first (i ∷ next) = by (is_label i.op i.args i.results) (told_of_first next)
+    where
+      by : (b : Bool) → told_of (first_line next) ≡ first_goes told next →
+          told_of (cond b (first_line next) (Some i)) ≡ cond b (first_goes told next) (told i.op i.args i.results)
+      by true e = e
+      by false e = refl
 
-  pub first_later : (code : List Line) (k : ℕ) (i : Line) → k < length code → i ≡ get_or code k i → (l : ℕ) × (i ≡ bare (flow.Label l)) →
-      first_goes told (drop k code) ≡ first_goes told (drop (k + 1) code)
-  first_later code k i lt e label = ap (first_goes told) (drop_line code k i lt e ∙ ap (λ j. j ∷ drop (k + 1) code) label.1)
+  pub told_nowhere : (code : List Line) (first : Option Line) → first ≡ first_line code → first ≡ None → None ≡ first_goes told code
+  told_nowhere code first e none = ap told_of (sym none ∙ e) ∙ told_of_first code
 
-  module _ (goes : ℕ → Flow) (is : (l : ℕ) (f : LinOp) (args results : List Spot) → told f args results ≡ Some l → line f args results ≡ bare (goes l)) where
-    no_such : (i : Line) → ((l : ℕ) → i ≡ bare (goes l) → ⊥) → told i.op i.args i.results ≡ None
-    no_such i out = by (told i.op i.args i.results) refl
+  -- of a line there it is told where it goes, which another answer tells too
+  module _ (goes : ℕ → Flow) (is : (l : ℕ) (f : LinOp) (args results : List Spot) → told f args results ≡ Some l → line f args results ≡ bare (goes l)) (back : (l : ℕ) → told_of (Some (bare (goes l))) ≡ Some l) where
+    told_is : (i : Line) (o : Option ℕ) → ((l : ℕ) → (o ≡ Some l) ↔ (i ≡ bare (goes l))) → o ≡ told i.op i.args i.results
+    told_is i (Some l) exact = sym (ap (λ i. told_of (Some i)) ((exact l).0 refl) ∙ back l)
+    told_is i None exact = by (told i.op i.args i.results) refl
       where
-        by : (o : Option ℕ) → told i.op i.args i.results ≡ o → told i.op i.args i.results ≡ None
-        by None e = e
-        by (Some l) e = absurd (out l (is l i.op i.args i.results e))
+        by : (t : Option ℕ) → told i.op i.args i.results ≡ t → None ≡ t
+        by None e = refl
+        by (Some l) e = (exact l).1 (is l i.op i.args i.results e)
 
-    pub first_nowhere : (code : List Line) (k : ℕ) (i : Line) → k < length code → i ≡ get_or code k i → ((l : ℕ) × (i ≡ bare (flow.Label l)) → ⊥) →
-        ((l : ℕ) → i ≡ bare (goes l) → ⊥) → first_goes told (drop k code) ≡ None
-    first_nowhere code k i lt e low out = ap (first_goes told) (drop_line code k i lt e) ∙ by (is_label i.op i.args i.results) refl
-      where
-        by : (b : Bool) → is_label i.op i.args i.results ≡ b →
-            cond b (first_goes told (drop (k + 1) code)) (told i.op i.args i.results) ≡ None
-        by true s = absurd (low (label_is i.op i.args i.results s))
-        by false s = no_such i out
-
-pub leads_now : (code : List Line) (k n : ℕ) (i : Line) → k < length code → i ≡ get_or code k i → i ≡ bare (flow.Jump n) → leads_to (drop k code) ≡ Some n
-leads_now code k n i lt e is = ap leads_to (drop_line code k i lt e ∙ ap (λ j. j ∷ drop (k + 1) code) is)
-
-pub leaves_now : (code : List Line) (k n : ℕ) (i : Line) → k < length code → i ≡ get_or code k i → i ≡ bare (flow.Exit n) → leaves_to (drop k code) ≡ Some n
-leaves_now code k n i lt e is = ap leaves_to (drop_line code k i lt e ∙ ap (λ j. j ∷ drop (k + 1) code) is)
+    pub told_there : (code : List Line) (first : Option Line) (i : Line) (o : Option ℕ) → first ≡ first_line code → first ≡ Some i →
+        ((l : ℕ) → (o ≡ Some l) ↔ (i ≡ bare (goes l))) → o ≡ first_goes told code
+    told_there code first i o e some exact = told_is i o exact ∙ ap told_of (sym some ∙ e) ∙ told_of_first code
 
 -- ---- one jump after the other
 

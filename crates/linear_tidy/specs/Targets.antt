@@ -1,11 +1,17 @@
 -- Where jumps to labels go instead.
-use Rattle.std.specs.Prelude.{◌≡◌, ℕ, Option, Some, None}
+use Rattle.std.specs.Prelude.{◌≡◌, ℕ, cond, Option, Some, None, List, [], ◌∷◌}
 use Rattle.std.specs.BTreeMap as tree
 use Rattle.std.specs.Ordering.{nat_cmp}
 use Rattle.lin_ir.specs.declared.lin.Lin.{Lin}
-use Rattle.tidy_rules.specs.Redirecting.{last_label, last_exit}
+use Rattle.lin_ir.specs.declared.lin.Line.{Line}
+use Rattle.tidy_rules.specs.Redirecting.{is_label, last_label, last_exit}
 use Rattle.linear_tidy.specs.declared.redirecting.Targets.{Targets}
 use Rattle.linear_tidy.specs.declared.redirecting.Way.{Way}
+
+-- the first line that is no label
+abbrev pub first_line : List Line → Option Line
+first_line [] = None
+first_line (i ∷ next) = cond (is_label i.op i.args i.results) (first_line next) (Some i)
 
 -- a label of which nothing is known is its own target
 abbrev pub target_by : Option Way → ℕ → ℕ

@@ -1,9 +1,10 @@
 //! Jumps that go at once where others lead.
+ghost use Rattle.std.specs.Option.{option_copied};
 ghost use Rattle.std.specs.Prelude.{◌≡◌, ◌<◌, ◌^◌, ℕ, None, cond, drop, length, map, nat_eq, IfOk};
 ghost use Rattle.lin_ir.specs.Meaning.{has_label};
 ghost use Rattle.lin_flow.specs.Labels.{AreLabelsOf};
 ghost use Rattle.tidy_rules.specs.Redirecting.{goes_by, redirected, redirect, leads_to, leaves_to, last_label, last_exit, redirected_all};
-ghost use Rattle.linear_tidy.specs.Targets.{target_in, exit_in, AreTargets};
+ghost use Rattle.linear_tidy.specs.Targets.{first_line, target_in, exit_in, AreTargets};
 
 use crate::forms::{exit_of, is_label, jump_of};
 use lin_flow::{Labels, number_after};
@@ -12,36 +13,31 @@ use mach_ir::Seq;
 use std::alloc::{AllocError, Global};
 use std::collections::BTreeMap;
 
+/// The first line from the place on that is no label.
+fn first_line(code: &[Line], place: usize) -> Option<&Line>
+    ensures { option_copied result ≡ first_line (drop place code.now) }
+{
+    for at in place..code.len() {
+        let line = &code[at];
+        if !is_label(line) {
+            return Some(line);
+        }
+    }
+    None
+}
+
 /// The label to which the first line from the place on that is no label jumps, if it is a jump.
 fn jump_from(code: &[Line], place: usize) -> Option<u32>
     ensures { result ≡ leads_to (drop place code.now) }
 {
-    for at in place..code.len() {
-        let line = &code[at];
-        if let Some(label) = jump_of(line) {
-            return Some(label);
-        }
-        if !is_label(line) {
-            return None;
-        }
-    }
-    None
+    jump_of(first_line(code, place)?)
 }
 
 /// The label to which the first line from the place on that is no label exits, if it is an exit.
 fn exit_from(code: &[Line], place: usize) -> Option<u32>
     ensures { result ≡ leaves_to (drop place code.now) }
 {
-    for at in place..code.len() {
-        let line = &code[at];
-        if let Some(label) = exit_of(line) {
-            return Some(label);
-        }
-        if !is_label(line) {
-            return None;
-        }
-    }
-    None
+    exit_of(first_line(code, place)?)
 }
 
 /// The label to which control goes on from a label by labels and jumps alone. Jumps that lead round

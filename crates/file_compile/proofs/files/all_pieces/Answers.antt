@@ -14,9 +14,10 @@ returns g c =
     let fs = c.args.functions.now in
     IfOk-weaker c.map_in_halves.result _ _
     (λ pieces given.
-    let all : AreGiven (ArePiecesAt fs) 0 c.in-Ok.count pieces.items =
-    given_weaker _ (ArePiecesAt fs) c.in-Ok.count pieces.items (λ i x less post. search rules) given in
-    let count : c.in-Ok.count ≡ length fs = search rules in
+    let count = length c.as_slice.result.now in
+    let all : AreGiven (ArePiecesAt fs) 0 count pieces.items =
+    given_weaker _ (ArePiecesAt fs) count pieces.items (λ i x less post. search rules) given in
+    let same : count ≡ length fs = search rules in
     made_trees fs pieces.items (given_each (λ (f : Bor Function) made. IsFunctionMade (function_view f.now) made) fs pieces.items
-    (subst (λ n. AreGiven (ArePiecesAt fs) 0 n pieces.items) count all)))
+    (subst (λ n. AreGiven (ArePiecesAt fs) 0 n pieces.items) same all)))
     c.map_in_halves.ensures

@@ -1,26 +1,18 @@
-use Rattle.std.proofs.Common.{sym, ◌∙◌}
-use Rattle.std.proofs.lemmas.Bool.{true≢false}
+use Rattle.std.proofs.Common.{◌≡◌, None, drop, refl, ap, ◌∙◌, rules}
+use Rattle.std.specs.Option.{option_copied}
 use Rattle.lin_ir.specs.declared.lin.Flow.TheVariants as flow
 use Rattle.tidy_rules.specs.Redirecting.{exits_to}
 use Rattle.tidy_rules.proofs.Following.{exit_is}
-use Rattle.linear_tidy.proofs.Leading.{first_past, leaves_now, first_later, first_nowhere}
+use Rattle.linear_tidy.proofs.Leading.{told_nowhere, told_there}
 use Rattle.linear_tidy.proofs.redirecting.exit_from.Goals as goal
 
-pub returns-in-Some : goal.returns-in-Some
-returns-in-Some c =
-    sym (leaves_now c.args.code.now c.loop-at.at c.in-Some.label c.index-code-at.result c.loop-at-test.true c.index-code-at.is
-    ((c.exit_of.ensures c.in-Some.label).0 c.in-Some.is)) ∙ c.loop-at.invariant
-
-pub loop-at-preserved : goal.loop-at-preserved
-loop-at-preserved c =
-    sym (first_later exits_to c.args.code.now c.loop-at.at c.index-code-at.result c.loop-at-test.true c.index-code-at.is
-    (c.is_label.ensures.0 c.if-not-is_label.false)) ∙ c.loop-at.invariant
-
-pub returns-then-not-is_label : goal.returns-then-not-is_label
-returns-then-not-is_label c =
-    sym (first_nowhere exits_to flow.Exit exit_is c.args.code.now c.loop-at.at c.index-code-at.result c.loop-at-test.true c.index-code-at.is
-    (λ y. true≢false (sym (c.is_label.ensures.1 y) ∙ c.if-not-is_label.true))
-    (λ l e. c.in_default.not-Some l ((c.exit_of.ensures l).1 e))) ∙ c.loop-at.invariant
+pub returns-in_err-first_line : goal.returns-in_err-first_line
+returns-in_err-first_line c =
+    let none : c.first_line.result ≡ None = search rules in
+    let out : c.from_residual.result ≡ None = search rules in
+    out ∙ told_nowhere exits_to (drop c.args.place c.args.code.now) (option_copied c.first_line.result) c.first_line.ensures (ap option_copied none)
 
 pub returns : goal.returns
-returns c = sym (first_past exits_to c.args.code.now c.loop-at.at c.loop-at-test.false) ∙ c.loop-at.invariant
+returns c =
+    told_there exits_to flow.Exit exit_is (λ l. refl) (drop c.args.place c.args.code.now) (option_copied c.first_line.result)
+    c.in_ok-first_line.field-0.now c.exit_of.result c.first_line.ensures (ap option_copied c.in_ok-first_line.was) c.exit_of.ensures
