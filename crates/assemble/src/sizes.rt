@@ -71,7 +71,16 @@ fn piece_size(piece: &Piece) -> u64
 {
     match piece {
         Piece::Descriptor(descr) => 12 + 4 * descr.entries.len() as u64,
-        _ => 0,
+        Piece::Known(_)
+        | Piece::Label(_)
+        | Piece::Branch { .. }
+        | Piece::Jump(_)
+        | Piece::Row(_)
+        | Piece::LabelAddress { .. }
+        | Piece::Call(_)
+        | Piece::TailCall(_)
+        | Piece::SymbolAddress { .. }
+        | Piece::ExternalNumber { .. } => 0,
     }
 }
 

@@ -19,7 +19,16 @@ fn bound_of(piece: &Piece) -> usize
 {
     match piece {
         Piece::Label(label) => *label as usize + 1,
-        _ => 0,
+        Piece::Known(_)
+        | Piece::Branch { .. }
+        | Piece::Jump(_)
+        | Piece::Row(_)
+        | Piece::LabelAddress { .. }
+        | Piece::Call(_)
+        | Piece::TailCall(_)
+        | Piece::SymbolAddress { .. }
+        | Piece::ExternalNumber { .. }
+        | Piece::Descriptor(_) => 0,
     }
 }
 
