@@ -13,3 +13,4 @@ mod Planned
 mod Standing
 mod Repeating
 mod Copying
+mod Earlier

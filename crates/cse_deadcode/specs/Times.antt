@@ -1,4 +1,4 @@
--- When events happened last in a code, and the table of it.
+-- When events happened last in a code, and the tables of it.
 use Rattle.std.specs.Prelude.{◌≡◌, ℕ, Bool, false, ◌||◌, List, Option, Some, None}
 use Rattle.std.specs.BTreeMap as tree
 use Rattle.std.specs.List.{list_any}
@@ -13,12 +13,14 @@ use Rattle.mach_ir.specs.declared.reg.Reg.{Reg}
 use Rattle.mach_ir.specs.declared.mach.MachOp.{MachOp}
 use Rattle.mach_ir.specs.declared.mach.MachOp.TheVariants as mach
 use Rattle.mach_ir.specs.declared.mach.Instr.{Instr}
+use Rattle.cse_deadcode.specs.contracts.events.ComputedOrd.TheImpl as computed_order
 use Rattle.cse_deadcode.specs.contracts.events.EventOrd.TheImpl as order
 use Rattle.cse_deadcode.specs.declared.events.Event.{Event}
 use Rattle.cse_deadcode.specs.declared.events.Event.TheVariants as event
 use Rattle.cse_deadcode.specs.declared.times.Times.{Times}
 use Rattle.cse_deadcode.specs.Events.{computation}
 use Rattle.cse_deadcode.specs.Last.{last}
+use Rattle.cse_deadcode.specs.Numbered.{time_of}
 
 abbrev pub is_same : Event → Event → Bool
 is_same e f = is_eq (order.ghosts.cmp e f)
@@ -66,10 +68,16 @@ Clock = Event → ℕ
 abbrev pub last_time : List Instr → Clock
 last_time code e = last (happens e) code
 
--- the same by the table
+-- the same by the tables
 abbrev pub time_in : Times → Event → ℕ
-time_in t e = unwrap_or (tree.get order.ghosts.cmp t.times e) 0
+time_in t event.EndsRun = t.ends_run
+time_in t event.Allocates = t.allocates
+time_in t (event.Writes n) = time_of t.writes n
+time_in t (event.WritesOrigin n) = time_of t.origins n
+time_in t (event.WritesColour n) = time_of t.colours n
+time_in t (event.WritesSlot n) = time_of t.slots n
+time_in t (event.Computes c) = unwrap_or (tree.get computed_order.ghosts.cmp t.computes c) 0
 
--- the table has the times of a code
+-- the tables have the times of a code
 pub record AreTimes (t : Times) (code : List Instr) : Type 0 where
   pub each : (e : Event) → time_in t e ≡ last_time code e

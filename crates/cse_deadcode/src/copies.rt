@@ -140,7 +140,8 @@ fn with_sources(alloc: Global, code: Seq<Instr>) -> Result<Seq<Instr>, AllocErro
 ///
 /// Registers are taken by number, so the function must be well-formed. A copy of a copy is read from
 /// the first source, since the move between them reads that already. The time is that of a few look-ups
-/// in a map for each register and operator. The only error is want of memory.
+/// by number for each register, and of one in a map for each operator; memory grows as the greatest
+/// number does. The only error is want of memory.
 pub fn propagate(alloc: Global, mach: Mach) -> Result<Mach, AllocError>
     requires formed { WellFormed mach }
     ensures { IfOk result (λ after. IsPropagated mach after) }

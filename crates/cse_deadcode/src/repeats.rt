@@ -144,8 +144,9 @@ fn without_repeats(alloc: Global, code: Seq<Instr>) -> Result<Seq<Instr>, AllocE
 /// The function in which each integer operator that repeats an earlier one of its straight run, whose
 /// operands and result still stand, is a move from that one's result.
 ///
-/// Registers are taken by number, so the function must be well-formed. The time is that of a look-up in
-/// a map for each register and operator. The only error is want of memory.
+/// Registers are taken by number, so the function must be well-formed. The time is that of a few look-ups
+/// by number for each register, and in a map for each operator; memory grows as the greatest number does.
+/// The only error is want of memory.
 pub fn cse(alloc: Global, mach: Mach) -> Result<Mach, AllocError>
     requires formed { WellFormed mach }
     ensures { IfOk result (λ after. IsRepeated mach after) }

@@ -4,7 +4,8 @@ ghost use Rattle.std.specs.List.{list_any};
 ghost use Rattle.cse_deadcode.specs.declared.events.Event.{Event};
 ghost use Rattle.cse_deadcode.specs.Times.{is_same, writes_place, writes, event_of, does, happens, time_in};
 
-use crate::events::{Event, computation};
+use crate::events::{Computed, Event, computation};
+use crate::numbered::Numbered;
 use bs_words::Loc;
 use mach_ir::{Access, Instr, MachOp, Op, Pure, Reg};
 use std::alloc::{AllocError, Global};
@@ -45,9 +46,18 @@ fn event_of(op: &MachOp, args: &[Reg]) -> Option<Event>
 }
 
 /// For each event the place of the last instruction in which it happened, counted from 1.
+///
+/// What is told by one number stands in a table by it, and only what is computed in a map, since most of
+/// what is noted and asked is of writes.
 #[derive(Drop)]
 pub struct Times {
-    times: BTreeMap<Event, usize>,
+    writes: Numbered,
+    origins: Numbered,
+    colours: Numbered,
+    slots: Numbered,
+    allocates: usize,
+    ends_run: usize,
+    computes: BTreeMap<Computed, usize>,
 }
 
 impl Times {
@@ -56,7 +66,13 @@ impl Times {
         ensures { (e : Event) → time_in result e ≡ 0 }
     {
         Times {
-            times: BTreeMap::new(alloc),
+            writes: Numbered::new(alloc),
+            origins: Numbered::new(alloc),
+            colours: Numbered::new(alloc),
+            slots: Numbered::new(alloc),
+            allocates: 0,
+            ends_run: 0,
+            computes: BTreeMap::new(alloc),
         }
     }
 
@@ -64,9 +80,17 @@ impl Times {
     pub fn last(&self, event: Event) -> usize
         ensures { result ≡ time_in self.now event }
     {
-        match self.times.get(&event) {
-            None => 0,
-            Some(time) => *time,
+        match event {
+            Event::EndsRun => self.ends_run,
+            Event::Allocates => self.allocates,
+            Event::Writes(number) => self.writes.get(number),
+            Event::WritesOrigin(origin) => self.origins.get(origin),
+            Event::WritesColour(colour) => self.colours.get(colour as u32),
+            Event::WritesSlot(slot) => self.slots.get(slot),
+            Event::Computes(computed) => match self.computes.get(&computed) {
+                None => 0,
+                Some(time) => *time,
+            },
         }
     }
 
@@ -74,7 +98,17 @@ impl Times {
         ensures { IfOk result (λ _. (e : Event) →
             time_in self.new e ≡ cond (is_same event e) time (time_in self.old e)) }
     {
-        self.times.insert(event, time)?;
+        match event {
+            Event::EndsRun => self.ends_run = time,
+            Event::Allocates => self.allocates = time,
+            Event::Writes(number) => self.writes.put(number, time)?,
+            Event::WritesOrigin(origin) => self.origins.put(origin, time)?,
+            Event::WritesColour(colour) => self.colours.put(colour as u32, time)?,
+            Event::WritesSlot(slot) => self.slots.put(slot, time)?,
+            Event::Computes(computed) => {
+                self.computes.insert(computed, time)?;
+            }
+        }
         Ok(())
     }
 
