@@ -1,28 +1,27 @@
 //! The graph.
 ghost use Rattle.std.specs.Prelude.{IfOk};
 ghost use Rattle.mach_ir.specs.Formed.{WellFormed};
-ghost use Rattle.mach_ir.specs.Graph.{IsLiveMap, IsGraph};
+ghost use Rattle.mach_ir.specs.Graph.{IsGraph};
 
 use crate::tables::Tables;
-use mach_ir::{Graph, LiveMap, Mach, Seq};
+use mach_ir::{Graph, Mach, Seq};
 use std::alloc::{AllocError, Global};
 
-/// The interference graph of a function, from what is live in it: a node for each of its registers, with
+/// The interference graph of a function, by what is live in it: a node for each of its registers, with
 /// the registers that it is joined with, its moves and its uses.
 ///
 /// Two registers are joined where one is written while the other is live after the write, a move's source
 /// and target excepted. The entry writes the parameters, and what an operation or the entry of a handler
 /// destroys is written too.
 ///
-/// The time is that of the text and of what each instruction writes times what is live after it; the memory
-/// is a bit for each pair of registers, and the graph. The only error is want of memory, which more places,
-/// registers or uses than a number can count are too.
-pub fn graph(alloc: Global, mach: &Mach, live: &LiveMap) -> Result<Graph, AllocError>
+/// The time is that of liveness, and of what each instruction writes times what is live after it; the memory
+/// is that of liveness, a bit for each pair of registers, and the graph. The only error is want of memory,
+/// which more places, registers or uses than a number can count are too.
+pub fn graph(alloc: Global, mach: &Mach) -> Result<Graph, AllocError>
     requires formed { WellFormed mach.now }
-    requires live { IsLiveMap mach.now live.now }
     ensures { IfOk result (IsGraph mach.now) }
 {
-    let tables = Tables::of_function(alloc, mach, live)?;
+    let tables = Tables::of_function(alloc, mach)?;
     let nodes = tables.nodes(alloc)?;
     Ok(Graph {
         nodes: Seq::from_vec(nodes),

@@ -2,17 +2,19 @@
 ghost use Rattle.std.specs.Prelude.{◌≡◌, ◌↔◌, ◌<◌, ℕ, true, None, All, length, IfOk};
 ghost use Rattle.bs_bits.specs.Set.{has};
 ghost use Rattle.bs_words.specs.Contents.{contents};
+ghost use Rattle.dataflow.specs.Flow.{WellFormed};
 ghost use Rattle.mach_ir.specs.Graph.{IsLiveMap};
 ghost use Rattle.mach_ir.specs.Walks.{IsRegister, Joined};
 ghost use Rattle.mach_ir.specs.declared.reg.Reg.{Reg};
+ghost use Rattle.mach_laws.specs.Graph.{IsFlowOf};
 ghost use Rattle.interfere.specs.Pairs.{Has, Adds, ForOne, Meeting, MeetsSet, MeetsPlaces, AreBelow};
 
 use crate::matrix::Matrix;
 use crate::members::members_of;
 use crate::moves::{Move, is_from_to, move_of};
 use bs_bits::Bits;
-use dataflow::Place;
-use liveness::flow_of;
+use dataflow::{Flow, Place};
+use liveness::{LiveFlow, live_flow};
 use mach_ir::{LiveMap, Mach, Reg};
 use std::alloc::{AllocError, Global};
 
@@ -104,19 +106,22 @@ fn join_params(
     Ok(())
 }
 
-/// The pairs of registers of a function that are joined; their numbers are below `size`.
-pub fn joined_of(
+/// The pairs of registers of a function that are joined, by its flow graph and what is live in it; their
+/// numbers are below `size`.
+fn joined_in(
     alloc: Global,
     mach: &Mach,
+    flow: &Flow,
     live: &LiveMap,
     size: u32,
 ) -> Result<Matrix, AllocError>
+    requires flow { IsFlowOf mach.now flow.now }
+    requires formed { WellFormed flow.now }
     requires live { IsLiveMap mach.now live.now }
     requires numbers { (r : Reg) → IsRegister mach.now r → r.number < size }
     ensures len { IfOk result (λ joined. length joined ≡ size) }
     ensures pairs { IfOk result (λ joined. (n k : ℕ) → Has joined n k ↔ Joined mach.now n k) }
 {
-    let flow = flow_of(alloc, mach)?;
     let mut joined = Matrix::new(alloc, size)?;
     let params = mach.params.as_slice();
     join_params(alloc, &mut joined, params, live.before.at(0))?;
@@ -125,4 +130,15 @@ pub fn joined_of(
         join_writes(alloc, &mut joined, move_of(instr), live, node)?;
     }
     Ok(joined)
+}
+
+/// The pairs of registers of a function that are joined; their numbers are below `size`. The flow graph
+/// and what is live in it are made once, and are gone when the pairs are there.
+pub fn joined_of(alloc: Global, mach: &Mach, size: u32) -> Result<Matrix, AllocError>
+    requires { (r : Reg) → IsRegister mach.now r → r.number < size }
+    ensures len { IfOk result (λ joined. length joined ≡ size) }
+    ensures pairs { IfOk result (λ joined. (n k : ℕ) → Has joined n k ↔ Joined mach.now n k) }
+{
+    let LiveFlow { flow, live } = live_flow(alloc, mach)?;
+    joined_in(alloc, mach, &flow, &live, size)
 }

@@ -1,6 +1,5 @@
 //! What is known of each register of a function, by number.
 ghost use Rattle.std.specs.Prelude.{◌≡◌, ◌+◌, ◌<◌, ℕ, length, slice_index, IfOk};
-ghost use Rattle.mach_ir.specs.Graph.{IsLiveMap};
 ghost use Rattle.interfere.specs.Partners.{partners_in};
 ghost use Rattle.interfere.specs.Registers.{IsAt};
 ghost use Rattle.interfere.specs.Tables.{AreTables, IsNode, AreByNumber, AreNodesBelow};
@@ -12,7 +11,7 @@ use crate::partners::{Partners, partners_of};
 use crate::registers::registers_of;
 use crate::uses::uses_of;
 use liveness::first_free;
-use mach_ir::{LiveMap, Mach, Node, Reg, Seq};
+use mach_ir::{Mach, Node, Reg, Seq};
 use std::alloc::{AllocError, Global};
 
 /// The registers of a function at their numbers, and for each number what it is joined with, its moves
@@ -47,14 +46,13 @@ fn uses_at(uses: &[u32], number: u32) -> u32
 
 impl Tables {
     /// The tables of a function.
-    pub fn of_function(alloc: Global, mach: &Mach, live: &LiveMap) -> Result<Tables, AllocError>
-        requires { IsLiveMap mach.now live.now }
+    pub fn of_function(alloc: Global, mach: &Mach) -> Result<Tables, AllocError>
         ensures { IfOk result (AreTables mach.now) }
     {
         let size = first_free(mach)?;
         let code = mach.code.as_slice();
         let registers = registers_of(alloc, mach, size)?;
-        let joined = joined_of(alloc, mach, live, size)?;
+        let joined = joined_of(alloc, mach, size)?;
         let partners = partners_of(alloc, code, size)?;
         let uses = uses_of(alloc, code, size)?;
         Ok(Tables {

@@ -52,16 +52,16 @@ impl Search {
         requires { last < 4294967296 }
         ensures { IfOk result (Starts last) }
     {
-        let mut groups = Vec::new(alloc);
-        for _place in 0..last + 1 {
+        let count = last + 1;
+        let mut groups = Vec::with_capacity(alloc, count)?;
+        for _place in 0..count {
             groups.push(Group {
                 members: Vec::new(alloc),
             })?;
         }
-        Ok(Search {
-            positions: Vec::new(alloc),
-            groups,
-        })
+        // Most functions have one position for each place.
+        let positions = Vec::with_capacity(alloc, count)?;
+        Ok(Search { positions, groups })
     }
 
     /// The numbers of the positions that are at the place. There are none past the last place.
@@ -152,7 +152,7 @@ impl Search {
         ensures numbers { IfOk result (λ numbers. AreNumbersOf (all_of self.new) numbers.items
             (map (λ p. position p tries.now) places.now)) }
     {
-        let mut numbers = Vec::new(alloc);
+        let mut numbers = Vec::with_capacity(alloc, places.len())?;
         for place in places {
             let number = self.enter(alloc, *place, tries)?;
             numbers.push(number)?;

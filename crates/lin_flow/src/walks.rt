@@ -24,8 +24,9 @@ pub fn search_walks(alloc: Global, lin: &Lin, labels: &Labels) -> Result<Walks, 
     requires { IsText lin.now labels.now }
     ensures { IfOk result (λ walks. IsWalked lin.now walks.search walks.nodes.items) }
 {
-    let mut search = Search::new(alloc, lin.code.len())?;
-    let mut nodes = Vec::new(alloc);
+    let last = lin.code.len();
+    let mut search = Search::new(alloc, last)?;
+    let mut nodes = Vec::with_capacity(alloc, last + 1)?;
     let _entry = search.enter(alloc, 0, &[])?;
     spread(alloc, lin, labels, &mut search, &mut nodes)?;
     Ok(Walks { search, nodes })

@@ -2,7 +2,7 @@
 use Rattle.std.proofs.Common.{◌≡◌, ℕ, zero, suc, ◌+◌, ◌<◌, ◌≤◌, Bool, true, false, cond, not, ◌&&◌, ◌⊎◌, inl, inr, ⊎_elim, List, [], ◌∷◌, ◌++◌, length, max, take, refl, sym, ap, ◌∙◌, subst, arith}
 use Rattle.std.specs.List.{All, Contains}
 use Rattle.std.specs.Prelude.{slice_index_or}
-use Rattle.std.proofs.lemmas.List.{map-append, take_more}
+use Rattle.std.proofs.lemmas.List.{append-nil, map-append, take_more}
 use Rattle.std.proofs.lemmas.List.Elements.{Contains-get_or}
 use Rattle.mach_ir.specs.Meaning.{Destroyed, Nothing, Temporaries, Everything, destroyed_by, is_destroyed, is_at_one_of, killed_among, killed_by, killed, written}
 use Rattle.mach_ir.specs.Walks.{InCode, in_args, in_results, further, IsRegister, is_param, is_colour, is_in_code}
@@ -54,6 +54,11 @@ among_killed (x ∷ cs) d rs r c =
 nothing_killed : (cs rs : List Reg) → killed_among cs Nothing rs ≡ []
 nothing_killed [] rs = refl
 nothing_killed (x ∷ cs) rs = nothing_killed cs rs
+
+pub nothing_added : (found : List ℕ) (cs : List Reg) (d : Destroyed) (rs : List Reg) → d ≡ Nothing →
+    found ≡ found ++ numbers (killed_among cs d rs)
+nothing_added found cs d rs e =
+    sym (ap (λ ks. found ++ numbers ks) (ap (λ d. killed_among cs d rs) e ∙ nothing_killed cs rs) ∙ append-nil found)
 
 -- the case of an operation that destroys nothing is no exception
 pub killed_is : (cs : List Reg) (d : Destroyed) (rs : List Reg) → killed_by cs d rs ≡ killed_among cs d rs

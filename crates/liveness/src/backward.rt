@@ -29,6 +29,14 @@ impl<T: Drop> Backward<T> {
         }
     }
 
+    /// No items, with room for so many.
+    pub fn with_capacity(alloc: Global, count: usize) -> Result<Self, AllocError>
+        ensures { IfOk result (λ made. made ≡ []) }
+    {
+        let items = Vec::with_capacity(alloc, count)?;
+        Ok(Backward { items })
+    }
+
     /// Puts an item before the others. Where memory is used up nothing has changed.
     pub fn push(&mut self, item: T) -> Result<(), AllocError>
         ensures { IfOk result (λ _. self.new ≡ item ∷ self.old) }

@@ -104,7 +104,7 @@ fn places_of_labels(alloc: Global, labels: &Labels, among: &[u32]) -> Result<Vec
     ensures { IfOk result (λ places. (p : ℕ) →
         places.items ≡ map (place_to labels.now p) (map At among.now)) }
 {
-    let mut places = Vec::new(alloc);
+    let mut places = Vec::with_capacity(alloc, among.len())?;
     for label in among {
         places.push(labels.place_of(*label))?;
     }

@@ -24,7 +24,7 @@ fn nodes_of(alloc: Global, mach: &Mach, labels: &Labels) -> Result<Vec<Place>, A
         AreNodes mach.now (register_uses mach.now) mach.now.code nodes.items) }
 {
     let code = mach.code.as_slice();
-    let mut nodes = Backward::new(alloc);
+    let mut nodes = Backward::with_capacity(alloc, code.len() + 1)?;
     nodes.push(last_node(alloc, mach))?;
     let mut tries = Backward::new(alloc);
     let mut left = code.len();

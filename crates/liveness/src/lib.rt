@@ -21,5 +21,5 @@ pub use control::pass_tries;
 pub use edges::{Edges, edges_of, no_edges};
 pub use flow::flow_of;
 pub use labels::Labels;
-pub use live_map::live;
+pub use live_map::{LiveFlow, live, live_flow};
 pub use numbers::first_free;

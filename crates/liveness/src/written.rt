@@ -1,7 +1,7 @@
 //! Which registers instructions write, by their numbers.
-ghost use Rattle.std.specs.Prelude.{◌≡◌, ◌++◌, IfOk};
+ghost use Rattle.std.specs.Prelude.{◌≡◌, ◌++◌, ◌↔◌, IsTrue, IfOk};
 ghost use Rattle.bs_words.specs.Contents.{contents};
-ghost use Rattle.mach_ir.specs.Meaning.{is_temporary, same_colour, is_at_one_of, is_destroyed, destroyed_by, killed_among, written};
+ghost use Rattle.mach_ir.specs.Meaning.{Nothing, is_temporary, same_colour, is_at_one_of, is_destroyed, destroyed_by, killed_among, written};
 ghost use Rattle.mach_laws.specs.Graph.{numbers};
 
 use bs_words::{List, Loc};
@@ -113,6 +113,54 @@ pub fn numbers_of(alloc: Global, regs: &[Reg]) -> Result<Vec<u32>, AllocError>
     Ok(found)
 }
 
+fn op_destroys_nothing(op: &Op) -> bool
+    ensures { IsTrue result ↔ (destroyed_by (MachOp.Op op.now) ≡ Nothing) }
+{
+    match op {
+        Op::Pure(_) => true,
+        Op::Access(_) => true,
+        Op::Calling(Calling::Call { .. }) => false,
+        Op::Calling(Calling::TailCall { .. }) => false,
+        Op::Calling(Calling::External { .. }) => false,
+        Op::Leaving(_) => true,
+    }
+}
+
+fn mark_destroys_nothing(mark: &Mark) -> bool
+    ensures { IsTrue result ↔ (destroyed_by (MachOp.Mark mark.now) ≡ Nothing) }
+{
+    match mark {
+        Mark::Exit { label: _, tries: _ } => true,
+        Mark::If {
+            test: _,
+            otherwise: _,
+        } => true,
+        Mark::Else { label: _, end: _ } => true,
+        Mark::Switch(_) => true,
+        Mark::Case {
+            indexes: _,
+            label: _,
+            end: _,
+        } => true,
+        Mark::Catch => true,
+        Mark::With { label: _, end: _ } => true,
+        Mark::Try { handler: _ } => true,
+        Mark::Leave { handler: _, end: _ } => true,
+        Mark::Handler { label: _ } => false,
+        Mark::End { label: _ } => true,
+    }
+}
+
+/// Whether it destroys nothing, as all but calls and the entries of handlers do.
+fn destroys_nothing(op: &MachOp) -> bool
+    ensures { IsTrue result ↔ (destroyed_by op.now ≡ Nothing) }
+{
+    match op {
+        MachOp::Op(op) => op_destroys_nothing(op),
+        MachOp::Mark(mark) => mark_destroys_nothing(mark),
+    }
+}
+
 /// Adds the numbers of those that the operation destroys: among the registers that stand for the
 /// colours, those where no result stands.
 fn push_killed(
@@ -125,6 +173,9 @@ fn push_killed(
         found.new.items
         ≡ found.old.items ++ numbers (killed_among colours.now (destroyed_by op.now) results.now)) }
 {
+    if destroys_nothing(op) {
+        return Ok(());
+    }
     for colour in colours {
         let destroyed = is_destroyed(op, colour.loc);
         let taken = is_at_one_of(colour.loc, results);

@@ -28,7 +28,7 @@ pub has_no_repeats : (m start once q : Mach) → start ≡ combined m → IsComm
 has_no_repeats m start once q made first second =
     record { once = once; first = subst (λ (s : Mach). IsCommoned s once) made first; second = second }
 
-pub cleaned_formed : (m q : Mach) → IsPreparable m → IsCleaned m q → WellFormed q
+cleaned_formed : (m q : Mach) → IsPreparable m → IsCleaned m q → WellFormed q
 cleaned_formed m q is made = (small_stage m q is made).formed
 
 pub is_cleaned : (m repeated q : Mach) → HasNoRepeats m repeated → IsDropped repeated q → IsCleaned m q
@@ -39,5 +39,6 @@ split_prepared m s q is slots made =
     let k = slots_stage m s is slots in
     record { spilled = s; has_slots = slots; is_split = made k.formed k.placed }
 
-pub has_slots : (m small q : Mach) → IsCleaned m small → IsSpilled small q → HasSlots m q
-has_slots m small q made spilled = record { dropped = small; is_cleaned = made; is_spilled = spilled }
+pub has_slots : (m small q : Mach) → IsPreparable m → IsCleaned m small → (WellFormed small → IsSpilled small q) → HasSlots m q
+has_slots m small q is made spilled =
+    record { dropped = small; is_cleaned = made; is_spilled = spilled (cleaned_formed m small is made) }

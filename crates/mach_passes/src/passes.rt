@@ -1,13 +1,11 @@
 //! The passes, in their order.
 ghost use Rattle.std.specs.Prelude.{IfOk};
 ghost use Rattle.mach_ir.specs.Formed.{WellFormed};
-ghost use Rattle.spill_rules.specs.Chosen.{IsSpilled};
 ghost use Rattle.mach_passes.specs.Prepared.{IsPreparable, IsPrepared};
 ghost use Rattle.mach_passes.specs.Stages.{IsCommoned, HasNoRepeats, IsCleaned, HasSlots};
 
 use comballoc::combine;
 use cse_deadcode::{cse, drop_dead, propagate};
-use liveness::live;
 use mach_ir::Mach;
 use spill::spill;
 use split::split;
@@ -48,24 +46,15 @@ pub fn without_dead(alloc: Global, mach: Mach) -> Result<Mach, AllocError>
     drop_dead(alloc, repeated)
 }
 
-/// The function in which what lives over calls has slots. The only error is want of memory.
-fn spill_live(alloc: Global, mach: Mach) -> Result<Mach, AllocError>
-    requires { WellFormed mach }
-    ensures { IfOk result (IsSpilled mach) }
-{
-    let live = live(alloc, &mach)?;
-    spill(alloc, mach, &live)
-}
-
 /// The function without dead code in which what lives over calls has slots. The only error is want of
 /// memory.
-#[tactic(auto, using(crate::proofs::Stages::cleaned_formed, crate::proofs::Stages::has_slots))]
+#[tactic(auto, using(crate::proofs::Stages::has_slots))]
 pub fn with_slots(alloc: Global, mach: Mach) -> Result<Mach, AllocError>
     requires { IsPreparable mach }
     ensures { IfOk result (HasSlots mach) }
 {
     let dropped = without_dead(alloc, mach)?;
-    spill_live(alloc, dropped)
+    spill(alloc, dropped)
 }
 
 /// What the passes before register allocation make of a function: its allocations are combined,

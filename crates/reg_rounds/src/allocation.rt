@@ -9,7 +9,7 @@ use crate::copies::copy;
 use crate::slots::rest_in_slots;
 use colouring::colour;
 use interfere::graph;
-use liveness::{first_free, live};
+use liveness::first_free;
 use mach_ir::Mach;
 use reload::reload;
 use std::alloc::{AllocError, Global};
@@ -28,7 +28,7 @@ pub struct Allocated {
     pub rest: bool,
 }
 
-/// One round: what is live, the graph of what must stand apart, its colouring, and the copies for what that
+/// One round: the graph of what must stand apart, its colouring, and the copies for what that
 /// put into slots. The answer says whether another round is asked for. Registers numbered `fresh` or above
 /// were made by earlier rounds.
 fn round(alloc: Global, mach: Mach, fresh: u32) -> Result<(Mach, bool), AllocError>
@@ -36,8 +36,7 @@ fn round(alloc: Global, mach: Mach, fresh: u32) -> Result<(Mach, bool), AllocErr
     requires placed { WellPlaced mach }
     ensures { IfOk result (λ made. IsRound fresh mach made.0 made.1) }
 {
-    let live = live(alloc, &mach)?;
-    let graph = graph(alloc, &mach, &live)?;
+    let graph = graph(alloc, &mach)?;
     let colours = colour(alloc, &graph, fresh)?;
     reload(alloc, mach, &colours)
 }

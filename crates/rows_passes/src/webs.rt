@@ -50,8 +50,7 @@ fn put<W: Write>(alloc: Global, out: &mut W, mach: Mach) -> Result<()> {
 /// The function, what spilling makes of it, and what splitting makes of that.
 fn put_spilled<W: Write>(alloc: Global, out: &mut W, mach: Mach) -> Result<()> {
     out.write_all(text(alloc, &mach)?.as_slice())?;
-    let live = live(alloc, &mach)?;
-    let made = spill(alloc, mach, &live)?;
+    let made = spill(alloc, mach)?;
     out.write_all(b"spilled ")?;
     out.write_all(text(alloc, &made)?.as_slice())?;
     let made = split(alloc, made)?;

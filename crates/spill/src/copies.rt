@@ -118,9 +118,10 @@ pub fn spill_code(
     ensures { IfOk result (λ made. made ≡ code_at tables.now (length code) code) }
 {
     let mut items = code.into_vec();
-    let mut made = Backward::new(alloc);
+    let mut made = Backward::with_capacity(alloc, items.len())?;
     while let Some(instr) = items.pop() {
-        push_instr(alloc, tables, items.len(), instr, &mut made)?;
+        let place = items.len();
+        push_instr(alloc, tables, place, instr, &mut made)?;
     }
     Ok(Seq::from_vec(made.into_vec()))
 }

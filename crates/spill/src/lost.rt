@@ -152,7 +152,7 @@ fn lost_places(
         AreLostNodes mach.now live.now.before.rows.items flow.now.bound mach.now.code nodes.items) }
 {
     let code = mach.code.as_slice();
-    let mut nodes = Backward::new(alloc);
+    let mut nodes = Backward::with_capacity(alloc, flow.places.len())?;
     nodes.push(bare_place(alloc))?;
     let mut left = code.len();
     while left > 0 {

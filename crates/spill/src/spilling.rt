@@ -1,7 +1,6 @@
 //! Spilling, whole.
 ghost use Rattle.std.specs.Prelude.{IfOk};
 ghost use Rattle.mach_ir.specs.Formed.{WellFormed};
-ghost use Rattle.mach_ir.specs.Graph.{IsLiveMap};
 ghost use Rattle.mach_ir.specs.Placed.{WellPlaced};
 ghost use Rattle.spill_rules.specs.Chosen.{IsSpilled, ParamsPlaced, IsChosenKept};
 ghost use Rattle.spill.specs.Tables.{AreTables};
@@ -10,18 +9,17 @@ use crate::copies::spill_code;
 use crate::lost::lost;
 use crate::tables::Tables;
 use crate::wanted::wanted;
-use liveness::{first_free, flow_of};
-use mach_ir::{LiveMap, Mach};
+use liveness::{LiveFlow, first_free, live_flow};
+use mach_ir::Mach;
 use std::alloc::{AllocError, Global};
 
 /// The tables of a function.
-fn tables_of(alloc: Global, mach: &Mach, live: &LiveMap) -> Result<Tables, AllocError>
-    requires { IsLiveMap mach.now live.now }
+fn tables_of(alloc: Global, mach: &Mach) -> Result<Tables, AllocError>
     ensures { IfOk result (AreTables mach.now) }
 {
     let free = first_free(mach)?;
-    let flow = flow_of(alloc, mach)?;
-    let lost = lost(alloc, mach, live, &flow)?;
+    let LiveFlow { flow, live } = live_flow(alloc, mach)?;
+    let lost = lost(alloc, mach, &live, &flow)?;
     let wanted = wanted(alloc, mach, &lost, &flow)?;
     Ok(Tables { free, lost, wanted })
 }
@@ -33,15 +31,16 @@ fn tables_of(alloc: Global, mach: &Mach, live: &LiveMap) -> Result<Tables, Alloc
 /// is stored right after it, and no other. A slot has the number of the register's origin, and its
 /// register a number that no other has.
 ///
-/// The time is that of a sweep over the function for each depth of its loops and two more, twice. The
-/// only error is want of memory, which more places or registers than a number can count are too.
-pub fn spill(alloc: Global, mach: Mach, live: &LiveMap) -> Result<Mach, AllocError>
-    requires { IsLiveMap mach live.now }
+/// The flow graph of the function is made once, and what is live, what is lost and what is wanted are
+/// solved over it. The time is that of a sweep over the function for each depth of its loops and two
+/// more, three times. The only error is want of memory, which more places or registers than a number
+/// can count are too.
+pub fn spill(alloc: Global, mach: Mach) -> Result<Mach, AllocError>
     ensures spilled { IfOk result (λ made. WellFormed mach → IsSpilled mach made) }
     ensures kept { IfOk result (λ made. WellFormed mach → WellPlaced mach → ParamsPlaced mach →
         (s : IsSpilled mach made) → IsChosenKept mach made s.plan) }
 {
-    let tables = tables_of(alloc, &mach, live)?;
+    let tables = tables_of(alloc, &mach)?;
     let Mach {
         name,
         params,

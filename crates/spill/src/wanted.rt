@@ -78,7 +78,7 @@ fn wanted_places(
         AreNodes mach.now (wanted_uses mach.now lost.now.rows.items) mach.now.code nodes.items) }
 {
     let code = mach.code.as_slice();
-    let mut nodes = Backward::new(alloc);
+    let mut nodes = Backward::with_capacity(alloc, flow.places.len())?;
     nodes.push(bare_place(alloc))?;
     let mut left = code.len();
     while left > 0 {

@@ -28,7 +28,7 @@ pub fn names_of(
 ) -> Result<Vec<u32>, AllocError>
     ensures { IfOk result (λ names. AreNames writes.now labels.now free names.items) }
 {
-    let mut names = Vec::new(alloc);
+    let mut names = Vec::with_capacity(alloc, writes.all.len())?;
     for (index, write) in writes.all.iter().enumerate() {
         let label = match labels.get(index) {
             None => 0,

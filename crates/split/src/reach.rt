@@ -105,7 +105,8 @@ fn nodes_of(
 {
     let code = mach.code.as_slice();
     let end = code.len();
-    let mut nodes = Backward::new(alloc);
+    // One for each place, one after the last, and the entry's, which comes to them later.
+    let mut nodes = Backward::with_capacity(alloc, end + 2)?;
     nodes.push(last_node(alloc, mach, writes))?;
     let mut tries = Backward::new(alloc);
     let mut left = end;

@@ -72,7 +72,7 @@ pub fn rename_code(
     ensures { IfOk result (λ renamed. renamed ≡ renamed_code (naming tables.now end) code) }
 {
     let mut items = code.into_vec();
-    let mut renamed = Backward::new(alloc);
+    let mut renamed = Backward::with_capacity(alloc, items.len())?;
     let mut left = 0;
     while let Some(instr) = items.pop() {
         renamed.push(rename_instr(tables, end, left, instr))?;

@@ -12,7 +12,7 @@ loop-left-init c =
     record {
       within = omega (arith, end);
       nodes = lost_begun m c.args.live.now.before.rows.items c.args.flow.now.bound (length c.as_slice-code.result.now) c.bare_place.result
-          c.new-nodes.result c.push.new.self end c.bare_place.ensures c.new-nodes.ensures c.in_ok-push.ensures;
+          c.in_ok-nodes.nodes c.push.new.self end c.bare_place.ensures c.in_ok-nodes.ensures c.in_ok-push.ensures;
     }
 
 pub loop-left-preserved : goal.loop-left-preserved

@@ -13,7 +13,7 @@ loop-left-init c =
     record {
       within = omega (arith, end);
       nodes = nodes_begun m (wanted_uses m c.args.lost.now.rows.items) (length c.as_slice-code.result.now) c.bare_place.result
-          c.new-nodes.result c.push.new.self end (bare_wanted m c.args.lost.now.rows.items c.bare_place.result c.bare_place.ensures) c.new-nodes.ensures c.in_ok-push.ensures;
+          c.in_ok-nodes.nodes c.push.new.self end (bare_wanted m c.args.lost.now.rows.items c.bare_place.result c.bare_place.ensures) c.in_ok-nodes.ensures c.in_ok-push.ensures;
     }
 
 pub loop-left-preserved : goal.loop-left-preserved

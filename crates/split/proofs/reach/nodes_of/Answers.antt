@@ -11,8 +11,8 @@ loop-left-init c =
     let end : length c.as_slice-code.result.now ≡ length m.code = ap length c.as_slice-code.ensures in
     record {
       within = omega (arith, end);
-      nodes = nodes_begun m (write_uses c.args.writes.now) (length c.as_slice-code.result.now) c.last_node.result c.new-nodes.result
-          c.push.new.self end c.last_node.ensures c.new-nodes.ensures c.in_ok-push.ensures;
+      nodes = nodes_begun m (write_uses c.args.writes.now) (length c.as_slice-code.result.now) c.last_node.result c.in_ok-nodes.nodes
+          c.push.new.self end c.last_node.ensures c.in_ok-nodes.ensures c.in_ok-push.ensures;
       tries = tries_begun m (length c.as_slice-code.result.now) c.new-tries.result end c.new-tries.ensures;
     }
 

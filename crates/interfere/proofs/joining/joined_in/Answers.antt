@@ -7,7 +7,7 @@ use Rattle.interfere.specs.Pairs.{Adds, ForOne, MeetsSet}
 use Rattle.interfere.proofs.Entering.{regs_small}
 use Rattle.interfere.proofs.Meetings.{live_below, writes_below, joined_begun, joined_more, joined_all}
 use Rattle.interfere.proofs.Nodes.{node_read, places_small, within}
-use Rattle.interfere.proofs.joining.joined_of.Goals as goal
+use Rattle.interfere.proofs.joining.joined_in.Goals as goal
 
 pub join_params-requires-clause-params : goal.join_params-requires-clause-params
 join_params-requires-clause-params c =
@@ -32,8 +32,8 @@ join_writes-requires-clause-numbers c =
     let m = c.args.mach.now in
     let p = c.loop-place.place in
     let i = c.instr-item.result in
-    let here = node_read m c.in_ok-flow.flow p c.as_slice-instr-items.result.now i c.index-node.result.now c.in_ok-flow.ensures.flow
-    c.in_ok-flow.ensures.formed c.as_slice-instr-items.ensures c.loop-place-test.true c.instr-item.is c.index-node.ensures in
+    let here = node_read m c.args.flow.now p c.as_slice-instr-items.result.now i c.index-node.result.now c.requires.flow
+    c.requires.formed c.as_slice-instr-items.ensures c.loop-place-test.true c.instr-item.is c.index-node.ensures in
     subst (λ n. All (λ k. k < n) (contents c.index-node.result.now.writes)) (sym c.loop-place.invariant.len)
     (writes_below m c.args.size c.requires.numbers p i (drop (suc p) m.code) (contents c.index-node.result.now.writes) here.at here.writes)
 
@@ -47,17 +47,17 @@ join_writes-requires-clause-places c =
     let m = c.args.mach.now in
     let p = c.loop-place.place in
     let i = c.instr-item.result in
-    let here = node_read m c.in_ok-flow.flow p c.as_slice-instr-items.result.now i c.index-node.result.now c.in_ok-flow.ensures.flow
-    c.in_ok-flow.ensures.formed c.as_slice-instr-items.ensures c.loop-place-test.true c.instr-item.is c.index-node.ensures in
-    places_small m c.in_ok-flow.flow p i c.index-node.result.now _ c.in_ok-flow.ensures.flow here c.requires.live.len
+    let here = node_read m c.args.flow.now p c.as_slice-instr-items.result.now i c.index-node.result.now c.requires.flow
+    c.requires.formed c.as_slice-instr-items.ensures c.loop-place-test.true c.instr-item.is c.index-node.ensures in
+    places_small m c.args.flow.now p i c.index-node.result.now _ c.requires.flow here c.requires.live.len
 
 pub loop-place-preserved : goal.loop-place-preserved
 loop-place-preserved c =
     let m = c.args.mach.now in
     let p = c.loop-place.place in
     let i = c.instr-item.result in
-    let here = node_read m c.in_ok-flow.flow p c.as_slice-instr-items.result.now i c.index-node.result.now c.in_ok-flow.ensures.flow
-    c.in_ok-flow.ensures.formed c.as_slice-instr-items.ensures c.loop-place-test.true c.instr-item.is c.index-node.ensures in
+    let here = node_read m c.args.flow.now p c.as_slice-instr-items.result.now i c.index-node.result.now c.requires.flow
+    c.requires.formed c.as_slice-instr-items.ensures c.loop-place-test.true c.instr-item.is c.index-node.ensures in
     joined_more m c.args.size p i (drop (suc p) m.code) c.args.live.now (contents c.index-node.result.now.writes)
     (contents c.index-node.result.now.next) c.move_of.result c.loop-place.joined c.join_writes.new.joined c.requires.live here.at here.writes
     here.next c.move_of.ensures c.loop-place.invariant c.in_ok-join_writes.ensures

@@ -1,7 +1,7 @@
 use Rattle.mach_laws.proofs.Walking.{live_map}
-use Rattle.liveness.proofs.live_map.live.Goals as goal
+use Rattle.liveness.proofs.live_map.live_flow.Goals as goal
 
-pub returns : goal.returns
-returns c =
+pub returns-clause-live : goal.returns-clause-live
+returns-clause-live c =
     live_map c.args.mach.now c.in_ok-flow.flow c.in_ok-flow.ensures.flow (record { before = c.in_ok-before.before })
     c.in_ok-before.ensures
