@@ -27,6 +27,7 @@ use Rattle.mach_laws.specs.Expand.{expand}
 use Rattle.mach_laws.proofs.Places.{tries_expand}
 use Rattle.pass_rules.specs.Carried.{OffsetFits, EndsInReturn, at_return, further, IsCarried}
 use Rattle.pass_rules.specs.Measures.{copy_words, instr_words, code_words, one_if, code_points, exits, operands_with, other_operands}
+use Rattle.pass_rules.proofs.Words.{at_most_copy}
 use Rattle.places_rules.specs.Places.{ColoursLow}
 use Rattle.split_rules.proofs.Formed.{contains_of, stands_in, of_each}
 use Rattle.spill_rules.specs.Chosen.{IsSpilled, ParamsPlaced, IsNeededSlot, IsChosenKept}
@@ -50,12 +51,8 @@ data AreCopies : List Instr → Type 0 where
   no_copy : AreCopies []
   a_copy : (kind : CopyKind) (from to : Reg) {xs : List Instr} → AreCopies xs → AreCopies (copied kind from to ∷ xs)
 
-cond_most : (b : Bool) → cond b 0 6 ≤ 6
-cond_most true = omega arith
-cond_most false = omega arith
-
 copy_most : (kind : CopyKind) (from to : Reg) → instr_words (copied kind from to) ≤ 6
-copy_most kind from to = cond_most (same_spot (from ∷ []) (to ∷ []))
+copy_most kind from to = at_most_copy (same_spot (from ∷ []) (to ∷ []))
 
 one_copy : (a b c n : ℕ) → a ≤ 6 → b ≤ 6 * n + c → a + b ≤ 6 * suc n + c
 one_copy a b c n x y = omega (arith, x, y)

@@ -16,18 +16,18 @@ use Rattle.mach_ir.specs.declared.mach.Mach.{Mach}
 use Rattle.mach_laws.specs.Expand.{Ending}
 use Rattle.mach_laws.proofs.Walking.{first_in}
 use Rattle.repeat_rules.specs.Repeated.{is_operator, allocates, Ends, itself}
-use Rattle.repeat_rules.proofs.Form.{differ}
+use Rattle.repeat_rules.proofs.OneForOne.{differ}
 use Rattle.repeat_rules.proofs.Acting.{Grown, gives_value, gives_still}
 use Rattle.repeat_rules.proofs.Live.{numbered}
 use Rattle.repeat_rules.proofs.Standing.{operator_straight, operator_same, straight_kills, straight_frame, Standing, Earlier, just_now, earlier, earlier_of}
 
 -- ---- files
 
-abbrev Fresh : Reg → Value → Option Held
+abbrev pub Fresh : Reg → Value → Option Held
 Fresh r v = Some (record { comp = r.comp; value = v })
 
 -- what is not written stays
-stays : {end : ℕ} {a : File} {rs : List Reg} {vs : List Value} {d : File} → PutAll end a rs vs d → (n : ℕ) →
+pub stays : {end : ℕ} {a : File} {rs : List Reg} {vs : List Value} {d : File} → PutAll end a rs vs d → (n : ℕ) →
     (Among n rs → ⊥) → d n ≡ a n
 stays nil n free = refl
 stays (cons {r = r} {v = v} {d = d} e p) n free =
@@ -52,7 +52,7 @@ values_stay : (a d : File) (rs : List Reg) → ((n : ℕ) → Among n rs → d n
 values_stay a d rs h vs e = values_has d a rs (λ n z v g. sym (h n z) ∙ g) vs e
 
 -- a frame point loses nothing but addrs
-past_kept : (t : Bool) (r : Reg) (v : Value) (a : File) → (r.comp ≡ comp.Addr → t ≡ false) → a r.number ≡ Fresh r v →
+pub past_kept : (t : Bool) (r : Reg) (v : Value) (a : File) → (r.comp ≡ comp.Addr → t ≡ false) → a r.number ≡ Fresh r v →
     past_frame t a r.number ≡ Fresh r v
 past_kept false r v a h e = e
 past_kept true r v a h e = ap unless_addr e ∙ by r.comp refl
