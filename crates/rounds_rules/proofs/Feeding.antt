@@ -13,6 +13,7 @@ use Rattle.mach_ir.specs.declared.op.CopyKind.TheVariants as copy
 use Rattle.mach_ir.specs.declared.reg.Reg.{Reg}
 use Rattle.mach_ir.specs.declared.mach.Instr.{Instr}
 use Rattle.pass_rules.specs.Measures.{code_words, instr_words, copy_words}
+use Rattle.pass_rules.proofs.Words.{at_most_copy, words_append}
 use Rattle.places_rules.specs.Places.{Placing, placed, all_placed, placed_instr, placed_code}
 use Rattle.reload_rules.specs.Reloaded.{is_in_slot, is_renewed, fresh, renewed, reloads, spills}
 use Rattle.spill_rules.specs.Spilled.{copied}
@@ -106,10 +107,6 @@ module _ (second first : Placing) where
       both : {i j : Instr} {is js : List Instr} → i ≡ j → is ≡ js → i ∷ is ≡ j ∷ js
       both e g = cc
 
-pub words_append : (xs ys : List Instr) → code_words (xs ++ ys) ≡ code_words xs + code_words ys
-words_append [] ys = omega arith
-words_append (x ∷ xs) ys = let e : code_words (xs ++ ys) ≡ code_words xs + code_words ys = words_append xs ys in omega (arith, e)
-
 pub placed_append : (place : Placing) (xs ys : List Instr) → placed_code place (xs ++ ys) ≡ placed_code place xs ++ placed_code place ys
 placed_append place [] ys = refl
 placed_append place (x ∷ xs) ys = ap (λ (is : List Instr). placed_instr place x ∷ is) (placed_append place xs ys)
@@ -155,10 +152,6 @@ idle_words (idle {a = a} {b = b} {k = k} e g same) = ap (λ t. cond t 0 copy_wor
 all_idle_words : {cs : List Instr} → AreIdle cs → code_words cs ≡ 0
 all_idle_words no_copies = refl
 all_idle_words (idle_then i is) = let a = idle_words i in let b = all_idle_words is in omega (arith, a, b)
-
-at_most_copy : (b : Bool) → cond b 0 copy_words ≤ copy_words
-at_most_copy true = omega arith
-at_most_copy false = omega arith
 
 between_words : {r : Reg} {c : Instr} → IsBetween r c → instr_words c ≤ copy_words
 between_words {r} (brings {s = s} e g) = at_most_copy (same_spot (s ∷ []) (r ∷ []))
