@@ -21,7 +21,7 @@ use Rattle.mach_ir.specs.declared.mach.Mach.{Mach}
 use Rattle.mach_laws.specs.Expand.{expand, Ending, all}
 use Rattle.mach_laws.proofs.Places.{ending_next, ending_label, ending_from_handler, label_expand, handler_expand, tries_expand}
 use Rattle.places_rules.proofs.Walked.{left_among, right_among, split_among}
-use Rattle.split_rules.proofs.Kept.{among_or_not}
+use Rattle.places_rules.proofs.Files.{among_or_not}
 
 none_among : {A : Type 0} {n : ℕ} → Among n [] → A
 none_among a = elim a [ ]

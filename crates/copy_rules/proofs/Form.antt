@@ -17,8 +17,9 @@ use Rattle.mach_ir.specs.declared.mach.Mach.{Mach}
 use Rattle.mach_laws.specs.Expand.{expand, KeepsMarks}
 use Rattle.mach_laws.proofs.Walking.{none_in, first_in, later_in, in_cons}
 use Rattle.split_rules.proofs.Formed.{contains_of, of_each}
+use Rattle.split_rules.proofs.Text.{args_in, results_in}
 use Rattle.repeat_rules.proofs.OneForOne as one
-use Rattle.repeat_rules.proofs.OneForOne.{in_append, code_args, code_results, in_code_stands, same_op, StandsFor, both, each_in, all_in, before_of, same_length, same_labels}
+use Rattle.repeat_rules.proofs.OneForOne.{in_append, in_code_stands, same_op, StandsFor, both, each_in, all_in, before_of, same_length, same_labels}
 
 -- ---- lists
 
@@ -126,7 +127,7 @@ module _ (m : Mach) (plan : ℕ → Reg → Reg)
 
     here_known : (r : Reg) → Contains i.args r → IsRegister m (plan (length next) r)
     here_known r c =
-        known_source known (is_in_code (code_args (subst (Stands i next) (sym whole) (stands_after before)) c))
+        known_source known (is_in_code (args_in (subst (Stands i next) (sym whole) (stands_after before)) c))
         (reads i next made (record { before = before; whole = whole; made_so = made_so }) r c)
 
     read_known : (r : Reg) → Contains x.args r → IsRegister m r
@@ -156,7 +157,7 @@ module _ (m : Mach) (plan : ℕ → Reg → Reg)
   was_register r (is_in_code c) =
       let w = in_code_stands q.code c in
       both (again plan) m.code (λ j zs. Contains j.args r ⊎ Contains j.results r → IsRegister m r)
-      (λ i next s d. ⊎_elim (λ a. read_register i next s r a) (λ a. is_in_code (code_results s a)) d) w.0 w.1 w.2 w.3
+      (λ i next s d. ⊎_elim (λ a. read_register i next s r a) (λ a. is_in_code (results_in s a)) d) w.0 w.1 w.2 w.3
 
   -- ---- form
 

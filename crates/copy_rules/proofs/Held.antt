@@ -5,7 +5,7 @@ use Rattle.std.specs.List.{Contains}
 use Rattle.std.specs.Prelude.{nat_eq}
 use Rattle.bs_words.specs.declared.types.Comp.TheVariants as comp
 use Rattle.bs_words.specs.declared.values.Value.{Value}
-use Rattle.combine_rules.proofs.Files.{PutAll, nil, cons, put_other, put_same, frame_loses}
+use Rattle.combine_rules.proofs.Files.{PutAll, nil, cons, put_same, frame_loses}
 use Rattle.copy_rules.specs.Propagated.{move, ReadFor, again, IsBefore}
 use Rattle.mach_ir.specs.Acts.{Around, On, Goes}
 use Rattle.mach_ir.specs.Formed.{WellFormed}
@@ -18,20 +18,15 @@ use Rattle.mach_ir.specs.declared.mach.Instr.{Instr}
 use Rattle.mach_ir.specs.declared.mach.Mach.{Mach}
 use Rattle.mach_laws.specs.Expand.{Ending}
 use Rattle.mach_laws.proofs.Walking.{first_in, later_in}
+use Rattle.places_rules.proofs.Files.{none_some, some_same, put_other}
+use Rattle.split_rules.proofs.Text.{number_among}
 use Rattle.repeat_rules.specs.Repeated.{allocates, itself}
 use Rattle.repeat_rules.proofs.Held.{Fresh, stays, past_kept, put_all_of}
-use Rattle.repeat_rules.proofs.Live.{numbered}
 use Rattle.repeat_rules.proofs.Standing.{straight_kills, straight_frame}
 use Rattle.copy_rules.proofs.Live.{standing_register, read_here}
 use Rattle.copy_rules.proofs.Standing.{Standing, Earlier, just_now, earlier, earlier_of, ReadAt, from_source, as_it_is}
 
 -- ---- files
-
-pub none_some : {A : Type 0} {x : A} → None ≡ Some x → ⊥
-none_some e = cc
-
-pub some_same : {A : Type 0} {x y : A} → Some x ≡ Some y → x ≡ y
-some_same e = cc
 
 -- one that holds something else for each of these registers, of the same value
 abbrev HoldsSo : File → Reg → Reg → Type 0
@@ -208,8 +203,8 @@ module _ (m : Mach) (formed : WellFormed m) where
             let h = known copy source s in
             record {
               value = h.value;
-              of_copy = still i copy h.value st (λ z. let k = numbered z in apart k.register k.among k.number)
+              of_copy = still i copy h.value st (λ z. let k = number_among i.results z in apart k.0 k.1 k.2)
                   (λ t. kept ((w.copies).same_comp ∙ t)) a d ws puts h.of_copy;
-              of_source = still i source h.value st (λ z. let k = numbered z in ends k.register k.among (itself k.number))
+              of_source = still i source h.value st (λ z. let k = number_among i.results z in ends k.0 k.1 (itself k.2))
                   kept a d ws puts h.of_source;
             }

@@ -15,12 +15,13 @@ use Rattle.mach_ir.specs.declared.mach.Instr.{Instr}
 use Rattle.mach_ir.specs.declared.mach.Mach.{Mach}
 use Rattle.mach_laws.specs.Expand.{Ending, all, expand}
 use Rattle.mach_laws.proofs.Walking.{first_in}
-use Rattle.places_rules.proofs.Walked.{stands_of}
+use Rattle.places_rules.proofs.Walked.{ending_of, stands_of}
 use Rattle.split_rules.proofs.Formed.{contains_of, stands_in, of_each}
+use Rattle.split_rules.proofs.Text.{number_in, number_among, args_in}
+use Rattle.places_rules.proofs.Files.{differ}
 use Rattle.repeat_rules.specs.Repeated.{allocates}
 use Rattle.repeat_rules.proofs.OneForOne as one
-use Rattle.repeat_rules.proofs.OneForOne.{differ, in_append, in_front, code_args, ending_of, both}
-use Rattle.repeat_rules.proofs.Live.{among_of, numbered}
+use Rattle.repeat_rules.proofs.OneForOne.{in_append, in_front, both}
 use Rattle.repeat_rules.proofs.Standing.{straight_frame}
 use Rattle.copy_rules.proofs.Form.{alike, in_map, was_register}
 use Rattle.copy_rules.proofs.Standing.{Standing, Earlier, just_now, earlier, earlier_of, not_at_label, not_at_handler, ReadAt, from_source, as_it_is, read_at}
@@ -54,7 +55,7 @@ module _ (m : Mach) (plan : ℕ → Reg → Reg) (formed : WellFormed m)
   pub standing_register : {rest : List Instr} (c s : Reg) → Standing m plan rest c s → IsRegister m s
   standing_register c s w =
       let t = stands_in q.code (move s c) (move_there c s w) in
-      was_register m plan reads s (is_in_code (code_args t.1 (first_in s [])))
+      was_register m plan reads s (is_in_code (args_in t.1 (first_in s [])))
 
   -- ---- what is live
 
@@ -81,20 +82,20 @@ module _ (m : Mach) (plan : ℕ → Reg → Reg) (formed : WellFormed m)
       by (just_now e) =
           moved (ap (λ (y : Instr). passes_frame y.op) e)
           (subst (λ (y : Instr). Among n y.args) (sym e)
-          (subst (λ k. Among k (x.register ∷ [])) x.number (among_of x.register (x.register ∷ []) (first_in x.register []))))
+          (subst (λ k. Among k (x.register ∷ [])) x.number (number_in x.register (x.register ∷ []) (first_in x.register []))))
       by (earlier w st apart ends kept) =
           left (record { copy = x.copy; register = x.register; standing = w; number = x.number }) st kept
 
   read_back : {n : ℕ} (i : Instr) (next : List Instr) → Ending (i ∷ next) m.code →
       Among n (again plan (length next) i).args → Was n (i ∷ next)
   read_back {n} i next ending a =
-      let k = numbered a in
-      let w = in_map (plan (length next)) i.args k.register k.among in
-      by (read_here ending w.register w.among) w.among (ap (λ (r : Reg). r.number) w.same ∙ k.number)
+      let k = number_among (map (plan (length next)) i.args) a in
+      let w = in_map (plan (length next)) i.args k.0 k.1 in
+      by (read_here ending w.register w.among) w.among (ap (λ (r : Reg). r.number) w.same ∙ k.2)
     where
       by : {r s : Reg} → ReadAt m plan (i ∷ next) r s → Contains i.args r → s.number ≡ n → Was n (i ∷ next)
       by {r} {s} (from_source t) c e = inr (record { copy = r; register = s; standing = t; number = e })
-      by {r} as_it_is c e = inl (read (subst (λ k. Among k i.args) e (among_of r i.args c)))
+      by {r} as_it_is c e = inl (read (subst (λ k. Among k i.args) e (number_in r i.args c)))
 
   of_stood : {n : ℕ} (i : Instr) (next : List Instr) → Ending (i ∷ next) m.code → Stood n i next → Was n (i ∷ next)
   of_stood i next ending (moved frame a) = read_back i next ending a
@@ -155,7 +156,7 @@ module _ (m : Mach) (plan : ℕ → Reg → Reg) (formed : WellFormed m)
             inr
             (record {
               register = r;
-              among = is_in_code (code_args (stands_of ending) (subst (λ rs. Contains rs r) (sym e) (first_in r [])));
+              among = is_in_code (args_in (stands_of ending) (subst (λ rs. Contains rs r) (sym e) (first_in r [])));
               number = z;
               is_open = (t.copies).copy_open;
             }))

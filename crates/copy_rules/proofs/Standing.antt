@@ -22,8 +22,9 @@ use Rattle.mach_ir.specs.declared.mach.Mach.{Mach}
 use Rattle.mach_laws.specs.Expand.{Ending, expand}
 use Rattle.mach_laws.proofs.Walking.{none_in}
 use Rattle.split_rules.proofs.Formed.{of_each}
+use Rattle.places_rules.proofs.Files.{differ}
 use Rattle.repeat_rules.specs.Repeated.{allocates, Ends}
-use Rattle.repeat_rules.proofs.OneForOne.{differ, in_append, in_front, Before, before_of, Made, made_to}
+use Rattle.repeat_rules.proofs.OneForOne.{in_append, in_front, Before, before_of, Made, made_to}
 use Rattle.repeat_rules.proofs.Runs as run
 use Rattle.repeat_rules.proofs.Runs.{Last, it_is, in_run, last_of, none_before, IsWithin}
 

@@ -4,7 +4,6 @@ use Rattle.std.specs.List.{All, Contains}
 use Rattle.std.specs.Prelude.{slice_index_or}
 use Rattle.std.proofs.lemmas.List.Elements.{Contains-get_or}
 use Rattle.bs_words.specs.declared.types.Comp.{Comp}
-use Rattle.bs_words.specs.declared.types.Loc.TheVariants as loc
 use Rattle.linear_rules.specs.Lowered.{same_spot}
 use Rattle.mach_ir.specs.Formed.{comps, is_exit, IsFormed, formed_op, formed_mark, WellFormed}
 use Rattle.mach_ir.specs.Forms.{HasForm}
@@ -28,6 +27,7 @@ use Rattle.mach_laws.proofs.Places.{tries_expand}
 use Rattle.pass_rules.specs.Carried.{OffsetFits, EndsInReturn, at_return, further, IsCarried}
 use Rattle.pass_rules.specs.Measures.{copy_words, instr_words, code_words, one_if, code_points, exits, operands_with, other_operands}
 use Rattle.pass_rules.proofs.Words.{at_most_copy}
+use Rattle.places_rules.proofs.Open.{slot_open}
 use Rattle.places_rules.specs.Places.{ColoursLow}
 use Rattle.split_rules.proofs.Formed.{contains_of, stands_in, of_each}
 use Rattle.spill_rules.specs.Chosen.{IsSpilled, ParamsPlaced, IsNeededSlot, IsChosenKept}
@@ -35,9 +35,6 @@ use Rattle.spill_rules.specs.Spilled.{Plan, in_slot, copied, reload, spill, relo
 use Rattle.spill_rules.proofs.Chosen.{spilled_kept}
 use Rattle.spill_rules.proofs.Formed.{IsCopy, is_reload, is_spill, IsMain, was_main}
 use Rattle.spill_rules.proofs.Text.{keeps_marks}
-
-slot_open : (n : ℕ) → loc.Slot n ≡ loc.Unset → ⊥
-slot_open n e = cc
 
 at_most : (a b : ℕ) → a ≡ b → a ≤ b
 at_most a b e = omega (arith, e)
@@ -281,7 +278,7 @@ still_low m q same kept low r k c i u =
     ⊎_elim (λ was. low r k (subst (λ rs. Contains rs r) same c) was u) (λ slot. absurd (at_slot slot)) (kept.slots k i)
   where
     at_slot : IsNeededSlot m k → ⊥
-    at_slot slot = slot_open ((slot.register).origin) (sym slot.stands ∙ u)
+    at_slot slot = slot_open slot.stands u
 
 planned_carried : (m : Mach) (plan : Plan) → WellFormed m → IsChosenKept m (spilled plan m) plan →
     IsCarried (copy_words * operand_count m.code) m (spilled plan m)

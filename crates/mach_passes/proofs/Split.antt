@@ -19,6 +19,7 @@ use Rattle.mach_ir.specs.declared.mach.Mach.{Mach}
 use Rattle.mach_laws.specs.Expand.{expand}
 use Rattle.pass_rules.specs.Carried.{IsCarried}
 use Rattle.pass_rules.specs.Measures.{copy_words, mark_words, words_with, operands_with}
+use Rattle.places_rules.proofs.Files.{differ}
 use Rattle.places_rules.proofs.Lists.{was, length_mapped}
 use Rattle.places_rules.proofs.Walked.{left_among}
 use Rattle.places_rules.specs.Places.{ColoursLow}
@@ -30,9 +31,6 @@ use Rattle.split_rules.specs.Writes.{Comes, IsWrite, by_instr}
 use Rattle.split_rules.proofs.Result.{comes_write}
 use Rattle.split_rules.proofs.Text.{same_tries, args_in, results_in, number_in}
 use Rattle.mach_passes.proofs.Replaced.{Replaces, replaced_carried}
-
-differ : (b : Bool) → b ≡ true → b ≡ false → ⊥
-differ b e h = cc
 
 module _ (names : Naming) where
   -- ---- measures

@@ -22,10 +22,11 @@ use Rattle.mach_laws.proofs.Walking.{first_in, later_in}
 use Rattle.split_rules.proofs.Formed.{contains_of, of_each}
 use Rattle.split_rules.proofs.Text.{results_in}
 use Rattle.spill_rules.specs.Spilled.{copied}
+use Rattle.places_rules.proofs.Files.{differ}
 use Rattle.reload_rules.specs.Reloaded.{reads_registers, writes_registers, is_renewed, fresh, number_after, renewed}
 use Rattle.reload_rules.proofs.Files.{Apart, apart_more, apart_of}
 use Rattle.reload_rules.proofs.Live.{IsNumbering, reloaded_by}
-use Rattle.reload_rules.proofs.Numbers.{differ, WasIn, was_own, was_fresh, after_true, after_rises, past_rises, for_from, was_in}
+use Rattle.reload_rules.proofs.Numbers.{WasIn, was_own, was_fresh, after_true, after_rises, past_rises, for_from, was_in}
 use Rattle.reload_rules.proofs.Parts.{first_result, main_for, IsCopy, is_copy, IsMain, main_where, main_op, next_tries, main_tries, same_labels, place_there, next_place, next_handler, main_there, each_in, part_in}
 use Rattle.reload_rules.proofs.Registers.{number_is}
 use Rattle.reload_rules.proofs.Text.{laid_instr, keeps_marks}

@@ -22,6 +22,7 @@ use Rattle.mach_laws.specs.Expand.{all}
 use Rattle.mach_laws.proofs.Places.{label_expand, ending_label}
 use Rattle.mach_laws.proofs.Walking.{none_in}
 use Rattle.places_rules.specs.Places.{ColoursLow}
+use Rattle.places_rules.proofs.Open.{machine_open}
 use Rattle.places_rules.proofs.Lists.{was, mapped}
 use Rattle.places_rules.proofs.Walked.{left_among, right_among, split_among}
 use Rattle.places_rules.proofs.Whole.{AreRegisters, FixedSeats, fixed_in_order, fixed_after_first, fixed_operands, fixed_results, tail_fixed, head_fixed}
@@ -39,9 +40,6 @@ use Rattle.reload_rules.proofs.Text.{laid_instr, keeps_marks}
 
 not_true : false ≡ true → ⊥
 not_true e = cc
-
-machine_open : (n : ℕ) → loc.Unset ≡ loc.Machine n → ⊥
-machine_open n e = cc
 
 -- ---- what has results goes on
 
@@ -239,7 +237,7 @@ module _ (m : Mach) (s : ℕ → ℕ) (free top : ℕ) (formed : WellFormed m) (
           each = (placed.colours).each;
           least = λ r k c i e.
               let p = colour_place r c in
-              (placed.colours).least r k c (old_if_placed k (old k i) (λ u. machine_open p.0 (sym u ∙ e ∙ p.1))) e;
+              (placed.colours).least r k c (old_if_placed k (old k i) (λ u. machine_open (e ∙ p.1) u)) e;
         };
         agree = record { places = λ r i. place_of r (old r i); apart = apart };
       }

@@ -20,9 +20,11 @@ use Rattle.mach_ir.specs.declared.mach.Mach.{Mach}
 use Rattle.mach_laws.specs.Expand.{expand, KeepsMarks}
 use Rattle.mach_laws.proofs.Walking.{none_in, first_in, later_in, in_cons}
 use Rattle.split_rules.proofs.Formed.{contains_of, stands_in, of_each}
+use Rattle.places_rules.proofs.Files.{differ}
+use Rattle.split_rules.proofs.Text.{args_in, results_in}
 use Rattle.repeat_rules.specs.Repeated.{is_operator, Repeats, from_earlier, again, in_place, IsBefore, IsRepeated, IsFormKept}
 use Rattle.repeat_rules.proofs.OneForOne as one
-use Rattle.repeat_rules.proofs.OneForOne.{differ, head_same, tail_same, none_there, in_append, in_front, code_args, code_results, in_code_stands, IsPure, is_pure, same_op, both_pure, StandsFor, IsMain, was_main, each_in, all_in, before_of, same_length, same_labels}
+use Rattle.repeat_rules.proofs.OneForOne.{head_same, tail_same, none_there, in_append, in_front, in_code_stands, IsPure, is_pure, same_op, both_pure, StandsFor, IsMain, was_main, each_in, all_in, before_of, same_length, same_labels}
 
 -- ---- operators
 
@@ -143,7 +145,7 @@ module _ (m : Mach) (plan : ℕ → Option Reg) where
           where
             of_fate : Fate plan (length w.next) w.instr → IsRegister m r
             of_fate (unchanged e h) =
-                is_in_code (code_results w.stands (subst (λ (x : Instr). Contains x.results r) (sym (sym e ∙ w.same)) d))
+                is_in_code (results_in w.stands (subst (λ (x : Instr). Contains x.results r) (sym (sym e ∙ w.same)) d))
             of_fate (moved k g h e) =
                 absurd (differ (is_operator j.op) o (ap (λ (x : Instr). is_operator x.op) (sym (sym e ∙ w.same))))
 
@@ -173,15 +175,15 @@ module _ (m : Mach) (plan : ℕ → Option Reg) where
           where
             of_fate : Fate plan (length w.next) w.instr → Contains j.args r ⊎ Contains j.results r → IsRegister m r
             of_fate (unchanged e h) (inl a) =
-                is_in_code (code_args w.stands (subst (λ (x : Instr). Contains x.args r) (sym (sym e ∙ w.same)) a))
+                is_in_code (args_in w.stands (subst (λ (x : Instr). Contains x.args r) (sym (sym e ∙ w.same)) a))
             of_fate (moved k g h e) (inl a) =
                 subst (IsRegister m)
                 (only_one k r (subst (λ (x : Instr). Contains x.args r) (sym (sym e ∙ w.same)) a))
                 (moved_from w.instr w.next k w.stands g h)
             of_fate (unchanged e h) (inr a) =
-                is_in_code (code_results w.stands (subst (λ (x : Instr). Contains x.results r) (sym (sym e ∙ w.same)) a))
+                is_in_code (results_in w.stands (subst (λ (x : Instr). Contains x.results r) (sym (sym e ∙ w.same)) a))
             of_fate (moved k g h e) (inr a) =
-                is_in_code (code_results w.stands (subst (λ (x : Instr). Contains x.results r) (sym (sym e ∙ w.same)) a))
+                is_in_code (results_in w.stands (subst (λ (x : Instr). Contains x.results r) (sym (sym e ∙ w.same)) a))
 
   module _ (stays : (i : Instr) (next made : List Instr) → IsBefore plan m i next made → plan (length next) ≡ None → (r : Reg) →
       Repeats made i r → ⊥) where

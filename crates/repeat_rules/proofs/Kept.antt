@@ -22,6 +22,7 @@ use Rattle.mach_laws.proofs.Leads.{Within, asks_in, within}
 use Rattle.mach_laws.proofs.Level as levels
 use Rattle.mach_laws.proofs.Places.{tries_expand}
 use Rattle.mach_laws.proofs.Simulate.{Agrees}
+use Rattle.places_rules.proofs.Files.{none_some, some_same}
 use Rattle.places_rules.proofs.Walked.{stands_of}
 use Rattle.repeat_rules.specs.Kept.{OwnOrigins}
 use Rattle.repeat_rules.specs.Repeated.{is_operator, allocates, Repeats, from_earlier, again, in_place, with_moves, IsBefore}
@@ -31,12 +32,6 @@ use Rattle.repeat_rules.proofs.Acting.{Grown, GoesOn, is_stuck, goes_on, straigh
 use Rattle.repeat_rules.proofs.Held.{Holding, Holds, holds_next, calm}
 use Rattle.repeat_rules.proofs.Live.{Stood, across_back}
 use Rattle.repeat_rules.proofs.Standing.{operator_straight, operator_same, Standing, not_past, not_at_entry, not_at_label, not_landed, Repeated, repeated}
-
-none_some : {x : Held} → None ≡ Some x → ⊥
-none_some e = cc
-
-some_same : {x y : Held} → Some x ≡ Some y → x ≡ y
-some_same e = cc
 
 module _ (m : Mach) (plan : ℕ → Option Reg) (own : OwnOrigins m)
     (moves : (i : Instr) (next made : List Instr) → IsBefore plan m i next made → is_operator i.op ≡ true → (r : Reg) →

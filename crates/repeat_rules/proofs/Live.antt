@@ -9,30 +9,15 @@ use Rattle.mach_ir.specs.declared.reg.Reg.{Reg}
 use Rattle.mach_ir.specs.declared.mach.Instr.{Instr}
 use Rattle.mach_ir.specs.declared.mach.Mach.{Mach}
 use Rattle.mach_laws.specs.Expand.{Ending, all, expand}
-use Rattle.mach_laws.proofs.Walking.{none_in, first_in, later_in, in_cons}
-use Rattle.places_rules.proofs.Walked.{left_among, split_among, stands_of}
+use Rattle.mach_laws.proofs.Walking.{first_in}
+use Rattle.places_rules.proofs.Walked.{ending_of, left_among, split_among, stands_of}
+use Rattle.split_rules.proofs.Text.{number_in, number_among, results_in}
+use Rattle.places_rules.proofs.Files.{differ}
 use Rattle.repeat_rules.specs.Repeated.{is_operator, allocates, Ends, Repeats, again, in_place, with_moves, IsBefore}
 use Rattle.repeat_rules.proofs.OneForOne as one
-use Rattle.repeat_rules.proofs.OneForOne.{differ, in_append, in_front, code_results, ending_of, was_main, written_same}
+use Rattle.repeat_rules.proofs.OneForOne.{in_append, in_front, was_main, written_same}
 use Rattle.repeat_rules.proofs.Form.{Fate, unchanged, moved, fate, alike, operator_result, was_register}
 use Rattle.repeat_rules.proofs.Standing.{operator_straight, straight_kills, straight_frame, Standing, Earlier, just_now, earlier, earlier_of, not_at_entry, not_at_label, not_at_handler, repeated}
-
-pub among_of : (r : Reg) (rs : List Reg) → Contains rs r → Among r.number rs
-among_of r [] c = absurd (none_in r c)
-among_of r (k ∷ rs) c =
-    ⊎_elim (λ e. first (ap (λ (x : Reg). x.number) e)) (λ d. later (among_of r rs d)) (in_cons k r rs c)
-
--- the register of a number
-pub record Numbered (n : ℕ) (rs : List Reg) : Type 0 where
-  pub register : Reg
-  pub among : Contains rs register
-  pub number : register.number ≡ n
-
-pub numbered : {n : ℕ} {rs : List Reg} → Among n rs → Numbered n rs
-numbered (first {r = r} {rs = rs} e) = record { register = r; among = first_in r rs; number = e }
-numbered (later {r = r} {rs = rs} a) =
-    let w = numbered a in
-    record { register = w.register; among = later_in r w.register rs w.among; number = w.number }
 
 among_none : {n : ℕ} → Among n [] → ⊥
 among_none a = elim a [ ]
@@ -88,7 +73,7 @@ module _ (m : Mach) (plan : ℕ → Option Reg)
           (free
           (left_among i.results (killed m i)
           (subst (λ k. Among k i.results) x.number
-          (among_of x.register i.results
+          (number_in x.register i.results
           (subst (λ (j : Instr). Contains j.results x.register) e
           (subst (λ rs. Contains rs x.register) (sym ((x.standing).stands).result) (first_in x.register [])))))))
       by (earlier w st apart ends kept) =
@@ -163,15 +148,15 @@ module _ (m : Mach) (plan : ℕ → Option Reg)
           (subst (Among n) (ap (λ (j : Instr). j.results) (sym e) ∙ ((x.standing).stands).result) (in_results_of st)))
           ∙ x.number))
       by (earlier v st apart ends kept) =
-          let r = numbered (in_results_of st) in
+          let r = number_among i.results (in_results_of st) in
           record {
-            one = r.register;
+            one = r.0;
             other = x.register;
-            is_one = is_in_code (code_results s r.among);
+            is_one = is_in_code (results_in s r.1);
             is_other = standing_register x.instr x.register x.standing;
-            number = r.number;
+            number = r.2;
             other_number = x.number;
-            stands = ends r.register r.among;
+            stands = ends r.0 r.1;
           }
 
   pub meets_back : {n k : ℕ} → n ≢ k → Meets q n k → Meets m n k ⊎ Apart n k

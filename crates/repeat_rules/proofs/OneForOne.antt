@@ -21,10 +21,8 @@ use Rattle.mach_ir.specs.declared.mach.Mach.{Mach}
 use Rattle.mach_laws.specs.Expand.{expand, Ending, all, more, KeepsMarks, no_label, not_labelled, no_handler, not_handled, bounds_try, no_bound, not_bound}
 use Rattle.mach_laws.proofs.Places.{label_expand, handler_expand, tries_expand, ending_from_handler}
 use Rattle.mach_laws.proofs.Walking.{none_in, first_in, later_in, in_cons, ending_at}
+use Rattle.places_rules.proofs.Files.{differ}
 use Rattle.split_rules.proofs.Formed.{contains_of, stands_in}
-
-pub differ : (b : Bool) → b ≡ true → b ≡ false → ⊥
-differ b e h = cc
 
 -- ---- lists
 
@@ -49,24 +47,12 @@ in_front (x ∷ xs) ys y c =
 
 -- ---- what stands in code
 
-pub code_args : {i : Instr} {next code : List Instr} {r : Reg} → Stands i next code → Contains i.args r → InCode r code
-code_args here c = in_args c
-code_args (below s) c = further (code_args s c)
-
-pub code_results : {i : Instr} {next code : List Instr} {r : Reg} → Stands i next code → Contains i.results r → InCode r code
-code_results here c = in_results c
-code_results (below s) c = further (code_results s c)
-
 pub in_code_stands : {r : Reg} (code : List Instr) → InCode r code →
     (j : Instr) × (zs : List Instr) × Stands j zs code × (Contains j.args r ⊎ Contains j.results r)
 in_code_stands [] c = elim c [ ]
 in_code_stands (i ∷ is) (in_args c) = (i, is, here, inl c)
 in_code_stands (i ∷ is) (in_results c) = (i, is, here, inr c)
 in_code_stands (i ∷ is) (further c) = let w = in_code_stands is c in (w.0, w.1, below w.2, w.3)
-
-pub ending_of : {i : Instr} {next code : List Instr} → Stands i next code → Ending (i ∷ next) code
-ending_of here = all
-ending_of (below s) = more (ending_of s)
 
 -- ---- operations
 

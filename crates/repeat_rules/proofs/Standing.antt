@@ -20,8 +20,9 @@ use Rattle.mach_ir.specs.declared.mach.Mach.{Mach}
 use Rattle.mach_laws.specs.Expand.{Ending, expand}
 use Rattle.mach_laws.proofs.Walking.{first_in, later_in, in_cons}
 use Rattle.split_rules.proofs.Formed.{of_each}
+use Rattle.places_rules.proofs.Files.{differ}
 use Rattle.repeat_rules.specs.Repeated.{is_operator, allocates, Ends, StillStands, Repeats, again, in_place, with_moves, IsBefore}
-use Rattle.repeat_rules.proofs.OneForOne.{differ, in_append, in_front, of_pure, op_same, Made, made_to, before_of}
+use Rattle.repeat_rules.proofs.OneForOne.{in_append, in_front, of_pure, op_same, Made, made_to, before_of}
 use Rattle.repeat_rules.proofs.Form.{operator_pure, Fate, unchanged, moved, fate, alike}
 use Rattle.repeat_rules.proofs.Runs as run
 use Rattle.repeat_rules.proofs.Runs.{Last, it_is, in_run, last_of, none_before, IsWithin}

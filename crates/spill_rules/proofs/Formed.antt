@@ -22,14 +22,12 @@ use Rattle.mach_ir.specs.declared.mach.Mach.{Mach}
 use Rattle.mach_laws.specs.Expand.{expand}
 use Rattle.mach_laws.proofs.Places.{label_expand, handler_expand, tries_expand}
 use Rattle.mach_laws.proofs.Walking.{none_in, first_in, later_in, in_cons}
+use Rattle.places_rules.proofs.Files.{differ}
 use Rattle.split_rules.proofs.Formed.{contains_of, stands_in, of_each}
 use Rattle.spill_rules.specs.Spilled.{Plan, in_slot, copied, reload, spill, reloads_of, spills_of, operands_of, results_of, spilled_instr, spilled, IsPlan}
 use Rattle.spill_rules.proofs.Kept.{Which, own, slotted, was_register, slots_apart}
 use Rattle.spill_rules.proofs.Text.{keeps_marks}
 use Rattle.spill_rules.proofs.Whole.{named_in}
-
-differ : (b : Bool) → b ≡ true → b ≡ false → ⊥
-differ b e h = cc
 
 module _ (plan : Plan) where
   abbrev f : ℕ → Instr → List Instr
