@@ -25,12 +25,12 @@ use Rattle.mach_laws.proofs.Leads.{Within, asks_in, within}
 use Rattle.mach_laws.proofs.Level as levels
 use Rattle.mach_laws.proofs.Places.{tries_expand}
 use Rattle.mach_laws.proofs.Simulate.{Agrees}
+use Rattle.places_rules.proofs.Lists.{head_same, tail_same}
 use Rattle.places_rules.proofs.Files.{differ, none_some, some_same}
 use Rattle.places_rules.proofs.Walked.{stands_of}
 use Rattle.split_rules.proofs.Text.{results_in}
 use Rattle.repeat_rules.specs.Kept.{OwnOrigins}
 use Rattle.repeat_rules.proofs.Acting.{GoesOn, is_stuck, goes_on, straight_on}
-use Rattle.repeat_rules.proofs.OneForOne.{head_same, tail_same}
 use Rattle.copy_rules.proofs.Form.{keeps_marks, was_register}
 use Rattle.copy_rules.proofs.Held.{Typed, nothing_typed, written_typed, past_typed, Holds, reads_same, holds_next}
 use Rattle.copy_rules.proofs.Live.{Stood, moved, left, across_back}

@@ -20,6 +20,7 @@ use Rattle.mach_laws.proofs.Leads.{IsTry, is_try, MayLand, lands_at_label, lands
 use Rattle.mach_laws.proofs.Level as level
 use Rattle.mach_laws.proofs.Places.{tries_expand, ending_next, ending_label, ending_land}
 use Rattle.mach_laws.proofs.Simulate.{Agrees}
+use Rattle.places_rules.proofs.Lists.{head_same, tail_same}
 use Rattle.places_rules.proofs.Files.{values_same, past_same, cleared, not_cleared, among_or_not, PutsBoth, put_both}
 use Rattle.places_rules.proofs.Walked.{split_among, stands_of}
 use Rattle.places_rules.proofs.Raised.{IsRaised, Told, told_jump, told_unwind, told_ask, IsSilent, told, label_silent, try_silent}
@@ -72,12 +73,6 @@ module _ (m : Mach) (drops : ℕ → Bool) (dead : AreDead m drops) (formed : We
   silent_wrote i (Some v) a b s n z = elim z [ ]
 
   -- ---- values that are read
-
-  head_same : {i j : Instr} {xs ys : List Instr} → i ∷ xs ≡ j ∷ ys → i ≡ j
-  head_same e = cc
-
-  tail_same : {i j : Instr} {xs ys : List Instr} → i ∷ xs ≡ j ∷ ys → xs ≡ ys
-  tail_same e = cc
 
   vals_before : (i : Instr) (next : List Instr) (a b : File) (y : Around) → Ending (i ∷ next) m.code → Same (i ∷ next) a b →
       ValsWritten m (at (i ∷ next) a y) → ValsWritten q (at (i ∷ expand f next) b y)

@@ -27,7 +27,7 @@ use Rattle.places_rules.specs.Places.{Placing, IsPlacing, placed, all_placed, pl
 use Rattle.places_rules.proofs.Files.{none_some, values_same, past_same, cleared, not_cleared, among_or_not, PutsBoth, put_both}
 use Rattle.places_rules.proofs.Walked.{left_among, right_among, split_among, stands_of, fewer_killed, fewer_written, still_written, live_before, across_back}
 use Rattle.places_rules.proofs.Instructions.{among_back, same_values, same_put, alone, as_expanded, keeps_marks}
-use Rattle.places_rules.proofs.Lists.{of_all}
+use Rattle.places_rules.proofs.Lists.{of_all, head_same, tail_same}
 use Rattle.places_rules.proofs.Raised.{IsRaised, Told, told_jump, told_unwind, told_ask, IsSilent, told, label_silent, try_silent}
 use Rattle.places_rules.proofs.Text.{same_label, same_handler, same_tries, was_register}
 
@@ -88,12 +88,6 @@ module _ (m : Mach) (place : Placing) (formed : WellFormed m) (well : WellPlaced
   across_live (across_step w l v) = on w l v
   across_live (across_raise r v) = aside r v
 
-  head_same : {i j : Instr} (xs ys : List Instr) → i ∷ xs ≡ j ∷ ys → i ≡ j
-  head_same xs ys e = cc
-
-  tail_same : {i j : Instr} (xs ys : List Instr) → i ∷ xs ≡ j ∷ ys → xs ≡ ys
-  tail_same xs ys e = cc
-
   vals_before : (i : Instr) (next : List Instr) (a b : File) (x : Around) → Ending (i ∷ next) m.code → Same (i ∷ next) a b →
       ValsWritten m (at (i ∷ next) a x) → ValsWritten q (at (placed_code place (i ∷ next)) b x)
   vals_before i next a b x ending same known =
@@ -101,9 +95,9 @@ module _ (m : Mach) (place : Placing) (formed : WellFormed m) (well : WellPlaced
         written = λ j ys e frame r is_one val v none.
             let w = was_register place m r is_one in
             let number = ap (λ (r : Reg). r.number) w.same in
-            let head = head_same (placed_code place next) ys e in
+            let head = head_same e in
             let live : LiveAcross m r.number i next =
-            across_back m place well is i next ending head (tail_same (placed_code place next) ys e) v in
+            across_back m place well is i next ending head (tail_same e) v in
             known.written i next refl (subst (λ (j : Instr). passes_frame j.op ≡ true) (sym head) frame) w.register w.among
             (ap (λ (r : Reg). r.comp) w.same ∙ val)
             (subst (λ n. LiveAcross m n i next) (sym number) live)

@@ -12,7 +12,7 @@ use Rattle.mach_ir.specs.declared.reg.Reg.{Reg}
 use Rattle.mach_ir.specs.declared.mach.Mach.{Mach}
 use Rattle.places_rules.specs.Places.{IsPlacing, placed, or_slot, last_resort, rest_in_slots, SlotsGrow}
 use Rattle.places_rules.proofs.Text.{placed_formed}
-use Rattle.places_rules.proofs.Open.{machine_open, slot_open, machine_slot}
+use Rattle.places_rules.proofs.Open.{machine_open, slot_open, machine_slot, same_slot}
 use Rattle.places_rules.proofs.Walked.{colour_place, no_addr_before}
 use Rattle.places_rules.proofs.Whole.{placed_keeps, placed_fully, placed_seated, placed_size, placed_slots}
 
@@ -30,9 +30,6 @@ rested r = by r.loc refl
     by loc.Unset e = was_open e (ap (or_slot r.origin) e)
     by (loc.Machine n) e = was_fixed (λ h. machine_open e h) (ap (or_slot r.origin) e ∙ sym e)
     by (loc.Slot n) e = was_fixed (λ h. slot_open e h) (ap (or_slot r.origin) e ∙ sym e)
-
-slot_same : (k n : ℕ) → loc.Slot k ≡ loc.Slot n → k ≡ n
-slot_same k n e = cc
 
 -- ---- it is a placing
 
@@ -60,7 +57,7 @@ module _ (m : Mach) (well : WellPlaced m) where
     where
       by : IsPlaced (placed last_resort r) → IsPlaced (placed last_resort k) →
           MayShare (placed last_resort r) (placed last_resort k)
-      by (in_slot s) (in_slot t) = (slot_same r.origin k.origin (sym s ∙ e ∙ t), s)
+      by (in_slot s) (in_slot t) = (same_slot s (e ∙ t), s)
       by (in_slot s) (in_colour n c t) = absurd (machine_slot t (sym e ∙ s))
       by (in_colour n c s) t =
           let one = same_colour_place r n s in

@@ -23,6 +23,7 @@ use Rattle.split_rules.proofs.Formed.{contains_of, of_each}
 use Rattle.split_rules.proofs.Text.{results_in}
 use Rattle.spill_rules.specs.Spilled.{copied}
 use Rattle.places_rules.proofs.Files.{differ}
+use Rattle.spill_rules.proofs.Formed.{one_distinct}
 use Rattle.reload_rules.specs.Reloaded.{reads_registers, writes_registers, is_renewed, fresh, number_after, renewed}
 use Rattle.reload_rules.proofs.Files.{Apart, apart_more, apart_of}
 use Rattle.reload_rules.proofs.Live.{IsNumbering, reloaded_by}
@@ -79,12 +80,6 @@ renewed_distinct b n (r ∷ rs) (apart_more once apart) low =
         let up = after_rises b n r in
         let lt = low r (first_in r rs) in
         let number : x ≡ y.number = ap (λ (r : Reg). r.number) g in omega (arith, le, up, lt, number, e)
-
-one_distinct : (r : Reg) → AreDistinct (r ∷ [])
-one_distinct r = λ i j d lt within. absurd (none i j lt within)
-  where
-    none : (i j : ℕ) → i < j → j < length (r ∷ []) → ⊥
-    none i j x y = omega (arith, x, y)
 
 module _ (m : Mach) (s : ℕ → ℕ) (free top : ℕ) (formed : WellFormed m) (placed : WellPlaced m) (is : IsNumbering m s free top) where
   abbrev q : Mach

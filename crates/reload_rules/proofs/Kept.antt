@@ -31,6 +31,7 @@ use Rattle.mach_laws.proofs.Level.{begins_at}
 use Rattle.mach_laws.proofs.Places.{ending_next, ending_label, ending_land, ending_from_handler, label_expand, handler_expand}
 use Rattle.mach_laws.proofs.Simulate.{Agrees}
 use Rattle.mach_laws.proofs.Walking.{none_in, in_cons}
+use Rattle.places_rules.proofs.Lists.{head_same, tail_same}
 use Rattle.places_rules.proofs.Files.{none_some, some_same, past_same, cleared, not_cleared, among_or_not, put_here, put_other, put_both}
 use Rattle.places_rules.proofs.Walked.{left_among, right_among, split_among, stands_of}
 use Rattle.places_rules.proofs.Raised.{IsRaised, Told, told_jump, told_unwind, told_ask, IsSilent, told, label_silent, try_silent}
@@ -149,12 +150,6 @@ module _ (m : Mach) (s : ℕ → ℕ) (free top : ℕ) (formed : WellFormed m) (
   only_number r (first e) = e
   only_number r (later a) = elim a [ ]
 
-  head_same : {i j : Instr} (xs ys : List Instr) → i ∷ xs ≡ j ∷ ys → i ≡ j
-  head_same xs ys e = cc
-
-  tail_same : {i j : Instr} (xs ys : List Instr) → i ∷ xs ≡ j ∷ ys → xs ≡ ys
-  tail_same xs ys e = cc
-
   is_code : q.code ≡ expand f m.code
   is_code = refl
 
@@ -207,7 +202,7 @@ module _ (m : Mach) (s : ℕ → ℕ) (free top : ℕ) (formed : WellFormed m) (
           written = λ j ys e frame r one val v none.
               absurd
               (differ (passes_frame j.op) frame
-              (ap (λ (i : Instr). passes_frame i.op) (sym (head_same zs ys e))));
+              (ap (λ (i : Instr). passes_frame i.op) (sym (head_same e))));
         }
 
     -- ---- before an instruction
@@ -859,9 +854,9 @@ module _ (m : Mach) (s : ℕ → ℕ) (free top : ℕ) (formed : WellFormed m) (
         vals_main y known =
             record {
               written = λ j ys e frame r one val v none.
-                  let head = head_same (post ++ expand f next) ys e in
+                  let head = head_same e in
                   let there : LiveAcross q r.number (main_for i next) (post ++ expand f next) =
-                  subst (λ xs. LiveAcross q r.number (main_for i next) xs) (sym (tail_same (post ++ expand f next) ys e))
+                  subst (λ xs. LiveAcross q r.number (main_for i next) xs) (sym (tail_same e))
                   (subst (λ j. LiveAcross q r.number j ys) (sym head) v) in
                   let x = across_back m s free top formed placed is i next ending laid_main there in
                   let u = live_register (live_of x) ending in

@@ -20,7 +20,6 @@ use Rattle.mach_ir.specs.declared.mach.Instr.{Instr}
 use Rattle.mach_ir.specs.declared.mach.Mach.{Mach}
 use Rattle.mach_laws.specs.Expand.{all}
 use Rattle.mach_laws.proofs.Places.{label_expand, ending_label}
-use Rattle.mach_laws.proofs.Walking.{none_in}
 use Rattle.places_rules.specs.Places.{ColoursLow}
 use Rattle.places_rules.proofs.Open.{machine_open}
 use Rattle.places_rules.proofs.Lists.{was, mapped}
@@ -29,7 +28,7 @@ use Rattle.places_rules.proofs.Whole.{AreRegisters, FixedSeats, fixed_in_order, 
 use Rattle.split_rules.proofs.Formed.{contains_of, of_each}
 use Rattle.split_rules.proofs.Text.{number_among, number_in}
 use Rattle.spill_rules.specs.Spilled.{copied}
-use Rattle.spill_rules.proofs.Chosen.{ending_of}
+use Rattle.spill_rules.proofs.Chosen.{no_result, ending_of}
 use Rattle.reload_rules.specs.Reloaded.{reads_registers, writes_registers, is_in_slot, is_renewed, fresh, number_after, renewed}
 use Rattle.reload_rules.proofs.Kept.{laid_after}
 use Rattle.reload_rules.proofs.Live.{IsNumbering, reloaded_by, ForResult, Storing, Laid, FreshResult, is_result, killed_same, live_back, live_before}
@@ -42,13 +41,6 @@ not_true : false ≡ true → ⊥
 not_true e = cc
 
 -- ---- what has results goes on
-
-no_result : (rs : List Reg) (r : Reg) → comps rs ≡ [] → Contains rs r → ⊥
-no_result [] r e c = none_in r c
-no_result (x ∷ rs) r e c = some x.comp (comps rs) e
-  where
-    some : (c : Comp) (cs : List Comp) → c ∷ cs ≡ [] → ⊥
-    some c cs e = cc
 
 op_goes : (g : Op) (cs ds : List Comp) → HasForm g cs ds → (ds ≡ []) ⊎ OneOf On (targets (mach.Op g))
 op_goes g cs ds copies = inr this

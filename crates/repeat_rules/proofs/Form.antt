@@ -20,11 +20,12 @@ use Rattle.mach_ir.specs.declared.mach.Mach.{Mach}
 use Rattle.mach_laws.specs.Expand.{expand, KeepsMarks}
 use Rattle.mach_laws.proofs.Walking.{none_in, first_in, later_in, in_cons}
 use Rattle.split_rules.proofs.Formed.{contains_of, stands_in, of_each}
+use Rattle.places_rules.proofs.Lists.{head_same, tail_same, none_there}
 use Rattle.places_rules.proofs.Files.{differ}
 use Rattle.split_rules.proofs.Text.{args_in, results_in}
 use Rattle.repeat_rules.specs.Repeated.{is_operator, Repeats, from_earlier, again, in_place, IsBefore, IsRepeated, IsFormKept}
 use Rattle.repeat_rules.proofs.OneForOne as one
-use Rattle.repeat_rules.proofs.OneForOne.{head_same, tail_same, none_there, in_append, in_front, in_code_stands, IsPure, is_pure, same_op, both_pure, StandsFor, IsMain, was_main, each_in, all_in, before_of, same_length, same_labels}
+use Rattle.repeat_rules.proofs.OneForOne.{in_append, in_front, in_code_stands, IsPure, is_pure, same_op, both_pure, StandsFor, IsMain, was_main, each_in, all_in, before_of, same_length, same_labels}
 
 -- ---- operators
 

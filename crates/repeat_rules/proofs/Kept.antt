@@ -22,11 +22,12 @@ use Rattle.mach_laws.proofs.Leads.{Within, asks_in, within}
 use Rattle.mach_laws.proofs.Level as levels
 use Rattle.mach_laws.proofs.Places.{tries_expand}
 use Rattle.mach_laws.proofs.Simulate.{Agrees}
+use Rattle.places_rules.proofs.Lists.{head_same, tail_same}
 use Rattle.places_rules.proofs.Files.{none_some, some_same}
 use Rattle.places_rules.proofs.Walked.{stands_of}
 use Rattle.repeat_rules.specs.Kept.{OwnOrigins}
 use Rattle.repeat_rules.specs.Repeated.{is_operator, allocates, Repeats, from_earlier, again, in_place, with_moves, IsBefore}
-use Rattle.repeat_rules.proofs.OneForOne.{head_same, tail_same, frame_same}
+use Rattle.repeat_rules.proofs.OneForOne.{frame_same}
 use Rattle.repeat_rules.proofs.Form.{Fate, unchanged, moved, fate, alike, keeps_marks, was_register}
 use Rattle.repeat_rules.proofs.Acting.{Grown, GoesOn, is_stuck, goes_on, straight_on, as_it_was}
 use Rattle.repeat_rules.proofs.Held.{Holding, Holds, holds_next, calm}

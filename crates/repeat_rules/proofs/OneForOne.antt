@@ -21,19 +21,11 @@ use Rattle.mach_ir.specs.declared.mach.Mach.{Mach}
 use Rattle.mach_laws.specs.Expand.{expand, Ending, all, more, KeepsMarks, no_label, not_labelled, no_handler, not_handled, bounds_try, no_bound, not_bound}
 use Rattle.mach_laws.proofs.Places.{label_expand, handler_expand, tries_expand, ending_from_handler}
 use Rattle.mach_laws.proofs.Walking.{none_in, first_in, later_in, in_cons, ending_at}
+use Rattle.places_rules.proofs.Lists.{head_same, tail_same, none_there}
 use Rattle.places_rules.proofs.Files.{differ}
 use Rattle.split_rules.proofs.Formed.{contains_of, stands_in}
 
 -- ---- lists
-
-pub head_same : {x y : Instr} {xs ys : List Instr} → x ∷ xs ≡ y ∷ ys → x ≡ y
-head_same e = cc
-
-pub tail_same : {x y : Instr} {xs ys : List Instr} → x ∷ xs ≡ y ∷ ys → xs ≡ ys
-tail_same e = cc
-
-pub none_there : {x : Instr} {xs : List Instr} → [] ≡ x ∷ xs → ⊥
-none_there e = cc
 
 pub in_append : (xs : List Instr) (y : Instr) (ys : List Instr) → Contains (xs ++ y ∷ ys) y
 in_append [] y ys = first_in y ys

@@ -197,6 +197,12 @@ module _ (plan : Plan) where
       by : OneOf (At l) (On ∷ []) → ⊥
       by (other o) = elim o [ ]
 
+pub one_distinct : (r : Reg) → AreDistinct (r ∷ [])
+one_distinct r = λ i j d lt within. absurd (none i j lt within)
+  where
+    none : (i j : ℕ) → i < j → j < length (r ∷ []) → ⊥
+    none i j x y = omega (arith, x, y)
+
 module _ (m : Mach) (plan : Plan) (formed : WellFormed m) (placed : WellPlaced m) (is : IsPlan m plan) where
   abbrev q : Mach
   q = spilled plan m
@@ -313,12 +319,6 @@ module _ (m : Mach) (plan : Plan) (formed : WellFormed m) (placed : WellPlaced m
 
   copy_formed : (kind : CopyKind) (from to : Reg) → IsFormed (copied kind from to)
   copy_formed kind from to = formed_op form.copies
-
-  one_distinct : (r : Reg) → AreDistinct (r ∷ [])
-  one_distinct r = λ i j d lt within. absurd (none i j lt within)
-    where
-      none : (i j : ℕ) → i < j → j < length (r ∷ []) → ⊥
-      none i j x y = omega (arith, x, y)
 
   pub number_is : (r k : Reg) → IsRegister q r → IsRegister q k → r.number ≡ k.number → r ≡ k
   number_is r k i j e =

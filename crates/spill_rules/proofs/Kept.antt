@@ -28,6 +28,7 @@ use Rattle.mach_laws.proofs.Level as level
 use Rattle.mach_laws.proofs.Places.{ending_next, ending_label, ending_land, ending_from_handler, label_expand, handler_expand}
 use Rattle.mach_laws.proofs.Simulate.{Agrees}
 use Rattle.mach_laws.proofs.Walking.{none_in, first_in, later_in, in_cons}
+use Rattle.places_rules.proofs.Lists.{head_same, tail_same}
 use Rattle.places_rules.proofs.Files.{differ, none_some, some_same, values_same, past_same, cleared, not_cleared, among_or_not, put_here, put_other, PutsBoth, put_both}
 use Rattle.places_rules.proofs.Walked.{left_among, right_among, split_among, stands_of}
 use Rattle.places_rules.proofs.Raised.{IsRaised, Told, told_jump, told_unwind, told_ask, IsSilent, told, label_silent, try_silent}
@@ -309,12 +310,6 @@ module _ (m : Mach) (plan : Plan) (formed : WellFormed m) (placed : WellPlaced m
   unless_among None us x a = a
   unless_among (Some v) us x a = elim a [ ]
 
-  head_same : {i j : Instr} (xs ys : List Instr) → i ∷ xs ≡ j ∷ ys → i ≡ j
-  head_same xs ys e = cc
-
-  tail_same : {i j : Instr} (xs ys : List Instr) → i ∷ xs ≡ j ∷ ys → xs ≡ ys
-  tail_same xs ys e = cc
-
   is_code : q.code ≡ expand f m.code
   is_code = refl
 
@@ -362,7 +357,7 @@ module _ (m : Mach) (plan : Plan) (formed : WellFormed m) (placed : WellPlaced m
           written = λ j ys e frame r one val v none.
               absurd
               (differ (passes_frame j.op) frame
-              (ap (λ (i : Instr). passes_frame i.op) (sym (head_same zs ys e))));
+              (ap (λ (i : Instr). passes_frame i.op) (sym (head_same e))));
         }
 
     -- ---- before an instruction
@@ -915,10 +910,10 @@ module _ (m : Mach) (plan : Plan) (formed : WellFormed m) (placed : WellPlaced m
         vals_main y known =
             record {
               written = λ j ys e frame r one val v none.
-                  let head = head_same (post ++ expand f next) ys e in
+                  let head = head_same e in
                   let w = was_register r one in
                   let there : LiveAcross q r.number i (post ++ expand f next) =
-                  subst (λ xs. LiveAcross q r.number i xs) (sym (tail_same (post ++ expand f next) ys e))
+                  subst (λ xs. LiveAcross q r.number i xs) (sym (tail_same e))
                   (subst (λ j. LiveAcross q r.number j ys) (sym head) v) in
                   let x = across_back m plan formed placed is i next ending laid_main there in
                   let g = by r w x in

@@ -16,7 +16,7 @@ use Rattle.mach_laws.specs.Expand.{expand, Ending, all}
 use Rattle.mach_laws.proofs.Places.{label_expand, ending_next, ending_label}
 use Rattle.mach_laws.proofs.Walking.{none_in, first_in}
 use Rattle.places_rules.proofs.Lists.{was, mapped}
-use Rattle.places_rules.proofs.Open.{machine_slot}
+use Rattle.places_rules.proofs.Open.{machine_slot, same_slot}
 use Rattle.places_rules.proofs.Walked.{ending_of}
 use Rattle.split_rules.proofs.Formed.{contains_of, stands_in}
 use Rattle.spill_rules.specs.Spilled.{Plan, in_slot, results_of, has_results, spilled_instr, spilled, IsPlan}
@@ -25,9 +25,6 @@ use Rattle.spill_rules.proofs.Formed.{IsCopy, is_reload, is_spill, IsMain, was_m
 use Rattle.spill_rules.proofs.Kept.{Which, own, slotted, WasRegister, was_register}
 use Rattle.spill_rules.proofs.Live.{Storing, Laid, laid_of, laid_results, WasLive, itself, stored, IsResult, is_result, live_back, live_before}
 use Rattle.spill_rules.proofs.Text.{keeps_marks}
-
-slot_same : (k n : ℕ) → loc.Slot k ≡ loc.Slot n → k ≡ n
-slot_same k n e = cc
 
 module _ (m : Mach) (plan : Plan) (formed : WellFormed m) (placed : WellPlaced m) (is : IsPlan m plan) where
   abbrev q : Mach
@@ -137,7 +134,7 @@ module _ (m : Mach) (plan : Plan) (formed : WellFormed m) (placed : WellPlaced m
 
   in_slot_of : (r : Reg) (n : ℕ) → IsPlaced r → r.loc ≡ loc.Slot n → (n ≡ r.origin) × (r.loc ≡ loc.Slot r.origin)
   in_slot_of r n (in_colour k c h) e = absurd (machine_slot h e)
-  in_slot_of r n (placing.in_slot h) e = (slot_same n r.origin (sym e ∙ h), h)
+  in_slot_of r n (placing.in_slot h) e = (same_slot e h, h)
 
   apart : (r k : Reg) → IsRegister q r → IsRegister q k → Joined q r.number k.number → r.loc ≢ loc.Unset → r.loc ≡ k.loc → MayShare r k
   apart r k i j joined fixed e =

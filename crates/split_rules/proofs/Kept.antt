@@ -22,6 +22,7 @@ use Rattle.mach_laws.proofs.Leads.{IsTry, is_try, MayLand, lands_at_label, lands
 use Rattle.mach_laws.proofs.Level as level
 use Rattle.mach_laws.proofs.Places.{ending_next, ending_label, ending_land}
 use Rattle.mach_laws.proofs.Simulate.{Agrees}
+use Rattle.places_rules.proofs.Lists.{head_same, tail_same}
 use Rattle.places_rules.proofs.Files.{none_some, past_same, cleared, not_cleared, among_or_not, PutsToo, put_twice, put_both}
 use Rattle.places_rules.proofs.Walked.{left_among, right_among, split_among, stands_of}
 use Rattle.places_rules.proofs.Raised.{IsRaised, Told, told_jump, told_unwind, told_ask, IsSilent, told, label_silent, try_silent}
@@ -105,20 +106,14 @@ module _ (m : Mach) (names : Naming) (is : IsNaming m names) (formed : WellForme
   across_live (across_step w l v) = on w l v
   across_live (across_raise r v) = aside r v
 
-  head_same : {i j : Instr} (xs ys : List Instr) → i ∷ xs ≡ j ∷ ys → i ≡ j
-  head_same xs ys e = cc
-
-  tail_same : {i j : Instr} (xs ys : List Instr) → i ∷ xs ≡ j ∷ ys → xs ≡ ys
-  tail_same xs ys e = cc
-
   vals_before : (i : Instr) (next : List Instr) (a b : File) (y : Around) → Ending (i ∷ next) m.code → Same (i ∷ next) a b →
       ValsWritten m (at (i ∷ next) a y) → ValsWritten q (at (renamed_code names (i ∷ next)) b y)
   vals_before i next a b y ending same known =
       record {
         written = λ j ys e frame r one val v none.
             let w = was_register m names is colour_fixed r one in
-            let head = head_same (renamed_code names next) ys e in
-            let old = across_back m names is colour_fixed i next ending head (tail_same (renamed_code names next) ys e) v in
+            let head = head_same e in
+            let old = across_back m names is colour_fixed i next ending head (tail_same e) v in
             known.written i next refl (subst (λ (j : Instr). passes_frame j.op ≡ true) (sym head) frame) w.register w.among
             (ap (λ (r : Reg). r.comp) w.same ∙ val)
             (subst (λ n. LiveAcross m n i next) w.back old.across)
