@@ -1,11 +1,10 @@
 -- What an expression may weigh, and what a row of operands may, in two parts.
-use Rattle.std.proofs.Common.{◌≡◌, ℕ, ◌+◌, ◌-◌, ◌*◌, ◌≤◌, Bool, true, false, not, List, refl, arith}
+use Rattle.std.proofs.Common.{◌≡◌, ℕ, ◌+◌, ◌-◌, ◌*◌, ◌≤◌, arith}
 use Rattle.cmm_tree.specs.Measures.{total, row_total, counts_one, nodes_in}
 use Rattle.cmm_tree.specs.Tree.{Expression, Integer, Pointer, Symbol, Name, Nothing, Float, Let, Assign, Operator, Load, Store, Alloc, App, Extcall, Checkbound, Raise, Seq, If, Switch, Catch, Exit, Try, Expressions, NoMore, More}
-use Rattle.cmm_types.specs.Light.{is_light_address}
 use Rattle.correctness.specs.Measures.{indexes_of, is_frame_point}
 use Rattle.selection_places.proofs.Adds.{sum_of, sum_total}
-use Rattle.selection_rules.specs.Select.{Named, scopes, count_of}
+use Rattle.selection_rules.specs.Select.{count_of}
 
 -- a hundred words of it are left for what puts it to use
 abbrev pub most : Expression → ℕ

@@ -21,7 +21,7 @@ use Rattle.mach_ir.specs.declared.reg.Reg.{Reg}
 use Rattle.selection_rules.specs.Instructions.{bare}
 use Rattle.selection_rules.specs.Instructions as emit
 use Rattle.selection_rules.specs.Select.{Code, Shape, InRegisters, ConstantRight, ConstantLeft, PowerRight, shape_args, unless_left, unless_right, power_code, operator_code, move_from, move_to, moves_all, ordered, only_when, from_seat, unless_symbol, unless_constant, tested, call_of, cell_stores, result_seat}
-use Rattle.pass_rules.specs.Measures.{copy_words, code_words, one_if, code_points}
+use Rattle.pass_rules.specs.Measures.{code_words, one_if, code_points}
 use Rattle.pass_rules.proofs.Words.{at_most_copy}
 use Rattle.selection_places.proofs.Adds.{part}
 
