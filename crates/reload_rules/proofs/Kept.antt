@@ -39,7 +39,7 @@ use Rattle.liveness.proofs.Bounds.{killed_is_colour}
 use Rattle.split_rules.proofs.Formed.{contains_of, of_each}
 use Rattle.split_rules.proofs.Text.{number_among, number_in, args_in, results_in}
 use Rattle.spill_rules.specs.Spilled.{copied}
-use Rattle.spill_rules.proofs.Kept.{FitsIn, put_fits, put_holds, clear_fits, frame_fits}
+use Rattle.spill_rules.proofs.Kept.{values_held, FitsIn, put_fits, put_holds, clear_fits, frame_fits}
 use Rattle.places_rules.proofs.Files.{differ}
 use Rattle.reload_rules.specs.Reloaded.{reads_registers, writes_registers, is_renewed, fresh, number_after, reloads, spills}
 use Rattle.reload_rules.proofs.Calm.{Calm, calm_go, calm_push, calm_label, calm_handler, calm_unwind, calm_ask, IsHandler, is_handler, calm, calm_at_handler}
@@ -864,18 +864,6 @@ module _ (m : Mach) (s : ℕ → ℕ) (free top : ℕ) (formed : WellFormed m) (
                   (old_register m s free top formed placed is r u.0 one u.1 u.2) val x
                   ((reading.holds).itself r.number (live_of x) ∙ none);
             }
-
-      values_held : (a : File) (rs : List Reg) (vs : List Value) → values a rs ≡ Some vs → (n : ℕ) → Among n rs → (h : Held) × (a n ≡ Some h)
-      values_held a [] vs e n z = elim z [ ]
-      values_held a (r ∷ rs) vs e n z =
-          by (a r.number) refl (values a rs) refl e z (λ us t x. values_held a rs us t n x)
-        where
-          by : (o : Option Held) → a r.number ≡ o → (p : Option (List Value)) → values a rs ≡ p → with_held o p ≡ Some vs → Among n (r ∷ rs) →
-              ((us : List Value) → values a rs ≡ Some us → Among n rs → (h : Held) × (a n ≡ Some h)) → (h : Held) × (a n ≡ Some h)
-          by None s p t e z again = absurd (none_some e)
-          by (Some h) s None t e z again = absurd (none_some e)
-          by (Some h) s (Some us) t e (first x) again = (h, ap a (sym x) ∙ s)
-          by (Some h) s (Some us) t e (later x) again = again us t x
 
       one : (i : Instr) (next : List Instr) (a b : File) (ending : Ending (i ∷ next) m.code) → Holds (i ∷ next) a b → (y : Around) →
           IsQuiet (i ∷ next) y → (vs : List Value) → values a i.args ≡ Some vs →

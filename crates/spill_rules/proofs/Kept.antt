@@ -40,6 +40,27 @@ use Rattle.spill_rules.specs.Spilled.{Plan, in_slot, copied, reload, spill, relo
 use Rattle.spill_rules.proofs.Live.{IsStored, WasLive, itself, stored, Stage, Reading, Storing, Laid, main, laid_results, laid_operands, laid_of, is_result, Says, NotThere, stored_unwritten, laid_tries, live_back, live_before, WasAcross, itself_across, stored_across, across_back}
 use Rattle.spill_rules.proofs.Text.{keeps_marks, all_results, operand_in}
 
+-- ---- what is read, and what stands in code
+
+-- what is read holds something
+pub values_held : (a : File) (rs : List Reg) (vs : List Value) → values a rs ≡ Some vs → (n : ℕ) → Among n rs → (h : Held) × (a n ≡ Some h)
+values_held a [] vs e n z = elim z [ ]
+values_held a (r ∷ rs) vs e n z =
+    by (a r.number) refl (values a rs) refl e z (λ us t x. values_held a rs us t n x)
+  where
+    by : (o : Option Held) → a r.number ≡ o → (p : Option (List Value)) → values a rs ≡ p → with_held o p ≡ Some vs → Among n (r ∷ rs) →
+        ((us : List Value) → values a rs ≡ Some us → Among n rs → (h : Held) × (a n ≡ Some h)) → (h : Held) × (a n ≡ Some h)
+    by None s p t e z again = absurd (none_some e)
+    by (Some h) s None t e z again = absurd (none_some e)
+    by (Some h) s (Some us) t e (first x) again = (h, ap a (sym x) ∙ s)
+    by (Some h) s (Some us) t e (later x) again = again us t x
+
+pub in_append : {r : Reg} (xs ys : List Instr) → InCode r (xs ++ ys) → InCode r xs ⊎ InCode r ys
+in_append [] ys c = inr c
+in_append (x ∷ xs) ys (in_args c) = inl (in_args c)
+in_append (x ∷ xs) ys (in_results c) = inl (in_results c)
+in_append (x ∷ xs) ys (further c) = ⊎_elim (λ h. inl (further h)) inr (in_append xs ys c)
+
 -- ---- values that fit
 
 -- what is put fits
@@ -180,12 +201,6 @@ module _ (m : Mach) (plan : Plan) (formed : WellFormed m) (placed : WellPlaced m
   itself_was : (r : Reg) → IsRegister m r → WasRegister r
   itself_was r i =
       record { register = r; among = i; which = own refl; unset = not_its_slot r i; copied = not_copied r i }
-
-  in_append : {r : Reg} (xs ys : List Instr) → InCode r (xs ++ ys) → InCode r xs ⊎ InCode r ys
-  in_append [] ys c = inr c
-  in_append (x ∷ xs) ys (in_args c) = inl (in_args c)
-  in_append (x ∷ xs) ys (in_results c) = inl (in_results c)
-  in_append (x ∷ xs) ys (further c) = ⊎_elim (λ h. inl (further h)) inr (in_append xs ys c)
 
   of_one : (x r : Reg) → Contains (x ∷ []) r → x ≡ r
   of_one x r c = ⊎_elim (λ e. e) (λ d. absurd (none_in r d)) (in_cons x r [] c)
@@ -943,18 +958,6 @@ module _ (m : Mach) (plan : Plan) (formed : WellFormed m) (placed : WellPlaced m
                 slot_by (slotted e) =
                     let same : n ≡ w.register.number = slots_apart n w.register.number (s ∙ sym (ap (λ (x : Reg). x.number) e)) in
                     (subst (λ n. LiveAcross m n i next) same v, ap a (sym same) ∙ holds.slots n (live_of v) k ∙ ap b s)
-
-      values_held : (a : File) (rs : List Reg) (vs : List Value) → values a rs ≡ Some vs → (n : ℕ) → Among n rs → (h : Held) × (a n ≡ Some h)
-      values_held a [] vs e n z = elim z [ ]
-      values_held a (r ∷ rs) vs e n z =
-          by (a r.number) refl (values a rs) refl e z (λ us t x. values_held a rs us t n x)
-        where
-          by : (o : Option Held) → a r.number ≡ o → (p : Option (List Value)) → values a rs ≡ p → with_held o p ≡ Some vs → Among n (r ∷ rs) →
-              ((us : List Value) → values a rs ≡ Some us → Among n rs → (h : Held) × (a n ≡ Some h)) → (h : Held) × (a n ≡ Some h)
-          by None s p t e z again = absurd (none_some e)
-          by (Some h) s None t e z again = absurd (none_some e)
-          by (Some h) s (Some us) t e (first x) again = (h, ap a (sym x) ∙ s)
-          by (Some h) s (Some us) t e (later x) again = again us t x
 
       one : (i : Instr) (next : List Instr) (a b : File) (ending : Ending (i ∷ next) m.code) → Holds (i ∷ next) a b → (y : Around)
           (vs : List Value) → values a i.args ≡ Some vs →
