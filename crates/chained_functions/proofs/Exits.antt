@@ -1,5 +1,5 @@
 -- How many exits selected code has, by the values of a tree.
-use Rattle.std.proofs.Common.{◌≡◌, ℕ, suc, ◌+◌, ◌≤◌, Bool, true, false, not, cond, List, [], ◌∷◌, Option, Some, None, refl, ap, arith}
+use Rattle.std.proofs.Common.{◌≡◌, ℕ, suc, ◌≤◌, Bool, true, false, not, cond, List, [], ◌∷◌, Option, Some, None, refl, ap, arith}
 use Rattle.bs_words.specs.declared.operators.IntOp.{IntOp}
 use Rattle.bs_words.specs.declared.operators.IntOp.TheVariants as operator
 use Rattle.bs_words.specs.declared.types.Chunk.{Chunk}
@@ -13,42 +13,24 @@ use Rattle.cmm_types.specs.Light.{is_light_address}
 use Rattle.cmm_types.specs.Types.{result_of, body_type, type_of}
 use Rattle.cmm_meaning.specs.Evaluation.{is_left_first}
 use Rattle.mach_ir.specs.Formed.{is_exit}
-use Rattle.mach_ir.specs.declared.mach.Instr.{Instr}
 use Rattle.mach_ir.specs.declared.mach.Mark.{Mark}
 use Rattle.mach_ir.specs.declared.mach.Mark.TheVariants as mark
 use Rattle.mach_ir.specs.declared.mach.MachOp.TheVariants as mach
 use Rattle.mach_ir.specs.declared.mach.Test.{Test}
 use Rattle.mach_ir.specs.declared.mach.Test.TheVariants as test
 use Rattle.mach_ir.specs.declared.op.Op.{Op}
-use Rattle.mach_ir.specs.declared.op.Right.{Right}
-use Rattle.mach_ir.specs.declared.op.Right.TheVariants as right
 use Rattle.mach_ir.specs.declared.reg.Reg.{Reg}
 use Rattle.selection_rules.specs.Instructions.{bare}
 use Rattle.selection_rules.specs.Instructions as emit
-use Rattle.selection_rules.specs.Select.{Code, Shape, InRegisters, ConstantRight, ConstantLeft, PowerRight, shape_of, shape_op, shape_right, shape_args, unless_left, unless_right, power_code, operator_code, Named, Label, scopes, reg_of, label_of, move_from, move_to, moves_all, exit_to, ordered, only_when, from_seat, symbol_of, unless_symbol, right_of, unless_constant, bound_test, comparison, tested, select_test, is_based, base_of, inner_dest, seat, select_base, call_of, regs_of, select, select_waiting, select_filled, select_bound, select_seq, select_cases, select_handlers, deeper, cell_stores, returns, selected, first, is_no_value, fresh, seats}
+use Rattle.selection_rules.specs.Select.{Code, Shape, InRegisters, ConstantRight, ConstantLeft, PowerRight, shape_of, shape_op, shape_right, shape_args, power_code, operator_code, Named, Label, scopes, reg_of, label_of, move_from, move_to, moves_all, exit_to, from_seat, symbol_of, right_of, bound_test, comparison, select_test, is_based, base_of, inner_dest, seat, select_base, call_of, regs_of, select, select_waiting, select_filled, select_bound, select_seq, select_cases, select_handlers, deeper, cell_stores, returns, selected, first, is_no_value, fresh, seats}
+use Rattle.selection_places.proofs.Adds as adds
+use Rattle.selection_places.proofs.Adds.{Adds, part_both, now_of, later_of, in_parts, sum_total}
 use Rattle.selection_places.proofs.Whole.{value_at, params_of, env_of}
 use Rattle.pass_rules.specs.Measures.{exits}
 
 -- code with no more than so many exits
-record Leaves (n : ℕ) (code : Code) : Type 0 where
-  at : (next : List Instr) → exits (code next) ≤ n + exits next
-
-abbrev part : Bool → ℕ → ℕ
-part true n = n
-part false n = 0
-
-part_both : (b : Bool) (n : ℕ) → part (not b) n + part b n ≡ n
-part_both true n = omega arith
-part_both false n = omega arith
-
-e_up : {n k : ℕ} {x : Code} → n ≤ k → Leaves n x → Leaves k x
-e_up le w = record { at = λ next. let here = w.at next in omega (arith, here, le) }
-
-e_then : {n k : ℕ} {x y : Code} → Leaves n x → Leaves k y → Leaves (n + k) (λ next. x (y next))
-e_then {n} {k} {x} {y} a b = record { at = λ next. let first = a.at (y next) in let second = b.at next in omega (arith, first, second) }
-
-e_none : Leaves 0 (λ next. next)
-e_none = record { at = λ next. omega arith }
+abbrev Leaves : ℕ → Code → Type 0
+Leaves n code = Adds exits n code
 
 e_operation : (f : Op) (args results : List Reg) → Leaves 0 (λ next. emit.operation f args results ∷ next)
 e_operation f args results = record { at = λ next. omega arith }
@@ -66,68 +48,28 @@ e_mark f args results none =
     }
 
 e_from : (o : Option Reg) (d : Reg) → Leaves 0 (move_from o d)
-e_from None d = e_none
+e_from None d = adds.none
 e_from (Some a) d = e_move a d
 
 e_to : (a : Reg) (o : Option Reg) → Leaves 0 (move_to a o)
-e_to a None = e_none
+e_to a None = adds.none
 e_to a (Some d) = e_move a d
 
 e_moves : (from to : List Reg) → Leaves 0 (moves_all from to)
-e_moves [] to = e_none
-e_moves (a ∷ from) [] = e_none
-e_moves (a ∷ from) (d ∷ to) = e_then (e_moves from to) (e_move a d)
+e_moves [] to = adds.none
+e_moves (a ∷ from) [] = adds.none
+e_moves (a ∷ from) (d ∷ to) = adds.then (e_moves from to) (e_move a d)
 
 e_leave : (l n : ℕ) → Leaves 1 (λ next. bare (mark.Exit l n) ∷ next)
 e_leave l n = record { at = λ next. omega arith }
 
 e_exit : (o : Option Label) (from : List Reg) → Leaves 1 (exit_to o from)
 e_exit None from = record { at = λ next. omega arith }
-e_exit (Some t) from = e_then (e_moves from t.params) (e_leave t.number t.tries)
+e_exit (Some t) from = adds.then (e_moves from t.params) (e_leave t.number t.tries)
 
 e_cells : (k : Chunk) (p : Reg) (i : ℕ) (rs : List Reg) → Leaves 0 (cell_stores k p i rs)
-e_cells k p i [] = e_none
-e_cells k p i (r ∷ rs) = e_then (e_operation _ (p ∷ r ∷ []) []) (e_cells k p (suc i) rs)
-
-e_ordered : {x y : Code} {n k : ℕ} (b : Bool) → Leaves n x → Leaves k y → Leaves (n + k) (ordered b x y)
-e_ordered true p q = e_then p q
-e_ordered {n = n} {k = k} false p q = e_up (swap n k) (e_then q p)
-  where
-    swap : (n k : ℕ) → k + n ≤ n + k
-    swap n k = omega arith
-
-e_when : {code : Code} (b : Bool) (n : ℕ) → Leaves n code → Leaves (part b n) (only_when b code)
-e_when true n e = e
-e_when false n e = record { at = λ next. omega arith }
-
-e_unless : {code : Code} {n : ℕ} (o : Option (List ℕ)) → Leaves n code → Leaves n (unless_symbol o code)
-e_unless (Some name) e = record { at = λ next. omega arith }
-e_unless None e = e
-
-e_constant : {code : Code} {n : ℕ} (r : Right) → Leaves n code → Leaves n (unless_constant r code)
-e_constant right.Register e = e
-e_constant (right.Constant w) e = record { at = λ next. omega arith }
-
-e_left : {code : Code} {n : ℕ} (s : Shape) → Leaves n code → Leaves n (unless_left s code)
-e_left InRegisters e = e
-e_left (ConstantRight i) e = e
-e_left (ConstantLeft i) e = record { at = λ next. omega arith }
-e_left (PowerRight k) e = e
-
-e_right : {code : Code} {n : ℕ} (s : Shape) → Leaves n code → Leaves n (unless_right s code)
-e_right InRegisters e = e
-e_right (ConstantRight i) e = record { at = λ next. omega arith }
-e_right (ConstantLeft i) e = e
-e_right (PowerRight k) e = record { at = λ next. omega arith }
-
-e_tested : {value : Code} {n : ℕ} (o : Option Test) (fused : Test → Code) → ((t : Test) → Leaves n (fused t)) → Leaves n value → Leaves n
-    (λ next. tested o (λ t. fused t next) (value next))
-e_tested (Some t) fused f v = f t
-e_tested None fused f v = v
-
-e_if : {x y : Code} {n : ℕ} (q : Bool) → Leaves n x → Leaves n y → Leaves n (λ next. cond q (x next) (y next))
-e_if true a b = a
-e_if false a b = b
+e_cells k p i [] = adds.none
+e_cells k p i (r ∷ rs) = adds.then (e_operation _ (p ∷ r ∷ []) []) (e_cells k p (suc i) rs)
 
 e_power : (f : IntOp) (k : ℕ) (x y d : Reg) → Leaves 0 (power_code f k x y d)
 e_power operator.Div k x y d = record { at = λ next. omega arith }
@@ -143,172 +85,160 @@ e_branch : (t : Test) (l : ℕ) (args : List Reg) → Leaves 0 (λ next. emit.br
 e_branch t l args = e_mark (mark.If t l) args [] refl
 
 e_given : (n : ℕ) (result : Ret) (d : Reg) → Leaves 0 (from_seat n result d)
-e_given n ret.Unit d = e_none
+e_given n ret.Unit d = adds.none
 e_given n (ret.Comp c) d = e_move _ d
 
 e_call : (tail valued : Bool) (result : Ret) (o : Option (List ℕ)) (f : Reg) (rs : List Reg) (n : ℕ) (d : Reg) → Leaves 0
     (call_of tail valued result o f rs n d)
 e_call true valued result o f rs n d = e_operation _ _ []
-e_call false valued result o f rs n d = e_then (e_operation _ _ _) (e_given n result d)
+e_call false valued result o f rs n d = adds.then (e_operation _ _ _) (e_given n result d)
 
 e_end : (end : ℕ) → Leaves 0 (λ next. bare (mark.End end) ∷ next)
 e_end end = e_mark (mark.End end) [] [] refl
 
--- the values of the operands that wait, and of the others
-abbrev waits : List Named → Expressions → ℕ
-waits env NoMore = 0
-waits env (More e rest) = part (not (is_light_address (scopes env) e)) (values_in e) + waits env rest
-
-abbrev stays : List Named → Expressions → ℕ
-stays env NoMore = 0
-stays env (More e rest) = part (is_light_address (scopes env) e) (values_in e) + stays env rest
-
-parts : (env : List Named) (es : Expressions) → waits env es + stays env es ≡ row_total own_values es
-parts env NoMore = refl
-parts env (More e rest) =
-    let here = part_both (is_light_address (scopes env) e) (values_in e) in
-    let others = parts env rest in
-    omega (arith, here, others)
-
 mutual
   e_select : (env : List Named) (labels : List Label) (valued tail : Bool) (d : Reg) (b : ℕ) (e : Expression) → Leaves (values_in e)
       (select env labels valued tail d b e)
-  e_select env labels valued tail d b (Integer at w) = e_up (omega arith) (e_operation _ [] (inner_dest (type_of (scopes env) (Integer at w)) b d ∷ []))
-  e_select env labels valued tail d b (Pointer at w) = e_up (omega arith) (e_operation _ [] (inner_dest (type_of (scopes env) (Pointer at w)) b d ∷ []))
-  e_select env labels valued tail d b (Symbol at name) = e_up (omega arith) (e_operation _ [] (inner_dest (type_of (scopes env) (Symbol at name)) b d ∷ []))
-  e_select env labels valued tail d b (Name at x) = e_up (omega arith) (e_from (reg_of env x) _)
-  e_select env labels valued tail d b (Nothing at) = e_up (omega arith) e_none
-  e_select env labels valued tail d b (Float at word_at operands) = e_up (omega arith) e_none
-  e_select env labels valued tail d b (Let at bindings body) = e_up (omega arith)
-      (e_then (e_bound env labels (suc b) bindings) (e_select _ labels _ tail _ _ body))
-  e_select env labels valued tail d b (Assign at name_at name e) = e_up (omega arith)
-      (e_then (e_select env labels false false _ _ e) (e_to _ (reg_of env name)))
+  e_select env labels valued tail d b (Integer at w) = adds.up (omega arith) (e_operation _ [] (inner_dest (type_of (scopes env) (Integer at w)) b d ∷ []))
+  e_select env labels valued tail d b (Pointer at w) = adds.up (omega arith) (e_operation _ [] (inner_dest (type_of (scopes env) (Pointer at w)) b d ∷ []))
+  e_select env labels valued tail d b (Symbol at name) = adds.up (omega arith) (e_operation _ [] (inner_dest (type_of (scopes env) (Symbol at name)) b d ∷ []))
+  e_select env labels valued tail d b (Name at x) = adds.up (omega arith) (e_from (reg_of env x) _)
+  e_select env labels valued tail d b (Nothing at) = adds.up (omega arith) adds.none
+  e_select env labels valued tail d b (Float at word_at operands) = adds.up (omega arith) adds.none
+  e_select env labels valued tail d b (Let at bindings body) = adds.up (omega arith)
+      (adds.then (e_bound env labels (suc b) bindings) (e_select _ labels _ tail _ _ body))
+  e_select env labels valued tail d b (Assign at name_at name e) = adds.up (omega arith)
+      (adds.then (e_select env labels false false _ _ e) (e_to _ (reg_of env name)))
   e_select env labels valued tail d b (Operator at op e g) =
       let s = shape_of op e g in
-      e_up (omega arith)
-      (e_then (e_ordered (is_left_first (scopes env) e g) (e_left s (e_select env labels false false _ _ e))
-      (e_right s (e_select env labels false false _ _ g))) (e_operator s op _ _ _))
+      adds.up (omega arith)
+      (adds.then (adds.in_order (is_left_first (scopes env) e g) (adds.left s (e_select env labels false false _ _ e))
+      (adds.right_of s (e_select env labels false false _ _ g))) (e_operator s op _ _ _))
   e_select env labels valued tail d b (App at callee arguments result result_at) =
       let light = is_light_address (scopes env) callee in
       let regs = regs_of env (suc (suc b)) arguments in
       let both = part_both light (values_in callee) in
-      let all = parts env arguments in
-      e_up (omega (arith, both, all))
-      (e_then (e_waiting env labels _ _ arguments)
-      (e_then (e_when (not light) (values_in callee) (e_unless (symbol_of callee) (e_select env labels false false _ _ callee)))
-      (e_then (e_filled env labels _ _ arguments)
-      (e_then (e_when light (values_in callee) (e_select env labels false false _ _ callee))
-      (e_then (e_moves regs _) (e_call tail _ result (symbol_of callee) _ _ _ _))))))
+      let all = in_parts values_in env arguments in
+      let sum = sum_total own_values arguments in
+      adds.up (omega (arith, both, all, sum))
+      (adds.then (e_waiting env labels _ _ arguments)
+      (adds.then (adds.when (not light) (values_in callee) (adds.unless (symbol_of callee) (e_select env labels false false _ _ callee)))
+      (adds.then (e_filled env labels _ _ arguments)
+      (adds.then (adds.when light (values_in callee) (e_select env labels false false _ _ callee))
+      (adds.then (e_moves regs _) (e_call tail _ result (symbol_of callee) _ _ _ _))))))
   e_select env labels valued tail d b (Extcall at frame name arguments result result_at) =
       let regs = regs_of env (suc b) arguments in
-      let all = parts env arguments in
-      e_up (omega (arith, all))
-      (e_then (e_waiting env labels _ _ arguments)
-      (e_then (e_filled env labels _ _ arguments)
-      (e_then (e_moves regs _) (e_then (e_operation _ _ _) (e_given _ result _)))))
-  e_select env labels valued tail d b (Seq at elements) = e_up (omega arith) (e_seq env labels _ tail _ _ elements)
+      let all = in_parts values_in env arguments in
+      let sum = sum_total own_values arguments in
+      adds.up (omega (arith, all, sum))
+      (adds.then (e_waiting env labels _ _ arguments)
+      (adds.then (e_filled env labels _ _ arguments)
+      (adds.then (e_moves regs _) (adds.then (e_operation _ _ _) (e_given _ result _)))))
+  e_select env labels valued tail d b (Seq at elements) = adds.up (omega arith) (e_seq env labels _ tail _ _ elements)
   e_select env labels valued tail d b (If at condition e g) =
-      e_up (omega arith)
-      (e_then (e_test env labels _ _ condition (e_up (omega arith) (e_then (e_select env labels false false _ _ condition) (e_branch test.Holds _ _))))
-      (e_then (e_select env labels _ tail _ _ e) (e_then (e_mark (mark.Else _ _) [] [] refl) (e_then (e_select env labels _ tail _ _ g) (e_end _)))))
+      adds.up (omega arith)
+      (adds.then (e_test env labels _ _ condition (adds.up (omega arith) (adds.then (e_select env labels false false _ _ condition) (e_branch test.Holds _ _))))
+      (adds.then (e_select env labels _ tail _ _ e) (adds.then (e_mark (mark.Else _ _) [] [] refl) (adds.then (e_select env labels _ tail _ _ g) (e_end _)))))
   e_select env labels valued tail d b (Catch at body handlers) =
-      e_up (omega arith)
-      (e_then (e_mark mark.Catch [] [] refl) (e_then (e_select env _ _ tail _ _ body) (e_then (e_handlers env _ _ tail _ _ _ _ handlers) (e_end _))))
+      adds.up (omega arith)
+      (adds.then (e_mark mark.Catch [] [] refl) (adds.then (e_select env _ _ tail _ _ body) (adds.then (e_handlers env _ _ tail _ _ _ _ handlers) (e_end _))))
   e_select env labels valued tail d b (Exit at label_at label arguments) =
-      let all = parts env arguments in
-      e_up (omega (arith, all))
-      (e_then (e_waiting env labels _ _ arguments) (e_then (e_filled env labels _ _ arguments)
+      let all = in_parts values_in env arguments in
+      let sum = sum_total own_values arguments in
+      adds.up (omega (arith, all, sum))
+      (adds.then (e_waiting env labels _ _ arguments) (adds.then (e_filled env labels _ _ arguments)
       (e_exit (label_of labels label) (regs_of env (suc b) arguments))))
   e_select env labels valued tail d b (Alloc at header_at header operands) =
       let p = fresh (suc b) ty.Val in
       let q = fresh (suc (suc b)) ty.Int in
-      let all = parts env operands in
-      e_up (omega (arith, all))
-      (e_then (e_waiting env labels _ _ operands)
-      (e_then (e_operation _ [] (p ∷ []))
-      (e_then (e_operation _ [] (q ∷ []))
-      (e_then (e_operation _ (p ∷ q ∷ []) [])
-      (e_then (e_filled env labels _ _ operands)
-      (e_then (e_cells _ p 0 (regs_of env (suc (suc (suc b))) operands)) (e_move p _)))))))
+      let all = in_parts values_in env operands in
+      let sum = sum_total own_values operands in
+      adds.up (omega (arith, all, sum))
+      (adds.then (e_waiting env labels _ _ operands)
+      (adds.then (e_operation _ [] (p ∷ []))
+      (adds.then (e_operation _ [] (q ∷ []))
+      (adds.then (e_operation _ (p ∷ q ∷ []) [])
+      (adds.then (e_filled env labels _ _ operands)
+      (adds.then (e_cells _ p 0 (regs_of env (suc (suc (suc b))) operands)) (e_move p _)))))))
   e_select env labels valued tail d b (Load at chunk address) =
-      e_up (omega arith)
-      (e_then (e_base env labels _ _ address (e_select env labels false false _ _ address))
+      adds.up (omega arith)
+      (adds.then (e_base env labels _ _ address (e_select env labels false false _ _ address))
       (e_operation _ (fresh (suc b) (type_of (scopes env) (base_of address)) ∷ []) (inner_dest (type_of (scopes env) (Load at chunk address)) b d ∷ [])))
   e_select env labels valued tail d b (Store at chunk address e) =
-      e_up (omega arith)
-      (e_then (e_ordered (is_left_first (scopes env) address e) (e_base env labels _ _ address (e_select env labels false false _ _ address))
+      adds.up (omega arith)
+      (adds.then (adds.in_order (is_left_first (scopes env) address e) (e_base env labels _ _ address (e_select env labels false false _ _ address))
       (e_select env labels false false _ _ e))
       (e_operation _ (fresh (suc b) (type_of (scopes env) (base_of address)) ∷ fresh (suc (suc b)) (type_of (scopes env) e) ∷ []) []))
   e_select env labels valued tail d b (Checkbound at e g) =
-      e_up (omega arith)
-      (e_then (e_ordered (is_left_first (scopes env) e g) (e_select env labels false false _ _ e)
-      (e_constant (right_of bound_test g) (e_select env labels false false _ _ g)))
+      adds.up (omega arith)
+      (adds.then (adds.in_order (is_left_first (scopes env) e g) (e_select env labels false false _ _ e)
+      (adds.constant (right_of bound_test g) (e_select env labels false false _ _ g)))
       (e_operation _ _ []))
   e_select env labels valued tail d b (Raise at e) =
       let y = seat 0 (suc (suc b)) comp.Val in
-      e_up (omega arith) (e_then (e_select env labels false false _ _ e) (e_then (e_move _ y) (e_operation _ (y ∷ []) [])))
+      adds.up (omega arith) (adds.then (e_select env labels false false _ _ e) (adds.then (e_move _ y) (e_operation _ (y ∷ []) [])))
   e_select env labels valued tail d b (Switch at size_at size selector cases) =
-      e_up (omega arith)
-      (e_then (e_select env labels false false _ _ selector)
-      (e_then (e_mark (mark.Switch _) _ [] refl) (e_then (e_cases env labels _ tail _ _ _ _ _ cases) (e_end _))))
+      adds.up (omega arith)
+      (adds.then (e_select env labels false false _ _ selector)
+      (adds.then (e_mark (mark.Switch _) _ [] refl) (adds.then (e_cases env labels _ tail _ _ _ _ _ cases) (e_end _))))
   e_select env labels valued tail d b (Try at body name_at name handler) =
       let y = seat 0 (suc (suc (suc (suc b)))) comp.Val in
-      e_up (omega arith)
-      (e_then (e_mark (mark.Try (suc b)) [] [] refl)
-      (e_then (e_select env (deeper labels) _ false _ _ body)
-      (e_then (e_mark (mark.Leave (suc b) (suc (suc b))) [] [] refl)
-      (e_then (e_mark (mark.Handler (suc b)) [] (y ∷ []) refl) (e_then (e_move y _) (e_then (e_select _ labels _ tail _ _ handler) (e_end _)))))))
+      adds.up (omega arith)
+      (adds.then (e_mark (mark.Try (suc b)) [] [] refl)
+      (adds.then (e_select env (deeper labels) _ false _ _ body)
+      (adds.then (e_mark (mark.Leave (suc b) (suc (suc b))) [] [] refl)
+      (adds.then (e_mark (mark.Handler (suc b)) [] (y ∷ []) refl) (adds.then (e_move y _) (adds.then (e_select _ labels _ tail _ _ handler) (e_end _)))))))
 
   e_base : {whole : Code} (env : List Named) (labels : List Label) (t b : ℕ) (e : Expression) → Leaves (values_in e) whole → Leaves (values_in e)
       (select_base env labels t b e whole)
-  e_base env labels t b (Operator at op base (Integer at' w)) inside = e_if (is_based op w)
-      (e_up (omega arith) (e_select env labels false false (fresh t (type_of (scopes env) base)) b base)) inside
+  e_base env labels t b (Operator at op base (Integer at' w)) inside = adds.either (is_based op w)
+      (adds.up (omega arith) (e_select env labels false false (fresh t (type_of (scopes env) base)) b base)) inside
   e_base env labels t b e inside = inside
 
   e_test : {value : Code} (env : List Named) (labels : List Label) (l b : ℕ) (e : Expression) → Leaves (values_in e) value → Leaves (values_in e)
       (λ next. select_test env labels l b e (value next) next)
   e_test env labels l b (Operator at op e g) v =
       let s = shape_of op e g in
-      e_tested (comparison (shape_op s op) (shape_right s)) _
-      (λ t. e_up (omega arith)
-      (e_then (e_ordered (is_left_first (scopes env) e g) (e_left s (e_select env labels false false _ _ e))
-      (e_right s (e_select env labels false false _ _ g))) (e_branch t l (shape_args s _ _))))
+      adds.fused (comparison (shape_op s op) (shape_right s)) _
+      (λ t. adds.up (omega arith)
+      (adds.then (adds.in_order (is_left_first (scopes env) e g) (adds.left s (e_select env labels false false _ _ e))
+      (adds.right_of s (e_select env labels false false _ _ g))) (e_branch t l (shape_args s _ _))))
       v
   e_test env labels l b e v = v
 
   e_cases : (env : List Named) (labels : List Label) (valued tail : Bool) (d : Reg) (all : List ℕ) (end l b : ℕ) (cs : Cases) → Leaves
       (cases_total own_values cs) (select_cases env labels valued tail d all end l b cs)
-  e_cases env labels valued tail d all end l b NoCase = e_up (omega arith) e_none
+  e_cases env labels valued tail d all end l b NoCase = adds.up (omega arith) adds.none
   e_cases env labels valued tail d all end l b (Choose indexes body rest) =
-      e_up (omega arith) (e_then (e_mark (mark.Case _ _ _) [] [] refl) (e_then (e_select env labels valued tail d b body) (e_cases env labels valued tail d all end _ _ rest)))
+      adds.up (omega arith) (adds.then (e_mark (mark.Case _ _ _) [] [] refl) (adds.then (e_select env labels valued tail d b body) (e_cases env labels valued tail d all end _ _ rest)))
 
-  e_waiting : (env : List Named) (labels : List Label) (b i : ℕ) (es : Expressions) → Leaves (waits env es) (select_waiting env labels b i es)
-  e_waiting env labels b i NoMore = e_up (omega arith) e_none
+  e_waiting : (env : List Named) (labels : List Label) (b i : ℕ) (es : Expressions) → Leaves (now_of values_in env es) (select_waiting env labels b i es)
+  e_waiting env labels b i NoMore = adds.up (omega arith) adds.none
   e_waiting env labels b i (More e rest) =
-      e_up (omega arith) (e_then (e_waiting env labels _ _ rest) (e_when (not (is_light_address (scopes env) e)) (values_in e)
+      adds.up (omega arith) (adds.then (e_waiting env labels _ _ rest) (adds.when (not (is_light_address (scopes env) e)) (values_in e)
       (e_select env labels false false _ i e)))
 
-  e_filled : (env : List Named) (labels : List Label) (b i : ℕ) (es : Expressions) → Leaves (stays env es) (select_filled env labels b i es)
-  e_filled env labels b i NoMore = e_up (omega arith) e_none
+  e_filled : (env : List Named) (labels : List Label) (b i : ℕ) (es : Expressions) → Leaves (later_of values_in env es) (select_filled env labels b i es)
+  e_filled env labels b i NoMore = adds.up (omega arith) adds.none
   e_filled env labels b i (More e rest) =
-      e_up (omega arith) (e_then (e_filled env labels _ _ rest) (e_when (is_light_address (scopes env) e) (values_in e) (e_select env labels false false _ i e)))
+      adds.up (omega arith) (adds.then (e_filled env labels _ _ rest) (adds.when (is_light_address (scopes env) e) (values_in e) (e_select env labels false false _ i e)))
 
   e_bound : (env : List Named) (labels : List Label) (b : ℕ) (bs : Bindings) → Leaves (bindings_total own_values bs) (select_bound env labels b bs)
-  e_bound env labels b NoBinding = e_up (omega arith) e_none
-  e_bound env labels b (Bind at name declared e rest) = e_up (omega arith) (e_then (e_select env labels false false _ _ e) (e_bound _ labels _ rest))
+  e_bound env labels b NoBinding = adds.up (omega arith) adds.none
+  e_bound env labels b (Bind at name declared e rest) = adds.up (omega arith) (adds.then (e_select env labels false false _ _ e) (e_bound _ labels _ rest))
 
   e_seq : (env : List Named) (labels : List Label) (valued tail : Bool) (d : Reg) (b : ℕ) (es : Expressions) → Leaves (row_total own_values es)
       (select_seq env labels valued tail d b es)
-  e_seq env labels valued tail d b NoMore = e_up (omega arith) e_none
-  e_seq env labels valued tail d b (More e NoMore) = e_up (omega arith) (e_select env labels valued tail d (suc b) e)
-  e_seq env labels valued tail d b (More e (More g rest)) = e_up (omega arith)
-      (e_then (e_select env labels false false _ _ e) (e_seq env labels valued tail d _ (More g rest)))
+  e_seq env labels valued tail d b NoMore = adds.up (omega arith) adds.none
+  e_seq env labels valued tail d b (More e NoMore) = adds.up (omega arith) (e_select env labels valued tail d (suc b) e)
+  e_seq env labels valued tail d b (More e (More g rest)) = adds.up (omega arith)
+      (adds.then (e_select env labels false false _ _ e) (e_seq env labels valued tail d _ (More g rest)))
 
   e_handlers : (env : List Named) (labels : List Label) (valued tail : Bool) (d : Reg) (end l b : ℕ) (hs : Handlers) → Leaves
       (handlers_total own_values hs) (select_handlers env labels valued tail d end l b hs)
-  e_handlers env labels valued tail d end l b NoHandler = e_up (omega arith) e_none
+  e_handlers env labels valued tail d end l b NoHandler = adds.up (omega arith) adds.none
   e_handlers env labels valued tail d end l b (Handle at label params body rest) =
-      e_up (omega arith) (e_then (e_mark (mark.With _ _) [] [] refl) (e_then (e_select _ labels valued tail d b body) (e_handlers env labels valued tail d end _ _ rest)))
+      adds.up (omega arith) (adds.then (e_mark (mark.With _ _) [] [] refl) (adds.then (e_select _ labels valued tail d b body) (e_handlers env labels valued tail d end _ _ rest)))
 
 no_exit : (d : Reg) (n : ℕ) (result : Ret) → exits (returns d n result) ≡ 0
 no_exit d n ret.Unit = refl
@@ -318,7 +248,7 @@ no_exit d n (ret.Comp c) = refl
 pub selected_exits : (f : FunctionTree) → exits (selected f).code ≤ values_in f.body
 selected_exits f =
     let d = fresh (value_at f) (body_type f) in
-    let whole = e_then (e_moves (seats 0 first (params_of f)) (params_of f))
+    let whole = adds.then (e_moves (seats 0 first (params_of f)) (params_of f))
     (e_select (env_of f) [] (not (is_no_value (body_type f))) true d (suc (suc (value_at f))) f.body) in
     let all = whole.at (returns d (suc (value_at f)) (result_of (body_type f))) in
     let last = no_exit d (suc (value_at f)) (result_of (body_type f)) in

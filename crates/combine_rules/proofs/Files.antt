@@ -15,6 +15,7 @@ use Rattle.mach_ir.specs.Meaning.{Held, File, put, put_if, put_all, clear, value
 use Rattle.mach_ir.specs.Walks.{Among, first, later}
 use Rattle.mach_ir.specs.declared.blocks.NewBlock.{NewBlock}
 use Rattle.mach_ir.specs.declared.reg.Reg.{Reg}
+use Rattle.places_rules.proofs.Files.{none_some, some_same, put_here, put_other}
 
 -- ---- writes, one by one
 
@@ -38,28 +39,15 @@ put_view end (r ∷ rs) [] a = is_stuck
 put_view end (r ∷ rs) (v ∷ vs) a = view_if r v (fits end (type_of_comp r.comp) v) refl (put_view end rs vs a)
 
 pub put_of : {end : ℕ} {rs : List Reg} {vs : List Value} {a d : File} (o : Option File) → PutView end rs vs a o → o ≡ Some d → PutAll end a rs vs d
-put_of {d = d} o is_stuck e = absurd (none_some d e)
-  where
-    none_some : (d : File) → None ≡ Some d → ⊥
-    none_some d e = cc
-put_of {end} {rs} {vs} {a} {d} o (is_put {d = g} p) e = subst (λ x. PutAll end a rs vs x) (some_same g d e) p
-  where
-    some_same : (x y : File) → Some x ≡ Some y → x ≡ y
-    some_same x y e = cc
+put_of o is_stuck e = absurd (none_some e)
+put_of {end} {rs} {vs} {a} o (is_put p) e = subst (λ x. PutAll end a rs vs x) (some_same e) p
 
 pub put_is : {end : ℕ} {a : File} {rs : List Reg} {vs : List Value} {d : File} → PutAll end a rs vs d → put_all end rs vs a ≡ Some d
 put_is nil = refl
 put_is {end} {a = a} (cons {r = r} {v = v} {rs = rs} {vs = vs} {d = d} e p) = ap (λ o. put_if (fits end (type_of_comp r.comp) v) r v o) (put_is p) ∙ ap (λ b. put_if b r v (Some d)) e
 
-cond_false : {A : Type 0} (b : Bool) (x y : A) → (b ≡ true → ⊥) → cond b x y ≡ y
-cond_false true x y no' = absurd (no' refl)
-cond_false false x y no' = refl
-
-pub put_other : (r : Reg) (v : Value) (f : File) (n : ℕ) → (r.number ≡ n → ⊥) → put r v f n ≡ f n
-put_other r v f n apart = cond_false (nat_eq r.number n) (Some (record { comp = r.comp; value = v })) (f n) (λ e. apart (eqb-true r.number n e))
-
 pub put_same : (r : Reg) (v : Value) (f : File) → put r v f r.number ≡ Some (record { comp = r.comp; value = v })
-put_same r v f = ap (λ b. cond b (Some (record { comp = r.comp; value = v })) (f r.number)) (eq-eqb r.number r.number refl)
+put_same r v f = put_here r v f r.number refl
 
 -- ---- where one file has all that another has
 
@@ -104,15 +92,12 @@ pub frame_has : (pf : Bool) (a b : File) (n : ℕ) → Has (a n) (b n) → Has (
 frame_has false a b n h = h
 frame_has true a b n h = by (a n) refl
   where
-    none_not : (v : Held) → None ≡ Some v → ⊥
-    none_not v e = cc
-
     by_addr : (x : Held) → a n ≡ Some x → (t : Bool) → is_addr x.comp ≡ t → Has (cond t None (Some x)) (unless_addr (b n))
-    by_addr x e true t v g = absurd (none_not v g)
+    by_addr x e true t v g = absurd (none_some g)
     by_addr x e false t v g = ap unless_addr (h x e) ∙ ap (λ z. cond z None (Some x)) t ∙ g
 
     by : (o : Option Held) → a n ≡ o → Has (unless_addr o) (unless_addr (b n))
-    by None e v g = absurd (none_not v g)
+    by None e v g = absurd (none_some g)
     by (Some x) e v g = by_addr x e (is_addr x.comp) refl v g
 
 -- ---- starts of blocks
@@ -199,11 +184,8 @@ pub frame_loses : (pf : Bool) (a : File) (n : ℕ) → Has (past_frame pf a n) (
 frame_loses false a n v e = e
 frame_loses true a n v e = by (a n) e
   where
-    none_not : (v : Held) → None ≡ Some v → ⊥
-    none_not v e = cc
-
     by_addr : (x : Held) (t : Bool) → cond t None (Some x) ≡ Some v → Some x ≡ Some v
-    by_addr x true g = absurd (none_not v g)
+    by_addr x true g = absurd (none_some g)
     by_addr x false g = g
 
     by : (o : Option Held) → unless_addr o ≡ Some v → o ≡ Some v

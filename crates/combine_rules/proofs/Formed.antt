@@ -37,8 +37,9 @@ use Rattle.mach_ir.specs.declared.mach.MachOp.{MachOp}
 use Rattle.mach_ir.specs.declared.mach.MachOp.TheVariants as mach
 use Rattle.mach_ir.specs.declared.mach.Instr.{Instr}
 use Rattle.mach_ir.specs.declared.mach.Mach.{Mach}
-use Rattle.mach_laws.specs.Expand.{Ending, all, more}
+use Rattle.mach_laws.specs.Expand.{Ending}
 use Rattle.mach_laws.proofs.Places.{ending_next, tries_expand}
+use Rattle.places_rules.proofs.Walked.{ending_of}
 use Rattle.places_rules.proofs.Walked.{left_among, stands_of}
 use Rattle.split_rules.proofs.Formed.{contains_of, stands_in, of_each}
 
@@ -234,10 +235,6 @@ not_empty (x ∷ xs) ys n = λ e. none x (xs ++ ys) e
   where
     none : (x : NewBlock) (zs : List NewBlock) → x ∷ zs ≡ [] → ⊥
     none x zs e = cc
-
-ending_of : {i : Instr} {next code : List Instr} → Stands i next code → Ending (i ∷ next) code
-ending_of here = all
-ending_of (below s) = more (ending_of s)
 
 module _ (m : Mach) (is : IsCombinable m) where
   abbrev q : Mach

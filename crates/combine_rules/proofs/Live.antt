@@ -20,8 +20,9 @@ use Rattle.mach_ir.specs.declared.mach.Instr.{Instr}
 use Rattle.mach_ir.specs.declared.mach.Mach.{Mach}
 use Rattle.mach_laws.specs.Expand.{expand, Ending, all}
 use Rattle.mach_laws.proofs.Places.{ending_next, ending_label, ending_from_handler, label_expand, handler_expand, tries_expand}
+use Rattle.places_rules.proofs.Lists.{head_same, tail_same}
 use Rattle.places_rules.proofs.Walked.{left_among, right_among, split_among}
-use Rattle.split_rules.proofs.Kept.{among_or_not}
+use Rattle.places_rules.proofs.Files.{among_or_not}
 
 none_among : {A : Type 0} {n : ℕ} → Among n [] → A
 none_among a = elim a [ ]
@@ -189,12 +190,6 @@ module _ (m : Mach) where
   pub calm : {rest : List Instr} {n : ℕ} → after rest ≡ [] → Told n rest → Live m n rest
   calm {n = n} e t = ⊎_elim (λ a. none_among (subst (Among n) e a)) (λ v. v) t
 
-  head_same : {i j : Instr} (xs ys : List Instr) → i ∷ xs ≡ j ∷ ys → i ≡ j
-  head_same xs ys e = cc
-
-  tail_same : {i j : Instr} (xs ys : List Instr) → i ∷ xs ≡ j ∷ ys → xs ≡ ys
-  tail_same xs ys e = cc
-
   nothing_there : (i : Instr) (xs : List Instr) → i ∷ xs ≡ [] → ⊥
   nothing_there i xs e = cc
 
@@ -234,9 +229,9 @@ module _ (m : Mach) where
           View i (scanned m.code next) (scanned m.code (i ∷ next)) xs → Told n (i ∷ next)
       one k xs x e' v =
           let whole : j ∷ zs ≡ k ∷ expand f next = same ∙ ap (λ ys. ys ++ expand f next) (e' ∙ x) in
-          g i next e (tail_same zs (expand f next) whole) (scanned m.code (i ∷ next))
+          g i next e (tail_same whole) (scanned m.code (i ∷ next))
           (subst (λ ys. View i (scanned m.code next) (scanned m.code (i ∷ next)) ys)
-          (x ∙ ap (λ k. k ∷ []) (sym (head_same zs (expand f next) whole))) v)
+          (x ∙ ap (λ k. k ∷ []) (sym (head_same whole))) v)
 
       by : (xs : List Instr) → f (length next) i ≡ xs → View i (scanned m.code next) (scanned m.code (i ∷ next)) (f (length next) i) →
           (j ∷ zs ≡ expand f next → Told n next) → Told n (i ∷ next)

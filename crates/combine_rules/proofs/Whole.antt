@@ -26,13 +26,8 @@ use Rattle.mach_ir.specs.declared.mach.Mach.{Mach}
 use Rattle.mach_laws.specs.Expand.{expand, Ending, all}
 use Rattle.mach_laws.proofs.Level as level
 use Rattle.mach_laws.proofs.Places.{ending_next, ending_label, ending_from_handler}
+use Rattle.places_rules.proofs.Lists.{head_same, tail_same}
 use Rattle.split_rules.proofs.Formed.{contains_of, stands_in}
-
-head_same : {i j : Instr} (xs ys : List Instr) → i ∷ xs ≡ j ∷ ys → i ≡ j
-head_same xs ys e = cc
-
-tail_same : {i j : Instr} (xs ys : List Instr) → i ∷ xs ≡ j ∷ ys → xs ≡ ys
-tail_same xs ys e = cc
 
 nothing_there : (i : Instr) (xs : List Instr) → i ∷ xs ≡ [] → ⊥
 nothing_there i xs e = cc
@@ -70,10 +65,10 @@ module _ (m : Mach) where
             next = next;
             ending = e;
             reached = r;
-            rest = tail_same zs (expand f next) whole;
+            rest = tail_same whole;
             after = scanned m.code (i ∷ next);
             view = subst (λ ys. View i (scanned m.code next) (scanned m.code (i ∷ next)) ys)
-                (x ∙ ap (λ k. k ∷ []) (sym (head_same zs (expand f next) whole))) v;
+                (x ∙ ap (λ k. k ∷ []) (sym (head_same whole))) v;
           }
 
       skipped : {s : Scanned} (ys : List Instr) → ys ≡ [] → View i (scanned m.code next) s ys → Reached m next

@@ -3,59 +3,30 @@ use Rattle.std.proofs.Common.{◌≡◌, ℕ, Bool, true, false, cond, ⊎_elim,
 use Rattle.std.proofs.lemmas.Bool.{cases_eq}
 use Rattle.std.specs.List.{Contains}
 use Rattle.std.specs.Prelude.{nat_eq}
-use Rattle.bs_words.specs.declared.types.Comp.{Comp}
 use Rattle.bs_words.specs.declared.types.Comp.TheVariants as comp
 use Rattle.bs_words.specs.declared.values.Value.{Value}
-use Rattle.combine_rules.proofs.Files.{PutAll, nil, cons, put_other, put_same, frame_loses}
+use Rattle.combine_rules.proofs.Files.{PutAll, nil, cons, put_same, frame_loses}
 use Rattle.copy_rules.specs.Propagated.{move, ReadFor, again, IsBefore}
 use Rattle.mach_ir.specs.Acts.{Around, On, Goes}
 use Rattle.mach_ir.specs.Formed.{WellFormed}
-use Rattle.mach_ir.specs.Meaning.{Held, File, put, put_all, clear, killed, values, with_held, past_frame, unless_addr, is_addr, passes_frame, mach_act}
+use Rattle.mach_ir.specs.Meaning.{Held, File, put, put_all, clear, killed, values, with_held, past_frame, passes_frame, mach_act}
 use Rattle.mach_ir.specs.Placed.{is_straight}
 use Rattle.mach_ir.specs.Runs.{Place}
-use Rattle.mach_ir.specs.Walks.{IsRegister, Among, first, later}
+use Rattle.mach_ir.specs.Walks.{IsRegister, Among}
 use Rattle.mach_ir.specs.declared.reg.Reg.{Reg}
 use Rattle.mach_ir.specs.declared.mach.Instr.{Instr}
 use Rattle.mach_ir.specs.declared.mach.Mach.{Mach}
 use Rattle.mach_laws.specs.Expand.{Ending}
 use Rattle.mach_laws.proofs.Walking.{first_in, later_in}
+use Rattle.places_rules.proofs.Files.{none_some, some_same, put_other}
+use Rattle.split_rules.proofs.Text.{number_among}
 use Rattle.repeat_rules.specs.Repeated.{allocates, itself}
-use Rattle.repeat_rules.proofs.Form.{differ}
-use Rattle.repeat_rules.proofs.Held.{put_all_of}
-use Rattle.repeat_rules.proofs.Live.{numbered}
+use Rattle.repeat_rules.proofs.Held.{Fresh, stays, past_kept, put_all_of}
 use Rattle.repeat_rules.proofs.Standing.{straight_kills, straight_frame}
 use Rattle.copy_rules.proofs.Live.{standing_register, read_here}
 use Rattle.copy_rules.proofs.Standing.{Standing, Earlier, just_now, earlier, earlier_of, ReadAt, from_source, as_it_is}
 
 -- ---- files
-
-abbrev pub Fresh : Reg → Value → Option Held
-Fresh r v = Some (record { comp = r.comp; value = v })
-
--- what is not written stays
-stays : {end : ℕ} {a : File} {rs : List Reg} {vs : List Value} {d : File} → PutAll end a rs vs d → (n : ℕ) →
-    (Among n rs → ⊥) → d n ≡ a n
-stays nil n free = refl
-stays (cons {r = r} {v = v} {d = d} e p) n free =
-    put_other r v d n (λ s. free (first s)) ∙ stays p n (λ z. free (later z))
-
--- a frame point loses nothing but addrs
-past_kept : (t : Bool) (r : Reg) (v : Value) (a : File) → (r.comp ≡ comp.Addr → t ≡ false) → a r.number ≡ Fresh r v →
-    past_frame t a r.number ≡ Fresh r v
-past_kept false r v a h e = e
-past_kept true r v a h e = ap unless_addr e ∙ by r.comp refl
-  where
-    by : (t : Comp) → r.comp ≡ t → cond (is_addr r.comp) None (Fresh r v) ≡ Fresh r v
-    by comp.Addr s = absurd (differ true refl (h s))
-    by comp.Int s = ap (λ t. cond (is_addr t) None (Fresh r v)) s
-    by comp.Val s = ap (λ t. cond (is_addr t) None (Fresh r v)) s
-    by comp.Float s = ap (λ t. cond (is_addr t) None (Fresh r v)) s
-
-none_some : {A : Type 0} {x : A} → None ≡ Some x → ⊥
-none_some e = cc
-
-some_same : {A : Type 0} {x y : A} → Some x ≡ Some y → x ≡ y
-some_same e = cc
 
 -- one that holds something else for each of these registers, of the same value
 abbrev HoldsSo : File → Reg → Reg → Type 0
@@ -232,8 +203,8 @@ module _ (m : Mach) (formed : WellFormed m) where
             let h = known copy source s in
             record {
               value = h.value;
-              of_copy = still i copy h.value st (λ z. let k = numbered z in apart k.register k.among k.number)
+              of_copy = still i copy h.value st (λ z. let k = number_among i.results z in apart k.0 k.1 k.2)
                   (λ t. kept ((w.copies).same_comp ∙ t)) a d ws puts h.of_copy;
-              of_source = still i source h.value st (λ z. let k = numbered z in ends k.register k.among (itself k.number))
+              of_source = still i source h.value st (λ z. let k = number_among i.results z in ends k.0 k.1 (itself k.2))
                   kept a d ws puts h.of_source;
             }

@@ -13,7 +13,7 @@ use Rattle.mach_ir.specs.Keeps.{ValsWritten, Ahead, Trails, Proper, Follows, Beg
 use Rattle.mach_ir.specs.Meaning.{Held, State, File, put_all, clear, killed, values, past_frame, passes_frame, mach_act, tries_at, start}
 use Rattle.mach_ir.specs.Placed.{is_straight}
 use Rattle.mach_ir.specs.Runs.{Place, Tally, entered}
-use Rattle.mach_ir.specs.Walks.{IsRegister, is_param, is_in_code, InCode, in_results, further, Stands, here, below, LiveAcross}
+use Rattle.mach_ir.specs.Walks.{IsRegister, is_param, is_in_code, LiveAcross}
 use Rattle.mach_ir.specs.declared.reg.Reg.{Reg}
 use Rattle.mach_ir.specs.declared.mach.Instr.{Instr}
 use Rattle.mach_ir.specs.declared.mach.Mach.{Mach}
@@ -25,24 +25,16 @@ use Rattle.mach_laws.proofs.Leads.{Within, asks_in, within}
 use Rattle.mach_laws.proofs.Level as levels
 use Rattle.mach_laws.proofs.Places.{tries_expand}
 use Rattle.mach_laws.proofs.Simulate.{Agrees}
+use Rattle.places_rules.proofs.Lists.{head_same, tail_same}
+use Rattle.places_rules.proofs.Files.{differ, none_some, some_same}
 use Rattle.places_rules.proofs.Walked.{stands_of}
+use Rattle.split_rules.proofs.Text.{results_in}
 use Rattle.repeat_rules.specs.Kept.{OwnOrigins}
 use Rattle.repeat_rules.proofs.Acting.{GoesOn, is_stuck, goes_on, straight_on}
-use Rattle.repeat_rules.proofs.Form.{differ, head_same, tail_same}
 use Rattle.copy_rules.proofs.Form.{keeps_marks, was_register}
 use Rattle.copy_rules.proofs.Held.{Typed, nothing_typed, written_typed, past_typed, Holds, reads_same, holds_next}
 use Rattle.copy_rules.proofs.Live.{Stood, moved, left, across_back}
 use Rattle.copy_rules.proofs.Standing.{Standing, not_past, not_at_entry, not_at_label, not_landed}
-
-none_some : {x : Held} → None ≡ Some x → ⊥
-none_some e = cc
-
-some_same : {x y : Held} → Some x ≡ Some y → x ≡ y
-some_same e = cc
-
-code_results : {i : Instr} {next code : List Instr} {r : Reg} → Stands i next code → Contains i.results r → InCode r code
-code_results here c = in_results c
-code_results (below s) c = further (code_results s c)
 
 module _ (m : Mach) (plan : ℕ → Reg → Reg) (formed : WellFormed m) (own : OwnOrigins m)
     (reads : (i : Instr) (next made : List Instr) → IsBefore plan m i next made → (r : Reg) → Contains i.args r →
@@ -128,7 +120,7 @@ module _ (m : Mach) (plan : ℕ → Reg → Reg) (formed : WellFormed m) (own : 
           put_all c.setting.end i.results vs (clear (killed m i) a) ≡ Some d → TypedAt d
       puts_typed i next ending vs a d typed e =
           written_typed m formed c.setting.end i.results (killed m i) vs a d
-          (λ r z. is_in_code (code_results (stands_of ending) z)) typed e
+          (λ r z. is_in_code (results_in (stands_of ending) z)) typed e
 
       -- what ends a straight run
       acts_same : (i : Instr) (next : List Instr) (x : Around) (a : File) → TypedAt a → Ending (i ∷ next) m.code →

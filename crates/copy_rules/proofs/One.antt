@@ -1,27 +1,17 @@
 -- The copies of a function are propagated in one way: of two moves that made a register a copy, the later one would write it.
-use Rattle.std.proofs.Common.{◌≡◌, ℕ, List, [], ◌∷◌, ◌++◌, length, map, refl, sym, ap, ◌∙◌, subst, append_assoc}
+use Rattle.std.proofs.Common.{◌≡◌, ℕ, List, [], ◌∷◌, ◌++◌, length, map, refl, sym, ap, ◌∙◌, subst}
 use Rattle.std.specs.List.{Contains}
 use Rattle.copy_rules.specs.Propagated.{move, IsCopy, ReadFor, source, itself, again, with_sources, IsBefore, IsPropagated}
 use Rattle.mach_ir.specs.declared.reg.Reg.{Reg}
 use Rattle.mach_ir.specs.declared.mach.Instr.{Instr}
 use Rattle.mach_ir.specs.declared.mach.Mach.{Mach}
 use Rattle.mach_laws.proofs.Walking.{first_in, later_in}
-use Rattle.repeat_rules.proofs.Form.{in_append, head_same, tail_same}
+use Rattle.repeat_rules.proofs.OneForOne as same
+use Rattle.repeat_rules.proofs.OneForOne.{in_append}
+use Rattle.repeat_rules.proofs.Runs.{Order, together, first_one, first_other, order}
 
 only_same : {r s : Reg} → r ∷ [] ≡ s ∷ [] → r ≡ s
 only_same e = cc
-
--- which of two instructions of a list comes first
-data Order (j k : Instr) (us vs : List Instr) : Type 0 where
-  together : j ≡ k → Order j k us vs
-  first_one : (mid : List Instr) → us ≡ mid ++ k ∷ vs → Order j k us vs
-  first_other : (mid : List Instr) → vs ≡ mid ++ j ∷ us → Order j k us vs
-
-order : (xs ys : List Instr) (j k : Instr) (us vs : List Instr) → xs ++ j ∷ us ≡ ys ++ k ∷ vs → Order j k us vs
-order [] [] j k us vs e = together (head_same e)
-order [] (y ∷ ys) j k us vs e = first_one ys (tail_same e)
-order (x ∷ xs) [] j k us vs e = first_other xs (sym (tail_same e))
-order (x ∷ xs) (y ∷ ys) j k us vs e = order xs ys j k us vs (tail_same e)
 
 -- none writes the copy after the move that made it one
 written_later : {made : List Instr} (c s : Reg) (w : IsCopy made c s) (k : Reg) (mid after : List Instr) →
@@ -61,23 +51,16 @@ module _ (m : Mach) (p w : ℕ → Reg → Reg)
       (same_map (p (length next)) (w (length next)) i.args
       (λ r c. one_read (reads_p i next made bp r c) (reads_w i next made bw r c)))
 
-  pub one_code : (code before made : List Instr) → m.code ≡ before ++ code → with_sources p m.code ≡ made ++ with_sources p code →
-      with_sources w m.code ≡ made ++ with_sources w code → with_sources p code ≡ with_sources w code
-  one_code [] before made whole e h = refl
-  one_code (i ∷ is) before made whole e h =
-      let x : Instr = again p (length is) i in
-      let same : again p (length is) i ≡ again w (length is) i =
-      one_instr i is made (record { before = before; whole = whole; made_so = e })
-      (record { before = before; whole = whole; made_so = h }) in
-      ap (λ z. z ∷ with_sources p is) same
-      ∙ ap (λ xs. again w (length is) i ∷ xs)
-      (one_code is (before ++ i ∷ []) (made ++ x ∷ []) (whole ∙ sym (append_assoc before (i ∷ []) is))
-      (e ∙ sym (append_assoc made (x ∷ []) (with_sources p is)))
-      (h ∙ ap (λ z. made ++ z ∷ with_sources w is) (sym same) ∙ sym (append_assoc made (x ∷ []) (with_sources w is))))
+  pub one_code : with_sources p m.code ≡ with_sources w m.code
+  one_code =
+      same.one_code (again p) (again w) m.code
+      (λ i next before made whole e h.
+      one_instr i next made (record { before = before; whole = whole; made_so = e }) (record { before = before; whole = whole; made_so = h }))
+      m.code [] [] refl refl refl
 
 -- The copies of a function are propagated in one way.
 pub one_propagated : (m q k : Mach) → IsPropagated m q → IsPropagated m k → q ≡ k
 one_propagated m q k a b =
     a.is
-    ∙ ap (λ code. record m { code = code }) (one_code m a.plan b.plan a.reads b.reads m.code [] [] refl refl refl)
+    ∙ ap (λ code. record m { code = code }) (one_code m a.plan b.plan a.reads b.reads)
     ∙ sym b.is

@@ -3,7 +3,7 @@ use Rattle.std.proofs.Common.{◌≡◌, ◌≢◌, ℕ, inl, ⊎_elim, List, le
 use Rattle.std.specs.List.{Contains}
 use Rattle.bs_words.specs.declared.types.Loc.TheVariants as loc
 use Rattle.copy_rules.specs.Kept.{IsKept}
-use Rattle.copy_rules.specs.Propagated.{ReadFor, with_sources, IsBefore, IsPropagated}
+use Rattle.copy_rules.specs.Propagated.{ReadFor, again, with_sources, IsBefore, IsPropagated}
 use Rattle.mach_ir.specs.Formed.{WellFormed}
 use Rattle.mach_ir.specs.Keeps.{Keeps, NamesSymbol, NamesExternal, IsNamedIn}
 use Rattle.mach_ir.specs.Placed.{MayShare, WellPlaced}
@@ -14,7 +14,8 @@ use Rattle.mach_ir.specs.declared.mach.Instr.{Instr}
 use Rattle.mach_ir.specs.declared.mach.Mach.{Mach}
 use Rattle.split_rules.proofs.Formed.{contains_of, stands_in}
 use Rattle.repeat_rules.specs.Kept.{OwnOrigins}
-use Rattle.copy_rules.proofs.Form.{both, was_register, IsFormKept, form_kept}
+use Rattle.repeat_rules.proofs.OneForOne.{both}
+use Rattle.copy_rules.proofs.Form.{was_register, IsFormKept, form_kept}
 use Rattle.copy_rules.proofs.Kept.{does_propagated}
 use Rattle.copy_rules.proofs.Live.{IsOpen, meets_back, no_addr_back}
 
@@ -62,7 +63,7 @@ module _ (m : Mach) (plan : ℕ → Reg → Reg) (formed : WellFormed m)
   named_before : (Named : MachOp → Type 0) → IsNamedIn Named q → IsNamedIn Named m
   named_before Named n =
       let s = stands_in q.code n.instr n.among in
-      both plan m.code (λ j zs. Named j.op → IsNamedIn Named m)
+      both (again plan) m.code (λ j zs. Named j.op → IsNamedIn Named m)
       (λ i next t named. record { instr = i; among = contains_of t; named = named }) n.instr s.0 s.1 n.named
 
   still_keeps : OwnOrigins m → Keeps m q

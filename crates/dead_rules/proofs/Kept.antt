@@ -6,8 +6,8 @@ use Rattle.cmm_meaning.specs.State.{Doing}
 use Rattle.mach_ir.specs.Acts.{Around, Target, On, At, Landing, AtLabel, AtHandler, Act, Goes, Pushes, Jumps, Unwinds, Asks, Replaces, Ends, EndsRaising, Stuck}
 use Rattle.mach_ir.specs.Formed.{IsFormed, WellFormed}
 use Rattle.mach_ir.specs.Runs.{Place, entered}
-use Rattle.mach_ir.specs.Meaning.{State, File, put_all, clear, killed, written, with_held, values, past_frame, unless_addr, passes_frame, mach_act, after_label, at_handler, code_at, tries_at, landing_code, start, tries_past}
-use Rattle.mach_ir.specs.Walks.{Among, first, later, OneOf, this, targets, may_raise, goes, raises, Live, LiveAcross}
+use Rattle.mach_ir.specs.Meaning.{State, File, put_all, clear, killed, written, values, past_frame, passes_frame, mach_act, after_label, at_handler, code_at, tries_at, landing_code, start, tries_past}
+use Rattle.mach_ir.specs.Walks.{Among, OneOf, this, targets, may_raise, goes, raises, Live, LiveAcross}
 use Rattle.mach_ir.specs.Keeps.{ValsWritten, wrote_unless, Begins, Does}
 use Rattle.mach_ir.specs.declared.mach.MachOp.{MachOp}
 use Rattle.mach_ir.specs.declared.reg.Reg.{Reg}
@@ -20,49 +20,14 @@ use Rattle.mach_laws.proofs.Leads.{IsTry, is_try, MayLand, lands_at_label, lands
 use Rattle.mach_laws.proofs.Level as level
 use Rattle.mach_laws.proofs.Places.{tries_expand, ending_next, ending_label, ending_land}
 use Rattle.mach_laws.proofs.Simulate.{Agrees}
+use Rattle.places_rules.proofs.Lists.{head_same, tail_same}
+use Rattle.places_rules.proofs.Files.{values_same, past_same, cleared, not_cleared, among_or_not, PutsBoth, put_both}
 use Rattle.places_rules.proofs.Walked.{split_among, stands_of}
 use Rattle.places_rules.proofs.Raised.{IsRaised, Told, told_jump, told_unwind, told_ask, IsSilent, told, label_silent, try_silent}
-use Rattle.split_rules.specs.Renamed.{all_numbered}
 use Rattle.split_rules.proofs.Formed.{contains_of, of_each}
-use Rattle.split_rules.proofs.Kept.{cleared, not_cleared, among_or_not, put_twice}
 use Rattle.dead_rules.specs.Dropped.{may_go, IsUsed, on, aside, without, dropped, AreDead}
 use Rattle.dead_rules.proofs.Live.{used_live, label_is, handler_is, none_killed, lift, live_back, across_back, was_register, used_by}
 use Rattle.dead_rules.proofs.Text.{pure_of, pure_no_frame, goes_on, Fate, falls, remains, fate, keeps_marks}
-
--- ---- files
-
-past_same : (t : Bool) (a b : File) (n : ℕ) → a n ≡ b n → past_frame t a n ≡ past_frame t b n
-past_same false a b n e = e
-past_same true a b n e = ap unless_addr e
-
-values_same : (a b : File) (rs : List Reg) → ((n : ℕ) → Among n rs → a n ≡ b n) → values a rs ≡ values b rs
-values_same a b [] h = refl
-values_same a b (r ∷ rs) h =
-    ap (λ o. with_held o (values a rs)) (h r.number (first refl))
-    ∙ ap (with_held (b r.number)) (values_same a b rs (λ n z. h n (later z)))
-
--- the same writes into two files
-record PutsToo (end : ℕ) (rs : List Reg) (vs : List Value) (f g d : File) : Type 0 where
-  file : File
-  puts : put_all end rs vs g ≡ Some file
-  same : (n : ℕ) → Among n rs → d n ≡ file n
-  others : (n : ℕ) → (Among n rs → ⊥) → d n ≡ f n
-  others_new : (n : ℕ) → (Among n rs → ⊥) → file n ≡ g n
-
-same_numbers : (rs : List Reg) → all_numbered (λ n. n) rs ≡ rs
-same_numbers [] = refl
-same_numbers (r ∷ rs) = ap (λ qs. r ∷ qs) (same_numbers rs)
-
-put_both : (end : ℕ) (rs : List Reg) (vs : List Value) (f g d : File) → put_all end rs vs f ≡ Some d → PutsToo end rs vs f g d
-put_both end rs vs f g d e =
-    let p = put_twice (λ n. n) (λ n. n) end rs vs f g d (λ n z. refl) e in
-    record {
-      file = p.file;
-      puts = ap (λ qs. put_all end qs vs g) (sym (same_numbers rs)) ∙ p.puts;
-      same = p.same;
-      others = p.others;
-      others_new = λ n h. p.others_new n (λ z. h (subst (Among n) (same_numbers rs) z));
-    }
 
 module _ (m : Mach) (drops : ℕ → Bool) (dead : AreDead m drops) (formed : WellFormed m) where
   abbrev q : Mach
@@ -108,12 +73,6 @@ module _ (m : Mach) (drops : ℕ → Bool) (dead : AreDead m drops) (formed : We
   silent_wrote i (Some v) a b s n z = elim z [ ]
 
   -- ---- values that are read
-
-  head_same : {i j : Instr} {xs ys : List Instr} → i ∷ xs ≡ j ∷ ys → i ≡ j
-  head_same e = cc
-
-  tail_same : {i j : Instr} {xs ys : List Instr} → i ∷ xs ≡ j ∷ ys → xs ≡ ys
-  tail_same e = cc
 
   vals_before : (i : Instr) (next : List Instr) (a b : File) (y : Around) → Ending (i ∷ next) m.code → Same (i ∷ next) a b →
       ValsWritten m (at (i ∷ next) a y) → ValsWritten q (at (i ∷ expand f next) b y)
@@ -164,10 +123,10 @@ module _ (m : Mach) (drops : ℕ → Bool) (dead : AreDead m drops) (formed : We
     b' = past_frame (passes_frame i.op) b
 
     still : (n : ℕ) → IsUsed m n (i ∷ next) → a' n ≡ b' n
-    still n u = past_same (passes_frame i.op) a b n (same n u)
+    still n u = past_same (passes_frame i.op) a b n n (same n u)
 
     abbrev Puts : List Value → File → Type 0
-    Puts vs d = PutsToo c.setting.end i.results vs (clear (killed m i) a') (clear (killed m i) b') d
+    Puts vs d = PutsBoth c.setting.end i.results vs (clear (killed m i) a') (clear (killed m i) b') d
 
     gone : (vs : List Value) (d : File) (p : Puts vs d) (n : ℕ) → (Among n i.results → ⊥) → Among n (killed m i) → d n ≡ p.file n
     gone vs d p n free z =

@@ -10,18 +10,10 @@ use Rattle.mach_ir.specs.declared.mach.Instr.{Instr}
 use Rattle.mach_ir.specs.declared.mach.Mach.{Mach}
 use Rattle.mach_laws.specs.Expand.{expand, Ending, all, more}
 use Rattle.mach_laws.proofs.Places.{label_expand, handler_expand, tries_expand, ending_next, ending_label, ending_from_handler}
+use Rattle.places_rules.proofs.Lists.{head_same, tail_same, none_there}
 use Rattle.places_rules.proofs.Walked.{split_among, stands_of}
 use Rattle.dead_rules.specs.Dropped.{may_go, IsUsed, read, read_for, on, aside, without, dropped, AreDead}
 use Rattle.dead_rules.proofs.Text.{differ, pure_of, pure_on, pure_only, pure_quiet, pure_kills, Fate, falls, remains, fate, keeps_marks}
-
-head_same : {i j : Instr} {xs ys : List Instr} → i ∷ xs ≡ j ∷ ys → i ≡ j
-head_same e = cc
-
-tail_same : {i j : Instr} {xs ys : List Instr} → i ∷ xs ≡ j ∷ ys → xs ≡ ys
-tail_same e = cc
-
-none_there : {i : Instr} {xs : List Instr} → i ∷ xs ≡ [] → ⊥
-none_there e = cc
 
 among_none : (n : ℕ) → Among n [] → ⊥
 among_none n a = elim a [ ]
@@ -74,7 +66,7 @@ module _ (m : Mach) (drops : ℕ → Bool) (dead : AreDead m drops) where
     pub reached : Reached m rest → Reached m (j ∷ next)
 
   pub first_kept : (rest : List Instr) → Ending rest m.code → (j : Instr) (zs : List Instr) → j ∷ zs ≡ expand f rest → IsFirst rest j zs
-  first_kept [] ending j zs e = absurd (none_there e)
+  first_kept [] ending j zs e = absurd (none_there (sym e))
   first_kept (i ∷ is) ending j zs e = by (fate drops i is) (λ h. first_kept is (ending_next ending) j zs h)
     where
       by : Fate drops i is → (j ∷ zs ≡ expand f is → IsFirst is j zs) → IsFirst (i ∷ is) j zs

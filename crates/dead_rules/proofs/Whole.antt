@@ -19,6 +19,7 @@ use Rattle.mach_ir.specs.declared.mach.Mach.{Mach}
 use Rattle.mach_laws.specs.Expand.{expand}
 use Rattle.mach_laws.proofs.Places.{tries_expand, ending_next}
 use Rattle.mach_laws.proofs.Walking.{none_in, first_in, later_in, in_cons}
+use Rattle.places_rules.proofs.Lists.{head_same, tail_same, none_there}
 use Rattle.split_rules.proofs.Formed.{contains_of, stands_in, of_each}
 use Rattle.dead_rules.specs.Dropped.{may_go, without, dropped, AreDead, IsDropped, IsLive, IsKept}
 use Rattle.dead_rules.proofs.Kept.{does_dropped}
@@ -26,15 +27,6 @@ use Rattle.dead_rules.proofs.Live.{label_is, handler_is, used_there, IsMain, was
 use Rattle.dead_rules.proofs.Text.{differ, pure_of, pure_on, pure_straight, label_stays, handler_stays, mark_stays, Fate, falls, remains, fate, keeps_marks, same_labels}
 
 -- ---- lists
-
-head_same : {A : Type 0} {x y : A} {xs ys : List A} → x ∷ xs ≡ y ∷ ys → x ≡ y
-head_same e = cc
-
-tail_same : {A : Type 0} {x y : A} {xs ys : List A} → x ∷ xs ≡ y ∷ ys → xs ≡ ys
-tail_same e = cc
-
-none_there : {A : Type 0} {x : A} {xs : List A} → x ∷ xs ≡ [] → ⊥
-none_there e = cc
 
 head_of : (x : Instr) (xs : List Instr) → AreStraight (x ∷ xs) → is_straight x.op ≡ true
 head_of x xs h = let lt : 0 < length (x ∷ xs) = omega arith in h 0 x lt
@@ -135,8 +127,8 @@ module _ (m : Mach) (drops : ℕ → Bool) (dead : AreDead m drops) where
     straight : AreStraight run
 
   run_back : (rest run : List Instr) (i : Instr) (zs : List Instr) → run ++ i ∷ zs ≡ expand f rest → AreStraight run → WasRun rest i
-  run_back [] [] i zs e st = absurd (none_there e)
-  run_back [] (x ∷ run) i zs e st = absurd (none_there e)
+  run_back [] [] i zs e st = absurd (none_there (sym e))
+  run_back [] (x ∷ run) i zs e st = absurd (none_there (sym e))
   run_back (x ∷ rest) run i zs e st = by (fate drops x rest) run e st (λ run e st. run_back rest run i zs e st)
     where
       by : Fate drops x rest → (run : List Instr) → run ++ i ∷ zs ≡ expand f (x ∷ rest) → AreStraight run →

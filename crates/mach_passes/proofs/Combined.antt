@@ -1,5 +1,5 @@
 -- Combined allocation carries: an allocation that joins another has no words of its own, and no frame point.
-use Rattle.std.proofs.Common.{◌≡◌, ℕ, suc, ◌+◌, ◌*◌, ◌≤◌, Bool, true, false, cond, List, [], ◌∷◌, length, Option, Some, None, sym, ap, ◌∙◌, subst, arith}
+use Rattle.std.proofs.Common.{◌≡◌, ℕ, ◌+◌, ◌*◌, ◌≤◌, Bool, true, false, List, [], ◌∷◌, length, Option, Some, None, sym, ap, ◌∙◌, subst, arith}
 use Rattle.std.specs.List.{All, Contains}
 use Rattle.std.specs.Prelude.{slice_index_or}
 use Rattle.std.proofs.lemmas.List.{length-append}
@@ -20,11 +20,8 @@ use Rattle.mach_ir.specs.declared.mach.MachOp.{MachOp}
 use Rattle.mach_ir.specs.declared.mach.MachOp.TheVariants as mach
 use Rattle.pass_rules.specs.Carried.{TriesAtMost, OffsetFits, EndsInReturn, at_return, further, IsCarried}
 use Rattle.pass_rules.specs.Measures.{code_words, code_points, exits, other_operands}
+use Rattle.pass_rules.proofs.Words.{exits_both}
 use Rattle.split_rules.proofs.Formed.{contains_of, stands_in, of_each}
-
-exits_both : (b : Bool) (n k : ℕ) → n ≤ k → cond b (suc n) n ≤ cond b (suc k) k
-exits_both true n k le = omega (arith, le)
-exits_both false n k le = le
 
 abbrev made : MachOp → List Reg → List Reg → Instr
 made f args results = record { op = f; args = args; results = results }

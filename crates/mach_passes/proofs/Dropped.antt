@@ -14,15 +14,12 @@ use Rattle.mach_laws.specs.Expand.{expand}
 use Rattle.mach_laws.proofs.Places.{tries_expand}
 use Rattle.pass_rules.specs.Carried.{OffsetFits, EndsInReturn, at_return, further, IsCarried}
 use Rattle.pass_rules.specs.Measures.{code_words, code_points, exits, other_operands}
+use Rattle.pass_rules.proofs.Words.{exits_both}
 use Rattle.split_rules.proofs.Formed.{contains_of, stands_in, of_each}
 
 exits_later : (b : Bool) (n : ℕ) → n ≤ cond b (suc n) n
 exits_later true n = omega arith
 exits_later false n = omega arith
-
-exits_both : (b : Bool) (n k : ℕ) → n ≤ k → cond b (suc n) n ≤ cond b (suc k) k
-exits_both true n k le = omega (arith, le)
-exits_both false n k le = le
 
 module _ (m : Mach) (drops : ℕ → Bool) (dead : AreDead m drops) where
   abbrev q : Mach

@@ -1,3 +1,4 @@
+pub mod Replaced
 pub mod Split
 pub mod Spilled
 pub mod Whole

@@ -4,7 +4,6 @@ use Rattle.std.specs.List.{All, Contains}
 use Rattle.std.specs.Prelude.{slice_index_or}
 use Rattle.std.proofs.lemmas.List.Elements.{Contains-get_or}
 use Rattle.bs_words.specs.declared.types.Comp.{Comp}
-use Rattle.bs_words.specs.declared.types.Loc.TheVariants as loc
 use Rattle.linear_rules.specs.Lowered.{same_spot}
 use Rattle.mach_ir.specs.Formed.{comps, is_exit, IsFormed, formed_op, formed_mark, WellFormed}
 use Rattle.mach_ir.specs.Forms.{HasForm}
@@ -27,6 +26,8 @@ use Rattle.mach_laws.specs.Expand.{expand}
 use Rattle.mach_laws.proofs.Places.{tries_expand}
 use Rattle.pass_rules.specs.Carried.{OffsetFits, EndsInReturn, at_return, further, IsCarried}
 use Rattle.pass_rules.specs.Measures.{copy_words, instr_words, code_words, one_if, code_points, exits, operands_with, other_operands}
+use Rattle.pass_rules.proofs.Words.{at_most_copy}
+use Rattle.places_rules.proofs.Open.{slot_open}
 use Rattle.places_rules.specs.Places.{ColoursLow}
 use Rattle.split_rules.proofs.Formed.{contains_of, stands_in, of_each}
 use Rattle.spill_rules.specs.Chosen.{IsSpilled, ParamsPlaced, IsNeededSlot, IsChosenKept}
@@ -34,9 +35,6 @@ use Rattle.spill_rules.specs.Spilled.{Plan, in_slot, copied, reload, spill, relo
 use Rattle.spill_rules.proofs.Chosen.{spilled_kept}
 use Rattle.spill_rules.proofs.Formed.{IsCopy, is_reload, is_spill, IsMain, was_main}
 use Rattle.spill_rules.proofs.Text.{keeps_marks}
-
-slot_open : (n : ℕ) → loc.Slot n ≡ loc.Unset → ⊥
-slot_open n e = cc
 
 at_most : (a b : ℕ) → a ≡ b → a ≤ b
 at_most a b e = omega (arith, e)
@@ -50,12 +48,8 @@ data AreCopies : List Instr → Type 0 where
   no_copy : AreCopies []
   a_copy : (kind : CopyKind) (from to : Reg) {xs : List Instr} → AreCopies xs → AreCopies (copied kind from to ∷ xs)
 
-cond_most : (b : Bool) → cond b 0 6 ≤ 6
-cond_most true = omega arith
-cond_most false = omega arith
-
 copy_most : (kind : CopyKind) (from to : Reg) → instr_words (copied kind from to) ≤ 6
-copy_most kind from to = cond_most (same_spot (from ∷ []) (to ∷ []))
+copy_most kind from to = at_most_copy (same_spot (from ∷ []) (to ∷ []))
 
 one_copy : (a b c n : ℕ) → a ≤ 6 → b ≤ 6 * n + c → a + b ≤ 6 * suc n + c
 one_copy a b c n x y = omega (arith, x, y)
@@ -284,7 +278,7 @@ still_low m q same kept low r k c i u =
     ⊎_elim (λ was. low r k (subst (λ rs. Contains rs r) same c) was u) (λ slot. absurd (at_slot slot)) (kept.slots k i)
   where
     at_slot : IsNeededSlot m k → ⊥
-    at_slot slot = slot_open ((slot.register).origin) (sym slot.stands ∙ u)
+    at_slot slot = slot_open slot.stands u
 
 planned_carried : (m : Mach) (plan : Plan) → WellFormed m → IsChosenKept m (spilled plan m) plan →
     IsCarried (copy_words * operand_count m.code) m (spilled plan m)

@@ -1,12 +1,12 @@
 -- What splitting carries: only numbers of open registers change.
-use Rattle.std.proofs.Common.{◌≡◌, ℕ, ◌+◌, ◌*◌, ◌<◌, ◌≤◌, Bool, true, false, cond, List, [], ◌∷◌, length, refl, sym, ap, ◌∙◌, subst, arith}
+use Rattle.std.proofs.Common.{◌≡◌, ℕ, ◌+◌, ◌*◌, ◌<◌, Bool, true, false, cond, List, [], ◌∷◌, length, refl, sym, ap, ◌∙◌, subst, arith}
 use Rattle.std.proofs.lemmas.Bool.{lt-ltb, ltb-true}
-use Rattle.std.specs.List.{All, Contains}
-use Rattle.std.specs.Prelude.{nat_lt, suc}
+use Rattle.std.specs.List.{Contains}
+use Rattle.std.specs.Prelude.{nat_lt}
 use Rattle.bs_words.specs.declared.types.Loc.TheVariants as loc
 use Rattle.linear_rules.specs.Lowered.{same_spot}
-use Rattle.mach_ir.specs.Formed.{is_exit, WellFormed}
-use Rattle.mach_ir.specs.Meaning.{killed, passes_frame, tries_at}
+use Rattle.mach_ir.specs.Formed.{WellFormed}
+use Rattle.mach_ir.specs.Meaning.{killed, tries_at}
 use Rattle.mach_ir.specs.Placed.{WellPlaced}
 use Rattle.mach_ir.specs.Walks.{InCode, in_args, in_results, further, IsRegister, is_param, is_colour, is_in_code, Stands, here, below}
 use Rattle.mach_ir.specs.declared.op.Op.TheVariants as op
@@ -16,27 +16,21 @@ use Rattle.mach_ir.specs.declared.mach.MachOp.{MachOp}
 use Rattle.mach_ir.specs.declared.mach.MachOp.TheVariants as mach
 use Rattle.mach_ir.specs.declared.mach.Instr.{Instr}
 use Rattle.mach_ir.specs.declared.mach.Mach.{Mach}
-use Rattle.pass_rules.specs.Carried.{OffsetFits, EndsInReturn, at_return, further as further_on, IsCarried}
-use Rattle.pass_rules.specs.Measures.{copy_words, mark_words, words_with, instr_words, code_words, one_if, code_points, exits, operands_with, other_operands}
+use Rattle.mach_laws.specs.Expand.{expand}
+use Rattle.pass_rules.specs.Carried.{IsCarried}
+use Rattle.pass_rules.specs.Measures.{copy_words, mark_words, words_with, operands_with}
+use Rattle.places_rules.proofs.Files.{differ}
 use Rattle.places_rules.proofs.Lists.{was, length_mapped}
 use Rattle.places_rules.proofs.Walked.{left_among}
 use Rattle.places_rules.specs.Places.{ColoursLow}
+use Rattle.repeat_rules.proofs.OneForOne.{one_each}
 use Rattle.split_rules.specs.Order.{IsByFirst, kept, given}
 use Rattle.split_rules.specs.Renamed.{Naming, numbered, all_numbered, renamed_instr, renamed_code, renamed}
 use Rattle.split_rules.specs.Split.{IsNaming, AreByFirst, IsSplit}
 use Rattle.split_rules.specs.Writes.{Comes, IsWrite, by_instr}
-use Rattle.split_rules.proofs.Formed.{each_renamed, contains_of, of_each}
 use Rattle.split_rules.proofs.Result.{comes_write}
-use Rattle.split_rules.proofs.Text.{same_tries, was_at, args_in, results_in, number_in}
-
-differ : (b : Bool) → b ≡ true → b ≡ false → ⊥
-differ b e h = cc
-
-same_most : (a b more : ℕ) → a ≡ b → a ≤ b + more
-same_most a b more e = omega (arith, e)
-
-at_most : (a b : ℕ) → a ≡ b → a ≤ b
-at_most a b e = omega (arith, e)
+use Rattle.split_rules.proofs.Text.{same_tries, args_in, results_in, number_in}
+use Rattle.mach_passes.proofs.Replaced.{Replaces, replaced_carried}
 
 module _ (names : Naming) where
   -- ---- measures
@@ -63,16 +57,6 @@ module _ (names : Naming) where
   words_same (mach.Op (op.Leaving h)) f g args results = results_same 32 g results
   words_same (mach.Mark h) f g args results = results_same (mark_words h) g results
 
-  same_words : (code : List Instr) → code_words (renamed_code names code) ≡ code_words code
-  same_words [] = refl
-  same_words (i ∷ is) =
-      ap (λ n. n + code_words (renamed_code names is)) (words_same i.op (names.read (length is)) (names.write (length is)) i.args i.results)
-      ∙ ap (λ n. instr_words i + n) (same_words is)
-
-  same_points : (code : List Instr) → code_points (renamed_code names code) ≡ code_points code
-  same_points [] = refl
-  same_points (i ∷ is) = ap (λ n. one_if (passes_frame i.op) + n) (same_points is)
-
   both_same : (f g : ℕ → ℕ) (args results : List Reg) → length (all_numbered f args) + length (all_numbered g results) ≡ length args + length results
   both_same f g args results =
       ap (λ n. n + length (all_numbered g results)) (length_mapped (numbered f) args)
@@ -89,40 +73,24 @@ module _ (names : Naming) where
   operands_same (mach.Op (op.Leaving h)) f g args results = both_same f g args results
   operands_same (mach.Mark h) f g args results = both_same f g args results
 
-  same_operands : (code : List Instr) → other_operands (renamed_code names code) ≡ other_operands code
-  same_operands [] = refl
-  same_operands (i ∷ is) =
-      ap (λ n. n + other_operands (renamed_code names is)) (operands_same i.op (names.read (length is)) (names.write (length is)) i.args i.results)
-      ∙ ap (λ n. operands_with i.op i.args i.results + n) (same_operands is)
+  replaces : (k : ℕ) (i : Instr) → Replaces i (renamed_instr names k i)
+  replaces k i =
+      let words = words_same i.op (names.read k) (names.write k) i.args i.results in
+      let operands = operands_same i.op (names.read k) (names.write k) i.args i.results in
+      record {
+        words = omega (arith, words);
+        points = omega arith;
+        operands = omega (arith, operands);
+        exit = refl;
+        fits = λ f. f;
+        returns = λ e. e;
+      }
 
-  same_exits : (code : List Instr) → exits (renamed_code names code) ≡ exits code
-  same_exits [] = refl
-  same_exits (i ∷ is) = ap (λ n. cond (is_exit i.op) (suc n) n) (same_exits is)
+  -- ---- the code
 
-  -- ---- the end
-
-  still_ends : {code : List Instr} → EndsInReturn code → EndsInReturn (renamed_code names code)
-  still_ends at_return = at_return
-  still_ends (further_on e) = further_on (still_ends e)
-
-  -- ---- tries and offsets
-
-  same_around : {i : Instr} {next : List Instr} (code : List Instr) → Stands i next (renamed_code names code) →
-      (j : Instr) × (ys : List Instr) × Stands j ys code × (tries_at (i ∷ next) ≡ tries_at (j ∷ ys))
-  same_around {i} {next} code s =
-      let w = was_at names code s in (
-        w.instr,
-        w.after,
-        w.stands,
-        ap (λ (j : Instr). tries_at (j ∷ next)) (sym w.same)
-            ∙ ap (λ ys. tries_at (renamed_instr names (length w.after) w.instr ∷ ys)) (sym w.same_after)
-            ∙ same_tries names (w.instr ∷ w.after),
-      )
-
-  offsets : (code : List Instr) → All (λ (i : Instr). OffsetFits i.op) code → All (λ (i : Instr). OffsetFits i.op) (renamed_code names code)
-  offsets code h =
-      each_renamed names (λ (i : Instr). OffsetFits i.op) code
-      (λ i next s. of_each (λ (i : Instr). OffsetFits i.op) code i h (contains_of s))
+  as_each : (code : List Instr) → renamed_code names code ≡ expand (one_each (renamed_instr names)) code
+  as_each [] = refl
+  as_each (i ∷ is) = ap (λ js. renamed_instr names (length is) i ∷ js) (as_each is)
 
 -- ---- numbers of colours
 
@@ -178,18 +146,11 @@ module _ (m : Mach) (names : Naming) (is : IsNaming m names) (firsts : AreByFirs
 
 renamed_carried : (m : Mach) (names : Naming) → IsNaming m names → AreByFirst m names → IsCarried 0 m (renamed names m)
 renamed_carried m names is firsts =
-    record {
-      words = same_most (code_words (renamed_code names m.code)) (code_words m.code) 0 (same_words names m.code);
-      points = at_most (code_points (renamed_code names m.code)) (code_points m.code) (same_points names m.code);
-      operands = at_most (other_operands (renamed_code names m.code)) (other_operands m.code) (same_operands names m.code);
-      exits = at_most (exits (renamed_code names m.code)) (exits m.code) (same_exits names m.code);
-      tries = λ most h i next s.
-          let w = same_around names m.code s in
-          subst (λ ts. length ts ≤ most) (sym w.3) (h w.0 w.1 w.2);
-      offsets = offsets names m.code;
-      ends = still_ends names;
-      colours_low = λ low. still_low m names is firsts low;
-    }
+    let e = as_each names m.code in
+    subst (λ code. IsCarried 0 m (record m { code = code })) (sym e)
+    (replaced_carried (renamed_instr names) m (λ i next at. replaces names (length next) i)
+    (λ code. ap tries_at (sym (as_each names code)) ∙ same_tries names code)
+    (λ low. subst (λ code. ColoursLow (record m { code = code })) e (still_low m names is firsts low)))
 
 -- Splitting changes no word of the code, and gives no register a number of the colours.
 pub split_carried : {m q : Mach} → WellFormed m → WellPlaced m → IsSplit m q → IsCarried 0 m q

@@ -1,18 +1,15 @@
 -- A function whose open registers have been given places, joined ones apart, does what it did: what is live holds the same.
-use Rattle.std.proofs.Common.{◌≡◌, ℕ, Bool, true, false, cond, inl, inr, ◌⊎◌, ⊎_elim, List, [], ◌∷◌, Option, Some, None, refl, sym, ap, ◌∙◌, subst}
-use Rattle.std.proofs.lemmas.Bool.{cases_Bool, eq-eqb, eqb-true}
+use Rattle.std.proofs.Common.{◌≡◌, ℕ, true, inl, inr, ◌⊎◌, ⊎_elim, List, [], ◌∷◌, Option, Some, None, refl, sym, ap, ◌∙◌, subst}
 use Rattle.std.specs.List.{Contains}
-use Rattle.std.specs.Prelude.{nat_eq}
-use Rattle.bs_words.specs.Fits.{fits, type_of_comp}
 use Rattle.bs_words.specs.Memory.{Memory}
 use Rattle.bs_words.specs.declared.values.Value.{Value}
 use Rattle.cmm_meaning.specs.State.{Doing}
 use Rattle.mach_ir.specs.Acts.{Around, Target, On, At, Landing, AtLabel, AtHandler, Act, Goes, Pushes, Jumps, Unwinds, Asks, Replaces, Ends, EndsRaising, Stuck}
 use Rattle.mach_ir.specs.Formed.{IsFormed, WellFormed}
 use Rattle.mach_ir.specs.Runs.{Place, first_tally, entered}
-use Rattle.mach_ir.specs.Meaning.{Held, State, File, put, put_if, put_all, clear, killed, written, with_held, values, past_frame, unless_addr, passes_frame, mach_act, after_label, at_handler, code_at, tries_at, landing_code, start, begun}
+use Rattle.mach_ir.specs.Meaning.{Held, State, File, put_all, clear, killed, written, values, past_frame, passes_frame, mach_act, after_label, at_handler, code_at, tries_at, landing_code, start, begun}
 use Rattle.mach_ir.specs.Placed.{WellPlaced}
-use Rattle.mach_ir.specs.Walks.{Among, first, later, OneOf, this, targets, may_raise, goes, raises, Live, read, on, aside, after_step, LiveAcross, across_step, across_raise, Stands, here, below}
+use Rattle.mach_ir.specs.Walks.{Among, OneOf, this, targets, may_raise, goes, raises, Live, read, on, aside, after_step, LiveAcross, across_step, across_raise, Stands, here, below}
 use Rattle.mach_ir.specs.Keeps.{ValsWritten, wrote_unless, Begins, Does}
 use Rattle.mach_ir.specs.declared.mach.MachOp.{MachOp}
 use Rattle.mach_ir.specs.declared.reg.Reg.{Reg}
@@ -27,126 +24,12 @@ use Rattle.mach_laws.proofs.Places.{ending_next, ending_label, ending_land}
 use Rattle.mach_laws.proofs.Simulate.{Agrees}
 use Rattle.mach_laws.proofs.Walking.{first_in, later_in}
 use Rattle.places_rules.specs.Places.{Placing, IsPlacing, placed, all_placed, placed_instr, placed_code, with_places}
+use Rattle.places_rules.proofs.Files.{none_some, values_same, past_same, cleared, not_cleared, among_or_not, PutsBoth, put_both}
 use Rattle.places_rules.proofs.Walked.{left_among, right_among, split_among, stands_of, fewer_killed, fewer_written, still_written, live_before, across_back}
 use Rattle.places_rules.proofs.Instructions.{among_back, same_values, same_put, alone, as_expanded, keeps_marks}
-use Rattle.places_rules.proofs.Lists.{of_all}
+use Rattle.places_rules.proofs.Lists.{of_all, head_same, tail_same}
 use Rattle.places_rules.proofs.Raised.{IsRaised, Told, told_jump, told_unwind, told_ask, IsSilent, told, label_silent, try_silent}
 use Rattle.places_rules.proofs.Text.{same_label, same_handler, same_tries, was_register}
-
--- ---- files that hold the same at some numbers
-
-values_same : (a b : File) (rs : List Reg) → ((n : ℕ) → Among n rs → a n ≡ b n) → values a rs ≡ values b rs
-values_same a b [] h = refl
-values_same a b (r ∷ rs) h =
-    ap (λ o. with_held o (values a rs)) (h r.number (first refl))
-    ∙ ap (with_held (b r.number)) (values_same a b rs (λ n z. h n (later z)))
-
-past_same : (t : Bool) (a b : File) (n : ℕ) → a n ≡ b n → past_frame t a n ≡ past_frame t b n
-past_same false a b n e = e
-past_same true a b n e = ap unless_addr e
-
--- what is cleared, and what is not
-abbrev IsNone : Option Held → Type 0
-IsNone o = o ≡ None
-
-cleared : (ks : List Reg) (f : File) (n : ℕ) → Among n ks → IsNone (clear ks f n)
-cleared (k ∷ ks) f n (first e) = ap (λ b. cond b None (clear ks f n)) (eq-eqb k.number n e)
-cleared (k ∷ ks) f n (later a) = by (nat_eq k.number n) (cleared ks f n a)
-  where
-    by : (b : Bool) → IsNone (clear ks f n) → IsNone (cond b None (clear ks f n))
-    by true e = refl
-    by false e = e
-cleared [] f n a = elim a [ ]
-
-not_cleared : (ks : List Reg) (f : File) (n : ℕ) → (Among n ks → ⊥) → clear ks f n ≡ f n
-not_cleared [] f n h = refl
-not_cleared (k ∷ ks) f n h = by (nat_eq k.number n) refl (not_cleared ks f n (λ a. h (later a)))
-  where
-    by : (b : Bool) → nat_eq k.number n ≡ b → clear ks f n ≡ f n → cond b None (clear ks f n) ≡ f n
-    by true s e = absurd (h (first (eqb-true k.number n s)))
-    by false s e = e
-
-among_or_not : (n : ℕ) (rs : List Reg) → Among n rs ⊎ (Among n rs → ⊥)
-among_or_not n [] = inr (λ a. elim a [ ])
-among_or_not n (r ∷ rs) =
-    ⊎_elim (λ e. inl (first (eqb-true r.number n e)))
-    (λ e. ⊎_elim (λ a. inl (later a)) (λ h. inr (λ a. none e h a)) (among_or_not n rs))
-    (cases_Bool (nat_eq r.number n))
-  where
-    differ : (b : Bool) → b ≡ true → b ≡ false → ⊥
-    differ b e h = cc
-
-    none : nat_eq r.number n ≡ false → (Among n rs → ⊥) → Among n (r ∷ rs) → ⊥
-    none e h (first s) = differ (nat_eq r.number n) (eq-eqb r.number n s) e
-    none e h (later a) = h a
-
--- the same writes into two files
-record PutsToo (end : ℕ) (rs : List Reg) (vs : List Value) (f g d : File) : Type 0 where
-  file : File
-  puts : put_all end rs vs g ≡ Some file
-  same : (n : ℕ) → Among n rs → d n ≡ file n
-  others : (n : ℕ) → (Among n rs → ⊥) → (d n ≡ f n) × (file n ≡ g n)
-
-none_some : (d : File) → None ≡ Some d → ⊥
-none_some d e = cc
-
-some_same : (c d : File) → Some c ≡ Some d → c ≡ d
-some_same c d e = cc
-
-put_twice : (end : ℕ) (rs : List Reg) (vs : List Value) (f g d : File) → put_all end rs vs f ≡ Some d →
-    PutsToo end rs vs f g d
-put_twice end [] [] f g d e =
-    record {
-      file = g;
-      puts = refl;
-      same = λ n a. elim a [ ];
-      others = λ n h. (ap (λ (x : File). x n) (sym (some_same f d e)), refl);
-    }
-put_twice end [] (v ∷ vs) f g d e = absurd (none_some d e)
-put_twice end (r ∷ rs) [] f g d e = absurd (none_some d e)
-put_twice end (r ∷ rs) (v ∷ vs) f g d e =
-    by (fits end (type_of_comp r.comp) v) (put_all end rs vs f) refl refl e (λ c h. put_twice end rs vs f g c h)
-  where
-    one : (c : File) → PutsToo end rs vs f g c → put r v c ≡ d → fits end (type_of_comp r.comp) v ≡ true →
-        PutsToo end (r ∷ rs) (v ∷ vs) f g d
-    one c p e t =
-        record {
-          file = put r v p.file;
-          puts = ap (λ b. put_if b r v (put_all end rs vs g)) t ∙ ap (put_if true r v) p.puts;
-          same = λ n a. ap (λ (x : File). x n) (sym e) ∙ at_one n (nat_eq r.number n) refl a;
-          others = λ n h. (
-            ap (λ (x : File). x n) (sym e) ∙ not_here n h (c n) ∙ (p.others n (λ a. h (later a))).0,
-            not_here n h (p.file n) ∙ (p.others n (λ a. h (later a))).1,
-          );
-        }
-      where
-        rest_of : (n : ℕ) → nat_eq r.number n ≡ false → Among n (r ∷ rs) → Among n rs
-        rest_of n s (first k) = absurd (differ (nat_eq r.number n) (eq-eqb r.number n k) s)
-          where
-            differ : (b : Bool) → b ≡ true → b ≡ false → ⊥
-            differ b e h = cc
-        rest_of n s (later a) = a
-
-        at_one : (n : ℕ) (b : Bool) → nat_eq r.number n ≡ b → Among n (r ∷ rs) →
-            cond b (Some (record { comp = r.comp; value = v })) (c n)
-            ≡ cond b (Some (record { comp = r.comp; value = v })) (p.file n)
-        at_one n true s a = refl
-        at_one n false s a = p.same n (rest_of n s a)
-
-        not_here : (n : ℕ) → (Among n (r ∷ rs) → ⊥) → (o : Option Held) →
-            cond (nat_eq r.number n) (Some (record { comp = r.comp; value = v })) o ≡ o
-        not_here n h o = test (nat_eq r.number n) refl
-          where
-            test : (b : Bool) → nat_eq r.number n ≡ b → cond b (Some (record { comp = r.comp; value = v })) o ≡ o
-            test true s = absurd (h (first (eqb-true r.number n s)))
-            test false s = refl
-
-    by : (t : Bool) (o : Option File) → fits end (type_of_comp r.comp) v ≡ t → put_all end rs vs f ≡ o →
-        put_if t r v o ≡ Some d → ((c : File) → put_all end rs vs f ≡ Some c → PutsToo end rs vs f g c) →
-        PutsToo end (r ∷ rs) (v ∷ vs) f g d
-    by false o t e h again = absurd (none_some d h)
-    by true None t e h again = absurd (none_some d h)
-    by true (Some c) t e h again = one c (again c e) (some_same (put r v c) d h) t
 
 module _ (m : Mach) (place : Placing) (formed : WellFormed m) (well : WellPlaced m) (is : IsPlacing m place) where
   abbrev q : Mach
@@ -162,9 +45,6 @@ module _ (m : Mach) (place : Placing) (formed : WellFormed m) (well : WellPlaced
 
   form_of : {i : Instr} {next : List Instr} → Ending (i ∷ next) m.code → IsFormed i
   form_of {i} e = of_all IsFormed m.code i formed.instrs (contains_of (stands_of e))
-
-  no_held : (u : Held) → None ≡ Some u → ⊥
-  no_held u e = cc
 
   -- ---- where registers of one origin agree
 
@@ -208,12 +88,6 @@ module _ (m : Mach) (place : Placing) (formed : WellFormed m) (well : WellPlaced
   across_live (across_step w l v) = on w l v
   across_live (across_raise r v) = aside r v
 
-  head_same : {i j : Instr} (xs ys : List Instr) → i ∷ xs ≡ j ∷ ys → i ≡ j
-  head_same xs ys e = cc
-
-  tail_same : {i j : Instr} (xs ys : List Instr) → i ∷ xs ≡ j ∷ ys → xs ≡ ys
-  tail_same xs ys e = cc
-
   vals_before : (i : Instr) (next : List Instr) (a b : File) (x : Around) → Ending (i ∷ next) m.code → Same (i ∷ next) a b →
       ValsWritten m (at (i ∷ next) a x) → ValsWritten q (at (placed_code place (i ∷ next)) b x)
   vals_before i next a b x ending same known =
@@ -221,9 +95,9 @@ module _ (m : Mach) (place : Placing) (formed : WellFormed m) (well : WellPlaced
         written = λ j ys e frame r is_one val v none.
             let w = was_register place m r is_one in
             let number = ap (λ (r : Reg). r.number) w.same in
-            let head = head_same (placed_code place next) ys e in
+            let head = head_same e in
             let live : LiveAcross m r.number i next =
-            across_back m place well is i next ending head (tail_same (placed_code place next) ys e) v in
+            across_back m place well is i next ending head (tail_same e) v in
             known.written i next refl (subst (λ (j : Instr). passes_frame j.op ≡ true) (sym head) frame) w.register w.among
             (ap (λ (r : Reg). r.comp) w.same ∙ val)
             (subst (λ n. LiveAcross m n i next) (sym number) live)
@@ -281,7 +155,7 @@ module _ (m : Mach) (place : Placing) (formed : WellFormed m) (well : WellPlaced
     main = placed_instr place i
 
     still : (n : ℕ) → Live m n (i ∷ next) → a' n ≡ b' n
-    still n v = past_same (passes_frame i.op) a b n (same n v)
+    still n v = past_same (passes_frame i.op) a b n n (same n v)
 
     -- what is live where it goes, and is no result
     base : (t : Target) → OneOf t (targets i.op) → (n : ℕ) → Live m n (code_at m.code next t) → (Among n i.results → ⊥) →
@@ -300,13 +174,13 @@ module _ (m : Mach) (place : Placing) (formed : WellFormed m) (well : WellPlaced
         (among_or_not n (killed m i))
 
     abbrev Puts : List Value → File → Type 0
-    Puts vs d = PutsToo c.setting.end i.results vs (clear (killed m i) a') (clear (killed q main) b') d
+    Puts vs d = PutsBoth c.setting.end i.results vs (clear (killed m i) a') (clear (killed q main) b') d
 
     after_same : (vs : List Value) (d : File) (p : Puts vs d) (t : Target) → OneOf t (targets i.op) →
         Same (code_at m.code next t) d p.file
     after_same vs d p t o n v =
         ⊎_elim (λ z. p.same n z)
-        (λ h. (p.others n h).0 ∙ base t o n v h ∙ sym (p.others n h).1)
+        (λ h. p.others n h ∙ base t o n v h ∙ sym (p.others_new n h))
         (among_or_not n i.results)
 
     put_wrote : (vs : List Value) (d : File) (p : Puts vs d) (o : Option Value) →
@@ -315,7 +189,7 @@ module _ (m : Mach) (place : Placing) (formed : WellFormed m) (well : WellPlaced
         ⊎_elim (λ r. (left_among i.results (killed m i) r, p.same n r))
         (λ free.
         ⊎_elim (λ r. absurd (free (among_back place i.results r)))
-        (λ k. absurd (no_held u (sym (cleared (killed q main) b' n k) ∙ sym (p.others n free).1 ∙ h)))
+        (λ k. absurd (none_some (sym (cleared (killed q main) b' n k) ∙ sym (p.others_new n free) ∙ h)))
         (split_among n (all_placed place i.results) (killed q main) z))
         (among_or_not n i.results)
     put_wrote vs d p (Some v) n u z h = elim z [ ]
@@ -364,7 +238,7 @@ module _ (m : Mach) (place : Placing) (formed : WellFormed m) (well : WellPlaced
     acts_same x (Goes vs to after) (goes_in o) t =
         general.both_go
         (λ d e.
-        let p = put_twice c.setting.end i.results vs (clear (killed m i) a') (clear (killed q main) b') d e in
+        let p = put_both c.setting.end i.results vs (clear (killed m i) a') (clear (killed q main) b') d e in
         (p.file, same_put place c.setting.end i.results vs (clear (killed q main) b') ∙ p.puts, past vs d p after to o))
     acts_same x (Jumps to after) (jumps_in l) (told_jump s) = general.both_jump (tries_same i next) (lands to l after s)
     acts_same x (Unwinds after) (unwinds_in r) (told_unwind s) =

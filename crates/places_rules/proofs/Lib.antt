@@ -1,4 +1,6 @@
 pub mod Lists
+pub mod Open
+pub mod Files
 pub mod Text
 pub mod Instructions
 pub mod Raised

@@ -4,6 +4,15 @@ use Rattle.std.specs.List.{All, AllPairs, Contains}
 use Rattle.std.specs.Prelude.{slice_index_or}
 use Rattle.mach_laws.proofs.Walking.{none_in, first_in, later_in, in_cons}
 
+pub head_same : {A : Type 0} {x y : A} {xs ys : List A} → x ∷ xs ≡ y ∷ ys → x ≡ y
+head_same e = cc
+
+pub tail_same : {A : Type 0} {x y : A} {xs ys : List A} → x ∷ xs ≡ y ∷ ys → xs ≡ ys
+tail_same e = cc
+
+pub none_there : {A : Type 0} {x : A} {xs : List A} → [] ≡ x ∷ xs → ⊥
+none_there e = cc
+
 -- what a member of a mapped list was
 pub record Was {A B : Type 0} (f : A → B) (xs : List A) (y : B) : Type 0 where
   pub what : A

@@ -12,6 +12,7 @@ use Rattle.mach_ir.specs.declared.reg.Reg.{Reg}
 use Rattle.mach_ir.specs.declared.mach.Mach.{Mach}
 use Rattle.places_rules.specs.Places.{IsPlacing, placed, or_slot, last_resort, rest_in_slots, SlotsGrow}
 use Rattle.places_rules.proofs.Text.{placed_formed}
+use Rattle.places_rules.proofs.Open.{machine_open, slot_open, machine_slot, same_slot}
 use Rattle.places_rules.proofs.Walked.{colour_place, no_addr_before}
 use Rattle.places_rules.proofs.Whole.{placed_keeps, placed_fully, placed_seated, placed_size, placed_slots}
 
@@ -25,25 +26,10 @@ data Rested (r : Reg) : Type 0 where
 rested : (r : Reg) → Rested r
 rested r = by r.loc refl
   where
-    machine_open : (n : ℕ) → loc.Machine n ≡ loc.Unset → ⊥
-    machine_open n e = cc
-
-    slot_open : (n : ℕ) → loc.Slot n ≡ loc.Unset → ⊥
-    slot_open n e = cc
-
     by : (l : Loc) → r.loc ≡ l → Rested r
     by loc.Unset e = was_open e (ap (or_slot r.origin) e)
-    by (loc.Machine n) e = was_fixed (λ h. machine_open n (sym e ∙ h)) (ap (or_slot r.origin) e ∙ sym e)
-    by (loc.Slot n) e = was_fixed (λ h. slot_open n (sym e ∙ h)) (ap (or_slot r.origin) e ∙ sym e)
-
-slot_same : (k n : ℕ) → loc.Slot k ≡ loc.Slot n → k ≡ n
-slot_same k n e = cc
-
-machine_slot : (n k : ℕ) → loc.Machine n ≡ loc.Slot k → ⊥
-machine_slot n k e = cc
-
-machine_unset : (n : ℕ) → loc.Machine n ≡ loc.Unset → ⊥
-machine_unset n e = cc
+    by (loc.Machine n) e = was_fixed (λ h. machine_open e h) (ap (or_slot r.origin) e ∙ sym e)
+    by (loc.Slot n) e = was_fixed (λ h. slot_open e h) (ap (or_slot r.origin) e ∙ sym e)
 
 -- ---- it is a placing
 
@@ -61,7 +47,7 @@ module _ (m : Mach) (well : WellPlaced m) where
   same_colour_place w n e = by (rested w)
     where
       by : Rested w → w.loc ≡ loc.Machine n
-      by (was_open o h) = absurd (machine_slot n w.origin (sym e ∙ h))
+      by (was_open o h) = absurd (machine_slot e h)
       by (was_fixed o h) = sym h ∙ e
 
   -- two registers in one slot are of one origin
@@ -71,13 +57,13 @@ module _ (m : Mach) (well : WellPlaced m) where
     where
       by : IsPlaced (placed last_resort r) → IsPlaced (placed last_resort k) →
           MayShare (placed last_resort r) (placed last_resort k)
-      by (in_slot s) (in_slot t) = (slot_same r.origin k.origin (sym s ∙ e ∙ t), s)
-      by (in_slot s) (in_colour n c t) = absurd (machine_slot n r.origin (sym t ∙ sym e ∙ s))
+      by (in_slot s) (in_slot t) = (same_slot s (e ∙ t), s)
+      by (in_slot s) (in_colour n c t) = absurd (machine_slot t (sym e ∙ s))
       by (in_colour n c s) t =
           let one = same_colour_place r n s in
           let other = same_colour_place k n (sym e ∙ s) in
-          let share = (well.agree).apart r k i j joined (λ u. machine_unset n (sym one ∙ u)) (one ∙ sym other) in
-          absurd (machine_slot n r.origin (sym one ∙ share.1))
+          let share = (well.agree).apart r k i j joined (λ u. machine_open one u) (one ∙ sym other) in
+          absurd (machine_slot one share.1)
 
   pub rest_placing : IsPlacing m last_resort
   rest_placing =

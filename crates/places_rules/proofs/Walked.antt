@@ -17,6 +17,7 @@ use Rattle.mach_laws.specs.Expand.{Ending, all, more}
 use Rattle.mach_laws.proofs.Places.{ending_next, ending_label, ending_from_handler}
 use Rattle.mach_laws.proofs.Walking.{none_in, first_in, later_in, in_cons}
 use Rattle.places_rules.specs.Places.{Placing, IsPlacing, placed, all_placed, placed_instr, placed_code, with_places}
+use Rattle.places_rules.proofs.Open.{machine_open, machine_slot}
 use Rattle.places_rules.proofs.Lists.{was, mapped}
 use Rattle.places_rules.proofs.Text.{same_label, same_handler, was_register, was_at}
 use Rattle.places_rules.proofs.Instructions.{among_there, among_back}
@@ -196,6 +197,10 @@ pub stands_of : {i : Instr} {next code : List Instr} → Ending (i ∷ next) cod
 stands_of all = here
 stands_of (more e) = below (stands_of e)
 
+pub ending_of : {i : Instr} {next code : List Instr} → Stands i next code → Ending (i ∷ next) code
+ending_of here = all
+ending_of (below s) = more (ending_of s)
+
 in_code_results : {i : Instr} {next code : List Instr} {r : Reg} → Stands i next code → Contains i.results r → InCode r code
 in_code_results here c = in_results c
 in_code_results (below s) c = further (in_code_results s c)
@@ -211,14 +216,8 @@ module _ (m : Mach) (place : Placing) (well : WellPlaced m) (is : IsPlacing m pl
       let l = mapped (λ (r : Reg). r.loc) m.colours r c in
       let w = was loc.Machine colours r.loc (subst (λ ls. Contains ls r.loc) ((well.colours).each) l) in (w.what, sym w.same)
 
-  machine_open : (n : ℕ) → loc.Machine n ≡ loc.Unset → ⊥
-  machine_open n e = cc
-
-  machine_slot : (n k : ℕ) → loc.Machine n ≡ loc.Slot k → ⊥
-  machine_slot n k e = cc
-
   pub machine_stays : (r : Reg) → IsRegister m r → (n : ℕ) → r.loc ≡ loc.Machine n → place r ≡ loc.Machine n
-  machine_stays r i n e = ⊎_elim (λ h. absurd (machine_open n (sym e ∙ h))) (λ h. h ∙ e) (is.fixed r i)
+  machine_stays r i n e = ⊎_elim (λ h. absurd (machine_open e h)) (λ h. h ∙ e) (is.fixed r i)
 
   pub colour_stays : (r : Reg) → Contains m.colours r → place r ≡ r.loc
   colour_stays r c = let p = colour_place r c in machine_stays r (is_colour c) p.0 p.1 ∙ sym p.1
@@ -266,11 +265,10 @@ module _ (m : Mach) (place : Placing) (well : WellPlaced m) (is : IsPlacing m pl
           (at_write i next s (left_among i.results (killed m i) (among_of w.what i.results w.among)) v
           (λ move. no_move (k.reg).loc i k.gone move))) in
           let share = is.apart w.what k.reg register (is_colour k.among) joined
-          (λ u. machine_open t.colour (sym t.there ∙ sym (ap (λ (r : Reg). r.loc) w.same) ∙ u))
+          (λ u. machine_open t.there (sym (ap (λ (r : Reg). r.loc) w.same) ∙ u))
           (ap (λ (r : Reg). r.loc) w.same ∙ t.there ∙ sym t.place) in
           absurd
-          (machine_slot t.colour (w.what).origin
-          (sym t.there ∙ sym (ap (λ (r : Reg). r.loc) w.same) ∙ share.1)))
+          (machine_slot t.there (sym (ap (λ (r : Reg). r.loc) w.same) ∙ share.1)))
           (cases_Bool (nat_eq (w.what).number n))
         where
           no_move : {from to : ℕ} (l : Loc) (i : Instr) → is_destroyed (destroyed_by i.op) l ≡ true → IsMove from to i → ⊥
@@ -383,10 +381,6 @@ module _ (m : Mach) (place : Placing) (well : WellPlaced m) (is : IsPlacing m pl
 
   move_there : {k n : ℕ} {i : Instr} → IsMove k n i → IsMove k n (placed_instr place i)
   move_there (is_move e h) = is_move e h
-
-  ending_of : {i : Instr} {next code : List Instr} → Stands i next code → Ending (i ∷ next) code
-  ending_of here = all
-  ending_of (below s) = more (ending_of s)
 
   meets_back : {n k : ℕ} → Meets q n k → Meets m n k
   meets_back {n} {k} (at_write j ys s w v apart) =

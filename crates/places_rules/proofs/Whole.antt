@@ -26,16 +26,8 @@ use Rattle.places_rules.specs.Places.{Placing, IsPlacing, placed, all_placed, pl
 use Rattle.places_rules.proofs.Kept.{does_placed}
 use Rattle.places_rules.proofs.Lists.{was, mapped, length_mapped}
 use Rattle.places_rules.proofs.Text.{was_register}
+use Rattle.places_rules.proofs.Open.{slot_open, machine_slot, same_slot}
 use Rattle.places_rules.proofs.Walked.{machine_stays, colour_stays, joined_before, no_addr_before}
-
-slot_same : (k n : ℕ) → loc.Slot k ≡ loc.Slot n → k ≡ n
-slot_same k n e = cc
-
-machine_slot : (n k : ℕ) → loc.Machine n ≡ loc.Slot k → ⊥
-machine_slot n k e = cc
-
-slot_unset : (k : ℕ) → loc.Slot k ≡ loc.Unset → ⊥
-slot_unset k e = cc
 
 -- ---- seats
 
@@ -146,11 +138,11 @@ module _ (m : Mach) (place : Placing) where
 
     -- a register that was open and is in a slot is in that of its origin
     slot_of : (w : Reg) (k : ℕ) → IsRegister m w → place w ≡ loc.Slot k → k ≡ w.origin
-    slot_of w k i e = ⊎_elim (λ o. absurd (slot_unset k (sym e ∙ o))) by (is.places w i)
+    slot_of w k i e = ⊎_elim (λ o. absurd (slot_open e o)) by (is.places w i)
       where
         by : IsPlaced (placed place w) → k ≡ w.origin
-        by (in_colour n c h) = absurd (machine_slot n k (sym h ∙ e))
-        by (in_slot h) = slot_same k w.origin (sym e ∙ h)
+        by (in_colour n c h) = absurd (machine_slot h e)
+        by (in_slot h) = same_slot e h
 
     named_before : (Named : MachOp → Type 0) → IsNamedIn Named q → IsNamedIn Named m
     named_before Named n =
@@ -364,14 +356,14 @@ module _ (m : Mach) (well : WellFormed m) where
       }
     where
       of_origin : (w : Reg) (slot : ℕ) → place w ≡ loc.Slot slot → IsPlaced (placed place w) → w.origin ≡ slot
-      of_origin w slot e (in_colour n c h) = absurd (machine_slot n slot (sym h ∙ e))
-      of_origin w slot e (in_slot h) = slot_same w.origin slot (sym h ∙ e)
+      of_origin w slot e (in_colour n c h) = absurd (machine_slot h e)
+      of_origin w slot e (in_slot h) = same_slot h e
 
       by : (w : Reg) (slot : ℕ) → IsRegister m w → place w ≡ loc.Slot slot → (w.loc ≡ loc.Unset) ⊎ (place w ≡ w.loc) →
           (place w ≡ loc.Unset) ⊎ IsPlaced (placed place w) → IsSlot m slot ⊎ Contains (map (origin_of m) few.numbers) slot
       by w slot i e (inl o) p =
           inr
           (subst (Contains (map (origin_of m) few.numbers))
-          (origin_is w i ∙ ⊎_elim (λ u. absurd (slot_unset slot (sym e ∙ u))) (λ h. of_origin w slot e h) p)
+          (origin_is w i ∙ ⊎_elim (λ u. absurd (slot_open e u)) (λ h. of_origin w slot e h) p)
           (mapped (origin_of m) few.numbers w.number (few.all w i o)))
       by w slot i e (inr h) p = inl (record { register = w; among = i; stands = sym h ∙ e })

@@ -8,7 +8,7 @@ use Rattle.mach_ir.specs.Meaning.{File, put, put_if, put_all, with_held, values}
 use Rattle.mach_ir.specs.Walks.{Among, first, later}
 use Rattle.mach_ir.specs.declared.reg.Reg.{Reg}
 use Rattle.mach_laws.proofs.Walking.{none_in, first_in, later_in, in_cons}
-use Rattle.spill_rules.proofs.Kept.{put_here, put_other}
+use Rattle.places_rules.proofs.Files.{differ, none_some, some_same, put_here, put_other}
 use Rattle.reload_rules.specs.Reloaded.{is_renewed, fresh, number_after, renewed}
 use Rattle.reload_rules.proofs.Numbers.{IsFor, for_this, for_other, after_true, after_rises, for_from, for_in}
 
@@ -42,12 +42,6 @@ apart_of (r ∷ rs) h =
     h 0 (suc c.0) k (omega arith) (let lt = c.1 in omega (arith, lt)) (e ∙ ap (λ (k : Reg). k.number) (sym c.2)))
     (apart_of rs (λ i j d lt within. h (suc i) (suc j) d (omega (arith, lt)) (omega (arith, within))))
 
-none_some : (d : File) → None ≡ Some d → ⊥
-none_some d e = cc
-
-some_same : (c d : File) → Some c ≡ Some d → c ≡ d
-some_same c d e = cc
-
 -- what stands for a register
 data Stood (b : Bool) (n : ℕ) (r x : Reg) : Type 0 where
   as_fresh : is_renewed b r ≡ true → fresh n r ≡ x → Stood b n r x
@@ -59,9 +53,6 @@ stood b n r = by (is_renewed b r) refl
     by : (t : Bool) → is_renewed b r ≡ t → Stood b n r (cond t (fresh n r) r)
     by true t = as_fresh t refl
     by false t = as_itself t refl
-
-differ : (b : Bool) → b ≡ true → b ≡ false → ⊥
-differ b e h = cc
 
 module _ (end : ℕ) where
   pub record PutsRenewed (b : Bool) (n : ℕ) (rs : List Reg) (vs : List Value) (f g d : File) : Type 0 where
@@ -80,11 +71,11 @@ module _ (end : ℕ) where
         puts = refl;
         own = λ r c t. absurd (none_in r c);
         made = λ x w h. elim h [ ];
-        others = λ y h. ap (λ (x : File). x y) (sym (some_same f d e));
+        others = λ y h. ap (λ (x : File). x y) (sym (some_same e));
         others_new = λ y h. refl;
       }
-  put_renewed b n [] (v ∷ vs) f g d apart low e = absurd (none_some d e)
-  put_renewed b n (r ∷ rs) [] f g d apart low e = absurd (none_some d e)
+  put_renewed b n [] (v ∷ vs) f g d apart low e = absurd (none_some e)
+  put_renewed b n (r ∷ rs) [] f g d apart low e = absurd (none_some e)
   put_renewed b n (r ∷ rs) (v ∷ vs) f g d (apart_more once apart) low e =
       by (fits end (type_of_comp r.comp) v) (put_all end rs vs f) refl refl e
       (λ c h.
@@ -167,7 +158,7 @@ module _ (end : ℕ) where
           put_if t r v o ≡ Some d →
           ((c : File) → put_all end rs vs f ≡ Some c → PutsRenewed b (number_after b n r) rs vs f g c) →
           PutsRenewed b n (r ∷ rs) (v ∷ vs) f g d
-      by false o t e h again = absurd (none_some d h)
-      by true None t e h again = absurd (none_some d h)
+      by false o t e h again = absurd (none_some h)
+      by true None t e h again = absurd (none_some h)
       by true (Some c) t e h again =
-          one c (again c e) (some_same (put r v c) d h) t (cond (is_renewed b r) (fresh n r) r) refl (stood b n r)
+          one c (again c e) (some_same h) t (cond (is_renewed b r) (fresh n r) r) refl (stood b n r)

@@ -22,10 +22,12 @@ use Rattle.mach_laws.proofs.Walking.{first_in, later_in}
 use Rattle.split_rules.proofs.Formed.{contains_of, of_each}
 use Rattle.split_rules.proofs.Text.{results_in}
 use Rattle.spill_rules.specs.Spilled.{copied}
+use Rattle.places_rules.proofs.Files.{differ}
+use Rattle.spill_rules.proofs.Formed.{one_distinct}
 use Rattle.reload_rules.specs.Reloaded.{reads_registers, writes_registers, is_renewed, fresh, number_after, renewed}
 use Rattle.reload_rules.proofs.Files.{Apart, apart_more, apart_of}
 use Rattle.reload_rules.proofs.Live.{IsNumbering, reloaded_by}
-use Rattle.reload_rules.proofs.Numbers.{differ, WasIn, was_own, was_fresh, after_true, after_rises, past_rises, for_from, was_in}
+use Rattle.reload_rules.proofs.Numbers.{WasIn, was_own, was_fresh, after_true, after_rises, past_rises, for_from, was_in}
 use Rattle.reload_rules.proofs.Parts.{first_result, main_for, IsCopy, is_copy, IsMain, main_where, main_op, next_tries, main_tries, same_labels, place_there, next_place, next_handler, main_there, each_in, part_in}
 use Rattle.reload_rules.proofs.Registers.{number_is}
 use Rattle.reload_rules.proofs.Text.{laid_instr, keeps_marks}
@@ -78,12 +80,6 @@ renewed_distinct b n (r ∷ rs) (apart_more once apart) low =
         let up = after_rises b n r in
         let lt = low r (first_in r rs) in
         let number : x ≡ y.number = ap (λ (r : Reg). r.number) g in omega (arith, le, up, lt, number, e)
-
-one_distinct : (r : Reg) → AreDistinct (r ∷ [])
-one_distinct r = λ i j d lt within. absurd (none i j lt within)
-  where
-    none : (i j : ℕ) → i < j → j < length (r ∷ []) → ⊥
-    none i j x y = omega (arith, x, y)
 
 module _ (m : Mach) (s : ℕ → ℕ) (free top : ℕ) (formed : WellFormed m) (placed : WellPlaced m) (is : IsNumbering m s free top) where
   abbrev q : Mach

@@ -31,30 +31,23 @@ use Rattle.mach_laws.proofs.Level.{begins_at}
 use Rattle.mach_laws.proofs.Places.{ending_next, ending_label, ending_land, ending_from_handler, label_expand, handler_expand}
 use Rattle.mach_laws.proofs.Simulate.{Agrees}
 use Rattle.mach_laws.proofs.Walking.{none_in, in_cons}
+use Rattle.places_rules.proofs.Lists.{head_same, tail_same}
+use Rattle.places_rules.proofs.Files.{none_some, some_same, past_same, cleared, not_cleared, among_or_not, put_here, put_other, put_both}
 use Rattle.places_rules.proofs.Walked.{left_among, right_among, split_among, stands_of}
 use Rattle.places_rules.proofs.Raised.{IsRaised, Told, told_jump, told_unwind, told_ask, IsSilent, told, label_silent, try_silent}
 use Rattle.liveness.proofs.Bounds.{killed_is_colour}
 use Rattle.split_rules.proofs.Formed.{contains_of, of_each}
-use Rattle.split_rules.proofs.Kept.{put_twice, cleared, not_cleared, among_or_not}
 use Rattle.split_rules.proofs.Text.{number_among, number_in, args_in, results_in}
 use Rattle.spill_rules.specs.Spilled.{copied}
-use Rattle.spill_rules.proofs.Kept.{past_same, put_here, put_other, FitsIn, put_fits, put_holds, clear_fits, frame_fits}
+use Rattle.spill_rules.proofs.Kept.{values_held, FitsIn, put_fits, put_holds, clear_fits, frame_fits}
+use Rattle.places_rules.proofs.Files.{differ}
 use Rattle.reload_rules.specs.Reloaded.{reads_registers, writes_registers, is_renewed, fresh, number_after, reloads, spills}
 use Rattle.reload_rules.proofs.Calm.{Calm, calm_go, calm_push, calm_label, calm_handler, calm_unwind, calm_ask, IsHandler, is_handler, calm, calm_at_handler}
 use Rattle.reload_rules.proofs.Files.{values_renewed, Apart, apart_of, PutsRenewed, put_renewed}
 use Rattle.reload_rules.proofs.Live.{IsNumbering, reloaded_by, operands_at, results_at, main_of, ForOperand, ForResult, Stage, Reading, Storing, Laid, main, LastOperands, LastResults, fewer_operands, fewer_results, all_operands, all_results, laid_results, laid_operands, laid_of, FreshOperand, is_operand, is_result, NotSpilled, Says, killed_same, laid_tries, live_back, live_before, across_back}
-use Rattle.reload_rules.proofs.Numbers.{differ, for_this, WasIn, was_own, was_fresh, after_true, after_false, past_rises, for_from, for_below, for_in, for_same, was_in}
+use Rattle.reload_rules.proofs.Numbers.{for_this, WasIn, was_own, was_fresh, after_true, after_false, past_rises, for_from, for_below, for_in, for_same, was_in}
 use Rattle.reload_rules.proofs.Registers.{for_operand, for_result, made_register, made_free, made_origin, old_register}
 use Rattle.reload_rules.proofs.Text.{laid_instr, keeps_marks}
-
-no_held : (u : Held) → None ≡ Some u → ⊥
-no_held u e = cc
-
-held_same : (x y : Held) → Some x ≡ Some y → x ≡ y
-held_same x y e = cc
-
-no_values : (vs : List Value) → None ≡ Some vs → ⊥
-no_values vs e = cc
 
 -- where a raised value comes to: at the mark of a handler, or nowhere
 data IsCaught : List Instr → Type 0 where
@@ -157,12 +150,6 @@ module _ (m : Mach) (s : ℕ → ℕ) (free top : ℕ) (formed : WellFormed m) (
   only_number r (first e) = e
   only_number r (later a) = elim a [ ]
 
-  head_same : {i j : Instr} (xs ys : List Instr) → i ∷ xs ≡ j ∷ ys → i ≡ j
-  head_same xs ys e = cc
-
-  tail_same : {i j : Instr} (xs ys : List Instr) → i ∷ xs ≡ j ∷ ys → xs ≡ ys
-  tail_same xs ys e = cc
-
   is_code : q.code ≡ expand f m.code
   is_code = refl
 
@@ -215,7 +202,7 @@ module _ (m : Mach) (s : ℕ → ℕ) (free top : ℕ) (formed : WellFormed m) (
           written = λ j ys e frame r one val v none.
               absurd
               (differ (passes_frame j.op) frame
-              (ap (λ (i : Instr). passes_frame i.op) (sym (head_same zs ys e))));
+              (ap (λ (i : Instr). passes_frame i.op) (sym (head_same e))));
         }
 
     -- ---- before an instruction
@@ -706,7 +693,7 @@ module _ (m : Mach) (s : ℕ → ℕ) (free top : ℕ) (formed : WellFormed m) (
             ⊎_elim (λ h. absurd (none h))
             (λ h.
             absurd
-            (no_held u
+            (none_some
             (sym (cleared (killed m i) b' r.number (subst (Among r.number) (killed_same m s free top formed placed is i next) h))
             ∙ sym (p.others_new r.number none) ∙ e)))
             (split_among r.number (main_for i next).results (killed q (main_for i next))
@@ -867,9 +854,9 @@ module _ (m : Mach) (s : ℕ → ℕ) (free top : ℕ) (formed : WellFormed m) (
         vals_main y known =
             record {
               written = λ j ys e frame r one val v none.
-                  let head = head_same (post ++ expand f next) ys e in
+                  let head = head_same e in
                   let there : LiveAcross q r.number (main_for i next) (post ++ expand f next) =
-                  subst (λ xs. LiveAcross q r.number (main_for i next) xs) (sym (tail_same (post ++ expand f next) ys e))
+                  subst (λ xs. LiveAcross q r.number (main_for i next) xs) (sym (tail_same e))
                   (subst (λ j. LiveAcross q r.number j ys) (sym head) v) in
                   let x = across_back m s free top formed placed is i next ending laid_main there in
                   let u = live_register (live_of x) ending in
@@ -877,18 +864,6 @@ module _ (m : Mach) (s : ℕ → ℕ) (free top : ℕ) (formed : WellFormed m) (
                   (old_register m s free top formed placed is r u.0 one u.1 u.2) val x
                   ((reading.holds).itself r.number (live_of x) ∙ none);
             }
-
-      values_held : (a : File) (rs : List Reg) (vs : List Value) → values a rs ≡ Some vs → (n : ℕ) → Among n rs → (h : Held) × (a n ≡ Some h)
-      values_held a [] vs e n z = elim z [ ]
-      values_held a (r ∷ rs) vs e n z =
-          by (a r.number) refl (values a rs) refl e z (λ us t x. values_held a rs us t n x)
-        where
-          by : (o : Option Held) → a r.number ≡ o → (p : Option (List Value)) → values a rs ≡ p → with_held o p ≡ Some vs → Among n (r ∷ rs) →
-              ((us : List Value) → values a rs ≡ Some us → Among n rs → (h : Held) × (a n ≡ Some h)) → (h : Held) × (a n ≡ Some h)
-          by None s p t e z again = absurd (no_values vs e)
-          by (Some h) s None t e z again = absurd (no_values vs e)
-          by (Some h) s (Some us) t e (first x) again = (h, ap a (sym x) ∙ s)
-          by (Some h) s (Some us) t e (later x) again = again us t x
 
       one : (i : Instr) (next : List Instr) (a b : File) (ending : Ending (i ∷ next) m.code) → Holds (i ∷ next) a b → (y : Around) →
           IsQuiet (i ∷ next) y → (vs : List Value) → values a i.args ≡ Some vs →
@@ -939,14 +914,14 @@ module _ (m : Mach) (s : ℕ → ℕ) (free top : ℕ) (formed : WellFormed m) (
         record {
           itself = λ n v. refl;
           fit = λ r j.
-              put_fits limit m.params vs (λ n. None) a e r (λ k z g. formed.numbers k r (is_param z) j g) (λ h g. absurd (no_held h g));
+              put_fits limit m.params vs (λ n. None) a e r (λ k z g. formed.numbers k r (is_param z) j g) (λ h g. absurd (none_some g));
           agree = λ r k i j origin v w x y g h.
               let same : r ≡ k = one_param r k i j origin x y g h in
-              ap (λ (h : Held). h.value) (held_same x y (sym g ∙ ap (λ (r : Reg). a r.number) same ∙ h));
+              ap (λ (h : Held). h.value) (some_same (sym g ∙ ap (λ (r : Reg). a r.number) same ∙ h));
         }
       where
         unwritten_one : (n : ℕ) → (Among n m.params → ⊥) → a n ≡ None
-        unwritten_one n none = (put_twice (λ n. n) (λ n. n) limit m.params vs (λ n. None) (λ n. None) a (λ n z. refl) e).others n none
+        unwritten_one n none = (put_both limit m.params vs (λ n. None) (λ n. None) a e).others n none
 
         -- what holds something is a parameter, made from no other register
         own_origin : (r : Reg) → IsRegister m r → (x : Held) → a r.number ≡ Some x → r.origin ≡ r.number
@@ -956,7 +931,7 @@ module _ (m : Mach) (s : ℕ → ℕ) (free top : ℕ) (formed : WellFormed m) (
             let p = number_among m.params z in
             let same = formed.numbers p.0 r (is_param p.1) i p.2 in
             subst (λ (r : Reg). r.origin ≡ r.number) same (of_each (λ (r : Reg). r.origin ≡ r.number) m.params p.0 formed.params p.1))
-            (λ none. absurd (no_held x (sym (unwritten_one r.number none) ∙ g))) (among_or_not r.number m.params)
+            (λ none. absurd (none_some (sym (unwritten_one r.number none) ∙ g))) (among_or_not r.number m.params)
 
         one_param : (r k : Reg) → IsRegister m r → IsRegister m k → r.origin ≡ k.origin → (x y : Held) → a r.number ≡ Some x →
             a k.number ≡ Some y → r ≡ k

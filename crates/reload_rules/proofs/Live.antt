@@ -21,9 +21,10 @@ use Rattle.places_rules.proofs.Walked.{left_among, right_among, split_among, sta
 use Rattle.split_rules.proofs.Formed.{contains_of, of_each}
 use Rattle.split_rules.proofs.Text.{number_among, number_in}
 use Rattle.spill_rules.specs.Spilled.{copied}
+use Rattle.places_rules.proofs.Files.{differ}
 use Rattle.reload_rules.specs.Reloaded.{reads_registers, writes_registers, is_renewed, fresh, number_after, number_past, reloads, spills, results_from, past_instr, renewed_instr}
 use Rattle.reload_rules.proofs.Killed.{same_killed}
-use Rattle.reload_rules.proofs.Numbers.{differ, IsFor, for_this, for_other, WasIn, was_own, was_fresh, after_true, after_false, for_from, for_below, for_in, was_in, own_stays, for_stands}
+use Rattle.reload_rules.proofs.Numbers.{IsFor, for_this, for_other, WasIn, was_own, was_fresh, after_true, after_false, for_from, for_below, for_in, was_in, own_stays, for_stands}
 use Rattle.reload_rules.proofs.Text.{laid_instr, keeps_marks}
 
 -- Numbers of fresh registers, by how many instructions come after: above those of all registers, and rising.

@@ -5,9 +5,6 @@ use Rattle.mach_ir.specs.declared.reg.Reg.{Reg}
 use Rattle.mach_laws.proofs.Walking.{none_in, first_in, later_in, in_cons}
 use Rattle.reload_rules.specs.Reloaded.{is_renewed, fresh, number_after, number_past, renewed}
 
-pub differ : (b : Bool) → b ≡ true → b ≡ false → ⊥
-differ b e h = cc
-
 -- In these registers, from this number on, this number is that of the fresh one for this register.
 pub data IsFor (b : Bool) : ℕ → List Reg → ℕ → Reg → Type 0 where
   for_this : {n : ℕ} {r : Reg} {rs : List Reg} → is_renewed b r ≡ true → IsFor b n (r ∷ rs) n r

@@ -20,15 +20,15 @@ use Rattle.mach_ir.specs.declared.mach.Instr.{Instr}
 use Rattle.mach_ir.specs.declared.mach.Mach.{Mach}
 use Rattle.mach_laws.specs.Expand.{all}
 use Rattle.mach_laws.proofs.Places.{label_expand, ending_label}
-use Rattle.mach_laws.proofs.Walking.{none_in}
 use Rattle.places_rules.specs.Places.{ColoursLow}
+use Rattle.places_rules.proofs.Open.{machine_open}
 use Rattle.places_rules.proofs.Lists.{was, mapped}
 use Rattle.places_rules.proofs.Walked.{left_among, right_among, split_among}
 use Rattle.places_rules.proofs.Whole.{AreRegisters, FixedSeats, fixed_in_order, fixed_after_first, fixed_operands, fixed_results, tail_fixed, head_fixed}
 use Rattle.split_rules.proofs.Formed.{contains_of, of_each}
 use Rattle.split_rules.proofs.Text.{number_among, number_in}
 use Rattle.spill_rules.specs.Spilled.{copied}
-use Rattle.spill_rules.proofs.Chosen.{ending_of}
+use Rattle.spill_rules.proofs.Chosen.{no_result, ending_of}
 use Rattle.reload_rules.specs.Reloaded.{reads_registers, writes_registers, is_in_slot, is_renewed, fresh, number_after, renewed}
 use Rattle.reload_rules.proofs.Kept.{laid_after}
 use Rattle.reload_rules.proofs.Live.{IsNumbering, reloaded_by, ForResult, Storing, Laid, FreshResult, is_result, killed_same, live_back, live_before}
@@ -40,17 +40,7 @@ use Rattle.reload_rules.proofs.Text.{laid_instr, keeps_marks}
 not_true : false ≡ true → ⊥
 not_true e = cc
 
-machine_open : (n : ℕ) → loc.Unset ≡ loc.Machine n → ⊥
-machine_open n e = cc
-
 -- ---- what has results goes on
-
-no_result : (rs : List Reg) (r : Reg) → comps rs ≡ [] → Contains rs r → ⊥
-no_result [] r e c = none_in r c
-no_result (x ∷ rs) r e c = some x.comp (comps rs) e
-  where
-    some : (c : Comp) (cs : List Comp) → c ∷ cs ≡ [] → ⊥
-    some c cs e = cc
 
 op_goes : (g : Op) (cs ds : List Comp) → HasForm g cs ds → (ds ≡ []) ⊎ OneOf On (targets (mach.Op g))
 op_goes g cs ds copies = inr this
@@ -239,7 +229,7 @@ module _ (m : Mach) (s : ℕ → ℕ) (free top : ℕ) (formed : WellFormed m) (
           each = (placed.colours).each;
           least = λ r k c i e.
               let p = colour_place r c in
-              (placed.colours).least r k c (old_if_placed k (old k i) (λ u. machine_open p.0 (sym u ∙ e ∙ p.1))) e;
+              (placed.colours).least r k c (old_if_placed k (old k i) (λ u. machine_open (e ∙ p.1) u)) e;
         };
         agree = record { places = λ r i. place_of r (old r i); apart = apart };
       }

@@ -1,5 +1,5 @@
 -- The registers of a function with its reloads and spills: those that it had, and the fresh ones, each with a number of its own.
-use Rattle.std.proofs.Common.{◌≡◌, ℕ, suc, ◌<◌, ◌≤◌, Bool, true, false, cond, ◌⊎◌, inl, inr, ⊎_elim, List, [], ◌∷◌, ◌++◌, length, refl, sym, ap, ◌∙◌, subst, arith}
+use Rattle.std.proofs.Common.{◌≡◌, ℕ, suc, ◌<◌, ◌≤◌, Bool, true, false, cond, ⊎_elim, List, [], ◌∷◌, length, refl, sym, ap, ◌∙◌, subst, arith}
 use Rattle.std.specs.List.{Contains}
 use Rattle.mach_ir.specs.Formed.{WellFormed}
 use Rattle.mach_ir.specs.Placed.{WellPlaced}
@@ -12,6 +12,7 @@ use Rattle.mach_laws.specs.Expand.{expand}
 use Rattle.mach_laws.proofs.Walking.{none_in, first_in, later_in, in_cons}
 use Rattle.split_rules.proofs.Text.{args_in, results_in}
 use Rattle.spill_rules.specs.Spilled.{copied}
+use Rattle.spill_rules.proofs.Kept.{in_append}
 use Rattle.reload_rules.specs.Reloaded.{reads_registers, writes_registers, is_in_slot, is_renewed, fresh, number_after, number_past, reloads, spills, past_instr}
 use Rattle.reload_rules.proofs.Killed.{renewed_slot}
 use Rattle.reload_rules.proofs.Live.{IsNumbering, reloaded_by, results_at, main_of, ForOperand, ForResult}
@@ -65,12 +66,6 @@ module _ (b : Bool) where
           InCode w (cond t (copied copy.Spill (fresh n r) r ∷ spills b (suc n) rs) (spills b n rs)) → CopiedIn b n (r ∷ rs) w
       by true t ih c = of t ih c
       by false t ih c = ih n (after_false b n r t) c
-
-in_append : {r : Reg} (xs ys : List Instr) → InCode r (xs ++ ys) → InCode r xs ⊎ InCode r ys
-in_append [] ys c = inr c
-in_append (x ∷ xs) ys (in_args c) = inl (in_args c)
-in_append (x ∷ xs) ys (in_results c) = inl (in_results c)
-in_append (x ∷ xs) ys (further c) = ⊎_elim (λ h. inl (further h)) inr (in_append xs ys c)
 
 -- two instructions of a code are one, or one comes after the other
 data Order (i j : Instr) (next rest : List Instr) : Type 0 where

@@ -12,15 +12,10 @@ use Rattle.mach_ir.specs.declared.mach.Instr.{Instr}
 use Rattle.mach_ir.specs.declared.mach.Mach.{Mach}
 use Rattle.mach_laws.proofs.Walking.{first_in, later_in}
 use Rattle.places_rules.specs.Places.{Placing, IsPlacing, ColoursLow, placed, all_placed, placed_code}
+use Rattle.places_rules.proofs.Open.{slot_open, machine_slot}
 use Rattle.places_rules.proofs.Lists.{was, mapped}
 use Rattle.places_rules.proofs.Text.{was_register}
 use Rattle.reload_rules.specs.Reloaded.{reads_registers, writes_registers, is_in_slot, is_renewed, any_renewed, any_needs, slot_or, to_slots, in_slots}
-
-slot_unset : (k : ℕ) → loc.Slot k ≡ loc.Unset → ⊥
-slot_unset k e = cc
-
-machine_slot : (n k : ℕ) → loc.Machine n ≡ loc.Slot k → ⊥
-machine_slot n k e = cc
 
 -- what becomes of a register's place
 data Put (place : Colouring) (r : Reg) : Type 0 where
@@ -87,7 +82,7 @@ module _ (m : Mach) (place : Colouring) (formed : WellFormed m) (well : WellPlac
   slots_least r k c i e = by (put_of place k)
     where
       by : Put place k → r.number ≤ k.number
-      by (to_slot n a h) = let p = colour_place r c in absurd (machine_slot p.0 n (sym p.1 ∙ sym e ∙ h))
+      by (to_slot n a h) = let p = colour_place r c in absurd (machine_slot p.1 (sym e ∙ h))
       by (as_was t h) = (well.colours).least r k c i (sym h ∙ e)
 
   pub slots_low : ColoursLow m → ColoursLow (in_slots place m)
@@ -99,7 +94,7 @@ module _ (m : Mach) (place : Colouring) (formed : WellFormed m) (well : WellPlac
       (low w.what v.register w.among v.among (by v.register (ap (λ (r : Reg). r.loc) v.same ∙ open_one) (put_of place v.register))))
     where
       by : (v : Reg) → to_slots place v ≡ loc.Unset → Put place v → v.loc ≡ loc.Unset
-      by v e (to_slot n a h) = absurd (slot_unset n (sym h ∙ e))
+      by v e (to_slot n a h) = absurd (slot_open h e)
       by v e (as_was t h) = sym h ∙ e
 
   pub slots_above : (free : ℕ) → ((r : Reg) → IsRegister m r → r.number < free) → (r : Reg) → IsRegister (in_slots place m) r → r.number < free

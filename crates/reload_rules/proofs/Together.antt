@@ -1,39 +1,27 @@
 -- What reloading makes of a function is kept, and is one function.
 use Rattle.std.proofs.Common.{◌≡◌, ℕ, ◌+◌, ◌*◌, ◌≤◌, Bool, true, false, refl, ap, subst, arith}
-use Rattle.bs_words.specs.declared.types.Loc.{Loc}
-use Rattle.bs_words.specs.declared.types.Loc.TheVariants as loc
 use Rattle.mach_ir.specs.Formed.{WellFormed}
-use Rattle.mach_ir.specs.Placed.{Colouring, IsColouring, IsPlaced, in_colour, in_slot, WellPlaced}
+use Rattle.mach_ir.specs.Placed.{Colouring, IsColouring, WellPlaced}
 use Rattle.mach_ir.specs.Sizes.{operand_count}
 use Rattle.mach_ir.specs.Walks.{IsRegister, Joined}
 use Rattle.mach_ir.proofs.Keeping.{keeps_then}
-use Rattle.mach_ir.specs.declared.reg.Reg.{Reg}
 use Rattle.mach_ir.specs.declared.mach.Mach.{Mach}
 use Rattle.mach_laws.proofs.Grows.{within_more}
 use Rattle.places_rules.specs.Places.{ColoursLow, recoloured}
 use Rattle.places_rules.proofs.Colouring.{coloured_kept}
+use Rattle.places_rules.proofs.Open.{not_open}
 use Rattle.places_rules.proofs.Text.{placed_formed}
 use Rattle.places_rules.proofs.Walked.{no_addr_before}
 use Rattle.places_rules.proofs.Whole.{placed_keeps, placed_well, placed_seated, placed_size, placed_slots}
+use Rattle.places_rules.proofs.Files.{differ}
 use Rattle.reload_rules.specs.Kept.{IsKept}
 use Rattle.reload_rules.specs.Reloaded.{any_needs, reloaded, to_slots, in_slots, IsFree, IsReloadedBy, is_coloured, asks_again}
 use Rattle.reload_rules.proofs.Formed.{reloaded_formed}
 use Rattle.reload_rules.proofs.Live.{IsNumbering, reloaded_by}
 use Rattle.reload_rules.proofs.Numbering.{numbering, is_numbering, numbered_same}
-use Rattle.reload_rules.proofs.Numbers.{differ}
 use Rattle.reload_rules.proofs.Placed.{reloaded_placed, reloaded_low, reloaded_seated}
 use Rattle.reload_rules.proofs.Slotted.{slots_placing, slots_least, slots_low, slots_above, coloured_needs}
 use Rattle.reload_rules.proofs.Whole.{reloaded_keeps, reloaded_no_addr, reloaded_slots, reloaded_size, reloaded_registers}
-
-not_open : (r : Reg) → IsPlaced r → r.loc ≡ loc.Unset → ⊥
-not_open r (in_colour n c e) u = machine r.loc n e u
-  where
-    machine : (l : Loc) (n : ℕ) → l ≡ loc.Machine n → l ≡ loc.Unset → ⊥
-    machine l n e u = cc
-not_open r (in_slot e) u = slot r.loc r.origin e u
-  where
-    slot : (l : Loc) (n : ℕ) → l ≡ loc.Slot n → l ≡ loc.Unset → ⊥
-    slot l n e u = cc
 
 module _ (m : Mach) (place : Colouring) (formed : WellFormed m) (well : WellPlaced m) (low : ColoursLow m)
     (colouring : IsColouring (IsRegister m) (Joined m) place) where

@@ -21,21 +21,19 @@ use Rattle.mach_laws.specs.Expand.{expand, Ending, all}
 use Rattle.mach_laws.proofs.Grows.{held, instrs_expand, operands_expand, operands_append}
 use Rattle.mach_laws.proofs.Places.{label_expand, handler_expand, ending_label, ending_from_handler}
 use Rattle.places_rules.specs.Places.{IsSlot}
+use Rattle.places_rules.proofs.Open.{slot_open}
 use Rattle.split_rules.proofs.Formed.{contains_of}
 use Rattle.spill_rules.specs.Spilled.{copied}
+use Rattle.places_rules.proofs.Files.{differ}
 use Rattle.reload_rules.specs.Reloaded.{reads_registers, writes_registers, is_in_slot, is_renewed, fresh, number_after, renewed, reloads, spills, any_renewed, needs_registers, any_needs, results_from, renewed_instr}
 use Rattle.reload_rules.proofs.Kept.{live_register, does_reloaded}
 use Rattle.reload_rules.proofs.Live.{IsNumbering, reloaded_by, Stage, Before, Reading, Storing, Laid, begins, reload, passes_operand, main, spill, passes_result, ends, laid_of, laid_tries, across_back}
-use Rattle.reload_rules.proofs.Numbers.{differ}
 use Rattle.reload_rules.proofs.Parts.{first_operand, first_result, main_for, spills_for, laid_out, IsCopy, is_copy, main_op, part_in}
 use Rattle.reload_rules.proofs.Registers.{WasRegister, is_old, is_new, made_register, made_slot, made_top, was_register, old_register}
 use Rattle.reload_rules.proofs.Text.{before_reloads, before_spills, laid_instr, keeps_marks}
 
 not_true : false ≡ true → ⊥
 not_true e = cc
-
-open_slot : (k : ℕ) → loc.Unset ≡ loc.Slot k → ⊥
-open_slot k e = cc
 
 pub slot_of : (l : Loc) → is_in_slot l ≡ true → (k : ℕ) × (l ≡ loc.Slot k)
 slot_of (loc.Slot k) e = (k, refl)
@@ -242,7 +240,7 @@ module _ (m : Mach) (s : ℕ → ℕ) (free top : ℕ) (formed : WellFormed m) (
 
   slot_before : (r : Reg) (k : ℕ) → r.loc ≡ loc.Slot k → WasRegister m s free top formed placed is r → IsRegister m r
   slot_before r k e (is_old a) = a
-  slot_before r k e (is_new i next x w t h g) = absurd (open_slot k (ap (λ (r : Reg). r.loc) g ∙ e))
+  slot_before r k e (is_new i next x w t h g) = absurd (slot_open (ap (λ (r : Reg). r.loc) g ∙ e) refl)
 
   pub reloaded_keeps : Keeps m (reloaded_by s m)
   reloaded_keeps =

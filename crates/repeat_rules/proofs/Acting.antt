@@ -21,7 +21,7 @@ use Rattle.mach_ir.specs.declared.op.Right.TheVariants as right
 use Rattle.mach_ir.specs.declared.mach.MachOp.{MachOp}
 use Rattle.mach_ir.specs.declared.mach.MachOp.TheVariants as mach
 use Rattle.repeat_rules.specs.Repeated.{is_operator}
-use Rattle.repeat_rules.proofs.Form.{differ}
+use Rattle.places_rules.proofs.Files.{differ}
 
 -- ---- surroundings with more blocks
 

@@ -4,7 +4,7 @@ use Rattle.std.specs.List.{Contains}
 use Rattle.bs_words.specs.declared.types.Comp.{Comp}
 use Rattle.bs_words.specs.declared.types.Comp.TheVariants as comp
 use Rattle.bs_words.specs.declared.values.Value.{Value}
-use Rattle.combine_rules.proofs.Files.{PutAll, nil, cons, put_view, put_of, put_other, put_same, values_has, frame_loses}
+use Rattle.combine_rules.proofs.Files.{PutAll, nil, cons, put_view, put_of, put_same, values_has, frame_loses}
 use Rattle.mach_ir.specs.Acts.{Around, On, Goes}
 use Rattle.mach_ir.specs.Meaning.{Held, File, put, put_all, clear, killed, values, past_frame, unless_addr, is_addr, passes_frame, mach_act}
 use Rattle.mach_ir.specs.Placed.{is_straight}
@@ -15,19 +15,20 @@ use Rattle.mach_ir.specs.declared.mach.Instr.{Instr}
 use Rattle.mach_ir.specs.declared.mach.Mach.{Mach}
 use Rattle.mach_laws.specs.Expand.{Ending}
 use Rattle.mach_laws.proofs.Walking.{first_in}
+use Rattle.places_rules.proofs.Files.{some_same, put_other}
 use Rattle.repeat_rules.specs.Repeated.{is_operator, allocates, Ends, itself}
-use Rattle.repeat_rules.proofs.Form.{differ}
+use Rattle.places_rules.proofs.Files.{differ}
 use Rattle.repeat_rules.proofs.Acting.{Grown, gives_value, gives_still}
-use Rattle.repeat_rules.proofs.Live.{numbered}
+use Rattle.split_rules.proofs.Text.{number_among}
 use Rattle.repeat_rules.proofs.Standing.{operator_straight, operator_same, straight_kills, straight_frame, Standing, Earlier, just_now, earlier, earlier_of}
 
 -- ---- files
 
-abbrev Fresh : Reg → Value → Option Held
+abbrev pub Fresh : Reg → Value → Option Held
 Fresh r v = Some (record { comp = r.comp; value = v })
 
 -- what is not written stays
-stays : {end : ℕ} {a : File} {rs : List Reg} {vs : List Value} {d : File} → PutAll end a rs vs d → (n : ℕ) →
+pub stays : {end : ℕ} {a : File} {rs : List Reg} {vs : List Value} {d : File} → PutAll end a rs vs d → (n : ℕ) →
     (Among n rs → ⊥) → d n ≡ a n
 stays nil n free = refl
 stays (cons {r = r} {v = v} {d = d} e p) n free =
@@ -44,15 +45,12 @@ put_one (cons {v = v} e nil) = record { value = v; is = refl; file = refl }
 pub put_all_of : (end : ℕ) (rs : List Reg) (vs : List Value) (a d : File) → put_all end rs vs a ≡ Some d → PutAll end a rs vs d
 put_all_of end rs vs a d e = put_of (put_all end rs vs a) (put_view end rs vs a) e
 
-same_values : (xs ys : List Value) → Some xs ≡ Some ys → xs ≡ ys
-same_values xs ys e = cc
-
 values_stay : (a d : File) (rs : List Reg) → ((n : ℕ) → Among n rs → d n ≡ a n) → (vs : List Value) →
     values d rs ≡ Some vs → values a rs ≡ Some vs
 values_stay a d rs h vs e = values_has d a rs (λ n z v g. sym (h n z) ∙ g) vs e
 
 -- a frame point loses nothing but addrs
-past_kept : (t : Bool) (r : Reg) (v : Value) (a : File) → (r.comp ≡ comp.Addr → t ≡ false) → a r.number ≡ Fresh r v →
+pub past_kept : (t : Bool) (r : Reg) (v : Value) (a : File) → (r.comp ≡ comp.Addr → t ≡ false) → a r.number ≡ Fresh r v →
     past_frame t a r.number ≡ Fresh r v
 past_kept false r v a h e = e
 past_kept true r v a h e = ap unless_addr e ∙ by r.comp refl
@@ -100,7 +98,7 @@ module _ (m : Mach) (plan : ℕ → Option Reg) (c : Place) where
           stays written n (λ w. by_one w)
         where
           by_one : Among n (r ∷ []) → ⊥
-          by_one (first s) = let k = numbered z in apart k.register k.among (s ∙ sym k.number)
+          by_one (first s) = let k = number_among j.args z in apart k.0 k.1 (s ∙ sym k.2)
           by_one (later w) = elim w [ ]
 
       by : PutOne r ws a d → Holding after d j r
@@ -110,7 +108,7 @@ module _ (m : Mach) (plan : ℕ → Option Reg) (c : Place) where
             value = p.value;
             holds = ap (λ (file : File). file r.number) p.file ∙ put_same r p.value a;
             gives = λ us h.
-                let same : us ≡ vs = same_values us vs (sym (values_stay a d j.args kept us h) ∙ e) in
+                let same : us ≡ vs = some_same (sym (values_stay a d j.args kept us h) ∙ e) in
                 ap (λ zs. mach_act c.setting j.op zs after) same ∙ ap (mach_act c.setting j.op vs) g.same ∙ acts
                 ∙ ap (λ zs. Goes zs On after) p.is;
           }
@@ -125,7 +123,7 @@ module _ (m : Mach) (plan : ℕ → Option Reg) (c : Place) where
   still i j r o st apart ends kept a d x after ws grown puts h =
       record {
         value = h.value;
-        holds = there r.number (λ z. let w = numbered z in ends w.register w.among (itself w.number))
+        holds = there r.number (λ z. let w = number_among i.results z in ends w.0 w.1 (itself w.2))
             ∙ past_kept (passes_frame i.op) r h.value a (λ s. straight_frame i.op st ∙ kept s) h.holds;
         gives = λ vs e. gives_still c.setting j.op o vs h.value x after grown (h.gives vs (before vs e));
       }
@@ -140,7 +138,7 @@ module _ (m : Mach) (plan : ℕ → Option Reg) (c : Place) where
 
       not_written : (n : ℕ) → Among n j.args → Among n i.results → ⊥
       not_written n z w =
-          let k = numbered z in let l = numbered w in apart l.register k.register l.among k.among (l.number ∙ sym k.number)
+          let k = number_among j.args z in let l = number_among i.results w in apart l.0 k.0 l.1 k.1 (l.2 ∙ sym k.2)
 
       before : (vs : List Value) → values d j.args ≡ Some vs → values a j.args ≡ Some vs
       before vs e =

@@ -22,20 +22,17 @@ use Rattle.mach_laws.proofs.Leads.{Within, asks_in, within}
 use Rattle.mach_laws.proofs.Level as levels
 use Rattle.mach_laws.proofs.Places.{tries_expand}
 use Rattle.mach_laws.proofs.Simulate.{Agrees}
+use Rattle.places_rules.proofs.Lists.{head_same, tail_same}
+use Rattle.places_rules.proofs.Files.{none_some, some_same}
 use Rattle.places_rules.proofs.Walked.{stands_of}
 use Rattle.repeat_rules.specs.Kept.{OwnOrigins}
 use Rattle.repeat_rules.specs.Repeated.{is_operator, allocates, Repeats, from_earlier, again, in_place, with_moves, IsBefore}
-use Rattle.repeat_rules.proofs.Form.{Fate, unchanged, moved, fate, keeps_marks, was_register, head_same, tail_same}
+use Rattle.repeat_rules.proofs.OneForOne.{frame_same}
+use Rattle.repeat_rules.proofs.Form.{Fate, unchanged, moved, fate, alike, keeps_marks, was_register}
 use Rattle.repeat_rules.proofs.Acting.{Grown, GoesOn, is_stuck, goes_on, straight_on, as_it_was}
 use Rattle.repeat_rules.proofs.Held.{Holding, Holds, holds_next, calm}
 use Rattle.repeat_rules.proofs.Live.{Stood, across_back}
-use Rattle.repeat_rules.proofs.Standing.{operator_straight, operator_same, frame_same, Standing, not_past, not_at_entry, not_at_label, not_landed, Repeated, repeated}
-
-none_some : {x : Held} → None ≡ Some x → ⊥
-none_some e = cc
-
-some_same : {x y : Held} → Some x ≡ Some y → x ≡ y
-some_same e = cc
+use Rattle.repeat_rules.proofs.Standing.{operator_straight, operator_same, Standing, not_past, not_at_entry, not_at_label, not_landed, Repeated, repeated}
 
 module _ (m : Mach) (plan : ℕ → Option Reg) (own : OwnOrigins m)
     (moves : (i : Instr) (next made : List Instr) → IsBefore plan m i next made → is_operator i.op ≡ true → (r : Reg) →
@@ -70,7 +67,7 @@ module _ (m : Mach) (plan : ℕ → Option Reg) (own : OwnOrigins m)
         record {
           written = λ j ys e frame r one val v none.
               by r (was_register m plan moves r one) val
-              (sym (frame_same m plan (length next) i) ∙ ap (λ (z : Instr). passes_frame z.op) (head_same e) ∙ frame) none
+              (sym (frame_same (again plan) (alike plan) (length next) i) ∙ ap (λ (z : Instr). passes_frame z.op) (head_same e) ∙ frame) none
               (across_back m plan moves ending
               (subst (λ ys. LiveAcross q r.number (again plan (length next) i) ys) (sym (tail_same e))
               (subst (λ (z : Instr). LiveAcross q r.number z ys) (sym (head_same e)) v)));

@@ -1,4 +1,6 @@
+pub mod OneForOne
 pub mod Form
+pub mod Runs
 pub mod Standing
 pub mod Live
 pub mod Acting

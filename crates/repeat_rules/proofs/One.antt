@@ -5,23 +5,13 @@ use Rattle.mach_ir.specs.declared.reg.Reg.{Reg}
 use Rattle.mach_ir.specs.declared.mach.Instr.{Instr}
 use Rattle.mach_ir.specs.declared.mach.Mach.{Mach}
 use Rattle.repeat_rules.specs.Repeated.{is_operator, StillStands, Repeats, from_earlier, again, with_moves, IsBefore, IsRepeated}
-use Rattle.repeat_rules.proofs.Form.{alone, left_none, head_same, tail_same}
+use Rattle.repeat_rules.proofs.OneForOne as same
+use Rattle.repeat_rules.proofs.Form.{alone, left_none}
+use Rattle.repeat_rules.proofs.Runs.{Order, together, first_one, first_other, order}
 use Rattle.repeat_rules.proofs.Standing.{restricted}
 
 only_same : {r s : Reg} → r ∷ [] ≡ s ∷ [] → r ≡ s
 only_same e = cc
-
--- which of two instructions of a list comes first
-data Order (j k : Instr) (us vs : List Instr) : Type 0 where
-  together : j ≡ k → Order j k us vs
-  first_one : (mid : List Instr) → us ≡ mid ++ k ∷ vs → Order j k us vs
-  first_other : (mid : List Instr) → vs ≡ mid ++ j ∷ us → Order j k us vs
-
-order : (xs ys : List Instr) (j k : Instr) (us vs : List Instr) → xs ++ j ∷ us ≡ ys ++ k ∷ vs → Order j k us vs
-order [] [] j k us vs e = together (head_same e)
-order [] (y ∷ ys) j k us vs e = first_one ys (tail_same e)
-order (x ∷ xs) [] j k us vs e = first_other xs (sym (tail_same e))
-order (x ∷ xs) (y ∷ ys) j k us vs e = order xs ys j k us vs (tail_same e)
 
 -- no operator of this code repeats one before it
 abbrev NoneRepeats : List Instr → Type 0
@@ -84,23 +74,16 @@ module _ (m : Mach) (p w : ℕ → Option Reg)
       by true e =
           ap (λ o. cond (is_operator i.op) (from_earlier o i) i) (one_choice i next made bp bw e)
 
-  pub one_code : (code before made : List Instr) → m.code ≡ before ++ code → with_moves p m.code ≡ made ++ with_moves p code →
-      with_moves w m.code ≡ made ++ with_moves w code → with_moves p code ≡ with_moves w code
-  one_code [] before made whole e h = refl
-  one_code (i ∷ is) before made whole e h =
-      let x : Instr = again p (length is) i in
-      let same : again p (length is) i ≡ again w (length is) i =
-      one_instr i is made (record { before = before; whole = whole; made_so = e })
-      (record { before = before; whole = whole; made_so = h }) in
-      ap (λ z. z ∷ with_moves p is) same
-      ∙ ap (λ xs. again w (length is) i ∷ xs)
-      (one_code is (before ++ i ∷ []) (made ++ x ∷ []) (whole ∙ sym (append_assoc before (i ∷ []) is))
-      (e ∙ sym (append_assoc made (x ∷ []) (with_moves p is)))
-      (h ∙ ap (λ z. made ++ z ∷ with_moves w is) (sym same) ∙ sym (append_assoc made (x ∷ []) (with_moves w is))))
+  pub one_code : with_moves p m.code ≡ with_moves w m.code
+  one_code =
+      same.one_code (again p) (again w) m.code
+      (λ i next before made whole e h.
+      one_instr i next made (record { before = before; whole = whole; made_so = e }) (record { before = before; whole = whole; made_so = h }))
+      m.code [] [] refl refl refl
 
 -- The repeats of a function are moves in one way.
 pub one_repeated : (m q k : Mach) → IsRepeated m q → IsRepeated m k → q ≡ k
 one_repeated m q k a b =
     a.is
-    ∙ ap (λ code. record m { code = code }) (one_code m a.plan b.plan a.moves a.stays b.moves b.stays m.code [] [] refl refl refl)
+    ∙ ap (λ code. record m { code = code }) (one_code m a.plan b.plan a.moves a.stays b.moves b.stays)
     ∙ sym b.is

@@ -1,14 +1,14 @@
 -- Which results still stand where a code is left, and what an instruction leaves of them.
-use Rattle.std.proofs.Common.{◌≡◌, ◌≢◌, ℕ, Bool, true, false, cond, ⊎_elim, List, [], ◌∷◌, ◌++◌, length, Option, Some, refl, sym, ap, ◌∙◌, subst, append_assoc}
-use Rattle.std.proofs.lemmas.List.{append_cancel_right, same_from_push}
+use Rattle.std.proofs.Common.{◌≡◌, ◌≢◌, ℕ, true, false, ⊎_elim, List, [], ◌∷◌, ◌++◌, length, Option, Some, refl, sym, ap, ◌∙◌, subst, append_assoc}
+use Rattle.std.proofs.lemmas.List.{append_cancel_right}
 use Rattle.std.proofs.lemmas.List.Elements.{Contains-get_or}
 use Rattle.std.specs.List.{Contains}
 use Rattle.std.specs.Prelude.{slice_index_or}
 use Rattle.bs_words.specs.declared.types.Comp.TheVariants as comp
-use Rattle.mach_ir.specs.Acts.{On, Landing, AtLabel, AtHandler}
-use Rattle.mach_ir.specs.Meaning.{Nothing, has_label, is_handler_of, after_label, from_handler, at_handler, tries_at, landing_code, destroyed_by, killed_by, killed, written, passes_frame}
+use Rattle.mach_ir.specs.Acts.{Landing}
+use Rattle.mach_ir.specs.Meaning.{Nothing, is_handler_of, after_label, from_handler, landing_code, destroyed_by, killed_by, killed, passes_frame}
 use Rattle.mach_ir.specs.Placed.{is_straight}
-use Rattle.mach_ir.specs.Walks.{targets, may_raise, Stands}
+use Rattle.mach_ir.specs.Walks.{Stands}
 use Rattle.mach_ir.specs.declared.op.Access.TheVariants as access
 use Rattle.mach_ir.specs.declared.op.Op.TheVariants as op
 use Rattle.mach_ir.specs.declared.op.Pure.{Pure}
@@ -17,27 +17,24 @@ use Rattle.mach_ir.specs.declared.mach.MachOp.{MachOp}
 use Rattle.mach_ir.specs.declared.mach.MachOp.TheVariants as mach
 use Rattle.mach_ir.specs.declared.mach.Instr.{Instr}
 use Rattle.mach_ir.specs.declared.mach.Mach.{Mach}
-use Rattle.mach_laws.specs.Expand.{Ending, all, more, expand}
+use Rattle.mach_laws.specs.Expand.{Ending, expand}
 use Rattle.mach_laws.proofs.Walking.{first_in, later_in, in_cons}
 use Rattle.split_rules.proofs.Formed.{of_each}
+use Rattle.places_rules.proofs.Files.{differ}
 use Rattle.repeat_rules.specs.Repeated.{is_operator, allocates, Ends, StillStands, Repeats, again, in_place, with_moves, IsBefore}
-use Rattle.repeat_rules.proofs.Form.{differ, IsPure, is_pure, operator_pure, Fate, unchanged, moved, fate, before_of, in_append, in_front, none_there}
+use Rattle.repeat_rules.proofs.OneForOne.{in_append, in_front, of_pure, op_same, Made, made_to, before_of}
+use Rattle.repeat_rules.proofs.Form.{operator_pure, Fate, unchanged, moved, fate, alike}
+use Rattle.repeat_rules.proofs.Runs as run
+use Rattle.repeat_rules.proofs.Runs.{Last, it_is, in_run, last_of, none_before, IsWithin}
 
 -- ---- operators
 
 pub operator_same : {B : Type 0} (F : MachOp → B) (b : B) → ((f : Pure) → F (mach.Op (op.Pure f)) ≡ b) → (g : MachOp) →
     is_operator g ≡ true → F g ≡ b
-operator_same {B} F b h g o = by (operator_pure g o)
-  where
-    by : {g : MachOp} → IsPure g → F g ≡ b
-    by (is_pure {f = f}) = h f
+operator_same F b h g o = of_pure F b h (operator_pure g o)
 
 pub operator_straight : (g : MachOp) → is_operator g ≡ true → is_straight g ≡ true
 operator_straight g o = operator_same is_straight true (λ f. refl) g o
-
-label_crooked : (l : ℕ) (g : MachOp) → has_label l g ≡ true → is_straight g ≡ false
-label_crooked l (mach.Op g) e = absurd (differ false e refl)
-label_crooked l (mach.Mark g) e = refl
 
 handler_crooked : (l : ℕ) (g : MachOp) → is_handler_of l g ≡ true → is_straight g ≡ false
 handler_crooked l (mach.Op g) e = absurd (differ false e refl)
@@ -64,18 +61,6 @@ straight_frame (mach.Op (op.Leaving f)) e = absurd (differ false e refl)
 straight_frame (mach.Mark f) e = absurd (differ false e refl)
 
 -- ---- one instruction more
-
-data Snoc (xs : List Instr) : Type 0 where
-  is_empty : xs ≡ [] → Snoc xs
-  ends_by : (ys : List Instr) (y : Instr) → xs ≡ ys ++ y ∷ [] → Snoc xs
-
-snoc : (xs : List Instr) → Snoc xs
-snoc [] = is_empty refl
-snoc (x ∷ xs) = by (snoc xs)
-  where
-    by : Snoc xs → Snoc (x ∷ xs)
-    by (is_empty e) = ends_by [] x (ap (λ zs. x ∷ zs) e)
-    by (ends_by ys y e) = ends_by (x ∷ ys) y (ap (λ zs. x ∷ zs) e)
 
 -- what stands after an instruction stood before it, or is its result
 pub data Since (made : List Instr) (x j : Instr) (r : Reg) : Type 0 where
@@ -111,45 +96,20 @@ restricted j r s ys zs e =
         (in_cons j i ys c)
 
 pub since : (made : List Instr) (x j : Instr) (r : Reg) → StillStands (made ++ x ∷ []) j r → Since made x j r
-since made x j r s = by (snoc s.run)
+since made x j r s = by (last_of made x s.others j s.run s.within)
   where
-    by : Snoc s.run → Since made x j r
-    by (is_empty e) =
-        let t = same_from_push made s.others x j (s.within ∙ ap (λ ys. s.others ++ j ∷ ys) e) in just_there (sym t.1)
-    by (ends_by ys y e) =
-        let t = same_from_push made (s.others ++ j ∷ ys) x y
-        (s.within ∙ ap (λ zs. s.others ++ j ∷ zs) e ∙ sym (append_assoc s.others (j ∷ ys) (y ∷ []))) in
+    by : Last made x s.others j s.run → Since made x j r
+    by (it_is e) = just_there (sym e)
+    by (in_run ys e h) =
         stood
-        (subst (λ xs. StillStands xs j r) (sym t.0) (restricted j r s ys (y ∷ []) e))
-        (of_each (λ (i : Instr). is_straight i.op ≡ true) s.run x s.straight (x_in t.1))
-        (λ w k c d. s.operands x (later_in j x s.run (x_in t.1)) w k c d)
-        (λ w c. s.stands x (x_in t.1) w c)
-        (λ e. s.kept e x (x_in t.1))
+        (subst (λ xs. StillStands xs j r) (sym h) (restricted j r s ys (x ∷ []) e))
+        (of_each (λ (i : Instr). is_straight i.op ≡ true) s.run x s.straight x_in)
+        (λ w k c d. s.operands x (later_in j x s.run x_in) w k c d)
+        (λ w c. s.stands x x_in w c)
+        (λ e. s.kept e x x_in)
       where
-        x_in : x ≡ y → Contains s.run x
-        x_in h = subst (Contains s.run) (sym h) (subst (λ zs. Contains zs y) (sym e) (in_append ys y []))
-
-none_before : (j : Instr) (r : Reg) → StillStands [] j r → ⊥
-none_before j r s = by s.others s.within
-  where
-    by : (others : List Instr) → [] ≡ others ++ j ∷ s.run → ⊥
-    by [] e = none_there e
-    by (x ∷ others) e = none_there e
-
--- the code after a label is nothing, or stands after the mark that has it
-data Labelled (l : ℕ) (code : List Instr) : Type 0 where
-  nowhere : after_label l code ≡ [] → Labelled l code
-  marked : (i : Instr) → Ending (i ∷ after_label l code) code → has_label l i.op ≡ true → Labelled l code
-
-labelled : (l : ℕ) (code : List Instr) → Labelled l code
-labelled l [] = nowhere refl
-labelled l (i ∷ is) = by (has_label l i.op) refl (labelled l is)
-  where
-    by : (b : Bool) → has_label l i.op ≡ b → Labelled l is → Labelled l (i ∷ is)
-    by true e w = marked i (subst (λ b. Ending (i ∷ cond b is (after_label l is)) (i ∷ is)) (sym e) all) e
-    by false e (nowhere h) = nowhere (ap (λ b. cond b is (after_label l is)) e ∙ h)
-    by false e (marked j s h) =
-        marked j (subst (λ b. Ending (j ∷ cond b is (after_label l is)) (i ∷ is)) (sym e) (more s)) h
+        x_in : Contains s.run x
+        x_in = subst (λ zs. Contains zs x) (sym e) (in_append ys x [])
 
 -- this code begins with what may stand in a straight run
 pub data StartsStraight : List Instr → Type 0 where
@@ -161,15 +121,6 @@ starts_with (starts_straight e) = e
 not_nothing : StartsStraight [] → ⊥
 not_nothing s = elim s [ ]
 
-handler_starts : (l : ℕ) (code : List Instr) → StartsStraight (from_handler l code) → ⊥
-handler_starts l [] s = not_nothing s
-handler_starts l (i ∷ is) s = by (is_handler_of l i.op) refl s (λ t. handler_starts l is t)
-  where
-    by : (b : Bool) → is_handler_of l i.op ≡ b → StartsStraight (cond b (i ∷ is) (from_handler l is)) →
-        (StartsStraight (from_handler l is) → ⊥) → ⊥
-    by true e s ih = differ (is_straight i.op) (starts_with s) (handler_crooked l i.op e)
-    by false e s ih = ih s
-
 module _ (m : Mach) (plan : ℕ → Option Reg) where
   abbrev pub q : Mach
   q = record m { code = with_moves plan m.code }
@@ -177,55 +128,7 @@ module _ (m : Mach) (plan : ℕ → Option Reg) where
   abbrev pub f : ℕ → Instr → List Instr
   f = in_place plan
 
-  -- ---- what an instruction is in the second
-
-  -- of what is the same for all that only reads registers
-  pub op_same : {B : Type 0} (F : MachOp → B) (b : B) → ((f : Pure) → F (mach.Op (op.Pure f)) ≡ b) → (k : ℕ) (i : Instr) →
-      F (again plan k i).op ≡ F i.op
-  op_same {B} F b h k i = by (fate plan k i)
-    where
-      by : Fate plan k i → F (again plan k i).op ≡ F i.op
-      by (unchanged e s) = ap (λ (x : Instr). F x.op) e
-      by (moved r g s e) = ap (λ (x : Instr). F x.op) e ∙ h _ ∙ sym (operator_same F b h i.op g)
-
-  pub results_same : (k : ℕ) (i : Instr) → (again plan k i).results ≡ i.results
-  results_same k i = by (fate plan k i)
-    where
-      by : Fate plan k i → (again plan k i).results ≡ i.results
-      by (unchanged e s) = ap (λ (x : Instr). x.results) e
-      by (moved r g s e) = ap (λ (x : Instr). x.results) e
-
-  pub written_same : (k : ℕ) (i : Instr) → written m (again plan k i) ≡ written m i
-  written_same k i =
-      ap (λ rs. rs ++ killed_by m.colours (destroyed_by (again plan k i).op) rs) (results_same k i)
-      ∙ ap (λ d. i.results ++ killed_by m.colours d i.results) (op_same destroyed_by Nothing (λ f. refl) k i)
-
-  pub straight_same : (k : ℕ) (i : Instr) → is_straight (again plan k i).op ≡ is_straight i.op
-  straight_same k i = op_same is_straight true (λ f. refl) k i
-
-  pub targets_same : (k : ℕ) (i : Instr) → targets (again plan k i).op ≡ targets i.op
-  targets_same k i = op_same targets (On ∷ []) (λ f. refl) k i
-
-  pub may_raise_same : (k : ℕ) (i : Instr) → may_raise (again plan k i).op ≡ may_raise i.op
-  may_raise_same k i = op_same may_raise false (λ f. refl) k i
-
-  pub frame_same : (k : ℕ) (i : Instr) → passes_frame (again plan k i).op ≡ passes_frame i.op
-  frame_same k i = op_same passes_frame false (λ f. refl) k i
-
   -- ---- what stands
-
-  pub record Made (rest code : List Instr) : Type 0 where
-    pub made : List Instr
-    pub whole : expand f code ≡ made ++ expand f rest
-
-  pub made_to : {rest code : List Instr} → Ending rest code → Made rest code
-  made_to all = record { made = []; whole = refl }
-  made_to (more {i = i} {code = code} e) =
-      let w = made_to e in
-      record {
-        made = again plan (length code) i ∷ w.made;
-        whole = ap (λ xs. again plan (length code) i ∷ xs) w.whole;
-      }
 
   -- The result of an operator of the second still stands where this code of the first is left, within its straight run.
   pub record Standing (rest : List Instr) (j : Instr) (r : Reg) : Type 0 where
@@ -250,8 +153,8 @@ module _ (m : Mach) (plan : ℕ → Option Reg) where
       x : Instr
       x = again plan (length next) i
 
-      b : Made (i ∷ next) m.code
-      b = made_to ending
+      b : Made (again plan) (i ∷ next) m.code
+      b = made_to (again plan) ending
 
       same : w.made ≡ b.made ++ x ∷ []
       same =
@@ -267,11 +170,12 @@ module _ (m : Mach) (plan : ℕ → Option Reg) where
               absurd
               (differ (is_operator j.op) (w.stands).operates (ap (λ (y : Instr). is_operator y.op) (e ∙ h)))
       of_since (stood s st apart ends kept) =
-          let straight : is_straight i.op ≡ true = sym (straight_same (length next) i) ∙ st in
+          let straight : is_straight i.op ≡ true = sym (op_same (again plan) (alike plan) is_straight true (λ f. refl) (length next) i) ∙ st in
+          let results : x.results ≡ i.results = (alike plan (length next) i).results in
           earlier (record { made = b.made; whole = b.whole; stands = s; begins = starts_straight straight }) straight
-          (λ v k c. apart v k (subst (λ rs. Contains rs v) (sym (results_same (length next) i)) c))
-          (λ v c. ends v (subst (λ rs. Contains rs v) (sym (results_same (length next) i)) c))
-          (λ e. sym (op_same allocates false (λ f. refl) (length next) i) ∙ kept e)
+          (λ v k c. apart v k (subst (λ rs. Contains rs v) (sym results) c))
+          (λ v c. ends v (subst (λ rs. Contains rs v) (sym results) c))
+          (λ e. sym (op_same (again plan) (alike plan) allocates false (λ f. refl) (length next) i) ∙ kept e)
 
   -- nothing stands after what ends a straight run
   pub not_past : {i : Instr} {next : List Instr} → Ending (i ∷ next) m.code → is_straight i.op ≡ false → (j : Instr) (r : Reg) →
@@ -285,25 +189,25 @@ module _ (m : Mach) (plan : ℕ → Option Reg) where
 
   pub not_at_entry : (j : Instr) (r : Reg) → Standing m.code j r → ⊥
   not_at_entry j r w =
-      none_before j r (subst (λ made. StillStands made j r) (append_cancel_right w.made [] q.code (sym w.whole)) w.stands)
+      let s : StillStands [] j r = subst (λ made. StillStands made j r) (append_cancel_right w.made [] q.code (sym w.whole)) w.stands in
+      none_before s.others j s.run s.within
+
+  within : (j : Instr) (r : Reg) → IsWithin m (λ rest. Standing rest j r)
+  within j r =
+      record {
+        nothing = λ w. not_nothing w.begins;
+        past = λ i next ending e w. not_past ending e j r w;
+        handler = λ l i next e w. differ (is_straight i.op) (starts_with w.begins) (handler_crooked l i.op e);
+      }
 
   pub not_at_label : (l : ℕ) (j : Instr) (r : Reg) → Standing (after_label l m.code) j r → ⊥
-  not_at_label l j r w = by (labelled l m.code)
-    where
-      by : Labelled l m.code → ⊥
-      by (nowhere e) = not_nothing (subst StartsStraight e w.begins)
-      by (marked i s e) = not_past s (label_crooked l i.op e) j r w
+  not_at_label l j r w = run.not_at_label m (λ rest. Standing rest j r) (within j r) l w
 
   pub not_at_handler : (l : ℕ) (j : Instr) (r : Reg) → Standing (from_handler l m.code) j r → ⊥
-  not_at_handler l j r w = handler_starts l m.code w.begins
-
-  not_at_tries : (tries : List ℕ) (j : Instr) (r : Reg) → Standing (at_handler m.code tries) j r → ⊥
-  not_at_tries [] j r w = not_nothing w.begins
-  not_at_tries (l ∷ tries) j r w = not_at_handler l j r w
+  not_at_handler l j r w = run.not_at_handler m (λ rest. Standing rest j r) (within j r) l w
 
   pub not_landed : (to : Landing) (from : List Instr) (j : Instr) (r : Reg) → Standing (landing_code m.code from to) j r → ⊥
-  not_landed (AtLabel l) from j r w = not_at_label l j r w
-  not_landed AtHandler from j r w = not_at_tries (tries_at from) j r w
+  not_landed to from j r w = run.not_landed m (λ rest. Standing rest j r) (within j r) to from w
 
   -- ---- what is repeated
 
@@ -319,7 +223,7 @@ module _ (m : Mach) (plan : ℕ → Option Reg) where
     pub repeated : {i : Instr} {next : List Instr} {r : Reg} → Stands i next m.code → is_operator i.op ≡ true →
         plan (length next) ≡ Some r → Repeated i next r
     repeated {i} {next} {r} s o e =
-        let b = before_of plan s in
+        let b = before_of (again plan) s in
         let w = moves i next b.made (record { before = b.before; whole = b.whole; made_so = b.made_so }) o r e in
         record {
           instr = w.earlier;

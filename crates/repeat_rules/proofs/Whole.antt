@@ -17,7 +17,8 @@ use Rattle.mach_ir.specs.declared.mach.Mach.{Mach}
 use Rattle.split_rules.proofs.Formed.{contains_of, stands_in}
 use Rattle.repeat_rules.specs.Kept.{OwnOrigins, IsKept}
 use Rattle.repeat_rules.specs.Repeated.{is_operator, same_place, Repeats, again, with_moves, IsBefore, IsRepeated, IsFormKept}
-use Rattle.repeat_rules.proofs.Form.{Fate, unchanged, moved, fate, was_main, was_register, kept_by}
+use Rattle.repeat_rules.proofs.OneForOne.{was_main}
+use Rattle.repeat_rules.proofs.Form.{Fate, unchanged, moved, fate, was_register, kept_by}
 use Rattle.repeat_rules.proofs.Kept.{does_repeated}
 use Rattle.repeat_rules.proofs.Live.{Apart, meets_back, no_addr_back}
 
@@ -74,7 +75,7 @@ module _ (m : Mach) (plan : ℕ → Option Reg) (formed : WellFormed m)
       IsNamedIn Named m
   named_before Named none n =
       let s = stands_in q.code n.instr n.among in
-      let w = was_main plan m.code n.instr s.0 s.1 in
+      let w = was_main (again plan) m.code n.instr s.0 s.1 in
       by w.instr (length w.next) (contains_of w.stands) (subst (λ (x : Instr). Named x.op) (sym w.same) n.named)
     where
       by : (i : Instr) (k : ℕ) → Contains m.code i → Named (again plan k i).op → IsNamedIn Named m

@@ -13,7 +13,9 @@ use Rattle.mach_ir.specs.declared.op.CopyKind.TheVariants as copy
 use Rattle.mach_ir.specs.declared.reg.Reg.{Reg}
 use Rattle.mach_ir.specs.declared.mach.Instr.{Instr}
 use Rattle.pass_rules.specs.Measures.{code_words, instr_words, copy_words}
+use Rattle.pass_rules.proofs.Words.{at_most_copy, words_append}
 use Rattle.places_rules.specs.Places.{Placing, placed, all_placed, placed_instr, placed_code}
+use Rattle.places_rules.proofs.Open.{machine_open, slot_open, machine_slot, same_slot}
 use Rattle.reload_rules.specs.Reloaded.{is_in_slot, is_renewed, fresh, renewed, reloads, spills}
 use Rattle.spill_rules.specs.Spilled.{copied}
 
@@ -33,35 +35,23 @@ IsSound place = (r : Reg) → MayStand r (place r)
 abbrev pub IsHomed : Reg → Type 0
 IsHomed r = (k : ℕ) → r.loc ≡ loc.Slot k → k ≡ r.origin
 
-no_slot_open : (l : Loc) (k : ℕ) → l ≡ loc.Slot k → l ≡ loc.Unset → ⊥
-no_slot_open l k e u = cc
-
-no_machine_open : (l : Loc) (k : ℕ) → l ≡ loc.Machine k → l ≡ loc.Unset → ⊥
-no_machine_open l k e u = cc
-
-slot_not_machine : (l : Loc) (k n : ℕ) → l ≡ loc.Slot k → l ≡ loc.Machine n → ⊥
-slot_not_machine l k n e u = cc
-
-same_slot : (l : Loc) (j k : ℕ) → l ≡ loc.Slot j → l ≡ loc.Slot k → j ≡ k
-same_slot l j k e g = cc
-
 pub slot_stays : {r : Reg} {l : Loc} {k : ℕ} → MayStand r l → r.loc ≡ loc.Slot k → l ≡ loc.Slot k
 slot_stays (stays n e) s = e ∙ s
-slot_stays {r} {k = k} (in_colour u e) s = absurd (no_slot_open r.loc k s u)
-slot_stays {r} {k = k} (at_home u e) s = absurd (no_slot_open r.loc k s u)
-slot_stays {r} {k = k} (left_open u e) s = absurd (no_slot_open r.loc k s u)
+slot_stays (in_colour u e) s = absurd (slot_open s u)
+slot_stays (at_home u e) s = absurd (slot_open s u)
+slot_stays (left_open u e) s = absurd (slot_open s u)
 
 pub machine_stays : {r : Reg} {l : Loc} {k : ℕ} → MayStand r l → r.loc ≡ loc.Machine k → l ≡ loc.Machine k
 machine_stays (stays n e) s = e ∙ s
-machine_stays {r} {k = k} (in_colour u e) s = absurd (no_machine_open r.loc k s u)
-machine_stays {r} {k = k} (at_home u e) s = absurd (no_machine_open r.loc k s u)
-machine_stays {r} {k = k} (left_open u e) s = absurd (no_machine_open r.loc k s u)
+machine_stays (in_colour u e) s = absurd (machine_open s u)
+machine_stays (at_home u e) s = absurd (machine_open s u)
+machine_stays (left_open u e) s = absurd (machine_open s u)
 
 pub stays_homed : {r : Reg} {l : Loc} → MayStand r l → IsHomed r → (k : ℕ) → l ≡ loc.Slot k → k ≡ r.origin
 stays_homed (stays n e) h k s = h k (sym e ∙ s)
-stays_homed {l = l} (in_colour {n} u e) h k s = absurd (slot_not_machine l k n s e)
-stays_homed {r} {l} (at_home u e) h k s = same_slot l k r.origin s e
-stays_homed {l = l} (left_open u e) h k s = absurd (no_slot_open l k s e)
+stays_homed (in_colour u e) h k s = absurd (machine_slot e s)
+stays_homed (at_home u e) h k s = same_slot s e
+stays_homed (left_open u e) h k s = absurd (slot_open s e)
 
 -- one placing after another
 abbrev pub after : Placing → Placing → Placing
@@ -76,13 +66,13 @@ sound_after second first two one r = by (one r) (two (placed first r))
     by (stays n e) (at_home u g) = absurd (n (sym e ∙ u))
     by (stays n e) (left_open u g) = absurd (n (sym e ∙ u))
     by (in_colour u e) (stays m g) = in_colour u (g ∙ e)
-    by (in_colour {n} u e) (in_colour v g) = absurd (no_machine_open (first r) n e v)
-    by (in_colour {n} u e) (at_home v g) = absurd (no_machine_open (first r) n e v)
-    by (in_colour {n} u e) (left_open v g) = absurd (no_machine_open (first r) n e v)
+    by (in_colour u e) (in_colour v g) = absurd (machine_open e v)
+    by (in_colour u e) (at_home v g) = absurd (machine_open e v)
+    by (in_colour u e) (left_open v g) = absurd (machine_open e v)
     by (at_home u e) (stays m g) = at_home u (g ∙ e)
-    by (at_home u e) (in_colour v g) = absurd (no_slot_open (first r) r.origin e v)
-    by (at_home u e) (at_home v g) = absurd (no_slot_open (first r) r.origin e v)
-    by (at_home u e) (left_open v g) = absurd (no_slot_open (first r) r.origin e v)
+    by (at_home u e) (in_colour v g) = absurd (slot_open e v)
+    by (at_home u e) (at_home v g) = absurd (slot_open e v)
+    by (at_home u e) (left_open v g) = absurd (slot_open e v)
     by (left_open u e) (stays m g) = absurd (m e)
     by (left_open u e) (in_colour v g) = in_colour u g
     by (left_open u e) (at_home v g) = at_home u g
@@ -105,10 +95,6 @@ module _ (second first : Placing) where
     where
       both : {i j : Instr} {is js : List Instr} → i ≡ j → is ≡ js → i ∷ is ≡ j ∷ js
       both e g = cc
-
-pub words_append : (xs ys : List Instr) → code_words (xs ++ ys) ≡ code_words xs + code_words ys
-words_append [] ys = omega arith
-words_append (x ∷ xs) ys = let e : code_words (xs ++ ys) ≡ code_words xs + code_words ys = words_append xs ys in omega (arith, e)
 
 pub placed_append : (place : Placing) (xs ys : List Instr) → placed_code place (xs ++ ys) ≡ placed_code place xs ++ placed_code place ys
 placed_append place [] ys = refl
@@ -155,10 +141,6 @@ idle_words (idle {a = a} {b = b} {k = k} e g same) = ap (λ t. cond t 0 copy_wor
 all_idle_words : {cs : List Instr} → AreIdle cs → code_words cs ≡ 0
 all_idle_words no_copies = refl
 all_idle_words (idle_then i is) = let a = idle_words i in let b = all_idle_words is in omega (arith, a, b)
-
-at_most_copy : (b : Bool) → cond b 0 copy_words ≤ copy_words
-at_most_copy true = omega arith
-at_most_copy false = omega arith
 
 between_words : {r : Reg} {c : Instr} → IsBetween r c → instr_words c ≤ copy_words
 between_words {r} (brings {s = s} e g) = at_most_copy (same_spot (s ∷ []) (r ∷ []))

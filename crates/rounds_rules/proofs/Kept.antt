@@ -1,5 +1,5 @@
 -- An allocated function is what it was, each of its registers has a place, and of the copies that rounds leave few have words.
-use Rattle.std.proofs.Common.{◌≡◌, ◌≢◌, ◌⊎◌, inl, inr, ℕ, suc, ◌+◌, ◌*◌, ◌≤◌, Bool, true, false, cond, List, [], ◌∷◌, ◌++◌, length, All, refl, sym, ap, ◌∙◌, subst, arith}
+use Rattle.std.proofs.Common.{◌≡◌, ◌⊎◌, inl, inr, ℕ, suc, ◌+◌, ◌*◌, ◌≤◌, Bool, true, false, cond, List, [], ◌∷◌, ◌++◌, length, All, refl, sym, ap, ◌∙◌, subst, arith}
 use Rattle.std.specs.Prelude.{Contains}
 use Rattle.std.proofs.Math.Nat.{mul-le-mul_right, suc-mul}
 use Rattle.std.proofs.lemmas.List.{length-map}
@@ -30,6 +30,7 @@ use Rattle.mach_laws.proofs.Walking.{first_in, later_in}
 use Rattle.pass_rules.specs.Carried.{IsCarried, OffsetFits}
 use Rattle.pass_rules.specs.Measures.{code_words, copy_words, other_operands}
 use Rattle.places_rules.specs.Places.{Placing, all_placed, placed_code, recoloured, rest_in_slots, last_resort, or_slot, ColoursLow}
+use Rattle.places_rules.proofs.Open.{machine_open, slot_open, machine_slot, not_open}
 use Rattle.places_rules.proofs.Rest.{rest_keeps, rest_placed, rest_formed, rest_seated}
 use Rattle.reload_rules.specs.Reloaded.{slot_or, to_slots, in_slots, reloads, spills, reads_registers, writes_registers, results_from, past_instr, renewed_instr, reloaded_instr, reloaded_code, is_renewed, IsReloadedBy, is_coloured, asks_again}
 use Rattle.reload_rules.proofs.Together.{reloaded_kept}
@@ -63,12 +64,6 @@ by_colours place r = own_or r.loc (homed r.origin (place r.number))
 abbrev by_slots : Colouring → Placing
 by_slots place r = own_or r.loc (homed_slot r.origin (place r.number))
 
-not_unset_machine : (l : Loc) (n : ℕ) → l ≡ loc.Machine n → l ≢ loc.Unset
-not_unset_machine l n e = λ u. cc
-
-not_unset_slot : (l : Loc) (n : ℕ) → l ≡ loc.Slot n → l ≢ loc.Unset
-not_unset_slot l n e = λ u. cc
-
 open_homed : (r : Reg) (l : Loc) → r.loc ≡ loc.Unset → MayStand r (homed r.origin l)
 open_homed r (loc.Slot k) u = at_home u refl
 open_homed r (loc.Machine n) u = in_colour u refl
@@ -81,8 +76,8 @@ open_homed_slot r loc.Unset u = left_open u refl
 
 own_stands : (r : Reg) (l : Loc) (own : Loc) → r.loc ≡ own → (r.loc ≡ loc.Unset → MayStand r l) → MayStand r (own_or own l)
 own_stands r l loc.Unset e h = h e
-own_stands r l (loc.Machine n) e h = stays (not_unset_machine r.loc n e) (sym e)
-own_stands r l (loc.Slot k) e h = stays (not_unset_slot r.loc k e) (sym e)
+own_stands r l (loc.Machine n) e h = stays (λ u. machine_open e u) (sym e)
+own_stands r l (loc.Slot k) e h = stays (λ u. slot_open e u) (sym e)
 
 colours_sound : (place : Colouring) → IsSound (by_colours place)
 colours_sound place r = own_stands r (homed r.origin (place r.number)) r.loc refl (open_homed r (place r.number))
@@ -95,8 +90,8 @@ rest_sound r = by r.loc refl
   where
     by : (own : Loc) → r.loc ≡ own → MayStand r (or_slot r.origin own)
     by loc.Unset e = at_home e refl
-    by (loc.Machine n) e = stays (not_unset_machine r.loc n e) (sym e)
-    by (loc.Slot k) e = stays (not_unset_slot r.loc k e) (sym e)
+    by (loc.Machine n) e = stays (λ u. machine_open e u) (sym e)
+    by (loc.Slot k) e = stays (λ u. slot_open e u) (sym e)
 
 -- ---- on registers of the function they agree
 
@@ -138,12 +133,9 @@ module _ (IsOne : Reg → Type 0) (AreJoined : ℕ → ℕ → Type 0) (place : 
       slots_same : (l : Loc) (a b : ℕ) → l ≡ loc.Slot a → l ≡ loc.Slot b → a ≡ b
       slots_same l a b e g = cc
 
-      machine_slot : (l : Loc) (a b : ℕ) → l ≡ loc.Machine a → l ≡ loc.Slot b → ⊥
-      machine_slot l a b e g = cc
-
       by : (r.loc ≡ loc.Unset) ⊎ (place r.number ≡ r.loc) → IsPlaced (record r { loc = place r.number }) → k ≡ r.origin
-      by (inl u) p = absurd (not_unset_slot r.loc k e u)
-      by (inr f) (placings.in_colour n d g) = absurd (machine_slot (place r.number) n k g (f ∙ e))
+      by (inl u) p = absurd (slot_open e u)
+      by (inr f) (placings.in_colour n d g) = absurd (machine_slot g (f ∙ e))
       by (inr f) (placings.in_slot g) = slots_same (place r.number) k r.origin (f ∙ e) g
 
 lists_agree : (one other : Placing) (rs : List Reg) → ((r : Reg) → Contains rs r → one r ≡ other r) → all_placed one rs ≡ all_placed other rs
@@ -384,10 +376,6 @@ module _ {fresh : ℕ} where
 
     pub still_placed : {rounds : ℕ} {m : Mach} → Asked fresh first rounds m → WellPlaced m
     still_placed a = let s = standing a in s.well
-
-not_open : (r : Reg) → IsPlaced r → r.loc ≡ loc.Unset → ⊥
-not_open r (placings.in_colour n c e) u = not_unset_machine r.loc n e u
-not_open r (placings.in_slot e) u = not_unset_slot r.loc r.origin e u
 
 module _ {first : Mach} (formed : WellFormed first) where
   -- what is carried to a function each of whose registers has a place

@@ -117,9 +117,6 @@ record Above (n : ℕ) (l : Loc) : Type 0 where
 machine : {n m : ℕ} → loc.Machine n ≡ loc.Machine m → n ≡ m
 machine e = cc
 
-no_place : {n : ℕ} → loc.Machine n ≡ loc.Unset → ⊥
-no_place e = cc
-
 above : (n : ℕ) (ns : List ℕ) → Ascends n ns → (i : ℕ) → (slice_index_or (map loc.Machine ns) i loc.Unset ≡ loc.Unset) ⊎ Above n
     (slice_index_or (map loc.Machine ns) i loc.Unset)
 above n [] up i = inl refl

@@ -1,3 +1,4 @@
+pub mod Adds
 pub mod Sets
 pub mod Owned
 pub mod Coded

@@ -18,6 +18,7 @@ use Rattle.mach_ir.specs.Placed.{colours}
 use Rattle.mach_ir.specs.Seats.{argument_places}
 use Rattle.mach_ir.specs.declared.reg.Reg.{Reg}
 use Rattle.selection_rules.specs.Select.{Named, scopes, fresh, seat, seats, result_seat, params_from, with_params, width, width_row, width_bound, width_labels, width_handlers, width_cases, count_of, count_cases, bound_name, env_after, regs_of, raised_name, is_based, base_of}
+use Rattle.selection_places.proofs.Adds.{sum_of}
 use Rattle.selection_places.proofs.Sets.{Role, Plain, New, Seated, PlaceOf, is_seated, Both, One, it, Listed, Block, block_in, block_few, block_from, block_then, block_one, no_block}
 
 -- where a node of no value has a part with one, the register for that
@@ -339,8 +340,7 @@ either_block true a b = a
 either_block false a b = b
 
 abbrev pub row_sum : Expressions → ℕ
-row_sum NoMore = 0
-row_sum (More e rest) = width e + row_sum rest
+row_sum es = sum_of width es
 
 pub row_width : (es : Expressions) → count_of es + row_sum es ≡ width_row es
 row_width NoMore = refl

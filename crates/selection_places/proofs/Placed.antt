@@ -8,6 +8,7 @@ use Rattle.mach_ir.specs.Placed.{colours, IsPlaced, in_colour, HasColours, Place
 use Rattle.mach_ir.specs.Walks.{IsRegister, is_param, Joined, one_way, other_way, Meets, at_write, at_params}
 use Rattle.mach_ir.specs.declared.reg.Reg.{Reg}
 use Rattle.places_rules.specs.Places.{ColoursLow}
+use Rattle.places_rules.proofs.Open.{machine_open}
 use Rattle.selection_rules.specs.Select.{selected, first, seats, colour_regs}
 use Rattle.selection_places.proofs.Sets.{Role, Plain, New, Seated, IsColour, left, right as in_right, it, Listed}
 use Rattle.selection_places.proofs.Coded as coded
@@ -177,13 +178,10 @@ at_colours : (n : ℕ) (cs : List ℕ) → Each (λ (r : Reg). (c : ℕ) × (r.l
 at_colours n [] = none
 at_colours n (c ∷ cs) = one (c, refl) (at_colours (suc n) cs)
 
-not_open : (c : ℕ) → loc.Machine c ≡ loc.Unset → ⊥
-not_open c e = cc
-
 low : (f : FunctionTree) (r q : Reg) → Member r (colour_regs 0 colours) → HasRole (Whole f) q → q.loc ≡ loc.Unset → r.number < q.number
 low f r q m (has t (left i)) o =
     let at = each_of (at_colours 0 colours) q (listed_member Seated t q (colour_regs 0 colours) i) in
-    absurd (not_open at.0 (sym at.1 ∙ o))
+    absurd (machine_open at.1 o)
 low f r q m (has t (in_right i)) o =
     let above = (others_block f).from t q i in
     let below = each_of colours_low r m in

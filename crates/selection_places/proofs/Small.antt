@@ -4,7 +4,6 @@ use Rattle.std.specs.Prelude.{◌≢◌, Contains, slice_index_or}
 use Rattle.std.proofs.lemmas.Bool.{true≢false}
 use Rattle.bs_words.specs.declared.types.Comp.{Comp}
 use Rattle.bs_words.specs.declared.types.Comp.TheVariants as comp
-use Rattle.bs_words.specs.declared.types.Loc.{Loc}
 use Rattle.bs_words.specs.declared.types.Loc.TheVariants as loc
 use Rattle.bs_words.specs.declared.types.Ret.{Ret}
 use Rattle.bs_words.specs.declared.types.Ret.TheVariants as ret
@@ -15,6 +14,7 @@ use Rattle.mach_ir.specs.Placed.{colours}
 use Rattle.mach_ir.specs.Sizes.{Size, HasSize, OpenAtMost}
 use Rattle.mach_ir.specs.Walks.{IsRegister}
 use Rattle.mach_ir.specs.declared.reg.Reg.{Reg}
+use Rattle.places_rules.proofs.Open.{machine_open, slot_open, machine_slot}
 use Rattle.selection_rules.specs.Select.{Named, scopes, selected, first, seat, seats, result_seat, params_from, colour_regs, regs_of, count_of, width, is_based}
 use Rattle.selection_laws.specs.Fits.{HasFew, Fits, RowFits, BindingsFit, CasesFit, HandlersFit, FunctionFits}
 use Rattle.selection_places.proofs.Sets.{Role, Plain, New, Seated, IsColour, Block, is_seated, left, right as in_right, One, it, Listed}
@@ -51,24 +51,15 @@ selected_small f =
 pub selected_no_slot : (f : FunctionTree) (r : Reg) → IsRegister (selected f) r → (k : ℕ) → r.loc ≢ loc.Slot k
 selected_no_slot f r x k e = by (selected_stands f r x)
   where
-    not_open : (l : Loc) → l ≡ loc.Slot k → l ≡ loc.Unset → ⊥
-    not_open l a b = cc
-
-    not_colour : (l : Loc) (n : ℕ) → l ≡ loc.Slot k → l ≡ loc.Machine n → ⊥
-    not_colour l n a b = cc
-
     by : (r.loc ≡ loc.Unset) ⊎ IsColour r.loc → ⊥
-    by (inl u) = not_open r.loc e u
-    by (inr c) = not_colour r.loc c.colour e c.is
+    by (inl u) = slot_open e u
+    by (inr c) = machine_slot c.is e
 
 -- ---- seats have places, since the convention has enough
 
-no_place : {n : ℕ} → loc.Machine n ≡ loc.Unset → ⊥
-no_place e = cc
-
 place_fixed : (ns : List ℕ) (i : ℕ) → i < length ns → slice_index_or (map loc.Machine ns) i loc.Unset ≢ loc.Unset
 place_fixed [] i less e = omega (arith, less)
-place_fixed (n ∷ ns) zero less e = no_place e
+place_fixed (n ∷ ns) zero less e = machine_open refl e
 place_fixed (n ∷ ns) (suc i) less e = place_fixed ns i (omega (arith, less)) e
 
 seat_fixed : (i n : ℕ) (c : Comp) → i < 16 → (seat i n c).loc ≢ loc.Unset
@@ -86,7 +77,7 @@ result_fixed n (ret.Comp c) r (in_right x) e = x
 
 colours_fixed : (n : ℕ) (cs : List ℕ) (r : Reg) → Listed Seated (colour_regs n cs) Seated r → r.loc ≢ loc.Unset
 colours_fixed n [] r x e = x
-colours_fixed n (c ∷ cs) r (left (it a b)) e = no_place (sym (ap (λ (z : Reg). z.loc) b) ∙ e)
+colours_fixed n (c ∷ cs) r (left (it a b)) e = machine_open (ap (λ (z : Reg). z.loc) b) e
 colours_fixed n (c ∷ cs) r (in_right x) e = colours_fixed (suc n) cs r x e
 
 row_count : (es : Expressions) → row_length es ≡ count_of es

@@ -1,5 +1,5 @@
 -- How long selected code is, by the width of a tree.
-use Rattle.std.proofs.Common.{◌≡◌, ℕ, suc, ◌+◌, ◌*◌, ◌≤◌, length, Bool, true, false, not, cond, List, [], ◌∷◌, ◌++◌, Option, Some, None, refl, arith}
+use Rattle.std.proofs.Common.{ℕ, suc, ◌+◌, ◌*◌, ◌≤◌, length, Bool, true, false, not, List, [], ◌∷◌, ◌++◌, Option, Some, None, arith}
 use Rattle.bs_words.specs.declared.operators.IntOp.{IntOp}
 use Rattle.bs_words.specs.declared.operators.IntOp.TheVariants as operator
 use Rattle.bs_words.specs.declared.types.Chunk.{Chunk}
@@ -25,8 +25,10 @@ use Rattle.mach_ir.specs.declared.op.Right.TheVariants as right
 use Rattle.mach_ir.specs.declared.reg.Reg.{Reg}
 use Rattle.selection_rules.specs.Instructions.{bare}
 use Rattle.selection_rules.specs.Instructions as emit
-use Rattle.selection_rules.specs.Select.{Code, Shape, InRegisters, ConstantRight, ConstantLeft, PowerRight, shape_of, shape_op, shape_right, shape_args, unless_left, unless_right, power_code, operator_code, Named, Label, scopes, reg_of, label_of, move_from, move_to, moves_all, exit_to, ordered, only_when, from_seat, symbol_of, unless_symbol, callee_regs, right_of, unless_constant, bound_test, comparison, tested, select_test, is_based, base_of, inner_dest, seat, select_base, call_of, count_of, count_cases, regs_of, width, width_row, width_bound, width_cases, width_handlers, width_labels, select, select_waiting, select_filled, select_bound, select_seq, select_cases, select_handlers, deeper, cell_stores, returns, selected, first, is_no_value, fresh, seats, result_seat}
-use Rattle.selection_places.proofs.Owned.{row_sum, row_width, regs_length}
+use Rattle.selection_rules.specs.Select.{Code, Shape, InRegisters, ConstantRight, ConstantLeft, PowerRight, shape_of, shape_op, shape_right, shape_args, power_code, operator_code, Named, Label, scopes, reg_of, label_of, move_from, move_to, moves_all, exit_to, only_when, from_seat, symbol_of, callee_regs, right_of, bound_test, comparison, select_test, is_based, base_of, inner_dest, seat, select_base, call_of, count_of, count_cases, regs_of, width, width_row, width_bound, width_cases, width_handlers, width_labels, select, select_waiting, select_filled, select_bound, select_seq, select_cases, select_handlers, deeper, cell_stores, returns, selected, first, is_no_value, fresh, seats, result_seat}
+use Rattle.selection_places.proofs.Adds as adds
+use Rattle.selection_places.proofs.Adds.{Adds, part, part_both, now_of, later_of, in_parts}
+use Rattle.selection_places.proofs.Owned.{row_width, regs_length}
 use Rattle.selection_places.proofs.Whole.{params_length, seats_length, moved_at, value_at, params_of, env_of}
 
 -- instructions, operands and results together
@@ -43,25 +45,8 @@ operands_weigh [] = omega arith
 operands_weigh (i ∷ is) = let others = operands_weigh is in omega (arith, others)
 
 -- code that weighs no more than so much
-record Weighs (n : ℕ) (code : Code) : Type 0 where
-  at : (next : List Instr) → weight (code next) ≤ n + weight next
-
-abbrev part : Bool → ℕ → ℕ
-part true n = n
-part false n = 0
-
-part_both : (b : Bool) (n : ℕ) → part (not b) n + part b n ≡ n
-part_both true n = omega arith
-part_both false n = omega arith
-
-w_up : {n k : ℕ} {x : Code} → n ≤ k → Weighs n x → Weighs k x
-w_up le w = record { at = λ next. let here = w.at next in omega (arith, here, le) }
-
-w_then : {n k : ℕ} {x y : Code} → Weighs n x → Weighs k y → Weighs (n + k) (λ next. x (y next))
-w_then {n} {k} {x} {y} a b = record { at = λ next. let first = a.at (y next) in let second = b.at next in omega (arith, first, second) }
-
-w_none : Weighs 0 (λ next. next)
-w_none = record { at = λ next. omega arith }
+abbrev Weighs : ℕ → Code → Type 0
+Weighs n code = Adds weight n code
 
 w_operation : (f : Op) (args results : List Reg) → Weighs (suc (length args + length results)) (λ next. emit.operation f args results ∷ next)
 w_operation f args results = record { at = λ next. omega arith }
@@ -91,51 +76,15 @@ w_moves (a ∷ from) (d ∷ to) = record { at = λ next. let others = (w_moves f
 
 w_exit : (o : Option Label) (from : List Reg) → Weighs (3 * length from + 1) (exit_to o from)
 w_exit None from = record { at = λ next. omega arith }
-w_exit (Some t) from = w_then (w_moves from t.params) (w_bare _)
+w_exit (Some t) from = adds.then (w_moves from t.params) (w_bare _)
 
 w_cells : (k : Chunk) (p : Reg) (i : ℕ) (rs : List Reg) → Weighs (3 * length rs) (cell_stores k p i rs)
 w_cells k p i [] = record { at = λ next. omega arith }
 w_cells k p i (r ∷ rs) = record { at = λ next. let others = (w_cells k p (suc i) rs).at next in omega (arith, others) }
 
-w_ordered : {x y : Code} {n k : ℕ} (b : Bool) → Weighs n x → Weighs k y → Weighs (n + k) (ordered b x y)
-w_ordered true p q = w_then p q
-w_ordered {n = n} {k = k} false p q = w_up (swap n k) (w_then q p)
-  where
-    swap : (n k : ℕ) → k + n ≤ n + k
-    swap n k = omega arith
-
 w_when : {code : Code} (b : Bool) (n : ℕ) → Weighs (8 * n) code → Weighs (8 * part b n) (only_when b code)
 w_when true n e = e
-w_when false n e = record { at = λ next. omega arith }
-
-w_unless : {code : Code} {n : ℕ} (o : Option (List ℕ)) → Weighs n code → Weighs n (unless_symbol o code)
-w_unless (Some name) e = record { at = λ next. omega arith }
-w_unless None e = e
-
-w_constant : {code : Code} {n : ℕ} (r : Right) → Weighs n code → Weighs n (unless_constant r code)
-w_constant right.Register e = e
-w_constant (right.Constant w) e = record { at = λ next. omega arith }
-
-w_left : {code : Code} {n : ℕ} (s : Shape) → Weighs n code → Weighs n (unless_left s code)
-w_left InRegisters e = e
-w_left (ConstantRight i) e = e
-w_left (ConstantLeft i) e = record { at = λ next. omega arith }
-w_left (PowerRight k) e = e
-
-w_right : {code : Code} {n : ℕ} (s : Shape) → Weighs n code → Weighs n (unless_right s code)
-w_right InRegisters e = e
-w_right (ConstantRight i) e = record { at = λ next. omega arith }
-w_right (ConstantLeft i) e = e
-w_right (PowerRight k) e = record { at = λ next. omega arith }
-
-w_tested : {value : Code} {n : ℕ} (o : Option Test) (fused : Test → Code) → ((t : Test) → Weighs n (fused t)) → Weighs n value → Weighs n
-    (λ next. tested o (λ t. fused t next) (value next))
-w_tested (Some t) fused f v = f t
-w_tested None fused f v = v
-
-w_if : {x y : Code} {n : ℕ} (q : Bool) → Weighs n x → Weighs n y → Weighs n (λ next. cond q (x next) (y next))
-w_if true a b = a
-w_if false a b = b
+w_when false n e = adds.up (omega arith) adds.none
 
 w_power : (f : IntOp) (k : ℕ) (x y d : Reg) → Weighs 20 (power_code f k x y d)
 w_power operator.Div k x y d = record { at = λ next. omega arith }
@@ -184,170 +133,154 @@ w_external name comps result frame rs n d = record {
       (arith, one, last);
 }
 
--- the widths of the operands that wait, and of the others
-abbrev waits : List Named → Expressions → ℕ
-waits env NoMore = 0
-waits env (More e rest) = part (not (is_light_address (scopes env) e)) (width e) + waits env rest
-
-abbrev stays : List Named → Expressions → ℕ
-stays env NoMore = 0
-stays env (More e rest) = part (is_light_address (scopes env) e) (width e) + stays env rest
-
-parts : (env : List Named) (es : Expressions) → waits env es + stays env es ≡ row_sum es
-parts env NoMore = refl
-parts env (More e rest) =
-    let here = part_both (is_light_address (scopes env) e) (width e) in
-    let others = parts env rest in
-    omega (arith, here, others)
-
 mutual
   w_select : (env : List Named) (labels : List Label) (valued tail : Bool) (d : Reg) (b : ℕ) (e : Expression) → Weighs (8 * width e)
       (select env labels valued tail d b e)
-  w_select env labels valued tail d b (Integer at w) = w_up (omega arith) (w_operation _ [] (inner_dest (type_of (scopes env) (Integer at w)) b d ∷ []))
-  w_select env labels valued tail d b (Pointer at w) = w_up (omega arith) (w_operation _ [] (inner_dest (type_of (scopes env) (Pointer at w)) b d ∷ []))
-  w_select env labels valued tail d b (Symbol at name) = w_up (omega arith) (w_operation _ [] (inner_dest (type_of (scopes env) (Symbol at name)) b d ∷ []))
-  w_select env labels valued tail d b (Name at x) = w_up (omega arith) (w_from (reg_of env x) _)
-  w_select env labels valued tail d b (Nothing at) = w_up (omega arith) w_none
-  w_select env labels valued tail d b (Float at word_at operands) = w_up (omega arith) w_none
-  w_select env labels valued tail d b (Let at bindings body) = w_up (omega arith)
-      (w_then (w_bound env labels (suc b) bindings) (w_select _ labels _ tail _ _ body))
-  w_select env labels valued tail d b (Assign at name_at name e) = w_up (omega arith)
-      (w_then (w_select env labels false false _ _ e) (w_to _ (reg_of env name)))
+  w_select env labels valued tail d b (Integer at w) = adds.up (omega arith) (w_operation _ [] (inner_dest (type_of (scopes env) (Integer at w)) b d ∷ []))
+  w_select env labels valued tail d b (Pointer at w) = adds.up (omega arith) (w_operation _ [] (inner_dest (type_of (scopes env) (Pointer at w)) b d ∷ []))
+  w_select env labels valued tail d b (Symbol at name) = adds.up (omega arith) (w_operation _ [] (inner_dest (type_of (scopes env) (Symbol at name)) b d ∷ []))
+  w_select env labels valued tail d b (Name at x) = adds.up (omega arith) (w_from (reg_of env x) _)
+  w_select env labels valued tail d b (Nothing at) = adds.up (omega arith) adds.none
+  w_select env labels valued tail d b (Float at word_at operands) = adds.up (omega arith) adds.none
+  w_select env labels valued tail d b (Let at bindings body) = adds.up (omega arith)
+      (adds.then (w_bound env labels (suc b) bindings) (w_select _ labels _ tail _ _ body))
+  w_select env labels valued tail d b (Assign at name_at name e) = adds.up (omega arith)
+      (adds.then (w_select env labels false false _ _ e) (w_to _ (reg_of env name)))
   w_select env labels valued tail d b (Operator at op e g) =
       let s = shape_of op e g in
-      w_up (omega arith)
-      (w_then (w_ordered (is_left_first (scopes env) e g) (w_left s (w_select env labels false false _ _ e))
-      (w_right s (w_select env labels false false _ _ g))) (w_operator s op _ _ _))
+      adds.up (omega arith)
+      (adds.then (adds.in_order (is_left_first (scopes env) e g) (adds.left s (w_select env labels false false _ _ e))
+      (adds.right_of s (w_select env labels false false _ _ g))) (w_operator s op _ _ _))
   w_select env labels valued tail d b (App at callee arguments result result_at) =
       let light = is_light_address (scopes env) callee in
       let regs = regs_of env (suc (suc b)) arguments in
       let both = part_both light (width callee) in
-      let all = parts env arguments in
+      let all = in_parts width env arguments in
       let sum = row_width arguments in
       let count = regs_length env (suc (suc b)) arguments in
       let seated = seats_length 0 (suc (suc b) + count_of arguments) regs in
-      w_up (omega (arith, both, all, sum, count, seated))
-      (w_then (w_waiting env labels _ _ arguments)
-      (w_then (w_when (not light) (width callee) (w_unless (symbol_of callee) (w_select env labels false false _ _ callee)))
-      (w_then (w_filled env labels _ _ arguments)
-      (w_then (w_when light (width callee) (w_select env labels false false _ _ callee))
-      (w_then (w_moves regs _) (w_call tail _ result (symbol_of callee) _ (seats 0 (suc (suc b) + count_of arguments) regs) _ _))))))
+      adds.up (omega (arith, both, all, sum, count, seated))
+      (adds.then (w_waiting env labels _ _ arguments)
+      (adds.then (w_when (not light) (width callee) (adds.unless (symbol_of callee) (w_select env labels false false _ _ callee)))
+      (adds.then (w_filled env labels _ _ arguments)
+      (adds.then (w_when light (width callee) (w_select env labels false false _ _ callee))
+      (adds.then (w_moves regs _) (w_call tail _ result (symbol_of callee) _ (seats 0 (suc (suc b) + count_of arguments) regs) _ _))))))
   w_select env labels valued tail d b (Extcall at frame name arguments result result_at) =
       let regs = regs_of env (suc b) arguments in
-      let all = parts env arguments in
+      let all = in_parts width env arguments in
       let sum = row_width arguments in
       let count = regs_length env (suc b) arguments in
       let seated = seats_length 0 (suc b + count_of arguments) regs in
-      w_up (omega (arith, all, sum, count, seated))
-      (w_then (w_waiting env labels _ _ arguments)
-      (w_then (w_filled env labels _ _ arguments)
-      (w_then (w_moves regs _) (w_external name _ result frame (seats 0 (suc b + count_of arguments) regs) _ _))))
-  w_select env labels valued tail d b (Seq at elements) = w_up (omega arith) (w_seq env labels _ tail _ _ elements)
+      adds.up (omega (arith, all, sum, count, seated))
+      (adds.then (w_waiting env labels _ _ arguments)
+      (adds.then (w_filled env labels _ _ arguments)
+      (adds.then (w_moves regs _) (w_external name _ result frame (seats 0 (suc b + count_of arguments) regs) _ _))))
+  w_select env labels valued tail d b (Seq at elements) = adds.up (omega arith) (w_seq env labels _ tail _ _ elements)
   w_select env labels valued tail d b (If at condition e g) =
-      w_up (omega arith)
-      (w_then (w_test env labels _ _ condition (w_then (w_select env labels false false _ _ condition)
-      (w_up (omega arith) (w_mark (mark.If test.Holds (suc (suc b))) (fresh (suc b) (type_of (scopes env) condition) ∷ []) []))))
-      (w_then (w_select env labels _ tail _ _ e) (w_then (w_bare _) (w_then (w_select env labels _ tail _ _ g) (w_bare _)))))
+      adds.up (omega arith)
+      (adds.then (w_test env labels _ _ condition (adds.then (w_select env labels false false _ _ condition)
+      (adds.up (omega arith) (w_mark (mark.If test.Holds (suc (suc b))) (fresh (suc b) (type_of (scopes env) condition) ∷ []) []))))
+      (adds.then (w_select env labels _ tail _ _ e) (adds.then (w_bare _) (adds.then (w_select env labels _ tail _ _ g) (w_bare _)))))
   w_select env labels valued tail d b (Catch at body handlers) =
-      w_up (omega arith) (w_then (w_bare _) (w_then (w_select env _ _ tail _ _ body) (w_then (w_handlers env _ _ tail _ _ _ _ handlers) (w_bare _))))
+      adds.up (omega arith) (adds.then (w_bare _) (adds.then (w_select env _ _ tail _ _ body) (adds.then (w_handlers env _ _ tail _ _ _ _ handlers) (w_bare _))))
   w_select env labels valued tail d b (Exit at label_at label arguments) =
-      let all = parts env arguments in
+      let all = in_parts width env arguments in
       let sum = row_width arguments in
       let count = regs_length env (suc b) arguments in
-      w_up (omega (arith, all, sum, count))
-      (w_then (w_waiting env labels _ _ arguments) (w_then (w_filled env labels _ _ arguments)
+      adds.up (omega (arith, all, sum, count))
+      (adds.then (w_waiting env labels _ _ arguments) (adds.then (w_filled env labels _ _ arguments)
       (w_exit (label_of labels label) (regs_of env (suc b) arguments))))
   w_select env labels valued tail d b (Alloc at header_at header operands) =
       let p = fresh (suc b) ty.Val in
       let q = fresh (suc (suc b)) ty.Int in
-      let all = parts env operands in
+      let all = in_parts width env operands in
       let sum = row_width operands in
       let count = regs_length env (suc (suc (suc b))) operands in
-      w_up (omega (arith, all, sum, count))
-      (w_then (w_waiting env labels _ _ operands)
-      (w_then (w_operation _ [] (p ∷ []))
-      (w_then (w_operation _ [] (q ∷ []))
-      (w_then (w_operation _ (p ∷ q ∷ []) [])
-      (w_then (w_filled env labels _ _ operands)
-      (w_then (w_cells _ p 0 (regs_of env (suc (suc (suc b))) operands)) (w_move p _)))))))
+      adds.up (omega (arith, all, sum, count))
+      (adds.then (w_waiting env labels _ _ operands)
+      (adds.then (w_operation _ [] (p ∷ []))
+      (adds.then (w_operation _ [] (q ∷ []))
+      (adds.then (w_operation _ (p ∷ q ∷ []) [])
+      (adds.then (w_filled env labels _ _ operands)
+      (adds.then (w_cells _ p 0 (regs_of env (suc (suc (suc b))) operands)) (w_move p _)))))))
   w_select env labels valued tail d b (Load at chunk address) =
-      w_up (omega arith)
-      (w_then (w_base env labels _ _ address (w_select env labels false false _ _ address))
+      adds.up (omega arith)
+      (adds.then (w_base env labels _ _ address (w_select env labels false false _ _ address))
       (w_operation _ (fresh (suc b) (type_of (scopes env) (base_of address)) ∷ []) (inner_dest (type_of (scopes env) (Load at chunk address)) b d ∷ [])))
   w_select env labels valued tail d b (Store at chunk address e) =
-      w_up (omega arith)
-      (w_then (w_ordered (is_left_first (scopes env) address e) (w_base env labels _ _ address (w_select env labels false false _ _ address))
+      adds.up (omega arith)
+      (adds.then (adds.in_order (is_left_first (scopes env) address e) (w_base env labels _ _ address (w_select env labels false false _ _ address))
       (w_select env labels false false _ _ e))
       (w_operation _ (fresh (suc b) (type_of (scopes env) (base_of address)) ∷ fresh (suc (suc b)) (type_of (scopes env) e) ∷ []) []))
   w_select env labels valued tail d b (Checkbound at e g) =
-      w_up (omega arith)
-      (w_then (w_ordered (is_left_first (scopes env) e g) (w_select env labels false false _ _ e)
-      (w_constant (right_of bound_test g) (w_select env labels false false _ _ g)))
+      adds.up (omega arith)
+      (adds.then (adds.in_order (is_left_first (scopes env) e g) (w_select env labels false false _ _ e)
+      (adds.constant (right_of bound_test g) (w_select env labels false false _ _ g)))
       (w_checkbound (right_of bound_test g) _ _))
   w_select env labels valued tail d b (Raise at e) =
       let y = seat 0 (suc (suc b)) comp.Val in
-      w_up (omega arith) (w_then (w_select env labels false false _ _ e) (w_then (w_move _ y) (w_operation _ (y ∷ []) [])))
+      adds.up (omega arith) (adds.then (w_select env labels false false _ _ e) (adds.then (w_move _ y) (w_operation _ (y ∷ []) [])))
   w_select env labels valued tail d b (Switch at size_at size selector cases) =
-      w_up (omega arith)
-      (w_then (w_select env labels false false _ _ selector)
-      (w_then (w_mark _ (fresh (suc b) (type_of (scopes env) selector) ∷ []) []) (w_then (w_cases env labels _ tail _ _ _ _ _ cases) (w_bare _))))
+      adds.up (omega arith)
+      (adds.then (w_select env labels false false _ _ selector)
+      (adds.then (w_mark _ (fresh (suc b) (type_of (scopes env) selector) ∷ []) []) (adds.then (w_cases env labels _ tail _ _ _ _ _ cases) (w_bare _))))
   w_select env labels valued tail d b (Try at body name_at name handler) =
       let y = seat 0 (suc (suc (suc (suc b)))) comp.Val in
-      w_up (omega arith)
-      (w_then (w_bare _)
-      (w_then (w_select env (deeper labels) _ false _ _ body)
-      (w_then (w_bare _) (w_then (w_mark _ [] (y ∷ [])) (w_then (w_move y _) (w_then (w_select _ labels _ tail _ _ handler) (w_bare _)))))))
+      adds.up (omega arith)
+      (adds.then (w_bare _)
+      (adds.then (w_select env (deeper labels) _ false _ _ body)
+      (adds.then (w_bare _) (adds.then (w_mark _ [] (y ∷ [])) (adds.then (w_move y _) (adds.then (w_select _ labels _ tail _ _ handler) (w_bare _)))))))
 
   w_base : {whole : Code} (env : List Named) (labels : List Label) (t b : ℕ) (e : Expression) → Weighs (8 * width e) whole → Weighs (8 * width e)
       (select_base env labels t b e whole)
-  w_base env labels t b (Operator at op base (Integer at' w)) inside = w_if (is_based op w)
-      (w_up (omega arith) (w_select env labels false false (fresh t (type_of (scopes env) base)) b base)) inside
+  w_base env labels t b (Operator at op base (Integer at' w)) inside = adds.either (is_based op w)
+      (adds.up (omega arith) (w_select env labels false false (fresh t (type_of (scopes env) base)) b base)) inside
   w_base env labels t b e inside = inside
 
   w_test : {value : Code} (env : List Named) (labels : List Label) (l b : ℕ) (e : Expression) → Weighs (8 * width e + 3) value → Weighs (8 * width e + 3)
       (λ next. select_test env labels l b e (value next) next)
   w_test env labels l b (Operator at op e g) v =
       let s = shape_of op e g in
-      w_tested (comparison (shape_op s op) (shape_right s)) _
-      (λ t. w_up (omega arith)
-      (w_then (w_ordered (is_left_first (scopes env) e g) (w_left s (w_select env labels false false _ _ e))
-      (w_right s (w_select env labels false false _ _ g))) (w_branch t l s _ _)))
+      adds.fused (comparison (shape_op s op) (shape_right s)) _
+      (λ t. adds.up (omega arith)
+      (adds.then (adds.in_order (is_left_first (scopes env) e g) (adds.left s (w_select env labels false false _ _ e))
+      (adds.right_of s (w_select env labels false false _ _ g))) (w_branch t l s _ _)))
       v
   w_test env labels l b e v = v
 
   w_cases : (env : List Named) (labels : List Label) (valued tail : Bool) (d : Reg) (all : List ℕ) (end l b : ℕ) (cs : Cases) → Weighs
       (8 * (width_cases cs + count_cases cs)) (select_cases env labels valued tail d all end l b cs)
-  w_cases env labels valued tail d all end l b NoCase = w_up (omega arith) w_none
+  w_cases env labels valued tail d all end l b NoCase = adds.up (omega arith) adds.none
   w_cases env labels valued tail d all end l b (Choose indexes body rest) =
-      w_up (omega arith) (w_then (w_bare _) (w_then (w_select env labels valued tail d b body) (w_cases env labels valued tail d all end _ _ rest)))
+      adds.up (omega arith) (adds.then (w_bare _) (adds.then (w_select env labels valued tail d b body) (w_cases env labels valued tail d all end _ _ rest)))
 
-  w_waiting : (env : List Named) (labels : List Label) (b i : ℕ) (es : Expressions) → Weighs (8 * waits env es) (select_waiting env labels b i es)
-  w_waiting env labels b i NoMore = w_up (omega arith) w_none
+  w_waiting : (env : List Named) (labels : List Label) (b i : ℕ) (es : Expressions) → Weighs (8 * now_of width env es) (select_waiting env labels b i es)
+  w_waiting env labels b i NoMore = adds.up (omega arith) adds.none
   w_waiting env labels b i (More e rest) =
-      w_up (omega arith) (w_then (w_waiting env labels _ _ rest) (w_when (not (is_light_address (scopes env) e)) (width e)
+      adds.up (omega arith) (adds.then (w_waiting env labels _ _ rest) (w_when (not (is_light_address (scopes env) e)) (width e)
       (w_select env labels false false _ i e)))
 
-  w_filled : (env : List Named) (labels : List Label) (b i : ℕ) (es : Expressions) → Weighs (8 * stays env es) (select_filled env labels b i es)
-  w_filled env labels b i NoMore = w_up (omega arith) w_none
+  w_filled : (env : List Named) (labels : List Label) (b i : ℕ) (es : Expressions) → Weighs (8 * later_of width env es) (select_filled env labels b i es)
+  w_filled env labels b i NoMore = adds.up (omega arith) adds.none
   w_filled env labels b i (More e rest) =
-      w_up (omega arith) (w_then (w_filled env labels _ _ rest) (w_when (is_light_address (scopes env) e) (width e) (w_select env labels false false _ i e)))
+      adds.up (omega arith) (adds.then (w_filled env labels _ _ rest) (w_when (is_light_address (scopes env) e) (width e) (w_select env labels false false _ i e)))
 
   w_bound : (env : List Named) (labels : List Label) (b : ℕ) (bs : Bindings) → Weighs (8 * width_bound bs) (select_bound env labels b bs)
-  w_bound env labels b NoBinding = w_up (omega arith) w_none
-  w_bound env labels b (Bind at name declared e rest) = w_up (omega arith) (w_then (w_select env labels false false _ _ e) (w_bound _ labels _ rest))
+  w_bound env labels b NoBinding = adds.up (omega arith) adds.none
+  w_bound env labels b (Bind at name declared e rest) = adds.up (omega arith) (adds.then (w_select env labels false false _ _ e) (w_bound _ labels _ rest))
 
   w_seq : (env : List Named) (labels : List Label) (valued tail : Bool) (d : Reg) (b : ℕ) (es : Expressions) → Weighs (8 * width_row es)
       (select_seq env labels valued tail d b es)
-  w_seq env labels valued tail d b NoMore = w_up (omega arith) w_none
-  w_seq env labels valued tail d b (More e NoMore) = w_up (omega arith) (w_select env labels valued tail d (suc b) e)
-  w_seq env labels valued tail d b (More e (More g rest)) = w_up (omega arith)
-      (w_then (w_select env labels false false _ _ e) (w_seq env labels valued tail d _ (More g rest)))
+  w_seq env labels valued tail d b NoMore = adds.up (omega arith) adds.none
+  w_seq env labels valued tail d b (More e NoMore) = adds.up (omega arith) (w_select env labels valued tail d (suc b) e)
+  w_seq env labels valued tail d b (More e (More g rest)) = adds.up (omega arith)
+      (adds.then (w_select env labels false false _ _ e) (w_seq env labels valued tail d _ (More g rest)))
 
   w_handlers : (env : List Named) (labels : List Label) (valued tail : Bool) (d : Reg) (end l b : ℕ) (hs : Handlers) → Weighs
       (8 * (width_handlers hs + width_labels hs)) (select_handlers env labels valued tail d end l b hs)
-  w_handlers env labels valued tail d end l b NoHandler = w_up (omega arith) w_none
+  w_handlers env labels valued tail d end l b NoHandler = adds.up (omega arith) adds.none
   w_handlers env labels valued tail d end l b (Handle at label params body rest) =
-      w_up (omega arith) (w_then (w_bare _) (w_then (w_select _ labels valued tail d b body) (w_handlers env labels valued tail d end _ _ rest)))
+      adds.up (omega arith) (adds.then (w_bare _) (adds.then (w_select _ labels valued tail d b body) (w_handlers env labels valued tail d end _ _ rest)))
 
 w_returns : (d : Reg) (n : ℕ) (result : Ret) → weight (returns d n result) ≤ 5
 w_returns d n ret.Unit = omega arith
@@ -357,7 +290,7 @@ w_returns d n (ret.Comp c) = omega arith
 pub selected_weight : (f : FunctionTree) → weight (selected f).code ≤ 8 * width f.body + 3 * length f.params + 5
 selected_weight f =
     let d = fresh (value_at f) (body_type f) in
-    let whole = w_then (w_moves (seats 0 first (params_of f)) (params_of f))
+    let whole = adds.then (w_moves (seats 0 first (params_of f)) (params_of f))
     (w_select (env_of f) [] (not (is_no_value (body_type f))) true d (suc (suc (value_at f))) f.body) in
     let all = whole.at (returns d (suc (value_at f)) (result_of (body_type f))) in
     let last = w_returns d (suc (value_at f)) (result_of (body_type f)) in

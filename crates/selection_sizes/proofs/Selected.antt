@@ -18,7 +18,8 @@ use Rattle.selection_rules.specs.Select.{Code, shape_of, shape_op, shape_right, 
 use Rattle.selection_places.proofs.Owned.{regs_length}
 use Rattle.selection_places.proofs.Whole.{params_length, seats_length, moved_at, value_at, params_of, env_of}
 use Rattle.pass_rules.specs.Measures.{code_words, one_if, code_points}
-use Rattle.selection_sizes.proofs.Sums.{most, points, some_nodes, part_both, now_of, later_of, in_parts, row_points, row_most}
+use Rattle.selection_places.proofs.Adds.{part_both, now_of, later_of, in_parts}
+use Rattle.selection_sizes.proofs.Sums.{most, points, some_nodes, row_points, row_most}
 use Rattle.selection_sizes.proofs.Weights.{Weighs, weight, w_up, w_then, w_none, w_pure, w_alloc, w_load, w_store, w_raising, w_checkbound, w_branch, w_choose, w_handler, w_else, w_end, w_catch, w_with, w_case, w_try, w_leave, w_exits, w_move, w_from, w_to, w_moves, w_cells, w_ordered, w_when, w_unless, w_constant, w_left, w_right, w_tested, w_if, w_operator, w_call, w_external, w_compare}
 
 -- ---- labels

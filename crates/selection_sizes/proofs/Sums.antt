@@ -1,10 +1,10 @@
 -- What an expression may weigh, and what a row of operands may, in two parts.
-use Rattle.std.proofs.Common.{◌≡◌, ℕ, ◌+◌, ◌-◌, ◌*◌, ◌≤◌, Bool, true, false, not, List, refl, arith}
+use Rattle.std.proofs.Common.{◌≡◌, ℕ, ◌+◌, ◌-◌, ◌*◌, ◌≤◌, arith}
 use Rattle.cmm_tree.specs.Measures.{total, row_total, counts_one, nodes_in}
 use Rattle.cmm_tree.specs.Tree.{Expression, Integer, Pointer, Symbol, Name, Nothing, Float, Let, Assign, Operator, Load, Store, Alloc, App, Extcall, Checkbound, Raise, Seq, If, Switch, Catch, Exit, Try, Expressions, NoMore, More}
-use Rattle.cmm_types.specs.Light.{is_light_address}
 use Rattle.correctness.specs.Measures.{indexes_of, is_frame_point}
-use Rattle.selection_rules.specs.Select.{Named, scopes, count_of}
+use Rattle.selection_places.proofs.Adds.{sum_of, sum_total}
+use Rattle.selection_rules.specs.Select.{count_of}
 
 -- a hundred words of it are left for what puts it to use
 abbrev pub most : Expression → ℕ
@@ -39,38 +39,8 @@ some_nodes (Try at body name_at name handler) = omega arith
 
 -- ---- rows
 
-abbrev pub part : Bool → ℕ → ℕ
-part true n = n
-part false n = 0
-
-pub part_both : (b : Bool) (n : ℕ) → part (not b) n + part b n ≡ n
-part_both true n = omega arith
-part_both false n = omega arith
-
-module _ (f : Expression → ℕ) where
-  abbrev pub sum_of : Expressions → ℕ
-  sum_of NoMore = 0
-  sum_of (More e rest) = f e + sum_of rest
-
-  -- of the operands that do not wait, and of those that do
-  abbrev pub now_of : List Named → Expressions → ℕ
-  now_of env NoMore = 0
-  now_of env (More e rest) = part (not (is_light_address (scopes env) e)) (f e) + now_of env rest
-
-  abbrev pub later_of : List Named → Expressions → ℕ
-  later_of env NoMore = 0
-  later_of env (More e rest) = part (is_light_address (scopes env) e) (f e) + later_of env rest
-
-  pub in_parts : (env : List Named) (es : Expressions) → now_of env es + later_of env es ≡ sum_of es
-  in_parts env NoMore = refl
-  in_parts env (More e rest) =
-      let here = part_both (is_light_address (scopes env) e) (f e) in
-      let others = in_parts env rest in
-      omega (arith, here, others)
-
 pub row_points : (es : Expressions) → sum_of points es ≡ row_total is_frame_point es
-row_points NoMore = refl
-row_points (More e rest) = let others = row_points rest in omega (arith, others)
+row_points es = sum_total is_frame_point es
 
 pub row_most : (es : Expressions) → sum_of most es + 100 * count_of es ≤ 640 * row_total counts_one es + 4 * row_total indexes_of es
 row_most NoMore = omega arith

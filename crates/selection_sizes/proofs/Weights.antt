@@ -21,8 +21,9 @@ use Rattle.mach_ir.specs.declared.reg.Reg.{Reg}
 use Rattle.selection_rules.specs.Instructions.{bare}
 use Rattle.selection_rules.specs.Instructions as emit
 use Rattle.selection_rules.specs.Select.{Code, Shape, InRegisters, ConstantRight, ConstantLeft, PowerRight, shape_args, unless_left, unless_right, power_code, operator_code, move_from, move_to, moves_all, ordered, only_when, from_seat, unless_symbol, unless_constant, tested, call_of, cell_stores, result_seat}
-use Rattle.pass_rules.specs.Measures.{copy_words, code_words, one_if, code_points}
-use Rattle.selection_sizes.proofs.Sums.{part}
+use Rattle.pass_rules.specs.Measures.{code_words, one_if, code_points}
+use Rattle.pass_rules.proofs.Words.{at_most_copy}
+use Rattle.selection_places.proofs.Adds.{part}
 
 -- Its words, and twelve for each operand and result: a copy before each, and one after it, have as many.
 abbrev pub weight : List Instr → ℕ
@@ -50,13 +51,9 @@ w_none = record { words = λ next. omega arith; points = λ next. omega arith }
 
 -- ---- one instruction
 
-copy_few : (b : Bool) → cond b 0 copy_words ≤ copy_words
-copy_few true = omega arith
-copy_few false = omega arith
-
 pub w_pure : (f : Pure) (args : List Reg) (d : Reg) → Weighs (60 + 12 * length args) 0 (λ next. emit.operation (op.Pure f) args (d ∷ []) ∷ next)
 w_pure (pure.Copy kind) args d =
-    record { words = λ next. let few = copy_few (same_spot args (d ∷ [])) in omega (arith, few); points = λ next. omega arith }
+    record { words = λ next. let few = at_most_copy (same_spot args (d ∷ [])) in omega (arith, few); points = λ next. omega arith }
 w_pure (pure.Constant w) args d = record { words = λ next. omega arith; points = λ next. omega arith }
 w_pure (pure.Symbol name) args d = record { words = λ next. omega arith; points = λ next. omega arith }
 w_pure (pure.Operator f r) args d = record { words = λ next. omega arith; points = λ next. omega arith }
@@ -113,7 +110,7 @@ w_exits l n = record { words = λ next. omega arith; points = λ next. omega ari
 -- ---- moves
 
 pub w_move : (a d : Reg) → Weighs 30 0 (λ next. emit.move a d ∷ next)
-w_move a d = record { words = λ next. let few = copy_few (same_spot (a ∷ []) (d ∷ [])) in omega (arith, few); points = λ next. omega arith }
+w_move a d = record { words = λ next. let few = at_most_copy (same_spot (a ∷ []) (d ∷ [])) in omega (arith, few); points = λ next. omega arith }
 
 pub w_from : (o : Option Reg) (d : Reg) → Weighs 30 0 (move_from o d)
 w_from None d = w_up (omega arith) (omega arith) w_none

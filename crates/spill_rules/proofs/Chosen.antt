@@ -22,7 +22,8 @@ use Rattle.mach_ir.specs.declared.mach.Mach.{Mach}
 use Rattle.mach_laws.specs.Expand.{expand, Ending, all, more}
 use Rattle.mach_laws.proofs.Places.{ending_next}
 use Rattle.mach_laws.proofs.Walking.{none_in, first_in, later_in, in_cons, drop_ending}
-use Rattle.places_rules.proofs.Lists.{was, mapped}
+use Rattle.places_rules.proofs.Open.{machine_open}
+use Rattle.places_rules.proofs.Lists.{was, mapped, head_same}
 use Rattle.split_rules.proofs.Formed.{contains_of, of_each}
 use Rattle.split_rules.proofs.Result.{comes_write}
 use Rattle.split_rules.proofs.Text.{number_among, number_in, args_in}
@@ -52,15 +53,12 @@ pub same_instr : {i j : Instr} {next rest code : List Instr} → Stands i next c
     i ∷ next ≡ j ∷ rest
 same_instr s t len = same_rest (ending_of s) (ending_of t) (ap suc len)
 
-pub head_same : {i j : Instr} {next rest : List Instr} → i ∷ next ≡ j ∷ rest → i ≡ j
-head_same e = cc
-
 pub not_whole : {i : Instr} {next code : List Instr} → Stands i next code → length next ≡ length code → ⊥
 not_whole s e = let le = short (ending_of s) in omega (arith, le, e)
 
 -- ---- what has results goes on
 
-no_result : (rs : List Reg) (r : Reg) → comps rs ≡ [] → Contains rs r → ⊥
+pub no_result : (rs : List Reg) (r : Reg) → comps rs ≡ [] → Contains rs r → ⊥
 no_result [] r e c = none_in r c
 no_result (x ∷ rs) r e c = some x.comp (comps rs) e
   where
@@ -353,9 +351,6 @@ one_spilled m q k s t =
 
 -- ---- parameters
 
-machine_open : (n : ℕ) → loc.Machine n ≡ loc.Unset → ⊥
-machine_open n e = cc
-
 left_of : {A : Type 0} (xs ys : List A) (y : A) → Contains xs y → Contains (xs ++ ys) y
 left_of [] ys y c = absurd (none_in y c)
 left_of (x ∷ xs) ys y c =
@@ -373,4 +368,4 @@ seated_params m s = record { placed = λ r c e. by r c e s.params }
     by r c e (in_order others h) =
         let l = mapped (λ (r : Reg). r.loc) m.params r c in
         let w = was loc.Machine argument_numbers r.loc (subst (λ ls. Contains ls r.loc) h (left_of (places_of m.params) others r.loc l)) in
-        machine_open w.what (w.same ∙ e)
+        machine_open (sym w.same) e

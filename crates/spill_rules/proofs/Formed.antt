@@ -22,14 +22,12 @@ use Rattle.mach_ir.specs.declared.mach.Mach.{Mach}
 use Rattle.mach_laws.specs.Expand.{expand}
 use Rattle.mach_laws.proofs.Places.{label_expand, handler_expand, tries_expand}
 use Rattle.mach_laws.proofs.Walking.{none_in, first_in, later_in, in_cons}
+use Rattle.places_rules.proofs.Files.{differ}
 use Rattle.split_rules.proofs.Formed.{contains_of, stands_in, of_each}
 use Rattle.spill_rules.specs.Spilled.{Plan, in_slot, copied, reload, spill, reloads_of, spills_of, operands_of, results_of, spilled_instr, spilled, IsPlan}
 use Rattle.spill_rules.proofs.Kept.{Which, own, slotted, was_register, slots_apart}
 use Rattle.spill_rules.proofs.Text.{keeps_marks}
 use Rattle.spill_rules.proofs.Whole.{named_in}
-
-differ : (b : Bool) → b ≡ true → b ≡ false → ⊥
-differ b e h = cc
 
 module _ (plan : Plan) where
   abbrev f : ℕ → Instr → List Instr
@@ -199,6 +197,12 @@ module _ (plan : Plan) where
       by : OneOf (At l) (On ∷ []) → ⊥
       by (other o) = elim o [ ]
 
+pub one_distinct : (r : Reg) → AreDistinct (r ∷ [])
+one_distinct r = λ i j d lt within. absurd (none i j lt within)
+  where
+    none : (i j : ℕ) → i < j → j < length (r ∷ []) → ⊥
+    none i j x y = omega (arith, x, y)
+
 module _ (m : Mach) (plan : Plan) (formed : WellFormed m) (placed : WellPlaced m) (is : IsPlan m plan) where
   abbrev q : Mach
   q = spilled plan m
@@ -315,12 +319,6 @@ module _ (m : Mach) (plan : Plan) (formed : WellFormed m) (placed : WellPlaced m
 
   copy_formed : (kind : CopyKind) (from to : Reg) → IsFormed (copied kind from to)
   copy_formed kind from to = formed_op form.copies
-
-  one_distinct : (r : Reg) → AreDistinct (r ∷ [])
-  one_distinct r = λ i j d lt within. absurd (none i j lt within)
-    where
-      none : (i j : ℕ) → i < j → j < length (r ∷ []) → ⊥
-      none i j x y = omega (arith, x, y)
 
   pub number_is : (r k : Reg) → IsRegister q r → IsRegister q k → r.number ≡ k.number → r ≡ k
   number_is r k i j e =

@@ -28,52 +28,38 @@ use Rattle.mach_laws.proofs.Level as level
 use Rattle.mach_laws.proofs.Places.{ending_next, ending_label, ending_land, ending_from_handler, label_expand, handler_expand}
 use Rattle.mach_laws.proofs.Simulate.{Agrees}
 use Rattle.mach_laws.proofs.Walking.{none_in, first_in, later_in, in_cons}
+use Rattle.places_rules.proofs.Lists.{head_same, tail_same}
+use Rattle.places_rules.proofs.Files.{differ, none_some, some_same, values_same, past_same, cleared, not_cleared, among_or_not, put_here, put_other, PutsBoth, put_both}
 use Rattle.places_rules.proofs.Walked.{left_among, right_among, split_among, stands_of}
 use Rattle.places_rules.proofs.Raised.{IsRaised, Told, told_jump, told_unwind, told_ask, IsSilent, told, label_silent, try_silent}
-use Rattle.split_rules.specs.Renamed.{all_numbered}
 use Rattle.split_rules.specs.Writes.{from_entry, past, past_raise}
 use Rattle.liveness.proofs.Bounds.{killed_is_colour}
 use Rattle.split_rules.proofs.Formed.{contains_of, of_each}
-use Rattle.split_rules.proofs.Kept.{PutsToo, put_twice, cleared, not_cleared, among_or_not}
 use Rattle.split_rules.proofs.Text.{number_among, number_in, args_in, results_in}
 use Rattle.spill_rules.specs.Spilled.{Plan, in_slot, copied, reload, spill, reloads_of, spills_of, operands_of, results_of, spilled_instr, spilled, IsPlan}
 use Rattle.spill_rules.proofs.Live.{IsStored, WasLive, itself, stored, Stage, Reading, Storing, Laid, main, laid_results, laid_operands, laid_of, is_result, Says, NotThere, stored_unwritten, laid_tries, live_back, live_before, WasAcross, itself_across, stored_across, across_back}
 use Rattle.spill_rules.proofs.Text.{keeps_marks, all_results, operand_in}
 
-differ : (b : Bool) → b ≡ true → b ≡ false → ⊥
-differ b e h = cc
+-- ---- what is read, and what stands in code
 
-no_held : (u : Held) → None ≡ Some u → ⊥
-no_held u e = cc
-
-held_same : (x y : Held) → Some x ≡ Some y → x ≡ y
-held_same x y e = cc
-
-none_some : (d : File) → None ≡ Some d → ⊥
-none_some d e = cc
-
-some_same : (c d : File) → Some c ≡ Some d → c ≡ d
-some_same c d e = cc
-
-pub past_same : (t : Bool) (a b : File) (n x : ℕ) → a n ≡ b x → past_frame t a n ≡ past_frame t b x
-past_same false a b n x e = e
-past_same true a b n x e = ap unless_addr e
-
--- ---- one register written
-
-pub put_here : (r : Reg) (v : Value) (f : File) (n : ℕ) → r.number ≡ n → put r v f n ≡ Some (record { comp = r.comp; value = v })
-put_here r v f n e = ap (λ b. cond b (Some (record { comp = r.comp; value = v })) (f n)) (eq-eqb r.number n e)
-
-pub put_other : (r : Reg) (v : Value) (f : File) (n : ℕ) → (r.number ≡ n → ⊥) → put r v f n ≡ f n
-put_other r v f n h = test (nat_eq r.number n) refl
+-- what is read holds something
+pub values_held : (a : File) (rs : List Reg) (vs : List Value) → values a rs ≡ Some vs → (n : ℕ) → Among n rs → (h : Held) × (a n ≡ Some h)
+values_held a [] vs e n z = elim z [ ]
+values_held a (r ∷ rs) vs e n z =
+    by (a r.number) refl (values a rs) refl e z (λ us t x. values_held a rs us t n x)
   where
-    test : (b : Bool) → nat_eq r.number n ≡ b → cond b (Some (record { comp = r.comp; value = v })) (f n) ≡ f n
-    test true e = absurd (h (eqb-true r.number n e))
-    test false e = refl
+    by : (o : Option Held) → a r.number ≡ o → (p : Option (List Value)) → values a rs ≡ p → with_held o p ≡ Some vs → Among n (r ∷ rs) →
+        ((us : List Value) → values a rs ≡ Some us → Among n rs → (h : Held) × (a n ≡ Some h)) → (h : Held) × (a n ≡ Some h)
+    by None s p t e z again = absurd (none_some e)
+    by (Some h) s None t e z again = absurd (none_some e)
+    by (Some h) s (Some us) t e (first x) again = (h, ap a (sym x) ∙ s)
+    by (Some h) s (Some us) t e (later x) again = again us t x
 
-as_numbered : (rs : List Reg) → all_numbered (λ n. n) rs ≡ rs
-as_numbered [] = refl
-as_numbered (r ∷ rs) = ap (λ xs. r ∷ xs) (as_numbered rs)
+pub in_append : {r : Reg} (xs ys : List Instr) → InCode r (xs ++ ys) → InCode r xs ⊎ InCode r ys
+in_append [] ys c = inr c
+in_append (x ∷ xs) ys (in_args c) = inl (in_args c)
+in_append (x ∷ xs) ys (in_results c) = inl (in_results c)
+in_append (x ∷ xs) ys (further c) = ⊎_elim (λ h. inl (further h)) inr (in_append xs ys c)
 
 -- ---- values that fit
 
@@ -87,9 +73,9 @@ module _ (end : ℕ) where
 
   pub put_fits : (rs : List Reg) (vs : List Value) (f d : File) → put_all end rs vs f ≡ Some d → (r : Reg) →
       ((q : Reg) → Contains rs q → q.number ≡ r.number → q ≡ r) → FitsIn r (f r.number) → FitsIn r (d r.number)
-  put_fits [] [] f d e r one h = subst (λ (x : File). FitsIn r (x r.number)) (some_same f d e) h
-  put_fits [] (v ∷ vs) f d e r one h = absurd (none_some d e)
-  put_fits (q ∷ rs) [] f d e r one h = absurd (none_some d e)
+  put_fits [] [] f d e r one h = subst (λ (x : File). FitsIn r (x r.number)) (some_same e) h
+  put_fits [] (v ∷ vs) f d e r one h = absurd (none_some e)
+  put_fits (q ∷ rs) [] f d e r one h = absurd (none_some e)
   put_fits (q ∷ rs) (v ∷ vs) f d e r one h =
       by (fits end (type_of_comp q.comp) v) (put_all end rs vs f) refl refl e
       (λ c k. put_fits rs vs f c k r (λ j z. one j (later_in q j rs z)) h)
@@ -101,22 +87,22 @@ module _ (end : ℕ) where
           let same : q ≡ r = one q (first_in q rs) (eqb-true q.number r.number s) in
           λ (h : Held) (g : put q v c r.number ≡ Some h).
           let is : record { comp = q.comp; value = v } ≡ h =
-          held_same (record { comp = q.comp; value = v }) h (sym (put_here q v c r.number (eqb-true q.number r.number s)) ∙ g) in
+          some_same (sym (put_here q v c r.number (eqb-true q.number r.number s)) ∙ g) in
           (ap (λ (x : Held). x.comp) (sym is) ∙ ap (λ (x : Reg). x.comp) same, subst IsFitting is t))
           (λ s. subst (FitsIn r) (sym (put_other q v c r.number (λ z. differ (nat_eq q.number r.number) (eq-eqb q.number r.number z) s))) old)
           (cases_Bool (nat_eq q.number r.number))
 
       by : (t : Bool) (o : Option File) → fits end (type_of_comp q.comp) v ≡ t → put_all end rs vs f ≡ o → put_if t q v o ≡ Some d →
           ((c : File) → put_all end rs vs f ≡ Some c → FitsIn r (c r.number)) → FitsIn r (d r.number)
-      by false o t e k again = absurd (none_some d k)
-      by true None t e k again = absurd (none_some d k)
+      by false o t e k again = absurd (none_some k)
+      by true None t e k again = absurd (none_some k)
       by true (Some c) t e k again =
-          subst (λ (x : File). FitsIn r (x r.number)) (some_same (put q v c) d k) (at_one c (again c e) t)
+          subst (λ (x : File). FitsIn r (x r.number)) (some_same k) (at_one c (again c e) t)
 
   -- what is written holds something
   pub put_holds : (rs : List Reg) (vs : List Value) (f d : File) → put_all end rs vs f ≡ Some d → (n : ℕ) → Among n rs → (h : Held) × (d n ≡ Some h)
   put_holds [] vs f d e n a = elim a [ ]
-  put_holds (q ∷ rs) [] f d e n a = absurd (none_some d e)
+  put_holds (q ∷ rs) [] f d e n a = absurd (none_some e)
   put_holds (q ∷ rs) (v ∷ vs) f d e n a =
       by (fits end (type_of_comp q.comp) v) (put_all end rs vs f) refl e (λ c k z. put_holds rs vs f c k n z)
     where
@@ -134,17 +120,17 @@ module _ (end : ℕ) where
 
       by : (t : Bool) (o : Option File) → put_all end rs vs f ≡ o → put_if t q v o ≡ Some d →
           ((c : File) → put_all end rs vs f ≡ Some c → Among n rs → (h : Held) × (c n ≡ Some h)) → (h : Held) × (d n ≡ Some h)
-      by false o e k again = absurd (none_some d k)
-      by true None e k again = absurd (none_some d k)
+      by false o e k again = absurd (none_some k)
+      by true None e k again = absurd (none_some k)
       by true (Some c) e k again =
-          subst (λ (x : File). (h : Held) × (x n ≡ Some h)) (some_same (put q v c) d k) (at_one c (again c e))
+          subst (λ (x : File). (h : Held) × (x n ≡ Some h)) (some_same k) (at_one c (again c e))
 
   pub clear_fits : (ks : List Reg) (f : File) (r : Reg) → FitsIn r (f r.number) → FitsIn r (clear ks f r.number)
   clear_fits [] f r h = h
   clear_fits (k ∷ ks) f r h = by (nat_eq k.number r.number) (clear_fits ks f r h)
     where
       by : (b : Bool) → FitsIn r (clear ks f r.number) → FitsIn r (cond b None (clear ks f r.number))
-      by true old = λ h e. absurd (no_held h e)
+      by true old = λ h e. absurd (none_some e)
       by false old = old
 
   pub frame_fits : (t : Bool) (f : File) (r : Reg) → FitsIn r (f r.number) → FitsIn r (past_frame t f r.number)
@@ -152,7 +138,7 @@ module _ (end : ℕ) where
   frame_fits true f r h = by (f r.number) h
     where
       kept : (b : Bool) (u : Held) → FitsIn r (Some u) → FitsIn r (cond b None (Some u))
-      kept true u h = λ k e. absurd (no_held k e)
+      kept true u h = λ k e. absurd (none_some e)
       kept false u h = h
 
       by : (o : Option Held) → FitsIn r o → FitsIn r (unless_addr o)
@@ -215,12 +201,6 @@ module _ (m : Mach) (plan : Plan) (formed : WellFormed m) (placed : WellPlaced m
   itself_was : (r : Reg) → IsRegister m r → WasRegister r
   itself_was r i =
       record { register = r; among = i; which = own refl; unset = not_its_slot r i; copied = not_copied r i }
-
-  in_append : {r : Reg} (xs ys : List Instr) → InCode r (xs ++ ys) → InCode r xs ⊎ InCode r ys
-  in_append [] ys c = inr c
-  in_append (x ∷ xs) ys (in_args c) = inl (in_args c)
-  in_append (x ∷ xs) ys (in_results c) = inl (in_results c)
-  in_append (x ∷ xs) ys (further c) = ⊎_elim (λ h. inl (further h)) inr (in_append xs ys c)
 
   of_one : (x r : Reg) → Contains (x ∷ []) r → x ≡ r
   of_one x r c = ⊎_elim (λ e. e) (λ d. absurd (none_in r d)) (in_cons x r [] c)
@@ -345,12 +325,6 @@ module _ (m : Mach) (plan : Plan) (formed : WellFormed m) (placed : WellPlaced m
   unless_among None us x a = a
   unless_among (Some v) us x a = elim a [ ]
 
-  head_same : {i j : Instr} (xs ys : List Instr) → i ∷ xs ≡ j ∷ ys → i ≡ j
-  head_same xs ys e = cc
-
-  tail_same : {i j : Instr} (xs ys : List Instr) → i ∷ xs ≡ j ∷ ys → xs ≡ ys
-  tail_same xs ys e = cc
-
   is_code : q.code ≡ expand f m.code
   is_code = refl
 
@@ -398,7 +372,7 @@ module _ (m : Mach) (plan : Plan) (formed : WellFormed m) (placed : WellPlaced m
           written = λ j ys e frame r one val v none.
               absurd
               (differ (passes_frame j.op) frame
-              (ap (λ (i : Instr). passes_frame i.op) (sym (head_same zs ys e))));
+              (ap (λ (i : Instr). passes_frame i.op) (sym (head_same e))));
         }
 
     -- ---- before an instruction
@@ -719,10 +693,7 @@ module _ (m : Mach) (plan : Plan) (formed : WellFormed m) (placed : WellPlaced m
         killed_known r z = is_colour (killed_is_colour m i r z)
 
         abbrev Puts : List Value → File → Type 0
-        Puts vs d = PutsToo (λ n. n) (λ n. n) limit i.results vs (clear (killed m i) a') (clear (killed m i) b') d
-
-        not_numbered : (vs : List Value) (d : File) (p : Puts vs d) (x : ℕ) → (Among x i.results → ⊥) → p.file x ≡ clear (killed m i) b' x
-        not_numbered vs d p x h = p.others_new x (λ z. h (subst (λ rs. Among x rs) (as_numbered i.results) z))
+        Puts vs d = PutsBoth limit i.results vs (clear (killed m i) a') (clear (killed m i) b') d
 
         same_after : (vs : List Value) (d : File) (p : Puts vs d) (t : Target) → OneOf t (targets i.op) → (n : ℕ) →
             Live m n (code_at m.code next t) → d n ≡ p.file n
@@ -736,7 +707,7 @@ module _ (m : Mach) (plan : Plan) (formed : WellFormed m) (placed : WellPlaced m
             ∙ still n (on (λ w. ⊎_elim free h (split_among n i.results (killed m i) w)) (goes t o) v)
             ∙ sym (not_cleared (killed m i) b' n h))
             (among_or_not n (killed m i))
-            ∙ sym (not_numbered vs d p n free))
+            ∙ sym (p.others_new n free))
             (among_or_not n i.results)
 
         slot_after : (vs : List Value) (d : File) (p : Puts vs d) (t : Target) → OneOf t (targets i.op) → (n : ℕ) →
@@ -746,7 +717,7 @@ module _ (m : Mach) (plan : Plan) (formed : WellFormed m) (placed : WellPlaced m
             ∙ not_cleared (killed m i) a' n (λ z. silent (right_among i.results (killed m i) z))
             ∙ still_slot n (on silent (goes t o) v) (λ from z. k from (past z silent (goes t o)))
             ∙ sym (not_cleared (killed m i) b' (plan.slot n) (not_slot n 0 (killed m i) killed_known))
-            ∙ sym (not_numbered vs d p (plan.slot n) (not_slot n 0 i.results (λ r z. is_in_code (results_in stands z))))
+            ∙ sym (p.others_new (plan.slot n) (not_slot n 0 i.results (λ r z. is_in_code (results_in stands z))))
 
         one_number : (r : Reg) → IsRegister m r → (k : Reg) → Contains i.results k → k.number ≡ r.number → k ≡ r
         one_number r j k z e = formed.numbers k r (is_in_code (results_in stands z)) j e
@@ -823,7 +794,7 @@ module _ (m : Mach) (plan : Plan) (formed : WellFormed m) (placed : WellPlaced m
                 ⊎_elim (λ h. p.same r.number h)
                 (λ free.
                 ⊎_elim (λ h. absurd (free h))
-                (λ k. absurd (no_held u (sym (cleared (killed m i) b' r.number k) ∙ sym (not_numbered vs d p r.number free) ∙ s)))
+                (λ k. absurd (none_some (sym (cleared (killed m i) b' r.number k) ∙ sym (p.others_new r.number free) ∙ s)))
                 (split_among r.number i.results (killed m i) there))
                 (among_or_not r.number i.results)
 
@@ -927,9 +898,9 @@ module _ (m : Mach) (plan : Plan) (formed : WellFormed m) (placed : WellPlaced m
         acts_same y (Goes vs to y') (goes_in o) t =
             general.both_go
             (λ d e.
-            let p = put_twice (λ n. n) (λ n. n) limit i.results vs (clear (killed m i) a') (clear (killed m i) b') d (λ n z. refl) e in (
+            let p = put_both limit i.results vs (clear (killed m i) a') (clear (killed m i) b') d e in (
               p.file,
-              subst (λ rs. put_all limit rs vs (clear (killed m i) b') ≡ Some p.file) (as_numbered i.results) p.puts,
+              p.puts,
               past_to vs d e p y' to o,
             ))
         acts_same y (Jumps to y') (jumps_in l) (told_jump s) = general.both_jump tries_so (lands to l y' s)
@@ -954,10 +925,10 @@ module _ (m : Mach) (plan : Plan) (formed : WellFormed m) (placed : WellPlaced m
         vals_main y known =
             record {
               written = λ j ys e frame r one val v none.
-                  let head = head_same (post ++ expand f next) ys e in
+                  let head = head_same e in
                   let w = was_register r one in
                   let there : LiveAcross q r.number i (post ++ expand f next) =
-                  subst (λ xs. LiveAcross q r.number i xs) (sym (tail_same (post ++ expand f next) ys e))
+                  subst (λ xs. LiveAcross q r.number i xs) (sym (tail_same e))
                   (subst (λ j. LiveAcross q r.number j ys) (sym head) v) in
                   let x = across_back m plan formed placed is i next ending laid_main there in
                   let g = by r w x in
@@ -987,27 +958,6 @@ module _ (m : Mach) (plan : Plan) (formed : WellFormed m) (placed : WellPlaced m
                 slot_by (slotted e) =
                     let same : n ≡ w.register.number = slots_apart n w.register.number (s ∙ sym (ap (λ (x : Reg). x.number) e)) in
                     (subst (λ n. LiveAcross m n i next) same v, ap a (sym same) ∙ holds.slots n (live_of v) k ∙ ap b s)
-
-      values_held : (a : File) (rs : List Reg) (vs : List Value) → values a rs ≡ Some vs → (n : ℕ) → Among n rs → (h : Held) × (a n ≡ Some h)
-      values_held a [] vs e n z = elim z [ ]
-      values_held a (r ∷ rs) vs e n z =
-          by (a r.number) refl (values a rs) refl e z (λ us t x. values_held a rs us t n x)
-        where
-          no_values : (vs : List Value) → None ≡ Some vs → ⊥
-          no_values vs e = cc
-
-          by : (o : Option Held) → a r.number ≡ o → (p : Option (List Value)) → values a rs ≡ p → with_held o p ≡ Some vs → Among n (r ∷ rs) →
-              ((us : List Value) → values a rs ≡ Some us → Among n rs → (h : Held) × (a n ≡ Some h)) → (h : Held) × (a n ≡ Some h)
-          by None s p t e z again = absurd (no_values vs e)
-          by (Some h) s None t e z again = absurd (no_values vs e)
-          by (Some h) s (Some us) t e (first x) again = (h, ap a (sym x) ∙ s)
-          by (Some h) s (Some us) t e (later x) again = again us t x
-
-      values_same : (a b : File) (rs : List Reg) → ((n : ℕ) → Among n rs → a n ≡ b n) → values a rs ≡ values b rs
-      values_same a b [] h = refl
-      values_same a b (r ∷ rs) h =
-          ap (λ o. with_held o (values a rs)) (h r.number (first refl))
-          ∙ ap (with_held (b r.number)) (values_same a b rs (λ n z. h n (later z)))
 
       one : (i : Instr) (next : List Instr) (a b : File) (ending : Ending (i ∷ next) m.code) → Holds (i ∷ next) a b → (y : Around)
           (vs : List Value) → values a i.args ≡ Some vs →
@@ -1052,14 +1002,14 @@ module _ (m : Mach) (plan : Plan) (formed : WellFormed m) (placed : WellPlaced m
               ⊎_elim (λ z. absurd (differ (plan.spills (length m.code) n) (k m.code (from_entry z)) (is.entry n z)))
               (λ free. unwritten n free ∙ sym (unwritten (plan.slot n) (not_param n))) (among_or_not n m.params);
           fit = λ r j.
-              put_fits limit m.params vs (λ n. None) a e r (λ k z g. formed.numbers k r (is_param z) j g) (λ h g. absurd (no_held h g));
+              put_fits limit m.params vs (λ n. None) a e r (λ k z g. formed.numbers k r (is_param z) j g) (λ h g. absurd (none_some g));
           agree = λ r k i j origin v w x y g h.
               let s : r ≡ k = one_param r k i j origin x y g h in
-              ap (λ (h : Held). h.value) (held_same x y (sym g ∙ ap (λ (r : Reg). a r.number) s ∙ h));
+              ap (λ (h : Held). h.value) (some_same (sym g ∙ ap (λ (r : Reg). a r.number) s ∙ h));
         }
       where
-        puts : PutsToo (λ n. n) (λ n. n) limit m.params vs (λ n. None) (λ n. None) a
-        puts = put_twice (λ n. n) (λ n. n) limit m.params vs (λ n. None) (λ n. None) a (λ n z. refl) e
+        puts : PutsBoth limit m.params vs (λ n. None) (λ n. None) a
+        puts = put_both limit m.params vs (λ n. None) (λ n. None) a e
 
         unwritten : (n : ℕ) → (Among n m.params → ⊥) → a n ≡ None
         unwritten n free = puts.others n free
@@ -1075,7 +1025,7 @@ module _ (m : Mach) (plan : Plan) (formed : WellFormed m) (placed : WellPlaced m
             let p = number_among m.params z in
             let same = formed.numbers p.0 r (is_param p.1) i p.2 in
             subst (λ (r : Reg). r.origin ≡ r.number) same (of_each (λ (r : Reg). r.origin ≡ r.number) m.params p.0 formed.params p.1))
-            (λ free. absurd (no_held x (sym (unwritten r.number free) ∙ g))) (among_or_not r.number m.params)
+            (λ free. absurd (none_some (sym (unwritten r.number free) ∙ g))) (among_or_not r.number m.params)
 
         one_param : (r k : Reg) → IsRegister m r → IsRegister m k → r.origin ≡ k.origin → (x y : Held) → a r.number ≡ Some x →
             a k.number ≡ Some y → r ≡ k

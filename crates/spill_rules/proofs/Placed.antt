@@ -8,26 +8,23 @@ use Rattle.mach_ir.specs.Meaning.{after_label, code_at}
 use Rattle.mach_ir.specs.Placed as placing
 use Rattle.mach_ir.specs.Placed.{colours, IsPlaced, in_colour, MayShare, WellPlaced}
 use Rattle.mach_ir.specs.Seats.{AreSeated, anywhere, places_of, mach_operand_seats, mach_result_seats, Seated}
-use Rattle.mach_ir.specs.Walks.{Among, first, later, OneOf, targets, goes, Writes, Live, LiveAfter, after_step, InCode, in_results, further, IsRegister, is_in_code, Stands, here, below, Meets, at_write, at_params, Joined, one_way, other_way}
+use Rattle.mach_ir.specs.Walks.{Among, first, later, OneOf, targets, goes, Writes, Live, LiveAfter, after_step, IsRegister, is_in_code, Stands, Meets, at_write, at_params, Joined, one_way, other_way}
 use Rattle.mach_ir.specs.declared.reg.Reg.{Reg}
 use Rattle.mach_ir.specs.declared.mach.Instr.{Instr}
 use Rattle.mach_ir.specs.declared.mach.Mach.{Mach}
-use Rattle.mach_laws.specs.Expand.{expand, Ending, all, more}
+use Rattle.mach_laws.specs.Expand.{expand, Ending, all}
 use Rattle.mach_laws.proofs.Places.{label_expand, ending_next, ending_label}
 use Rattle.mach_laws.proofs.Walking.{none_in, first_in}
 use Rattle.places_rules.proofs.Lists.{was, mapped}
+use Rattle.places_rules.proofs.Open.{machine_slot, same_slot}
+use Rattle.places_rules.proofs.Walked.{ending_of}
 use Rattle.split_rules.proofs.Formed.{contains_of, stands_in}
 use Rattle.spill_rules.specs.Spilled.{Plan, in_slot, results_of, has_results, spilled_instr, spilled, IsPlan}
+use Rattle.split_rules.proofs.Text.{results_in}
 use Rattle.spill_rules.proofs.Formed.{IsCopy, is_reload, is_spill, IsMain, was_main}
 use Rattle.spill_rules.proofs.Kept.{Which, own, slotted, WasRegister, was_register}
 use Rattle.spill_rules.proofs.Live.{Storing, Laid, laid_of, laid_results, WasLive, itself, stored, IsResult, is_result, live_back, live_before}
 use Rattle.spill_rules.proofs.Text.{keeps_marks}
-
-slot_same : (k n : ℕ) → loc.Slot k ≡ loc.Slot n → k ≡ n
-slot_same k n e = cc
-
-machine_slot : (n k : ℕ) → loc.Machine n ≡ loc.Slot k → ⊥
-machine_slot n k e = cc
 
 module _ (m : Mach) (plan : Plan) (formed : WellFormed m) (placed : WellPlaced m) (is : IsPlan m plan) where
   abbrev q : Mach
@@ -51,10 +48,6 @@ module _ (m : Mach) (plan : Plan) (formed : WellFormed m) (placed : WellPlaced m
     where
       ending : Ending (j ∷ w.next) m.code
       ending = ending_of w.stands
-        where
-          ending_of : {i : Instr} {next code : List Instr} → Stands i next code → Ending (i ∷ next) code
-          ending_of here = all
-          ending_of (below s) = more (ending_of s)
 
       result_in : (r : Reg) → Contains (results_of j) r → Contains j.results r
       result_in r c = in_cond (has_results j.op) c
@@ -86,10 +79,6 @@ module _ (m : Mach) (plan : Plan) (formed : WellFormed m) (placed : WellPlaced m
 
   -- ---- the graph
 
-  code_results : {j : Instr} {ys code : List Instr} {r : Reg} → Stands j ys code → Contains j.results r → InCode r code
-  code_results here c = in_results c
-  code_results (below s) c = further (code_results s c)
-
   -- no copy writes a register of the first that has a place
   not_copied : (r : Reg) → IsRegister m r → r.loc ≢ loc.Unset → (j : Instr) (ys : List Instr) → Stands j ys q.code → IsCopy plan j →
       Writes q j r.number → ⊥
@@ -100,7 +89,7 @@ module _ (m : Mach) (plan : Plan) (formed : WellFormed m) (placed : WellPlaced m
       result = subst (λ (j : Instr). Contains j.results t) (sym e) (first_in t [])
 
       there : IsRegister q t
-      there = is_in_code (code_results s result)
+      there = is_in_code (results_in s result)
 
       one : {x : ℕ} → Among x (t ∷ []) → t.number ≡ x
       one (first e) = e
@@ -144,8 +133,8 @@ module _ (m : Mach) (plan : Plan) (formed : WellFormed m) (placed : WellPlaced m
   place_of r w i (slotted e) = inr (subst IsPlaced e (placing.in_slot refl))
 
   in_slot_of : (r : Reg) (n : ℕ) → IsPlaced r → r.loc ≡ loc.Slot n → (n ≡ r.origin) × (r.loc ≡ loc.Slot r.origin)
-  in_slot_of r n (in_colour k c h) e = absurd (machine_slot k n (sym h ∙ e))
-  in_slot_of r n (placing.in_slot h) e = (slot_same n r.origin (sym e ∙ h), h)
+  in_slot_of r n (in_colour k c h) e = absurd (machine_slot h e)
+  in_slot_of r n (placing.in_slot h) e = (same_slot e h, h)
 
   apart : (r k : Reg) → IsRegister q r → IsRegister q k → Joined q r.number k.number → r.loc ≢ loc.Unset → r.loc ≡ k.loc → MayShare r k
   apart r k i j joined fixed e =
@@ -185,7 +174,7 @@ module _ (m : Mach) (plan : Plan) (formed : WellFormed m) (placed : WellPlaced m
   least_of r k w c i (own x) e =
       subst (λ n. r.number ≤ n) (number x) ((placed.colours).least r w c i (ap (λ (r : Reg). r.loc) x ∙ e))
   least_of r k w c i (slotted x) e =
-      let p = colour_place r c in absurd (machine_slot p.0 w.origin (sym p.1 ∙ sym e ∙ sym (ap (λ (r : Reg). r.loc) x)))
+      let p = colour_place r c in absurd (machine_slot p.1 (sym e ∙ sym (ap (λ (r : Reg). r.loc) x)))
 
   pub spilled_placed : WellPlaced (spilled plan m)
   spilled_placed =

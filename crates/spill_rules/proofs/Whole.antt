@@ -21,16 +21,12 @@ use Rattle.mach_laws.proofs.Grows.{held, instrs_expand, operands_expand, operand
 use Rattle.mach_laws.proofs.Places.{label_expand, handler_expand, ending_label, ending_from_handler}
 use Rattle.mach_laws.proofs.Walking.{none_in, first_in, later_in, in_cons}
 use Rattle.liveness.proofs.Bounds.{split_in}
+use Rattle.places_rules.proofs.Open.{same_slot}
+use Rattle.places_rules.proofs.Files.{differ}
 use Rattle.spill_rules.specs.Spilled.{Plan, in_slot, copied, reload, spill, reloads_of, spills_of, has_operands, has_results, operands_of, results_of, spilled_instr, spilled, IsPlan}
 use Rattle.spill_rules.proofs.Kept.{Which, own, slotted, WasRegister, was_register, origin_of, comp_of, slots_apart, live_register, does_spilled}
 use Rattle.spill_rules.proofs.Live.{Stage, Before, Reading, Storing, Laid, begins, reloads, passes_operand, main, spills, passes_result, ends, laid_of, laid_tries, WasAcross, itself_across, stored_across, across_back}
 use Rattle.spill_rules.proofs.Text.{keeps_marks}
-
-slot_same : (k n : ℕ) → loc.Slot k ≡ loc.Slot n → k ≡ n
-slot_same k n e = cc
-
-differ : (b : Bool) → b ≡ true → b ≡ false → ⊥
-differ b e h = cc
 
 module _ (m : Mach) (plan : Plan) (formed : WellFormed m) (placed : WellPlaced m) (is : IsPlan m plan) where
   abbrev q : Mach
@@ -220,7 +216,7 @@ module _ (m : Mach) (plan : Plan) (formed : WellFormed m) (placed : WellPlaced m
         same = ap (λ (x : Reg). x.origin) e;
       })
   slot_of r w k among (slotted e) s =
-      inr (slot_same k w.origin (sym s ∙ sym (ap (λ (x : Reg). x.loc) e)) ∙ ap (λ (x : Reg). x.origin) e)
+      inr (same_slot s (sym (ap (λ (x : Reg). x.loc) e)) ∙ ap (λ (x : Reg). x.origin) e)
 
   pub spilled_keeps : Keeps m (spilled plan m)
   spilled_keeps =

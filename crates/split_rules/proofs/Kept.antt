@@ -1,9 +1,6 @@
 -- A function whose registers have other numbers does what it did: a number that stands for a live register holds what it held.
-use Rattle.std.proofs.Common.{◌≡◌, ◌≢◌, ℕ, Bool, true, false, cond, inl, inr, ◌⊎◌, ⊎_elim, List, [], ◌∷◌, length, Option, Some, None, refl, sym, ap, ◌∙◌, subst}
-use Rattle.std.proofs.lemmas.Bool.{cases_Bool, eq-eqb, eqb-true}
+use Rattle.std.proofs.Common.{◌≡◌, ◌≢◌, ℕ, true, inl, inr, ◌⊎◌, ⊎_elim, List, [], ◌∷◌, length, Option, Some, None, refl, sym, ap, ◌∙◌, subst}
 use Rattle.std.specs.List.{Contains}
-use Rattle.std.specs.Prelude.{nat_eq}
-use Rattle.bs_words.specs.Fits.{fits, type_of_comp}
 use Rattle.bs_words.specs.Memory.{Memory}
 use Rattle.bs_words.specs.declared.types.Loc.TheVariants as loc
 use Rattle.bs_words.specs.declared.values.Value.{Value}
@@ -11,7 +8,7 @@ use Rattle.cmm_meaning.specs.State.{Doing}
 use Rattle.mach_ir.specs.Acts.{Around, Target, On, At, Landing, AtLabel, AtHandler, Act, Goes, Pushes, Jumps, Unwinds, Asks, Replaces, Ends, EndsRaising, Stuck}
 use Rattle.mach_ir.specs.Formed.{IsFormed, WellFormed}
 use Rattle.mach_ir.specs.Runs.{Place, entered}
-use Rattle.mach_ir.specs.Meaning.{Held, State, File, put, put_if, put_all, clear, killed, written, with_held, values, past_frame, unless_addr, passes_frame, mach_act, after_label, at_handler, code_at, tries_at, landing_code, start}
+use Rattle.mach_ir.specs.Meaning.{Held, State, File, put_all, clear, killed, written, with_held, values, past_frame, passes_frame, mach_act, after_label, at_handler, code_at, tries_at, landing_code, start}
 use Rattle.mach_ir.specs.Walks.{Among, first, later, OneOf, this, targets, may_raise, goes, raises, Live, read, on, aside, LiveAcross, across_step, across_raise, is_param, Stands, Writes}
 use Rattle.mach_ir.specs.Keeps.{ValsWritten, wrote_unless, Begins, Does}
 use Rattle.mach_ir.specs.declared.mach.MachOp.{MachOp}
@@ -25,9 +22,11 @@ use Rattle.mach_laws.proofs.Leads.{IsTry, is_try, MayLand, lands_at_label, lands
 use Rattle.mach_laws.proofs.Level as level
 use Rattle.mach_laws.proofs.Places.{ending_next, ending_label, ending_land}
 use Rattle.mach_laws.proofs.Simulate.{Agrees}
+use Rattle.places_rules.proofs.Lists.{head_same, tail_same}
+use Rattle.places_rules.proofs.Files.{none_some, past_same, cleared, not_cleared, among_or_not, PutsToo, put_twice, put_both}
 use Rattle.places_rules.proofs.Walked.{left_among, right_among, split_among, stands_of}
 use Rattle.places_rules.proofs.Raised.{IsRaised, Told, told_jump, told_unwind, told_ask, IsSilent, told, label_silent, try_silent}
-use Rattle.split_rules.specs.Renamed.{Naming, numbered, all_numbered, renamed_code, renamed}
+use Rattle.split_rules.specs.Renamed.{Naming, all_numbered, renamed_code, renamed}
 use Rattle.split_rules.specs.Split.{IsNaming}
 use Rattle.split_rules.specs.Writes.{from_entry, from_write}
 use Rattle.split_rules.proofs.Formed.{contains_of, of_each}
@@ -36,134 +35,12 @@ use Rattle.split_rules.proofs.Walked.{new, killed_same, killed_stays, result_bac
 
 -- ---- files
 
-past_same : (t : Bool) (a b : File) (n x : ℕ) → a n ≡ b x → past_frame t a n ≡ past_frame t b x
-past_same false a b n x e = e
-past_same true a b n x e = ap unless_addr e
-
-abbrev IsNone : Option Held → Type 0
-IsNone o = o ≡ None
-
-pub cleared : (ks : List Reg) (f : File) (n : ℕ) → Among n ks → IsNone (clear ks f n)
-cleared (k ∷ ks) f n (first e) = ap (λ b. cond b None (clear ks f n)) (eq-eqb k.number n e)
-cleared (k ∷ ks) f n (later a) = by (nat_eq k.number n) (cleared ks f n a)
-  where
-    by : (b : Bool) → IsNone (clear ks f n) → IsNone (cond b None (clear ks f n))
-    by true e = refl
-    by false e = e
-cleared [] f n a = elim a [ ]
-
-pub not_cleared : (ks : List Reg) (f : File) (n : ℕ) → (Among n ks → ⊥) → clear ks f n ≡ f n
-not_cleared [] f n h = refl
-not_cleared (k ∷ ks) f n h = by (nat_eq k.number n) refl (not_cleared ks f n (λ a. h (later a)))
-  where
-    by : (b : Bool) → nat_eq k.number n ≡ b → clear ks f n ≡ f n → cond b None (clear ks f n) ≡ f n
-    by true s e = absurd (h (first (eqb-true k.number n s)))
-    by false s e = e
-
-differ : (b : Bool) → b ≡ true → b ≡ false → ⊥
-differ b e h = cc
-
-pub among_or_not : (n : ℕ) (rs : List Reg) → Among n rs ⊎ (Among n rs → ⊥)
-among_or_not n [] = inr (λ a. elim a [ ])
-among_or_not n (r ∷ rs) =
-    ⊎_elim (λ e. inl (first (eqb-true r.number n e)))
-    (λ e. ⊎_elim (λ a. inl (later a)) (λ h. inr (λ a. none e h a)) (among_or_not n rs))
-    (cases_Bool (nat_eq r.number n))
-  where
-    none : nat_eq r.number n ≡ false → (Among n rs → ⊥) → Among n (r ∷ rs) → ⊥
-    none e h (first s) = differ (nat_eq r.number n) (eq-eqb r.number n s) e
-    none e h (later a) = h a
-
-none_some : (d : File) → None ≡ Some d → ⊥
-none_some d e = cc
-
-some_same : (c d : File) → Some c ≡ Some d → c ≡ d
-some_same c d e = cc
-
--- The same writes by other numbers, which tell those registers apart.
-pub record PutsToo (f' back : ℕ → ℕ) (end : ℕ) (rs : List Reg) (vs : List Value) (f g d : File) : Type 0 where
-  pub file : File
-  pub puts : put_all end (all_numbered f' rs) vs g ≡ Some file
-  pub same : (n : ℕ) → Among n rs → d n ≡ file (f' n)
-  pub others : (n : ℕ) → (Among n rs → ⊥) → d n ≡ f n
-  pub others_new : (x : ℕ) → (Among x (all_numbered f' rs) → ⊥) → file x ≡ g x
-
-pub put_twice : (f' back : ℕ → ℕ) (end : ℕ) (rs : List Reg) (vs : List Value) (f g d : File) →
-    ((n : ℕ) → Among n rs → back (f' n) ≡ n) → put_all end rs vs f ≡ Some d → PutsToo f' back end rs vs f g d
-put_twice f' back end [] [] f g d known e =
-    record {
-      file = g;
-      puts = refl;
-      same = λ n a. elim a [ ];
-      others = λ n h. ap (λ (x : File). x n) (sym (some_same f d e));
-      others_new = λ x h. refl;
-    }
-put_twice f' back end [] (v ∷ vs) f g d known e = absurd (none_some d e)
-put_twice f' back end (r ∷ rs) [] f g d known e = absurd (none_some d e)
-put_twice f' back end (r ∷ rs) (v ∷ vs) f g d known e =
-    by (fits end (type_of_comp r.comp) v) (put_all end rs vs f) refl refl e
-    (λ c h. put_twice f' back end rs vs f g c (λ n a. known n (later a)) h)
-  where
-    one : (c : File) → PutsToo f' back end rs vs f g c → put r v c ≡ d → fits end (type_of_comp r.comp) v ≡ true →
-        PutsToo f' back end (r ∷ rs) (v ∷ vs) f g d
-    one c p e t =
-        record {
-          file = put (numbered f' r) v p.file;
-          puts = ap (λ b. put_if b (numbered f' r) v (put_all end (all_numbered f' rs) vs g)) t
-              ∙ ap (put_if true (numbered f' r) v) p.puts;
-          same = λ n a. ap (λ (x : File). x n) (sym e) ∙ at_one n a (nat_eq r.number n) refl;
-          others = λ n h.
-              ap (λ (x : File). x n) (sym e) ∙ not_here r n (λ s. h (first s)) (c n) ∙ p.others n (λ a. h (later a));
-          others_new = λ x h.
-              not_here (numbered f' r) x (λ s. h (first s)) (p.file x) ∙ p.others_new x (λ a. h (later a));
-        }
-      where
-        held : Option Held
-        held = Some (record { comp = r.comp; value = v })
-
-        not_here : (s : Reg) (n : ℕ) → (s.number ≡ n → ⊥) → (o : Option Held) →
-            cond (nat_eq s.number n) (Some (record { comp = s.comp; value = v })) o ≡ o
-        not_here s n h o = test (nat_eq s.number n) refl
-          where
-            test : (b : Bool) → nat_eq s.number n ≡ b → cond b (Some (record { comp = s.comp; value = v })) o ≡ o
-            test true e = absurd (h (eqb-true s.number n e))
-            test false e = refl
-
-        rest_of : (n : ℕ) → nat_eq r.number n ≡ false → Among n (r ∷ rs) → Among n rs
-        rest_of n s (first k) = absurd (differ (nat_eq r.number n) (eq-eqb r.number n k) s)
-        rest_of n s (later a) = a
-
-        -- two of them have one new number only if they have one old
-        apart : (n : ℕ) → Among n (r ∷ rs) → nat_eq r.number n ≡ false → f' r.number ≡ f' n → ⊥
-        apart n a s h =
-            differ (nat_eq r.number n)
-            (eq-eqb r.number n (sym (known r.number (first refl)) ∙ ap back h ∙ known n a)) s
-
-        at_one : (n : ℕ) → Among n (r ∷ rs) → (b : Bool) → nat_eq r.number n ≡ b →
-            cond b held (c n) ≡ cond (nat_eq (f' r.number) (f' n)) held (p.file (f' n))
-        at_one n a true s =
-            ap (λ b. cond b held (p.file (f' n)))
-            (sym (eq-eqb (f' r.number) (f' n) (ap f' (eqb-true r.number n s))))
-        at_one n a false s =
-            p.same n (rest_of n s a)
-            ∙ sym (not_here (numbered f' r) (f' n) (apart n a s) (p.file (f' n)))
-
-    by : (t : Bool) (o : Option File) → fits end (type_of_comp r.comp) v ≡ t → put_all end rs vs f ≡ o →
-        put_if t r v o ≡ Some d → ((c : File) → put_all end rs vs f ≡ Some c → PutsToo f' back end rs vs f g c) →
-        PutsToo f' back end (r ∷ rs) (v ∷ vs) f g d
-    by false o t e h again = absurd (none_some d h)
-    by true None t e h again = absurd (none_some d h)
-    by true (Some c) t e h again = one c (again c e) (some_same (put r v c) d h) t
-
 values_same : (f' : ℕ → ℕ) (a b : File) (rs : List Reg) → ((n : ℕ) → Among n rs → a n ≡ b (f' n)) →
     values a rs ≡ values b (all_numbered f' rs)
 values_same f' a b [] h = refl
 values_same f' a b (r ∷ rs) h =
     ap (λ o. with_held o (values a rs)) (h r.number (first refl))
     ∙ ap (with_held (b (f' r.number))) (values_same f' a b rs (λ n z. h n (later z)))
-
-no_held : (u : Held) → None ≡ Some u → ⊥
-no_held u e = cc
 
 module _ (m : Mach) (names : Naming) (is : IsNaming m names) (formed : WellFormed m)
     (colour_fixed : (r : Reg) → Contains m.colours r → r.loc ≢ loc.Unset) where
@@ -229,20 +106,14 @@ module _ (m : Mach) (names : Naming) (is : IsNaming m names) (formed : WellForme
   across_live (across_step w l v) = on w l v
   across_live (across_raise r v) = aside r v
 
-  head_same : {i j : Instr} (xs ys : List Instr) → i ∷ xs ≡ j ∷ ys → i ≡ j
-  head_same xs ys e = cc
-
-  tail_same : {i j : Instr} (xs ys : List Instr) → i ∷ xs ≡ j ∷ ys → xs ≡ ys
-  tail_same xs ys e = cc
-
   vals_before : (i : Instr) (next : List Instr) (a b : File) (y : Around) → Ending (i ∷ next) m.code → Same (i ∷ next) a b →
       ValsWritten m (at (i ∷ next) a y) → ValsWritten q (at (renamed_code names (i ∷ next)) b y)
   vals_before i next a b y ending same known =
       record {
         written = λ j ys e frame r one val v none.
             let w = was_register m names is colour_fixed r one in
-            let head = head_same (renamed_code names next) ys e in
-            let old = across_back m names is colour_fixed i next ending head (tail_same (renamed_code names next) ys e) v in
+            let head = head_same e in
+            let old = across_back m names is colour_fixed i next ending head (tail_same e) v in
             known.written i next refl (subst (λ (j : Instr). passes_frame j.op ≡ true) (sym head) frame) w.register w.among
             (ap (λ (r : Reg). r.comp) w.same ∙ val)
             (subst (λ n. LiveAcross m n i next) w.back old.across)
@@ -369,7 +240,7 @@ module _ (m : Mach) (names : Naming) (is : IsNaming m names) (formed : WellForme
         ))
         (λ free.
         ⊎_elim (λ r. absurd (free r))
-        (λ k. absurd (no_held u (sym (cleared killed_new b' x k) ∙ sym (p.others_new x free) ∙ h)))
+        (λ k. absurd (none_some (sym (cleared killed_new b' x k) ∙ sym (p.others_new x free) ∙ h)))
         (split_among x main.results killed_new z))
         (among_or_not x main.results)
     put_wrote vs d p (Some v) x u z h = elim z [ ]
@@ -498,7 +369,7 @@ module _ (m : Mach) (names : Naming) (is : IsNaming m names) (formed : WellForme
         unwritten : (rs : List Reg) (vs : List Value) (d : File) (n : ℕ) → (Among n rs → ⊥) →
             put_all c.setting.end rs vs (λ n. None) ≡ Some d → d n ≡ None
         unwritten rs vs d n free e =
-            (put_twice (λ n. n) (λ n. n) c.setting.end rs vs (λ n. None) (λ n. None) d (λ n z. refl) e).others n free
+            (put_both c.setting.end rs vs (λ n. None) (λ n. None) d e).others n free
 
     pub does_renamed_at : (arguments : List Value) (memory : Memory) (doings : List Doing) (s : State) →
         start c m arguments memory ≡ Some s → Begins c m q arguments memory doings s

@@ -10,6 +10,8 @@ use Rattle.mach_ir.specs.declared.reg.Reg.{Reg}
 use Rattle.mach_ir.specs.declared.mach.Instr.{Instr}
 use Rattle.mach_ir.specs.declared.mach.Mach.{Mach}
 use Rattle.mach_laws.proofs.Walking.{none_in, first_in, later_in, in_cons}
+use Rattle.places_rules.proofs.Files.{differ}
+use Rattle.places_rules.proofs.Open.{machine_open, slot_open}
 use Rattle.places_rules.proofs.Walked.{left_among}
 use Rattle.mach_ir.specs.Meaning.{killed}
 use Rattle.split_rules.specs.Order.{IsFirstOfWeb, IsByFirst, kept, given, IsNumberOfWeb}
@@ -18,15 +20,6 @@ use Rattle.split_rules.specs.Split.{IsNaming, AreByFirst, IsSplit}
 use Rattle.split_rules.specs.Writes.{Comes, IsWrite, by_instr}
 use Rattle.split_rules.proofs.Result.{comes_write}
 use Rattle.split_rules.proofs.Text.{args_in, results_in}
-
-differ : (b : Bool) → b ≡ true → b ≡ false → ⊥
-differ b e h = cc
-
-machine_open : (n : ℕ) → loc.Machine n ≡ loc.Unset → ⊥
-machine_open n e = cc
-
-slot_open : (n : ℕ) → loc.Slot n ≡ loc.Unset → ⊥
-slot_open n e = cc
 
 among_in : (r : Reg) (rs : List Reg) → Contains rs r → Among r.number rs
 among_in r [] c = absurd (none_in r c)
@@ -64,8 +57,8 @@ module _ (m : Mach) where
             web_is
             (subst (λ f. IsNumberOfWeb m f r.number from (a.write (length from) r.number)) free_is (fa.written r i e from w))
             (fb.written r i e from w)
-        by (loc.Machine n) e = fixed (λ u. machine_open n (sym e ∙ u))
-        by (loc.Slot n) e = fixed (λ u. slot_open n (sym e ∙ u))
+        by (loc.Machine n) e = fixed (λ u. machine_open e u)
+        by (loc.Slot n) e = fixed (λ u. slot_open e u)
 
     read_is : (r : Reg) (i : Instr) (next : List Instr) → Stands i next m.code → Contains i.args r →
         a.read (length next) r.number ≡ b.read (length next) r.number

@@ -5,13 +5,13 @@ use Rattle.bs_words.specs.declared.types.Loc.{Loc}
 use Rattle.bs_words.specs.declared.types.Loc.TheVariants as loc
 use Rattle.mach_ir.specs.Acts.{Target, On, At}
 use Rattle.mach_ir.specs.Meaning.{Destroyed, Nothing, Temporaries, Everything, destroyed_by, is_destroyed, same_colour, is_at_one_of, killed_among, killed_by, killed, passes_frame, after_label, from_handler, code_at, tries_at, tries_past}
-use Rattle.mach_ir.specs.Walks.{Among, first, later, OneOf, targets, may_raise, goes, raises, Leads, Raises, Reached, at_entry, by_step, by_raise, Writes, Live, read, on, aside, LiveAfter, after_step, LiveAcross, across_step, across_raise, is_colour, is_in_code, Stands, here, below, NoAddrLive, IsMove, is_move, Meets, at_write, at_params, Joined, one_way, other_way}
+use Rattle.mach_ir.specs.Walks.{Among, first, later, OneOf, targets, may_raise, goes, raises, Leads, Raises, Reached, at_entry, by_step, by_raise, Writes, Live, read, on, aside, LiveAfter, after_step, LiveAcross, across_step, across_raise, is_colour, is_in_code, Stands, NoAddrLive, IsMove, is_move, Meets, at_write, at_params, Joined, one_way, other_way}
 use Rattle.mach_ir.specs.declared.reg.Reg.{Reg}
 use Rattle.mach_ir.specs.declared.mach.Instr.{Instr}
 use Rattle.mach_ir.specs.declared.mach.Mach.{Mach}
-use Rattle.mach_laws.specs.Expand.{Ending, all, more}
+use Rattle.mach_laws.specs.Expand.{Ending, all}
 use Rattle.mach_laws.proofs.Places.{ending_next, ending_label, ending_from_handler}
-use Rattle.places_rules.proofs.Walked.{left_among, right_among, split_among, stands_of}
+use Rattle.places_rules.proofs.Walked.{ending_of, left_among, right_among, split_among, stands_of}
 use Rattle.split_rules.specs.Renamed.{Naming, all_numbered, renamed_instr, renamed_code, renamed}
 use Rattle.split_rules.specs.Split.{IsNaming}
 use Rattle.split_rules.specs.Writes.{Comes, from_write, past, past_raise}
@@ -232,10 +232,6 @@ module _ (m : Mach) (names : Naming) (is : IsNaming m names)
       record { across = across_raise raise old.live; stands = stands_aside raise old.stands }
 
   -- ---- the graph
-
-  ending_of : {i : Instr} {next code : List Instr} → Stands i next code → Ending (i ∷ next) code
-  ending_of here = all
-  ending_of (below s) = more (ending_of s)
 
   -- a register that has kept its number
   pub record Stays (n : ℕ) : Type 0 where

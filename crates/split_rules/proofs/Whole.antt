@@ -12,6 +12,7 @@ use Rattle.mach_ir.specs.declared.mach.MachOp.{MachOp}
 use Rattle.mach_ir.specs.declared.reg.Reg.{Reg}
 use Rattle.mach_ir.specs.declared.mach.Instr.{Instr}
 use Rattle.mach_ir.specs.declared.mach.Mach.{Mach}
+use Rattle.places_rules.proofs.Open.{machine_open}
 use Rattle.places_rules.proofs.Lists.{was, mapped, length_mapped}
 use Rattle.split_rules.specs.Renamed.{Naming, numbered, all_numbered, renamed_code, renamed}
 use Rattle.split_rules.specs.Split.{IsNaming, IsDense, IsSplit, IsKept}
@@ -19,9 +20,6 @@ use Rattle.split_rules.proofs.Formed.{contains_of, was_instr, renamed_formed}
 use Rattle.split_rules.proofs.Kept.{does_renamed}
 use Rattle.split_rules.proofs.Text.{was_register, WasRegister}
 use Rattle.split_rules.proofs.Walked.{Stays, joined_before, no_addr_before}
-
-machine_open : (n : ℕ) → loc.Machine n ≡ loc.Unset → ⊥
-machine_open n e = cc
 
 same_places : (f : ℕ → ℕ) (rs : List Reg) → places_of (all_numbered f rs) ≡ places_of rs
 same_places f [] = refl
@@ -32,7 +30,7 @@ pub fixed_colours : (m : Mach) → WellPlaced m → (r : Reg) → Contains m.col
 fixed_colours m well r c = λ e.
     let l = mapped (λ (r : Reg). r.loc) m.colours r c in
     let w = was loc.Machine colours r.loc (subst (λ ls. Contains ls r.loc) ((well.colours).each) l) in
-    machine_open w.what (w.same ∙ e)
+    machine_open (sym w.same) e
 
 module _ (m : Mach) (names : Naming) (is : IsNaming m names) (formed : WellFormed m) (well : WellPlaced m) where
   abbrev q : Mach

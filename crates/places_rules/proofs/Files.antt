@@ -1,0 +1,162 @@
+-- Files of values by number: what is read, written and cleared, in one and in two of them.
+use Rattle.std.proofs.Common.{◌≡◌, ℕ, Bool, true, false, cond, inl, inr, ◌⊎◌, ⊎_elim, List, [], ◌∷◌, map, Option, Some, None, refl, sym, ap, ◌∙◌, subst}
+use Rattle.std.proofs.lemmas.Bool.{cases_Bool, eq-eqb, eqb-true}
+use Rattle.std.specs.Prelude.{nat_eq}
+use Rattle.bs_words.specs.Fits.{fits, type_of_comp}
+use Rattle.bs_words.specs.declared.values.Value.{Value}
+use Rattle.mach_ir.specs.Meaning.{Held, File, put, put_if, put_all, clear, with_held, values, past_frame, unless_addr}
+use Rattle.mach_ir.specs.Walks.{Among, first, later}
+use Rattle.mach_ir.specs.declared.reg.Reg.{Reg}
+
+pub differ : (b : Bool) → b ≡ true → b ≡ false → ⊥
+differ b e h = cc
+
+pub none_some : {A : Type 0} {x : A} → None ≡ Some x → ⊥
+none_some e = cc
+
+pub some_same : {A : Type 0} {x y : A} → Some x ≡ Some y → x ≡ y
+some_same e = cc
+
+pub among_or_not : (n : ℕ) (rs : List Reg) → Among n rs ⊎ (Among n rs → ⊥)
+among_or_not n [] = inr (λ a. elim a [ ])
+among_or_not n (r ∷ rs) =
+    ⊎_elim (λ e. inl (first (eqb-true r.number n e)))
+    (λ e. ⊎_elim (λ a. inl (later a)) (λ h. inr (λ a. none e h a)) (among_or_not n rs))
+    (cases_Bool (nat_eq r.number n))
+  where
+    none : nat_eq r.number n ≡ false → (Among n rs → ⊥) → Among n (r ∷ rs) → ⊥
+    none e h (first s) = differ (nat_eq r.number n) (eq-eqb r.number n s) e
+    none e h (later a) = h a
+
+-- ---- what is read
+
+pub values_same : (a b : File) (rs : List Reg) → ((n : ℕ) → Among n rs → a n ≡ b n) → values a rs ≡ values b rs
+values_same a b [] h = refl
+values_same a b (r ∷ rs) h =
+    ap (λ o. with_held o (values a rs)) (h r.number (first refl))
+    ∙ ap (with_held (b r.number)) (values_same a b rs (λ n z. h n (later z)))
+
+pub past_same : (t : Bool) (a b : File) (n x : ℕ) → a n ≡ b x → past_frame t a n ≡ past_frame t b x
+past_same false a b n x e = e
+past_same true a b n x e = ap unless_addr e
+
+-- ---- what is cleared, and what is not
+
+abbrev IsNone : Option Held → Type 0
+IsNone o = o ≡ None
+
+pub cleared : (ks : List Reg) (f : File) (n : ℕ) → Among n ks → IsNone (clear ks f n)
+cleared (k ∷ ks) f n (first e) = ap (λ b. cond b None (clear ks f n)) (eq-eqb k.number n e)
+cleared (k ∷ ks) f n (later a) = by (nat_eq k.number n) (cleared ks f n a)
+  where
+    by : (b : Bool) → IsNone (clear ks f n) → IsNone (cond b None (clear ks f n))
+    by true e = refl
+    by false e = e
+cleared [] f n a = elim a [ ]
+
+pub not_cleared : (ks : List Reg) (f : File) (n : ℕ) → (Among n ks → ⊥) → clear ks f n ≡ f n
+not_cleared [] f n h = refl
+not_cleared (k ∷ ks) f n h = by (nat_eq k.number n) refl (not_cleared ks f n (λ a. h (later a)))
+  where
+    by : (b : Bool) → nat_eq k.number n ≡ b → clear ks f n ≡ f n → cond b None (clear ks f n) ≡ f n
+    by true s e = absurd (h (first (eqb-true k.number n s)))
+    by false s e = e
+
+-- ---- what is written
+
+pub put_here : (r : Reg) (v : Value) (f : File) (n : ℕ) → r.number ≡ n → put r v f n ≡ Some (record { comp = r.comp; value = v })
+put_here r v f n e = ap (λ b. cond b (Some (record { comp = r.comp; value = v })) (f n)) (eq-eqb r.number n e)
+
+pub put_other : (r : Reg) (v : Value) (f : File) (n : ℕ) → (r.number ≡ n → ⊥) → put r v f n ≡ f n
+put_other r v f n h = test (nat_eq r.number n) refl
+  where
+    test : (b : Bool) → nat_eq r.number n ≡ b → cond b (Some (record { comp = r.comp; value = v })) (f n) ≡ f n
+    test true e = absurd (h (eqb-true r.number n e))
+    test false e = refl
+
+-- the registers by other numbers
+abbrev pub renumbered : (ℕ → ℕ) → List Reg → List Reg
+renumbered f' rs = map (λ (r : Reg). record r { number = f' r.number }) rs
+
+-- The same writes by other numbers, which tell those registers apart.
+pub record PutsToo (f' back : ℕ → ℕ) (end : ℕ) (rs : List Reg) (vs : List Value) (f g d : File) : Type 0 where
+  pub file : File
+  pub puts : put_all end (renumbered f' rs) vs g ≡ Some file
+  pub same : (n : ℕ) → Among n rs → d n ≡ file (f' n)
+  pub others : (n : ℕ) → (Among n rs → ⊥) → d n ≡ f n
+  pub others_new : (x : ℕ) → (Among x (renumbered f' rs) → ⊥) → file x ≡ g x
+
+pub put_twice : (f' back : ℕ → ℕ) (end : ℕ) (rs : List Reg) (vs : List Value) (f g d : File) →
+    ((n : ℕ) → Among n rs → back (f' n) ≡ n) → put_all end rs vs f ≡ Some d → PutsToo f' back end rs vs f g d
+put_twice f' back end [] [] f g d known e =
+    record {
+      file = g;
+      puts = refl;
+      same = λ n a. elim a [ ];
+      others = λ n h. ap (λ (x : File). x n) (sym (some_same e));
+      others_new = λ x h. refl;
+    }
+put_twice f' back end [] (v ∷ vs) f g d known e = absurd (none_some e)
+put_twice f' back end (r ∷ rs) [] f g d known e = absurd (none_some e)
+put_twice f' back end (r ∷ rs) (v ∷ vs) f g d known e =
+    by (fits end (type_of_comp r.comp) v) (put_all end rs vs f) refl refl e
+    (λ c h. put_twice f' back end rs vs f g c (λ n a. known n (later a)) h)
+  where
+    as_new : Reg
+    as_new = record r { number = f' r.number }
+
+    one : (c : File) → PutsToo f' back end rs vs f g c → put r v c ≡ d → fits end (type_of_comp r.comp) v ≡ true →
+        PutsToo f' back end (r ∷ rs) (v ∷ vs) f g d
+    one c p e t =
+        record {
+          file = put as_new v p.file;
+          puts = ap (λ b. put_if b as_new v (put_all end (renumbered f' rs) vs g)) t ∙ ap (put_if true as_new v) p.puts;
+          same = λ n a. ap (λ (x : File). x n) (sym e) ∙ at_one n a (nat_eq r.number n) refl;
+          others = λ n h. ap (λ (x : File). x n) (sym e) ∙ put_other r v c n (λ s. h (first s)) ∙ p.others n (λ a. h (later a));
+          others_new = λ x h. put_other as_new v p.file x (λ s. h (first s)) ∙ p.others_new x (λ a. h (later a));
+        }
+      where
+        rest_of : (n : ℕ) → nat_eq r.number n ≡ false → Among n (r ∷ rs) → Among n rs
+        rest_of n s (first k) = absurd (differ (nat_eq r.number n) (eq-eqb r.number n k) s)
+        rest_of n s (later a) = a
+
+        -- two of them have one new number only if they have one old
+        apart : (n : ℕ) → Among n (r ∷ rs) → nat_eq r.number n ≡ false → f' r.number ≡ f' n → ⊥
+        apart n a s h =
+            differ (nat_eq r.number n)
+            (eq-eqb r.number n (sym (known r.number (first refl)) ∙ ap back h ∙ known n a)) s
+
+        at_one : (n : ℕ) → Among n (r ∷ rs) → (b : Bool) → nat_eq r.number n ≡ b →
+            cond b (Some (record { comp = r.comp; value = v })) (c n) ≡ put as_new v p.file (f' n)
+        at_one n a true s = sym (put_here as_new v p.file (f' n) (ap f' (eqb-true r.number n s)))
+        at_one n a false s = p.same n (rest_of n s a) ∙ sym (put_other as_new v p.file (f' n) (apart n a s))
+
+    by : (t : Bool) (o : Option File) → fits end (type_of_comp r.comp) v ≡ t → put_all end rs vs f ≡ o →
+        put_if t r v o ≡ Some d → ((c : File) → put_all end rs vs f ≡ Some c → PutsToo f' back end rs vs f g c) →
+        PutsToo f' back end (r ∷ rs) (v ∷ vs) f g d
+    by false o t e h again = absurd (none_some h)
+    by true None t e h again = absurd (none_some h)
+    by true (Some c) t e h again = one c (again c e) (some_same h) t
+
+-- the same writes into two files
+pub record PutsBoth (end : ℕ) (rs : List Reg) (vs : List Value) (f g d : File) : Type 0 where
+  pub file : File
+  pub puts : put_all end rs vs g ≡ Some file
+  pub same : (n : ℕ) → Among n rs → d n ≡ file n
+  pub others : (n : ℕ) → (Among n rs → ⊥) → d n ≡ f n
+  pub others_new : (n : ℕ) → (Among n rs → ⊥) → file n ≡ g n
+
+same_numbers : (rs : List Reg) → renumbered (λ n. n) rs ≡ rs
+same_numbers [] = refl
+same_numbers (r ∷ rs) = ap (λ qs. r ∷ qs) (same_numbers rs)
+
+pub put_both : (end : ℕ) (rs : List Reg) (vs : List Value) (f g d : File) → put_all end rs vs f ≡ Some d → PutsBoth end rs vs f g d
+put_both end rs vs f g d e =
+    let p = put_twice (λ n. n) (λ n. n) end rs vs f g d (λ n z. refl) e in
+    record {
+      file = p.file;
+      puts = ap (λ qs. put_all end qs vs g) (sym (same_numbers rs)) ∙ p.puts;
+      same = p.same;
+      others = p.others;
+      others_new = λ n h. p.others_new n (λ z. h (subst (Among n) (same_numbers rs) z));
+    }
