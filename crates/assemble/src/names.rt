@@ -11,7 +11,7 @@ ghost use Rattle.rv_layout.specs.Tables.{places_of};
 
 use crate::source::{Source, place_address};
 use bs_words::Name;
-use mach_ir::External;
+use mach_ir::{External, Label};
 use rv_layout::Labels;
 use rv_pieces::Piece;
 use std::alloc::{AllocError, Global};
@@ -41,7 +41,7 @@ impl<'a, 'b> Source<'a, 'b> {
     }
 
     /// The address of a label of a function whose entry is this word.
-    fn address_of_label(&self, labels: &Labels, entry: u64, label: u32) -> u32
+    fn address_of_label(&self, labels: &Labels, entry: u64, label: Label) -> u32
         requires source { IsSource self.now }
         requires fits { first_too_large (laid_of self.now) ≡ None }
         requires low { entry + places_of labels.now label ≤ self.now.places.now.end }

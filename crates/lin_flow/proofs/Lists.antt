@@ -46,14 +46,14 @@ label_more m l p i next e = by (has_label l i.op)
     by false = refl
 
 -- the places of labels, so far
-pub switch_more : (labels : Labels) (p : ℕ) (ls items new : List ℕ) (i y : ℕ) → i < length ls → y ≡ place_in labels (get_or ls i 0) →
+pub switch_more : (labels : Labels) (p : ℕ) (ls items new : List ℕ) (i l y : ℕ) → i < length ls → l ≡ get_or ls i l → y ≡ place_in labels l →
     items ≡ map (place_to labels p) (map At (take i ls)) → new ≡ items ++ y ∷ [] →
     new ≡ map (place_to labels p) (map At (take (i + 1) ls))
-switch_more labels p ls items new i y lt e inv n =
-    n ∙ ap (λ ys. ys ++ y ∷ []) inv ∙ ap (λ z. map (place_to labels p) (map At (take i ls)) ++ z ∷ []) e
-    ∙ sym (ap (λ xs. map (place_to labels p) (map At xs)) (take_more ls i 0 lt)
-    ∙ ap (map (place_to labels p)) (map-append At (take i ls) (get_or ls i 0 ∷ []))
-    ∙ map-append (place_to labels p) (map At (take i ls)) (At (get_or ls i 0) ∷ []))
+switch_more labels p ls items new i l y lt is e inv n =
+    n ∙ ap (λ ys. ys ++ y ∷ []) inv ∙ ap (λ z. map (place_to labels p) (map At (take i ls)) ++ z ∷ []) (e ∙ ap (place_in labels) is)
+    ∙ sym (ap (λ xs. map (place_to labels p) (map At xs)) (take_more ls i l lt)
+    ∙ ap (map (place_to labels p)) (map-append At (take i ls) (get_or ls i l ∷ []))
+    ∙ map-append (place_to labels p) (map At (take i ls)) (At (get_or ls i l) ∷ []))
 
 pub switch_done : (labels : Labels) (p : ℕ) (places ls slice : List ℕ) (f : Flow) → f ≡ flow.Switch ls → slice ≡ ls →
     ((p : ℕ) → places ≡ map (place_to labels p) (map At slice)) → places ≡ map (place_to labels p) (targets (lin.Flow f))

@@ -8,7 +8,7 @@ ghost use Rattle.lin_flow.specs.Labels.{place_to, next_place};
 
 use crate::labels::Labels;
 use lin_ir::{Flow, LinOp};
-use mach_ir::{Calling, Leaving, Op};
+use mach_ir::{Calling, Label, Leaving, Op};
 use std::alloc::{AllocError, Global};
 
 fn call_goes_on(calling: &Calling) -> bool
@@ -99,7 +99,7 @@ fn two_places(alloc: Global, first: u32, second: u32) -> Result<Vec<u32>, AllocE
     Ok(places)
 }
 
-fn places_of_labels(alloc: Global, labels: &Labels, among: &[u32]) -> Result<Vec<u32>, AllocError>
+fn places_of_labels(alloc: Global, labels: &Labels, among: &[Label]) -> Result<Vec<u32>, AllocError>
     ensures { IfOk result (λ places. (p : ℕ) →
         places.items ≡ map (place_to labels.now p) (map At among.now)) }
 {

@@ -4,11 +4,12 @@ ghost use Rattle.lin_ir.specs.Meaning.{has_label};
 ghost use Rattle.lin_flow.specs.Labels.{is_that_label, place_in, AreLabelsOf};
 
 use lin_ir::{Flow, Lin, LinOp};
+use mach_ir::Label;
 use std::alloc::{AllocError, Global};
 use std::collections::BTreeMap;
 
 /// The label of a line that has one.
-fn flow_label(flow: &Flow) -> Option<u32>
+fn flow_label(flow: &Flow) -> Option<Label>
     ensures { (l : ℕ) → has_label l (LinOp.Flow flow.now) ≡ is_that_label result l }
 {
     match flow {
@@ -23,7 +24,7 @@ fn flow_label(flow: &Flow) -> Option<u32>
     }
 }
 
-fn own_label(op: &LinOp) -> Option<u32>
+fn own_label(op: &LinOp) -> Option<Label>
     ensures { (l : ℕ) → has_label l op.now ≡ is_that_label result l }
 {
     match op {
@@ -71,17 +72,17 @@ impl Labels {
         match own_label(op) {
             None => Ok(()),
             Some(label) => {
-                self.places.insert(label, after)?;
+                self.places.insert(label.0, after)?;
                 Ok(())
             }
         }
     }
 
     /// The place after the label.
-    pub fn place_of(&self, label: u32) -> u32
+    pub fn place_of(&self, label: Label) -> u32
         ensures { result ≡ place_in self.now label }
     {
-        match self.places.get(&label) {
+        match self.places.get(&label.0) {
             None => self.end,
             Some(place) => *place,
         }

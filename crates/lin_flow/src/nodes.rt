@@ -13,6 +13,7 @@ use bs_words::List;
 use dataflow::Place;
 use lin_ir::{Lin, Line};
 use lin_laws::Position;
+use mach_ir::Label;
 use std::alloc::{AllocError, Global};
 
 /// The place of the graph that has the number.
@@ -37,7 +38,7 @@ fn enter_innermost(
     match tries {
         [] => Ok(numbers),
         [label, others @ ..] => {
-            let number = search.enter(alloc, labels.place_of(*label), others)?;
+            let number = search.enter(alloc, labels.place_of(Label(*label)), others)?;
             numbers.push(number)?;
             Ok(numbers)
         }

@@ -4,7 +4,7 @@ ghost use Rattle.mach_ir.specs.Acts.{drop_tries};
 ghost use Rattle.lin_ir.specs.Walks.{tries_after};
 
 use lin_ir::{Flow, LinOp};
-use mach_ir::Seq;
+use mach_ir::{Label, Seq};
 use std::alloc::{AllocError, Global};
 
 /// A copy of the labels of open tries. The only error is want of memory.
@@ -16,11 +16,11 @@ pub fn copy_of(alloc: Global, tries: &[u32]) -> Result<Seq<u32>, AllocError>
     Ok(Seq::from_vec(copy))
 }
 
-fn with_trap(alloc: Global, label: u32, tries: &[u32]) -> Result<Seq<u32>, AllocError>
+fn with_trap(alloc: Global, label: Label, tries: &[u32]) -> Result<Seq<u32>, AllocError>
     ensures { IfOk result (λ more. more ≡ label ∷ tries.now) }
 {
     let mut more = Vec::new(alloc);
-    more.push(label)?;
+    more.push(label.0)?;
     more.extend_from_slice(tries)?;
     Ok(Seq::from_vec(more))
 }

@@ -1,7 +1,7 @@
 //! The instructions of Linear.
 
 use bs_words::{Comp, Loc, Name, Ret};
-use mach_ir::{Op, Seq, Test};
+use mach_ir::{Label, Op, Seq, Test};
 
 /// A location, with the component as which it is read or written.
 #[derive(Clone, Copy, PartialEq, Eq, Debug)]
@@ -13,16 +13,16 @@ pub struct Spot {
 /// How control goes. A label is that of the place after the line that has it.
 #[derive(Clone, Drop)]
 pub enum Flow {
-    Label(u32),
-    Jump(u32),
+    Label(Label),
+    Jump(Label),
     /// A jump that is an exit of the text: it costs a unit.
-    Exit(u32),
+    Exit(Label),
     /// To the label where the test holds, else on.
-    Branch { test: Test, label: u32 },
+    Branch { test: Test, label: Label },
     /// For each index from 0 on, its label.
-    Switch(Seq<u32>),
+    Switch(Seq<Label>),
     /// Pushes a trap whose handler is at the label.
-    PushTrap(u32),
+    PushTrap(Label),
     PopTrap,
     /// The entry of a handler, right after its label. The result is the raised value.
     EnterTrap,

@@ -8,8 +8,8 @@ ghost use Rattle.lin_ir.specs.Text.{lin_op_text, stays_first, indent_of, line_te
 
 use crate::lin::{Flow, Lin, LinOp, Line, Spot};
 use bs_words::{List, Loc};
-use mach_ir::Right;
 use mach_ir::page::{Page, right_of};
+use mach_ir::{Label, Right};
 use std::alloc::{AllocError, Global};
 
 /// The text of a function.
@@ -178,7 +178,7 @@ fn stays_first(first: bool, right: Right) -> bool
     }
 }
 
-fn put_marked_label(page: &mut Page, first: bool, label: u32) -> Result<(), AllocError>
+fn put_marked_label(page: &mut Page, first: bool, label: Label) -> Result<(), AllocError>
     ensures { IfOk result (λ _. Adds page.old page.new (separator first ++ label_text label)) }
 {
     page.put_separator(first)?;
@@ -186,7 +186,7 @@ fn put_marked_label(page: &mut Page, first: bool, label: u32) -> Result<(), Allo
 }
 
 /// Labels after others.
-fn put_more_labels(page: &mut Page, labels: &[u32]) -> Result<(), AllocError>
+fn put_more_labels(page: &mut Page, labels: &[Label]) -> Result<(), AllocError>
     ensures { IfOk result (λ _. Adds page.old page.new (labels_text false labels.now)) }
 {
     for label in labels {
@@ -195,7 +195,7 @@ fn put_more_labels(page: &mut Page, labels: &[u32]) -> Result<(), AllocError>
     Ok(())
 }
 
-fn put_labels(page: &mut Page, first: bool, labels: &[u32]) -> Result<(), AllocError>
+fn put_labels(page: &mut Page, first: bool, labels: &[Label]) -> Result<(), AllocError>
     ensures { IfOk result (λ _. Adds page.old page.new (labels_text first labels.now)) }
 {
     match labels.split_first() {

@@ -8,7 +8,7 @@ ghost use Rattle.linear_tidy.specs.Forms.{copies, IsOnePlace, MovesItself, IsNoS
 
 use bs_words::Loc;
 use lin_ir::{Flow, LinOp, Line, Spot};
-use mach_ir::{Op, Pure};
+use mach_ir::{Label, Op, Pure};
 
 /// Whether it is a label or the entry of a handler, where control lands.
 pub fn is_landing(op: &LinOp) -> bool
@@ -110,7 +110,7 @@ fn has_no_spots(line: &Line) -> bool
 }
 
 /// The label to which the line jumps, if it is a jump.
-pub fn jump_of(line: &Line) -> Option<u32>
+pub fn jump_of(line: &Line) -> Option<Label>
     ensures { (l : ℕ) → (result ≡ Some l) ↔ (line.now ≡ bare (Flow.Jump l)) }
 {
     if !has_no_spots(line) {
@@ -130,7 +130,7 @@ pub fn jump_of(line: &Line) -> Option<u32>
 }
 
 /// The label to which the line exits, if it is an exit.
-pub fn exit_of(line: &Line) -> Option<u32>
+pub fn exit_of(line: &Line) -> Option<Label>
     ensures { (l : ℕ) → (result ≡ Some l) ↔ (line.now ≡ bare (Flow.Exit l)) }
 {
     if !has_no_spots(line) {

@@ -9,7 +9,7 @@ ghost use Rattle.linear_tidy.specs.Targets.{first_line, target_in, exit_in, AreT
 use crate::forms::{exit_of, is_label, jump_of};
 use lin_flow::{Labels, number_after};
 use lin_ir::{Flow, Lin, LinOp, Line};
-use mach_ir::Seq;
+use mach_ir::{Label, Seq};
 use std::alloc::{AllocError, Global};
 use std::collections::BTreeMap;
 
@@ -27,14 +27,14 @@ fn first_line(code: &[Line], place: usize) -> Option<&Line>
 }
 
 /// The label to which the first line from the place on that is no label jumps, if it is a jump.
-fn jump_from(code: &[Line], place: usize) -> Option<u32>
+fn jump_from(code: &[Line], place: usize) -> Option<Label>
     ensures { result ≡ leads_to (drop place code.now) }
 {
     jump_of(first_line(code, place)?)
 }
 
 /// The label to which the first line from the place on that is no label exits, if it is an exit.
-fn exit_from(code: &[Line], place: usize) -> Option<u32>
+fn exit_from(code: &[Line], place: usize) -> Option<Label>
     ensures { result ≡ leaves_to (drop place code.now) }
 {
     exit_of(first_line(code, place)?)
@@ -42,7 +42,7 @@ fn exit_from(code: &[Line], place: usize) -> Option<u32>
 
 /// The label to which control goes on from a label by labels and jumps alone. Jumps that lead round
 /// are followed once for each line.
-fn last_label(lin: &Lin, labels: &Labels, label: u32) -> u32
+fn last_label(lin: &Lin, labels: &Labels, label: Label) -> Label
     requires { AreLabelsOf lin.now labels.now }
     ensures { result ≡ last_label lin.now label }
 {
@@ -60,7 +60,7 @@ fn last_label(lin: &Lin, labels: &Labels, label: u32) -> u32
 
 /// The label to which control goes on from a label by labels and jumps, one exit, and labels and
 /// jumps again.
-fn last_exit(lin: &Lin, labels: &Labels, label: u32) -> Option<u32>
+fn last_exit(lin: &Lin, labels: &Labels, label: Label) -> Option<Label>
     requires { AreLabelsOf lin.now labels.now }
     ensures { result ≡ last_exit lin.now label }
 {
@@ -75,9 +75,9 @@ fn last_exit(lin: &Lin, labels: &Labels, label: u32) -> Option<u32>
 #[derive(Drop)]
 struct Way {
     /// By labels and jumps alone.
-    label: u32,
+    label: Label,
     /// By an exit that stands there, and labels and jumps again.
-    exit: Option<u32>,
+    exit: Option<Label>,
 }
 
 /// Where jumps to labels go instead.
@@ -98,33 +98,33 @@ impl Targets {
     }
 
     /// Where branches to the label go: to itself where nothing is known of it.
-    fn target_of(&self, label: u32) -> u32
+    fn target_of(&self, label: Label) -> Label
         ensures { result ≡ target_in self.now label }
     {
-        match self.ways.get(&label) {
+        match self.ways.get(&label.0) {
             None => label,
             Some(way) => way.label,
         }
     }
 
     /// Where jumps to the label exit, if they lead to an exit.
-    fn exit_of(&self, label: u32) -> Option<u32>
+    fn exit_of(&self, label: Label) -> Option<Label>
         ensures { result ≡ exit_in self.now label }
     {
-        match self.ways.get(&label) {
+        match self.ways.get(&label.0) {
             None => None,
             Some(way) => way.exit,
         }
     }
 
     /// Enters where control comes from the label.
-    fn put(&mut self, label: u32, way: Way) -> Result<(), AllocError>
+    fn put(&mut self, label: Label, way: Way) -> Result<(), AllocError>
         ensures to { IfOk result (λ _. (l : ℕ) →
             target_in self.new l ≡ cond (nat_eq label l) way.label (target_in self.old l)) }
         ensures exits { IfOk result (λ _. (l : ℕ) →
             exit_in self.new l ≡ cond (nat_eq label l) way.exit (exit_in self.old l)) }
     {
-        self.ways.insert(label, way)?;
+        self.ways.insert(label.0, way)?;
         Ok(())
     }
 
@@ -169,7 +169,7 @@ impl Targets {
     }
 
     /// What a jump to the label becomes.
-    fn redirect_jump(&self, label: u32) -> Flow
+    fn redirect_jump(&self, label: Label) -> Flow
         ensures { result ≡ goes_by (exit_in self.now label) (target_in self.now label) }
     {
         match self.exit_of(label) {

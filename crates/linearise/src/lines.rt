@@ -12,7 +12,7 @@ use crate::spots::{bare, line_of};
 use crate::tests::opposite_test;
 use bs_words::{Comp, Loc};
 use lin_ir::{Flow, LinOp};
-use mach_ir::{Instr, MachOp, Mark, Op, Pure, Reg};
+use mach_ir::{Instr, Label, MachOp, Mark, Op, Pure, Reg};
 use std::alloc::{AllocError, Global};
 
 /// Whether both are one component.
@@ -88,7 +88,12 @@ fn push_pops(alloc: Global, count: u32, lines: &mut Backward) -> Result<(), Allo
 }
 
 /// Puts a jump, and the label that comes after it, before the lines.
-fn push_jump(alloc: Global, end: u32, label: u32, lines: &mut Backward) -> Result<(), AllocError>
+fn push_jump(
+    alloc: Global,
+    end: Label,
+    label: Label,
+    lines: &mut Backward,
+) -> Result<(), AllocError>
     ensures { IfOk result (λ _. lines.new ≡
         bare (λ k. k) (flow.Jump end) ∷ bare (λ k. k) (flow.Label label) ∷ lines.old) }
 {

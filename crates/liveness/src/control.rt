@@ -9,7 +9,7 @@ ghost use Rattle.liveness.specs.Labels.{place_to, next_place, handler_places_in}
 
 use crate::backward::Backward;
 use crate::labels::Labels;
-use mach_ir::{Calling, Leaving, MachOp, Mark, Op};
+use mach_ir::{Calling, Label, Leaving, MachOp, Mark, Op};
 use std::alloc::{AllocError, Global};
 
 fn call_goes_on(calling: &Calling) -> bool
@@ -100,7 +100,7 @@ fn two_places(alloc: Global, first: u32, second: u32) -> Result<Vec<u32>, AllocE
     Ok(places)
 }
 
-fn places_of_labels(alloc: Global, labels: &Labels, among: &[u32]) -> Result<Vec<u32>, AllocError>
+fn places_of_labels(alloc: Global, labels: &Labels, among: &[Label]) -> Result<Vec<u32>, AllocError>
     ensures { IfOk result (λ places. (p : ℕ) →
         places.items ≡ map (place_to labels.now p) (map At among.now)) }
 {
@@ -190,7 +190,7 @@ pub fn places_aside(
     }
     match tries.first() {
         None => Ok(Vec::new(alloc)),
-        Some(handler) => one_place(alloc, labels.handler_of(handler)),
+        Some(handler) => one_place(alloc, labels.handler_of(Label(handler))),
     }
 }
 
@@ -227,7 +227,7 @@ fn pass_mark(tries: &mut Backward<u32>, mark: &Mark) -> Result<(), AllocError>
             tries.pop();
             Ok(())
         }
-        Mark::Leave { handler, end: _ } => tries.push(*handler),
+        Mark::Leave { handler, end: _ } => tries.push(handler.0),
         Mark::Handler { label: _ } => Ok(()),
         Mark::End { label: _ } => Ok(()),
     }

@@ -3,12 +3,12 @@ ghost use Rattle.std.specs.Prelude.{◌≡◌, ◌<◌, ℕ, ◌^◌, suc, cond,
 ghost use Rattle.mach_ir.specs.Meaning.{has_label, is_handler_of};
 ghost use Rattle.liveness.specs.Labels.{is_that_label, place_in, handler_in, AreLabelsOf};
 
-use mach_ir::{Mach, MachOp, Mark};
+use mach_ir::{Label, Mach, MachOp, Mark};
 use std::alloc::{AllocError, Global};
 use std::collections::BTreeMap;
 
 /// The label that a mark has.
-fn mark_label(mark: &Mark) -> Option<u32>
+fn mark_label(mark: &Mark) -> Option<Label>
     ensures { (l : ℕ) → has_label l (MachOp.Mark mark.now) ≡ is_that_label result l }
 {
     match mark {
@@ -33,7 +33,7 @@ fn mark_label(mark: &Mark) -> Option<u32>
     }
 }
 
-fn own_label(op: &MachOp) -> Option<u32>
+fn own_label(op: &MachOp) -> Option<Label>
     ensures { (l : ℕ) → has_label l op.now ≡ is_that_label result l }
 {
     match op {
@@ -43,7 +43,7 @@ fn own_label(op: &MachOp) -> Option<u32>
 }
 
 /// The label of the handler that a mark is.
-fn mark_handler(mark: &Mark) -> Option<u32>
+fn mark_handler(mark: &Mark) -> Option<Label>
     ensures { (l : ℕ) → is_handler_of l (MachOp.Mark mark.now) ≡ is_that_label result l }
 {
     match mark {
@@ -68,7 +68,7 @@ fn mark_handler(mark: &Mark) -> Option<u32>
     }
 }
 
-fn own_handler(op: &MachOp) -> Option<u32>
+fn own_handler(op: &MachOp) -> Option<Label>
     ensures { (l : ℕ) → is_handler_of l op.now ≡ is_that_label result l }
 {
     match op {
@@ -119,29 +119,29 @@ impl Labels {
             cond (is_handler_of l op.now) place (handler_in self.old l)) }
     {
         if let Some(label) = own_label(op) {
-            self.places.insert(label, place + 1)?;
+            self.places.insert(label.0, place + 1)?;
         }
         if let Some(label) = own_handler(op) {
-            self.handlers.insert(label, place)?;
+            self.handlers.insert(label.0, place)?;
         }
         Ok(())
     }
 
     /// The place after the label.
-    pub fn place_of(&self, label: u32) -> u32
+    pub fn place_of(&self, label: Label) -> u32
         ensures { result ≡ place_in self.now label }
     {
-        match self.places.get(&label) {
+        match self.places.get(&label.0) {
             None => self.end,
             Some(place) => *place,
         }
     }
 
     /// The place of the handler.
-    pub fn handler_of(&self, label: u32) -> u32
+    pub fn handler_of(&self, label: Label) -> u32
         ensures { result ≡ handler_in self.now label }
     {
-        match self.handlers.get(&label) {
+        match self.handlers.get(&label.0) {
             None => self.end,
             Some(place) => *place,
         }

@@ -7,6 +7,7 @@
 
 pub mod blocks;
 pub mod graph;
+pub mod label;
 mod lines;
 pub mod mach;
 pub mod op;
@@ -16,6 +17,7 @@ pub mod seq;
 
 pub use blocks::{Blocks, NewBlock};
 pub use graph::{Colours, Graph, LiveMap, Node};
+pub use label::Label;
 pub use lines::text;
 pub use mach::{Instr, Mach, MachOp, Mark, Test};
 pub use op::{Access, Callee, Calling, CopyKind, External, Leaving, Op, Pure, Right};

@@ -8,6 +8,7 @@ ghost use Rattle.mach_ir.specs.Text.{reg_text, regs_text, results_text, is_first
 ghost use Rattle.mach_ir.specs.Text.{instr_word, instr_text, mark_turn, turn_of, indent_at, indent_on, line_text};
 ghost use Rattle.mach_ir.specs.Text.{shown, lines_text, mach_text};
 
+use crate::label::Label;
 use crate::mach::{Instr, Mach, MachOp, Mark};
 use crate::page::{Page, right_of};
 use crate::reg::Reg;
@@ -171,7 +172,7 @@ impl Page {
         }
     }
 
-    fn put_marked_label(&mut self, first: bool, label: u32) -> Result<(), AllocError>
+    fn put_marked_label(&mut self, first: bool, label: Label) -> Result<(), AllocError>
         ensures { IfOk result (λ _. Adds self.old self.new (separator first ++ label_text label)) }
     {
         self.put_separator(first)?;

@@ -4,6 +4,7 @@
 //! switch, catch, try) are told by marks in it. A label is that of the place after the mark that
 //! has it first.
 
+use crate::label::Label;
 use crate::op::{Op, Right};
 use crate::reg::Reg;
 use crate::seq::Seq;
@@ -31,46 +32,46 @@ pub enum Mark {
     /// An exit to a handler, which ends so many tries. Moves before it have put the values of the
     /// handler's parameters there.
     Exit {
-        label: u32,
+        label: Label,
         tries: u32,
     },
     /// Goes on where the test holds, else at the label `otherwise`.
     If {
         test: Test,
-        otherwise: u32,
+        otherwise: Label,
     },
     Else {
-        label: u32,
-        end: u32,
+        label: Label,
+        end: Label,
     },
     /// For each index from 0 on, the label of its case.
-    Switch(Seq<u32>),
+    Switch(Seq<Label>),
     /// `indexes` are those for which the switch comes here.
     Case {
         indexes: Seq<u32>,
-        label: u32,
-        end: u32,
+        label: Label,
+        end: Label,
     },
     Catch,
     With {
-        label: u32,
-        end: u32,
+        label: Label,
+        end: Label,
     },
     /// Pushes the trap of its handler.
     Try {
-        handler: u32,
+        handler: Label,
     },
     /// The end of the body of the try with this handler: pops its trap, and goes on at the end.
     Leave {
-        handler: u32,
-        end: u32,
+        handler: Label,
+        end: Label,
     },
     /// What is raised comes here. The result is the raised value.
     Handler {
-        label: u32,
+        label: Label,
     },
     End {
-        label: u32,
+        label: Label,
     },
 }
 

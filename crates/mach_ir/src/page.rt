@@ -8,6 +8,7 @@ ghost use Rattle.mach_ir.specs.Words.{unsigned_word, operator_word, chunk_word, 
 ghost use Rattle.mach_ir.specs.Words.{calling_word, leaving_word, op_word, test_word, right_text, test_right};
 ghost use Rattle.mach_ir.specs.Words.{pure_text, access_text, callee_text, calling_text, leaving_text, op_text};
 
+use crate::label::Label;
 use crate::mach::Test;
 use crate::op::{Access, Callee, Calling, CopyKind, Leaving, Op, Pure, Right};
 use bs_words::{Chunk, CmpOp, Comp, IntOp, signed};
@@ -55,11 +56,11 @@ impl Page {
     }
 
     /// Adds a label: `L` and its number.
-    pub fn put_label(&mut self, label: u32) -> Result<(), AllocError>
+    pub fn put_label(&mut self, label: Label) -> Result<(), AllocError>
         ensures { IfOk result (λ _. Adds self.old self.new (label_text label)) }
     {
         self.put(b"L")?;
-        self.put_number(u64::from(label))
+        self.put_number(u64::from(label.0))
     }
 
     /// What is before an operand.

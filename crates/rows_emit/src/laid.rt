@@ -7,19 +7,20 @@ ghost use Rattle.rv_pieces.specs.Named.{PieceFits};
 use anyhow::Result;
 use bs_words::Name;
 use layout_rules::Form;
+use mach_ir::Label;
 use rv_isa::Instr;
 use rv_layout::{forms_of, put_piece, words_of};
 use rv_pieces::Piece;
 use std::alloc::Global;
 use std::io::Write;
 
-/// The words before each label, and the label.
+/// The words before each label, and its number.
 fn places(alloc: Global, code: &[Piece], forms: &[Form]) -> Result<Vec<(u32, u64)>> {
     let mut of = Vec::new(alloc);
     let mut at: u64 = 0;
     for (piece, form) in code.iter().zip(forms) {
         if let Piece::Label(label) = piece {
-            of.push((*label, at))?;
+            of.push((label.0, at))?;
         }
         at = at.wrapping_add(words_of(piece, *form));
     }
@@ -32,9 +33,9 @@ fn bytes(words: u64) -> u32 {
 }
 
 /// The address of a label, behind an entry.
-fn address(places: &[(u32, u64)], entry: u32, label: u32) -> u32 {
+fn address(places: &[(u32, u64)], entry: u32, label: Label) -> u32 {
     for (other, at) in places {
-        if *other == label {
+        if *other == label.0 {
             return entry.wrapping_add(bytes(*at));
         }
     }

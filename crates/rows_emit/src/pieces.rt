@@ -8,6 +8,7 @@
 //! by a script that knows the rules alone: what 13 and 21 bits reach, and the manual's formats.
 use anyhow::Result;
 use bs_words::Name;
+use mach_ir::Label;
 use rv_isa::{AluImmOp, Condition, Instr, Register};
 use rv_pieces::Piece;
 use std::alloc::Global;
@@ -36,9 +37,9 @@ pub(crate) fn put_pieces(alloc: Global, pieces: &mut Vec<Piece>, line: &str) -> 
 fn put_one(alloc: Global, pieces: &mut Vec<Piece>, name: &str, operand: &str) -> Result<()> {
     let number = operand.parse::<u32>()?;
     match name {
-        "label" => pieces.push(Piece::Label(number))?,
-        "jump" => pieces.push(Piece::Jump(number))?,
-        "row" => pieces.push(Piece::Row(number))?,
+        "label" => pieces.push(Piece::Label(Label(number)))?,
+        "jump" => pieces.push(Piece::Jump(Label(number)))?,
+        "row" => pieces.push(Piece::Row(Label(number)))?,
         "call" => pieces.push(Piece::Call(digits(alloc, operand)?))?,
         "tail" => pieces.push(Piece::TailCall(digits(alloc, operand)?))?,
         _ => {
@@ -65,13 +66,13 @@ fn put_two(
                 condition: condition(name),
                 left: to,
                 right: register(right),
-                label: label.parse::<u32>()?,
+                label: Label(label.parse::<u32>()?),
             };
             pieces.push(branch)?;
         }
         None => {
             if name == "address" {
-                let label = second.parse::<u32>()?;
+                let label = Label(second.parse::<u32>()?);
                 pieces.push(Piece::LabelAddress { to, label })?;
             } else {
                 let name = digits(alloc, second)?;

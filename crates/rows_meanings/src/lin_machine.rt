@@ -81,7 +81,7 @@ fn destroys_at(op: &LinOp, loc: Loc) -> bool {
 fn behind_label(code: &[Line], wanted: u32) -> usize {
     for (place, line) in code.iter().enumerate() {
         if let LinOp::Flow(Flow::Label(label)) = &line.op {
-            if *label == wanted {
+            if label.0 == wanted {
                 return place.wrapping_add(1);
             }
         }
@@ -171,19 +171,19 @@ impl<'a, 'b> Machine<'a, 'b> {
     fn flow(&mut self, flow: &Flow, args: &[Value], results: &mut Vec<Value>) -> Result<Next> {
         match flow {
             Flow::Label(_) => Ok(Next::On),
-            Flow::Jump(label) => Ok(Next::To(*label)),
+            Flow::Jump(label) => Ok(Next::To(label.0)),
             Flow::Exit(label) => {
                 self.world.pays();
-                Ok(Next::To(*label))
+                Ok(Next::To(label.0))
             }
             Flow::Branch { test, label } => match self.world.holds(*test, args) {
-                Some(true) => Ok(Next::To(*label)),
+                Some(true) => Ok(Next::To(label.0)),
                 Some(false) => Ok(Next::On),
                 None => Ok(Next::Over(End::Stuck)),
             },
             Flow::Switch(labels) => Ok(self.world.case(labels.as_slice(), args)),
             Flow::PushTrap(label) => {
-                self.world.tries.push(*label)?;
+                self.world.tries.push(label.0)?;
                 Ok(Next::On)
             }
             Flow::PopTrap => {

@@ -3,7 +3,7 @@
 use crate::world::{Doing, End, Next, World, destroys, is_frame_point};
 use anyhow::Result;
 use bs_words::{Comp, Loc, Value};
-use mach_ir::{Calling, Instr, Leaving, Mach, MachOp, Mark, Op, Reg};
+use mach_ir::{Calling, Instr, Label, Leaving, Mach, MachOp, Mark, Op, Reg};
 use std::alloc::Global;
 
 /// What a register holds, and the component that it was written with.
@@ -67,10 +67,10 @@ impl Registers {
 
 fn has_label(op: &MachOp, wanted: u32) -> bool {
     match op {
-        MachOp::Mark(Mark::Else { label, end: _ }) => *label == wanted,
-        MachOp::Mark(Mark::Case { label, .. }) => *label == wanted,
-        MachOp::Mark(Mark::With { label, end: _ }) => *label == wanted,
-        MachOp::Mark(Mark::End { label }) => *label == wanted,
+        MachOp::Mark(Mark::Else { label, end: _ }) => label.0 == wanted,
+        MachOp::Mark(Mark::Case { label, .. }) => label.0 == wanted,
+        MachOp::Mark(Mark::With { label, end: _ }) => label.0 == wanted,
+        MachOp::Mark(Mark::End { label }) => label.0 == wanted,
         MachOp::Mark(_) => false,
         MachOp::Op(_) => false,
     }
@@ -78,7 +78,7 @@ fn has_label(op: &MachOp, wanted: u32) -> bool {
 
 fn is_handler(op: &MachOp, wanted: u32) -> bool {
     match op {
-        MachOp::Mark(Mark::Handler { label }) => *label == wanted,
+        MachOp::Mark(Mark::Handler { label }) => label.0 == wanted,
         MachOp::Mark(_) => false,
         MachOp::Op(_) => false,
     }
@@ -113,7 +113,7 @@ fn handlers_of(alloc: Global, code: &[Instr]) -> Result<Vec<Option<u32>>> {
     for instr in code {
         handlers.push(open.as_slice().last().copied())?;
         match &instr.op {
-            MachOp::Mark(Mark::Try { handler }) => open.push(*handler)?,
+            MachOp::Mark(Mark::Try { handler }) => open.push(handler.0)?,
             MachOp::Mark(Mark::Leave { .. }) => {
                 open.pop();
             }
@@ -208,15 +208,15 @@ impl Live {
         let next = place.wrapping_add(1);
         match &instr.op {
             MachOp::Op(op) => goes_on(op) && self.is_at(next),
-            MachOp::Mark(Mark::Exit { label, tries: _ }) => self.is_at(behind_label(code, *label)),
+            MachOp::Mark(Mark::Exit { label, tries: _ }) => self.is_at(behind_label(code, label.0)),
             MachOp::Mark(Mark::If { test: _, otherwise }) => {
-                self.is_at(next) || self.is_at(behind_label(code, *otherwise))
+                self.is_at(next) || self.is_at(behind_label(code, otherwise.0))
             }
             MachOp::Mark(Mark::Switch(labels)) => self.is_behind_one(code, labels.as_slice()),
-            MachOp::Mark(Mark::Else { label: _, end }) => self.is_at(behind_label(code, *end)),
-            MachOp::Mark(Mark::Case { end, .. }) => self.is_at(behind_label(code, *end)),
-            MachOp::Mark(Mark::With { label: _, end }) => self.is_at(behind_label(code, *end)),
-            MachOp::Mark(Mark::Leave { handler: _, end }) => self.is_at(behind_label(code, *end)),
+            MachOp::Mark(Mark::Else { label: _, end }) => self.is_at(behind_label(code, end.0)),
+            MachOp::Mark(Mark::Case { end, .. }) => self.is_at(behind_label(code, end.0)),
+            MachOp::Mark(Mark::With { label: _, end }) => self.is_at(behind_label(code, end.0)),
+            MachOp::Mark(Mark::Leave { handler: _, end }) => self.is_at(behind_label(code, end.0)),
             MachOp::Mark(Mark::Catch) => self.is_at(next),
             MachOp::Mark(Mark::Try { .. }) => self.is_at(next),
             MachOp::Mark(Mark::Handler { .. }) => self.is_at(next),
@@ -224,9 +224,9 @@ impl Live {
         }
     }
 
-    fn is_behind_one(&self, code: &[Instr], labels: &[u32]) -> bool {
+    fn is_behind_one(&self, code: &[Instr], labels: &[Label]) -> bool {
         for label in labels {
-            if self.is_at(behind_label(code, *label)) {
+            if self.is_at(behind_label(code, label.0)) {
                 return true;
             }
         }
@@ -400,24 +400,24 @@ impl<'a, 'b> Machine<'a, 'b> {
             Mark::Exit { label, tries } => {
                 self.world.pays();
                 self.world.drop_tries(*tries);
-                Ok(Next::To(*label))
+                Ok(Next::To(label.0))
             }
             Mark::If { test, otherwise } => match self.world.holds(*test, args) {
                 Some(true) => Ok(Next::On),
-                Some(false) => Ok(Next::To(*otherwise)),
+                Some(false) => Ok(Next::To(otherwise.0)),
                 None => stuck,
             },
             Mark::Switch(labels) => Ok(self.world.case(labels.as_slice(), args)),
-            Mark::Else { label: _, end } => Ok(Next::To(*end)),
-            Mark::Case { end, .. } => Ok(Next::To(*end)),
-            Mark::With { label: _, end } => Ok(Next::To(*end)),
+            Mark::Else { label: _, end } => Ok(Next::To(end.0)),
+            Mark::Case { end, .. } => Ok(Next::To(end.0)),
+            Mark::With { label: _, end } => Ok(Next::To(end.0)),
             Mark::Try { handler } => {
-                self.world.tries.push(*handler)?;
+                self.world.tries.push(handler.0)?;
                 Ok(Next::On)
             }
             Mark::Leave { handler: _, end } => {
                 self.world.drop_tries(1);
-                Ok(Next::To(*end))
+                Ok(Next::To(end.0))
             }
             Mark::Handler { .. } => match self.world.raised.take() {
                 Some(value) => {

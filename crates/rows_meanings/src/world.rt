@@ -8,7 +8,7 @@ use bs_words::{Chunk, Comp, IntOp, Name, Ret, Ty, Value};
 use cmm_data::{DATA_START, SymbolTable};
 use cmm_tree::{File, Item, Param};
 use cmm_values::{Memory, apply, condition_of, fits, type_of_comp};
-use mach_ir::{Access, Blocks, Callee, Calling, External, Leaving, Op, Pure, Right, Test};
+use mach_ir::{Access, Blocks, Callee, Calling, External, Label, Leaving, Op, Pure, Right, Test};
 use std::alloc::Global;
 
 /// What a call did that is handed in, or how the function ends.
@@ -33,6 +33,7 @@ pub(crate) enum End {
 #[derive(Clone, Copy)]
 pub(crate) enum Next {
     On,
+    /// To the label with the number.
     To(u32),
     /// To the handler, whose trap is popped. Nothing is written on the way.
     Handler(u32),
@@ -282,11 +283,11 @@ impl<'a> World<'a> {
     }
 
     /// The label of the case of an index.
-    pub(crate) fn case(&self, labels: &[u32], args: &[Value]) -> Next {
+    pub(crate) fn case(&self, labels: &[Label], args: &[Value]) -> Next {
         match args {
             [Value::Word(index)] if *index < labels.len() as u64 => {
                 match labels.get(*index as usize) {
-                    Some(label) => Next::To(*label),
+                    Some(label) => Next::To(label.0),
                     None => STUCK,
                 }
             }

@@ -2,7 +2,7 @@
 use anyhow::Result;
 use bs_words::{Comp, IntOp, Loc, Name, Ret};
 use mach_ir::{
-    Callee, Calling, CopyKind, Instr, Leaving, Mach, MachOp, Mark, Op, Pure, Reg, Right, Seq,
+    Callee, Calling, CopyKind, Instr, Label, Leaving, Mach, MachOp, Mark, Op, Pure, Reg, Right, Seq,
 };
 use std::alloc::Global;
 
@@ -135,7 +135,7 @@ impl Code {
     }
 
     /// Puts a handler at the end. What is raised comes to the register.
-    pub(crate) fn handler(&mut self, label: u32, raised: Reg) -> Result<()> {
+    pub(crate) fn handler(&mut self, label: Label, raised: Reg) -> Result<()> {
         self.put(MachOp::Mark(Mark::Handler { label }), &[], &[raised])
     }
 

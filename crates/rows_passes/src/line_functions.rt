@@ -2,7 +2,9 @@
 use crate::code::{A0, A1, Code, MOVE, RELOAD, RETURN, SPILL, VAL, add, call, constant, name};
 use anyhow::Result;
 use bs_words::{CmpOp, Comp, Loc, Ret};
-use mach_ir::{Access, Blocks, Calling, External, Mach, Mark, NewBlock, Op, Reg, Right, Seq, Test};
+use mach_ir::{
+    Access, Blocks, Calling, External, Label, Mach, Mark, NewBlock, Op, Reg, Right, Seq, Test,
+};
 use std::alloc::Global;
 
 // Registers by their places: their numbers do not matter to linearisation.
@@ -88,21 +90,33 @@ pub(crate) fn counting(alloc: Global) -> Result<Mach> {
     let mut code = Code::new(alloc);
     code.op(constant(0), &[], &[S2_INT])?;
     code.mark(Mark::Catch)?;
-    code.mark(Mark::Exit { label: 1, tries: 0 })?;
-    code.mark(Mark::With { label: 1, end: 2 })?;
+    code.mark(Mark::Exit {
+        label: Label(1),
+        tries: 0,
+    })?;
+    code.mark(Mark::With {
+        label: Label(1),
+        end: Label(2),
+    })?;
     let less = Test::Signed(CmpOp::Lt, Right::Constant(10));
     code.test(
         Mark::If {
             test: less,
-            otherwise: 3,
+            otherwise: Label(3),
         },
         &[S2_INT],
     )?;
     code.op(add(1), &[S2_INT], &[S2_INT])?;
-    code.mark(Mark::Exit { label: 1, tries: 0 })?;
-    code.mark(Mark::Else { label: 3, end: 4 })?;
-    code.mark(Mark::End { label: 4 })?;
-    code.mark(Mark::End { label: 2 })?;
+    code.mark(Mark::Exit {
+        label: Label(1),
+        tries: 0,
+    })?;
+    code.mark(Mark::Else {
+        label: Label(3),
+        end: Label(4),
+    })?;
+    code.mark(Mark::End { label: Label(4) })?;
+    code.mark(Mark::End { label: Label(2) })?;
     code.op(MOVE, &[S2_INT], &[A0_INT])?;
     code.op(RETURN, &[A0_INT], &[])?;
     code.function("counting", &[], Ret::Unit)
@@ -114,16 +128,25 @@ pub(crate) fn caught(alloc: Global) -> Result<Mach> {
     code.op(SPILL, &[A0], &[slot(7)])?;
     code.op(SPILL, &[A1], &[slot(4)])?;
     code.mark(Mark::Catch)?;
-    code.mark(Mark::Try { handler: 1 })?;
+    code.mark(Mark::Try { handler: Label(1) })?;
     code.op(call(alloc)?, &[A0], &[A0])?;
-    code.mark(Mark::Exit { label: 3, tries: 1 })?;
-    code.mark(Mark::Leave { handler: 1, end: 2 })?;
-    code.handler(1, A0)?;
+    code.mark(Mark::Exit {
+        label: Label(3),
+        tries: 1,
+    })?;
+    code.mark(Mark::Leave {
+        handler: Label(1),
+        end: Label(2),
+    })?;
+    code.handler(Label(1), A0)?;
     code.op(RELOAD, &[slot(7)], &[A0])?;
-    code.mark(Mark::End { label: 2 })?;
-    code.mark(Mark::With { label: 3, end: 4 })?;
+    code.mark(Mark::End { label: Label(2) })?;
+    code.mark(Mark::With {
+        label: Label(3),
+        end: Label(4),
+    })?;
     code.op(RELOAD, &[slot(4)], &[A0])?;
-    code.mark(Mark::End { label: 4 })?;
+    code.mark(Mark::End { label: Label(4) })?;
     code.op(RETURN, &[A0], &[])?;
     code.function("caught", &[], Ret::Unit)
 }
@@ -133,21 +156,33 @@ pub(crate) fn allocating(alloc: Global) -> Result<Mach> {
     let mut code = Code::new(alloc);
     code.op(SPILL, &[A0], &[slot(5)])?;
     code.mark(Mark::Catch)?;
-    code.mark(Mark::Exit { label: 1, tries: 0 })?;
-    code.mark(Mark::With { label: 1, end: 2 })?;
+    code.mark(Mark::Exit {
+        label: Label(1),
+        tries: 0,
+    })?;
+    code.mark(Mark::With {
+        label: Label(1),
+        end: Label(2),
+    })?;
     code.op(block(alloc)?, &[], &[S3_ADDR])?;
     code.op(MOVE, &[S3_ADDR], &[A0])?;
     code.test(
         Mark::If {
             test: Test::Holds,
-            otherwise: 3,
+            otherwise: Label(3),
         },
         &[A0],
     )?;
-    code.mark(Mark::Exit { label: 1, tries: 0 })?;
-    code.mark(Mark::Else { label: 3, end: 4 })?;
-    code.mark(Mark::End { label: 4 })?;
-    code.mark(Mark::End { label: 2 })?;
+    code.mark(Mark::Exit {
+        label: Label(1),
+        tries: 0,
+    })?;
+    code.mark(Mark::Else {
+        label: Label(3),
+        end: Label(4),
+    })?;
+    code.mark(Mark::End { label: Label(4) })?;
+    code.mark(Mark::End { label: Label(2) })?;
     code.op(RELOAD, &[slot(5)], &[A1])?;
     code.op(MOVE, &[S2], &[A0])?;
     code.op(call(alloc)?, &[A0, A1], &[A0])?;
@@ -160,13 +195,16 @@ pub(crate) fn framed(alloc: Global) -> Result<Mach> {
     let mut code = Code::new(alloc);
     code.op(SPILL, &[A0], &[slot(0)])?;
     code.op(SPILL, &[A1], &[slot(1)])?;
-    code.mark(Mark::Try { handler: 1 })?;
+    code.mark(Mark::Try { handler: Label(1) })?;
     code.op(frame_call(alloc)?, &[], &[A0])?;
     code.op(RELOAD, &[slot(0)], &[A1])?;
-    code.mark(Mark::Leave { handler: 1, end: 2 })?;
-    code.handler(1, A0)?;
+    code.mark(Mark::Leave {
+        handler: Label(1),
+        end: Label(2),
+    })?;
+    code.handler(Label(1), A0)?;
     code.op(RELOAD, &[slot(1)], &[A1])?;
-    code.mark(Mark::End { label: 2 })?;
+    code.mark(Mark::End { label: Label(2) })?;
     code.op(MOVE, &[A1], &[A0])?;
     code.op(RETURN, &[A0], &[])?;
     code.function("framed", &[], Ret::Unit)
@@ -175,22 +213,22 @@ pub(crate) fn framed(alloc: Global) -> Result<Mach> {
 /// A switch with an empty case and one that jumps over nothing.
 pub(crate) fn cases(alloc: Global) -> Result<Mach> {
     let mut code = Code::new(alloc);
-    let labels = numbers(alloc, &[1, 2, 1])?;
+    let labels = Seq::from_vec([Label(1), Label(2), Label(1)].to_vec(alloc)?);
     code.test(Mark::Switch(labels), &[A0_INT])?;
     let indexes = numbers(alloc, &[0, 2])?;
     code.mark(Mark::Case {
         indexes,
-        label: 1,
-        end: 9,
+        label: Label(1),
+        end: Label(9),
     })?;
     code.op(constant(1), &[], &[S2_INT])?;
     let indexes = numbers(alloc, &[1])?;
     code.mark(Mark::Case {
         indexes,
-        label: 2,
-        end: 9,
+        label: Label(2),
+        end: Label(9),
     })?;
-    code.mark(Mark::End { label: 9 })?;
+    code.mark(Mark::End { label: Label(9) })?;
     code.op(MOVE, &[S2_INT], &[A0_INT])?;
     code.op(RETURN, &[A0_INT], &[])?;
     code.function("cases", &[], Ret::Unit)
@@ -202,23 +240,29 @@ pub(crate) fn nested(alloc: Global) -> Result<Mach> {
     code.test(
         Mark::If {
             test: Test::Holds,
-            otherwise: 1,
+            otherwise: Label(1),
         },
         &[A0_INT],
     )?;
     code.test(
         Mark::If {
             test: Test::Fails,
-            otherwise: 2,
+            otherwise: Label(2),
         },
         &[S3_INT],
     )?;
     code.op(constant(1), &[], &[S2_INT])?;
-    code.mark(Mark::Else { label: 2, end: 3 })?;
-    code.mark(Mark::End { label: 3 })?;
-    code.mark(Mark::Else { label: 1, end: 4 })?;
+    code.mark(Mark::Else {
+        label: Label(2),
+        end: Label(3),
+    })?;
+    code.mark(Mark::End { label: Label(3) })?;
+    code.mark(Mark::Else {
+        label: Label(1),
+        end: Label(4),
+    })?;
     code.op(constant(2), &[], &[S2_INT])?;
-    code.mark(Mark::End { label: 4 })?;
+    code.mark(Mark::End { label: Label(4) })?;
     code.op(MOVE, &[S2_INT], &[A0_INT])?;
     code.op(RETURN, &[A0_INT], &[])?;
     code.function("nested", &[], Ret::Unit)
@@ -245,19 +289,25 @@ pub(crate) fn deep(alloc: Global) -> Result<Mach> {
     let mut code = Code::new(alloc);
     code.op(SPILL, &[A0], &[slot(0)])?;
     code.op(SPILL, &[A1], &[slot(1)])?;
-    code.mark(Mark::Try { handler: 1 })?;
-    code.mark(Mark::Try { handler: 3 })?;
+    code.mark(Mark::Try { handler: Label(1) })?;
+    code.mark(Mark::Try { handler: Label(3) })?;
     code.op(frame_call(alloc)?, &[], &[A0])?;
     code.op(MOVE, &[S2], &[A0])?;
-    code.mark(Mark::Leave { handler: 3, end: 4 })?;
-    code.handler(3, A0)?;
+    code.mark(Mark::Leave {
+        handler: Label(3),
+        end: Label(4),
+    })?;
+    code.handler(Label(3), A0)?;
     code.op(RELOAD, &[slot(1)], &[A0])?;
     code.op(call(alloc)?, &[A0], &[A0])?;
-    code.mark(Mark::End { label: 4 })?;
-    code.mark(Mark::Leave { handler: 1, end: 2 })?;
-    code.handler(1, A0)?;
+    code.mark(Mark::End { label: Label(4) })?;
+    code.mark(Mark::Leave {
+        handler: Label(1),
+        end: Label(2),
+    })?;
+    code.handler(Label(1), A0)?;
     code.op(RELOAD, &[slot(0)], &[A0])?;
-    code.mark(Mark::End { label: 2 })?;
+    code.mark(Mark::End { label: Label(2) })?;
     code.op(RETURN, &[A0], &[])?;
     code.function("deep", &[], Ret::Unit)
 }
@@ -266,13 +316,16 @@ pub(crate) fn deep(alloc: Global) -> Result<Mach> {
 pub(crate) fn idle(alloc: Global) -> Result<Mach> {
     let mut code = Code::new(alloc);
     code.op(SPILL, &[A0], &[slot(0)])?;
-    code.mark(Mark::Try { handler: 1 })?;
+    code.mark(Mark::Try { handler: Label(1) })?;
     code.op(MOVE, &[A1], &[A0])?;
-    code.mark(Mark::Leave { handler: 1, end: 2 })?;
-    code.handler(1, A0)?;
+    code.mark(Mark::Leave {
+        handler: Label(1),
+        end: Label(2),
+    })?;
+    code.handler(Label(1), A0)?;
     code.op(block(alloc)?, &[], &[S3_ADDR])?;
     code.op(RELOAD, &[slot(0)], &[A0])?;
-    code.mark(Mark::End { label: 2 })?;
+    code.mark(Mark::End { label: Label(2) })?;
     code.op(RETURN, &[A0], &[])?;
     code.function("idle", &[], Ret::Unit)
 }

@@ -4,7 +4,7 @@ use crate::code::{
 };
 use anyhow::Result;
 use bs_words::{CmpOp, IntOp, Ret};
-use mach_ir::{Calling, External, Leaving, Mach, Mark, Op, Pure, Right, Seq, Test};
+use mach_ir::{Calling, External, Label, Leaving, Mach, Mark, Op, Pure, Right, Seq, Test};
 use std::alloc::Global;
 
 const PLUS: Op = Op::Pure(Pure::Operator(IntOp::Add, Right::Register));
@@ -22,7 +22,7 @@ fn poll(alloc: Global, frame: bool) -> Result<Op> {
 }
 
 /// A test whether a register is below a number, and else a label.
-fn below(word: u64, otherwise: u32) -> Mark {
+fn below(word: u64, otherwise: Label) -> Mark {
     Mark::If {
         test: Test::Signed(CmpOp::Lt, Right::Constant(word)),
         otherwise,
@@ -54,14 +54,26 @@ pub(crate) fn loops(alloc: Global) -> Result<Mach> {
     let count = open(21);
     code.op(constant(0), &[], &[count])?;
     code.mark(Mark::Catch)?;
-    code.mark(Mark::Exit { label: 1, tries: 0 })?;
-    code.mark(Mark::With { label: 1, end: 2 })?;
-    code.test(below(10, 3), &[count])?;
+    code.mark(Mark::Exit {
+        label: Label(1),
+        tries: 0,
+    })?;
+    code.mark(Mark::With {
+        label: Label(1),
+        end: Label(2),
+    })?;
+    code.test(below(10, Label(3)), &[count])?;
     code.op(add(1), &[count], &[count])?;
-    code.mark(Mark::Exit { label: 1, tries: 0 })?;
-    code.mark(Mark::Else { label: 3, end: 4 })?;
-    code.mark(Mark::End { label: 4 })?;
-    code.mark(Mark::End { label: 2 })?;
+    code.mark(Mark::Exit {
+        label: Label(1),
+        tries: 0,
+    })?;
+    code.mark(Mark::Else {
+        label: Label(3),
+        end: Label(4),
+    })?;
+    code.mark(Mark::End { label: Label(4) })?;
+    code.mark(Mark::End { label: Label(2) })?;
     code.op(constant(7), &[], &[count])?;
     code.op(MOVE, &[count], &[A0])?;
     code.op(RETURN, &[A0], &[])?;
@@ -75,15 +87,18 @@ pub(crate) fn handled(alloc: Global) -> Result<Mach> {
     let other = open(22);
     code.op(MOVE, &[A0], &[value])?;
     code.op(MOVE, &[A1], &[other])?;
-    code.mark(Mark::Try { handler: 1 })?;
+    code.mark(Mark::Try { handler: Label(1) })?;
     code.op(MOVE, &[other], &[A0])?;
     code.op(call(alloc)?, &[A0], &[A0])?;
     code.op(MOVE, &[A0], &[value])?;
     code.op(add(2), &[value], &[other])?;
-    code.mark(Mark::Leave { handler: 1, end: 2 })?;
-    code.handler(1, A0)?;
+    code.mark(Mark::Leave {
+        handler: Label(1),
+        end: Label(2),
+    })?;
+    code.handler(Label(1), A0)?;
     code.op(add(3), &[value], &[other])?;
-    code.mark(Mark::End { label: 2 })?;
+    code.mark(Mark::End { label: Label(2) })?;
     code.op(MOVE, &[other], &[A0])?;
     code.op(RETURN, &[A0], &[])?;
     code.function("handled", &[A0, A1], VAL)
@@ -98,17 +113,20 @@ pub(crate) fn branches(alloc: Global) -> Result<Mach> {
     code.test(
         Mark::If {
             test: Test::Holds,
-            otherwise: 1,
+            otherwise: Label(1),
         },
         &[A0],
     )?;
     code.op(constant(2), &[], &[value])?;
     code.op(MOVE, &[value], &[A0])?;
     code.op(RAISE, &[A0], &[])?;
-    code.mark(Mark::Else { label: 1, end: 2 })?;
+    code.mark(Mark::Else {
+        label: Label(1),
+        end: Label(2),
+    })?;
     code.op(constant(3), &[], &[other])?;
     code.op(constant(4), &[], &[other])?;
-    code.mark(Mark::End { label: 2 })?;
+    code.mark(Mark::End { label: Label(2) })?;
     code.op(add(5), &[value], &[value])?;
     code.op(add(6), &[other], &[other])?;
     code.op(MOVE, &[other], &[A0])?;
@@ -150,15 +168,18 @@ pub(crate) fn one_call(alloc: Global) -> Result<Mach> {
     code.test(
         Mark::If {
             test: Test::Holds,
-            otherwise: 1,
+            otherwise: Label(1),
         },
         &[A0],
     )?;
     code.op(call(alloc)?, &[A0], &[A0])?;
     code.op(constant(3), &[], &[other])?;
-    code.mark(Mark::Else { label: 1, end: 2 })?;
+    code.mark(Mark::Else {
+        label: Label(1),
+        end: Label(2),
+    })?;
     code.op(constant(4), &[], &[value])?;
-    code.mark(Mark::End { label: 2 })?;
+    code.mark(Mark::End { label: Label(2) })?;
     code.op(PLUS, &[value, other], &[value])?;
     code.op(MOVE, &[value], &[A0])?;
     code.op(RETURN, &[A0], &[])?;
@@ -173,16 +194,28 @@ pub(crate) fn rounds(alloc: Global) -> Result<Mach> {
     code.op(constant(0), &[], &[count])?;
     code.op(MOVE, &[A0], &[step])?;
     code.mark(Mark::Catch)?;
-    code.mark(Mark::Exit { label: 1, tries: 0 })?;
-    code.mark(Mark::With { label: 1, end: 2 })?;
-    code.test(below(10, 3), &[count])?;
+    code.mark(Mark::Exit {
+        label: Label(1),
+        tries: 0,
+    })?;
+    code.mark(Mark::With {
+        label: Label(1),
+        end: Label(2),
+    })?;
+    code.test(below(10, Label(3)), &[count])?;
     code.op(MOVE, &[count], &[A0])?;
     code.op(call(alloc)?, &[A0], &[A0])?;
     code.op(PLUS, &[count, step], &[count])?;
-    code.mark(Mark::Exit { label: 1, tries: 0 })?;
-    code.mark(Mark::Else { label: 3, end: 4 })?;
-    code.mark(Mark::End { label: 4 })?;
-    code.mark(Mark::End { label: 2 })?;
+    code.mark(Mark::Exit {
+        label: Label(1),
+        tries: 0,
+    })?;
+    code.mark(Mark::Else {
+        label: Label(3),
+        end: Label(4),
+    })?;
+    code.mark(Mark::End { label: Label(4) })?;
+    code.mark(Mark::End { label: Label(2) })?;
     code.op(MOVE, &[count], &[A0])?;
     code.op(RETURN, &[A0], &[])?;
     code.function("rounds", &[A0], VAL)
@@ -198,19 +231,34 @@ pub(crate) fn webs(alloc: Global) -> Result<Mach> {
     code.op(MOVE, &[value], &[A0])?;
     code.op(constant(1), &[], &[value])?;
     code.mark(Mark::Catch)?;
-    code.mark(Mark::Exit { label: 1, tries: 0 })?;
-    code.mark(Mark::With { label: 1, end: 2 })?;
+    code.mark(Mark::Exit {
+        label: Label(1),
+        tries: 0,
+    })?;
+    code.mark(Mark::With {
+        label: Label(1),
+        end: Label(2),
+    })?;
     code.op(add(5), &[value], &[sum])?;
-    code.test(below(10, 3), &[sum])?;
+    code.test(below(10, Label(3)), &[sum])?;
     code.op(constant(2), &[], &[value])?;
-    code.mark(Mark::Else { label: 3, end: 4 })?;
+    code.mark(Mark::Else {
+        label: Label(3),
+        end: Label(4),
+    })?;
     code.op(constant(3), &[], &[value])?;
-    code.test(below(20, 5), &[sum])?;
-    code.mark(Mark::Exit { label: 1, tries: 0 })?;
-    code.mark(Mark::Else { label: 5, end: 6 })?;
-    code.mark(Mark::End { label: 6 })?;
-    code.mark(Mark::End { label: 4 })?;
-    code.mark(Mark::End { label: 2 })?;
+    code.test(below(20, Label(5)), &[sum])?;
+    code.mark(Mark::Exit {
+        label: Label(1),
+        tries: 0,
+    })?;
+    code.mark(Mark::Else {
+        label: Label(5),
+        end: Label(6),
+    })?;
+    code.mark(Mark::End { label: Label(6) })?;
+    code.mark(Mark::End { label: Label(4) })?;
+    code.mark(Mark::End { label: Label(2) })?;
     code.op(MOVE, &[value], &[A0])?;
     code.op(RETURN, &[A0], &[])?;
     code.function("webs", &[A0], VAL)

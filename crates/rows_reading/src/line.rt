@@ -9,8 +9,8 @@ use anyhow::Result;
 use bs_words::{Loc, Name, Ret};
 use lin_ir::{Flow, LinOp, Line, Spot};
 use mach_ir::{
-    Access, Blocks, Callee, Calling, CopyKind, External, Instr, Leaving, MachOp, Mark, NewBlock,
-    Op, Pure, Reg, Right, Seq, Test,
+    Access, Blocks, Callee, Calling, CopyKind, External, Instr, Label, Leaving, MachOp, Mark,
+    NewBlock, Op, Pure, Reg, Right, Seq, Test,
 };
 use std::alloc::Global;
 
@@ -72,11 +72,16 @@ pub fn apart<'a>(alloc: Global, line: &'a str) -> Result<Parts<'a>> {
 
 impl<'a> Parts<'a> {
     /// The number that is word `index`, or 0.
-    fn label(&self, index: usize) -> u32 {
+    fn number(&self, index: usize) -> u32 {
         match self.words.get(index) {
             Some(word) => word.parse::<u32>().unwrap_or(0),
             None => 0,
         }
+    }
+
+    /// The label that has that number.
+    fn label(&self, index: usize) -> Label {
+        Label(self.number(index))
     }
 
     fn word(&self, index: usize) -> &'a str {
@@ -101,11 +106,11 @@ impl<'a> Parts<'a> {
         }
     }
 
-    /// The words that are numbers.
-    fn labels(&self) -> Result<Seq<u32>> {
+    /// The labels whose numbers the words are.
+    fn labels(&self) -> Result<Seq<Label>> {
         let mut labels = Vec::new(self.alloc);
         for word in self.words.as_slice() {
-            labels.push(word.parse::<u32>().unwrap_or(0))?;
+            labels.push(Label(word.parse::<u32>().unwrap_or(0)))?;
         }
         Ok(Seq::from_vec(labels))
     }
@@ -226,7 +231,10 @@ impl<'a> Parts<'a> {
     fn mark(&self) -> Result<Option<Mark>> {
         let (label, end) = (self.label(0), self.label(1));
         match self.name {
-            "exit" => Ok(Some(Mark::Exit { label, tries: end })),
+            "exit" => Ok(Some(Mark::Exit {
+                label,
+                tries: self.number(1),
+            })),
             "if" => Ok(
                 self.test().map(|test| Mark::If {
                     test,

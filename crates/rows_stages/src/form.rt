@@ -5,8 +5,8 @@ use anyhow::Result;
 use bs_words::{Chunk, Comp, IntOp, Name, Ret};
 use lin_ir::{Flow, LinOp};
 use mach_ir::{
-    Access, Blocks, Callee, Calling, CopyKind, External, Leaving, MachOp, Mark, NewBlock, Op, Pure,
-    Right, Seq, Test,
+    Access, Blocks, Callee, Calling, CopyKind, External, Label, Leaving, MachOp, Mark, NewBlock,
+    Op, Pure, Right, Seq, Test,
 };
 use std::alloc::Global;
 
@@ -86,6 +86,14 @@ pub(crate) fn name(alloc: Global, name: &str) -> Result<Name> {
 
 fn numbers(alloc: Global, numbers: &[u32]) -> Result<Seq<u32>> {
     Ok(Seq::from_vec(numbers.to_vec(alloc)?))
+}
+
+fn labels(alloc: Global, numbers: &[u32]) -> Result<Seq<Label>> {
+    let mut labels = Vec::new(alloc);
+    for number in numbers {
+        labels.push(Label(*number))?;
+    }
+    Ok(Seq::from_vec(labels))
 }
 
 fn symbol(alloc: Global, called: &str) -> Result<Op> {
@@ -173,21 +181,38 @@ impl Form {
 impl MarkForm {
     fn mark(self, alloc: Global) -> Result<Mark> {
         match self {
-            MarkForm::Exit { label, tries } => Ok(Mark::Exit { label, tries }),
-            MarkForm::If(test) => Ok(Mark::If { test, otherwise: 1 }),
-            MarkForm::Else => Ok(Mark::Else { label: 1, end: 2 }),
-            MarkForm::Switch(labels) => Ok(Mark::Switch(numbers(alloc, labels)?)),
+            MarkForm::Exit { label, tries } => Ok(Mark::Exit {
+                label: Label(label),
+                tries,
+            }),
+            MarkForm::If(test) => Ok(Mark::If {
+                test,
+                otherwise: Label(1),
+            }),
+            MarkForm::Else => Ok(Mark::Else {
+                label: Label(1),
+                end: Label(2),
+            }),
+            MarkForm::Switch(numbers) => Ok(Mark::Switch(labels(alloc, numbers)?)),
             MarkForm::Case(indexes, label) => Ok(Mark::Case {
                 indexes: numbers(alloc, indexes)?,
-                label,
-                end: 5,
+                label: Label(label),
+                end: Label(5),
             }),
             MarkForm::Catch => Ok(Mark::Catch),
-            MarkForm::With { label } => Ok(Mark::With { label, end: 7 }),
-            MarkForm::Try => Ok(Mark::Try { handler: 8 }),
-            MarkForm::Leave => Ok(Mark::Leave { handler: 8, end: 9 }),
-            MarkForm::Handler => Ok(Mark::Handler { label: 8 }),
-            MarkForm::End(label) => Ok(Mark::End { label }),
+            MarkForm::With { label } => Ok(Mark::With {
+                label: Label(label),
+                end: Label(7),
+            }),
+            MarkForm::Try => Ok(Mark::Try { handler: Label(8) }),
+            MarkForm::Leave => Ok(Mark::Leave {
+                handler: Label(8),
+                end: Label(9),
+            }),
+            MarkForm::Handler => Ok(Mark::Handler { label: Label(8) }),
+            MarkForm::End(label) => Ok(Mark::End {
+                label: Label(label),
+            }),
         }
     }
 }
@@ -195,12 +220,15 @@ impl MarkForm {
 impl FlowForm {
     fn flow(self, alloc: Global) -> Result<Flow> {
         match self {
-            FlowForm::Label(label) => Ok(Flow::Label(label)),
-            FlowForm::Jump(label) => Ok(Flow::Jump(label)),
-            FlowForm::Exit(label) => Ok(Flow::Exit(label)),
-            FlowForm::Branch(test) => Ok(Flow::Branch { test, label: NEAR }),
-            FlowForm::Switch(labels) => Ok(Flow::Switch(numbers(alloc, labels)?)),
-            FlowForm::PushTrap => Ok(Flow::PushTrap(FAR)),
+            FlowForm::Label(label) => Ok(Flow::Label(Label(label))),
+            FlowForm::Jump(label) => Ok(Flow::Jump(Label(label))),
+            FlowForm::Exit(label) => Ok(Flow::Exit(Label(label))),
+            FlowForm::Branch(test) => Ok(Flow::Branch {
+                test,
+                label: Label(NEAR),
+            }),
+            FlowForm::Switch(numbers) => Ok(Flow::Switch(labels(alloc, numbers)?)),
+            FlowForm::PushTrap => Ok(Flow::PushTrap(Label(FAR))),
             FlowForm::PopTrap => Ok(Flow::PopTrap),
             FlowForm::EnterTrap => Ok(Flow::EnterTrap),
         }

@@ -9,7 +9,7 @@ use crate::output::Output;
 use crate::slots::{first, register_of, second};
 use bs_words::{CmpOp, Loc};
 use lin_ir::Spot;
-use mach_ir::{Right, Test};
+use mach_ir::{Label, Right, Test};
 use rv_isa::{Condition, Register, ShiftOp};
 use rv_pieces::Piece;
 use std::alloc::AllocError;
@@ -59,7 +59,7 @@ impl Output {
         condition: Condition,
         left: Register,
         right: Register,
-        label: u32,
+        label: Label,
     ) -> Result<(), AllocError>
         ensures { IfOk result (λ _.
             Adds self.old self.new (Piece.Branch condition left right label ∷ [])) }
@@ -77,7 +77,7 @@ impl Output {
         op: CmpOp,
         left: Register,
         right: Register,
-        label: u32,
+        label: Label,
     ) -> Result<(), AllocError>
         ensures { IfOk result (λ _.
             Adds self.old self.new (signed_branch op left right label ∷ [])) }
@@ -97,7 +97,7 @@ impl Output {
         op: CmpOp,
         left: Register,
         right: Register,
-        label: u32,
+        label: Label,
     ) -> Result<(), AllocError>
         ensures { IfOk result (λ _.
             Adds self.old self.new (unsigned_branch op left right label ∷ [])) }
@@ -128,7 +128,7 @@ impl Output {
         test: Test,
         args: &[Spot],
         left: Register,
-        label: u32,
+        label: Label,
     ) -> Result<(), AllocError>
         ensures { IfOk result (λ _.
             Adds self.old self.new (test_branch test args.now left label ∷ [])) }
@@ -150,7 +150,7 @@ impl Output {
         &mut self,
         traps: u32,
         test: Test,
-        label: u32,
+        label: Label,
         args: &[Spot],
     ) -> Result<(), AllocError>
         ensures { IfOk result (λ _.
@@ -174,7 +174,7 @@ impl Output {
     }
 
     /// T1 is tested against 0, and lowered, until the last label is left.
-    fn tests_in_turn(&mut self, labels: &[u32]) -> Result<(), AllocError>
+    fn tests_in_turn(&mut self, labels: &[Label]) -> Result<(), AllocError>
         ensures { IfOk result (λ _. Adds self.old self.new (tests_in_turn labels.now)) }
     {
         match labels {
@@ -188,7 +188,7 @@ impl Output {
         }
     }
 
-    fn rows(&mut self, labels: &[u32]) -> Result<(), AllocError>
+    fn rows(&mut self, labels: &[Label]) -> Result<(), AllocError>
         ensures { IfOk result (λ _. Adds self.old self.new (map Piece.Row labels.now)) }
     {
         for label in labels {
@@ -197,7 +197,7 @@ impl Output {
         Ok(())
     }
 
-    fn table_of_jumps(&mut self, labels: &[u32]) -> Result<(), AllocError>
+    fn table_of_jumps(&mut self, labels: &[Label]) -> Result<(), AllocError>
         ensures { IfOk result (λ _. Adds self.old self.new (table_of_jumps labels.now)) }
     {
         self.shift(ShiftOp::Slli, Register::T1, Register::T1, 3)?;
@@ -211,7 +211,7 @@ impl Output {
     pub fn switch_part(
         &mut self,
         traps: u32,
-        labels: &[u32],
+        labels: &[Label],
         args: &[Spot],
     ) -> Result<(), AllocError>
         ensures { IfOk result (λ _.

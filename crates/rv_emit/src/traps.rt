@@ -9,7 +9,7 @@ use crate::output::Output;
 use crate::slots::{first, register_of};
 use bs_words::Loc;
 use lin_ir::Spot;
-use mach_ir::Right;
+use mach_ir::{Label, Right};
 use rv_isa::{Condition, LoadWidth, Register, StoreWidth};
 use rv_pieces::Piece;
 use std::alloc::AllocError;
@@ -27,7 +27,7 @@ impl Output {
     }
 
     /// Pushes a trap: the handler of the label, and the trap before.
-    pub fn push_part(&mut self, label: u32) -> Result<(), AllocError>
+    pub fn push_part(&mut self, label: Label) -> Result<(), AllocError>
         ensures { IfOk result (λ _. Adds self.old self.new (push_part label)) }
     {
         self.put(Piece::LabelAddress {

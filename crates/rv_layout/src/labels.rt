@@ -4,6 +4,7 @@ ghost use Rattle.rv_layout.specs.Tables.{noted, places_of, IsTableOf, LabelBelow
 
 use crate::forms::words_of;
 use layout_rules::Form;
+use mach_ir::Label;
 use rv_pieces::Piece;
 use std::alloc::{AllocError, Global};
 
@@ -18,7 +19,7 @@ fn bound_of(piece: &Piece) -> usize
     ensures { (bound : ℕ) → result ≤ bound → LabelBelow bound piece.now }
 {
     match piece {
-        Piece::Label(label) => *label as usize + 1,
+        Piece::Label(label) => label.0 as usize + 1,
         Piece::Known(_)
         | Piece::Branch { .. }
         | Piece::Jump(_)
@@ -66,10 +67,10 @@ impl Labels {
     }
 
     /// The words before a label. One that does not stand counts as standing at the entry.
-    pub fn place(&self, label: u32) -> u64
+    pub fn place(&self, label: Label) -> u64
         ensures { result ≡ places_of self.now label }
     {
-        match self.places.get(label as usize) {
+        match self.places.get(label.0 as usize) {
             Some(Some(place)) => *place,
             _ => 0,
         }
@@ -82,7 +83,7 @@ fn note(places: &mut Vec<Option<u64>>, piece: &Piece, at: u64)
     ensures { places.new.items ≡ noted places.old.items piece.now at }
 {
     if let Piece::Label(label) = piece {
-        let index = *label as usize;
+        let index = label.0 as usize;
         if places[index].is_none() {
             places[index] = Some(at);
         }

@@ -2,7 +2,7 @@
 
 use bs_words::Name;
 use lin_ir::Descr;
-use mach_ir::{External, Seq};
+use mach_ir::{External, Label, Seq};
 use rv_isa::{Condition, Instr, Register};
 
 /// An instruction, some instructions whose target is named, or a mark.
@@ -14,22 +14,22 @@ pub enum Piece {
     /// An instruction whose numbers are all known.
     Known(Instr),
     /// The place of a label. It takes no words.
-    Label(u32),
+    Label(Label),
     /// To the label where the condition holds of the two registers, else on.
     Branch {
         condition: Condition,
         left: Register,
         right: Register,
-        label: u32,
+        label: Label,
     },
     /// To the label.
-    Jump(u32),
+    Jump(Label),
     /// To the label, as one row of a table of jumps: two words, however far it is.
-    Row(u32),
+    Row(Label),
     /// The address of the label's place becomes the register's value. Two words.
     LabelAddress {
         to: Register,
-        label: u32,
+        label: Label,
     },
     /// Calls the function of this name: `ra` becomes the address after the two words.
     Call(Name),

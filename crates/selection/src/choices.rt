@@ -22,7 +22,7 @@ ghost use Rattle.selection_scope.specs.Scoping.{names_in};
 use crate::operands::{Operand, both, one};
 use bs_words::IntOp;
 use cmm_tree::{Case, CaseIndex, Expr};
-use mach_ir::{Mark, Reg, Seq, Test};
+use mach_ir::{Label, Mark, Reg, Seq, Test};
 use selection_code::backwards::Backwards;
 use selection_code::shape::{Shape, comparison, shape_of};
 use selection_scope::light::is_left_first;
@@ -92,7 +92,7 @@ pub fn operator<F: Fn(&mut Scope, &mut Backwards, Place, &Expr) -> Result<(), Al
 pub struct Branch {
     pub shape: Shape,
     pub test: Test,
-    pub otherwise: u32,
+    pub otherwise: Label,
     pub base: u32,
 }
 
@@ -154,7 +154,7 @@ fn tested<F: Fn(&mut Scope, &mut Backwards, Place, &Expr) -> Result<(), AllocErr
     below: &F,
     scope: &mut Scope,
     code: &mut Backwards,
-    otherwise: u32,
+    otherwise: Label,
     place: Place,
     condition: &Expr,
 ) -> Result<(), AllocError>
@@ -178,7 +178,7 @@ fn condition<F: Fn(&mut Scope, &mut Backwards, Place, &Expr) -> Result<(), Alloc
     below: &F,
     scope: &mut Scope,
     code: &mut Backwards,
-    otherwise: u32,
+    otherwise: Label,
     place: Place,
     condition: &Expr,
 ) -> Result<(), AllocError>
@@ -239,8 +239,8 @@ pub fn if_else<F: Fn(&mut Scope, &mut Backwards, Place, &Expr) -> Result<(), All
     ensures scope { OnOk result (scope.new ≡ scope.old) }
 {
     let base = plus(node.place.base, 4)?;
-    let label = base - 2;
-    let end = base - 1;
+    let label = Label(base - 2);
+    let end = Label(base - 1);
     let true_base = behind(base, condition_of)?;
     let false_base = behind(true_base, on_true)?;
     code.bare(Mark::End { label: end })?;
@@ -318,7 +318,7 @@ fn is_named(indexes: &[CaseIndex], number: u64) -> bool
 }
 
 /// The label of the last case that names the number, where the first has this label, or else the one so far.
-fn last_label(first: u32, cases: &[Case], number: u64, so_far: u32) -> Result<u32, AllocError>
+fn last_label(first: u32, cases: &[Case], number: u64, so_far: u32) -> Result<Label, AllocError>
     ensures { IfOk result (λ label. label ≡ last_label first (cases_of cases.now) number so_far) }
 {
     let mut found = so_far;
@@ -331,7 +331,7 @@ fn last_label(first: u32, cases: &[Case], number: u64, so_far: u32) -> Result<u3
         label = plus(label, 1)?;
         rest = others;
     }
-    Ok(found)
+    Ok(Label(found))
 }
 
 /// For each number below `size` the label of its case.
@@ -340,7 +340,7 @@ fn switch_labels(
     first: u32,
     cases: &[Case],
     size: u64,
-) -> Result<Vec<u32>, AllocError>
+) -> Result<Vec<Label>, AllocError>
     ensures { IfOk result (λ labels. labels.items ≡ switch_labels first
         (cases_of cases.now) 0 size) }
 {
@@ -352,14 +352,14 @@ fn switch_labels(
 }
 
 /// The numbers that the switch takes to this label.
-fn indexes_of(alloc: Global, label: u32, all: &[u32]) -> Result<Seq<u32>, AllocError>
+fn indexes_of(alloc: Global, label: Label, all: &[Label]) -> Result<Seq<u32>, AllocError>
     ensures { IfOk result (λ indexes. indexes ≡ indexes_of label 0 all.now) }
 {
     let mut indexes = Vec::new(alloc);
     let mut number = 0;
     let mut rest = all;
     while let [target, others @ ..] = rest {
-        if *target == label {
+        if target.0 == label.0 {
             indexes.push(number)?;
         }
         number = plus(number, 1)?;
@@ -372,7 +372,7 @@ fn indexes_of(alloc: Global, label: u32, all: &[u32]) -> Result<Seq<u32>, AllocE
 /// cases.
 #[derive(Clone, Copy)]
 struct Choices<'e> {
-    all: &'e [u32],
+    all: &'e [Label],
     end: u32,
     first: u32,
     cases: &'e [Case],
@@ -403,11 +403,11 @@ fn case_bodies<F: Fn(&mut Scope, &mut Backwards, Place, &Expr) -> Result<(), All
         label -= 1;
         base -= width_of(&last.body)?;
         one(below, scope, code, Place { base, ..place }, &last.body)?;
-        let indexes = indexes_of(alloc, label, choices.all)?;
-        let end = choices.end;
+        let indexes = indexes_of(alloc, Label(label), choices.all)?;
+        let end = Label(choices.end);
         code.bare(Mark::Case {
             indexes,
-            label,
+            label: Label(label),
             end,
         })?;
         rest = others;
@@ -441,7 +441,7 @@ pub fn switch<F: Fn(&mut Scope, &mut Backwards, Place, &Expr) -> Result<(), Allo
     let bodies = behind(base, selector)?;
     let register = fresh(first - 2, selector.ty);
     let all = switch_labels(scope.alloc(), first, cases, size)?;
-    code.bare(Mark::End { label: end })?;
+    code.bare(Mark::End { label: Label(end) })?;
     let choices = Choices {
         all: all.as_slice(),
         end,

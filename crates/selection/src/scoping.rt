@@ -14,7 +14,7 @@ ghost use Rattle.selection_scope.specs.Scoping.{names_in};
 use crate::operands::one;
 use bs_words::{Comp, Name, Ty};
 use cmm_tree::{Binding, Expr, Handler};
-use mach_ir::{Mark, Reg};
+use mach_ir::{Label, Mark, Reg};
 use selection_code::backwards::Backwards;
 use selection_scope::numbers::{number_of, plus};
 use selection_scope::place::{Node, Place, fresh, is_mutable, operand_at, type_bound};
@@ -178,7 +178,10 @@ fn handler_bodies<F: Fn(&mut Scope, &mut Backwards, Place, &Expr) -> Result<(), 
         label = params - 1;
         base -= width_of(&last.body)?;
         handler_body(below, scope, code, Place { base, ..place }, params, last)?;
-        code.bare(Mark::With { label, end })?;
+        code.bare(Mark::With {
+            label: Label(label),
+            end: Label(end),
+        })?;
         rest = others;
     }
     Ok(())
@@ -208,7 +211,7 @@ pub fn catch<F: Fn(&mut Scope, &mut Backwards, Place, &Expr) -> Result<(), Alloc
     let base = behind_labels(first, handlers)?;
     let inner = behind(base, body)?;
     let left = scope.labels_len();
-    code.bare(Mark::End { label: end })?;
+    code.bare(Mark::End { label: Label(end) })?;
     scope.enter_handlers(handlers, first)?;
     handler_bodies(below, scope, code, node.part(inner), end, first, handlers)?;
     scope.leave_labels(left);
@@ -293,8 +296,8 @@ pub fn try_with<F: Fn(&mut Scope, &mut Backwards, Place, &Expr) -> Result<(), Al
     ensures scope { OnOk result (scope.new ≡ scope.old) }
 {
     let base = plus(node.place.base, 5)?;
-    let label = base - 4;
-    let end = base - 3;
+    let label = Label(base - 4);
+    let end = Label(base - 3);
     let register = fresh(base - 2, Ty::Val);
     let seated = seat(0, base - 1, Comp::Val);
     let inner = behind(base, body)?;

@@ -12,8 +12,8 @@ use crate::backwards::Backwards;
 use crate::shape::Shape;
 use bs_words::{Chunk, Comp, IntOp, Name, Ret};
 use mach_ir::{
-    Access, Blocks, Callee, Calling, CopyKind, External, Leaving, Mark, NewBlock, Op, Pure, Reg,
-    Right, Seq, Test,
+    Access, Blocks, Callee, Calling, CopyKind, External, Label, Leaving, Mark, NewBlock, Op, Pure,
+    Reg, Right, Seq, Test,
 };
 use selection_scope::numbers::number_of;
 use selection_scope::row::Regs;
@@ -174,7 +174,7 @@ impl Backwards {
     }
 
     /// The test of an `if` on these registers.
-    fn branch_if(&mut self, test: Test, otherwise: u32, args: &[Reg]) -> Result<(), AllocError>
+    fn branch_if(&mut self, test: Test, otherwise: Label, args: &[Reg]) -> Result<(), AllocError>
         ensures { OnOk result (self.new ≡ emit.branch test otherwise args.now ∷ self.old) }
     {
         self.mark(Mark::If { test, otherwise }, args, &[])
@@ -185,7 +185,7 @@ impl Backwards {
         &mut self,
         shape: Shape,
         test: Test,
-        otherwise: u32,
+        otherwise: Label,
         x: Reg,
         y: Reg,
     ) -> Result<(), AllocError>
@@ -201,7 +201,7 @@ impl Backwards {
     }
 
     /// The test of an `if` that holds where the register does.
-    pub fn branch_on(&mut self, otherwise: u32, condition: Reg) -> Result<(), AllocError>
+    pub fn branch_on(&mut self, otherwise: Label, condition: Reg) -> Result<(), AllocError>
         ensures { OnOk result (self.new ≡ emit.branch test.Holds otherwise
             (condition ∷ []) ∷ self.old) }
     {
@@ -209,14 +209,14 @@ impl Backwards {
     }
 
     /// A choice among labels by a register.
-    pub fn choose(&mut self, labels: Seq<u32>, index: Reg) -> Result<(), AllocError>
+    pub fn choose(&mut self, labels: Seq<Label>, index: Reg) -> Result<(), AllocError>
         ensures { OnOk result (self.new ≡ emit.choose labels index ∷ self.old) }
     {
         self.mark(Mark::Switch(labels), &[index], &[])
     }
 
     /// The place of a handler, to which the raised value comes.
-    pub fn handler(&mut self, label: u32, raised: Reg) -> Result<(), AllocError>
+    pub fn handler(&mut self, label: Label, raised: Reg) -> Result<(), AllocError>
         ensures { OnOk result (self.new ≡ emit.handler label raised ∷ self.old) }
     {
         self.mark(Mark::Handler { label }, &[], &[raised])

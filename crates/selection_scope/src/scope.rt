@@ -31,7 +31,7 @@ pub struct Bound {
 pub struct Target {
     pub label: Label,
     pub params: Regs,
-    pub number: u32,
+    pub number: mach_ir::Label,
     pub tries: u32,
 }
 
@@ -158,7 +158,7 @@ fn targets(alloc: Global, handlers: &[Handler], number: u32) -> Result<Vec<Targe
         targets.push(Target {
             label,
             params,
-            number: next,
+            number: mach_ir::Label(next),
             tries: 0,
         })?;
         next = plus(first, number_of(handler.params.len())?)?;

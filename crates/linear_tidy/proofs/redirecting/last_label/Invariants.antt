@@ -3,4 +3,4 @@ use Rattle.tidy_rules.specs.Redirecting.{followed, last_label}
 use Rattle.linear_tidy.proofs.redirecting.last_label.Given as goal
 
 abbrev pub invariant-loop-line : goal.invariant-loop-line
-invariant-loop-line l = followed l.lin (length l.lin.code - l._line) l.last ≡ last_label l.lin l.label
+invariant-loop-line l = followed l.lin (length l.lin.code - l._line) l.last ≡ last_label l.lin l.fn.label

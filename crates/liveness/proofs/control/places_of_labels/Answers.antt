@@ -7,8 +7,8 @@ use Rattle.liveness.proofs.control.places_of_labels.Goals as goal
 
 pub loop-label-preserved : goal.loop-label-preserved
 loop-label-preserved c = λ p.
-    switch_more c.args.labels.now p c.args.among.now c.loop-label.places.items c.push.new.self.items c.loop-label.label-index c.place_of.result
-    c.loop-label-test.true c.place_of.ensures (c.loop-label.invariant p) c.in_ok-push.ensures.items
+    switch_more c.args.labels.now p c.args.among.now c.loop-label.places.items c.push.new.self.items c.loop-label.label-index c.label-item.result
+    c.place_of.result c.loop-label-test.true c.label-item.is c.place_of.ensures (c.loop-label.invariant p) c.in_ok-push.ensures.items
 
 pub returns : goal.returns
 returns c = λ p.

@@ -4,7 +4,7 @@ use Rattle.selection.proofs.choices.indexes_of.Given as goal
 
 abbrev pub invariant-loop-rest : goal.invariant-loop-rest
 invariant-loop-rest l =
-    l.indexes.items ++ indexes_of l.label l.number l.rest ≡ indexes_of l.label 0 l.fn.all
+    l.indexes.items ++ indexes_of l.label-inside.0 l.number l.rest ≡ indexes_of l.fn.label 0 l.fn.all
 
 abbrev pub decreases-loop-rest : goal.decreases-loop-rest
 decreases-loop-rest l = length l.rest

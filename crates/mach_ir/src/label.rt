@@ -1,0 +1,18 @@
+//! Labels.
+
+use std::marker::Model;
+
+/// The number of a place that control goes to. Where it stands, and how often, is said by
+/// `WellFormed`. Contracts see the number.
+#[derive(Clone, Copy, PartialEq, Eq, PartialOrd, Ord, Debug)]
+pub struct Label(pub u32);
+
+impl Model for Label {
+    ghost use Rattle.std.specs.Prelude.{ℕ};
+
+    ghost Value = { ℕ };
+
+    ghost view = { λ label. label.0 };
+
+    ghost inverse = { λ number. record { 0 = number } };
+}
